@@ -1,0 +1,12 @@
+pub mod ColumnsLemmas
+pub mod Dedup
+pub mod Found
+pub mod Maps
+pub mod NameLemmas
+pub mod Parts
+pub mod Places
+pub mod Repeated
+pub mod SameRow
+pub mod Sets
+pub mod ValueLemmas
+pub mod Walks

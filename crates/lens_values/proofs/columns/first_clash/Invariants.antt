@@ -1,0 +1,9 @@
+use Rattle.std.proofs.Common.{◌≡◌, drop}
+use Rattle.std.specs.Prelude.{find}
+use Rattle.std.specs.FinMap as map
+use Rattle.lens_values.specs.Columns.{is_other_kind}
+use Rattle.lens_values.proofs.columns.first_clash.Given as goal
+
+-- the answer is the one for what is left
+abbrev pub invariant-loop-pair : goal.invariant-loop-pair
+invariant-loop-pair l = find (λ e. is_other_kind (map.get l.columns e.0) e.1) l.pairs ≡ find (λ e. is_other_kind (map.get l.columns e.0) e.1) (drop l.pair-index l.pairs)

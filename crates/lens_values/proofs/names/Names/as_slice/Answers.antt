@@ -1,0 +1,7 @@
+use Rattle.std.proofs.Common.{sym, ap, ◌∙◌}
+use Rattle.std.specs.Cmp.Lexicographic.{nat_list_cmp_total}
+use Rattle.lens_values.specs.SortedSet.{items, items-from_list}
+use Rattle.lens_values.proofs.names.Names.as_slice.Goals as goal
+
+pub returns : goal.returns
+returns c = c.as_slice.ensures.value ∙ sym (items-from_list nat_list_cmp_total _ c.self.invariant) ∙ ap items c.self.view_is

@@ -1,0 +1,22 @@
+use Rattle.std.proofs.Common.{◌≡◌, subst}
+use Rattle.std.specs.Prelude.{IfOk}
+use Rattle.std.specs.Cmp.Lexicographic.{nat_list_cmp_total}
+use Rattle.lens_values.specs.Keys.{is_among}
+use Rattle.lens_values.specs.Order.{bytes_cmp}
+use Rattle.lens_values.proofs.Maps.{exact, entries_rise, part_rises, part_made}
+use Rattle.lens_values.proofs.Sets.{items_rise}
+use Rattle.lens_values.proofs.row.Row.project.Goals as goal
+
+pub common-requires-clause-list : goal.common-requires-clause-list
+common-requires-clause-list c = entries_rise c.args.self.now _ c.pairs.ensures
+
+pub common-requires-clause-keys : goal.common-requires-clause-keys
+common-requires-clause-keys c = items_rise nat_list_cmp_total exact c.args.cols.now _ c.as_slice.ensures
+
+pub from_rising-requires : goal.from_rising-requires
+from_rising-requires c = part_rises c.args.self.now (is_among bytes_cmp c.as_slice.result.now) _ _ c.pairs.ensures c.in_ok-common.ensures
+
+pub returns : goal.returns
+returns c =
+    subst (λ u. IfOk c.from_rising.result (λ part. part ≡ u))
+    (part_made c.args.cols.now c.args.self.now _ _ _ c.as_slice.ensures c.pairs.ensures c.in_ok-common.ensures) c.from_rising.ensures

@@ -1,0 +1,75 @@
+-- Columns: finite maps from names to kinds, what is made of them, and which rows they fit.
+use Rattle.std.specs.Prelude.{◌≡◌, ℕ, Bool, true, false, not, List, find, Option, Some, None, Result, Ok, Err}
+use Rattle.std.specs.FinMap as map
+use Rattle.lens_values.specs.Order.{bytes_cmp}
+use Rattle.lens_values.specs.Names.{Names}
+use Rattle.lens_values.specs.Part.{both_of}
+use Rattle.lens_values.specs.SortedSet as set
+use Rattle.lens_values.specs.Value.{kind_of}
+use Rattle.lens_values.specs.declared.columns.ColumnsFault.{ColumnsFault}
+use Rattle.lens_values.specs.declared.columns.ColumnsFault.TheVariants.{KindClash}
+use Rattle.lens_values.specs.declared.row.Row.{Row}
+use Rattle.lens_values.specs.declared.value.Kind.{Kind}
+use Rattle.lens_values.specs.declared.value.Kind.TheVariants.{Int, Text, Flag}
+use Rattle.lens_values.specs.declared.value.Value.{Value}
+
+-- the kind of each column
+abbrev pub Columns : Type 0
+Columns = map.FinMap bytes_cmp Kind
+
+-- the names of the columns
+unfoldable pub names : Columns → Names
+names U = set.from_list (map.keys U)
+
+-- the kind of what a row has in a column
+abbrev pub kind_at : Option Value → Option Kind
+kind_at None = None
+kind_at (Some v) = Some (kind_of v)
+
+-- the row has exactly these columns, each of its kind
+abbrev pub Fits : Columns → Row → Type 0
+Fits U r = (c : List ℕ) → kind_at (map.get r c) ≡ map.get U c
+
+-- each column of U is in V, with the same kind
+abbrev pub ColumnsWithin : Columns → Columns → Type 0
+ColumnsWithin U V = (c : List ℕ) (k : Kind) → map.get U c ≡ Some k → map.get V c ≡ Some k
+
+-- whether two kinds are the same
+abbrev pub same_kind : Kind → Kind → Bool
+same_kind Int Int = true
+same_kind Int Text = false
+same_kind Int Flag = false
+same_kind Text Int = false
+same_kind Text Text = true
+same_kind Text Flag = false
+same_kind Flag Int = false
+same_kind Flag Text = false
+same_kind Flag Flag = true
+
+-- whether the column is there with this kind
+abbrev pub is_kind : Option Kind → Kind → Bool
+is_kind None k = false
+is_kind (Some j) k = same_kind j k
+
+-- whether the column is there with another kind
+abbrev pub is_other_kind : Option Kind → Kind → Bool
+is_other_kind None k = false
+is_other_kind (Some j) k = not (same_kind k j)
+
+-- whether the kinds are there and the same
+abbrev pub like_kinds : Option Kind → Option Kind → Bool
+like_kinds j None = false
+like_kinds j (Some k) = is_kind j k
+
+-- the least shared column with two kinds
+abbrev pub kinds_differ : Columns → Columns → Option (List ℕ)
+kinds_differ U V = find (λ c. not (like_kinds (map.get U c) (map.get V c))) (set.items (set.intersection (names U) (names V)))
+
+-- the columns of both, unless one has a kind in each
+abbrev pub union_from : Option (List ℕ) → Columns → Columns → Result Columns ColumnsFault
+union_from None U V = Ok (both_of U V)
+union_from (Some c) U V = Err (KindClash c)
+
+-- the columns of both, or the least shared one with two kinds
+abbrev pub union_of : Columns → Columns → Result Columns ColumnsFault
+union_of U V = union_from (kinds_differ U V) U V

@@ -1,0 +1,13 @@
+-- Finite sets of names.
+use Rattle.std.specs.Prelude.{Bool}
+use Rattle.std.specs.List.{list_any}
+use Rattle.lens_values.specs.Order.{bytes_cmp}
+use Rattle.lens_values.specs.SortedSet as set
+
+-- a finite set of names, shown as their rising list
+abbrev pub Names : Type 0
+Names = set.SortedSet bytes_cmp
+
+-- whether a name is in both
+abbrev pub share : Names → Names → Bool
+share C D = list_any (set.contains D) (set.items C)

@@ -1,0 +1,244 @@
+//! Columns: a finite map from names to kinds.
+ghost use Rattle.std.specs.Prelude.{◌≡◌, ◌≢◌, ◌↔◌, IsTrue, IfOk, OnOk, find, position, option_map, None};
+ghost use Rattle.std.specs.FinMap as map;
+ghost use Rattle.std.specs.List.{list_all};
+ghost use Rattle.std.specs.List.Sorted.{IsStrictlySortedBy};
+ghost use Rattle.std.specs.Ordering.{eq_by_cmp};
+ghost use Rattle.lens_values.specs.Columns.{ColumnsWithin, is_kind, is_other_kind, kinds_differ, names, union_of};
+ghost use Rattle.lens_values.specs.Gives.{Gives};
+ghost use Rattle.lens_values.specs.Order.{bytes_cmp};
+ghost use Rattle.lens_values.specs.Part.{both_of, part_in, part_outside};
+ghost use Rattle.lens_values.specs.Repeats.{AreDistinct, IsLeastRepeated};
+ghost use Rattle.lens_values.specs.SortedMap.{keys_of};
+
+use crate::merging::{common, merged, missing};
+use crate::name::Name;
+use crate::names::Names;
+use crate::sorting::{first_repeated, sorted_by_name};
+use crate::value::{Kind, NoMemory};
+use std::alloc::{AllocError, Global};
+use std::marker::Model;
+
+/// The kind of each column, kept as pairs in rising order of names.
+#[derive(Debug, Drop)]
+pub struct Columns {
+    pairs: Vec<(Name, Kind)>,
+}
+
+impl Model for Columns {
+    ghost use Rattle.std.specs.Coded.{coded_list, coded_ℕ};
+    ghost use Rattle.std.specs.FinMap as map;
+    ghost use Rattle.std.specs.List.Sorted.{IsStrictlySortedBy};
+    ghost use Rattle.lens_values.specs.Order.{bytes_cmp};
+    ghost use Rattle.lens_values.specs.SortedMap.{keys_of};
+    ghost use Rattle.lens_values.specs.contracts.value.Kind as contract;
+    ghost use Rattle.lens_values.specs.declared.value.Kind as declared;
+
+    ghost Value = { map.FinMap bytes_cmp declared.Kind };
+
+    ghost coded = { map.code (coded_list coded_ℕ) contract.the_row.coded };
+
+    ghost view = { λ c. map.from_entries c.pairs.items };
+
+    ghost invariant = { λ c. IsStrictlySortedBy bytes_cmp (keys_of c.pairs.items) };
+}
+
+/// Why pairs are no columns, or two columns have no union.
+#[derive(Debug, PartialEq, Eq, Drop)]
+pub enum ColumnsFault {
+    /// The name stands in two pairs.
+    Twice { name: Name },
+    /// The name has two kinds.
+    KindClash { name: Name },
+    /// Memory ran out.
+    NoMemory,
+}
+
+impl From<AllocError> for ColumnsFault {
+    ghost use Rattle.std.specs.Prelude.{◌≡◌};
+    ghost use Rattle.lens_values.specs.declared.columns.ColumnsFault.TheVariants.{NoMemory};
+
+    ghost from_gives = { λ _ e. e ≡ NoMemory };
+
+    fn from(_: AllocError) -> ColumnsFault {
+        ColumnsFault::NoMemory
+    }
+}
+
+impl From<NoMemory> for ColumnsFault {
+    ghost use Rattle.std.specs.Prelude.{◌≡◌};
+    ghost use Rattle.lens_values.specs.declared.columns.ColumnsFault.TheVariants.{NoMemory};
+
+    ghost from_gives = { λ _ e. e ≡ NoMemory };
+
+    fn from(_: NoMemory) -> ColumnsFault {
+        ColumnsFault::NoMemory
+    }
+}
+
+impl Columns {
+    /// The columns of these pairs. `Twice` with the least name that stands in two of them.
+    pub fn new(_alloc: Global, pairs: Vec<(Name, Kind)>) -> Result<Columns, ColumnsFault>
+        ensures ok { IfOk result (λ columns. columns ≡ map.from_entries pairs.items) }
+        ensures distinct { OnOk result (AreDistinct (keys_of pairs.items)) }
+        ensures twice { (name : _) → result ≡ Err (ColumnsFault.Twice name) → IsLeastRepeated name (keys_of pairs.items) }
+        ensures no_clash { (name : _) → result ≢ Err (ColumnsFault.KindClash name) }
+    {
+        let pairs = sorted_by_name(pairs)?;
+        match first_repeated(&pairs) {
+            Some(name) => Err(ColumnsFault::Twice { name }),
+            None => Ok(Columns { pairs }),
+        }
+    }
+
+    /// The pairs in rising order of names.
+    pub fn pairs(&self) -> &[(Name, Kind)]
+        ensures { result.now ≡ map.entries self.now }
+    {
+        self.pairs.as_slice()
+    }
+
+    /// The place of the column among the pairs, from 0, or `None` where it is not there.
+    pub fn place_of(&self, name: &Name) -> Option<usize>
+        ensures { result ≡ position (eq_by_cmp bytes_cmp name.now) (map.keys self.now) }
+    {
+        place_in(self.pairs(), name)
+    }
+
+    /// The kind of the column, or `None` where it is not there.
+    pub fn kind(&self, name: &Name) -> Option<Kind>
+        ensures { result ≡ map.get self.now name.now }
+    {
+        kind_in(self.pairs(), name)
+    }
+
+    /// The names of the columns.
+    pub fn names(&self, alloc: Global) -> Result<Names, NoMemory>
+        ensures { IfOk result (λ all. all ≡ names self.now) }
+    {
+        Ok(Names::from_rising(names_in(alloc, self.pairs())?))
+    }
+
+    /// Whether each of these columns is among the others, with the same kind.
+    pub fn within(&self, other: &Columns) -> bool
+        ensures { IsTrue result ↔ ColumnsWithin self.now other.now }
+    {
+        all_in(self.pairs(), other)
+    }
+
+    /// The columns of both. `KindClash` with the least shared name that has another kind in each.
+    pub fn union(&self, alloc: Global, other: &Columns) -> Result<Columns, ColumnsFault>
+        ensures gives { Gives ColumnsFault.NoMemory result (union_of self.now other.now) }
+        ensures alike { OnOk result (kinds_differ self.now other.now ≡ None) }
+    {
+        match first_clash(self.pairs(), other) {
+            Some(name) => Err(ColumnsFault::KindClash { name }),
+            None => Ok(self.put_over(alloc, other)?),
+        }
+    }
+
+    /// The columns that are not among the names.
+    pub fn minus(&self, alloc: Global, cols: &Names) -> Result<Columns, NoMemory>
+        ensures { IfOk result (λ rest. rest ≡ part_outside cols.now self.now) }
+    {
+        Ok(Columns {
+            pairs: missing(alloc, self.pairs(), cols.as_slice())?,
+        })
+    }
+
+    /// The columns that are among the names.
+    pub fn meet(&self, alloc: Global, cols: &Names) -> Result<Columns, NoMemory>
+        ensures { IfOk result (λ part. part ≡ part_in cols.now self.now) }
+    {
+        Ok(Columns {
+            pairs: common(alloc, self.pairs(), cols.as_slice())?,
+        })
+    }
+
+    /// Equal columns.
+    pub fn copy(&self, alloc: Global) -> Result<Columns, NoMemory>
+        ensures { IfOk result (λ copy. copy ≡ self.now) }
+    {
+        Ok(Columns {
+            pairs: Vec::from_slice(alloc, &self.pairs)?,
+        })
+    }
+
+    // Whether this column is there with this kind.
+    fn has(&self, column: &(Name, Kind)) -> bool
+        ensures { result ≡ is_kind (map.get self.now column.now.0) column.now.1 }
+    {
+        match self.kind(&column.0) {
+            Some(kind) => kind == column.1,
+            None => false,
+        }
+    }
+
+    // Whether this column is there with another kind.
+    fn clashes(&self, column: &(Name, Kind)) -> bool
+        ensures { result ≡ is_other_kind (map.get self.now column.now.0) column.now.1 }
+    {
+        match self.kind(&column.0) {
+            Some(kind) => kind != column.1,
+            None => false,
+        }
+    }
+
+    // The columns of both, with this one's kind where both have one.
+    fn put_over(&self, alloc: Global, other: &Columns) -> Result<Columns, NoMemory>
+        ensures { IfOk result (λ both. both ≡ both_of self.now other.now) }
+    {
+        Ok(Columns {
+            pairs: merged(alloc, self.pairs(), other.pairs())?,
+        })
+    }
+}
+
+// The names of the pairs, in their order.
+fn names_in(alloc: Global, pairs: &[(Name, Kind)]) -> Result<Vec<Name>, NoMemory>
+    ensures { IfOk result (λ list. list.items ≡ keys_of pairs.now) }
+{
+    let mut list = Vec::with_capacity(alloc, pairs.len())?;
+    for pair in pairs {
+        list.push(pair.0)?;
+    }
+    Ok(list)
+}
+
+// Whether each of the pairs is among the columns.
+fn all_in(pairs: &[(Name, Kind)], columns: &Columns) -> bool
+    ensures { result ≡ list_all (λ e. is_kind (map.get columns.now e.0) e.1) pairs.now }
+{
+    pairs.iter().all(|pair| columns.has(pair))
+}
+
+// The place of the pair with this name.
+fn place_in(pairs: &[(Name, Kind)], name: &Name) -> Option<usize>
+    requires { IsStrictlySortedBy bytes_cmp (keys_of pairs.now) }
+    ensures { result ≡ position (eq_by_cmp bytes_cmp name.now) (keys_of pairs.now) }
+{
+    pairs.binary_search_by_key(name, |pair| pair.0).ok()
+}
+
+// The kind that the pair with this name has.
+fn kind_in(pairs: &[(Name, Kind)], name: &Name) -> Option<Kind>
+    requires { IsStrictlySortedBy bytes_cmp (keys_of pairs.now) }
+    ensures { result ≡ map.find bytes_cmp name.now pairs.now }
+{
+    match pairs.binary_search_by_key(name, |pair| pair.0) {
+        Ok(place) => Some(pairs[place].1),
+        Err(_) => None,
+    }
+}
+
+// The first name that has another kind in the columns.
+fn first_clash(pairs: &[(Name, Kind)], columns: &Columns) -> Option<Name>
+    ensures { result ≡ option_map (λ e. e.0) (find (λ e. is_other_kind (map.get columns.now e.0) e.1) pairs.now) }
+{
+    for pair in pairs {
+        if columns.clashes(pair) {
+            return Some(pair.0);
+        }
+    }
+    None
+}

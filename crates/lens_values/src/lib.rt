@@ -1,0 +1,25 @@
+//! Values, names, columns and rows: the data that every other crate speaks of.
+#![tactic(auto)]
+
+pub mod columns;
+pub mod copying;
+pub mod merging;
+pub mod name;
+pub mod names;
+pub mod row;
+pub mod sorting;
+pub mod text;
+pub mod value;
+
+pub use columns::{Columns, ColumnsFault};
+pub use copying::{TryClone, copied};
+pub use merging::{Keyed, common, merged, missing};
+pub use name::{BadName, Name};
+pub use names::Names;
+pub use row::{Row, RowFault};
+pub use sorting::{arrange, rising};
+pub use text::{Text, TextFault};
+pub use value::{Kind, NoMemory, Value};
+
+#[cfg(test)]
+mod tests;

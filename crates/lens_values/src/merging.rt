@@ -1,0 +1,112 @@
+//! Merges of strictly rising lists, each by one walk along the two.
+ghost use Rattle.std.specs.Prelude.{◌≡◌, ◌++◌, IfOk, filter, not};
+ghost use Rattle.std.specs.List.Sorted.{IsStrictlySortedBy};
+ghost use Rattle.lens_values.specs.Keys.{KeysRise, first_with, is_among};
+
+use crate::copying::{TryClone, append};
+use crate::value::NoMemory;
+use std::alloc::Global;
+use std::cmp::Ordering;
+
+/// What stands in a list by its key.
+pub trait Keyed<K> {
+    // What the value is ordered by.
+    ghost key: { Self → K };
+
+    /// The key.
+    fn key(&self) -> &K
+        ensures { result.now ≡ key self.now };
+}
+
+/// Copies of the members of both lists in rising order of keys, and where both have a key the left one's.
+pub fn merged<K: Ord, T: Keyed<K> + TryClone + Drop>(
+    alloc: Global,
+    left: &[T],
+    right: &[T],
+) -> Result<Vec<T>, NoMemory>
+    requires left { KeysRise K.cmp T.key left.now }
+    requires right { KeysRise K.cmp T.key right.now }
+    ensures order { IfOk result (λ all. KeysRise K.cmp T.key all.items) }
+    ensures members { IfOk result (λ all. (key : K) → first_with K.cmp T.key all.items key ≡ first_with K.cmp T.key (left.now ++ right.now) key) }
+{
+    let mut all = Vec::with_capacity(alloc, left.len().saturating_add(right.len()))?;
+    let mut i = 0;
+    let mut j = 0;
+    while i < left.len() && j < right.len() {
+        match left[i].key().cmp(right[j].key()) {
+            Ordering::Less => {
+                all.push(left[i].try_clone(alloc)?)?;
+                i += 1;
+            }
+            Ordering::Greater => {
+                all.push(right[j].try_clone(alloc)?)?;
+                j += 1;
+            }
+            Ordering::Equal => {
+                all.push(left[i].try_clone(alloc)?)?;
+                i += 1;
+                j += 1;
+            }
+        }
+    }
+    append(&mut all, alloc, &left[i..])?;
+    append(&mut all, alloc, &right[j..])?;
+    Ok(all)
+}
+
+/// Copies of the members of the list whose keys are not among the others.
+pub fn missing<K: Ord, T: Keyed<K> + TryClone + Drop>(
+    alloc: Global,
+    list: &[T],
+    keys: &[K],
+) -> Result<Vec<T>, NoMemory>
+    requires list { KeysRise K.cmp T.key list.now }
+    requires keys { IsStrictlySortedBy K.cmp keys.now }
+    ensures { IfOk result (λ rest. rest.items ≡ filter (λ x. not (is_among K.cmp keys.now (T.key x))) list.now) }
+{
+    let mut rest = Vec::new(alloc);
+    let mut i = 0;
+    let mut j = 0;
+    while i < list.len() && j < keys.len() {
+        match list[i].key().cmp(&keys[j]) {
+            Ordering::Less => {
+                rest.push(list[i].try_clone(alloc)?)?;
+                i += 1;
+            }
+            Ordering::Greater => j += 1,
+            Ordering::Equal => {
+                i += 1;
+                j += 1;
+            }
+        }
+    }
+    append(&mut rest, alloc, &list[i..])?;
+    Ok(rest)
+}
+
+/// Copies of the members of the list whose keys are among the others.
+pub fn common<K: Ord, T: Keyed<K> + TryClone + Drop>(
+    alloc: Global,
+    list: &[T],
+    keys: &[K],
+) -> Result<Vec<T>, NoMemory>
+    requires list { KeysRise K.cmp T.key list.now }
+    requires keys { IsStrictlySortedBy K.cmp keys.now }
+    ensures { IfOk result (λ kept. kept.items ≡ filter (λ x. is_among K.cmp keys.now (T.key x)) list.now) }
+{
+    let mut kept = Vec::with_capacity(alloc, list.len().min(keys.len()))?;
+    let mut i = 0;
+    let mut j = 0;
+    while i < list.len() && j < keys.len() {
+        match list[i].key().cmp(&keys[j]) {
+            Ordering::Less => i += 1,
+            Ordering::Greater => j += 1,
+            Ordering::Equal => {
+                kept.push(list[i].try_clone(alloc)?)?;
+                i += 1;
+                j += 1;
+            }
+        }
+    }
+    Ok(kept)
+}

@@ -1,0 +1,176 @@
+//! The name of a column, a table or a view.
+ghost use Rattle.std.specs.Prelude.{◌≡◌, IsTrue};
+ghost use Rattle.std.specs.List.{list_all};
+ghost use Rattle.lens_values.specs.Bytes as spec;
+ghost use Rattle.lens_values.specs.Name.{name_of};
+
+use crate::copying::TryClone;
+use crate::merging::Keyed;
+use crate::value::NoMemory;
+use std::alloc::Global;
+use std::cmp::Ordering;
+use std::marker::Model;
+
+/// The greatest number of bytes of a name.
+pub const MAX_NAME: usize = 32;
+
+/// A lower-case letter or `_`, and then at most 31 of these and digits. A contract sees its bytes.
+#[derive(Clone, Copy, Debug)]
+pub struct Name {
+    bytes: [u8; 32],
+    len: usize,
+}
+
+impl Model for Name {
+    ghost use Rattle.std.specs.Prelude.{List, ℕ, take, length};
+    ghost use Rattle.lens_values.specs.NameBytes.{KeepsName, padded};
+
+    ghost Value = { List ℕ };
+
+    ghost use Rattle.lens_values.specs.NameFields.{same_fields};
+
+    ghost view = { λ n. take n.len n.bytes };
+
+    ghost invariant = { λ n. KeepsName n.bytes n.len };
+
+    ghost inverse = { λ v. record { bytes = padded v; len = length v } };
+
+    ghost inverse_ok = { λ n kept. same_fields n kept };
+}
+
+/// Bytes that are no name.
+#[derive(Clone, Copy, Debug, PartialEq, Eq)]
+pub struct BadName;
+
+fn is_lower(b: u8) -> bool
+    ensures { result ≡ spec.is_lower b }
+{
+    b.is_ascii_lowercase() || b == b'_'
+}
+
+fn is_name_byte(b: u8) -> bool
+    ensures { result ≡ spec.is_name_byte b }
+{
+    is_lower(b) || b.is_ascii_digit()
+}
+
+fn are_name_bytes(text: &[u8]) -> bool
+    ensures { result ≡ list_all spec.is_name_byte text.now }
+{
+    text.iter().all(|b| is_name_byte(*b))
+}
+
+fn is_name(text: &[u8]) -> bool
+    ensures { result ≡ spec.is_name text.now }
+{
+    if text.is_empty() || text.len() > MAX_NAME {
+        return false;
+    }
+    is_lower(text[0]) && are_name_bytes(text)
+}
+
+impl Name {
+    /// The name of these bytes, or `BadName` where they are none.
+    pub fn new(s: &str) -> Result<Name, BadName>
+        ensures { result ≡ name_of s.now }
+    {
+        let text = s.as_bytes();
+        if !is_name(text) {
+            return Err(BadName);
+        }
+        let mut bytes = [0; 32];
+        bytes[..text.len()].copy_from_slice(text);
+        Ok(Name {
+            bytes,
+            len: text.len(),
+        })
+    }
+
+    /// The name as text.
+    pub fn as_str(&self) -> &str
+        ensures { result.now ≡ self.now }
+    {
+        unsafe { str::from_utf8_unchecked(self.as_bytes()) }
+    }
+
+    fn as_bytes(&self) -> &[u8]
+        ensures value { result.now ≡ self.now }
+        ensures name { IsTrue (spec.is_name self.now) }
+    {
+        &self.bytes[..self.len]
+    }
+}
+
+impl PartialEq for Name {
+    ghost use Rattle.std.specs.Prelude.{nat_eq};
+    ghost use Rattle.std.specs.Cmp.Lexicographic.{pointwise, nat_list_eq_equiv};
+    ghost use Rattle.std.specs.Cmp.{partial_equiv_from_equiv};
+
+    ghost eq = { pointwise nat_eq };
+
+    ghost laws = { partial_equiv_from_equiv nat_list_eq_equiv };
+
+    fn eq(&self, other: &Name) -> bool {
+        self.as_str() == other.as_str()
+    }
+}
+
+impl Eq for Name {
+    ghost use Rattle.std.specs.Cmp.Lexicographic.{nat_list_eq_equiv};
+
+    ghost laws = { nat_list_eq_equiv };
+}
+
+impl PartialOrd for Name {
+    ghost use Rattle.std.specs.Ordering.{as_partial_cmp};
+    ghost use Rattle.lens_values.specs.Order.{bytes_cmp};
+    ghost use Rattle.std.specs.Cmp.Lexicographic.{texts_po};
+
+    ghost partial_cmp = { as_partial_cmp bytes_cmp };
+
+    ghost laws = { texts_po };
+
+    fn partial_cmp(&self, other: &Name) -> Option<Ordering> {
+        Some(self.cmp(other))
+    }
+}
+
+impl Ord for Name {
+    ghost use Rattle.std.specs.Prelude.{refl};
+    ghost use Rattle.lens_values.specs.Order.{bytes_cmp};
+    ghost use Rattle.std.specs.Cmp.Lexicographic.{nat_list_cmp_total, texts_ties};
+
+    ghost cmp = { bytes_cmp };
+
+    ghost total = { nat_list_cmp_total };
+
+    ghost matches_partial_cmp = { λ _ _. refl };
+
+    ghost matches_eq = { texts_ties };
+
+    fn cmp(&self, other: &Name) -> Ordering {
+        self.as_str().cmp(other.as_str())
+    }
+}
+
+impl TryClone for Name {
+    fn try_clone(&self, _alloc: Global) -> Result<Name, NoMemory> {
+        Ok(*self)
+    }
+}
+
+impl Keyed<Name> for Name {
+    ghost key = { λ name. name };
+
+    fn key(&self) -> &Name {
+        self
+    }
+}
+
+impl<V> Keyed<Name> for (Name, V) {
+    ghost key = { λ pair. pair.0 };
+
+    fn key(&self) -> &Name {
+        &self.0
+    }
+}

@@ -1,0 +1,118 @@
+//! A finite set of names.
+ghost use Rattle.std.specs.Prelude.{◌≡◌, IfOk};
+ghost use Rattle.std.specs.List.Sorted.{IsStrictlySortedBy};
+ghost use Rattle.lens_values.specs.Names.{share};
+ghost use Rattle.lens_values.specs.Order.{bytes_cmp};
+ghost use Rattle.lens_values.specs.SortedSet as set;
+
+use crate::merging::{common, merged, missing};
+use crate::name::Name;
+use crate::sorting::rising;
+use crate::value::NoMemory;
+use std::alloc::Global;
+use std::marker::Model;
+
+/// A finite set of names, kept as their rising list.
+#[derive(Debug, Drop)]
+pub struct Names {
+    names: Vec<Name>,
+}
+
+impl Model for Names {
+    ghost use Rattle.std.specs.Coded.{coded_list, coded_ℕ};
+    ghost use Rattle.std.specs.List.Sorted.{IsStrictlySortedBy};
+    ghost use Rattle.lens_values.specs.Order.{bytes_cmp};
+    ghost use Rattle.lens_values.specs.SortedSet as set;
+
+    ghost Value = { set.SortedSet bytes_cmp };
+
+    ghost coded = { set.code (coded_list coded_ℕ) };
+
+    ghost view = { λ s. set.from_list s.names.items };
+
+    ghost invariant = { λ s. IsStrictlySortedBy bytes_cmp s.names.items };
+}
+
+impl Names {
+    /// The set of these names, in whatever order and however often each stands there.
+    pub fn new(_alloc: Global, list: Vec<Name>) -> Result<Names, NoMemory>
+        ensures { IfOk result (λ names. names ≡ set.from_list list.items) }
+    {
+        Ok(Names {
+            names: rising(list),
+        })
+    }
+
+    /// The set of these names, which rise strictly.
+    pub fn from_rising(list: Vec<Name>) -> Names
+        requires { IsStrictlySortedBy bytes_cmp list.items }
+        ensures { result ≡ set.from_list list.items }
+    {
+        Names { names: list }
+    }
+
+    /// The names in rising order.
+    pub fn as_slice(&self) -> &[Name]
+        ensures { result.now ≡ set.items self.now }
+    {
+        self.names.as_slice()
+    }
+
+    /// Whether the name is in the set.
+    pub fn has(&self, name: &Name) -> bool
+        ensures { result ≡ set.contains self.now name.now }
+    {
+        self.names.binary_search(name).is_ok()
+    }
+
+    /// Whether each name of this set is in the other.
+    #[tactic(auto, unfolding(crate::specs::SortedSet::is_subset))]
+    pub fn within(&self, other: &Names) -> bool
+        ensures { result ≡ set.is_subset self.now other.now }
+    {
+        self.as_slice().iter().all(|name| other.has(name))
+    }
+
+    /// Whether a name is in both sets.
+    pub fn meets(&self, other: &Names) -> bool
+        ensures { result ≡ share self.now other.now }
+    {
+        self.as_slice().iter().any(|name| other.has(name))
+    }
+
+    /// The names of either set.
+    pub fn union(&self, alloc: Global, other: &Names) -> Result<Names, NoMemory>
+        ensures { IfOk result (λ union. union ≡ set.union self.now other.now) }
+    {
+        Ok(Names {
+            names: merged(alloc, self.as_slice(), other.as_slice())?,
+        })
+    }
+
+    /// The names of this set that are not in the other.
+    pub fn minus(&self, alloc: Global, other: &Names) -> Result<Names, NoMemory>
+        ensures { IfOk result (λ rest. rest ≡ set.difference self.now other.now) }
+    {
+        Ok(Names {
+            names: missing(alloc, self.as_slice(), other.as_slice())?,
+        })
+    }
+
+    /// The names of both sets.
+    pub fn meet(&self, alloc: Global, other: &Names) -> Result<Names, NoMemory>
+        ensures { IfOk result (λ shared. shared ≡ set.intersection self.now other.now) }
+    {
+        Ok(Names {
+            names: common(alloc, self.as_slice(), other.as_slice())?,
+        })
+    }
+
+    /// An equal set.
+    pub fn copy(&self, alloc: Global) -> Result<Names, NoMemory>
+        ensures { IfOk result (λ copy. copy ≡ self.now) }
+    {
+        Ok(Names {
+            names: Vec::from_slice(alloc, &self.names)?,
+        })
+    }
+}

@@ -1,0 +1,136 @@
+//! A text value.
+ghost use Rattle.std.specs.Prelude.{◌≡◌, List, ℕ, IfOk, Ok, string_bytes};
+ghost use Rattle.lens_values.specs.Gives.{Gives};
+ghost use Rattle.lens_values.specs.Text.{text_of};
+
+use crate::value::NoMemory;
+use std::alloc::{AllocError, Global};
+use std::cmp::Ordering;
+use std::marker::Model;
+
+/// The greatest number of bytes of a text.
+pub const MAX_TEXT: usize = 4096;
+
+/// At most 4,096 bytes of UTF-8, without U+0000. A contract sees its bytes.
+#[derive(Debug, Drop)]
+pub struct Text {
+    inner: String,
+}
+
+impl Model for Text {
+    ghost use Rattle.std.specs.Prelude.{List, ℕ, string_bytes, IsTrue};
+    ghost use Rattle.lens_values.specs.Bytes.{is_text};
+
+    ghost Value = { List ℕ };
+
+    ghost view = { λ t. string_bytes t.inner };
+
+    ghost invariant = { λ t. IsTrue (is_text (string_bytes t.inner)) };
+}
+
+/// Why bytes are no text.
+#[derive(Debug, PartialEq, Eq, Drop)]
+pub enum TextFault {
+    /// More than 4,096 bytes.
+    TooLong,
+    /// U+0000 is among them.
+    HasNul,
+    /// Memory ran out.
+    NoMemory,
+}
+
+impl From<AllocError> for TextFault {
+    ghost use Rattle.std.specs.Prelude.{◌≡◌};
+    ghost use Rattle.lens_values.specs.declared.text.TextFault.TheVariants.{NoMemory};
+
+    ghost from_gives = { λ _ e. e ≡ NoMemory };
+
+    fn from(_: AllocError) -> TextFault {
+        TextFault::NoMemory
+    }
+}
+
+impl Text {
+    /// The text of these bytes. `TooLong` past 4,096 bytes, and else `HasNul` where U+0000 is among them.
+    pub fn new(alloc: Global, s: &str) -> Result<Text, TextFault>
+        ensures { Gives TextFault.NoMemory result (text_of s.now) }
+    {
+        if s.len() > MAX_TEXT {
+            return Err(TextFault::TooLong);
+        }
+        if s.as_bytes().contains(&0) {
+            return Err(TextFault::HasNul);
+        }
+        Ok(Text {
+            inner: String::from_str(alloc, s)?,
+        })
+    }
+
+    /// The text as a `str`.
+    pub fn as_str(&self) -> &str
+        ensures { result.now ≡ self.now }
+    {
+        self.inner.as_str()
+    }
+
+    /// An equal text.
+    pub fn copy(&self, alloc: Global) -> Result<Text, NoMemory>
+        ensures { IfOk result (λ copy. copy ≡ self.now) }
+    {
+        Ok(Text {
+            inner: String::from_str(alloc, self.inner.as_str())?,
+        })
+    }
+}
+
+impl PartialEq for Text {
+    ghost use Rattle.std.specs.Prelude.{nat_eq};
+    ghost use Rattle.std.specs.Cmp.Lexicographic.{pointwise, nat_list_eq_equiv};
+    ghost use Rattle.std.specs.Cmp.{partial_equiv_from_equiv};
+
+    ghost eq = { pointwise nat_eq };
+
+    ghost laws = { partial_equiv_from_equiv nat_list_eq_equiv };
+
+    fn eq(&self, other: &Text) -> bool {
+        self.as_str() == other.as_str()
+    }
+}
+
+impl Eq for Text {
+    ghost use Rattle.std.specs.Cmp.Lexicographic.{nat_list_eq_equiv};
+
+    ghost laws = { nat_list_eq_equiv };
+}
+
+impl PartialOrd for Text {
+    ghost use Rattle.std.specs.Ordering.{as_partial_cmp};
+    ghost use Rattle.lens_values.specs.Order.{bytes_cmp};
+    ghost use Rattle.std.specs.Cmp.Lexicographic.{texts_po};
+
+    ghost partial_cmp = { as_partial_cmp bytes_cmp };
+
+    ghost laws = { texts_po };
+
+    fn partial_cmp(&self, other: &Text) -> Option<Ordering> {
+        Some(self.cmp(other))
+    }
+}
+
+impl Ord for Text {
+    ghost use Rattle.std.specs.Prelude.{refl};
+    ghost use Rattle.lens_values.specs.Order.{bytes_cmp};
+    ghost use Rattle.std.specs.Cmp.Lexicographic.{nat_list_cmp_total, texts_ties};
+
+    ghost cmp = { bytes_cmp };
+
+    ghost total = { nat_list_cmp_total };
+
+    ghost matches_partial_cmp = { λ _ _. refl };
+
+    ghost matches_eq = { texts_ties };
+
+    fn cmp(&self, other: &Text) -> Ordering {
+        self.as_str().cmp(other.as_str())
+    }
+}

@@ -1,0 +1,23 @@
+-- Rows put together with the rows of another set.
+use Rattle.std.specs.Prelude.{filter, flat_map, map}
+use Rattle.std.specs.declared.cmp.Ordering.{Ordering}
+use Rattle.std.specs.Ordering.{on, then_cmp}
+use Rattle.lens_values.specs.Part.{both_of, part_in}
+use Rattle.lens_values.specs.Row.{row_cmp}
+use Rattle.lens_values.specs.SortedSet as set
+use Rattle.lens_values.specs.declared.row.Row.{Row}
+use Rattle.lens_specs.specs.Names.{Names}
+use Rattle.lens_specs.specs.Rows.{agree}
+use Rattle.lens_specs.specs.Relation.{Rows}
+
+-- by the first row, and then by the second
+abbrev pub entry_cmp : Row × Row → Row × Row → Ordering
+entry_cmp = then_cmp (on (λ e. e.0) row_cmp) (on (λ e. e.1) row_cmp)
+
+-- a row behind what it has in the columns
+abbrev pub with_key : Names → Row → Row × Row
+with_key C r = (part_in C r, r)
+
+-- each pair of rows that agree on C, put together
+abbrev pub pairs_on : Names → Rows → Rows → Rows
+pairs_on C M N = set.from_list (flat_map (λ m. map (λ n. both_of n m) (filter (agree C m) (set.items N))) (set.items M))

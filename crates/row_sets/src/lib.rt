@@ -1,0 +1,14 @@
+//! Finite sets of rows, as lists and as trees, and relations.
+#![tactic(auto)]
+
+mod joining;
+pub mod relation;
+pub mod row_set;
+pub mod row_tree;
+
+pub use relation::Relation;
+pub use row_set::RowSet;
+pub use row_tree::RowTree;
+
+#[cfg(test)]
+mod tests;

@@ -1,0 +1,143 @@
+//! A finite set of rows.
+ghost use Rattle.std.specs.Prelude.{◌≡◌, IfOk, OnOk, OnErr, map, not};
+ghost use Rattle.std.specs.List.Sorted.{IsStrictlySortedBy};
+ghost use Rattle.lens_specs.specs.Relation.{project};
+ghost use Rattle.lens_values.specs.Part.{part_in};
+ghost use Rattle.lens_values.specs.Row.{row_cmp};
+ghost use Rattle.lens_values.specs.SortedSet as set;
+ghost use Rattle.row_sets.specs.Joins.{pairs_on};
+
+use crate::joining::{indexed, paired};
+use lens_values::{Names, NoMemory, Row, copied, merged, missing, rising};
+use std::alloc::Global;
+use std::marker::Model;
+
+/// A finite set of rows, kept as their rising list.
+#[derive(Debug, Drop)]
+pub struct RowSet {
+    rows: Vec<Row>,
+}
+
+impl Model for RowSet {
+    ghost use Rattle.std.specs.List.Sorted.{IsStrictlySortedBy};
+    ghost use Rattle.lens_values.specs.Row.{row_cmp};
+    ghost use Rattle.lens_values.specs.SortedSet as set;
+    ghost use Rattle.lens_values.specs.contracts.row.Row as contract;
+
+    ghost Value = { set.SortedSet row_cmp };
+
+    ghost coded = { set.code contract.the_row.coded };
+
+    ghost view = { λ s. set.from_list s.rows.items };
+
+    ghost invariant = { λ s. IsStrictlySortedBy row_cmp s.rows.items };
+}
+
+impl RowSet {
+    /// The set of these rows, in whatever order and however often each stands there.
+    pub fn new(_alloc: Global, rows: Vec<Row>) -> Result<RowSet, NoMemory>
+        ensures { IfOk result (λ made. made ≡ set.from_list rows.items) }
+    {
+        Ok(RowSet { rows: rising(rows) })
+    }
+
+    /// The set of these rows, which rise strictly.
+    pub fn from_rising(rows: Vec<Row>) -> RowSet
+        requires { IsStrictlySortedBy row_cmp rows.items }
+        ensures { result ≡ set.from_list rows.items }
+    {
+        RowSet { rows }
+    }
+
+    /// The rows in rising order.
+    pub fn rows(&self) -> &[Row]
+        ensures { result.now ≡ set.items self.now }
+    {
+        self.rows.as_slice()
+    }
+
+    /// Whether the row is in the set.
+    pub fn has(&self, row: &Row) -> bool
+        ensures { result ≡ set.contains self.now row.now }
+    {
+        self.rows.binary_search(row).is_ok()
+    }
+
+    /// The set with no row.
+    pub fn empty(alloc: Global) -> RowSet
+        ensures { result ≡ set.empty }
+    {
+        RowSet {
+            rows: Vec::new(alloc),
+        }
+    }
+
+    /// Adds a row, and says whether it is new. After `NoMemory` the set is as it was.
+    pub fn insert(&mut self, row: Row) -> Result<bool, NoMemory>
+        ensures ok { OnOk result (self.new ≡ set.insert self.old row) }
+        ensures new { IfOk result (λ new. new ≡ not (set.contains self.old row)) }
+        ensures err { OnErr result (self.new ≡ self.old) }
+    {
+        match self.rows.binary_search(&row) {
+            Ok(_) => Ok(false),
+            Err(place) => {
+                self.rows.insert(place, row)?;
+                Ok(true)
+            }
+        }
+    }
+
+    /// The rows of either set.
+    pub fn union(&self, alloc: Global, other: &RowSet) -> Result<RowSet, NoMemory>
+        ensures { IfOk result (λ union. union ≡ set.union self.now other.now) }
+    {
+        Ok(RowSet {
+            rows: merged(alloc, self.rows(), other.rows())?,
+        })
+    }
+
+    /// The rows of this set that are not in the other.
+    pub fn minus(&self, alloc: Global, other: &RowSet) -> Result<RowSet, NoMemory>
+        ensures { IfOk result (λ rest. rest ≡ set.difference self.now other.now) }
+    {
+        Ok(RowSet {
+            rows: missing(alloc, self.rows(), other.rows())?,
+        })
+    }
+
+    /// What the rows have in these columns.
+    pub fn project(&self, alloc: Global, columns: &Names) -> Result<RowSet, NoMemory>
+        ensures { IfOk result (λ part. part ≡ project columns.now self.now) }
+    {
+        RowSet::new(alloc, projected(alloc, self.rows(), columns)?)
+    }
+
+    /// Each pair of a row of this set and one of the other that have the same in these columns, put together. What the
+    /// other's row has stands where both have something.
+    pub fn join(&self, alloc: Global, other: &RowSet, cols: &Names) -> Result<RowSet, NoMemory>
+        ensures { IfOk result (λ joined. joined ≡ pairs_on cols.now self.now other.now) }
+    {
+        let index = indexed(alloc, other.rows(), cols)?;
+        RowSet::new(alloc, paired(alloc, self.rows(), cols, &index)?)
+    }
+
+    /// An equal set.
+    pub fn copy(&self, alloc: Global) -> Result<RowSet, NoMemory>
+        ensures { IfOk result (λ copy. copy ≡ self.now) }
+    {
+        Ok(RowSet {
+            rows: copied(alloc, &self.rows)?,
+        })
+    }
+}
+
+// Each row's part that stands in these columns.
+fn projected(alloc: Global, rows: &[Row], columns: &Names) -> Result<Vec<Row>, NoMemory>
+    ensures { IfOk result (λ parts. parts.items ≡ map (part_in columns.now) rows.now) }
+{
+    let mut parts = Vec::with_capacity(alloc, rows.len())?;
+    for row in rows {
+        parts.push(row.project(alloc, columns)?)?;
+    }
+    Ok(parts)
+}

@@ -1,0 +1,135 @@
+//! Differences of sets of rows.
+ghost use Rattle.std.specs.Prelude.{◌≡◌, IfOk};
+ghost use Rattle.lens_specs.specs.Delta as spec;
+ghost use Rattle.lens_specs.specs.Delta.{AppliesTo};
+ghost use Rattle.signed_delta.specs.Apart.{AreApart};
+
+use crate::sides::both_sides;
+use lens_values::{Name, NoMemory};
+use row_sets::{Relation, RowSet};
+use std::alloc::Global;
+use std::marker::Model;
+
+/// Rows to remove and rows to add, with no row in both. A contract sees the two sets.
+#[derive(Debug, Drop)]
+pub struct Delta {
+    remove: RowSet,
+    add: RowSet,
+}
+
+impl Model for Delta {
+    ghost use Rattle.lens_specs.specs.Delta as spec;
+    ghost use Rattle.signed_delta.specs.Apart.{AreApart};
+    ghost use Rattle.signed_delta.specs.DeltaCode.{coded_delta};
+
+    ghost Value = { spec.Delta };
+
+    ghost coded = { coded_delta };
+
+    ghost view = { λ d. record { remove = d.remove; add = d.add } };
+
+    ghost invariant = { λ d. AreApart d.remove d.add };
+}
+
+impl Delta {
+    /// The difference that removes and adds these rows.
+    pub fn new(remove: RowSet, add: RowSet) -> Delta
+        requires { AreApart remove add }
+        ensures { result ≡ record { remove = remove; add = add } }
+    {
+        Delta { remove, add }
+    }
+
+    /// The rows to remove.
+    pub fn remove(&self) -> &RowSet
+        ensures { result.now ≡ self.now.remove }
+    {
+        &self.remove
+    }
+
+    /// The rows to add.
+    pub fn add(&self) -> &RowSet
+        ensures { result.now ≡ self.now.add }
+    {
+        &self.add
+    }
+
+    /// Whether it changes nothing.
+    pub fn is_empty(&self) -> bool
+        ensures { result ≡ spec.is_empty self.now }
+    {
+        self.remove.rows().is_empty() && self.add.rows().is_empty()
+    }
+
+    /// An equal difference.
+    pub fn copy(&self, alloc: Global) -> Result<Delta, NoMemory>
+        ensures { IfOk result (λ copy. copy ≡ self.now) }
+    {
+        let remove = self.remove.copy(alloc)?;
+        let add = self.add.copy(alloc)?;
+        Ok(Delta { remove, add })
+    }
+
+    /// The difference that leads back: it removes what this one adds, and adds what this one removes.
+    pub fn invert(self) -> Delta
+        ensures { result ≡ record { remove = self.add; add = self.remove } }
+    {
+        Delta {
+            remove: self.add,
+            add: self.remove,
+        }
+    }
+
+    /// The rows after it: less those to remove, and with those to add.
+    pub fn apply_to(&self, alloc: Global, rows: &RowSet) -> Result<RowSet, NoMemory>
+        ensures { IfOk result (λ after. after ≡ spec.new_view rows.now self.now) }
+    {
+        let rest = rows.minus(alloc, &self.remove)?;
+        let after = rest.union(alloc, &self.add)?;
+        Ok(after)
+    }
+
+    /// The relation after it, over the same columns.
+    pub fn apply(&self, alloc: Global, relation: &Relation) -> Result<Relation, NoMemory>
+        requires { AppliesTo self.now relation.now }
+        ensures { IfOk result (λ after. after ≡ record relation.now { rows = spec.new_view relation.now.rows self.now }) }
+    {
+        relation.rows_fit();
+        let columns = relation.columns().copy(alloc)?;
+        let rows = self.apply_to(alloc, relation.rows())?;
+        Ok(Relation::with_rows(columns, rows))
+    }
+}
+
+/// The difference of one table.
+#[derive(Debug, Drop)]
+pub struct TableDelta {
+    /// The table's name.
+    pub table: Name,
+    /// What its rows differ by.
+    pub delta: Delta,
+}
+
+impl TableDelta {
+    /// An equal difference of the same table.
+    pub fn copy(&self, alloc: Global) -> Result<TableDelta, NoMemory>
+        ensures { IfOk result (λ copy. copy ≡ self.now) }
+    {
+        let delta = self.delta.copy(alloc)?;
+        Ok(TableDelta {
+            table: self.table,
+            delta,
+        })
+    }
+}
+
+/// The difference that leads from the old rows to the new ones, by one walk along both.
+pub fn diff(alloc: Global, old: &Relation, new: &Relation) -> Result<Delta, NoMemory>
+    requires { new.now.columns ≡ old.now.columns }
+    ensures { IfOk result (λ delta. delta ≡ spec.diff old.now.rows new.now.rows) }
+{
+    let sides = both_sides(alloc, old.rows().rows(), new.rows().rows())?;
+    let remove = RowSet::from_rising(sides.remove);
+    let add = RowSet::from_rising(sides.add);
+    Ok(Delta::new(remove, add))
+}
