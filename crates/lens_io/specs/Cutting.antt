@@ -1,0 +1,88 @@
+-- A cutter of lines, and what one call of it says of the input.
+use Rattle.std.specs.Prelude.{◌≡◌, ◌≢◌, ◌≤◌, ◌<◌, ◌+◌, ℕ, Bool, true, false, List, [], ◌∷◌, ◌++◌, ◌⊎◌, length, nat_lt, nat_eq, if◌then◌else◌}
+use Rattle.std.specs.declared.option.Option.{Option}
+use Rattle.std.specs.Io.KnownBytes.{Consumes, IsAtEnd}
+use Rattle.lens_io.specs.declared.cutting.Cut.{Cut}
+use Rattle.lens_io.specs.declared.cutting.Cut.TheVariants.{Line, TooLong, End, Failed, Spent}
+
+-- The bytes that were taken and not given yet, the line that was given last, how many bytes were taken in all and may be,
+-- whether the source told its end, and whether the last answer was given.
+pub record Cutter : Type 0 where
+  pub pending : List ℕ
+  pub line : List ℕ
+  pub taken : ℕ
+  pub limit : ℕ
+  pub ended : Bool
+  pub done : Bool
+
+-- whether no other answer follows
+abbrev pub is_last : Cut → Bool
+is_last Line = false
+is_last TooLong = false
+is_last End = true
+is_last Failed = true
+is_last Spent = true
+
+-- no byte is a newline
+abbrev pub HasNoNewline : List ℕ → Type 0
+HasNoNewline [] = Unit {0}
+HasNoNewline (b ∷ bytes) = (b ≢ 10) × HasNoNewline bytes
+
+-- a piece was cut off: up to its newline, or all bytes at the end of the input
+abbrev pub CutsOff : List ℕ → List ℕ → List ℕ → Bool → Type 0
+CutsOff bytes piece rest ended = HasNoNewline piece × (((bytes ≡ piece ++ 10 ∷ rest) × (ended ≡ false)) ⊎ ((bytes ≡ piece) × (rest ≡ []) × (ended ≡ true)))
+
+-- What an answer says of the bytes that waited or came: which line was cut off them, and what is left.
+abbrev pub Says : Cut → List ℕ → List ℕ → List ℕ → ℕ → ℕ → Bool → Type 0
+Says Line bytes line rest taken limit ended = (length line ≤ 16777216) × CutsOff bytes line rest ended × (ended ≡ true → line ≢ [])
+Says TooLong bytes line rest taken limit ended = (piece : List ℕ) × (16777216 < length piece) × CutsOff bytes piece rest ended
+Says End bytes line rest taken limit ended = (bytes ≡ []) × (rest ≡ []) × (ended ≡ true)
+Says Failed bytes line rest taken limit ended = HasNoNewline bytes × (rest ≡ []) × (ended ≡ false)
+Says Spent bytes line rest taken limit ended = (piece : List ℕ) × HasNoNewline piece × (bytes ≡ piece ++ rest) × (length rest ≡ 1) × (taken ≡ limit + 1) × (ended ≡ false)
+
+-- One call. The bytes that came are those that the source lost, where it tells them.
+pub record Step (cut : Cut) (pending line rest : List ℕ) (taken taken' limit : ℕ) (ended ended' : Bool) (left left' : Option (List ℕ)) : Type 0 where
+  pub came : List ℕ
+  pub consumed : Consumes left left' came
+  pub counted : taken' ≡ taken + length came
+  pub says : Says cut (pending ++ came) line rest taken' limit ended'
+  -- what was given is among the first bytes, and one byte more is taken at most
+  pub within : taken' ≤ limit + length rest
+  pub most : taken' ≤ limit + 1
+  -- the end is told by the source, which is not asked again
+  pub at_end : ended' ≡ true → ((ended ≡ true) × (left' ≡ left)) ⊎ IsAtEnd left'
+  pub once : ended ≡ true → cut ≡ End
+
+-- what a line of that length is
+abbrev pub sized : ℕ → Cut
+sized size = if nat_lt 16777216 size then TooLong else Line
+
+-- what so many bytes are at the end of the input
+abbrev pub unended : ℕ → Cut
+unended size = if nat_eq size 0 then End else Line
+
+-- what an answer says of the bytes that came while a line was passed over
+abbrev pub SaysPassed : Cut → List ℕ → List ℕ → ℕ → ℕ → Bool → Type 0
+SaysPassed Line came rest taken limit ended = ⊥
+SaysPassed TooLong came rest taken limit ended = (piece : List ℕ) × CutsOff came piece rest ended
+SaysPassed End came rest taken limit ended = ⊥
+SaysPassed Failed came rest taken limit ended = HasNoNewline came × (rest ≡ []) × (ended ≡ false)
+SaysPassed Spent came rest taken limit ended = (piece : List ℕ) × HasNoNewline piece × (came ≡ piece ++ rest) × (length rest ≡ 1) × (taken ≡ limit + 1) × (ended ≡ false)
+
+-- the rest of a line that is too long was passed over
+pub record Passed (cut : Cut) (rest : List ℕ) (taken taken' limit : ℕ) (ended' : Bool) (left left' : Option (List ℕ)) : Type 0 where
+  pub came : List ℕ
+  pub consumed : Consumes left left' came
+  pub counted : taken' ≡ taken + length came
+  pub says : SaysPassed cut came rest taken' limit ended'
+  pub within : taken' ≤ limit + length rest
+  pub most : taken' ≤ limit + 1
+  pub at_end : ended' ≡ true → IsAtEnd left'
+
+-- the piece is the next line of the bytes, or all of them where they have no newline
+abbrev pub IsNext : List ℕ → List ℕ → Type 0
+IsNext bytes piece = HasNoNewline piece × (((tail : List ℕ) × (bytes ≡ piece ++ 10 ∷ tail)) ⊎ (bytes ≡ piece))
+
+-- No byte more is needed: a whole line waits, or the byte beyond the limit, or the end was told.
+abbrev pub NeedsNone : List ℕ → ℕ → ℕ → Bool → Type 0
+NeedsNone pending taken limit ended = ((piece : List ℕ) × (rest : List ℕ) × (pending ≡ piece ++ 10 ∷ rest)) ⊎ ((limit < taken) ⊎ (ended ≡ true))

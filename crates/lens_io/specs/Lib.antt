@@ -1,0 +1,7 @@
+pub mod Bytes
+pub mod CutterCode
+pub mod Cutting
+pub mod InMemory
+pub mod Laws
+pub mod Taken
+pub mod Within

@@ -1,0 +1,16 @@
+-- What is added to the text of a writer.
+use Rattle.std.specs.Prelude.{◌≡◌, List, ◌++◌}
+use Rattle.json.specs.Token.{Token}
+use Rattle.json.specs.Tree.{json_tokens}
+use Rattle.json.specs.Written.{Written}
+use Rattle.serde_json.specs.Data.{Data}
+use Rattle.serde_json.specs.Written.{outline}
+
+-- the tokens of the data
+abbrev pub data_tokens : Data → List Token
+data_tokens d = json_tokens (outline d)
+
+-- these tokens come after the text that was there
+pub record Adds (old new : Written) (tokens : List Token) : Type 0 where
+  pub before : new.before ≡ old.before
+  pub after : new.tokens ≡ old.tokens ++ tokens

@@ -1,0 +1,152 @@
+//! Replies printed token by token.
+ghost use Rattle.std.specs.Prelude.{◌≡◌, [], ◌∷◌, ◌++◌, IfOk, OnOk, map, decimal};
+ghost use Rattle.std.specs.FinMap as finmap;
+ghost use Rattle.json.specs.Print.{print};
+ghost use Rattle.json.specs.Token.{begin_object, end_object, key, string, number, boolean};
+ghost use Rattle.serde_json.specs.Data.{array};
+ghost use Rattle.lens_values.specs.SortedSet as set;
+ghost use Rattle.server_specs.specs.Answer.{value_data, row_data, rows_data, change_data, changes_data};
+ghost use Rattle.signed_delta.specs.Tables.{table_delta};
+ghost use Rattle.request_text.specs.Printing.{Adds, data_tokens};
+
+use crate::reply::Reply;
+use json::Writer;
+use lens_values::{Name, NoMemory, Row, Value};
+use row_sets::RowSet;
+use signed_delta::TableDelta;
+use std::alloc::Global;
+
+/// An object that is begun.
+pub(crate) fn begun(alloc: Global) -> Result<Writer, NoMemory>
+    ensures before { IfOk result (λ out. out.before ≡ []) }
+    ensures tokens { IfOk result (λ out. out.tokens ≡ begin_object ∷ []) }
+{
+    let mut out = Writer::new(Vec::new(alloc));
+    out.begin_object()?;
+    Ok(out)
+}
+
+/// The line of an object that is ended here.
+pub(crate) fn ended(mut out: Writer) -> Result<Reply, NoMemory>
+    requires { out.before ≡ [] }
+    ensures { IfOk result (λ reply. reply ≡ print (out.tokens ++ end_object ∷ []) ++ 10 ∷ []) }
+{
+    out.end_object()?;
+    let mut bytes = out.into_inner();
+    bytes.push(b'\n')?;
+    Ok(Reply::made(bytes))
+}
+
+/// A member that is true or false.
+pub(crate) fn print_flag(out: &mut Writer, name: &str, flag: bool) -> Result<(), NoMemory>
+    ensures { OnOk result (Adds out.old out.new (key name.now ∷ boolean flag ∷ [])) }
+{
+    out.key(name)?;
+    out.boolean(flag)?;
+    Ok(())
+}
+
+/// A member that is a number.
+pub(crate) fn print_number(out: &mut Writer, name: &str, n: u64) -> Result<(), NoMemory>
+    ensures { OnOk result (Adds out.old out.new (key name.now ∷ number (decimal n) ∷ [])) }
+{
+    out.key(name)?;
+    out.u64(n)?;
+    Ok(())
+}
+
+/// A member that is a name.
+pub(crate) fn print_name(out: &mut Writer, name: &str, value: &Name) -> Result<(), NoMemory>
+    ensures { OnOk result (Adds out.old out.new (key name.now ∷ string value.now ∷ [])) }
+{
+    out.key(name)?;
+    out.string(value.as_str())?;
+    Ok(())
+}
+
+/// A member that is an array of differences of tables.
+pub(crate) fn print_changes(
+    out: &mut Writer,
+    name: &str,
+    changes: &[TableDelta],
+) -> Result<(), NoMemory>
+    ensures { OnOk result (Adds out.old out.new (key name.now ∷ data_tokens (array (changes_data (map table_delta changes.now))))) }
+{
+    out.key(name)?;
+    print_list(out, changes)?;
+    Ok(())
+}
+
+fn print_list(out: &mut Writer, changes: &[TableDelta]) -> Result<(), NoMemory>
+    ensures { OnOk result (Adds out.old out.new (data_tokens (array (changes_data (map table_delta changes.now))))) }
+{
+    out.begin_array()?;
+    for change in changes {
+        print_change(out, change)?;
+    }
+    out.end_array()?;
+    Ok(())
+}
+
+fn print_change(out: &mut Writer, change: &TableDelta) -> Result<(), NoMemory>
+    ensures { OnOk result (Adds out.old out.new (data_tokens (change_data (table_delta change.now)))) }
+{
+    out.begin_object()?;
+    print_set(out, "add", change.delta.add())?;
+    print_set(out, "remove", change.delta.remove())?;
+    print_name(out, "table", &change.table)?;
+    out.end_object()?;
+    Ok(())
+}
+
+/// A member that is an array of rows.
+pub(crate) fn print_set(out: &mut Writer, name: &str, rows: &RowSet) -> Result<(), NoMemory>
+    ensures { OnOk result (Adds out.old out.new (key name.now ∷ data_tokens (array (rows_data (set.items rows.now))))) }
+{
+    out.key(name)?;
+    print_rows(out, rows)?;
+    Ok(())
+}
+
+fn print_rows(out: &mut Writer, rows: &RowSet) -> Result<(), NoMemory>
+    ensures { OnOk result (Adds out.old out.new (data_tokens (array (rows_data (set.items rows.now))))) }
+{
+    out.begin_array()?;
+    for row in rows.rows() {
+        print_object(out, row)?;
+    }
+    out.end_array()?;
+    Ok(())
+}
+
+/// A member that is a row.
+pub(crate) fn print_row(out: &mut Writer, name: &str, row: &Row) -> Result<(), NoMemory>
+    ensures { OnOk result (Adds out.old out.new (key name.now ∷ data_tokens (row_data row.now))) }
+{
+    out.key(name)?;
+    print_object(out, row)?;
+    Ok(())
+}
+
+fn print_object(out: &mut Writer, row: &Row) -> Result<(), NoMemory>
+    ensures { OnOk result (Adds out.old out.new (data_tokens (row_data row.now))) }
+{
+    out.begin_object()?;
+    for pair in row.pairs() {
+        out.key(pair.0.as_str())?;
+        print_value(out, &pair.1)?;
+    }
+    out.end_object()?;
+    Ok(())
+}
+
+fn print_value(out: &mut Writer, value: &Value) -> Result<(), NoMemory>
+    ensures { OnOk result (Adds out.old out.new (data_tokens (value_data value.now))) }
+{
+    match value {
+        Value::Int(number) => out.i64(*number)?,
+        Value::Text(text) => out.string(text.as_str())?,
+        Value::Flag(flag) => out.boolean(*flag)?,
+    }
+    Ok(())
+}

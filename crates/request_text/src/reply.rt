@@ -1,0 +1,74 @@
+//! Reply lines.
+ghost use Rattle.std.specs.Prelude.{◌≡◌, codes};
+ghost use Rattle.server_specs.specs.Answer.{memory, store_fault, text, unbuilt};
+
+use std::marker::Model;
+
+/// A line with its newline. A contract sees its bytes.
+#[derive(Debug, Drop)]
+pub struct Reply {
+    source: Source,
+}
+
+#[derive(Debug, Drop)]
+enum Source {
+    Fixed(&'static [u8]),
+    Made(Vec<u8>),
+}
+
+impl Model for Reply {
+    ghost use Rattle.std.specs.Prelude.{List, ℕ};
+
+    ghost Value = { List ℕ };
+
+    ghost use Rattle.request_text.specs.ReplyBytes.{bytes_of};
+
+    ghost view = { λ r. bytes_of r.source };
+}
+
+impl Reply {
+    pub(crate) fn made(bytes: Vec<u8>) -> Reply
+        ensures { result ≡ bytes.items }
+    {
+        Reply {
+            source: Source::Made(bytes),
+        }
+    }
+
+    /// The bytes of the line.
+    pub fn bytes(&self) -> &[u8]
+        ensures { result.now ≡ self.now }
+    {
+        match &self.source {
+            Source::Fixed(bytes) => bytes,
+            Source::Made(bytes) => bytes.as_slice(),
+        }
+    }
+}
+
+/// The reply that memory ran out. It takes none.
+pub fn memory_reply() -> Reply
+    ensures { result ≡ text memory }
+{
+    Reply {
+        source: Source::Fixed(b"{\"error\":1,\"ok\":false}\n"),
+    }
+}
+
+/// The reply that the store failed. It takes no memory.
+pub fn store_fault_reply() -> Reply
+    ensures { result ≡ text store_fault }
+{
+    Reply {
+        source: Source::Fixed(b"{\"error\":90,\"ok\":false}\n"),
+    }
+}
+
+/// The reply to what is not built yet. It takes no memory.
+pub fn unbuilt_reply() -> Reply
+    ensures { result ≡ text unbuilt }
+{
+    Reply {
+        source: Source::Fixed(b"{\"error\":99,\"ok\":false}\n"),
+    }
+}

@@ -1,0 +1,223 @@
+-- A state with a table and a view, and a put that changes it: the premises of the laws can be met.
+use Rattle.std.proofs.Common.{◌≡◌, ◌+◌, ℕ, Bool, true, false, cond, not, ◌||◌, ◌&&◌, List, [], ◌∷◌, map, length, Option, Some, None, option_map, is_some, Ok, refl, sym, ap, subst, ◌∙◌, arith}
+use Rattle.std.proofs.lemmas.Bool.{true≢false}
+use Rattle.std.specs.Prelude.{codes, pos, nat_le, is_err}
+use Rattle.std.specs.List.{find}
+use Rattle.std.specs.FinMap as finmap
+use Rattle.std.specs.FinMap.Entries as listed
+use Rattle.std.specs.Ordering.{eq_by_cmp}
+use Rattle.lens_values.specs.Order.{bytes_cmp}
+use Rattle.lens_values.specs.Row.{row_cmp}
+use Rattle.lens_values.specs.SortedSet as set
+use Rattle.lens_values.specs.declared.row.Row.{Row}
+use Rattle.lens_values.specs.declared.value.Kind.{Kind}
+use Rattle.lens_values.specs.declared.value.Kind.TheVariants as kind
+use Rattle.lens_values.specs.declared.value.Value.TheVariants.{Int}
+use Rattle.lens_laws.proofs.Lists.{false_from, absurd_false}
+use Rattle.lens_laws.proofs.Names.{name_total, name_itself}
+use Rattle.lens_laws.proofs.Relations.{from_those}
+use Rattle.lens_laws.proofs.Rows.{row_total, tied_row, row_itself}
+use Rattle.lens_laws.proofs.Sorts.{none_off}
+use Rattle.lens_specs.specs.Names.{Name}
+use Rattle.lens_specs.specs.Columns.{Columns, Fits, kind_at, is_kind}
+use Rattle.lens_specs.specs.Relation.{Rows, Relation, has}
+use Rattle.lens_specs.specs.Predicate.{gt, compare, Predicate, holds, mentions, compared}
+use Rattle.lens_specs.specs.Refusal.{Refusal, unknown_column, predicate_kind, source_mentions_output, or_else, or_name, when, unless as or_unlike, too_large, columns_limit, unknown_name, unlike_kinds, least_mentioned}
+use Rattle.lens_specs.specs.TreeForm.{outputs}
+use Rattle.lens_specs.specs.Typing.{sort, select_fault, unless_refused}
+use Rattle.lens_specs.specs.Nodes.{select_get}
+use Rattle.lens_specs.specs.Lens.{Lens, select, select_sort, get, rows_or_none, table as rows_of_table}
+use Rattle.lens_specs.specs.Language.{Definition, table, view, named}
+use Rattle.lens_specs.specs.Language as language
+use Rattle.lens_specs.specs.Reading.{reading, tokens_within}
+use Rattle.server_specs.specs.State.{State, fresh, Catalogue, catalogue, columns_from, plain_sort, table_lens, with_definition, with_lens}
+use Rattle.server_specs.specs.Defining.{is_base, is_taken, count_lenses, table_count, view_count, unless, judged, judged_select}
+use Rattle.server_specs.specs.Answering.{put_set, with_defined}
+use Rattle.server_specs.specs.Validity.{Valid}
+use Rattle.server_laws.proofs.Puts.{accepted_where}
+use Rattle.server_laws.proofs.Stored.{lens_here}
+use Rattle.server_laws.proofs.Taken.{judged_ok, get-new, get-other}
+use Rattle.server_laws.proofs.Valid.{fresh_is_valid, known_after, valid_taken, of_lens}
+use Rattle.server_laws.specs.Answers.{IsAccepted}
+use Rattle.server_laws.specs.PutLaws.{AllFit, IsPut}
+use Rattle.server_laws.specs.Witness.{PutsCanChange}
+
+-- ---- the definitions
+
+abbrev t : Name
+t = codes "t"
+
+abbrev v : Name
+v = codes "v"
+
+abbrev a : Name
+a = codes "a"
+
+abbrev listing : List (Name × Kind)
+listing = (a, kind.Int) ∷ []
+
+abbrev U : Columns
+U = columns_from listing
+
+abbrev P : Predicate
+P = compare a gt (Int (pos 0)) ∷ []
+
+abbrev first_text : List ℕ
+first_text = codes "table t (a int)"
+
+abbrev second_text : List ℕ
+second_text = codes "view v = select from t where a > 0"
+
+abbrev first : Definition
+first = table t listing
+
+abbrev second : Definition
+second = view v (language.select P (named t))
+
+first_says : reading first_text ≡ Some first
+unfolding reading tokens_within
+first_says = refl
+
+second_says : reading second_text ≡ Some second
+unfolding reading tokens_within
+second_says = refl
+
+-- ---- they are taken
+
+abbrev none : Catalogue
+none = finmap.empty
+
+abbrev T : Lens
+T = table_lens t U
+
+abbrev V : Lens
+V = select P T
+
+-- the catalogue of the table
+abbrev one : Catalogue
+one = finmap.insert none t T
+
+nothing : {A : Type 0} (es : List A) → length es ≡ 0 → es ≡ []
+nothing [] e = refl
+nothing (x ∷ es) e = absurd (omega arith)
+
+no_entries : finmap.entries none ≡ []
+no_entries = nothing (finmap.entries none) (sym (finmap.len-entries none) ∙ finmap.len-empty bytes_cmp Lens)
+
+no_tables : table_count none ≡ 0
+no_tables = ap (λ es. count_lenses is_base (map (λ e. e.1) es)) no_entries
+
+is_free : (name : Name) → is_taken none name ≡ false
+is_free name = ap is_some (finmap.get-empty bytes_cmp name)
+
+first_taken : judged none (reading first_text) ≡ Ok first
+first_taken = ap (judged none) first_says ∙ ap (λ b. unless (b || nat_le 64 (table_count none)) first) (is_free t) ∙ ap (λ n. unless (nat_le 64 n) first) no_tables
+
+no_views : view_count one ≡ 0
+no_views = ap (λ es. count_lenses (λ lens. not (is_base lens)) (map (λ e. e.1) es)) (finmap.entries-insert name_total none t T ∙ ap (listed.put bytes_cmp t T) no_entries)
+
+column : finmap.get U a ≡ Some kind.Int
+column = finmap.get-from_entries name_total listing a
+
+one_column : finmap.len U ≡ 1
+one_column = finmap.len-insert name_total (finmap.empty {X = Kind} {R = bytes_cmp}) a kind.Int
+    ∙ ap (λ o. cond (is_some o) (finmap.len (finmap.empty {X = Kind} {R = bytes_cmp})) (finmap.len (finmap.empty {X = Kind} {R = bytes_cmp}) + 1)) (finmap.get-empty bytes_cmp a)
+    ∙ ap (λ n. n + 1) (finmap.len-empty bytes_cmp Kind)
+
+both : (x y : Option Refusal) → x ≡ None → y ≡ None → or_else x y ≡ None
+both x y p q = ap (λ o. or_else o y) p ∙ q
+
+nothing_mentioned : (ns : List Name) → find (mentions []) ns ≡ None
+nothing_mentioned [] = refl
+nothing_mentioned (n ∷ ns) = nothing_mentioned ns
+
+no_fault : select_fault 2 (plain_sort U) P ≡ None
+no_fault =
+    both (option_map unknown_column (unknown_name U P)) _ (ap (λ o. option_map unknown_column (cond (not (is_some o)) (Some a) None)) column)
+    (both (option_map predicate_kind (unlike_kinds U P)) _ (ap (λ o. option_map predicate_kind (or_name (or_unlike (is_kind o kind.Int) a) None)) column)
+    (both (option_map source_mentions_output (least_mentioned [] (outputs []))) _ (ap (option_map source_mentions_output) (nothing_mentioned (set.items (outputs []))))
+    (ap (λ n. or_else (when (not (nat_le n 64)) (too_large columns_limit)) None) one_column)))
+
+has_sort : sort V ≡ Ok (select_sort (plain_sort U) P)
+unfolding sort
+has_sort = ap (λ o. unless_refused o (select_sort (plain_sort U) P)) no_fault
+
+second_free : is_taken one v ≡ false
+second_free = ap is_some (get-other none t T v refl) ∙ is_free v
+
+second_taken_of_one : judged one (Some second) ≡ Ok second
+second_taken_of_one =
+    ap (judged_select one v P t) (get-new none t T)
+    ∙ ap (λ b. unless (b || (nat_le 256 (view_count one) || (not (is_base T) || is_err (sort V)))) second) second_free
+    ∙ ap (λ n. unless (nat_le 256 n || (not (is_base T) || is_err (sort V))) second) no_views
+    ∙ ap (λ r. unless (is_err r) second) has_sort
+
+-- ---- the state
+
+abbrev with_table : State
+with_table = with_defined first_text first fresh
+
+abbrev state : State
+state = with_defined second_text second with_table
+
+known_one : catalogue with_table.texts ≡ one
+known_one = known_after fresh first_text first first_taken
+
+second_taken : judged (catalogue with_table.texts) (reading second_text) ≡ Ok second
+second_taken = ap (λ k. judged k (reading second_text)) known_one ∙ ap (judged one) second_says ∙ second_taken_of_one
+
+with_table_valid : Valid with_table
+with_table_valid = valid_taken fresh first_text first fresh_is_valid first_taken (judged_ok none (reading first_text) first first_taken).1
+
+valid : Valid state
+valid = valid_taken with_table second_text second with_table_valid second_taken (judged_ok (catalogue with_table.texts) (reading second_text) second second_taken).1
+
+known_view : finmap.get (catalogue state.texts) v ≡ Some V
+known_view =
+    ap (λ k. finmap.get k v) (known_after with_table second_text second second_taken ∙ ap (with_definition (Some second)) known_one ∙ ap (λ o. with_lens v (option_map (select P) o) one) (get-new none t T))
+    ∙ get-new one v V
+
+-- ---- the put
+
+abbrev row : Row
+row = finmap.from_entries ((a, Int (pos 1)) ∷ [])
+
+abbrev N : Rows
+N = set.from_list (row ∷ [])
+
+there : has N row ≡ true
+there = set.contains-from_list row_total (row ∷ []) row ∙ ap (λ b. b || false) (row_itself row)
+
+or_no : (b : Bool) → (b || false) ≡ true → b ≡ true
+or_no true e = refl
+or_no false e = absurd (true≢false (sym e))
+
+only : (r : Row) → has N r ≡ true → r ≡ row
+only r i = tied_row r row (or_no (eq_by_cmp row_cmp r row) (sym (set.contains-from_list row_total (row ∷ []) r) ∙ i))
+
+row_fits : Fits U row
+row_fits c = ap kind_at (finmap.get-from_entries name_total ((a, Int (pos 1)) ∷ []) c)
+    ∙ elim (eq_by_cmp bytes_cmp c a) as (λ b. kind_at (cond b (Some (Int (pos 1))) None) ≡ cond b (Some kind.Int) None) [ true ↦ refl | false ↦ refl ]
+    ∙ sym (finmap.get-from_entries name_total listing c)
+
+all_fit : AllFit U N
+all_fit r i = subst (Fits U) (sym (only r i)) row_fits
+
+row_holds : holds P row ≡ true
+row_holds = ap (λ o. compared gt o (Some (Int (pos 0))) && true) (finmap.get-from_entries name_total ((a, Int (pos 1)) ∷ []) a)
+
+rows_put : IsPut state v V N
+rows_put = record { valid = valid; lens = known_view; rows = all_fit }
+
+accepted : IsAccepted (put_set N V state).0
+accepted = (accepted_where state v V N rows_put).1 (of_lens state V N (lens_here state valid v V known_view) all_fit (none_off P N (λ r i. ap (holds P) (only r i) ∙ row_holds)))
+
+is_new : has (get V state.tables) row ≡ false
+unfolding get select_get
+is_new = false_from _ (λ i. absurd_false _ (from_those (holds P) (rows_of_table state.tables t) row i).0
+    (ap (λ o. has (rows_or_none o) row) (finmap.get-insert name_total finmap.empty t (record { columns = U; rows = set.empty }) t
+    ∙ ap (λ b. cond b (Some (record { columns = U; rows = set.empty })) (finmap.get (finmap.empty {X = Relation} {R = bytes_cmp}) t)) (name_itself t))
+    ∙ set.contains-empty row_cmp row))
+
+pub puts_can_change : PutsCanChange
+puts_can_change = record { state = state; name = v; lens = V; rows = N; put = rows_put; view = refl; accepted = accepted; row = row; there = there; new = is_new }

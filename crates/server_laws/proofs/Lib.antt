@@ -1,0 +1,12 @@
+pub mod Differences
+pub mod Kept
+pub mod Taken
+pub mod Stored
+pub mod Valid
+pub mod Sent
+pub mod AnswerFacts
+pub mod Puts
+pub mod KeptStates
+pub mod LinePuts
+pub mod Last
+pub mod Example

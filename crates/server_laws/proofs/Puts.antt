@@ -1,0 +1,185 @@
+-- The laws of puts over valid states.
+use Rattle.std.proofs.Common.{◌≡◌, Bool, true, false, cond, List, [], ◌∷◌, Option, Some, None, ◌⊎◌, inl, inr, refl, sym, ap, subst, ◌∙◌}
+use Rattle.std.specs.Prelude.{◌↔◌}
+use Rattle.std.proofs.lemmas.Bool.{cases_Bool, or_cases, true≢false}
+use Rattle.std.specs.FinMap as finmap
+use Rattle.std.specs.Ordering.{eq_by_cmp}
+use Rattle.std.specs.Prelude.{◌≢◌}
+use Rattle.std.specs.Ordering.{ordering_reverse}
+use Rattle.std.specs.declared.cmp.Ordering.{Ordering}
+use Rattle.std.specs.declared.cmp.Ordering.TheVariants.{Less, Equal, Greater}
+use Rattle.lens_values.specs.Row.{row_cmp}
+use Rattle.lens_laws.proofs.Rows.{row_total, row_exact}
+use Rattle.lens_laws.proofs.Sorts.{off_none}
+use Rattle.lens_values.specs.Order.{bytes_cmp}
+use Rattle.lens_values.specs.SortedSet as set
+use Rattle.lens_values.specs.declared.row.Row.{Row}
+use Rattle.lens_laws.proofs.Least.{off_is}
+use Rattle.lens_laws.proofs.Lenses.{get_sort, get_after, put_back, put_leaves}
+use Rattle.lens_laws.proofs.Lists.{in_cons}
+use Rattle.lens_laws.proofs.Names.{name_total, name_exact, name_itself, tied_name, one_is}
+use Rattle.lens_laws.specs.Checks.{IsOff}
+use Rattle.lens_laws.specs.Edits.{AreDiffs}
+use Rattle.lens_laws.specs.Lenses.{AreOf}
+use Rattle.lens_specs.specs.Names.{Name, is_among}
+use Rattle.lens_specs.specs.Relation.{Rows}
+use Rattle.lens_specs.specs.Predicate.{Predicate, holds}
+use Rattle.lens_specs.specs.Sort.{Sort, off, IsOf}
+use Rattle.lens_specs.specs.Lens.{Tables, Lens, base, select, drop, join, sort_of, tables_of, table, rows_or_none, get, put}
+use Rattle.lens_specs.specs.Delta.{TableDelta, diff, is_empty, differences, changes}
+use Rattle.server_specs.specs.State.{State, catalogue}
+use Rattle.server_specs.specs.Answer.{changed, off_predicate}
+use Rattle.server_specs.specs.Answering.{put_set, unless_off, accept}
+use Rattle.server_specs.specs.Validity.{Valid}
+use Rattle.server_laws.proofs.Differences.{empty_same, none_differ}
+use Rattle.server_laws.proofs.Stored.{IsHere, lens_here}
+use Rattle.server_laws.proofs.Valid.{of_lens}
+use Rattle.server_laws.specs.Answers.{IsAccepted}
+use Rattle.server_laws.specs.PutLaws.{IsPut}
+
+-- ---- tables that a put does not change
+
+-- a table of its sort is made of its rows
+own_table : (s : Sort) (db : Tables) (t : Name) → AreOf (base t s) db → finmap.get db t ≡ Some (record { columns = s.columns; rows = table db t })
+own_table s db t a = a.1 ∙ (λ i. Some (record { columns = a.2.0 i; rows = rows_or_none (sym a.1 i) }))
+
+-- a table of the lens with the same rows is the same
+pub same_table : (L : Lens) (old new : Tables) → AreOf L old → AreOf L new → (t : Name) → set.contains (tables_of L) t ≡ true → table old t ≡ table new t → finmap.get new t ≡ finmap.get old t
+unfolding tables_of
+same_table (base u s) old new a b t i h =
+    let here : table old u ≡ table new u → finmap.get new u ≡ finmap.get old u = λ k. own_table s new u b ∙ ap (λ N. Some (record { columns = s.columns; rows = N })) (sym k) ∙ sym (own_table s old u a) in
+    subst (λ n. table old n ≡ table new n → finmap.get new n ≡ finmap.get old n) (sym (one_is u t i)) here h
+same_table (select P C) old new a b t i h = same_table C old new a b t i h
+same_table (drop A X v C) old new a b t i h = same_table C old new a b t i h
+same_table (join A B) old new a b t i h = elim (or_cases _ _ (sym (set.contains-union name_total (tables_of A) (tables_of B) t) ∙ i)) [
+  | inl j ↦ same_table A old new a.0 b.0 t j h
+  | inr j ↦ same_table B old new a.1 b.1 t j h
+]
+
+emptied : {A : Type 0} (b : Bool) (x : A) (xs : List A) → cond b xs (x ∷ xs) ≡ [] → (b ≡ true) × (xs ≡ [])
+emptied true x xs e = (refl, e)
+emptied false x xs e = cc
+
+-- where there are no differences, the rows are the same
+none_changed : (ts : List Name) (old new : Tables) → differences ts old new ≡ [] → (t : Name) → is_among t ts ≡ true → table old t ≡ table new t
+none_changed [] old new e t i = absurd (true≢false (sym i))
+none_changed (u ∷ ts) old new e t i =
+    let w = emptied (is_empty (diff (table old u) (table new u))) (record { table = u; delta = diff (table old u) (table new u) }) (differences ts old new) e in
+    elim (in_cons (eq_by_cmp bytes_cmp) tied_name name_itself t u ts i) [
+      | inl is ↦ subst (λ n. table old n ≡ table new n) (sym is) (empty_same (table old u) (table new u) w.0)
+      | inr j ↦ none_changed ts old new w.1 t j
+    ]
+
+-- a put with no changes leaves the tables
+pub unchanged_put : (L : Lens) (N : Rows) (db : Tables) → AreOf L db → AreOf L (put L N db) → changes L N db ≡ [] → put L N db ≡ db
+unchanged_put L N db a b e = finmap.same_map name_total name_exact (put L N db) db (λ q. elim (cases_Bool (set.contains (tables_of L) q)) [
+  | inl i ↦ same_table L db (put L N db) a b q i (none_changed (set.items (tables_of L)) db (put L N db) e q (sym (set.contains-items (tables_of L) q) ∙ i))
+  | inr o ↦ put_leaves L N db q o
+])
+
+-- ---- what is accepted
+
+here_of : (s : State) (name : Name) (L : Lens) (N : Rows) → IsPut s name L N → IsHere s L
+here_of s name L N p = lens_here s p.valid name L p.lens
+
+accepts : (L : Lens) (N : Rows) (ds : List TableDelta) (s : State) → IsAccepted (accept L N ds s).0
+accepts L N [] s = tt
+accepts L N (d ∷ ds) s = tt
+
+not_off : (o : Option Row) (L : Lens) (N : Rows) (s : State) → IsAccepted (unless_off o L N s).0 → o ≡ None
+not_off None L N s h = refl
+not_off (Some r) L N s h = absurd h
+
+-- an accepted put, as `accept`
+accepted_is : (L : Lens) (N : Rows) (s : State) → IsAccepted (put_set N L s).0 → put_set N L s ≡ accept L N (changes L N s.tables) s
+accepted_is L N s h = ap (λ o. unless_off o L N s) (not_off (off (sort_of L).predicate N) L N s h)
+
+typed_of : (s : State) (name : Name) (L : Lens) (N : Rows) → IsPut s name L N → IsAccepted (put_set N L s).0 → IsOf N (sort_of L)
+typed_of s name L N p h = of_lens s L N (here_of s name L N p) p.rows (not_off (off (sort_of L).predicate N) L N s h)
+
+pub accepted_where : (s : State) (name : Name) (L : Lens) (N : Rows) → IsPut s name L N → IsAccepted (put_set N L s).0 ↔ IsOf N (sort_of L)
+accepted_where s name L N p = (
+  typed_of s name L N p,
+  λ n. subst (λ o. IsAccepted (unless_off o L N s).0) (sym n.off) (accepts L N (changes L N s.tables) s),
+)
+
+either_case : (s : State) (L : Lens) (N : Rows) (o : Option Row) → IsAccepted (unless_off o L N s).0 ⊎ ((row : Row) × (unless_off o L N s ≡ (off_predicate row, s)))
+either_case s L N None = inl (accepts L N (changes L N s.tables) s)
+either_case s L N (Some row) = inr (row, refl)
+
+pub accepted_or_refused : (s : State) (name : Name) (L : Lens) (N : Rows) → IsPut s name L N → IsAccepted (put_set N L s).0 ⊎ ((row : Row) × (put_set N L s ≡ (off_predicate row, s)))
+accepted_or_refused s name L N p = either_case s L N (off (sort_of L).predicate N)
+
+-- two rows that are both least are one
+least_is_one : (a b : Row) (o : Ordering) → row_cmp a b ≡ o → o ≢ Greater → row_cmp b a ≢ Greater → a ≡ b
+least_is_one a b Less is h k = absurd (k (row_total.antisymm b a ∙ ap ordering_reverse is))
+least_is_one a b Equal is h k = row_exact a b is
+least_is_one a b Greater is h k = absurd (h refl)
+
+off_of_least : (P : Predicate) (N : Rows) (row : Row) → IsOff (holds P) N row → (o : Option Row) → off P N ≡ o → o ≡ Some row
+off_of_least P N row w None is = absurd (true≢false (sym (off_none P N is row w.there) ∙ w.refused))
+off_of_least P N row w (Some r) is =
+    let v = off_is P N r is in
+    ap Some (least_is_one r row (row_cmp r row) refl (v.least row w.there w.refused) (w.least r v.there v.refused))
+
+refusing : (o : Option Row) (L : Lens) (N : Rows) (s : State) (row : Row) → unless_off o L N s ≡ (off_predicate row, s) → o ≡ Some row
+refusing None L N s row e = absurd (subst IsAccepted (ap (λ r. r.0) e) (accepts L N (changes L N s.tables) s))
+refusing (Some r) L N s row e = let f : off_predicate r ≡ off_predicate row = ap (λ r. r.0) e in ap Some (cc)
+
+pub refused_by : (s : State) (name : Name) (L : Lens) (N : Rows) → IsPut s name L N → (row : Row) → (put_set N L s ≡ (off_predicate row, s)) ↔ IsOff (holds (sort_of L).predicate) N row
+refused_by s name L N p row = (
+  λ e. off_is (sort_of L).predicate N row (refusing (off (sort_of L).predicate N) L N s row e),
+  λ w. ap (λ o. unless_off o L N s) (off_of_least (sort_of L).predicate N row w (off (sort_of L).predicate N) refl),
+)
+
+-- ---- what is read again, and what is changed
+
+read_again : (s : State) (L : Lens) (N : Rows) → IsHere s L → IsOf N (sort_of L) → (ds : List TableDelta) → changes L N s.tables ≡ ds → get L (accept L N ds s).1.tables ≡ N
+read_again s L N here n [] is =
+    let after = get_after L s.tables here.typed here.are N n in
+    ap (get L) (sym (unchanged_put L N s.tables here.are after.0 is)) ∙ after.1
+read_again s L N here n (d ∷ ds) is = (get_after L s.tables here.typed here.are N n).1
+
+pub put_then_read : (s : State) (name : Name) (L : Lens) (N : Rows) → IsPut s name L N → IsAccepted (put_set N L s).0 → get L (put_set N L s).1.tables ≡ N
+put_then_read s name L N p h = ap (λ r. get L r.1.tables) (accepted_is L N s h) ∙ read_again s L N (here_of s name L N p) (typed_of s name L N p h) (changes L N s.tables) refl
+
+told : (s : State) (L : Lens) (N : Rows) (ds : List TableDelta) → (accept L N ds s).0 ≡ changed ds (accept L N ds s).1.version
+told s L N [] = refl
+told s L N (d ∷ ds) = refl
+
+pub changes_told : (s : State) (name : Name) (L : Lens) (N : Rows) → IsPut s name L N → IsAccepted (put_set N L s).0 → (put_set N L s).0 ≡ changed (changes L N s.tables) (put_set N L s).1.version
+changes_told s name L N p h = let e = accepted_is L N s h in
+    ap (λ r. r.0) e ∙ told s L N (changes L N s.tables) ∙ ap (λ r. changed (changes L N s.tables) r.1.version) (sym e)
+
+are_diffs : (ts : List Name) (old new : Tables) → AreDiffs old new (differences ts old new)
+are_diffs [] old new = tt
+are_diffs (t ∷ ts) old new = elim (is_empty (diff (table old t) (table new t))) as (λ b. AreDiffs old new (cond b (differences ts old new) (record { table = t; delta = diff (table old t) (table new t) } ∷ differences ts old new))) [
+  | true ↦ are_diffs ts old new
+  | false ↦ (refl, are_diffs ts old new)
+]
+
+differ : (s : State) (L : Lens) (N : Rows) (ds : List TableDelta) → changes L N s.tables ≡ ds → changes L N s.tables ≡ differences (set.items (tables_of L)) s.tables (accept L N ds s).1.tables
+differ s L N [] is = is ∙ sym (none_differ (set.items (tables_of L)) s.tables)
+differ s L N (d ∷ ds) is = refl
+
+pub changes_differ : (s : State) (name : Name) (L : Lens) (N : Rows) → IsPut s name L N → IsAccepted (put_set N L s).0
+    → (changes L N s.tables ≡ differences (set.items (tables_of L)) s.tables (put_set N L s).1.tables) × AreDiffs s.tables (put_set N L s).1.tables (changes L N s.tables)
+changes_differ s name L N p h =
+    let e : changes L N s.tables ≡ differences (set.items (tables_of L)) s.tables (put_set N L s).1.tables =
+    differ s L N (changes L N s.tables) refl ∙ ap (λ r. differences (set.items (tables_of L)) s.tables r.1.tables) (sym (accepted_is L N s h)) in
+    (e, subst (AreDiffs s.tables (put_set N L s).1.tables) (sym e) (are_diffs (set.items (tables_of L)) s.tables (put_set N L s).1.tables))
+
+leaves : (L : Lens) (N : Rows) (ds : List TableDelta) (s : State) (t : Name) → set.contains (tables_of L) t ≡ false → finmap.get (accept L N ds s).1.tables t ≡ finmap.get s.tables t
+leaves L N [] s t o = refl
+leaves L N (d ∷ ds) s t o = put_leaves L N s.tables t o
+
+pub others_stay : (r : Option Row) (L : Lens) (N : Rows) (s : State) (t : Name) → set.contains (tables_of L) t ≡ false → finmap.get (unless_off r L N s).1.tables t ≡ finmap.get s.tables t
+others_stay None L N s t o = leaves L N (changes L N s.tables) s t o
+others_stay (Some r) L N s t o = refl
+
+-- to put back what was read
+pub read_then_put : (s : State) → Valid s → (name : Name) (L : Lens) → finmap.get (catalogue s.texts) name ≡ Some L → put_set (get L s.tables) L s ≡ (changed [] s.version, s)
+read_then_put s v name L e =
+    let here = lens_here s v name L e in
+    let none : changes L (get L s.tables) s.tables ≡ [] = ap (differences (set.items (tables_of L)) s.tables) (put_back L s.tables here.typed here.are) ∙ none_differ (set.items (tables_of L)) s.tables in
+    ap (λ o. unless_off o L (get L s.tables) s) (get_sort L s.tables here.typed here.are).off ∙ ap (λ ds. accept L (get L s.tables) ds s) none

@@ -1,0 +1,82 @@
+-- The tables of a valid state: those of the catalogue, each of its sort.
+use Rattle.std.proofs.Common.{◌≡◌, true, Option, Some, None, is_some, refl, sym, ap, subst, ◌∙◌, inl, inr}
+use Rattle.std.proofs.lemmas.Bool.{cases_Bool, or_cases}
+use Rattle.std.specs.FinMap as finmap
+use Rattle.lens_values.specs.SortedSet as set
+use Rattle.lens_laws.proofs.Lenses.{put_leaves}
+use Rattle.lens_laws.proofs.Names.{name_total, one_is}
+use Rattle.lens_laws.proofs.Rules.{sort_is_typed}
+use Rattle.lens_laws.specs.Lenses.{IsTyped, AreOf}
+use Rattle.lens_specs.specs.Names.{Name}
+use Rattle.lens_specs.specs.Relation.{Relation, Rows}
+use Rattle.lens_specs.specs.Sort.{Sort, IsOfSort}
+use Rattle.lens_specs.specs.Lens.{Tables, Lens, base, select, drop, join, sort_of, tables_of, put}
+use Rattle.server_specs.specs.State.{State, Catalogue, catalogue}
+use Rattle.server_specs.specs.Validity.{IsTableOf, IsStored, Valid}
+use Rattle.server_laws.proofs.Kept.{AreThere, put_keeps}
+use Rattle.server_laws.proofs.Taken.{BasesAre, IsKnown, all_known}
+
+-- the tables are those of the catalogue
+abbrev pub AreStored : Catalogue → Tables → Type 0
+AreStored known db = (name : Name) → IsStored (finmap.get known name) (finmap.get db name)
+
+is_there : (t : Name) (s : Sort) (o : Option Relation) → IsTableOf (base t s) o → (M : Relation) × (o ≡ Some M) × IsOfSort M s
+is_there t s None h = absurd h
+is_there t s (Some M) h = (M, refl, h)
+
+-- the tables of a lens whose bases are the catalogue's
+pub are_of : (known : Catalogue) (db : Tables) → AreStored known db → (L : Lens) → BasesAre known L → AreOf L db
+are_of known db h (base t s) b = is_there t s (finmap.get db t) (subst (λ o. IsStored o (finmap.get db t)) b (h t))
+are_of known db h (select P C) b = are_of known db h C b
+are_of known db h (drop A X a C) b = are_of known db h C b
+are_of known db h (join A B) b = (are_of known db h A b.0, are_of known db h B b.1)
+
+stored_of : (known : Catalogue) (db : Tables) (L : Lens) → BasesAre known L → AreOf L db → (q : Name) → set.contains (tables_of L) q ≡ true → IsStored (finmap.get known q) (finmap.get db q)
+unfolding tables_of
+stored_of known db (base t s) b a q i =
+    let here : IsStored (finmap.get known t) (finmap.get db t) = subst (λ o. IsStored o (finmap.get db t)) (sym b) (subst (λ o. IsTableOf (base t s) o) (sym a.1) a.2) in
+    subst (λ n. IsStored (finmap.get known n) (finmap.get db n)) (sym (one_is t q i)) here
+stored_of known db (select P C) b a q i = stored_of known db C b a q i
+stored_of known db (drop A X v C) b a q i = stored_of known db C b a q i
+stored_of known db (join A B) b a q i = elim (or_cases _ _ (sym (set.contains-union name_total (tables_of A) (tables_of B) q) ∙ i)) [
+  | inl j ↦ stored_of known db A b.0 a.0 q j
+  | inr j ↦ stored_of known db B b.1 a.1 q j
+]
+
+-- a put leaves the tables those of the catalogue
+pub stored_put : (known : Catalogue) (db : Tables) (L : Lens) (N : Rows) → AreStored known db → BasesAre known L → AreOf L (put L N db) → AreStored known (put L N db)
+stored_put known db L N h b a q = elim (cases_Bool (set.contains (tables_of L) q)) [
+  | inl i ↦ stored_of known (put L N db) L b a q i
+  | inr o ↦ subst (λ r. IsStored (finmap.get known q) r) (sym (put_leaves L N db q o)) (h q)
+]
+
+-- tables of a lens that are of their sorts are there
+pub are_there : (L : Lens) (db : Tables) → AreOf L db → AreThere L db
+unfolding tables_of
+are_there (base u s) db a t i = ap (λ n. is_some (finmap.get db n)) (one_is u t i) ∙ ap is_some a.1
+are_there (select P C) db a t i = are_there C db a t i
+are_there (drop A X v C) db a t i = are_there C db a t i
+are_there (join A B) db a t i = elim (or_cases _ _ (sym (set.contains-union name_total (tables_of A) (tables_of B) t) ∙ i)) [
+  | inl j ↦ are_there A db a.0 t j
+  | inr j ↦ are_there B db a.1 t j
+]
+
+-- a put makes no table, and takes none away
+pub put_names : (L : Lens) (N : Rows) (db : Tables) → AreThere L db → (q : Name) → is_some (finmap.get (put L N db) q) ≡ is_some (finmap.get db q)
+put_names L N db h q = elim (cases_Bool (set.contains (tables_of L) q)) [
+  | inl i ↦ put_keeps L N db q (h q i) ∙ sym (h q i)
+  | inr o ↦ ap is_some (put_leaves L N db q o)
+]
+
+-- ---- a lens of a valid state
+
+-- what is known of a lens of a valid state
+pub record IsHere (s : State) (L : Lens) : Type 0 where
+  pub known : IsKnown (catalogue s.texts) L
+  pub typed : IsTyped L
+  pub are : AreOf L s.tables
+
+pub lens_here : (s : State) → Valid s → (name : Name) (L : Lens) → finmap.get (catalogue s.texts) name ≡ Some L → IsHere s L
+lens_here s v name L e =
+    let k = all_known s.texts v.definitions name L e in
+    record { known = k; typed = (sort_is_typed L (sort_of L) k.sound k.sorted).1; are = are_of (catalogue s.texts) s.tables v.tables L k.bases }

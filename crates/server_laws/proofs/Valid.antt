@@ -1,0 +1,259 @@
+-- Every state that the server comes to is valid.
+use Rattle.std.proofs.Common.{◌≡◌, ◌≤◌, ◌+◌, ℕ, Bool, true, false, cond, ◌||◌, List, [], ◌∷◌, ◌++◌, Option, Some, None, Result, Ok, Err, is_some, refl, sym, ap, subst, ◌∙◌, arith}
+use Rattle.std.specs.Prelude.{IfSome, option_map}
+use Rattle.std.proofs.lemmas.Bool.{true≢false}
+use Rattle.std.specs.FinMap as finmap
+use Rattle.std.specs.List.{AllByRecursion}
+use Rattle.std.specs.Ordering.{eq_by_cmp}
+use Rattle.serde_json.specs.Data.{Items}
+use Rattle.lens_values.specs.Order.{bytes_cmp}
+use Rattle.lens_values.specs.Row.{row_cmp}
+use Rattle.lens_values.specs.SortedSet as set
+use Rattle.lens_values.specs.declared.row.Row.{Row}
+use Rattle.lens_laws.proofs.Lenses.{get_after}
+use Rattle.lens_laws.proofs.Lists.{absurd_false}
+use Rattle.lens_laws.proofs.Names.{name_total, name_itself, tied_name}
+use Rattle.lens_laws.proofs.Sorts.{none_off, none_clash}
+use Rattle.lens_laws.specs.Lenses.{AreOf}
+use Rattle.lens_specs.specs.Names.{Name, is_among}
+use Rattle.lens_specs.specs.Columns.{Columns, Fits}
+use Rattle.lens_specs.specs.Relation.{Relation, Rows, has}
+use Rattle.lens_specs.specs.Predicate.{Predicate}
+use Rattle.lens_specs.specs.Dependencies.{MeetsTree}
+use Rattle.lens_specs.specs.Sort.{off, IsOf}
+use Rattle.lens_specs.specs.Lens.{Tables, Lens, select, sort_of, tables_of, put}
+use Rattle.lens_specs.specs.Delta.{TableDelta, changes, differences, diff, is_empty}
+use Rattle.lens_specs.specs.Lens.{table as rows_of_table}
+use Rattle.lens_specs.specs.Language.{Definition, table, view, Expr, named}
+use Rattle.lens_specs.specs.Language as language
+use Rattle.lens_specs.specs.Lines.{Line}
+use Rattle.lens_specs.specs.Reading.{reading}
+use Rattle.server_specs.proofs.Catalogues.{catalogue-push}
+use Rattle.server_specs.specs.State.{State, fresh, Catalogue, catalogue, with_definition, with_lens, plain_sort, table_lens, columns_from}
+use Rattle.server_specs.specs.Answer.{Answer}
+use Rattle.server_specs.specs.Request.{Request, define, read, put as put_request, request}
+use Rattle.server_specs.specs.Defining.{judged, is_taken}
+use Rattle.server_specs.specs.Sending.{rows_in}
+use Rattle.server_specs.specs.Answering.{answer, answer_request, answer_definition, answer_read, answer_put, put_sent, put_set, unless_off, accept, with_last, with_defined}
+use Rattle.server_specs.specs.Session.{Replies, answered, out_of_memory, not_stored, Exchange, Chain, last_state, Session}
+use Rattle.server_specs.specs.Validity.{IsStored, Valid}
+use Rattle.server_laws.proofs.Sent.{sent_fit}
+use Rattle.server_laws.proofs.Stored.{AreStored, stored_put, put_names, are_there, IsHere, lens_here}
+use Rattle.server_laws.proofs.Taken.{IsTaken, judged_ok, adds, all_known, first_refused-push}
+
+pub fresh_is_valid : Valid fresh
+fresh_is_valid = record {
+  definitions = refl;
+  tables = λ name. subst (λ o. IsStored o (finmap.get (finmap.empty {X = Relation} {R = bytes_cmp}) name)) (sym (finmap.get-empty bytes_cmp name)) (finmap.get-empty bytes_cmp name);
+  last = λ name. ap is_some (finmap.get-empty bytes_cmp name) ∙ sym (ap is_some (finmap.get-empty bytes_cmp name));
+  past = λ name. subst (λ o. IfSome o (λ version. version ≤ 0)) (sym (finmap.get-empty bytes_cmp name)) tt;
+}
+
+-- ---- versions of tables
+
+-- where a version is no later, it is no later than a later one
+later : (o : Option ℕ) (v w : ℕ) → v ≤ w → IfSome o (λ version. version ≤ v) → IfSome o (λ version. version ≤ w)
+later None v w l h = tt
+later (Some n) v w l h = omega arith
+
+module _ (last : finmap.FinMap bytes_cmp ℕ) (v : ℕ) where
+  -- a version that is put under a name is there, and is no later
+  put_past : (name q : Name) → IfSome (finmap.get last q) (λ version. version ≤ v) → IfSome (finmap.get (finmap.insert last name v) q) (λ version. version ≤ v)
+  put_past name q h = subst (λ o. IfSome o (λ version. version ≤ v)) (sym (finmap.get-insert name_total last name v q)) (either (eq_by_cmp bytes_cmp q name) (finmap.get last q) h)
+    where
+      either : (b : Bool) (o : Option ℕ) → IfSome o (λ version. version ≤ v) → IfSome (cond b (Some v) o) (λ version. version ≤ v)
+      either true o h = omega arith
+      either false o h = h
+
+with_last_past : (v : ℕ) (ds : List TableDelta) (last : finmap.FinMap bytes_cmp ℕ) → ((q : Name) → IfSome (finmap.get last q) (λ version. version ≤ v))
+    → (q : Name) → IfSome (finmap.get (with_last v ds last) q) (λ version. version ≤ v)
+with_last_past v [] last h q = h q
+with_last_past v (d ∷ ds) last h q = with_last_past v ds (finmap.insert last d.table v) (λ u. put_past last v d.table u (h u)) q
+
+-- each of the changed tables has a version
+abbrev AllIn : finmap.FinMap bytes_cmp ℕ → List TableDelta → Type 0
+AllIn last ds = AllByRecursion (λ d. is_some (finmap.get last d.table) ≡ true) ds
+
+some_of : (b : Bool) (v : ℕ) (o : Option ℕ) → (b ≡ true → is_some o ≡ true) → is_some (cond b (Some v) o) ≡ is_some o
+some_of true v o h = sym (h refl)
+some_of false v o h = refl
+
+same_names : (last : finmap.FinMap bytes_cmp ℕ) (v : ℕ) (t : Name) → is_some (finmap.get last t) ≡ true → (q : Name) → is_some (finmap.get (finmap.insert last t v) q) ≡ is_some (finmap.get last q)
+same_names last v t h q = ap is_some (finmap.get-insert name_total last t v q) ∙ some_of (eq_by_cmp bytes_cmp q t) v (finmap.get last q) (λ e. ap (λ n. is_some (finmap.get last n)) (tied_name q t e) ∙ h)
+
+all_in_after : (last : finmap.FinMap bytes_cmp ℕ) (v : ℕ) (t : Name) → is_some (finmap.get last t) ≡ true → (ds : List TableDelta) → AllIn last ds → AllIn (finmap.insert last t v) ds
+all_in_after last v t h [] a = tt
+all_in_after last v t h (d ∷ ds) a = (same_names last v t h d.table ∙ a.0, all_in_after last v t h ds a.1)
+
+with_last_names : (v : ℕ) (ds : List TableDelta) (last : finmap.FinMap bytes_cmp ℕ) → AllIn last ds → (q : Name) → is_some (finmap.get (with_last v ds last) q) ≡ is_some (finmap.get last q)
+with_last_names v [] last h q = refl
+with_last_names v (d ∷ ds) last h q = with_last_names v ds (finmap.insert last d.table v) (all_in_after last v d.table h.0 ds h.1) q ∙ same_names last v d.table h.0 q
+
+-- the tables of differences are among the names
+all_of_differences : (P : Name → Type 0) (ts : List Name) (old new : Tables) → AllByRecursion P ts → AllByRecursion (λ d. P d.table) (differences ts old new)
+all_of_differences P [] old new h = tt
+all_of_differences P (t ∷ ts) old new h =
+    let rest = all_of_differences P ts old new h.1 in
+    elim (is_empty (diff (rows_of_table old t) (rows_of_table new t))) as (λ b. AllByRecursion (λ d. P d.table) (cond b (differences ts old new) (record { table = t; delta = diff (rows_of_table old t) (rows_of_table new t) } ∷ differences ts old new))) [
+      | true ↦ rest
+      | false ↦ (h.0, rest)
+    ]
+
+each : (P : Name → Type 0) (ts : List Name) → ((t : Name) → is_among t ts ≡ true → P t) → AllByRecursion P ts
+each P [] h = tt
+each P (t ∷ ts) h = (h t (ap (λ b. b || is_among t ts) (name_itself t)), each P ts (λ u i. h u (behind (eq_by_cmp bytes_cmp u t) (is_among u ts) i)))
+  where
+    behind : (a b : Bool) → b ≡ true → (a || b) ≡ true
+    behind true b e = refl
+    behind false b e = e
+
+-- ---- puts
+
+valid_put : (s : State) (L : Lens) (N : Rows) → Valid s → IsHere s L → AreOf L (put L N s.tables) → Valid (record s { tables = put L N s.tables; version = s.version + 1; last = with_last (s.version + 1) (changes L N s.tables) s.last })
+valid_put s L N v here are =
+    let there : (t : Name) → is_among t (set.items (tables_of L)) ≡ true → is_some (finmap.get s.last t) ≡ true = λ t i. v.last t ∙ are_there L s.tables here.are t (set.contains-items (tables_of L) t ∙ i) in
+    let all : AllIn s.last (changes L N s.tables) = all_of_differences (λ t. is_some (finmap.get s.last t) ≡ true) (set.items (tables_of L)) s.tables (put L N s.tables)
+    (each (λ t. is_some (finmap.get s.last t) ≡ true) (set.items (tables_of L)) there) in
+    record {
+      definitions = v.definitions;
+      tables = stored_put (catalogue s.texts) s.tables L N v.tables here.known.bases are;
+      last = λ q. with_last_names (s.version + 1) (changes L N s.tables) s.last all q ∙ v.last q ∙ sym (put_names L N s.tables (are_there L s.tables here.are) q);
+      past = λ q. with_last_past (s.version + 1) (changes L N s.tables) s.last (λ u. later (finmap.get s.last u) s.version (s.version + 1) (omega arith) (v.past u)) q;
+    }
+
+-- rows that the predicate holds on, of a lens with no dependencies
+pub of_lens : (s : State) (L : Lens) (N : Rows) → IsHere s L → ((r : Row) → has N r ≡ true → Fits (sort_of L).columns r) → off (sort_of L).predicate N ≡ None → IsOf N (sort_of L)
+of_lens s L N here fits none = record { columns = fits; off = none; clash = none_clash (sort_of L).tree N (subst (λ T. MeetsTree N T) (sym here.known.treeless) tt) }
+
+valid_accept : (s : State) (L : Lens) (N : Rows) → Valid s → IsHere s L → IsOf N (sort_of L) → (ds : List TableDelta) → changes L N s.tables ≡ ds → Valid (accept L N ds s).1
+valid_accept s L N v here n [] is = v
+valid_accept s L N v here n (d ∷ ds) is = subst (λ l. Valid (record s { tables = put L N s.tables; version = s.version + 1; last = with_last (s.version + 1) l s.last })) is
+    (valid_put s L N v here (get_after L s.tables here.typed here.are N n).0)
+
+valid_unless_off : (s : State) (L : Lens) (N : Rows) → Valid s → IsHere s L → ((r : Row) → has N r ≡ true → Fits (sort_of L).columns r)
+    → (o : Option Row) → off (sort_of L).predicate N ≡ o → Valid (unless_off o L N s).1
+valid_unless_off s L N v here fits None is = valid_accept s L N v here (of_lens s L N here fits is) (changes L N s.tables) refl
+valid_unless_off s L N v here fits (Some r) is = v
+
+pub valid_put_set : (s : State) (L : Lens) (N : Rows) → Valid s → IsHere s L → ((r : Row) → has N r ≡ true → Fits (sort_of L).columns r) → Valid (put_set N L s).1
+valid_put_set s L N v here fits = valid_unless_off s L N v here fits (off (sort_of L).predicate N) refl
+
+valid_put_sent : (s : State) (L : Lens) (items : Items) → Valid s → IsHere s L → (o : Option (List Row)) → rows_in (sort_of L).columns items ≡ o → Valid (put_sent o L s).1
+valid_put_sent s L items v here None is = v
+valid_put_sent s L items v here (Some rows) is = valid_put_set s L (set.from_list rows) v here (sent_fit (sort_of L).columns items rows is)
+
+valid_answer_put : (s : State) (name : Name) (items : Items) → Valid s → (o : Option Lens) → finmap.get (catalogue s.texts) name ≡ o → Valid (answer_put name items o s).1
+valid_answer_put s name items v None is = v
+valid_answer_put s name items v (Some L) is = valid_put_sent s L items v (lens_here s v name L is) (rows_in (sort_of L).columns items) refl
+
+-- ---- definitions
+
+-- no rows are of any sort with no dependencies and no predicate
+none_of_plain : (columns : Columns) → IsOf set.empty (plain_sort columns)
+none_of_plain columns = record {
+  columns = λ r i. absurd_false _ i (set.contains-empty row_cmp r);
+  off = none_off [] set.empty (λ r i. refl);
+  clash = none_clash [] set.empty tt;
+}
+
+-- a name that is free has no table
+pub no_table : (o : Option Lens) (r : Option Relation) → is_some o ≡ false → IsStored o r → r ≡ None
+no_table None r h k = k
+no_table (Some L) r h k = absurd (true≢false h)
+
+-- a table more, under a name that is free
+stored_table : (known : Catalogue) (db : Tables) (name : Name) (columns : Columns) → AreStored known db
+    → AreStored (finmap.insert known name (table_lens name columns)) (finmap.insert db name (record { columns = columns; rows = set.empty }))
+stored_table known db name columns h q =
+    subst (λ o. IsStored o (finmap.get (finmap.insert db name (record { columns = columns; rows = set.empty })) q)) (sym (finmap.get-insert name_total known name (table_lens name columns) q))
+    (subst (λ r. IsStored (cond (eq_by_cmp bytes_cmp q name) (Some (table_lens name columns)) (finmap.get known q)) r) (sym (finmap.get-insert name_total db name (record { columns = columns; rows = set.empty }) q))
+    (either (eq_by_cmp bytes_cmp q name) (finmap.get known q) (finmap.get db q) (h q)))
+  where
+    either : (b : Bool) (o : Option Lens) (r : Option Relation) → IsStored o r → IsStored (cond b (Some (table_lens name columns)) o) (cond b (Some (record { columns = columns; rows = set.empty })) r)
+    either true o r k = (refl, none_of_plain columns)
+    either false o r k = k
+
+-- a view more, under a name that is free
+stored_view : (known : Catalogue) (db : Tables) (name : Name) (P : Predicate) (L : Lens) → is_taken known name ≡ false → AreStored known db → AreStored (finmap.insert known name (select P L)) db
+stored_view known db name P L free h q =
+    subst (λ o. IsStored o (finmap.get db q)) (sym (finmap.get-insert name_total known name (select P L) q))
+    (elim (eq_by_cmp bytes_cmp q name) as (λ b. eq_by_cmp bytes_cmp q name ≡ b → IsStored (cond b (Some (select P L)) (finmap.get known q)) (finmap.get db q)) [
+      | true ↦ λ is. no_table (finmap.get known q) (finmap.get db q) (ap (λ n. is_some (finmap.get known n)) (tied_name q name is) ∙ free) (h q)
+      | false ↦ λ _. h q
+    ] refl)
+
+-- the catalogue after a definition that is taken
+pub known_after : (s : State) (text : List ℕ) (d : Definition) → judged (catalogue s.texts) (reading text) ≡ Ok d → catalogue (s.texts ++ text ∷ []) ≡ with_definition (Some d) (catalogue s.texts)
+known_after s text d j = catalogue-push s.texts text ∙ ap (λ o. with_definition o (catalogue s.texts)) (judged_ok (catalogue s.texts) (reading text) d j).0
+
+stored_after : (s : State) (text : List ℕ) (d : Definition) → judged (catalogue s.texts) (reading text) ≡ Ok d → (db : Tables) → AreStored (with_definition (Some d) (catalogue s.texts)) db → AreStored (catalogue (s.texts ++ text ∷ [])) db
+stored_after s text d j db h = subst (λ k. AreStored k db) (sym (known_after s text d j)) h
+
+inserted_names : (last : finmap.FinMap bytes_cmp ℕ) (db : Tables) (name : Name) (v : ℕ) (r : Relation) → ((q : Name) → is_some (finmap.get last q) ≡ is_some (finmap.get db q))
+    → (q : Name) → is_some (finmap.get (finmap.insert last name v) q) ≡ is_some (finmap.get (finmap.insert db name r) q)
+inserted_names last db name v r h q = ap is_some (finmap.get-insert name_total last name v q) ∙ either (eq_by_cmp bytes_cmp q name) (finmap.get last q) (finmap.get db q) (h q)
+    ∙ sym (ap is_some (finmap.get-insert name_total db name r q))
+  where
+    either : (b : Bool) (o : Option ℕ) (t : Option Relation) → is_some o ≡ is_some t → is_some (cond b (Some v) o) ≡ is_some (cond b (Some r) t)
+    either true o t e = refl
+    either false o t e = e
+
+later_all : (s : State) → Valid s → (q : Name) → IfSome (finmap.get s.last q) (λ version. version ≤ s.version + 1)
+later_all s v q = later (finmap.get s.last q) s.version (s.version + 1) (omega arith) (v.past q)
+
+pub valid_taken : (s : State) (text : List ℕ) (d : Definition) → Valid s → judged (catalogue s.texts) (reading text) ≡ Ok d → IsTaken (catalogue s.texts) d → Valid (with_defined text d s)
+valid_taken s text (table name columns) v j h = record {
+  definitions = first_refused-push s.texts text (table name columns) v.definitions j;
+  tables = stored_after s text (table name columns) j (finmap.insert s.tables name (record { columns = columns_from columns; rows = set.empty })) (stored_table (catalogue s.texts) s.tables name (columns_from columns) v.tables);
+  last = inserted_names s.last s.tables name (s.version + 1) (record { columns = columns_from columns; rows = set.empty }) v.last;
+  past = λ q. put_past s.last (s.version + 1) name q (later_all s v q);
+}
+valid_taken s text (view name (named source)) v j h = absurd h
+valid_taken s text (view name (language.select P (named source))) v j h =
+    let d : Definition = view name (language.select P (named source)) in
+    let a = adds (catalogue s.texts) d h (all_known s.texts v.definitions) in record {
+      definitions = first_refused-push s.texts text d v.definitions j;
+      tables = stored_after s text d j s.tables (subst (λ o. AreStored (with_lens name (option_map (select P) o) (catalogue s.texts)) s.tables) (sym h.1.1) (stored_view (catalogue s.texts) s.tables name P h.1.0 h.0 v.tables));
+      last = v.last;
+      past = λ q. later_all s v q;
+    }
+valid_taken s text (view name (language.select P (language.select Q expr))) v j h = absurd h
+
+valid_definition : (s : State) (text : List ℕ) → Valid s → (r : Result Definition Answer) → judged (catalogue s.texts) (reading text) ≡ r → Valid (answer_definition text r s).1
+valid_definition s text v (Err refusal) j = v
+valid_definition s text v (Ok d) j = valid_taken s text d v j (judged_ok (catalogue s.texts) (reading text) d j).1
+
+-- ---- answers and sessions
+
+valid_read : (s : State) (name : Name) (o : Option Lens) → Valid s → Valid (answer_read name o s).1
+valid_read s name None v = v
+valid_read s name (Some L) v = v
+
+valid_request : (s : State) (r : Option Request) → Valid s → Valid (answer_request r s).1
+valid_request s None v = v
+valid_request s (Some (define text)) v = valid_definition s text v (judged (catalogue s.texts) (reading text)) refl
+valid_request s (Some (read name)) v = valid_read s name (finmap.get (catalogue s.texts) name) v
+valid_request s (Some (put_request name items)) v = valid_answer_put s name items v (finmap.get (catalogue s.texts) name) refl
+
+pub valid_answer : (s : State) (l : Line) → Valid s → Valid (answer s l).1
+unfolding answer
+valid_answer s l v = valid_request s (request l) v
+
+valid_step : (s : State) (count : ℕ) (l : Line) (reply : List ℕ) (t : State) (count' : ℕ) → Valid s → Replies s count l reply t count' → Valid t
+valid_step s count l reply t count' v r = elim r [
+  | answered told is ↦ subst Valid (sym is) (valid_answer s l v)
+  | out_of_memory short told is ↦ subst Valid (sym is) v
+  | not_stored told is moved grew ↦ subst Valid (sym is) v
+]
+
+valid_chain : (s : State) (count : ℕ) (es : List Exchange) → Valid s → Chain s count es → AllByRecursion (λ e. Valid e.state) es × Valid (last_state s es)
+valid_chain s count [] v c = (tt, v)
+valid_chain s count (e ∷ es) v c =
+    let here = valid_step s count e.line e.reply e.state e.count v c.0.replied in
+    let w = valid_chain e.state e.count es here c.1 in
+    ((here, w.0), w.1)
+
+pub valid_session : (s : State) (count : ℕ) (lines : List Line) (replies : List (List ℕ)) (last : State) (count' : ℕ) → Valid s
+    → (session : Session s count lines replies last count') → AllByRecursion (λ e. Valid e.state) session.exchanges × Valid last
+valid_session s count lines replies last count' v session =
+    let w = valid_chain s count session.exchanges v session.chain in (w.0, subst Valid session.last_is w.1)

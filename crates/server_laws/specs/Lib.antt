@@ -1,0 +1,7 @@
+pub mod Answers
+pub mod StateLaws
+pub mod AnswerLaws
+pub mod PutLaws
+pub mod LineLaws
+pub mod KeptLaws
+pub mod Witness

@@ -1,0 +1,31 @@
+-- The laws of states: each that the server comes to is valid.
+use Rattle.std.specs.Prelude.{◌≡◌, ℕ, List, Some, Ok}
+use Rattle.std.specs.List.{AllByRecursion}
+use Rattle.std.specs.FinMap as finmap
+use Rattle.lens_specs.specs.Relation.{Name}
+use Rattle.lens_specs.specs.Lens.{Lens, sort_of}
+use Rattle.lens_specs.specs.Typing.{sort}
+use Rattle.lens_specs.specs.Lines.{Line}
+use Rattle.lens_laws.specs.Lenses.{IsTyped, AreOf}
+use Rattle.server_specs.specs.State.{State, fresh, catalogue}
+use Rattle.server_specs.specs.Answering.{answer}
+use Rattle.server_specs.specs.Session.{Session}
+use Rattle.server_specs.specs.Validity.{Valid}
+
+-- the first state is valid
+abbrev pub FreshIsValid : Type 0
+FreshIsValid = Valid fresh
+
+-- an answer leaves a valid state valid
+abbrev pub AnswersStayValid : Type 0
+AnswersStayValid = (s : State) (l : Line) → Valid s → Valid (answer s l).1
+
+-- every state of a session from a valid one is valid, and so is the last one
+abbrev pub SessionsStayValid : Type 0
+SessionsStayValid = (s : State) (count : ℕ) (lines : List Line) (replies : List (List ℕ)) (last : State) (count' : ℕ) → Valid s
+    → (session : Session s count lines replies last count') → AllByRecursion (λ e. Valid e.state) session.exchanges × Valid last
+
+-- each lens of a valid state has a sort, passes every test of the rules, and has its tables there, each of its sort
+abbrev pub LensesAreTyped : Type 0
+LensesAreTyped = (s : State) → Valid s → (name : Name) (L : Lens) → finmap.get (catalogue s.texts) name ≡ Some L
+    → (sort L ≡ Ok (sort_of L)) × IsTyped L × AreOf L s.tables

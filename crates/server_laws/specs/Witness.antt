@@ -1,0 +1,23 @@
+-- That the premises of the laws of puts can be met.
+use Rattle.std.specs.Prelude.{◌≡◌, true, false}
+use Rattle.lens_values.specs.declared.row.Row.{Row}
+use Rattle.lens_specs.specs.Relation.{Name, Rows, has}
+use Rattle.lens_specs.specs.Lens.{Lens, get}
+use Rattle.server_specs.specs.State.{State}
+use Rattle.server_specs.specs.Defining.{is_base}
+use Rattle.server_specs.specs.Answering.{put_set}
+use Rattle.server_laws.specs.Answers.{IsAccepted}
+use Rattle.server_laws.specs.PutLaws.{IsPut}
+
+-- a valid state with a view that is no table, and an accepted put of a row that the view lacks
+pub record PutsCanChange : Type 0 where
+  pub state : State
+  pub name : Name
+  pub lens : Lens
+  pub rows : Rows
+  pub put : IsPut state name lens rows
+  pub view : is_base lens ≡ false
+  pub accepted : IsAccepted (put_set rows lens state).0
+  pub row : Row
+  pub there : has rows row ≡ true
+  pub new : has (get lens state.tables) row ≡ false

@@ -1,0 +1,65 @@
+//! The laws of the server: what every state, every answer and every session keeps, each the contract of a function with an
+//! empty body.
+#![tactic(auto)]
+
+ghost use Rattle.server_laws.specs.AnswerLaws.{AnswersDoNotFail, ChangesRaiseVersions, LastFollows, OthersStay, RefusalsChangeNothing, VersionsAreTold};
+ghost use Rattle.server_laws.specs.KeptLaws.{ChangesAreKept, DefinitionsAreKept, PutsAreKept};
+ghost use Rattle.server_laws.specs.LineLaws.{LinesPutSets, LinesReadViews, NextLineReads, NothingIsPut};
+ghost use Rattle.server_laws.specs.PutLaws.{AcceptedOrRefused, AcceptedWhereTyped, ChangesAreDifferences, ChangesAreTold, OtherTablesStay, PutThenRead, ReadThenPut, RefusedByLeastRow, SentRowsFit};
+ghost use Rattle.server_laws.specs.StateLaws.{AnswersStayValid, FreshIsValid, LensesAreTyped, SessionsStayValid};
+ghost use Rattle.server_laws.specs.Witness.{PutsCanChange};
+
+/// Every state that the server comes to is valid, and in a valid state each lens has a sort and its tables.
+pub fn states_stay_valid()
+    ensures fresh { FreshIsValid }
+    ensures answers { AnswersStayValid }
+    ensures sessions { SessionsStayValid }
+    ensures lenses { LensesAreTyped }
+{}
+
+/// A refusal leaves the state as it was, and the answer to a line is never that the machine failed.
+pub fn refusals_change_nothing()
+    ensures state { RefusalsChangeNothing }
+    ensures failure { AnswersDoNotFail }
+{}
+
+/// A put is accepted exactly where the new view meets its type; it is then read again, and changes exactly the differences.
+pub fn puts_are_lawful()
+    ensures fits { SentRowsFit }
+    ensures accepted { AcceptedWhereTyped }
+    ensures refused { RefusedByLeastRow }
+    ensures either { AcceptedOrRefused }
+    ensures put_get { PutThenRead }
+    ensures told { ChangesAreTold }
+    ensures differences { ChangesAreDifferences }
+    ensures others { OtherTablesStay }
+    ensures get_put { ReadThenPut }
+{}
+
+/// Lines that read and put: what a line put, the next one reads, and to put what is shown changes nothing.
+pub fn lines_are_lawful()
+    ensures reads { LinesReadViews }
+    ensures puts { LinesPutSets }
+    ensures put_get { NextLineReads }
+    ensures get_put { NothingIsPut }
+{}
+
+/// The version rises by one exactly where something changes, and each table tells the version that changed it last.
+pub fn versions_rise()
+    ensures rises { ChangesRaiseVersions }
+    ensures stays { OthersStay }
+    ensures told { VersionsAreTold }
+    ensures last { LastFollows }
+{}
+
+/// What a keeper keeps of a state follows each change.
+pub fn kept_follows()
+    ensures puts { PutsAreKept }
+    ensures definitions { DefinitionsAreKept }
+    ensures changes { ChangesAreKept }
+{}
+
+/// The premises of the laws of puts can be met, over a view, by a put that changes something.
+pub fn premises_can_be_met()
+    ensures { PutsCanChange }
+{}

@@ -1,0 +1,61 @@
+-- A step raises the version by one at most.
+use Rattle.std.proofs.Common.{◌≤◌, ◌+◌, ℕ, List, [], ◌∷◌, sym, subst, arith}
+use Rattle.std.specs.Prelude.{Option, Some, None, Result, Ok, Err}
+use Rattle.serde_json.specs.Data.{Items}
+use Rattle.lens_values.specs.declared.row.Row.{Row}
+use Rattle.lens_specs.specs.Relation.{Name, Rows}
+use Rattle.lens_specs.specs.Lens.{Lens}
+use Rattle.lens_specs.specs.Delta.{TableDelta, changes}
+use Rattle.lens_specs.specs.Language.{Definition, table, view}
+use Rattle.lens_specs.specs.Lines.{Line}
+use Rattle.server_specs.specs.State.{State}
+use Rattle.server_specs.specs.Answer.{Answer}
+use Rattle.server_specs.specs.Request.{Request, define, read, put, request}
+use Rattle.server_specs.specs.Answering.{answer, answer_request, answer_definition, answer_read, answer_put, put_sent, unless_off, accept}
+use Rattle.server_specs.specs.Session.{Step, answered, out_of_memory, not_stored}
+
+-- the version of the state of an answer
+abbrev version_of : Answer × State → ℕ
+version_of r = r.1.version
+
+accepts : (lens : Lens) (rows : Rows) (ds : List TableDelta) (s : State) → version_of (accept lens rows ds s) ≤ s.version + 1
+accepts lens rows [] s = omega arith
+accepts lens rows (d ∷ ds) s = omega arith
+
+unless : (r : Option Row) (lens : Lens) (rows : Rows) (s : State) → version_of (unless_off r lens rows s) ≤ s.version + 1
+unless None lens rows s = accepts lens rows (changes lens rows s.tables) s
+unless (Some row) lens rows s = omega arith
+
+puts : (rows : Option (List Row)) (lens : Lens) (s : State) → version_of (put_sent rows lens s) ≤ s.version + 1
+puts None lens s = omega arith
+puts (Some rows) lens s = unless _ lens _ s
+
+defines : (text : List ℕ) (judgement : Result Definition Answer) (s : State) → version_of (answer_definition text judgement s) ≤ s.version + 1
+defines text (Err refusal) s = omega arith
+defines text (Ok (table name columns)) s = omega arith
+defines text (Ok (view name expr)) s = omega arith
+
+reads : (name : Name) (lens : Option Lens) (s : State) → version_of (answer_read name lens s) ≤ s.version + 1
+reads name None s = omega arith
+reads name (Some lens) s = omega arith
+
+sends : (name : Name) (rows : Items) (lens : Option Lens) (s : State) → version_of (answer_put name rows lens s) ≤ s.version + 1
+sends name rows None s = omega arith
+sends name rows (Some lens) s = puts _ lens s
+
+asked : (r : Option Request) (s : State) → version_of (answer_request r s) ≤ s.version + 1
+asked None s = omega arith
+asked (Some (define text)) s = defines text _ s
+asked (Some (read name)) s = reads name _ s
+asked (Some (put name rows)) s = sends name rows _ s
+
+version-answer : (s : State) (l : Line) → (answer s l).1.version ≤ s.version + 1
+unfolding answer
+version-answer s l = asked (request l) s
+
+pub version-step : (old : State) (count : ℕ) (l : Line) (reply : List ℕ) (new : State) (count' : ℕ) → Step old count l reply new count' → new.version ≤ old.version + 1
+version-step old count l reply new count' step = elim step.replied [
+  | answered r s ↦ subst (λ t. t.version ≤ old.version + 1) (sym s) (version-answer old l)
+  | out_of_memory h r s ↦ subst (λ t. t.version ≤ old.version + 1) (sym s) (omega arith)
+  | not_stored r s n h ↦ subst (λ t. t.version ≤ old.version + 1) (sym s) (omega arith)
+]

@@ -1,0 +1,72 @@
+-- The state of the server, and the lenses that its definitions make.
+use Rattle.std.specs.Prelude.{ℕ, List, [], ◌∷◌, Option, Some, None, map, option_map}
+use Rattle.std.specs.FinMap as finmap
+use Rattle.lens_values.specs.Order.{bytes_cmp}
+use Rattle.lens_values.specs.declared.value.Kind.{Kind}
+use Rattle.lens_specs.specs.Relation.{Name, Columns, Rows, Relation}
+use Rattle.lens_specs.specs.Sort.{Sort}
+use Rattle.lens_specs.specs.Lens.{Tables, Lens, base, select}
+use Rattle.lens_specs.specs.Language.{Definition, table, view, Expr, named}
+use Rattle.lens_specs.specs.Language as language
+use Rattle.lens_specs.specs.Reading.{reading}
+use Rattle.lens_specs.specs.Keeping.{Kept}
+
+-- the definition texts in order, the tables, the version, and for each table the version that changed it last
+pub record State : Type 0 where
+  pub texts : List (List ℕ)
+  pub tables : Tables
+  pub version : ℕ
+  pub last : finmap.FinMap bytes_cmp ℕ
+
+-- no definitions
+abbrev pub fresh : State
+fresh = record { texts = []; tables = finmap.empty; version = 0; last = finmap.empty }
+
+-- a lens for each name
+abbrev pub Catalogue : Type 0
+Catalogue = finmap.FinMap bytes_cmp Lens
+
+-- the lens of an expression, where the names in it are known; a view's name stands for its lens
+abbrev pub lens_of : Expr → Catalogue → Option Lens
+lens_of (named name) known = finmap.get known name
+lens_of (language.select predicate of) known = option_map (select predicate) (lens_of of known)
+
+-- the columns by name
+abbrev pub columns_from : List (Name × Kind) → Columns
+columns_from columns = finmap.from_entries columns
+
+-- the sort of a table with these columns, no dependencies and no predicate
+abbrev pub plain_sort : Columns → Sort
+plain_sort columns = record { columns = columns; predicate = []; tree = [] }
+
+-- the lens of a table with these columns
+abbrev pub table_lens : Name → Columns → Lens
+table_lens name columns = base name (plain_sort columns)
+
+-- the catalogue with the lens under the name, where there is one
+abbrev pub with_lens : Name → Option Lens → Catalogue → Catalogue
+with_lens name None known = known
+with_lens name (Some lens) known = finmap.insert known name lens
+
+-- the catalogue with one definition more
+abbrev pub with_definition : Option Definition → Catalogue → Catalogue
+with_definition None known = known
+with_definition (Some (table name columns)) known = with_lens name (Some (table_lens name (columns_from columns))) known
+with_definition (Some (view name expr)) known = with_lens name (lens_of expr known) known
+
+-- the definitions that the texts say, one after another, added to a catalogue
+abbrev pub catalogue_onto : Catalogue → List (List ℕ) → Catalogue
+catalogue_onto known [] = known
+catalogue_onto known (text ∷ texts) = catalogue_onto (with_definition (reading text) known) texts
+
+-- the lenses that come of taking the definition texts in order
+abbrev pub catalogue : List (List ℕ) → Catalogue
+catalogue = catalogue_onto finmap.empty
+
+-- the rows of each table
+abbrev pub rows_of_each : List (Name × Relation) → List (Name × Rows)
+rows_of_each tables = map (λ t. (t.0, t.1.rows)) tables
+
+-- what a keeper keeps of a state: the texts and the rows of each table
+abbrev pub kept : State → Kept
+kept s = record { texts = s.texts; rows = finmap.from_entries (rows_of_each (finmap.entries s.tables)) }

@@ -1,0 +1,4 @@
+pub mod Additions
+pub mod Places
+pub mod Deltas
+pub mod ByName

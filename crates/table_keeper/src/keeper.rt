@@ -1,0 +1,117 @@
+//! Where the definitions and the tables are kept.
+ghost use Rattle.std.specs.Prelude.{◌≡◌, ◌≤◌, ℕ, List, Bool, true, is_some, Some, OnOk, OnErr, IfOk};
+ghost use Rattle.std.specs.declared.option.Option.{Option};
+ghost use Rattle.std.specs.List.Sorted.{IsStrictlySortedBy};
+ghost use Rattle.lens_values.specs.Order.{bytes_cmp};
+ghost use Rattle.lens_specs.specs.Faults.{Rose};
+ghost use Rattle.lens_specs.specs.Keeping as keeping;
+ghost use Rattle.lens_specs.specs.Keeping.{CanCommit, Follows, Stays, Tells, changed};
+ghost use Rattle.table_keeper.specs.Changes.{change_view, kept_view, names_of};
+
+use lens_values::{Name, NoMemory, Text};
+use row_sets::RowSet;
+use signed_delta::TableDelta;
+use std::alloc::Global;
+
+/// Why a keeper refused.
+#[derive(Debug, PartialEq, Eq, Drop)]
+pub enum KeepFault {
+    /// The keeper failed, and its count of faults rose.
+    Failed,
+    /// Memory ran out.
+    NoMemory,
+}
+
+impl From<NoMemory> for KeepFault {
+    ghost use Rattle.std.specs.Prelude.{◌≡◌};
+    ghost use Rattle.table_keeper.specs.declared.keeper.KeepFault.TheVariants as fault;
+
+    ghost from_gives = { λ _ e. e ≡ fault.NoMemory };
+
+    fn from(_: NoMemory) -> KeepFault {
+        KeepFault::NoMemory
+    }
+}
+
+/// One change, which is made whole.
+#[derive(Debug, Drop)]
+pub enum Change {
+    /// A definition's text, and the name of the table that it makes, if any.
+    Define { text: Text, table: Option<Name> },
+    /// The differences of tables.
+    Rows { deltas: Vec<TableDelta> },
+}
+
+/// The rows of one table.
+#[derive(Debug, Drop)]
+pub struct KeptTable {
+    /// The table's name.
+    pub table: Name,
+    /// Its rows.
+    pub rows: RowSet,
+}
+
+/// All that is kept.
+#[derive(Debug, Drop)]
+pub struct Kept {
+    /// The texts of the definitions, in order.
+    pub definitions: Vec<Text>,
+    /// The tables, in rising order of names.
+    pub tables: Vec<KeptTable>,
+}
+
+impl Kept {
+    /// Nothing is kept.
+    pub fn nothing(alloc: Global) -> Kept
+        ensures is { kept_view result ≡ keeping.nothing }
+        ensures rising { IsStrictlySortedBy bytes_cmp (names_of result.tables.items) }
+    {
+        Kept {
+            definitions: Vec::new(alloc),
+            tables: Vec::new(alloc),
+        }
+    }
+}
+
+/// A place that keeps definitions and rows.
+pub trait Keeper {
+    /// What is kept, where the keeper tells it.
+    ghost contents: { Self → Option keeping.Kept };
+
+    /// Where the contents lie, as it was chosen.
+    ghost place: { Self → Option (List ℕ) };
+
+    /// Whether the contents stay where another place is chosen.
+    ghost stays: { Bool };
+
+    /// How often it has failed.
+    ghost faults: { Self → ℕ };
+
+    /// Chooses where the contents lie.
+    fn attach(&mut self, alloc: Global, new_place: &str) -> Result<(), KeepFault>
+        ensures chosen { OnOk result (place self.new ≡ Some new_place.now) }
+        ensures err { OnErr result (place self.new ≡ place self.old) }
+        ensures kept_at_fault { OnErr result (Stays (contents self.old) (contents self.new)) }
+        ensures kept { stays ≡ true → Stays (contents self.old) (contents self.new) }
+        ensures told { is_some (contents self.new) ≡ is_some (contents self.old) }
+        ensures later { faults self.old ≤ faults self.new }
+        ensures failed { result ≡ Err KeepFault.Failed → Rose (faults self.old) (faults self.new) };
+
+    /// Gives what is kept, with its tables in rising order of names.
+    fn load(&mut self, alloc: Global) -> Result<Kept, KeepFault>
+        ensures ok { IfOk result (λ kept. Tells (contents self.old) (kept_view kept)) }
+        ensures rising { IfOk result (λ kept. IsStrictlySortedBy bytes_cmp (names_of kept.tables.items)) }
+        ensures kept { Stays (contents self.old) (contents self.new) }
+        ensures place { place self.new ≡ place self.old }
+        ensures later { faults self.old ≤ faults self.new }
+        ensures failed { result ≡ Err KeepFault.Failed → Rose (faults self.old) (faults self.new) };
+
+    /// Makes the change, whole, or leaves what is kept.
+    fn commit(&mut self, alloc: Global, change: &Change) -> Result<(), KeepFault>
+        requires { CanCommit (change_view change.now) (contents self.old) }
+        ensures ok { OnOk result (Follows (λ old new. new ≡ changed (change_view change.now) old) (contents self.old) (contents self.new)) }
+        ensures err { OnErr result (Stays (contents self.old) (contents self.new)) }
+        ensures place { place self.new ≡ place self.old }
+        ensures later { faults self.old ≤ faults self.new }
+        ensures failed { result ≡ Err KeepFault.Failed → Rose (faults self.old) (faults self.new) };
+}

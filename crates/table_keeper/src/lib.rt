@@ -1,0 +1,13 @@
+//! Keepers of definitions and rows: the trait, and keepers in memory.
+#![tactic(auto)]
+
+mod contents;
+pub mod keeper;
+pub mod memory;
+#[cfg(test)]
+mod memory_tests;
+mod store;
+mod tables;
+
+pub use keeper::{Change, KeepFault, Keeper, Kept, KeptTable};
+pub use memory::{MemoryKeeper, SureKeeper};

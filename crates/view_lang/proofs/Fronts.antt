@@ -1,0 +1,174 @@
+-- The front of a list that passes a test, and the word in front of a text.
+use Rattle.std.proofs.Common.{◌≡◌, ℕ, ◌+◌, ◌-◌, ◌<◌, ◌≤◌, zero, suc, Bool, true, false, cond, List, [], ◌∷◌, length, take, drop, IsTrue, refl, sym, ap, subst, ◌∙◌, arith}
+use Rattle.std.specs.Prelude.{◌&&◌, ◌||◌, ◌==◌, not, nat_le, Option, Some, None, option_map, take_while}
+use Rattle.std.specs.List.{list_all, prefix_len}
+use Rattle.std.proofs.lemmas.List.{take_all, length-drop}
+use Rattle.std.proofs.lemmas.List.Sums.{take_while-cons, prefix_len-le-length}
+use Rattle.std.specs.Str.{IsAscii, IsUtf8}
+use Rattle.std.proofs.lemmas.Str.{IsUtf8-from_ascii}
+use Rattle.lens_values.proofs.NameLemmas.{name_utf8}
+use Rattle.lens_values.specs.Bytes.{is_name, is_name_byte, is_lower}
+use Rattle.std.proofs.lemmas.Bool.Decides.{nat_tests}
+use Rattle.lens_specs.specs.Language.{word, is_digit}
+use Rattle.lens_specs.specs.Reading.{drop_while, word_of, positive_of, negative_of}
+use Rattle.view_lang.specs.declared.lexer.Token as code
+use Rattle.view_lang.specs.Tokens.{token_view, front_of, token_in_front, word_at, begins_word, begins_integer, is_integer_text, integer_at}
+
+one_more : (n : ℕ) → 1 + n ≡ suc n
+one_more n = omega arith
+
+-- what is left behind the front is what is dropped
+pub drop_while_is : (p : ℕ → Bool) (xs : List ℕ) → drop_while p xs ≡ drop (prefix_len p xs) xs
+drop_while_is p [] = refl
+drop_while_is p (x ∷ xs) =
+    elim (p x) as (λ b. cond b (drop_while p xs) (x ∷ xs) ≡ drop (cond b (1 + prefix_len p xs) 0) (x ∷ xs)) [
+      | true ↦ rw (one_more (prefix_len p xs)) (drop_while_is p xs)
+      | false ↦ refl
+    ]
+
+-- the front passes
+pub front_passes : (p : ℕ → Bool) (xs : List ℕ) → list_all p (take_while p xs) ≡ true
+front_passes p [] = refl
+front_passes p (x ∷ xs) =
+    rw (take_while-cons p x xs) (elim (p x) as (λ b. p x ≡ b → list_all p (cond b (x ∷ take_while p xs) []) ≡ true) [
+      | true ↦ λ e. rw e (front_passes p xs)
+      | false ↦ λ e. refl
+    ] refl)
+
+-- a front that begins with a passing element
+pub take_front : (p : ℕ → Bool) (x : ℕ) (xs : List ℕ) → p x ≡ true → take (prefix_len p (x ∷ xs)) (x ∷ xs) ≡ x ∷ take_while p xs
+take_front p x xs e = take_while-cons p x xs ∙ ap (λ b. cond b (x ∷ take_while p xs) []) e
+
+pub drop_front : (p : ℕ → Bool) (x : ℕ) (xs : List ℕ) → p x ≡ true → drop (prefix_len p (x ∷ xs)) (x ∷ xs) ≡ drop_while p xs
+drop_front p x xs e = sym (drop_while_is p (x ∷ xs)) ∙ ap (λ b. cond b (drop_while p xs) (x ∷ xs)) e
+
+lower_passes : (b : ℕ) → is_lower b ≡ true → is_name_byte b ≡ true
+lower_passes b e = ap (λ v. v || (nat_le 48 b && nat_le b 57)) e
+
+pub and_true : (a : Bool) → (a && true) ≡ a
+and_true true = refl
+and_true false = refl
+
+some_length : (n : ℕ) → (suc n == 0) ≡ false
+some_length n = grind (arith, nat_tests)
+
+joined : (a b c d : Bool) → a ≡ false → c ≡ true → d ≡ true → (not a && b && (c && d)) ≡ b
+joined a b c d ea ec ed = rw (ea, ec, ed) (and_true b)
+
+pub word_is : (b : ℕ) (w : List ℕ) → is_lower b ≡ true → list_all is_name_byte w ≡ true → word_at (b ∷ w) ≡ word_of (b ∷ w)
+word_is b w e all =
+    ap (λ v. cond v (Some (word (b ∷ w))) None)
+    (joined (suc (length w) == 0) (nat_le (suc (length w)) 32) (is_lower b) (is_name_byte b && list_all is_name_byte w) (some_length (length w)) e (rw (lower_passes b e, all) refl))
+
+first_branch : {X : Type 0} (x y : X) (b : Bool) → b ≡ true → cond b x y ≡ x
+first_branch x y b e = ap (λ v. cond v x y) e
+
+moved : (text : List ℕ) (n : ℕ) (t : Option code.Token) → front_of text (option_map (λ t. (t, n)) t) ≡ option_map (λ t. (t, drop n text)) (option_map token_view t)
+moved text n None = refl
+moved text n (Some t) = refl
+
+pub only_minus : (b : ℕ) → is_digit b ≡ false → (is_digit b || b == 45) ≡ true → b ≡ 45
+only_minus b e h = grind (arith, nat_tests)
+
+-- the word in front of a text that begins with a letter
+word_in_front : (text : List ℕ) → IsTrue (begins_word text)
+    → token_in_front text ≡ option_map (λ t. (t, drop (prefix_len is_name_byte text) text)) (word_at (take (prefix_len is_name_byte text) text))
+word_in_front [] h = cc
+word_in_front (b ∷ rest) h =
+    let passes = lower_passes b h in
+    let left : drop (prefix_len is_name_byte (b ∷ rest)) (b ∷ rest) ≡ drop_while is_name_byte rest = drop_front is_name_byte b rest passes in
+    let token : word_at (take (prefix_len is_name_byte (b ∷ rest)) (b ∷ rest)) ≡ word_of (b ∷ take_while is_name_byte rest) =
+    ap word_at (take_front is_name_byte b rest passes) ∙ word_is b (take_while is_name_byte rest) h (front_passes is_name_byte rest) in
+    first_branch _ _ (is_lower b) h ∙ sym (λ i. option_map (λ t. (t, left i)) (token i))
+
+-- what the code finds of it
+pub word_front : (text : List ℕ) → IsTrue (begins_word text) → (n : ℕ) → n ≡ prefix_len is_name_byte text → (t : Option code.Token)
+    → option_map token_view t ≡ word_at (take n text) → front_of text (option_map (λ t. (t, n)) t) ≡ token_in_front text
+word_front text h n e t found =
+    moved text n t
+    ∙ ap (option_map (λ t. (t, drop n text))) found
+    ∙ ap (λ k. option_map (λ t. (t, drop k text)) (word_at (take k text))) e
+    ∙ sym (word_in_front text h)
+
+pub not_digit : (b : ℕ) → is_digit b ≡ true → is_lower b ≡ false
+not_digit b e = grind (arith, nat_tests)
+
+-- the integer in front of a text that begins with a digit or a minus sign
+integer_in_front : (b : ℕ) (rest : List ℕ) → IsTrue (begins_integer (b ∷ rest))
+    → token_in_front (b ∷ rest) ≡ option_map (λ t. (t, drop_while is_digit rest)) (integer_at (b ∷ take_while is_digit rest))
+integer_in_front b rest h =
+    elim (is_digit b) as (λ d. is_digit b ≡ d → token_in_front (b ∷ rest) ≡ option_map (λ t. (t, drop_while is_digit rest)) (cond d (positive_of (b ∷ take_while is_digit rest)) (negative_of (take_while is_digit rest)))) [
+      | true ↦ λ e. rw (not_digit b e, e) refl
+      | false ↦ λ e. let minus_sign : b ≡ 45 = only_minus b e h in subst (λ c. token_in_front (c ∷ rest) ≡ option_map (λ t. (t, drop_while is_digit rest)) (negative_of (take_while is_digit rest))) (sym minus_sign) refl
+    ] refl
+
+integer_length : (b : ℕ) (rest : List ℕ) (n : ℕ) → n ≡ prefix_len is_digit rest → take (1 + n) (b ∷ rest) ≡ b ∷ take_while is_digit rest
+integer_length b rest n e = rw (one_more n) (ap (λ k. b ∷ take k rest) e)
+
+pub integer_front : (text : List ℕ) → IsTrue (begins_integer text) → (n : ℕ) → n ≡ prefix_len is_digit (drop 1 text) → (t : Option code.Token)
+    → option_map token_view t ≡ integer_at (take (1 + n) text) → front_of text (option_map (λ t. (t, 1 + n)) t) ≡ token_in_front text
+integer_front [] h n e t found = cc
+integer_front (b ∷ rest) h n e t found =
+    let left : drop (1 + n) (b ∷ rest) ≡ drop_while is_digit rest = rw (one_more n) (ap (λ k. drop k rest) e ∙ sym (drop_while_is is_digit rest)) in
+    moved (b ∷ rest) (1 + n) t
+    ∙ ap (option_map (λ t. (t, drop (1 + n) (b ∷ rest)))) found
+    ∙ (λ i. option_map (λ t. (t, left i)) (integer_at (integer_length b rest n e i)))
+    ∙ sym (integer_in_front b rest h)
+
+-- what is not text is no word
+pub no_word : (bytes : List ℕ) → (IsUtf8 bytes → ⊥) → word_at bytes ≡ None
+no_word bytes h =
+    elim (is_name bytes) as (λ v. is_name bytes ≡ v → cond v (Some (word bytes)) None ≡ None) [
+      | true ↦ λ e. absurd (h (name_utf8 bytes e))
+      | false ↦ λ e. refl
+    ] refl
+
+-- a slice from an index is what is left there
+pub rest_is : (k : ℕ) (xs : List ℕ) → take (length xs - k) (drop k xs) ≡ drop k xs
+rest_is k xs = take_all (length xs - k) (drop k xs) (omega (arith, length-drop k xs))
+
+pub digits_behind : (text : List ℕ) (n : ℕ) → n ≡ prefix_len is_digit (take (length text - 1) (drop 1 text)) → n ≡ prefix_len is_digit (drop 1 text)
+digits_behind text n e = e ∙ ap (prefix_len is_digit) (rest_is 1 text)
+
+pub integer_within : (text : List ℕ) → IsTrue (begins_integer text) → (n : ℕ) → n ≡ prefix_len is_digit (drop 1 text) → 1 + n ≤ length text
+integer_within [] h n e = cc
+integer_within (b ∷ rest) h n e = omega (arith, e, prefix_len-le-length is_digit rest)
+
+pub integer_text : (text : List ℕ) → IsTrue (begins_integer text) → (n : ℕ) → n ≡ prefix_len is_digit (drop 1 text) → IsTrue (is_integer_text (take (1 + n) text))
+integer_text [] h n e = cc
+integer_text (b ∷ rest) h n e = rw (integer_length b rest n e) (rw (h, front_passes is_digit rest) refl)
+
+digit_ascii : (b : ℕ) → is_digit b ≡ true → b < 128
+digit_ascii b h = grind (arith, nat_tests)
+
+sign_ascii : (b : ℕ) → (is_digit b || b == 45) ≡ true → b < 128
+sign_ascii b h = grind (arith, nat_tests)
+
+first_holds : (a b : Bool) → (a && b) ≡ true → a ≡ true
+first_holds true b h = refl
+first_holds false b h = cc
+
+second_holds : (a b : Bool) → (a && b) ≡ true → b ≡ true
+second_holds true b h = h
+second_holds false b h = cc
+
+digits_ascii : (bytes : List ℕ) → list_all is_digit bytes ≡ true → IsAscii bytes
+digits_ascii [] h i = omega arith
+digits_ascii (b ∷ bytes) h zero = digit_ascii b (first_holds (is_digit b) (list_all is_digit bytes) h)
+digits_ascii (b ∷ bytes) h (suc i) = digits_ascii bytes (second_holds (is_digit b) (list_all is_digit bytes) h) i
+
+integer_ascii : (bytes : List ℕ) → IsTrue (is_integer_text bytes) → IsAscii bytes
+integer_ascii [] h i = omega arith
+integer_ascii (b ∷ bytes) h zero = sign_ascii b (first_holds (is_digit b || b == 45) (list_all is_digit bytes) h)
+integer_ascii (b ∷ bytes) h (suc i) = digits_ascii bytes (second_holds (is_digit b || b == 45) (list_all is_digit bytes) h) i
+
+-- an integer is text
+pub no_integer : (bytes : List ℕ) → (IsUtf8 bytes → ⊥) → IsTrue (is_integer_text bytes) → ⊥
+no_integer bytes h e = h (IsUtf8-from_ascii bytes (integer_ascii bytes e))
+
+-- the slice behind the front that passes
+pub slice_behind : (p : ℕ → Bool) (xs : List ℕ) (n : ℕ) → n ≡ prefix_len p xs → take (length xs - n) (drop n xs) ≡ drop_while p xs
+slice_behind p xs n e = rest_is n xs ∙ ap (λ k. drop k xs) e ∙ sym (drop_while_is p xs)
+
+pub front_within : (p : ℕ → Bool) (xs : List ℕ) (n : ℕ) → n ≡ prefix_len p xs → n ≤ length xs
+front_within p xs n e = omega (arith, e, prefix_len-le-length p xs)

@@ -1,0 +1,14 @@
+pub mod Answered
+pub mod Fronts
+pub mod Numbers
+pub mod Scans
+pub mod Inversions
+pub mod Options
+pub mod Spelled
+pub mod Named
+pub mod Selected
+pub mod Defined
+pub mod Read
+pub mod Spelling
+pub mod Longest
+pub mod Texts

@@ -1,0 +1,4 @@
+pub mod Meaning
+pub mod Tokens
+pub mod Steps
+pub mod Laws
