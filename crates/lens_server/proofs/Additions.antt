@@ -1,0 +1,302 @@
+-- One definition more: the state after it, what is kept of it, and that the store stays consistent.
+use Rattle.std.proofs.Common.{◌≡◌, ◌∙◌, ◌+◌, ◌≤◌, ℕ, suc, Bool, true, false, List, [], ◌∷◌, ◌++◌, length, map, ap, sym, subst, refl, cond, arith, append-nil, length-append}
+use Rattle.std.specs.Prelude.{Option, Some, None, option_map, option_to_list, is_some, not, Ok, if◌then◌else◌}
+use Rattle.std.specs.Ordering.{eq_by_cmp, is_eq}
+use Rattle.std.specs.Cmp.{tied_itself}
+use Rattle.std.specs.Cmp.Lexicographic.{nat_list_cmp_total}
+use Rattle.std.specs.FinMap as finmap
+use Rattle.std.specs.FinMap.{nat_cmp-IsAntisymmetric, slice_cmp-IsAntisymmetric}
+use Rattle.lens_values.specs.Order.{bytes_cmp}
+use Rattle.lens_values.specs.SortedSet as set
+use Rattle.lens_values.specs.declared.value.Kind.{Kind}
+use Rattle.lens_specs.specs.Relation.{Name, Relation, Columns}
+use Rattle.lens_specs.specs.Keeping.{Kept, define, changed, CanCommit, Follows, Tells}
+use Rattle.lens_specs.specs.Language.{Definition, table, view, named}
+use Rattle.lens_specs.specs.Language as language
+use Rattle.lens_specs.specs.Lens as spec
+use Rattle.lens_specs.specs.Lens.{select}
+use Rattle.lens_specs.specs.Reading.{reading}
+use Rattle.server_specs.specs.Answer.{defined, text}
+use Rattle.server_specs.specs.Answering.{answer_definition, with_defined, with_text}
+use Rattle.server_specs.specs.Defining.{is_base, table_count, view_count}
+use Rattle.server_specs.specs.State.{State, Catalogue, catalogue, columns_from, table_lens, with_definition, kept, rows_of_each}
+use Rattle.server_specs.proofs.Catalogues.{catalogue-push}
+use Rattle.view_lang.specs.Meaning.{comparison_view}
+use Rattle.view_lang.specs.declared.definition.Comparison.{Comparison}
+use Rattle.lens_server.specs.Additions.{IsTaken}
+use Rattle.lens_server.specs.Entries.{named as entry_named, entry_view, lens_view, lens_with, lens_named, relation_of, last_of, relation_named, columns_named}
+use Rattle.lens_server.specs.Judgements.{Adds, adds_table, adds_view}
+use Rattle.lens_server.specs.Outcomes.{Outcome, made}
+use Rattle.lens_server.specs.States.{state_of, state_with, IsConsistent, Consistent}
+use Rattle.lens_server.specs.declared.entry.Lens.{Lens}
+use Rattle.lens_server.specs.declared.entry.Entry.{Entry}
+use Rattle.lens_server.specs.declared.judging.Addition.{Addition}
+use Rattle.lens_server.specs.declared.store.Store.{Store}
+use Rattle.lens_server.specs.declared.table.Table.{Table}
+use Rattle.lens_server.proofs.Changes.{kept_rows, told_after, rows_chosen}
+use Rattle.lens_server.proofs.Growing.{found_still, found_last, map_more, map-push, none_any, count_more}
+use Rattle.lens_server.proofs.Views.{found_view, in_catalogue}
+
+itself : (t : Name) → eq_by_cmp bytes_cmp t t ≡ true
+itself t = ap is_eq (tied_itself nat_list_cmp_total t)
+
+-- ---- names and tables with one more
+
+named_still : (es : List Entry) (e : Entry) (q : Name) (l : Lens) → lens_named es q ≡ Some l → lens_named (es ++ e ∷ []) q ≡ Some l
+named_still es e q l f = ap (finmap.find bytes_cmp q) (map-push entry_named es e) ∙ found_still q (map entry_named es) (entry_named e) l f
+
+named_last : (es : List Entry) (e : Entry) (q : Name) → lens_named es q ≡ None → lens_named (es ++ e ∷ []) q ≡ cond (eq_by_cmp bytes_cmp q e.name) (Some e.lens) None
+named_last es e q f = ap (finmap.find bytes_cmp q) (map-push entry_named es e) ∙ found_last q (map entry_named es) (entry_named e) f
+
+relation_still : (ts : List Table) (t : Table) (q : Name) (r : Relation) → relation_named ts q ≡ Some r → relation_named (ts ++ t ∷ []) q ≡ Some r
+relation_still ts t q r f = ap (finmap.find bytes_cmp q) (map-push relation_of ts t) ∙ found_still q (map relation_of ts) (relation_of t) r f
+
+relation_last : (ts : List Table) (t : Table) (q : Name) → relation_named ts q ≡ None → relation_named (ts ++ t ∷ []) q ≡ cond (eq_by_cmp bytes_cmp q t.name) (Some t.relation) None
+relation_last ts t q f = ap (finmap.find bytes_cmp q) (map-push relation_of ts t) ∙ found_last q (map relation_of ts) (relation_of t) f
+
+columns_by : (ts : List Table) (t : Table) (q : Name) (U : Columns) (o : Option Relation) → relation_named ts q ≡ o → option_map (λ r. r.columns) o ≡ Some U → columns_named (ts ++ t ∷ []) q ≡ Some U
+columns_by ts t q U None is e = cc
+columns_by ts t q U (Some r) is e = ap (option_map (λ x. x.columns)) (relation_still ts t q r is) ∙ e
+
+columns_still : (ts : List Table) (t : Table) (q : Name) (U : Columns) → columns_named ts q ≡ Some U → columns_named (ts ++ t ∷ []) q ≡ Some U
+columns_still ts t q U e = columns_by ts t q U (relation_named ts q) refl e
+
+-- tables with one more, or none
+columns_more : (ts : List Table) (more : Option Table) (q : Name) (U : Columns) → columns_named ts q ≡ Some U → columns_named (ts ++ option_to_list more) q ≡ Some U
+columns_more ts None q U e = ap (λ l. columns_named l q) (append-nil ts) ∙ e
+columns_more ts (Some t) q U e = columns_still ts t q U e
+
+-- the lens under a name is one that was there, or the new one
+one_of_both : (es : List Entry) (e : Entry) (q : Name) (l : Lens) (P : Lens → Type 0) → ((m : Lens) → lens_named es q ≡ Some m → P m) → (eq_by_cmp bytes_cmp q e.name ≡ true → P e.lens)
+    → (o : Option Lens) → lens_named es q ≡ o → lens_named (es ++ e ∷ []) q ≡ Some l → P l
+one_of_both es e q l P old new (Some m) is found =
+    let same : m ≡ l = (let both : Some m ≡ Some l = sym (named_still es e q m is) ∙ found in cc) in
+    subst P same (old m is)
+one_of_both es e q l P old new None is found = by_test (eq_by_cmp bytes_cmp q e.name) refl (sym (named_last es e q is) ∙ found)
+  where
+    by_test : (b : Bool) → eq_by_cmp bytes_cmp q e.name ≡ b → cond b (Some e.lens) None ≡ Some l → P l
+    by_test true t f = let same : e.lens ≡ l = cc in subst P same (new t)
+    by_test false t f = cc
+
+none_before : (es : List Entry) (e : Entry) (q : Name) (o : Option Lens) → lens_named es q ≡ o → lens_named (es ++ e ∷ []) q ≡ None → lens_named es q ≡ None
+none_before es e q None is f = is
+none_before es e q (Some m) is f = let clash : Some m ≡ None = sym (named_still es e q m is) ∙ f in cc
+
+not_last : (es : List Entry) (e : Entry) (q : Name) (b : Bool) → eq_by_cmp bytes_cmp q e.name ≡ b → lens_named es q ≡ None → lens_named (es ++ e ∷ []) q ≡ None → eq_by_cmp bytes_cmp q e.name ≡ false
+not_last es e q true t none f =
+    let clash : Some e.lens ≡ None = ap (λ b. cond b (Some e.lens) None) (sym t) ∙ sym (named_last es e q none) ∙ f in cc
+not_last es e q false t none f = t
+
+-- a table is made for the new name alone
+abbrev HasName : Name → Option Table → Type 0
+HasName name None = Unit {0}
+HasName name (Some t) = t.name ≡ name
+
+defined_more : (es : List Entry) (ts : List Table) (e : Entry) (more : Option Table) → HasName e.name more → ((q : Name) → lens_named es q ≡ None → relation_named ts q ≡ None)
+    → (q : Name) → lens_named (es ++ e ∷ []) q ≡ None → relation_named (ts ++ option_to_list more) q ≡ None
+defined_more es ts e None has old q f = ap (λ l. relation_named l q) (append-nil ts) ∙ old q (none_before es e q (lens_named es q) refl f)
+defined_more es ts e (Some t) has old q f =
+    let none : lens_named es q ≡ None = none_before es e q (lens_named es q) refl f in
+    relation_last ts t q (old q none)
+    ∙ ap (λ b. cond b (Some t.relation) None) (ap (eq_by_cmp bytes_cmp q) has ∙ not_last es e q (eq_by_cmp bytes_cmp q e.name) refl none f)
+
+-- the catalogue and the counts with one name more
+abbrev table_more : Option Table → ℕ
+table_more None = 0
+table_more (Some t) = 1
+
+abbrev Counts : spec.Lens → Option Table → Type 0
+Counts lens more = is_base lens ≡ is_some more
+
+tables_counted : (known : Catalogue) (name : Name) (lens : spec.Lens) (ts : List Table) (more : Option Table) → finmap.get known name ≡ None → Counts lens more
+    → table_count known ≡ length ts → table_count (finmap.insert known name lens) ≡ length (ts ++ option_to_list more)
+tables_counted known name lens ts None new counts e =
+    count_more is_base known name lens new ∙ ap (λ b. if b then suc (table_count known) else table_count known) counts ∙ e ∙ ap length (sym (append-nil ts))
+tables_counted known name lens ts (Some t) new counts e =
+    count_more is_base known name lens new ∙ ap (λ b. if b then suc (table_count known) else table_count known) counts
+    ∙ omega (arith, e, length-append ts (t ∷ []))
+
+views_counted : (known : Catalogue) (name : Name) (lens : spec.Lens) (ts : List Table) (n : ℕ) (more : Option Table) → finmap.get known name ≡ None → Counts lens more
+    → view_count known + length ts ≡ n → view_count (finmap.insert known name lens) + length (ts ++ option_to_list more) ≡ n + 1
+views_counted known name lens ts n None new counts e =
+    let c : view_count (finmap.insert known name lens) ≡ suc (view_count known) =
+    count_more (λ l. not (is_base l)) known name lens new ∙ ap (λ b. if not b then suc (view_count known) else view_count known) counts in
+    omega (arith, c, e, ap length (append-nil ts))
+views_counted known name lens ts n (Some t) new counts e =
+    let c : view_count (finmap.insert known name lens) ≡ view_count known =
+    count_more (λ l. not (is_base l)) known name lens new ∙ ap (λ b. if not b then suc (view_count known) else view_count known) counts in
+    omega (arith, c, e, length-append ts (t ∷ []))
+
+-- ---- consistent
+
+pub consistent_more : (texts : List (List ℕ)) (es : List Entry) (ts : List Table) (said : List ℕ) (e : Entry) (more : Option Table) → IsConsistent texts es ts
+    → lens_named es e.name ≡ None → with_definition (reading said) (catalogue texts) ≡ finmap.insert (catalogue texts) e.name (lens_view e.lens)
+    → HasName e.name more → Counts (lens_view e.lens) more → columns_named (ts ++ option_to_list more) e.lens.table ≡ Some e.lens.columns → finmap.len e.lens.columns ≤ 64
+    → IsConsistent (texts ++ said ∷ []) (es ++ e ∷ []) (ts ++ option_to_list more)
+consistent_more texts es ts said e more c new defines has counts source size =
+    let grown : catalogue (texts ++ said ∷ []) ≡ finmap.insert (catalogue texts) e.name (lens_view e.lens) = catalogue-push texts said ∙ defines in
+    let absent : finmap.find bytes_cmp e.name (map entry_view es) ≡ None = found_view e.name es ∙ ap (option_map lens_view) new in
+    let unknown : finmap.get (catalogue texts) e.name ≡ None = ap (λ m. finmap.get m e.name) c.names ∙ finmap.get-from_entries nat_list_cmp_total (map entry_view es) e.name ∙ absent in
+    record {
+      names = grown ∙ ap (λ m. finmap.insert m e.name (lens_view e.lens)) c.names ∙ sym (map_more (map entry_view es) (entry_view e) absent) ∙ ap finmap.from_entries (sym (map-push entry_view es e));
+      sources = λ q l. one_of_both es e q l (λ m. columns_named (ts ++ option_to_list more) m.table ≡ Some m.columns)
+          (λ m f. columns_more ts more m.table m.columns (c.sources q m f)) (λ _. source) (lens_named es q) refl;
+      sizes = λ q l. one_of_both es e q l (λ m. finmap.len m.columns ≤ 64) (λ m f. c.sizes q m f) (λ _. size) (lens_named es q) refl;
+      defined = defined_more es ts e more has c.defined;
+      tables_are = ap table_count grown ∙ tables_counted (catalogue texts) e.name (lens_view e.lens) ts more unknown counts c.tables_are;
+      views_are = ap (λ m. view_count m + length (ts ++ option_to_list more)) grown ∙ views_counted (catalogue texts) e.name (lens_view e.lens) ts (length es) more unknown counts c.views_are
+          ∙ sym (length-append es (e ∷ []));
+    }
+
+-- ---- the state, and what is kept
+
+pub state_table : (texts : List (List ℕ)) (ts : List Table) (version : ℕ) (said : List ℕ) (t : Table) → relation_named ts t.name ≡ None → t.last ≡ version + 1
+    → state_with (texts ++ said ∷ []) (ts ++ t ∷ []) (version + 1)
+    ≡ record (with_text said (state_with texts ts version)) { tables = finmap.insert (state_with texts ts version).tables t.name t.relation; last = finmap.insert (state_with texts ts version).last t.name (version + 1) }
+state_table texts ts version said t none last =
+    (λ j. record {
+      texts = texts ++ said ∷ [];
+      tables = (ap finmap.from_entries (map-push relation_of ts t) ∙ map_more (map relation_of ts) (relation_of t) none) j;
+      version = version + 1;
+      last = (ap finmap.from_entries (map-push last_of ts t) ∙ map_more (map last_of ts) (last_of t) (none_any (λ x. x.name) (λ x. x.relation) (λ x. x.last) t.name ts none)
+          ∙ ap (finmap.insert (state_with texts ts version).last t.name) last) j;
+    })
+
+kept_insert : (tables : spec.Tables) (name : Name) (r : Relation) → finmap.from_entries {R = bytes_cmp} (rows_of_each (finmap.entries (finmap.insert tables name r)))
+    ≡ finmap.insert (finmap.from_entries (rows_of_each (finmap.entries tables))) name r.rows
+kept_insert tables name r = finmap.same_map nat_list_cmp_total (slice_cmp-IsAntisymmetric nat_cmp-IsAntisymmetric) _ _ (λ q.
+    kept_rows (at (finmap.insert tables name r)) q ∙ ap (option_map (λ x. x.rows)) (finmap.get-insert nat_list_cmp_total tables name r q)
+    ∙ rows_chosen (eq_by_cmp bytes_cmp q name) r (finmap.get tables q)
+    ∙ ap (cond (eq_by_cmp bytes_cmp q name) (Some r.rows)) (sym (kept_rows (at tables) q))
+    ∙ sym (finmap.get-insert nat_list_cmp_total (kept (at tables)).rows name r.rows q))
+  where
+    at : spec.Tables → State
+    at ts = record { texts = []; tables = ts; version = 0; last = finmap.empty }
+
+can_commit_none : (said : List ℕ) (contents : Option Kept) → CanCommit (define said None) contents
+can_commit_none said None = tt
+can_commit_none said (Some k) = tt
+
+can_commit_some : (said : List ℕ) (name : Name) (s : State) (contents : Option Kept) → finmap.get s.tables name ≡ None → Tells contents (kept s) → CanCommit (define said (Some name)) contents
+can_commit_some said name s None none told = tt
+can_commit_some said name s (Some k) none told =
+    subst (λ c. is_some (finmap.get c.rows name) ≡ false) (sym told) (ap is_some (kept_rows s name ∙ ap (option_map (λ r. r.rows)) none))
+
+get_none : (ts : List Table) (name : Name) → relation_named ts name ≡ None → finmap.get (finmap.from_entries {R = bytes_cmp} (map relation_of ts)) name ≡ None
+get_none ts name e = finmap.get-from_entries nat_list_cmp_total (map relation_of ts) name ∙ e
+
+-- the definition can be kept
+can_add : (addition : Addition) (definition : Definition) (store : Store) (said : List ℕ) (contents : Option Kept) → Consistent store → Adds addition definition store
+    → Tells contents (kept (state_of store)) → CanCommit (define said (option_map (λ t. t.name) addition.table)) contents
+can_add addition definition store said contents c (adds_table name columns is new size adds) told =
+    subst (λ o. CanCommit (define said (option_map (λ t. t.name) o)) contents) (sym adds.table)
+    (can_commit_some said name (state_of store) contents (get_none store.tables.items name (c.defined name new)) told)
+can_add addition definition store said contents c (adds_view name from source comparison is new found adds) told =
+    subst (λ o. CanCommit (define said (option_map (λ t. t.name) o)) contents) (sym adds.table) (can_commit_none said contents)
+
+pub addition_can : (addition : Addition) (store : Store) (said : List ℕ) (contents : Option Kept) → Consistent store → IsTaken said addition store
+    → Tells contents (kept (state_of store)) → CanCommit (define said (option_map (λ t. t.name) addition.table)) contents
+addition_can addition store said contents c taken told = can_add addition taken.0 store said contents c taken.2 told
+
+-- ---- the definition is taken
+
+-- the store has this text, this entry and this table more
+record Grows (old new : Store) (said : List ℕ) (e : Entry) (more : Option Table) : Type 0 where
+  texts : new.texts.items ≡ old.texts.items ++ said ∷ []
+  entries : new.entries.items ≡ old.entries.items ++ e ∷ []
+  tables : new.tables.items ≡ old.tables.items ++ option_to_list more
+  version : new.version ≡ old.version + 1
+
+state_grown : (old new : Store) (said : List ℕ) (e : Entry) (more : Option Table) → Grows old new said e more
+    → state_of new ≡ state_with (old.texts.items ++ said ∷ []) (old.tables.items ++ option_to_list more) (old.version + 1)
+state_grown old new said e more g = λ i. state_with (g.texts i) (g.tables i) (g.version i)
+
+consistent_grown : (old new : Store) (said : List ℕ) (e : Entry) (more : Option Table) → Grows old new said e more
+    → IsConsistent (old.texts.items ++ said ∷ []) (old.entries.items ++ e ∷ []) (old.tables.items ++ option_to_list more) → Consistent new
+consistent_grown old new said e more g c =
+    subst (λ ts. IsConsistent new.texts.items new.entries.items ts) (sym g.tables)
+    (subst (λ es. IsConsistent new.texts.items es (old.tables.items ++ option_to_list more)) (sym g.entries)
+    (subst (λ xs. IsConsistent xs (old.entries.items ++ e ∷ []) (old.tables.items ++ option_to_list more)) (sym g.texts) c))
+
+outcome_grown : (old new : Store) (said : List ℕ) (e : Entry) (more : Option Table) (definition : Definition) (contents contents' : Option Kept) (count count' : ℕ) (reply : List ℕ)
+    → Grows old new said e more → IsConsistent (old.texts.items ++ said ∷ []) (old.entries.items ++ e ∷ []) (old.tables.items ++ option_to_list more)
+    → state_with (old.texts.items ++ said ∷ []) (old.tables.items ++ option_to_list more) (old.version + 1) ≡ with_defined said definition (state_of old)
+    → changed (define said (option_map (λ t. t.name) more)) (kept (state_of old)) ≡ kept (with_defined said definition (state_of old))
+    → Tells contents (kept (state_of old)) → Follows (λ a b. b ≡ changed (define said (option_map (λ t. t.name) more)) a) contents contents' → count ≤ count'
+    → reply ≡ text (defined (old.version + 1))
+    → Outcome (answer_definition said (Ok definition) (state_of old)) old new count count' contents' (Ok reply)
+outcome_grown old new said e more definition contents contents' count count' reply g c after keeps told follows later is =
+    let now : state_of new ≡ with_defined said definition (state_of old) = state_grown old new said e more g ∙ after in
+    record {
+      consistent = consistent_grown old new said e more g c;
+      later = later;
+      told = told_after (define said (option_map (λ t. t.name) more)) contents contents' (kept (state_of old)) (kept (state_of new)) follows told (keeps ∙ ap kept (sym now));
+      ok = made is now;
+      err = tt;
+    }
+
+table_entry : Name → Columns → Entry
+table_entry name U = record { name = name; lens = record { table = name; columns = U; comparison = None } }
+
+outcome_table : (old new : Store) (said : List ℕ) (name : Name) (columns : List (Name × Kind)) (contents contents' : Option Kept) (count count' : ℕ) (reply : List ℕ)
+    → Grows old new said (record { name = name; lens = record { table = name; columns = columns_from columns; comparison = None } })
+    (Some (record { name = name; relation = record { columns = columns_from columns; rows = set.empty }; last = old.version + 1 }))
+    → Consistent old → reading said ≡ Some (table name columns) → lens_named old.entries.items name ≡ None → finmap.len (columns_from columns) ≤ 64
+    → Tells contents (kept (state_of old)) → Follows (λ a b. b ≡ changed (define said (Some name)) a) contents contents' → count ≤ count'
+    → reply ≡ text (defined (old.version + 1))
+    → Outcome (answer_definition said (Ok (table name columns)) (state_of old)) old new count count' contents' (Ok reply)
+outcome_table old new said name columns contents contents' count count' reply g c read free size told follows later is =
+    let U = columns_from columns in
+    let e : Entry = record { name = name; lens = record { table = name; columns = U; comparison = None } } in
+    let t : Table = record { name = name; relation = record { columns = U; rows = set.empty }; last = old.version + 1 } in
+    let none : relation_named old.tables.items name ≡ None = c.defined name free in
+    let source : columns_named (old.tables.items ++ t ∷ []) name ≡ Some U =
+    ap (option_map (λ r. r.columns)) (relation_last old.tables.items t name none ∙ ap (λ b. cond b (Some t.relation) None) (itself name)) in
+    outcome_grown old new said e (Some t) (table name columns) contents contents' count count' reply g
+    (consistent_more old.texts.items old.entries.items old.tables.items said e (Some t) c free (ap (λ o. with_definition o (catalogue old.texts.items)) read) refl refl source size)
+    (state_table old.texts.items old.tables.items old.version said t none refl)
+    (λ j. record { texts = old.texts.items ++ said ∷ []; rows = sym (kept_insert (state_of old).tables name t.relation) j })
+    told follows later is
+
+plain_lens : (source : Lens) → source.comparison ≡ None → lens_view source ≡ table_lens source.table source.columns
+plain_lens source e = ap (lens_with source.table source.columns) e
+
+outcome_view : (old new : Store) (said : List ℕ) (name from : Name) (source : Lens) (comparison : Comparison) (contents contents' : Option Kept) (count count' : ℕ) (reply : List ℕ)
+    → Grows old new said (record { name = name; lens = record source { comparison = Some comparison } }) None
+    → Consistent old → reading said ≡ Some (view name (language.select (comparison_view comparison) (named from))) → lens_named old.entries.items name ≡ None
+    → lens_named old.entries.items from ≡ Some source → source.comparison ≡ None
+    → Tells contents (kept (state_of old)) → Follows (λ a b. b ≡ changed (define said None) a) contents contents' → count ≤ count'
+    → reply ≡ text (defined (old.version + 1))
+    → Outcome (answer_definition said (Ok (view name (language.select (comparison_view comparison) (named from)))) (state_of old)) old new count count' contents' (Ok reply)
+outcome_view old new said name from source comparison contents contents' count count' reply g c read free found plain told follows later is =
+    let e : Entry = record { name = name; lens = record source { comparison = Some comparison } } in
+    let P = comparison_view comparison in
+    let lens : finmap.get (catalogue old.texts.items) from ≡ Some (table_lens source.table source.columns) =
+    in_catalogue old.texts.items old.entries.items old.tables.items from c ∙ ap (option_map lens_view) found ∙ ap Some (plain_lens source plain) in
+    let defines : with_definition (reading said) (catalogue old.texts.items) ≡ finmap.insert (catalogue old.texts.items) name (lens_view e.lens) =
+    ap (λ o. with_definition o (catalogue old.texts.items)) read ∙ rw lens refl in
+    outcome_grown old new said e None (view name (language.select P (named from))) contents contents' count count' reply g
+    (consistent_more old.texts.items old.entries.items old.tables.items said e None c free defines tt refl
+    (columns_more old.tables.items None source.table source.columns (c.sources from source found)) (c.sizes from source found))
+    (ap (λ ts. state_with (old.texts.items ++ said ∷ []) ts (old.version + 1)) (append-nil old.tables.items))
+    refl told follows later is
+
+-- what becomes of a definition that is taken
+pub addition_made : (addition : Addition) (definition : Definition) (old new : Store) (said : List ℕ) (contents contents' : Option Kept) (count count' : ℕ)
+    → Adds addition definition old → Consistent old → reading said ≡ Some definition → Tells contents (kept (state_of old))
+    → Follows (λ a b. b ≡ changed (define said (option_map (λ t. t.name) addition.table)) a) contents contents' → count ≤ count'
+    → new.texts.items ≡ old.texts.items ++ said ∷ [] → new.entries.items ≡ old.entries.items ++ addition.entry ∷ []
+    → new.tables.items ≡ old.tables.items ++ option_to_list addition.table → new.version ≡ old.version + 1
+    → Outcome (answer_definition said (Ok definition) (state_of old)) old new count count' contents' (Ok addition.reply)
+addition_made addition definition old new said contents contents' count count' (adds_table name columns is free size adds) c read told follows later texts entries tables version =
+    subst (λ d. Outcome (answer_definition said (Ok d) (state_of old)) old new count count' contents' (Ok addition.reply)) (sym is)
+    (outcome_table old new said name columns contents contents' count count' addition.reply
+    (record { texts = texts; entries = entries ∙ ap (λ e. old.entries.items ++ e ∷ []) adds.entry; tables = tables ∙ ap (λ o. old.tables.items ++ option_to_list o) adds.table; version = version })
+    c (read ∙ ap Some is) free size told
+    (subst (λ o. Follows (λ a b. b ≡ changed (define said (option_map (λ t. t.name) o)) a) contents contents') adds.table follows) later adds.reply)
+addition_made addition definition old new said contents contents' count count' (adds_view name from source comparison is free found adds) c read told follows later texts entries tables version =
+    subst (λ d. Outcome (answer_definition said (Ok d) (state_of old)) old new count count' contents' (Ok addition.reply)) (sym is)
+    (outcome_view old new said name from source comparison contents contents' count count' addition.reply
+    (record { texts = texts; entries = entries ∙ ap (λ e. old.entries.items ++ e ∷ []) adds.entry; tables = tables ∙ ap (λ o. old.tables.items ++ option_to_list o) adds.table; version = version })
+    c (read ∙ ap Some is) free found adds.plain told
+    (subst (λ o. Follows (λ a b. b ≡ changed (define said (option_map (λ t. t.name) o)) a) contents contents') adds.table follows) later adds.reply)

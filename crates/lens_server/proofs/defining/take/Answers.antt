@@ -1,0 +1,23 @@
+use Rattle.std.proofs.Common.{◌≡◌, ◌∙◌, ◌++◌, ◌∷◌, ◌+◌, [], sym, ap, subst, refl}
+use Rattle.std.specs.Prelude.{option_to_list}
+use Rattle.lens_specs.specs.Keeping.{define, changed, CanCommit, Follows}
+use Rattle.lens_server.proofs.Additions.{addition_can, addition_made}
+use Rattle.lens_server.proofs.defining.take.Goals as goal
+
+pub commit-requires : goal.commit-requires
+commit-requires g c =
+    subst (λ o. CanCommit (define c.args.text o) (g.K.Keeper.contents c.args.keeper.now)) (sym c.name_of.ensures)
+    (addition_can c.args.addition c.args.store.now c.args.text (g.K.Keeper.contents c.args.keeper.now) c.requires.consistent c.requires.taken c.requires.told)
+
+pub returns-in-Ok-clause-outcome : goal.returns-in-Ok-clause-outcome
+returns-in-Ok-clause-outcome g c = λ definition read adds.
+    let room = c.in_ok-make_room.ensures.same in
+    let said : c.text_of.result ≡ c.args.text = c.text_of.ensures c.args.text c.name_of.result refl in
+    addition_made c.args.addition definition c.args.store.now c.admit.new.store c.args.text (g.K.Keeper.contents c.args.keeper.now) (g.K.Keeper.contents c.commit.new.self)
+    (g.K.Keeper.faults c.args.keeper.now) (g.K.Keeper.faults c.commit.new.self) adds c.requires.consistent read c.requires.told
+    (subst (λ o. Follows (λ a b. b ≡ changed (define c.args.text o) a) (g.K.Keeper.contents c.args.keeper.now) (g.K.Keeper.contents c.commit.new.self)) c.name_of.ensures c.in-Ok.ensures.ok)
+    c.in-Ok.ensures.later
+    (c.admit.ensures.texts ∙ (λ i. room.texts i ++ said i ∷ []))
+    (c.admit.ensures.entries ∙ ap (λ l. l ++ c.args.addition.entry ∷ []) room.entries)
+    (c.admit.ensures.tables ∙ ap (λ l. l ++ option_to_list c.args.addition.table) room.tables)
+    (c.admit.ensures.version ∙ ap (λ n. n + 1) room.version)

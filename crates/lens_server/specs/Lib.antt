@@ -1,0 +1,9 @@
+pub mod Entries
+pub mod Shows
+pub mod States
+pub mod Outcomes
+pub mod Judgements
+pub mod Additions
+pub mod Places
+pub mod Plans
+pub mod StateCode

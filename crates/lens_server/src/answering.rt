@@ -1,0 +1,59 @@
+//! One line, one answer.
+ghost use Rattle.std.specs.Prelude.{◌≡◌, ◌<◌, ◌-◌, ◌^◌};
+ghost use Rattle.lens_specs.specs.Keeping.{Tells};
+ghost use Rattle.lens_specs.specs.Lines.{line as short};
+ghost use Rattle.request_text.specs.Requests.{request_view};
+ghost use Rattle.server_specs.specs.Answering.{answer_request};
+ghost use Rattle.server_specs.specs.Request.{request};
+ghost use Rattle.server_specs.specs.State.{kept};
+ghost use Rattle.std.specs.Prelude.{Some};
+ghost use Rattle.lens_server.specs.Outcomes.{Outcome};
+ghost use Rattle.lens_server.specs.States.{state_of, Consistent};
+
+use crate::defining::define;
+use crate::putting::put;
+use crate::reading::read;
+use crate::store::Store;
+use lens_values::NoMemory;
+use request_text::{Reply, Request, read_request, unbuilt_reply};
+use std::alloc::Global;
+use table_keeper::Keeper;
+
+/// Answers a line that is not too long.
+pub fn answer_line<K: Keeper>(
+    alloc: Global,
+    store: &mut Store,
+    keeper: &mut K,
+    line: &[u8],
+) -> Result<Reply, NoMemory>
+    requires consistent { Consistent store.old }
+    requires room { store.old.version < 2 ^ 64 - 1 }
+    requires told { Tells (K.contents keeper.old) (kept (state_of store.old)) }
+    ensures outcome { Outcome (answer_request (request (short line.now)) (state_of store.old)) store.old store.new (K.faults keeper.old) (K.faults keeper.new) (K.contents keeper.new) result }
+    ensures place { K.place keeper.new ≡ K.place keeper.old }
+{
+    match read_request(alloc, line)? {
+        Some(request) => answer_request(alloc, store, keeper, request),
+        None => Ok(unbuilt_reply()),
+    }
+}
+
+/// Answers a request.
+fn answer_request<K: Keeper>(
+    alloc: Global,
+    store: &mut Store,
+    keeper: &mut K,
+    request: Request,
+) -> Result<Reply, NoMemory>
+    requires consistent { Consistent store.old }
+    requires room { store.old.version < 2 ^ 64 - 1 }
+    requires told { Tells (K.contents keeper.old) (kept (state_of store.old)) }
+    ensures outcome { Outcome (answer_request (Some (request_view request)) (state_of store.old)) store.old store.new (K.faults keeper.old) (K.faults keeper.new) (K.contents keeper.new) result }
+    ensures place { K.place keeper.new ≡ K.place keeper.old }
+{
+    match request {
+        Request::Define { text } => define(alloc, store, keeper, text),
+        Request::Read { view } => read(alloc, store, &view),
+        Request::Put { view, rows } => put(alloc, store, keeper, &view, &rows),
+    }
+}

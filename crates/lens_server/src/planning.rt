@@ -1,0 +1,186 @@
+//! What a put changes: found first, made later.
+ghost use Rattle.std.specs.Prelude.{◌≡◌, ◌<◌, ◌-◌, ◌^◌, IfOk, Some, None, option_copied, nat_eq, position, slice_index_or, true, map, ◌∷◌, []};
+ghost use Rattle.std.specs.Cmp.Lexicographic.{pointwise};
+ghost use Rattle.std.specs.FinMap as finmap;
+ghost use Rattle.lens_values.specs.SortedSet as set;
+ghost use Rattle.lens_specs.specs.Delta.{changes};
+ghost use Rattle.lens_specs.specs.Delta as spec;
+ghost use Rattle.lens_specs.specs.Lens.{sort_of};
+ghost use Rattle.lens_specs.specs.Relation.{Fits};
+ghost use Rattle.lens_specs.specs.Sort.{off};
+ghost use Rattle.server_specs.specs.Answering.{accept, answer_put, put_set};
+ghost use Rattle.server_specs.specs.State.{catalogue, State};
+ghost use Rattle.lens_server.specs.Entries.{lens_view, columns_named};
+ghost use Rattle.lens_server.specs.Plans.{IsPlan, IsTablePlan, IsPlacedAt, accept_table, source_put};
+ghost use Rattle.lens_server.specs.States.{state_of, Consistent};
+
+use crate::entry::{Lens, lens_named};
+use crate::selecting::{first_refused, those};
+use crate::store::Store;
+use crate::table::{Table, place_of};
+use lens_values::{Name, NoMemory, Row};
+use request_text::{
+    JsonRows, Reply, changed_text, off_predicate_text, rows_of, unbuilt_reply, unknown_name_text,
+};
+use row_sets::{Relation, RowSet};
+use signed_delta::{TableDelta, diff};
+use std::alloc::Global;
+
+/// What a put comes to.
+#[derive(Drop)]
+pub enum Plan {
+    /// A reply, and nothing changes.
+    Answer(Reply),
+    /// A table changes.
+    Change(Edit),
+}
+
+/// The change of one table.
+#[derive(Drop)]
+pub struct Edit {
+    /// The table's place.
+    pub place: usize,
+    /// The table after it.
+    pub relation: Relation,
+    /// The difference of the table, alone.
+    pub deltas: Vec<TableDelta>,
+    /// The reply.
+    pub reply: Reply,
+}
+
+/// What a put of these rows comes to.
+pub fn plan_put(
+    alloc: Global,
+    store: &Store,
+    view: &Name,
+    rows: &JsonRows,
+) -> Result<Plan, NoMemory>
+    requires consistent { Consistent store.now }
+    requires room { store.now.version < 2 ^ 64 - 1 }
+    ensures { IfOk result (λ plan. IsPlan plan (answer_put view.now rows.now (finmap.get (catalogue store.now.texts.items) view.now) (state_of store.now)) store.now) }
+{
+    match lens_named(&store.entries, view) {
+        Some(lens) => plan_sent(alloc, store, lens, rows),
+        None => Ok(Plan::Answer(unknown_name_text(alloc, view)?)),
+    }
+}
+
+/// What a put of these rows to a lens comes to.
+fn plan_sent(alloc: Global, store: &Store, lens: &Lens, rows: &JsonRows) -> Result<Plan, NoMemory>
+    requires source { columns_named store.now.tables.items lens.now.table ≡ Some lens.now.columns }
+    requires room { store.now.version < 2 ^ 64 - 1 }
+    ensures { IfOk result (λ plan. IsPlan plan (answer_put [] rows.now (Some (lens_view lens.now)) (state_of store.now)) store.now) }
+{
+    match rows_of(alloc, &lens.columns, rows)? {
+        Some(rows) => plan_set(alloc, store, lens, rows),
+        None => Ok(Plan::Answer(unbuilt_reply())),
+    }
+}
+
+/// What a put of this set of rows to a lens comes to.
+fn plan_set(alloc: Global, store: &Store, lens: &Lens, rows: RowSet) -> Result<Plan, NoMemory>
+    requires source { columns_named store.now.tables.items lens.now.table ≡ Some lens.now.columns }
+    requires fit { (row : _) → set.contains rows row ≡ true → Fits lens.now.columns row }
+    requires room { store.now.version < 2 ^ 64 - 1 }
+    ensures { IfOk result (λ plan. IsPlan plan (put_set rows (lens_view lens.now) (state_of store.now)) store.now) }
+{
+    match refused(lens, &rows) {
+        Some(row) => Ok(Plan::Answer(off_predicate_text(alloc, row)?)),
+        None => plan_view(alloc, store, lens, rows),
+    }
+}
+
+/// The least of the rows that the lens's predicate refuses.
+fn refused<'a>(lens: &Lens, rows: &'a RowSet) -> Option<&'a Row>
+    ensures { option_copied result ≡ off (sort_of (lens_view lens.now)).predicate rows.now }
+{
+    match &lens.comparison {
+        Some(comparison) => first_refused(comparison, rows.rows()),
+        None => None,
+    }
+}
+
+/// What a put of rows that the predicate holds on comes to.
+fn plan_view(alloc: Global, store: &Store, lens: &Lens, rows: RowSet) -> Result<Plan, NoMemory>
+    requires source { columns_named store.now.tables.items lens.now.table ≡ Some lens.now.columns }
+    requires fit { (row : _) → set.contains rows row ≡ true → Fits lens.now.columns row }
+    requires room { store.now.version < 2 ^ 64 - 1 }
+    ensures { IfOk result (λ plan. IsPlan plan (accept (lens_view lens.now) rows (changes (lens_view lens.now) rows (state_of store.now).tables) (state_of store.now)) store.now) }
+{
+    let place = place_of(&store.tables, &lens.table);
+    let table = &store.tables[place];
+    let relation = source_after(alloc, lens, &table.relation, rows)?;
+    plan_table(alloc, store.version, place, table, relation)
+}
+
+/// The table after a put of the view.
+fn source_after(
+    alloc: Global,
+    lens: &Lens,
+    old: &Relation,
+    rows: RowSet,
+) -> Result<Relation, NoMemory>
+    requires columns { old.now.columns ≡ lens.now.columns }
+    requires fit { (row : _) → set.contains rows row ≡ true → Fits lens.now.columns row }
+    ensures { IfOk result (λ new. new ≡ record old.now { rows = source_put lens.now.comparison rows old.now.rows }) }
+{
+    let columns = lens.columns.copy(alloc)?;
+    let after = rows_after(alloc, lens, old.rows(), rows)?;
+    old.rows_fit();
+    Ok(Relation::with_rows(columns, after))
+}
+
+/// The rows of the table after a put of the view: those that the view hides, and those that are put.
+fn rows_after(alloc: Global, lens: &Lens, old: &RowSet, rows: RowSet) -> Result<RowSet, NoMemory>
+    ensures { IfOk result (λ after. after ≡ source_put lens.now.comparison rows old.now) }
+{
+    match &lens.comparison {
+        Some(comparison) => {
+            let hidden = those(alloc, comparison, false, old)?;
+            hidden.union(alloc, &rows)
+        }
+        None => Ok(rows),
+    }
+}
+
+/// What it comes to that a table becomes this relation.
+fn plan_table(
+    alloc: Global,
+    version: u64,
+    place: usize,
+    table: &Table,
+    relation: Relation,
+) -> Result<Plan, NoMemory>
+    requires columns { relation.columns ≡ table.now.relation.columns }
+    requires room { version < 2 ^ 64 - 1 }
+    ensures plan { IfOk result (λ plan. (s : State) → s.version ≡ version → IsTablePlan plan table.now (accept_table table.now.name relation (spec.diff table.now.relation.rows relation.rows) s) s) }
+    ensures place { IfOk result (IsPlacedAt place) }
+{
+    let delta = diff(alloc, &table.relation, &relation)?;
+    if delta.is_empty() {
+        return Ok(Plan::Answer(changed_text(alloc, &[], version)?));
+    }
+    let deltas = alone(
+        alloc,
+        TableDelta {
+            table: table.name,
+            delta,
+        },
+    )?;
+    let reply = changed_text(alloc, &deltas, version + 1)?;
+    Ok(Plan::Change(Edit {
+        place,
+        relation,
+        deltas,
+        reply,
+    }))
+}
+
+/// A list of one difference.
+fn alone(alloc: Global, delta: TableDelta) -> Result<Vec<TableDelta>, NoMemory>
+    ensures { IfOk result (λ deltas. deltas.items ≡ delta ∷ []) }
+{
+    let mut deltas = Vec::with_capacity(alloc, 1)?;
+    deltas.push(delta)?;
+    Ok(deltas)
+}

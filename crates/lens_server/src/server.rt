@@ -1,0 +1,98 @@
+//! The state, and what it answers.
+ghost use Rattle.std.specs.Prelude.{◌≡◌, ◌<◌, ◌-◌, ◌^◌, IfOk, MatchResult};
+ghost use Rattle.lens_specs.specs.Keeping.{Tells};
+ghost use Rattle.lens_specs.specs.Lines.{marked};
+ghost use Rattle.server_specs.specs.Answer.{memory, text};
+ghost use Rattle.server_specs.specs.Session.{Step};
+ghost use Rattle.server_specs.specs.State as state;
+
+use crate::answering::answer_line;
+use crate::store::Store;
+use lens_values::NoMemory;
+use request_text::{Reply, memory_reply, unbuilt_reply};
+use std::alloc::Global;
+use std::marker::Model;
+use std::sync::ledger::Ledger;
+use step_counter::Steps;
+use table_keeper::Keeper;
+
+/// The greatest number of bytes of a line, without its newline.
+pub const MAX_LINE: usize = 16_777_216;
+
+/// The definitions, the tables and the version. A contract sees the state.
+#[derive(Debug, Drop)]
+pub struct Server {
+    store: Store,
+}
+
+impl Model for Server {
+    ghost use Rattle.server_specs.specs.State as state;
+    ghost use Rattle.lens_server.specs.StateCode.{coded_state};
+    ghost use Rattle.lens_server.specs.States.{state_of, Consistent};
+
+    ghost Value = { state.State };
+
+    ghost coded = { coded_state };
+
+    ghost view = { λ s. state_of s.store };
+
+    ghost invariant = { λ s. Consistent s.store };
+}
+
+impl Server {
+    /// The state of no definitions.
+    pub fn fresh(alloc: Global) -> Result<Server, NoMemory>
+        ensures { IfOk result (λ server. server ≡ state.fresh) }
+    {
+        Ok(Server {
+            store: Store {
+                texts: Vec::new(alloc),
+                entries: Vec::new(alloc),
+                tables: Vec::new(alloc),
+                version: 0,
+            },
+        })
+    }
+
+    /// Answers one line. The reply and the state after it are those of the definition; or memory ran out, or the keeper failed
+    /// at a change, and nothing changed. What is kept is what the state has.
+    pub fn answer<K: Keeper, L: Ledger>(
+        &mut self,
+        alloc: Global,
+        keeper: &mut K,
+        line: &[u8],
+        walked: &mut Steps<L>,
+    ) -> Reply
+        requires room { self.old.version < 2 ^ 64 - 1 }
+        requires told { Tells (K.contents keeper.old) (state.kept self.old) }
+        ensures step { Step self.old (K.faults keeper.old) (marked line.now) result self.new (K.faults keeper.new) }
+        ensures told { Tells (K.contents keeper.new) (state.kept self.new) }
+        ensures place { K.place keeper.new ≡ K.place keeper.old }
+
+        // Nothing is walked.
+        ensures walked { walked.new ≡ walked.old }
+    {
+        let _ = walked;
+        if line.len() > MAX_LINE {
+            return unbuilt_reply();
+        }
+        reply_or_memory(answer_line(alloc, &mut self.store, keeper, line))
+    }
+
+    /// How many changes were made.
+    pub fn version(&self) -> u64
+        ensures { result ≡ self.now.version }
+    {
+        self.store.version
+    }
+}
+
+/// The reply, or that of memory where it ran out.
+fn reply_or_memory(outcome: Result<Reply, NoMemory>) -> Reply
+    ensures { MatchResult outcome (λ reply. result ≡ reply) (λ _. result ≡ text memory) }
+{
+    match outcome {
+        Ok(reply) => reply,
+        Err(NoMemory) => memory_reply(),
+    }
+}

@@ -1,0 +1,269 @@
+-- What `run` has done before it takes the next line.
+use Rattle.std.proofs.Common.{◌≡◌, ◌≢◌, ◌≤◌, ◌<◌, ◌+◌, ◌-◌, ◌^◌, ◌⊎◌, ℕ, Bool, true, false, List, [], ◌∷◌, ◌++◌, take, length, ap, sym, subst, ◌∙◌, refl, arith, append_assoc, append-nil, length-append, inl, inr}
+use Rattle.std.specs.Prelude.{None, Some, IfSome}
+use Rattle.std.specs.declared.option.Option.{Option}
+use Rattle.std.specs.Io.KnownBytes.{Appends}
+use Rattle.std.proofs.KnownBytes.{Appends-trans, Consumes-nil}
+use Rattle.lens_specs.specs.Keeping.{Kept, Tells}
+use Rattle.lens_specs.specs.Lines.{Line, too_long, whole}
+use Rattle.server_specs.specs.State.{State, fresh, kept}
+use Rattle.server_specs.specs.Answer.{unbuilt, text}
+use Rattle.server_specs.specs.Answering.{answer}
+use Rattle.server_specs.specs.Request.{request}
+use Rattle.server_specs.specs.Session.{Session, answered}
+use Rattle.server_specs.specs.Session as steps
+use Rattle.server_specs.proofs.Sessions.{Session-nil, Session-push}
+use Rattle.server_specs.proofs.Versions.{version-step}
+use Rattle.lens_io.specs.declared.cutting.Cut.{Cut}
+use Rattle.lens_io.specs.declared.cutting.Cut.TheVariants as cut
+use Rattle.lens_io.specs.Bytes.{AppendsFront}
+use Rattle.lens_io.specs.Cutting.{Cutter, Step, is_last}
+use Rattle.lens_io.proofs.Fronts.{Appends-nil}
+use Rattle.lens_io.proofs.Taken.{Taken, Taken-nil, Taken-line, Taken-too_long, Taken-ended, Taken-failed, Taken-spent, if_some, longer}
+use Rattle.view_program.specs.Running.{Serves, AreFirst, BreaksOff, joined, line_of, status_of}
+
+pub record Served (cutter : Cutter) (server : State) (left0 left given0 given : Option (List ℕ)) (count0 count : ℕ) (contents : Option Kept) : Type 0 where
+  pub lines : List Line
+  pub replies : List (List ℕ)
+  pub taken : Taken lines cutter.pending cutter.taken cutter.ended left0 left
+  pub session : Session fresh count0 lines replies server count
+  pub stored : Tells contents (kept server)
+  pub gave : Appends given0 given (joined replies)
+  pub version : server.version ≤ length lines
+  pub limit : cutter.limit ≡ 4294967296
+  pub within : cutter.taken ≤ cutter.limit + 1
+  pub going : cutter.done ≡ false
+
+pub Served-nil : (left given : Option (List ℕ)) (count : ℕ) (contents : Option Kept) → Tells contents (kept fresh)
+    → Served (record { pending = []; line = []; taken = 0; limit = 4294967296; ended = false; done = false }) fresh left left given given count count contents
+Served-nil left given count contents told = record {
+  lines = [];
+  replies = [];
+  taken = Taken-nil left;
+  session = Session-nil fresh count;
+  stored = told;
+  gave = Appends-nil given;
+  version = omega arith;
+  limit = refl;
+  within = omega arith;
+  going = refl;
+}
+
+joined-push : (replies : List (List ℕ)) (reply : List ℕ) → joined (replies ++ reply ∷ []) ≡ joined replies ++ reply
+joined-push [] reply = append-nil reply
+joined-push (r ∷ replies) reply = ap (λ v. r ++ v) (joined-push replies reply) ∙ sym (append_assoc r (joined replies) reply)
+
+-- one line more was given, whichever it was
+given_more : (c : Cut) (given : List Line) (pending text rest : List ℕ) (taken taken' limit : ℕ) (ended ended' : Bool) (left0 left left' : Option (List ℕ))
+    → Taken given pending taken ended left0 left → Step c pending text rest taken taken' limit ended ended' left left' → is_last c ≡ false
+    → Taken (given ++ line_of c text ∷ []) rest taken' ended' left0 left'
+given_more cut.Line given pending text rest taken taken' limit ended ended' left0 left left' t s going = Taken-line given pending text rest taken taken' limit ended ended' left0 left left' t s
+given_more cut.TooLong given pending text rest taken taken' limit ended ended' left0 left left' t s going = Taken-too_long given pending text rest taken taken' limit ended ended' left0 left left' t s
+given_more cut.End given pending text rest taken taken' limit ended ended' left0 left left' t s going = absurd (let no : true ≡ false = going in cc)
+given_more cut.Failed given pending text rest taken taken' limit ended ended' left0 left left' t s going = absurd (let no : true ≡ false = going in cc)
+given_more cut.Spent given pending text rest taken taken' limit ended ended' left0 left left' t s going = absurd (let no : true ≡ false = going in cc)
+
+-- what is too long is not built
+too_long_step : (s : State) (count : ℕ) (reply : List ℕ) → reply ≡ text unbuilt → steps.Step s count too_long reply s count
+unfolding answer request
+too_long_step s count reply e = record { later = omega arith; replied = answered e refl }
+
+pub other_step : (c : Cut) (s : State) (count : ℕ) (bytes reply : List ℕ) → (c ≡ cut.Line → ⊥) → reply ≡ text unbuilt → steps.Step s count (line_of c bytes) reply s count
+other_step cut.Line s count bytes reply other e = absurd (other refl)
+other_step cut.TooLong s count bytes reply other e = too_long_step s count reply e
+other_step cut.End s count bytes reply other e = too_long_step s count reply e
+other_step cut.Failed s count bytes reply other e = too_long_step s count reply e
+other_step cut.Spent s count bytes reply other e = too_long_step s count reply e
+
+-- the lines so far are the first of what came
+first_lines : (given : List Line) (pending : List ℕ) (taken : ℕ) (ended : Bool) (left0 left : Option (List ℕ)) → (t : Taken given pending taken ended left0 left) → AreFirst given t.all left
+first_lines given pending taken true left0 left t = inr (sym (t.at_end refl).1, (t.at_end refl).2)
+first_lines given pending taken false left0 left t = inl (whole pending, sym (t.whole_are refl pending) ∙ ap whole (sym t.parts))
+
+-- The last answer ends the run.
+pub finished : (c : Cut) (cutter cutter' : Cutter) (server : State) (left0 left left' given0 given : Option (List ℕ)) (count0 count : ℕ) (contents : Option Kept)
+    → Served cutter server left0 left given0 given count0 count contents
+    → Step c cutter.pending cutter'.line cutter'.pending cutter.taken cutter'.taken cutter.limit cutter.ended cutter'.ended left left' → is_last c ≡ true
+    → Serves (status_of c) left0 left' given0 given count0 count contents
+finished cut.Line cutter cutter' server left0 left left' given0 given count0 count contents s t last = absurd (let no : false ≡ true = last in cc)
+finished cut.TooLong cutter cutter' server left0 left left' given0 given count0 count contents s t last = absurd (let no : false ≡ true = last in cc)
+finished cut.End cutter cutter' server left0 left left' given0 given count0 count contents s t last =
+    let found = Taken-ended s.lines cutter.pending cutter'.line cutter'.pending cutter.taken cutter'.taken cutter.limit cutter.ended cutter'.ended left0 left left' s.taken t in
+    record {
+      came = found.0;
+      consumed = found.1;
+      most = omega (arith, found.2, t.most, s.limit);
+      taken = s.lines;
+      replies = s.replies;
+      last = server;
+      session = s.session;
+      stored = s.stored;
+      all_lines = λ _. (found.3, found.4);
+      failed_lines = λ h. absurd (omega (arith, h));
+      spent_lines = λ h. absurd (omega (arith, h));
+      some_lines = λ h. absurd (omega (arith, h));
+      no_lines = λ h. absurd (omega (arith, h));
+      all_replies = λ _. s.gave;
+      some_replies = λ h. absurd (omega (arith, h));
+    }
+finished cut.Failed cutter cutter' server left0 left left' given0 given count0 count contents s t last =
+    let found = Taken-failed s.lines cutter.pending cutter'.line cutter'.pending cutter.taken cutter'.taken cutter.limit cutter.ended cutter'.ended left0 left left' s.taken t in
+    record {
+      came = found.0;
+      consumed = found.1;
+      most = omega (arith, found.2, t.most, s.limit);
+      taken = s.lines;
+      replies = s.replies;
+      last = server;
+      session = s.session;
+      stored = s.stored;
+      all_lines = λ h. absurd (omega (arith, h));
+      failed_lines = λ _. found.3;
+      spent_lines = λ h. absurd (omega (arith, h));
+      some_lines = λ h. absurd (omega (arith, h));
+      no_lines = λ h. absurd (omega (arith, h));
+      all_replies = λ _. s.gave;
+      some_replies = λ h. absurd (omega (arith, h));
+    }
+finished cut.Spent cutter cutter' server left0 left left' given0 given count0 count contents s t last =
+    let found = Taken-spent s.lines cutter.pending cutter'.line cutter'.pending cutter.taken cutter'.taken cutter.limit cutter.ended cutter'.ended left0 left left' s.taken t in
+    record {
+      came = found.0;
+      consumed = found.1;
+      most = omega (arith, found.2, s.limit);
+      taken = s.lines;
+      replies = s.replies;
+      last = server;
+      session = s.session;
+      stored = s.stored;
+      all_lines = λ h. absurd (omega (arith, h));
+      failed_lines = λ h. absurd (omega (arith, h));
+      spent_lines = λ _. (found.3 ∙ ap (λ n. whole (take n found.0)) s.limit, omega (arith, found.2, s.limit));
+      some_lines = λ h. absurd (omega (arith, h));
+      no_lines = λ h. absurd (omega (arith, h));
+      all_replies = λ _. s.gave;
+      some_replies = λ h. absurd (omega (arith, h));
+    }
+
+-- Past the limit the input is longer than that.
+pub spent_input : (status : ℕ) (left left' given given' : Option (List ℕ)) (count count' : ℕ) (contents : Option Kept)
+    → Serves status left left' given given' count count' contents → status ≡ 8 → IfSome left (λ bytes. 4294967296 < length bytes)
+spent_input status left left' given given' count count' contents s is =
+    if_some left (λ bytes. length s.came ≤ length bytes) (λ bytes. 4294967296 < length bytes) (λ bytes h. omega (arith, h, (s.spent_lines is).1)) (longer left left' s.came s.consumed)
+
+-- the statuses at a last answer
+pub ends_of : (c : Cut) → (status_of c ≡ 0) ⊎ ((status_of c ≡ 4) ⊎ ((status_of c ≡ 5) ⊎ (status_of c ≡ 8)))
+ends_of cut.Line = inl refl
+ends_of cut.TooLong = inl refl
+ends_of cut.End = inl refl
+ends_of cut.Failed = inr (inl refl)
+ends_of cut.Spent = inr (inr (inr refl))
+
+-- a version never rises above the bytes that were taken
+pub room : (cutter : Cutter) (server : State) (left0 left given0 given : Option (List ℕ)) (count0 count : ℕ) (contents : Option Kept)
+    → Served cutter server left0 left given0 given count0 count contents → server.version < 2 ^ 64 - 1
+room cutter server left0 left given0 given count0 count contents s =
+    let t = s.taken in
+    omega (arith, s.version, s.within, s.limit, t.few, t.counted, ap length t.parts, length-append t.front cutter.pending)
+
+-- One line more was answered and its reply given.
+pub Served-more : (c : Cut) (cutter cutter' : Cutter) (server server' : State) (left0 left left' given0 given given' : Option (List ℕ)) (count0 count count' : ℕ) (contents contents' : Option Kept) (reply : List ℕ)
+    → Served cutter server left0 left given0 given count0 count contents
+    → Step c cutter.pending cutter'.line cutter'.pending cutter.taken cutter'.taken cutter.limit cutter.ended cutter'.ended left left' → is_last c ≡ false
+    → cutter'.limit ≡ cutter.limit → cutter'.done ≡ is_last c
+    → steps.Step server count (line_of c cutter'.line) reply server' count' → Tells contents' (kept server') → Appends given given' reply
+    → Served cutter' server' left0 left' given0 given' count0 count' contents'
+Served-more c cutter cutter' server server' left0 left left' given0 given given' count0 count count' contents contents' reply s t going limit done step told gave = record {
+  lines = s.lines ++ line_of c cutter'.line ∷ [];
+  replies = s.replies ++ reply ∷ [];
+  taken = given_more c s.lines cutter.pending cutter'.line cutter'.pending cutter.taken cutter'.taken cutter.limit cutter.ended cutter'.ended left0 left left' s.taken t going;
+  session = Session-push fresh count0 s.lines s.replies server count s.session (line_of c cutter'.line) reply server' count' step;
+  stored = told;
+  gave = subst (Appends given0 given') (sym (joined-push s.replies reply)) (Appends-trans given0 given given' (joined s.replies) reply s.gave gave);
+  version = omega (arith, s.version, version-step server count (line_of c cutter'.line) reply server' count' step, length-append s.lines (line_of c cutter'.line ∷ []));
+  limit = limit ∙ s.limit;
+  within = omega (arith, t.most, limit);
+  going = done ∙ going;
+}
+
+not_nil : {X : Type 0} (xs : List X) (x : X) → xs ++ x ∷ [] ≢ []
+not_nil xs x e = omega (arith, ap length e, length-append xs (x ∷ []))
+
+broken_off : (a b c : Option (List ℕ)) (before : List (List ℕ)) (reply : List ℕ) → Appends a b (joined before) → AppendsFront b c reply → BreaksOff a c (before ++ reply ∷ [])
+broken_off a b c before reply p q = (before, reply, q.0, refl, Appends-trans a b c (joined before) (take q.0 reply) p q.1)
+
+-- The sink failed at the last reply.
+pub unwritten : (c : Cut) (cutter cutter' : Cutter) (server server' : State) (left0 left left' given0 given given' : Option (List ℕ)) (count0 count count' : ℕ) (contents contents' : Option Kept) (reply : List ℕ)
+    → Served cutter server left0 left given0 given count0 count contents
+    → Step c cutter.pending cutter'.line cutter'.pending cutter.taken cutter'.taken cutter.limit cutter.ended cutter'.ended left left' → is_last c ≡ false
+    → steps.Step server count (line_of c cutter'.line) reply server' count' → Tells contents' (kept server') → AppendsFront given given' reply
+    → Serves 5 left0 left' given0 given' count0 count' contents'
+unwritten c cutter cutter' server server' left0 left left' given0 given given' count0 count count' contents contents' reply s t going step told gave =
+    let now : Taken (s.lines ++ line_of c cutter'.line ∷ []) cutter'.pending cutter'.taken cutter'.ended left0 left' =
+    given_more c s.lines cutter.pending cutter'.line cutter'.pending cutter.taken cutter'.taken cutter.limit cutter.ended cutter'.ended left0 left left' s.taken t going in
+    record {
+      came = now.all;
+      consumed = now.consumed;
+      most = omega (arith, now.counted, t.most, s.limit);
+      taken = s.lines ++ line_of c cutter'.line ∷ [];
+      replies = s.replies ++ reply ∷ [];
+      last = server';
+      session = Session-push fresh count0 s.lines s.replies server count s.session (line_of c cutter'.line) reply server' count' step;
+      stored = told;
+      all_lines = λ h. absurd (omega (arith, h));
+      failed_lines = λ h. absurd (omega (arith, h));
+      spent_lines = λ h. absurd (omega (arith, h));
+      some_lines = λ _. (not_nil s.lines (line_of c cutter'.line), first_lines (s.lines ++ line_of c cutter'.line ∷ []) cutter'.pending cutter'.taken cutter'.ended left0 left' now);
+      no_lines = λ h. absurd (omega (arith, h));
+      all_replies = λ h. absurd (h refl);
+      some_replies = λ _. broken_off given0 given given' s.replies reply s.gave gave;
+    }
+
+-- a run that took nothing and gave nothing
+pub served_nothing : (left given : Option (List ℕ)) (count : ℕ) (contents : Option Kept) → Tells contents (kept fresh) → Serves 3 left left given given count count contents
+served_nothing left given count contents told = record {
+  came = [];
+  consumed = Consumes-nil left;
+  most = omega arith;
+  taken = [];
+  replies = [];
+  last = fresh;
+  session = Session-nil fresh count;
+  stored = told;
+  all_lines = λ h. absurd (omega (arith, h));
+  failed_lines = λ h. absurd (omega (arith, h));
+  spent_lines = λ h. absurd (omega (arith, h));
+  some_lines = λ h. absurd (omega (arith, h));
+  no_lines = λ _. refl;
+  all_replies = λ _. Appends-nil given;
+  some_replies = λ h. absurd (omega (arith, h));
+}
+
+-- with no fault a run ends at the end of the input or at the limit
+pub completed : (status : ℕ) (read write : Type 0) → (status ≡ 0) ⊎ ((status ≡ 4) ⊎ ((status ≡ 5) ⊎ (status ≡ 8))) → (status ≡ 4 → read) → (status ≡ 5 → write) → ¬ read → ¬ write
+    → (status ≡ 0) ⊎ ((status ≡ 3) ⊎ (status ≡ 8))
+completed status read write ends reads writes no_read no_write = elim ends [
+  | inl e ↦ inl e
+  | inr r ↦ elim r [
+    | inl e ↦ absurd (no_read (reads e))
+    | inr q ↦ elim q [
+      | inl e ↦ absurd (no_write (writes e))
+      | inr e ↦ inr (inr e)
+    ]
+  ]
+]
+
+unspent : (status size : ℕ) → (status ≡ 0) ⊎ ((status ≡ 3) ⊎ (status ≡ 8)) → (status ≡ 8 → 4294967296 < size) → size ≤ 4294967296 → (status ≡ 0) ⊎ (status ≡ 3)
+unspent status size ends spent short = elim ends [
+  | inl e ↦ inl e
+  | inr r ↦ elim r [
+    | inl e ↦ inr e
+    | inr e ↦ absurd (omega (arith, spent e, short))
+  ]
+]
+
+-- an input that is told to be no longer than the limit is served to its end
+pub completed_told : (status : ℕ) (left : Option (List ℕ)) → (status ≡ 0) ⊎ ((status ≡ 3) ⊎ (status ≡ 8)) → (status ≡ 8 → IfSome left (λ bytes. 4294967296 < length bytes))
+    → IfSome left (λ bytes. length bytes ≤ 4294967296 → (status ≡ 0) ⊎ (status ≡ 3))
+completed_told status None ends spent = tt
+completed_told status (Some bytes) ends spent = λ short. unspent status (length bytes) ends spent short

@@ -1,0 +1,203 @@
+//! Whole runs over sources, sinks and keepers in memory.
+ghost use Rattle.std.specs.Prelude.{◌≡◌, ◌≤◌};
+ghost use Rattle.lens_specs.specs.Keeping.{Tells};
+ghost use Rattle.server_specs.specs.State.{fresh, kept};
+
+use crate::contents::nothing;
+use crate::running::run;
+use lens_io::{LONGEST, MemorySink, MemorySource, ROOM};
+use std::alloc::Global;
+use std::marker::Brand;
+use std::sync::ledger::{Blank, Ledger};
+use std::test::Fail;
+use step_counter::Steps;
+use table_keeper::{Keeper, MemoryKeeper, SureKeeper};
+
+const USAGE: &str = "usage: view_program [--store PATH] [--max-input N] [--rehearse N]\n";
+
+const MAKE_TABLE: &str = r#"{"do":"define","text":"table goods (name text, quantity int)"}"#;
+
+const MAKE_VIEW: &str =
+    r#"{"do":"define","text":"view big = select from goods where quantity > 2"}"#;
+
+const PUT_TABLE: &str =
+    r#"{"do":"put","view":"goods","rows":[{"name":"nail","quantity":1},{"name":"saw","quantity":4}]}"#;
+
+const PUT_VIEW: &str = r#"{"do":"put","view":"big","rows":[{"name":"axe","quantity":7}]}"#;
+
+const READ_TABLE: &str = r#"{"do":"read","view":"goods"}"#;
+
+const PUT_OFF: &str = r#"{"do":"put","view":"big","rows":[{"name":"axe","quantity":2}]}"#;
+
+const READ_NOTHING: &str = r#"{"do":"read","view":"nothing"}"#;
+
+const LIST: &str = r#"{"do":"list"}"#;
+
+const FIRST: &str = r#"{"ok":true,"version":1}"#;
+
+const SECOND: &str = r#"{"ok":true,"version":2}"#;
+
+const TABLE_PUT: &str =
+    r#"{"changed":[{"add":[{"name":"nail","quantity":1},{"name":"saw","quantity":4}],"remove":[],"table":"goods"}],"ok":true,"version":3}"#;
+
+const VIEW_PUT: &str =
+    r#"{"changed":[{"add":[{"name":"axe","quantity":7}],"remove":[{"name":"saw","quantity":4}],"table":"goods"}],"ok":true,"version":4}"#;
+
+const TABLE_READ: &str =
+    r#"{"ok":true,"rows":[{"name":"axe","quantity":7},{"name":"nail","quantity":1}],"version":4}"#;
+
+const OFF_PREDICATE: &str = r#"{"error":42,"ok":false,"row":{"name":"axe","quantity":2}}"#;
+
+const UNKNOWN_NAME: &str = r#"{"error":22,"name":"nothing","ok":false}"#;
+
+const UNBUILT: &str = r#"{"error":99,"ok":false}"#;
+
+const NOT_STORED: &str = r#"{"error":90,"ok":false}"#;
+
+fn run_counted<K: Keeper, L: Ledger>(
+    alloc: Global,
+    words: &[String],
+    source: &mut MemorySource,
+    sink: &mut MemorySink,
+    keeper: &mut K,
+    blank: Blank,
+) -> u8
+    requires told { Tells (K.contents keeper.old) (kept fresh) }
+    requires name { blank.name ≡ L.name }
+    requires parts { blank.parts ≡ L.parts }
+    requires one { blank.parts ≡ 1 }
+{
+    let mut walked = Steps::<L>::new(blank);
+    run(alloc, words, source, sink, keeper, &mut walked)
+}
+
+/// The status of a run with so many words.
+fn status_of<K: Keeper>(
+    alloc: Global,
+    words: usize,
+    source: &mut MemorySource,
+    sink: &mut MemorySink,
+    keeper: &mut K,
+) -> Result<u8, Fail>
+    requires told { Tells (K.contents keeper.old) (kept fresh) }
+{
+    let mut said = Vec::new(alloc);
+    for _ in 0..words {
+        said.push(String::from_str(alloc, "view_program")?)?;
+    }
+    let blank = Blank::new(1);
+    Ok(run_counted::<K, Brand>(alloc, &said, source, sink, keeper, blank))
+}
+
+/// The lines, each with its newline.
+fn text_of(alloc: Global, lines: &[&str]) -> Result<Vec<u8>, Fail> {
+    let mut text = Vec::new(alloc);
+    for line in lines {
+        text.extend_from_slice(line.as_bytes())?;
+        text.push(b'\n')?;
+    }
+    Ok(text)
+}
+
+/// Numbers of the calls that fail: this one, or none at 0.
+fn failing(alloc: Global, number: u64) -> Result<Vec<u64>, Fail> {
+    let mut numbers = Vec::new(alloc);
+    if number > 0 {
+        numbers.push(number)?;
+    }
+    Ok(numbers)
+}
+
+#[test]
+fn words_and_devices(rt: HostRuntime) -> Result<(), Fail> {
+    let alloc = rt.alloc();
+    // The words, the input, the calls of the source and of the sink that fail, the status and the output.
+    for (words, input, source, sink, status, output) in [
+        (0, "x\n", 0, 0, 2, USAGE),
+        (1, "", 0, 0, 0, ""),
+        (2, "x\n", 0, 0, 2, USAGE),
+        (2, "x\n", 0, 1, 2, ""),
+        (1, "x\n", 1, 0, 4, ""),
+        (1, "x", 2, 0, 4, ""),
+        (1, "x\n", 0, 1, 5, ""),
+    ] {
+        let bytes = Vec::from_slice(alloc, input.as_bytes())?;
+        let mut source = MemorySource::new(bytes, ROOM, failing(alloc, source)?);
+        let mut sink = MemorySink::new(alloc, 100, ROOM, failing(alloc, sink)?)?;
+        let mut keeper = SureKeeper::holding(nothing(alloc));
+        assert_eq!(rt;
+            status_of(alloc, words, &mut source, &mut sink, &mut keeper)?,
+            status
+        );
+        assert_eq!(rt; sink.bytes(), output.as_bytes());
+        assert_eq!(rt; keeper.kept().definitions.len(), 0);
+    }
+    Ok(())
+}
+
+#[test]
+fn line_too_long(rt: HostRuntime) -> Result<(), Fail> {
+    let alloc = rt.alloc();
+    let mut bytes = vec![in alloc; b'a'; LONGEST + 1]?;
+    bytes.extend_from_slice(b"\n")?;
+    bytes.extend_from_slice(LIST.as_bytes())?;
+    let mut source = MemorySource::new(bytes, ROOM, Vec::new(alloc));
+    let mut sink = MemorySink::new(alloc, 1000, ROOM, Vec::new(alloc))?;
+    let mut keeper = SureKeeper::holding(nothing(alloc));
+    assert_eq!(rt;
+        status_of(alloc, 1, &mut source, &mut sink, &mut keeper)?,
+        0
+    );
+    assert!(rt;
+        sink.bytes()
+            .starts_with(text_of(alloc, &[UNBUILT])?.as_slice())
+    );
+    assert_eq!(rt;
+        sink.bytes().iter().filter(|byte| **byte == b'\n').count(),
+        2
+    );
+    Ok(())
+}
+
+/// What a run over these lines gives, byte by byte, where this call of the keeper fails.
+fn replies_to(alloc: Global, call: u64, lines: &[&str]) -> Result<(u8, MemorySink), Fail> {
+    let mut source = MemorySource::new(text_of(alloc, lines)?, 1, Vec::new(alloc));
+    let mut sink = MemorySink::new(alloc, 1000, 1, Vec::new(alloc))?;
+    let mut keeper = MemoryKeeper::holding(nothing(alloc), failing(alloc, call)?);
+    let status = status_of(alloc, 1, &mut source, &mut sink, &mut keeper)?;
+    Ok((status, sink))
+}
+
+#[test]
+fn scripts(rt: HostRuntime) -> Result<(), Fail> {
+    let alloc = rt.alloc();
+    let all = [
+        MAKE_TABLE,
+        MAKE_VIEW,
+        PUT_TABLE,
+        PUT_VIEW,
+        READ_TABLE,
+        PUT_OFF,
+        READ_NOTHING,
+        LIST,
+    ];
+    let replies = [
+        FIRST,
+        SECOND,
+        TABLE_PUT,
+        VIEW_PUT,
+        TABLE_READ,
+        OFF_PREDICATE,
+        UNKNOWN_NAME,
+        UNBUILT,
+    ];
+    let put_again = [MAKE_TABLE, MAKE_VIEW, PUT_TABLE, PUT_TABLE];
+    let stored_later = [FIRST, SECOND, NOT_STORED, TABLE_PUT];
+    let (status, sink) = replies_to(alloc, 0, &all)?;
+    assert_eq!(rt; status, 0);
+    assert_eq!(rt; sink.bytes(), text_of(alloc, &replies)?.as_slice());
+    let (status, sink) = replies_to(alloc, 3, &put_again)?;
+    assert_eq!(rt; status, 0);
+    assert_eq!(rt; sink.bytes(), text_of(alloc, &stored_later)?.as_slice());
+    Ok(())
+}
