@@ -91,6 +91,43 @@ def large(program):
     return table
 
 
+def dependent(program):
+    """The put of 100,000 rows into a table with two dependencies, and a put of as many that clash; ms and MB."""
+    server = Server(program)
+    text = "table tracks (album text, date int, rating int, track text) with track -> album date, date -> rating"
+    reply, _ = server.ask(f'{{"do":"define","text":"{text}"}}\n'.encode())
+    must_begin(reply, b'{"ok":true')
+    rows = [row(number) for number in range(ROWS)]
+    clashing = rows[:-1] + [row(ROWS - 1, 9)]
+    steps = [
+        (f"put of {ROWS:,} rows, two dependencies", put(rows), b'{"changed":[{'),
+        ("the same put again, two dependencies", put(rows), b'{"changed":[],'),
+        ("a put in which the last row clashes", put(clashing), b'{"edge":{'),
+    ]
+    table = []
+    for name, line, start in steps:
+        reply, seconds = server.ask(line)
+        must_begin(reply, start)
+        table.append((name, len(line), f"{seconds * 1000:,.0f} ms", f"{server.peak():,.0f} MB"))
+    server.end()
+    return table
+
+
+def chains(program):
+    """Definitions of 64 columns and 63 dependencies, in order and turned; ms and MB."""
+    server = Server(program)
+    columns = ", ".join(f"c{number} int" for number in range(64))
+    chain = [f"c{number} -> c{number + 1}" for number in range(63)]
+    table = []
+    for name, deps in [("in_order", chain), ("turned", chain[::-1])]:
+        line = f'{{"do":"define","text":"table {name} ({columns}) with {", ".join(deps)}"}}\n'.encode()
+        reply, seconds = server.ask(line)
+        must_begin(reply, b'{"ok":true')
+        table.append((f"define of 64 columns, a chain of 63 dependencies ({name})", len(line), f"{seconds * 1000:,.1f} ms", f"{server.peak():,.0f} MB"))
+    server.end()
+    return table
+
+
 def small(program):
     """Single-row puts of a small table: lines a second, and the peak memory in MB."""
     server = Server(program)
@@ -110,7 +147,7 @@ def main():
     program = sys.argv[1] if len(sys.argv) > 1 else os.path.join(TOP, "crates/view_program/out/view_program")
     print("| What | Bytes of input | Time | Peak memory |")
     print("|---|---|---|---|")
-    for name, size, taken, peak in large(program) + small(program):
+    for name, size, taken, peak in large(program) + dependent(program) + chains(program) + small(program):
         print(f"| {name} | {size:,} | {taken} | {peak} |")
 
 

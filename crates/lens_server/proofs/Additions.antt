@@ -1,7 +1,9 @@
 -- One definition more: the state after it, what is kept of it, and that the store stays consistent.
 use Rattle.std.proofs.Common.{◌≡◌, ◌∙◌, ◌+◌, ◌≤◌, ℕ, suc, Bool, true, false, List, [], ◌∷◌, ◌++◌, length, map, ap, sym, subst, refl, cond, arith, append-nil, length-append}
-use Rattle.std.specs.Prelude.{Option, Some, None, option_map, option_to_list, is_some, not, Ok, if◌then◌else◌}
+use Rattle.std.specs.Prelude.{Option, Some, None, option_map, option_to_list, is_some, not, ◌||◌, Ok, if◌then◌else◌}
 use Rattle.std.specs.Ordering.{eq_by_cmp, is_eq}
+use Rattle.std.specs.declared.cmp.Ordering.{Ordering}
+use Rattle.std.specs.declared.cmp.Ordering.TheVariants.{Less, Equal, Greater}
 use Rattle.std.specs.Cmp.{tied_itself}
 use Rattle.std.specs.Cmp.Lexicographic.{nat_list_cmp_total}
 use Rattle.std.specs.FinMap as finmap
@@ -11,23 +13,26 @@ use Rattle.lens_values.specs.SortedSet as set
 use Rattle.lens_values.specs.declared.value.Kind.{Kind}
 use Rattle.lens_specs.specs.Relation.{Name, Relation, Columns}
 use Rattle.lens_specs.specs.Keeping.{Kept, define, changed, CanCommit, Follows, Tells}
-use Rattle.lens_specs.specs.Language.{Definition, table, view, named}
-use Rattle.lens_specs.specs.Language as language
+use Rattle.language_specs.specs.Language.{Definition, table, view, named}
+use Rattle.language_specs.specs.Language as language
 use Rattle.lens_specs.specs.Lens as spec
-use Rattle.lens_specs.specs.Lens.{select}
-use Rattle.lens_specs.specs.Reading.{reading}
+use Rattle.lens_specs.specs.Names.{Names}
+use Rattle.lens_specs.specs.Dependencies.{Edge}
+use Rattle.lens_specs.specs.TreeForm.{tree_of}
+use Rattle.lens_specs.specs.Lens.{base, select, tree_or_none}
+use Rattle.language_specs.specs.Reading.{reading}
 use Rattle.server_specs.specs.Answer.{defined, text}
 use Rattle.server_specs.specs.Answering.{answer_definition, with_defined, with_text}
 use Rattle.server_specs.specs.Defining.{is_base, table_count, view_count}
-use Rattle.server_specs.specs.State.{State, Catalogue, catalogue, columns_from, table_lens, with_definition, kept, rows_of_each}
-use Rattle.server_specs.proofs.Catalogues.{catalogue-push}
+use Rattle.server_specs.specs.State.{State, Catalogue, catalogue, columns_from, dependent, plain_sort, with_definition, with_dependent, kept, rows_of_each}
+use Rattle.server_specs.proofs.Catalogues.{catalogue-push, dependent-after}
 use Rattle.view_lang.specs.Meaning.{comparison_view}
 use Rattle.view_lang.specs.declared.definition.Comparison.{Comparison}
 use Rattle.lens_server.specs.Additions.{IsTaken}
-use Rattle.lens_server.specs.Entries.{named as entry_named, entry_view, lens_view, lens_with, lens_named, relation_of, last_of, relation_named, columns_named}
-use Rattle.lens_server.specs.Judgements.{Adds, adds_table, adds_view}
+use Rattle.lens_server.specs.Entries.{named as entry_named, entry_view, lens_view, lens_with, lens_named, is_dependent, relation_of, last_of, relation_named, columns_named}
+use Rattle.lens_server.specs.Judgements.{Adds, adds_table, adds_view, is_none_left}
 use Rattle.lens_server.specs.Outcomes.{Outcome, made}
-use Rattle.lens_server.specs.States.{state_of, state_with, IsConsistent, Consistent}
+use Rattle.lens_server.specs.States.{state_of, state_with, IsConsistent, IsPlain, Consistent}
 use Rattle.lens_server.specs.declared.entry.Lens.{Lens}
 use Rattle.lens_server.specs.declared.entry.Entry.{Entry}
 use Rattle.lens_server.specs.declared.judging.Addition.{Addition}
@@ -127,13 +132,61 @@ views_counted known name lens ts n (Some t) new counts e =
     count_more (λ l. not (is_base l)) known name lens new ∙ ap (λ b. if not b then suc (view_count known) else view_count known) counts in
     omega (arith, c, e, length-append ts (t ∷ []))
 
+-- ---- tables with dependencies
+
+-- the names of the set, and this one, if the flag says so
+abbrev AlsoHas : Names → Name → Bool → Names → Type 0
+AlsoHas old name flag new = (q : Name) → set.contains new q ≡ cond (eq_by_cmp bytes_cmp q name) flag (set.contains old q)
+
+tied : (q name : Name) → eq_by_cmp bytes_cmp q name ≡ true → q ≡ name
+tied q name e = slice_cmp-IsAntisymmetric nat_cmp-IsAntisymmetric q name (is_equal (bytes_cmp q name) e)
+  where
+    is_equal : (o : Ordering) → is_eq o ≡ true → o ≡ Equal
+    is_equal Less e = cc
+    is_equal Equal e = refl
+    is_equal Greater e = cc
+
+either_flag : (b there : Bool) → (b || there) ≡ cond b true there
+either_flag true there = refl
+either_flag false there = refl
+
+-- a name that the set lacks is still lacking
+unmoved : (old : Names) (name : Name) → set.contains old name ≡ false → AlsoHas old name false old
+unmoved old name lacks q = elim (eq_by_cmp bytes_cmp q name) as (λ b. eq_by_cmp bytes_cmp q name ≡ b → set.contains old q ≡ cond b false (set.contains old q)) [
+  | true ↦ λ e. ap (set.contains old) (tied q name e) ∙ lacks
+  | false ↦ λ e. refl
+] refl
+
+pub dependent_table : (old : Names) (name : Name) (columns : List (Name × Kind)) (deps : List Edge) → set.contains old name ≡ false
+    → AlsoHas old name (not (is_none_left deps)) (with_dependent (Some (table name columns deps)) old)
+dependent_table old name columns [] lacks = unmoved old name lacks
+dependent_table old name columns (d ∷ ds) lacks = λ q. set.contains-insert nat_list_cmp_total old name q ∙ either_flag (eq_by_cmp bytes_cmp q name) (set.contains old q)
+
+same_flag : (b flag : Bool) (lens : Lens) → lens.dependent ≡ flag → cond b flag false ≡ is_dependent (cond b (Some lens) None)
+same_flag true flag lens e = sym e
+same_flag false flag lens e = refl
+
+-- the tables with dependencies are those of the names, with one name more
+dependents_more : (es : List Entry) (e : Entry) (old new : Names) → lens_named es e.name ≡ None → AlsoHas old e.name e.lens.dependent new
+    → ((q : Name) → set.contains old q ≡ is_dependent (lens_named es q)) → (q : Name) → set.contains new q ≡ is_dependent (lens_named (es ++ e ∷ []) q)
+dependents_more es e old new none also h q = also q ∙ ap (cond (eq_by_cmp bytes_cmp q e.name) e.lens.dependent) (h q) ∙ by_lens (lens_named es q) refl
+  where
+    by_lens : (o : Option Lens) → lens_named es q ≡ o → cond (eq_by_cmp bytes_cmp q e.name) e.lens.dependent (is_dependent o) ≡ is_dependent (lens_named (es ++ e ∷ []) q)
+    by_lens None is = same_flag (eq_by_cmp bytes_cmp q e.name) e.lens.dependent e.lens refl ∙ ap is_dependent (sym (named_last es e q is))
+    by_lens (Some m) is = by_test (eq_by_cmp bytes_cmp q e.name) refl ∙ ap is_dependent (sym (named_still es e q m is))
+      where
+        by_test : (b : Bool) → eq_by_cmp bytes_cmp q e.name ≡ b → cond b e.lens.dependent m.dependent ≡ m.dependent
+        by_test true t = let clash : None ≡ Some m = sym none ∙ ap (lens_named es) (sym (tied q e.name t)) ∙ is in cc
+        by_test false t = refl
+
 -- ---- consistent
 
 pub consistent_more : (texts : List (List ℕ)) (es : List Entry) (ts : List Table) (said : List ℕ) (e : Entry) (more : Option Table) → IsConsistent texts es ts
     → lens_named es e.name ≡ None → with_definition (reading said) (catalogue texts) ≡ finmap.insert (catalogue texts) e.name (lens_view e.lens)
+    → AlsoHas (dependent texts) e.name e.lens.dependent (with_dependent (reading said) (dependent texts)) → IsPlain e.lens
     → HasName e.name more → Counts (lens_view e.lens) more → columns_named (ts ++ option_to_list more) e.lens.table ≡ Some e.lens.columns → finmap.len e.lens.columns ≤ 64
     → IsConsistent (texts ++ said ∷ []) (es ++ e ∷ []) (ts ++ option_to_list more)
-consistent_more texts es ts said e more c new defines has counts source size =
+consistent_more texts es ts said e more c new defines also plain has counts source size =
     let grown : catalogue (texts ++ said ∷ []) ≡ finmap.insert (catalogue texts) e.name (lens_view e.lens) = catalogue-push texts said ∙ defines in
     let absent : finmap.find bytes_cmp e.name (map entry_view es) ≡ None = found_view e.name es ∙ ap (option_map lens_view) new in
     let unknown : finmap.get (catalogue texts) e.name ≡ None = ap (λ m. finmap.get m e.name) c.names ∙ finmap.get-from_entries nat_list_cmp_total (map entry_view es) e.name ∙ absent in
@@ -142,6 +195,9 @@ consistent_more texts es ts said e more c new defines has counts source size =
       sources = λ q l. one_of_both es e q l (λ m. columns_named (ts ++ option_to_list more) m.table ≡ Some m.columns)
           (λ m f. columns_more ts more m.table m.columns (c.sources q m f)) (λ _. source) (lens_named es q) refl;
       sizes = λ q l. one_of_both es e q l (λ m. finmap.len m.columns ≤ 64) (λ m f. c.sizes q m f) (λ _. size) (lens_named es q) refl;
+      plain = λ q l. one_of_both es e q l IsPlain (λ m f. c.plain q m f) (λ _. plain) (lens_named es q) refl;
+      dependents = λ q. ap (λ names. set.contains names q) (dependent-after texts said)
+          ∙ dependents_more es e (dependent texts) (with_dependent (reading said) (dependent texts)) new also c.dependents q;
       defined = defined_more es ts e more has c.defined;
       tables_are = ap table_count grown ∙ tables_counted (catalogue texts) e.name (lens_view e.lens) ts more unknown counts c.tables_are;
       views_are = ap (λ m. view_count m + length (ts ++ option_to_list more)) grown ∙ views_counted (catalogue texts) e.name (lens_view e.lens) ts (length es) more unknown counts c.views_are
@@ -188,7 +244,7 @@ get_none ts name e = finmap.get-from_entries nat_list_cmp_total (map relation_of
 -- the definition can be kept
 can_add : (addition : Addition) (definition : Definition) (store : Store) (said : List ℕ) (contents : Option Kept) → Consistent store → Adds addition definition store
     → Tells contents (kept (state_of store)) → CanCommit (define said (option_map (λ t. t.name) addition.table)) contents
-can_add addition definition store said contents c (adds_table name columns is new size adds) told =
+can_add addition definition store said contents c (adds_table name columns deps is new size adds) told =
     subst (λ o. CanCommit (define said (option_map (λ t. t.name) o)) contents) (sym adds.table)
     (can_commit_some said name (state_of store) contents (get_none store.tables.items name (c.defined name new)) told)
 can_add addition definition store said contents c (adds_view name from source comparison is new found adds) told =
@@ -235,48 +291,71 @@ outcome_grown old new said e more definition contents contents' count count' rep
       err = tt;
     }
 
-table_entry : Name → Columns → Entry
-table_entry name U = record { name = name; lens = record { table = name; columns = U; comparison = None } }
+-- a list of dependencies that is empty has no tree
+no_edges : (deps : List Edge) → not (is_none_left deps) ≡ false → tree_or_none (tree_of deps) ≡ []
+unfolding tree_of
+no_edges [] e = refl
+no_edges (d ∷ ds) e = cc
 
-outcome_table : (old new : Store) (said : List ℕ) (name : Name) (columns : List (Name × Kind)) (contents contents' : Option Kept) (count count' : ℕ) (reply : List ℕ)
-    → Grows old new said (record { name = name; lens = record { table = name; columns = columns_from columns; comparison = None } })
+-- a table's lens
+abbrev table_entry : Name → Columns → List Edge → Entry
+table_entry name U deps = record {
+  name = name;
+  lens = record { table = name; columns = U; tree = tree_or_none (tree_of deps); dependent = not (is_none_left deps); comparison = None };
+}
+
+plain_table : (name : Name) (U : Columns) (deps : List Edge) → IsPlain (table_entry name U deps).lens
+plain_table name U deps = record { tree = no_edges deps; view = λ e. cc }
+
+lacking : (store : Store) (name : Name) → Consistent store → lens_named store.entries.items name ≡ None → set.contains (dependent store.texts.items) name ≡ false
+lacking store name c free = c.dependents name ∙ ap is_dependent free
+
+outcome_table : (old new : Store) (said : List ℕ) (name : Name) (columns : List (Name × Kind)) (deps : List Edge) (contents contents' : Option Kept) (count count' : ℕ) (reply : List ℕ)
+    → Grows old new said (table_entry name (columns_from columns) deps)
     (Some (record { name = name; relation = record { columns = columns_from columns; rows = set.empty }; last = old.version + 1 }))
-    → Consistent old → reading said ≡ Some (table name columns) → lens_named old.entries.items name ≡ None → finmap.len (columns_from columns) ≤ 64
+    → Consistent old → reading said ≡ Some (table name columns deps) → lens_named old.entries.items name ≡ None → finmap.len (columns_from columns) ≤ 64
     → Tells contents (kept (state_of old)) → Follows (λ a b. b ≡ changed (define said (Some name)) a) contents contents' → count ≤ count'
     → reply ≡ text (defined (old.version + 1))
-    → Outcome (answer_definition said (Ok (table name columns)) (state_of old)) old new count count' contents' (Ok reply)
-outcome_table old new said name columns contents contents' count count' reply g c read free size told follows later is =
+    → Outcome (answer_definition said (Ok (table name columns deps)) (state_of old)) old new count count' contents' (Ok reply)
+outcome_table old new said name columns deps contents contents' count count' reply g c read free size told follows later is =
     let U = columns_from columns in
-    let e : Entry = record { name = name; lens = record { table = name; columns = U; comparison = None } } in
+    let e : Entry = table_entry name U deps in
     let t : Table = record { name = name; relation = record { columns = U; rows = set.empty }; last = old.version + 1 } in
     let none : relation_named old.tables.items name ≡ None = c.defined name free in
     let source : columns_named (old.tables.items ++ t ∷ []) name ≡ Some U =
     ap (option_map (λ r. r.columns)) (relation_last old.tables.items t name none ∙ ap (λ b. cond b (Some t.relation) None) (itself name)) in
-    outcome_grown old new said e (Some t) (table name columns) contents contents' count count' reply g
-    (consistent_more old.texts.items old.entries.items old.tables.items said e (Some t) c free (ap (λ o. with_definition o (catalogue old.texts.items)) read) refl refl source size)
+    let also : AlsoHas (dependent old.texts.items) name (not (is_none_left deps)) (with_dependent (reading said) (dependent old.texts.items)) =
+    subst (λ o. AlsoHas (dependent old.texts.items) name (not (is_none_left deps)) (with_dependent o (dependent old.texts.items))) (sym read)
+    (dependent_table (dependent old.texts.items) name columns deps (lacking old name c free)) in
+    outcome_grown old new said e (Some t) (table name columns deps) contents contents' count count' reply g
+    (consistent_more old.texts.items old.entries.items old.tables.items said e (Some t) c free (ap (λ o. with_definition o (catalogue old.texts.items)) read) also (plain_table name U deps) refl refl source size)
     (state_table old.texts.items old.tables.items old.version said t none refl)
     (λ j. record { texts = old.texts.items ++ said ∷ []; rows = sym (kept_insert (state_of old).tables name t.relation) j })
     told follows later is
 
-plain_lens : (source : Lens) → source.comparison ≡ None → lens_view source ≡ table_lens source.table source.columns
-plain_lens source e = ap (lens_with source.table source.columns) e
+plain_lens : (source : Lens) → source.comparison ≡ None → lens_view source ≡ base source.table (plain_sort source.columns source.tree)
+plain_lens source e = ap (lens_with source.table source.columns source.tree) e
 
 outcome_view : (old new : Store) (said : List ℕ) (name from : Name) (source : Lens) (comparison : Comparison) (contents contents' : Option Kept) (count count' : ℕ) (reply : List ℕ)
     → Grows old new said (record { name = name; lens = record source { comparison = Some comparison } }) None
     → Consistent old → reading said ≡ Some (view name (language.select (comparison_view comparison) (named from))) → lens_named old.entries.items name ≡ None
-    → lens_named old.entries.items from ≡ Some source → source.comparison ≡ None
+    → lens_named old.entries.items from ≡ Some source → source.comparison ≡ None → source.dependent ≡ false
     → Tells contents (kept (state_of old)) → Follows (λ a b. b ≡ changed (define said None) a) contents contents' → count ≤ count'
     → reply ≡ text (defined (old.version + 1))
     → Outcome (answer_definition said (Ok (view name (language.select (comparison_view comparison) (named from)))) (state_of old)) old new count count' contents' (Ok reply)
-outcome_view old new said name from source comparison contents contents' count count' reply g c read free found plain told follows later is =
+outcome_view old new said name from source comparison contents contents' count count' reply g c read free found plain independent told follows later is =
     let e : Entry = record { name = name; lens = record source { comparison = Some comparison } } in
     let P = comparison_view comparison in
-    let lens : finmap.get (catalogue old.texts.items) from ≡ Some (table_lens source.table source.columns) =
+    let lens : finmap.get (catalogue old.texts.items) from ≡ Some (base source.table (plain_sort source.columns source.tree)) =
     in_catalogue old.texts.items old.entries.items old.tables.items from c ∙ ap (option_map lens_view) found ∙ ap Some (plain_lens source plain) in
     let defines : with_definition (reading said) (catalogue old.texts.items) ≡ finmap.insert (catalogue old.texts.items) name (lens_view e.lens) =
     ap (λ o. with_definition o (catalogue old.texts.items)) read ∙ rw lens refl in
+    let also : AlsoHas (dependent old.texts.items) name source.dependent (with_dependent (reading said) (dependent old.texts.items)) =
+    subst (λ o. AlsoHas (dependent old.texts.items) name source.dependent (with_dependent o (dependent old.texts.items))) (sym read)
+    (subst (λ b. AlsoHas (dependent old.texts.items) name b (dependent old.texts.items)) (sym independent) (unmoved (dependent old.texts.items) name (lacking old name c free))) in
+    let old_plain = c.plain from source found in
     outcome_grown old new said e None (view name (language.select P (named from))) contents contents' count count' reply g
-    (consistent_more old.texts.items old.entries.items old.tables.items said e None c free defines tt refl
+    (consistent_more old.texts.items old.entries.items old.tables.items said e None c free defines also (record { tree = old_plain.tree; view = λ _. independent }) tt refl
     (columns_more old.tables.items None source.table source.columns (c.sources from source found)) (c.sizes from source found))
     (ap (λ ts. state_with (old.texts.items ++ said ∷ []) ts (old.version + 1)) (append-nil old.tables.items))
     refl told follows later is
@@ -288,9 +367,9 @@ pub addition_made : (addition : Addition) (definition : Definition) (old new : S
     → new.texts.items ≡ old.texts.items ++ said ∷ [] → new.entries.items ≡ old.entries.items ++ addition.entry ∷ []
     → new.tables.items ≡ old.tables.items ++ option_to_list addition.table → new.version ≡ old.version + 1
     → Outcome (answer_definition said (Ok definition) (state_of old)) old new count count' contents' (Ok addition.reply)
-addition_made addition definition old new said contents contents' count count' (adds_table name columns is free size adds) c read told follows later texts entries tables version =
+addition_made addition definition old new said contents contents' count count' (adds_table name columns deps is free size adds) c read told follows later texts entries tables version =
     subst (λ d. Outcome (answer_definition said (Ok d) (state_of old)) old new count count' contents' (Ok addition.reply)) (sym is)
-    (outcome_table old new said name columns contents contents' count count' addition.reply
+    (outcome_table old new said name columns deps contents contents' count count' addition.reply
     (record { texts = texts; entries = entries ∙ ap (λ e. old.entries.items ++ e ∷ []) adds.entry; tables = tables ∙ ap (λ o. old.tables.items ++ option_to_list o) adds.table; version = version })
     c (read ∙ ap Some is) free size told
     (subst (λ o. Follows (λ a b. b ≡ changed (define said (option_map (λ t. t.name) o)) a) contents contents') adds.table follows) later adds.reply)
@@ -298,5 +377,5 @@ addition_made addition definition old new said contents contents' count count' (
     subst (λ d. Outcome (answer_definition said (Ok d) (state_of old)) old new count count' contents' (Ok addition.reply)) (sym is)
     (outcome_view old new said name from source comparison contents contents' count count' addition.reply
     (record { texts = texts; entries = entries ∙ ap (λ e. old.entries.items ++ e ∷ []) adds.entry; tables = tables ∙ ap (λ o. old.tables.items ++ option_to_list o) adds.table; version = version })
-    c (read ∙ ap Some is) free found adds.plain told
+    c (read ∙ ap Some is) free found adds.plain adds.independent told
     (subst (λ o. Follows (λ a b. b ≡ changed (define said (option_map (λ t. t.name) o)) a) contents contents') adds.table follows) later adds.reply)

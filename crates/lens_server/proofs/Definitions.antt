@@ -20,8 +20,9 @@ use Rattle.lens_specs.specs.Predicate.{Op, compare, mentions}
 use Rattle.lens_specs.specs.Refusal.{least_mentioned}
 use Rattle.lens_specs.specs.TreeForm.{outputs}
 use Rattle.lens_specs.specs.Typing.{sort}
-use Rattle.lens_specs.specs.Lens.{select}
-use Rattle.server_specs.specs.State.{table_lens}
+use Rattle.lens_specs.specs.Dependencies.{Edge}
+use Rattle.lens_specs.specs.Lens.{base, select}
+use Rattle.server_specs.specs.State.{plain_sort}
 use Rattle.server_specs.specs.Defining.{is_twice, are_columns}
 use Rattle.lens_server.proofs.Places.{same_name}
 
@@ -81,16 +82,16 @@ none_mentioned (n ∷ ns) = none_mentioned ns
 nothing_mentioned : (C : Names) → least_mentioned [] C ≡ None
 nothing_mentioned C = none_mentioned (set.items C)
 
-by_kind : (o : Option Kind) (t : Name) (U : Columns) (c : Name) (op : Op) (z : ℤ) → finmap.get U c ≡ o → finmap.len U ≤ 64
-    → is_err (sort (select (compare c op (Int z) ∷ []) (table_lens t U))) ≡ not (is_kind o kinds.Int)
+by_kind : (o : Option Kind) (t : Name) (U : Columns) (T : List Edge) (c : Name) (op : Op) (z : ℤ) → finmap.get U c ≡ o → finmap.len U ≤ 64
+    → is_err (sort (select (compare c op (Int z) ∷ []) (base t (plain_sort U T)))) ≡ not (is_kind o kinds.Int)
 unfolding sort
-by_kind None t U c op z e h = rw e refl
-by_kind (Some kinds.Int) t U c op z e h =
-    rw (e, nothing_mentioned (outputs []), le-leb (finmap.len U) 64 h) refl
-by_kind (Some kinds.Text) t U c op z e h = rw e refl
-by_kind (Some kinds.Flag) t U c op z e h = rw e refl
+by_kind None t U T c op z e h = rw e refl
+by_kind (Some kinds.Int) t U T c op z e h =
+    rw (e, nothing_mentioned (outputs T), le-leb (finmap.len U) 64 h) refl
+by_kind (Some kinds.Text) t U T c op z e h = rw e refl
+by_kind (Some kinds.Flag) t U T c op z e h = rw e refl
 
 -- a selection of a table by a comparison with a number has a sort exactly where the column is a number
-pub selection_sorts : (t : Name) (U : Columns) (c : Name) (op : Op) (z : ℤ) → finmap.len U ≤ 64
-    → is_err (sort (select (compare c op (Int z) ∷ []) (table_lens t U))) ≡ not (is_kind (finmap.get U c) kinds.Int)
-selection_sorts t U c op z h = by_kind (finmap.get U c) t U c op z refl h
+pub selection_sorts : (t : Name) (U : Columns) (T : List Edge) (c : Name) (op : Op) (z : ℤ) → finmap.len U ≤ 64
+    → is_err (sort (select (compare c op (Int z) ∷ []) (base t (plain_sort U T)))) ≡ not (is_kind (finmap.get U c) kinds.Int)
+selection_sorts t U T c op z h = by_kind (finmap.get U c) t U T c op z refl h

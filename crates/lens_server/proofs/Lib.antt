@@ -11,3 +11,4 @@ pub mod Sent
 pub mod Stepping
 pub mod Verdicts
 pub mod Views
+pub mod Unknown

@@ -1,6 +1,6 @@
 -- What a put to a table, or to a selection of one, comes to.
 use Rattle.std.proofs.Common.{◌≡◌, ◌∙◌, Bool, true, false, List, [], ◌∷◌, map, ap, sym, refl, cond}
-use Rattle.std.specs.Prelude.{Option, Some, None, not, ◌&&◌, ◌||◌, find}
+use Rattle.std.specs.Prelude.{Option, Some, None, is_some, not, ◌&&◌, ◌||◌, find}
 use Rattle.std.specs.Ordering.{eq_by_cmp}
 use Rattle.std.specs.Cmp.{tied_itself}
 use Rattle.std.specs.Cmp.Lexicographic.{nat_list_cmp_total}
@@ -16,9 +16,10 @@ use Rattle.lens_specs.specs.Revision.{revise, revise_row, merge}
 use Rattle.lens_specs.specs.Nodes.{select_put, select_merged}
 use Rattle.lens_specs.specs.Predicate.{Predicate, holds}
 use Rattle.lens_specs.specs.Sort.{off}
-use Rattle.lens_specs.specs.Lens.{Lens, Tables, select, tables_of, put, get, table, rows_or_none}
+use Rattle.lens_specs.specs.Dependencies.{Edge}
+use Rattle.lens_specs.specs.Lens.{Lens, Tables, base, select, tables_of, put, get, table, rows_or_none}
 use Rattle.lens_specs.specs.Delta.{Delta, diff, is_empty, changes, differences, with_delta}
-use Rattle.server_specs.specs.State.{State, table_lens}
+use Rattle.server_specs.specs.State.{State, plain_sort}
 use Rattle.server_specs.specs.Answering.{accept}
 use Rattle.view_lang.specs.Meaning.{comparison_view}
 use Rattle.view_lang.specs.declared.definition.Comparison.{Comparison}
@@ -109,29 +110,41 @@ there t r db =
     itself : eq_by_cmp bytes_cmp t t ≡ true
     itself = ap (λ o. Rattle.std.specs.Ordering.is_eq o) (tied_itself nat_list_cmp_total t)
 
-changes_table : (t : Name) (columns : Columns) (N : Rows) (db : Tables) → changes (table_lens t columns) N db ≡ with_delta t (diff (table db t) N) []
+changes_table : (t : Name) (columns : Columns) (T : List Edge) (N : Rows) (db : Tables) → changes (base t (plain_sort columns T)) N db ≡ with_delta t (diff (table db t) N) []
 unfolding tables_of put
-changes_table t columns N db =
-    ap (λ ts. differences ts db (put (table_lens t columns) N db)) (one_item t)
+changes_table t columns T N db =
+    ap (λ ts. differences ts db (put (base t (plain_sort columns T)) N db)) (one_item t)
     ∙ ap (λ M. with_delta t (diff (table db t) M) []) (there t (record { columns = columns; rows = N }) db)
 
 changes_selection : (P : Predicate) (t : Name) (columns : Columns) (N : Rows) (db : Tables)
-    → changes (select P (table_lens t columns)) N db ≡ with_delta t (diff (table db t) (select_put [] (holds P) N (table db t))) []
+    → changes (select P (base t (plain_sort columns []))) N db ≡ with_delta t (diff (table db t) (select_put [] (holds P) N (table db t))) []
 unfolding tables_of put get
 changes_selection P t columns N db =
-    ap (λ ts. differences ts db (put (select P (table_lens t columns)) N db)) (one_item t)
+    ap (λ ts. differences ts db (put (select P (base t (plain_sort columns []))) N db)) (one_item t)
     ∙ ap (λ M. with_delta t (diff (table db t) M) []) (there t (record { columns = columns; rows = select_put [] (holds P) N (table db t) }) db)
 
-pub changes_are : (t : Name) (columns : Columns) (k : Option Comparison) (N : Rows) (db : Tables)
-    → changes (lens_with t columns k) N db ≡ with_delta t (diff (table db t) (source_put k N (table db t))) []
-changes_are t columns None N db = changes_table t columns N db
-changes_are t columns (Some comparison) N db = changes_selection (comparison_view comparison) t columns N db
+-- a selection has no edges
+abbrev HasNoEdges : List Edge → Option Comparison → Type 0
+HasNoEdges T k = is_some k ≡ true → T ≡ []
 
-put_is : (t : Name) (columns : Columns) (k : Option Comparison) (N : Rows) (db : Tables)
-    → put (lens_with t columns k) N db ≡ finmap.insert db t (record { columns = columns; rows = source_put k N (table db t) })
+flat : (t : Name) (columns : Columns) (T : List Edge) (comparison : Comparison) → HasNoEdges T (Some comparison) → lens_with t columns T (Some comparison) ≡ lens_with t columns [] (Some comparison)
+flat t columns T comparison h = ap (λ es. lens_with t columns es (Some comparison)) (h refl)
+
+pub changes_are : (t : Name) (columns : Columns) (T : List Edge) (k : Option Comparison) (N : Rows) (db : Tables) → HasNoEdges T k
+    → changes (lens_with t columns T k) N db ≡ with_delta t (diff (table db t) (source_put k N (table db t))) []
+changes_are t columns T None N db h = changes_table t columns T N db
+changes_are t columns T (Some comparison) N db h = ap (λ L. changes L N db) (flat t columns T comparison h) ∙ changes_selection (comparison_view comparison) t columns N db
+
+put_plain : (t : Name) (columns : Columns) (comparison : Comparison) (N : Rows) (db : Tables)
+    → put (lens_with t columns [] (Some comparison)) N db ≡ finmap.insert db t (record { columns = columns; rows = source_put (Some comparison) N (table db t) })
 unfolding put get
-put_is t columns None N db = refl
-put_is t columns (Some comparison) N db = refl
+put_plain t columns comparison N db = refl
+
+put_is : (t : Name) (columns : Columns) (T : List Edge) (k : Option Comparison) (N : Rows) (db : Tables) → HasNoEdges T k
+    → put (lens_with t columns T k) N db ≡ finmap.insert db t (record { columns = columns; rows = source_put k N (table db t) })
+unfolding put get
+put_is t columns T None N db h = refl
+put_is t columns T (Some comparison) N db h = ap (λ L. put L N db) (flat t columns T comparison h) ∙ put_plain t columns comparison N db
 
 accept_by : (b : Bool) (L : Lens) (N : Rows) (t : Name) (r : Relation) (delta : Delta) (s : State) → is_empty delta ≡ b → put L N s.tables ≡ finmap.insert s.tables t r
     → accept L N (with_delta t delta []) s ≡ accept_table t r delta s
@@ -139,11 +152,11 @@ accept_by true L N t r delta s e is = rw e refl
 accept_by false L N t r delta s e is = rw (e, is) refl
 
 -- what is accepted is the change of the one table
-pub accept_is : (t : Name) (columns : Columns) (k : Option Comparison) (N : Rows) (s : State)
-    → accept (lens_with t columns k) N (changes (lens_with t columns k) N s.tables) s
+pub accept_is : (t : Name) (columns : Columns) (T : List Edge) (k : Option Comparison) (N : Rows) (s : State) → HasNoEdges T k
+    → accept (lens_with t columns T k) N (changes (lens_with t columns T k) N s.tables) s
     ≡ accept_table t (record { columns = columns; rows = source_put k N (table s.tables t) }) (diff (table s.tables t) (source_put k N (table s.tables t))) s
-accept_is t columns k N s =
-    ap (λ ds. accept (lens_with t columns k) N ds s) (changes_are t columns k N s.tables)
-    ∙ accept_by (is_empty (diff (table s.tables t) (source_put k N (table s.tables t)))) (lens_with t columns k) N t
+accept_is t columns T k N s h =
+    ap (λ ds. accept (lens_with t columns T k) N ds s) (changes_are t columns T k N s.tables h)
+    ∙ accept_by (is_empty (diff (table s.tables t) (source_put k N (table s.tables t)))) (lens_with t columns T k) N t
     (record { columns = columns; rows = source_put k N (table s.tables t) }) (diff (table s.tables t) (source_put k N (table s.tables t))) s refl
-    (put_is t columns k N s.tables)
+    (put_is t columns T k N s.tables h)

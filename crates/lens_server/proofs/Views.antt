@@ -6,12 +6,13 @@ use Rattle.std.specs.Cmp.Lexicographic.{nat_list_cmp_total}
 use Rattle.std.specs.FinMap as finmap
 use Rattle.lens_values.specs.Order.{bytes_cmp}
 use Rattle.lens_values.specs.SortedSet as set
-use Rattle.lens_specs.specs.Relation.{Name, Columns, Relation}
+use Rattle.lens_specs.specs.Relation.{Name, Relation}
 use Rattle.lens_specs.specs.Nodes.{select_get}
 use Rattle.lens_specs.specs.Predicate.{Predicate, holds}
 use Rattle.lens_specs.specs.Lens as spec
-use Rattle.lens_specs.specs.Lens.{get, table, rows_or_none, select}
-use Rattle.server_specs.specs.State.{catalogue, table_lens}
+use Rattle.lens_specs.specs.Sort.{Sort}
+use Rattle.lens_specs.specs.Lens.{base, get, table, rows_or_none, select}
+use Rattle.server_specs.specs.State.{catalogue}
 use Rattle.lens_server.specs.Entries.{relation_of, relation_named, entry_view, lens_view, lens_named}
 use Rattle.lens_server.specs.States.{IsConsistent}
 use Rattle.lens_server.specs.Shows.{is_shown}
@@ -41,15 +42,15 @@ in_catalogue texts entries tables name c =
 pub rows_are : (tables : List Table) (name : Name) (r : Relation) → relation_named tables name ≡ Some r → table (finmap.from_entries (map relation_of tables)) name ≡ r.rows
 rows_are tables name r e = ap rows_or_none (finmap.get-from_entries nat_list_cmp_total (map relation_of tables) name ∙ e)
 
-pub get_table : (tables : List Table) (name : Name) (columns : Columns) (r : Relation) → relation_named tables name ≡ Some r
-    → get (table_lens name columns) (finmap.from_entries (map relation_of tables)) ≡ r.rows
+pub get_table : (tables : List Table) (name : Name) (s : Sort) (r : Relation) → relation_named tables name ≡ Some r
+    → get (base name s) (finmap.from_entries (map relation_of tables)) ≡ r.rows
 unfolding get
-get_table tables name columns r e = rows_are tables name r e
+get_table tables name s r e = rows_are tables name r e
 
-pub get_selection : (tables : List Table) (name : Name) (columns : Columns) (P : Predicate) (r : Relation) → relation_named tables name ≡ Some r
-    → get (select P (table_lens name columns)) (finmap.from_entries (map relation_of tables)) ≡ set.filter (is_shown P true) r.rows
+pub get_selection : (tables : List Table) (name : Name) (s : Sort) (P : Predicate) (r : Relation) → relation_named tables name ≡ Some r
+    → get (select P (base name s)) (finmap.from_entries (map relation_of tables)) ≡ set.filter (is_shown P true) r.rows
 unfolding get select_get
-get_selection tables name columns P r e = ap (set.filter (holds P)) (rows_are tables name r e)
+get_selection tables name s P r e = ap (set.filter (holds P)) (rows_are tables name r e)
 
 pub is_some-map : {A B : Type 0} (f : A → B) (o : Option A) → is_some (option_map f o) ≡ is_some o
 is_some-map f None = refl

@@ -1,7 +1,7 @@
 -- One definition more in a store.
 use Rattle.std.specs.Prelude.{◌≡◌, ◌<◌, ℕ, List, Some, vec_len, vec_capacity}
-use Rattle.lens_specs.specs.Language.{Definition}
-use Rattle.lens_specs.specs.Reading.{reading}
+use Rattle.language_specs.specs.Language.{Definition}
+use Rattle.language_specs.specs.Reading.{reading}
 use Rattle.table_keeper.specs.declared.keeper.Change.{Change}
 use Rattle.table_keeper.specs.declared.keeper.Change.TheVariants.{Define, Rows}
 use Rattle.lens_server.specs.Judgements.{Adds}

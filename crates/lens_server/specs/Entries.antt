@@ -1,11 +1,12 @@
 -- What the entries and the tables of a server stand for.
-use Rattle.std.specs.Prelude.{ℕ, List, map, Option, Some, None, option_map}
+use Rattle.std.specs.Prelude.{ℕ, Bool, false, List, map, Option, Some, None, option_map}
 use Rattle.std.specs.FinMap as finmap
 use Rattle.lens_values.specs.Order.{bytes_cmp}
 use Rattle.lens_specs.specs.Relation.{Name, Columns, Relation}
+use Rattle.lens_specs.specs.Dependencies.{Edge}
 use Rattle.lens_specs.specs.Lens as spec
-use Rattle.lens_specs.specs.Lens.{select}
-use Rattle.server_specs.specs.State.{table_lens}
+use Rattle.lens_specs.specs.Lens.{base, select}
+use Rattle.server_specs.specs.State.{plain_sort}
 use Rattle.view_lang.specs.Meaning.{comparison_view}
 use Rattle.view_lang.specs.declared.definition.Comparison.{Comparison}
 use Rattle.lens_server.specs.declared.entry.Lens.{Lens}
@@ -13,13 +14,13 @@ use Rattle.lens_server.specs.declared.entry.Entry.{Entry}
 use Rattle.lens_server.specs.declared.table.Table.{Table}
 
 -- the table, or the selection of it
-abbrev pub lens_with : Name → Columns → Option Comparison → spec.Lens
-lens_with table columns None = table_lens table columns
-lens_with table columns (Some comparison) = select (comparison_view comparison) (table_lens table columns)
+abbrev pub lens_with : Name → Columns → List Edge → Option Comparison → spec.Lens
+lens_with table columns tree None = base table (plain_sort columns tree)
+lens_with table columns tree (Some comparison) = select (comparison_view comparison) (base table (plain_sort columns tree))
 
 -- what a lens stands for
 abbrev pub lens_view : Lens → spec.Lens
-lens_view lens = lens_with lens.table lens.columns lens.comparison
+lens_view lens = lens_with lens.table lens.columns lens.tree lens.comparison
 
 -- a lens by its name
 abbrev pub named : Entry → Name × Lens
@@ -32,6 +33,11 @@ entry_view entry = (entry.name, lens_view entry.lens)
 -- the first lens with the name
 abbrev pub lens_named : List Entry → Name → Option Lens
 lens_named entries name = finmap.find bytes_cmp name (map named entries)
+
+-- whether a lens is there, of a table with dependencies
+abbrev pub is_dependent : Option Lens → Bool
+is_dependent None = false
+is_dependent (Some lens) = lens.dependent
 
 -- a relation by its table's name
 abbrev pub relation_of : Table → Name × Relation

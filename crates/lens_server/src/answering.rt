@@ -6,7 +6,7 @@ ghost use Rattle.request_text.specs.Requests.{request_view};
 ghost use Rattle.server_specs.specs.Answering.{answer_request};
 ghost use Rattle.server_specs.specs.Request.{request};
 ghost use Rattle.server_specs.specs.State.{kept};
-ghost use Rattle.std.specs.Prelude.{Some};
+ghost use Rattle.std.specs.Prelude.{Ok};
 ghost use Rattle.lens_server.specs.Outcomes.{Outcome};
 ghost use Rattle.lens_server.specs.States.{state_of, Consistent};
 
@@ -15,7 +15,9 @@ use crate::putting::put;
 use crate::reading::read;
 use crate::store::Store;
 use lens_values::NoMemory;
-use request_text::{Reply, Request, read_request, unbuilt_reply};
+use request_text::{
+    Reply, Request, RequestFault, bad_request_text, not_json_reply, read_request, unbuilt_reply,
+};
 use std::alloc::Global;
 use table_keeper::Keeper;
 
@@ -32,13 +34,15 @@ pub fn answer_line<K: Keeper>(
     ensures outcome { Outcome (answer_request (request (short line.now)) (state_of store.old)) store.old store.new (K.faults keeper.old) (K.faults keeper.new) (K.contents keeper.new) result }
     ensures place { K.place keeper.new ≡ K.place keeper.old }
 {
-    match read_request(alloc, line)? {
-        Some(request) => answer_request(alloc, store, keeper, request),
-        None => Ok(unbuilt_reply()),
+    match read_request(alloc, line) {
+        Ok(request) => answer_request(alloc, store, keeper, request),
+        Err(RequestFault::NotJson) => Ok(not_json_reply()),
+        Err(RequestFault::BadRequest { member }) => bad_request_text(alloc, &member),
+        Err(RequestFault::NoMemory) => Err(NoMemory),
     }
 }
 
-/// Answers a request.
+/// Answers a request. What rests on a version, edits, previews, types and the list of definitions are not built.
 fn answer_request<K: Keeper>(
     alloc: Global,
     store: &mut Store,
@@ -48,12 +52,16 @@ fn answer_request<K: Keeper>(
     requires consistent { Consistent store.old }
     requires room { store.old.version < 2 ^ 64 - 1 }
     requires told { Tells (K.contents keeper.old) (kept (state_of store.old)) }
-    ensures outcome { Outcome (answer_request (Some (request_view request)) (state_of store.old)) store.old store.new (K.faults keeper.old) (K.faults keeper.new) (K.contents keeper.new) result }
+    ensures outcome { Outcome (answer_request (Ok (request_view request)) (state_of store.old)) store.old store.new (K.faults keeper.old) (K.faults keeper.new) (K.contents keeper.new) result }
     ensures place { K.place keeper.new ≡ K.place keeper.old }
 {
     match request {
         Request::Define { text } => define(alloc, store, keeper, text),
         Request::Read { view } => read(alloc, store, &view),
-        Request::Put { view, rows } => put(alloc, store, keeper, &view, &rows),
+        Request::Put { view, rows, on } => match on {
+            None => put(alloc, store, keeper, &view, &rows),
+            Some(_) => Ok(unbuilt_reply()),
+        },
+        _ => Ok(unbuilt_reply()),
     }
 }

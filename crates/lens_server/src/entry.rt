@@ -2,6 +2,7 @@
 ghost use Rattle.std.specs.Prelude.{◌≡◌, option_copied};
 ghost use Rattle.lens_server.specs.Entries.{lens_named};
 
+use fd_tree::Tree;
 use lens_values::{Columns, Name};
 use view_lang::Comparison;
 
@@ -12,6 +13,10 @@ pub struct Lens {
     pub table: Name,
     /// The columns of the table, and so of the view.
     pub columns: Columns,
+    /// The tree of the table's dependencies, and so of the view's.
+    pub tree: Tree,
+    /// Whether the table was defined with dependencies, be they trivial.
+    pub dependent: bool,
     /// What selects the rows of a view.
     pub comparison: Option<Comparison>,
 }

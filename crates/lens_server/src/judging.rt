@@ -1,22 +1,29 @@
 //! Which definitions are taken.
-ghost use Rattle.std.specs.Prelude.{◌≡◌, ◌<◌, ◌≤◌, ◌-◌, ◌^◌, IfOk, Ok, Some, None, option_copied, not, nat_le, ◌||◌, if◌then◌else◌};
+ghost use Rattle.std.specs.Prelude.{◌≡◌, ◌<◌, ◌≤◌, ◌-◌, ◌^◌, IfOk, Ok, Some, None, find, option_copied, option_map, not, nat_le, ◌||◌, if◌then◌else◌};
 ghost use Rattle.std.specs.FinMap as finmap;
 ghost use Rattle.lens_values.specs.Order.{bytes_cmp};
+ghost use Rattle.lens_values.specs.SortedSet as set;
 ghost use Rattle.lens_values.specs.declared.value.Kind.TheVariants as kinds;
-ghost use Rattle.lens_specs.specs.Columns.{is_kind, same_kind};
-ghost use Rattle.lens_specs.specs.Reading.{reading};
+ghost use Rattle.lens_specs.specs.Columns.{is_kind, least_outside, names, same_kind};
+ghost use Rattle.lens_specs.specs.Refusal.{unknown_column};
+ghost use Rattle.lens_specs.specs.Typing.{unknown_in};
+ghost use Rattle.language_specs.specs.Reading.{reading};
 ghost use Rattle.server_specs.specs.Defining.{are_columns, is_taken, judged, judged_select, judged_table, table_count, view_count};
-ghost use Rattle.server_specs.specs.State.{catalogue, columns_from};
+ghost use Rattle.server_specs.specs.State.{catalogue, columns_from, dependent};
 ghost use Rattle.view_lang.specs.Meaning.{comparison_view, definition_view};
 ghost use Rattle.lens_server.specs.Entries.{lens_named, lens_view};
-ghost use Rattle.lens_server.specs.Judgements.{AddsTable, IsJudged, can_select};
+ghost use Rattle.lens_server.specs.Judgements.{AddsTable, IsJudged, IsTableJudged, can_select, unknown_of_edge};
 ghost use Rattle.lens_server.specs.States.{Consistent};
 
 use crate::entry::{Entry, Lens, lens_named};
 use crate::store::Store;
 use crate::table::Table;
-use lens_values::{Columns, ColumnsFault, Kind, Name, NoMemory, Text};
-use request_text::{Reply, defined_text, unbuilt_reply, unknown_name_text};
+use fd_closure::Dep;
+use fd_tree::{Tree, TreeFault};
+use lens_values::{Columns, ColumnsFault, Kind, Name, Names, NoMemory, Text};
+use request_text::{
+    Reply, defined_text, not_tree_text, unbuilt_reply, unknown_column_text, unknown_name_text,
+};
 use row_sets::Relation;
 use std::alloc::Global;
 use view_lang::{Comparison, Definition, LangFault, parse};
@@ -54,7 +61,7 @@ pub struct Addition {
 pub fn judge(alloc: Global, store: &Store, text: &Text) -> Result<Judgement, NoMemory>
     requires consistent { Consistent store.now }
     requires room { store.now.version < 2 ^ 64 - 1 }
-    ensures { IfOk result (λ judgement. IsJudged judgement (judged (catalogue store.now.texts.items) (reading text.now)) store.now) }
+    ensures { IfOk result (λ judgement. IsJudged judgement (judged (catalogue store.now.texts.items) (dependent store.now.texts.items) (reading text.now)) store.now) }
 {
     match parse(alloc, text) {
         Ok(definition) => judge_definition(alloc, store, definition),
@@ -71,10 +78,14 @@ fn judge_definition(
 ) -> Result<Judgement, NoMemory>
     requires consistent { Consistent store.now }
     requires room { store.now.version < 2 ^ 64 - 1 }
-    ensures { IfOk result (λ judgement. IsJudged judgement (judged (catalogue store.now.texts.items) (Some (definition_view definition))) store.now) }
+    ensures { IfOk result (λ judgement. IsJudged judgement (judged (catalogue store.now.texts.items) (dependent store.now.texts.items) (Some (definition_view definition))) store.now) }
 {
     match definition {
-        Definition::Table { name, columns } => judge_table(alloc, store, name, columns),
+        Definition::Table {
+            name,
+            columns,
+            deps,
+        } => judge_table(alloc, store, name, columns, &deps),
         Definition::View {
             name,
             source,
@@ -83,24 +94,90 @@ fn judge_definition(
     }
 }
 
-/// Whether the table is taken: its columns are columns, its name is free, and there are fewer than 64.
+/// Whether the table is taken: its columns are columns, its name is free, there are fewer than 64, and its dependencies are right.
 fn judge_table(
     alloc: Global,
     store: &Store,
     name: Name,
     columns: Vec<(Name, Kind)>,
+    deps: &[Dep],
 ) -> Result<Judgement, NoMemory>
     requires consistent { Consistent store.now }
     requires room { store.now.version < 2 ^ 64 - 1 }
-    ensures { IfOk result (λ judgement. IsJudged judgement (judged_table (catalogue store.now.texts.items) name columns.items) store.now) }
+    ensures { IfOk result (λ judgement. IsJudged judgement (judged_table (catalogue store.now.texts.items) name columns.items deps.now) store.now) }
 {
     if !can_add_table(store, &name) {
         return Ok(Judgement::Refuse(unbuilt_reply()));
     }
     match columns_of(alloc, columns)? {
-        Some(columns) => take_table(alloc, store.version, name, columns),
+        Some(columns) => judge_dependencies(alloc, store.version, name, columns, deps),
         None => Ok(Judgement::Refuse(unbuilt_reply())),
     }
+}
+
+/// Whether the dependencies are right: their columns are known, and they are a tree.
+fn judge_dependencies(
+    alloc: Global,
+    version: u64,
+    name: Name,
+    columns: Columns,
+    deps: &[Dep],
+) -> Result<Judgement, NoMemory>
+    requires room { version < 2 ^ 64 - 1 }
+    ensures { IfOk result (λ judgement. IsTableJudged judgement version name columns deps.now) }
+{
+    if let Some(unknown) = first_unknown(&columns, deps) {
+        return Ok(Judgement::Refuse(unknown_column_text(alloc, &unknown)?));
+    }
+    match Tree::of(alloc, deps) {
+        Ok(tree) => take_table(alloc, version, name, columns, tree, !deps.is_empty()),
+        Err(TreeFault::NotTree { a, b }) => Ok(Judgement::Refuse(not_tree_text(alloc, &a, &b)?)),
+        Err(TreeFault::NoMemory) => Err(NoMemory),
+    }
+}
+
+/// The least unknown column of the first side that has one; the dependencies in order, the left side first.
+fn first_unknown(columns: &Columns, deps: &[Dep]) -> Option<Name>
+    ensures { option_map unknown_column result ≡ unknown_in columns.now deps.now }
+{
+    for dep in deps {
+        if let Some(name) = unknown_of(columns, dep) {
+            return Some(name);
+        }
+    }
+    None
+}
+
+/// The least unknown column of the left side, or else of the right side.
+fn unknown_of(columns: &Columns, dep: &Dep) -> Option<Name>
+    ensures { option_map unknown_column result ≡ unknown_of_edge columns.now dep.now }
+{
+    match least_outside(columns, dep.left()) {
+        Some(name) => Some(name),
+        None => least_outside(columns, dep.right()),
+    }
+}
+
+/// The least of the names that is no column.
+fn least_outside(columns: &Columns, side: &Names) -> Option<Name>
+    ensures { result ≡ least_outside side.now (names columns.now) }
+{
+    first_outside(columns, side.as_slice()).copied()
+}
+
+/// The first of the names that is no column.
+fn first_outside<'a>(columns: &Columns, side: &'a [Name]) -> Option<&'a Name>
+    ensures { option_copied result ≡ find (λ c. not (set.contains (names columns.now) c)) side.now }
+{
+    side.iter().find(|name| !has_column(columns, name))
+}
+
+/// Whether there is a column of the name.
+#[tactic(auto, using(crate::proofs::Unknown::is_column))]
+fn has_column(columns: &Columns, name: &Name) -> bool
+    ensures { result ≡ set.contains (names columns.now) name.now }
+{
+    columns.kind(name).is_some()
 }
 
 /// Whether a name has a lens.
@@ -133,9 +210,11 @@ fn take_table(
     version: u64,
     name: Name,
     columns: Columns,
+    tree: Tree,
+    dependent: bool,
 ) -> Result<Judgement, NoMemory>
     requires room { version < 2 ^ 64 - 1 }
-    ensures { IfOk result (λ judgement. AddsTable judgement version name columns) }
+    ensures { IfOk result (λ judgement. AddsTable judgement version name columns tree dependent) }
 {
     let reply = defined_text(alloc, version + 1)?;
     let relation = Relation::empty(alloc, columns.copy(alloc)?);
@@ -145,6 +224,8 @@ fn take_table(
             lens: Lens {
                 table: name,
                 columns,
+                tree,
+                dependent,
                 comparison: None,
             },
         },
@@ -182,7 +263,7 @@ fn judge_view(
 ) -> Result<Judgement, NoMemory>
     requires consistent { Consistent store.now }
     requires room { store.now.version < 2 ^ 64 - 1 }
-    ensures { IfOk result (λ judgement. IsJudged judgement (judged_select (catalogue store.now.texts.items) name (comparison_view comparison) source (finmap.get (catalogue store.now.texts.items) source)) store.now) }
+    ensures { IfOk result (λ judgement. IsJudged judgement (judged_select (catalogue store.now.texts.items) (dependent store.now.texts.items) name (comparison_view comparison) source (finmap.get (catalogue store.now.texts.items) source)) store.now) }
 {
     match lens_named(&store.entries, &source) {
         Some(lens) => judge_select(alloc, store, name, source, comparison, lens),
@@ -190,7 +271,8 @@ fn judge_view(
     }
 }
 
-/// Whether a selection of the lens is taken: its name is free, there are fewer than 256, the lens is a table and the column a number.
+/// Whether a selection of the lens is taken: its name is free, there are fewer than 256, the lens is a table with no
+/// dependencies, and the column a number.
 fn judge_select(
     alloc: Global,
     store: &Store,
@@ -202,7 +284,7 @@ fn judge_select(
     requires consistent { Consistent store.now }
     requires room { store.now.version < 2 ^ 64 - 1 }
     requires found { lens_named store.now.entries.items source ≡ Some lens.now }
-    ensures { IfOk result (λ judgement. IsJudged judgement (judged_select (catalogue store.now.texts.items) name (comparison_view comparison) source (Some (lens_view lens.now))) store.now) }
+    ensures { IfOk result (λ judgement. IsJudged judgement (judged_select (catalogue store.now.texts.items) (dependent store.now.texts.items) name (comparison_view comparison) source (Some (lens_view lens.now))) store.now) }
 {
     if !can_add_view(store, &name) {
         return Ok(Judgement::Refuse(unbuilt_reply()));
@@ -214,6 +296,8 @@ fn judge_select(
     let lens = Lens {
         table: lens.table,
         columns: lens.columns.copy(alloc)?,
+        tree: lens.tree.copy(alloc)?,
+        dependent: lens.dependent,
         comparison: Some(comparison),
     };
     Ok(Judgement::Take(Addition {
@@ -223,13 +307,13 @@ fn judge_select(
     }))
 }
 
-/// Whether the lens is a table in which the comparison's column is a number.
+/// Whether the lens is a table with no dependencies in which the comparison's column is a number.
 fn can_select(lens: &Lens, comparison: &Comparison) -> bool
     ensures { result ≡ can_select lens.now comparison.now }
 {
     match lens.comparison {
         Some(_) => false,
-        None => is_number(lens.columns.pairs(), &comparison.column),
+        None => !lens.dependent && is_number(lens.columns.pairs(), &comparison.column),
     }
 }
 

@@ -1,5 +1,5 @@
 //! What a put changes: found first, made later.
-ghost use Rattle.std.specs.Prelude.{◌≡◌, ◌<◌, ◌-◌, ◌^◌, IfOk, Some, None, option_copied, nat_eq, position, slice_index_or, true, map, ◌∷◌, []};
+ghost use Rattle.std.specs.Prelude.{◌≡◌, ◌<◌, ◌-◌, ◌^◌, IfOk, Some, None, option_copied, length, nat_eq, position, slice_index_or, true, map, ◌∷◌, []};
 ghost use Rattle.std.specs.Cmp.Lexicographic.{pointwise};
 ghost use Rattle.std.specs.FinMap as finmap;
 ghost use Rattle.lens_values.specs.SortedSet as set;
@@ -7,20 +7,23 @@ ghost use Rattle.lens_specs.specs.Delta.{changes};
 ghost use Rattle.lens_specs.specs.Delta as spec;
 ghost use Rattle.lens_specs.specs.Lens.{sort_of};
 ghost use Rattle.lens_specs.specs.Relation.{Fits};
-ghost use Rattle.lens_specs.specs.Sort.{off};
-ghost use Rattle.server_specs.specs.Answering.{accept, answer_put, put_set};
+ghost use Rattle.lens_specs.specs.Sort.{off, clash};
+ghost use Rattle.server_specs.specs.Answer.{clash as spec_clash, text};
+ghost use Rattle.server_specs.specs.Answering.{accept, answer_put, put_set, unless_clash};
 ghost use Rattle.server_specs.specs.State.{catalogue, State};
 ghost use Rattle.lens_server.specs.Entries.{lens_view, columns_named};
 ghost use Rattle.lens_server.specs.Plans.{IsPlan, IsTablePlan, IsPlacedAt, accept_table, source_put};
-ghost use Rattle.lens_server.specs.States.{state_of, Consistent};
+ghost use Rattle.lens_server.specs.States.{state_of, Consistent, IsPlain};
 
 use crate::entry::{Lens, lens_named};
 use crate::selecting::{first_refused, those};
 use crate::store::Store;
 use crate::table::{Table, place_of};
+use fd_tree::{Clash, Edge, first_clash};
 use lens_values::{Name, NoMemory, Row};
 use request_text::{
-    JsonRows, Reply, changed_text, off_predicate_text, rows_of, unbuilt_reply, unknown_name_text,
+    JsonRows, Reply, RowList, RowsFault, bad_row_text, changed_text, clash_text,
+    off_predicate_text, rows_of, unknown_name_text,
 };
 use row_sets::{Relation, RowSet};
 use signed_delta::{TableDelta, diff};
@@ -68,26 +71,56 @@ pub fn plan_put(
 /// What a put of these rows to a lens comes to.
 fn plan_sent(alloc: Global, store: &Store, lens: &Lens, rows: &JsonRows) -> Result<Plan, NoMemory>
     requires source { columns_named store.now.tables.items lens.now.table ≡ Some lens.now.columns }
+    requires plain { IsPlain lens.now }
     requires room { store.now.version < 2 ^ 64 - 1 }
     ensures { IfOk result (λ plan. IsPlan plan (answer_put [] rows.now (Some (lens_view lens.now)) (state_of store.now)) store.now) }
 {
-    match rows_of(alloc, &lens.columns, rows)? {
-        Some(rows) => plan_set(alloc, store, lens, rows),
-        None => Ok(Plan::Answer(unbuilt_reply())),
+    match rows_of(alloc, &lens.columns, rows) {
+        Ok(rows) => plan_set(alloc, store, lens, rows),
+        Err(RowsFault::BadRow { index, col }) => Ok(Plan::Answer(bad_row_text(
+            alloc,
+            RowList::Rows,
+            index,
+            &col,
+        )?)),
+        Err(RowsFault::NoMemory) => Err(NoMemory),
     }
 }
 
 /// What a put of this set of rows to a lens comes to.
 fn plan_set(alloc: Global, store: &Store, lens: &Lens, rows: RowSet) -> Result<Plan, NoMemory>
     requires source { columns_named store.now.tables.items lens.now.table ≡ Some lens.now.columns }
+    requires plain { IsPlain lens.now }
     requires fit { (row : _) → set.contains rows row ≡ true → Fits lens.now.columns row }
     requires room { store.now.version < 2 ^ 64 - 1 }
     ensures { IfOk result (λ plan. IsPlan plan (put_set rows (lens_view lens.now) (state_of store.now)) store.now) }
 {
     match refused(lens, &rows) {
         Some(row) => Ok(Plan::Answer(off_predicate_text(alloc, row)?)),
+        None => plan_rows(alloc, store, lens, rows),
+    }
+}
+
+/// What a put of rows that the predicate holds on comes to.
+fn plan_rows(alloc: Global, store: &Store, lens: &Lens, rows: RowSet) -> Result<Plan, NoMemory>
+    requires source { columns_named store.now.tables.items lens.now.table ≡ Some lens.now.columns }
+    requires plain { IsPlain lens.now }
+    requires fit { (row : _) → set.contains rows row ≡ true → Fits lens.now.columns row }
+    requires room { store.now.version < 2 ^ 64 - 1 }
+    ensures { IfOk result (λ plan. IsPlan plan (unless_clash (clash lens.now.tree rows) (lens_view lens.now) rows (state_of store.now)) store.now) }
+{
+    match first_clash(alloc, lens.tree.edges(), &rows)? {
+        Some(found) => Ok(Plan::Answer(clash_reply(alloc, lens.tree.edges(), &found)?)),
         None => plan_view(alloc, store, lens, rows),
     }
+}
+
+/// The reply that two rows clash on the edge at the place.
+fn clash_reply(alloc: Global, edges: &[Edge], found: &Clash) -> Result<Reply, NoMemory>
+    requires { found.now.edge < length edges.now }
+    ensures { IfOk result (λ reply. (edge : _) → edge ≡ slice_index_or edges.now found.now.edge edge → reply ≡ text (spec_clash edge found.now.first found.now.second)) }
+{
+    clash_text(alloc, &edges[found.edge], &found.first, &found.second)
 }
 
 /// The least of the rows that the lens's predicate refuses.
@@ -100,9 +133,10 @@ fn refused<'a>(lens: &Lens, rows: &'a RowSet) -> Option<&'a Row>
     }
 }
 
-/// What a put of rows that the predicate holds on comes to.
+/// What a put of rows of the lens's sort comes to.
 fn plan_view(alloc: Global, store: &Store, lens: &Lens, rows: RowSet) -> Result<Plan, NoMemory>
     requires source { columns_named store.now.tables.items lens.now.table ≡ Some lens.now.columns }
+    requires plain { IsPlain lens.now }
     requires fit { (row : _) → set.contains rows row ≡ true → Fits lens.now.columns row }
     requires room { store.now.version < 2 ^ 64 - 1 }
     ensures { IfOk result (λ plan. IsPlan plan (accept (lens_view lens.now) rows (changes (lens_view lens.now) rows (state_of store.now).tables) (state_of store.now)) store.now) }

@@ -9,7 +9,7 @@ ghost use Rattle.server_specs.specs.State as state;
 use crate::answering::answer_line;
 use crate::store::Store;
 use lens_values::NoMemory;
-use request_text::{Reply, memory_reply, unbuilt_reply};
+use request_text::{Reply, long_reply, memory_reply};
 use std::alloc::Global;
 use std::marker::Model;
 use std::sync::ledger::Ledger;
@@ -74,7 +74,7 @@ impl Server {
     {
         let _ = walked;
         if line.len() > MAX_LINE {
-            return unbuilt_reply();
+            return long_reply();
         }
         reply_or_memory(answer_line(alloc, &mut self.store, keeper, line))
     }

@@ -12,8 +12,6 @@ pub mod Lens
 pub mod Refusal
 pub mod Typing
 pub mod Delta
-pub mod Language
-pub mod Reading
 pub mod Faults
 pub mod Lines
 pub mod Keeping

@@ -1,6 +1,11 @@
+pub mod Columns
+pub mod Faults
+pub mod FirstWrong
 pub mod Lines
 pub mod Members
 pub mod Objects
 pub mod Read
+pub mod Rising
+pub mod Said
 pub mod Sending
 pub mod Tokens

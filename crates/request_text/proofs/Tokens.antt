@@ -2,16 +2,17 @@
 use Rattle.std.proofs.Common.{◌≡◌, ◌∙◌, ◌<◌, ◌+◌, ℕ, List, [], ◌∷◌, ◌++◌, take, length, get_or, map, ap, sym, subst, refl, append_assoc, append-nil}
 use Rattle.std.specs.Prelude.{Ok}
 use Rattle.std.proofs.lemmas.List.{take_more}
+use Rattle.json.specs.Token as token
 use Rattle.json.specs.Token.{Token, end_object, end_array, key}
 use Rattle.json.specs.Tree.{items_tokens, members_tokens}
 use Rattle.json.specs.Written.{Written, Writes}
-use Rattle.serde_json.specs.Data.{Data, array}
+use Rattle.serde_json.specs.Data.{Data, array, string}
 use Rattle.serde_json.specs.Written.{items_outline, members_outline}
 use Rattle.lens_values.specs.declared.value.Value.{Value}
 use Rattle.lens_values.specs.declared.row.Row.{Row}
 use Rattle.lens_values.specs.SortedSet as set
 use Rattle.lens_specs.specs.Relation.{Name, Rows}
-use Rattle.server_specs.specs.Answer.{value_data, pairs_data, row_data, rows_data, change_data, changes_data}
+use Rattle.server_specs.specs.Answer.{value_data, pairs_data, row_data, rows_data, names_data, change_data, changes_data}
 use Rattle.signed_delta.specs.Tables.{table_delta}
 use Rattle.signed_delta.specs.declared.delta.TableDelta.{TableDelta}
 use Rattle.request_text.specs.Printing.{Adds, data_tokens}
@@ -103,3 +104,16 @@ changes_whole [] = refl
 changes_whole (change ∷ changes) =
     ap (λ ts. data_tokens (difference_data change) ++ ts) (changes_whole changes)
     ∙ sym (append_assoc (data_tokens (difference_data change)) (each_tokens difference_data changes) (end_array ∷ []))
+
+-- a name as JSON
+abbrev pub name_data : Name → Data
+name_data name = string name
+
+pub names_whole : (names : List Name) → items_tokens (items_outline (names_data names)) ≡ each_tokens name_data names ++ end_array ∷ []
+unfolding each_tokens
+names_whole [] = refl
+names_whole (name ∷ names) = ap (λ ts. data_tokens (name_data name) ++ ts) (names_whole names) ∙ sym (append_assoc (data_tokens (name_data name)) (each_tokens name_data names) (end_array ∷ []))
+
+-- the same text
+pub text_same : {a b : Written} {name s t : List ℕ} → s ≡ t → Adds a b (key name ∷ token.string s ∷ []) → Adds a b (key name ∷ token.string t ∷ [])
+text_same {a = a} {b = b} {name = name} e adds = subst (λ text. Adds a b (key name ∷ token.string text ∷ [])) e adds

@@ -1,6 +1,9 @@
 pub mod Answers
+pub mod Blames
 pub mod ChangesCode
 pub mod ItemsCode
 pub mod Printing
 pub mod ReplyBytes
 pub mod Requests
+pub mod RowFaults
+pub mod WantedMembers

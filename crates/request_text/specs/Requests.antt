@@ -1,21 +1,70 @@
 -- What the requests of the code stand for.
-use Rattle.std.specs.Prelude.{ℕ, List, Bool, false, option_map, unwrap_or, codes}
-use Rattle.serde_json.specs.Data.{Data, Members}
-use Rattle.serde_json.specs.Find.{as_str, get_member}
+use Rattle.std.specs.Prelude.{◌≡◌, ℕ, List, Option, Some, option_map, option_and_then, codes, Result, Ok, Err}
+use Rattle.serde_json.specs.Data.{Items, Members}
+use Rattle.serde_json.specs.Find.{as_array, get_member}
+use Rattle.lens_specs.specs.Relation.{Name}
+use Rattle.server_specs.specs.Answer.{Answer, not_json, bad_request}
 use Rattle.server_specs.specs.Request as spec
 use Rattle.request_text.specs.declared.request.Request.{Request}
-use Rattle.request_text.specs.declared.request.Request.TheVariants.{Define, Read, Put}
+use Rattle.request_text.specs.declared.request.Request.TheVariants.{Define, Read, Put, Edit, Preview, Describe, List as ToList}
+use Rattle.request_text.specs.declared.request.RequestFault.{RequestFault}
+use Rattle.request_text.specs.declared.request.RequestFault.TheVariants as fault
 
 -- the request that the definitions speak of
 abbrev pub request_view : Request → spec.Request
 request_view (Define text) = spec.define text
 request_view (Read view) = spec.read view
-request_view (Put view rows) = spec.put view rows
+request_view (Put view rows on) = spec.put view rows on
+request_view (Edit view remove add on) = spec.edit view remove add on
+request_view (Preview view remove add on) = spec.preview view remove add on
+request_view (Describe view) = spec.describe view
+request_view ToList = spec.list
 
--- whether the data is this string
-abbrev pub is_word : List ℕ → Data → Bool
-is_word word d = unwrap_or (option_map (λ found. spec.is_key found word) (as_str d)) false
+-- the fault tells the refusal; want of memory is free
+abbrev pub Tells : RequestFault → Result spec.Request Answer → Type 0
+Tells fault.NotJson expected = expected ≡ Err not_json
+Tells (fault.BadRequest member) expected = expected ≡ Err (bad_request member)
+Tells fault.NoMemory expected = Unit {0}
 
--- whether the member `do` is this string
-abbrev pub has_word : List ℕ → Members → Bool
-has_word word ms = unwrap_or (option_map (is_word word) (get_member (codes "do") ms)) false
+-- what is read is what is expected: the request, or its refusal; want of memory is free
+abbrev pub Reads : Result Request RequestFault → Result spec.Request Answer → Type 0
+Reads (Ok request) expected = expected ≡ Ok (request_view request)
+Reads (Err f) expected = Tells f expected
+
+-- the name that is there
+abbrev pub view_in : Members → Option Name
+view_in ms = option_and_then spec.name_in (get_member (codes "view") ms)
+
+-- the rows that are there
+abbrev pub rows_in : List ℕ → Members → Option Items
+rows_in k ms = option_and_then as_array (get_member k ms)
+
+-- the rows to remove and the rows to add
+abbrev pub both_in : Members → Option (Items × Items)
+both_in ms = option_and_then (λ remove. option_map (λ add. (remove, add)) (rows_in (codes "add") ms)) (rows_in (codes "remove") ms)
+
+-- the version on which a change rests
+abbrev pub on_in : Members → Option ℕ
+on_in ms = spec.version_at (codes "on") ms
+
+-- the put, where its members are there
+abbrev pub put_in : Members → Option spec.Request
+put_in ms = option_and_then (λ view. option_map (λ rows. spec.put view rows (on_in ms)) (rows_in (codes "rows") ms)) (view_in ms)
+
+-- the edit, where its members are there
+abbrev pub edit_in : Members → Option spec.Request
+edit_in ms = option_and_then (λ view. option_map (λ both. spec.edit view both.0 both.1 (on_in ms)) (both_in ms)) (view_in ms)
+
+-- the preview, where its members are there
+abbrev pub preview_in : Members → Option spec.Request
+preview_in ms = option_and_then (λ view. option_map (λ both. spec.preview view both.0 both.1 (on_in ms)) (both_in ms)) (view_in ms)
+
+-- the request, where its members are there
+abbrev pub said_in : spec.Asked → Members → Option spec.Request
+said_in spec.to_define ms = option_map spec.define (option_and_then spec.text_in (get_member (codes "text") ms))
+said_in spec.to_read ms = option_map spec.read (view_in ms)
+said_in spec.to_put ms = put_in ms
+said_in spec.to_edit ms = edit_in ms
+said_in spec.to_preview ms = preview_in ms
+said_in spec.to_describe ms = option_map spec.describe (view_in ms)
+said_in spec.to_list ms = Some spec.list

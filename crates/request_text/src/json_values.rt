@@ -1,6 +1,7 @@
 //! Lines and rows as JSON.
-ghost use Rattle.std.specs.Prelude.{◌≡◌, IfOk, option_map};
+ghost use Rattle.std.specs.Prelude.{◌≡◌, IfOk, is_some, option_map};
 ghost use Rattle.std.specs.List.Sorted.{IsStrictlySortedBy};
+ghost use Rattle.lens_values.specs.Bytes.{is_text as is_text_of};
 ghost use Rattle.lens_values.specs.Order.{bytes_cmp};
 ghost use Rattle.lens_values.specs.SortedMap.{keys_of};
 ghost use Rattle.serde_json.specs.Find.{get_member};
@@ -8,6 +9,7 @@ ghost use Rattle.serde_json.specs.View.{view, members_view};
 ghost use Rattle.server_specs.specs.Answer.{value_data, row_data, pairs_data};
 ghost use Rattle.server_specs.specs.Request.{json_of, text_in, name_in};
 
+use lens_values::text::MAX_TEXT;
 use lens_values::{Name, NoMemory, Row, Text, TextFault, Value};
 use serde_json::{Map, Value as Json};
 use std::alloc::Global;
@@ -40,6 +42,23 @@ pub(crate) fn text_member(alloc: Global, json: &Json) -> Result<Option<Text>, No
         Err(TextFault::NoMemory) => Err(NoMemory),
         Err(_) => Ok(None),
     }
+}
+
+/// Whether a member holds a text.
+pub(crate) fn is_text(json: &Json) -> bool
+    ensures { result ≡ is_some (text_in (view json.now)) }
+{
+    match json.as_str() {
+        Some(bytes) => is_short(bytes),
+        None => false,
+    }
+}
+
+// Whether the bytes are few enough for a text, and none of them is 0.
+fn is_short(bytes: &str) -> bool
+    ensures { result ≡ is_text_of bytes.now }
+{
+    bytes.len() <= MAX_TEXT && !bytes.as_bytes().contains(&0)
 }
 
 /// The name that a member holds.

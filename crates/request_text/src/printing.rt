@@ -5,13 +5,14 @@ ghost use Rattle.json.specs.Print.{print};
 ghost use Rattle.json.specs.Token.{begin_object, end_object, key, string, number, boolean};
 ghost use Rattle.serde_json.specs.Data.{array};
 ghost use Rattle.lens_values.specs.SortedSet as set;
-ghost use Rattle.server_specs.specs.Answer.{value_data, row_data, rows_data, change_data, changes_data};
+ghost use Rattle.server_specs.specs.Answer.{value_data, row_data, rows_data, pair_data, names_data, set_data, edge_data, change_data, changes_data};
 ghost use Rattle.signed_delta.specs.Tables.{table_delta};
 ghost use Rattle.request_text.specs.Printing.{Adds, data_tokens};
 
 use crate::reply::Reply;
+use fd_tree::Edge;
 use json::Writer;
-use lens_values::{Name, NoMemory, Row, Value};
+use lens_values::{Name, Names, NoMemory, Row, Value};
 use row_sets::RowSet;
 use signed_delta::TableDelta;
 use std::alloc::Global;
@@ -55,12 +56,68 @@ pub(crate) fn print_number(out: &mut Writer, name: &str, n: u64) -> Result<(), N
     Ok(())
 }
 
+/// A member that is a text.
+pub(crate) fn print_text(out: &mut Writer, name: &str, value: &str) -> Result<(), NoMemory>
+    ensures { OnOk result (Adds out.old out.new (key name.now ∷ string value.now ∷ [])) }
+{
+    out.key(name)?;
+    out.string(value)?;
+    Ok(())
+}
+
 /// A member that is a name.
 pub(crate) fn print_name(out: &mut Writer, name: &str, value: &Name) -> Result<(), NoMemory>
     ensures { OnOk result (Adds out.old out.new (key name.now ∷ string value.now ∷ [])) }
 {
+    print_text(out, name, value.as_str())
+}
+
+/// A member that is an array of names.
+pub(crate) fn print_names(out: &mut Writer, name: &str, names: &Names) -> Result<(), NoMemory>
+    ensures { OnOk result (Adds out.old out.new (key name.now ∷ data_tokens (set_data names.now))) }
+{
     out.key(name)?;
-    out.string(value.as_str())?;
+    print_name_list(out, names.as_slice())?;
+    Ok(())
+}
+
+fn print_name_list(out: &mut Writer, names: &[Name]) -> Result<(), NoMemory>
+    ensures { OnOk result (Adds out.old out.new (data_tokens (array (names_data names.now)))) }
+{
+    out.begin_array()?;
+    for name in names {
+        out.string(name.as_str())?;
+    }
+    out.end_array()?;
+    Ok(())
+}
+
+/// A member that is the two sides of an edge.
+pub(crate) fn print_edge(out: &mut Writer, name: &str, edge: &Edge) -> Result<(), NoMemory>
+    ensures { OnOk result (Adds out.old out.new (key name.now ∷ data_tokens (edge_data edge.now))) }
+{
+    out.key(name)?;
+    out.begin_object()?;
+    print_names(out, "left", &edge.left)?;
+    print_names(out, "right", &edge.right)?;
+    out.end_object()?;
+    Ok(())
+}
+
+/// A member that is an array of two rows.
+pub(crate) fn print_pair(
+    out: &mut Writer,
+    name: &str,
+    first: &Row,
+    second: &Row,
+) -> Result<(), NoMemory>
+    ensures { OnOk result (Adds out.old out.new (key name.now ∷ data_tokens (pair_data first.now second.now))) }
+{
+    out.key(name)?;
+    out.begin_array()?;
+    print_object(out, first)?;
+    print_object(out, second)?;
+    out.end_array()?;
     Ok(())
 }
 

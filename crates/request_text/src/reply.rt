@@ -1,6 +1,6 @@
 //! Reply lines.
 ghost use Rattle.std.specs.Prelude.{◌≡◌, codes};
-ghost use Rattle.server_specs.specs.Answer.{memory, store_fault, text, unbuilt};
+ghost use Rattle.server_specs.specs.Answer.{long_line, memory, not_json, store_fault, text, unbuilt};
 
 use std::marker::Model;
 
@@ -52,6 +52,24 @@ pub fn memory_reply() -> Reply
 {
     Reply {
         source: Source::Fixed(b"{\"error\":1,\"ok\":false}\n"),
+    }
+}
+
+/// The reply to a line that is too long. It takes no memory.
+pub fn long_reply() -> Reply
+    ensures { result ≡ text long_line }
+{
+    Reply {
+        source: Source::Fixed(b"{\"error\":10,\"ok\":false}\n"),
+    }
+}
+
+/// The reply to a line that is no JSON. It takes no memory.
+pub fn not_json_reply() -> Reply
+    ensures { result ≡ text not_json }
+{
+    Reply {
+        source: Source::Fixed(b"{\"error\":11,\"ok\":false}\n"),
     }
 }
 

@@ -1,88 +1,201 @@
 //! What a line asks for.
-ghost use Rattle.std.specs.Prelude.{◌≡◌, ◌==◌, ◌&&◌, IfOk, option_map};
+ghost use Rattle.std.specs.Prelude.{◌≡◌, ℕ, List, Err, false, None, IfOk, option_map, option_and_then};
 ghost use Rattle.serde_json.specs.Find.{as_array, get_member};
 ghost use Rattle.serde_json.specs.View.{view, items_view, members_view};
 ghost use Rattle.lens_specs.specs.Lines as lines;
+ghost use Rattle.server_specs.specs.Answer.{Answer as AnswerOf, bad_request};
 ghost use Rattle.server_specs.specs.Request as spec;
-ghost use Rattle.request_text.specs.Requests.{request_view, has_word, is_word};
+ghost use Rattle.request_text.specs.Requests.{Reads, Tells, request_view, said_in, view_in, rows_in, both_in, on_in, put_in, edit_in, preview_in};
+ghost use Rattle.request_text.specs.WantedMembers.{asked_view};
 
 use crate::json_rows::JsonRows;
 use crate::json_values::{json_in, member, name_member, text_member};
+use crate::member::Member;
+use crate::wanted::{Asked, least_wrong};
 use lens_values::{Name, NoMemory, Text};
 use serde_json::{Map, Value as Json};
-use std::alloc::Global;
+use std::alloc::{AllocError, AllocFailed, Global};
 
-/// One of the three requests.
+/// One of the seven requests.
 #[derive(Debug, Drop)]
 pub enum Request {
     /// To make the table or the view that the text defines.
-    Define { text: Text },
+    Define {
+        text: Text,
+    },
     /// To show the rows of a view.
-    Read { view: Name },
-    /// To make these rows the rows of a view.
-    Put { view: Name, rows: JsonRows },
+    Read {
+        view: Name,
+    },
+    /// To make these rows the rows of a view, where the version is this one.
+    Put {
+        view: Name,
+        rows: JsonRows,
+        on: Option<u64>,
+    },
+    /// To change the rows of a view, where the version is this one.
+    Edit {
+        view: Name,
+        remove: JsonRows,
+        add: JsonRows,
+        on: Option<u64>,
+    },
+    /// To show what an edit would change.
+    Preview {
+        view: Name,
+        remove: JsonRows,
+        add: JsonRows,
+        on: Option<u64>,
+    },
+    /// To show the columns of a view and what holds of its rows.
+    Describe {
+        view: Name,
+    },
+    /// To show the names of tables and views.
+    List,
 }
 
-/// What a line asks for, or nothing where it is no request.
-pub fn read_request(alloc: Global, line: &[u8]) -> Result<Option<Request>, NoMemory>
-    ensures { IfOk result (λ found. option_map request_view found ≡ spec.request (lines.line line.now)) }
+/// Why a line is no request.
+#[derive(Debug, Drop)]
+pub enum RequestFault {
+    /// The line is no JSON.
+    NotJson,
+    /// The least member that is missing, unknown or of the wrong shape.
+    BadRequest {
+        /// The member.
+        member: Member,
+    },
+    /// Memory ran out.
+    NoMemory,
+}
+
+impl From<AllocError> for RequestFault {
+    ghost use Rattle.std.specs.Prelude.{◌≡◌};
+    ghost use Rattle.request_text.specs.declared.request.RequestFault.TheVariants.{NoMemory};
+
+    ghost from_gives = { λ _ e. e ≡ NoMemory };
+
+    fn from(_: AllocError) -> RequestFault {
+        RequestFault::NoMemory
+    }
+}
+
+impl<T: Drop> From<AllocFailed<T>> for RequestFault {
+    ghost use Rattle.std.specs.Prelude.{◌≡◌};
+    ghost use Rattle.request_text.specs.declared.request.RequestFault.TheVariants.{NoMemory};
+
+    ghost from_gives = { λ _ e. e ≡ NoMemory };
+
+    fn from(_: AllocFailed<T>) -> RequestFault {
+        RequestFault::NoMemory
+    }
+}
+
+impl From<NoMemory> for RequestFault {
+    ghost use Rattle.std.specs.Prelude.{◌≡◌};
+    ghost use Rattle.request_text.specs.declared.request.RequestFault.TheVariants.{NoMemory};
+
+    ghost from_gives = { λ _ e. e ≡ NoMemory };
+
+    fn from(_: NoMemory) -> RequestFault {
+        RequestFault::NoMemory
+    }
+}
+
+impl RequestFault {
+    fn bad_request(alloc: Global, name: &str) -> RequestFault
+        ensures { Tells result (Err (bad_request name.now)) }
+    {
+        match Member::copy_of(alloc, name) {
+            Ok(member) => RequestFault::BadRequest { member },
+            Err(_) => RequestFault::NoMemory,
+        }
+    }
+}
+
+/// What a line asks for.
+pub fn read_request(alloc: Global, line: &[u8]) -> Result<Request, RequestFault>
+    ensures { Reads result (spec.request (lines.line line.now)) }
 {
     match json_in(alloc, line)? {
         Some(json) => request_of(alloc, json),
-        None => Ok(None),
+        None => Err(RequestFault::NotJson),
     }
 }
 
-fn request_of(alloc: Global, json: Json) -> Result<Option<Request>, NoMemory>
-    ensures { IfOk result (λ found. option_map request_view found ≡ spec.request_of (view json)) }
+fn request_of(alloc: Global, json: Json) -> Result<Request, RequestFault>
+    ensures { Reads result (spec.request_of (view json)) }
 {
     match json {
         Json::Object(members) => request_in(alloc, members),
-        _ => Ok(None),
+        _ => Err(RequestFault::bad_request(alloc, "do")),
     }
 }
 
-fn request_in(alloc: Global, members: Map<String, Json>) -> Result<Option<Request>, NoMemory>
-    ensures { IfOk result (λ found. option_map request_view found ≡ spec.request_in (members_view members.entries)) }
+fn request_in(alloc: Global, members: Map<String, Json>) -> Result<Request, RequestFault>
+    ensures { Reads result (spec.request_in (spec.asked_in (members_view members.entries)) (members_view members.entries)) }
 {
-    if is_asked(&members, "define", 2) {
-        define_in(alloc, &members)
-    } else if is_asked(&members, "read", 2) {
-        Ok(read_in(&members))
-    } else if is_asked(&members, "put", 3) {
-        Ok(put_in(members))
-    } else {
-        Ok(None)
+    match asked_in(&members) {
+        Some(asked) => request_for(alloc, asked, members),
+        None => Err(RequestFault::bad_request(alloc, "do")),
     }
 }
 
-// Whether the member `do` is the word, and there are this many members.
-fn is_asked(members: &Map<String, Json>, word: &str, count: usize) -> bool
-    ensures { result ≡ (has_word word.now (members_view members.now.entries) && spec.count_of (members_view members.now.entries) == count) }
+fn asked_in(members: &Map<String, Json>) -> Option<Asked>
+    ensures { option_map asked_view result ≡ spec.asked_in (members_view members.now.entries) }
 {
-    has_word(members, word) && members.len() == count
+    Asked::by_word(member(members, "do")?.as_str()?)
 }
 
-fn has_word(members: &Map<String, Json>, word: &str) -> bool
-    ensures { result ≡ has_word word.now (members_view members.now.entries) }
+fn request_for(
+    alloc: Global,
+    asked: Asked,
+    members: Map<String, Json>,
+) -> Result<Request, RequestFault>
+    ensures { Reads result (spec.unless_wrong (spec.least_wrong (asked_view asked) (members_view members.entries)) (asked_view asked) (members_view members.entries)) }
 {
-    match member(members, "do") {
-        Some(json) => is_word(json, word),
-        None => false,
+    match least_wrong(asked, &members) {
+        Some(name) => Err(RequestFault::bad_request(alloc, name)),
+        None => Ok(right_request(alloc, asked, members)?),
     }
 }
 
-fn is_word(json: &Json, word: &str) -> bool
-    ensures { result ≡ is_word word.now (view json.now) }
+// The request of members of which none is wrong.
+fn right_request(
+    alloc: Global,
+    asked: Asked,
+    members: Map<String, Json>,
+) -> Result<Request, NoMemory>
+    requires { spec.least_wrong (asked_view asked) (members_view members.entries) ≡ None }
+    ensures { IfOk result (λ request. request_view request ≡ spec.said (asked_view asked) (members_view members.entries)) }
 {
-    match json.as_str() {
-        Some(found) => found == word,
-        None => false,
+    match said(alloc, asked, members)? {
+        Some(request) => Ok(request),
+        None => unreachable!(),
+    }
+}
+
+// The request, where its members are there.
+fn said(
+    alloc: Global,
+    asked: Asked,
+    members: Map<String, Json>,
+) -> Result<Option<Request>, NoMemory>
+    ensures { IfOk result (λ found. option_map request_view found ≡ said_in (asked_view asked) (members_view members.entries)) }
+{
+    match asked {
+        Asked::Define => define_in(alloc, &members),
+        Asked::Read => Ok(read_in(&members)),
+        Asked::Put => Ok(put_in(members)),
+        Asked::Edit => Ok(edit_in(members)),
+        Asked::Preview => Ok(preview_in(members)),
+        Asked::Describe => Ok(describe_in(&members)),
+        Asked::List => Ok(Some(Request::List)),
     }
 }
 
 fn define_in(alloc: Global, members: &Map<String, Json>) -> Result<Option<Request>, NoMemory>
-    ensures { IfOk result (λ found. option_map request_view found ≡ spec.define_in (members_view members.now.entries)) }
+    ensures { IfOk result (λ found. option_map request_view found ≡ said_in spec.to_define (members_view members.now.entries)) }
 {
     let Some(json) = member(members, "text") else {
         return Ok(None);
@@ -94,26 +207,90 @@ fn define_in(alloc: Global, members: &Map<String, Json>) -> Result<Option<Reques
 }
 
 fn read_in(members: &Map<String, Json>) -> Option<Request>
-    ensures { option_map request_view result ≡ spec.read_in (members_view members.now.entries) }
+    ensures { option_map request_view result ≡ said_in spec.to_read (members_view members.now.entries) }
 {
-    let view = name_member(member(members, "view")?)?;
+    let view = view_in(members)?;
     Some(Request::Read { view })
 }
 
-fn put_in(members: Map<String, Json>) -> Option<Request>
-    ensures { option_map request_view result ≡ spec.put_in (members_view members.entries) }
+fn describe_in(members: &Map<String, Json>) -> Option<Request>
+    ensures { option_map request_view result ≡ said_in spec.to_describe (members_view members.now.entries) }
 {
-    let view = name_member(member(&members, "view")?)?;
-    let rows = into_array(take_member(members, "rows")?)?;
-    Some(Request::Put {
+    let view = view_in(members)?;
+    Some(Request::Describe { view })
+}
+
+fn put_in(mut members: Map<String, Json>) -> Option<Request>
+    ensures { option_map request_view result ≡ put_in (members_view members.entries) }
+{
+    let view = view_in(&members)?;
+    let on = on_in(&members);
+    let rows = take_rows(&mut members, "rows")?;
+    Some(Request::Put { view, rows, on })
+}
+
+fn edit_in(members: Map<String, Json>) -> Option<Request>
+    ensures { option_map request_view result ≡ edit_in (members_view members.entries) }
+{
+    let view = view_in(&members)?;
+    let on = on_in(&members);
+    let (remove, add) = both_in(members)?;
+    Some(Request::Edit {
         view,
-        rows: JsonRows::new(rows),
+        remove,
+        add,
+        on,
     })
 }
 
+fn preview_in(members: Map<String, Json>) -> Option<Request>
+    ensures { option_map request_view result ≡ preview_in (members_view members.entries) }
+{
+    let view = view_in(&members)?;
+    let on = on_in(&members);
+    let (remove, add) = both_in(members)?;
+    Some(Request::Preview {
+        view,
+        remove,
+        add,
+        on,
+    })
+}
+
+fn view_in(members: &Map<String, Json>) -> Option<Name>
+    ensures { result ≡ view_in (members_view members.now.entries) }
+{
+    name_member(member(members, "view")?)
+}
+
+fn on_in(members: &Map<String, Json>) -> Option<u64>
+    ensures { result ≡ on_in (members_view members.now.entries) }
+{
+    member(members, "on")?.as_u64()
+}
+
+// The rows to remove and the rows to add.
+fn both_in(mut members: Map<String, Json>) -> Option<(JsonRows, JsonRows)>
+    ensures { result ≡ both_in (members_view members.entries) }
+{
+    let remove = take_rows(&mut members, "remove")?;
+    let add = take_rows(&mut members, "add")?;
+    Some((remove, add))
+}
+
+// The rows of a member, moved out of its object.
+fn take_rows(members: &mut Map<String, Json>, name: &str) -> Option<JsonRows>
+    ensures rows { result ≡ rows_in name.now (members_view members.old.entries) }
+    ensures others { (k : List ℕ) → spec.is_key k name.now ≡ false → get_member k (members_view members.new.entries) ≡ get_member k (members_view members.old.entries) }
+{
+    let json = take_member(members, name)?;
+    Some(JsonRows::new(into_array(json)?))
+}
+
 // A member moved out of its object.
-fn take_member(mut members: Map<String, Json>, name: &str) -> Option<Json>
-    ensures { option_map view result ≡ get_member name.now (members_view members.entries) }
+fn take_member(members: &mut Map<String, Json>, name: &str) -> Option<Json>
+    ensures taken { option_map view result ≡ get_member name.now (members_view members.old.entries) }
+    ensures others { (k : List ℕ) → spec.is_key k name.now ≡ false → get_member k (members_view members.new.entries) ≡ get_member k (members_view members.old.entries) }
 {
     members.remove(name)
 }

@@ -1,53 +1,120 @@
 //! Rows of the rows that were sent.
-ghost use Rattle.std.specs.Prelude.{◌≡◌, IfOk, option_map};
-ghost use Rattle.std.specs.FinMap as map;
+ghost use Rattle.std.specs.Prelude.{◌≡◌, List, Ok, Err, IfOk, IsOk, map, option_map};
+ghost use Rattle.std.specs.FinMap as finmap;
+ghost use Rattle.std.specs.List.{list_any};
 ghost use Rattle.std.specs.List.Sorted.{IsStrictlySortedBy};
 ghost use Rattle.serde_json.specs.View.{view, items_view, members_view};
 ghost use Rattle.lens_values.specs.Order.{bytes_cmp};
 ghost use Rattle.lens_values.specs.SortedMap.{keys_of};
-ghost use Rattle.lens_values.specs.SortedSet as set;
+ghost use Rattle.lens_values.specs.declared.row.Row.{Row as RowOf};
+ghost use Rattle.server_specs.specs.Request.{first_other, is_key};
 ghost use Rattle.server_specs.specs.Sending as spec;
+ghost use Rattle.request_text.specs.Blames.{Blames, Finds};
+ghost use Rattle.request_text.specs.RowFaults.{GivesRows, TellsRow, fault_at, set_of};
 
 use crate::json_rows::JsonRows;
 use crate::json_values::{member, text_member};
-use lens_values::{Columns, Kind, Name, NoMemory, Row, RowFault, Value};
+use crate::member::{Member, MemberFault};
+use lens_values::{Columns, Kind, Name, NoMemory, Row, Value};
 use row_sets::RowSet;
 use serde_json::{Map, Value as Json};
-use std::alloc::Global;
+use std::alloc::{AllocError, AllocFailed, Global};
 
-/// The set of the rows that were sent, or nothing where one of them is no row of these columns.
-pub fn rows_of(
-    alloc: Global,
-    columns: &Columns,
-    rows: &JsonRows,
-) -> Result<Option<RowSet>, NoMemory>
-    ensures { IfOk result (λ found. found ≡ option_map (λ list. set.from_list list) (spec.rows_in columns.now rows.now)) }
-{
-    match rows_in(alloc, columns, rows.as_slice())? {
-        Some(list) => Ok(Some(RowSet::new(alloc, list)?)),
-        None => Ok(None),
+/// Why a list of rows is none.
+#[derive(Debug, Drop)]
+pub enum RowsFault {
+    /// The first element that is no row of the columns.
+    BadRow {
+        /// Its place in the list, from 0.
+        index: usize,
+        /// The least name of a column that is missing or of the wrong kind, or of a member that is no column.
+        col: Member,
+    },
+    /// Memory ran out.
+    NoMemory,
+}
+
+impl From<AllocError> for RowsFault {
+    ghost use Rattle.std.specs.Prelude.{◌≡◌};
+    ghost use Rattle.request_text.specs.declared.rows.RowsFault.TheVariants.{NoMemory};
+
+    ghost from_gives = { λ _ e. e ≡ NoMemory };
+
+    fn from(_: AllocError) -> RowsFault {
+        RowsFault::NoMemory
     }
 }
 
-fn rows_in(alloc: Global, columns: &Columns, items: &[Json]) -> Result<Option<Vec<Row>>, NoMemory>
-    ensures { IfOk result (λ found. option_map (λ list. list.items) found ≡ spec.rows_in columns.now (items_view items.now)) }
-{
-    let mut rows = Vec::with_capacity(alloc, items.len())?;
-    for item in items {
-        match row_in(alloc, columns, item)? {
-            Some(row) => rows.push(row)?,
-            None => return Ok(None),
+impl<T: Drop> From<AllocFailed<T>> for RowsFault {
+    ghost use Rattle.std.specs.Prelude.{◌≡◌};
+    ghost use Rattle.request_text.specs.declared.rows.RowsFault.TheVariants.{NoMemory};
+
+    ghost from_gives = { λ _ e. e ≡ NoMemory };
+
+    fn from(_: AllocFailed<T>) -> RowsFault {
+        RowsFault::NoMemory
+    }
+}
+
+impl From<NoMemory> for RowsFault {
+    ghost use Rattle.std.specs.Prelude.{◌≡◌};
+    ghost use Rattle.request_text.specs.declared.rows.RowsFault.TheVariants.{NoMemory};
+
+    ghost from_gives = { λ _ e. e ≡ NoMemory };
+
+    fn from(_: NoMemory) -> RowsFault {
+        RowsFault::NoMemory
+    }
+}
+
+impl RowsFault {
+    // The fault of the element at this place.
+    fn at(index: usize, fault: MemberFault) -> RowsFault
+        ensures { result ≡ fault_at index fault }
+    {
+        match fault {
+            MemberFault::Wrong { member } => RowsFault::BadRow { index, col: member },
+            MemberFault::NoMemory => RowsFault::NoMemory,
         }
     }
-    Ok(Some(rows))
 }
 
-fn row_in(alloc: Global, columns: &Columns, json: &Json) -> Result<Option<Row>, NoMemory>
-    ensures { IfOk result (λ found. found ≡ spec.row_in columns.now (view json.now)) }
+/// The set of the rows that were sent.
+pub fn rows_of(alloc: Global, columns: &Columns, rows: &JsonRows) -> Result<RowSet, RowsFault>
+    ensures { GivesRows (λ rows. rows) result (set_of (spec.rows_in columns.now rows.now)) }
+{
+    let list = rows_in(alloc, columns, rows.as_slice())?;
+    Ok(RowSet::new(alloc, list)?)
+}
+
+fn rows_in(alloc: Global, columns: &Columns, items: &[Json]) -> Result<Vec<Row>, RowsFault>
+    ensures { GivesRows (λ list. list.items) result (spec.rows_in columns.now (items_view items.now)) }
+{
+    let mut rows = Vec::with_capacity(alloc, items.len())?;
+    for (index, item) in items.iter().enumerate() {
+        match row_in(alloc, columns, item) {
+            Ok(row) => rows.push(row)?,
+            Err(fault) => return Err(RowsFault::at(index, fault)),
+        }
+    }
+    Ok(rows)
+}
+
+fn row_in(alloc: Global, columns: &Columns, json: &Json) -> Result<Row, MemberFault>
+    ensures { Finds (λ row. row) result (spec.row_in columns.now (view json.now)) }
 {
     match json {
         Json::Object(members) => row_of_members(alloc, columns, members),
-        _ => Ok(None),
+        _ => Err(MemberFault::wrong(alloc, first_column(columns.pairs()))),
+    }
+}
+
+fn first_column(columns: &[(Name, Kind)]) -> &str
+    ensures { result.now ≡ spec.first_column columns.now }
+{
+    match columns {
+        [column, ..] => column.0.as_str(),
+        [] => "",
     }
 }
 
@@ -55,28 +122,61 @@ fn row_of_members(
     alloc: Global,
     columns: &Columns,
     members: &Map<String, Json>,
-) -> Result<Option<Row>, NoMemory>
-    ensures { IfOk result (λ found. found ≡ spec.row_of_members columns.now (members_view members.now.entries)) }
+) -> Result<Row, MemberFault>
+    ensures { Finds (λ row. row) result (spec.row_of_members columns.now (members_view members.now.entries)) }
 {
-    let columns = columns.pairs();
-    if members.len() != columns.len() {
-        return Ok(None);
-    }
-    match pairs_in(alloc, columns, members)? {
-        Some(pairs) => Ok(Some(row_of(alloc, pairs)?)),
-        None => Ok(None),
+    match pairs_in(alloc, columns.pairs(), members) {
+        Ok(pairs) => row_of_pairs(alloc, columns, members, pairs),
+        Err(MemberFault::Wrong { member }) => {
+            let strange = first_strange(columns, members);
+            Err(MemberFault::lesser(alloc, member, strange))
+        }
+        Err(MemberFault::NoMemory) => Err(MemberFault::NoMemory),
     }
 }
 
-fn row_of(alloc: Global, pairs: Vec<(Name, Value)>) -> Result<Row, NoMemory>
-    requires { IsStrictlySortedBy bytes_cmp (keys_of pairs.items) }
-    ensures { IfOk result (λ row. row ≡ map.from_entries pairs.items) }
+// The row of all columns, where no member is strange.
+fn row_of_pairs(
+    alloc: Global,
+    columns: &Columns,
+    members: &Map<String, Json>,
+    pairs: Vec<(Name, Value)>,
+) -> Result<Row, MemberFault>
+    requires { spec.pairs_in (finmap.entries columns.now) (members_view members.now.entries) ≡ Ok pairs.items }
+    ensures { Finds (λ row. row) result (spec.row_of_members columns.now (members_view members.now.entries)) }
 {
-    match Row::new(alloc, pairs) {
-        Ok(row) => Ok(row),
-        Err(RowFault::NoMemory) => Err(NoMemory),
-        Err(RowFault::Twice { .. }) => unreachable!(),
+    match strange_beside(columns, members) {
+        Some(name) => Err(MemberFault::wrong(alloc, name)),
+        None => Ok(Row::from_rising(alloc, pairs)?),
     }
+}
+
+// The first member that is no column. Beside all columns none is, where there are as many members.
+fn strange_beside<'a>(columns: &Columns, members: &'a Map<String, Json>) -> Option<&'a str>
+    requires { IsOk (spec.pairs_in (finmap.entries columns.now) (members_view members.now.entries)) }
+    ensures { option_map (λ name. name.now) result ≡ first_other (spec.is_column_of columns.now) (members_view members.now.entries) }
+{
+    if members.len() == columns.pairs().len() {
+        return None;
+    }
+    first_strange(columns, members)
+}
+
+fn first_strange<'a>(columns: &Columns, members: &'a Map<String, Json>) -> Option<&'a str>
+    ensures { option_map (λ name. name.now) result ≡ first_other (spec.is_column_of columns.now) (members_view members.now.entries) }
+{
+    for name in members.keys() {
+        if !is_column(columns.pairs(), name.as_str()) {
+            return Some(name.as_str());
+        }
+    }
+    None
+}
+
+fn is_column(columns: &[(Name, Kind)], name: &str) -> bool
+    ensures { result ≡ list_any (is_key name.now) (keys_of columns.now) }
+{
+    columns.iter().any(|column| name == column.0.as_str())
 }
 
 // Each of the columns with its value, in the order of the columns.
@@ -84,17 +184,17 @@ fn pairs_in(
     alloc: Global,
     columns: &[(Name, Kind)],
     members: &Map<String, Json>,
-) -> Result<Option<Vec<(Name, Value)>>, NoMemory>
-    ensures { IfOk result (λ found. option_map (λ pairs. pairs.items) found ≡ spec.pairs_in columns.now (members_view members.now.entries)) }
+) -> Result<Vec<(Name, Value)>, MemberFault>
+    ensures { Finds (λ pairs. pairs.items) result (spec.pairs_in columns.now (members_view members.now.entries)) }
 {
     let mut pairs = Vec::with_capacity(alloc, columns.len())?;
     for column in columns {
         match value_at(alloc, members, column)? {
             Some(value) => pairs.push((column.0, value))?,
-            None => return Ok(None),
+            None => return Err(MemberFault::wrong(alloc, column.0.as_str())),
         }
     }
-    Ok(Some(pairs))
+    Ok(pairs)
 }
 
 fn value_at(

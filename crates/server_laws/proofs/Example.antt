@@ -1,5 +1,5 @@
 -- A state with a table and a view, and a put that changes it: the premises of the laws can be met.
-use Rattle.std.proofs.Common.{◌≡◌, ◌+◌, ℕ, Bool, true, false, cond, not, ◌||◌, ◌&&◌, List, [], ◌∷◌, map, length, Option, Some, None, option_map, is_some, Ok, refl, sym, ap, subst, ◌∙◌, arith}
+use Rattle.std.proofs.Common.{◌≡◌, ◌+◌, ℕ, Bool, true, false, cond, not, ◌||◌, ◌&&◌, List, [], ◌∷◌, map, length, Option, Some, None, option_map, is_some, Ok, Err, refl, sym, ap, subst, ◌∙◌, arith}
 use Rattle.std.proofs.lemmas.Bool.{true≢false}
 use Rattle.std.specs.Prelude.{codes, pos, nat_le, is_err}
 use Rattle.std.specs.List.{find}
@@ -17,25 +17,26 @@ use Rattle.lens_laws.proofs.Lists.{false_from, absurd_false}
 use Rattle.lens_laws.proofs.Names.{name_total, name_itself}
 use Rattle.lens_laws.proofs.Relations.{from_those}
 use Rattle.lens_laws.proofs.Rows.{row_total, tied_row, row_itself}
-use Rattle.lens_laws.proofs.Sorts.{none_off}
-use Rattle.lens_specs.specs.Names.{Name}
+use Rattle.lens_laws.proofs.Sorts.{none_clash, none_off}
+use Rattle.lens_specs.specs.Names.{Name, Names}
 use Rattle.lens_specs.specs.Columns.{Columns, Fits, kind_at, is_kind}
 use Rattle.lens_specs.specs.Relation.{Rows, Relation, has}
 use Rattle.lens_specs.specs.Predicate.{gt, compare, Predicate, holds, mentions, compared}
 use Rattle.lens_specs.specs.Refusal.{Refusal, unknown_column, predicate_kind, source_mentions_output, or_else, or_name, when, unless as or_unlike, too_large, columns_limit, unknown_name, unlike_kinds, least_mentioned}
-use Rattle.lens_specs.specs.TreeForm.{outputs}
-use Rattle.lens_specs.specs.Typing.{sort, select_fault, unless_refused}
+use Rattle.lens_specs.specs.TreeForm.{outputs, tree_of}
+use Rattle.lens_specs.specs.Sort.{clash}
+use Rattle.lens_specs.specs.Typing.{sort, table_sort, select_fault, unless_refused}
 use Rattle.lens_specs.specs.Nodes.{select_get}
-use Rattle.lens_specs.specs.Lens.{Lens, select, select_sort, get, rows_or_none, table as rows_of_table}
-use Rattle.lens_specs.specs.Language.{Definition, table, view, named}
-use Rattle.lens_specs.specs.Language as language
-use Rattle.lens_specs.specs.Reading.{reading, tokens_within}
-use Rattle.server_specs.specs.State.{State, fresh, Catalogue, catalogue, columns_from, plain_sort, table_lens, with_definition, with_lens}
-use Rattle.server_specs.specs.Defining.{is_base, is_taken, count_lenses, table_count, view_count, unless, judged, judged_select}
+use Rattle.lens_specs.specs.Lens.{Lens, select, select_sort, sort_of, get, rows_or_none, table as rows_of_table}
+use Rattle.language_specs.specs.Language.{Definition, table, view, named}
+use Rattle.language_specs.specs.Language as language
+use Rattle.language_specs.specs.Reading.{reading, tokens_within}
+use Rattle.server_specs.specs.State.{State, fresh, Catalogue, catalogue, columns_from, plain_sort, table_lens, dependent, with_definition, with_dependent, with_lens}
+use Rattle.server_specs.specs.Answer.{unbuilt}
+use Rattle.server_specs.specs.Defining.{is_base, is_taken, count_lenses, table_count, view_count, unless, where_sorted, judged, judged_select}
 use Rattle.server_specs.specs.Answering.{put_set, with_defined}
 use Rattle.server_specs.specs.Validity.{Valid}
 use Rattle.server_laws.proofs.Puts.{accepted_where}
-use Rattle.server_laws.proofs.Stored.{lens_here}
 use Rattle.server_laws.proofs.Taken.{judged_ok, get-new, get-other}
 use Rattle.server_laws.proofs.Valid.{fresh_is_valid, known_after, valid_taken, of_lens}
 use Rattle.server_laws.specs.Answers.{IsAccepted}
@@ -69,7 +70,7 @@ abbrev second_text : List ℕ
 second_text = codes "view v = select from t where a > 0"
 
 abbrev first : Definition
-first = table t listing
+first = table t listing []
 
 abbrev second : Definition
 second = view v (language.select P (named t))
@@ -88,7 +89,7 @@ abbrev none : Catalogue
 none = finmap.empty
 
 abbrev T : Lens
-T = table_lens t U
+T = table_lens t U []
 
 abbrev V : Lens
 V = select P T
@@ -110,8 +111,9 @@ no_tables = ap (λ es. count_lenses is_base (map (λ e. e.1) es)) no_entries
 is_free : (name : Name) → is_taken none name ≡ false
 is_free name = ap is_some (finmap.get-empty bytes_cmp name)
 
-first_taken : judged none (reading first_text) ≡ Ok first
-first_taken = ap (judged none) first_says ∙ ap (λ b. unless (b || nat_le 64 (table_count none)) first) (is_free t) ∙ ap (λ n. unless (nat_le 64 n) first) no_tables
+-- no table has dependencies
+abbrev no_names : Names
+no_names = set.empty
 
 no_views : view_count one ≡ 0
 no_views = ap (λ es. count_lenses (λ lens. not (is_base lens)) (map (λ e. e.1) es)) (finmap.entries-insert name_total none t T ∙ ap (listed.put bytes_cmp t T) no_entries)
@@ -124,6 +126,16 @@ one_column = finmap.len-insert name_total (finmap.empty {X = Kind} {R = bytes_cm
     ∙ ap (λ o. cond (is_some o) (finmap.len (finmap.empty {X = Kind} {R = bytes_cmp})) (finmap.len (finmap.empty {X = Kind} {R = bytes_cmp}) + 1)) (finmap.get-empty bytes_cmp a)
     ∙ ap (λ n. n + 1) (finmap.len-empty bytes_cmp Kind)
 
+table_sorted : table_sort U [] [] ≡ Ok (plain_sort U [])
+unfolding table_sort tree_of
+table_sorted = ap (λ n. unless_refused (or_else (when (not (nat_le n 64)) (too_large columns_limit)) None) (plain_sort U [])) one_column
+
+first_taken : judged none no_names (reading first_text) ≡ Ok first
+first_taken = ap (judged none no_names) first_says
+    ∙ ap (λ b. cond (b || nat_le 64 (table_count none)) (Err unbuilt) (where_sorted (table_sort U [] []) first)) (is_free t)
+    ∙ ap (λ n. cond (nat_le 64 n) (Err unbuilt) (where_sorted (table_sort U [] []) first)) no_tables
+    ∙ ap (λ r. where_sorted r first) table_sorted
+
 both : (x y : Option Refusal) → x ≡ None → y ≡ None → or_else x y ≡ None
 both x y p q = ap (λ o. or_else o y) p ∙ q
 
@@ -131,25 +143,26 @@ nothing_mentioned : (ns : List Name) → find (mentions []) ns ≡ None
 nothing_mentioned [] = refl
 nothing_mentioned (n ∷ ns) = nothing_mentioned ns
 
-no_fault : select_fault 2 (plain_sort U) P ≡ None
+no_fault : select_fault 2 (plain_sort U []) P ≡ None
 no_fault =
     both (option_map unknown_column (unknown_name U P)) _ (ap (λ o. option_map unknown_column (cond (not (is_some o)) (Some a) None)) column)
     (both (option_map predicate_kind (unlike_kinds U P)) _ (ap (λ o. option_map predicate_kind (or_name (or_unlike (is_kind o kind.Int) a) None)) column)
     (both (option_map source_mentions_output (least_mentioned [] (outputs []))) _ (ap (option_map source_mentions_output) (nothing_mentioned (set.items (outputs []))))
     (ap (λ n. or_else (when (not (nat_le n 64)) (too_large columns_limit)) None) one_column)))
 
-has_sort : sort V ≡ Ok (select_sort (plain_sort U) P)
-unfolding sort
-has_sort = ap (λ o. unless_refused o (select_sort (plain_sort U) P)) no_fault
+has_sort : sort V ≡ Ok (select_sort (plain_sort U []) P)
+unfolding sort tree_of
+has_sort = ap (λ o. unless_refused o (select_sort (plain_sort U []) P)) no_fault
 
 second_free : is_taken one v ≡ false
 second_free = ap is_some (get-other none t T v refl) ∙ is_free v
 
-second_taken_of_one : judged one (Some second) ≡ Ok second
+second_taken_of_one : judged one no_names (Some second) ≡ Ok second
 second_taken_of_one =
-    ap (judged_select one v P t) (get-new none t T)
-    ∙ ap (λ b. unless (b || (nat_le 256 (view_count one) || (not (is_base T) || is_err (sort V)))) second) second_free
-    ∙ ap (λ n. unless (nat_le 256 n || (not (is_base T) || is_err (sort V))) second) no_views
+    ap (judged_select one no_names v P t) (get-new none t T)
+    ∙ ap (λ b. unless (b || (nat_le 256 (view_count one) || (not (is_base T) || (set.contains no_names t || is_err (sort V))))) second) second_free
+    ∙ ap (λ n. unless (nat_le 256 n || (not (is_base T) || (set.contains no_names t || is_err (sort V)))) second) no_views
+    ∙ ap (λ b. unless (b || is_err (sort V)) second) (set.contains-empty bytes_cmp t)
     ∙ ap (λ r. unless (is_err r) second) has_sort
 
 -- ---- the state
@@ -160,17 +173,22 @@ with_table = with_defined first_text first fresh
 abbrev state : State
 state = with_defined second_text second with_table
 
+-- the table has no dependencies
+none_dependent : dependent with_table.texts ≡ no_names
+none_dependent = ap (λ o. with_dependent o no_names) first_says
+
 known_one : catalogue with_table.texts ≡ one
 known_one = known_after fresh first_text first first_taken
 
-second_taken : judged (catalogue with_table.texts) (reading second_text) ≡ Ok second
-second_taken = ap (λ k. judged k (reading second_text)) known_one ∙ ap (judged one) second_says ∙ second_taken_of_one
+second_taken : judged (catalogue with_table.texts) (dependent with_table.texts) (reading second_text) ≡ Ok second
+second_taken = ap (λ k. judged k (dependent with_table.texts) (reading second_text)) known_one ∙ ap (λ names. judged one names (reading second_text)) none_dependent
+    ∙ ap (judged one no_names) second_says ∙ second_taken_of_one
 
 with_table_valid : Valid with_table
-with_table_valid = valid_taken fresh first_text first fresh_is_valid first_taken (judged_ok none (reading first_text) first first_taken).1
+with_table_valid = valid_taken fresh first_text first fresh_is_valid first_taken (judged_ok none no_names (reading first_text) first first_taken).1
 
 valid : Valid state
-valid = valid_taken with_table second_text second with_table_valid second_taken (judged_ok (catalogue with_table.texts) (reading second_text) second second_taken).1
+valid = valid_taken with_table second_text second with_table_valid second_taken (judged_ok (catalogue with_table.texts) (dependent with_table.texts) (reading second_text) second second_taken).1
 
 known_view : finmap.get (catalogue state.texts) v ≡ Some V
 known_view =
@@ -209,8 +227,12 @@ row_holds = ap (λ o. compared gt o (Some (Int (pos 0))) && true) (finmap.get-fr
 rows_put : IsPut state v V N
 rows_put = record { valid = valid; lens = known_view; rows = all_fit }
 
+none_clashes : clash (sort_of V).tree N ≡ None
+unfolding tree_of
+none_clashes = none_clash [] N tt
+
 accepted : IsAccepted (put_set N V state).0
-accepted = (accepted_where state v V N rows_put).1 (of_lens state V N (lens_here state valid v V known_view) all_fit (none_off P N (λ r i. ap (holds P) (only r i) ∙ row_holds)))
+accepted = (accepted_where state v V N rows_put).1 (of_lens V N all_fit (none_off P N (λ r i. ap (holds P) (only r i) ∙ row_holds)) none_clashes)
 
 is_new : has (get V state.tables) row ≡ false
 unfolding get select_get

@@ -1,26 +1,26 @@
 -- What is kept of valid states follows their changes.
-use Rattle.std.proofs.Common.{◌≡◌, ℕ, List, Option, Some, None, Result, Ok, Err, inl, inr, is_some, refl, sym, ap, subst}
+use Rattle.std.proofs.Common.{◌≡◌, ℕ, List, Option, Some, None, Result, Ok, Err, is_some, refl, sym, ap, subst}
 use Rattle.std.specs.FinMap as finmap
 use Rattle.lens_specs.specs.Names.{Name}
 use Rattle.lens_specs.specs.Relation.{Rows}
-use Rattle.lens_specs.specs.Sort.{off}
+use Rattle.lens_specs.specs.Sort.{off, Clash, clash}
 use Rattle.lens_specs.specs.Lens.{Lens, sort_of}
 use Rattle.lens_specs.specs.Delta.{changes}
-use Rattle.lens_specs.specs.Language.{Definition, table, view}
-use Rattle.lens_specs.specs.Reading.{reading}
+use Rattle.language_specs.specs.Language.{Definition, table, view}
+use Rattle.language_specs.specs.Reading.{reading}
 use Rattle.lens_specs.specs.Keeping.{Change, define, rows}
-use Rattle.server_specs.specs.State.{State, catalogue, columns_from}
+use Rattle.server_specs.specs.State.{State, catalogue, dependent, columns_from}
 use Rattle.server_specs.specs.Defining.{judged}
-use Rattle.server_specs.specs.Answering.{answer, answer_request, answer_definition, answer_read, answer_put, put_sent, put_set, unless_off, with_defined}
+use Rattle.server_specs.specs.Answering.{answer, answer_request, answer_definition, answer_read, answer_put, put_sent, put_set, unless_clash, unless_off, with_defined}
 use Rattle.server_specs.specs.Validity.{Valid}
 use Rattle.server_specs.specs.Answer.{Answer}
-use Rattle.server_specs.specs.Request.{Request, define as define_request, read, put as put_request, request}
-use Rattle.server_specs.specs.Sending.{rows_in}
+use Rattle.server_specs.specs.Request.{Request, define as define_request, read, put as put_request, edit, preview, describe, list, request}
+use Rattle.server_specs.specs.Sending.{BadRow, rows_in}
 use Rattle.serde_json.specs.Data.{Items}
 use Rattle.lens_values.specs.SortedSet as set
 use Rattle.lens_values.specs.declared.row.Row.{Row}
 use Rattle.lens_specs.specs.Lines.{Line}
-use Rattle.server_laws.proofs.AnswerFacts.{judged_err}
+use Rattle.server_laws.proofs.AnswerFacts.{judged_err, IsPlain, not_built, no_name, no_column, no_tree, IsNoRequest, too_long, no_json, wrong_member, request_err}
 use Rattle.server_laws.specs.Answers.{IsChange}
 use Rattle.server_laws.proofs.Kept.{AreThere, accept_is_kept, table_is_kept, view_is_kept}
 use Rattle.server_laws.proofs.Stored.{are_there, lens_here}
@@ -29,15 +29,15 @@ use Rattle.server_laws.proofs.Valid.{no_table}
 use Rattle.server_laws.specs.KeptLaws.{KeptFollows, table_made}
 
 pub puts_kept : (s : State) → Valid s → (name : Name) (L : Lens) → finmap.get (catalogue s.texts) name ≡ Some L
-    → (N : Rows) → off (sort_of L).predicate N ≡ None → KeptFollows (rows (changes L N s.tables)) s (put_set N L s).1
-puts_kept s v name L e N none = subst (λ o. KeptFollows (rows (changes L N s.tables)) s (unless_off o L N s).1) (sym none)
-    (accept_is_kept L N s (are_there L s.tables (lens_here s v name L e).are) (changes L N s.tables) refl)
+    → (N : Rows) → off (sort_of L).predicate N ≡ None → clash (sort_of L).tree N ≡ None → KeptFollows (rows (changes L N s.tables)) s (put_set N L s).1
+puts_kept s v name L e N none met = subst (λ o. KeptFollows (rows (changes L N s.tables)) s (unless_off o L N s).1) (sym none)
+    (subst (λ c. KeptFollows (rows (changes L N s.tables)) s (unless_clash c L N s).1) (sym met) (accept_is_kept L N s (are_there L s.tables (lens_here s v name L e).are) (changes L N s.tables) refl))
 
-pub definitions_kept : (s : State) → Valid s → (text : List ℕ) (definition : Definition) → judged (catalogue s.texts) (reading text) ≡ Ok definition
+pub definitions_kept : (s : State) → Valid s → (text : List ℕ) (definition : Definition) → judged (catalogue s.texts) (dependent s.texts) (reading text) ≡ Ok definition
     → KeptFollows (define text (table_made definition)) s (with_defined text definition s)
-definitions_kept s v text (table name columns) j =
-    let free = (judged_ok (catalogue s.texts) (reading text) (table name columns) j).1 in
-    table_is_kept text name (columns_from columns) s (with_defined text (table name columns) s)
+definitions_kept s v text (table name columns deps) j =
+    let free = (judged_ok (catalogue s.texts) (dependent s.texts) (reading text) (table name columns deps) j).1.0 in
+    table_is_kept text name (columns_from columns) s (with_defined text (table name columns deps) s)
     (ap is_some (no_table (finmap.get (catalogue s.texts) name) (finmap.get s.tables name) free (v.tables name))) refl refl
 definitions_kept s v text (view name expr) j = view_is_kept text s (with_defined text (view name expr) s) refl refl
 
@@ -46,41 +46,59 @@ definitions_kept s v text (view name expr) j = view_is_kept text s (with_defined
 IsKept : Answer × State → State → Type 0
 IsKept r s = IsChange r.0 → (change : Change) × KeptFollows change s r.1
 
-kept_definition : (s : State) → Valid s → (text : List ℕ) (r : Result Definition Answer) → judged (catalogue s.texts) (reading text) ≡ r → IsKept (answer_definition text r s) s
+no_change : (a : Answer) → IsPlain a → IsChange a → ⊥
+no_change a (not_built is) h = subst IsChange is h
+no_change a (no_name name is) h = subst IsChange is h
+no_change a (no_column name is) h = subst IsChange is h
+no_change a (no_tree X Y is) h = subst IsChange is h
+
+kept_definition : (s : State) → Valid s → (text : List ℕ) (r : Result Definition Answer) → judged (catalogue s.texts) (dependent s.texts) (reading text) ≡ r → IsKept (answer_definition text r s) s
 unfolding IsKept
 kept_definition s v text (Ok d) j h = (define text (table_made d), definitions_kept s v text d j)
-kept_definition s v text (Err a) j h = elim (judged_err (catalogue s.texts) (reading text) a j) [
-  | inl is ↦ absurd (subst IsChange is h)
-  | inr w ↦ absurd (subst IsChange w.1 h)
-]
+kept_definition s v text (Err a) j h = absurd (no_change a (judged_err (catalogue s.texts) (dependent s.texts) (reading text) a j) h)
 
 kept_read : (s : State) (name : Name) (o : Option Lens) → IsKept (answer_read name o s) s
 unfolding IsKept
 kept_read s name None h = absurd h
 kept_read s name (Some L) h = absurd h
 
+kept_unless_clash : (s : State) (L : Lens) (N : Rows) → AreThere L s.tables → (o : Option Clash) → IsKept (unless_clash o L N s) s
+unfolding IsKept
+kept_unless_clash s L N there None h = (rows (changes L N s.tables), accept_is_kept L N s there (changes L N s.tables) refl)
+kept_unless_clash s L N there (Some c) h = absurd h
+
 kept_unless_off : (s : State) (L : Lens) (N : Rows) → AreThere L s.tables → (o : Option Row) → IsKept (unless_off o L N s) s
 unfolding IsKept
-kept_unless_off s L N there None h = (rows (changes L N s.tables), accept_is_kept L N s there (changes L N s.tables) refl)
+kept_unless_off s L N there None h = kept_unless_clash s L N there (clash (sort_of L).tree N) h
 kept_unless_off s L N there (Some r) h = absurd h
 
-kept_sent : (s : State) (L : Lens) → AreThere L s.tables → (o : Option (List Row)) → IsKept (put_sent o L s) s
+kept_sent : (s : State) (L : Lens) → AreThere L s.tables → (o : Result (List Row) BadRow) → IsKept (put_sent o L s) s
 unfolding IsKept
-kept_sent s L there None h = absurd h
-kept_sent s L there (Some list) h = kept_unless_off s L (set.from_list list) there (off (sort_of L).predicate (set.from_list list)) h
+kept_sent s L there (Err bad) h = absurd h
+kept_sent s L there (Ok sent) h = kept_unless_off s L (set.from_list sent) there (off (sort_of L).predicate (set.from_list sent)) h
 
 kept_answer_put : (s : State) → Valid s → (name : Name) (items : Items) (o : Option Lens) → finmap.get (catalogue s.texts) name ≡ o → IsKept (answer_put name items o s) s
 unfolding IsKept
 kept_answer_put s v name items None e h = absurd h
 kept_answer_put s v name items (Some L) e h = kept_sent s L (are_there L s.tables (lens_here s v name L e).are) (rows_in (sort_of L).columns items) h
 
-kept_request : (s : State) → Valid s → (r : Option Request) → IsKept (answer_request r s) s
+never_changes : (a : Answer) → IsNoRequest a → IsChange a → ⊥
+never_changes a (too_long is) h = subst IsChange is h
+never_changes a (no_json is) h = subst IsChange is h
+never_changes a (wrong_member name is) h = subst IsChange is h
+
+kept_request : (s : State) → Valid s → (r : Result Request Answer) → ((a : Answer) → r ≡ Err a → IsNoRequest a) → IsKept (answer_request r s) s
 unfolding IsKept
-kept_request s v None h = absurd h
-kept_request s v (Some (define_request text)) h = kept_definition s v text (judged (catalogue s.texts) (reading text)) refl h
-kept_request s v (Some (read name)) h = kept_read s name (finmap.get (catalogue s.texts) name) h
-kept_request s v (Some (put_request name items)) h = kept_answer_put s v name items (finmap.get (catalogue s.texts) name) refl h
+kept_request s v (Err refusal) r h = absurd (never_changes refusal (r refusal refl) h)
+kept_request s v (Ok (define_request text)) r h = kept_definition s v text (judged (catalogue s.texts) (dependent s.texts) (reading text)) refl h
+kept_request s v (Ok (read name)) r h = kept_read s name (finmap.get (catalogue s.texts) name) h
+kept_request s v (Ok (put_request name items None)) r h = kept_answer_put s v name items (finmap.get (catalogue s.texts) name) refl h
+kept_request s v (Ok (put_request name items (Some on))) r h = absurd h
+kept_request s v (Ok (edit name remove add on)) r h = absurd h
+kept_request s v (Ok (preview name remove add on)) r h = absurd h
+kept_request s v (Ok (describe name)) r h = absurd h
+kept_request s v (Ok list) r h = absurd h
 
 pub changes_kept : (s : State) → Valid s → (l : Line) → IsChange (answer s l).0 → (change : Change) × KeptFollows change s (answer s l).1
 unfolding answer IsKept
-changes_kept s v l h = kept_request s v (request l) h
+changes_kept s v l h = kept_request s v (request l) (request_err l) h

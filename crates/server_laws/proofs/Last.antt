@@ -15,22 +15,22 @@ use Rattle.lens_laws.specs.Lenses.{AreOf}
 use Rattle.lens_specs.specs.Names.{Name, is_among}
 use Rattle.lens_specs.specs.Relation.{Relation, Rows, has}
 use Rattle.lens_specs.specs.Columns.{Fits}
-use Rattle.lens_specs.specs.Sort.{off, IsOf}
+use Rattle.lens_specs.specs.Sort.{off, Clash, clash, IsOf}
 use Rattle.lens_specs.specs.Lens.{Tables, Lens, sort_of, tables_of, table as rows_of_table, put}
 use Rattle.lens_specs.specs.Delta.{TableDelta, diff, is_empty, differences, changes}
-use Rattle.lens_specs.specs.Language.{Definition, table, view}
+use Rattle.language_specs.specs.Language.{Definition, table, view}
 use Rattle.lens_specs.specs.Lines.{Line}
-use Rattle.lens_specs.specs.Reading.{reading}
-use Rattle.server_specs.specs.State.{State, catalogue, columns_from}
+use Rattle.language_specs.specs.Reading.{reading}
+use Rattle.server_specs.specs.State.{State, catalogue, dependent, columns_from}
 use Rattle.server_specs.specs.Answer.{Answer}
-use Rattle.server_specs.specs.Request.{Request, define, read, put as put_request, request}
+use Rattle.server_specs.specs.Request.{Request, define, read, put as put_request, edit, preview, describe, list, request}
 use Rattle.server_specs.specs.Defining.{judged}
-use Rattle.server_specs.specs.Sending.{rows_in}
-use Rattle.server_specs.specs.Answering.{answer, answer_request, answer_definition, answer_read, answer_put, put_sent, unless_off, accept, with_last}
+use Rattle.server_specs.specs.Sending.{BadRow, rows_in}
+use Rattle.server_specs.specs.Answering.{answer, answer_request, answer_definition, answer_read, answer_put, put_sent, unless_clash, unless_off, accept, with_last}
 use Rattle.server_specs.specs.Validity.{Valid}
 use Rattle.server_laws.proofs.Differences.{empty_same}
 use Rattle.server_laws.proofs.Puts.{same_table}
-use Rattle.server_laws.proofs.Sent.{sent_fit}
+use Rattle.server_specs.proofs.Sent.{sent_fit}
 use Rattle.server_laws.proofs.Stored.{IsHere, lens_here}
 use Rattle.server_laws.proofs.Valid.{of_lens}
 use Rattle.server_laws.specs.AnswerLaws.{IsLast}
@@ -89,13 +89,18 @@ last_accept s L N here n [] is q = stays s q
 last_accept s L N here n (d ∷ ds) is q = subst (λ l. IsLast s (record s { tables = put L N s.tables; version = s.version + 1; last = with_last (s.version + 1) l s.last }) q) is
     (last_put s L N here.are (get_after L s.tables here.typed here.are N n).0 q)
 
+last_unless_clash : (s : State) (L : Lens) (N : Rows) → IsHere s L → ((r : Row) → has N r ≡ true → Fits (sort_of L).columns r) → off (sort_of L).predicate N ≡ None
+    → (o : Option Clash) → clash (sort_of L).tree N ≡ o → (q : Name) → IsLast s (unless_clash o L N s).1 q
+last_unless_clash s L N here fits none None is q = last_accept s L N here (of_lens L N fits none is) (changes L N s.tables) refl q
+last_unless_clash s L N here fits none (Some c) is q = stays s q
+
 last_unless_off : (s : State) (L : Lens) (N : Rows) → IsHere s L → ((r : Row) → has N r ≡ true → Fits (sort_of L).columns r) → (o : Option Row) → off (sort_of L).predicate N ≡ o → (q : Name) → IsLast s (unless_off o L N s).1 q
-last_unless_off s L N here fits None is q = last_accept s L N here (of_lens s L N here fits is) (changes L N s.tables) refl q
+last_unless_off s L N here fits None is q = last_unless_clash s L N here fits is (clash (sort_of L).tree N) refl q
 last_unless_off s L N here fits (Some r) is q = stays s q
 
-last_sent : (s : State) (L : Lens) (items : Items) → IsHere s L → (o : Option (List Row)) → rows_in (sort_of L).columns items ≡ o → (q : Name) → IsLast s (put_sent o L s).1 q
-last_sent s L items here None is q = stays s q
-last_sent s L items here (Some rows) is q = last_unless_off s L (set.from_list rows) here (sent_fit (sort_of L).columns items rows is) (off (sort_of L).predicate (set.from_list rows)) refl q
+last_sent : (s : State) (L : Lens) (items : Items) → IsHere s L → (o : Result (List Row) BadRow) → rows_in (sort_of L).columns items ≡ o → (q : Name) → IsLast s (put_sent o L s).1 q
+last_sent s L items here (Err bad) is q = stays s q
+last_sent s L items here (Ok rows) is q = last_unless_off s L (set.from_list rows) here (sent_fit (sort_of L).columns items rows is) (off (sort_of L).predicate (set.from_list rows)) refl q
 
 last_answer_put : (s : State) (name : Name) (items : Items) → Valid s → (o : Option Lens) → finmap.get (catalogue s.texts) name ≡ o → (q : Name) → IsLast s (answer_put name items o s).1 q
 last_answer_put s name items v None is q = stays s q
@@ -105,7 +110,7 @@ last_answer_put s name items v (Some L) is q = last_sent s L items (lens_here s 
 last_definition : (s : State) (text : List ℕ) (r : Result Definition Answer) (q : Name) → IsLast s (answer_definition text r s).1 q
 last_definition s text (Err refusal) q = stays s q
 last_definition s text (Ok (view name expr)) q = inr (refl, refl)
-last_definition s text (Ok (table name columns)) q =
+last_definition s text (Ok (table name columns deps)) q =
     let M : Relation = record { columns = columns_from columns; rows = set.empty } in
     elim (cases_Bool (eq_by_cmp bytes_cmp q name)) [
       | inl t ↦ inl (finmap.get-insert name_total s.last name (s.version + 1) q ∙ ap (λ c. cond c (Some (s.version + 1)) (finmap.get s.last q)) t)
@@ -119,11 +124,16 @@ last_read : (s : State) (name : Name) (o : Option Lens) (q : Name) → IsLast s 
 last_read s name None q = stays s q
 last_read s name (Some L) q = stays s q
 
-last_request : (s : State) → Valid s → (r : Option Request) (q : Name) → IsLast s (answer_request r s).1 q
-last_request s v None q = stays s q
-last_request s v (Some (define text)) q = last_definition s text (judged (catalogue s.texts) (reading text)) q
-last_request s v (Some (read name)) q = last_read s name (finmap.get (catalogue s.texts) name) q
-last_request s v (Some (put_request name items)) q = last_answer_put s name items v (finmap.get (catalogue s.texts) name) refl q
+last_request : (s : State) → Valid s → (r : Result Request Answer) (q : Name) → IsLast s (answer_request r s).1 q
+last_request s v (Err refusal) q = stays s q
+last_request s v (Ok (define text)) q = last_definition s text (judged (catalogue s.texts) (dependent s.texts) (reading text)) q
+last_request s v (Ok (read name)) q = last_read s name (finmap.get (catalogue s.texts) name) q
+last_request s v (Ok (put_request name items None)) q = last_answer_put s name items v (finmap.get (catalogue s.texts) name) refl q
+last_request s v (Ok (put_request name items (Some on))) q = stays s q
+last_request s v (Ok (edit name remove add on)) q = stays s q
+last_request s v (Ok (preview name remove add on)) q = stays s q
+last_request s v (Ok (describe name)) q = stays s q
+last_request s v (Ok list) q = stays s q
 
 pub last_answer : (s : State) (l : Line) → Valid s → (name : Name) → IsLast s (answer s l).1 name
 unfolding answer

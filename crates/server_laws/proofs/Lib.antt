@@ -3,8 +3,8 @@ pub mod Kept
 pub mod Taken
 pub mod Stored
 pub mod Valid
-pub mod Sent
 pub mod AnswerFacts
+pub mod Clashes
 pub mod Puts
 pub mod KeptStates
 pub mod LinePuts

@@ -1,21 +1,21 @@
 -- Lines that read and put.
-use Rattle.std.proofs.Common.{◌≡◌, List, [], ◌∷◌, Option, Some, None, refl, ap, subst, ◌∙◌}
+use Rattle.std.proofs.Common.{◌≡◌, List, [], ◌∷◌, Option, Some, None, Ok, refl, ap, subst, ◌∙◌}
 use Rattle.std.specs.FinMap as finmap
 use Rattle.lens_values.specs.SortedSet as set
 use Rattle.lens_values.specs.declared.row.Row.{Row}
 use Rattle.lens_specs.specs.Names.{Name}
 use Rattle.lens_specs.specs.Relation.{Rows}
-use Rattle.lens_specs.specs.Sort.{off}
+use Rattle.lens_specs.specs.Sort.{off, Clash}
 use Rattle.lens_specs.specs.Lens.{Lens, sort_of, get}
 use Rattle.lens_specs.specs.Delta.{TableDelta, changes}
 use Rattle.lens_specs.specs.Lines.{Line}
 use Rattle.server_specs.specs.State.{State, catalogue}
 use Rattle.server_specs.specs.Answer.{shown, changed}
 use Rattle.server_specs.specs.Request.{read, request}
-use Rattle.server_specs.specs.Answering.{answer, answer_request, answer_read, answer_put, put_sent, put_set, unless_off, accept}
+use Rattle.server_specs.specs.Answering.{answer, answer_request, answer_read, answer_put, put_sent, put_set, unless_clash, unless_off, accept}
 use Rattle.server_specs.specs.Validity.{Valid}
 use Rattle.server_laws.proofs.Puts.{put_then_read, read_then_put}
-use Rattle.server_laws.proofs.Sent.{sent_fit}
+use Rattle.server_specs.proofs.Sent.{sent_fit}
 use Rattle.server_laws.specs.Answers.{IsAccepted}
 use Rattle.server_laws.specs.LineLaws.{IsReadLine, IsPutLine}
 use Rattle.server_laws.specs.PutLaws.{IsPut}
@@ -33,8 +33,12 @@ texts_accept : (L : Lens) (N : Rows) (ds : List TableDelta) (s : State) → (acc
 texts_accept L N [] s = refl
 texts_accept L N (d ∷ ds) s = refl
 
+texts_met : (o : Option Clash) (L : Lens) (N : Rows) (s : State) → (unless_clash o L N s).1.texts ≡ s.texts
+texts_met None L N s = texts_accept L N (changes L N s.tables) s
+texts_met (Some c) L N s = refl
+
 texts_stay : (o : Option Row) (L : Lens) (N : Rows) (s : State) → (unless_off o L N s).1.texts ≡ s.texts
-texts_stay None L N s = texts_accept L N (changes L N s.tables) s
+texts_stay None L N s = texts_met _ L N s
 texts_stay (Some r) L N s = refl
 
 pub put_texts : (N : Rows) (L : Lens) (s : State) → (put_set N L s).1.texts ≡ s.texts
@@ -43,7 +47,7 @@ put_texts N L s = texts_stay (off (sort_of L).predicate N) L N s
 is_put : (s : State) → Valid s → (l : Line) (name : Name) (L : Lens) (rows : List Row) → IsPutLine s l name L rows → IsPut s name L (set.from_list rows)
 is_put s v l name L rows h = record { valid = v; lens = h.lens; rows = sent_fit (sort_of L).columns h.items rows h.sent }
 
-pub next_line_reads : (s : State) → Valid s → (l m : Line) (name : Name) (L : Lens) (rows : List Row) → IsPutLine s l name L rows → IsAccepted (answer s l).0 → request m ≡ Some (read name)
+pub next_line_reads : (s : State) → Valid s → (l m : Line) (name : Name) (L : Lens) (rows : List Row) → IsPutLine s l name L rows → IsAccepted (answer s l).0 → request m ≡ Ok (read name)
     → (answer (answer s l).1 m).0 ≡ shown (set.from_list rows) (answer s l).1.version
 next_line_reads s v l m name L rows h accepted asked =
     let is = lines_put s l name L rows h in

@@ -4,17 +4,12 @@ use Rattle.std.specs.Prelude.{◌↔◌}
 use Rattle.std.proofs.lemmas.Bool.{cases_Bool, or_cases, true≢false}
 use Rattle.std.specs.FinMap as finmap
 use Rattle.std.specs.Ordering.{eq_by_cmp}
-use Rattle.std.specs.Prelude.{◌≢◌}
-use Rattle.std.specs.Ordering.{ordering_reverse}
-use Rattle.std.specs.declared.cmp.Ordering.{Ordering}
-use Rattle.std.specs.declared.cmp.Ordering.TheVariants.{Less, Equal, Greater}
 use Rattle.lens_values.specs.Row.{row_cmp}
-use Rattle.lens_laws.proofs.Rows.{row_total, row_exact}
-use Rattle.lens_laws.proofs.Sorts.{off_none}
+use Rattle.lens_laws.proofs.Sorts.{off_none, none_off}
 use Rattle.lens_values.specs.Order.{bytes_cmp}
 use Rattle.lens_values.specs.SortedSet as set
 use Rattle.lens_values.specs.declared.row.Row.{Row}
-use Rattle.lens_laws.proofs.Least.{off_is}
+use Rattle.lens_laws.proofs.Least.{clash_is, off_is}
 use Rattle.lens_laws.proofs.Lenses.{get_sort, get_after, put_back, put_leaves}
 use Rattle.lens_laws.proofs.Lists.{in_cons}
 use Rattle.lens_laws.proofs.Names.{name_total, name_exact, name_itself, tied_name, one_is}
@@ -24,18 +19,20 @@ use Rattle.lens_laws.specs.Lenses.{AreOf}
 use Rattle.lens_specs.specs.Names.{Name, is_among}
 use Rattle.lens_specs.specs.Relation.{Rows}
 use Rattle.lens_specs.specs.Predicate.{Predicate, holds}
-use Rattle.lens_specs.specs.Sort.{Sort, off, IsOf}
+use Rattle.lens_specs.specs.Dependencies.{Edge}
+use Rattle.lens_specs.specs.Sort.{Sort, off, Clash, clash as first_clash, IsOf}
 use Rattle.lens_specs.specs.Lens.{Tables, Lens, base, select, drop, join, sort_of, tables_of, table, rows_or_none, get, put}
 use Rattle.lens_specs.specs.Delta.{TableDelta, diff, is_empty, differences, changes}
 use Rattle.server_specs.specs.State.{State, catalogue}
-use Rattle.server_specs.specs.Answer.{changed, off_predicate}
-use Rattle.server_specs.specs.Answering.{put_set, unless_off, accept}
+use Rattle.server_specs.specs.Answer.{Answer, changed, clash, off_predicate}
+use Rattle.server_specs.specs.Answering.{put_set, unless_clash, unless_off, accept}
 use Rattle.server_specs.specs.Validity.{Valid}
+use Rattle.server_laws.proofs.Clashes.{clash_of_first, least_is_one}
 use Rattle.server_laws.proofs.Differences.{empty_same, none_differ}
 use Rattle.server_laws.proofs.Stored.{IsHere, lens_here}
 use Rattle.server_laws.proofs.Valid.{of_lens}
 use Rattle.server_laws.specs.Answers.{IsAccepted}
-use Rattle.server_laws.specs.PutLaws.{IsPut}
+use Rattle.server_laws.specs.PutLaws.{IsFirstClashOf, IsPut}
 
 -- ---- tables that a put does not change
 
@@ -86,35 +83,45 @@ accepts : (L : Lens) (N : Rows) (ds : List TableDelta) (s : State) → IsAccepte
 accepts L N [] s = tt
 accepts L N (d ∷ ds) s = tt
 
-not_off : (o : Option Row) (L : Lens) (N : Rows) (s : State) → IsAccepted (unless_off o L N s).0 → o ≡ None
-not_off None L N s h = refl
+not_clash : (o : Option Clash) (L : Lens) (N : Rows) (s : State) → IsAccepted (unless_clash o L N s).0 → o ≡ None
+not_clash None L N s h = refl
+not_clash (Some c) L N s h = absurd h
+
+not_off : (o : Option Row) (L : Lens) (N : Rows) (s : State) → IsAccepted (unless_off o L N s).0 → (o ≡ None) × (first_clash (sort_of L).tree N ≡ None)
+not_off None L N s h = (refl, not_clash (first_clash (sort_of L).tree N) L N s h)
 not_off (Some r) L N s h = absurd h
+
+-- where nothing is refused, a put is `accept`
+pub put_is_accept : (N : Rows) (L : Lens) (s : State) → off (sort_of L).predicate N ≡ None → first_clash (sort_of L).tree N ≡ None → put_set N L s ≡ accept L N (changes L N s.tables) s
+put_is_accept N L s none met = ap (λ o. unless_off o L N s) none ∙ ap (λ c. unless_clash c L N s) met
 
 -- an accepted put, as `accept`
 accepted_is : (L : Lens) (N : Rows) (s : State) → IsAccepted (put_set N L s).0 → put_set N L s ≡ accept L N (changes L N s.tables) s
-accepted_is L N s h = ap (λ o. unless_off o L N s) (not_off (off (sort_of L).predicate N) L N s h)
+accepted_is L N s h = let w = not_off (off (sort_of L).predicate N) L N s h in put_is_accept N L s w.0 w.1
 
 typed_of : (s : State) (name : Name) (L : Lens) (N : Rows) → IsPut s name L N → IsAccepted (put_set N L s).0 → IsOf N (sort_of L)
-typed_of s name L N p h = of_lens s L N (here_of s name L N p) p.rows (not_off (off (sort_of L).predicate N) L N s h)
+typed_of s name L N p h = let w = not_off (off (sort_of L).predicate N) L N s h in of_lens L N p.rows w.0 w.1
 
 pub accepted_where : (s : State) (name : Name) (L : Lens) (N : Rows) → IsPut s name L N → IsAccepted (put_set N L s).0 ↔ IsOf N (sort_of L)
 accepted_where s name L N p = (
   typed_of s name L N p,
-  λ n. subst (λ o. IsAccepted (unless_off o L N s).0) (sym n.off) (accepts L N (changes L N s.tables) s),
+  λ n. subst (λ r. IsAccepted r.0) (sym (put_is_accept N L s n.off n.clash)) (accepts L N (changes L N s.tables) s),
 )
 
-either_case : (s : State) (L : Lens) (N : Rows) (o : Option Row) → IsAccepted (unless_off o L N s).0 ⊎ ((row : Row) × (unless_off o L N s ≡ (off_predicate row, s)))
-either_case s L N None = inl (accepts L N (changes L N s.tables) s)
-either_case s L N (Some row) = inr (row, refl)
+-- an answer to a put
+abbrev IsSettled : State → Answer × State → Type 0
+IsSettled s r = IsAccepted r.0 ⊎ (((row : Row) × (r ≡ (off_predicate row, s))) ⊎ ((edge : Edge) × (first : Row) × (second : Row) × (r ≡ (clash edge first second, s))))
 
-pub accepted_or_refused : (s : State) (name : Name) (L : Lens) (N : Rows) → IsPut s name L N → IsAccepted (put_set N L s).0 ⊎ ((row : Row) × (put_set N L s ≡ (off_predicate row, s)))
+clash_case : (s : State) (L : Lens) (N : Rows) (o : Option Clash) → IsSettled s (unless_clash o L N s)
+clash_case s L N None = inl (accepts L N (changes L N s.tables) s)
+clash_case s L N (Some c) = inr (inr (c.edge, c.first, c.second, refl))
+
+either_case : (s : State) (L : Lens) (N : Rows) (o : Option Row) → IsSettled s (unless_off o L N s)
+either_case s L N None = clash_case s L N (first_clash (sort_of L).tree N)
+either_case s L N (Some row) = inr (inl (row, refl))
+
+pub accepted_or_refused : (s : State) (name : Name) (L : Lens) (N : Rows) → IsPut s name L N → IsSettled s (put_set N L s)
 accepted_or_refused s name L N p = either_case s L N (off (sort_of L).predicate N)
-
--- two rows that are both least are one
-least_is_one : (a b : Row) (o : Ordering) → row_cmp a b ≡ o → o ≢ Greater → row_cmp b a ≢ Greater → a ≡ b
-least_is_one a b Less is h k = absurd (k (row_total.antisymm b a ∙ ap ordering_reverse is))
-least_is_one a b Equal is h k = row_exact a b is
-least_is_one a b Greater is h k = absurd (h refl)
 
 off_of_least : (P : Predicate) (N : Rows) (row : Row) → IsOff (holds P) N row → (o : Option Row) → off P N ≡ o → o ≡ Some row
 off_of_least P N row w None is = absurd (true≢false (sym (off_none P N is row w.there) ∙ w.refused))
@@ -122,14 +129,51 @@ off_of_least P N row w (Some r) is =
     let v = off_is P N r is in
     ap Some (least_is_one r row (row_cmp r row) refl (v.least row w.there w.refused) (w.least r v.there v.refused))
 
+no_row : (o : Option Clash) (L : Lens) (N : Rows) (s : State) (row : Row) → unless_clash o L N s ≡ (off_predicate row, s) → ⊥
+no_row None L N s row e = subst IsAccepted (ap (λ r. r.0) e) (accepts L N (changes L N s.tables) s)
+no_row (Some c) L N s row e = let f : clash c.edge c.first c.second ≡ off_predicate row = ap (λ r. r.0) e in cc
+
 refusing : (o : Option Row) (L : Lens) (N : Rows) (s : State) (row : Row) → unless_off o L N s ≡ (off_predicate row, s) → o ≡ Some row
-refusing None L N s row e = absurd (subst IsAccepted (ap (λ r. r.0) e) (accepts L N (changes L N s.tables) s))
+refusing None L N s row e = absurd (no_row (first_clash (sort_of L).tree N) L N s row e)
 refusing (Some r) L N s row e = let f : off_predicate r ≡ off_predicate row = ap (λ r. r.0) e in ap Some (cc)
 
 pub refused_by : (s : State) (name : Name) (L : Lens) (N : Rows) → IsPut s name L N → (row : Row) → (put_set N L s ≡ (off_predicate row, s)) ↔ IsOff (holds (sort_of L).predicate) N row
 refused_by s name L N p row = (
   λ e. off_is (sort_of L).predicate N row (refusing (off (sort_of L).predicate N) L N s row e),
   λ w. ap (λ o. unless_off o L N s) (off_of_least (sort_of L).predicate N row w (off (sort_of L).predicate N) refl),
+)
+
+-- ---- what is refused for a clash
+
+parts_same : (e k : Edge) (r p s q : Row) → clash e r s ≡ clash k p q → (e ≡ k) × (r ≡ p) × (s ≡ q)
+parts_same e k r p s q h = (cc, cc, cc)
+
+clashing : (o : Option Clash) (L : Lens) (N : Rows) (s : State) (edge : Edge) (first second : Row) → unless_clash o L N s ≡ (clash edge first second, s)
+    → (c : Clash) × (o ≡ Some c) × (c.edge ≡ edge) × (c.first ≡ first) × (c.second ≡ second)
+clashing None L N s edge first second e = absurd (subst IsAccepted (ap (λ r. r.0) e) (accepts L N (changes L N s.tables) s))
+clashing (Some c) L N s edge first second e = let w = parts_same c.edge edge c.first first c.second second (ap (λ r. r.0) e) in (c, refl, w.0, w.1, w.2)
+
+met_rows : (o : Option Row) (L : Lens) (N : Rows) (s : State) (edge : Edge) (first second : Row) → unless_off o L N s ≡ (clash edge first second, s)
+    → (o ≡ None) × (unless_clash (first_clash (sort_of L).tree N) L N s ≡ (clash edge first second, s))
+met_rows None L N s edge first second e = (refl, e)
+met_rows (Some r) L N s edge first second e = let f : off_predicate r ≡ clash edge first second = ap (λ r. r.0) e in cc
+
+clashes_from : (s : State) (L : Lens) (N : Rows) (edge : Edge) (first second : Row) → put_set N L s ≡ (clash edge first second, s) → IsFirstClashOf (sort_of L) N edge first second
+clashes_from s L N edge first second e =
+    let w = met_rows (off (sort_of L).predicate N) L N s edge first second e in
+    let v = clashing (first_clash (sort_of L).tree N) L N s edge first second w.1 in
+    (off_none (sort_of L).predicate N w.0, (v.0, clash_is (sort_of L).tree N v.0 v.1, v.2, v.3, v.4))
+
+as_clash : (c : Clash) (edge : Edge) (first second : Row) (s : State) → c.edge ≡ edge → c.first ≡ first → c.second ≡ second → ◌≡◌ {A = Answer × State} (clash c.edge c.first c.second, s) (clash edge first second, s)
+as_clash c edge first second s e f g = λ i. (clash (e i) (f i) (g i), s)
+
+pub clashes_by : (s : State) (name : Name) (L : Lens) (N : Rows) → IsPut s name L N → (edge : Edge) (first second : Row)
+    → (put_set N L s ≡ (clash edge first second, s)) ↔ IsFirstClashOf (sort_of L) N edge first second
+clashes_by s name L N p edge first second = (
+  clashes_from s L N edge first second,
+  λ h. ap (λ o. unless_off o L N s) (none_off (sort_of L).predicate N h.0)
+      ∙ ap (λ o. unless_clash o L N s) (clash_of_first (sort_of L).tree N h.1.0 h.1.1 (first_clash (sort_of L).tree N) refl)
+      ∙ as_clash h.1.0 edge first second s h.1.2 h.1.3 h.1.4,
 )
 
 -- ---- what is read again, and what is changed
@@ -173,8 +217,12 @@ leaves : (L : Lens) (N : Rows) (ds : List TableDelta) (s : State) (t : Name) →
 leaves L N [] s t o = refl
 leaves L N (d ∷ ds) s t o = put_leaves L N s.tables t o
 
+others_met : (o : Option Clash) (L : Lens) (N : Rows) (s : State) (t : Name) → set.contains (tables_of L) t ≡ false → finmap.get (unless_clash o L N s).1.tables t ≡ finmap.get s.tables t
+others_met None L N s t o = leaves L N (changes L N s.tables) s t o
+others_met (Some c) L N s t o = refl
+
 pub others_stay : (r : Option Row) (L : Lens) (N : Rows) (s : State) (t : Name) → set.contains (tables_of L) t ≡ false → finmap.get (unless_off r L N s).1.tables t ≡ finmap.get s.tables t
-others_stay None L N s t o = leaves L N (changes L N s.tables) s t o
+others_stay None L N s t o = others_met (first_clash (sort_of L).tree N) L N s t o
 others_stay (Some r) L N s t o = refl
 
 -- to put back what was read
@@ -182,4 +230,5 @@ pub read_then_put : (s : State) → Valid s → (name : Name) (L : Lens) → fin
 read_then_put s v name L e =
     let here = lens_here s v name L e in
     let none : changes L (get L s.tables) s.tables ≡ [] = ap (differences (set.items (tables_of L)) s.tables) (put_back L s.tables here.typed here.are) ∙ none_differ (set.items (tables_of L)) s.tables in
-    ap (λ o. unless_off o L (get L s.tables) s) (get_sort L s.tables here.typed here.are).off ∙ ap (λ ds. accept L (get L s.tables) ds s) none
+    let n = get_sort L s.tables here.typed here.are in
+    put_is_accept (get L s.tables) L s n.off n.clash ∙ ap (λ ds. accept L (get L s.tables) ds s) none

@@ -7,25 +7,31 @@ use Rattle.std.specs.Ordering.{eq_by_cmp}
 use Rattle.lens_values.specs.Order.{bytes_cmp}
 use Rattle.lens_laws.proofs.Lists.{false_from}
 use Rattle.lens_laws.proofs.Names.{name_total, name_itself, tied_name}
-use Rattle.lens_laws.proofs.Rules.{sort_is_typed}
+use Rattle.lens_laws.proofs.Rules.{sort_is_typed, table_sort_is_sound}
 use Rattle.lens_laws.specs.Passes.{IsSound}
 use Rattle.lens_laws.specs.Rules.{BasesAreSound}
-use Rattle.lens_specs.specs.Names.{Name}
+use Rattle.lens_values.specs.SortedSet as set
+use Rattle.lens_specs.specs.Names.{Name, Names}
+use Rattle.lens_specs.specs.Dependencies.{Edge}
+use Rattle.lens_specs.specs.TreeForm.{TreeForm, is_tree, not_tree, tree_of}
+use Rattle.lens_specs.specs.Sort.{Sort}
+use Rattle.lens_specs.specs.Refusal.{Refusal, unknown_column, predicate_kind, or_else, unknown_name, unlike_kinds, too_much}
 use Rattle.lens_specs.specs.Columns.{Columns}
 use Rattle.lens_specs.specs.Predicate.{Predicate}
-use Rattle.lens_specs.specs.Lens.{Lens, base, select, drop, join, sort_of}
-use Rattle.lens_specs.specs.Typing.{sort}
-use Rattle.lens_specs.specs.Language.{Definition, table, view, Expr, named}
-use Rattle.lens_specs.specs.Language as language
-use Rattle.lens_specs.specs.Reading.{reading}
-use Rattle.server_specs.specs.State.{Catalogue, catalogue, catalogue_onto, with_definition, with_lens, plain_sort, table_lens, columns_from}
-use Rattle.server_specs.specs.Defining.{is_base, is_taken, are_columns, view_count, unless, judged, judged_select, refused_from, first_refused}
+use Rattle.lens_specs.specs.Lens.{Lens, base, select, drop, join, sort_of, tree_or_none}
+use Rattle.lens_specs.specs.Typing.{sort, table_sort, table_sort_with, unknown_in, unless_refused}
+use Rattle.language_specs.specs.Language.{Definition, table, view, Expr, named}
+use Rattle.language_specs.specs.Language as language
+use Rattle.language_specs.specs.Reading.{reading}
+use Rattle.server_specs.specs.State.{Catalogue, catalogue, catalogue_onto, with_definition, with_lens, plain_sort, table_lens, columns_from, dependent, dependent_onto, with_dependent}
+use Rattle.server_specs.specs.Answer.{unbuilt}
+use Rattle.server_specs.specs.Defining.{is_base, is_taken, are_columns, view_count, unless, is_no_table, where_sorted, judged, judged_select, refused_from, first_refused}
 
 -- ---- what a judgement says
 
 -- a definition that is taken
 abbrev pub IsTaken : Catalogue → Definition → Type 0
-IsTaken known (table name columns) = is_taken known name ≡ false
+IsTaken known (table name columns deps) = (is_taken known name ≡ false) × ((sort : Sort) × (table_sort (columns_from columns) deps [] ≡ Ok sort))
 IsTaken known (view name (named source)) = ⊥
 IsTaken known (view name (language.select P (named source))) =
     (is_taken known name ≡ false) × ((lens : Lens) × (finmap.get known source ≡ Some lens) × (is_err (sort (select P lens)) ≡ false))
@@ -35,28 +41,37 @@ unless_ok : (b : Bool) (d e : Definition) → unless b d ≡ Ok e → (b ≡ fal
 unless_ok true d e h = cc
 unless_ok false d e h = (refl, cc)
 
-select_ok : (known : Catalogue) (name : Name) (P : Predicate) (source : Name) (o : Option Lens) → finmap.get known source ≡ o → (d : Definition) → judged_select known name P source o ≡ Ok d
+select_ok : (known : Catalogue) (dependent : Names) (name : Name) (P : Predicate) (source : Name) (o : Option Lens) → finmap.get known source ≡ o → (d : Definition) → judged_select known dependent name P source o ≡ Ok d
     → (view name (language.select P (named source)) ≡ d) × IsTaken known (view name (language.select P (named source)))
-select_ok known name P source None is d h = cc
-select_ok known name P source (Some lens) is d h =
+select_ok known dependent name P source None is d h = cc
+select_ok known dependent name P source (Some lens) is d h =
     let w = unless_ok _ _ d h in
     let a = or_parts (is_taken known name) _ w.0 in
     let b = or_parts (nat_le 256 (view_count known)) _ a.1 in
     let c = or_parts (not (is_base lens)) _ b.1 in
-    (w.1, (a.0, (lens, is, c.1)))
+    let e = or_parts (set.contains dependent source) _ c.1 in
+    (w.1, (a.0, (lens, is, e.1)))
+
+sorted_ok : (r : Result Sort Refusal) (d e : Definition) → where_sorted r d ≡ Ok e → ((sort : Sort) × (r ≡ Ok sort)) × (d ≡ e)
+sorted_ok (Ok sort) d e h = ((sort, refl), cc)
+sorted_ok (Err refused) d e h = cc
+
+table_ok : (b : Bool) (r : Result Sort Refusal) (d e : Definition) → cond b (Err unbuilt) (where_sorted r d) ≡ Ok e → (b ≡ false) × ((sort : Sort) × (r ≡ Ok sort)) × (d ≡ e)
+table_ok true r d e h = cc
+table_ok false r d e h = let w = sorted_ok r d e h in (refl, w.0, w.1)
 
 -- what is judged well is the definition itself, and it is taken
-pub judged_ok : (known : Catalogue) (o : Option Definition) (d : Definition) → judged known o ≡ Ok d → (o ≡ Some d) × IsTaken known d
-judged_ok known None d h = cc
-judged_ok known (Some (table name columns)) d h =
-    let w = unless_ok _ _ d h in
+pub judged_ok : (known : Catalogue) (dependent : Names) (o : Option Definition) (d : Definition) → judged known dependent o ≡ Ok d → (o ≡ Some d) × IsTaken known d
+judged_ok known dependent None d h = cc
+judged_ok known dependent (Some (table name columns deps)) d h =
+    let w = table_ok (is_no_table known name columns) (table_sort (columns_from columns) deps []) (table name columns deps) d h in
     let a = or_parts (not (are_columns columns)) _ w.0 in
-    (ap Some w.1, subst (IsTaken known) w.1 (or_parts (is_taken known name) _ a.1).0)
-judged_ok known (Some (view name (named source))) d h = cc
-judged_ok known (Some (view name (language.select P (named source)))) d h =
-    let w = select_ok known name P source (finmap.get known source) refl d h in
+    (ap Some w.2, subst (IsTaken known) w.2 ((or_parts (is_taken known name) _ a.1).0, w.1))
+judged_ok known dependent (Some (view name (named source))) d h = cc
+judged_ok known dependent (Some (view name (language.select P (named source)))) d h =
+    let w = select_ok known dependent name P source (finmap.get known source) refl d h in
     (ap Some w.0, subst (IsTaken known) w.0 w.1)
-judged_ok known (Some (view name (language.select P (language.select Q expr)))) d h = cc
+judged_ok known dependent (Some (view name (language.select P (language.select Q expr)))) d h = cc
 
 pub no_error : {A E : Type 0} (r : Result A E) → is_err r ≡ false → (a : A) × (r ≡ Ok a)
 no_error (Ok a) h = (a, refl)
@@ -71,12 +86,11 @@ BasesAre known (select P C) = BasesAre known C
 BasesAre known (drop A X a C) = BasesAre known C
 BasesAre known (join A B) = BasesAre known A × BasesAre known B
 
--- a lens has a sort, with no dependencies, and its tables are those of the catalogue
+-- a lens has a sort, and its tables are those of the catalogue
 pub record IsKnown (known : Catalogue) (L : Lens) : Type 0 where
   pub sound : BasesAreSound L
   pub sorted : sort L ≡ Ok (sort_of L)
   pub bases : BasesAre known L
-  pub treeless : (sort_of L).tree ≡ []
 
 -- each lens of the catalogue is so
 abbrev pub AllKnown : Catalogue → Type 0
@@ -107,15 +121,35 @@ one_more known name M free here all q L e = elim (cases_Bool (eq_by_cmp bytes_cm
       subst (IsKnown (finmap.insert known name M)) same here
   | inr o ↦
       let k = all q L (sym (get-other known name M q o) ∙ e) in
-      record { sound = k.sound; sorted = k.sorted; bases = bases_stay known name M free L k.bases; treeless = k.treeless }
+      record { sound = k.sound; sorted = k.sorted; bases = bases_stay known name M free L k.bases }
 ]
 
-plain_is_sound : (columns : Columns) → IsSound (plain_sort columns)
-plain_is_sound columns = record { tree = tt; within = tt; pred = λ c h. absurd (true≢false (sym h)) }
+-- the sort of a table with no predicate
+formed_plain : (columns : Columns) (deps : List Edge) (form : TreeForm) (t : Sort) → table_sort_with columns deps [] form ≡ Ok t → t ≡ plain_sort columns (tree_or_none form)
+formed_plain columns deps (is_tree T) t e = fitted (or_else (option_map predicate_kind (unlike_kinds columns [])) (too_much 1 (plain_sort columns T))) e
+  where
+    fitted : (o : Option Refusal) → unless_refused o (plain_sort columns T) ≡ Ok t → t ≡ plain_sort columns T
+    fitted None h = cc
+    fitted (Some r) h = cc
+formed_plain columns deps (not_tree X Y) t e = cc
 
-table_is_known : (known : Catalogue) (name : Name) (columns : Columns) → IsKnown (finmap.insert known name (table_lens name columns)) (table_lens name columns)
+table_sort_is : (columns : Columns) (deps : List Edge) (t : Sort) → table_sort columns deps [] ≡ Ok t → t ≡ plain_sort columns (tree_or_none (tree_of deps))
+unfolding table_sort
+table_sort_is columns deps t e = chosen (or_else (unknown_in columns deps) (option_map unknown_column (unknown_name columns []))) e
+  where
+    chosen : (o : Option Refusal) → elim o as (λ _. Result Sort Refusal) [ Some r ↦ Err r | None ↦ table_sort_with columns deps [] (tree_of deps) ] ≡ Ok t → t ≡ plain_sort columns (tree_or_none (tree_of deps))
+    chosen None h = formed_plain columns deps (tree_of deps) t h
+    chosen (Some r) h = cc
+
+-- a table whose sort is not refused
+table_is_known : (known : Catalogue) (name : Name) (columns : Columns) (deps : List Edge) → (t : Sort) × (table_sort columns deps [] ≡ Ok t)
+    → IsKnown (finmap.insert known name (table_lens name columns deps)) (table_lens name columns deps)
 unfolding sort
-table_is_known known name columns = record { sound = plain_is_sound columns; sorted = refl; bases = get-new known name (table_lens name columns); treeless = refl }
+table_is_known known name columns deps h = record {
+  sound = subst IsSound (table_sort_is columns deps h.0 h.1) (table_sort_is_sound columns deps [] h.0 h.1);
+  sorted = refl;
+  bases = get-new known name (table_lens name columns deps);
+}
 
 select_is_known : (known : Catalogue) (name : Name) (P : Predicate) (C : Lens) → is_taken known name ≡ false → is_err (sort (select P C)) ≡ false → IsKnown known C → IsKnown (finmap.insert known name (select P C)) (select P C)
 select_is_known known name P C free h k =
@@ -123,7 +157,6 @@ select_is_known known name P C free h k =
       sound = k.sound;
       sorted = w.1 ∙ ap Ok (sort_is_typed (select P C) w.0 k.sound w.1).0;
       bases = bases_stay known name (select P C) free C k.bases;
-      treeless = k.treeless;
     }
 
 -- the lens that a taken definition adds, under a name that is free
@@ -135,7 +168,13 @@ pub record Adds (known : Catalogue) (d : Definition) : Type 0 where
   pub there : IsKnown (finmap.insert known name lens) lens
 
 pub adds : (known : Catalogue) (d : Definition) → IsTaken known d → AllKnown known → Adds known d
-adds known (table name columns) h all = record { name = name; lens = table_lens name (columns_from columns); free = h; made = refl; there = table_is_known known name (columns_from columns) }
+adds known (table name columns deps) h all = record {
+  name = name;
+  lens = table_lens name (columns_from columns) deps;
+  free = h.0;
+  made = refl;
+  there = table_is_known known name (columns_from columns) deps h.1;
+}
 adds known (view name (named source)) h all = absurd h
 adds known (view name (language.select P (named source))) h all = record {
   name = name;
@@ -156,26 +195,29 @@ place_none true o e = cc
 place_none false None e = (refl, refl)
 place_none false (Some n) e = cc
 
-none_refused : (known : Catalogue) (texts : List (List ℕ)) → AllKnown known → refused_from known texts ≡ None → AllKnown (catalogue_onto known texts)
-none_refused known [] all h = all
-none_refused known (text ∷ texts) all h =
-    let w = place_none (is_err (judged known (reading text))) (refused_from (with_definition (reading text) known) texts) h in
-    let j = no_error (judged known (reading text)) w.0 in
-    let d = judged_ok known (reading text) j.0 j.1 in
-    none_refused (with_definition (reading text) known) texts (subst (λ o. AllKnown (with_definition o known)) (sym d.0) (still_known known j.0 d.1 all)) w.1
+none_refused : (known : Catalogue) (dependent : Names) (texts : List (List ℕ)) → AllKnown known → refused_from known dependent texts ≡ None → AllKnown (catalogue_onto known texts)
+none_refused known dependent [] all h = all
+none_refused known dependent (text ∷ texts) all h =
+    let w = place_none (is_err (judged known dependent (reading text))) (refused_from (with_definition (reading text) known) (with_dependent (reading text) dependent) texts) h in
+    let j = no_error (judged known dependent (reading text)) w.0 in
+    let d = judged_ok known dependent (reading text) j.0 j.1 in
+    none_refused (with_definition (reading text) known) (with_dependent (reading text) dependent) texts (subst (λ o. AllKnown (with_definition o known)) (sym d.0) (still_known known j.0 d.1 all)) w.1
 
 -- every lens of a catalogue of taken texts is known
 pub all_known : (texts : List (List ℕ)) → first_refused texts ≡ None → AllKnown (catalogue texts)
-all_known texts h = none_refused finmap.empty texts (λ name L e. let f : None ≡ Some L = sym (finmap.get-empty bytes_cmp name) ∙ e in cc) h
+all_known texts h = none_refused finmap.empty set.empty texts (λ name L e. let f : None ≡ Some L = sym (finmap.get-empty bytes_cmp name) ∙ e in cc) h
 
-refused-push : (known : Catalogue) (texts : List (List ℕ)) (text : List ℕ) (d : Definition) → refused_from known texts ≡ None → judged (catalogue_onto known texts) (reading text) ≡ Ok d
-    → refused_from known (texts ++ text ∷ []) ≡ None
-refused-push known [] text d h j = ap (λ r. cond (is_err r) (Some 0) None) j
-refused-push known (first ∷ texts) text d h j =
-    let w = place_none (is_err (judged known (reading first))) (refused_from (with_definition (reading first) known) texts) h in
-    ap (λ b. cond b (Some 0) (option_map suc (refused_from (with_definition (reading first) known) (texts ++ text ∷ [])))) w.0
-    ∙ ap (option_map suc) (refused-push (with_definition (reading first) known) texts text d w.1 j)
+refused-push : (known : Catalogue) (names : Names) (texts : List (List ℕ)) (text : List ℕ) (d : Definition) → refused_from known names texts ≡ None
+    → judged (catalogue_onto known texts) (dependent_onto names texts) (reading text) ≡ Ok d → refused_from known names (texts ++ text ∷ []) ≡ None
+refused-push known names [] text d h j = ap (λ r. cond (is_err r) (Some 0) None) j
+refused-push known names (first ∷ texts) text d h j =
+    let after = with_definition (reading first) known in
+    let dependents = with_dependent (reading first) names in
+    let w = place_none (is_err (judged known names (reading first))) (refused_from after dependents texts) h in
+    ap (λ b. cond b (Some 0) (option_map suc (refused_from after dependents (texts ++ text ∷ [])))) w.0
+    ∙ ap (option_map suc) (refused-push after dependents texts text d w.1 j)
 
 -- one text more that is taken
-pub first_refused-push : (texts : List (List ℕ)) (text : List ℕ) (d : Definition) → first_refused texts ≡ None → judged (catalogue texts) (reading text) ≡ Ok d → first_refused (texts ++ text ∷ []) ≡ None
-first_refused-push texts text d h j = refused-push finmap.empty texts text d h j
+pub first_refused-push : (texts : List (List ℕ)) (text : List ℕ) (d : Definition) → first_refused texts ≡ None → judged (catalogue texts) (dependent texts) (reading text) ≡ Ok d
+    → first_refused (texts ++ text ∷ []) ≡ None
+first_refused-push texts text d h j = refused-push finmap.empty set.empty texts text d h j

@@ -19,25 +19,26 @@ use Rattle.lens_specs.specs.Names.{Name, is_among}
 use Rattle.lens_specs.specs.Columns.{Columns, Fits}
 use Rattle.lens_specs.specs.Relation.{Relation, Rows, has}
 use Rattle.lens_specs.specs.Predicate.{Predicate}
-use Rattle.lens_specs.specs.Dependencies.{MeetsTree}
-use Rattle.lens_specs.specs.Sort.{off, IsOf}
-use Rattle.lens_specs.specs.Lens.{Tables, Lens, select, sort_of, tables_of, put}
+use Rattle.lens_specs.specs.Dependencies.{Edge, MeetsTree}
+use Rattle.lens_specs.specs.TreeForm.{tree_of}
+use Rattle.lens_specs.specs.Sort.{off, Clash, clash, IsOf}
+use Rattle.lens_specs.specs.Lens.{Tables, Lens, select, sort_of, tables_of, tree_or_none, put}
 use Rattle.lens_specs.specs.Delta.{TableDelta, changes, differences, diff, is_empty}
 use Rattle.lens_specs.specs.Lens.{table as rows_of_table}
-use Rattle.lens_specs.specs.Language.{Definition, table, view, Expr, named}
-use Rattle.lens_specs.specs.Language as language
+use Rattle.language_specs.specs.Language.{Definition, table, view, Expr, named}
+use Rattle.language_specs.specs.Language as language
 use Rattle.lens_specs.specs.Lines.{Line}
-use Rattle.lens_specs.specs.Reading.{reading}
+use Rattle.language_specs.specs.Reading.{reading}
 use Rattle.server_specs.proofs.Catalogues.{catalogue-push}
-use Rattle.server_specs.specs.State.{State, fresh, Catalogue, catalogue, with_definition, with_lens, plain_sort, table_lens, columns_from}
+use Rattle.server_specs.specs.State.{State, fresh, Catalogue, catalogue, with_definition, with_lens, plain_sort, table_lens, columns_from, dependent}
 use Rattle.server_specs.specs.Answer.{Answer}
-use Rattle.server_specs.specs.Request.{Request, define, read, put as put_request, request}
+use Rattle.server_specs.specs.Request.{Request, define, read, put as put_request, edit, preview, describe, list, request}
 use Rattle.server_specs.specs.Defining.{judged, is_taken}
-use Rattle.server_specs.specs.Sending.{rows_in}
-use Rattle.server_specs.specs.Answering.{answer, answer_request, answer_definition, answer_read, answer_put, put_sent, put_set, unless_off, accept, with_last, with_defined}
+use Rattle.server_specs.specs.Sending.{BadRow, rows_in}
+use Rattle.server_specs.specs.Answering.{answer, answer_request, answer_definition, answer_read, answer_put, put_sent, put_set, unless_clash, unless_off, accept, with_last, with_defined}
 use Rattle.server_specs.specs.Session.{Replies, answered, out_of_memory, not_stored, Exchange, Chain, last_state, Session}
 use Rattle.server_specs.specs.Validity.{IsStored, Valid}
-use Rattle.server_laws.proofs.Sent.{sent_fit}
+use Rattle.server_specs.proofs.Sent.{sent_fit}
 use Rattle.server_laws.proofs.Stored.{AreStored, stored_put, put_names, are_there, IsHere, lens_here}
 use Rattle.server_laws.proofs.Taken.{IsTaken, judged_ok, adds, all_known, first_refused-push}
 
@@ -121,26 +122,31 @@ valid_put s L N v here are =
       past = λ q. with_last_past (s.version + 1) (changes L N s.tables) s.last (λ u. later (finmap.get s.last u) s.version (s.version + 1) (omega arith) (v.past u)) q;
     }
 
--- rows that the predicate holds on, of a lens with no dependencies
-pub of_lens : (s : State) (L : Lens) (N : Rows) → IsHere s L → ((r : Row) → has N r ≡ true → Fits (sort_of L).columns r) → off (sort_of L).predicate N ≡ None → IsOf N (sort_of L)
-of_lens s L N here fits none = record { columns = fits; off = none; clash = none_clash (sort_of L).tree N (subst (λ T. MeetsTree N T) (sym here.known.treeless) tt) }
+-- rows that the predicate holds on, and that do not clash
+pub of_lens : (L : Lens) (N : Rows) → ((r : Row) → has N r ≡ true → Fits (sort_of L).columns r) → off (sort_of L).predicate N ≡ None → clash (sort_of L).tree N ≡ None → IsOf N (sort_of L)
+of_lens L N fits none met = record { columns = fits; off = none; clash = met }
 
 valid_accept : (s : State) (L : Lens) (N : Rows) → Valid s → IsHere s L → IsOf N (sort_of L) → (ds : List TableDelta) → changes L N s.tables ≡ ds → Valid (accept L N ds s).1
 valid_accept s L N v here n [] is = v
 valid_accept s L N v here n (d ∷ ds) is = subst (λ l. Valid (record s { tables = put L N s.tables; version = s.version + 1; last = with_last (s.version + 1) l s.last })) is
     (valid_put s L N v here (get_after L s.tables here.typed here.are N n).0)
 
+valid_unless_clash : (s : State) (L : Lens) (N : Rows) → Valid s → IsHere s L → ((r : Row) → has N r ≡ true → Fits (sort_of L).columns r) → off (sort_of L).predicate N ≡ None
+    → (c : Option Clash) → clash (sort_of L).tree N ≡ c → Valid (unless_clash c L N s).1
+valid_unless_clash s L N v here fits none None is = valid_accept s L N v here (of_lens L N fits none is) (changes L N s.tables) refl
+valid_unless_clash s L N v here fits none (Some c) is = v
+
 valid_unless_off : (s : State) (L : Lens) (N : Rows) → Valid s → IsHere s L → ((r : Row) → has N r ≡ true → Fits (sort_of L).columns r)
     → (o : Option Row) → off (sort_of L).predicate N ≡ o → Valid (unless_off o L N s).1
-valid_unless_off s L N v here fits None is = valid_accept s L N v here (of_lens s L N here fits is) (changes L N s.tables) refl
+valid_unless_off s L N v here fits None is = valid_unless_clash s L N v here fits is (clash (sort_of L).tree N) refl
 valid_unless_off s L N v here fits (Some r) is = v
 
 pub valid_put_set : (s : State) (L : Lens) (N : Rows) → Valid s → IsHere s L → ((r : Row) → has N r ≡ true → Fits (sort_of L).columns r) → Valid (put_set N L s).1
 valid_put_set s L N v here fits = valid_unless_off s L N v here fits (off (sort_of L).predicate N) refl
 
-valid_put_sent : (s : State) (L : Lens) (items : Items) → Valid s → IsHere s L → (o : Option (List Row)) → rows_in (sort_of L).columns items ≡ o → Valid (put_sent o L s).1
-valid_put_sent s L items v here None is = v
-valid_put_sent s L items v here (Some rows) is = valid_put_set s L (set.from_list rows) v here (sent_fit (sort_of L).columns items rows is)
+valid_put_sent : (s : State) (L : Lens) (items : Items) → Valid s → IsHere s L → (o : Result (List Row) BadRow) → rows_in (sort_of L).columns items ≡ o → Valid (put_sent o L s).1
+valid_put_sent s L items v here (Err bad) is = v
+valid_put_sent s L items v here (Ok rows) is = valid_put_set s L (set.from_list rows) v here (sent_fit (sort_of L).columns items rows is)
 
 valid_answer_put : (s : State) (name : Name) (items : Items) → Valid s → (o : Option Lens) → finmap.get (catalogue s.texts) name ≡ o → Valid (answer_put name items o s).1
 valid_answer_put s name items v None is = v
@@ -148,12 +154,17 @@ valid_answer_put s name items v (Some L) is = valid_put_sent s L items v (lens_h
 
 -- ---- definitions
 
--- no rows are of any sort with no dependencies and no predicate
-none_of_plain : (columns : Columns) → IsOf set.empty (plain_sort columns)
-none_of_plain columns = record {
+-- no rows meet every tree
+none_meet : (T : List Edge) → MeetsTree set.empty T
+none_meet [] = tt
+none_meet (e ∷ es) = (λ r s i j k. absurd_false _ i (set.contains-empty row_cmp r), none_meet es)
+
+-- no rows are of any sort with no predicate
+none_of_plain : (columns : Columns) (T : List Edge) → IsOf set.empty (plain_sort columns T)
+none_of_plain columns T = record {
   columns = λ r i. absurd_false _ i (set.contains-empty row_cmp r);
   off = none_off [] set.empty (λ r i. refl);
-  clash = none_clash [] set.empty tt;
+  clash = none_clash T set.empty (none_meet T);
 }
 
 -- a name that is free has no table
@@ -162,15 +173,15 @@ no_table None r h k = k
 no_table (Some L) r h k = absurd (true≢false h)
 
 -- a table more, under a name that is free
-stored_table : (known : Catalogue) (db : Tables) (name : Name) (columns : Columns) → AreStored known db
-    → AreStored (finmap.insert known name (table_lens name columns)) (finmap.insert db name (record { columns = columns; rows = set.empty }))
-stored_table known db name columns h q =
-    subst (λ o. IsStored o (finmap.get (finmap.insert db name (record { columns = columns; rows = set.empty })) q)) (sym (finmap.get-insert name_total known name (table_lens name columns) q))
-    (subst (λ r. IsStored (cond (eq_by_cmp bytes_cmp q name) (Some (table_lens name columns)) (finmap.get known q)) r) (sym (finmap.get-insert name_total db name (record { columns = columns; rows = set.empty }) q))
+stored_table : (known : Catalogue) (db : Tables) (name : Name) (columns : Columns) (deps : List Edge) → AreStored known db
+    → AreStored (finmap.insert known name (table_lens name columns deps)) (finmap.insert db name (record { columns = columns; rows = set.empty }))
+stored_table known db name columns deps h q =
+    subst (λ o. IsStored o (finmap.get (finmap.insert db name (record { columns = columns; rows = set.empty })) q)) (sym (finmap.get-insert name_total known name (table_lens name columns deps) q))
+    (subst (λ r. IsStored (cond (eq_by_cmp bytes_cmp q name) (Some (table_lens name columns deps)) (finmap.get known q)) r) (sym (finmap.get-insert name_total db name (record { columns = columns; rows = set.empty }) q))
     (either (eq_by_cmp bytes_cmp q name) (finmap.get known q) (finmap.get db q) (h q)))
   where
-    either : (b : Bool) (o : Option Lens) (r : Option Relation) → IsStored o r → IsStored (cond b (Some (table_lens name columns)) o) (cond b (Some (record { columns = columns; rows = set.empty })) r)
-    either true o r k = (refl, none_of_plain columns)
+    either : (b : Bool) (o : Option Lens) (r : Option Relation) → IsStored o r → IsStored (cond b (Some (table_lens name columns deps)) o) (cond b (Some (record { columns = columns; rows = set.empty })) r)
+    either true o r k = (refl, none_of_plain columns (tree_or_none (tree_of deps)))
     either false o r k = k
 
 -- a view more, under a name that is free
@@ -183,10 +194,10 @@ stored_view known db name P L free h q =
     ] refl)
 
 -- the catalogue after a definition that is taken
-pub known_after : (s : State) (text : List ℕ) (d : Definition) → judged (catalogue s.texts) (reading text) ≡ Ok d → catalogue (s.texts ++ text ∷ []) ≡ with_definition (Some d) (catalogue s.texts)
-known_after s text d j = catalogue-push s.texts text ∙ ap (λ o. with_definition o (catalogue s.texts)) (judged_ok (catalogue s.texts) (reading text) d j).0
+pub known_after : (s : State) (text : List ℕ) (d : Definition) → judged (catalogue s.texts) (dependent s.texts) (reading text) ≡ Ok d → catalogue (s.texts ++ text ∷ []) ≡ with_definition (Some d) (catalogue s.texts)
+known_after s text d j = catalogue-push s.texts text ∙ ap (λ o. with_definition o (catalogue s.texts)) (judged_ok (catalogue s.texts) (dependent s.texts) (reading text) d j).0
 
-stored_after : (s : State) (text : List ℕ) (d : Definition) → judged (catalogue s.texts) (reading text) ≡ Ok d → (db : Tables) → AreStored (with_definition (Some d) (catalogue s.texts)) db → AreStored (catalogue (s.texts ++ text ∷ [])) db
+stored_after : (s : State) (text : List ℕ) (d : Definition) → judged (catalogue s.texts) (dependent s.texts) (reading text) ≡ Ok d → (db : Tables) → AreStored (with_definition (Some d) (catalogue s.texts)) db → AreStored (catalogue (s.texts ++ text ∷ [])) db
 stored_after s text d j db h = subst (λ k. AreStored k db) (sym (known_after s text d j)) h
 
 inserted_names : (last : finmap.FinMap bytes_cmp ℕ) (db : Tables) (name : Name) (v : ℕ) (r : Relation) → ((q : Name) → is_some (finmap.get last q) ≡ is_some (finmap.get db q))
@@ -201,10 +212,10 @@ inserted_names last db name v r h q = ap is_some (finmap.get-insert name_total l
 later_all : (s : State) → Valid s → (q : Name) → IfSome (finmap.get s.last q) (λ version. version ≤ s.version + 1)
 later_all s v q = later (finmap.get s.last q) s.version (s.version + 1) (omega arith) (v.past q)
 
-pub valid_taken : (s : State) (text : List ℕ) (d : Definition) → Valid s → judged (catalogue s.texts) (reading text) ≡ Ok d → IsTaken (catalogue s.texts) d → Valid (with_defined text d s)
-valid_taken s text (table name columns) v j h = record {
-  definitions = first_refused-push s.texts text (table name columns) v.definitions j;
-  tables = stored_after s text (table name columns) j (finmap.insert s.tables name (record { columns = columns_from columns; rows = set.empty })) (stored_table (catalogue s.texts) s.tables name (columns_from columns) v.tables);
+pub valid_taken : (s : State) (text : List ℕ) (d : Definition) → Valid s → judged (catalogue s.texts) (dependent s.texts) (reading text) ≡ Ok d → IsTaken (catalogue s.texts) d → Valid (with_defined text d s)
+valid_taken s text (table name columns deps) v j h = record {
+  definitions = first_refused-push s.texts text (table name columns deps) v.definitions j;
+  tables = stored_after s text (table name columns deps) j (finmap.insert s.tables name (record { columns = columns_from columns; rows = set.empty })) (stored_table (catalogue s.texts) s.tables name (columns_from columns) deps v.tables);
   last = inserted_names s.last s.tables name (s.version + 1) (record { columns = columns_from columns; rows = set.empty }) v.last;
   past = λ q. put_past s.last (s.version + 1) name q (later_all s v q);
 }
@@ -219,9 +230,9 @@ valid_taken s text (view name (language.select P (named source))) v j h =
     }
 valid_taken s text (view name (language.select P (language.select Q expr))) v j h = absurd h
 
-valid_definition : (s : State) (text : List ℕ) → Valid s → (r : Result Definition Answer) → judged (catalogue s.texts) (reading text) ≡ r → Valid (answer_definition text r s).1
+valid_definition : (s : State) (text : List ℕ) → Valid s → (r : Result Definition Answer) → judged (catalogue s.texts) (dependent s.texts) (reading text) ≡ r → Valid (answer_definition text r s).1
 valid_definition s text v (Err refusal) j = v
-valid_definition s text v (Ok d) j = valid_taken s text d v j (judged_ok (catalogue s.texts) (reading text) d j).1
+valid_definition s text v (Ok d) j = valid_taken s text d v j (judged_ok (catalogue s.texts) (dependent s.texts) (reading text) d j).1
 
 -- ---- answers and sessions
 
@@ -229,11 +240,16 @@ valid_read : (s : State) (name : Name) (o : Option Lens) → Valid s → Valid (
 valid_read s name None v = v
 valid_read s name (Some L) v = v
 
-valid_request : (s : State) (r : Option Request) → Valid s → Valid (answer_request r s).1
-valid_request s None v = v
-valid_request s (Some (define text)) v = valid_definition s text v (judged (catalogue s.texts) (reading text)) refl
-valid_request s (Some (read name)) v = valid_read s name (finmap.get (catalogue s.texts) name) v
-valid_request s (Some (put_request name items)) v = valid_answer_put s name items v (finmap.get (catalogue s.texts) name) refl
+valid_request : (s : State) (r : Result Request Answer) → Valid s → Valid (answer_request r s).1
+valid_request s (Err refusal) v = v
+valid_request s (Ok (define text)) v = valid_definition s text v (judged (catalogue s.texts) (dependent s.texts) (reading text)) refl
+valid_request s (Ok (read name)) v = valid_read s name (finmap.get (catalogue s.texts) name) v
+valid_request s (Ok (put_request name items None)) v = valid_answer_put s name items v (finmap.get (catalogue s.texts) name) refl
+valid_request s (Ok (put_request name items (Some on))) v = v
+valid_request s (Ok (edit name remove add on)) v = v
+valid_request s (Ok (preview name remove add on)) v = v
+valid_request s (Ok (describe name)) v = v
+valid_request s (Ok list) v = v
 
 pub valid_answer : (s : State) (l : Line) → Valid s → Valid (answer s l).1
 unfolding answer

@@ -2,14 +2,14 @@
 use Rattle.std.specs.Prelude.{◌≡◌, List, ℕ, Option, Some, None, Ok}
 use Rattle.std.specs.FinMap as finmap
 use Rattle.lens_specs.specs.Relation.{Name, Rows}
-use Rattle.lens_specs.specs.Sort.{off}
+use Rattle.lens_specs.specs.Sort.{off, clash}
 use Rattle.lens_specs.specs.Lens.{Lens, sort_of}
 use Rattle.lens_specs.specs.Delta.{changes}
-use Rattle.lens_specs.specs.Language.{Definition, table, view}
+use Rattle.language_specs.specs.Language.{Definition, table, view}
 use Rattle.lens_specs.specs.Lines.{Line}
-use Rattle.lens_specs.specs.Reading.{reading}
+use Rattle.language_specs.specs.Reading.{reading}
 use Rattle.lens_specs.specs.Keeping.{Change, define, rows, changed, CanChange}
-use Rattle.server_specs.specs.State.{State, catalogue, kept}
+use Rattle.server_specs.specs.State.{State, catalogue, dependent, kept}
 use Rattle.server_specs.specs.Defining.{judged}
 use Rattle.server_specs.specs.Answering.{answer, put_set, with_defined}
 use Rattle.server_specs.specs.Validity.{Valid}
@@ -21,17 +21,17 @@ KeptFollows change before after = (kept after ≡ changed change (kept before)) 
 
 -- the table that a definition makes
 abbrev pub table_made : Definition → Option Name
-table_made (table name columns) = Some name
+table_made (table name columns deps) = Some name
 table_made (view name expr) = None
 
 -- a put that is not refused changes what is kept by its changes
 abbrev pub PutsAreKept : Type 0
 PutsAreKept = (s : State) → Valid s → (name : Name) (L : Lens) → finmap.get (catalogue s.texts) name ≡ Some L
-    → (N : Rows) → off (sort_of L).predicate N ≡ None → KeptFollows (rows (changes L N s.tables)) s (put_set N L s).1
+    → (N : Rows) → off (sort_of L).predicate N ≡ None → clash (sort_of L).tree N ≡ None → KeptFollows (rows (changes L N s.tables)) s (put_set N L s).1
 
 -- a definition that is taken is kept, with its table
 abbrev pub DefinitionsAreKept : Type 0
-DefinitionsAreKept = (s : State) → Valid s → (text : List ℕ) (definition : Definition) → judged (catalogue s.texts) (reading text) ≡ Ok definition
+DefinitionsAreKept = (s : State) → Valid s → (text : List ℕ) (definition : Definition) → judged (catalogue s.texts) (dependent s.texts) (reading text) ≡ Ok definition
     → KeptFollows (define text (table_made definition)) s (with_defined text definition s)
 
 -- each answer that changes something is kept by one change that can be made

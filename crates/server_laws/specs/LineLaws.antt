@@ -1,5 +1,5 @@
 -- The laws of lines that read and put, over valid states.
-use Rattle.std.specs.Prelude.{◌≡◌, List, [], Some}
+use Rattle.std.specs.Prelude.{◌≡◌, List, [], Some, None, Ok}
 use Rattle.std.specs.FinMap as finmap
 use Rattle.serde_json.specs.Data.{Items}
 use Rattle.lens_values.specs.SortedSet as set
@@ -17,15 +17,15 @@ use Rattle.server_laws.specs.Answers.{IsAccepted}
 
 -- a line that reads a view that is there
 pub record IsReadLine (s : State) (l : Line) (name : Name) (L : Lens) : Type 0 where
-  pub asked : request l ≡ Some (read name)
+  pub asked : request l ≡ Ok (read name)
   pub lens : finmap.get (catalogue s.texts) name ≡ Some L
 
--- a line that puts rows of the columns to a view that is there
+-- a line that puts rows of the columns to a view that is there, and rests on no version
 pub record IsPutLine (s : State) (l : Line) (name : Name) (L : Lens) (rows : List Row) : Type 0 where
   pub items : Items
-  pub asked : request l ≡ Some (put name items)
+  pub asked : request l ≡ Ok (put name items None)
   pub lens : finmap.get (catalogue s.texts) name ≡ Some L
-  pub sent : rows_in (sort_of L).columns items ≡ Some rows
+  pub sent : rows_in (sort_of L).columns items ≡ Ok rows
 
 -- a line that reads shows the rows of the view, with the version
 abbrev pub LinesReadViews : Type 0
@@ -37,7 +37,7 @@ LinesPutSets = (s : State) (l : Line) (name : Name) (L : Lens) (rows : List Row)
 
 -- PutGet: what a line put, the next line reads
 abbrev pub NextLineReads : Type 0
-NextLineReads = (s : State) → Valid s → (l m : Line) (name : Name) (L : Lens) (rows : List Row) → IsPutLine s l name L rows → IsAccepted (answer s l).0 → request m ≡ Some (read name)
+NextLineReads = (s : State) → Valid s → (l m : Line) (name : Name) (L : Lens) (rows : List Row) → IsPutLine s l name L rows → IsAccepted (answer s l).0 → request m ≡ Ok (read name)
     → (answer (answer s l).1 m).0 ≡ shown (set.from_list rows) (answer s l).1.version
 
 -- GetPut: a line that puts what a view shows changes nothing

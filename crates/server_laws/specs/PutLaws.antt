@@ -1,5 +1,5 @@
 -- The laws of puts over valid states.
-use Rattle.std.specs.Prelude.{◌≡◌, ◌↔◌, ◌⊎◌, true, false, List, [], Some}
+use Rattle.std.specs.Prelude.{◌≡◌, ◌↔◌, ◌⊎◌, true, false, List, [], Some, Ok}
 use Rattle.std.specs.FinMap as finmap
 use Rattle.serde_json.specs.Data.{Items}
 use Rattle.lens_values.specs.SortedSet as set
@@ -7,13 +7,14 @@ use Rattle.lens_values.specs.declared.row.Row.{Row}
 use Rattle.lens_specs.specs.Columns.{Columns, Fits}
 use Rattle.lens_specs.specs.Relation.{Name, Rows, has}
 use Rattle.lens_specs.specs.Predicate.{holds}
-use Rattle.lens_specs.specs.Sort.{IsOf}
+use Rattle.lens_specs.specs.Dependencies.{Edge}
+use Rattle.lens_specs.specs.Sort.{Sort, Clash, IsOf}
 use Rattle.lens_specs.specs.Lens.{Lens, sort_of, get, tables_of}
 use Rattle.lens_specs.specs.Delta.{changes, differences}
-use Rattle.lens_laws.specs.Checks.{IsOff}
+use Rattle.lens_laws.specs.Checks.{IsFirstClash, IsOff}
 use Rattle.lens_laws.specs.Edits.{AreDiffs}
 use Rattle.server_specs.specs.State.{State, catalogue}
-use Rattle.server_specs.specs.Answer.{changed, off_predicate}
+use Rattle.server_specs.specs.Answer.{changed, clash, off_predicate}
 use Rattle.server_specs.specs.Sending.{rows_in}
 use Rattle.server_specs.specs.Answering.{put_set}
 use Rattle.server_specs.specs.Validity.{Valid}
@@ -31,7 +32,7 @@ pub record IsPut (s : State) (name : Name) (L : Lens) (N : Rows) : Type 0 where
 
 -- what a line sends fits
 abbrev pub SentRowsFit : Type 0
-SentRowsFit = (columns : Columns) (items : Items) (rows : List Row) → rows_in columns items ≡ Some rows → AllFit columns (set.from_list rows)
+SentRowsFit = (columns : Columns) (items : Items) (rows : List Row) → rows_in columns items ≡ Ok rows → AllFit columns (set.from_list rows)
 
 -- a put is accepted exactly where the new view is of the lens's sort
 abbrev pub AcceptedWhereTyped : Type 0
@@ -41,9 +42,21 @@ AcceptedWhereTyped = (s : State) (name : Name) (L : Lens) (N : Rows) → IsPut s
 abbrev pub RefusedByLeastRow : Type 0
 RefusedByLeastRow = (s : State) (name : Name) (L : Lens) (N : Rows) → IsPut s name L N → (row : Row) → (put_set N L s ≡ (off_predicate row, s)) ↔ IsOff (holds (sort_of L).predicate) N row
 
--- and there is no third case
+-- the predicate holds on every row, and the edge and the two rows are the first clash with the tree
+abbrev pub IsFirstClashOf : Sort → Rows → Edge → Row → Row → Type 0
+IsFirstClashOf sort N edge first second =
+    ((r : Row) → has N r ≡ true → holds sort.predicate r ≡ true)
+    × ((c : Clash) × IsFirstClash 0 sort.tree N c × (c.edge ≡ edge) × (c.first ≡ first) × (c.second ≡ second))
+
+-- it is refused with an edge and two rows exactly where they are the first clash, and that changes nothing
+abbrev pub RefusedByFirstClash : Type 0
+RefusedByFirstClash = (s : State) (name : Name) (L : Lens) (N : Rows) → IsPut s name L N → (edge : Edge) (first second : Row)
+    → (put_set N L s ≡ (clash edge first second, s)) ↔ IsFirstClashOf (sort_of L) N edge first second
+
+-- and there is no fourth case
 abbrev pub AcceptedOrRefused : Type 0
-AcceptedOrRefused = (s : State) (name : Name) (L : Lens) (N : Rows) → IsPut s name L N → IsAccepted (put_set N L s).0 ⊎ ((row : Row) × (put_set N L s ≡ (off_predicate row, s)))
+AcceptedOrRefused = (s : State) (name : Name) (L : Lens) (N : Rows) → IsPut s name L N
+    → IsAccepted (put_set N L s).0 ⊎ (((row : Row) × (put_set N L s ≡ (off_predicate row, s))) ⊎ ((edge : Edge) × (first : Row) × (second : Row) × (put_set N L s ≡ (clash edge first second, s))))
 
 -- PutGet: what was put is read again
 abbrev pub PutThenRead : Type 0

@@ -5,7 +5,7 @@
 ghost use Rattle.server_laws.specs.AnswerLaws.{AnswersDoNotFail, ChangesRaiseVersions, LastFollows, OthersStay, RefusalsChangeNothing, VersionsAreTold};
 ghost use Rattle.server_laws.specs.KeptLaws.{ChangesAreKept, DefinitionsAreKept, PutsAreKept};
 ghost use Rattle.server_laws.specs.LineLaws.{LinesPutSets, LinesReadViews, NextLineReads, NothingIsPut};
-ghost use Rattle.server_laws.specs.PutLaws.{AcceptedOrRefused, AcceptedWhereTyped, ChangesAreDifferences, ChangesAreTold, OtherTablesStay, PutThenRead, ReadThenPut, RefusedByLeastRow, SentRowsFit};
+ghost use Rattle.server_laws.specs.PutLaws.{AcceptedOrRefused, AcceptedWhereTyped, ChangesAreDifferences, ChangesAreTold, OtherTablesStay, PutThenRead, ReadThenPut, RefusedByFirstClash, RefusedByLeastRow, SentRowsFit};
 ghost use Rattle.server_laws.specs.StateLaws.{AnswersStayValid, FreshIsValid, LensesAreTyped, SessionsStayValid};
 ghost use Rattle.server_laws.specs.Witness.{PutsCanChange};
 
@@ -28,6 +28,7 @@ pub fn puts_are_lawful()
     ensures fits { SentRowsFit }
     ensures accepted { AcceptedWhereTyped }
     ensures refused { RefusedByLeastRow }
+    ensures clashes { RefusedByFirstClash }
     ensures either { AcceptedOrRefused }
     ensures put_get { PutThenRead }
     ensures told { ChangesAreTold }

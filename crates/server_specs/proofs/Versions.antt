@@ -5,13 +5,15 @@ use Rattle.serde_json.specs.Data.{Items}
 use Rattle.lens_values.specs.declared.row.Row.{Row}
 use Rattle.lens_specs.specs.Relation.{Name, Rows}
 use Rattle.lens_specs.specs.Lens.{Lens}
+use Rattle.lens_specs.specs.Sort.{Clash}
 use Rattle.lens_specs.specs.Delta.{TableDelta, changes}
-use Rattle.lens_specs.specs.Language.{Definition, table, view}
+use Rattle.language_specs.specs.Language.{Definition, table, view}
 use Rattle.lens_specs.specs.Lines.{Line}
 use Rattle.server_specs.specs.State.{State}
 use Rattle.server_specs.specs.Answer.{Answer}
-use Rattle.server_specs.specs.Request.{Request, define, read, put, request}
-use Rattle.server_specs.specs.Answering.{answer, answer_request, answer_definition, answer_read, answer_put, put_sent, unless_off, accept}
+use Rattle.server_specs.specs.Request.{Request, define, read, put, edit, preview, describe, list, request}
+use Rattle.server_specs.specs.Sending.{BadRow}
+use Rattle.server_specs.specs.Answering.{answer, answer_request, answer_definition, answer_read, answer_put, put_sent, unless_clash, unless_off, accept}
 use Rattle.server_specs.specs.Session.{Step, answered, out_of_memory, not_stored}
 
 -- the version of the state of an answer
@@ -22,17 +24,21 @@ accepts : (lens : Lens) (rows : Rows) (ds : List TableDelta) (s : State) → ver
 accepts lens rows [] s = omega arith
 accepts lens rows (d ∷ ds) s = omega arith
 
+unless_met : (c : Option Clash) (lens : Lens) (rows : Rows) (s : State) → version_of (unless_clash c lens rows s) ≤ s.version + 1
+unless_met None lens rows s = accepts lens rows (changes lens rows s.tables) s
+unless_met (Some c) lens rows s = omega arith
+
 unless : (r : Option Row) (lens : Lens) (rows : Rows) (s : State) → version_of (unless_off r lens rows s) ≤ s.version + 1
-unless None lens rows s = accepts lens rows (changes lens rows s.tables) s
+unless None lens rows s = unless_met _ lens rows s
 unless (Some row) lens rows s = omega arith
 
-puts : (rows : Option (List Row)) (lens : Lens) (s : State) → version_of (put_sent rows lens s) ≤ s.version + 1
-puts None lens s = omega arith
-puts (Some rows) lens s = unless _ lens _ s
+puts : (rows : Result (List Row) BadRow) (lens : Lens) (s : State) → version_of (put_sent rows lens s) ≤ s.version + 1
+puts (Err bad) lens s = omega arith
+puts (Ok rows) lens s = unless _ lens _ s
 
 defines : (text : List ℕ) (judgement : Result Definition Answer) (s : State) → version_of (answer_definition text judgement s) ≤ s.version + 1
 defines text (Err refusal) s = omega arith
-defines text (Ok (table name columns)) s = omega arith
+defines text (Ok (table name columns deps)) s = omega arith
 defines text (Ok (view name expr)) s = omega arith
 
 reads : (name : Name) (lens : Option Lens) (s : State) → version_of (answer_read name lens s) ≤ s.version + 1
@@ -43,11 +49,16 @@ sends : (name : Name) (rows : Items) (lens : Option Lens) (s : State) → versio
 sends name rows None s = omega arith
 sends name rows (Some lens) s = puts _ lens s
 
-asked : (r : Option Request) (s : State) → version_of (answer_request r s) ≤ s.version + 1
-asked None s = omega arith
-asked (Some (define text)) s = defines text _ s
-asked (Some (read name)) s = reads name _ s
-asked (Some (put name rows)) s = sends name rows _ s
+asked : (r : Result Request Answer) (s : State) → version_of (answer_request r s) ≤ s.version + 1
+asked (Err refusal) s = omega arith
+asked (Ok (define text)) s = defines text _ s
+asked (Ok (read name)) s = reads name _ s
+asked (Ok (put name rows None)) s = sends name rows _ s
+asked (Ok (put name rows (Some on))) s = omega arith
+asked (Ok (edit name remove add on)) s = omega arith
+asked (Ok (preview name remove add on)) s = omega arith
+asked (Ok (describe name)) s = omega arith
+asked (Ok list) s = omega arith
 
 version-answer : (s : State) (l : Line) → (answer s l).1.version ≤ s.version + 1
 unfolding answer

@@ -6,17 +6,17 @@ use Rattle.lens_values.specs.Order.{bytes_cmp}
 use Rattle.lens_values.specs.SortedSet as set
 use Rattle.lens_values.specs.declared.row.Row.{Row}
 use Rattle.lens_specs.specs.Relation.{Name, Columns, Rows}
-use Rattle.lens_specs.specs.Sort.{off}
+use Rattle.lens_specs.specs.Sort.{off, Clash, clash as first_clash}
 use Rattle.lens_specs.specs.Lens.{Lens, get, put as put_rows, sort_of}
 use Rattle.lens_specs.specs.Delta.{TableDelta, changes}
-use Rattle.lens_specs.specs.Language.{Definition, table, view}
-use Rattle.lens_specs.specs.Reading.{reading}
+use Rattle.language_specs.specs.Language.{Definition, table, view}
+use Rattle.language_specs.specs.Reading.{reading}
 use Rattle.lens_specs.specs.Lines.{Line}
-use Rattle.server_specs.specs.State.{State, catalogue, columns_from}
-use Rattle.server_specs.specs.Answer.{Answer, defined, shown, changed, unknown_name, off_predicate, unbuilt}
-use Rattle.server_specs.specs.Request.{Request, define, read, put, request}
+use Rattle.server_specs.specs.State.{State, catalogue, columns_from, dependent}
+use Rattle.server_specs.specs.Answer.{Answer, defined, shown, changed, unknown_name, bad_row, in_rows, off_predicate, clash, unbuilt}
+use Rattle.server_specs.specs.Request.{Request, define, read, put, edit, preview, describe, list, request}
 use Rattle.server_specs.specs.Defining.{judged}
-use Rattle.server_specs.specs.Sending.{rows_in}
+use Rattle.server_specs.specs.Sending.{BadRow, rows_in}
 
 -- the answer, and the state as it was
 abbrev pub unchanged : Answer → State → Answer × State
@@ -35,7 +35,7 @@ with_table name columns s =
 
 -- the state after a definition was taken
 abbrev pub with_defined : List ℕ → Definition → State → State
-with_defined text (table name columns) s = with_table name (columns_from columns) (with_text text s)
+with_defined text (table name columns deps) s = with_table name (columns_from columns) (with_text text s)
 with_defined text (view name expr) s = with_text text s
 
 -- a definition is taken, or refused
@@ -63,9 +63,14 @@ accept lens rows (change ∷ more) s = (
   record s { tables = put_rows lens rows s.tables; version = s.version + 1; last = with_last (s.version + 1) (change ∷ more) s.last },
 )
 
--- the least row that the view's predicate refuses, or else the view is put
+-- the first clash of the rows with the view's tree, or else the view is put
+abbrev pub unless_clash : Option Clash → Lens → Rows → State → Answer × State
+unless_clash None lens rows s = accept lens rows (changes lens rows s.tables) s
+unless_clash (Some found) lens rows s = unchanged (clash found.edge found.first found.second) s
+
+-- the least row that the view's predicate refuses, or else the rows are tested for a clash
 abbrev pub unless_off : Option Row → Lens → Rows → State → Answer × State
-unless_off None lens rows s = accept lens rows (changes lens rows s.tables) s
+unless_off None lens rows s = unless_clash (first_clash (sort_of lens).tree rows) lens rows s
 unless_off (Some row) lens rows s = unchanged (off_predicate row) s
 
 -- a set of rows is the new view
@@ -73,21 +78,26 @@ abbrev pub put_set : Rows → Lens → State → Answer × State
 put_set rows lens s = unless_off (off (sort_of lens).predicate rows) lens rows s
 
 -- what is sent are rows of the view's columns
-abbrev pub put_sent : Option (List Row) → Lens → State → Answer × State
-put_sent None lens s = unchanged unbuilt s
-put_sent (Some rows) lens s = put_set (set.from_list rows) lens s
+abbrev pub put_sent : Result (List Row) BadRow → Lens → State → Answer × State
+put_sent (Err bad) lens s = unchanged (bad_row in_rows bad.0 bad.1) s
+put_sent (Ok rows) lens s = put_set (set.from_list rows) lens s
 
 -- the rows of a view that is known are put
 abbrev pub answer_put : Name → Items → Option Lens → State → Answer × State
 answer_put name rows None s = unchanged (unknown_name name) s
 answer_put name rows (Some lens) s = put_sent (rows_in (sort_of lens).columns rows) lens s
 
--- a request is answered
-abbrev pub answer_request : Option Request → State → Answer × State
-answer_request None s = unchanged unbuilt s
-answer_request (Some (define text)) s = answer_definition text (judged (catalogue s.texts) (reading text)) s
-answer_request (Some (read name)) s = answer_read name (finmap.get (catalogue s.texts) name) s
-answer_request (Some (put name rows)) s = answer_put name rows (finmap.get (catalogue s.texts) name) s
+-- A request is answered, or its refusal. What rests on a version, edits, previews, types and the list of definitions are not built.
+abbrev pub answer_request : Result Request Answer → State → Answer × State
+answer_request (Err refusal) s = unchanged refusal s
+answer_request (Ok (define text)) s = answer_definition text (judged (catalogue s.texts) (dependent s.texts) (reading text)) s
+answer_request (Ok (read name)) s = answer_read name (finmap.get (catalogue s.texts) name) s
+answer_request (Ok (put name rows None)) s = answer_put name rows (finmap.get (catalogue s.texts) name) s
+answer_request (Ok (put name rows (Some on))) s = unchanged unbuilt s
+answer_request (Ok (edit name remove add on)) s = unchanged unbuilt s
+answer_request (Ok (preview name remove add on)) s = unchanged unbuilt s
+answer_request (Ok (describe name)) s = unchanged unbuilt s
+answer_request (Ok list) s = unchanged unbuilt s
 
 -- the answer to a line, and the state after it
 unfoldable pub answer : State → Line → Answer × State

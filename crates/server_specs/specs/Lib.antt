@@ -1,6 +1,6 @@
-pub mod State
 pub mod Answer
 pub mod Request
+pub mod State
 pub mod Defining
 pub mod Sending
 pub mod Answering

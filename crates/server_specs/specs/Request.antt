@@ -1,19 +1,29 @@
 -- Requests: what a line asks for.
-use Rattle.std.specs.Prelude.{ℕ, Bool, ◌&&◌, ◌==◌, ◌+◌, List, nat_eq, codes, Option, Some, None, option_map, option_and_then, if◌then◌else◌}
+use Rattle.std.specs.Prelude.{ℕ, Bool, true, false, not, List, [], ◌∷◌, nat_eq, codes, find, is_some, Option, Some, None, option_map, option_and_then, unwrap_or, Result, Ok, Err, if◌then◌else◌}
+use Rattle.std.specs.List.{list_any}
+use Rattle.std.specs.Ordering.{is_lt}
 use Rattle.std.specs.Str.{is_utf8}
 use Rattle.std.specs.Cmp.Lexicographic.{pointwise}
-use Rattle.serde_json.specs.Data.{Data, null, boolean, number, string, array, object, Items, Members, no_members, member}
-use Rattle.serde_json.specs.Find as find
+use Rattle.serde_json.specs.Data.{Data, null, boolean, number, string, array, object, Items, no_items, Members, no_members, member}
+use Rattle.serde_json.specs.Find as json_find
 use Rattle.serde_json.specs.Read as json
 use Rattle.lens_values.specs.Bytes.{is_text, is_name}
+use Rattle.lens_values.specs.Order.{bytes_cmp}
 use Rattle.lens_specs.specs.Relation.{Name}
 use Rattle.lens_specs.specs.Lines.{Line, line, too_long}
+use Rattle.server_specs.specs.Answer.{Answer, long_line, not_json, bad_request}
 
--- a definition's text; a view's name; a view's name and the rows that are sent
+-- A request, with what it asks for: a definition's text; a view's name; rows that are sent; and the version on which a change rests.
 pub data Request : Type 0 where
   define : List ℕ → Request
   read : Name → Request
-  put : Name → Items → Request
+  put : Name → Items → Option ℕ → Request
+  edit : Name → Items → Items → Option ℕ → Request
+  preview : Name → Items → Items → Option ℕ → Request
+  describe : Name → Request
+  list : Request
+
+-- ---- members
 
 -- the two keys are one
 abbrev pub is_key : List ℕ → List ℕ → Bool
@@ -21,55 +31,177 @@ is_key = pointwise nat_eq
 
 -- a string that makes a text
 abbrev pub text_in : Data → Option (List ℕ)
-text_in d = option_and_then (λ bytes. if is_text bytes then Some bytes else None) (find.as_str d)
+text_in d = option_and_then (λ bytes. if is_text bytes then Some bytes else None) (json_find.as_str d)
 
 -- a string that makes a name
 abbrev pub name_in : Data → Option Name
-name_in d = option_and_then (λ bytes. if is_name bytes then Some bytes else None) (find.as_str d)
+name_in d = option_and_then (λ bytes. if is_name bytes then Some bytes else None) (json_find.as_str d)
 
--- how many members there are
-abbrev pub count_of : Members → ℕ
-count_of no_members = 0
-count_of (member k d ms) = count_of ms + 1
+-- a number of 64 bits that is no fraction and not below 0
+abbrev pub version_in : Data → Option ℕ
+version_in d = option_and_then json_find.as_u64 (json_find.as_number d)
 
--- the member `text`
-abbrev pub define_in : Members → Option Request
-define_in ms = option_map define (option_and_then text_in (find.get_member (codes "text") ms))
+-- what a member has to be
+pub data Shape : Type 0 where
+  a_word : Shape
+  a_text : Shape
+  a_name : Shape
+  some_rows : Shape
+  a_version : Shape
 
--- the member `view`
-abbrev pub read_in : Members → Option Request
-read_in ms = option_map read (option_and_then name_in (find.get_member (codes "view") ms))
+-- whether the data is of the shape
+abbrev pub has_shape : Shape → Data → Bool
+has_shape a_word d = is_some (json_find.as_str d)
+has_shape a_text d = is_some (text_in d)
+has_shape a_name d = is_some (name_in d)
+has_shape some_rows d = is_some (json_find.as_array d)
+has_shape a_version d = is_some (version_in d)
 
--- the members `view` and `rows`
-abbrev pub put_in : Members → Option Request
-put_in ms = option_and_then (λ name. option_map (put name) (option_and_then find.as_array (find.get_member (codes "rows") ms))) (option_and_then name_in (find.get_member (codes "view") ms))
+-- a member of a request: its name, its shape, and whether it has to be there
+pub record Wanted : Type 0 where
+  pub name : List ℕ
+  pub shape : Shape
+  pub needed : Bool
 
--- A request has exactly its members. An object has each key once, so one with as many members as the request wants has no other.
-abbrev pub request_named : List ℕ → Members → Option Request
-request_named word ms =
-    if is_key word (codes "define") && count_of ms == 2 then define_in ms
-    else if is_key word (codes "read") && count_of ms == 2 then read_in ms
-    else if is_key word (codes "put") && count_of ms == 3 then put_in ms
+-- a member that has to be there
+abbrev pub needed : List ℕ → Shape → Wanted
+needed name shape = record { name = name; shape = shape; needed = true }
+
+-- a member that may be there
+abbrev pub allowed : List ℕ → Shape → Wanted
+allowed name shape = record { name = name; shape = shape; needed = false }
+
+-- ---- the seven requests
+
+-- what is asked for
+pub data Asked : Type 0 where
+  to_define : Asked
+  to_read : Asked
+  to_put : Asked
+  to_edit : Asked
+  to_preview : Asked
+  to_describe : Asked
+  to_list : Asked
+
+-- the word of each request
+abbrev pub asked_by : List ℕ → Option Asked
+asked_by word =
+    if is_key word (codes "define") then Some to_define
+    else if is_key word (codes "read") then Some to_read
+    else if is_key word (codes "put") then Some to_put
+    else if is_key word (codes "edit") then Some to_edit
+    else if is_key word (codes "preview") then Some to_preview
+    else if is_key word (codes "type") then Some to_describe
+    else if is_key word (codes "list") then Some to_list
     else None
 
+-- the members of an edit
+abbrev pub edit_members : List Wanted
+edit_members =
+    needed (codes "add") some_rows ∷ needed (codes "do") a_word ∷ allowed (codes "on") a_version ∷ needed (codes "remove") some_rows ∷ needed (codes "view") a_name ∷ []
+
+-- the members of each request, in byte order of their names
+abbrev pub wanted : Asked → List Wanted
+wanted to_define = needed (codes "do") a_word ∷ needed (codes "text") a_text ∷ []
+wanted to_read = needed (codes "do") a_word ∷ needed (codes "view") a_name ∷ []
+wanted to_put = needed (codes "do") a_word ∷ allowed (codes "on") a_version ∷ needed (codes "rows") some_rows ∷ needed (codes "view") a_name ∷ []
+wanted to_edit = edit_members
+wanted to_preview = edit_members
+wanted to_describe = needed (codes "do") a_word ∷ needed (codes "view") a_name ∷ []
+wanted to_list = needed (codes "do") a_word ∷ []
+
+-- whether a member is missing or of the wrong shape
+abbrev pub is_wrong : Members → Wanted → Bool
+is_wrong ms w = elim (json_find.get_member w.name ms) [ None ↦ w.needed | Some d ↦ not (has_shape w.shape d) ]
+
+-- the first of the wanted members that is wrong
+abbrev pub first_wrong : List Wanted → Members → Option (List ℕ)
+first_wrong ws ms = option_map (λ w. w.name) (find (is_wrong ms) ws)
+
+-- whether the name is that of a wanted member
+abbrev pub is_wanted : List Wanted → List ℕ → Bool
+is_wanted ws k = list_any (λ w. is_key k w.name) ws
+
+-- the first member whose name does not pass; the members of an object stand in byte order
+abbrev pub first_other : (List ℕ → Bool) → Members → Option (List ℕ)
+first_other passes no_members = None
+first_other passes (member k d ms) = if passes k then first_other passes ms else Some k
+
+-- the lesser of a name and another, if there is one
+abbrev pub least_of : List ℕ → Option (List ℕ) → List ℕ
+least_of name None = name
+least_of name (Some other) = if is_lt (bytes_cmp other name) then other else name
+
+-- the lesser of two names, where both are there
+abbrev pub lesser : Option (List ℕ) → Option (List ℕ) → Option (List ℕ)
+lesser None other = other
+lesser (Some name) other = Some (least_of name other)
+
+-- the least member that is missing, unknown or of the wrong shape
+abbrev pub least_wrong : Asked → Members → Option (List ℕ)
+least_wrong a ms = lesser (first_wrong (wanted a) ms) (first_other (is_wanted (wanted a)) ms)
+
+-- ---- what the members of a right request say
+
+-- the text that is there
+abbrev pub text_at : List ℕ → Members → List ℕ
+text_at k ms = unwrap_or (option_and_then text_in (json_find.get_member k ms)) []
+
+-- the name that is there
+abbrev pub name_at : List ℕ → Members → Name
+name_at k ms = unwrap_or (option_and_then name_in (json_find.get_member k ms)) []
+
+-- the rows that are there
+abbrev pub rows_at : List ℕ → Members → Items
+rows_at k ms = unwrap_or (option_and_then json_find.as_array (json_find.get_member k ms)) no_items
+
+-- the version, if there is one
+abbrev pub version_at : List ℕ → Members → Option ℕ
+version_at k ms = option_and_then version_in (json_find.get_member k ms)
+
+-- the request that right members say
+abbrev pub said : Asked → Members → Request
+said to_define ms = define (text_at (codes "text") ms)
+said to_read ms = read (name_at (codes "view") ms)
+said to_put ms = put (name_at (codes "view") ms) (rows_at (codes "rows") ms) (version_at (codes "on") ms)
+said to_edit ms = edit (name_at (codes "view") ms) (rows_at (codes "remove") ms) (rows_at (codes "add") ms) (version_at (codes "on") ms)
+said to_preview ms = preview (name_at (codes "view") ms) (rows_at (codes "remove") ms) (rows_at (codes "add") ms) (version_at (codes "on") ms)
+said to_describe ms = describe (name_at (codes "view") ms)
+said to_list ms = list
+
+-- the request, where no member is wrong
+abbrev pub unless_wrong : Option (List ℕ) → Asked → Members → Result Request Answer
+unless_wrong None a ms = Ok (said a ms)
+unless_wrong (Some name) a ms = Err (bad_request name)
+
+-- what the members of an object ask for
+abbrev pub request_in : Option Asked → Members → Result Request Answer
+request_in None ms = Err (bad_request (codes "do"))
+request_in (Some a) ms = unless_wrong (least_wrong a ms) a ms
+
 -- the member `do` names the request
-abbrev pub request_in : Members → Option Request
-request_in ms = option_and_then (λ word. request_named word ms) (option_and_then find.as_str (find.get_member (codes "do") ms))
+abbrev pub asked_in : Members → Option Asked
+asked_in ms = option_and_then asked_by (option_and_then json_find.as_str (json_find.get_member (codes "do") ms))
 
 -- a request is an object
-abbrev pub request_of : Data → Option Request
-request_of null = None
-request_of (boolean b) = None
-request_of (number n) = None
-request_of (string bytes) = None
-request_of (array ds) = None
-request_of (object ms) = request_in ms
+abbrev pub request_of : Data → Result Request Answer
+request_of null = Err (bad_request (codes "do"))
+request_of (boolean b) = Err (bad_request (codes "do"))
+request_of (number n) = Err (bad_request (codes "do"))
+request_of (string bytes) = Err (bad_request (codes "do"))
+request_of (array ds) = Err (bad_request (codes "do"))
+request_of (object ms) = request_in (asked_in ms) ms
 
 -- what the bytes are as JSON
 abbrev pub json_of : List ℕ → Option Data
 json_of bytes = if is_utf8 bytes then json.read bytes else None
 
--- what a line asks for, where it is one of the three requests with exactly its members
-unfoldable pub request : Line → Option Request
-request (line bytes) = option_and_then request_of (json_of bytes)
-request too_long = None
+-- what JSON asks for, where it is JSON
+abbrev pub request_from : Option Data → Result Request Answer
+request_from None = Err not_json
+request_from (Some d) = request_of d
+
+-- what a line asks for, or its refusal: it is too long, it is no JSON, or a member is wrong
+unfoldable pub request : Line → Result Request Answer
+request (line bytes) = request_from (json_of bytes)
+request too_long = Err long_line

@@ -3,12 +3,16 @@ use Rattle.std.specs.Prelude.{ℕ, List, [], ◌∷◌, Option, Some, None, map,
 use Rattle.std.specs.FinMap as finmap
 use Rattle.lens_values.specs.Order.{bytes_cmp}
 use Rattle.lens_values.specs.declared.value.Kind.{Kind}
-use Rattle.lens_specs.specs.Relation.{Name, Columns, Rows, Relation}
+use Rattle.lens_values.specs.SortedSet as set
+use Rattle.lens_specs.specs.Names.{Name, Names}
+use Rattle.lens_specs.specs.Relation.{Columns, Rows, Relation}
+use Rattle.lens_specs.specs.Dependencies.{Edge}
+use Rattle.lens_specs.specs.TreeForm.{tree_of}
 use Rattle.lens_specs.specs.Sort.{Sort}
-use Rattle.lens_specs.specs.Lens.{Tables, Lens, base, select}
-use Rattle.lens_specs.specs.Language.{Definition, table, view, Expr, named}
-use Rattle.lens_specs.specs.Language as language
-use Rattle.lens_specs.specs.Reading.{reading}
+use Rattle.lens_specs.specs.Lens.{Tables, Lens, base, select, tree_or_none}
+use Rattle.language_specs.specs.Language.{Definition, table, view, Expr, named}
+use Rattle.language_specs.specs.Language as language
+use Rattle.language_specs.specs.Reading.{reading}
 use Rattle.lens_specs.specs.Keeping.{Kept}
 
 -- the definition texts in order, the tables, the version, and for each table the version that changed it last
@@ -35,13 +39,13 @@ lens_of (language.select predicate of) known = option_map (select predicate) (le
 abbrev pub columns_from : List (Name × Kind) → Columns
 columns_from columns = finmap.from_entries columns
 
--- the sort of a table with these columns, no dependencies and no predicate
-abbrev pub plain_sort : Columns → Sort
-plain_sort columns = record { columns = columns; predicate = []; tree = [] }
+-- the sort of a table with these columns and edges, and no predicate
+abbrev pub plain_sort : Columns → List Edge → Sort
+plain_sort columns tree = record { columns = columns; predicate = []; tree = tree }
 
--- the lens of a table with these columns
-abbrev pub table_lens : Name → Columns → Lens
-table_lens name columns = base name (plain_sort columns)
+-- the lens of a table with these columns and dependencies, whose tree form is a tree
+abbrev pub table_lens : Name → Columns → List Edge → Lens
+table_lens name columns deps = base name (plain_sort columns (tree_or_none (tree_of deps)))
 
 -- the catalogue with the lens under the name, where there is one
 abbrev pub with_lens : Name → Option Lens → Catalogue → Catalogue
@@ -51,7 +55,7 @@ with_lens name (Some lens) known = finmap.insert known name lens
 -- the catalogue with one definition more
 abbrev pub with_definition : Option Definition → Catalogue → Catalogue
 with_definition None known = known
-with_definition (Some (table name columns)) known = with_lens name (Some (table_lens name (columns_from columns))) known
+with_definition (Some (table name columns deps)) known = with_lens name (Some (table_lens name (columns_from columns) deps)) known
 with_definition (Some (view name expr)) known = with_lens name (lens_of expr known) known
 
 -- the definitions that the texts say, one after another, added to a catalogue
@@ -62,6 +66,22 @@ catalogue_onto known (text ∷ texts) = catalogue_onto (with_definition (reading
 -- the lenses that come of taking the definition texts in order
 abbrev pub catalogue : List (List ℕ) → Catalogue
 catalogue = catalogue_onto finmap.empty
+
+-- with the name of a table that has dependencies
+abbrev pub with_dependent : Option Definition → Names → Names
+with_dependent None names = names
+with_dependent (Some (table name columns [])) names = names
+with_dependent (Some (table name columns (dep ∷ deps))) names = set.insert names name
+with_dependent (Some (view name expr)) names = names
+
+-- the tables of these texts that have dependencies, added to a set of names
+abbrev pub dependent_onto : Names → List (List ℕ) → Names
+dependent_onto names [] = names
+dependent_onto names (text ∷ texts) = dependent_onto (with_dependent (reading text) names) texts
+
+-- the tables that were defined with dependencies
+abbrev pub dependent : List (List ℕ) → Names
+dependent = dependent_onto set.empty
 
 -- the rows of each table
 abbrev pub rows_of_each : List (Name × Relation) → List (Name × Rows)

@@ -1,48 +1,23 @@
 -- The definition that tokens spell, step by step and by the grammar's shapes, is the same.
-use Rattle.std.proofs.Common.{◌≡◌, ℕ, Bool, true, false, cond, List, [], ◌∷◌, refl, sym, ap, ◌∙◌}
+use Rattle.std.proofs.Common.{◌≡◌, ℕ, Bool, true, false, cond, List, ◌∷◌, refl, sym, ap, ◌∙◌}
 use Rattle.std.specs.Prelude.{◌&&◌, not, codes, Option, Some, None, option_map, option_and_then}
 use Rattle.std.specs.Cmp.Lexicographic.{same_text}
-use Rattle.lens_values.specs.declared.value.Kind.{Kind}
 use Rattle.lens_values.specs.Bytes.{is_name}
-use Rattle.lens_specs.specs.Language as language
-use Rattle.lens_specs.specs.Language.{is_reserved, is_free_name}
-use Rattle.lens_specs.specs.Reading.{is_word, kind_named, columns_from, expr_from, definition_from}
+use Rattle.language_specs.specs.Language as language
+use Rattle.language_specs.specs.Language.{Written, written_view, meaning, is_reserved, is_free_name}
+use Rattle.language_specs.specs.Reading.{is_word, expr_from, table_from, written_from}
 use Rattle.view_lang.specs.declared.definition.Comparison.{Comparison}
 use Rattle.view_lang.specs.declared.definition.Op.TheVariants.{Eq}
 use Rattle.view_lang.specs.declared.lexer.Token.{Token}
-use Rattle.view_lang.specs.declared.lexer.Token.TheVariants.{Word, OpenParen, CloseParen, Comma, Operator}
+use Rattle.view_lang.specs.declared.lexer.Token.TheVariants.{Word, OpenParen, Operator}
 use Rattle.view_lang.specs.Tokens.{tokens_view}
-use Rattle.view_lang.specs.Steps.{selection_in, columns_in, rest_of_definition, definition_in}
+use Rattle.view_lang.specs.Steps.{selection_in, rest_of_definition, definition_in}
 use Rattle.view_lang.proofs.Named.{AreNamed}
 use Rattle.view_lang.proofs.Selected.{expr_of, selection_same}
 
 -- a name is free where it is not reserved
 free_is : (w : List ℕ) → is_name w ≡ true → is_free_name w ≡ not (is_reserved w)
 free_is w e = ap (λ b. b && not (is_reserved w)) e
-
-abbrev first_column : List ℕ → Kind → List (List ℕ × Kind)
-first_column name kind = (name, kind) ∷ []
-
-one_column : (n : List ℕ) (b : Bool) (o : Option Kind)
-    → option_and_then (λ name. option_map (first_column name) o) (cond (not b) (Some n) None) ≡ option_map (λ column. column ∷ []) (cond b None (option_map (λ k. (n, k)) o))
-one_column n true o = refl
-one_column n false None = refl
-one_column n false (Some k) = refl
-
-abbrev before : Option (List (List ℕ × Kind)) → List ℕ → Kind → Option (List (List ℕ × Kind))
-before rest name kind = option_map (λ columns. (name, kind) ∷ columns) rest
-
-more_columns : (n : List ℕ) (b : Bool) (o : Option Kind) (rest : Option (List (List ℕ × Kind)))
-    → option_and_then (λ name. option_and_then (before rest name) o) (cond (not b) (Some n) None)
-    ≡ option_and_then (λ column. option_map (λ columns. column ∷ columns) rest) (cond b None (option_map (λ k. (n, k)) o))
-more_columns n true o rest = refl
-more_columns n false None rest = refl
-more_columns n false (Some k) rest = refl
-
-columns_same : (tokens : List Token) → AreNamed (tokens_view tokens) → columns_from (tokens_view tokens) ≡ columns_in tokens
-columns_same (Word n ∷ Word k ∷ CloseParen ∷ []) names = rw (free_is n names.0) (one_column n (is_reserved n) (kind_named k))
-columns_same (Word n ∷ Word k ∷ Comma ∷ tokens) names = rw (free_is n names.0, columns_same tokens names.1.1.1) (more_columns n (is_reserved n) (kind_named k) (columns_in tokens))
-columns_same other names = refl
 
 -- ---- "table" and "view"
 
@@ -87,28 +62,35 @@ other_case false false false x y ex ey = refl
 abbrev view_of : List ℕ → List ℕ × Comparison → language.Definition
 view_of n s = language.view n (expr_of s)
 
-view_mapped : (n : List ℕ) (o : Option (List ℕ × Comparison)) → option_map (language.view n) (option_map expr_of o) ≡ option_map (view_of n) o
+view_mapped : (n : List ℕ) (o : Option (List ℕ × Comparison)) → option_map meaning (option_map (written_view n) (option_map expr_of o)) ≡ option_map (view_of n) o
 view_mapped n None = refl
 view_mapped n (Some s) = refl
+
+-- the meaning of what passes a test
+test_mapped : (b : Bool) (o : Option Written) → option_map meaning (cond b o None) ≡ cond b (option_map meaning o) None
+test_mapped true o = refl
+test_mapped false o = refl
 
 name_stands : (w n : List ℕ) (rest : List Token) → definition_in (Word w ∷ Word n ∷ rest) ≡ cond (is_reserved n) None (rest_of_definition w n rest)
 name_stands w n rest = elim (is_reserved n) as (λ b. option_and_then {T = List ℕ × List Token} (λ name. rest_of_definition w name.0 name.1) (cond b None (Some (n, rest))) ≡ cond b None (rest_of_definition w n rest)) [ true ↦ refl | false ↦ refl ]
 
 table_same : (w n : List ℕ) (tokens : List Token) → AreNamed (tokens_view (Word w ∷ Word n ∷ OpenParen ∷ tokens))
-    → definition_from (tokens_view (Word w ∷ Word n ∷ OpenParen ∷ tokens)) ≡ cond (is_reserved n) None (rest_of_definition w n (OpenParen ∷ tokens))
+    → option_map meaning (written_from (tokens_view (Word w ∷ Word n ∷ OpenParen ∷ tokens))) ≡ cond (is_reserved n) None (rest_of_definition w n (OpenParen ∷ tokens))
 table_same w n tokens names =
-    rw (free_is n names.1.0, columns_same tokens names.1.1.1)
-    (table_case (is_word w (codes "table")) (is_word w (codes "view")) (is_reserved n) (option_map (language.table n) (columns_in tokens)))
+    rw (free_is n names.1.0)
+    (test_mapped (is_word w (codes "table") && not (is_reserved n)) (table_from n (tokens_view tokens))
+    ∙ table_case (is_word w (codes "table")) (is_word w (codes "view")) (is_reserved n) (option_map meaning (table_from n (tokens_view tokens))))
 
 view_same : (w n : List ℕ) (tokens : List Token) → AreNamed (tokens_view (Word w ∷ Word n ∷ Operator Eq ∷ tokens))
-    → definition_from (tokens_view (Word w ∷ Word n ∷ Operator Eq ∷ tokens)) ≡ cond (is_reserved n) None (rest_of_definition w n (Operator Eq ∷ tokens))
+    → option_map meaning (written_from (tokens_view (Word w ∷ Word n ∷ Operator Eq ∷ tokens))) ≡ cond (is_reserved n) None (rest_of_definition w n (Operator Eq ∷ tokens))
 view_same w n tokens names =
     rw (free_is n names.1.0)
-    (view_case (is_word w (codes "table")) (is_word w (codes "view")) (is_reserved n) (option_map (language.view n) (expr_from (tokens_view tokens))) (option_map (view_of n) (selection_in tokens))
-    (not_both w) (ap (option_map (language.view n)) (selection_same tokens names.1.1.1) ∙ view_mapped n (selection_in tokens)))
+    (test_mapped (is_word w (codes "view") && not (is_reserved n)) (option_map (written_view n) (expr_from (tokens_view tokens)))
+    ∙ view_case (is_word w (codes "table")) (is_word w (codes "view")) (is_reserved n) (option_map meaning (option_map (written_view n) (expr_from (tokens_view tokens)))) (option_map (view_of n) (selection_in tokens))
+    (not_both w) (ap (λ o. option_map meaning (option_map (written_view n) o)) (selection_same tokens names.1.1.1) ∙ view_mapped n (selection_in tokens)))
 
 -- the shapes of the grammar give what the steps give
-pub definition_same : (tokens : List Token) → AreNamed (tokens_view tokens) → definition_from (tokens_view tokens) ≡ definition_in tokens
+pub definition_same : (tokens : List Token) → AreNamed (tokens_view tokens) → option_map meaning (written_from (tokens_view tokens)) ≡ definition_in tokens
 definition_same (Word w ∷ Word n ∷ OpenParen ∷ tokens) names = table_same w n tokens names ∙ sym (name_stands w n (OpenParen ∷ tokens))
 definition_same (Word w ∷ Word n ∷ Operator Eq ∷ tokens) names = view_same w n tokens names ∙ sym (name_stands w n (Operator Eq ∷ tokens))
 definition_same (Word w ∷ Word n ∷ other) names =

@@ -9,10 +9,10 @@ use Rattle.std.proofs.lemmas.Str.{IsUtf8-from_ascii}
 use Rattle.lens_values.proofs.NameLemmas.{name_utf8}
 use Rattle.lens_values.specs.Bytes.{is_name, is_name_byte, is_lower}
 use Rattle.std.proofs.lemmas.Bool.Decides.{nat_tests}
-use Rattle.lens_specs.specs.Language.{word, is_digit}
-use Rattle.lens_specs.specs.Reading.{drop_while, word_of, positive_of, negative_of}
+use Rattle.language_specs.specs.Language.{word, is_digit}
+use Rattle.language_specs.specs.Reading.{drop_while, word_of, positive_of, negative_of, dash_of}
 use Rattle.view_lang.specs.declared.lexer.Token as code
-use Rattle.view_lang.specs.Tokens.{token_view, front_of, token_in_front, word_at, begins_word, begins_integer, is_integer_text, integer_at}
+use Rattle.view_lang.specs.Tokens.{token_view, front_of, token_in_front, word_at, begins_word, begins_integer, begins_arrow, is_integer_text, integer_at}
 
 one_more : (n : ℕ) → 1 + n ≡ suc n
 one_more n = omega arith
@@ -93,27 +93,35 @@ word_front text h n e t found =
 pub not_digit : (b : ℕ) → is_digit b ≡ true → is_lower b ≡ false
 not_digit b e = grind (arith, nat_tests)
 
+-- behind a minus sign, where no arrow begins
+dash_is : (rest : List ℕ) → begins_arrow (45 ∷ rest) ≡ false → dash_of rest ≡ option_map (λ t. (t, drop_while is_digit rest)) (negative_of (take_while is_digit rest))
+dash_is [] e = refl
+dash_is (c ∷ rest) e = let is : (c == 62) ≡ false = e in rw is refl
+
 -- the integer in front of a text that begins with a digit or a minus sign
-integer_in_front : (b : ℕ) (rest : List ℕ) → IsTrue (begins_integer (b ∷ rest))
+integer_in_front : (b : ℕ) (rest : List ℕ) → IsTrue (begins_integer (b ∷ rest)) → begins_arrow (b ∷ rest) ≡ false
     → token_in_front (b ∷ rest) ≡ option_map (λ t. (t, drop_while is_digit rest)) (integer_at (b ∷ take_while is_digit rest))
-integer_in_front b rest h =
+integer_in_front b rest h no_arrow =
     elim (is_digit b) as (λ d. is_digit b ≡ d → token_in_front (b ∷ rest) ≡ option_map (λ t. (t, drop_while is_digit rest)) (cond d (positive_of (b ∷ take_while is_digit rest)) (negative_of (take_while is_digit rest)))) [
       | true ↦ λ e. rw (not_digit b e, e) refl
-      | false ↦ λ e. let minus_sign : b ≡ 45 = only_minus b e h in subst (λ c. token_in_front (c ∷ rest) ≡ option_map (λ t. (t, drop_while is_digit rest)) (negative_of (take_while is_digit rest))) (sym minus_sign) refl
+      | false ↦ λ e.
+          let minus_sign : b ≡ 45 = only_minus b e h in
+          let P : ℕ → Type 0 = λ c. begins_arrow (c ∷ rest) ≡ false → token_in_front (c ∷ rest) ≡ option_map (λ t. (t, drop_while is_digit rest)) (negative_of (take_while is_digit rest)) in
+          subst P (sym minus_sign) (dash_is rest) no_arrow
     ] refl
 
 integer_length : (b : ℕ) (rest : List ℕ) (n : ℕ) → n ≡ prefix_len is_digit rest → take (1 + n) (b ∷ rest) ≡ b ∷ take_while is_digit rest
 integer_length b rest n e = rw (one_more n) (ap (λ k. b ∷ take k rest) e)
 
-pub integer_front : (text : List ℕ) → IsTrue (begins_integer text) → (n : ℕ) → n ≡ prefix_len is_digit (drop 1 text) → (t : Option code.Token)
+pub integer_front : (text : List ℕ) → IsTrue (begins_integer text) → begins_arrow text ≡ false → (n : ℕ) → n ≡ prefix_len is_digit (drop 1 text) → (t : Option code.Token)
     → option_map token_view t ≡ integer_at (take (1 + n) text) → front_of text (option_map (λ t. (t, 1 + n)) t) ≡ token_in_front text
-integer_front [] h n e t found = cc
-integer_front (b ∷ rest) h n e t found =
+integer_front [] h no_arrow n e t found = cc
+integer_front (b ∷ rest) h no_arrow n e t found =
     let left : drop (1 + n) (b ∷ rest) ≡ drop_while is_digit rest = rw (one_more n) (ap (λ k. drop k rest) e ∙ sym (drop_while_is is_digit rest)) in
     moved (b ∷ rest) (1 + n) t
     ∙ ap (option_map (λ t. (t, drop (1 + n) (b ∷ rest)))) found
     ∙ (λ i. option_map (λ t. (t, left i)) (integer_at (integer_length b rest n e i)))
-    ∙ sym (integer_in_front b rest h)
+    ∙ sym (integer_in_front b rest h no_arrow)
 
 -- what is not text is no word
 pub no_word : (bytes : List ℕ) → (IsUtf8 bytes → ⊥) → word_at bytes ≡ None

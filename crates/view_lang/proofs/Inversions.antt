@@ -2,8 +2,8 @@
 use Rattle.std.proofs.Common.{◌≡◌, ℕ, ℤ, ◌<◌, Bool, true, false, cond, List, [], ◌∷◌, length, refl, sym, ap, ◌∙◌, arith}
 use Rattle.std.specs.Prelude.{Option, Some, None, option_map}
 use Rattle.lens_values.specs.declared.value.Kind.{Kind}
-use Rattle.lens_specs.specs.Language.{is_reserved}
-use Rattle.lens_specs.specs.Reading.{kind_named, is_word}
+use Rattle.language_specs.specs.Language.{is_reserved}
+use Rattle.language_specs.specs.Reading.{kind_named, is_word}
 use Rattle.view_lang.specs.declared.definition.Op.{Op}
 use Rattle.view_lang.specs.declared.lexer.Token.{Token}
 use Rattle.view_lang.specs.declared.lexer.Token.TheVariants.{Word, Integer, CloseParen, Comma, Operator}
@@ -47,7 +47,7 @@ tail_of (Some p) = p.1
 
 last_fewer : (rest : List Token) (v : Bool × List Token) → next_last rest ≡ Some v → length v.1 < length rest
 last_fewer (Comma ∷ tokens) v e = let same : tokens ≡ v.1 = ap tail_of e in omega (arith, ap length same)
-last_fewer (CloseParen ∷ []) v e = let same : [] ≡ v.1 = ap tail_of e in omega (arith, ap length same)
+last_fewer (CloseParen ∷ tokens) v e = let same : tokens ≡ v.1 = ap tail_of e in omega (arith, ap length same)
 last_fewer other v e = cc
 
 kind_fewer : (tokens : List Token) (v : Kind × List Token) → next_kind tokens ≡ Some v → length v.1 < length tokens

@@ -12,3 +12,9 @@ pub mod Read
 pub mod Spelling
 pub mod Longest
 pub mod Texts
+pub mod Edges
+pub mod Listed
+pub mod Names
+pub mod SpelledDeps
+pub mod FullSides
+pub mod Tabled

@@ -6,8 +6,8 @@ use Rattle.std.proofs.lemmas.Bool.Decides.{nat_tests}
 use Rattle.std.proofs.lemmas.List.Sums.{take_while-cons}
 use Rattle.lens_values.specs.Bytes.{is_lower, is_name, is_name_byte}
 use Rattle.lens_specs.specs.Predicate.{eq, ne, lt, le, gt, ge}
-use Rattle.lens_specs.specs.Language.{Token, word, integer, open_paren, close_paren, comma, operator, is_digit, digits_value, minus, Spells, SpellsInteger, AreDigits, Ends, goes_on}
-use Rattle.lens_specs.specs.Reading.{drop_while, word_of, positive_of, negative_of, sign_of, token_at}
+use Rattle.language_specs.specs.Language.{Token, word, integer, open_paren, close_paren, comma, arrow, operator, is_digit, digits_value, minus, Spells, SpellsInteger, AreDigits, Ends, goes_on}
+use Rattle.language_specs.specs.Reading.{drop_while, word_of, positive_of, negative_of, sign_of, dash_of, token_at}
 use Rattle.view_lang.proofs.Fronts.{word_is, front_passes, not_digit}
 use Rattle.view_lang.proofs.Options.{same_inside, map_then, cond_some, cond_then, first_holds, second_holds}
 
@@ -96,6 +96,15 @@ negative_stands rest f e =
       ends = ends_integer made.0 (drop_while is_digit rest) (stops is_digit rest);
     }))
 
+arrow_stands : (c : ℕ) (rest : List ℕ) (f : Token × List ℕ) → (c == 62) ≡ true → Some (arrow, rest) ≡ Some f → Stands (45 ∷ c ∷ rest) f
+arrow_stands c rest f is e =
+    let P : Token × List ℕ → Type 0 = λ x. Stands (45 ∷ c ∷ rest) x in
+    subst P (same_inside (arrow, rest) f e) (record { bytes = 45 ∷ 62 ∷ []; shape = ap (λ x. 45 ∷ x ∷ rest) (eqb-true c 62 is); spells = refl; ends = ends_never arrow (λ _. refl) rest })
+
+dash_stands : (rest : List ℕ) (f : Token × List ℕ) → dash_of rest ≡ Some f → Stands (45 ∷ rest) f
+dash_stands [] f e = cc
+dash_stands (c ∷ rest) f e = cond_then (c == 62) _ _ f e (λ is h. arrow_stands c rest f is h) (λ _ h. negative_stands (c ∷ rest) f h)
+
 short_stands : (b k : ℕ) (rest : List ℕ) (t : Token) (f : Token × List ℕ) → (b == k) ≡ true → Some (t, rest) ≡ Some f → Spells t (k ∷ []) → Ends t rest → Stands (b ∷ rest) f
 short_stands b k rest t f is e spells ends =
     let P : Token × List ℕ → Type 0 = λ x. Stands (b ∷ rest) x in
@@ -143,7 +152,7 @@ pub token_stands : (b : ℕ) (rest : List ℕ) (f : Token × List ℕ) → token
 token_stands b rest f e =
     cond_then (is_lower b) _ _ f e (λ lower h. word_stands b rest f lower h) (λ _ e.
     cond_then (is_digit b) _ _ f e (λ digit h. positive_stands b rest f digit h) (λ _ e.
-    cond_then (b == 45) _ _ f e (λ is h. let P : ℕ → Type 0 = λ x. Stands (x ∷ rest) f in subst P (sym (eqb-true b 45 is)) (negative_stands rest f h)) (λ _ e.
+    cond_then (b == 45) _ _ f e (λ is h. let P : ℕ → Type 0 = λ x. Stands (x ∷ rest) f in subst P (sym (eqb-true b 45 is)) (dash_stands rest f h)) (λ _ e.
     sign_stands b rest f e)))
 
 -- ---- what is spelled is found
@@ -194,10 +203,13 @@ positive_front b ds rest z all is range stop =
     let digits = second_holds (is_digit b) (list_all is_digit ds) all in
     rw (not_digit b digit, digit, taken is_digit ds rest digits stop, dropped is_digit ds rest digits stop, range) (ap (λ y. Some (integer y, rest)) (sym is))
 
+no_arrow : (d : ℕ) → is_digit d ≡ true → (d == 62) ≡ false
+no_arrow d e = grind (arith, nat_tests)
+
 negative_front : (d : ℕ) (ds rest : List ℕ) (z : ℤ) → list_all is_digit (d ∷ ds) ≡ true → z ≡ minus (digits_value 0 (d ∷ ds)) → nat_le (digits_value 0 (d ∷ ds)) (2 ^ 63) ≡ true → Stops is_digit rest
     → token_at 45 (d ∷ (ds ++ rest)) ≡ Some (integer z, rest)
 negative_front d ds rest z all is range stop =
-    rw (taken is_digit (d ∷ ds) rest all stop, dropped is_digit (d ∷ ds) rest all stop, range) (ap (λ y. Some (integer y, rest)) (sym is))
+    rw (no_arrow d (first_holds (is_digit d) (list_all is_digit ds) all), taken is_digit (d ∷ ds) rest all stop, dropped is_digit (d ∷ ds) rest all stop, range) (ap (λ y. Some (integer y, rest)) (sym is))
 
 minus_front : (z : ℤ) (ds rest : List ℕ) → AreDigits ds → z ≡ minus (digits_value 0 ds) → nat_le (digits_value 0 ds) (2 ^ 63) ≡ true → Stops is_digit rest → token_at 45 (ds ++ rest) ≡ Some (integer z, rest)
 minus_front z [] rest are is range stop = absurd (are.0 refl)
@@ -249,6 +261,7 @@ token_front (integer z) bytes rest h ends = integer_front z bytes rest h ends
 token_front open_paren bytes rest h ends = short_front 40 open_paren (λ r _. open_found r) bytes rest h ends
 token_front close_paren bytes rest h ends = short_front 41 close_paren (λ r _. close_found r) bytes rest h ends
 token_front comma bytes rest h ends = short_front 44 comma (λ r _. comma_found r) bytes rest h ends
+token_front arrow bytes rest h ends = (45, 62 ∷ [], h, refl)
 token_front (operator eq) bytes rest h ends = short_front 61 (operator eq) (λ r _. eq_found r) bytes rest h ends
 token_front (operator ne) bytes rest h ends = long_front 33 (operator ne) (λ r. refl) bytes rest h
 token_front (operator lt) bytes rest h ends = short_front 60 (operator lt) lt_found bytes rest h ends

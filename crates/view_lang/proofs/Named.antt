@@ -3,8 +3,8 @@ use Rattle.std.proofs.Common.{◌≡◌, ℕ, zero, suc, Bool, true, false, cond
 use Rattle.std.specs.Prelude.{◌&&◌, ◌==◌, ◌^◌, nat_le, nat_lt, pos, Option, Some, None, option_map, option_and_then, IfSome, take_while}
 use Rattle.std.specs.List.{list_all}
 use Rattle.lens_values.specs.Bytes.{is_lower, is_name, is_name_byte}
-use Rattle.lens_specs.specs.Language.{Token, word, integer, open_paren, close_paren, comma, operator, is_blank, is_digit, digits_value, minus}
-use Rattle.lens_specs.specs.Reading.{drop_while, word_of, positive_of, negative_of, sign_of, token_at, tokens_within, tokens_of}
+use Rattle.language_specs.specs.Language.{Token, word, integer, open_paren, close_paren, comma, arrow, operator, is_blank, is_digit, digits_value, minus}
+use Rattle.language_specs.specs.Reading.{drop_while, word_of, positive_of, negative_of, sign_of, dash_of, token_at, tokens_within, tokens_of}
 use Rattle.view_lang.proofs.Fronts.{word_is, front_passes}
 use Rattle.view_lang.proofs.Options.{same_inside, bind_some, map_some, cond_some}
 
@@ -14,6 +14,7 @@ IsNamed (integer z) = Unit {0}
 IsNamed open_paren = Unit {0}
 IsNamed close_paren = Unit {0}
 IsNamed comma = Unit {0}
+IsNamed arrow = Unit {0}
 IsNamed (operator op) = Unit {0}
 
 abbrev pub AreNamed : List Token → Type 0
@@ -56,11 +57,15 @@ named_sign b (c ∷ rest) =
     (named_either (b == 40) _ _ (λ _. tt) (named_either (b == 41) _ _ (λ _. tt) (named_either (b == 44) _ _ (λ _. tt)
     (named_either (b == 61) _ _ (λ _. tt) (named_either (b == 60) _ _ (λ _. tt) (named_either (b == 62) _ _ (λ _. tt) tt))))))))
 
+named_dash : (rest : List ℕ) → Named (dash_of rest)
+named_dash [] = tt
+named_dash (c ∷ rest) = named_either (c == 62) _ _ (λ _. tt) (named_token _ _ (named_negative (take_while is_digit (c ∷ rest))))
+
 named_at : (b : ℕ) (rest : List ℕ) → Named (token_at b rest)
 named_at b rest =
     named_either (is_lower b) _ _ (λ e. named_token _ _ (named_word b (take_while is_name_byte rest) e (front_passes is_name_byte rest)))
     (named_either (is_digit b) _ _ (λ _. named_token (drop_while is_digit rest) (positive_of (b ∷ take_while is_digit rest)) (named_positive (b ∷ take_while is_digit rest)))
-    (named_either (b == 45) _ _ (λ _. named_token _ _ (named_negative (take_while is_digit rest))) (named_sign b rest)))
+    (named_either (b == 45) _ _ (λ _. named_dash rest) (named_sign b rest)))
 
 named_first : (found : Option (Token × List ℕ)) (f : Token × List ℕ) → Named found → found ≡ Some f → IsNamed f.0
 named_first found f h e = subst (λ o. Named o) e h

@@ -1,10 +1,10 @@
 -- What a text says, from its tokens.
 use Rattle.std.proofs.Common.{◌≡◌, ℕ, List, refl, sym, ap, subst, ◌∙◌}
-use Rattle.std.specs.Prelude.{Option, Some, None, Result, Ok, Err, option_and_then, ok_or, IfOk}
+use Rattle.std.specs.Prelude.{Option, Some, None, Result, Ok, Err, option_map, option_and_then, ok_or, IfOk}
 use Rattle.lens_values.specs.Gives.{GivesBy}
-use Rattle.lens_specs.specs.Language as language
-use Rattle.lens_specs.specs.Language.{Says}
-use Rattle.lens_specs.specs.Reading.{tokens_of, definition_from, reading}
+use Rattle.language_specs.specs.Language as language
+use Rattle.language_specs.specs.Language.{meaning, Says}
+use Rattle.language_specs.specs.Reading.{tokens_of, written_from, reading}
 use Rattle.view_lang.specs.declared.definition.LangFault.{LangFault}
 use Rattle.view_lang.specs.declared.definition.LangFault.TheVariants.{Outside, NoMemory}
 use Rattle.view_lang.specs.declared.definition.Definition.{Definition}
@@ -12,7 +12,7 @@ use Rattle.view_lang.specs.declared.lexer.Token.{Token}
 use Rattle.view_lang.specs.Meaning.{or_outside, parsed, definition_view}
 use Rattle.view_lang.specs.Tokens.{tokens_view}
 use Rattle.view_lang.specs.Steps.{definition_in}
-use Rattle.view_lang.proofs.Answered.{ok_or_some, ok_or_none, same_fault}
+use Rattle.view_lang.proofs.Answered.{ok_or_some, ok_or_none, fault_is}
 use Rattle.view_lang.proofs.Named.{named_tokens}
 use Rattle.view_lang.proofs.Defined.{definition_same}
 use Rattle.view_lang.proofs.Texts.{found}
@@ -21,23 +21,19 @@ same_outside : (o : Option language.Definition) → or_outside o ≡ ok_or o Out
 same_outside None = refl
 same_outside (Some d) = refl
 
-fault_is : {A : Type 0} (o : Option A) (e : LangFault) → ok_or o Outside ≡ Err e → Outside ≡ e
-fault_is None e same = same_fault Outside e same
-fault_is (Some a) e same = cc
-
 -- where the text has tokens
 pub read_tokens : (text : List ℕ) (tokens : List Token) → ok_or (tokens_of text) Outside ≡ Ok (tokens_view tokens) → parsed text ≡ ok_or (definition_in tokens) Outside
 unfolding reading
 read_tokens text tokens e =
     let found = ok_or_some (tokens_of text) (tokens_view tokens) e in
-    same_outside (option_and_then definition_from (tokens_of text))
-    ∙ ap (λ o. ok_or (option_and_then definition_from o) Outside) found
+    same_outside (option_map meaning (option_and_then written_from (tokens_of text)))
+    ∙ ap (λ o. ok_or (option_map meaning (option_and_then written_from o)) Outside) found
     ∙ ap (λ o. ok_or o Outside) (definition_same tokens (named_tokens text (tokens_view tokens) found))
 
 -- where it has none
 pub read_none : (text : List ℕ) (e : LangFault) → ok_or (tokens_of text) Outside ≡ Err e → parsed text ≡ Err e
 unfolding reading
-read_none text e wrong = ap (λ o. or_outside (option_and_then definition_from o)) (ok_or_none (tokens_of text) e wrong) ∙ ap Err (fault_is (tokens_of text) e wrong)
+read_none text e wrong = ap (λ o. or_outside (option_map meaning (option_and_then written_from o))) (ok_or_none (tokens_of text) e wrong) ∙ ap Err (fault_is (tokens_of text) e wrong)
 
 pub read_by : (text bytes : List ℕ) (tokens items : List Token) → bytes ≡ text → items ≡ tokens → ok_or (tokens_of bytes) Outside ≡ Ok (tokens_view tokens)
     → (r : Result Definition LangFault) → GivesBy definition_view NoMemory r (ok_or (definition_in items) Outside) → GivesBy definition_view NoMemory r (parsed text)

@@ -5,8 +5,8 @@ use Rattle.std.specs.List.{prefix_len}
 use Rattle.std.proofs.lemmas.Bool.Decides.{nat_tests}
 use Rattle.std.proofs.lemmas.List.{length-drop}
 use Rattle.lens_values.specs.Bytes.{is_lower, is_name_byte}
-use Rattle.lens_specs.specs.Language.{Token, is_blank, is_digit}
-use Rattle.lens_specs.specs.Reading.{drop_while, sign_of, token_at, tokens_within, tokens_of}
+use Rattle.language_specs.specs.Language.{Token, is_blank, is_digit}
+use Rattle.language_specs.specs.Reading.{drop_while, sign_of, dash_of, token_at, tokens_within, tokens_of}
 use Rattle.view_lang.specs.declared.lexer.Token as code
 use Rattle.view_lang.specs.Tokens.{token_view, tokens_view, token_in_front}
 use Rattle.view_lang.proofs.Fronts.{drop_while_is, rest_is}
@@ -40,11 +40,17 @@ sign_leaves b (c ∷ rest) =
     (leaves_either n (b == 40) _ _ one (leaves_either n (b == 41) _ _ one (leaves_either n (b == 44) _ _ one
     (leaves_either n (b == 61) _ _ one (leaves_either n (b == 60) _ _ one (leaves_either n (b == 62) _ _ one tt))))))))
 
+dash_leaves : (rest : List ℕ) → Leaves (length rest) (dash_of rest)
+dash_leaves [] = tt
+dash_leaves (c ∷ rest) =
+    let behind : length rest ≤ length (c ∷ rest) = omega arith in
+    leaves_either (length (c ∷ rest)) (c == 62) _ _ behind (leaves_rest _ _ (left_length is_digit (c ∷ rest)) _)
+
 token_leaves : (b : ℕ) (rest : List ℕ) → Leaves (length rest) (token_at b rest)
 token_leaves b rest =
     leaves_either (length rest) (is_lower b) _ _ (leaves_rest _ _ (left_length is_name_byte rest) _)
     (leaves_either (length rest) (is_digit b) _ _ (leaves_rest _ _ (left_length is_digit rest) _)
-    (leaves_either (length rest) (b == 45) _ _ (leaves_rest _ _ (left_length is_digit rest) _) (sign_leaves b rest)))
+    (leaves_either (length rest) (b == 45) _ _ (dash_leaves rest) (sign_leaves b rest)))
 
 -- ---- any bound that is no shorter than the text gives its tokens
 

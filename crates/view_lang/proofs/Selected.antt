@@ -1,10 +1,9 @@
 -- What the tokens spell, step by step and by the grammar's shapes, is the same.
 use Rattle.std.proofs.Common.{◌≡◌, ℕ, ℤ, Bool, true, false, cond, List, [], ◌∷◌, refl, sym, ap, subst, ◌∙◌}
-use Rattle.std.specs.Prelude.{◌&&◌, not, codes, Some, None, option_map}
-use Rattle.lens_values.specs.Bytes.{is_name}
-use Rattle.lens_specs.specs.Language as language
-use Rattle.lens_specs.specs.Language.{is_reserved, is_free_name}
-use Rattle.lens_specs.specs.Reading.{is_word, expr_from}
+use Rattle.std.specs.Prelude.{◌&&◌, codes, Some, None, option_map}
+use Rattle.language_specs.specs.Language as language
+use Rattle.language_specs.specs.Language.{is_reserved, is_free_name}
+use Rattle.language_specs.specs.Reading.{is_word, expr_from}
 use Rattle.view_lang.specs.declared.definition.Comparison.{Comparison}
 use Rattle.view_lang.specs.declared.definition.Op.{Op}
 use Rattle.view_lang.specs.declared.lexer.Token.{Token}
@@ -15,14 +14,7 @@ use Rattle.view_lang.specs.Steps.{next_name, next_operator, next_integer, next_c
 use Rattle.view_lang.proofs.Inversions.{name_was, operator_was, integer_was, keyword_was, end_was}
 use Rattle.view_lang.proofs.Options.{same_inside, bind_then, first_holds, second_holds}
 use Rattle.view_lang.proofs.Named.{AreNamed}
-
--- a name that is not reserved is free
-not_true : (b : Bool) → not b ≡ true → b ≡ false
-not_true true e = cc
-not_true false e = refl
-
-free_name : (w : List ℕ) → is_name w ≡ true → is_reserved w ≡ false → is_free_name w ≡ true
-free_name w n r = rw (n, r) refl
+use Rattle.view_lang.proofs.Names.{free_name, not_reserved}
 
 -- ---- "select" "from" NAME "where" NAME op INTEGER
 
@@ -94,9 +86,6 @@ sound_shape : (tokens : List Token) (s : List ℕ × Comparison) → AreNamed (t
 sound_shape tokens s names w =
     let P : List Token → Type 0 = λ t. AreNamed (tokens_view t) → expr_from (tokens_view t) ≡ Some (expr_of s) in
     subst P (sym w.shape) (λ known. rw (w.is_select, w.is_from, w.is_where, free_name s.0 known.1.1.0 w.source_free, free_name s.1.column known.1.1.1.1.0 w.column_free) refl) names
-
-not_reserved : (w : List ℕ) → is_free_name w ≡ true → is_reserved w ≡ false
-not_reserved w e = not_true (is_reserved w) (second_holds (is_name w) (not (is_reserved w)) e)
 
 selection_true : (select from source filter column : List ℕ) (op : Op) (z : ℤ)
     → (is_word select (codes "select") && is_word from (codes "from") && is_word filter (codes "where") && is_free_name source && is_free_name column) ≡ true

@@ -8,9 +8,12 @@ use Rattle.lens_values.specs.declared.value.Kind.TheVariants as kind
 use Rattle.lens_values.specs.declared.value.Value.TheVariants.{Int}
 use Rattle.lens_specs.specs.Relation.{Name}
 use Rattle.lens_specs.specs.Predicate.{eq, Formula, compare, Predicate}
-use Rattle.lens_specs.specs.Language.{Token, word, integer, open_paren, close_paren, comma, operator, Expr, named, select, Definition, table, view, kind_word, column_tokens, more_columns, columns_tokens, expr_tokens, definition_tokens, is_free_name, has_free_names, has_column, is_writable}
-use Rattle.lens_specs.specs.Reading.{is_word, kind_named, name_of, columns_from, expr_from, definition_from}
+use Rattle.language_specs.specs.Language.{Token, word, integer, open_paren, close_paren, comma, operator, Expr, named, select, Written, written_table, written_view, kind_word, column_tokens, more_columns, columns_tokens, deps_tokens, expr_tokens, definition_tokens, is_free_name, has_free_names, is_some_list, is_writable}
+use Rattle.language_specs.specs.Reading.{is_word, kind_named, name_of, columns_from, deps_from, expr_from, table_from, written_from}
 use Rattle.view_lang.proofs.Options.{same_inside, bind_then, map_then, cond_some, cond_then, first_holds, second_holds}
+use Rattle.view_lang.proofs.Named.{AreNamed}
+use Rattle.view_lang.proofs.Names.{name_was, not_reserved}
+use Rattle.view_lang.proofs.SpelledDeps.{are_sides, deps_sound, deps_complete}
 
 word_is_it : (w v : List ℕ) → is_word w v ≡ true → w ≡ v
 word_is_it w v e = same_text w v (sym e)
@@ -31,64 +34,65 @@ kind_back kind.Int = refl
 kind_back kind.Text = refl
 kind_back kind.Flag = refl
 
-name_was : (n name : List ℕ) → name_of n ≡ Some name → (is_free_name name ≡ true) × (name ≡ n)
-name_was n name e =
-    let found = cond_some (is_free_name n) (Some n) name e in
-    let same = same_inside n name found.1 in
-    (ap is_free_name (sym same) ∙ found.0, sym same)
-
 abbrev has_free_columns : List (Name × Kind) → Bool
 has_free_columns columns = list_all (λ column. is_free_name column.0) columns
 
-record Spelled (tokens : List Token) (columns : List (Name × Kind)) : Type 0 where
-  shape : columns_tokens columns ≡ open_paren ∷ tokens
-  some : has_column columns ≡ true
-  free : has_free_columns columns ≡ true
+record Spelled (tokens : List Token) (listed : List (Name × Kind) × List Token) : Type 0 where
+  shape : columns_tokens listed.0 ++ listed.1 ≡ open_paren ∷ tokens
+  some : is_some_list listed.0 ≡ true
+  free : has_free_columns listed.0 ≡ true
+  known : AreNamed listed.1
 
 abbrev tail : List Token → List Token
 tail [] = []
 tail (token ∷ tokens) = tokens
 
-more_is : (columns : List (Name × Kind)) (tokens : List Token) → has_column columns ≡ true → columns_tokens columns ≡ open_paren ∷ tokens → more_columns columns ≡ comma ∷ tokens
-more_is [] tokens h e = cc
-more_is (column ∷ columns) tokens h e = ap (λ ts. comma ∷ tail ts) e
+more_is : (columns : List (Name × Kind)) (rest tokens : List Token) → is_some_list columns ≡ true → columns_tokens columns ++ rest ≡ open_paren ∷ tokens → more_columns columns ++ rest ≡ comma ∷ tokens
+more_is [] rest tokens h e = cc
+more_is (column ∷ columns) rest tokens h e = ap (λ ts. comma ∷ tail ts) e
 
-one_spelled : (n k name : List ℕ) (kind : Kind) → is_free_name name ≡ true → name ≡ n → kind_word kind ≡ k → Spelled (word n ∷ word k ∷ close_paren ∷ []) ((name, kind) ∷ [])
-one_spelled n k name kind free same is = record {
-  shape = λ i. open_paren ∷ word (same i) ∷ word (is i) ∷ close_paren ∷ [];
+one_spelled : (n k name : List ℕ) (kind : Kind) (rest : List Token) → is_free_name name ≡ true → name ≡ n → kind_word kind ≡ k → AreNamed rest
+    → Spelled (word n ∷ word k ∷ close_paren ∷ rest) ((name, kind) ∷ [], rest)
+one_spelled n k name kind rest free same is known = record {
+  shape = λ i. open_paren ∷ word (same i) ∷ word (is i) ∷ close_paren ∷ rest;
   some = refl;
   free = ap (λ b. b && true) free;
+  known = known;
 }
 
-more_spelled : (n k name : List ℕ) (kind : Kind) (tokens : List Token) (columns : List (Name × Kind)) → is_free_name name ≡ true → name ≡ n → kind_word kind ≡ k → Spelled tokens columns
-    → Spelled (word n ∷ word k ∷ comma ∷ tokens) ((name, kind) ∷ columns)
-more_spelled n k name kind tokens columns free same is more = record {
-  shape = λ i. open_paren ∷ word (same i) ∷ word (is i) ∷ more_is columns tokens more.some more.shape i;
+more_spelled : (n k name : List ℕ) (kind : Kind) (tokens : List Token) (more : List (Name × Kind) × List Token) → is_free_name name ≡ true → name ≡ n → kind_word kind ≡ k → Spelled tokens more
+    → Spelled (word n ∷ word k ∷ comma ∷ tokens) ((name, kind) ∷ more.0, more.1)
+more_spelled n k name kind tokens more free same is spelled = record {
+  shape = λ i. open_paren ∷ word (same i) ∷ word (is i) ∷ more_is more.0 more.1 tokens spelled.some spelled.shape i;
   some = refl;
-  free = rw (free, more.free) refl;
+  free = rw (free, spelled.free) refl;
+  known = spelled.known;
 }
 
-columns_sound : (tokens : List Token) (columns : List (Name × Kind)) → columns_from tokens ≡ Some columns → Spelled tokens columns
-columns_sound (word n ∷ word k ∷ close_paren ∷ []) columns e =
-    bind_then _ (name_of n) columns e (λ name e_name f.
-    map_then _ (kind_named k) columns f (λ kind e_kind same.
-    let P : List (Name × Kind) → Type 0 = λ cs. Spelled (word n ∷ word k ∷ close_paren ∷ []) cs in
-    subst P same (one_spelled n k name kind (name_was n name e_name).0 (name_was n name e_name).1 (kind_word_is k kind e_kind))))
-columns_sound (word n ∷ word k ∷ comma ∷ tokens) columns e =
-    bind_then _ (name_of n) columns e (λ name e_name f.
-    bind_then _ (kind_named k) columns f (λ kind e_kind g.
-    map_then _ (columns_from tokens) columns g (λ more e_more same.
-    let P : List (Name × Kind) → Type 0 = λ cs. Spelled (word n ∷ word k ∷ comma ∷ tokens) cs in
-    subst P same (more_spelled n k name kind tokens more (name_was n name e_name).0 (name_was n name e_name).1 (kind_word_is k kind e_kind) (columns_sound tokens more e_more)))))
-columns_sound other columns e = cc
+columns_sound : (tokens : List Token) (listed : List (Name × Kind) × List Token) → AreNamed tokens → columns_from tokens ≡ Some listed → Spelled tokens listed
+columns_sound (word n ∷ word k ∷ close_paren ∷ tokens) listed known e =
+    bind_then _ (name_of n) listed e (λ name e_name f.
+    map_then _ (kind_named k) listed f (λ kind e_kind same.
+    let named = name_was n name known.0 e_name in
+    let P : List (Name × Kind) × List Token → Type 0 = λ l. Spelled (word n ∷ word k ∷ close_paren ∷ tokens) l in
+    subst P same (one_spelled n k name kind tokens named.0 named.1 (kind_word_is k kind e_kind) known.1.1.1)))
+columns_sound (word n ∷ word k ∷ comma ∷ tokens) listed known e =
+    bind_then _ (name_of n) listed e (λ name e_name f.
+    bind_then _ (kind_named k) listed f (λ kind e_kind g.
+    map_then _ (columns_from tokens) listed g (λ more e_more same.
+    let named = name_was n name known.0 e_name in
+    let P : List (Name × Kind) × List Token → Type 0 = λ l. Spelled (word n ∷ word k ∷ comma ∷ tokens) l in
+    subst P same (more_spelled n k name kind tokens more named.0 named.1 (kind_word_is k kind e_kind) (columns_sound tokens more known.1.1.1 e_more)))))
+columns_sound other listed known e = cc
 
-columns_complete : (column : Name × Kind) (columns : List (Name × Kind)) → has_free_columns (column ∷ columns) ≡ true → columns_from (column_tokens column ++ more_columns columns) ≡ Some (column ∷ columns)
-columns_complete column [] free = rw (first_holds (is_free_name column.0) true free, kind_back column.1) refl
-columns_complete column (next ∷ columns) free =
+columns_complete : (column : Name × Kind) (columns : List (Name × Kind)) (rest : List Token) → has_free_columns (column ∷ columns) ≡ true
+    → columns_from ((column_tokens column ++ more_columns columns) ++ rest) ≡ Some (column ∷ columns, rest)
+columns_complete column [] rest free = rw (not_reserved column.0 (first_holds (is_free_name column.0) true free), kind_back column.1) refl
+columns_complete column (next ∷ columns) rest free =
     rw (
-      first_holds (is_free_name column.0) (has_free_columns (next ∷ columns)) free,
+      not_reserved column.0 (first_holds (is_free_name column.0) (has_free_columns (next ∷ columns)) free),
       kind_back column.1,
-      columns_complete next columns (second_holds (is_free_name column.0) (has_free_columns (next ∷ columns)) free),
+      columns_complete next columns rest (second_holds (is_free_name column.0) (has_free_columns (next ∷ columns)) free),
     ) refl
 
 -- ---- a selection
@@ -134,38 +138,55 @@ expr_complete (select predicate (select inner expr)) tokens free e = absurd (no_
 
 -- ---- definitions
 
-pub definition_sound : (tokens : List Token) (d : Definition) → definition_from tokens ≡ Some d → (is_writable d ≡ true) × (definition_tokens d ≡ Some tokens)
-definition_sound (word w ∷ word n ∷ open_paren ∷ tokens) d e =
-    let test = cond_some (is_word w (codes "table") && is_free_name n) (option_map (table n) (columns_from tokens)) d e in
+record Table (name : List ℕ) (tokens : List Token) (written : Written) : Type 0 where
+  writable : is_writable written ≡ true
+  spelled : definition_tokens written ≡ Some (word (codes "table") ∷ word name ∷ open_paren ∷ tokens)
+
+table_sound : (name : List ℕ) (tokens : List Token) (written : Written) → is_free_name name ≡ true → AreNamed tokens → table_from name tokens ≡ Some written → Table name tokens written
+table_sound name tokens written free known e =
+    bind_then _ (columns_from tokens) written e (λ listed e_listed f.
+    map_then _ (deps_from listed.1) written f (λ deps e_deps same.
+    let columns = columns_sound tokens listed known e_listed in
+    let edges = deps_sound listed.1 deps columns.known e_deps in
+    let P : Written → Type 0 = λ w. Table name tokens w in
+    subst P same (record {
+      writable = rw (free, columns.some, columns.free, edges.sides) refl;
+      spelled = ap (λ ts. Some (word (codes "table") ∷ word name ∷ ts)) (ap (λ ts. columns_tokens listed.0 ++ ts) edges.shape ∙ columns.shape);
+    })))
+
+pub written_sound : (tokens : List Token) (written : Written) → AreNamed tokens → written_from tokens ≡ Some written → (is_writable written ≡ true) × (definition_tokens written ≡ Some tokens)
+written_sound (word w ∷ word n ∷ open_paren ∷ tokens) written known e =
+    let test = cond_some (is_word w (codes "table") && is_free_name n) (table_from n tokens) written e in
     let is_table = word_is_it w (codes "table") (first_holds (is_word w (codes "table")) (is_free_name n) test.0) in
-    map_then (table n) (columns_from tokens) d test.1 (λ columns e_columns same.
-    let spelled = columns_sound tokens columns e_columns in
-    let P : Definition → Type 0 = λ x. (is_writable x ≡ true) × (definition_tokens x ≡ Some (word w ∷ word n ∷ open_paren ∷ tokens)) in
-    subst P same (rw (second_holds (is_word w (codes "table")) (is_free_name n) test.0, spelled.some, spelled.free) refl, λ i. Some (word (sym is_table i) ∷ word n ∷ spelled.shape i)))
-definition_sound (word w ∷ word n ∷ operator eq ∷ tokens) d e =
-    let test = cond_some (is_word w (codes "view") && is_free_name n) (option_map (view n) (expr_from tokens)) d e in
+    let table = table_sound n tokens written (second_holds (is_word w (codes "table")) (is_free_name n) test.0) known.1.1.1 test.1 in
+    (table.writable, table.spelled ∙ (λ i. Some (word (sym is_table i) ∷ word n ∷ open_paren ∷ tokens)))
+written_sound (word w ∷ word n ∷ operator eq ∷ tokens) written known e =
+    let test = cond_some (is_word w (codes "view") && is_free_name n) (option_map (written_view n) (expr_from tokens)) written e in
     let is_view = word_is_it w (codes "view") (first_holds (is_word w (codes "view")) (is_free_name n) test.0) in
-    map_then (view n) (expr_from tokens) d test.1 (λ expr e_expr same.
+    map_then (written_view n) (expr_from tokens) written test.1 (λ expr e_expr same.
     let spelled = expr_sound tokens expr e_expr in
-    let P : Definition → Type 0 = λ x. (is_writable x ≡ true) × (definition_tokens x ≡ Some (word w ∷ word n ∷ operator eq ∷ tokens)) in
+    let P : Written → Type 0 = λ x. (is_writable x ≡ true) × (definition_tokens x ≡ Some (word w ∷ word n ∷ operator eq ∷ tokens)) in
     subst P same (
       rw (second_holds (is_word w (codes "view")) (is_free_name n) test.0, spelled.0) refl,
       ap (option_map (λ ts. word (codes "view") ∷ word n ∷ operator eq ∷ ts)) spelled.1 ∙ (λ i. Some (word (sym is_view i) ∷ word n ∷ operator eq ∷ tokens)),
     ))
-definition_sound other d e = cc
+written_sound other written known e = cc
 
 false_true : false ≡ true → ⊥
 false_true e = cc
 
-pub definition_complete : (d : Definition) (tokens : List Token) → is_writable d ≡ true → definition_tokens d ≡ Some tokens → definition_from tokens ≡ Some d
-definition_complete (table name []) tokens writable e = absurd (false_true (second_holds (is_free_name name) (false && true) writable))
-definition_complete (table name (column ∷ columns)) tokens writable e =
-    let free = first_holds (is_free_name name) (true && has_free_columns (column ∷ columns)) writable in
-    let P : List Token → Type 0 = λ ts. definition_from ts ≡ Some (table name (column ∷ columns)) in
-    subst P (same_inside (word (codes "table") ∷ word name ∷ open_paren ∷ (column_tokens column ++ more_columns columns)) tokens e)
-    (rw (free, columns_complete column columns (second_holds (is_free_name name) (true && has_free_columns (column ∷ columns)) writable)) refl)
-definition_complete (view name expr) tokens writable e =
+pub written_complete : (written : Written) (tokens : List Token) → is_writable written ≡ true → definition_tokens written ≡ Some tokens → written_from tokens ≡ Some written
+written_complete (written_table name [] deps) tokens writable e =
+    absurd (false_true (second_holds (is_free_name name) (false && true) (first_holds (is_free_name name && (false && true)) (are_sides deps) writable)))
+written_complete (written_table name (column ∷ columns) deps) tokens writable e =
+    let front = first_holds (is_free_name name && (true && has_free_columns (column ∷ columns))) (are_sides deps) writable in
+    let sides = second_holds (is_free_name name && (true && has_free_columns (column ∷ columns))) (are_sides deps) writable in
+    let free = first_holds (is_free_name name) (true && has_free_columns (column ∷ columns)) front in
+    let P : List Token → Type 0 = λ ts. written_from ts ≡ Some (written_table name (column ∷ columns) deps) in
+    subst P (same_inside (word (codes "table") ∷ word name ∷ open_paren ∷ ((column_tokens column ++ more_columns columns) ++ deps_tokens deps)) tokens e)
+    (rw (free, columns_complete column columns (deps_tokens deps) (second_holds (is_free_name name) (true && has_free_columns (column ∷ columns)) front), deps_complete deps sides) refl)
+written_complete (written_view name expr) tokens writable e =
     map_then (λ ts. word (codes "view") ∷ word name ∷ operator eq ∷ ts) (expr_tokens expr) tokens e (λ ts e_ts same.
     let free = first_holds (is_free_name name) (has_free_names expr) writable in
-    let P : List Token → Type 0 = λ us. definition_from us ≡ Some (view name expr) in
+    let P : List Token → Type 0 = λ us. written_from us ≡ Some (written_view name expr) in
     subst P same (rw (free, expr_complete expr ts (second_holds (is_free_name name) (has_free_names expr) writable) e_ts) refl))

@@ -2,13 +2,14 @@
 use Rattle.std.proofs.Common.{◌≡◌, ℕ, zero, suc, Bool, true, false, List, [], ◌∷◌, ◌++◌, length, refl, sym, ap, subst, ◌∙◌, append_assoc, eqb-true}
 use Rattle.std.specs.Prelude.{◌||◌, ◌==◌, Some, None, option_map, option_and_then}
 use Rattle.std.specs.List.{list_all}
-use Rattle.lens_specs.specs.Language.{Token, is_blank, IsText}
-use Rattle.lens_specs.specs.Reading.{token_at, tokens_within, tokens_of, definition_from, reading}
+use Rattle.language_specs.specs.Language.{Token, meaning, is_blank, IsText}
+use Rattle.language_specs.specs.Reading.{token_at, tokens_within, tokens_of, written_from, written_in, reading}
 use Rattle.view_lang.specs.Laws.{Found, Only}
 use Rattle.view_lang.proofs.Options.{same_inside, bind_then, map_then, cond_some, cond_then, first_holds, second_holds}
 use Rattle.view_lang.proofs.Longest.{Stands, and_false, token_stands, Front, token_front}
 use Rattle.view_lang.proofs.Scans.{first_then}
-use Rattle.view_lang.proofs.Spelling.{definition_sound, definition_complete}
+use Rattle.view_lang.proofs.Spelling.{written_sound, written_complete}
+use Rattle.view_lang.proofs.Named.{named_tokens}
 
 -- ---- what is read is the text's
 
@@ -103,11 +104,15 @@ text_complete (t ∷ tokens) text h =
 pub found : Found
 unfolding reading
 found text d e =
-    bind_then definition_from (tokens_of text) d e (λ tokens e_tokens e_definition.
-    let spelled = definition_sound tokens d e_definition in
-    (spelled.0, (tokens, spelled.1, text_sound (length text) text tokens e_tokens)))
+    map_then meaning (written_in text) d e (λ written e_written means.
+    bind_then written_from (tokens_of text) written e_written (λ tokens e_tokens e_from.
+    let spelled = written_sound tokens written (named_tokens text tokens e_tokens) e_from in
+    (written, (spelled.0, (tokens, spelled.1, text_sound (length text) text tokens e_tokens)), means)))
 
 pub only : Only
 unfolding reading
 only text d says =
-    ap (option_and_then definition_from) (text_complete says.1.0 text says.1.2) ∙ definition_complete d says.1.0 says.0 says.1.1
+    let tokens = says.1.1 in
+    ap (λ o. option_map meaning (option_and_then written_from o)) (text_complete tokens.0 text tokens.2)
+    ∙ ap (option_map meaning) (written_complete says.0 tokens.0 says.1.0 tokens.1)
+    ∙ ap Some says.2

@@ -1,7 +1,7 @@
 -- The grammar as a relation, and the function that reads, are one.
 use Rattle.std.specs.Prelude.{◌≡◌, ℕ, List, Some}
-use Rattle.lens_specs.specs.Language.{Definition, Says}
-use Rattle.lens_specs.specs.Reading.{reading}
+use Rattle.language_specs.specs.Language.{Definition, Says}
+use Rattle.language_specs.specs.Reading.{reading}
 
 -- what is read is what the text says
 abbrev pub Found : Type 0

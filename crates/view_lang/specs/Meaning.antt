@@ -2,8 +2,8 @@
 use Rattle.std.specs.Prelude.{ℕ, List, [], ◌∷◌, Option, Some, None, Result, Ok, Err}
 use Rattle.lens_values.specs.declared.value.Value.TheVariants.{Int}
 use Rattle.lens_specs.specs.Predicate.{Op, eq, ne, lt, le, gt, ge, compare, Predicate}
-use Rattle.lens_specs.specs.Language as language
-use Rattle.lens_specs.specs.Reading.{reading}
+use Rattle.language_specs.specs.Language as language
+use Rattle.language_specs.specs.Reading.{reading}
 use Rattle.view_lang.specs.declared.definition.Comparison.{Comparison}
 use Rattle.view_lang.specs.declared.definition.Op as code
 use Rattle.view_lang.specs.declared.definition.Op.TheVariants as op
@@ -24,7 +24,7 @@ abbrev pub comparison_view : Comparison → Predicate
 comparison_view c = compare c.column (op_view c.op) (Int c.value) ∷ []
 
 abbrev pub definition_view : Definition → language.Definition
-definition_view (Table name columns) = language.table name columns.items
+definition_view (Table name columns deps) = language.table name columns.items deps.items
 definition_view (View name source comparison) = language.view name (language.select (comparison_view comparison) (language.named source))
 
 abbrev pub or_outside : Option language.Definition → Result language.Definition LangFault

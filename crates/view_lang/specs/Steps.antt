@@ -1,14 +1,16 @@
 -- What stands in front of some tokens, and what follows.
-use Rattle.std.specs.Prelude.{ℕ, ℤ, Bool, true, false, List, [], ◌∷◌, codes, Option, Some, None, option_map, option_and_then, if◌then◌else◌}
+use Rattle.std.specs.Prelude.{ℕ, ℤ, Bool, true, false, List, [], ◌∷◌, map, codes, Option, Some, None, option_map, option_and_then, if◌then◌else◌}
 use Rattle.lens_values.specs.declared.value.Kind.{Kind}
-use Rattle.lens_specs.specs.Language.{is_reserved}
-use Rattle.lens_specs.specs.Language as language
-use Rattle.lens_specs.specs.Reading.{is_word, kind_named}
+use Rattle.language_specs.specs.Language.{is_reserved}
+use Rattle.language_specs.specs.Language as language
+use Rattle.lens_specs.specs.Dependencies.{Edge}
+use Rattle.language_specs.specs.Reading.{is_word, kind_named, has_sides, dep_from, deps_list, deps_from, table_from}
 use Rattle.view_lang.specs.declared.definition.Comparison.{Comparison}
 use Rattle.view_lang.specs.declared.definition.Op.{Op}
 use Rattle.view_lang.specs.declared.definition.Op.TheVariants.{Eq}
 use Rattle.view_lang.specs.Meaning.{comparison_view}
 use Rattle.view_lang.specs.declared.lexer.Token.{Token}
+use Rattle.view_lang.specs.Tokens.{tokens_view}
 use Rattle.view_lang.specs.declared.lexer.Token.TheVariants.{Word, Integer, OpenParen, CloseParen, Comma, Operator}
 
 infixl 10 ◌>>=◌
@@ -18,6 +20,11 @@ o >>= f = option_and_then f o
 abbrev pub next_word : List Token → Option (List ℕ × List Token)
 next_word (Word w ∷ tokens) = Some (w, tokens)
 next_word other = None
+
+-- whether a word is in front
+abbrev pub begins_with_word : List Token → Bool
+begins_with_word (Word w ∷ tokens) = true
+begins_with_word other = false
 
 abbrev pub next_operator : List Token → Option (Op × List Token)
 next_operator (Operator op ∷ tokens) = Some (op, tokens)
@@ -53,10 +60,10 @@ next_name tokens = option_and_then (λ w. if is_reserved w.0 then None else Some
 abbrev pub next_kind : List Token → Option (Kind × List Token)
 next_kind tokens = option_and_then (λ w. option_map (λ k. (k, w.1)) (kind_named w.0)) (next_word tokens)
 
--- behind a column: a comma, or the closing parenthesis and nothing
+-- behind a column: a comma, or the closing parenthesis
 abbrev pub next_last : List Token → Option (Bool × List Token)
 next_last (Comma ∷ tokens) = Some (false, tokens)
-next_last (CloseParen ∷ []) = Some (true, [])
+next_last (CloseParen ∷ tokens) = Some (true, tokens)
 next_last other = None
 
 -- a name and the word of a kind
@@ -86,19 +93,25 @@ selection_in tokens = do
   nothing ← after_end comparison.1
   Some (source.0, comparison.0)
 
--- a column of this name and this kind
-abbrev pub column_of : List ℕ → List ℕ → Option (List ℕ × Kind)
-column_of name kind = if is_reserved name then None else option_map (λ k. (name, k)) (kind_named kind)
+-- the edge of these sides, where neither is empty
+abbrev pub edge_in : language.WrittenDep → Option Edge
+edge_in dep = if has_sides dep then Some (language.edge_of dep) else None
 
--- the columns of a table, up to the end
-abbrev pub columns_in : List Token → Option (List (List ℕ × Kind))
-columns_in (Word name ∷ Word kind ∷ CloseParen ∷ []) = option_map (λ column. column ∷ []) (column_of name kind)
-columns_in (Word name ∷ Word kind ∷ Comma ∷ tokens) = option_and_then (λ column. option_map (λ columns. column ∷ columns) (columns_in tokens)) (column_of name kind)
-columns_in other = None
+-- the edge of the dependency in front, and what follows
+abbrev pub edge_from : List language.Token → Option (Edge × List language.Token)
+edge_from tokens = option_map (λ dep. (language.edge_of dep.0, dep.1)) (dep_from tokens)
+
+-- the edges of one dependency or more, up to the end
+abbrev pub edges_list : List language.Token → Option (List Edge)
+edges_list tokens = option_map (map language.edge_of) (deps_list tokens)
+
+-- the edges of a table, up to the end
+abbrev pub edges_from : List language.Token → Option (List Edge)
+edges_from tokens = option_map (map language.edge_of) (deps_from tokens)
 
 -- behind "table" and its name
 abbrev pub table_in : List ℕ → List Token → Option language.Definition
-table_in name tokens = option_and_then (λ listed. option_map (language.table name) (columns_in listed)) (after_open tokens)
+table_in name tokens = option_and_then (λ listed. option_map language.meaning (table_from name (tokens_view listed))) (after_open tokens)
 
 -- behind "view" and its name
 abbrev pub view_in : List ℕ → List Token → Option language.Definition

@@ -3,8 +3,8 @@ use Rattle.std.specs.Prelude.{ℕ, ◌<◌, ◌≤◌, ◌==◌, ◌&&◌, ◌||
 use Rattle.std.specs.List.{list_all}
 use Rattle.lens_values.specs.Bytes.{is_name, is_lower}
 use Rattle.lens_specs.specs.Predicate.{eq, ne, lt, le, gt, ge}
-use Rattle.lens_specs.specs.Language.{Token, word, integer, open_paren, close_paren, comma, operator, is_digit}
-use Rattle.lens_specs.specs.Reading.{token_at, sign_of, positive_of, negative_of}
+use Rattle.language_specs.specs.Language.{Token, word, integer, open_paren, close_paren, comma, arrow, operator, is_digit}
+use Rattle.language_specs.specs.Reading.{token_at, sign_of, positive_of, negative_of}
 use Rattle.view_lang.specs.declared.lexer.Token as code
 use Rattle.view_lang.specs.declared.lexer.Token.TheVariants as token
 use Rattle.view_lang.specs.Meaning.{op_view}
@@ -15,6 +15,7 @@ token_view (token.Integer z) = integer z
 token_view token.OpenParen = open_paren
 token_view token.CloseParen = close_paren
 token_view token.Comma = comma
+token_view token.Arrow = arrow
 token_view (token.Operator op) = operator (op_view op)
 
 -- ---- the token in front of a text, with its length
@@ -50,6 +51,11 @@ begins_word (b ∷ rest) = is_lower b
 abbrev pub begins_integer : List ℕ → Bool
 begins_integer [] = false
 begins_integer (b ∷ rest) = is_digit b || b == 45
+
+-- whether the text begins with `->`
+abbrev pub begins_arrow : List ℕ → Bool
+begins_arrow (b ∷ c ∷ rest) = b == 45 && c == 62
+begins_arrow other = false
 
 -- digits, or a minus sign and maybe digits
 abbrev pub is_integer_text : List ℕ → Bool

@@ -1,9 +1,10 @@
 //! The tokens that are left to read.
 ghost use Rattle.std.specs.Prelude.{◌≡◌, option_map};
 ghost use Rattle.std.specs.Slice.Iter.{iter_rest};
-ghost use Rattle.lens_specs.specs.Language as language;
-ghost use Rattle.lens_specs.specs.Reading as reading;
-ghost use Rattle.view_lang.specs.Steps.{next_word, next_operator, next_integer, next_name, next_kind, next_last, next_listed, next_column, next_comparison, after_open, after_keyword, after_equals, after_end, selection_in};
+ghost use Rattle.language_specs.specs.Language as language;
+ghost use Rattle.language_specs.specs.Reading as reading;
+ghost use Rattle.view_lang.specs.Tokens.{tokens_view};
+ghost use Rattle.view_lang.specs.Steps.{begins_with_word, next_word, next_operator, next_integer, next_name, next_kind, next_last, next_listed, next_column, next_comparison, after_open, after_keyword, after_equals, after_end, selection_in};
 
 use crate::definition::{Comparison, Op};
 use crate::lexer::Token;
@@ -50,6 +51,16 @@ pub fn open_paren(tokens: &mut Iter<'_, Token>) -> Option<()>
     }
 }
 
+/// Reads a `->`.
+pub fn arrow(tokens: &mut Iter<'_, Token>) -> Option<()>
+    ensures { option_map (λ _. tokens_view (iter_rest tokens.new)) result ≡ reading.after_arrow (tokens_view (iter_rest tokens.old)) }
+{
+    match tokens.next()? {
+        Token::Arrow => Some(()),
+        _ => None,
+    }
+}
+
 /// Reads this word.
 pub fn keyword(tokens: &mut Iter<'_, Token>, expected: &str) -> Option<()>
     ensures { option_map (λ _. iter_rest tokens.new) result ≡ after_keyword expected.now (iter_rest tokens.old) }
@@ -70,6 +81,13 @@ pub fn equals(tokens: &mut Iter<'_, Token>) -> Option<()>
         Op::Eq => Some(()),
         _ => None,
     }
+}
+
+/// Whether a word is in front.
+pub fn begins_with_word(tokens: &Iter<'_, Token>) -> bool
+    ensures { result ≡ begins_with_word (iter_rest tokens.now) }
+{
+    matches!(tokens.as_slice().first(), Some(Token::Word(_)))
 }
 
 /// Words that cannot be names.
@@ -151,16 +169,24 @@ pub fn end(tokens: &mut Iter<'_, Token>) -> Option<()>
     }
 }
 
-/// What stands behind a column: `,` where more follow, or `)` and nothing. Gives whether it was the last.
-pub fn is_last(tokens: &mut Iter<'_, Token>) -> Option<bool>
+/// What stands behind a column: `,` where more follow, or `)`. Gives whether it was the last.
+pub fn is_last_column(tokens: &mut Iter<'_, Token>) -> Option<bool>
     ensures { option_map (λ last. (last, iter_rest tokens.new)) result ≡ next_last (iter_rest tokens.old) }
 {
     match tokens.next()? {
         Token::Comma => Some(false),
-        Token::CloseParen => {
-            end(tokens)?;
-            Some(true)
-        }
+        Token::CloseParen => Some(true),
+        _ => None,
+    }
+}
+
+/// What stands behind a dependency: `,` where more follow, or nothing. Gives whether it was the last.
+pub fn is_last_dep(tokens: &mut Iter<'_, Token>) -> Option<bool>
+    ensures { option_map (λ last. (last, tokens_view (iter_rest tokens.new))) result ≡ reading.after_dep (tokens_view (iter_rest tokens.old)) }
+{
+    match tokens.next() {
+        None => Some(true),
+        Some(Token::Comma) => Some(false),
         _ => None,
     }
 }
@@ -179,7 +205,7 @@ pub fn listed_column(tokens: &mut Iter<'_, Token>) -> Option<((Name, Kind), bool
     ensures { option_map (λ c. (c, iter_rest tokens.new)) result ≡ next_listed (iter_rest tokens.old) }
 {
     let column = column(tokens)?;
-    let is_last = is_last(tokens)?;
+    let is_last = is_last_column(tokens)?;
     Some((column, is_last))
 }
 

@@ -4,7 +4,8 @@ ghost use Rattle.std.specs.Ordering.{int_cmp};
 ghost use Rattle.lens_specs.specs.Predicate.{test_of};
 ghost use Rattle.view_lang.specs.Meaning.{op_view};
 
-use lens_values::{Kind, Name};
+use fd_closure::Dep;
+use lens_values::{Kind, Name, NoMemory};
 use std::alloc::{AllocError, AllocFailed};
 
 /// How a comparison wants its two sides to stand.
@@ -60,6 +61,8 @@ pub enum Definition {
         name: Name,
         /// Its columns as they stand in the text, where a name may come twice.
         columns: Vec<(Name, Kind)>,
+        /// Its dependencies, in the order of the text.
+        deps: Vec<Dep>,
     },
     /// A view that keeps the rows of its source on which a comparison holds.
     View {
@@ -99,6 +102,17 @@ impl<T: Drop> From<AllocFailed<T>> for LangFault {
     ghost from_gives = { λ _ e. e ≡ NoMemory };
 
     fn from(_: AllocFailed<T>) -> LangFault {
+        LangFault::NoMemory
+    }
+}
+
+impl From<NoMemory> for LangFault {
+    ghost use Rattle.std.specs.Prelude.{◌≡◌};
+    ghost use Rattle.view_lang.specs.declared.definition.LangFault.TheVariants as fault;
+
+    ghost from_gives = { λ _ e. e ≡ fault.NoMemory };
+
+    fn from(_: NoMemory) -> LangFault {
         LangFault::NoMemory
     }
 }

@@ -1,12 +1,12 @@
 //! From a text to its tokens, the longest at each place.
-ghost use Rattle.std.specs.Prelude.{◌≡◌, ◌<◌, length, option_map, MatchOption, IsTrue, ok_or};
+ghost use Rattle.std.specs.Prelude.{◌≡◌, ◌<◌, false, length, option_map, MatchOption, IsTrue, ok_or};
 ghost use Rattle.std.specs.Str.{IsUtf8};
 ghost use Rattle.std.specs.List.{prefix_len};
 ghost use Rattle.lens_values.specs.Bytes as bytes;
 ghost use Rattle.lens_values.specs.Gives.{GivesBy};
-ghost use Rattle.lens_specs.specs.Language as language;
-ghost use Rattle.lens_specs.specs.Reading.{drop_while, tokens_of};
-ghost use Rattle.view_lang.specs.Tokens.{token_view, tokens_view, front_of, IsFront, word_at, integer_at, is_integer_text, begins_word, begins_integer, long_sign_at, short_sign_at, sign_in_front, token_in_front};
+ghost use Rattle.language_specs.specs.Language as language;
+ghost use Rattle.language_specs.specs.Reading.{drop_while, tokens_of};
+ghost use Rattle.view_lang.specs.Tokens.{token_view, tokens_view, front_of, IsFront, word_at, integer_at, is_integer_text, begins_word, begins_integer, begins_arrow, long_sign_at, short_sign_at, sign_in_front, token_in_front};
 
 use crate::definition::{LangFault, Op};
 use lens_values::Name;
@@ -26,6 +26,8 @@ pub enum Token {
     CloseParen,
     /// `,`
     Comma,
+    /// `->`
+    Arrow,
     /// The sign of a comparison.
     Operator(Op),
 }
@@ -124,9 +126,17 @@ fn word(text: &[u8]) -> Option<(Token, usize)>
     Some((word_token(&text[..len])?, len))
 }
 
+/// Whether the text begins with `->`.
+fn begins_arrow(text: &[u8]) -> bool
+    ensures { result ≡ begins_arrow text.now }
+{
+    text.len() > 1 && text[0] == b'-' && text[1] == b'>'
+}
+
 /// The number in front of the text, and its length.
 fn integer(text: &[u8]) -> Option<(Token, usize)>
-    requires { IsTrue (begins_integer text.now) }
+    requires begins { IsTrue (begins_integer text.now) }
+    requires no_arrow { begins_arrow text.now ≡ false }
     ensures value { front_of text.now result ≡ token_in_front text.now }
     ensures within { IsFront text.now result }
 {
@@ -184,6 +194,8 @@ fn first_token(text: &[u8]) -> Option<(Token, usize)>
     let first = text[0];
     if is_lower(first) {
         word(text)
+    } else if begins_arrow(text) {
+        Some((Token::Arrow, 2))
     } else if is_digit(first) || first == b'-' {
         integer(text)
     } else {

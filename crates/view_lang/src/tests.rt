@@ -1,7 +1,8 @@
 //! Texts, and what they say.
 use crate::definition::{Comparison, Definition, LangFault, Op};
 use crate::parser::parse;
-use lens_values::{Kind, Name, Text};
+use fd_closure::Dep;
+use lens_values::{Kind, Name, Names, Text};
 use std::alloc::Global;
 use std::test::Fail;
 
@@ -10,9 +11,13 @@ fn said(alloc: Global, text: &str) -> Result<Definition, Fail> {
     Ok(parse(alloc, &text)?)
 }
 
-fn table_of(definition: Definition) -> Option<(Name, Vec<(Name, Kind)>)> {
+fn table_of(definition: Definition) -> Option<(Name, Vec<(Name, Kind)>, Vec<Dep>)> {
     match definition {
-        Definition::Table { name, columns } => Some((name, columns)),
+        Definition::Table {
+            name,
+            columns,
+            deps,
+        } => Some((name, columns, deps)),
         Definition::View { .. } => None,
     }
 }
@@ -34,19 +39,60 @@ fn view_of(definition: Definition) -> Option<(Name, Name, Comparison)> {
 #[test]
 fn reads_tables(rt: HostRuntime) -> Result<(), Fail> {
     let text = "table goods (name text, quantity int)";
-    let (name, columns) = table_of(said(rt.alloc(), text)?).ok_or("no table")?;
+    let (name, columns, deps) = table_of(said(rt.alloc(), text)?).ok_or("no table")?;
     assert!(rt; name.as_str() == "goods");
     assert_eq!(rt; columns.len(), 2);
+    assert_eq!(rt; deps.len(), 0);
     assert!(rt; columns[0].0.as_str() == "name");
     assert_eq!(rt; columns[0].1, Kind::Text);
     assert!(rt; columns[1].0.as_str() == "quantity");
     assert_eq!(rt; columns[1].1, Kind::Int);
     let text = "\ttable\r\nt(a\nbool)\n";
-    let (name, columns) = table_of(said(rt.alloc(), text)?).ok_or("no table")?;
+    let (name, columns, deps) = table_of(said(rt.alloc(), text)?).ok_or("no table")?;
     assert!(rt; name.as_str() == "t");
     assert_eq!(rt; columns.len(), 1);
+    assert_eq!(rt; deps.len(), 0);
     assert!(rt; columns[0].0.as_str() == "a");
     assert_eq!(rt; columns[0].1, Kind::Flag);
+    Ok(())
+}
+
+fn is_side(names: &Names, words: &[&str]) -> bool {
+    names
+        .as_slice()
+        .iter()
+        .map(|name| name.as_str())
+        .eq(words.iter().copied())
+}
+
+#[test]
+fn reads_dependencies(rt: HostRuntime) -> Result<(), Fail> {
+    for (deps_text, left, right) in [
+        (
+            " with album -> quantity",
+            ["album"].as_slice(),
+            ["quantity"].as_slice(),
+        ),
+        (" with a b -> c d", &["a", "b"], &["c", "d"]),
+        (" with e d e -> z a z a", &["d", "e"], &["a", "z"]),
+        (" with a->b", &["a"], &["b"]),
+        ("with\na\n->a", &["a"], &["a"]),
+    ] {
+        let text = format!(in rt.alloc(); "table albums (album text, quantity int){deps_text}")?;
+        let (name, columns, deps) = table_of(said(rt.alloc(), &text)?).ok_or("no table")?;
+        assert!(rt; name.as_str() == "albums", "{text}");
+        assert_eq!(rt; columns.len(), 2, "{text}");
+        assert_eq!(rt; deps.len(), 1, "{text}");
+        assert!(rt; is_side(deps[0].left(), left), "{text}");
+        assert!(rt; is_side(deps[0].right(), right), "{text}");
+    }
+    let text = "table t (a int) with b -> a, a c->b";
+    let (_, _, deps) = table_of(said(rt.alloc(), text)?).ok_or("no table")?;
+    assert_eq!(rt; deps.len(), 2);
+    assert!(rt; is_side(deps[0].left(), &["b"]));
+    assert!(rt; is_side(deps[0].right(), &["a"]));
+    assert!(rt; is_side(deps[1].left(), &["a", "c"]));
+    assert!(rt; is_side(deps[1].right(), &["b"]));
     Ok(())
 }
 
@@ -104,6 +150,19 @@ fn refuses_what_is_outside(rt: HostRuntime) -> Result<(), Fail> {
         "view v = select from t where a < = 5",
         "view v = select from t where a = '5'",
         "Table t (a int)",
+        "table t (a int) with",
+        "table t (a int) with -> a",
+        "table t (a int) with a ->",
+        "table t (a int) with a",
+        "table t (a int) with a -> select",
+        "table t (a int) with int -> a",
+        "table t (a int) with a - b",
+        "table t (a int) with a - > b",
+        "table t (a int) with a -> b -> c",
+        "table t (a int) with a -> b,",
+        "table t (a int) with a -> b with b -> c",
+        "table t (a int) a -> b",
+        "table t (a int), with a -> b",
     ] {
         let text = Text::new(rt.alloc(), text)?;
         let fault = parse(rt.alloc(), &text).err().ok_or("it is read")?;

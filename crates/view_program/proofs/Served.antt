@@ -7,7 +7,7 @@ use Rattle.std.proofs.KnownBytes.{Appends-trans, Consumes-nil}
 use Rattle.lens_specs.specs.Keeping.{Kept, Tells}
 use Rattle.lens_specs.specs.Lines.{Line, too_long, whole}
 use Rattle.server_specs.specs.State.{State, fresh, kept}
-use Rattle.server_specs.specs.Answer.{unbuilt, text}
+use Rattle.server_specs.specs.Answer.{long_line, text}
 use Rattle.server_specs.specs.Answering.{answer}
 use Rattle.server_specs.specs.Request.{request}
 use Rattle.server_specs.specs.Session.{Session, answered}
@@ -63,12 +63,12 @@ given_more cut.End given pending text rest taken taken' limit ended ended' left0
 given_more cut.Failed given pending text rest taken taken' limit ended ended' left0 left left' t s going = absurd (let no : true ≡ false = going in cc)
 given_more cut.Spent given pending text rest taken taken' limit ended ended' left0 left left' t s going = absurd (let no : true ≡ false = going in cc)
 
--- what is too long is not built
-too_long_step : (s : State) (count : ℕ) (reply : List ℕ) → reply ≡ text unbuilt → steps.Step s count too_long reply s count
+-- what is too long is refused for that
+too_long_step : (s : State) (count : ℕ) (reply : List ℕ) → reply ≡ text long_line → steps.Step s count too_long reply s count
 unfolding answer request
 too_long_step s count reply e = record { later = omega arith; replied = answered e refl }
 
-pub other_step : (c : Cut) (s : State) (count : ℕ) (bytes reply : List ℕ) → (c ≡ cut.Line → ⊥) → reply ≡ text unbuilt → steps.Step s count (line_of c bytes) reply s count
+pub other_step : (c : Cut) (s : State) (count : ℕ) (bytes reply : List ℕ) → (c ≡ cut.Line → ⊥) → reply ≡ text long_line → steps.Step s count (line_of c bytes) reply s count
 other_step cut.Line s count bytes reply other e = absurd (other refl)
 other_step cut.TooLong s count bytes reply other e = too_long_step s count reply e
 other_step cut.End s count bytes reply other e = too_long_step s count reply e

@@ -10,7 +10,7 @@ ghost use Rattle.view_program.specs.Running.{Serves, usage, line_of, status_of};
 
 use lens_io::{Cut, Failed, LineCutter, Sink, Source, give_all};
 use lens_server::Server;
-use request_text::{Reply, unbuilt_reply};
+use request_text::{Reply, long_reply};
 use std::alloc::Global;
 use std::sync::ledger::Ledger;
 use step_counter::Steps;
@@ -161,7 +161,7 @@ fn reply_to<K: Keeper, L: Ledger>(
 {
     match cut {
         Cut::Line => server.answer(alloc, keeper, line, walked),
-        _ => unbuilt_reply(),
+        _ => long_reply(),
     }
 }
 

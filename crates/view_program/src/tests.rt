@@ -33,6 +33,32 @@ const READ_NOTHING: &str = r#"{"do":"read","view":"nothing"}"#;
 
 const LIST: &str = r#"{"do":"list"}"#;
 
+const MAKE_DEPENDENT: &str =
+    r#"{"do":"define","text":"table albums (album text, quantity int) with album -> quantity"}"#;
+
+const PUT_CLASH: &str =
+    r#"{"do":"put","view":"albums","rows":[{"album":"Show","quantity":5},{"album":"Show","quantity":4},{"album":"Show","quantity":3}]}"#;
+
+const MAKE_UNKNOWN: &str = r#"{"do":"define","text":"table w (a int) with a -> b"}"#;
+
+const MAKE_SHARED: &str =
+    r#"{"do":"define","text":"table w (a int, b int, c int) with a -> c, b -> c"}"#;
+
+const MAKE_CYCLE: &str = r#"{"do":"define","text":"table w (a int, b int) with a -> b, b -> a"}"#;
+
+const PUT_ALBUMS: &str =
+    r#"{"do":"put","view":"albums","rows":[{"album":"Show","quantity":3},{"album":"Wish","quantity":3}]}"#;
+
+const MAKE_TRIVIAL: &str = r#"{"do":"define","text":"table t (a int) with a -> a"}"#;
+
+const SELECT_TRIVIAL: &str = r#"{"do":"define","text":"view v = select from t where a > 2"}"#;
+
+const MAKE_CHAIN: &str =
+    r#"{"do":"define","text":"table chain (track text, album text, quantity int) with album -> quantity, track -> album"}"#;
+
+const PUT_CHAIN: &str =
+    r#"{"do":"put","view":"chain","rows":[{"album":"X","quantity":1,"track":"t"},{"album":"X","quantity":2,"track":"u"},{"album":"Y","quantity":3,"track":"t"}]}"#;
+
 const FIRST: &str = r#"{"ok":true,"version":1}"#;
 
 const SECOND: &str = r#"{"ok":true,"version":2}"#;
@@ -51,6 +77,27 @@ const OFF_PREDICATE: &str = r#"{"error":42,"ok":false,"row":{"name":"axe","quant
 const UNKNOWN_NAME: &str = r#"{"error":22,"name":"nothing","ok":false}"#;
 
 const UNBUILT: &str = r#"{"error":99,"ok":false}"#;
+
+const CLASH: &str =
+    r#"{"edge":{"left":["album"],"right":["quantity"]},"error":43,"ok":false,"rows":[{"album":"Show","quantity":3},{"album":"Show","quantity":4}]}"#;
+
+const UNKNOWN_COLUMN: &str = r#"{"error":23,"name":"b","ok":false}"#;
+
+const SHARED: &str = r#"{"a":["c"],"b":["c"],"error":25,"ok":false}"#;
+
+const CYCLE: &str = r#"{"a":["a"],"b":["a"],"error":25,"ok":false}"#;
+
+const ALBUMS_PUT: &str =
+    r#"{"changed":[{"add":[{"album":"Show","quantity":3},{"album":"Wish","quantity":3}],"remove":[],"table":"albums"}],"ok":true,"version":2}"#;
+
+const THIRD: &str = r#"{"ok":true,"version":3}"#;
+
+const FOURTH: &str = r#"{"ok":true,"version":4}"#;
+
+const CHAIN_CLASH: &str =
+    r#"{"edge":{"left":["track"],"right":["album"]},"error":43,"ok":false,"rows":[{"album":"X","quantity":1,"track":"t"},{"album":"Y","quantity":3,"track":"t"}]}"#;
+
+const TOO_LONG: &str = r#"{"error":10,"ok":false}"#;
 
 const NOT_STORED: &str = r#"{"error":90,"ok":false}"#;
 
@@ -150,7 +197,7 @@ fn line_too_long(rt: HostRuntime) -> Result<(), Fail> {
     );
     assert!(rt;
         sink.bytes()
-            .starts_with(text_of(alloc, &[UNBUILT])?.as_slice())
+            .starts_with(text_of(alloc, &[TOO_LONG])?.as_slice())
     );
     assert_eq!(rt;
         sink.bytes().iter().filter(|byte| **byte == b'\n').count(),
@@ -162,7 +209,7 @@ fn line_too_long(rt: HostRuntime) -> Result<(), Fail> {
 /// What a run over these lines gives, byte by byte, where this call of the keeper fails.
 fn replies_to(alloc: Global, call: u64, lines: &[&str]) -> Result<(u8, MemorySink), Fail> {
     let mut source = MemorySource::new(text_of(alloc, lines)?, 1, Vec::new(alloc));
-    let mut sink = MemorySink::new(alloc, 1000, 1, Vec::new(alloc))?;
+    let mut sink = MemorySink::new(alloc, 4000, 1, Vec::new(alloc))?;
     let mut keeper = MemoryKeeper::holding(nothing(alloc), failing(alloc, call)?);
     let status = status_of(alloc, 1, &mut source, &mut sink, &mut keeper)?;
     Ok((status, sink))
@@ -199,5 +246,33 @@ fn scripts(rt: HostRuntime) -> Result<(), Fail> {
     let (status, sink) = replies_to(alloc, 3, &put_again)?;
     assert_eq!(rt; status, 0);
     assert_eq!(rt; sink.bytes(), text_of(alloc, &stored_later)?.as_slice());
+    Ok(())
+}
+
+#[test]
+fn dependencies(rt: HostRuntime) -> Result<(), Fail> {
+    let alloc = rt.alloc();
+    // Each line, and its reply.
+    let rows = [
+        (MAKE_DEPENDENT, FIRST),
+        (PUT_CLASH, CLASH),
+        (MAKE_UNKNOWN, UNKNOWN_COLUMN),
+        (MAKE_SHARED, SHARED),
+        (MAKE_CYCLE, CYCLE),
+        (PUT_ALBUMS, ALBUMS_PUT),
+        (MAKE_TRIVIAL, THIRD),
+        (SELECT_TRIVIAL, UNBUILT),
+        (MAKE_CHAIN, FOURTH),
+        (PUT_CHAIN, CHAIN_CLASH),
+    ];
+    let mut lines = Vec::new(alloc);
+    let mut replies = Vec::new(alloc);
+    for (line, reply) in rows {
+        lines.push(line)?;
+        replies.push(reply)?;
+    }
+    let (status, sink) = replies_to(alloc, 0, &lines)?;
+    assert_eq!(rt; status, 0);
+    assert_eq!(rt; sink.bytes(), text_of(alloc, &replies)?.as_slice());
     Ok(())
 }

@@ -1,13 +1,16 @@
 use Rattle.std.proofs.Common.{◌∙◌, sym, ap}
-use Rattle.std.specs.Prelude.{is_none, ◌&&◌}
+use Rattle.std.specs.Prelude.{is_none, not, ◌&&◌}
 use Rattle.std.specs.FinMap as finmap
-use Rattle.lens_values.specs.Order.{bytes_cmp}
 use Rattle.lens_values.specs.declared.value.Kind.TheVariants as kinds
+use Rattle.lens_values.specs.Order.{bytes_cmp}
 use Rattle.lens_specs.specs.Columns.{is_kind}
 use Rattle.lens_server.proofs.judging.can_select.Goals as goal
 
-pub returns-in-None : goal.returns-in-None
-returns-in-None c =
+pub returns-then-not-lens : goal.returns-then-not-lens
+returns-then-not-lens c =
+    let lens = c.args.lens.now in
+    let column = c.args.comparison.now.column in
     c.is_number.ensures
-    ∙ ap (λ o. is_kind o kinds.Int) (ap (finmap.find bytes_cmp c.args.comparison.now.column) c.pairs.ensures ∙ sym (finmap.get-entries c.args.lens.now.columns c.args.comparison.now.column))
-    ∙ ap (λ k. is_none k && is_kind (finmap.get c.args.lens.now.columns c.args.comparison.now.column) kinds.Int) (sym c.in-None.is)
+    ∙ ap (λ o. is_kind o kinds.Int) (ap (finmap.find bytes_cmp column) c.pairs.ensures ∙ sym (finmap.get-entries lens.columns column))
+    ∙ ap (λ d. not d && is_kind (finmap.get lens.columns column) kinds.Int) (sym c.if-not-lens.true)
+    ∙ ap (λ k. is_none k && (not lens.dependent && is_kind (finmap.get lens.columns column) kinds.Int)) (sym c.in-None.is)

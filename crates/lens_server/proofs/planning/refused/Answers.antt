@@ -13,9 +13,9 @@ returns-in-Some c =
     let lens = c.args.lens.now in
     c.first_refused.ensures ∙ ap (find (λ row. not (holds (comparison_view c.in-Some.comparison) row))) c.rows.ensures
     ∙ sym (off_is (comparison_view c.in-Some.comparison) c.args.rows.now)
-    ∙ ap (λ k. off (sort_of (lens_with lens.table lens.columns k)).predicate c.args.rows.now) (sym c.in-Some.is)
+    ∙ ap (λ k. off (sort_of (lens_with lens.table lens.columns lens.tree k)).predicate c.args.rows.now) (sym c.in-Some.is)
 
 pub returns-in-None : goal.returns-in-None
 returns-in-None c =
     let lens = c.args.lens.now in
-    sym (off_table c.args.rows.now) ∙ ap (λ k. off (sort_of (lens_with lens.table lens.columns k)).predicate c.args.rows.now) (sym c.in-None.is)
+    sym (off_table c.args.rows.now) ∙ ap (λ k. off (sort_of (lens_with lens.table lens.columns lens.tree k)).predicate c.args.rows.now) (sym c.in-None.is)

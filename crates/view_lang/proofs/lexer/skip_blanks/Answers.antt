@@ -1,5 +1,5 @@
 use Rattle.std.proofs.Common.{arith}
-use Rattle.lens_specs.specs.Language.{is_blank}
+use Rattle.language_specs.specs.Language.{is_blank}
 use Rattle.view_lang.proofs.Fronts.{front_within, slice_behind}
 use Rattle.view_lang.proofs.lexer.skip_blanks.Goals as goal
 

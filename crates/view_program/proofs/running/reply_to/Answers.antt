@@ -4,7 +4,7 @@ use Rattle.view_program.proofs.running.reply_to.Goals as goal
 
 pub returns-in_default : goal.returns-in_default
 returns-in_default g c = record {
-  step = other_step c.args.cut _ _ _ _ c.in_default.not-Line c.unbuilt_reply.ensures;
+  step = other_step c.args.cut _ _ _ _ c.in_default.not-Line c.long_reply.ensures;
   told = c.requires.told;
   place = refl;
   walked = refl;

@@ -3,7 +3,7 @@ use Rattle.lens_server.proofs.Stepping.{stepped}
 use Rattle.lens_server.proofs.server.Server.answer.Goals as goal
 
 pub returns-then-line-gt-MAX_LINE-clause-step : goal.returns-then-line-gt-MAX_LINE-clause-step
-returns-then-line-gt-MAX_LINE-clause-step g c = long_line _ _ _ _ c.if-line-gt-MAX_LINE.true c.unbuilt_reply.ensures
+returns-then-line-gt-MAX_LINE-clause-step g c = long_line _ _ _ _ c.if-line-gt-MAX_LINE.true c.long_reply.ensures
 
 pub returns-clause-step : goal.returns-clause-step
 returns-clause-step g c =

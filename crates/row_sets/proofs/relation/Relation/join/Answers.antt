@@ -1,5 +1,5 @@
 use Rattle.std.proofs.Common.{◌≡◌, ◌∙◌, sym, ap, subst, refl, true}
-use Rattle.lens_values.specs.Columns.{kinds_differ, names as names_in}
+use Rattle.lens_values.specs.Columns.{kinds_differ}
 use Rattle.lens_values.specs.Part.{both_of}
 use Rattle.lens_values.specs.SortedSet as set
 use Rattle.lens_specs.specs.Columns.{both_columns, names}
@@ -9,16 +9,9 @@ use Rattle.row_sets.specs.Joins.{pairs_on}
 use Rattle.row_sets.proofs.Natural.{joined_fit, natural_is}
 use Rattle.row_sets.proofs.relation.Relation.join.Goals as goal
 
-same_names : (U : Columns) → names_in U ≡ names U
-unfolding names_in names
-same_names U = refl
-
 same_columns : (U V : Columns) → both_of U V ≡ both_columns U V
 unfolding both_columns
 same_columns U V = refl
-
-shared_are : (U V : Columns) → set.intersection (names_in U) (names_in V) ≡ set.intersection (names U) (names V)
-shared_are U V = λ i. set.intersection (same_names U i) (same_names V i)
 
 pub united-requires : goal.united-requires
 united-requires c = (λ i. kinds_differ (c.self.view_is i).columns (c.other.view_is i).columns) ∙ c.requires
@@ -30,7 +23,7 @@ invariant_of-result c = λ row there.
     let M : Rows = c.self.inside.rows in
     let N : Rows = c.other.inside.rows in
     let rows : c.in_ok-rows.rows ≡ pairs_on (set.intersection (names U) (names V)) M N =
-    c.in_ok-rows.ensures ∙ ap (λ (S : Names). pairs_on S M N) (c.in_ok-shared.ensures ∙ shared_are U V) in
+    c.in_ok-rows.ensures ∙ ap (λ (S : Names). pairs_on S M N) c.in_ok-shared.ensures in
     subst (λ (cs : Columns). Fits cs row) (sym c.in_ok-columns.ensures)
     (joined_fit U V M N c.self.invariant c.other.invariant row (subst (λ s. set.contains s row ≡ true) rows there))
 
@@ -42,5 +35,5 @@ returns c =
     let N : Rows = c.other.inside.rows in
     let columns : c.in_ok-columns.columns ≡ both_columns U V = c.in_ok-columns.ensures ∙ same_columns U V in
     let rows : c.in_ok-rows.rows ≡ natural (names U) (names V) M N =
-    c.in_ok-rows.ensures ∙ ap (λ (S : Names). pairs_on S M N) (c.in_ok-shared.ensures ∙ shared_are U V) ∙ natural_is U V M N c.other.invariant in
+    c.in_ok-rows.ensures ∙ ap (λ (S : Names). pairs_on S M N) c.in_ok-shared.ensures ∙ natural_is U V M N c.other.invariant in
     (λ k. record { columns = columns k; rows = rows k }) ∙ (λ k. join_relations (c.self.view_is k) (c.other.view_is k))

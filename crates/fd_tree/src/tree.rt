@@ -1,0 +1,222 @@
+//! Trees of functional dependencies.
+ghost use Rattle.std.specs.Prelude.{◌≡◌, ◌≢◌, ◌++◌, IfOk, OnOk};
+ghost use Rattle.lens_values.specs.Gives.{Gives};
+ghost use Rattle.lens_specs.specs.Names.{one};
+ghost use Rattle.lens_specs.specs.Dependencies.{AllEdges};
+ghost use Rattle.lens_specs.specs.TreeForm as spec;
+ghost use Rattle.lens_specs.specs.TreeForm.{tree_of, tree_without};
+ghost use Rattle.lens_specs.specs.Sort.{clash};
+ghost use Rattle.fd_tree.specs.ClashView.{shown_clash};
+ghost use Rattle.fd_tree.specs.Form.{form_of};
+ghost use Rattle.fd_tree.specs.Sides.{HasLeft};
+ghost use Rattle.fd_tree.specs.declared.tree.TreeFault.TheVariants as fault;
+
+use crate::checking::first_fault;
+use crate::clash::{Clash, first_clash};
+use crate::cleaning::grouped;
+use crate::edge::{Edge, edges_of};
+use crate::ordering::ordered;
+use crate::reducing::{reduced, single};
+use fd_closure::Dep;
+use lens_values::{Name, Names, NoMemory, copied};
+use row_sets::Relation;
+use std::alloc::{AllocError, AllocFailed, Global};
+use std::marker::Model;
+
+/// An ordered list of edges in tree form. A contract sees the edges.
+#[derive(Debug, Drop)]
+pub struct Tree {
+    edges: Vec<Edge>,
+    outputs: Names,
+}
+
+impl Model for Tree {
+    ghost use Rattle.std.specs.Prelude.{◌≡◌, List};
+    ghost use Rattle.std.specs.Coded.{coded_list};
+    ghost use Rattle.lens_specs.specs.Dependencies.{AllEdges, Edge as EdgeOf};
+    ghost use Rattle.lens_specs.specs.TreeForm as spec;
+    ghost use Rattle.fd_closure.specs.Sides.{coded_edge};
+    ghost use Rattle.fd_tree.specs.Sides.{HasLeft};
+
+    ghost Value = { List EdgeOf };
+
+    ghost coded = { coded_list coded_edge };
+
+    ghost view = { λ t. t.edges.items };
+
+    ghost invariant = { λ t. (t.outputs ≡ spec.outputs t.edges.items) × AllEdges HasLeft t.edges.items };
+}
+
+/// Why dependencies have no tree form.
+#[derive(Debug, Drop)]
+pub enum TreeFault {
+    /// Two sides that do not fit.
+    NotTree {
+        /// A side of the first edge.
+        a: Names,
+        /// A side of the other.
+        b: Names,
+    },
+    /// Memory ran out.
+    NoMemory,
+}
+
+impl From<AllocError> for TreeFault {
+    ghost use Rattle.std.specs.Prelude.{◌≡◌};
+    ghost use Rattle.fd_tree.specs.declared.tree.TreeFault.TheVariants.{NoMemory};
+
+    ghost from_gives = { λ _ e. e ≡ NoMemory };
+
+    fn from(_: AllocError) -> TreeFault {
+        TreeFault::NoMemory
+    }
+}
+
+impl<T: Drop> From<AllocFailed<T>> for TreeFault {
+    ghost use Rattle.std.specs.Prelude.{◌≡◌};
+    ghost use Rattle.fd_tree.specs.declared.tree.TreeFault.TheVariants.{NoMemory};
+
+    ghost from_gives = { λ _ e. e ≡ NoMemory };
+
+    fn from(_: AllocFailed<T>) -> TreeFault {
+        TreeFault::NoMemory
+    }
+}
+
+impl From<NoMemory> for TreeFault {
+    ghost use Rattle.std.specs.Prelude.{◌≡◌};
+    ghost use Rattle.fd_tree.specs.declared.tree.TreeFault.TheVariants.{NoMemory};
+
+    ghost from_gives = { λ _ e. e ≡ NoMemory };
+
+    fn from(_: NoMemory) -> TreeFault {
+        TreeFault::NoMemory
+    }
+}
+
+impl TreeFault {
+    /// The fault of two sides that do not fit.
+    pub(crate) fn of_sides(alloc: Global, a: &Names, b: &Names) -> TreeFault
+        ensures { result ≢ fault.NoMemory → result ≡ fault.NotTree a.now b.now }
+    {
+        match both(alloc, a, b) {
+            Ok((a, b)) => TreeFault::NotTree { a, b },
+            Err(_) => TreeFault::NoMemory,
+        }
+    }
+}
+
+// Equal sets.
+fn both(alloc: Global, a: &Names, b: &Names) -> Result<(Names, Names), NoMemory>
+    ensures { IfOk result (λ copies. copies ≡ (a.now, b.now)) }
+{
+    Ok((a.copy(alloc)?, b.copy(alloc)?))
+}
+
+impl Tree {
+    /// The tree form of the dependencies (Bohannon, Pierce and Vaughan, PODS 2006), in the normal form of this server.
+    pub fn of(alloc: Global, deps: &[Dep]) -> Result<Tree, TreeFault>
+        ensures { Gives fault.NoMemory result (form_of (tree_of deps.now)) }
+    {
+        Tree::form(alloc, edges_of(alloc, deps)?)
+    }
+
+    /// The edges in their order.
+    pub fn edges(&self) -> &[Edge]
+        ensures { result.now ≡ self.now }
+    {
+        &self.edges
+    }
+
+    /// The columns that the edges write: the union of their right sides.
+    pub fn outputs(&self) -> &Names
+        ensures { result.now ≡ spec.outputs self.now }
+    {
+        &self.outputs
+    }
+
+    /// An equal tree.
+    pub fn copy(&self, alloc: Global) -> Result<Tree, NoMemory>
+        ensures { IfOk result (λ copy. copy ≡ self.now) }
+    {
+        Ok(Tree {
+            edges: copied(alloc, &self.edges)?,
+            outputs: self.outputs.copy(alloc)?,
+        })
+    }
+
+    /// The tree with the column taken out of the right sides, without the edges that have none left.
+    pub fn without(&self, alloc: Global, col: &Name) -> Result<Tree, NoMemory>
+        ensures { IfOk result (λ rest. rest ≡ tree_without (one col.now) self.now) }
+    {
+        let edges = edges_without(alloc, &self.edges, &single(alloc, col)?)?;
+        let outputs = outputs(alloc, &edges)?;
+        Ok(Tree { edges, outputs })
+    }
+
+    /// The tree form of the edges of both, those of this tree first.
+    pub fn join(&self, alloc: Global, other: &Tree) -> Result<Tree, TreeFault>
+        ensures { Gives fault.NoMemory result (form_of (tree_of (self.now ++ other.now))) }
+    {
+        let mut edges = copied(alloc, &self.edges)?;
+        append(&mut edges, alloc, &other.edges)?;
+        Tree::form(alloc, edges)
+    }
+
+    /// The first of the edges that the relation does not meet, with the least pair of its rows; none where it meets all.
+    pub fn meets(&self, alloc: Global, relation: &Relation) -> Result<Option<Clash>, NoMemory>
+        ensures { IfOk result (λ found. found ≡ shown_clash (clash self.now relation.now.rows)) }
+    {
+        first_clash(alloc, &self.edges, relation.rows())
+    }
+
+    // The tree form of the edges.
+    fn form(alloc: Global, edges: Vec<Edge>) -> Result<Tree, TreeFault>
+        requires { AllEdges HasLeft edges.items }
+        ensures { Gives fault.NoMemory result (form_of (tree_of edges.items)) }
+    {
+        let edges = reduced(alloc, grouped(alloc, edges)?)?;
+        if let Some((a, b)) = first_fault(&edges) {
+            return Err(TreeFault::of_sides(alloc, a, b));
+        }
+        let edges = ordered(alloc, edges)?;
+        let outputs = outputs(alloc, &edges)?;
+        Ok(Tree { edges, outputs })
+    }
+}
+
+// The union of the right sides.
+fn outputs(alloc: Global, edges: &[Edge]) -> Result<Names, NoMemory>
+    ensures { IfOk result (λ names. names ≡ spec.outputs edges.now) }
+{
+    let mut list = Vec::new(alloc);
+    for edge in edges {
+        list.extend_from_slice(edge.right.as_slice())?;
+    }
+    Names::new(alloc, list)
+}
+
+// The edges without these columns on the right, and without those that have none left there.
+fn edges_without(alloc: Global, edges: &[Edge], cols: &Names) -> Result<Vec<Edge>, NoMemory>
+    ensures { IfOk result (λ rest. rest.items ≡ tree_without cols.now edges.now) }
+{
+    let mut rest = Vec::new(alloc);
+    for edge in edges {
+        let right = edge.right.minus(alloc, cols)?;
+        if !right.as_slice().is_empty() {
+            let left = edge.left.copy(alloc)?;
+            rest.push(Edge { left, right })?;
+        }
+    }
+    Ok(rest)
+}
+
+// Adds copies of the edges at the end.
+fn append(list: &mut Vec<Edge>, alloc: Global, edges: &[Edge]) -> Result<(), NoMemory>
+    ensures { OnOk result (list.new.items ≡ list.old.items ++ edges.now) }
+{
+    for edge in edges {
+        list.push(edge.copy(alloc)?)?;
+    }
+    Ok(())
+}

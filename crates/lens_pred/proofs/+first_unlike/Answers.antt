@@ -1,0 +1,19 @@
+use Rattle.std.proofs.Common.{ap, sym, ◌∙◌}
+use Rattle.std.specs.List.{list_all}
+use Rattle.lens_specs.specs.Columns.{is_kind}
+use Rattle.lens_specs.specs.Refusal.{unless, unlike}
+use Rattle.lens_values.specs.Value.{kind_of}
+use Rattle.lens_pred.specs.View.{formula_view}
+use Rattle.lens_pred.proofs.Views.{view-OneOf}
+use Rattle.lens_pred.proofs.+first_unlike.Goals as goal
+
+pub formula::Formula::first_unlike-returns-in-OneOf : goal.formula::Formula::first_unlike-returns-in-OneOf
+formula::Formula::first_unlike-returns-in-OneOf t c =
+    let U = c.args.columns.now in
+    let col = c.in-OneOf.col in
+    let vs = c.in-OneOf.values in
+    c.unless-in-OneOf.ensures
+    ∙ ap (λ b. unless b col) c.all_like.ensures
+    ∙ ap (λ ws. unless (list_all (λ v. is_kind c.kind-in-OneOf.result (kind_of v)) ws) col) c.as_slice.ensures
+    ∙ ap (λ k. unless (list_all (λ v. is_kind k (kind_of v)) vs) col) c.kind-in-OneOf.ensures
+    ∙ sym (ap (unlike U) (ap formula_view c.in-OneOf.is ∙ view-OneOf col vs))

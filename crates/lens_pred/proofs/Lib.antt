@@ -1,0 +1,3 @@
+pub mod Conjuncts
+pub mod Views
+pub mod Walks

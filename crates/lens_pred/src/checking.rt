@@ -1,0 +1,107 @@
+//! Whether a predicate suits columns.
+ghost use Rattle.std.specs.Prelude.{◌≡◌};
+ghost use Rattle.std.specs.List.{list_all};
+ghost use Rattle.lens_specs.specs.Columns as spec;
+ghost use Rattle.lens_specs.specs.Refusal.{unless as unless_of, unlike, unlike_all};
+ghost use Rattle.lens_values.specs.Value.{kind_of};
+ghost use Rattle.lens_pred.specs.Checked.{checked};
+ghost use Rattle.lens_pred.specs.View.{formula_view, list_view, predicate_view};
+
+use crate::formula::Formula;
+use crate::naming::Sought;
+use crate::pred::Pred;
+use lens_values::{Columns, Kind, Name, Value};
+
+/// Why a predicate does not suit columns.
+#[derive(Clone, Copy, Debug, PartialEq, Eq)]
+pub enum PredFault {
+    /// The first name in text order that is no column.
+    UnknownColumn { name: Name },
+    /// The (left) column of the first comparison of unlike kinds.
+    PredKind { name: Name },
+}
+
+impl Pred {
+    /// Whether each name is a column, and only like kinds are compared. `UnknownColumn` comes before `PredKind`.
+    pub fn check(&self, columns: &Columns) -> Result<(), PredFault>
+        ensures { result ≡ checked columns.now self.now }
+    {
+        if let Some(name) = self.first_name(Sought::IsOutside(columns)) {
+            return Err(PredFault::UnknownColumn { name });
+        }
+        match first_unlike(self.conjuncts(), columns) {
+            Some(name) => Err(PredFault::PredKind { name }),
+            None => Ok(()),
+        }
+    }
+}
+
+impl Formula {
+    // The (left) column of the first comparison of unlike kinds.
+    #[cycle(first_unlike)]
+    fn first_unlike(&self, columns: &Columns) -> Option<Name>
+        ensures { result ≡ unlike columns.now (formula_view self.now) }
+    {
+        match self {
+            Formula::True | Formula::False => None,
+            Formula::Compare { col, value, .. } => unless(is_like(columns.kind(col), value), col),
+            Formula::CompareCols { col, other, .. } => {
+                unless(are_like(columns.kind(col), columns.kind(other)), col)
+            }
+            Formula::OneOf { col, values } => {
+                unless(all_like(columns.kind(col), values.as_slice()), col)
+            }
+            Formula::Not(inner) => inner.first_unlike(columns),
+            Formula::And(members) | Formula::Or(members) => {
+                first_unlike(members.as_slice(), columns)
+            }
+        }
+    }
+}
+
+// The first in the formulas.
+#[cycle(first_unlike)]
+fn first_unlike(members: &[Formula], columns: &Columns) -> Option<Name>
+    ensures { result ≡ unlike_all columns.now (list_view (predicate_view members.now)) }
+{
+    for member in members {
+        if let Some(name) = member.first_unlike(columns) {
+            return Some(name);
+        }
+    }
+    None
+}
+
+// The name, where the test fails.
+fn unless(holds: bool, name: &Name) -> Option<Name>
+    ensures { result ≡ unless_of holds name.now }
+{
+    if holds { None } else { Some(*name) }
+}
+
+// Whether the kind is there, and is that of the value.
+fn is_like(kind: Option<Kind>, value: &Value) -> bool
+    ensures { result ≡ spec.is_kind kind (kind_of value.now) }
+{
+    match kind {
+        Some(kind) => kind == value.kind(),
+        None => false,
+    }
+}
+
+// Whether both kinds are there and the same.
+fn are_like(left: Option<Kind>, right: Option<Kind>) -> bool
+    ensures { result ≡ spec.like_kinds left right }
+{
+    match (left, right) {
+        (Some(left), Some(right)) => left == right,
+        _ => false,
+    }
+}
+
+// Whether each of the values is of the kind.
+fn all_like(kind: Option<Kind>, values: &[Value]) -> bool
+    ensures { result ≡ list_all (λ v. spec.is_kind kind (kind_of v)) values.now }
+{
+    values.iter().all(|value| is_like(kind, value))
+}

@@ -1,0 +1,74 @@
+//! Copies of formulas.
+ghost use Rattle.std.specs.Prelude.{◌≡◌, ◌++◌, IfOk, OnOk};
+ghost use Rattle.lens_pred.specs.View.{formula_view, formulas_view, predicate_view};
+
+use crate::formula::{Formula, Formulas, Values};
+use lens_values::{NoMemory, copied};
+use std::alloc::Global;
+
+impl Values {
+    /// Equal values.
+    pub fn copy(&self, alloc: Global) -> Result<Values, NoMemory>
+        ensures { IfOk result (λ copy. copy ≡ self.now) }
+    {
+        Ok(Values::new(copied(alloc, self.as_slice())?))
+    }
+}
+
+impl Formula {
+    /// An equal formula.
+    #[cycle(copy)]
+    pub fn copy(&self, alloc: Global) -> Result<Formula, NoMemory>
+        ensures { IfOk result (λ copy. formula_view copy ≡ formula_view self.now) }
+    {
+        match self {
+            Formula::True => Ok(Formula::True),
+            Formula::False => Ok(Formula::False),
+            Formula::Compare { col, op, value } => Ok(Formula::Compare {
+                col: *col,
+                op: *op,
+                value: value.copy(alloc)?,
+            }),
+            Formula::CompareCols { col, op, other } => Ok(Formula::CompareCols {
+                col: *col,
+                op: *op,
+                other: *other,
+            }),
+            Formula::OneOf { col, values } => Ok(Formula::OneOf {
+                col: *col,
+                values: values.copy(alloc)?,
+            }),
+            Formula::Not(inner) => Ok(Formula::Not(Box::new(alloc, inner.copy(alloc)?)?)),
+            Formula::And(members) => Ok(Formula::And(members.copy(alloc)?)),
+            Formula::Or(members) => Ok(Formula::Or(members.copy(alloc)?)),
+        }
+    }
+}
+
+impl Formulas {
+    /// Equal formulas.
+    #[cycle(copy)]
+    pub fn copy(&self, alloc: Global) -> Result<Formulas, NoMemory>
+        ensures { IfOk result (λ copy. formulas_view copy ≡ formulas_view self.now) }
+    {
+        let mut copies = Vec::new(alloc);
+        append_copies(alloc, self.as_slice(), &mut copies)?;
+        Ok(Formulas::new(copies))
+    }
+}
+
+// Adds copies of the formulas at the end. After an `Err` some of them may be there.
+#[cycle(copy)]
+pub(crate) fn append_copies(
+    alloc: Global,
+    members: &[Formula],
+    list: &mut Vec<Formula>,
+) -> Result<(), NoMemory>
+    ensures { OnOk result (predicate_view list.new.items ≡ predicate_view list.old.items ++ predicate_view members.now) }
+{
+    list.reserve(members.len())?;
+    for member in members {
+        list.push(member.copy(alloc)?)?;
+    }
+    Ok(())
+}

@@ -1,0 +1,9 @@
+use Rattle.std.proofs.Common.{◌≡◌, map, drop}
+use Rattle.serde_json.specs.View.{members_view}
+use Rattle.server_specs.specs.Request as spec
+use Rattle.request_text.specs.WantedMembers.{wanted_view}
+use Rattle.request_text.proofs.FirstWrong.{wrong_of}
+use Rattle.request_text.proofs.wanted.first_wrong.Given as goal
+
+abbrev pub invariant-loop-member : goal.invariant-loop-member
+invariant-loop-member l = wrong_of (members_view l.members.entries) l.wanted ≡ wrong_of (members_view l.members.entries) (drop l.member-index l.wanted)

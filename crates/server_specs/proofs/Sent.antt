@@ -1,0 +1,110 @@
+-- Rows that are sent fit the columns.
+use Rattle.std.proofs.Common.{◌≡◌, true, false, cond, List, [], ◌∷◌, Option, Some, None, refl, sym, ap, subst, ◌∙◌}
+use Rattle.std.specs.Prelude.{ℕ, ◌||◌, option_map, option_and_then, Result, Ok, Err}
+use Rattle.std.specs.FinMap as finmap
+use Rattle.std.specs.List.{list_any}
+use Rattle.std.specs.Ordering.{eq_by_cmp, is_eq}
+use Rattle.std.specs.declared.cmp.Ordering.{Ordering}
+use Rattle.std.specs.declared.cmp.Ordering.TheVariants.{Less, Equal, Greater}
+use Rattle.std.specs.Cmp.Lexicographic.{nat_list_cmp_total}
+use Rattle.serde_json.specs.Data.{Data, null, boolean, number, string, array, object, Items, no_items, item, Members}
+use Rattle.serde_json.specs.Find as find
+use Rattle.lens_values.specs.Order.{bytes_cmp}
+use Rattle.lens_values.specs.Row.{row_cmp}
+use Rattle.lens_values.specs.RowOrder.{row_cmp_total, row_cmp-IsAntisymmetric}
+use Rattle.lens_values.specs.SortedSet as set
+use Rattle.lens_values.specs.Value.{kind_of}
+use Rattle.lens_values.specs.declared.value.Kind.{Kind}
+use Rattle.lens_values.specs.declared.value.Kind.TheVariants as kind
+use Rattle.lens_values.specs.declared.value.Value.{Value}
+use Rattle.lens_values.specs.declared.value.Value.TheVariants.{Int, Text, Flag}
+use Rattle.lens_values.specs.declared.row.Row.{Row}
+use Rattle.lens_specs.specs.Names.{Name}
+use Rattle.lens_specs.specs.Columns.{Columns, Fits, kind_at}
+use Rattle.lens_specs.specs.Relation.{has}
+use Rattle.server_specs.specs.Request.{first_other}
+use Rattle.server_specs.specs.Sending.{BadRow, value_in, value_at, with_pair, pairs_in, is_column_of, row_from, row_of_members, row_in, with_row, rows_in}
+
+chained : {A B : Type 0} (f : A → Option B) (o : Option A) (y : B) → option_and_then f o ≡ Some y → (x : A) × (o ≡ Some x) × (f x ≡ Some y)
+chained f None y e = cc
+chained f (Some x) y e = (x, refl, e)
+
+mapped : {A B : Type 0} (f : A → B) (o : Option A) (y : B) → option_map f o ≡ Some y → (x : A) × (o ≡ Some x) × (f x ≡ y)
+mapped f None y e = cc
+mapped f (Some x) y e = (x, refl, cc)
+
+-- a value that is read is of its kind
+value_kind : (k : Kind) (d : Data) (v : Value) → value_in k d ≡ Some v → kind_of v ≡ k
+value_kind kind.Int d v e = let w = mapped Int _ v e in ap kind_of (sym w.2)
+value_kind kind.Text d v e = let w = mapped Text _ v e in ap kind_of (sym w.2)
+value_kind kind.Flag d v e = let w = mapped Flag _ v e in ap kind_of (sym w.2)
+
+paired : (name : Name) (o : Option Value) (others : Result (List (Name × Value)) Name) (pairs : List (Name × Value)) → with_pair name o others ≡ Ok pairs
+    → (v : Value) × (rest : List (Name × Value)) × (o ≡ Some v) × (others ≡ Ok rest) × ((name, v) ∷ rest ≡ pairs)
+paired name None others pairs e = cc
+paired name (Some v) (Ok rest) pairs e = (v, rest, refl, refl, cc)
+paired name (Some v) (Err wrong) pairs e = cc
+
+-- the pairs have the kinds of the columns
+pairs_kinds : (columns : List (Name × Kind)) (ms : Members) (pairs : List (Name × Value)) → pairs_in columns ms ≡ Ok pairs
+    → (c : Name) → kind_at (finmap.find bytes_cmp c pairs) ≡ finmap.find bytes_cmp c columns
+pairs_kinds [] ms pairs e c = let f : [] ≡ pairs = cc in ap (λ ps. kind_at (finmap.find bytes_cmp c ps)) (sym f)
+pairs_kinds (column ∷ columns) ms pairs e c =
+    let w = paired column.0 (value_at ms column) (pairs_in columns ms) pairs e in
+    let d = chained (value_in column.1) (find.get_member column.0 ms) w.0 w.2 in
+    let rest = pairs_kinds columns ms w.1 w.3 c in
+    ap (λ ps. kind_at (finmap.find bytes_cmp c ps)) (sym w.4)
+    ∙ elim (eq_by_cmp bytes_cmp c column.0) as (λ b. kind_at (cond b (Some w.0) (finmap.find bytes_cmp c w.1)) ≡ cond b (Some column.1) (finmap.find bytes_cmp c columns)) [
+      | true ↦ ap Some (value_kind column.1 d.0 w.0 d.2)
+      | false ↦ rest
+    ]
+
+from_pairs : (result : Result (List (Name × Value)) Name) (strange : Option (List ℕ)) (r : Row) → row_from result strange ≡ Ok r → (pairs : List (Name × Value)) × (result ≡ Ok pairs) × (finmap.from_entries pairs ≡ r)
+from_pairs (Ok pairs) None r e = (pairs, refl, cc)
+from_pairs (Ok pairs) (Some k) r e = cc
+from_pairs (Err wrong) strange r e = cc
+
+members_fit : (columns : Columns) (ms : Members) (r : Row) → row_of_members columns ms ≡ Ok r → Fits columns r
+members_fit columns ms r e =
+    let w = from_pairs (pairs_in (finmap.entries columns) ms) (first_other (is_column_of columns) ms) r e in
+    λ c. ap (λ m. kind_at (finmap.get m c)) (sym w.2) ∙ ap kind_at (finmap.get-from_entries nat_list_cmp_total w.0 c) ∙ pairs_kinds (finmap.entries columns) ms w.0 w.1 c ∙ sym (finmap.get-entries columns c)
+
+row_fits : (columns : Columns) (d : Data) (r : Row) → row_in columns d ≡ Ok r → Fits columns r
+row_fits columns null r e = cc
+row_fits columns (boolean b) r e = cc
+row_fits columns (number n) r e = cc
+row_fits columns (string bytes) r e = cc
+row_fits columns (array ds) r e = cc
+row_fits columns (object ms) r e = members_fit columns ms r e
+
+rowed : (o : Result Row (List ℕ)) (others : Result (List Row) BadRow) (rows : List Row) → with_row o others ≡ Ok rows
+    → (row : Row) × (rest : List Row) × (o ≡ Ok row) × (others ≡ Ok rest) × (row ∷ rest ≡ rows)
+rowed (Err name) others rows e = cc
+rowed (Ok row) (Ok rest) rows e = (row, rest, refl, refl, cc)
+rowed (Ok row) (Err bad) rows e = cc
+
+-- each row of the list has the columns
+abbrev AllFit : Columns → List Row → Type 0
+AllFit columns rows = (r : Row) → list_any (eq_by_cmp row_cmp r) rows ≡ true → Fits columns r
+
+tie_is : (r : Ordering) → is_eq r ≡ true → r ≡ Equal
+tie_is Less e = cc
+tie_is Equal e = refl
+tie_is Greater e = cc
+
+one_more : (columns : Columns) (row : Row) (rows : List Row) → Fits columns row → AllFit columns rows → AllFit columns (row ∷ rows)
+one_more columns row rows first others r =
+    elim (eq_by_cmp row_cmp r row) as (λ b. eq_by_cmp row_cmp r row ≡ b → (b || list_any (eq_by_cmp row_cmp r) rows) ≡ true → Fits columns r) [
+      | true ↦ λ tie _. subst (Fits columns) (sym (row_cmp-IsAntisymmetric r row (tie_is (row_cmp r row) tie))) first
+      | false ↦ λ _ h. others r h
+    ] refl
+
+listed_fit : (columns : Columns) (items : Items) (rows : List Row) → rows_in columns items ≡ Ok rows → AllFit columns rows
+listed_fit columns no_items rows e = let f : [] ≡ rows = cc in subst (AllFit columns) f (λ r h. cc)
+listed_fit columns (item d ds) rows e =
+    let w = rowed (row_in columns d) (rows_in columns ds) rows e in
+    subst (AllFit columns) w.4 (one_more columns w.0 w.1 (row_fits columns d w.0 w.2) (listed_fit columns ds w.1 w.3))
+
+-- each row that is sent has the columns, each of its kind
+pub sent_fit : (columns : Columns) (items : Items) (rows : List Row) → rows_in columns items ≡ Ok rows → (r : Row) → has (set.from_list rows) r ≡ true → Fits columns r
+sent_fit columns items rows e r i = listed_fit columns items rows e r (sym (set.contains-from_list row_cmp_total rows r) ∙ i)
