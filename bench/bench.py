@@ -11,6 +11,8 @@ import time
 TOP = os.path.dirname(os.path.dirname(os.path.abspath(__file__)))
 ROWS = 100_000
 PUTS = 1_000
+HUGE = 300_000
+LONGEST = 16_777_216
 
 
 class Server:
@@ -128,6 +130,48 @@ def chains(program):
     return table
 
 
+def long_texts(program):
+    """Definitions of 4,096 bytes that are read to their end; ms a line and MB."""
+    server = Server(program)
+    server.ask(b'{"do":"define","text":"table counts (key int, value int)"}\n')
+    front = "view v = select from counts where key in ("
+    texts = {
+        "refused at its last byte": front + ("1," * 4096)[: 4096 - len(front)],
+        "of as many ands and ors as it holds": ("view v = select from counts where true" + " and true or true" * 4096)[:4096 - 5].rsplit(" ", 1)[0],
+    }
+    table = []
+    for name, text in texts.items():
+        line = ('{"do":"define","text":"' + text + '"}\n').encode()
+        begin = time.perf_counter()
+        for _ in range(PUTS):
+            reply, _ = server.ask(line)
+            must_begin(reply, b'{"')
+        seconds = (time.perf_counter() - begin) / PUTS
+        table.append((f"define of {len(text):,} bytes, {name}", len(line), f"{seconds * 1000:,.2f} ms", f"{server.peak():,.0f} MB"))
+    server.end()
+    return table
+
+
+def longest(program):
+    """A line of 16 MB of rows, and a read of them; ms, MB a second and MB."""
+    server = Server(program)
+    reply, _ = server.ask(b'{"do":"define","text":"table tracks (album text, date int, rating int, track text) where date > 0 and rating < 100"}\n')
+    must_begin(reply, b'{"ok":true')
+    rows = [row(number) for number in range(HUGE)]
+    line = put(rows)
+    while len(line) > LONGEST:
+        rows = rows[: len(rows) * LONGEST // len(line)]
+        line = put(rows)
+    reply, seconds = server.ask(line)
+    must_begin(reply, b'{"changed":[{')
+    table = [(f"put of {len(rows):,} rows in one line", len(line), f"{seconds * 1000:,.0f} ms", f"{server.peak():,.0f} MB")]
+    reply, seconds = server.ask(b'{"do":"read","view":"tracks"}\n')
+    must_begin(reply, b'{"ok":true,"rows":[{')
+    table.append((f"read of {len(rows):,} rows ({len(reply):,} bytes)", 30, f"{seconds * 1000:,.0f} ms, {len(reply) / seconds / 1e6:,.0f} MB/s", f"{server.peak():,.0f} MB"))
+    server.end()
+    return table
+
+
 def small(program):
     """Single-row puts of a small table: lines a second, and the peak memory in MB."""
     server = Server(program)
@@ -147,7 +191,7 @@ def main():
     program = sys.argv[1] if len(sys.argv) > 1 else os.path.join(TOP, "crates/view_program/out/view_program")
     print("| What | Bytes of input | Time | Peak memory |")
     print("|---|---|---|---|")
-    for name, size, taken, peak in large(program) + dependent(program) + chains(program) + small(program):
+    for name, size, taken, peak in large(program) + dependent(program) + chains(program) + long_texts(program) + longest(program) + small(program):
         print(f"| {name} | {size:,} | {taken} | {peak} |")
 
 

@@ -1,45 +1,46 @@
 -- One definition more: the state after it, what is kept of it, and that the store stays consistent.
 use Rattle.std.proofs.Common.{◌≡◌, ◌∙◌, ◌+◌, ◌≤◌, ℕ, suc, Bool, true, false, List, [], ◌∷◌, ◌++◌, length, map, ap, sym, subst, refl, cond, arith, append-nil, length-append}
-use Rattle.std.specs.Prelude.{Option, Some, None, option_map, option_to_list, is_some, not, ◌||◌, Ok, if◌then◌else◌}
+use Rattle.std.specs.Prelude.{Option, Some, None, option_map, option_to_list, is_some, nat_eq, not, ◌&&◌, ◌||◌, Ok, if◌then◌else◌}
 use Rattle.std.specs.Ordering.{eq_by_cmp, is_eq}
 use Rattle.std.specs.declared.cmp.Ordering.{Ordering}
 use Rattle.std.specs.declared.cmp.Ordering.TheVariants.{Less, Equal, Greater}
 use Rattle.std.specs.Cmp.{tied_itself}
-use Rattle.std.specs.Cmp.Lexicographic.{nat_list_cmp_total}
+use Rattle.std.specs.Cmp.Lexicographic.{nat_list_cmp_total, pointwise, texts_ties}
 use Rattle.std.specs.FinMap as finmap
 use Rattle.std.specs.FinMap.{nat_cmp-IsAntisymmetric, slice_cmp-IsAntisymmetric}
 use Rattle.lens_values.specs.Order.{bytes_cmp}
 use Rattle.lens_values.specs.SortedSet as set
-use Rattle.lens_values.specs.declared.value.Kind.{Kind}
 use Rattle.lens_specs.specs.Relation.{Name, Relation, Columns}
-use Rattle.lens_specs.specs.Keeping.{Kept, define, changed, CanCommit, Follows, Tells}
-use Rattle.language_specs.specs.Language.{Definition, table, view, named}
-use Rattle.language_specs.specs.Language as language
+use Rattle.lens_specs.specs.Keeping.{Kept, define, changed, CanCommit, Follows, Stays, Tells}
+use Rattle.lens_specs.specs.Faults.{Rose}
+use Rattle.grammar_specs.specs.Meaning.{Definition, table, view, Expr}
 use Rattle.lens_specs.specs.Lens as spec
 use Rattle.lens_specs.specs.Names.{Names}
 use Rattle.lens_specs.specs.Dependencies.{Edge}
 use Rattle.lens_specs.specs.TreeForm.{tree_of}
 use Rattle.lens_specs.specs.Lens.{base, select, tree_or_none}
-use Rattle.language_specs.specs.Reading.{reading}
-use Rattle.server_specs.specs.Answer.{defined, text}
+use Rattle.lens_specs.specs.Predicate.{Predicate}
+use Rattle.lens_specs.specs.Sort.{Sort}
+use Rattle.grammar_laws.specs.Reading.{reading}
+use Rattle.server_specs.specs.Answer.{defined, store_fault, text}
 use Rattle.server_specs.specs.Answering.{answer_definition, with_defined, with_text}
-use Rattle.server_specs.specs.Defining.{is_base, table_count, view_count}
-use Rattle.server_specs.specs.State.{State, Catalogue, catalogue, columns_from, dependent, plain_sort, with_definition, with_dependent, kept, rows_of_each}
+use Rattle.server_specs.specs.Defining.{table_count, view_count}
+use Rattle.server_specs.specs.State.{State, Catalogue, catalogue, dependent, is_table_of, lens_of, with_definition, with_dependent, with_lens, kept, rows_of_each}
 use Rattle.server_specs.proofs.Catalogues.{catalogue-push, dependent-after}
-use Rattle.view_lang.specs.Meaning.{comparison_view}
-use Rattle.view_lang.specs.declared.definition.Comparison.{Comparison}
-use Rattle.lens_server.specs.Additions.{IsTaken}
-use Rattle.lens_server.specs.Entries.{named as entry_named, entry_view, lens_view, lens_with, lens_named, is_dependent, relation_of, last_of, relation_named, columns_named}
-use Rattle.lens_server.specs.Judgements.{Adds, adds_table, adds_view, is_none_left}
-use Rattle.lens_server.specs.Outcomes.{Outcome, made}
+use Rattle.lens_server.specs.Additions.{IsTaken, SameContents}
+use Rattle.lens_server.specs.Entries.{named as entry_named, entry_view, lens_view, lens_with, sort_under, lens_named, is_table, is_dependent, relation_of, last_of, relation_named, columns_named}
+use Rattle.lens_server.specs.Judgements.{Adds, adds_table, adds_view, IsViewOf, expr_from, is_none_left}
+use Rattle.lens_server.specs.Outcomes.{Outcome, made, not_kept}
 use Rattle.lens_server.specs.States.{state_of, state_with, IsConsistent, IsPlain, Consistent}
 use Rattle.lens_server.specs.declared.entry.Lens.{Lens}
 use Rattle.lens_server.specs.declared.entry.Entry.{Entry}
-use Rattle.lens_server.specs.declared.judging.Addition.{Addition}
+use Rattle.lens_server.specs.declared.addition.Addition.{Addition}
 use Rattle.lens_server.specs.declared.store.Store.{Store}
 use Rattle.lens_server.specs.declared.table.Table.{Table}
 use Rattle.lens_server.proofs.Changes.{kept_rows, told_after, rows_chosen}
 use Rattle.lens_server.proofs.Growing.{found_still, found_last, map_more, map-push, none_any, count_more}
+use Rattle.lens_server.proofs.Places.{same_name}
+use Rattle.lens_server.proofs.Sources.{table_selects_nothing}
 use Rattle.lens_server.proofs.Views.{found_view, in_catalogue}
 
 itself : (t : Name) → eq_by_cmp bytes_cmp t t ≡ true
@@ -110,26 +111,26 @@ abbrev table_more : Option Table → ℕ
 table_more None = 0
 table_more (Some t) = 1
 
-abbrev Counts : spec.Lens → Option Table → Type 0
-Counts lens more = is_base lens ≡ is_some more
+abbrev Counts : Name → spec.Lens → Option Table → Type 0
+Counts name lens more = is_table_of name lens ≡ is_some more
 
-tables_counted : (known : Catalogue) (name : Name) (lens : spec.Lens) (ts : List Table) (more : Option Table) → finmap.get known name ≡ None → Counts lens more
+tables_counted : (known : Catalogue) (name : Name) (lens : spec.Lens) (ts : List Table) (more : Option Table) → finmap.get known name ≡ None → Counts name lens more
     → table_count known ≡ length ts → table_count (finmap.insert known name lens) ≡ length (ts ++ option_to_list more)
 tables_counted known name lens ts None new counts e =
-    count_more is_base known name lens new ∙ ap (λ b. if b then suc (table_count known) else table_count known) counts ∙ e ∙ ap length (sym (append-nil ts))
+    count_more is_table_of known name lens new ∙ ap (λ b. if b then suc (table_count known) else table_count known) counts ∙ e ∙ ap length (sym (append-nil ts))
 tables_counted known name lens ts (Some t) new counts e =
-    count_more is_base known name lens new ∙ ap (λ b. if b then suc (table_count known) else table_count known) counts
+    count_more is_table_of known name lens new ∙ ap (λ b. if b then suc (table_count known) else table_count known) counts
     ∙ omega (arith, e, length-append ts (t ∷ []))
 
-views_counted : (known : Catalogue) (name : Name) (lens : spec.Lens) (ts : List Table) (n : ℕ) (more : Option Table) → finmap.get known name ≡ None → Counts lens more
+views_counted : (known : Catalogue) (name : Name) (lens : spec.Lens) (ts : List Table) (n : ℕ) (more : Option Table) → finmap.get known name ≡ None → Counts name lens more
     → view_count known + length ts ≡ n → view_count (finmap.insert known name lens) + length (ts ++ option_to_list more) ≡ n + 1
 views_counted known name lens ts n None new counts e =
     let c : view_count (finmap.insert known name lens) ≡ suc (view_count known) =
-    count_more (λ l. not (is_base l)) known name lens new ∙ ap (λ b. if not b then suc (view_count known) else view_count known) counts in
+    count_more (λ n l. not (is_table_of n l)) known name lens new ∙ ap (λ b. if not b then suc (view_count known) else view_count known) counts in
     omega (arith, c, e, ap length (append-nil ts))
 views_counted known name lens ts n (Some t) new counts e =
     let c : view_count (finmap.insert known name lens) ≡ view_count known =
-    count_more (λ l. not (is_base l)) known name lens new ∙ ap (λ b. if not b then suc (view_count known) else view_count known) counts in
+    count_more (λ n l. not (is_table_of n l)) known name lens new ∙ ap (λ b. if not b then suc (view_count known) else view_count known) counts in
     omega (arith, c, e, length-append ts (t ∷ []))
 
 -- ---- tables with dependencies
@@ -157,25 +158,26 @@ unmoved old name lacks q = elim (eq_by_cmp bytes_cmp q name) as (λ b. eq_by_cmp
   | false ↦ λ e. refl
 ] refl
 
-pub dependent_table : (old : Names) (name : Name) (columns : List (Name × Kind)) (deps : List Edge) → set.contains old name ≡ false
-    → AlsoHas old name (not (is_none_left deps)) (with_dependent (Some (table name columns deps)) old)
-dependent_table old name columns [] lacks = unmoved old name lacks
-dependent_table old name columns (d ∷ ds) lacks = λ q. set.contains-insert nat_list_cmp_total old name q ∙ either_flag (eq_by_cmp bytes_cmp q name) (set.contains old q)
-
-same_flag : (b flag : Bool) (lens : Lens) → lens.dependent ≡ flag → cond b flag false ≡ is_dependent (cond b (Some lens) None)
-same_flag true flag lens e = sym e
-same_flag false flag lens e = refl
+dependent_deps : (old : Names) (name : Name) (columns : Columns) (deps : List Edge) (predicate : Predicate) → set.contains old name ≡ false
+    → AlsoHas old name (not (is_none_left deps)) (with_dependent (Ok (table name columns deps predicate)) old)
+dependent_deps old name columns [] predicate lacks = unmoved old name lacks
+dependent_deps old name columns (d ∷ ds) predicate lacks = λ q. set.contains-insert nat_list_cmp_total old name q ∙ either_flag (eq_by_cmp bytes_cmp q name) (set.contains old q)
 
 -- the tables with dependencies are those of the names, with one name more
-dependents_more : (es : List Entry) (e : Entry) (old new : Names) → lens_named es e.name ≡ None → AlsoHas old e.name e.lens.dependent new
-    → ((q : Name) → set.contains old q ≡ is_dependent (lens_named es q)) → (q : Name) → set.contains new q ≡ is_dependent (lens_named (es ++ e ∷ []) q)
-dependents_more es e old new none also h q = also q ∙ ap (cond (eq_by_cmp bytes_cmp q e.name) e.lens.dependent) (h q) ∙ by_lens (lens_named es q) refl
+dependents_more : (es : List Entry) (e : Entry) (old new : Names) → lens_named es e.name ≡ None → AlsoHas old e.name (is_dependent e.name (Some e.lens)) new
+    → ((q : Name) → set.contains old q ≡ is_dependent q (lens_named es q)) → (q : Name) → set.contains new q ≡ is_dependent q (lens_named (es ++ e ∷ []) q)
+dependents_more es e old new none also h q = also q ∙ ap (cond (eq_by_cmp bytes_cmp q e.name) (is_dependent e.name (Some e.lens))) (h q) ∙ by_lens (lens_named es q) refl
   where
-    by_lens : (o : Option Lens) → lens_named es q ≡ o → cond (eq_by_cmp bytes_cmp q e.name) e.lens.dependent (is_dependent o) ≡ is_dependent (lens_named (es ++ e ∷ []) q)
-    by_lens None is = same_flag (eq_by_cmp bytes_cmp q e.name) e.lens.dependent e.lens refl ∙ ap is_dependent (sym (named_last es e q is))
-    by_lens (Some m) is = by_test (eq_by_cmp bytes_cmp q e.name) refl ∙ ap is_dependent (sym (named_still es e q m is))
+    by_new : (b : Bool) → eq_by_cmp bytes_cmp q e.name ≡ b → cond b (is_dependent e.name (Some e.lens)) false ≡ is_dependent q (cond b (Some e.lens) None)
+    by_new true t = ap (λ n. is_dependent n (Some e.lens)) (sym (tied q e.name t))
+    by_new false t = refl
+
+    by_lens : (o : Option Lens) → lens_named es q ≡ o
+        → cond (eq_by_cmp bytes_cmp q e.name) (is_dependent e.name (Some e.lens)) (is_dependent q o) ≡ is_dependent q (lens_named (es ++ e ∷ []) q)
+    by_lens None is = by_new (eq_by_cmp bytes_cmp q e.name) refl ∙ ap (is_dependent q) (sym (named_last es e q is))
+    by_lens (Some m) is = by_test (eq_by_cmp bytes_cmp q e.name) refl ∙ ap (is_dependent q) (sym (named_still es e q m is))
       where
-        by_test : (b : Bool) → eq_by_cmp bytes_cmp q e.name ≡ b → cond b e.lens.dependent m.dependent ≡ m.dependent
+        by_test : (b : Bool) → eq_by_cmp bytes_cmp q e.name ≡ b → cond b (is_dependent e.name (Some e.lens)) (is_dependent q (Some m)) ≡ is_dependent q (Some m)
         by_test true t = let clash : None ≡ Some m = sym none ∙ ap (lens_named es) (sym (tied q e.name t)) ∙ is in cc
         by_test false t = refl
 
@@ -183,8 +185,8 @@ dependents_more es e old new none also h q = also q ∙ ap (cond (eq_by_cmp byte
 
 pub consistent_more : (texts : List (List ℕ)) (es : List Entry) (ts : List Table) (said : List ℕ) (e : Entry) (more : Option Table) → IsConsistent texts es ts
     → lens_named es e.name ≡ None → with_definition (reading said) (catalogue texts) ≡ finmap.insert (catalogue texts) e.name (lens_view e.lens)
-    → AlsoHas (dependent texts) e.name e.lens.dependent (with_dependent (reading said) (dependent texts)) → IsPlain e.lens
-    → HasName e.name more → Counts (lens_view e.lens) more → columns_named (ts ++ option_to_list more) e.lens.table ≡ Some e.lens.columns → finmap.len e.lens.columns ≤ 64
+    → AlsoHas (dependent texts) e.name (is_dependent e.name (Some e.lens)) (with_dependent (reading said) (dependent texts)) → IsPlain e.lens
+    → HasName e.name more → Counts e.name (lens_view e.lens) more → columns_named (ts ++ option_to_list more) e.lens.table ≡ Some e.lens.columns → finmap.len e.lens.columns ≤ 64
     → IsConsistent (texts ++ said ∷ []) (es ++ e ∷ []) (ts ++ option_to_list more)
 consistent_more texts es ts said e more c new defines also plain has counts source size =
     let grown : catalogue (texts ++ said ∷ []) ≡ finmap.insert (catalogue texts) e.name (lens_view e.lens) = catalogue-push texts said ∙ defines in
@@ -244,10 +246,10 @@ get_none ts name e = finmap.get-from_entries nat_list_cmp_total (map relation_of
 -- the definition can be kept
 can_add : (addition : Addition) (definition : Definition) (store : Store) (said : List ℕ) (contents : Option Kept) → Consistent store → Adds addition definition store
     → Tells contents (kept (state_of store)) → CanCommit (define said (option_map (λ t. t.name) addition.table)) contents
-can_add addition definition store said contents c (adds_table name columns deps is new size adds) told =
+can_add addition definition store said contents c (adds_table name columns deps predicate is new size adds) told =
     subst (λ o. CanCommit (define said (option_map (λ t. t.name) o)) contents) (sym adds.table)
     (can_commit_some said name (state_of store) contents (get_none store.tables.items name (c.defined name new)) told)
-can_add addition definition store said contents c (adds_view name from source comparison is new found adds) told =
+can_add addition definition store said contents c (adds_view name expr lens is new viewed adds) told =
     subst (λ o. CanCommit (define said (option_map (λ t. t.name) o)) contents) (sym adds.table) (can_commit_none said contents)
 
 pub addition_can : (addition : Addition) (store : Store) (said : List ℕ) (contents : Option Kept) → Consistent store → IsTaken said addition store
@@ -298,84 +300,152 @@ no_edges [] e = refl
 no_edges (d ∷ ds) e = cc
 
 -- a table's lens
-abbrev table_entry : Name → Columns → List Edge → Entry
-table_entry name U deps = record {
+abbrev table_entry : Name → Columns → List Edge → Predicate → Entry
+table_entry name U deps P = record {
   name = name;
-  lens = record { table = name; columns = U; tree = tree_or_none (tree_of deps); dependent = not (is_none_left deps); comparison = None };
+  lens = record { table = name; columns = U; pred = P; tree = tree_or_none (tree_of deps); dependent = not (is_none_left deps); selected = None };
 }
 
-plain_table : (name : Name) (U : Columns) (deps : List Edge) → IsPlain (table_entry name U deps).lens
-plain_table name U deps = record { tree = no_edges deps; view = λ e. cc }
+plain_table : (name : Name) (U : Columns) (deps : List Edge) (P : Predicate) → IsPlain (table_entry name U deps P).lens
+plain_table name U deps P = record { tree = no_edges deps; view = λ e. cc }
+
+own_name : (name : Name) → pointwise nat_eq name name ≡ true
+own_name name = texts_ties name name ∙ itself name
 
 lacking : (store : Store) (name : Name) → Consistent store → lens_named store.entries.items name ≡ None → set.contains (dependent store.texts.items) name ≡ false
-lacking store name c free = c.dependents name ∙ ap is_dependent free
+lacking store name c free = c.dependents name ∙ ap (is_dependent name) free
 
-outcome_table : (old new : Store) (said : List ℕ) (name : Name) (columns : List (Name × Kind)) (deps : List Edge) (contents contents' : Option Kept) (count count' : ℕ) (reply : List ℕ)
-    → Grows old new said (table_entry name (columns_from columns) deps)
-    (Some (record { name = name; relation = record { columns = columns_from columns; rows = set.empty }; last = old.version + 1 }))
-    → Consistent old → reading said ≡ Some (table name columns deps) → lens_named old.entries.items name ≡ None → finmap.len (columns_from columns) ≤ 64
+dependent_table : (old : Names) (name : Name) (U : Columns) (deps : List Edge) (P : Predicate) → set.contains old name ≡ false
+    → AlsoHas old name (is_dependent name (Some (table_entry name U deps P).lens)) (with_dependent (Ok (table name U deps P)) old)
+dependent_table old name U deps P lacks =
+    subst (λ b. AlsoHas old name b (with_dependent (Ok (table name U deps P)) old)) (ap (λ t. t && not (is_none_left deps)) (sym (own_name name))) (dependent_deps old name U deps P lacks)
+
+outcome_table : (old new : Store) (said : List ℕ) (name : Name) (U : Columns) (deps : List Edge) (P : Predicate) (contents contents' : Option Kept) (count count' : ℕ) (reply : List ℕ)
+    → Grows old new said (table_entry name U deps P) (Some (record { name = name; relation = record { columns = U; rows = set.empty }; last = old.version + 1 }))
+    → Consistent old → reading said ≡ Ok (table name U deps P) → lens_named old.entries.items name ≡ None → finmap.len U ≤ 64
     → Tells contents (kept (state_of old)) → Follows (λ a b. b ≡ changed (define said (Some name)) a) contents contents' → count ≤ count'
     → reply ≡ text (defined (old.version + 1))
-    → Outcome (answer_definition said (Ok (table name columns deps)) (state_of old)) old new count count' contents' (Ok reply)
-outcome_table old new said name columns deps contents contents' count count' reply g c read free size told follows later is =
-    let U = columns_from columns in
-    let e : Entry = table_entry name U deps in
+    → Outcome (answer_definition said (Ok (table name U deps P)) (state_of old)) old new count count' contents' (Ok reply)
+outcome_table old new said name U deps P contents contents' count count' reply g c read free size told follows later is =
+    let e : Entry = table_entry name U deps P in
     let t : Table = record { name = name; relation = record { columns = U; rows = set.empty }; last = old.version + 1 } in
     let none : relation_named old.tables.items name ≡ None = c.defined name free in
     let source : columns_named (old.tables.items ++ t ∷ []) name ≡ Some U =
     ap (option_map (λ r. r.columns)) (relation_last old.tables.items t name none ∙ ap (λ b. cond b (Some t.relation) None) (itself name)) in
-    let also : AlsoHas (dependent old.texts.items) name (not (is_none_left deps)) (with_dependent (reading said) (dependent old.texts.items)) =
-    subst (λ o. AlsoHas (dependent old.texts.items) name (not (is_none_left deps)) (with_dependent o (dependent old.texts.items))) (sym read)
-    (dependent_table (dependent old.texts.items) name columns deps (lacking old name c free)) in
-    outcome_grown old new said e (Some t) (table name columns deps) contents contents' count count' reply g
-    (consistent_more old.texts.items old.entries.items old.tables.items said e (Some t) c free (ap (λ o. with_definition o (catalogue old.texts.items)) read) also (plain_table name U deps) refl refl source size)
+    let also : AlsoHas (dependent old.texts.items) name (is_dependent name (Some e.lens)) (with_dependent (reading said) (dependent old.texts.items)) =
+    subst (λ o. AlsoHas (dependent old.texts.items) name (is_dependent name (Some e.lens)) (with_dependent o (dependent old.texts.items))) (sym read)
+    (dependent_table (dependent old.texts.items) name U deps P (lacking old name c free)) in
+    outcome_grown old new said e (Some t) (table name U deps P) contents contents' count count' reply g
+    (consistent_more old.texts.items old.entries.items old.tables.items said e (Some t) c free (ap (λ o. with_definition o (catalogue old.texts.items)) read) also (plain_table name U deps P) refl (own_name name) source size)
     (state_table old.texts.items old.tables.items old.version said t none refl)
     (λ j. record { texts = old.texts.items ++ said ∷ []; rows = sym (kept_insert (state_of old).tables name t.relation) j })
     told follows later is
 
-plain_lens : (source : Lens) → source.comparison ≡ None → lens_view source ≡ base source.table (plain_sort source.columns source.tree)
-plain_lens source e = ap (lens_with source.table source.columns source.tree) e
+-- ---- views
 
-outcome_view : (old new : Store) (said : List ℕ) (name from : Name) (source : Lens) (comparison : Comparison) (contents contents' : Option Kept) (count count' : ℕ) (reply : List ℕ)
-    → Grows old new said (record { name = name; lens = record source { comparison = Some comparison } }) None
-    → Consistent old → reading said ≡ Some (view name (language.select (comparison_view comparison) (named from))) → lens_named old.entries.items name ≡ None
-    → lens_named old.entries.items from ≡ Some source → source.comparison ≡ None → source.dependent ≡ false
+table_name : (from t : Name) (s : Sort) (k : Option Predicate) → is_table_of from (lens_with t s k) ≡ true → t ≡ from
+table_name from t s None e = same_name t from (sym (texts_ties t from) ∙ e)
+table_name from t s (Some P) e = cc
+
+not_named : (name t : Name) (s : Sort) (k : Option Predicate) → (t ≡ name → ⊥) → is_table_of name (lens_with t s k) ≡ false
+not_named name t s (Some P) h = refl
+not_named name t s None h = by_test (pointwise nat_eq t name) refl
+  where
+    by_test : (b : Bool) → pointwise nat_eq t name ≡ b → b ≡ false
+    by_test true e = absurd (h (same_name t name (sym (texts_ties t name) ∙ e)))
+    by_test false e = refl
+
+-- a view is no table of its name
+no_table : (es : List Entry) (name from : Name) (source : Lens) (k : Option Predicate) → lens_named es name ≡ None → lens_named es from ≡ Some source → is_table from source ≡ true
+    → is_table name (record source { selected = k }) ≡ false
+no_table es name from source k free found own = not_named name source.table (sort_under source) k (λ same.
+    let clash : Some source ≡ None = sym found ∙ ap (lens_named es) (sym (table_name from source.table (sort_under source) source.selected own) ∙ same) ∙ free in
+    let none : ⊥ = cc in none)
+
+lens_from : (known : Catalogue) (from t : Name) (s : Sort) (k : Option Predicate) → finmap.get known from ≡ Some (base t s) → lens_of (expr_from k from) known ≡ Some (lens_with t s k)
+lens_from known from t s None e = e
+lens_from known from t s (Some P) e = ap (option_map (select P)) e
+
+outcome_view : (old new : Store) (said : List ℕ) (name : Name) (expr : Expr) (lens : Lens) (contents contents' : Option Kept) (count count' : ℕ) (reply : List ℕ)
+    → Grows old new said (record { name = name; lens = lens }) None
+    → Consistent old → reading said ≡ Ok (view name expr) → lens_named old.entries.items name ≡ None → IsViewOf lens expr old
     → Tells contents (kept (state_of old)) → Follows (λ a b. b ≡ changed (define said None) a) contents contents' → count ≤ count'
     → reply ≡ text (defined (old.version + 1))
-    → Outcome (answer_definition said (Ok (view name (language.select (comparison_view comparison) (named from)))) (state_of old)) old new count count' contents' (Ok reply)
-outcome_view old new said name from source comparison contents contents' count count' reply g c read free found plain independent told follows later is =
-    let e : Entry = record { name = name; lens = record source { comparison = Some comparison } } in
-    let P = comparison_view comparison in
-    let lens : finmap.get (catalogue old.texts.items) from ≡ Some (base source.table (plain_sort source.columns source.tree)) =
-    in_catalogue old.texts.items old.entries.items old.tables.items from c ∙ ap (option_map lens_view) found ∙ ap Some (plain_lens source plain) in
-    let defines : with_definition (reading said) (catalogue old.texts.items) ≡ finmap.insert (catalogue old.texts.items) name (lens_view e.lens) =
-    ap (λ o. with_definition o (catalogue old.texts.items)) read ∙ rw lens refl in
-    let also : AlsoHas (dependent old.texts.items) name source.dependent (with_dependent (reading said) (dependent old.texts.items)) =
-    subst (λ o. AlsoHas (dependent old.texts.items) name source.dependent (with_dependent o (dependent old.texts.items))) (sym read)
-    (subst (λ b. AlsoHas (dependent old.texts.items) name b (dependent old.texts.items)) (sym independent) (unmoved (dependent old.texts.items) name (lacking old name c free))) in
-    let old_plain = c.plain from source found in
-    outcome_grown old new said e None (view name (language.select P (named from))) contents contents' count count' reply g
-    (consistent_more old.texts.items old.entries.items old.tables.items said e None c free defines also (record { tree = old_plain.tree; view = λ _. independent }) tt refl
-    (columns_more old.tables.items None source.table source.columns (c.sources from source found)) (c.sizes from source found))
+    → Outcome (answer_definition said (Ok (view name expr)) (state_of old)) old new count count' contents' (Ok reply)
+outcome_view old new said name expr lens contents contents' count count' reply g c read free v told follows later is =
+    let e : Entry = record { name = name; lens = lens } in
+    let source = v.source in
+    let k = v.selection in
+    let there : finmap.get (catalogue old.texts.items) v.from ≡ Some (base source.table (sort_under source)) =
+    in_catalogue old.texts.items old.entries.items old.tables.items v.from c ∙ ap (option_map lens_view) v.found
+    ∙ ap (λ o. Some (lens_with source.table (sort_under source) o)) (table_selects_nothing v.from source v.table) in
+    let lensed : lens_of expr (catalogue old.texts.items) ≡ Some (lens_view lens) =
+    ap (λ x. lens_of x (catalogue old.texts.items)) v.is ∙ lens_from (catalogue old.texts.items) v.from source.table (sort_under source) k there
+    ∙ ap (λ l. Some (lens_view l)) (sym v.over) in
+    let defines : with_definition (reading said) (catalogue old.texts.items) ≡ finmap.insert (catalogue old.texts.items) name (lens_view lens) =
+    ap (λ o. with_definition o (catalogue old.texts.items)) read ∙ ap (λ o. with_lens name o (catalogue old.texts.items)) lensed in
+    let other : is_table name lens ≡ false = ap (is_table name) v.over ∙ no_table old.entries.items name v.from source k free v.found v.table in
+    let also : AlsoHas (dependent old.texts.items) name (is_dependent name (Some lens)) (with_dependent (reading said) (dependent old.texts.items)) =
+    subst (λ o. AlsoHas (dependent old.texts.items) name (is_dependent name (Some lens)) (with_dependent o (dependent old.texts.items))) (sym read)
+    (subst (λ t. AlsoHas (dependent old.texts.items) name (t && lens.dependent) (dependent old.texts.items)) (sym other) (unmoved (dependent old.texts.items) name (lacking old name c free))) in
+    let plain : IsPlain (record source { selected = k }) = record { tree = (c.plain v.from source v.found).tree; view = v.plain } in
+    outcome_grown old new said e None (view name expr) contents contents' count count' reply g
+    (consistent_more old.texts.items old.entries.items old.tables.items said e None c free defines also (subst IsPlain (sym v.over) plain) tt other
+    (subst (λ l. columns_named (old.tables.items ++ []) l.table ≡ Some l.columns) (sym v.over)
+    (columns_more old.tables.items None source.table source.columns (c.sources v.from source v.found)))
+    (subst (λ l. finmap.len l.columns ≤ 64) (sym v.over) (c.sizes v.from source v.found)))
     (ap (λ ts. state_with (old.texts.items ++ said ∷ []) ts (old.version + 1)) (append-nil old.tables.items))
     refl told follows later is
 
 -- what becomes of a definition that is taken
 pub addition_made : (addition : Addition) (definition : Definition) (old new : Store) (said : List ℕ) (contents contents' : Option Kept) (count count' : ℕ)
-    → Adds addition definition old → Consistent old → reading said ≡ Some definition → Tells contents (kept (state_of old))
+    → Adds addition definition old → Consistent old → reading said ≡ Ok definition → Tells contents (kept (state_of old))
     → Follows (λ a b. b ≡ changed (define said (option_map (λ t. t.name) addition.table)) a) contents contents' → count ≤ count'
     → new.texts.items ≡ old.texts.items ++ said ∷ [] → new.entries.items ≡ old.entries.items ++ addition.entry ∷ []
     → new.tables.items ≡ old.tables.items ++ option_to_list addition.table → new.version ≡ old.version + 1
     → Outcome (answer_definition said (Ok definition) (state_of old)) old new count count' contents' (Ok addition.reply)
-addition_made addition definition old new said contents contents' count count' (adds_table name columns deps is free size adds) c read told follows later texts entries tables version =
+addition_made addition definition old new said contents contents' count count' (adds_table name columns deps predicate is free size adds) c read told follows later texts entries tables version =
     subst (λ d. Outcome (answer_definition said (Ok d) (state_of old)) old new count count' contents' (Ok addition.reply)) (sym is)
-    (outcome_table old new said name columns deps contents contents' count count' addition.reply
+    (outcome_table old new said name columns deps predicate contents contents' count count' addition.reply
     (record { texts = texts; entries = entries ∙ ap (λ e. old.entries.items ++ e ∷ []) adds.entry; tables = tables ∙ ap (λ o. old.tables.items ++ option_to_list o) adds.table; version = version })
-    c (read ∙ ap Some is) free size told
+    c (read ∙ ap Ok is) free size told
     (subst (λ o. Follows (λ a b. b ≡ changed (define said (option_map (λ t. t.name) o)) a) contents contents') adds.table follows) later adds.reply)
-addition_made addition definition old new said contents contents' count count' (adds_view name from source comparison is free found adds) c read told follows later texts entries tables version =
+addition_made addition definition old new said contents contents' count count' (adds_view name expr lens is free viewed adds) c read told follows later texts entries tables version =
     subst (λ d. Outcome (answer_definition said (Ok d) (state_of old)) old new count count' contents' (Ok addition.reply)) (sym is)
-    (outcome_view old new said name from source comparison contents contents' count count' addition.reply
+    (outcome_view old new said name expr lens contents contents' count count' addition.reply
     (record { texts = texts; entries = entries ∙ ap (λ e. old.entries.items ++ e ∷ []) adds.entry; tables = tables ∙ ap (λ o. old.tables.items ++ option_to_list o) adds.table; version = version })
-    c (read ∙ ap Some is) free found adds.plain adds.independent told
+    c (read ∙ ap Ok is) free viewed told
     (subst (λ o. Follows (λ a b. b ≡ changed (define said (option_map (λ t. t.name) o)) a) contents contents') adds.table follows) later adds.reply)
+
+-- ---- the keeper failed
+
+one_more : (said : List ℕ) (definition : Definition) (s : State) → (with_defined said definition s).version ≡ s.version + 1
+one_more said (table name columns deps predicate) s = refl
+one_more said (view name expr) s = refl
+
+another_state : (said : List ℕ) (definition : Definition) (s : State) → with_defined said definition s ≡ s → ⊥
+another_state said definition s same =
+    let n : s.version + 1 ≡ s.version = sym (one_more said definition s) ∙ ap (λ x. x.version) same in
+    omega (arith, n)
+
+stays_told : (contents contents' : Option Kept) (k : Kept) → Stays contents contents' → Tells contents k → Tells contents' k
+stays_told None None k s told = tt
+stays_told None (Some b) k s told = absurd s
+stays_told (Some a) None k s told = absurd s
+stays_told (Some a) (Some b) k s told = s ∙ told
+
+-- what becomes of a definition that the keeper did not keep
+pub addition_not_kept : (definition : Definition) (old new : Store) (said : List ℕ) (contents contents' : Option Kept) (count count' : ℕ) (reply : List ℕ)
+    → SameContents old new → Consistent old → Tells contents (kept (state_of old)) → Stays contents contents' → count ≤ count' → Rose count count' → reply ≡ text store_fault
+    → Outcome (answer_definition said (Ok definition) (state_of old)) old new count count' contents' (Ok reply)
+addition_not_kept definition old new said contents contents' count count' reply same c told stays later rose is =
+    let now : state_of new ≡ state_of old = λ i. state_with (same.texts i) (same.tables i) (same.version i) in
+    record {
+      consistent = subst (λ ts. IsConsistent new.texts.items new.entries.items ts) (sym same.tables)
+          (subst (λ es. IsConsistent new.texts.items es old.tables.items) (sym same.entries)
+          (subst (λ xs. IsConsistent xs old.entries.items old.tables.items) (sym same.texts) c));
+      later = later;
+      told = subst (λ s. Tells contents' (kept s)) (sym now) (stays_told contents contents' (kept (state_of old)) stays told);
+      ok = not_kept is now (another_state said definition (state_of old)) rose;
+      err = tt;
+    }

@@ -1,13 +1,15 @@
 pub mod Additions
 pub mod Changes
-pub mod Definitions
 pub mod Edits
 pub mod Finds
 pub mod Growing
+pub mod Limits
 pub mod Places
 pub mod Plans
 pub mod Puts
 pub mod Sent
+pub mod Sorts
+pub mod Sources
 pub mod Stepping
 pub mod Verdicts
 pub mod Views

@@ -1,5 +1,5 @@
 -- What a put to a table, or to a selection of one, comes to.
-use Rattle.std.proofs.Common.{◌≡◌, ◌∙◌, Bool, true, false, List, [], ◌∷◌, map, ap, sym, refl, cond}
+use Rattle.std.proofs.Common.{◌≡◌, ◌∙◌, Bool, true, false, List, [], ◌∷◌, ◌++◌, map, ap, sym, refl, cond}
 use Rattle.std.specs.Prelude.{Option, Some, None, is_some, not, ◌&&◌, ◌||◌, find}
 use Rattle.std.specs.Ordering.{eq_by_cmp}
 use Rattle.std.specs.Cmp.{tied_itself}
@@ -14,32 +14,41 @@ use Rattle.lens_specs.specs.Names.{one}
 use Rattle.lens_specs.specs.Relation.{Name, Columns, Relation, Rows, union, image}
 use Rattle.lens_specs.specs.Revision.{revise, revise_row, merge}
 use Rattle.lens_specs.specs.Nodes.{select_put, select_merged}
-use Rattle.lens_specs.specs.Predicate.{Predicate, holds}
-use Rattle.lens_specs.specs.Sort.{off}
+use Rattle.lens_specs.specs.Predicate.{Predicate, holds, formula_holds}
+use Rattle.lens_specs.specs.Sort.{Sort, off}
 use Rattle.lens_specs.specs.Dependencies.{Edge}
-use Rattle.lens_specs.specs.Lens.{Lens, Tables, base, select, tables_of, put, get, table, rows_or_none}
+use Rattle.lens_specs.specs.Lens.{Lens, Tables, base, select, sort_of, tables_of, put, get, table, rows_or_none}
 use Rattle.lens_specs.specs.Delta.{Delta, diff, is_empty, changes, differences, with_delta}
-use Rattle.server_specs.specs.State.{State, plain_sort}
+use Rattle.server_specs.specs.State.{State}
 use Rattle.server_specs.specs.Answering.{accept}
-use Rattle.view_lang.specs.Meaning.{comparison_view}
-use Rattle.view_lang.specs.declared.definition.Comparison.{Comparison}
 use Rattle.lens_server.specs.Entries.{lens_with}
+use Rattle.lens_server.specs.Judgements.{sort_from}
 use Rattle.lens_server.specs.Plans.{source_put, accept_table}
-use Rattle.lens_server.specs.Shows.{is_shown}
+use Rattle.lens_server.specs.Shows.{is_shown, is_selected}
 
--- ---- the rows that a table's put refuses: none
-
-none_refused : (rows : List Row) → find (λ r. not (holds [] r)) rows ≡ None
-none_refused [] = refl
-none_refused (r ∷ rows) = none_refused rows
-
-pub off_table : (M : Rows) → off [] M ≡ None
-unfolding off
-off_table M = none_refused (set.items M)
+-- ---- the rows that a put refuses
 
 pub off_is : (P : Predicate) (M : Rows) → off P M ≡ find (λ r. not (holds P r)) (set.items M)
 unfolding off
 off_is P M = refl
+
+regrouped : (a b c : Bool) → (a && (b && c)) ≡ ((a && b) && c)
+regrouped true b c = refl
+regrouped false b c = refl
+
+holds_nothing_more : (P : Predicate) (r : Row) → holds P r ≡ (holds P r && true)
+holds_nothing_more [] r = refl
+holds_nothing_more (f ∷ fs) r = ap (λ b. formula_holds f r && b) (holds_nothing_more fs r) ∙ regrouped (formula_holds f r) (holds fs r) true
+
+-- both hold
+pub holds_both : (P Q : Predicate) (r : Row) → holds (P ++ Q) r ≡ (holds P r && holds Q r)
+holds_both [] Q r = refl
+holds_both (f ∷ fs) Q r = ap (λ b. formula_holds f r && b) (holds_both fs Q r) ∙ regrouped (formula_holds f r) (holds fs r) (holds Q r)
+
+-- the predicate of a lens is the table's, and the one that selects
+pub lens_holds : (t : Name) (sort : Sort) (k : Option Predicate) (r : Row) → holds (sort_of (lens_with t sort k)).predicate r ≡ (holds sort.predicate r && is_selected k r)
+lens_holds t sort None r = holds_nothing_more sort.predicate r
+lens_holds t sort (Some P) r = holds_both sort.predicate P r
 
 -- ---- a selection's put without dependencies: what is hidden, and what is put
 
@@ -110,41 +119,41 @@ there t r db =
     itself : eq_by_cmp bytes_cmp t t ≡ true
     itself = ap (λ o. Rattle.std.specs.Ordering.is_eq o) (tied_itself nat_list_cmp_total t)
 
-changes_table : (t : Name) (columns : Columns) (T : List Edge) (N : Rows) (db : Tables) → changes (base t (plain_sort columns T)) N db ≡ with_delta t (diff (table db t) N) []
+changes_table : (t : Name) (sort : Sort) (N : Rows) (db : Tables) → changes (base t sort) N db ≡ with_delta t (diff (table db t) N) []
 unfolding tables_of put
-changes_table t columns T N db =
-    ap (λ ts. differences ts db (put (base t (plain_sort columns T)) N db)) (one_item t)
-    ∙ ap (λ M. with_delta t (diff (table db t) M) []) (there t (record { columns = columns; rows = N }) db)
+changes_table t sort N db =
+    ap (λ ts. differences ts db (put (base t sort) N db)) (one_item t)
+    ∙ ap (λ M. with_delta t (diff (table db t) M) []) (there t (record { columns = sort.columns; rows = N }) db)
 
-changes_selection : (P : Predicate) (t : Name) (columns : Columns) (N : Rows) (db : Tables)
-    → changes (select P (base t (plain_sort columns []))) N db ≡ with_delta t (diff (table db t) (select_put [] (holds P) N (table db t))) []
+changes_selection : (P : Predicate) (t : Name) (U : Columns) (Q : Predicate) (N : Rows) (db : Tables)
+    → changes (select P (base t (sort_from U Q []))) N db ≡ with_delta t (diff (table db t) (select_put [] (holds P) N (table db t))) []
 unfolding tables_of put get
-changes_selection P t columns N db =
-    ap (λ ts. differences ts db (put (select P (base t (plain_sort columns []))) N db)) (one_item t)
-    ∙ ap (λ M. with_delta t (diff (table db t) M) []) (there t (record { columns = columns; rows = select_put [] (holds P) N (table db t) }) db)
+changes_selection P t U Q N db =
+    ap (λ ts. differences ts db (put (select P (base t (sort_from U Q []))) N db)) (one_item t)
+    ∙ ap (λ M. with_delta t (diff (table db t) M) []) (there t (record { columns = U; rows = select_put [] (holds P) N (table db t) }) db)
 
 -- a selection has no edges
-abbrev HasNoEdges : List Edge → Option Comparison → Type 0
+abbrev HasNoEdges : List Edge → Option Predicate → Type 0
 HasNoEdges T k = is_some k ≡ true → T ≡ []
 
-flat : (t : Name) (columns : Columns) (T : List Edge) (comparison : Comparison) → HasNoEdges T (Some comparison) → lens_with t columns T (Some comparison) ≡ lens_with t columns [] (Some comparison)
-flat t columns T comparison h = ap (λ es. lens_with t columns es (Some comparison)) (h refl)
+flat : (t : Name) (U : Columns) (Q : Predicate) (T : List Edge) (P : Predicate) → HasNoEdges T (Some P) → lens_with t (sort_from U Q T) (Some P) ≡ lens_with t (sort_from U Q []) (Some P)
+flat t U Q T P h = ap (λ es. lens_with t (sort_from U Q es) (Some P)) (h refl)
 
-pub changes_are : (t : Name) (columns : Columns) (T : List Edge) (k : Option Comparison) (N : Rows) (db : Tables) → HasNoEdges T k
-    → changes (lens_with t columns T k) N db ≡ with_delta t (diff (table db t) (source_put k N (table db t))) []
-changes_are t columns T None N db h = changes_table t columns T N db
-changes_are t columns T (Some comparison) N db h = ap (λ L. changes L N db) (flat t columns T comparison h) ∙ changes_selection (comparison_view comparison) t columns N db
+pub changes_are : (t : Name) (U : Columns) (Q : Predicate) (T : List Edge) (k : Option Predicate) (N : Rows) (db : Tables) → HasNoEdges T k
+    → changes (lens_with t (sort_from U Q T) k) N db ≡ with_delta t (diff (table db t) (source_put k N (table db t))) []
+changes_are t U Q T None N db h = changes_table t (sort_from U Q T) N db
+changes_are t U Q T (Some P) N db h = ap (λ L. changes L N db) (flat t U Q T P h) ∙ changes_selection P t U Q N db
 
-put_plain : (t : Name) (columns : Columns) (comparison : Comparison) (N : Rows) (db : Tables)
-    → put (lens_with t columns [] (Some comparison)) N db ≡ finmap.insert db t (record { columns = columns; rows = source_put (Some comparison) N (table db t) })
+put_plain : (t : Name) (U : Columns) (Q P : Predicate) (N : Rows) (db : Tables)
+    → put (lens_with t (sort_from U Q []) (Some P)) N db ≡ finmap.insert db t (record { columns = U; rows = source_put (Some P) N (table db t) })
 unfolding put get
-put_plain t columns comparison N db = refl
+put_plain t U Q P N db = refl
 
-put_is : (t : Name) (columns : Columns) (T : List Edge) (k : Option Comparison) (N : Rows) (db : Tables) → HasNoEdges T k
-    → put (lens_with t columns T k) N db ≡ finmap.insert db t (record { columns = columns; rows = source_put k N (table db t) })
+put_is : (t : Name) (U : Columns) (Q : Predicate) (T : List Edge) (k : Option Predicate) (N : Rows) (db : Tables) → HasNoEdges T k
+    → put (lens_with t (sort_from U Q T) k) N db ≡ finmap.insert db t (record { columns = U; rows = source_put k N (table db t) })
 unfolding put get
-put_is t columns T None N db h = refl
-put_is t columns T (Some comparison) N db h = ap (λ L. put L N db) (flat t columns T comparison h) ∙ put_plain t columns comparison N db
+put_is t U Q T None N db h = refl
+put_is t U Q T (Some P) N db h = ap (λ L. put L N db) (flat t U Q T P h) ∙ put_plain t U Q P N db
 
 accept_by : (b : Bool) (L : Lens) (N : Rows) (t : Name) (r : Relation) (delta : Delta) (s : State) → is_empty delta ≡ b → put L N s.tables ≡ finmap.insert s.tables t r
     → accept L N (with_delta t delta []) s ≡ accept_table t r delta s
@@ -152,11 +161,11 @@ accept_by true L N t r delta s e is = rw e refl
 accept_by false L N t r delta s e is = rw (e, is) refl
 
 -- what is accepted is the change of the one table
-pub accept_is : (t : Name) (columns : Columns) (T : List Edge) (k : Option Comparison) (N : Rows) (s : State) → HasNoEdges T k
-    → accept (lens_with t columns T k) N (changes (lens_with t columns T k) N s.tables) s
-    ≡ accept_table t (record { columns = columns; rows = source_put k N (table s.tables t) }) (diff (table s.tables t) (source_put k N (table s.tables t))) s
-accept_is t columns T k N s h =
-    ap (λ ds. accept (lens_with t columns T k) N ds s) (changes_are t columns T k N s.tables h)
-    ∙ accept_by (is_empty (diff (table s.tables t) (source_put k N (table s.tables t)))) (lens_with t columns T k) N t
-    (record { columns = columns; rows = source_put k N (table s.tables t) }) (diff (table s.tables t) (source_put k N (table s.tables t))) s refl
-    (put_is t columns T k N s.tables h)
+pub accept_is : (t : Name) (U : Columns) (Q : Predicate) (T : List Edge) (k : Option Predicate) (N : Rows) (s : State) → HasNoEdges T k
+    → accept (lens_with t (sort_from U Q T) k) N (changes (lens_with t (sort_from U Q T) k) N s.tables) s
+    ≡ accept_table t (record { columns = U; rows = source_put k N (table s.tables t) }) (diff (table s.tables t) (source_put k N (table s.tables t))) s
+accept_is t U Q T k N s h =
+    ap (λ ds. accept (lens_with t (sort_from U Q T) k) N ds s) (changes_are t U Q T k N s.tables h)
+    ∙ accept_by (is_empty (diff (table s.tables t) (source_put k N (table s.tables t)))) (lens_with t (sort_from U Q T) k) N t
+    (record { columns = U; rows = source_put k N (table s.tables t) }) (diff (table s.tables t) (source_put k N (table s.tables t))) s refl
+    (put_is t U Q T k N s.tables h)

@@ -9,8 +9,7 @@ use Rattle.lens_specs.specs.Relation.{Columns, Rows, Fits}
 use Rattle.server_specs.proofs.Sent as sent
 use Rattle.server_specs.specs.Sending.{BadRow, rows_in}
 use Rattle.request_text.specs.RowFaults.{set_of}
-use Rattle.view_lang.specs.Meaning.{comparison_view}
-use Rattle.view_lang.specs.declared.definition.Comparison.{Comparison}
+use Rattle.lens_specs.specs.Predicate.{Predicate}
 use Rattle.lens_server.specs.Plans.{source_put}
 use Rattle.lens_server.specs.Shows.{is_shown}
 use Rattle.lens_server.proofs.Puts.{select_put_is}
@@ -35,11 +34,10 @@ first_of true b e = refl
 first_of false b e = cc
 
 -- the rows of the table after a put
-pub put_fits : (columns : Columns) (k : Option Comparison) (N M after : Rows) → ((r : Row) → set.contains N r ≡ true → Fits columns r)
+pub put_fits : (columns : Columns) (k : Option Predicate) (N M after : Rows) → ((r : Row) → set.contains N r ≡ true → Fits columns r)
     → ((r : Row) → set.contains M r ≡ true → Fits columns r) → after ≡ source_put k N M → (r : Row) → set.contains after r ≡ true → Fits columns r
 put_fits columns None N M after new old e r there = new r (ap (λ A. set.contains A r) (sym e) ∙ there)
-put_fits columns (Some comparison) N M after new old e r there =
-    let P = comparison_view comparison in
+put_fits columns (Some P) N M after new old e r there =
     either_fits columns (set.contains (set.filter (is_shown P false) M) r) (set.contains N r) r
     (λ h. old r (first_of (set.contains M r) _ (sym (set.contains-filter row_cmp_total row_cmp-IsAntisymmetric (is_shown P false) M r) ∙ h)))
     (new r)

@@ -1,5 +1,5 @@
 -- From the outcome of a line to a step of the session.
-use Rattle.std.proofs.Common.{◌≡◌, ◌∙◌, ◌≤◌, ◌+◌, ◌∷◌, ℕ, Bool, true, false, List, [], length, map, ap, sym, subst, refl, arith}
+use Rattle.std.proofs.Common.{◌≡◌, ◌∙◌, ◌≤◌, ◌+◌, ◌∷◌, ℕ, Bool, true, false, List, [], length, ap, sym, subst, refl, arith}
 use Rattle.std.specs.Prelude.{Option, not, MatchResult, Result, Ok, Err, nat_le, if◌then◌else◌}
 use Rattle.std.specs.FinMap as finmap
 use Rattle.std.proofs.lemmas.Bool.{le-leb}
@@ -11,10 +11,10 @@ use Rattle.lens_specs.specs.Lens.{Lens}
 use Rattle.lens_specs.specs.Lines.{line, too_long, marked}
 use Rattle.server_specs.specs.Answer.{memory, text}
 use Rattle.server_specs.specs.Answering.{answer, answer_request}
-use Rattle.server_specs.specs.Defining.{count_lenses, is_base}
+use Rattle.server_specs.specs.Defining.{count_named}
 use Rattle.server_specs.specs.Request.{request}
 use Rattle.server_specs.specs.Session.{Step, Replies, answered, out_of_memory, not_stored}
-use Rattle.server_specs.specs.State.{State}
+use Rattle.server_specs.specs.State.{State, is_table_of}
 use Rattle.lens_server.specs.Outcomes.{Outcome, Becomes, made, not_kept}
 use Rattle.lens_server.specs.States.{state_of, IsConsistent}
 use Rattle.lens_server.specs.declared.store.Store.{Store}
@@ -60,6 +60,6 @@ nothing_defined = record {
   plain = λ n l e. cc;
   dependents = λ n. set.contains-empty bytes_cmp n;
   defined = λ n e. refl;
-  tables_are = ap (λ es. count_lenses is_base (map (λ e. e.1) es)) no_entries;
-  views_are = ap (λ es. count_lenses (λ l. not (is_base l)) (map (λ e. e.1) es) + 0) no_entries;
+  tables_are = ap (count_named is_table_of) no_entries;
+  views_are = ap (λ es. count_named (λ name lens. not (is_table_of name lens)) es + 0) no_entries;
 }

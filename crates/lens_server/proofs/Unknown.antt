@@ -10,13 +10,12 @@ use Rattle.lens_specs.specs.Names.{Name, Names}
 use Rattle.lens_specs.specs.Columns.{Columns, names}
 use Rattle.lens_specs.specs.Relation.{Rows}
 use Rattle.lens_specs.specs.Dependencies.{Edge}
-use Rattle.lens_specs.specs.Refusal.{Refusal, not_tree, or_else}
-use Rattle.lens_specs.specs.TreeForm as form
-use Rattle.lens_specs.specs.TreeForm.{TreeForm, tree_of}
+use Rattle.lens_specs.specs.Refusal.{Refusal, or_else}
+use Rattle.lens_specs.specs.TreeForm.{TreeForm}
 use Rattle.lens_specs.specs.Sort as spec
 use Rattle.lens_specs.specs.Sort.{clash}
 use Rattle.lens_specs.specs.Lens.{Lens}
-use Rattle.lens_specs.specs.Typing.{form_fault, unknown_in}
+use Rattle.lens_specs.specs.Typing.{unknown_in}
 use Rattle.fd_tree.specs.ClashView.{shown_clash}
 use Rattle.fd_tree.specs.declared.clash.Clash.{Clash}
 use Rattle.server_specs.specs.Answer.{clash as clash_answer, text}
@@ -25,7 +24,7 @@ use Rattle.server_specs.specs.State.{State}
 use Rattle.fd_tree.specs.Form.{form_of}
 use Rattle.fd_tree.specs.declared.tree.TreeFault.{TreeFault}
 use Rattle.fd_tree.specs.declared.tree.TreeFault.TheVariants as fault
-use Rattle.lens_server.specs.Judgements.{dependencies_refused, unknown_of_edge}
+use Rattle.lens_server.specs.Judgements.{unknown_of_edge}
 
 -- a column is there where it has a kind
 pub is_column : (U : Columns) (c : Name) → is_some (finmap.get U c) ≡ set.contains (names U) c
@@ -51,18 +50,6 @@ pub unknown_later : (U : Columns) (deps : List Edge) (i : ℕ) (d : Edge) → i 
 unknown_later U deps i d h e is = unknown_at U deps i d h e ∙ ap (λ o. or_else o (unknown_in U (drop (i + 1) deps))) is
 
 -- ---- refusals
-
--- an unknown column is the first refusal
-pub unknown_refused : (U : Columns) (deps : List Edge) (r : Refusal) → unknown_in U deps ≡ Some r → dependencies_refused U deps ≡ Some r
-unknown_refused U deps r e = ap (λ o. or_else o (form_fault (tree_of deps))) e
-
-form_refused : (form : TreeForm) (a b : Names) → form_of form ≡ Err (fault.NotTree a b) → form_fault form ≡ Some (not_tree a b)
-form_refused (form.is_tree T) a b e = cc
-form_refused (form.not_tree X Y) a b e = (let x : X ≡ a = cc in let y : Y ≡ b = cc in λ i. Some (not_tree (x i) (y i)))
-
--- and else two sides that do not fit
-pub tree_refused : (U : Columns) (deps : List Edge) (a b : Names) → unknown_in U deps ≡ None → form_of (tree_of deps) ≡ Err (fault.NotTree a b) → dependencies_refused U deps ≡ Some (not_tree a b)
-tree_refused U deps a b none e = ap (λ o. or_else o (form_fault (tree_of deps))) none ∙ form_refused (tree_of deps) a b e
 
 is_no_memory : (a b : Names) → fault.NotTree a b ≡ fault.NoMemory → ⊥
 is_no_memory a b e = cc

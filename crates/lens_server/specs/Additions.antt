@@ -1,11 +1,11 @@
 -- One definition more in a store.
-use Rattle.std.specs.Prelude.{◌≡◌, ◌<◌, ℕ, List, Some, vec_len, vec_capacity}
-use Rattle.language_specs.specs.Language.{Definition}
-use Rattle.language_specs.specs.Reading.{reading}
+use Rattle.std.specs.Prelude.{◌≡◌, ◌<◌, ℕ, List, Ok, vec_len, vec_capacity}
+use Rattle.grammar_specs.specs.Meaning.{Definition}
+use Rattle.grammar_laws.specs.Reading.{reading}
 use Rattle.table_keeper.specs.declared.keeper.Change.{Change}
 use Rattle.table_keeper.specs.declared.keeper.Change.TheVariants.{Define, Rows}
 use Rattle.lens_server.specs.Judgements.{Adds}
-use Rattle.lens_server.specs.declared.judging.Addition.{Addition}
+use Rattle.lens_server.specs.declared.addition.Addition.{Addition}
 use Rattle.lens_server.specs.declared.store.Store.{Store}
 
 -- the two stores hold the same
@@ -23,7 +23,7 @@ pub record HasRoom (store : Store) : Type 0 where
 
 -- the text says a definition that adds this
 abbrev pub IsTaken : List ℕ → Addition → Store → Type 0
-IsTaken text addition store = (definition : Definition) × (reading text ≡ Some definition) × Adds addition definition store
+IsTaken text addition store = (definition : Definition) × (reading text ≡ Ok definition) × Adds addition definition store
 
 -- the change is a definition
 abbrev pub IsDefinition : Change → Type 0

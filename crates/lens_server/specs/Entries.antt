@@ -1,26 +1,33 @@
 -- What the entries and the tables of a server stand for.
-use Rattle.std.specs.Prelude.{ℕ, Bool, false, List, map, Option, Some, None, option_map}
+use Rattle.std.specs.Prelude.{ℕ, Bool, false, ◌&&◌, List, map, Option, Some, None, option_map}
 use Rattle.std.specs.FinMap as finmap
 use Rattle.lens_values.specs.Order.{bytes_cmp}
 use Rattle.lens_specs.specs.Relation.{Name, Columns, Relation}
-use Rattle.lens_specs.specs.Dependencies.{Edge}
+use Rattle.lens_specs.specs.Predicate.{Predicate}
+use Rattle.lens_specs.specs.Sort.{Sort}
 use Rattle.lens_specs.specs.Lens as spec
 use Rattle.lens_specs.specs.Lens.{base, select}
-use Rattle.server_specs.specs.State.{plain_sort}
-use Rattle.view_lang.specs.Meaning.{comparison_view}
-use Rattle.view_lang.specs.declared.definition.Comparison.{Comparison}
+use Rattle.server_specs.specs.State.{is_table_of}
 use Rattle.lens_server.specs.declared.entry.Lens.{Lens}
 use Rattle.lens_server.specs.declared.entry.Entry.{Entry}
 use Rattle.lens_server.specs.declared.table.Table.{Table}
 
--- the table, or the selection of it
-abbrev pub lens_with : Name → Columns → List Edge → Option Comparison → spec.Lens
-lens_with table columns tree None = base table (plain_sort columns tree)
-lens_with table columns tree (Some comparison) = select (comparison_view comparison) (base table (plain_sort columns tree))
+-- the table, or the rows of it that a predicate selects
+abbrev pub lens_with : Name → Sort → Option Predicate → spec.Lens
+lens_with table sort None = base table sort
+lens_with table sort (Some P) = select P (base table sort)
+
+-- the sort of the table under a lens
+abbrev pub sort_under : Lens → Sort
+sort_under lens = record { columns = lens.columns; predicate = lens.pred; tree = lens.tree }
 
 -- what a lens stands for
 abbrev pub lens_view : Lens → spec.Lens
-lens_view lens = lens_with lens.table lens.columns lens.tree lens.comparison
+lens_view lens = lens_with lens.table (sort_under lens) lens.selected
+
+-- whether the lens is the table of the name itself
+abbrev pub is_table : Name → Lens → Bool
+is_table name lens = is_table_of name (lens_view lens)
 
 -- a lens by its name
 abbrev pub named : Entry → Name × Lens
@@ -34,10 +41,10 @@ entry_view entry = (entry.name, lens_view entry.lens)
 abbrev pub lens_named : List Entry → Name → Option Lens
 lens_named entries name = finmap.find bytes_cmp name (map named entries)
 
--- whether a lens is there, of a table with dependencies
-abbrev pub is_dependent : Option Lens → Bool
-is_dependent None = false
-is_dependent (Some lens) = lens.dependent
+-- whether a lens is there that is the table of the name, with dependencies
+abbrev pub is_dependent : Name → Option Lens → Bool
+is_dependent name None = false
+is_dependent name (Some lens) = is_table name lens && lens.dependent
 
 -- a relation by its table's name
 abbrev pub relation_of : Table → Name × Relation

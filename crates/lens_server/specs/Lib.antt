@@ -2,6 +2,7 @@ pub mod Entries
 pub mod Shows
 pub mod States
 pub mod Outcomes
+pub mod Refusals
 pub mod Judgements
 pub mod Additions
 pub mod Places

@@ -2,14 +2,12 @@
 use Rattle.std.specs.Prelude.{◌≡◌, ◌+◌, ℕ, [], ◌∷◌, get_or, map, Option, Some, None, if◌then◌else◌}
 use Rattle.std.specs.FinMap as finmap
 use Rattle.lens_specs.specs.Relation.{Name, Relation, Rows}
-use Rattle.lens_specs.specs.Predicate.{holds}
+use Rattle.lens_specs.specs.Predicate.{Predicate, holds}
 use Rattle.lens_specs.specs.Nodes.{select_put}
 use Rattle.lens_specs.specs.Delta.{Delta, diff, is_empty}
 use Rattle.server_specs.specs.Answer.{Answer, changed, text}
 use Rattle.server_specs.specs.State.{State}
 use Rattle.signed_delta.specs.Tables.{table_delta}
-use Rattle.view_lang.specs.Meaning.{comparison_view}
-use Rattle.view_lang.specs.declared.definition.Comparison.{Comparison}
 use Rattle.lens_server.specs.Places.{IsAt}
 use Rattle.lens_server.specs.States.{state_of}
 use Rattle.lens_server.specs.declared.planning.Plan.{Plan}
@@ -19,9 +17,9 @@ use Rattle.lens_server.specs.declared.store.Store.{Store}
 use Rattle.lens_server.specs.declared.table.Table.{Table}
 
 -- the rows of the table after a put of the view
-abbrev pub source_put : Option Comparison → Rows → Rows → Rows
+abbrev pub source_put : Option Predicate → Rows → Rows → Rows
 source_put None N M = N
-source_put (Some comparison) N M = select_put [] (holds (comparison_view comparison)) N M
+source_put (Some P) N M = select_put [] (holds P) N M
 
 -- the state with these rows in a table, which is last changed at the next version
 abbrev pub with_relation : Name → Relation → State → State

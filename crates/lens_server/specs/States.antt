@@ -20,10 +20,10 @@ state_with texts tables version =
 abbrev pub state_of : Store → State
 state_of store = state_with store.texts.items store.tables.items store.version
 
--- a lens of a table with no dependencies has no edges, and a view is of such a table
+-- a lens of a table with no dependencies has no edges, and a selection is of such a table
 pub record IsPlain (lens : Lens) : Type 0 where
   pub tree : lens.dependent ≡ false → lens.tree ≡ []
-  pub view : is_some lens.comparison ≡ true → lens.dependent ≡ false
+  pub view : is_some lens.selected ≡ true → lens.dependent ≡ false
 
 -- The names are those of the texts; the table under each lens is there, with the lens's columns, 64 at most; the tables with
 -- dependencies are those of the texts, and only they have edges; each table has its name among the names; and the tables and views
@@ -33,7 +33,7 @@ pub record IsConsistent (texts : List (List ℕ)) (entries : List Entry) (tables
   pub sources : (name : Name) (lens : Lens) → lens_named entries name ≡ Some lens → columns_named tables lens.table ≡ Some lens.columns
   pub sizes : (name : Name) (lens : Lens) → lens_named entries name ≡ Some lens → finmap.len lens.columns ≤ 64
   pub plain : (name : Name) (lens : Lens) → lens_named entries name ≡ Some lens → IsPlain lens
-  pub dependents : (name : Name) → set.contains (dependent texts) name ≡ is_dependent (lens_named entries name)
+  pub dependents : (name : Name) → set.contains (dependent texts) name ≡ is_dependent name (lens_named entries name)
   pub defined : (name : Name) → lens_named entries name ≡ None → relation_named tables name ≡ None
   pub tables_are : table_count (catalogue texts) ≡ length tables
   pub views_are : view_count (catalogue texts) + length tables ≡ length entries

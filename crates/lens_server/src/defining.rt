@@ -1,7 +1,7 @@
 //! Definitions of tables and views.
 ghost use Rattle.std.specs.Prelude.{◌≡◌, ◌<◌, ◌+◌, ◌-◌, ◌^◌, ◌++◌, ◌∷◌, [], List, ℕ, Option, Ok, OnOk, Some, None, option_map, option_to_list, vec_len, vec_capacity};
 ghost use Rattle.lens_specs.specs.Keeping.{Tells};
-ghost use Rattle.language_specs.specs.Reading.{reading};
+ghost use Rattle.grammar_laws.specs.Reading.{reading};
 ghost use Rattle.server_specs.specs.Answering.{answer_definition};
 ghost use Rattle.server_specs.specs.Defining.{judged};
 ghost use Rattle.server_specs.specs.State.{catalogue, dependent, kept};
@@ -9,10 +9,12 @@ ghost use Rattle.lens_server.specs.Judgements.{Adds};
 ghost use Rattle.lens_server.specs.Additions.{HasRoom, IsDefinition, IsTaken, SameContents};
 ghost use Rattle.lens_server.specs.Outcomes.{Outcome};
 ghost use Rattle.lens_server.specs.States.{state_of, Consistent};
-ghost use Rattle.language_specs.specs.Language as language;
+ghost use Rattle.grammar_specs.specs.Meaning as language;
 
+use crate::addition::Addition;
 use crate::entry::Entry;
-use crate::judging::{Addition, Judgement, judge};
+use crate::judging::judge;
+use crate::refusal::refusal_reply;
 use crate::store::Store;
 use crate::table::Table;
 use lens_values::{Name, NoMemory, Text};
@@ -33,9 +35,9 @@ pub fn define<K: Keeper>(
     ensures outcome { Outcome (answer_definition text (judged (catalogue store.old.texts.items) (dependent store.old.texts.items) (reading text)) (state_of store.old)) store.old store.new (K.faults keeper.old) (K.faults keeper.new) (K.contents keeper.new) result }
     ensures place { K.place keeper.new ≡ K.place keeper.old }
 {
-    match judge(alloc, store, &text)? {
-        Judgement::Refuse(reply) => Ok(reply),
-        Judgement::Take(addition) => take(alloc, store, keeper, text, addition),
+    match judge(alloc, store, &text) {
+        Ok(addition) => take(alloc, store, keeper, text, addition),
+        Err(why) => refusal_reply(alloc, &why),
     }
 }
 
@@ -51,7 +53,7 @@ fn take<K: Keeper>(
     requires room { store.old.version < 2 ^ 64 - 1 }
     requires told { Tells (K.contents keeper.old) (kept (state_of store.old)) }
     requires taken { IsTaken text addition store.old }
-    ensures outcome { (definition : language.Definition) → reading text ≡ Some definition → Adds addition definition store.old → Outcome (answer_definition text (Ok definition) (state_of store.old)) store.old store.new (K.faults keeper.old) (K.faults keeper.new) (K.contents keeper.new) result }
+    ensures outcome { (definition : language.Definition) → reading text ≡ Ok definition → Adds addition definition store.old → Outcome (answer_definition text (Ok definition) (state_of store.old)) store.old store.new (K.faults keeper.old) (K.faults keeper.new) (K.contents keeper.new) result }
     ensures place { K.place keeper.new ≡ K.place keeper.old }
 {
     make_room(store)?;

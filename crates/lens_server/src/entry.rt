@@ -1,24 +1,27 @@
 //! The names that are defined, and their lenses.
 ghost use Rattle.std.specs.Prelude.{◌≡◌, option_copied};
-ghost use Rattle.lens_server.specs.Entries.{lens_named};
+ghost use Rattle.server_specs.specs.State.{is_table_of};
+ghost use Rattle.lens_server.specs.Entries.{lens_named, lens_view};
 
 use fd_tree::Tree;
+use lens_pred::Pred;
 use lens_values::{Columns, Name};
-use view_lang::Comparison;
 
-/// A table, or the rows of one that a comparison holds on.
+/// A table, or the rows of one that a predicate selects.
 #[derive(Debug, Drop)]
 pub struct Lens {
     /// The table under the lens.
     pub table: Name,
     /// The columns of the table, and so of the view.
     pub columns: Columns,
+    /// What holds on each row of the table.
+    pub pred: Pred,
     /// The tree of the table's dependencies, and so of the view's.
     pub tree: Tree,
     /// Whether the table was defined with dependencies, be they trivial.
     pub dependent: bool,
-    /// What selects the rows of a view.
-    pub comparison: Option<Comparison>,
+    /// What selects the rows of the view.
+    pub selected: Option<Pred>,
 }
 
 /// A name and its lens.
@@ -40,4 +43,14 @@ pub fn lens_named<'a>(entries: &'a [Entry], name: &Name) -> Option<&'a Lens>
         }
     }
     None
+}
+
+/// Whether the lens is the table of the name itself.
+pub fn is_table(lens: &Lens, name: &Name) -> bool
+    ensures { result ≡ is_table_of name.now (lens_view lens.now) }
+{
+    match lens.selected {
+        Some(_) => false,
+        None => lens.table == *name,
+    }
 }

@@ -1,6 +1,7 @@
 //! The server: requests are answered one line at a time.
 #![tactic(auto)]
 
+mod addition;
 mod answering;
 mod defining;
 mod entry;
@@ -8,9 +9,13 @@ mod judging;
 mod planning;
 mod putting;
 mod reading;
+mod refusal;
 mod selecting;
 pub mod server;
 mod store;
 mod table;
+mod table_judging;
+mod unknown_columns;
+mod view_judging;
 
 pub use server::{MAX_LINE, Server};

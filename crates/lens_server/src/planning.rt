@@ -1,11 +1,12 @@
 //! What a put changes: found first, made later.
-ghost use Rattle.std.specs.Prelude.{◌≡◌, ◌<◌, ◌-◌, ◌^◌, IfOk, Some, None, option_copied, length, nat_eq, position, slice_index_or, true, map, ◌∷◌, []};
+ghost use Rattle.std.specs.Prelude.{◌≡◌, ◌<◌, ◌-◌, ◌^◌, IfOk, Some, None, find, not, option_copied, length, nat_eq, position, slice_index_or, true, map, ◌∷◌, []};
 ghost use Rattle.std.specs.Cmp.Lexicographic.{pointwise};
 ghost use Rattle.std.specs.FinMap as finmap;
 ghost use Rattle.lens_values.specs.SortedSet as set;
 ghost use Rattle.lens_specs.specs.Delta.{changes};
 ghost use Rattle.lens_specs.specs.Delta as spec;
 ghost use Rattle.lens_specs.specs.Lens.{sort_of};
+ghost use Rattle.lens_specs.specs.Predicate.{holds};
 ghost use Rattle.lens_specs.specs.Relation.{Fits};
 ghost use Rattle.lens_specs.specs.Sort.{off, clash};
 ghost use Rattle.server_specs.specs.Answer.{clash as spec_clash, text};
@@ -13,13 +14,15 @@ ghost use Rattle.server_specs.specs.Answering.{accept, answer_put, put_set, unle
 ghost use Rattle.server_specs.specs.State.{catalogue, State};
 ghost use Rattle.lens_server.specs.Entries.{lens_view, columns_named};
 ghost use Rattle.lens_server.specs.Plans.{IsPlan, IsTablePlan, IsPlacedAt, accept_table, source_put};
+ghost use Rattle.lens_server.specs.Shows.{is_selected};
 ghost use Rattle.lens_server.specs.States.{state_of, Consistent, IsPlain};
 
 use crate::entry::{Lens, lens_named};
-use crate::selecting::{first_refused, those};
+use crate::selecting::those;
 use crate::store::Store;
 use crate::table::{Table, place_of};
 use fd_tree::{Clash, Edge, first_clash};
+use lens_pred::Pred;
 use lens_values::{Name, NoMemory, Row};
 use request_text::{
     JsonRows, Reply, RowList, RowsFault, bad_row_text, changed_text, clash_text,
@@ -101,7 +104,7 @@ fn plan_set(alloc: Global, store: &Store, lens: &Lens, rows: RowSet) -> Result<P
     }
 }
 
-/// What a put of rows that the predicate holds on comes to.
+/// What a put of rows that the predicates hold on comes to.
 fn plan_rows(alloc: Global, store: &Store, lens: &Lens, rows: RowSet) -> Result<Plan, NoMemory>
     requires source { columns_named store.now.tables.items lens.now.table ≡ Some lens.now.columns }
     requires plain { IsPlain lens.now }
@@ -123,13 +126,34 @@ fn clash_reply(alloc: Global, edges: &[Edge], found: &Clash) -> Result<Reply, No
     clash_text(alloc, &edges[found.edge], &found.first, &found.second)
 }
 
-/// The least of the rows that the lens's predicate refuses.
+/// The least of the rows that the lens's predicate refuses, which is the table's and the one that selects.
 fn refused<'a>(lens: &Lens, rows: &'a RowSet) -> Option<&'a Row>
     ensures { option_copied result ≡ off (sort_of (lens_view lens.now)).predicate rows.now }
 {
-    match &lens.comparison {
-        Some(comparison) => first_refused(comparison, rows.rows()),
-        None => None,
+    first_refused(lens, rows.rows())
+}
+
+/// The first of the rows that the lens's predicate refuses.
+fn first_refused<'a>(lens: &Lens, rows: &'a [Row]) -> Option<&'a Row>
+    ensures { option_copied result ≡ find (λ row. not (holds (sort_of (lens_view lens.now)).predicate row)) rows.now }
+{
+    rows.iter().find(|row| !may_have(lens, row))
+}
+
+/// Whether the table's predicate holds on the row, and the one that selects.
+fn may_have(lens: &Lens, row: &Row) -> bool
+    ensures { result ≡ holds (sort_of (lens_view lens.now)).predicate row.now }
+{
+    lens.pred.holds(row) && selects(&lens.selected, row)
+}
+
+/// Whether what selects, if anything, holds on the row.
+fn selects(selected: &Option<Pred>, row: &Row) -> bool
+    ensures { result ≡ is_selected selected.now row.now }
+{
+    match selected {
+        Some(pred) => pred.holds(row),
+        None => true,
     }
 }
 
@@ -156,7 +180,7 @@ fn source_after(
 ) -> Result<Relation, NoMemory>
     requires columns { old.now.columns ≡ lens.now.columns }
     requires fit { (row : _) → set.contains rows row ≡ true → Fits lens.now.columns row }
-    ensures { IfOk result (λ new. new ≡ record old.now { rows = source_put lens.now.comparison rows old.now.rows }) }
+    ensures { IfOk result (λ new. new ≡ record old.now { rows = source_put lens.now.selected rows old.now.rows }) }
 {
     let columns = lens.columns.copy(alloc)?;
     let after = rows_after(alloc, lens, old.rows(), rows)?;
@@ -166,11 +190,11 @@ fn source_after(
 
 /// The rows of the table after a put of the view: those that the view hides, and those that are put.
 fn rows_after(alloc: Global, lens: &Lens, old: &RowSet, rows: RowSet) -> Result<RowSet, NoMemory>
-    ensures { IfOk result (λ after. after ≡ source_put lens.now.comparison rows old.now) }
+    ensures { IfOk result (λ after. after ≡ source_put lens.now.selected rows old.now) }
 {
-    match &lens.comparison {
-        Some(comparison) => {
-            let hidden = those(alloc, comparison, false, old)?;
+    match &lens.selected {
+        Some(pred) => {
+            let hidden = those(alloc, pred, false, old)?;
             hidden.union(alloc, &rows)
         }
         None => Ok(rows),

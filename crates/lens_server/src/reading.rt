@@ -33,9 +33,9 @@ fn show(alloc: Global, store: &Store, lens: &Lens) -> Result<Reply, NoMemory>
     ensures { IfOk result (λ reply. reply ≡ text (shown (get (lens_view lens.now) (state_of store.now).tables) store.now.version)) }
 {
     let table = table_named(&store.tables, &lens.table);
-    match &lens.comparison {
-        Some(comparison) => {
-            let rows = those(alloc, comparison, true, table.relation.rows())?;
+    match &lens.selected {
+        Some(pred) => {
+            let rows = those(alloc, pred, true, table.relation.rows())?;
             shown_text(alloc, &rows, store.version)
         }
         None => shown_text(alloc, table.relation.rows(), store.version),

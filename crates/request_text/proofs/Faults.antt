@@ -1,6 +1,6 @@
 -- Faults that blame a member.
-use Rattle.std.proofs.Common.{◌≡◌, ◌∙◌, ℕ, List, ap, sym, refl}
-use Rattle.std.specs.Prelude.{Result, Ok, Err}
+use Rattle.std.proofs.Common.{◌≡◌, ◌∙◌, ℕ, List, ap}
+use Rattle.std.specs.Prelude.{Result, Err}
 use Rattle.server_specs.specs.Sending.{BadRow}
 use Rattle.request_text.specs.RowFaults.{TellsRow, fault_at}
 use Rattle.request_text.specs.Blames.{Blames, Refuses}

@@ -1,10 +1,10 @@
 -- Members that are wanted.
-use Rattle.std.proofs.Common.{◌≡◌, ◌∙◌, ◌<◌, ◌≤◌, ◌+◌, ℕ, List, [], ◌∷◌, Bool, true, false, cond, length, get_or, drop, map, ap, sym, refl}
+use Rattle.std.proofs.Common.{◌≡◌, ◌∙◌, ◌<◌, ◌≤◌, ◌+◌, ℕ, List, [], ◌∷◌, Bool, true, false, cond, length, get_or, drop, map, ap, refl}
 use Rattle.std.specs.Prelude.{Option, Some, None, option_map, find, ◌||◌}
 use Rattle.std.specs.List.{list_any}
 use Rattle.std.proofs.lemmas.List.{at_drop_more, at_drop_all}
 use Rattle.serde_json.specs.Data.{Members}
-use Rattle.server_specs.specs.Request.{first_wrong, is_wrong, is_wanted, is_key, needed, allowed}
+use Rattle.server_specs.specs.Request.{first_wrong, is_wrong, is_wanted, is_key}
 use Rattle.request_text.specs.declared.wanted.Wanted.{Wanted}
 use Rattle.request_text.specs.WantedMembers.{wanted_view}
 

@@ -1,11 +1,10 @@
 -- Where no member is wrong, the members that a request needs are there.
-use Rattle.std.proofs.Common.{◌≡◌, ◌∙◌, ℕ, List, [], ◌∷◌, Bool, true, false, cond, ap, sym, refl}
-use Rattle.std.specs.Prelude.{Option, Some, None, option_map, option_and_then, unwrap_or, is_some, not, find, codes, Result, Ok, Err}
+use Rattle.std.proofs.Common.{◌≡◌, ◌∙◌, ℕ, List, [], ◌∷◌, true, false, cond, ap, sym, refl}
+use Rattle.std.specs.Prelude.{Option, Some, None, option_map, option_and_then, unwrap_or, is_some, not, find, codes}
 use Rattle.std.specs.List.{AllByRecursion}
 use Rattle.serde_json.specs.Data.{Data, Items, Members, no_items}
 use Rattle.serde_json.specs.Find.{get_member, as_array}
-use Rattle.server_specs.specs.Answer.{Answer}
-use Rattle.server_specs.specs.Request.{Request, define, read, put, edit, preview, describe, list, Asked, to_define, to_read, to_put, to_edit, to_preview, to_describe, to_list, Wanted, is_wrong, first_wrong, first_other, is_wanted, lesser, least_wrong, wanted, said, unless_wrong, text_in, name_in, text_at, name_at, rows_at, version_at}
+use Rattle.server_specs.specs.Request.{Request, define, read, put, edit, preview, describe, Asked, to_define, to_read, to_put, to_edit, to_preview, to_describe, to_list, Wanted, is_wrong, first_wrong, first_other, is_wanted, lesser, least_wrong, wanted, said, text_in, name_in}
 use Rattle.request_text.specs.Requests.{said_in, on_in}
 
 present : {X : Type 0} (f : Data → Option X) (x : X) (d : Data) → not (is_some (f d)) ≡ false → f d ≡ Some (unwrap_or (f d) x)

@@ -1,7 +1,15 @@
 -- What the answers of the code stand for.
+use Rattle.lens_specs.specs.Predicate.{Predicate}
+use Rattle.lens_specs.specs.Refusal as refusal
 use Rattle.server_specs.specs.Answer as spec
+use Rattle.lens_pred.specs.View.{predicate_view}
+use Rattle.lens_pred.specs.declared.formula.Formulas.{Formulas, out-Formulas}
+use Rattle.view_lang.specs.declared.definition.Side.{Side}
+use Rattle.view_lang.specs.declared.definition.Side.TheVariants.{Left, Right}
+use Rattle.view_lang.specs.declared.definition.Limit.{Limit}
+use Rattle.view_lang.specs.declared.definition.Limit.TheVariants.{Columns, Lens, Predicate as PredicateNodes, Nesting, Tables, Views}
 use Rattle.request_text.specs.declared.answer.Answer.{Answer}
-use Rattle.request_text.specs.declared.answer.Answer.TheVariants.{Defined, Shown, Changed, Memory, TooLong, NotJson, BadRequest, UnknownName, UnknownColumn, NotTree, BadRow, OffPredicate, Clash, StoreFault, Unbuilt}
+use Rattle.request_text.specs.declared.answer.Answer.TheVariants.{Defined, Shown, Changed, Described, Listed, Memory, TooLong, NotJson, BadRequest, Syntax, NameTaken, UnknownName, UnknownColumn, KindClash, NotTree, PredKind, SourceMentionsOutput, NoSuchDependency, MixedConjunct, DefaultRefused, NotDetermined, SideMentionsOutput, TableTwice, TooLarge, BadRow, Stale, OffPredicate, Clash, StoreFault, Unbuilt}
 use Rattle.request_text.specs.declared.answer.RowList.{RowList}
 use Rattle.request_text.specs.declared.answer.RowList.TheVariants.{Rows, Remove, Add}
 
@@ -11,19 +19,52 @@ list_view Rows = spec.in_rows
 list_view Remove = spec.in_remove
 list_view Add = spec.in_add
 
+-- the side of a join
+abbrev pub side_view : Side → refusal.Side
+side_view Left = refusal.left_side
+side_view Right = refusal.right_side
+
+-- what is too large
+abbrev pub limit_view : Limit → refusal.Limit
+limit_view Columns = refusal.columns_limit
+limit_view Lens = refusal.lens_limit
+limit_view PredicateNodes = refusal.predicate_limit
+limit_view Nesting = refusal.nesting_limit
+limit_view Tables = refusal.tables_limit
+limit_view Views = refusal.views_limit
+
+-- the conjuncts that the list has, in its order
+abbrev pub conjuncts_view : Formulas → Predicate
+conjuncts_view list = predicate_view (out-Formulas list).list.items
+
 -- the answer that the definitions speak of
 abbrev pub answer_view : Answer → spec.Answer
 answer_view (Defined version) = spec.defined version
 answer_view (Shown rows version) = spec.shown rows version
 answer_view (Changed changed version) = spec.changed changed version
+answer_view (Described columns edges conjuncts tables version) = spec.described columns edges (conjuncts_view conjuncts) tables version
+answer_view (Listed definitions version) = spec.listed definitions version
 answer_view Memory = spec.memory
 answer_view TooLong = spec.long_line
 answer_view NotJson = spec.not_json
 answer_view (BadRequest member) = spec.bad_request member
+answer_view (Syntax at) = spec.syntax at
+answer_view (NameTaken name) = spec.name_taken name
 answer_view (UnknownName name) = spec.unknown_name name
-answer_view (UnknownColumn name) = spec.unknown_column name
-answer_view (NotTree a b) = spec.not_tree a b
+answer_view (UnknownColumn name) = spec.refused (refusal.unknown_column name)
+answer_view (KindClash name) = spec.refused (refusal.kind_clash name)
+answer_view (NotTree a b) = spec.refused (refusal.not_tree a b)
+answer_view (PredKind name) = spec.refused (refusal.predicate_kind name)
+answer_view (SourceMentionsOutput col) = spec.refused (refusal.source_mentions_output col)
+answer_view (NoSuchDependency col) = spec.refused (refusal.no_such_dependency col)
+answer_view (MixedConjunct index) = spec.refused (refusal.mixed_conjunct index)
+answer_view DefaultRefused = spec.refused refusal.default_refused
+answer_view (NotDetermined col) = spec.refused (refusal.not_determined col)
+answer_view (SideMentionsOutput side col) = spec.refused (refusal.side_mentions_output (side_view side) col)
+answer_view (TableTwice name) = spec.refused (refusal.table_twice name)
+answer_view (TooLarge what) = spec.refused (refusal.too_large (limit_view what))
 answer_view (BadRow list index col) = spec.bad_row (list_view list) index col
+answer_view (Stale changed_at version) = spec.stale changed_at version
 answer_view (OffPredicate row) = spec.off_predicate row
 answer_view (Clash edge first second) = spec.clash edge first second
 answer_view StoreFault = spec.store_fault

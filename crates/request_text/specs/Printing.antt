@@ -1,10 +1,10 @@
--- What is added to the text of a writer.
-use Rattle.std.specs.Prelude.{◌≡◌, List, ◌++◌}
+-- What is added to the text of a writer, and the line that it becomes.
+use Rattle.std.specs.Prelude.{◌≡◌, ℕ, List, [], ◌∷◌, ◌++◌}
 use Rattle.json.specs.Token.{Token}
 use Rattle.json.specs.Tree.{json_tokens}
 use Rattle.json.specs.Written.{Written}
 use Rattle.serde_json.specs.Data.{Data}
-use Rattle.serde_json.specs.Written.{outline}
+use Rattle.serde_json.specs.Written.{compact_text, outline}
 
 -- the tokens of the data
 abbrev pub data_tokens : Data → List Token
@@ -14,3 +14,7 @@ data_tokens d = json_tokens (outline d)
 pub record Adds (old new : Written) (tokens : List Token) : Type 0 where
   pub before : new.before ≡ old.before
   pub after : new.tokens ≡ old.tokens ++ tokens
+
+-- compact JSON and a newline
+abbrev pub json_line : Data → List ℕ
+json_line d = compact_text d ++ 10 ∷ []

@@ -1,5 +1,5 @@
 -- What the tables of members stand for.
-use Rattle.std.specs.Prelude.{ℕ, List, map}
+use Rattle.std.specs.Prelude.{List}
 use Rattle.server_specs.specs.Request as spec
 use Rattle.request_text.specs.declared.wanted.Asked.{Asked}
 use Rattle.request_text.specs.declared.wanted.Asked.TheVariants as asked

@@ -1,26 +1,34 @@
-//! Answers and their lines.
-ghost use Rattle.std.specs.Prelude.{◌≡◌, IfOk, map};
-ghost use Rattle.server_specs.specs.Answer as spec;
-ghost use Rattle.signed_delta.specs.Tables.{table_delta};
-ghost use Rattle.request_text.specs.Answers.{answer_view, list_view};
+//! Answers, and the line of each.
+ghost use Rattle.std.specs.Prelude.{◌≡◌, IfOk};
+ghost use Rattle.server_specs.specs.Answer.{text};
+ghost use Rattle.request_text.specs.Answers.{answer_view};
 
+use crate::accepted::{changed_text, defined_text, described_text, listed_text, shown_text};
 use crate::changes::Changes;
+use crate::edges::Edges;
 use crate::member::Member;
-use crate::printing::{
-    begun, ended, print_changes, print_edge, print_flag, print_name, print_names, print_number,
-    print_pair, print_row, print_set, print_text,
+use crate::refusals::{
+    default_refused_text, kind_clash_text, mixed_conjunct_text, name_taken_text,
+    no_such_dependency_text, not_determined_text, not_tree_text, pred_kind_text,
+    side_mentions_output_text, source_mentions_output_text, syntax_text, table_twice_text,
+    too_large_text, unknown_column_text, unknown_name_text,
+};
+use crate::rejections::{
+    bad_request_text, bad_row_text, clash_text, off_predicate_text, stale_text,
 };
 use crate::reply::{
     Reply, long_reply, memory_reply, not_json_reply, store_fault_reply, unbuilt_reply,
 };
+use crate::texts::Texts;
 use fd_tree::Edge;
-use lens_values::{Name, Names, NoMemory, Row};
+use lens_pred::Formulas;
+use lens_values::{Columns, Name, Names, NoMemory, Row};
 use row_sets::RowSet;
-use signed_delta::TableDelta;
 use std::alloc::Global;
+use view_lang::{Limit, Side};
 
 /// Which of a request's lists of rows.
-#[derive(Clone, Copy, Debug, Drop)]
+#[derive(Clone, Copy, Debug)]
 pub enum RowList {
     /// The rows of a put.
     Rows,
@@ -28,19 +36,6 @@ pub enum RowList {
     Remove,
     /// The rows to add.
     Add,
-}
-
-impl RowList {
-    // The member that holds the list.
-    fn word(self) -> &'static str
-        ensures { result.now ≡ spec.list_word (list_view self) }
-    {
-        match self {
-            RowList::Rows => "rows",
-            RowList::Remove => "remove",
-            RowList::Add => "add",
-        }
-    }
 }
 
 /// What a line is answered.
@@ -60,6 +55,19 @@ pub enum Answer {
         changed: Changes,
         version: u64,
     },
+    /// What a view is: its columns, the tree of its dependencies, its predicate and the tables under it; and the version.
+    Described {
+        columns: Columns,
+        edges: Edges,
+        conjuncts: Formulas,
+        tables: Names,
+        version: u64,
+    },
+    /// The definitions as they were sent, and the version.
+    Listed {
+        definitions: Texts,
+        version: u64,
+    },
     /// Memory ran out.
     Memory,
     /// The line is too long.
@@ -70,12 +78,24 @@ pub enum Answer {
     BadRequest {
         member: Member,
     },
+    /// The text of the definition goes wrong at this byte, or ends there too early.
+    Syntax {
+        at: usize,
+    },
+    /// A table or a view has the name already.
+    NameTaken {
+        name: Name,
+    },
     /// No table and no view has the name.
     UnknownName {
         name: Name,
     },
-    /// No column of the table has the name.
+    /// No column of the table or of the source has the name.
     UnknownColumn {
+        name: Name,
+    },
+    /// The column has two kinds in a join, or the value that is to fill it has another one.
+    KindClash {
         name: Name,
     },
     /// The dependencies are no tree: two sides that do not fit.
@@ -83,11 +103,51 @@ pub enum Answer {
         a: Names,
         b: Names,
     },
+    /// The predicate compares the column with another kind.
+    PredKind {
+        name: Name,
+    },
+    /// The least column that the source's predicate mentions although its dependencies determine it.
+    SourceMentionsOutput {
+        col: Name,
+    },
+    /// No dependency has the given columns as its left side and the one to drop on its right, or this stands in a left side.
+    NoSuchDependency {
+        col: Name,
+    },
+    /// The place of the first conjunct that mentions the column to drop beside another, from 0.
+    MixedConjunct {
+        index: usize,
+    },
+    /// The predicate refuses the value that fills the dropped column.
+    DefaultRefused,
+    /// The least column of a join's right side that the shared columns do not determine.
+    NotDetermined {
+        col: Name,
+    },
+    /// The least column that the predicate of a join's side mentions although its dependencies determine it.
+    SideMentionsOutput {
+        side: Side,
+        col: Name,
+    },
+    /// The least table that both sides of a join have.
+    TableTwice {
+        name: Name,
+    },
+    /// This is too large.
+    TooLarge {
+        what: Limit,
+    },
     /// The first element of a list that is no row of the columns, and its least wrong name.
     BadRow {
         list: RowList,
         index: usize,
         col: Member,
+    },
+    /// The change rests on a version before the last change of the view's tables; that version, and the one now.
+    Stale {
+        changed_at: u64,
+        version: u64,
     },
     /// The least of the sent rows that the view's predicate refuses.
     OffPredicate {
@@ -105,22 +165,56 @@ pub enum Answer {
     Unbuilt,
 }
 
-/// The line of an answer.
+/// The line of an answer, or `NoMemory`.
 pub fn reply_text(alloc: Global, answer: &Answer) -> Result<Reply, NoMemory>
-    ensures { IfOk result (λ reply. reply ≡ spec.text (answer_view answer.now)) }
+    ensures { IfOk result (λ reply. reply ≡ text (answer_view answer.now)) }
 {
     match answer {
         Answer::Defined { version } => defined_text(alloc, *version),
         Answer::Shown { rows, version } => shown_text(alloc, rows, *version),
         Answer::Changed { changed, version } => changed_text(alloc, changed.as_slice(), *version),
+        Answer::Described {
+            columns,
+            edges,
+            conjuncts,
+            tables,
+            version,
+        } => described_text(
+            alloc,
+            columns,
+            edges.as_slice(),
+            conjuncts.as_slice(),
+            tables,
+            *version,
+        ),
+        Answer::Listed {
+            definitions,
+            version,
+        } => listed_text(alloc, definitions.as_slice(), *version),
         Answer::Memory => Ok(memory_reply()),
         Answer::TooLong => Ok(long_reply()),
         Answer::NotJson => Ok(not_json_reply()),
         Answer::BadRequest { member } => bad_request_text(alloc, member),
+        Answer::Syntax { at } => syntax_text(alloc, *at),
+        Answer::NameTaken { name } => name_taken_text(alloc, name),
         Answer::UnknownName { name } => unknown_name_text(alloc, name),
         Answer::UnknownColumn { name } => unknown_column_text(alloc, name),
+        Answer::KindClash { name } => kind_clash_text(alloc, name),
         Answer::NotTree { a, b } => not_tree_text(alloc, a, b),
+        Answer::PredKind { name } => pred_kind_text(alloc, name),
+        Answer::SourceMentionsOutput { col } => source_mentions_output_text(alloc, col),
+        Answer::NoSuchDependency { col } => no_such_dependency_text(alloc, col),
+        Answer::MixedConjunct { index } => mixed_conjunct_text(alloc, *index),
+        Answer::DefaultRefused => default_refused_text(alloc),
+        Answer::NotDetermined { col } => not_determined_text(alloc, col),
+        Answer::SideMentionsOutput { side, col } => side_mentions_output_text(alloc, *side, col),
+        Answer::TableTwice { name } => table_twice_text(alloc, name),
+        Answer::TooLarge { what } => too_large_text(alloc, *what),
         Answer::BadRow { list, index, col } => bad_row_text(alloc, *list, *index, col),
+        Answer::Stale {
+            changed_at,
+            version,
+        } => stale_text(alloc, *changed_at, *version),
         Answer::OffPredicate { row } => off_predicate_text(alloc, row),
         Answer::Clash {
             edge,
@@ -130,122 +224,4 @@ pub fn reply_text(alloc: Global, answer: &Answer) -> Result<Reply, NoMemory>
         Answer::StoreFault => Ok(store_fault_reply()),
         Answer::Unbuilt => Ok(unbuilt_reply()),
     }
-}
-
-/// The line that shows these rows, at this version.
-pub fn shown_text(alloc: Global, rows: &RowSet, version: u64) -> Result<Reply, NoMemory>
-    ensures { IfOk result (λ reply. reply ≡ spec.text (spec.shown rows.now version)) }
-{
-    let mut out = begun(alloc)?;
-    print_flag(&mut out, "ok", true)?;
-    print_set(&mut out, "rows", rows)?;
-    print_number(&mut out, "version", version)?;
-    ended(out)
-}
-
-/// The line of a put that made these changes, with the version after it.
-pub fn changed_text(alloc: Global, changed: &[TableDelta], version: u64) -> Result<Reply, NoMemory>
-    ensures { IfOk result (λ reply. reply ≡ spec.text (spec.changed (map table_delta changed.now) version)) }
-{
-    let mut out = begun(alloc)?;
-    print_changes(&mut out, "changed", changed)?;
-    print_flag(&mut out, "ok", true)?;
-    print_number(&mut out, "version", version)?;
-    ended(out)
-}
-
-/// The line of a definition that was taken, with the version after it.
-pub fn defined_text(alloc: Global, version: u64) -> Result<Reply, NoMemory>
-    ensures { IfOk result (λ reply. reply ≡ spec.text (spec.defined version)) }
-{
-    let mut out = begun(alloc)?;
-    print_flag(&mut out, "ok", true)?;
-    print_number(&mut out, "version", version)?;
-    ended(out)
-}
-
-/// The line that refuses a request of which this member is wrong.
-pub fn bad_request_text(alloc: Global, member: &Member) -> Result<Reply, NoMemory>
-    ensures { IfOk result (λ reply. reply ≡ spec.text (spec.bad_request member.now)) }
-{
-    let mut out = begun(alloc)?;
-    print_number(&mut out, "error", 12)?;
-    print_text(&mut out, "member", member.as_str())?;
-    print_flag(&mut out, "ok", false)?;
-    ended(out)
-}
-
-/// The line that refuses a list of which this element is no row of the columns.
-pub fn bad_row_text(
-    alloc: Global,
-    list: RowList,
-    index: usize,
-    col: &Member,
-) -> Result<Reply, NoMemory>
-    ensures { IfOk result (λ reply. reply ≡ spec.text (spec.bad_row (list_view list) index col.now)) }
-{
-    let mut out = begun(alloc)?;
-    print_text(&mut out, "col", col.as_str())?;
-    print_number(&mut out, "error", 40)?;
-    print_number(&mut out, "index", index as u64)?;
-    print_text(&mut out, "list", list.word())?;
-    print_flag(&mut out, "ok", false)?;
-    ended(out)
-}
-
-/// The line that refuses a name that is not known.
-pub fn unknown_name_text(alloc: Global, name: &Name) -> Result<Reply, NoMemory>
-    ensures { IfOk result (λ reply. reply ≡ spec.text (spec.unknown_name name.now)) }
-{
-    let mut out = begun(alloc)?;
-    print_number(&mut out, "error", 22)?;
-    print_name(&mut out, "name", name)?;
-    print_flag(&mut out, "ok", false)?;
-    ended(out)
-}
-
-/// The line that refuses a column that is not known.
-pub fn unknown_column_text(alloc: Global, name: &Name) -> Result<Reply, NoMemory>
-    ensures { IfOk result (λ reply. reply ≡ spec.text (spec.unknown_column name.now)) }
-{
-    let mut out = begun(alloc)?;
-    print_number(&mut out, "error", 23)?;
-    print_name(&mut out, "name", name)?;
-    print_flag(&mut out, "ok", false)?;
-    ended(out)
-}
-
-/// The line that refuses dependencies that are no tree, with the two sides that do not fit.
-pub fn not_tree_text(alloc: Global, a: &Names, b: &Names) -> Result<Reply, NoMemory>
-    ensures { IfOk result (λ reply. reply ≡ spec.text (spec.not_tree a.now b.now)) }
-{
-    let mut out = begun(alloc)?;
-    print_names(&mut out, "a", a)?;
-    print_names(&mut out, "b", b)?;
-    print_number(&mut out, "error", 25)?;
-    print_flag(&mut out, "ok", false)?;
-    ended(out)
-}
-
-/// The line that refuses rows of which two clash on an edge.
-pub fn clash_text(alloc: Global, edge: &Edge, first: &Row, second: &Row) -> Result<Reply, NoMemory>
-    ensures { IfOk result (λ reply. reply ≡ spec.text (spec.clash edge.now first.now second.now)) }
-{
-    let mut out = begun(alloc)?;
-    print_edge(&mut out, "edge", edge)?;
-    print_number(&mut out, "error", 43)?;
-    print_flag(&mut out, "ok", false)?;
-    print_pair(&mut out, "rows", first, second)?;
-    ended(out)
-}
-
-/// The line that refuses a row that the view's predicate refuses.
-pub fn off_predicate_text(alloc: Global, row: &Row) -> Result<Reply, NoMemory>
-    ensures { IfOk result (λ reply. reply ≡ spec.text (spec.off_predicate row.now)) }
-{
-    let mut out = begun(alloc)?;
-    print_number(&mut out, "error", 42)?;
-    print_flag(&mut out, "ok", false)?;
-    print_row(&mut out, "row", row)?;
-    ended(out)
 }

@@ -97,6 +97,14 @@ pub(crate) fn print_edge(out: &mut Writer, name: &str, edge: &Edge) -> Result<()
     ensures { OnOk result (Adds out.old out.new (key name.now ∷ data_tokens (edge_data edge.now))) }
 {
     out.key(name)?;
+    print_sides(out, edge)?;
+    Ok(())
+}
+
+/// The two sides of an edge.
+pub(crate) fn print_sides(out: &mut Writer, edge: &Edge) -> Result<(), NoMemory>
+    ensures { OnOk result (Adds out.old out.new (data_tokens (edge_data edge.now))) }
+{
     out.begin_object()?;
     print_names(out, "left", &edge.left)?;
     print_names(out, "right", &edge.right)?;

@@ -1,27 +1,28 @@
 -- What every answer says of the state after it.
 use Rattle.std.proofs.Common.{◌≡◌, ◌+◌, ℕ, Bool, true, false, cond, List, [], ◌∷◌, Option, Some, None, Result, Ok, Err, refl, sym, subst}
-use Rattle.std.specs.Prelude.{IfSome, codes}
+use Rattle.std.specs.Prelude.{IfSome, codes, nat_le}
 use Rattle.std.specs.FinMap as finmap
 use Rattle.serde_json.specs.Data.{Data, null, boolean, number, string, array, object, Items, Members}
 use Rattle.lens_values.specs.declared.row.Row.{Row}
 use Rattle.lens_specs.specs.Names.{Name, Names}
-use Rattle.lens_specs.specs.Predicate.{Predicate}
 use Rattle.lens_specs.specs.Relation.{Rows}
-use Rattle.lens_specs.specs.Lens.{Lens}
+use Rattle.lens_specs.specs.Lens.{Lens, select, drop, join}
 use Rattle.lens_specs.specs.Delta.{TableDelta, changes}
-use Rattle.language_specs.specs.Language.{Definition, table, view, Expr, named}
-use Rattle.language_specs.specs.Language as language
 use Rattle.lens_specs.specs.Lines as lines
 use Rattle.lens_specs.specs.Lines.{Line, line}
-use Rattle.language_specs.specs.Reading.{reading}
 use Rattle.lens_specs.specs.Sort.{Sort, Clash}
-use Rattle.lens_specs.specs.Refusal as refusal
-use Rattle.lens_specs.specs.Refusal.{Refusal}
+use Rattle.lens_specs.specs.Typing.{sort, table_sort}
+use Rattle.lens_specs.specs.Refusal.{Refusal, Limit, tables_limit, views_limit, too_large}
+use Rattle.grammar_specs.specs.Meaning.{Definition, table, view, Expr, named}
+use Rattle.grammar_specs.specs.Meaning as language
+use Rattle.grammar_specs.specs.Faults as faults
+use Rattle.grammar_specs.specs.Faults.{Fault, syntax_at}
+use Rattle.grammar_laws.specs.Reading.{reading}
 use Rattle.server_specs.specs.State.{State, Catalogue, catalogue, dependent}
-use Rattle.server_specs.specs.Answer.{Answer, long_line, not_json, bad_request, unknown_name, unknown_column, not_tree, unbuilt}
+use Rattle.server_specs.specs.Answer.{Answer, long_line, not_json, bad_request, syntax, name_taken, unknown_name, refused, unbuilt}
 use Rattle.server_specs.specs.Request.{Request, define, read, put, edit, preview, describe, list, Asked, json_of, asked_in, unless_wrong, request_in, request_of, request_from, request}
 use Rattle.server_specs.specs.Sending.{BadRow}
-use Rattle.server_specs.specs.Defining.{unless, sort_refused, where_sorted, judged, judged_select}
+use Rattle.server_specs.specs.Defining.{is_taken, table_count, view_count, unless_full, where_sorted, lens_named, where_typed, over, over_both, lens_in, where_lensed, is_unbuilt, limit_of, judged}
 use Rattle.server_specs.specs.Answering.{answer, answer_request, answer_definition, answer_read, answer_put, put_sent, unless_clash, unless_off, accept}
 use Rattle.server_laws.specs.Answers.{IsRefusal, IsFailure, IsChange, told_version}
 
@@ -33,79 +34,113 @@ pub record IsSaid (s : State) (r : Answer × State) : Type 0 where
   pub stays : (IsChange r.0 → ⊥) → r.1 ≡ s
   pub told : IfSome (told_version r.0) (λ version. version ≡ r.1.version)
 
-said_unbuilt : (s : State) → IsSaid s (unbuilt, s)
-said_unbuilt s = record { refusal = λ h. refl; failure = λ h. h; rises = λ h. absurd h; stays = λ h. refl; told = tt }
+-- ---- plain refusals
 
-said_unknown : (name : Name) (s : State) → IsSaid s (unknown_name name, s)
-said_unknown name s = record { refusal = λ h. refl; failure = λ h. h; rises = λ h. absurd h; stays = λ h. refl; told = tt }
+-- no failure, no change, and no version told
+pub record IsPlain (a : Answer) : Type 0 where
+  pub failure : IsFailure a → ⊥
+  pub change : IsChange a → ⊥
+  pub told : told_version a ≡ None
 
-said_unknown_column : (name : Name) (s : State) → IsSaid s (unknown_column name, s)
-said_unknown_column name s = record { refusal = λ h. refl; failure = λ h. h; rises = λ h. absurd h; stays = λ h. refl; told = tt }
+plain_unbuilt : IsPlain unbuilt
+plain_unbuilt = record { failure = λ h. h; change = λ h. h; told = refl }
 
-said_not_tree : (X Y : Names) (s : State) → IsSaid s (not_tree X Y, s)
-said_not_tree X Y s = record { refusal = λ h. refl; failure = λ h. h; rises = λ h. absurd h; stays = λ h. refl; told = tt }
+plain_unknown : (name : Name) → IsPlain (unknown_name name)
+plain_unknown name = record { failure = λ h. h; change = λ h. h; told = refl }
+
+plain_taken : (name : Name) → IsPlain (name_taken name)
+plain_taken name = record { failure = λ h. h; change = λ h. h; told = refl }
+
+plain_refused : (r : Refusal) → IsPlain (refused r)
+plain_refused r = record { failure = λ h. h; change = λ h. h; told = refl }
+
+plain_syntax : (at : ℕ) → IsPlain (syntax at)
+plain_syntax at = record { failure = λ h. h; change = λ h. h; told = refl }
+
+plain_long : IsPlain long_line
+plain_long = record { failure = λ h. h; change = λ h. h; told = refl }
+
+plain_not_json : IsPlain not_json
+plain_not_json = record { failure = λ h. h; change = λ h. h; told = refl }
+
+plain_bad_request : (name : List ℕ) → IsPlain (bad_request name)
+plain_bad_request name = record { failure = λ h. h; change = λ h. h; told = refl }
+
+-- it leaves the state
+said_plain : (s : State) (a : Answer) → IsPlain a → IsSaid s (a, s)
+said_plain s a p = record {
+  refusal = λ h. refl;
+  failure = p.failure;
+  rises = λ h. absurd (p.change h);
+  stays = λ h. refl;
+  told = subst (λ o. IfSome o (λ version. version ≡ s.version)) (sym p.told) tt;
+}
+
+-- the one refusal is the other
+same_plain : {A : Type 0} (a b : Answer) → IsPlain a → ◌≡◌ {A = Result A Answer} (Err a) (Err b) → IsPlain b
+same_plain a b p e = let is : a ≡ b = cc in subst IsPlain is p
+
+-- each refusal of it is plain
+abbrev pub RefusesPlainly : {A : Type 0} → Result A Answer → Type 0
+RefusesPlainly {A} r = (a : Answer) → r ≡ Err a → IsPlain a
 
 -- ---- definitions
 
--- a definition is refused: it is not built, a name or a column is not known, or its dependencies are no tree
-pub data IsPlain (a : Answer) : Type 0 where
-  not_built : a ≡ unbuilt → IsPlain a
-  no_name : (name : Name) → a ≡ unknown_name name → IsPlain a
-  no_column : (name : Name) → a ≡ unknown_column name → IsPlain a
-  no_tree : (X Y : Names) → a ≡ not_tree X Y → IsPlain a
+unless_err : (b : Bool) (a : Answer) (r : Result Definition Answer) → IsPlain a → RefusesPlainly r → RefusesPlainly (cond b (Err a) r)
+unless_err true a r p h c e = same_plain a c p e
+unless_err false a r p h c e = h c e
 
-unless_err : (b : Bool) (d : Definition) (a : Answer) → unless b d ≡ Err a → IsPlain a
-unless_err true d a e = not_built (cc)
-unless_err false d a e = cc
+full_err : (b : Bool) (limit : Limit) (d : Definition) → RefusesPlainly (unless_full b limit d)
+full_err true limit d a e = same_plain (refused (too_large limit)) a (plain_refused (too_large limit)) e
+full_err false limit d a e = cc
 
-unbuilt_err : (r : Result Definition Answer) (a : Answer) → r ≡ Err unbuilt → r ≡ Err a → IsPlain a
-unbuilt_err r a f e = not_built (cc)
+sorted_err : (r : Result Sort Refusal) (known : Catalogue) (d : Definition) → RefusesPlainly (where_sorted r known d)
+sorted_err (Ok sort) known d a e = full_err (nat_le 64 (table_count known)) tables_limit d a e
+sorted_err (Err first) known d a e = same_plain (refused first) a (plain_refused first) e
 
-select_err : (known : Catalogue) (dependent : Names) (name : Name) (P : Predicate) (source : Name) (o : Option Lens) (a : Answer) → judged_select known dependent name P source o ≡ Err a → IsPlain a
-select_err known dependent name P source None a e = no_name source (cc)
-select_err known dependent name P source (Some lens) a e = unless_err _ _ a e
+named_err : (name : Name) (o : Option Lens) → RefusesPlainly (lens_named name o)
+named_err name None a e = same_plain (unknown_name name) a (plain_unknown name) e
+named_err name (Some lens) a e = cc
 
--- a sort is refused
-plain_refused : (r : Refusal) → IsPlain (sort_refused r)
-plain_refused (refusal.unknown_column name) = no_column name refl
-plain_refused (refusal.kind_clash name) = not_built refl
-plain_refused (refusal.not_tree X Y) = no_tree X Y refl
-plain_refused (refusal.predicate_kind name) = not_built refl
-plain_refused (refusal.source_mentions_output name) = not_built refl
-plain_refused (refusal.no_such_dependency name) = not_built refl
-plain_refused (refusal.mixed_conjunct place) = not_built refl
-plain_refused refusal.default_refused = not_built refl
-plain_refused (refusal.not_determined name) = not_built refl
-plain_refused (refusal.side_mentions_output side name) = not_built refl
-plain_refused (refusal.table_twice name) = not_built refl
-plain_refused (refusal.too_large what) = not_built refl
+typed_err : (lens : Lens) (r : Result Sort Refusal) → RefusesPlainly (where_typed lens r)
+typed_err lens (Ok sort) a e = cc
+typed_err lens (Err first) a e = same_plain (refused first) a (plain_refused first) e
 
-sorted_err : (r : Result Sort Refusal) (d : Definition) (a : Answer) → where_sorted r d ≡ Err a → IsPlain a
-sorted_err (Ok sort) d a e = cc
-sorted_err (Err r) d a e = let is : sort_refused r ≡ a = cc in subst IsPlain is (plain_refused r)
+over_err : (node : Lens → Lens) (r : Result Lens Answer) → RefusesPlainly r → RefusesPlainly (over node r)
+over_err node (Err first) h a e = h a e
+over_err node (Ok lens) h a e = typed_err (node lens) (sort (node lens)) a e
 
-table_err : (b : Bool) (r : Result Sort Refusal) (d : Definition) (a : Answer) → cond b (Err unbuilt) (where_sorted r d) ≡ Err a → IsPlain a
-table_err true r d a e = not_built (cc)
-table_err false r d a e = sorted_err r d a e
+both_err : (l r : Result Lens Answer) → RefusesPlainly l → RefusesPlainly r → RefusesPlainly (over_both l r)
+both_err (Err first) r h k a e = h a e
+both_err (Ok lens) r h k a e = over_err (join lens) r k a e
 
-pub judged_err : (known : Catalogue) (dependent : Names) (o : Option Definition) (a : Answer) → judged known dependent o ≡ Err a → IsPlain a
-judged_err known dependent None a e = unbuilt_err _ a refl e
-judged_err known dependent (Some (table name columns deps)) a e = table_err _ _ _ a e
-judged_err known dependent (Some (view name (named source))) a e = unbuilt_err _ a refl e
-judged_err known dependent (Some (view name (language.select P (named source)))) a e = select_err known dependent name P source (finmap.get known source) a e
-judged_err known dependent (Some (view name (language.select P (language.select Q expr)))) a e = unbuilt_err _ a refl e
+lens_err : (known : Catalogue) (expr : Expr) → RefusesPlainly (lens_in known expr)
+lens_err known (named name) a e = named_err name (finmap.get known name) a e
+lens_err known (language.select P of) a e = over_err (select P) (lens_in known of) (lens_err known of) a e
+lens_err known (language.drop A X v of) a e = over_err (drop A X v) (lens_in known of) (lens_err known of) a e
+lens_err known (language.join left right) a e = both_err (lens_in known left) (lens_in known right) (lens_err known left) (lens_err known right) a e
+
+lensed_err : (r : Result Lens Answer) (known : Catalogue) (d : Definition) → RefusesPlainly r → RefusesPlainly (where_lensed r known d)
+lensed_err (Err first) known d h a e = let is : Err first ≡ Err a = cc in h a is
+lensed_err (Ok lens) known d h a e = full_err (nat_le 256 (view_count known)) views_limit d a e
+
+-- a definition is refused plainly
+pub judged_err : (known : Catalogue) (dependent : Names) (r : Result Definition Fault) → RefusesPlainly (judged known dependent r)
+judged_err known dependent (Err (syntax_at at)) a e = same_plain (syntax at) a (plain_syntax at) e
+judged_err known dependent (Err (faults.too_large what)) a e = same_plain (refused (too_large (limit_of what))) a (plain_refused (too_large (limit_of what))) e
+judged_err known dependent (Ok (table name columns deps P)) a e =
+    unless_err (is_taken known name) (name_taken name) (where_sorted (table_sort columns deps P) known (table name columns deps P)) (plain_taken name)
+    (sorted_err (table_sort columns deps P) known (table name columns deps P)) a e
+judged_err known dependent (Ok (view name expr)) a e =
+    unless_err (is_taken known name) (name_taken name) (cond (is_unbuilt known dependent expr) (Err unbuilt) (where_lensed (lens_in known expr) known (view name expr))) (plain_taken name)
+    (unless_err (is_unbuilt known dependent expr) unbuilt (where_lensed (lens_in known expr) known (view name expr)) plain_unbuilt
+    (lensed_err (lens_in known expr) known (view name expr) (lens_err known expr))) a e
 
 said_defined : (s : State) (text : List ℕ) (d : Definition) → IsSaid s (answer_definition text (Ok d) s)
-said_defined s text (table name columns deps) = record { refusal = λ h. absurd h; failure = λ h. h; rises = λ h. refl; stays = λ h. absurd (h tt); told = refl }
+said_defined s text (table name columns deps P) = record { refusal = λ h. absurd h; failure = λ h. h; rises = λ h. refl; stays = λ h. absurd (h tt); told = refl }
 said_defined s text (view name expr) = record { refusal = λ h. absurd h; failure = λ h. h; rises = λ h. refl; stays = λ h. absurd (h tt); told = refl }
 
-said_plain : (s : State) (a : Answer) → IsPlain a → IsSaid s (a, s)
-said_plain s a (not_built is) = subst (λ b. IsSaid s (b, s)) (sym is) (said_unbuilt s)
-said_plain s a (no_name name is) = subst (λ b. IsSaid s (b, s)) (sym is) (said_unknown name s)
-said_plain s a (no_column name is) = subst (λ b. IsSaid s (b, s)) (sym is) (said_unknown_column name s)
-said_plain s a (no_tree X Y is) = subst (λ b. IsSaid s (b, s)) (sym is) (said_not_tree X Y s)
-
-said_definition : (s : State) (text : List ℕ) (known : Catalogue) (dependent : Names) (o : Option Definition) (r : Result Definition Answer) → judged known dependent o ≡ r
+said_definition : (s : State) (text : List ℕ) (known : Catalogue) (dependent : Names) (o : Result Definition Fault) (r : Result Definition Answer) → judged known dependent o ≡ r
     → IsSaid s (answer_definition text r s)
 said_definition s text known dependent o (Err a) e = said_plain s a (judged_err known dependent o a e)
 said_definition s text known dependent o (Ok d) e = said_defined s text d
@@ -113,7 +148,7 @@ said_definition s text known dependent o (Ok d) e = said_defined s text d
 -- ---- reads and puts
 
 said_read : (s : State) (name : Name) (o : Option Lens) → IsSaid s (answer_read name o s)
-said_read s name None = said_unknown name s
+said_read s name None = said_plain s (unknown_name name) (plain_unknown name)
 said_read s name (Some L) = record { refusal = λ h. refl; failure = λ h. h; rises = λ h. absurd h; stays = λ h. refl; told = refl }
 
 said_accept : (s : State) (L : Lens) (N : Rows) (ds : List TableDelta) → IsSaid s (accept L N ds s)
@@ -133,29 +168,23 @@ said_sent s (Err bad) L = record { refusal = λ h. refl; failure = λ h. h; rise
 said_sent s (Ok rows) L = said_unless_off s _ L _
 
 said_put : (s : State) (name : Name) (items : Items) (o : Option Lens) → IsSaid s (answer_put name items o s)
-said_put s name items None = said_unknown name s
+said_put s name items None = said_plain s (unknown_name name) (plain_unknown name)
 said_put s name items (Some L) = said_sent s _ L
 
 -- ---- requests
 
--- what is no request: a line that is too long, that is no JSON, or with a wrong member
-pub data IsNoRequest (a : Answer) : Type 0 where
-  too_long : a ≡ long_line → IsNoRequest a
-  no_json : a ≡ not_json → IsNoRequest a
-  wrong_member : (name : List ℕ) → a ≡ bad_request name → IsNoRequest a
-
-unless_wrong_err : (o : Option (List ℕ)) (asked : Asked) (ms : Members) (a : Answer) → unless_wrong o asked ms ≡ Err a → IsNoRequest a
+unless_wrong_err : (o : Option (List ℕ)) (asked : Asked) (ms : Members) → RefusesPlainly (unless_wrong o asked ms)
 unless_wrong_err None asked ms a e = cc
-unless_wrong_err (Some name) asked ms a e = wrong_member name (cc)
+unless_wrong_err (Some name) asked ms a e = same_plain (bad_request name) a (plain_bad_request name) e
 
-request_in_err : (o : Option Asked) (ms : Members) (a : Answer) → request_in o ms ≡ Err a → IsNoRequest a
-request_in_err None ms a e = wrong_member (codes "do") (cc)
+request_in_err : (o : Option Asked) (ms : Members) → RefusesPlainly (request_in o ms)
+request_in_err None ms a e = same_plain (bad_request (codes "do")) a (plain_bad_request (codes "do")) e
 request_in_err (Some asked) ms a e = unless_wrong_err _ asked ms a e
 
-no_object : (a : Answer) → ◌≡◌ {A = Result Request Answer} (Err (bad_request (codes "do"))) (Err a) → IsNoRequest a
-no_object a e = wrong_member (codes "do") (cc)
+no_object : RefusesPlainly {A = Request} (Err (bad_request (codes "do")))
+no_object a e = same_plain (bad_request (codes "do")) a (plain_bad_request (codes "do")) e
 
-request_of_err : (d : Data) (a : Answer) → request_of d ≡ Err a → IsNoRequest a
+request_of_err : (d : Data) → RefusesPlainly (request_of d)
 request_of_err null a e = no_object a e
 request_of_err (boolean b) a e = no_object a e
 request_of_err (number n) a e = no_object a e
@@ -163,40 +192,26 @@ request_of_err (string bytes) a e = no_object a e
 request_of_err (array ds) a e = no_object a e
 request_of_err (object ms) a e = request_in_err (asked_in ms) ms a e
 
-request_from_err : (o : Option Data) (a : Answer) → request_from o ≡ Err a → IsNoRequest a
-request_from_err None a e = no_json (cc)
+request_from_err : (o : Option Data) → RefusesPlainly (request_from o)
+request_from_err None a e = same_plain not_json a plain_not_json e
 request_from_err (Some d) a e = request_of_err d a e
 
--- a line that is no request is refused for it
-pub request_err : (l : Line) (a : Answer) → request l ≡ Err a → IsNoRequest a
+-- a line that is no request is refused plainly
+pub request_err : (l : Line) → RefusesPlainly (request l)
 unfolding request
 request_err (line bytes) a e = request_from_err (json_of bytes) a e
-request_err lines.too_long a e = too_long (cc)
+request_err lines.too_long a e = same_plain long_line a plain_long e
 
-said_long : (s : State) → IsSaid s (long_line, s)
-said_long s = record { refusal = λ h. refl; failure = λ h. h; rises = λ h. absurd h; stays = λ h. refl; told = tt }
-
-said_not_json : (s : State) → IsSaid s (not_json, s)
-said_not_json s = record { refusal = λ h. refl; failure = λ h. h; rises = λ h. absurd h; stays = λ h. refl; told = tt }
-
-said_bad_request : (s : State) (name : List ℕ) → IsSaid s (bad_request name, s)
-said_bad_request s name = record { refusal = λ h. refl; failure = λ h. h; rises = λ h. absurd h; stays = λ h. refl; told = tt }
-
-said_no_request : (s : State) (a : Answer) → IsNoRequest a → IsSaid s (a, s)
-said_no_request s a (too_long is) = subst (λ b. IsSaid s (b, s)) (sym is) (said_long s)
-said_no_request s a (no_json is) = subst (λ b. IsSaid s (b, s)) (sym is) (said_not_json s)
-said_no_request s a (wrong_member name is) = subst (λ b. IsSaid s (b, s)) (sym is) (said_bad_request s name)
-
-said_request : (s : State) (r : Result Request Answer) → ((a : Answer) → r ≡ Err a → IsNoRequest a) → IsSaid s (answer_request r s)
-said_request s (Err refusal) h = said_no_request s refusal (h refusal refl)
+said_request : (s : State) (r : Result Request Answer) → RefusesPlainly r → IsSaid s (answer_request r s)
+said_request s (Err refusal) h = said_plain s refusal (h refusal refl)
 said_request s (Ok (define text)) h = said_definition s text (catalogue s.texts) (dependent s.texts) (reading text) (judged (catalogue s.texts) (dependent s.texts) (reading text)) refl
 said_request s (Ok (read name)) h = said_read s name (finmap.get (catalogue s.texts) name)
 said_request s (Ok (put name items None)) h = said_put s name items (finmap.get (catalogue s.texts) name)
-said_request s (Ok (put name items (Some on))) h = said_unbuilt s
-said_request s (Ok (edit name remove add on)) h = said_unbuilt s
-said_request s (Ok (preview name remove add on)) h = said_unbuilt s
-said_request s (Ok (describe name)) h = said_unbuilt s
-said_request s (Ok list) h = said_unbuilt s
+said_request s (Ok (put name items (Some on))) h = said_plain s unbuilt plain_unbuilt
+said_request s (Ok (edit name remove add on)) h = said_plain s unbuilt plain_unbuilt
+said_request s (Ok (preview name remove add on)) h = said_plain s unbuilt plain_unbuilt
+said_request s (Ok (describe name)) h = said_plain s unbuilt plain_unbuilt
+said_request s (Ok list) h = said_plain s unbuilt plain_unbuilt
 
 pub said : (s : State) (l : Line) → IsSaid s (answer s l)
 unfolding answer

@@ -1,7 +1,7 @@
 -- A state with a table and a view, and a put that changes it: the premises of the laws can be met.
-use Rattle.std.proofs.Common.{◌≡◌, ◌+◌, ℕ, Bool, true, false, cond, not, ◌||◌, ◌&&◌, List, [], ◌∷◌, map, length, Option, Some, None, option_map, is_some, Ok, Err, refl, sym, ap, subst, ◌∙◌, arith}
+use Rattle.std.proofs.Common.{◌≡◌, ◌+◌, ℕ, Bool, true, false, cond, not, ◌||◌, ◌&&◌, List, [], ◌∷◌, length, Option, Some, None, option_map, is_some, Ok, Err, refl, sym, ap, subst, ◌∙◌, arith}
 use Rattle.std.proofs.lemmas.Bool.{true≢false}
-use Rattle.std.specs.Prelude.{codes, pos, nat_le, is_err}
+use Rattle.std.specs.Prelude.{codes, pos, nat_le}
 use Rattle.std.specs.List.{find}
 use Rattle.std.specs.FinMap as finmap
 use Rattle.std.specs.FinMap.Entries as listed
@@ -22,18 +22,19 @@ use Rattle.lens_specs.specs.Names.{Name, Names}
 use Rattle.lens_specs.specs.Columns.{Columns, Fits, kind_at, is_kind}
 use Rattle.lens_specs.specs.Relation.{Rows, Relation, has}
 use Rattle.lens_specs.specs.Predicate.{gt, compare, Predicate, holds, mentions, compared}
-use Rattle.lens_specs.specs.Refusal.{Refusal, unknown_column, predicate_kind, source_mentions_output, or_else, or_name, when, unless as or_unlike, too_large, columns_limit, unknown_name, unlike_kinds, least_mentioned}
+use Rattle.lens_specs.specs.Refusal.{Refusal, unknown_column, predicate_kind, source_mentions_output, or_else, or_name, when, unless as or_unlike, too_large, columns_limit, tables_limit, views_limit, unknown_name, unlike_kinds, least_mentioned}
 use Rattle.lens_specs.specs.TreeForm.{outputs, tree_of}
 use Rattle.lens_specs.specs.Sort.{clash}
 use Rattle.lens_specs.specs.Typing.{sort, table_sort, select_fault, unless_refused}
 use Rattle.lens_specs.specs.Nodes.{select_get}
 use Rattle.lens_specs.specs.Lens.{Lens, select, select_sort, sort_of, get, rows_or_none, table as rows_of_table}
-use Rattle.language_specs.specs.Language.{Definition, table, view, named}
-use Rattle.language_specs.specs.Language as language
-use Rattle.language_specs.specs.Reading.{reading, tokens_within}
-use Rattle.server_specs.specs.State.{State, fresh, Catalogue, catalogue, columns_from, plain_sort, table_lens, dependent, with_definition, with_dependent, with_lens}
-use Rattle.server_specs.specs.Answer.{unbuilt}
-use Rattle.server_specs.specs.Defining.{is_base, is_taken, count_lenses, table_count, view_count, unless, where_sorted, judged, judged_select}
+use Rattle.grammar_specs.specs.Meaning.{Definition, table, view, named}
+use Rattle.grammar_specs.specs.Meaning as language
+use Rattle.grammar_specs.specs.Faults as faults
+use Rattle.grammar_laws.specs.Reading.{reading}
+use Rattle.server_specs.specs.State.{State, fresh, Catalogue, catalogue, sort_with, table_lens, is_table_of, dependent, with_definition, with_dependent, with_lens}
+use Rattle.server_specs.specs.Answer.{name_taken, unbuilt}
+use Rattle.server_specs.specs.Defining.{is_taken, count_named, table_count, view_count, is_other, unless_full, where_sorted, lens_named, over, where_typed, lens_in, where_lensed, judged}
 use Rattle.server_specs.specs.Answering.{put_set, with_defined}
 use Rattle.server_specs.specs.Validity.{Valid}
 use Rattle.server_laws.proofs.Puts.{accepted_where}
@@ -58,7 +59,7 @@ abbrev listing : List (Name × Kind)
 listing = (a, kind.Int) ∷ []
 
 abbrev U : Columns
-U = columns_from listing
+U = finmap.from_entries listing
 
 abbrev P : Predicate
 P = compare a gt (Int (pos 0)) ∷ []
@@ -70,17 +71,23 @@ abbrev second_text : List ℕ
 second_text = codes "view v = select from t where a > 0"
 
 abbrev first : Definition
-first = table t listing []
+first = table t U [] []
 
 abbrev second : Definition
 second = view v (language.select P (named t))
 
-first_says : reading first_text ≡ Some first
-unfolding reading tokens_within
-first_says = refl
+column : finmap.get U a ≡ Some kind.Int
+column = finmap.get-from_entries name_total listing a
 
-second_says : reading second_text ≡ Some second
-unfolding reading tokens_within
+one_column : finmap.len U ≡ 1
+one_column = finmap.len-insert name_total (finmap.empty {X = Kind} {R = bytes_cmp}) a kind.Int
+    ∙ ap (λ o. cond (is_some o) (finmap.len (finmap.empty {X = Kind} {R = bytes_cmp})) (finmap.len (finmap.empty {X = Kind} {R = bytes_cmp}) + 1)) (finmap.get-empty bytes_cmp a)
+    ∙ ap (λ n. n + 1) (finmap.len-empty bytes_cmp Kind)
+
+first_says : reading first_text ≡ Ok first
+first_says = ap (λ n. cond (nat_le n 64) (Ok first) (Err (faults.too_large faults.columns))) one_column
+
+second_says : reading second_text ≡ Ok second
 second_says = refl
 
 -- ---- they are taken
@@ -89,7 +96,7 @@ abbrev none : Catalogue
 none = finmap.empty
 
 abbrev T : Lens
-T = table_lens t U []
+T = table_lens t U [] []
 
 abbrev V : Lens
 V = select P T
@@ -106,7 +113,7 @@ no_entries : finmap.entries none ≡ []
 no_entries = nothing (finmap.entries none) (sym (finmap.len-entries none) ∙ finmap.len-empty bytes_cmp Lens)
 
 no_tables : table_count none ≡ 0
-no_tables = ap (λ es. count_lenses is_base (map (λ e. e.1) es)) no_entries
+no_tables = ap (count_named is_table_of) no_entries
 
 is_free : (name : Name) → is_taken none name ≡ false
 is_free name = ap is_some (finmap.get-empty bytes_cmp name)
@@ -116,25 +123,17 @@ abbrev no_names : Names
 no_names = set.empty
 
 no_views : view_count one ≡ 0
-no_views = ap (λ es. count_lenses (λ lens. not (is_base lens)) (map (λ e. e.1) es)) (finmap.entries-insert name_total none t T ∙ ap (listed.put bytes_cmp t T) no_entries)
+no_views = ap (count_named (λ name lens. not (is_table_of name lens))) (finmap.entries-insert name_total none t T ∙ ap (listed.put bytes_cmp t T) no_entries)
 
-column : finmap.get U a ≡ Some kind.Int
-column = finmap.get-from_entries name_total listing a
-
-one_column : finmap.len U ≡ 1
-one_column = finmap.len-insert name_total (finmap.empty {X = Kind} {R = bytes_cmp}) a kind.Int
-    ∙ ap (λ o. cond (is_some o) (finmap.len (finmap.empty {X = Kind} {R = bytes_cmp})) (finmap.len (finmap.empty {X = Kind} {R = bytes_cmp}) + 1)) (finmap.get-empty bytes_cmp a)
-    ∙ ap (λ n. n + 1) (finmap.len-empty bytes_cmp Kind)
-
-table_sorted : table_sort U [] [] ≡ Ok (plain_sort U [])
+table_sorted : table_sort U [] [] ≡ Ok (sort_with U [] [])
 unfolding table_sort tree_of
-table_sorted = ap (λ n. unless_refused (or_else (when (not (nat_le n 64)) (too_large columns_limit)) None) (plain_sort U [])) one_column
+table_sorted = ap (λ n. unless_refused (or_else (when (not (nat_le n 64)) (too_large columns_limit)) None) (sort_with U [] [])) one_column
 
 first_taken : judged none no_names (reading first_text) ≡ Ok first
 first_taken = ap (judged none no_names) first_says
-    ∙ ap (λ b. cond (b || nat_le 64 (table_count none)) (Err unbuilt) (where_sorted (table_sort U [] []) first)) (is_free t)
-    ∙ ap (λ n. cond (nat_le 64 n) (Err unbuilt) (where_sorted (table_sort U [] []) first)) no_tables
-    ∙ ap (λ r. where_sorted r first) table_sorted
+    ∙ ap (λ b. cond b (Err (name_taken t)) (where_sorted (table_sort U [] []) none first)) (is_free t)
+    ∙ ap (λ r. where_sorted r none first) table_sorted
+    ∙ ap (λ n. unless_full (nat_le 64 n) tables_limit first) no_tables
 
 both : (x y : Option Refusal) → x ≡ None → y ≡ None → or_else x y ≡ None
 both x y p q = ap (λ o. or_else o y) p ∙ q
@@ -143,27 +142,28 @@ nothing_mentioned : (ns : List Name) → find (mentions []) ns ≡ None
 nothing_mentioned [] = refl
 nothing_mentioned (n ∷ ns) = nothing_mentioned ns
 
-no_fault : select_fault 2 (plain_sort U []) P ≡ None
+no_fault : select_fault 2 (sort_with U [] []) P ≡ None
+unfolding tree_of
 no_fault =
     both (option_map unknown_column (unknown_name U P)) _ (ap (λ o. option_map unknown_column (cond (not (is_some o)) (Some a) None)) column)
     (both (option_map predicate_kind (unlike_kinds U P)) _ (ap (λ o. option_map predicate_kind (or_name (or_unlike (is_kind o kind.Int) a) None)) column)
     (both (option_map source_mentions_output (least_mentioned [] (outputs []))) _ (ap (option_map source_mentions_output) (nothing_mentioned (set.items (outputs []))))
     (ap (λ n. or_else (when (not (nat_le n 64)) (too_large columns_limit)) None) one_column)))
 
-has_sort : sort V ≡ Ok (select_sort (plain_sort U []) P)
+has_sort : sort V ≡ Ok (select_sort (sort_with U [] []) P)
 unfolding sort tree_of
-has_sort = ap (λ o. unless_refused o (select_sort (plain_sort U []) P)) no_fault
+has_sort = ap (λ o. unless_refused o (select_sort (sort_with U [] []) P)) no_fault
 
 second_free : is_taken one v ≡ false
 second_free = ap is_some (get-other none t T v refl) ∙ is_free v
 
-second_taken_of_one : judged one no_names (Some second) ≡ Ok second
+second_taken_of_one : judged one no_names (Ok second) ≡ Ok second
 second_taken_of_one =
-    ap (judged_select one no_names v P t) (get-new none t T)
-    ∙ ap (λ b. unless (b || (nat_le 256 (view_count one) || (not (is_base T) || (set.contains no_names t || is_err (sort V))))) second) second_free
-    ∙ ap (λ n. unless (nat_le 256 n || (not (is_base T) || (set.contains no_names t || is_err (sort V)))) second) no_views
-    ∙ ap (λ b. unless (b || is_err (sort V)) second) (set.contains-empty bytes_cmp t)
-    ∙ ap (λ r. unless (is_err r) second) has_sort
+    ap (λ b. cond b (Err (name_taken v)) (cond (is_other t (finmap.get one t) || set.contains no_names t) (Err unbuilt) (where_lensed (lens_in one (language.select P (named t))) one second))) second_free
+    ∙ ap (λ o. cond (is_other t o || set.contains no_names t) (Err unbuilt) (where_lensed (over (select P) (lens_named t o)) one second)) (get-new none t T)
+    ∙ ap (λ b. cond b (Err unbuilt) (where_lensed (over (select P) (Ok T)) one second)) (set.contains-empty bytes_cmp t)
+    ∙ ap (λ r. where_lensed (where_typed V r) one second) has_sort
+    ∙ ap (λ n. unless_full (nat_le 256 n) views_limit second) no_views
 
 -- ---- the state
 
@@ -192,7 +192,7 @@ valid = valid_taken with_table second_text second with_table_valid second_taken 
 
 known_view : finmap.get (catalogue state.texts) v ≡ Some V
 known_view =
-    ap (λ k. finmap.get k v) (known_after with_table second_text second second_taken ∙ ap (with_definition (Some second)) known_one ∙ ap (λ o. with_lens v (option_map (select P) o) one) (get-new none t T))
+    ap (λ k. finmap.get k v) (known_after with_table second_text second second_taken ∙ ap (with_definition (Ok second)) known_one ∙ ap (λ o. with_lens v (option_map (select P) o) one) (get-new none t T))
     ∙ get-new one v V
 
 -- ---- the put
@@ -242,4 +242,4 @@ is_new = false_from _ (λ i. absurd_false _ (from_those (holds P) (rows_of_table
     ∙ set.contains-empty row_cmp row))
 
 pub puts_can_change : PutsCanChange
-puts_can_change = record { state = state; name = v; lens = V; rows = N; put = rows_put; view = refl; accepted = accepted; row = row; there = there; new = is_new }
+puts_can_change = record { state = state; name = v; lens = V; rows = N; put = rows_put; view = λ table. refl; accepted = accepted; row = row; there = there; new = is_new }

@@ -6,10 +6,10 @@ use Rattle.lens_specs.specs.Relation.{Rows}
 use Rattle.lens_specs.specs.Sort.{off, Clash, clash}
 use Rattle.lens_specs.specs.Lens.{Lens, sort_of}
 use Rattle.lens_specs.specs.Delta.{changes}
-use Rattle.language_specs.specs.Language.{Definition, table, view}
-use Rattle.language_specs.specs.Reading.{reading}
+use Rattle.grammar_specs.specs.Meaning.{Definition, table, view}
+use Rattle.grammar_laws.specs.Reading.{reading}
 use Rattle.lens_specs.specs.Keeping.{Change, define, rows}
-use Rattle.server_specs.specs.State.{State, catalogue, dependent, columns_from}
+use Rattle.server_specs.specs.State.{State, catalogue, dependent}
 use Rattle.server_specs.specs.Defining.{judged}
 use Rattle.server_specs.specs.Answering.{answer, answer_request, answer_definition, answer_read, answer_put, put_sent, put_set, unless_clash, unless_off, with_defined}
 use Rattle.server_specs.specs.Validity.{Valid}
@@ -20,7 +20,7 @@ use Rattle.serde_json.specs.Data.{Items}
 use Rattle.lens_values.specs.SortedSet as set
 use Rattle.lens_values.specs.declared.row.Row.{Row}
 use Rattle.lens_specs.specs.Lines.{Line}
-use Rattle.server_laws.proofs.AnswerFacts.{judged_err, IsPlain, not_built, no_name, no_column, no_tree, IsNoRequest, too_long, no_json, wrong_member, request_err}
+use Rattle.server_laws.proofs.AnswerFacts.{RefusesPlainly, judged_err, request_err}
 use Rattle.server_laws.specs.Answers.{IsChange}
 use Rattle.server_laws.proofs.Kept.{AreThere, accept_is_kept, table_is_kept, view_is_kept}
 use Rattle.server_laws.proofs.Stored.{are_there, lens_here}
@@ -35,10 +35,10 @@ puts_kept s v name L e N none met = subst (λ o. KeptFollows (rows (changes L N 
 
 pub definitions_kept : (s : State) → Valid s → (text : List ℕ) (definition : Definition) → judged (catalogue s.texts) (dependent s.texts) (reading text) ≡ Ok definition
     → KeptFollows (define text (table_made definition)) s (with_defined text definition s)
-definitions_kept s v text (table name columns deps) j =
-    let free = (judged_ok (catalogue s.texts) (dependent s.texts) (reading text) (table name columns deps) j).1.0 in
-    table_is_kept text name (columns_from columns) s (with_defined text (table name columns deps) s)
-    (ap is_some (no_table (finmap.get (catalogue s.texts) name) (finmap.get s.tables name) free (v.tables name))) refl refl
+definitions_kept s v text (table name columns deps P) j =
+    let free = (judged_ok (catalogue s.texts) (dependent s.texts) (reading text) (table name columns deps P) j).1.0 in
+    table_is_kept text name columns s (with_defined text (table name columns deps P) s)
+    (ap is_some (no_table name (finmap.get (catalogue s.texts) name) (finmap.get s.tables name) free (v.tables name))) refl refl
 definitions_kept s v text (view name expr) j = view_is_kept text s (with_defined text (view name expr) s) refl refl
 
 -- ---- any answer
@@ -46,16 +46,10 @@ definitions_kept s v text (view name expr) j = view_is_kept text s (with_defined
 IsKept : Answer × State → State → Type 0
 IsKept r s = IsChange r.0 → (change : Change) × KeptFollows change s r.1
 
-no_change : (a : Answer) → IsPlain a → IsChange a → ⊥
-no_change a (not_built is) h = subst IsChange is h
-no_change a (no_name name is) h = subst IsChange is h
-no_change a (no_column name is) h = subst IsChange is h
-no_change a (no_tree X Y is) h = subst IsChange is h
-
 kept_definition : (s : State) → Valid s → (text : List ℕ) (r : Result Definition Answer) → judged (catalogue s.texts) (dependent s.texts) (reading text) ≡ r → IsKept (answer_definition text r s) s
 unfolding IsKept
 kept_definition s v text (Ok d) j h = (define text (table_made d), definitions_kept s v text d j)
-kept_definition s v text (Err a) j h = absurd (no_change a (judged_err (catalogue s.texts) (dependent s.texts) (reading text) a j) h)
+kept_definition s v text (Err a) j h = absurd ((judged_err (catalogue s.texts) (dependent s.texts) (reading text) a j).change h)
 
 kept_read : (s : State) (name : Name) (o : Option Lens) → IsKept (answer_read name o s) s
 unfolding IsKept
@@ -82,14 +76,9 @@ unfolding IsKept
 kept_answer_put s v name items None e h = absurd h
 kept_answer_put s v name items (Some L) e h = kept_sent s L (are_there L s.tables (lens_here s v name L e).are) (rows_in (sort_of L).columns items) h
 
-never_changes : (a : Answer) → IsNoRequest a → IsChange a → ⊥
-never_changes a (too_long is) h = subst IsChange is h
-never_changes a (no_json is) h = subst IsChange is h
-never_changes a (wrong_member name is) h = subst IsChange is h
-
-kept_request : (s : State) → Valid s → (r : Result Request Answer) → ((a : Answer) → r ≡ Err a → IsNoRequest a) → IsKept (answer_request r s) s
+kept_request : (s : State) → Valid s → (r : Result Request Answer) → RefusesPlainly r → IsKept (answer_request r s) s
 unfolding IsKept
-kept_request s v (Err refusal) r h = absurd (never_changes refusal (r refusal refl) h)
+kept_request s v (Err refusal) r h = absurd ((r refusal refl).change h)
 kept_request s v (Ok (define_request text)) r h = kept_definition s v text (judged (catalogue s.texts) (dependent s.texts) (reading text)) refl h
 kept_request s v (Ok (read name)) r h = kept_read s name (finmap.get (catalogue s.texts) name) h
 kept_request s v (Ok (put_request name items None)) r h = kept_answer_put s v name items (finmap.get (catalogue s.texts) name) refl h

@@ -18,10 +18,10 @@ use Rattle.lens_specs.specs.Columns.{Fits}
 use Rattle.lens_specs.specs.Sort.{off, Clash, clash, IsOf}
 use Rattle.lens_specs.specs.Lens.{Tables, Lens, sort_of, tables_of, table as rows_of_table, put}
 use Rattle.lens_specs.specs.Delta.{TableDelta, diff, is_empty, differences, changes}
-use Rattle.language_specs.specs.Language.{Definition, table, view}
+use Rattle.grammar_specs.specs.Meaning.{Definition, table, view}
 use Rattle.lens_specs.specs.Lines.{Line}
-use Rattle.language_specs.specs.Reading.{reading}
-use Rattle.server_specs.specs.State.{State, catalogue, dependent, columns_from}
+use Rattle.grammar_laws.specs.Reading.{reading}
+use Rattle.server_specs.specs.State.{State, catalogue, dependent}
 use Rattle.server_specs.specs.Answer.{Answer}
 use Rattle.server_specs.specs.Request.{Request, define, read, put as put_request, edit, preview, describe, list, request}
 use Rattle.server_specs.specs.Defining.{judged}
@@ -110,8 +110,8 @@ last_answer_put s name items v (Some L) is q = last_sent s L items (lens_here s 
 last_definition : (s : State) (text : List ℕ) (r : Result Definition Answer) (q : Name) → IsLast s (answer_definition text r s).1 q
 last_definition s text (Err refusal) q = stays s q
 last_definition s text (Ok (view name expr)) q = inr (refl, refl)
-last_definition s text (Ok (table name columns deps)) q =
-    let M : Relation = record { columns = columns_from columns; rows = set.empty } in
+last_definition s text (Ok (table name columns deps P)) q =
+    let M : Relation = record { columns = columns; rows = set.empty } in
     elim (cases_Bool (eq_by_cmp bytes_cmp q name)) [
       | inl t ↦ inl (finmap.get-insert name_total s.last name (s.version + 1) q ∙ ap (λ c. cond c (Some (s.version + 1)) (finmap.get s.last q)) t)
       | inr o ↦ inr (

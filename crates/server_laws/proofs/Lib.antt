@@ -9,4 +9,5 @@ pub mod Puts
 pub mod KeptStates
 pub mod LinePuts
 pub mod Last
+pub mod Definitions
 pub mod Example

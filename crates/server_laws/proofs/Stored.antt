@@ -1,10 +1,12 @@
 -- The tables of a valid state: those of the catalogue, each of its sort.
 use Rattle.std.proofs.Common.{◌≡◌, true, Option, Some, None, is_some, refl, sym, ap, subst, ◌∙◌, inl, inr}
+use Rattle.std.specs.Prelude.{nat_eq}
 use Rattle.std.proofs.lemmas.Bool.{cases_Bool, or_cases}
+use Rattle.std.specs.Cmp.Lexicographic.{pointwise, texts_ties}
 use Rattle.std.specs.FinMap as finmap
 use Rattle.lens_values.specs.SortedSet as set
 use Rattle.lens_laws.proofs.Lenses.{put_leaves}
-use Rattle.lens_laws.proofs.Names.{name_total, one_is}
+use Rattle.lens_laws.proofs.Names.{name_total, name_itself, one_is}
 use Rattle.lens_laws.proofs.Rules.{sort_is_typed}
 use Rattle.lens_laws.specs.Lenses.{IsTyped, AreOf}
 use Rattle.lens_specs.specs.Names.{Name}
@@ -12,30 +14,41 @@ use Rattle.lens_specs.specs.Relation.{Relation, Rows}
 use Rattle.lens_specs.specs.Sort.{Sort, IsOfSort}
 use Rattle.lens_specs.specs.Lens.{Tables, Lens, base, select, drop, join, sort_of, tables_of, put}
 use Rattle.server_specs.specs.State.{State, Catalogue, catalogue}
-use Rattle.server_specs.specs.Validity.{IsTableOf, IsStored, Valid}
+use Rattle.server_specs.specs.Validity.{IsRelationOf, IsStoredAs, IsStored, Valid}
 use Rattle.server_laws.proofs.Kept.{AreThere, put_keeps}
 use Rattle.server_laws.proofs.Taken.{BasesAre, IsKnown, all_known}
 
 -- the tables are those of the catalogue
 abbrev pub AreStored : Catalogue → Tables → Type 0
-AreStored known db = (name : Name) → IsStored (finmap.get known name) (finmap.get db name)
+AreStored known db = (name : Name) → IsStored name (finmap.get known name) (finmap.get db name)
 
-is_there : (t : Name) (s : Sort) (o : Option Relation) → IsTableOf (base t s) o → (M : Relation) × (o ≡ Some M) × IsOfSort M s
+-- a name is the same as itself
+pub name_same : (t : Name) → pointwise nat_eq t t ≡ true
+name_same t = texts_ties t t ∙ name_itself t
+
+-- a table is stored exactly as a relation of its sort
+pub as_relation : (t : Name) (s : Sort) (o : Option Relation) → IsStored t (Some (base t s)) o → IsRelationOf (base t s) o
+as_relation t s o h = subst (λ b. IsStoredAs b (base t s) o) (name_same t) h
+
+pub as_stored : (t : Name) (s : Sort) (o : Option Relation) → IsRelationOf (base t s) o → IsStored t (Some (base t s)) o
+as_stored t s o h = subst (λ b. IsStoredAs b (base t s) o) (sym (name_same t)) h
+
+is_there : (t : Name) (s : Sort) (o : Option Relation) → IsRelationOf (base t s) o → (M : Relation) × (o ≡ Some M) × IsOfSort M s
 is_there t s None h = absurd h
 is_there t s (Some M) h = (M, refl, h)
 
 -- the tables of a lens whose bases are the catalogue's
 pub are_of : (known : Catalogue) (db : Tables) → AreStored known db → (L : Lens) → BasesAre known L → AreOf L db
-are_of known db h (base t s) b = is_there t s (finmap.get db t) (subst (λ o. IsStored o (finmap.get db t)) b (h t))
+are_of known db h (base t s) b = is_there t s (finmap.get db t) (as_relation t s (finmap.get db t) (subst (λ o. IsStored t o (finmap.get db t)) b (h t)))
 are_of known db h (select P C) b = are_of known db h C b
 are_of known db h (drop A X a C) b = are_of known db h C b
 are_of known db h (join A B) b = (are_of known db h A b.0, are_of known db h B b.1)
 
-stored_of : (known : Catalogue) (db : Tables) (L : Lens) → BasesAre known L → AreOf L db → (q : Name) → set.contains (tables_of L) q ≡ true → IsStored (finmap.get known q) (finmap.get db q)
+stored_of : (known : Catalogue) (db : Tables) (L : Lens) → BasesAre known L → AreOf L db → (q : Name) → set.contains (tables_of L) q ≡ true → IsStored q (finmap.get known q) (finmap.get db q)
 unfolding tables_of
 stored_of known db (base t s) b a q i =
-    let here : IsStored (finmap.get known t) (finmap.get db t) = subst (λ o. IsStored o (finmap.get db t)) (sym b) (subst (λ o. IsTableOf (base t s) o) (sym a.1) a.2) in
-    subst (λ n. IsStored (finmap.get known n) (finmap.get db n)) (sym (one_is t q i)) here
+    let here : IsStored t (finmap.get known t) (finmap.get db t) = subst (λ o. IsStored t o (finmap.get db t)) (sym b) (as_stored t s (finmap.get db t) (subst (IsRelationOf (base t s)) (sym a.1) a.2)) in
+    subst (λ n. IsStored n (finmap.get known n) (finmap.get db n)) (sym (one_is t q i)) here
 stored_of known db (select P C) b a q i = stored_of known db C b a q i
 stored_of known db (drop A X v C) b a q i = stored_of known db C b a q i
 stored_of known db (join A B) b a q i = elim (or_cases _ _ (sym (set.contains-union name_total (tables_of A) (tables_of B) q) ∙ i)) [
@@ -47,7 +60,7 @@ stored_of known db (join A B) b a q i = elim (or_cases _ _ (sym (set.contains-un
 pub stored_put : (known : Catalogue) (db : Tables) (L : Lens) (N : Rows) → AreStored known db → BasesAre known L → AreOf L (put L N db) → AreStored known (put L N db)
 stored_put known db L N h b a q = elim (cases_Bool (set.contains (tables_of L) q)) [
   | inl i ↦ stored_of known (put L N db) L b a q i
-  | inr o ↦ subst (λ r. IsStored (finmap.get known q) r) (sym (put_leaves L N db q o)) (h q)
+  | inr o ↦ subst (λ r. IsStored q (finmap.get known q) r) (sym (put_leaves L N db q o)) (h q)
 ]
 
 -- tables of a lens that are of their sorts are there

@@ -1,7 +1,8 @@
 -- What is known of the lenses that taken definitions make.
-use Rattle.std.proofs.Common.{◌≡◌, ℕ, suc, Bool, true, false, cond, not, List, [], ◌∷◌, ◌++◌, Option, Some, None, option_map, Result, Ok, Err, is_some, refl, sym, ap, subst, ◌∙◌, inl, inr}
+use Rattle.std.proofs.Common.{◌≡◌, ℕ, suc, Bool, true, false, cond, List, [], ◌∷◌, ◌++◌, Option, Some, None, option_map, Result, Ok, Err, is_some, refl, sym, ap, subst, ◌∙◌, inl, inr}
 use Rattle.std.specs.Prelude.{is_err, nat_le}
-use Rattle.std.proofs.lemmas.Bool.{cases_Bool, or_parts, true≢false}
+use Rattle.std.proofs.lemmas.Bool.{cases_Bool, true≢false}
+use Rattle.std.specs.Cmp.Lexicographic.{texts_ties}
 use Rattle.std.specs.FinMap as finmap
 use Rattle.std.specs.Ordering.{eq_by_cmp}
 use Rattle.lens_values.specs.Order.{bytes_cmp}
@@ -15,63 +16,55 @@ use Rattle.lens_specs.specs.Names.{Name, Names}
 use Rattle.lens_specs.specs.Dependencies.{Edge}
 use Rattle.lens_specs.specs.TreeForm.{TreeForm, is_tree, not_tree, tree_of}
 use Rattle.lens_specs.specs.Sort.{Sort}
-use Rattle.lens_specs.specs.Refusal.{Refusal, unknown_column, predicate_kind, or_else, unknown_name, unlike_kinds, too_much}
+use Rattle.lens_specs.specs.Refusal.{Refusal, Limit, unknown_column, predicate_kind, or_else, unknown_name, unlike_kinds, too_much, tables_limit, views_limit}
 use Rattle.lens_specs.specs.Columns.{Columns}
 use Rattle.lens_specs.specs.Predicate.{Predicate}
 use Rattle.lens_specs.specs.Lens.{Lens, base, select, drop, join, sort_of, tree_or_none}
 use Rattle.lens_specs.specs.Typing.{sort, table_sort, table_sort_with, unknown_in, unless_refused}
-use Rattle.language_specs.specs.Language.{Definition, table, view, Expr, named}
-use Rattle.language_specs.specs.Language as language
-use Rattle.language_specs.specs.Reading.{reading}
-use Rattle.server_specs.specs.State.{Catalogue, catalogue, catalogue_onto, with_definition, with_lens, plain_sort, table_lens, columns_from, dependent, dependent_onto, with_dependent}
-use Rattle.server_specs.specs.Answer.{unbuilt}
-use Rattle.server_specs.specs.Defining.{is_base, is_taken, are_columns, view_count, unless, is_no_table, where_sorted, judged, judged_select, refused_from, first_refused}
+use Rattle.grammar_specs.specs.Meaning.{Definition, table, view, Expr, named}
+use Rattle.grammar_specs.specs.Meaning as language
+use Rattle.grammar_specs.specs.Faults.{Fault}
+use Rattle.grammar_laws.specs.Reading.{reading}
+use Rattle.server_specs.specs.State.{Catalogue, catalogue, catalogue_onto, with_definition, with_lens, lens_of, join_of, sort_with, table_lens, is_table_of, dependent_onto, dependent, with_dependent}
+use Rattle.server_specs.specs.Answer.{Answer, name_taken, unbuilt}
+use Rattle.server_specs.specs.Defining.{is_taken, table_count, view_count, unless_full, where_sorted, lens_named, where_typed, over, over_both, lens_in, where_lensed, is_unbuilt, judged, refused_from, first_refused}
 
 -- ---- what a judgement says
 
 -- a definition that is taken
 abbrev pub IsTaken : Catalogue → Definition → Type 0
-IsTaken known (table name columns deps) = (is_taken known name ≡ false) × ((sort : Sort) × (table_sort (columns_from columns) deps [] ≡ Ok sort))
-IsTaken known (view name (named source)) = ⊥
-IsTaken known (view name (language.select P (named source))) =
-    (is_taken known name ≡ false) × ((lens : Lens) × (finmap.get known source ≡ Some lens) × (is_err (sort (select P lens)) ≡ false))
-IsTaken known (view name (language.select P (language.select Q expr))) = ⊥
+IsTaken known (table name columns deps predicate) = (is_taken known name ≡ false) × ((sort : Sort) × (table_sort columns deps predicate ≡ Ok sort))
+IsTaken known (view name expr) = (is_taken known name ≡ false) × ((lens : Lens) × (lens_in known expr ≡ Ok lens))
 
-unless_ok : (b : Bool) (d e : Definition) → unless b d ≡ Ok e → (b ≡ false) × (d ≡ e)
-unless_ok true d e h = cc
-unless_ok false d e h = (refl, cc)
+full_ok : (b : Bool) (limit : Limit) (d e : Definition) → unless_full b limit d ≡ Ok e → d ≡ e
+full_ok true limit d e h = cc
+full_ok false limit d e h = cc
 
-select_ok : (known : Catalogue) (dependent : Names) (name : Name) (P : Predicate) (source : Name) (o : Option Lens) → finmap.get known source ≡ o → (d : Definition) → judged_select known dependent name P source o ≡ Ok d
-    → (view name (language.select P (named source)) ≡ d) × IsTaken known (view name (language.select P (named source)))
-select_ok known dependent name P source None is d h = cc
-select_ok known dependent name P source (Some lens) is d h =
-    let w = unless_ok _ _ d h in
-    let a = or_parts (is_taken known name) _ w.0 in
-    let b = or_parts (nat_le 256 (view_count known)) _ a.1 in
-    let c = or_parts (not (is_base lens)) _ b.1 in
-    let e = or_parts (set.contains dependent source) _ c.1 in
-    (w.1, (a.0, (lens, is, e.1)))
+sorted_ok : (r : Result Sort Refusal) (known : Catalogue) (d e : Definition) → where_sorted r known d ≡ Ok e → ((sort : Sort) × (r ≡ Ok sort)) × (d ≡ e)
+sorted_ok (Ok sort) known d e h = ((sort, refl), full_ok (nat_le 64 (table_count known)) tables_limit d e h)
+sorted_ok (Err first) known d e h = cc
 
-sorted_ok : (r : Result Sort Refusal) (d e : Definition) → where_sorted r d ≡ Ok e → ((sort : Sort) × (r ≡ Ok sort)) × (d ≡ e)
-sorted_ok (Ok sort) d e h = ((sort, refl), cc)
-sorted_ok (Err refused) d e h = cc
+lensed_ok : (r : Result Lens Answer) (known : Catalogue) (d e : Definition) → where_lensed r known d ≡ Ok e → ((lens : Lens) × (r ≡ Ok lens)) × (d ≡ e)
+lensed_ok (Ok lens) known d e h = ((lens, refl), full_ok (nat_le 256 (view_count known)) views_limit d e h)
+lensed_ok (Err first) known d e h = cc
 
-table_ok : (b : Bool) (r : Result Sort Refusal) (d e : Definition) → cond b (Err unbuilt) (where_sorted r d) ≡ Ok e → (b ≡ false) × ((sort : Sort) × (r ≡ Ok sort)) × (d ≡ e)
-table_ok true r d e h = cc
-table_ok false r d e h = let w = sorted_ok r d e h in (refl, w.0, w.1)
+-- what is no refusal passes the test
+passed : (b : Bool) (a : Answer) (r : Result Definition Answer) (e : Definition) → cond b (Err a) r ≡ Ok e → (b ≡ false) × (r ≡ Ok e)
+passed true a r e h = cc
+passed false a r e h = (refl, h)
 
 -- what is judged well is the definition itself, and it is taken
-pub judged_ok : (known : Catalogue) (dependent : Names) (o : Option Definition) (d : Definition) → judged known dependent o ≡ Ok d → (o ≡ Some d) × IsTaken known d
-judged_ok known dependent None d h = cc
-judged_ok known dependent (Some (table name columns deps)) d h =
-    let w = table_ok (is_no_table known name columns) (table_sort (columns_from columns) deps []) (table name columns deps) d h in
-    let a = or_parts (not (are_columns columns)) _ w.0 in
-    (ap Some w.2, subst (IsTaken known) w.2 ((or_parts (is_taken known name) _ a.1).0, w.1))
-judged_ok known dependent (Some (view name (named source))) d h = cc
-judged_ok known dependent (Some (view name (language.select P (named source)))) d h =
-    let w = select_ok known dependent name P source (finmap.get known source) refl d h in
-    (ap Some w.0, subst (IsTaken known) w.0 w.1)
-judged_ok known dependent (Some (view name (language.select P (language.select Q expr)))) d h = cc
+pub judged_ok : (known : Catalogue) (dependent : Names) (r : Result Definition Fault) (d : Definition) → judged known dependent r ≡ Ok d → (r ≡ Ok d) × IsTaken known d
+judged_ok known dependent (Err fault) d h = cc
+judged_ok known dependent (Ok (table name columns deps predicate)) d h =
+    let free = passed (is_taken known name) (name_taken name) (where_sorted (table_sort columns deps predicate) known (table name columns deps predicate)) d h in
+    let w = sorted_ok (table_sort columns deps predicate) known (table name columns deps predicate) d free.1 in
+    (ap Ok w.1, subst (IsTaken known) w.1 (free.0, w.0))
+judged_ok known dependent (Ok (view name expr)) d h =
+    let free = passed (is_taken known name) (name_taken name) (cond (is_unbuilt known dependent expr) (Err unbuilt) (where_lensed (lens_in known expr) known (view name expr))) d h in
+    let built = passed (is_unbuilt known dependent expr) unbuilt (where_lensed (lens_in known expr) known (view name expr)) d free.1 in
+    let w = lensed_ok (lens_in known expr) known (view name expr) d built.1 in
+    (ap Ok w.1, subst (IsTaken known) w.1 (free.0, w.0))
 
 pub no_error : {A E : Type 0} (r : Result A E) → is_err r ≡ false → (a : A) × (r ≡ Ok a)
 no_error (Ok a) h = (a, refl)
@@ -103,8 +96,15 @@ pub get-other : (known : Catalogue) (name : Name) (M : Lens) (q : Name) → eq_b
 get-other known name M q o = finmap.get-insert name_total known name M q ∙ ap (λ b. cond b (Some M) (finmap.get known q)) o
 
 -- a name with a lens is not one that is free
-not_free : (known : Catalogue) (name t : Name) (L : Lens) → is_taken known name ≡ false → finmap.get known t ≡ Some L → eq_by_cmp bytes_cmp t name ≡ false
+pub not_free : (known : Catalogue) (name t : Name) (L : Lens) → is_taken known name ≡ false → finmap.get known t ≡ Some L → eq_by_cmp bytes_cmp t name ≡ false
 not_free known name t L free e = false_from _ (λ is. absurd (true≢false (sym (ap is_some e) ∙ ap (λ n. is_some (finmap.get known n)) (tied_name t name is) ∙ free)))
+
+-- a lens over tables of the catalogue is not the table of a name that is free
+pub not_own : (known : Catalogue) (name : Name) → is_taken known name ≡ false → (L : Lens) → BasesAre known L → is_table_of name L ≡ false
+not_own known name free (base t s) h = texts_ties t name ∙ not_free known name t (base t s) free h
+not_own known name free (select P C) h = refl
+not_own known name free (drop A X a C) h = refl
+not_own known name free (join A B) h = refl
 
 bases_stay : (known : Catalogue) (name : Name) (M : Lens) → is_taken known name ≡ false → (L : Lens) → BasesAre known L → BasesAre (finmap.insert known name M) L
 bases_stay known name M free (base t s) h = get-other known name M t (not_free known name t (base t s) free h) ∙ h
@@ -124,68 +124,114 @@ one_more known name M free here all q L e = elim (cases_Bool (eq_by_cmp bytes_cm
       record { sound = k.sound; sorted = k.sorted; bases = bases_stay known name M free L k.bases }
 ]
 
--- the sort of a table with no predicate
-formed_plain : (columns : Columns) (deps : List Edge) (form : TreeForm) (t : Sort) → table_sort_with columns deps [] form ≡ Ok t → t ≡ plain_sort columns (tree_or_none form)
-formed_plain columns deps (is_tree T) t e = fitted (or_else (option_map predicate_kind (unlike_kinds columns [])) (too_much 1 (plain_sort columns T))) e
+-- the sort of a table, where it is not refused
+formed_is : (columns : Columns) (deps : List Edge) (P : Predicate) (form : TreeForm) (t : Sort) → table_sort_with columns deps P form ≡ Ok t → t ≡ record { columns = columns; predicate = P; tree = tree_or_none form }
+formed_is columns deps P (is_tree T) t e = fitted (or_else (option_map predicate_kind (unlike_kinds columns P)) (too_much 1 (record { columns = columns; predicate = P; tree = T }))) e
   where
-    fitted : (o : Option Refusal) → unless_refused o (plain_sort columns T) ≡ Ok t → t ≡ plain_sort columns T
+    fitted : (o : Option Refusal) → unless_refused o (record { columns = columns; predicate = P; tree = T }) ≡ Ok t → t ≡ record { columns = columns; predicate = P; tree = T }
     fitted None h = cc
     fitted (Some r) h = cc
-formed_plain columns deps (not_tree X Y) t e = cc
+formed_is columns deps P (not_tree X Y) t e = cc
 
-table_sort_is : (columns : Columns) (deps : List Edge) (t : Sort) → table_sort columns deps [] ≡ Ok t → t ≡ plain_sort columns (tree_or_none (tree_of deps))
+pub table_sort_is : (columns : Columns) (deps : List Edge) (P : Predicate) (t : Sort) → table_sort columns deps P ≡ Ok t → t ≡ sort_with columns deps P
 unfolding table_sort
-table_sort_is columns deps t e = chosen (or_else (unknown_in columns deps) (option_map unknown_column (unknown_name columns []))) e
+table_sort_is columns deps P t e = chosen (or_else (unknown_in columns deps) (option_map unknown_column (unknown_name columns P))) e
   where
-    chosen : (o : Option Refusal) → elim o as (λ _. Result Sort Refusal) [ Some r ↦ Err r | None ↦ table_sort_with columns deps [] (tree_of deps) ] ≡ Ok t → t ≡ plain_sort columns (tree_or_none (tree_of deps))
-    chosen None h = formed_plain columns deps (tree_of deps) t h
+    chosen : (o : Option Refusal) → elim o as (λ _. Result Sort Refusal) [ Some r ↦ Err r | None ↦ table_sort_with columns deps P (tree_of deps) ] ≡ Ok t → t ≡ sort_with columns deps P
+    chosen None h = formed_is columns deps P (tree_of deps) t h
     chosen (Some r) h = cc
 
 -- a table whose sort is not refused
-table_is_known : (known : Catalogue) (name : Name) (columns : Columns) (deps : List Edge) → (t : Sort) × (table_sort columns deps [] ≡ Ok t)
-    → IsKnown (finmap.insert known name (table_lens name columns deps)) (table_lens name columns deps)
+table_is_known : (known : Catalogue) (name : Name) (columns : Columns) (deps : List Edge) (P : Predicate) → (t : Sort) × (table_sort columns deps P ≡ Ok t)
+    → IsKnown (finmap.insert known name (table_lens name columns deps P)) (table_lens name columns deps P)
 unfolding sort
-table_is_known known name columns deps h = record {
-  sound = subst IsSound (table_sort_is columns deps h.0 h.1) (table_sort_is_sound columns deps [] h.0 h.1);
+table_is_known known name columns deps P h = record {
+  sound = subst IsSound (table_sort_is columns deps P h.0 h.1) (table_sort_is_sound columns deps P h.0 h.1);
   sorted = refl;
-  bases = get-new known name (table_lens name columns deps);
+  bases = get-new known name (table_lens name columns deps P);
 }
 
-select_is_known : (known : Catalogue) (name : Name) (P : Predicate) (C : Lens) → is_taken known name ≡ false → is_err (sort (select P C)) ≡ false → IsKnown known C → IsKnown (finmap.insert known name (select P C)) (select P C)
-select_is_known known name P C free h k =
-    let w = no_error (sort (select P C)) h in record {
-      sound = k.sound;
-      sorted = w.1 ∙ ap Ok (sort_is_typed (select P C) w.0 k.sound w.1).0;
-      bases = bases_stay known name (select P C) free C k.bases;
-    }
+-- ---- the lens of an expression
+
+-- a lens with a sort, over tables of the catalogue
+node_is_known : (known : Catalogue) (L : Lens) (s : Sort) → BasesAreSound L → BasesAre known L → sort L ≡ Ok s → IsKnown known L
+node_is_known known L s sound bases e = record { sound = sound; sorted = e ∙ ap Ok (sort_is_typed L s sound e).0; bases = bases }
+
+named_ok : (name : Name) (o : Option Lens) (L : Lens) → lens_named name o ≡ Ok L → o ≡ Some L
+named_ok name None L h = cc
+named_ok name (Some lens) L h = cc
+
+typed_ok : (lens : Lens) (r : Result Sort Refusal) (L : Lens) → where_typed lens r ≡ Ok L → ((s : Sort) × (r ≡ Ok s)) × (lens ≡ L)
+typed_ok lens (Ok s) L h = ((s, refl), cc)
+typed_ok lens (Err first) L h = cc
+
+-- the operand has a lens, and the node over it a sort
+over_ok : (node : Lens → Lens) (r : Result Lens Answer) (L : Lens) → over node r ≡ Ok L → (C : Lens) × (r ≡ Ok C) × ((s : Sort) × (sort (node C) ≡ Ok s)) × (node C ≡ L)
+over_ok node (Err first) L h = cc
+over_ok node (Ok C) L h = let w = typed_ok (node C) (sort (node C)) L h in (C, refl, w.0, w.1)
+
+both_ok : (l r : Result Lens Answer) (L : Lens) → over_both l r ≡ Ok L → (A : Lens) × (B : Lens) × (l ≡ Ok A) × (r ≡ Ok B) × ((s : Sort) × (sort (join A B) ≡ Ok s)) × (join A B ≡ L)
+both_ok (Err first) r L h = cc
+both_ok (Ok A) r L h = let w = over_ok (join A) r L h in (A, w.0, refl, w.1, w.2, w.3)
+
+-- an expression that is not refused has its lens
+pub lens_is : (known : Catalogue) (expr : Expr) (L : Lens) → lens_in known expr ≡ Ok L → lens_of expr known ≡ Some L
+lens_is known (named name) L h = named_ok name (finmap.get known name) L h
+lens_is known (language.select P of) L h =
+    let w = over_ok (select P) (lens_in known of) L h in
+    ap (option_map (select P)) (lens_is known of w.0 w.1) ∙ ap Some w.3
+lens_is known (language.drop A X a of) L h =
+    let w = over_ok (drop A X a) (lens_in known of) L h in
+    ap (option_map (drop A X a)) (lens_is known of w.0 w.1) ∙ ap Some w.3
+lens_is known (language.join left right) L h =
+    let w = both_ok (lens_in known left) (lens_in known right) L h in
+    ap (λ o. join_of o (lens_of right known)) (lens_is known left w.0 w.2) ∙ ap (join_of (Some w.0)) (lens_is known right w.1 w.3) ∙ ap Some w.5
+
+-- and that lens is known, where those of its names are
+pub lens_is_known : (known : Catalogue) → AllKnown known → (expr : Expr) (L : Lens) → lens_in known expr ≡ Ok L → IsKnown known L
+lens_is_known known all (named name) L h = all name L (named_ok name (finmap.get known name) L h)
+lens_is_known known all (language.select P of) L h =
+    let w = over_ok (select P) (lens_in known of) L h in
+    let k = lens_is_known known all of w.0 w.1 in
+    subst (IsKnown known) w.3 (node_is_known known (select P w.0) w.2.0 k.sound k.bases w.2.1)
+lens_is_known known all (language.drop A X a of) L h =
+    let w = over_ok (drop A X a) (lens_in known of) L h in
+    let k = lens_is_known known all of w.0 w.1 in
+    subst (IsKnown known) w.3 (node_is_known known (drop A X a w.0) w.2.0 k.sound k.bases w.2.1)
+lens_is_known known all (language.join left right) L h =
+    let w = both_ok (lens_in known left) (lens_in known right) L h in
+    let j = lens_is_known known all left w.0 w.2 in
+    let k = lens_is_known known all right w.1 w.3 in
+    subst (IsKnown known) w.5 (node_is_known known (join w.0 w.1) w.4.0 (j.sound, k.sound) (j.bases, k.bases) w.4.1)
+
+-- ---- the lens that a definition adds
 
 -- the lens that a taken definition adds, under a name that is free
 pub record Adds (known : Catalogue) (d : Definition) : Type 0 where
   pub name : Name
   pub lens : Lens
   pub free : is_taken known name ≡ false
-  pub made : with_definition (Some d) known ≡ finmap.insert known name lens
+  pub made : with_definition (Ok d) known ≡ finmap.insert known name lens
   pub there : IsKnown (finmap.insert known name lens) lens
 
 pub adds : (known : Catalogue) (d : Definition) → IsTaken known d → AllKnown known → Adds known d
-adds known (table name columns deps) h all = record {
+adds known (table name columns deps P) h all = record {
   name = name;
-  lens = table_lens name (columns_from columns) deps;
+  lens = table_lens name columns deps P;
   free = h.0;
   made = refl;
-  there = table_is_known known name (columns_from columns) deps h.1;
+  there = table_is_known known name columns deps P h.1;
 }
-adds known (view name (named source)) h all = absurd h
-adds known (view name (language.select P (named source))) h all = record {
-  name = name;
-  lens = select P h.1.0;
-  free = h.0;
-  made = ap (λ o. with_lens name (option_map (select P) o) known) h.1.1;
-  there = select_is_known known name P h.1.0 h.0 h.1.2 (all source h.1.0 h.1.1);
-}
-adds known (view name (language.select P (language.select Q expr))) h all = absurd h
+adds known (view name expr) h all =
+    let k = lens_is_known known all expr h.1.0 h.1.1 in record {
+      name = name;
+      lens = h.1.0;
+      free = h.0;
+      made = ap (λ o. with_lens name o known) (lens_is known expr h.1.0 h.1.1);
+      there = record { sound = k.sound; sorted = k.sorted; bases = bases_stay known name h.1.0 h.0 h.1.0 k.bases };
+    }
 
-pub still_known : (known : Catalogue) (d : Definition) → IsTaken known d → AllKnown known → AllKnown (with_definition (Some d) known)
+pub still_known : (known : Catalogue) (d : Definition) → IsTaken known d → AllKnown known → AllKnown (with_definition (Ok d) known)
 still_known known d h all = let a = adds known d h all in subst AllKnown (sym a.made) (one_more known a.name a.lens a.free a.there all)
 
 -- ---- texts that are all taken
@@ -201,7 +247,7 @@ none_refused known dependent (text ∷ texts) all h =
     let w = place_none (is_err (judged known dependent (reading text))) (refused_from (with_definition (reading text) known) (with_dependent (reading text) dependent) texts) h in
     let j = no_error (judged known dependent (reading text)) w.0 in
     let d = judged_ok known dependent (reading text) j.0 j.1 in
-    none_refused (with_definition (reading text) known) (with_dependent (reading text) dependent) texts (subst (λ o. AllKnown (with_definition o known)) (sym d.0) (still_known known j.0 d.1 all)) w.1
+    none_refused (with_definition (reading text) known) (with_dependent (reading text) dependent) texts (subst (λ r. AllKnown (with_definition r known)) (sym d.0) (still_known known j.0 d.1 all)) w.1
 
 -- every lens of a catalogue of taken texts is known
 pub all_known : (texts : List (List ℕ)) → first_refused texts ≡ None → AllKnown (catalogue texts)

@@ -1,6 +1,6 @@
 -- Every state that the server comes to is valid.
 use Rattle.std.proofs.Common.{◌≡◌, ◌≤◌, ◌+◌, ℕ, Bool, true, false, cond, ◌||◌, List, [], ◌∷◌, ◌++◌, Option, Some, None, Result, Ok, Err, is_some, refl, sym, ap, subst, ◌∙◌, arith}
-use Rattle.std.specs.Prelude.{IfSome, option_map}
+use Rattle.std.specs.Prelude.{IfSome}
 use Rattle.std.proofs.lemmas.Bool.{true≢false}
 use Rattle.std.specs.FinMap as finmap
 use Rattle.std.specs.List.{AllByRecursion}
@@ -20,32 +20,30 @@ use Rattle.lens_specs.specs.Columns.{Columns, Fits}
 use Rattle.lens_specs.specs.Relation.{Relation, Rows, has}
 use Rattle.lens_specs.specs.Predicate.{Predicate}
 use Rattle.lens_specs.specs.Dependencies.{Edge, MeetsTree}
-use Rattle.lens_specs.specs.TreeForm.{tree_of}
-use Rattle.lens_specs.specs.Sort.{off, Clash, clash, IsOf}
-use Rattle.lens_specs.specs.Lens.{Tables, Lens, select, sort_of, tables_of, tree_or_none, put}
+use Rattle.lens_specs.specs.Sort.{Sort, off, Clash, clash, IsOf}
+use Rattle.lens_specs.specs.Lens.{Tables, Lens, sort_of, tables_of, put}
 use Rattle.lens_specs.specs.Delta.{TableDelta, changes, differences, diff, is_empty}
 use Rattle.lens_specs.specs.Lens.{table as rows_of_table}
-use Rattle.language_specs.specs.Language.{Definition, table, view, Expr, named}
-use Rattle.language_specs.specs.Language as language
+use Rattle.grammar_specs.specs.Meaning.{Definition, table, view}
 use Rattle.lens_specs.specs.Lines.{Line}
-use Rattle.language_specs.specs.Reading.{reading}
+use Rattle.grammar_laws.specs.Reading.{reading}
 use Rattle.server_specs.proofs.Catalogues.{catalogue-push}
-use Rattle.server_specs.specs.State.{State, fresh, Catalogue, catalogue, with_definition, with_lens, plain_sort, table_lens, columns_from, dependent}
+use Rattle.server_specs.specs.State.{State, fresh, Catalogue, catalogue, with_definition, with_lens, sort_with, table_lens, is_table_of, dependent}
 use Rattle.server_specs.specs.Answer.{Answer}
 use Rattle.server_specs.specs.Request.{Request, define, read, put as put_request, edit, preview, describe, list, request}
 use Rattle.server_specs.specs.Defining.{judged, is_taken}
 use Rattle.server_specs.specs.Sending.{BadRow, rows_in}
 use Rattle.server_specs.specs.Answering.{answer, answer_request, answer_definition, answer_read, answer_put, put_sent, put_set, unless_clash, unless_off, accept, with_last, with_defined}
 use Rattle.server_specs.specs.Session.{Replies, answered, out_of_memory, not_stored, Exchange, Chain, last_state, Session}
-use Rattle.server_specs.specs.Validity.{IsStored, Valid}
+use Rattle.server_specs.specs.Validity.{IsStoredAs, IsStored, Valid}
 use Rattle.server_specs.proofs.Sent.{sent_fit}
-use Rattle.server_laws.proofs.Stored.{AreStored, stored_put, put_names, are_there, IsHere, lens_here}
-use Rattle.server_laws.proofs.Taken.{IsTaken, judged_ok, adds, all_known, first_refused-push}
+use Rattle.server_laws.proofs.Stored.{AreStored, as_stored, stored_put, put_names, are_there, IsHere, lens_here}
+use Rattle.server_laws.proofs.Taken.{IsTaken, judged_ok, not_own, lens_is, lens_is_known, all_known, first_refused-push}
 
 pub fresh_is_valid : Valid fresh
 fresh_is_valid = record {
   definitions = refl;
-  tables = λ name. subst (λ o. IsStored o (finmap.get (finmap.empty {X = Relation} {R = bytes_cmp}) name)) (sym (finmap.get-empty bytes_cmp name)) (finmap.get-empty bytes_cmp name);
+  tables = λ name. subst (λ o. IsStored name o (finmap.get (finmap.empty {X = Relation} {R = bytes_cmp}) name)) (sym (finmap.get-empty bytes_cmp name)) (finmap.get-empty bytes_cmp name);
   last = λ name. ap is_some (finmap.get-empty bytes_cmp name) ∙ sym (ap is_some (finmap.get-empty bytes_cmp name));
   past = λ name. subst (λ o. IfSome o (λ version. version ≤ 0)) (sym (finmap.get-empty bytes_cmp name)) tt;
 }
@@ -159,45 +157,53 @@ none_meet : (T : List Edge) → MeetsTree set.empty T
 none_meet [] = tt
 none_meet (e ∷ es) = (λ r s i j k. absurd_false _ i (set.contains-empty row_cmp r), none_meet es)
 
--- no rows are of any sort with no predicate
-none_of_plain : (columns : Columns) (T : List Edge) → IsOf set.empty (plain_sort columns T)
-none_of_plain columns T = record {
+-- no rows are of every sort
+none_of_sort : (s : Sort) → IsOf set.empty s
+none_of_sort s = record {
   columns = λ r i. absurd_false _ i (set.contains-empty row_cmp r);
-  off = none_off [] set.empty (λ r i. refl);
-  clash = none_clash T set.empty (none_meet T);
+  off = none_off s.predicate set.empty (λ r i. absurd_false _ i (set.contains-empty row_cmp r));
+  clash = none_clash s.tree set.empty (none_meet s.tree);
 }
 
 -- a name that is free has no table
-pub no_table : (o : Option Lens) (r : Option Relation) → is_some o ≡ false → IsStored o r → r ≡ None
-no_table None r h k = k
-no_table (Some L) r h k = absurd (true≢false h)
+pub no_table : (name : Name) (o : Option Lens) (r : Option Relation) → is_some o ≡ false → IsStored name o r → r ≡ None
+no_table name None r h k = k
+no_table name (Some L) r h k = absurd (true≢false h)
 
--- a table more, under a name that is free
-stored_table : (known : Catalogue) (db : Tables) (name : Name) (columns : Columns) (deps : List Edge) → AreStored known db
-    → AreStored (finmap.insert known name (table_lens name columns deps)) (finmap.insert db name (record { columns = columns; rows = set.empty }))
-stored_table known db name columns deps h q =
-    subst (λ o. IsStored o (finmap.get (finmap.insert db name (record { columns = columns; rows = set.empty })) q)) (sym (finmap.get-insert name_total known name (table_lens name columns deps) q))
-    (subst (λ r. IsStored (cond (eq_by_cmp bytes_cmp q name) (Some (table_lens name columns deps)) (finmap.get known q)) r) (sym (finmap.get-insert name_total db name (record { columns = columns; rows = set.empty }) q))
-    (either (eq_by_cmp bytes_cmp q name) (finmap.get known q) (finmap.get db q) (h q)))
-  where
-    either : (b : Bool) (o : Option Lens) (r : Option Relation) → IsStored o r → IsStored (cond b (Some (table_lens name columns deps)) o) (cond b (Some (record { columns = columns; rows = set.empty })) r)
-    either true o r k = (refl, none_of_plain columns (tree_or_none (tree_of deps)))
-    either false o r k = k
+-- what is stored under the new name, and under each other one, is stored
+inserted_is : (known : Catalogue) (db : Tables) (name : Name) (L : Lens) (M : Relation) → IsStored name (Some L) (Some M) → AreStored known db
+    → AreStored (finmap.insert known name L) (finmap.insert db name M)
+inserted_is known db name L M here h q =
+    subst (λ o. IsStored q o (finmap.get (finmap.insert db name M) q)) (sym (finmap.get-insert name_total known name L q))
+    (subst (λ r. IsStored q (cond (eq_by_cmp bytes_cmp q name) (Some L) (finmap.get known q)) r) (sym (finmap.get-insert name_total db name M q))
+    (elim (eq_by_cmp bytes_cmp q name) as (λ b. eq_by_cmp bytes_cmp q name ≡ b → IsStored q (cond b (Some L) (finmap.get known q)) (cond b (Some M) (finmap.get db q))) [
+      | true ↦ λ is. subst (λ n. IsStored n (Some L) (Some M)) (sym (tied_name q name is)) here
+      | false ↦ λ _. h q
+    ] refl))
+
+-- a table more, with no rows
+stored_table : (known : Catalogue) (db : Tables) (name : Name) (columns : Columns) (deps : List Edge) (P : Predicate) → AreStored known db
+    → AreStored (finmap.insert known name (table_lens name columns deps P)) (finmap.insert db name (record { columns = columns; rows = set.empty }))
+stored_table known db name columns deps P h =
+    inserted_is known db name (table_lens name columns deps P) (record { columns = columns; rows = set.empty })
+    (as_stored name (sort_with columns deps P) (Some (record { columns = columns; rows = set.empty })) (refl, none_of_sort (sort_with columns deps P))) h
 
 -- a view more, under a name that is free
-stored_view : (known : Catalogue) (db : Tables) (name : Name) (P : Predicate) (L : Lens) → is_taken known name ≡ false → AreStored known db → AreStored (finmap.insert known name (select P L)) db
-stored_view known db name P L free h q =
-    subst (λ o. IsStored o (finmap.get db q)) (sym (finmap.get-insert name_total known name (select P L) q))
-    (elim (eq_by_cmp bytes_cmp q name) as (λ b. eq_by_cmp bytes_cmp q name ≡ b → IsStored (cond b (Some (select P L)) (finmap.get known q)) (finmap.get db q)) [
-      | true ↦ λ is. no_table (finmap.get known q) (finmap.get db q) (ap (λ n. is_some (finmap.get known n)) (tied_name q name is) ∙ free) (h q)
+stored_view : (known : Catalogue) (db : Tables) (name : Name) (L : Lens) → is_taken known name ≡ false → is_table_of name L ≡ false → AreStored known db → AreStored (finmap.insert known name L) db
+stored_view known db name L free other h q =
+    subst (λ o. IsStored q o (finmap.get db q)) (sym (finmap.get-insert name_total known name L q))
+    (elim (eq_by_cmp bytes_cmp q name) as (λ b. eq_by_cmp bytes_cmp q name ≡ b → IsStored q (cond b (Some L) (finmap.get known q)) (finmap.get db q)) [
+      | true ↦ λ is.
+          let none : finmap.get db q ≡ None = no_table q (finmap.get known q) (finmap.get db q) (ap (λ n. is_some (finmap.get known n)) (tied_name q name is) ∙ free) (h q) in
+          subst (λ b. IsStoredAs b L (finmap.get db q)) (sym (ap (λ n. is_table_of n L) (tied_name q name is) ∙ other)) none
       | false ↦ λ _. h q
     ] refl)
 
 -- the catalogue after a definition that is taken
-pub known_after : (s : State) (text : List ℕ) (d : Definition) → judged (catalogue s.texts) (dependent s.texts) (reading text) ≡ Ok d → catalogue (s.texts ++ text ∷ []) ≡ with_definition (Some d) (catalogue s.texts)
-known_after s text d j = catalogue-push s.texts text ∙ ap (λ o. with_definition o (catalogue s.texts)) (judged_ok (catalogue s.texts) (dependent s.texts) (reading text) d j).0
+pub known_after : (s : State) (text : List ℕ) (d : Definition) → judged (catalogue s.texts) (dependent s.texts) (reading text) ≡ Ok d → catalogue (s.texts ++ text ∷ []) ≡ with_definition (Ok d) (catalogue s.texts)
+known_after s text d j = catalogue-push s.texts text ∙ ap (λ r. with_definition r (catalogue s.texts)) (judged_ok (catalogue s.texts) (dependent s.texts) (reading text) d j).0
 
-stored_after : (s : State) (text : List ℕ) (d : Definition) → judged (catalogue s.texts) (dependent s.texts) (reading text) ≡ Ok d → (db : Tables) → AreStored (with_definition (Some d) (catalogue s.texts)) db → AreStored (catalogue (s.texts ++ text ∷ [])) db
+stored_after : (s : State) (text : List ℕ) (d : Definition) → judged (catalogue s.texts) (dependent s.texts) (reading text) ≡ Ok d → (db : Tables) → AreStored (with_definition (Ok d) (catalogue s.texts)) db → AreStored (catalogue (s.texts ++ text ∷ [])) db
 stored_after s text d j db h = subst (λ k. AreStored k db) (sym (known_after s text d j)) h
 
 inserted_names : (last : finmap.FinMap bytes_cmp ℕ) (db : Tables) (name : Name) (v : ℕ) (r : Relation) → ((q : Name) → is_some (finmap.get last q) ≡ is_some (finmap.get db q))
@@ -213,22 +219,21 @@ later_all : (s : State) → Valid s → (q : Name) → IfSome (finmap.get s.last
 later_all s v q = later (finmap.get s.last q) s.version (s.version + 1) (omega arith) (v.past q)
 
 pub valid_taken : (s : State) (text : List ℕ) (d : Definition) → Valid s → judged (catalogue s.texts) (dependent s.texts) (reading text) ≡ Ok d → IsTaken (catalogue s.texts) d → Valid (with_defined text d s)
-valid_taken s text (table name columns deps) v j h = record {
-  definitions = first_refused-push s.texts text (table name columns deps) v.definitions j;
-  tables = stored_after s text (table name columns deps) j (finmap.insert s.tables name (record { columns = columns_from columns; rows = set.empty })) (stored_table (catalogue s.texts) s.tables name (columns_from columns) deps v.tables);
-  last = inserted_names s.last s.tables name (s.version + 1) (record { columns = columns_from columns; rows = set.empty }) v.last;
+valid_taken s text (table name columns deps P) v j h = record {
+  definitions = first_refused-push s.texts text (table name columns deps P) v.definitions j;
+  tables = stored_after s text (table name columns deps P) j (finmap.insert s.tables name (record { columns = columns; rows = set.empty })) (stored_table (catalogue s.texts) s.tables name columns deps P v.tables);
+  last = inserted_names s.last s.tables name (s.version + 1) (record { columns = columns; rows = set.empty }) v.last;
   past = λ q. put_past s.last (s.version + 1) name q (later_all s v q);
 }
-valid_taken s text (view name (named source)) v j h = absurd h
-valid_taken s text (view name (language.select P (named source))) v j h =
-    let d : Definition = view name (language.select P (named source)) in
-    let a = adds (catalogue s.texts) d h (all_known s.texts v.definitions) in record {
-      definitions = first_refused-push s.texts text d v.definitions j;
-      tables = stored_after s text d j s.tables (subst (λ o. AreStored (with_lens name (option_map (select P) o) (catalogue s.texts)) s.tables) (sym h.1.1) (stored_view (catalogue s.texts) s.tables name P h.1.0 h.0 v.tables));
+valid_taken s text (view name expr) v j h =
+    let known = catalogue s.texts in
+    let k = lens_is_known known (all_known s.texts v.definitions) expr h.1.0 h.1.1 in
+    let stored : AreStored (finmap.insert known name h.1.0) s.tables = stored_view known s.tables name h.1.0 h.0 (not_own known name h.0 h.1.0 k.bases) v.tables in record {
+      definitions = first_refused-push s.texts text (view name expr) v.definitions j;
+      tables = stored_after s text (view name expr) j s.tables (subst (λ o. AreStored (with_lens name o known) s.tables) (sym (lens_is known expr h.1.0 h.1.1)) stored);
       last = v.last;
       past = λ q. later_all s v q;
     }
-valid_taken s text (view name (language.select P (language.select Q expr))) v j h = absurd h
 
 valid_definition : (s : State) (text : List ℕ) → Valid s → (r : Result Definition Answer) → judged (catalogue s.texts) (dependent s.texts) (reading text) ≡ r → Valid (answer_definition text r s).1
 valid_definition s text v (Err refusal) j = v

@@ -1,20 +1,24 @@
 -- Kinds of answers.
 use Rattle.std.specs.Prelude.{ℕ, [], ◌∷◌, Option, Some, None}
-use Rattle.server_specs.specs.Answer.{Answer, defined, shown, changed, memory, long_line, not_json, bad_request, unknown_name, unknown_column, not_tree, bad_row, off_predicate, clash, store_fault, unbuilt}
+use Rattle.server_specs.specs.Answer.{Answer, defined, shown, changed, described, listed, memory, long_line, not_json, bad_request, syntax, name_taken, unknown_name, refused, bad_row, stale, off_predicate, clash, store_fault, unbuilt}
 
 -- nothing is done, and the answer says why
 abbrev pub IsRefusal : Answer → Type 0
 IsRefusal (defined version) = ⊥
 IsRefusal (shown rows version) = ⊥
 IsRefusal (changed changes version) = ⊥
+IsRefusal (described columns edges conjuncts tables version) = ⊥
+IsRefusal (listed texts version) = ⊥
 IsRefusal memory = Unit {0}
 IsRefusal long_line = Unit {0}
 IsRefusal not_json = Unit {0}
 IsRefusal (bad_request name) = Unit {0}
+IsRefusal (syntax at) = Unit {0}
+IsRefusal (name_taken name) = Unit {0}
 IsRefusal (unknown_name name) = Unit {0}
-IsRefusal (unknown_column name) = Unit {0}
-IsRefusal (not_tree a b) = Unit {0}
-IsRefusal (bad_row listed index name) = Unit {0}
+IsRefusal (refused reason) = Unit {0}
+IsRefusal (bad_row which index name) = Unit {0}
+IsRefusal (stale changed_at version) = Unit {0}
 IsRefusal (off_predicate row) = Unit {0}
 IsRefusal (clash edge first second) = Unit {0}
 IsRefusal store_fault = Unit {0}
@@ -25,14 +29,18 @@ abbrev pub IsFailure : Answer → Type 0
 IsFailure (defined version) = ⊥
 IsFailure (shown rows version) = ⊥
 IsFailure (changed changes version) = ⊥
+IsFailure (described columns edges conjuncts tables version) = ⊥
+IsFailure (listed texts version) = ⊥
 IsFailure memory = Unit {0}
 IsFailure long_line = ⊥
 IsFailure not_json = ⊥
 IsFailure (bad_request name) = ⊥
+IsFailure (syntax at) = ⊥
+IsFailure (name_taken name) = ⊥
 IsFailure (unknown_name name) = ⊥
-IsFailure (unknown_column name) = ⊥
-IsFailure (not_tree a b) = ⊥
-IsFailure (bad_row listed index name) = ⊥
+IsFailure (refused reason) = ⊥
+IsFailure (bad_row which index name) = ⊥
+IsFailure (stale changed_at version) = ⊥
 IsFailure (off_predicate row) = ⊥
 IsFailure (clash edge first second) = ⊥
 IsFailure store_fault = Unit {0}
@@ -43,14 +51,18 @@ abbrev pub IsAccepted : Answer → Type 0
 IsAccepted (defined version) = ⊥
 IsAccepted (shown rows version) = ⊥
 IsAccepted (changed changes version) = Unit {0}
+IsAccepted (described columns edges conjuncts tables version) = ⊥
+IsAccepted (listed texts version) = ⊥
 IsAccepted memory = ⊥
 IsAccepted long_line = ⊥
 IsAccepted not_json = ⊥
 IsAccepted (bad_request name) = ⊥
+IsAccepted (syntax at) = ⊥
+IsAccepted (name_taken name) = ⊥
 IsAccepted (unknown_name name) = ⊥
-IsAccepted (unknown_column name) = ⊥
-IsAccepted (not_tree a b) = ⊥
-IsAccepted (bad_row listed index name) = ⊥
+IsAccepted (refused reason) = ⊥
+IsAccepted (bad_row which index name) = ⊥
+IsAccepted (stale changed_at version) = ⊥
 IsAccepted (off_predicate row) = ⊥
 IsAccepted (clash edge first second) = ⊥
 IsAccepted store_fault = ⊥
@@ -62,14 +74,18 @@ IsChange (defined version) = Unit {0}
 IsChange (shown rows version) = ⊥
 IsChange (changed [] version) = ⊥
 IsChange (changed (change ∷ changes) version) = Unit {0}
+IsChange (described columns edges conjuncts tables version) = ⊥
+IsChange (listed texts version) = ⊥
 IsChange memory = ⊥
 IsChange long_line = ⊥
 IsChange not_json = ⊥
 IsChange (bad_request name) = ⊥
+IsChange (syntax at) = ⊥
+IsChange (name_taken name) = ⊥
 IsChange (unknown_name name) = ⊥
-IsChange (unknown_column name) = ⊥
-IsChange (not_tree a b) = ⊥
-IsChange (bad_row listed index name) = ⊥
+IsChange (refused reason) = ⊥
+IsChange (bad_row which index name) = ⊥
+IsChange (stale changed_at version) = ⊥
 IsChange (off_predicate row) = ⊥
 IsChange (clash edge first second) = ⊥
 IsChange store_fault = ⊥
@@ -80,14 +96,18 @@ abbrev pub told_version : Answer → Option ℕ
 told_version (defined version) = Some version
 told_version (shown rows version) = Some version
 told_version (changed changes version) = Some version
+told_version (described columns edges conjuncts tables version) = Some version
+told_version (listed texts version) = Some version
 told_version memory = None
 told_version long_line = None
 told_version not_json = None
 told_version (bad_request name) = None
+told_version (syntax at) = None
+told_version (name_taken name) = None
 told_version (unknown_name name) = None
-told_version (unknown_column name) = None
-told_version (not_tree a b) = None
-told_version (bad_row listed index name) = None
+told_version (refused reason) = None
+told_version (bad_row which index name) = None
+told_version (stale changed_at version) = Some version
 told_version (off_predicate row) = None
 told_version (clash edge first second) = None
 told_version store_fault = None

@@ -5,9 +5,9 @@ use Rattle.lens_specs.specs.Relation.{Name, Rows}
 use Rattle.lens_specs.specs.Sort.{off, clash}
 use Rattle.lens_specs.specs.Lens.{Lens, sort_of}
 use Rattle.lens_specs.specs.Delta.{changes}
-use Rattle.language_specs.specs.Language.{Definition, table, view}
+use Rattle.grammar_specs.specs.Meaning.{Definition, table, view}
 use Rattle.lens_specs.specs.Lines.{Line}
-use Rattle.language_specs.specs.Reading.{reading}
+use Rattle.grammar_laws.specs.Reading.{reading}
 use Rattle.lens_specs.specs.Keeping.{Change, define, rows, changed, CanChange}
 use Rattle.server_specs.specs.State.{State, catalogue, dependent, kept}
 use Rattle.server_specs.specs.Defining.{judged}
@@ -21,7 +21,7 @@ KeptFollows change before after = (kept after ≡ changed change (kept before)) 
 
 -- the table that a definition makes
 abbrev pub table_made : Definition → Option Name
-table_made (table name columns deps) = Some name
+table_made (table name columns deps predicate) = Some name
 table_made (view name expr) = None
 
 -- a put that is not refused changes what is kept by its changes

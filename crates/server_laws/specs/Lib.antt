@@ -4,4 +4,5 @@ pub mod AnswerLaws
 pub mod PutLaws
 pub mod LineLaws
 pub mod KeptLaws
+pub mod DefineLaws
 pub mod Witness

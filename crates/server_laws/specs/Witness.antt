@@ -3,8 +3,7 @@ use Rattle.std.specs.Prelude.{◌≡◌, true, false}
 use Rattle.lens_values.specs.declared.row.Row.{Row}
 use Rattle.lens_specs.specs.Relation.{Name, Rows, has}
 use Rattle.lens_specs.specs.Lens.{Lens, get}
-use Rattle.server_specs.specs.State.{State}
-use Rattle.server_specs.specs.Defining.{is_base}
+use Rattle.server_specs.specs.State.{State, is_table_of}
 use Rattle.server_specs.specs.Answering.{put_set}
 use Rattle.server_laws.specs.Answers.{IsAccepted}
 use Rattle.server_laws.specs.PutLaws.{IsPut}
@@ -16,7 +15,7 @@ pub record PutsCanChange : Type 0 where
   pub lens : Lens
   pub rows : Rows
   pub put : IsPut state name lens rows
-  pub view : is_base lens ≡ false
+  pub view : (table : Name) → is_table_of table lens ≡ false
   pub accepted : IsAccepted (put_set rows lens state).0
   pub row : Row
   pub there : has rows row ≡ true

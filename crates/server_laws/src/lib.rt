@@ -3,6 +3,7 @@
 #![tactic(auto)]
 
 ghost use Rattle.server_laws.specs.AnswerLaws.{AnswersDoNotFail, ChangesRaiseVersions, LastFollows, OthersStay, RefusalsChangeNothing, VersionsAreTold};
+ghost use Rattle.server_laws.specs.DefineLaws.{FaultsAreTold, LensesStay, NamesAreTakenOnce, NewTablesAreEmpty, NewViewsShow, RefusedStays, TakenIsAdded, TakenIsRead, TakenWhereJudged};
 ghost use Rattle.server_laws.specs.KeptLaws.{ChangesAreKept, DefinitionsAreKept, PutsAreKept};
 ghost use Rattle.server_laws.specs.LineLaws.{LinesPutSets, LinesReadViews, NextLineReads, NothingIsPut};
 ghost use Rattle.server_laws.specs.PutLaws.{AcceptedOrRefused, AcceptedWhereTyped, ChangesAreDifferences, ChangesAreTold, OtherTablesStay, PutThenRead, ReadThenPut, RefusedByFirstClash, RefusedByLeastRow, SentRowsFit};
@@ -43,6 +44,19 @@ pub fn lines_are_lawful()
     ensures puts { LinesPutSets }
     ensures put_get { NextLineReads }
     ensures get_put { NothingIsPut }
+{}
+
+/// A definition is taken exactly where it is judged so, is shown from then on, and its name is never taken again.
+pub fn definitions_are_judged()
+    ensures read { TakenIsRead }
+    ensures taken { TakenWhereJudged }
+    ensures added { TakenIsAdded }
+    ensures refused { RefusedStays }
+    ensures faults { FaultsAreTold }
+    ensures tables { NewTablesAreEmpty }
+    ensures views { NewViewsShow }
+    ensures once { NamesAreTakenOnce }
+    ensures stays { LensesStay }
 {}
 
 /// The version rises by one exactly where something changes, and each table tells the version that changed it last.

@@ -7,7 +7,7 @@ use Rattle.lens_specs.specs.Relation.{Name, Rows}
 use Rattle.lens_specs.specs.Lens.{Lens}
 use Rattle.lens_specs.specs.Sort.{Clash}
 use Rattle.lens_specs.specs.Delta.{TableDelta, changes}
-use Rattle.language_specs.specs.Language.{Definition, table, view}
+use Rattle.grammar_specs.specs.Meaning.{Definition, table, view}
 use Rattle.lens_specs.specs.Lines.{Line}
 use Rattle.server_specs.specs.State.{State}
 use Rattle.server_specs.specs.Answer.{Answer}
@@ -38,7 +38,7 @@ puts (Ok rows) lens s = unless _ lens _ s
 
 defines : (text : List ℕ) (judgement : Result Definition Answer) (s : State) → version_of (answer_definition text judgement s) ≤ s.version + 1
 defines text (Err refusal) s = omega arith
-defines text (Ok (table name columns deps)) s = omega arith
+defines text (Ok (table name columns deps predicate)) s = omega arith
 defines text (Ok (view name expr)) s = omega arith
 
 reads : (name : Name) (lens : Option Lens) (s : State) → version_of (answer_read name lens s) ≤ s.version + 1

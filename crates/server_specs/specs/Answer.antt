@@ -8,10 +8,16 @@ use Rattle.lens_values.specs.SortedSet as set
 use Rattle.lens_values.specs.declared.value.Value.{Value}
 use Rattle.lens_values.specs.declared.value.Value.TheVariants.{Int, Text, Flag}
 use Rattle.lens_values.specs.declared.row.Row.{Row}
+use Rattle.lens_values.specs.declared.value.Kind.{Kind}
 use Rattle.lens_specs.specs.Names.{Name, Names}
-use Rattle.lens_specs.specs.Relation.{Rows}
+use Rattle.lens_specs.specs.Relation.{Columns, Rows}
 use Rattle.lens_specs.specs.Dependencies.{Edge}
+use Rattle.lens_specs.specs.Predicate.{Predicate}
 use Rattle.lens_specs.specs.Delta.{TableDelta}
+use Rattle.lens_specs.specs.Refusal as refusal
+use Rattle.lens_specs.specs.Refusal.{Refusal, Side, left_side, right_side, Limit, columns_limit, lens_limit, predicate_limit, nesting_limit, tables_limit, views_limit}
+use Rattle.grammar_specs.specs.Written.{kind_word}
+use Rattle.grammar_specs.specs.Printing.{printed_formula}
 
 -- which of a request's lists of rows
 pub data Listed : Type 0 where
@@ -19,19 +25,23 @@ pub data Listed : Type 0 where
   in_remove : Listed
   in_add : Listed
 
--- what is accepted, with the version after it; and the refusals
+-- what is accepted, with the version after it or at it; and the refusals
 pub data Answer : Type 0 where
   defined : ℕ → Answer
   shown : Rows → ℕ → Answer
   changed : List TableDelta → ℕ → Answer
+  described : Columns → List Edge → Predicate → Names → ℕ → Answer
+  listed : List (List ℕ) → ℕ → Answer
   memory : Answer
   long_line : Answer
   not_json : Answer
   bad_request : List ℕ → Answer
+  syntax : ℕ → Answer
+  name_taken : Name → Answer
   unknown_name : Name → Answer
-  unknown_column : Name → Answer
-  not_tree : Names → Names → Answer
+  refused : Refusal → Answer
   bad_row : Listed → ℕ → List ℕ → Answer
+  stale : ℕ → ℕ → Answer
   off_predicate : Row → Answer
   clash : Edge → Row → Row → Answer
   store_fault : Answer
@@ -86,21 +96,45 @@ edge_data edge = object (member (codes "left") (set_data edge.left) (member (cod
 abbrev pub pair_data : Row → Row → Data
 pair_data first second = array (item (row_data first) (item (row_data second) no_items))
 
+-- an array of edges
+abbrev pub edges_data : List Edge → Items
+edges_data [] = no_items
+edges_data (edge ∷ edges) = item (edge_data edge) (edges_data edges)
+
+-- columns with the words of their kinds
+abbrev pub columns_data : List (Name × Kind) → Members
+columns_data [] = no_members
+columns_data (column ∷ columns) = member column.0 (string (kind_word column.1)) (columns_data columns)
+
+-- the printed text of each conjunct by itself
+abbrev pub conjuncts_data : Predicate → Items
+conjuncts_data [] = no_items
+conjuncts_data (f ∷ fs) = item (string (printed_formula f)) (conjuncts_data fs)
+
+-- an array of texts
+abbrev pub texts_data : List (List ℕ) → Items
+texts_data [] = no_items
+texts_data (text ∷ texts) = item (string text) (texts_data texts)
+
 -- the number of a refusal, and more members
-abbrev pub error_members : ℕ → Members → Members
-error_members n more = member (codes "error") (number (unsigned n)) more
+abbrev pub numbered : ℕ → Members → Members
+numbered n more = member (codes "error") (number (unsigned n)) more
 
 -- a refusal: its number, and more members
-abbrev pub refused : ℕ → Members → Data
-refused n more = object (error_members n more)
+abbrev pub error : ℕ → Members → Data
+error n more = object (numbered n more)
 
 -- `ok` false, and more members
 abbrev pub not_ok : Members → Members
 not_ok more = member (codes "ok") (boolean false) more
 
+-- the version at the end
+abbrev pub at_version : ℕ → Members
+at_version version = member (codes "version") (number (unsigned version)) no_members
+
 -- `ok` true, and the version
 abbrev pub accepted : ℕ → Members
-accepted version = member (codes "ok") (boolean true) (member (codes "version") (number (unsigned version)) no_members)
+accepted version = member (codes "ok") (boolean true) (at_version version)
 
 -- the member that holds the list
 abbrev pub list_word : Listed → List ℕ
@@ -108,27 +142,74 @@ list_word in_rows = codes "rows"
 list_word in_remove = codes "remove"
 list_word in_add = codes "add"
 
+-- the side of a join
+abbrev pub side_word : Side → List ℕ
+side_word left_side = codes "left"
+side_word right_side = codes "right"
+
+-- what is too large
+abbrev pub limit_word : Limit → List ℕ
+limit_word columns_limit = codes "columns"
+limit_word lens_limit = codes "lens"
+limit_word predicate_limit = codes "predicate"
+limit_word nesting_limit = codes "nesting"
+limit_word tables_limit = codes "tables"
+limit_word views_limit = codes "views"
+
+-- a refusal that names a table or a column as `name`
+abbrev pub error_with_name : ℕ → Name → Data
+error_with_name n name = error n (member (codes "name") (string name) (not_ok no_members))
+
+-- a refusal that names a column as `col`
+abbrev pub error_with_column : ℕ → Name → Data
+error_with_column n name = object (member (codes "col") (string name) (numbered n (not_ok no_members)))
+
+-- a refusal of a definition, 23 to 34, as JSON
+abbrev pub refusal_data : Refusal → Data
+refusal_data (refusal.unknown_column name) = error_with_name 23 name
+refusal_data (refusal.kind_clash name) = error_with_name 24 name
+refusal_data (refusal.not_tree a b) = object (member (codes "a") (set_data a) (member (codes "b") (set_data b) (numbered 25 (not_ok no_members))))
+refusal_data (refusal.predicate_kind name) = error_with_name 26 name
+refusal_data (refusal.source_mentions_output name) = error_with_column 27 name
+refusal_data (refusal.no_such_dependency name) = error_with_column 28 name
+refusal_data (refusal.mixed_conjunct index) = error 29 (member (codes "index") (number (unsigned index)) (not_ok no_members))
+refusal_data refusal.default_refused = error 30 (not_ok no_members)
+refusal_data (refusal.not_determined name) = error_with_column 31 name
+refusal_data (refusal.side_mentions_output side name) =
+    object (member (codes "col") (string name) (numbered 32 (not_ok (member (codes "side") (string (side_word side)) no_members))))
+refusal_data (refusal.table_twice name) = error_with_name 33 name
+refusal_data (refusal.too_large what) = error 34 (not_ok (member (codes "what") (string (limit_word what)) no_members))
+
 -- an answer as JSON; the members stand in byte order
 abbrev pub answer_data : Answer → Data
 answer_data (defined version) = object (accepted version)
-answer_data (shown rows version) =
-    object (member (codes "ok") (boolean true) (member (codes "rows") (array (rows_data (set.items rows))) (member (codes "version") (number (unsigned version)) no_members)))
+answer_data (shown rows version) = object (member (codes "ok") (boolean true) (member (codes "rows") (array (rows_data (set.items rows))) (at_version version)))
 answer_data (changed changes version) = object (member (codes "changed") (array (changes_data changes)) (accepted version))
-answer_data memory = refused 1 (not_ok no_members)
-answer_data long_line = refused 10 (not_ok no_members)
-answer_data not_json = refused 11 (not_ok no_members)
-answer_data (bad_request name) = refused 12 (member (codes "member") (string name) (not_ok no_members))
-answer_data (unknown_name name) = refused 22 (member (codes "name") (string name) (not_ok no_members))
-answer_data (unknown_column name) = refused 23 (member (codes "name") (string name) (not_ok no_members))
-answer_data (not_tree a b) = object (member (codes "a") (set_data a) (member (codes "b") (set_data b) (error_members 25 (not_ok no_members))))
-answer_data (bad_row listed index name) =
-    object (member (codes "col") (string name) (error_members 40 (member (codes "index") (number (unsigned index))
-    (member (codes "list") (string (list_word listed)) (not_ok no_members)))))
-answer_data (off_predicate row) = refused 42 (not_ok (member (codes "row") (row_data row) no_members))
+answer_data (described columns edges conjuncts tables version) =
+    object (member (codes "columns") (object (columns_data (finmap.entries columns)))
+    (member (codes "dependencies") (array (edges_data edges))
+    (member (codes "ok") (boolean true)
+    (member (codes "predicate") (array (conjuncts_data conjuncts))
+    (member (codes "tables") (set_data tables) (at_version version))))))
+answer_data (listed texts version) = object (member (codes "definitions") (array (texts_data texts)) (accepted version))
+answer_data memory = error 1 (not_ok no_members)
+answer_data long_line = error 10 (not_ok no_members)
+answer_data not_json = error 11 (not_ok no_members)
+answer_data (bad_request name) = error 12 (member (codes "member") (string name) (not_ok no_members))
+answer_data (syntax at) = object (member (codes "at") (number (unsigned at)) (numbered 20 (not_ok no_members)))
+answer_data (name_taken name) = error_with_name 21 name
+answer_data (unknown_name name) = error_with_name 22 name
+answer_data (refused refusal) = refusal_data refusal
+answer_data (bad_row which index name) =
+    object (member (codes "col") (string name) (numbered 40 (member (codes "index") (number (unsigned index))
+    (member (codes "list") (string (list_word which)) (not_ok no_members)))))
+answer_data (stale changed_at version) =
+    object (member (codes "changed_at") (number (unsigned changed_at)) (numbered 41 (not_ok (at_version version))))
+answer_data (off_predicate row) = error 42 (not_ok (member (codes "row") (row_data row) no_members))
 answer_data (clash edge first second) =
-    object (member (codes "edge") (edge_data edge) (error_members 43 (not_ok (member (codes "rows") (pair_data first second) no_members))))
-answer_data store_fault = refused 90 (not_ok no_members)
-answer_data unbuilt = refused 99 (not_ok no_members)
+    object (member (codes "edge") (edge_data edge) (numbered 43 (not_ok (member (codes "rows") (pair_data first second) no_members))))
+answer_data store_fault = error 90 (not_ok no_members)
+answer_data unbuilt = error 99 (not_ok no_members)
 
 -- the line of an answer: compact JSON and a newline
 unfoldable pub text : Answer → List ℕ

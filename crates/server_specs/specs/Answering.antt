@@ -9,10 +9,10 @@ use Rattle.lens_specs.specs.Relation.{Name, Columns, Rows}
 use Rattle.lens_specs.specs.Sort.{off, Clash, clash as first_clash}
 use Rattle.lens_specs.specs.Lens.{Lens, get, put as put_rows, sort_of}
 use Rattle.lens_specs.specs.Delta.{TableDelta, changes}
-use Rattle.language_specs.specs.Language.{Definition, table, view}
-use Rattle.language_specs.specs.Reading.{reading}
+use Rattle.grammar_specs.specs.Meaning.{Definition, table, view}
+use Rattle.grammar_laws.specs.Reading.{reading}
 use Rattle.lens_specs.specs.Lines.{Line}
-use Rattle.server_specs.specs.State.{State, catalogue, columns_from, dependent}
+use Rattle.server_specs.specs.State.{State, catalogue, dependent}
 use Rattle.server_specs.specs.Answer.{Answer, defined, shown, changed, unknown_name, bad_row, in_rows, off_predicate, clash, unbuilt}
 use Rattle.server_specs.specs.Request.{Request, define, read, put, edit, preview, describe, list, request}
 use Rattle.server_specs.specs.Defining.{judged}
@@ -35,7 +35,7 @@ with_table name columns s =
 
 -- the state after a definition was taken
 abbrev pub with_defined : List ℕ → Definition → State → State
-with_defined text (table name columns deps) s = with_table name (columns_from columns) (with_text text s)
+with_defined text (table name columns deps predicate) s = with_table name columns (with_text text s)
 with_defined text (view name expr) s = with_text text s
 
 -- a definition is taken, or refused

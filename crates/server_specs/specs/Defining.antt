@@ -1,110 +1,137 @@
 -- Which definitions are taken.
-use Rattle.std.specs.Prelude.{ℕ, ◌&&◌, ◌||◌, Bool, true, false, not, List, [], ◌∷◌, length, nat_le, nat_eq, suc, is_some, is_err, Option, Some, None, option_map, Result, Ok, Err, if◌then◌else◌}
-use Rattle.std.specs.List.{list_any}
-use Rattle.std.specs.Cmp.Lexicographic.{pointwise}
+use Rattle.std.specs.Prelude.{ℕ, suc, ◌||◌, Bool, true, false, not, List, [], ◌∷◌, nat_le, is_some, is_err, Option, Some, None, option_map, Result, Ok, Err, if◌then◌else◌}
 use Rattle.std.specs.FinMap as finmap
-use Rattle.lens_values.specs.SortedMap.{keys_of}
-use Rattle.lens_values.specs.declared.value.Kind.{Kind}
 use Rattle.lens_values.specs.SortedSet as set
 use Rattle.lens_specs.specs.Names.{Name, Names}
+use Rattle.lens_specs.specs.Columns.{Columns}
 use Rattle.lens_specs.specs.Dependencies.{Edge}
 use Rattle.lens_specs.specs.Predicate.{Predicate}
-use Rattle.lens_specs.specs.Lens.{Lens, base, select, drop, join}
-use Rattle.lens_specs.specs.Typing.{sort, table_sort}
-use Rattle.lens_specs.specs.Refusal as refusal
-use Rattle.lens_specs.specs.Refusal.{Refusal}
 use Rattle.lens_specs.specs.Sort.{Sort}
-use Rattle.language_specs.specs.Language.{Definition, table, view, Expr, named}
-use Rattle.language_specs.specs.Language as language
-use Rattle.language_specs.specs.Reading.{reading}
-use Rattle.server_specs.specs.State.{Catalogue, columns_from, with_definition, with_dependent}
-use Rattle.server_specs.specs.Answer.{Answer, unknown_name, unknown_column, not_tree, unbuilt}
+use Rattle.lens_specs.specs.Lens.{Lens, select, drop, join}
+use Rattle.lens_specs.specs.Typing.{sort, table_sort}
+use Rattle.lens_specs.specs.Refusal.{Refusal, Limit, columns_limit, predicate_limit, nesting_limit, tables_limit, views_limit}
+use Rattle.lens_specs.specs.Refusal as refusal
+use Rattle.grammar_specs.specs.Meaning as language
+use Rattle.grammar_specs.specs.Meaning.{Expr, named, Definition, table, view}
+use Rattle.grammar_specs.specs.Faults as faults
+use Rattle.grammar_specs.specs.Faults.{Fault, syntax_at}
+use Rattle.grammar_laws.specs.Reading.{reading}
+use Rattle.server_specs.specs.State.{Catalogue, is_table_of, with_definition, with_dependent}
+use Rattle.server_specs.specs.Answer.{Answer, syntax, name_taken, unknown_name, refused, unbuilt}
 
--- whether the lens is a table
-abbrev pub is_base : Lens → Bool
-is_base (base name sort) = true
-is_base (select predicate lens) = false
-is_base (drop name by value lens) = false
-is_base (join left right) = false
-
--- how many of the lenses pass the test
-abbrev pub count_lenses : (Lens → Bool) → List Lens → ℕ
-count_lenses passes [] = 0
-count_lenses passes (lens ∷ lenses) = if passes lens then suc (count_lenses passes lenses) else count_lenses passes lenses
-
--- the number of tables
-abbrev pub table_count : Catalogue → ℕ
-table_count known = count_lenses is_base (finmap.values known)
-
--- the number of views
-abbrev pub view_count : Catalogue → ℕ
-view_count known = count_lenses (λ lens. not (is_base lens)) (finmap.values known)
+-- ---- names, and how many there are
 
 -- whether the name has a lens already
 abbrev pub is_taken : Catalogue → Name → Bool
 is_taken known name = is_some (finmap.get known name)
 
--- whether a name stands twice
-abbrev pub is_twice : List Name → Bool
-is_twice [] = false
-is_twice (name ∷ names) = if list_any (pointwise nat_eq name) names then true else is_twice names
+-- how many of the names pass the test with their lenses
+abbrev pub count_named : (Name → Lens → Bool) → List (Name × Lens) → ℕ
+count_named passes [] = 0
+count_named passes (entry ∷ entries) = if passes entry.0 entry.1 then suc (count_named passes entries) else count_named passes entries
 
--- no column twice, and 64 columns at most
-abbrev pub are_columns : List (Name × Kind) → Bool
-are_columns columns = not (is_twice (keys_of columns)) && nat_le (length columns) 64
+-- the number of tables
+abbrev pub table_count : Catalogue → ℕ
+table_count known = count_named is_table_of (finmap.entries known)
 
--- the definition, or the refusal where the test holds
-abbrev pub unless : Bool → Definition → Result Definition Answer
-unless true definition = Err unbuilt
-unless false definition = Ok definition
+-- the number of views
+abbrev pub view_count : Catalogue → ℕ
+view_count known = count_named (λ name lens. not (is_table_of name lens)) (finmap.entries known)
 
--- what is answered where a table has no sort: an unknown column of a dependency, or dependencies that are no tree
-abbrev pub sort_refused : Refusal → Answer
-sort_refused (refusal.unknown_column name) = unknown_column name
-sort_refused (refusal.kind_clash name) = unbuilt
-sort_refused (refusal.not_tree a b) = not_tree a b
-sort_refused (refusal.predicate_kind name) = unbuilt
-sort_refused (refusal.source_mentions_output name) = unbuilt
-sort_refused (refusal.no_such_dependency name) = unbuilt
-sort_refused (refusal.mixed_conjunct place) = unbuilt
-sort_refused refusal.default_refused = unbuilt
-sort_refused (refusal.not_determined name) = unbuilt
-sort_refused (refusal.side_mentions_output side name) = unbuilt
-sort_refused (refusal.table_twice name) = unbuilt
-sort_refused (refusal.too_large what) = unbuilt
+-- whether the lens that is there is another than the table of the name
+abbrev pub is_other : Name → Option Lens → Bool
+is_other name None = false
+is_other name (Some lens) = not (is_table_of name lens)
 
--- the definition where there is a sort, or else the refusal
-abbrev pub where_sorted : Result Sort Refusal → Definition → Result Definition Answer
-where_sorted (Ok sort) definition = Ok definition
-where_sorted (Err refused) definition = Err (sort_refused refused)
+-- whether the name is a view's
+abbrev pub is_view : Catalogue → Name → Bool
+is_view known name = is_other name (finmap.get known name)
 
--- whether a table of this name and these columns is refused before its dependencies are looked at
-abbrev pub is_no_table : Catalogue → Name → List (Name × Kind) → Bool
-is_no_table known name columns = not (are_columns columns) || (is_taken known name || nat_le 64 (table_count known))
+-- ---- tables
 
--- A table is taken where its columns are columns, its name is free, there are fewer than 64 tables, and it has a sort.
-abbrev pub judged_table : Catalogue → Name → List (Name × Kind) → List Edge → Result Definition Answer
-judged_table known name columns deps =
-    if is_no_table known name columns then Err unbuilt else where_sorted (table_sort (columns_from columns) deps []) (table name columns deps)
+-- the definition, or the refusal where there are too many
+abbrev pub unless_full : Bool → Limit → Definition → Result Definition Answer
+unless_full true limit definition = Err (refused (refusal.too_large limit))
+unless_full false limit definition = Ok definition
 
--- A selection of a table with no dependencies is taken where its name is free, there are fewer than 256 views and the view has a sort.
-abbrev pub judged_select : Catalogue → Names → Name → Predicate → Name → Option Lens → Result Definition Answer
-judged_select known dependent name predicate source None = Err (unknown_name source)
-judged_select known dependent name predicate source (Some lens) =
-    unless (is_taken known name || (nat_le 256 (view_count known) || (not (is_base lens) || (set.contains dependent source || is_err (sort (select predicate lens))))))
-    (view name (language.select predicate (named source)))
+-- the definition where its columns, dependencies and conjuncts give a sort and there are fewer than 64 tables, or else its first refusal
+abbrev pub where_sorted : Result Sort Refusal → Catalogue → Definition → Result Definition Answer
+where_sorted (Err first) known definition = Err (refused first)
+where_sorted (Ok sort) known definition = unless_full (nat_le 64 (table_count known)) tables_limit definition
 
--- only the selection of a table is built
+-- A table is taken where its name is free, it has a sort, and there are fewer than 64 tables.
+abbrev pub judged_table : Catalogue → Name → Columns → List Edge → Predicate → Result Definition Answer
+judged_table known name columns deps predicate =
+    if is_taken known name then Err (name_taken name) else where_sorted (table_sort columns deps predicate) known (table name columns deps predicate)
+
+-- ---- views
+
+-- Only a table itself and the selection of a table with no dependencies are built.
+abbrev pub is_unbuilt : Catalogue → Names → Expr → Bool
+is_unbuilt known dependent (named source) = is_view known source
+is_unbuilt known dependent (language.select predicate (named source)) = is_view known source || set.contains dependent source
+is_unbuilt known dependent (language.select predicate (language.select inner of)) = true
+is_unbuilt known dependent (language.select predicate (language.drop column by value of)) = true
+is_unbuilt known dependent (language.select predicate (language.join left right)) = true
+is_unbuilt known dependent (language.drop column by value of) = true
+is_unbuilt known dependent (language.join left right) = true
+
+-- the lens that the name has, or else the refusal
+abbrev pub lens_named : Name → Option Lens → Result Lens Answer
+lens_named name None = Err (unknown_name name)
+lens_named name (Some lens) = Ok lens
+
+-- the lens where it has a sort, or else the refusal of its root
+abbrev pub where_typed : Lens → Result Sort Refusal → Result Lens Answer
+where_typed lens (Ok sort) = Ok lens
+where_typed lens (Err first) = Err (refused first)
+
+-- with the lens of an operand, where it has one
+abbrev pub over : (Lens → Lens) → Result Lens Answer → Result Lens Answer
+over node (Err first) = Err first
+over node (Ok lens) = where_typed (node lens) (sort (node lens))
+
+-- with the lenses of both operands; the left one is refused first
+abbrev pub over_both : Result Lens Answer → Result Lens Answer → Result Lens Answer
+over_both (Err first) right = Err first
+over_both (Ok lens) right = over (join lens) right
+
+-- the lens of an expression, or its first refusal: operands before what stands over them
+abbrev pub lens_in : Catalogue → Expr → Result Lens Answer
+lens_in known (named name) = lens_named name (finmap.get known name)
+lens_in known (language.select predicate of) = over (select predicate) (lens_in known of)
+lens_in known (language.drop column by value of) = over (drop column by value) (lens_in known of)
+lens_in known (language.join left right) = over_both (lens_in known left) (lens_in known right)
+
+-- the definition of a view whose expression has a lens, where there are fewer than 256 views, or else its first refusal
+abbrev pub where_lensed : Result Lens Answer → Catalogue → Definition → Result Definition Answer
+where_lensed (Err first) known definition = Err first
+where_lensed (Ok lens) known definition = unless_full (nat_le 256 (view_count known)) views_limit definition
+
+-- A view is taken where its name is free, its expression has a lens, and there are fewer than 256 views.
 abbrev pub judged_view : Catalogue → Names → Name → Expr → Result Definition Answer
-judged_view known dependent name (named source) = Err unbuilt
-judged_view known dependent name (language.select predicate (named source)) = judged_select known dependent name predicate source (finmap.get known source)
-judged_view known dependent name (language.select predicate (language.select inner expr)) = Err unbuilt
+judged_view known dependent name expr =
+    if is_taken known name then Err (name_taken name)
+    else (if is_unbuilt known dependent expr then Err unbuilt else where_lensed (lens_in known expr) known (view name expr))
+
+-- ---- texts
+
+-- what a text says too much of
+abbrev pub limit_of : faults.Limit → Limit
+limit_of faults.columns = columns_limit
+limit_of faults.predicate = predicate_limit
+limit_of faults.nested = nesting_limit
+
+-- the refusal of a text
+abbrev pub fault_answer : Fault → Answer
+fault_answer (syntax_at at) = syntax at
+fault_answer (faults.too_large what) = refused (refusal.too_large (limit_of what))
 
 -- the definition, where it is taken after those that made the catalogue and the tables with dependencies, or else its refusal
-abbrev pub judged : Catalogue → Names → Option Definition → Result Definition Answer
-judged known dependent None = Err unbuilt
-judged known dependent (Some (table name columns deps)) = judged_table known name columns deps
-judged known dependent (Some (view name expr)) = judged_view known dependent name expr
+abbrev pub judged : Catalogue → Names → Result Definition Fault → Result Definition Answer
+judged known dependent (Err fault) = Err (fault_answer fault)
+judged known dependent (Ok (table name columns deps predicate)) = judged_table known name columns deps predicate
+judged known dependent (Ok (view name expr)) = judged_view known dependent name expr
 
 -- the place of the first of these texts that is refused after those that made the catalogue and the tables with dependencies
 abbrev pub refused_from : Catalogue → Names → List (List ℕ) → Option ℕ

@@ -1,19 +1,21 @@
 -- The state of the server, and the lenses that its definitions make.
-use Rattle.std.specs.Prelude.{ℕ, List, [], ◌∷◌, Option, Some, None, map, option_map}
+use Rattle.std.specs.Prelude.{ℕ, Bool, false, List, [], ◌∷◌, nat_eq, Option, Some, None, map, option_map, Result, Ok, Err}
+use Rattle.std.specs.Cmp.Lexicographic.{pointwise}
 use Rattle.std.specs.FinMap as finmap
 use Rattle.lens_values.specs.Order.{bytes_cmp}
-use Rattle.lens_values.specs.declared.value.Kind.{Kind}
 use Rattle.lens_values.specs.SortedSet as set
 use Rattle.lens_specs.specs.Names.{Name, Names}
 use Rattle.lens_specs.specs.Relation.{Columns, Rows, Relation}
 use Rattle.lens_specs.specs.Dependencies.{Edge}
 use Rattle.lens_specs.specs.TreeForm.{tree_of}
+use Rattle.lens_specs.specs.Predicate.{Predicate}
 use Rattle.lens_specs.specs.Sort.{Sort}
-use Rattle.lens_specs.specs.Lens.{Tables, Lens, base, select, tree_or_none}
-use Rattle.language_specs.specs.Language.{Definition, table, view, Expr, named}
-use Rattle.language_specs.specs.Language as language
-use Rattle.language_specs.specs.Reading.{reading}
+use Rattle.lens_specs.specs.Lens.{Tables, Lens, base, select, drop, join, tree_or_none}
 use Rattle.lens_specs.specs.Keeping.{Kept}
+use Rattle.grammar_specs.specs.Meaning as language
+use Rattle.grammar_specs.specs.Meaning.{Expr, named, Definition, table, view}
+use Rattle.grammar_specs.specs.Faults.{Fault}
+use Rattle.grammar_laws.specs.Reading.{reading}
 
 -- the definition texts in order, the tables, the version, and for each table the version that changed it last
 pub record State : Type 0 where
@@ -30,22 +32,33 @@ fresh = record { texts = []; tables = finmap.empty; version = 0; last = finmap.e
 abbrev pub Catalogue : Type 0
 Catalogue = finmap.FinMap bytes_cmp Lens
 
+-- the join of two lenses that are there
+abbrev pub join_of : Option Lens → Option Lens → Option Lens
+join_of None right = None
+join_of (Some left) None = None
+join_of (Some left) (Some right) = Some (join left right)
+
 -- the lens of an expression, where the names in it are known; a view's name stands for its lens
 abbrev pub lens_of : Expr → Catalogue → Option Lens
 lens_of (named name) known = finmap.get known name
 lens_of (language.select predicate of) known = option_map (select predicate) (lens_of of known)
+lens_of (language.drop column by value of) known = option_map (drop column by value) (lens_of of known)
+lens_of (language.join left right) known = join_of (lens_of left known) (lens_of right known)
 
--- the columns by name
-abbrev pub columns_from : List (Name × Kind) → Columns
-columns_from columns = finmap.from_entries columns
+-- the sort of a table with these columns and conjuncts, and dependencies whose tree form is a tree
+abbrev pub sort_with : Columns → List Edge → Predicate → Sort
+sort_with columns deps predicate = record { columns = columns; predicate = predicate; tree = tree_or_none (tree_of deps) }
 
--- the sort of a table with these columns and edges, and no predicate
-abbrev pub plain_sort : Columns → List Edge → Sort
-plain_sort columns tree = record { columns = columns; predicate = []; tree = tree }
+-- the lens of a table
+abbrev pub table_lens : Name → Columns → List Edge → Predicate → Lens
+table_lens name columns deps predicate = base name (sort_with columns deps predicate)
 
--- the lens of a table with these columns and dependencies, whose tree form is a tree
-abbrev pub table_lens : Name → Columns → List Edge → Lens
-table_lens name columns deps = base name (plain_sort columns (tree_or_none (tree_of deps)))
+-- whether the lens is the table of this name itself
+abbrev pub is_table_of : Name → Lens → Bool
+is_table_of name (base of sort) = pointwise nat_eq of name
+is_table_of name (select predicate lens) = false
+is_table_of name (drop column by value lens) = false
+is_table_of name (join left right) = false
 
 -- the catalogue with the lens under the name, where there is one
 abbrev pub with_lens : Name → Option Lens → Catalogue → Catalogue
@@ -53,10 +66,10 @@ with_lens name None known = known
 with_lens name (Some lens) known = finmap.insert known name lens
 
 -- the catalogue with one definition more
-abbrev pub with_definition : Option Definition → Catalogue → Catalogue
-with_definition None known = known
-with_definition (Some (table name columns deps)) known = with_lens name (Some (table_lens name (columns_from columns) deps)) known
-with_definition (Some (view name expr)) known = with_lens name (lens_of expr known) known
+abbrev pub with_definition : Result Definition Fault → Catalogue → Catalogue
+with_definition (Err fault) known = known
+with_definition (Ok (table name columns deps predicate)) known = with_lens name (Some (table_lens name columns deps predicate)) known
+with_definition (Ok (view name expr)) known = with_lens name (lens_of expr known) known
 
 -- the definitions that the texts say, one after another, added to a catalogue
 abbrev pub catalogue_onto : Catalogue → List (List ℕ) → Catalogue
@@ -68,11 +81,11 @@ abbrev pub catalogue : List (List ℕ) → Catalogue
 catalogue = catalogue_onto finmap.empty
 
 -- with the name of a table that has dependencies
-abbrev pub with_dependent : Option Definition → Names → Names
-with_dependent None names = names
-with_dependent (Some (table name columns [])) names = names
-with_dependent (Some (table name columns (dep ∷ deps))) names = set.insert names name
-with_dependent (Some (view name expr)) names = names
+abbrev pub with_dependent : Result Definition Fault → Names → Names
+with_dependent (Err fault) names = names
+with_dependent (Ok (table name columns [] predicate)) names = names
+with_dependent (Ok (table name columns (dep ∷ deps) predicate)) names = set.insert names name
+with_dependent (Ok (view name expr)) names = names
 
 -- the tables of these texts that have dependencies, added to a set of names
 abbrev pub dependent_onto : Names → List (List ℕ) → Names

@@ -1,28 +1,27 @@
--- What a step hands on of the answer of the step before.
-use Rattle.std.proofs.Common.{◌≡◌, refl, ap}
-use Rattle.std.specs.Prelude.{Option, Some, None, Result, Ok, Err, ok_or}
+-- The definition, or what in it is too large, as an answer.
+use Rattle.std.proofs.Common.{◌≡◌, Bool, true, false, cond, refl, sym, subst}
+use Rattle.std.specs.Prelude.{Result, Ok, Err}
+use Rattle.grammar_specs.specs.Meaning.{Definition}
+use Rattle.grammar_specs.specs.Faults.{Fault, too_large, columns, predicate, has_few_columns, has_few_nodes}
+use Rattle.grammar_laws.specs.Reading.{limited}
+use Rattle.view_lang.specs.declared.definition.Definition as code
 use Rattle.view_lang.specs.declared.definition.LangFault.{LangFault}
-use Rattle.view_lang.specs.declared.definition.LangFault.TheVariants.{Outside}
+use Rattle.view_lang.specs.declared.definition.LangFault.TheVariants.{TooLarge}
+use Rattle.view_lang.specs.declared.definition.Limit.TheVariants.{Columns, Predicate}
+use Rattle.view_lang.specs.DefViews.{definition_view}
+use Rattle.view_lang.specs.Reads.{Reads}
 
-abbrev inside : {A : Type 0} → A → Result A LangFault → Option A
-inside b (Ok a) = Some a
-inside b (Err e) = Some b
+-- the definition where it is within the limits
+abbrev pub limited_by : Bool → Bool → code.Definition → Result code.Definition LangFault
+limited_by few small d = cond few (cond small (Ok d) (Err (TooLarge Predicate))) (Err (TooLarge Columns))
 
-abbrev pub fault_in : {A : Type 0} → LangFault → Result A LangFault → LangFault
-fault_in d (Ok a) = d
-fault_in d (Err e) = e
+each_way : (d : code.Definition) (few small : Bool) → Reads (limited_by few small d) (cond few (cond small (Ok (definition_view d)) (Err (too_large predicate))) (Err (too_large columns)))
+each_way d true true = refl
+each_way d true false = refl
+each_way d false small = refl
 
-pub ok_or_some : {A : Type 0} (o : Option A) (a : A) → ok_or o Outside ≡ Ok a → o ≡ Some a
-ok_or_some None a e = cc
-ok_or_some (Some b) a e = ap (λ r. inside b r) e
-
-pub ok_or_none : {A : Type 0} (o : Option A) (e : LangFault) → ok_or o Outside ≡ Err e → o ≡ None
-ok_or_none None e same = refl
-ok_or_none (Some b) e same = cc
-
-pub same_fault : {A : Type 0} (d e : LangFault) → ◌≡◌ {A = Result A LangFault} (Err d) (Err e) → d ≡ e
-same_fault d e same = ap (λ r. fault_in d r) same
-
-pub fault_is : {A : Type 0} (o : Option A) (e : LangFault) → ok_or o Outside ≡ Err e → Outside ≡ e
-fault_is None e same = same_fault Outside e same
-fault_is (Some a) e same = cc
+-- the code's answer is the answer
+pub limited_reads : (d : code.Definition) (r : Result code.Definition LangFault) (answer : Result Definition Fault) → r ≡ limited_by (has_few_columns (definition_view d)) (has_few_nodes (definition_view d)) d → answer ≡ limited (definition_view d) → Reads r answer
+limited_reads d r answer e f =
+    let h : Reads (limited_by (has_few_columns (definition_view d)) (has_few_nodes (definition_view d)) d) (limited (definition_view d)) = each_way d (has_few_columns (definition_view d)) (has_few_nodes (definition_view d)) in
+    subst (λ (x : Result code.Definition LangFault). Reads x answer) (sym e) (subst (Reads (limited_by (has_few_columns (definition_view d)) (has_few_nodes (definition_view d)) d)) (sym f) h)

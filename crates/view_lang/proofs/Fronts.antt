@@ -1,64 +1,19 @@
 -- The front of a list that passes a test, and the word in front of a text.
 use Rattle.std.proofs.Common.{◌≡◌, ℕ, ◌+◌, ◌-◌, ◌<◌, ◌≤◌, zero, suc, Bool, true, false, cond, List, [], ◌∷◌, length, take, drop, IsTrue, refl, sym, ap, subst, ◌∙◌, arith}
-use Rattle.std.specs.Prelude.{◌&&◌, ◌||◌, ◌==◌, not, nat_le, Option, Some, None, option_map, take_while}
+use Rattle.std.specs.Prelude.{◌&&◌, ◌||◌, ◌==◌, Option, Some, None, option_map, take_while}
 use Rattle.std.specs.List.{list_all, prefix_len}
 use Rattle.std.proofs.lemmas.List.{take_all, length-drop}
-use Rattle.std.proofs.lemmas.List.Sums.{take_while-cons, prefix_len-le-length}
+use Rattle.std.proofs.lemmas.List.Sums.{prefix_len-le-length}
 use Rattle.std.specs.Str.{IsAscii, IsUtf8}
 use Rattle.std.proofs.lemmas.Str.{IsUtf8-from_ascii}
 use Rattle.lens_values.proofs.NameLemmas.{name_utf8}
 use Rattle.lens_values.specs.Bytes.{is_name, is_name_byte, is_lower}
 use Rattle.std.proofs.lemmas.Bool.Decides.{nat_tests}
-use Rattle.language_specs.specs.Language.{word, is_digit}
-use Rattle.language_specs.specs.Reading.{drop_while, word_of, positive_of, negative_of, dash_of}
-use Rattle.view_lang.specs.declared.lexer.Token as code
-use Rattle.view_lang.specs.Tokens.{token_view, front_of, token_in_front, word_at, begins_word, begins_integer, begins_arrow, is_integer_text, integer_at}
-
-one_more : (n : ℕ) → 1 + n ≡ suc n
-one_more n = omega arith
-
--- what is left behind the front is what is dropped
-pub drop_while_is : (p : ℕ → Bool) (xs : List ℕ) → drop_while p xs ≡ drop (prefix_len p xs) xs
-drop_while_is p [] = refl
-drop_while_is p (x ∷ xs) =
-    elim (p x) as (λ b. cond b (drop_while p xs) (x ∷ xs) ≡ drop (cond b (1 + prefix_len p xs) 0) (x ∷ xs)) [
-      | true ↦ rw (one_more (prefix_len p xs)) (drop_while_is p xs)
-      | false ↦ refl
-    ]
-
--- the front passes
-pub front_passes : (p : ℕ → Bool) (xs : List ℕ) → list_all p (take_while p xs) ≡ true
-front_passes p [] = refl
-front_passes p (x ∷ xs) =
-    rw (take_while-cons p x xs) (elim (p x) as (λ b. p x ≡ b → list_all p (cond b (x ∷ take_while p xs) []) ≡ true) [
-      | true ↦ λ e. rw e (front_passes p xs)
-      | false ↦ λ e. refl
-    ] refl)
-
--- a front that begins with a passing element
-pub take_front : (p : ℕ → Bool) (x : ℕ) (xs : List ℕ) → p x ≡ true → take (prefix_len p (x ∷ xs)) (x ∷ xs) ≡ x ∷ take_while p xs
-take_front p x xs e = take_while-cons p x xs ∙ ap (λ b. cond b (x ∷ take_while p xs) []) e
-
-pub drop_front : (p : ℕ → Bool) (x : ℕ) (xs : List ℕ) → p x ≡ true → drop (prefix_len p (x ∷ xs)) (x ∷ xs) ≡ drop_while p xs
-drop_front p x xs e = sym (drop_while_is p (x ∷ xs)) ∙ ap (λ b. cond b (drop_while p xs) (x ∷ xs)) e
-
-lower_passes : (b : ℕ) → is_lower b ≡ true → is_name_byte b ≡ true
-lower_passes b e = ap (λ v. v || (nat_le 48 b && nat_le b 57)) e
-
-pub and_true : (a : Bool) → (a && true) ≡ a
-and_true true = refl
-and_true false = refl
-
-some_length : (n : ℕ) → (suc n == 0) ≡ false
-some_length n = grind (arith, nat_tests)
-
-joined : (a b c d : Bool) → a ≡ false → c ≡ true → d ≡ true → (not a && b && (c && d)) ≡ b
-joined a b c d ea ec ed = rw (ea, ec, ed) (and_true b)
-
-pub word_is : (b : ℕ) (w : List ℕ) → is_lower b ≡ true → list_all is_name_byte w ≡ true → word_at (b ∷ w) ≡ word_of (b ∷ w)
-word_is b w e all =
-    ap (λ v. cond v (Some (word (b ∷ w))) None)
-    (joined (suc (length w) == 0) (nat_le (suc (length w)) 32) (is_lower b) (is_name_byte b && list_all is_name_byte w) (some_length (length w)) e (rw (lower_passes b e, all) refl))
+use Rattle.grammar_specs.specs.Tokens.{word, is_digit}
+use Rattle.grammar_laws.specs.Front.{drop_while, word_of, word_at, plain_in_front, positive_of, negative_of, dash_of}
+use Rattle.grammar_laws.proofs.FrontLists.{one_more, drop_while_is, front_passes, take_front, drop_front, lower_passes, word_is, not_digit}
+use Rattle.view_lang.specs.declared.token.Token as code
+use Rattle.view_lang.specs.TokenViews.{token_view, front_of, begins_word, begins_integer, begins_arrow, is_integer_text, integer_at}
 
 first_branch : {X : Type 0} (x y : X) (b : Bool) → b ≡ true → cond b x y ≡ x
 first_branch x y b e = ap (λ v. cond v x y) e
@@ -72,7 +27,7 @@ only_minus b e h = grind (arith, nat_tests)
 
 -- the word in front of a text that begins with a letter
 word_in_front : (text : List ℕ) → IsTrue (begins_word text)
-    → token_in_front text ≡ option_map (λ t. (t, drop (prefix_len is_name_byte text) text)) (word_at (take (prefix_len is_name_byte text) text))
+    → plain_in_front text ≡ option_map (λ t. (t, drop (prefix_len is_name_byte text) text)) (word_at (take (prefix_len is_name_byte text) text))
 word_in_front [] h = cc
 word_in_front (b ∷ rest) h =
     let passes = lower_passes b h in
@@ -83,15 +38,12 @@ word_in_front (b ∷ rest) h =
 
 -- what the code finds of it
 pub word_front : (text : List ℕ) → IsTrue (begins_word text) → (n : ℕ) → n ≡ prefix_len is_name_byte text → (t : Option code.Token)
-    → option_map token_view t ≡ word_at (take n text) → front_of text (option_map (λ t. (t, n)) t) ≡ token_in_front text
+    → option_map token_view t ≡ word_at (take n text) → front_of text (option_map (λ t. (t, n)) t) ≡ plain_in_front text
 word_front text h n e t found =
     moved text n t
     ∙ ap (option_map (λ t. (t, drop n text))) found
     ∙ ap (λ k. option_map (λ t. (t, drop k text)) (word_at (take k text))) e
     ∙ sym (word_in_front text h)
-
-pub not_digit : (b : ℕ) → is_digit b ≡ true → is_lower b ≡ false
-not_digit b e = grind (arith, nat_tests)
 
 -- behind a minus sign, where no arrow begins
 dash_is : (rest : List ℕ) → begins_arrow (45 ∷ rest) ≡ false → dash_of rest ≡ option_map (λ t. (t, drop_while is_digit rest)) (negative_of (take_while is_digit rest))
@@ -100,13 +52,13 @@ dash_is (c ∷ rest) e = let is : (c == 62) ≡ false = e in rw is refl
 
 -- the integer in front of a text that begins with a digit or a minus sign
 integer_in_front : (b : ℕ) (rest : List ℕ) → IsTrue (begins_integer (b ∷ rest)) → begins_arrow (b ∷ rest) ≡ false
-    → token_in_front (b ∷ rest) ≡ option_map (λ t. (t, drop_while is_digit rest)) (integer_at (b ∷ take_while is_digit rest))
+    → plain_in_front (b ∷ rest) ≡ option_map (λ t. (t, drop_while is_digit rest)) (integer_at (b ∷ take_while is_digit rest))
 integer_in_front b rest h no_arrow =
-    elim (is_digit b) as (λ d. is_digit b ≡ d → token_in_front (b ∷ rest) ≡ option_map (λ t. (t, drop_while is_digit rest)) (cond d (positive_of (b ∷ take_while is_digit rest)) (negative_of (take_while is_digit rest)))) [
+    elim (is_digit b) as (λ d. is_digit b ≡ d → plain_in_front (b ∷ rest) ≡ option_map (λ t. (t, drop_while is_digit rest)) (cond d (positive_of (b ∷ take_while is_digit rest)) (negative_of (take_while is_digit rest)))) [
       | true ↦ λ e. rw (not_digit b e, e) refl
       | false ↦ λ e.
           let minus_sign : b ≡ 45 = only_minus b e h in
-          let P : ℕ → Type 0 = λ c. begins_arrow (c ∷ rest) ≡ false → token_in_front (c ∷ rest) ≡ option_map (λ t. (t, drop_while is_digit rest)) (negative_of (take_while is_digit rest)) in
+          let P : ℕ → Type 0 = λ c. begins_arrow (c ∷ rest) ≡ false → plain_in_front (c ∷ rest) ≡ option_map (λ t. (t, drop_while is_digit rest)) (negative_of (take_while is_digit rest)) in
           subst P (sym minus_sign) (dash_is rest) no_arrow
     ] refl
 
@@ -114,7 +66,7 @@ integer_length : (b : ℕ) (rest : List ℕ) (n : ℕ) → n ≡ prefix_len is_d
 integer_length b rest n e = rw (one_more n) (ap (λ k. b ∷ take k rest) e)
 
 pub integer_front : (text : List ℕ) → IsTrue (begins_integer text) → begins_arrow text ≡ false → (n : ℕ) → n ≡ prefix_len is_digit (drop 1 text) → (t : Option code.Token)
-    → option_map token_view t ≡ integer_at (take (1 + n) text) → front_of text (option_map (λ t. (t, 1 + n)) t) ≡ token_in_front text
+    → option_map token_view t ≡ integer_at (take (1 + n) text) → front_of text (option_map (λ t. (t, 1 + n)) t) ≡ plain_in_front text
 integer_front [] h no_arrow n e t found = cc
 integer_front (b ∷ rest) h no_arrow n e t found =
     let left : drop (1 + n) (b ∷ rest) ≡ drop_while is_digit rest = rw (one_more n) (ap (λ k. drop k rest) e ∙ sym (drop_while_is is_digit rest)) in
@@ -173,10 +125,3 @@ integer_ascii (b ∷ bytes) h (suc i) = digits_ascii bytes (second_holds (is_dig
 -- an integer is text
 pub no_integer : (bytes : List ℕ) → (IsUtf8 bytes → ⊥) → IsTrue (is_integer_text bytes) → ⊥
 no_integer bytes h e = h (IsUtf8-from_ascii bytes (integer_ascii bytes e))
-
--- the slice behind the front that passes
-pub slice_behind : (p : ℕ → Bool) (xs : List ℕ) (n : ℕ) → n ≡ prefix_len p xs → take (length xs - n) (drop n xs) ≡ drop_while p xs
-slice_behind p xs n e = rest_is n xs ∙ ap (λ k. drop k xs) e ∙ sym (drop_while_is p xs)
-
-pub front_within : (p : ℕ → Bool) (xs : List ℕ) (n : ℕ) → n ≡ prefix_len p xs → n ≤ length xs
-front_within p xs n e = omega (arith, e, prefix_len-le-length p xs)

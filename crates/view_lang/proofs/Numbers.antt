@@ -7,9 +7,9 @@ use Rattle.std.specs.Str.Parse.{ParsesSigned}
 use Rattle.std.proofs.lemmas.Str.Parse.{IsNumeralModel, numerals_by_fold, parse_signed_plain, parse_signed_minus}
 use Rattle.std.proofs.lemmas.Bool.Decides.{nat_tests}
 use mir.Syntax.{w64}
-use Rattle.language_specs.specs.Language.{Token, integer, is_digit, digits_value, minus}
-use Rattle.language_specs.specs.Reading.{positive_of, negative_of}
-use Rattle.view_lang.specs.Tokens.{integer_at, is_integer_text}
+use Rattle.grammar_specs.specs.Tokens.{Token, integer, is_digit, digits_value, minus}
+use Rattle.grammar_laws.specs.Front.{positive_of, negative_of}
+use Rattle.view_lang.specs.TokenViews.{integer_at, is_integer_text}
 use Rattle.view_lang.proofs.Fronts.{only_minus}
 
 own : IsNumeralModel (λ ds. list_all is_digit ds ≡ true) (digits_value 0)

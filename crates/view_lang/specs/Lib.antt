@@ -1,4 +1,9 @@
-pub mod Meaning
-pub mod Tokens
-pub mod Steps
-pub mod Laws
+pub mod TokenViews
+pub mod PredViews
+pub mod PredBounds
+pub mod ExprViews
+pub mod ExprsViews
+pub mod DefViews
+pub mod DefBounds
+pub mod Reads
+pub mod PrintAdds

@@ -1,54 +1,45 @@
-//! Definitions of tables and views.
+//! Definitions of tables and views, and why a text gives none.
 ghost use Rattle.std.specs.Prelude.{◌≡◌};
-ghost use Rattle.std.specs.Ordering.{int_cmp};
-ghost use Rattle.lens_specs.specs.Predicate.{test_of};
-ghost use Rattle.view_lang.specs.Meaning.{op_view};
 
+use crate::expr::Expr;
 use fd_closure::Dep;
-use lens_values::{Kind, Name, NoMemory};
-use std::alloc::{AllocError, AllocFailed};
+use lens_pred::Pred;
+use lens_values::{Columns, Name, NoMemory};
+use std::alloc::AllocError;
+use std::marker::Model;
 
-/// How a comparison wants its two sides to stand.
-#[derive(Clone, Copy, Debug, PartialEq, Eq)]
-pub enum Op {
-    /// Equal, `=`.
-    Eq,
-    /// Not equal, `!=`.
-    Ne,
-    /// Less, `<`.
-    Lt,
-    /// Less or equal, `<=`.
-    Le,
-    /// Greater, `>`.
-    Gt,
-    /// Greater or equal, `>=`.
-    Ge,
-}
-
-/// A column against a number.
+/// Dependencies, in order. A contract sees the list of their edges.
 #[derive(Debug, Drop)]
-pub struct Comparison {
-    /// The column whose value is compared.
-    pub column: Name,
-    /// How the value is to stand to the number.
-    pub op: Op,
-    /// The number on the right side.
-    pub value: i64,
+pub struct Deps {
+    list: Vec<Dep>,
 }
 
-impl Comparison {
-    /// Whether the comparison holds where the column has this number.
-    pub fn holds_on(&self, number: i64) -> bool
-        ensures { result ≡ test_of (op_view self.now.op) (int_cmp number self.now.value) }
+impl Model for Deps {
+    ghost use Rattle.std.specs.Prelude.{List};
+    ghost use Rattle.std.specs.Coded.{coded_list};
+    ghost use Rattle.lens_specs.specs.Dependencies.{Edge};
+    ghost use Rattle.fd_closure.specs.Sides.{coded_edge};
+
+    ghost Value = { List Edge };
+
+    ghost coded = { coded_list coded_edge };
+
+    ghost view = { λ d. d.list.items };
+}
+
+impl Deps {
+    /// These dependencies.
+    pub fn new(list: Vec<Dep>) -> Deps
+        ensures { result ≡ list.items }
     {
-        match self.op {
-            Op::Eq => number == self.value,
-            Op::Ne => number != self.value,
-            Op::Lt => number < self.value,
-            Op::Le => number <= self.value,
-            Op::Gt => number > self.value,
-            Op::Ge => number >= self.value,
-        }
+        Deps { list }
+    }
+
+    /// The dependencies in their order.
+    pub fn as_slice(&self) -> &[Dep]
+        ensures { result.now ≡ self.now }
+    {
+        self.list.as_slice()
     }
 }
 
@@ -59,27 +50,61 @@ pub enum Definition {
     Table {
         /// What the table is called.
         name: Name,
-        /// Its columns as they stand in the text, where a name may come twice.
-        columns: Vec<(Name, Kind)>,
+        /// Its columns.
+        cols: Columns,
         /// Its dependencies, in the order of the text.
-        deps: Vec<Dep>,
+        deps: Deps,
+        /// What holds on each of its rows.
+        pred: Pred,
     },
-    /// A view that keeps the rows of its source on which a comparison holds.
+    /// A view.
     View {
         /// What the view is called.
         name: Name,
-        /// The table or view that it reads.
-        source: Name,
-        /// What has to hold on a row.
-        comparison: Comparison,
+        /// The rows that it shows.
+        expr: Expr,
     },
+}
+
+/// What can be too large.
+#[derive(Clone, Copy, Debug, PartialEq, Eq)]
+pub enum Limit {
+    /// The columns of a table.
+    Columns,
+    /// The nodes of a lens.
+    Lens,
+    /// The nodes of a predicate.
+    Predicate,
+    /// The parentheses and "not"s that stand open at once.
+    Nesting,
+    /// The tables.
+    Tables,
+    /// The views.
+    Views,
+}
+
+/// A side of a join.
+#[derive(Clone, Copy, Debug, PartialEq, Eq)]
+pub enum Side {
+    /// What is joined.
+    Left,
+    /// What it is joined with.
+    Right,
 }
 
 /// Why a text gives no definition.
 #[derive(Debug, PartialEq, Eq, Drop)]
 pub enum LangFault {
-    /// The text is not in the language.
-    Outside,
+    /// The text goes wrong at this offset.
+    Syntax {
+        /// Where the first wrong token begins, or the length of the text where it ends too early.
+        at: usize,
+    },
+    /// Something is too large.
+    TooLarge {
+        /// What it is.
+        what: Limit,
+    },
     /// Memory ran out.
     NoMemory,
 }
@@ -91,17 +116,6 @@ impl From<AllocError> for LangFault {
     ghost from_gives = { λ _ e. e ≡ NoMemory };
 
     fn from(_: AllocError) -> LangFault {
-        LangFault::NoMemory
-    }
-}
-
-impl<T: Drop> From<AllocFailed<T>> for LangFault {
-    ghost use Rattle.std.specs.Prelude.{◌≡◌};
-    ghost use Rattle.view_lang.specs.declared.definition.LangFault.TheVariants.{NoMemory};
-
-    ghost from_gives = { λ _ e. e ≡ NoMemory };
-
-    fn from(_: AllocFailed<T>) -> LangFault {
         LangFault::NoMemory
     }
 }

@@ -1,36 +1,17 @@
-//! From a text to its tokens, the longest at each place.
-ghost use Rattle.std.specs.Prelude.{◌≡◌, ◌<◌, false, length, option_map, MatchOption, IsTrue, ok_or};
+//! The token in front of a text, the longest there.
+ghost use Rattle.std.specs.Prelude.{◌≡◌, ℕ, List, ◌<◌, ◌+◌, ◌-◌, false, length, drop, option_map, MatchOption, IfOk, IfSome, IsTrue, string_bytes, slice_index, map, Some, None};
 ghost use Rattle.std.specs.Str.{IsUtf8};
 ghost use Rattle.std.specs.List.{prefix_len};
 ghost use Rattle.lens_values.specs.Bytes as bytes;
-ghost use Rattle.lens_values.specs.Gives.{GivesBy};
-ghost use Rattle.language_specs.specs.Language as language;
-ghost use Rattle.language_specs.specs.Reading.{drop_while, tokens_of};
-ghost use Rattle.view_lang.specs.Tokens.{token_view, tokens_view, front_of, IsFront, word_at, integer_at, is_integer_text, begins_word, begins_integer, begins_arrow, long_sign_at, short_sign_at, sign_in_front, token_in_front};
+ghost use Rattle.grammar_specs.specs.Tokens as language;
+ghost use Rattle.grammar_laws.specs.Front.{quoted_in, text_at, word_at, plain_in_front, token_in_front};
+ghost use Rattle.view_lang.specs.TokenViews.{token_view, front_of, IsFront, integer_at, is_integer_text, begins_word, begins_integer, begins_arrow, long_sign_at, short_sign_at, sign_in_front};
 
-use crate::definition::{LangFault, Op};
-use lens_values::Name;
+use crate::token::Token;
+use lens_pred::Op;
+use lens_values::{Name, NoMemory, Text, TextFault};
 use std::alloc::Global;
 use std::str;
-
-/// One token of the language.
-#[derive(Clone, Copy, Debug)]
-pub enum Token {
-    /// A word, reserved or not.
-    Word(Name),
-    /// A whole number of 64 bits.
-    Integer(i64),
-    /// `(`
-    OpenParen,
-    /// `)`
-    CloseParen,
-    /// `,`
-    Comma,
-    /// `->`
-    Arrow,
-    /// The sign of a comparison.
-    Operator(Op),
-}
 
 fn is_blank(byte: u8) -> bool
     ensures { result ≡ language.is_blank byte }
@@ -57,17 +38,10 @@ fn is_name_byte(byte: u8) -> bool
 }
 
 /// How many blanks the text begins with.
-fn blank_len(text: &[u8]) -> usize
+pub fn blank_len(text: &[u8]) -> usize
     ensures { result ≡ prefix_len language.is_blank text.now }
 {
     text.iter().take_while(|byte| is_blank(**byte)).count()
-}
-
-/// The text behind the blanks that it begins with.
-fn skip_blanks(text: &[u8]) -> &[u8]
-    ensures { result.now ≡ drop_while language.is_blank text.now }
-{
-    &text[blank_len(text)..]
 }
 
 /// How many bytes of a word the text begins with.
@@ -119,7 +93,7 @@ fn integer_token(bytes: &[u8]) -> Option<Token>
 /// The word in front of the text, and its length.
 fn word(text: &[u8]) -> Option<(Token, usize)>
     requires { IsTrue (begins_word text.now) }
-    ensures value { front_of text.now result ≡ token_in_front text.now }
+    ensures value { front_of text.now result ≡ plain_in_front text.now }
     ensures within { IsFront text.now result }
 {
     let len = word_len(text);
@@ -137,7 +111,7 @@ fn begins_arrow(text: &[u8]) -> bool
 fn integer(text: &[u8]) -> Option<(Token, usize)>
     requires begins { IsTrue (begins_integer text.now) }
     requires no_arrow { begins_arrow text.now ≡ false }
-    ensures value { front_of text.now result ≡ token_in_front text.now }
+    ensures value { front_of text.now result ≡ plain_in_front text.now }
     ensures within { IsFront text.now result }
 {
     let len = 1 + digit_len(&text[1..]);
@@ -185,10 +159,10 @@ fn sign(text: &[u8]) -> Option<(Token, usize)>
     Some((short_sign(text[0])?, 1))
 }
 
-/// The token in front of a text that begins with no blank, and its length.
-fn first_token(text: &[u8]) -> Option<(Token, usize)>
+/// The word, integer or sign in front of the text, and its length.
+fn plain_token(text: &[u8]) -> Option<(Token, usize)>
     requires { 0 < length text.now }
-    ensures value { front_of text.now result ≡ token_in_front text.now }
+    ensures value { front_of text.now result ≡ plain_in_front text.now }
     ensures within { IsFront text.now result }
 {
     let first = text[0];
@@ -203,18 +177,62 @@ fn first_token(text: &[u8]) -> Option<(Token, usize)>
     }
 }
 
-/// All tokens of the text.
-pub fn tokens(alloc: Global, text: &[u8]) -> Result<Vec<Token>, LangFault>
-    ensures { GivesBy (λ tokens. tokens_view tokens.items) LangFault.NoMemory result (ok_or (tokens_of text.now) LangFault.Outside) }
+/// The value of a text behind its first quote, and how many bytes follow its last one.
+fn quoted(alloc: Global, text: &str) -> Result<Option<(String, usize)>, NoMemory>
+    ensures { IfOk result (λ found. MatchOption found (quoted_in text.now ≡ None)
+        (λ q. (rest : List ℕ) × (quoted_in text.now ≡ Some (string_bytes q.0, rest)) × (q.1 ≡ length rest))) }
 {
-    let mut tokens = Vec::new(alloc);
-    let mut rest = skip_blanks(text);
-    while !rest.is_empty() {
-        let Some((token, len)) = first_token(rest) else {
-            return Err(LangFault::Outside);
+    let mut value = String::new(alloc);
+    let mut rest = text;
+    while let Some((piece, behind)) = rest.split_once('\'') {
+        value.push_str(piece)?;
+        let Some(more) = behind.strip_prefix('\'') else {
+            return Ok(Some((value, behind.len())));
         };
-        tokens.push(token)?;
-        rest = skip_blanks(&rest[len..]);
+        value.push('\'')?;
+        rest = more;
     }
-    Ok(tokens)
+    Ok(None)
+}
+
+/// The text behind a quote, and how many bytes follow it.
+fn text_token(alloc: Global, text: &str) -> Result<Option<(Token, usize)>, NoMemory>
+    ensures { IfOk result (λ found. MatchOption found (text_at text.now ≡ None)
+        (λ f. (rest : List ℕ) × (text_at text.now ≡ Some (token_view f.0, rest)) × (f.1 ≡ length rest))) }
+{
+    let Some((value, left)) = quoted(alloc, text)? else {
+        return Ok(None);
+    };
+    match Text::new(alloc, value.as_str()) {
+        Ok(text) => Ok(Some((Token::Text(text), left))),
+        Err(TextFault::NoMemory) => Err(NoMemory),
+        Err(_) => Ok(None),
+    }
+}
+
+/// The token that begins with this quote, and its length.
+fn text_at(alloc: Global, text: &str, at: usize) -> Result<Option<(Token, usize)>, NoMemory>
+    requires within { at < length text.now }
+    requires quote { slice_index text.now at ≡ 39 }
+    ensures value { IfOk result (λ found. front_of (drop at text.now) found ≡ token_in_front (drop at text.now)) }
+    ensures front { IfOk result (λ found. IsFront (drop at text.now) found) }
+{
+    match text_token(alloc, &text[at + 1..])? {
+        Some((token, left)) => Ok(Some((token, text.len() - at - left))),
+        None => Ok(None),
+    }
+}
+
+/// The token at this offset of the text, the longest there, and its length. `None` where none stands.
+pub fn token_at(alloc: Global, text: &str, at: usize) -> Result<Option<(Token, usize)>, NoMemory>
+    requires { at < length text.now }
+    ensures value { IfOk result (λ found. front_of (drop at text.now) found ≡ token_in_front (drop at text.now)) }
+    ensures front { IfOk result (λ found. IsFront (drop at text.now) found) }
+{
+    let bytes = text.as_bytes();
+    if bytes[at] == b'\'' {
+        text_at(alloc, text, at)
+    } else {
+        Ok(plain_token(&bytes[at..]))
+    }
 }

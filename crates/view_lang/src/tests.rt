@@ -1,195 +1,328 @@
-//! Texts, and what they say.
-use crate::definition::{Comparison, Definition, LangFault, Op};
-use crate::parser::parse;
+//! Texts with the answers that the language gives them.
+use super::*;
 use fd_closure::Dep;
-use lens_values::{Kind, Name, Names, Text};
-use std::alloc::Global;
+use lens_pred::{Formula, Pred};
+use lens_values::{Columns, Name, Text, Value};
+use std::alloc::{AllocError, Global};
 use std::test::Fail;
 
-fn said(alloc: Global, text: &str) -> Result<Definition, Fail> {
-    let text = Text::new(alloc, text)?;
-    Ok(parse(alloc, &text)?)
-}
-
-fn table_of(definition: Definition) -> Option<(Name, Vec<(Name, Kind)>, Vec<Dep>)> {
-    match definition {
-        Definition::Table {
-            name,
-            columns,
-            deps,
-        } => Some((name, columns, deps)),
-        Definition::View { .. } => None,
+fn value_text(alloc: Global, value: &Value) -> Result<String, AllocError> {
+    match value {
+        Value::Int(number) => format!(in alloc; "{number}"),
+        Value::Text(text) => format!(in alloc; "'{}'", text.as_str()),
+        Value::Flag(flag) => format!(in alloc; "{flag}"),
     }
 }
 
-fn view_of(definition: Definition) -> Option<(Name, Name, Comparison)> {
-    match definition {
-        Definition::View {
-            name,
-            source,
-            comparison,
-        } => Some((name, source, comparison)),
-        other => {
-            drop(other);
-            None
+fn values_text(alloc: Global, col: &Name, values: &[Value]) -> Result<String, AllocError> {
+    let mut written = format!(in alloc; "{} in", col.as_str())?;
+    for value in values {
+        written.push_str(&format!(in alloc; " {}", value_text(alloc, value)?)?)?;
+    }
+    Ok(written)
+}
+
+fn names_text(alloc: Global, names: &[Name]) -> Result<String, AllocError> {
+    let mut written = String::new(alloc);
+    for name in names {
+        written.push_str(&format!(in alloc; "{} ", name.as_str())?)?;
+    }
+    Ok(written)
+}
+
+/// A formula, and of one that is joined only how it is joined.
+fn part_text(alloc: Global, formula: &Formula) -> Result<String, AllocError> {
+    match formula {
+        Formula::True => format!(in alloc; "true"),
+        Formula::False => format!(in alloc; "false"),
+        Formula::Compare { col, op, value } => {
+            format!(in alloc; "{} {op:?} {}", col.as_str(), value_text(alloc, value)?)
+        }
+        Formula::CompareCols { col, op, other } => {
+            format!(in alloc; "{} {op:?} {}", col.as_str(), other.as_str())
+        }
+        Formula::OneOf { col, values } => values_text(alloc, col, values.as_slice()),
+        Formula::Not(_) => format!(in alloc; "not"),
+        Formula::And(_) => format!(in alloc; "and"),
+        Formula::Or(_) => format!(in alloc; "or"),
+    }
+}
+
+fn parts_text(alloc: Global, word: &str, parts: &[Formula]) -> Result<String, AllocError> {
+    let mut written = format!(in alloc; "{word}(")?;
+    for part in parts {
+        written.push_str(&format!(in alloc; "{};", part_text(alloc, part)?)?)?;
+    }
+    written.push(')')?;
+    Ok(written)
+}
+
+fn formula_text(alloc: Global, formula: &Formula) -> Result<String, AllocError> {
+    match formula {
+        Formula::Not(part) => format!(in alloc; "not({})", part_text(alloc, part)?),
+        Formula::And(parts) => parts_text(alloc, "and", parts.as_slice()),
+        Formula::Or(parts) => parts_text(alloc, "or", parts.as_slice()),
+        plain => part_text(alloc, plain),
+    }
+}
+
+fn pred_text(alloc: Global, pred: &Pred) -> Result<String, AllocError> {
+    let mut written = String::new(alloc);
+    for formula in pred.conjuncts() {
+        written.push_str(&format!(in alloc; "{}; ", formula_text(alloc, formula)?)?)?;
+    }
+    Ok(written)
+}
+
+fn expr_text(alloc: Global, expr: &Expr) -> Result<String, AllocError> {
+    match expr {
+        Expr::Named { name } => format!(in alloc; "{}", name.as_str()),
+        Expr::Select { pred, of } => {
+            let pred = pred_text(alloc, pred)?;
+            format!(in alloc; "select({pred}from {})", expr_text(alloc, of)?)
+        }
+        Expr::Drop { col, by, fill, of } => {
+            let by = names_text(alloc, by.as_slice())?;
+            let fill = value_text(alloc, fill)?;
+            let of = expr_text(alloc, of)?;
+            format!(in alloc; "drop({} by {by}, {fill} from {of})", col.as_str())
+        }
+        Expr::Join { left, right } => {
+            let left = expr_text(alloc, left)?;
+            format!(in alloc; "join({left}, {})", expr_text(alloc, right)?)
         }
     }
 }
 
-#[test]
-fn reads_tables(rt: HostRuntime) -> Result<(), Fail> {
-    let text = "table goods (name text, quantity int)";
-    let (name, columns, deps) = table_of(said(rt.alloc(), text)?).ok_or("no table")?;
-    assert!(rt; name.as_str() == "goods");
-    assert_eq!(rt; columns.len(), 2);
-    assert_eq!(rt; deps.len(), 0);
-    assert!(rt; columns[0].0.as_str() == "name");
-    assert_eq!(rt; columns[0].1, Kind::Text);
-    assert!(rt; columns[1].0.as_str() == "quantity");
-    assert_eq!(rt; columns[1].1, Kind::Int);
-    let text = "\ttable\r\nt(a\nbool)\n";
-    let (name, columns, deps) = table_of(said(rt.alloc(), text)?).ok_or("no table")?;
-    assert!(rt; name.as_str() == "t");
-    assert_eq!(rt; columns.len(), 1);
-    assert_eq!(rt; deps.len(), 0);
-    assert!(rt; columns[0].0.as_str() == "a");
-    assert_eq!(rt; columns[0].1, Kind::Flag);
-    Ok(())
-}
-
-fn is_side(names: &Names, words: &[&str]) -> bool {
-    names
-        .as_slice()
-        .iter()
-        .map(|name| name.as_str())
-        .eq(words.iter().copied())
-}
-
-#[test]
-fn reads_dependencies(rt: HostRuntime) -> Result<(), Fail> {
-    for (deps_text, left, right) in [
-        (
-            " with album -> quantity",
-            ["album"].as_slice(),
-            ["quantity"].as_slice(),
-        ),
-        (" with a b -> c d", &["a", "b"], &["c", "d"]),
-        (" with e d e -> z a z a", &["d", "e"], &["a", "z"]),
-        (" with a->b", &["a"], &["b"]),
-        ("with\na\n->a", &["a"], &["a"]),
-    ] {
-        let text = format!(in rt.alloc(); "table albums (album text, quantity int){deps_text}")?;
-        let (name, columns, deps) = table_of(said(rt.alloc(), &text)?).ok_or("no table")?;
-        assert!(rt; name.as_str() == "albums", "{text}");
-        assert_eq!(rt; columns.len(), 2, "{text}");
-        assert_eq!(rt; deps.len(), 1, "{text}");
-        assert!(rt; is_side(deps[0].left(), left), "{text}");
-        assert!(rt; is_side(deps[0].right(), right), "{text}");
+fn columns_text(alloc: Global, cols: &Columns) -> Result<String, AllocError> {
+    let mut written = String::new(alloc);
+    for (name, kind) in cols.pairs() {
+        written.push_str(&format!(in alloc; "{} {kind:?}, ", name.as_str())?)?;
     }
-    let text = "table t (a int) with b -> a, a c->b";
-    let (_, _, deps) = table_of(said(rt.alloc(), text)?).ok_or("no table")?;
-    assert_eq!(rt; deps.len(), 2);
-    assert!(rt; is_side(deps[0].left(), &["b"]));
-    assert!(rt; is_side(deps[0].right(), &["a"]));
-    assert!(rt; is_side(deps[1].left(), &["a", "c"]));
-    assert!(rt; is_side(deps[1].right(), &["b"]));
+    Ok(written)
+}
+
+fn deps_text(alloc: Global, deps: &[Dep]) -> Result<String, AllocError> {
+    let mut written = String::new(alloc);
+    for dep in deps {
+        let left = names_text(alloc, dep.left().as_slice())?;
+        let right = names_text(alloc, dep.right().as_slice())?;
+        written.push_str(&format!(in alloc; "{left}-> {right}| ")?)?;
+    }
+    Ok(written)
+}
+
+fn definition_text(alloc: Global, definition: &Definition) -> Result<String, AllocError> {
+    match definition {
+        Definition::Table {
+            name,
+            cols,
+            deps,
+            pred,
+        } => {
+            let cols = columns_text(alloc, cols)?;
+            let deps = deps_text(alloc, deps.as_slice())?;
+            let pred = pred_text(alloc, pred)?;
+            format!(in alloc; "table {}: {cols}| {deps}{pred}", name.as_str())
+        }
+        Definition::View { name, expr } => {
+            format!(in alloc; "view {}: {}", name.as_str(), expr_text(alloc, expr)?)
+        }
+    }
+}
+
+/// What the text says, or its fault.
+fn answer(alloc: Global, text: &str) -> Result<String, Fail> {
+    let written = Text::new(alloc, text)?;
+    match parse(alloc, &written) {
+        Ok(definition) => Ok(definition_text(alloc, &definition)?),
+        Err(fault) => Ok(format!(in alloc; "{fault:?}")?),
+    }
+}
+
+#[test]
+fn texts_say_definitions(rt: HostRuntime) -> Result<(), Fail> {
+    let cases = [
+        ("view v=t", "view v: t"),
+        ("\tview\r\nv = t \n", "view v: t"),
+        ("table t(a bool)", "table t: a Flag, | "),
+        (
+            "table w (a int, b text) with a -> b where (a < 3 or b = 'x') and not a in (1, 2)",
+            "table w: a Int, b Text, | a -> b | or(a Lt 3;b Eq 'x';); not(a in 1 2); ",
+        ),
+        (
+            "table t (a int, b int) with b a -> a, b->a where a != b",
+            "table t: a Int, b Int, | a b -> a | b -> a | a Ne b; ",
+        ),
+        (
+            "view v = select from (join_dl t with (drop a determined by (c b, -2) from u)) where a < b and (b >= 1 and a = 2)",
+            "view v: select(a Lt b; b Ge 1; a Eq 2; from join(t, drop(a by b c , -2 from u)))",
+        ),
+        (
+            "view v = select from t where a = 1 and b = 2 or c = 3",
+            "view v: select(or(and;c Eq 3;); from t)",
+        ),
+        (
+            "view v = select from t where a = 5and b = 'it''s' and c = -0 and true",
+            "view v: select(a Eq 5; b Eq 'it's'; c Eq 0; true; from t)",
+        ),
+        (
+            "view v = select from t where not not a in (true, '', 9223372036854775807, -9223372036854775808)",
+            "view v: select(not(not); from t)",
+        ),
+    ];
+    for (text, expected) in cases {
+        assert_eq!(rt; answer(rt.alloc(), text)?.as_str(), expected, "{text}");
+    }
     Ok(())
 }
 
 #[test]
-fn reads_views(rt: HostRuntime) -> Result<(), Fail> {
-    for (text, name, source, op, value) in [
+fn texts_have_faults(rt: HostRuntime) -> Result<(), Fail> {
+    let cases = [
+        ("", 0),
+        ("   ", 3),
+        ("view = t", 5),
+        ("view select = t", 5),
+        ("view v =   ", 11),
+        ("view v = (t)", 9),
+        ("view v = t;", 10),
+        ("view v = t x", 11),
+        ("view v = select from t where a = 99999999999999999999", 33),
+        ("view v = drop a determined by (0) from t", 31),
+        ("table t ()", 9),
+        ("table t (a int, a int)", 16),
+        ("table t (a int) with a ->", 25),
+        ("table t (a int) with -> a", 21),
+        ("table t (a int) where a -1", 24),
+        ("table t (a int) where a in ()", 28),
+        ("table t (a int) where a = 1 or ", 31),
+        ("table t (a int) where a = 'x''", 26),
+        ("table t (a int) where (a = 1", 28),
+        ("table t (a int) where a = 1)", 27),
+    ];
+    for (text, at) in cases {
+        let written = Text::new(rt.alloc(), text)?;
+        let fault = parse(rt.alloc(), &written).err();
+        assert_eq!(rt; fault, Some(LangFault::Syntax { at }), "{text}");
+    }
+    Ok(())
+}
+
+fn push_times(text: &mut String, piece: &str, times: usize) -> Result<(), AllocError> {
+    for _ in 0..times {
+        text.push_str(piece)?;
+    }
+    Ok(())
+}
+
+#[test]
+fn large_texts_are_refused(rt: HostRuntime) -> Result<(), Fail> {
+    let nesting = || Some(LangFault::TooLarge {
+        what: Limit::Nesting,
+    });
+    let predicate = || Some(LangFault::TooLarge {
+        what: Limit::Predicate,
+    });
+    let cases = [
+        ("table t (a int) where ", "(", 32, "a = 1", ")", None),
+        ("table t (a int) where ", "(", 33, "a = 1", ")", nesting()),
+        ("table t (a int) where ", "not (", 16, "a = 1", ")", None),
         (
-            "view big = select from goods where a > 2",
-            "big",
-            "goods",
-            Op::Gt,
-            2,
+            "table t (a int) where ",
+            "not (",
+            16,
+            "not a = 1",
+            ")",
+            nesting(),
         ),
-        ("view v=select from t where a<=-5", "v", "t", Op::Le, -5),
-        ("view v = select from t where a > 007", "v", "t", Op::Gt, 7),
-        ("view v = select from t where a != -0", "v", "t", Op::Ne, 0),
+        ("table t (a int) where ", "not ", 32, "a = 1", "", None),
+        ("table t (a int) where ", "not ", 1000, "", "", nesting()),
+        ("table t (a int) where ", "(", 4000, "", "", nesting()),
+        ("table t (a int) where ", "(", 33, "and", "", nesting()),
         (
-            "view v = select from t where a = 9223372036854775807",
-            "v",
+            "table t (a int) where and ",
+            "(",
+            33,
+            "",
+            "",
+            Some(LangFault::Syntax { at: 22 }),
+        ),
+        ("view v = ", "select from (", 32, "t", ") where true", None),
+        (
+            "view v = ",
+            "select from (",
+            33,
             "t",
-            Op::Eq,
-            i64::MAX,
+            ") where true",
+            nesting(),
+        ),
+        ("table t (a int) where a in (1", ", 1", 254, ")", "", None),
+        (
+            "table t (a int) where a in (1",
+            ", 1",
+            255,
+            ")",
+            "",
+            predicate(),
         ),
         (
-            "view v = select from t where a >= -9223372036854775808",
-            "v",
-            "t",
-            Op::Ge,
-            i64::MIN,
+            "table t (a int) where a = 1",
+            " and a = 1",
+            255,
+            "",
+            "",
+            None,
         ),
-    ] {
-        let (view, read, comparison) = view_of(said(rt.alloc(), text)?).ok_or("no view")?;
-        assert!(rt; view.as_str() == name, "{text}");
-        assert!(rt; read.as_str() == source, "{text}");
-        assert!(rt; comparison.column.as_str() == "a", "{text}");
-        assert_eq!(rt; comparison.op, op, "{text}");
-        assert_eq!(rt; comparison.value, value, "{text}");
+        (
+            "view v = select from t where a = 1",
+            " and a = 1",
+            255,
+            "",
+            "",
+            None,
+        ),
+        (
+            "view v = select from t where a = 1",
+            " and a = 1",
+            256,
+            "",
+            "",
+            predicate(),
+        ),
+    ];
+    for (front, open, times, middle, close, fault) in cases {
+        let mut text = String::from_str(rt.alloc(), front)?;
+        push_times(&mut text, open, times)?;
+        text.push_str(middle)?;
+        push_times(&mut text, close, times)?;
+        let written = Text::new(rt.alloc(), text.as_str())?;
+        assert_eq!(rt; parse(rt.alloc(), &written).err(), fault, "{text}");
     }
     Ok(())
 }
 
 #[test]
-fn refuses_what_is_outside(rt: HostRuntime) -> Result<(), Fail> {
-    for text in [
-        "",
-        "view = t",
-        "table select (a int)",
-        "table t ()",
-        "table t (a int,)",
-        "table t (a int) (b int)",
-        "table abcdefghijklmnopqrstuvwxyz_123456 (a int)",
-        "view v = select from t where a > 9223372036854775808",
-        "view v = select from t where a > -9223372036854775809",
-        "view v = select from t where a > - 5",
-        "view v = select from t where a < = 5",
-        "view v = select from t where a = '5'",
-        "Table t (a int)",
-        "table t (a int) with",
-        "table t (a int) with -> a",
-        "table t (a int) with a ->",
-        "table t (a int) with a",
-        "table t (a int) with a -> select",
-        "table t (a int) with int -> a",
-        "table t (a int) with a - b",
-        "table t (a int) with a - > b",
-        "table t (a int) with a -> b -> c",
-        "table t (a int) with a -> b,",
-        "table t (a int) with a -> b with b -> c",
-        "table t (a int) a -> b",
-        "table t (a int), with a -> b",
-    ] {
-        let text = Text::new(rt.alloc(), text)?;
-        let fault = parse(rt.alloc(), &text).err().ok_or("it is read")?;
-        assert_eq!(rt; fault, LangFault::Outside, "{text:?}");
-    }
-    Ok(())
-}
-
-#[test]
-fn compares(rt: HostRuntime) -> Result<(), Fail> {
-    let column = Name::new("a")?;
-    for (op, below, at, above) in [
-        (Op::Eq, false, true, false),
-        (Op::Ne, true, false, true),
-        (Op::Lt, true, false, false),
-        (Op::Le, true, true, false),
-        (Op::Gt, false, false, true),
-        (Op::Ge, false, true, true),
-    ] {
-        let comparison = Comparison {
-            column,
-            op,
-            value: -3,
-        };
-        assert_eq!(rt; comparison.holds_on(-4), below, "{op:?}");
-        assert_eq!(rt; comparison.holds_on(-3), at, "{op:?}");
-        assert_eq!(rt; comparison.holds_on(3), above, "{op:?}");
+fn wide_tables_are_refused(rt: HostRuntime) -> Result<(), Fail> {
+    let cases = [
+        (64, ")", None),
+        (
+            65,
+            ")",
+            Some(LangFault::TooLarge {
+                what: Limit::Columns,
+            }),
+        ),
+        (65, ") where and", Some(LangFault::Syntax { at: 590 })),
+    ];
+    for (columns, end, fault) in cases {
+        let mut text = format!(in rt.alloc(); "table t (c0 int")?;
+        for number in 1..columns {
+            text.push_str(&format!(in rt.alloc(); ", c{number} int")?)?;
+        }
+        text.push_str(end)?;
+        let written = Text::new(rt.alloc(), text.as_str())?;
+        assert_eq!(rt; parse(rt.alloc(), &written).err(), fault, "{text}");
     }
     Ok(())
 }

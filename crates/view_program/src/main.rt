@@ -4,6 +4,8 @@
 ghost use Rattle.std.specs.Prelude.{◌≡◌, ◌≢◌, ◌↔◌, length};
 
 mod contents;
+#[cfg(test)]
+mod row_tests;
 pub mod running;
 #[cfg(test)]
 mod tests;

@@ -99,6 +99,8 @@ const CHAIN_CLASH: &str =
 
 const TOO_LONG: &str = r#"{"error":10,"ok":false}"#;
 
+const NOT_JSON: &str = r#"{"error":11,"ok":false}"#;
+
 const NOT_STORED: &str = r#"{"error":90,"ok":false}"#;
 
 fn run_counted<K: Keeper, L: Ledger>(
@@ -137,7 +139,7 @@ fn status_of<K: Keeper>(
 }
 
 /// The lines, each with its newline.
-fn text_of(alloc: Global, lines: &[&str]) -> Result<Vec<u8>, Fail> {
+pub fn text_of(alloc: Global, lines: &[&str]) -> Result<Vec<u8>, Fail> {
     let mut text = Vec::new(alloc);
     for line in lines {
         text.extend_from_slice(line.as_bytes())?;
@@ -183,11 +185,14 @@ fn words_and_devices(rt: HostRuntime) -> Result<(), Fail> {
 }
 
 #[test]
-fn line_too_long(rt: HostRuntime) -> Result<(), Fail> {
+fn lines_that_are_no_request(rt: HostRuntime) -> Result<(), Fail> {
     let alloc = rt.alloc();
     let mut bytes = vec![in alloc; b'a'; LONGEST + 1]?;
     bytes.extend_from_slice(b"\n")?;
     bytes.extend_from_slice(LIST.as_bytes())?;
+    bytes.extend_from_slice(b"\n\xff\n")?;
+    let nested = vec![in alloc; b'['; 200_000]?;
+    bytes.extend_from_slice(nested.as_slice())?;
     let mut source = MemorySource::new(bytes, ROOM, Vec::new(alloc));
     let mut sink = MemorySink::new(alloc, 1000, ROOM, Vec::new(alloc))?;
     let mut keeper = SureKeeper::holding(nothing(alloc));
@@ -195,21 +200,15 @@ fn line_too_long(rt: HostRuntime) -> Result<(), Fail> {
         status_of(alloc, 1, &mut source, &mut sink, &mut keeper)?,
         0
     );
-    assert!(rt;
-        sink.bytes()
-            .starts_with(text_of(alloc, &[TOO_LONG])?.as_slice())
-    );
-    assert_eq!(rt;
-        sink.bytes().iter().filter(|byte| **byte == b'\n').count(),
-        2
-    );
+    let replies = [TOO_LONG, UNBUILT, NOT_JSON, NOT_JSON];
+    assert_eq!(rt; sink.bytes(), text_of(alloc, &replies)?.as_slice());
     Ok(())
 }
 
 /// What a run over these lines gives, byte by byte, where this call of the keeper fails.
-fn replies_to(alloc: Global, call: u64, lines: &[&str]) -> Result<(u8, MemorySink), Fail> {
+pub fn replies_to(alloc: Global, call: u64, lines: &[&str]) -> Result<(u8, MemorySink), Fail> {
     let mut source = MemorySource::new(text_of(alloc, lines)?, 1, Vec::new(alloc));
-    let mut sink = MemorySink::new(alloc, 4000, 1, Vec::new(alloc))?;
+    let mut sink = MemorySink::new(alloc, 8000, 1, Vec::new(alloc))?;
     let mut keeper = MemoryKeeper::holding(nothing(alloc), failing(alloc, call)?);
     let status = status_of(alloc, 1, &mut source, &mut sink, &mut keeper)?;
     Ok((status, sink))

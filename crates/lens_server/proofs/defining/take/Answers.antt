@@ -1,7 +1,7 @@
-use Rattle.std.proofs.Common.{◌≡◌, ◌∙◌, ◌++◌, ◌∷◌, ◌+◌, [], sym, ap, subst, refl}
+use Rattle.std.proofs.Common.{◌≡◌, ◌∙◌, ◌++◌, ◌∷◌, ◌+◌, [], sym, ap, subst, refl, Err}
 use Rattle.std.specs.Prelude.{option_to_list}
 use Rattle.lens_specs.specs.Keeping.{define, changed, CanCommit, Follows}
-use Rattle.lens_server.proofs.Additions.{addition_can, addition_made}
+use Rattle.lens_server.proofs.Additions.{addition_can, addition_made, addition_not_kept}
 use Rattle.lens_server.proofs.defining.take.Goals as goal
 
 pub commit-requires : goal.commit-requires
@@ -21,3 +21,9 @@ returns-in-Ok-clause-outcome g c = λ definition read adds.
     (c.admit.ensures.entries ∙ ap (λ l. l ++ c.args.addition.entry ∷ []) room.entries)
     (c.admit.ensures.tables ∙ ap (λ l. l ++ option_to_list c.args.addition.table) room.tables)
     (c.admit.ensures.version ∙ ap (λ n. n + 1) room.version)
+
+pub returns-in-Err-Failed-clause-outcome : goal.returns-in-Err-Failed-clause-outcome
+returns-in-Err-Failed-clause-outcome g c = λ definition read adds.
+    addition_not_kept definition c.args.store.now c.make_room.new.store c.args.text (g.K.Keeper.contents c.args.keeper.now) (g.K.Keeper.contents c.commit.new.self)
+    (g.K.Keeper.faults c.args.keeper.now) (g.K.Keeper.faults c.commit.new.self) c.store_fault_reply.result c.in_ok-make_room.ensures.same c.requires.consistent c.requires.told
+    c.in-Err-Failed.ensures.err c.in-Err-Failed.ensures.later (c.in-Err-Failed.ensures.failed (ap Err c.in-Err-Failed.field-0-is)) c.store_fault_reply.ensures

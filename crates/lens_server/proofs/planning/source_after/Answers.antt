@@ -13,6 +13,6 @@ with_rows-requires c =
     let old : (row : Row) → set.contains c.args.old.now.rows row ≡ true → Fits lens.columns row =
     subst (λ U. (row : Row) → set.contains c.args.old.now.rows row ≡ true → Fits U row) c.requires.columns c.rows_fit.ensures in
     let new : (row : Row) → set.contains c.in_ok-after.after row ≡ true → Fits lens.columns row =
-    put_fits lens.columns lens.comparison c.args.rows c.args.old.now.rows c.in_ok-after.after c.requires.fit old
-    (c.in_ok-after.ensures ∙ ap (source_put lens.comparison c.args.rows) c.rows-2.ensures) in
+    put_fits lens.columns lens.selected c.args.rows c.args.old.now.rows c.in_ok-after.after c.requires.fit old
+    (c.in_ok-after.ensures ∙ ap (source_put lens.selected c.args.rows) c.rows-2.ensures) in
     subst (λ U. (row : Row) → set.contains c.in_ok-after.after row ≡ true → Fits U row) (sym c.in_ok-columns.ensures) new

@@ -3,9 +3,7 @@ use Rattle.std.specs.Prelude.{IfOk, Some}
 use Rattle.lens_values.specs.SortedSet as set
 use Rattle.lens_specs.specs.Lens.{get}
 use Rattle.server_specs.specs.Answer.{shown, text}
-use Rattle.server_specs.specs.State.{plain_sort}
-use Rattle.view_lang.specs.Meaning.{comparison_view}
-use Rattle.lens_server.specs.Entries.{lens_view, lens_with, relation_named}
+use Rattle.lens_server.specs.Entries.{lens_view, lens_with, sort_under, relation_named}
 use Rattle.lens_server.specs.Shows.{is_shown}
 use Rattle.lens_server.specs.States.{state_of}
 use Rattle.lens_server.proofs.Views.{get_table, get_selection}
@@ -15,13 +13,13 @@ pub returns-in_ok-rows-in-Some : goal.returns-in_ok-rows-in-Some
 returns-in_ok-rows-in-Some c =
     let lens = c.args.lens.now in
     let store = c.args.store.now in
-    let P = comparison_view c.in-Some.comparison in
+    let P = c.in-Some.pred in
     let there : relation_named store.tables.items lens.table ≡ Some c.table_named-table.result.now.relation =
     subst (λ ts. relation_named ts lens.table ≡ Some c.table_named-table.result.now.relation) c.deref.ensures.value c.table_named-table.ensures in
     let same : c.in_ok-rows-in-Some.rows ≡ get (lens_view lens) (state_of store).tables =
     c.in_ok-rows-in-Some.ensures ∙ ap (set.filter (is_shown P true)) c.rows.ensures
-    ∙ sym (get_selection store.tables.items lens.table (plain_sort lens.columns lens.tree) P c.table_named-table.result.now.relation there)
-    ∙ ap (λ k. get (lens_with lens.table lens.columns lens.tree k) (state_of store).tables) (sym c.in-Some.is) in
+    ∙ sym (get_selection store.tables.items lens.table (sort_under lens) P c.table_named-table.result.now.relation there)
+    ∙ ap (λ k. get (lens_with lens.table (sort_under lens) k) (state_of store).tables) (sym c.in-Some.is) in
     subst (λ M. IfOk c.shown_text.result (λ reply. reply ≡ text (shown M store.version))) same c.shown_text.ensures
 
 pub returns-in-None : goal.returns-in-None
@@ -32,6 +30,6 @@ returns-in-None c =
     subst (λ ts. relation_named ts lens.table ≡ Some c.table_named-table.result.now.relation) c.deref.ensures.value c.table_named-table.ensures in
     let same : c.rows-in-None.result.now ≡ get (lens_view lens) (state_of store).tables =
     c.rows-in-None.ensures
-    ∙ sym (get_table store.tables.items lens.table (plain_sort lens.columns lens.tree) c.table_named-table.result.now.relation there)
-    ∙ ap (λ k. get (lens_with lens.table lens.columns lens.tree k) (state_of store).tables) (sym c.in-None.is) in
+    ∙ sym (get_table store.tables.items lens.table (sort_under lens) c.table_named-table.result.now.relation there)
+    ∙ ap (λ k. get (lens_with lens.table (sort_under lens) k) (state_of store).tables) (sym c.in-None.is) in
     subst (λ M. IfOk c.shown_text-in-None.result (λ reply. reply ≡ text (shown M store.version))) same c.shown_text-in-None.ensures

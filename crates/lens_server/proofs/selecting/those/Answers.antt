@@ -5,17 +5,16 @@ use Rattle.lens_values.specs.Row.{row_cmp}
 use Rattle.lens_values.specs.RowOrder.{row_cmp_total, row_cmp-IsAntisymmetric}
 use Rattle.lens_values.specs.SortedMap.{keys_rise}
 use Rattle.lens_values.specs.SortedSet as set
-use Rattle.view_lang.specs.Meaning.{comparison_view}
 use Rattle.lens_server.specs.Shows.{is_shown}
 use Rattle.lens_server.proofs.selecting.those.Goals as goal
 
 pub from_rising-requires : goal.from_rising-requires
 from_rising-requires c =
-    subst (IsStrictlySortedBy row_cmp) (sym (c.in_ok-picked.ensures ∙ ap (filter (is_shown (comparison_view c.args.comparison.now) c.args.shown)) c.rows.ensures))
+    subst (IsStrictlySortedBy row_cmp) (sym (c.in_ok-picked.ensures ∙ ap (filter (is_shown c.args.pred.now c.args.shown)) c.rows.ensures))
     (IsStrictlySortedBy-filter row_cmp _ _ (keys_rise row_cmp c.args.rows.now))
 
 pub returns : goal.returns
 returns c =
     c.from_rising.ensures
-    ∙ ap set.from_list (c.in_ok-picked.ensures ∙ ap (filter (is_shown (comparison_view c.args.comparison.now) c.args.shown)) c.rows.ensures)
-    ∙ set.from_list-filter row_cmp_total row_cmp-IsAntisymmetric (is_shown (comparison_view c.args.comparison.now) c.args.shown) c.args.rows.now
+    ∙ ap set.from_list (c.in_ok-picked.ensures ∙ ap (filter (is_shown c.args.pred.now c.args.shown)) c.rows.ensures)
+    ∙ set.from_list-filter row_cmp_total row_cmp-IsAntisymmetric (is_shown c.args.pred.now c.args.shown) c.args.rows.now

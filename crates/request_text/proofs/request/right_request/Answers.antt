@@ -1,4 +1,4 @@
-use Rattle.std.proofs.Common.{◌∙◌, ◌≡◌, ap, sym, option_map}
+use Rattle.std.proofs.Common.{◌∙◌, ap, sym, option_map}
 use Rattle.serde_json.specs.View.{members_view}
 use Rattle.request_text.specs.Requests.{request_view}
 use Rattle.request_text.specs.WantedMembers.{asked_view}

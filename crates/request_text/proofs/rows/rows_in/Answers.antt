@@ -1,4 +1,4 @@
-use Rattle.std.proofs.Common.{◌∙◌, sym, subst, rules}
+use Rattle.std.proofs.Common.{sym, subst, rules}
 use Rattle.serde_json.specs.View.{view, items_view}
 use Rattle.server_specs.specs.Sending as spec
 use Rattle.request_text.specs.RowFaults.{TellsRow}

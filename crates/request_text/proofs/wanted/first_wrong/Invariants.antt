@@ -1,7 +1,5 @@
-use Rattle.std.proofs.Common.{◌≡◌, map, drop}
+use Rattle.std.proofs.Common.{◌≡◌, drop}
 use Rattle.serde_json.specs.View.{members_view}
-use Rattle.server_specs.specs.Request as spec
-use Rattle.request_text.specs.WantedMembers.{wanted_view}
 use Rattle.request_text.proofs.FirstWrong.{wrong_of}
 use Rattle.request_text.proofs.wanted.first_wrong.Given as goal
 

@@ -1,6 +1,6 @@
 use Rattle.std.proofs.Common.{◌∙◌, ap}
 use Rattle.std.specs.Prelude.{option_map}
-use Rattle.language_specs.specs.Language.{integer}
+use Rattle.grammar_specs.specs.Tokens.{integer}
 use Rattle.view_lang.proofs.Numbers.{parsed_integer}
 use Rattle.view_lang.proofs.lexer.number_of.Goals as goal
 

@@ -1,0 +1,54 @@
+-- The definition that is written for one means it.
+use Rattle.std.proofs.Common.{◌≡◌, true, List, [], ◌∷◌, map, refl, ap}
+use Rattle.std.specs.Cmp.Lexicographic.{nat_list_cmp_total}
+use Rattle.std.proofs.lemmas.Bool.{and_parts}
+use Rattle.std.proofs.lemmas.Map.Lookups.{exact_bytes}
+use Rattle.lens_values.specs.Order.{bytes_cmp}
+use Rattle.lens_values.specs.SortedSet as set
+use Rattle.lens_values.specs.SortedMap.{from_entries-entries}
+use Rattle.lens_specs.specs.Names.{Names}
+use Rattle.lens_specs.specs.Dependencies.{Edge, edge}
+use Rattle.lens_specs.specs.Predicate.{Predicate}
+use Rattle.grammar_specs.specs.Written.{is_some_list}
+use Rattle.grammar_specs.specs.Meaning.{Expr, named, select, drop, join, Definition, table, view, predicate_of, operand_meaning, expr_meaning, dep_meaning, meaning}
+use Rattle.grammar_specs.specs.Printing.{predicate_written, operand_of, expr_written, dep_written, definition_written}
+use Rattle.grammar_specs.specs.Writable.{is_written_predicate, is_written_expr, is_writable}
+use Rattle.grammar_laws.proofs.PrintPreds.{some_said, condition_said}
+
+-- the names of a set make it
+names_again : (names : Names) → set.from_list (set.items names) ≡ names
+names_again names = set.from_list-items nat_list_cmp_total exact_bytes names
+
+deps_again : (F : List Edge) → map dep_meaning (map dep_written F) ≡ F
+deps_again [] = refl
+deps_again (e ∷ F) = λ i. edge (names_again e.left i) (names_again e.right i) ∷ deps_again F i
+
+some_predicate : (P : Predicate) → is_some_list P ≡ true → is_written_predicate P ≡ true → predicate_of (predicate_written P) ≡ P
+some_predicate [] s h = cc
+some_predicate (f ∷ fs) s h = some_said f fs h
+
+operand_said : (e : Expr) → is_written_expr e ≡ true → operand_meaning (operand_of e) ≡ e
+operand_said (named n) h = refl
+operand_said (select P e) h =
+    let both = and_parts _ _ h in
+    let P_is = and_parts _ _ both.0 in
+    λ i. select (some_predicate P P_is.0 P_is.1 i) (operand_said e both.1 i)
+operand_said (drop A by v e) h =
+    let both = and_parts _ _ h in
+    λ i. drop A (names_again by i) v (operand_said e both.1 i)
+operand_said (join e f) h =
+    let both = and_parts _ _ h in
+    λ i. join (operand_said e both.0 i) (operand_said f both.1 i)
+
+-- with parentheses around it or without
+expr_said : (e : Expr) → is_written_expr e ≡ true → expr_meaning (expr_written e) ≡ e
+expr_said (named n) h = refl
+expr_said (select P e) h = operand_said (select P e) h
+expr_said (drop A by v e) h = operand_said (drop A by v e) h
+expr_said (join e f) h = operand_said (join e f) h
+
+pub definition_said : (d : Definition) → is_writable d ≡ true → meaning (definition_written d) ≡ d
+definition_said (table name U F P) h =
+    let condition = (and_parts _ _ h).1 in
+    λ i. table name (from_entries-entries bytes_cmp nat_list_cmp_total U i) (deps_again F i) (condition_said P condition i)
+definition_said (view name e) h = ap (view name) (expr_said e (and_parts _ _ h).1)

@@ -1,0 +1,85 @@
+-- A token that can be printed is spelled by its bytes, and one that is spelled can be printed.
+use Rattle.std.proofs.Common.{◌≡◌, ℕ, Bool, true, false, List, [], ◌∷◌, ◌++◌, map, refl, sym, ◌∙◌}
+use Rattle.std.specs.Prelude.{◌&&◌, flat_map, pos, negsuc}
+use Rattle.std.specs.List.{list_all}
+use Rattle.std.proofs.lemmas.Bool.{and_parts, and_from}
+use Rattle.std.proofs.lemmas.List.Folds.{list_all-append}
+use Rattle.lens_values.specs.Bytes.{is_name, is_text}
+use Rattle.lens_values.specs.declared.value.Value.{Value}
+use Rattle.lens_values.specs.declared.value.Value.TheVariants.{Int, Text, Flag}
+use Rattle.lens_specs.specs.Names.{Name}
+use Rattle.grammar_specs.specs.Tokens.{Token, word, integer, text, open_paren, close_paren, comma, arrow, operator, Spells, is_free_name}
+use Rattle.grammar_specs.specs.Written.{literal, literals}
+use Rattle.grammar_specs.specs.Printing.{token_bytes}
+use Rattle.grammar_specs.specs.Writable.{is_literal}
+use Rattle.grammar_laws.proofs.PrintNumbers.{in_range, decimal_spells, spelled_range}
+
+-- a word has the form of a name, an integer has 64 bits, and a text is one
+abbrev pub is_printable : Token → Bool
+is_printable (word w) = is_name w
+is_printable (integer z) = in_range z
+is_printable (text value) = is_text value
+is_printable open_paren = true
+is_printable close_paren = true
+is_printable comma = true
+is_printable arrow = true
+is_printable (operator op) = true
+
+pub printable_spells : (t : Token) → is_printable t ≡ true → Spells t (token_bytes t)
+printable_spells (word w) h = (refl, h)
+printable_spells (integer z) h = decimal_spells z h
+printable_spells (text value) h = (refl, h)
+printable_spells open_paren h = refl
+printable_spells close_paren h = refl
+printable_spells comma h = refl
+printable_spells arrow h = refl
+printable_spells (operator op) h = refl
+
+pub spells_printable : (t : Token) (bytes : List ℕ) → Spells t bytes → is_printable t ≡ true
+spells_printable (word w) bytes h = h.1
+spells_printable (integer z) bytes h = spelled_range z bytes h
+spells_printable (text value) bytes h = h.1
+spells_printable open_paren bytes h = refl
+spells_printable close_paren bytes h = refl
+spells_printable comma bytes h = refl
+spells_printable arrow bytes h = refl
+spells_printable (operator op) bytes h = refl
+
+-- ---- lists of tokens
+
+-- all of them can be printed
+abbrev pub are_printable : List Token → Bool
+are_printable tokens = list_all is_printable tokens
+
+pub both_printable : (xs ys : List Token) → are_printable xs ≡ true → are_printable ys ≡ true → are_printable (xs ++ ys) ≡ true
+both_printable xs ys h k = list_all-append is_printable xs ys ∙ and_from _ _ h k
+
+pub each_printable : (xs ys : List Token) → are_printable (xs ++ ys) ≡ true → (are_printable xs ≡ true) × (are_printable ys ≡ true)
+each_printable xs ys h = and_parts _ _ (sym (list_all-append is_printable xs ys) ∙ h)
+
+-- a literal can be printed where it can be written
+pub literal_printable : (v : Value) → is_printable (literal v) ≡ is_literal v
+literal_printable (Int (pos n)) = refl
+literal_printable (Int (negsuc n)) = refl
+literal_printable (Text bytes) = refl
+literal_printable (Flag true) = refl
+literal_printable (Flag false) = refl
+
+more_printable : (vs : List Value) → are_printable (flat_map (λ w. comma ∷ literal w ∷ []) vs) ≡ list_all is_literal vs
+more_printable [] = refl
+more_printable (v ∷ vs) = λ i. literal_printable v i && more_printable vs i
+
+pub literals_printable : (vs : List Value) → are_printable (literals vs) ≡ list_all is_literal vs
+literals_printable [] = refl
+literals_printable (v ∷ vs) = λ i. literal_printable v i && more_printable vs i
+
+-- ---- names
+
+pub free_name : (n : Name) → is_free_name n ≡ true → is_name n ≡ true
+free_name n h = (and_parts _ _ h).0
+
+pub names_printable : (names : List Name) → list_all is_free_name names ≡ true → are_printable (map word names) ≡ true
+names_printable [] h = refl
+names_printable (n ∷ names) h =
+    let both = and_parts _ _ h in
+    and_from _ _ (free_name n both.0) (names_printable names both.1)

@@ -1,0 +1,113 @@
+-- What a token is, as a parser asks.
+use Rattle.std.specs.Prelude.{ℕ, Bool, true, false, List, codes, nat_eq, Option, Some, None, if◌then◌else◌}
+use Rattle.std.specs.Cmp.Lexicographic.{pointwise}
+use Rattle.lens_values.specs.declared.value.Kind.{Kind}
+use Rattle.lens_values.specs.declared.value.Kind.TheVariants as kind
+use Rattle.lens_values.specs.declared.value.Value.{Value}
+use Rattle.lens_values.specs.declared.value.Value.TheVariants.{Int, Text, Flag}
+use Rattle.lens_specs.specs.Names.{Name}
+use Rattle.lens_specs.specs.Predicate.{Op, eq}
+use Rattle.grammar_specs.specs.Tokens.{Token, word, integer, text, open_paren, close_paren, comma, arrow, operator, is_reserved}
+
+-- the two words are one
+abbrev pub is_word : List ℕ → List ℕ → Bool
+is_word w v = pointwise nat_eq w v
+
+-- whether it is this word
+abbrev pub is_keyword : List ℕ → Token → Bool
+is_keyword k (word w) = is_word w k
+is_keyword k (integer z) = false
+is_keyword k (text b) = false
+is_keyword k open_paren = false
+is_keyword k close_paren = false
+is_keyword k comma = false
+is_keyword k arrow = false
+is_keyword k (operator op) = false
+
+-- the name that it is, which is no reserved word
+abbrev pub name_in : Token → Option Name
+name_in (word w) = if is_reserved w then None else Some w
+name_in (integer z) = None
+name_in (text b) = None
+name_in open_paren = None
+name_in close_paren = None
+name_in comma = None
+name_in arrow = None
+name_in (operator op) = None
+
+-- the comparison that it is
+abbrev pub op_in : Token → Option Op
+op_in (word w) = None
+op_in (integer z) = None
+op_in (text b) = None
+op_in open_paren = None
+op_in close_paren = None
+op_in comma = None
+op_in arrow = None
+op_in (operator op) = Some op
+
+-- the truth value of the word
+abbrev pub flag_named : List ℕ → Option Bool
+flag_named w = if is_word w (codes "true") then Some true else if is_word w (codes "false") then Some false else None
+
+-- the kind of the word
+abbrev pub kind_named : List ℕ → Option Kind
+kind_named w = if is_word w (codes "int") then Some kind.Int else if is_word w (codes "text") then Some kind.Text else if is_word w (codes "bool") then Some kind.Flag else None
+
+-- the truth value that it is
+abbrev pub flag_in : Token → Option Bool
+flag_in (word w) = flag_named w
+flag_in (integer z) = None
+flag_in (text b) = None
+flag_in open_paren = None
+flag_in close_paren = None
+flag_in comma = None
+flag_in arrow = None
+flag_in (operator op) = None
+
+-- the literal that it is
+abbrev pub literal_in : Token → Option Value
+literal_in (word w) = if is_word w (codes "true") then Some (Flag true) else if is_word w (codes "false") then Some (Flag false) else None
+literal_in (integer z) = Some (Int z)
+literal_in (text b) = Some (Text b)
+literal_in open_paren = None
+literal_in close_paren = None
+literal_in comma = None
+literal_in arrow = None
+literal_in (operator op) = None
+
+-- the kind that it is
+abbrev pub kind_in : Token → Option Kind
+kind_in (word w) = kind_named w
+kind_in (integer z) = None
+kind_in (text b) = None
+kind_in open_paren = None
+kind_in close_paren = None
+kind_in comma = None
+kind_in arrow = None
+kind_in (operator op) = None
+
+abbrev pub is_open : Token → Bool
+is_open open_paren = true
+is_open other = false
+
+abbrev pub is_close : Token → Bool
+is_close close_paren = true
+is_close other = false
+
+abbrev pub is_comma : Token → Bool
+is_comma comma = true
+is_comma other = false
+
+abbrev pub is_arrow : Token → Bool
+is_arrow arrow = true
+is_arrow other = false
+
+abbrev pub is_op : Op → Bool
+is_op eq = true
+is_op other = false
+
+-- whether it is `=`
+abbrev pub is_equals : Token → Bool
+is_equals (operator op) = is_op op
+is_equals other = false

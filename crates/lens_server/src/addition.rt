@@ -1,0 +1,77 @@
+//! What a definition adds.
+ghost use Rattle.std.specs.Prelude.{◌≡◌, ◌<◌, ◌-◌, ◌^◌, IfOk};
+ghost use Rattle.lens_server.specs.Judgements.{AddsTableOf, AddsViewOf, sort_from};
+
+use crate::entry::{Entry, Lens};
+use crate::table::Table;
+use fd_tree::Tree;
+use lens_pred::Pred;
+use lens_values::{Columns, Name, NoMemory};
+use request_text::{Reply, defined_text};
+use row_sets::Relation;
+use std::alloc::Global;
+
+/// What a definition adds.
+#[derive(Drop)]
+pub struct Addition {
+    /// The name and its lens.
+    pub entry: Entry,
+    /// The table that is made, if any.
+    pub table: Option<Table>,
+    /// The reply.
+    pub reply: Reply,
+}
+
+/// What a table adds.
+pub fn table_addition(
+    alloc: Global,
+    version: u64,
+    name: Name,
+    columns: Columns,
+    pred: Pred,
+    tree: Tree,
+    dependent: bool,
+) -> Result<Addition, NoMemory>
+    requires room { version < 2 ^ 64 - 1 }
+    ensures { IfOk result (λ addition. AddsTableOf addition version name (sort_from columns pred tree) dependent) }
+{
+    let reply = defined_text(alloc, version + 1)?;
+    let relation = Relation::empty(alloc, columns.copy(alloc)?);
+    Ok(Addition {
+        entry: Entry {
+            name,
+            lens: Lens {
+                table: name,
+                columns,
+                pred,
+                tree,
+                dependent,
+                selected: None,
+            },
+        },
+        table: Some(Table {
+            name,
+            relation,
+            last: version + 1,
+        }),
+        reply,
+    })
+}
+
+/// What a view adds.
+pub fn view_addition(
+    alloc: Global,
+    version: u64,
+    name: Name,
+    lens: Lens,
+) -> Result<Addition, NoMemory>
+    requires room { version < 2 ^ 64 - 1 }
+    ensures { IfOk result (λ addition. AddsViewOf addition version name lens) }
+{
+    let reply = defined_text(alloc, version + 1)?;
+    Ok(Addition {
+        entry: Entry { name, lens },
+        table: None,
+        reply,
+    })
+}

@@ -1,0 +1,164 @@
+-- Definitions that are taken or refused, and what a new name shows.
+use Rattle.std.proofs.Common.{◌≡◌, ◌+◌, ℕ, true, false, cond, List, Option, Some, None, Result, Ok, Err, is_some, refl, sym, ap, subst, ◌∙◌}
+use Rattle.std.specs.Prelude.{◌↔◌}
+use Rattle.std.specs.FinMap as finmap
+use Rattle.serde_json.specs.Data.{Items}
+use Rattle.lens_values.specs.SortedSet as set
+use Rattle.lens_values.specs.declared.row.Row.{Row}
+use Rattle.lens_laws.proofs.Names.{name_total, name_itself}
+use Rattle.lens_specs.specs.Names.{Name, Names}
+use Rattle.lens_specs.specs.Columns.{Columns}
+use Rattle.lens_specs.specs.Relation.{Relation}
+use Rattle.lens_specs.specs.Dependencies.{Edge}
+use Rattle.lens_specs.specs.Predicate.{Predicate}
+use Rattle.lens_specs.specs.Lens.{Tables, Lens, sort_of, get, rows_or_none}
+use Rattle.lens_specs.specs.Typing.{table_sort}
+use Rattle.lens_specs.specs.Lines.{Line}
+use Rattle.grammar_specs.specs.Meaning.{Definition, table, view, Expr}
+use Rattle.grammar_specs.specs.Faults.{Fault}
+use Rattle.grammar_laws.specs.Reading.{reading}
+use Rattle.server_specs.specs.State.{State, Catalogue, catalogue, dependent, lens_of, table_lens, with_lens}
+use Rattle.server_specs.specs.Answer.{Answer, defined, shown, name_taken, unbuilt}
+use Rattle.server_specs.specs.Request.{Request, define, read, put, edit, preview, describe, list, request}
+use Rattle.server_specs.specs.Sending.{BadRow, rows_in}
+use Rattle.server_specs.specs.Defining.{is_taken, where_sorted, lens_in, where_lensed, is_unbuilt, fault_answer, judged}
+use Rattle.server_specs.specs.Answering.{answer, answer_request, answer_definition, answer_read, answer_put, put_sent, with_defined}
+use Rattle.server_laws.specs.Answers.{told_version}
+use Rattle.server_laws.specs.DefineLaws.{judgement, defined_name}
+use Rattle.server_laws.proofs.AnswerFacts.{judged_err}
+use Rattle.server_laws.proofs.LinePuts.{lines_read, put_texts}
+use Rattle.server_laws.proofs.Taken.{judged_ok, get-new, get-other, not_free, lens_is}
+use Rattle.server_laws.proofs.Valid.{known_after}
+
+-- ---- the answer to a definition
+
+-- the answer to a line that defines, by the judgement of its text
+answer_is : (s : State) (l : Line) (text : List ℕ) (r : Result Definition Answer) → request l ≡ Ok (define text) → judgement s text ≡ r → answer s l ≡ answer_definition text r s
+unfolding answer
+answer_is s l text r asked is = ap (λ q. answer_request q s) asked ∙ ap (λ j. answer_definition text j s) is
+
+pub taken_is_read : (s : State) (text : List ℕ) (d : Definition) → judgement s text ≡ Ok d → reading text ≡ Ok d
+taken_is_read s text d j = (judged_ok (catalogue s.texts) (dependent s.texts) (reading text) d j).0
+
+pub taken_is_added : (s : State) (l : Line) (text : List ℕ) (d : Definition) → request l ≡ Ok (define text) → judgement s text ≡ Ok d → answer s l ≡ (defined (s.version + 1), with_defined text d s)
+taken_is_added s l text d asked j = answer_is s l text (Ok d) asked j
+
+pub refused_stays : (s : State) (l : Line) (text : List ℕ) (refusal : Answer) → request l ≡ Ok (define text) → judgement s text ≡ Err refusal → answer s l ≡ (refusal, s)
+refused_stays s l text refusal asked j = answer_is s l text (Err refusal) asked j
+
+pub faults_told : (s : State) (l : Line) (text : List ℕ) (fault : Fault) → request l ≡ Ok (define text) → reading text ≡ Err fault → answer s l ≡ (fault_answer fault, s)
+faults_told s l text fault asked is = refused_stays s l text (fault_answer fault) asked (ap (judged (catalogue s.texts) (dependent s.texts)) is)
+
+taken_from : (s : State) (text : List ℕ) (r : Result Definition Answer) → judgement s text ≡ r → (answer_definition text r s).0 ≡ defined (s.version + 1) → (d : Definition) × (judgement s text ≡ Ok d)
+taken_from s text (Ok d) is e = (d, is)
+taken_from s text (Err a) is e =
+    let none : told_version a ≡ None = (judged_err (catalogue s.texts) (dependent s.texts) (reading text) a is).told in
+    let some : told_version a ≡ Some (s.version + 1) = ap told_version e in
+    cc
+
+pub taken_where : (s : State) (l : Line) (text : List ℕ) → request l ≡ Ok (define text) → ((answer s l).0 ≡ defined (s.version + 1)) ↔ ((d : Definition) × (judgement s text ≡ Ok d))
+taken_where s l text asked = (
+  λ e. taken_from s text (judgement s text) refl (sym (ap (λ r. r.0) (answer_is s l text (judgement s text) asked refl)) ∙ e),
+  λ h. ap (λ r. r.0) (answer_is s l text (Ok h.0) asked h.1),
+)
+
+-- ---- names that are taken
+
+twice : (known : Catalogue) (dependent : Names) (d : Definition) → is_taken known (defined_name d) ≡ true → judged known dependent (Ok d) ≡ Err (name_taken (defined_name d))
+twice known dependent (table name columns deps P) h = ap (λ b. cond b (Err (name_taken name)) (where_sorted (table_sort columns deps P) known (table name columns deps P))) h
+twice known dependent (view name expr) h =
+    ap (λ b. cond b (Err (name_taken name)) (cond (is_unbuilt known dependent expr) (Err unbuilt) (where_lensed (lens_in known expr) known (view name expr)))) h
+
+pub taken_once : (s : State) (l : Line) (text : List ℕ) (d : Definition) (L : Lens) → request l ≡ Ok (define text) → reading text ≡ Ok d → finmap.get (catalogue s.texts) (defined_name d) ≡ Some L
+    → answer s l ≡ (name_taken (defined_name d), s)
+taken_once s l text d L asked is e =
+    refused_stays s l text (name_taken (defined_name d)) asked (ap (judged (catalogue s.texts) (dependent s.texts)) is ∙ twice (catalogue s.texts) (dependent s.texts) d (ap is_some e))
+
+-- ---- what the new name has
+
+-- the catalogue after a view
+view_after : (s : State) (text : List ℕ) (name : Name) (expr : Expr) (L : Lens) → judgement s text ≡ Ok (view name expr) → lens_in (catalogue s.texts) expr ≡ Ok L
+    → catalogue (with_defined text (view name expr) s).texts ≡ finmap.insert (catalogue s.texts) name L
+view_after s text name expr L j e = known_after s text (view name expr) j ∙ ap (λ o. with_lens name o (catalogue s.texts)) (lens_is (catalogue s.texts) expr L e)
+
+-- the lens of the view that is taken
+lens_taken : (s : State) (text : List ℕ) (name : Name) (expr : Expr) → judgement s text ≡ Ok (view name expr) → (L : Lens) × (lens_in (catalogue s.texts) expr ≡ Ok L)
+lens_taken s text name expr j = (judged_ok (catalogue s.texts) (dependent s.texts) (reading text) (view name expr) j).1.1
+
+-- a table that was put under a name with no rows shows none
+no_rows : (db : Tables) (name : Name) (columns : Columns) (deps : List Edge) (P : Predicate) → get (table_lens name columns deps P) (finmap.insert db name (record { columns = columns; rows = set.empty })) ≡ set.empty
+unfolding get
+no_rows db name columns deps P =
+    let M : Relation = record { columns = columns; rows = set.empty } in
+    ap rows_or_none (finmap.get-insert name_total db name M name ∙ ap (λ b. cond b (Some M) (finmap.get db name)) (name_itself name))
+
+pub tables_empty : (s : State) (l m : Line) (text : List ℕ) (name : Name) (columns : Columns) (deps : List Edge) (P : Predicate) → request l ≡ Ok (define text)
+    → judgement s text ≡ Ok (table name columns deps P) → request m ≡ Ok (read name) → answer (answer s l).1 m ≡ (shown set.empty (s.version + 1), (answer s l).1)
+tables_empty s l m text name columns deps P asked j again =
+    let t : State = with_defined text (table name columns deps P) s in
+    let L : Lens = table_lens name columns deps P in
+    let known : finmap.get (catalogue t.texts) name ≡ Some L = ap (λ k. finmap.get k name) (known_after s text (table name columns deps P) j) ∙ get-new (catalogue s.texts) name L in
+    let reads : answer t m ≡ (shown set.empty (s.version + 1), t) = lines_read t m name L (record { asked = again; lens = known }) ∙ ap (λ N. (shown N (s.version + 1), t)) (no_rows s.tables name columns deps P) in
+    subst (λ r. answer r.1 m ≡ (shown set.empty (s.version + 1), r.1)) (sym (taken_is_added s l text (table name columns deps P) asked j)) reads
+
+pub views_show : (s : State) (l m : Line) (text : List ℕ) (name : Name) (expr : Expr) → request l ≡ Ok (define text) → judgement s text ≡ Ok (view name expr) → request m ≡ Ok (read name)
+    → (L : Lens) × (lens_of expr (catalogue s.texts) ≡ Some L) × (answer (answer s l).1 m ≡ (shown (get L s.tables) (s.version + 1), (answer s l).1))
+views_show s l m text name expr asked j again =
+    let t : State = with_defined text (view name expr) s in
+    let w = lens_taken s text name expr j in
+    let known : finmap.get (catalogue t.texts) name ≡ Some w.0 = ap (λ k. finmap.get k name) (view_after s text name expr w.0 j w.1) ∙ get-new (catalogue s.texts) name w.0 in (
+      w.0,
+      lens_is (catalogue s.texts) expr w.0 w.1,
+      subst (λ r. answer r.1 m ≡ (shown (get w.0 s.tables) (s.version + 1), r.1)) (sym (taken_is_added s l text (view name expr) asked j))
+          (lines_read t m name w.0 (record { asked = again; lens = known })),
+    )
+
+-- ---- names keep their lenses
+
+-- the name has the lens in the catalogue of the state
+abbrev Has : State → Name → Lens → Type 0
+Has s name L = finmap.get (catalogue s.texts) name ≡ Some L
+
+-- a name that is taken has its lens beside one more that is new
+beside : (known : Catalogue) (new name : Name) (M L : Lens) → is_taken known new ≡ false → finmap.get known name ≡ Some L → finmap.get (finmap.insert known new M) name ≡ Some L
+beside known new name M L free e = get-other known new M name (not_free known new name L free e) ∙ e
+
+stays_defined : (s : State) (text : List ℕ) (d : Definition) → judgement s text ≡ Ok d → (name : Name) (L : Lens) → Has s name L → Has (with_defined text d s) name L
+stays_defined s text (table new columns deps P) j name L e =
+    let free = (judged_ok (catalogue s.texts) (dependent s.texts) (reading text) (table new columns deps P) j).1.0 in
+    ap (λ k. finmap.get k name) (known_after s text (table new columns deps P) j) ∙ beside (catalogue s.texts) new name (table_lens new columns deps P) L free e
+stays_defined s text (view new expr) j name L e =
+    let free = (judged_ok (catalogue s.texts) (dependent s.texts) (reading text) (view new expr) j).1.0 in
+    let w = lens_taken s text new expr j in
+    ap (λ k. finmap.get k name) (view_after s text new expr w.0 j w.1) ∙ beside (catalogue s.texts) new name w.0 L free e
+
+stays_definition : (s : State) (text : List ℕ) (r : Result Definition Answer) → judgement s text ≡ r → (name : Name) (L : Lens) → Has s name L → Has (answer_definition text r s).1 name L
+stays_definition s text (Err refusal) j name L e = e
+stays_definition s text (Ok d) j name L e = stays_defined s text d j name L e
+
+stays_sent : (s : State) (r : Result (List Row) BadRow) (M : Lens) (name : Name) (L : Lens) → Has s name L → Has (put_sent r M s).1 name L
+stays_sent s (Err bad) M name L e = e
+stays_sent s (Ok rows) M name L e = ap (λ texts. finmap.get (catalogue texts) name) (put_texts (set.from_list rows) M s) ∙ e
+
+stays_put : (s : State) (at : Name) (items : Items) (o : Option Lens) (name : Name) (L : Lens) → Has s name L → Has (answer_put at items o s).1 name L
+stays_put s at items None name L e = e
+stays_put s at items (Some M) name L e = stays_sent s (rows_in (sort_of M).columns items) M name L e
+
+stays_read : (s : State) (at : Name) (o : Option Lens) (name : Name) (L : Lens) → Has s name L → Has (answer_read at o s).1 name L
+stays_read s at None name L e = e
+stays_read s at (Some M) name L e = e
+
+stays_request : (s : State) (r : Result Request Answer) (name : Name) (L : Lens) → Has s name L → Has (answer_request r s).1 name L
+stays_request s (Err refusal) name L e = e
+stays_request s (Ok (define text)) name L e = stays_definition s text (judgement s text) refl name L e
+stays_request s (Ok (read at)) name L e = stays_read s at (finmap.get (catalogue s.texts) at) name L e
+stays_request s (Ok (put at items None)) name L e = stays_put s at items (finmap.get (catalogue s.texts) at) name L e
+stays_request s (Ok (put at items (Some on))) name L e = e
+stays_request s (Ok (edit at remove add on)) name L e = e
+stays_request s (Ok (preview at remove add on)) name L e = e
+stays_request s (Ok (describe at)) name L e = e
+stays_request s (Ok list) name L e = e
+
+pub lenses_stay : (s : State) (l : Line) (name : Name) (L : Lens) → Has s name L → Has (answer s l).1 name L
+unfolding answer
+lenses_stay s l name L e = stays_request s (request l) name L e

@@ -1,0 +1,68 @@
+-- The laws of definitions: which are taken, and what a new name shows.
+use Rattle.std.specs.Prelude.{◌≡◌, ◌↔◌, ◌+◌, ℕ, List, Some, Result, Ok, Err}
+use Rattle.std.specs.FinMap as finmap
+use Rattle.lens_values.specs.SortedSet as set
+use Rattle.lens_specs.specs.Columns.{Columns}
+use Rattle.lens_specs.specs.Dependencies.{Edge}
+use Rattle.lens_specs.specs.Lens.{Lens, get}
+use Rattle.lens_specs.specs.Lines.{Line}
+use Rattle.lens_specs.specs.Predicate.{Predicate}
+use Rattle.lens_specs.specs.Relation.{Name}
+use Rattle.grammar_specs.specs.Meaning.{Definition, table, view, Expr}
+use Rattle.grammar_specs.specs.Faults.{Fault}
+use Rattle.grammar_laws.specs.Reading.{reading}
+use Rattle.server_specs.specs.State.{State, catalogue, dependent, lens_of}
+use Rattle.server_specs.specs.Answer.{Answer, defined, shown, name_taken}
+use Rattle.server_specs.specs.Request.{define, read, request}
+use Rattle.server_specs.specs.Defining.{fault_answer, judged}
+use Rattle.server_specs.specs.Answering.{answer, with_defined}
+
+-- the judgement of a text behind the definitions of a state
+abbrev pub judgement : State → List ℕ → Result Definition Answer
+judgement s text = judged (catalogue s.texts) (dependent s.texts) (reading text)
+
+-- the name that is defined
+abbrev pub defined_name : Definition → Name
+defined_name (table name columns deps predicate) = name
+defined_name (view name expr) = name
+
+-- what is taken is what the text says
+abbrev pub TakenIsRead : Type 0
+TakenIsRead = (s : State) (text : List ℕ) (definition : Definition) → judgement s text ≡ Ok definition → reading text ≡ Ok definition
+
+-- a definition is taken exactly where it is judged so
+abbrev pub TakenWhereJudged : Type 0
+TakenWhereJudged = (s : State) (l : Line) (text : List ℕ) → request l ≡ Ok (define text) → ((answer s l).0 ≡ defined (s.version + 1)) ↔ ((definition : Definition) × (judgement s text ≡ Ok definition))
+
+-- a definition that is taken stands behind the others, with its table, and the version is one more
+abbrev pub TakenIsAdded : Type 0
+TakenIsAdded = (s : State) (l : Line) (text : List ℕ) (definition : Definition) → request l ≡ Ok (define text) → judgement s text ≡ Ok definition
+    → answer s l ≡ (defined (s.version + 1), with_defined text definition s)
+
+-- a definition that is refused leaves the state, and the answer is its refusal
+abbrev pub RefusedStays : Type 0
+RefusedStays = (s : State) (l : Line) (text : List ℕ) (refusal : Answer) → request l ≡ Ok (define text) → judgement s text ≡ Err refusal → answer s l ≡ (refusal, s)
+
+-- a text that says no definition is refused for its fault
+abbrev pub FaultsAreTold : Type 0
+FaultsAreTold = (s : State) (l : Line) (text : List ℕ) (fault : Fault) → request l ≡ Ok (define text) → reading text ≡ Err fault → answer s l ≡ (fault_answer fault, s)
+
+-- a new table shows no rows, at the version after
+abbrev pub NewTablesAreEmpty : Type 0
+NewTablesAreEmpty = (s : State) (l m : Line) (text : List ℕ) (name : Name) (columns : Columns) (deps : List Edge) (predicate : Predicate) → request l ≡ Ok (define text)
+    → judgement s text ≡ Ok (table name columns deps predicate) → request m ≡ Ok (read name)
+    → answer (answer s l).1 m ≡ (shown set.empty (s.version + 1), (answer s l).1)
+
+-- a new view shows what the lens of its expression gets from the tables, at the version after
+abbrev pub NewViewsShow : Type 0
+NewViewsShow = (s : State) (l m : Line) (text : List ℕ) (name : Name) (expr : Expr) → request l ≡ Ok (define text) → judgement s text ≡ Ok (view name expr) → request m ≡ Ok (read name)
+    → (lens : Lens) × (lens_of expr (catalogue s.texts) ≡ Some lens) × (answer (answer s l).1 m ≡ (shown (get lens s.tables) (s.version + 1), (answer s l).1))
+
+-- no name is taken twice: a definition of a name that has a lens is refused for it
+abbrev pub NamesAreTakenOnce : Type 0
+NamesAreTakenOnce = (s : State) (l : Line) (text : List ℕ) (definition : Definition) (L : Lens) → request l ≡ Ok (define text) → reading text ≡ Ok definition
+    → finmap.get (catalogue s.texts) (defined_name definition) ≡ Some L → answer s l ≡ (name_taken (defined_name definition), s)
+
+-- no answer takes a lens from its name, or gives the name another
+abbrev pub LensesStay : Type 0
+LensesStay = (s : State) (l : Line) (name : Name) (L : Lens) → finmap.get (catalogue s.texts) name ≡ Some L → finmap.get (catalogue (answer s l).1.texts) name ≡ Some L

@@ -1,0 +1,34 @@
+-- The operands that stand in parentheses.
+use Rattle.std.proofs.Common.{◌≡◌, ◌∷◌, ◌++◌, List, [], map, refl, ap, sym, subst, append_assoc, rules}
+use Rattle.std.specs.Prelude.{codes}
+use Rattle.lens_values.specs.declared.value.Value.{Value}
+use Rattle.lens_specs.specs.Names.{Name}
+use Rattle.grammar_specs.specs.Meaning as meaning
+use Rattle.grammar_specs.specs.Tokens.{word, open_paren, close_paren, comma}
+use Rattle.grammar_specs.specs.Printing.{operand_of, expr_written}
+use Rattle.grammar_specs.specs.Written as written
+use Rattle.grammar_specs.specs.Written.{Operand, literal, operand_tokens, expr_tokens}
+use Rattle.view_lang.specs.ExprViews.{expr_view}
+use Rattle.view_lang.specs.PrintAdds.{drop_from}
+use Rattle.view_lang.specs.declared.expr.Expr.{Expr, Named, Select', Drop', Join', the_lemmas}
+use Rattle.view_lang.specs.declared.expr.Expr.TheVariants.{outs-Select', outs-Drop', outs-Join'}
+
+-- as an operand it is the expression in parentheses
+abbrev IsEnclosed : meaning.Expr → Type 0
+IsEnclosed e = open_paren ∷ (expr_tokens (expr_written e) ++ close_paren ∷ []) ≡ operand_tokens (operand_of e)
+
+-- every expression but a name
+pub enclosed_unless_named : (e : Expr) → ((n : Name) → e ≡ Named n → ⊥) → open_paren ∷ (expr_tokens (expr_written (expr_view e)) ++ close_paren ∷ []) ≡ operand_tokens (operand_of (expr_view e))
+enclosed_unless_named (Named n) other = absurd (other n refl)
+enclosed_unless_named (Select' p b e) other =
+    let seen : expr_view (Select' p b e) ≡ meaning.select p (expr_view e) = search (rules, the_lemmas, outs-Select') in subst IsEnclosed (sym seen) refl
+enclosed_unless_named (Drop' c by v b e) other =
+    let seen : expr_view (Drop' c by v b e) ≡ meaning.drop c by v (expr_view e) = search (rules, the_lemmas, outs-Drop') in subst IsEnclosed (sym seen) refl
+enclosed_unless_named (Join' b e d f) other =
+    let seen : expr_view (Join' b e d f) ≡ meaning.join (expr_view e) (expr_view f) = search (rules, the_lemmas, outs-Join') in subst IsEnclosed (sym seen) refl
+
+-- a drop and its operand
+pub drop_whole : (c : Name) (by : List Name) (v : Value) (o : Operand) → drop_from c by v ++ operand_tokens o ≡ expr_tokens (written.drop c by v o)
+drop_whole c by v o =
+    ap (λ ts. word (codes "drop") ∷ word c ∷ word (codes "determined") ∷ word (codes "by") ∷ open_paren ∷ ts)
+    (append_assoc (map word by) (comma ∷ literal v ∷ close_paren ∷ word (codes "from") ∷ []) (operand_tokens o))

@@ -1,0 +1,16 @@
+-- What an expression of the code stands for.
+use Rattle.grammar_specs.specs.Meaning.{Expr, named, select, drop, join}
+use Rattle.view_lang.specs.declared.expr.Expr as code
+use Rattle.view_lang.specs.declared.expr.Expr.{fold-Expr}
+use Rattle.view_lang.specs.declared.expr.Expr.TheOpen.{Expr-F}
+
+-- one level, with each expression inside already seen
+abbrev pub expr_step : Expr-F Expr → Expr
+expr_step (Expr-F.Named n) = named n
+expr_step (Expr-F.Select p e) = select p e.value
+expr_step (Expr-F.Drop c by v e) = drop c by v e.value
+expr_step (Expr-F.Join e f) = join e.value f.value
+
+-- what an expression of the code stands for
+abbrev pub expr_view : code.Expr → Expr
+expr_view = fold-Expr Expr expr_step

@@ -1,0 +1,141 @@
+//! Scripts: each request stands before its reply.
+
+use crate::tests::{replies_to, text_of};
+use std::alloc::Global;
+use std::test::Fail;
+
+/// Which definitions are taken, and why the others are not.
+const DEFINITIONS: &str =
+    r#"{"do":"define","text":"table tracks (track text, date int, rating int, album text)"}
+{"ok":true,"version":1}
+{"do":"define","text":"view = tracks"}
+{"at":5,"error":20,"ok":false}
+{"do":"define","text":"table x (a int "}
+{"at":15,"error":20,"ok":false}
+{"do":"define","text":"table x (a int, a text)"}
+{"at":16,"error":20,"ok":false}
+{"do":"define","text":"table tracks (k int)"}
+{"error":21,"name":"tracks","ok":false}
+{"do":"define","text":"view tracks = join_dl tracks with tracks"}
+{"error":21,"name":"tracks","ok":false}
+{"do":"define","text":"view v = select from nowhere where true"}
+{"error":22,"name":"nowhere","ok":false}
+{"do":"define","text":"view v = nowhere"}
+{"error":22,"name":"nowhere","ok":false}
+{"do":"define","text":"view v = join_dl nowhere with tracks"}
+{"error":99,"ok":false}
+{"do":"define","text":"view v = drop date determined by (track, 2018) from tracks"}
+{"error":99,"ok":false}
+{"do":"define","text":"view v = select from (select from tracks where true) where true"}
+{"error":99,"ok":false}
+{"do":"define","text":"view v = select from tracks where genre = 'x'"}
+{"error":23,"name":"genre","ok":false}
+{"do":"define","text":"view v = select from tracks where rating = 'x' and genre = 1"}
+{"error":23,"name":"genre","ok":false}
+{"do":"define","text":"view v = select from tracks where rating = 'x'"}
+{"error":26,"name":"rating","ok":false}
+{"do":"define","text":"view v = select from tracks where album = rating"}
+{"error":26,"name":"album","ok":false}
+{"do":"define","text":"table w (a int) with a -> b where c = 1"}
+{"error":23,"name":"b","ok":false}
+{"do":"define","text":"table w (a int, b int) with a -> b, b -> a where c = 1"}
+{"error":23,"name":"c","ok":false}
+{"do":"define","text":"table w (a int, b int) with a -> b, b -> a where a = 'x'"}
+{"a":["a"],"b":["a"],"error":25,"ok":false}
+{"do":"define","text":"table w (a int) where a in (1, 'x')"}
+{"error":26,"name":"a","ok":false}
+{"do":"define","text":"table w (c0 int, c1 int, c2 int, c3 int, c4 int, c5 int, c6 int, c7 int, c8 int, c9 int, c10 int, c11 int, c12 int, c13 int, c14 int, c15 int, c16 int, c17 int, c18 int, c19 int, c20 int, c21 int, c22 int, c23 int, c24 int, c25 int, c26 int, c27 int, c28 int, c29 int, c30 int, c31 int, c32 int, c33 int, c34 int, c35 int, c36 int, c37 int, c38 int, c39 int, c40 int, c41 int, c42 int, c43 int, c44 int, c45 int, c46 int, c47 int, c48 int, c49 int, c50 int, c51 int, c52 int, c53 int, c54 int, c55 int, c56 int, c57 int, c58 int, c59 int, c60 int, c61 int, c62 int, c63 int, c64 int)"}
+{"error":34,"ok":false,"what":"columns"}
+{"do":"define","text":"view good = select from (tracks) where rating > 3 and not album = 'it''s'"}
+{"ok":true,"version":2}
+{"do":"define","text":"view v = select from good where true"}
+{"error":99,"ok":false}
+{"do":"define","text":"view v = good"}
+{"error":99,"ok":false}
+{"do":"define","text":"view same = tracks"}
+{"ok":true,"version":3}
+{"do":"define","text":"table albums (album text, quantity int) with album -> quantity where quantity >= 0"}
+{"ok":true,"version":4}
+{"do":"define","text":"view v = select from albums where true"}
+{"error":99,"ok":false}
+{"do":"define","text":"view stock = albums"}
+{"ok":true,"version":5}"#;
+
+/// Puts to what the definitions made.
+const PUTS: &str =
+    r#"{"do":"put","view":"stock","rows":[{"album":"Show","quantity":3},{"album":"Paris","quantity":4}]}
+{"changed":[{"add":[{"album":"Paris","quantity":4},{"album":"Show","quantity":3}],"remove":[],"table":"albums"}],"ok":true,"version":6}
+{"do":"put","view":"albums","rows":[{"album":"Show","quantity":-1},{"album":"Paris","quantity":-2},{"album":"Wish","quantity":3}]}
+{"error":42,"ok":false,"row":{"album":"Paris","quantity":-2}}
+{"do":"put","view":"stock","rows":[{"album":"Show","quantity":5},{"album":"Show","quantity":4},{"album":"Show","quantity":3}]}
+{"edge":{"left":["album"],"right":["quantity"]},"error":43,"ok":false,"rows":[{"album":"Show","quantity":3},{"album":"Show","quantity":4}]}
+{"do":"put","view":"albums","rows":[{"album":"Show","quantity":3.0}]}
+{"col":"quantity","error":40,"index":0,"list":"rows","ok":false}
+{"do":"put","view":"good","rows":[{"album":"Wish","date":1992,"rating":4,"track":"Trust"}]}
+{"changed":[{"add":[{"album":"Wish","date":1992,"rating":4,"track":"Trust"}],"remove":[],"table":"tracks"}],"ok":true,"version":7}
+{"do":"put","view":"good","rows":[{"album":"Wish","date":1992,"rating":3,"track":"Trust"},{"album":"Show","date":1992,"rating":2,"track":"Trust"}]}
+{"error":42,"ok":false,"row":{"album":"Show","date":1992,"rating":2,"track":"Trust"}}
+{"do":"put","view":"good","rows":[{"album":"it's","date":1992,"rating":4,"track":"Trust"}]}
+{"error":42,"ok":false,"row":{"album":"it's","date":1992,"rating":4,"track":"Trust"}}
+{"do":"put","view":"same","rows":[{"album":"Show","date":1989,"rating":3,"track":"Lullaby"},{"album":"Wish","date":1992,"rating":4,"track":"Trust"}]}
+{"changed":[{"add":[{"album":"Show","date":1989,"rating":3,"track":"Lullaby"}],"remove":[],"table":"tracks"}],"ok":true,"version":8}
+{"do":"put","view":"good","rows":[]}
+{"changed":[{"add":[],"remove":[{"album":"Wish","date":1992,"rating":4,"track":"Trust"}],"table":"tracks"}],"ok":true,"version":9}
+{"do":"read","view":"same"}
+{"ok":true,"rows":[{"album":"Show","date":1989,"rating":3,"track":"Lullaby"}],"version":9}
+{"do":"define","text":"table n (k int)"}
+{"ok":true,"version":10}
+{"do":"put","view":"n","rows":[{"k":9223372036854775807},{"k":-9223372036854775808}]}
+{"changed":[{"add":[{"k":-9223372036854775808},{"k":9223372036854775807}],"remove":[],"table":"n"}],"ok":true,"version":11}
+{"do":"read","view":"n"}
+{"ok":true,"rows":[{"k":-9223372036854775808},{"k":9223372036854775807}],"version":11}"#;
+
+/// Lines that are no request, and requests that are not built.
+const REQUESTS: &str = r#"{"do":"read"}
+{"error":12,"member":"view","ok":false}
+[]
+{"error":12,"member":"do","ok":false}
+{"do":"read","view":"Stock"}
+{"error":12,"member":"view","ok":false}
+{"do":"put"}
+{"error":12,"member":"rows","ok":false}
+{"do":"put","view":"n","rows":0,"a":1}
+{"error":12,"member":"a","ok":false}
+{"do":"read","view":"nowhere"}
+{"error":22,"name":"nowhere","ok":false}
+{"do":"list"
+{"error":11,"ok":false}
+{"do":"list"}
+{"error":99,"ok":false}
+{"do":"put","view":"n","rows":[],"on":11}
+{"error":99,"ok":false}"#;
+
+/// Asks the requests of the scripts, and compares what comes with their replies.
+fn follow(alloc: Global, scripts: &[&str]) -> Result<(Vec<u8>, Vec<u8>), Fail> {
+    let mut requests = Vec::new(alloc);
+    let mut replies = Vec::new(alloc);
+    for script in scripts {
+        let mut is_request = true;
+        for line in script.lines() {
+            if is_request {
+                requests.push(line)?;
+            } else {
+                replies.push(line)?;
+            }
+            is_request = !is_request;
+        }
+    }
+    let (_, sink) = replies_to(alloc, 0, &requests)?;
+    Ok((
+        Vec::from_slice(alloc, sink.bytes())?,
+        text_of(alloc, &replies)?,
+    ))
+}
+
+#[test]
+fn rows(rt: HostRuntime) -> Result<(), Fail> {
+    let alloc = rt.alloc();
+    let (given, wanted) = follow(alloc, &[DEFINITIONS, PUTS, REQUESTS])?;
+    assert_eq!(rt; given, wanted);
+    Ok(())
+}
