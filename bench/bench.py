@@ -66,6 +66,17 @@ def must_begin(reply, start):
         raise SystemExit(f"not what was expected: {reply[:200]!r}")
 
 
+def timed(server, steps):
+    """The lines, each with how its reply is to begin: what each takes in ms, and the peak memory after it in MB."""
+    table = []
+    for name, line, start in steps:
+        reply, seconds = server.ask(line)
+        must_begin(reply, start)
+        table.append((name, len(line), f"{seconds * 1000:,.0f} ms", f"{server.peak():,.0f} MB"))
+    server.end()
+    return table
+
+
 def large(program):
     """Lines of 100,000 rows: what each takes in ms, and the peak memory after it in MB."""
     server = Server(program)
@@ -84,13 +95,7 @@ def large(program):
         (f"read of the view ({len(good):,} rows)", b'{"do":"read","view":"good"}\n', b'{"ok":true,"rows":[{'),
         (f"put of the view with one row changed", put(good).replace(b'"tracks"', b'"good"', 1), b'{"changed":[{'),
     ]
-    table = []
-    for name, line, start in steps:
-        reply, seconds = server.ask(line)
-        must_begin(reply, start)
-        table.append((name, len(line), f"{seconds * 1000:,.0f} ms", f"{server.peak():,.0f} MB"))
-    server.end()
-    return table
+    return timed(server, steps)
 
 
 def dependent(program):
@@ -106,13 +111,7 @@ def dependent(program):
         ("the same put again, two dependencies", put(rows), b'{"changed":[],'),
         ("a put in which the last row clashes", put(clashing), b'{"edge":{'),
     ]
-    table = []
-    for name, line, start in steps:
-        reply, seconds = server.ask(line)
-        must_begin(reply, start)
-        table.append((name, len(line), f"{seconds * 1000:,.0f} ms", f"{server.peak():,.0f} MB"))
-    server.end()
-    return table
+    return timed(server, steps)
 
 
 def chains(program):
