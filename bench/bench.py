@@ -4,6 +4,7 @@
 Usage: bench/bench.py [PROGRAM]    (by itself the program that ./serve builds)
 """
 import os
+import string
 import subprocess
 import sys
 import time
@@ -117,6 +118,7 @@ def dependent(program):
 def chains(program):
     """Definitions of 64 columns and 63 dependencies, in order and turned; ms and MB."""
     server = Server(program)
+    server.ask(b'{"do":"list"}\n')
     columns = ", ".join(f"c{number} int" for number in range(64))
     chain = [f"c{number} -> c{number + 1}" for number in range(63)]
     table = []
@@ -134,8 +136,10 @@ def long_texts(program):
     server = Server(program)
     server.ask(b'{"do":"define","text":"table counts (key int, value int)"}\n')
     front = "view v = select from counts where key in ("
+    names = [f"c{first}{second}" for first in string.ascii_lowercase for second in string.ascii_lowercase]
     texts = {
         "refused at its last byte": front + ("1," * 4096)[: 4096 - len(front)],
+        "of as many columns as it holds": ("table many (" + " int,".join(names))[:4096 - 5].rsplit(",", 1)[0] + ")",
         "of as many ands and ors as it holds": ("view v = select from counts where true" + " and true or true" * 4096)[:4096 - 5].rsplit(" ", 1)[0],
     }
     table = []

@@ -1,3 +1,4 @@
+pub mod Larger
 pub mod Additions
 pub mod Changes
 pub mod Edits

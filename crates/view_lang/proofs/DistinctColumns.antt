@@ -3,7 +3,10 @@ use Rattle.std.proofs.Common.{◌≡◌, ℕ, suc, ◌+◌, ◌≤◌, Bool, tru
 use Rattle.std.specs.Prelude.{not, ◌≢◌, ◌&&◌, ◌||◌, nat_eq, count_by, Result, Err}
 use Rattle.lens_values.specs.declared.columns.ColumnsFault.{ColumnsFault}
 use Rattle.lens_values.specs.declared.columns.ColumnsFault.TheVariants.{Twice, KindClash, NoMemory}
-use Rattle.std.specs.Cmp.Lexicographic.{pointwise}
+use Rattle.std.specs.Cmp.Lexicographic.{pointwise, texts_ties}
+use Rattle.std.specs.Ordering.{eq_by_cmp}
+use Rattle.std.proofs.lemmas.List.Folds.{list_any-append}
+use Rattle.lens_values.specs.Order.{bytes_cmp}
 use Rattle.std.proofs.lemmas.List.Sums.{sum_by-cons}
 use Rattle.lens_values.specs.Repeats.{count_of, IsLeastRepeated}
 use Rattle.lens_values.specs.SortedMap.{keys_of}
@@ -82,3 +85,15 @@ pub only_memory : {T : Type 0} (ks : List (List ℕ)) (r : Result T ColumnsFault
 only_memory ks r (Twice name) is no_memory twice clash distinct = distinct name (twice name is)
 only_memory ks r (KindClash name) is no_memory twice clash distinct = clash name is
 only_memory ks r NoMemory is no_memory twice clash distinct = no_memory refl
+
+either : (b h : Bool) → cond b true h ≡ (h || (b || false))
+either true true = refl
+either true false = refl
+either false true = refl
+either false false = refl
+
+-- a name is that of a column where it was, or where it is the new one's
+pub column_more : (cs : Cols) (name : Name) (kind : Kind) (q : Name) (h : Bool) → h ≡ is_column_of cs q → cond (eq_by_cmp bytes_cmp name q) true h ≡ is_column_of (cs ++ (name, kind) ∷ []) q
+column_more cs name kind q h is =
+    ap (λ b. cond b true h) (sym (texts_ties name q)) ∙ either (pointwise nat_eq name q) h ∙ ap (λ b. b || (pointwise nat_eq name q || false)) is
+    ∙ sym (list_any-append (λ c. pointwise nat_eq c.0 q) cs ((name, kind) ∷ []))

@@ -6,7 +6,9 @@ use Rattle.view_lang.specs.declared.definition.Definition as code
 use Rattle.view_lang.specs.declared.definition.Definition.TheVariants as whole
 use Rattle.view_lang.specs.declared.defs.Table as code_table
 use Rattle.view_lang.specs.declared.defs.Parse as code_parse
-use Rattle.view_lang.specs.declared.defs.Parse.TheVariants.{AtStart, AtTable, AtOpen, AtColumn, AtKind, BehindColumn, BehindColumns, InLeft, InRight, InCondition, AtView, AtEquals, InView}
+use Rattle.view_lang.specs.declared.defs.Parse.TheVariants.{Before, InCondition, InView}
+use Rattle.view_lang.specs.declared.defs.Opening as code_opening
+use Rattle.view_lang.specs.declared.defs.Opening.TheVariants.{AtStart, AtTable, AtOpen, AtColumn, AtKind, BehindColumn, BehindColumns, InLeft, InRight, AtView, AtEquals}
 use Rattle.grammar_laws.specs.DefParse.{Parse, at_start, at_table, at_open, at_column, at_kind, behind_column, behind_columns, in_left, in_right, in_condition, at_view, at_equals, in_view}
 use Rattle.view_lang.specs.ExprViews.{expr_view}
 use Rattle.view_lang.specs.ExprsViews.{exprs_view}
@@ -17,20 +19,24 @@ abbrev pub definition_view : code.Definition → meaning.Definition
 definition_view (whole.Table n cols deps p) = meaning.table n cols deps p
 definition_view (whole.View n e) = meaning.view n (expr_view e)
 
+-- what was read of a definition before its predicate or its expression, as the language has it
+abbrev pub opening_view : code_opening.Opening → Parse
+opening_view AtStart = at_start
+opening_view AtTable = at_table
+opening_view (AtOpen n) = at_open n
+opening_view (AtColumn h) = at_column h.name h.cols
+opening_view (AtKind h c) = at_kind h.name h.cols c
+opening_view (BehindColumn h) = behind_column h.name h.cols
+opening_view (BehindColumns h) = behind_columns h.name h.cols
+opening_view (InLeft t l) = in_left t.head.name t.head.cols t.deps.items l.items
+opening_view (InRight t l r) = in_right t.head.name t.head.cols t.deps.items l.items r.items
+opening_view AtView = at_view
+opening_view (AtEquals n) = at_equals n
+
 -- what was read of a definition, as the language has it
 abbrev pub parse_view : code_parse.Parse → Parse
-parse_view AtStart = at_start
-parse_view AtTable = at_table
-parse_view (AtOpen n) = at_open n
-parse_view (AtColumn h) = at_column h.name h.cols.items
-parse_view (AtKind h c) = at_kind h.name h.cols.items c
-parse_view (BehindColumn h) = behind_column h.name h.cols.items
-parse_view (BehindColumns h) = behind_columns h.name h.cols.items
-parse_view (InLeft t l) = in_left t.head.name t.head.cols.items t.deps.items l.items
-parse_view (InRight t l r) = in_right t.head.name t.head.cols.items t.deps.items l.items r.items
-parse_view (InCondition t p) = in_condition t.head.name t.head.cols.items t.deps.items (preds_view p)
-parse_view AtView = at_view
-parse_view (AtEquals n) = at_equals n
+parse_view (Before o) = opening_view o
+parse_view (InCondition t p) = in_condition t.head.name t.head.cols t.deps.items (preds_view p)
 parse_view (InView n e) = in_view n (exprs_view e)
 
 -- the table has one dependency more

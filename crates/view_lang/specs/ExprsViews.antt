@@ -41,7 +41,7 @@ spot_view (InKeys c by) = in_keys c by.items
 spot_view (AtFill c by) = at_fill c by.items
 spot_view (AtKeysEnd c by v) = at_keys_end c by.items v
 spot_view (AtDropFrom c by v) = at_drop_from c by.items v
-spot_view (InWhere e p) = in_where (expr_view e) (preds_view p)
+spot_view (InWhere s) = in_where (expr_view s.value.of) (preds_view s.value.preds)
 
 -- what was read of an expression, as the language has it
 abbrev pub exprs_view : code_exprs.Exprs → Exprs

@@ -4,10 +4,9 @@ use Rattle.lens_pred.specs.Op.{op_view}
 use Rattle.lens_pred.specs.View.{predicate_view}
 use Rattle.view_lang.specs.declared.preds.Level as code
 use Rattle.view_lang.specs.declared.preds.Place as code_place
-use Rattle.view_lang.specs.declared.preds.Place.TheVariants.{Part, Compared, Against, InOpen, InValue, InNext}
+use Rattle.view_lang.specs.declared.preds.Place.TheVariants.{Part, Compared, Against, InOpen, InValue, InNext, Behind}
 use Rattle.view_lang.specs.declared.preds.Preds as code_preds
-use Rattle.view_lang.specs.declared.preds.Preds.TheVariants.{Inside, Behind}
-use Rattle.grammar_laws.specs.PredParse.{Open, Place, at_part, compared, against, in_open, in_value, in_next, Preds, inside, behind}
+use Rattle.grammar_laws.specs.PredParse.{Open, at_part, compared, against, in_open, in_value, in_next, Preds, inside, behind}
 
 -- what waits for a part, as the language has it
 abbrev pub open_view : code.Level → Open
@@ -22,16 +21,16 @@ opens_before (o ∷ os) inner = opens_before os (open_view o ∷ inner)
 abbrev pub opens_view : List code.Level → List Open
 opens_view os = opens_before os []
 
--- what was read of a part, as the language has it
-abbrev pub place_view : code_place.Place → Place
-place_view Part = at_part
-place_view (Compared c) = compared c
-place_view (Against c op) = against c (op_view op)
-place_view (InOpen c) = in_open c
-place_view (InValue c vs) = in_value c vs.items
-place_view (InNext c vs) = in_next c vs.items
+-- what was read where these stand open, with the next token at this place
+abbrev pub preds_at : List Open → Open → code_place.Place → Preds
+preds_at qs o Part = inside qs o at_part
+preds_at qs o (Compared c) = inside qs o (compared c)
+preds_at qs o (Against c op) = inside qs o (against c (op_view op))
+preds_at qs o (InOpen c) = inside qs o (in_open c)
+preds_at qs o (InValue c vs) = inside qs o (in_value c vs.items)
+preds_at qs o (InNext c vs) = inside qs o (in_next c vs.items)
+preds_at qs o Behind = behind qs o.ors o.ands
 
 -- what was read of a predicate, as the language has it
 abbrev pub preds_view : code_preds.Preds → Preds
-preds_view (Inside outer o place) = inside (opens_view outer.items) (open_view o) (place_view place)
-preds_view (Behind outer ors ands) = behind (opens_view outer.items) (predicate_view ors.items) (predicate_view ands.items)
+preds_view p = preds_at (opens_view p.outer.items) (open_view p.level) p.place

@@ -1,5 +1,6 @@
 //! An expression that is being read.
 ghost use Rattle.std.specs.Prelude.{◌≡◌, ◌-◌, ◌^◌, min, [], IfOk, option_map};
+ghost use Rattle.std.specs.Bool.{then_some};
 ghost use Rattle.view_lang.specs.TokenViews.{token_view};
 ghost use Rattle.grammar_laws.specs.ExprParse as expr;
 ghost use Rattle.view_lang.specs.ExprViews.{expr_view};
@@ -11,13 +12,12 @@ mod operands;
 mod selections;
 
 use crate::expr::Expr;
-use crate::exprs::drops::{drop_from, dropped, end_keys, fill_value, next_key, open_keys};
-use crate::exprs::operands::{at_from, at_with, begin_expr, begin_operand, end_expr};
-use crate::exprs::selections::{at_where, next_where, selected};
+use crate::exprs::selections::selected;
 use crate::preds::Preds;
 use crate::token::Token;
 use lens_values::{Name, NoMemory, Value};
 use std::alloc::Global;
+use std::mem;
 
 /// What an operand belongs to.
 #[derive(Debug, Drop)]
@@ -99,9 +99,15 @@ pub enum Spot {
     },
     /// "select" "from" operand "where" and some of a predicate
     InWhere {
-        of: Expr,
-        preds: Preds,
+        selection: Box<Selection>,
     },
+}
+
+/// A selection whose predicate is being read.
+#[derive(Debug, Drop)]
+pub struct Selection {
+    of: Expr,
+    preds: Preds,
 }
 
 /// An expression that is being read, and what the operands belong to whose parentheses are open.
@@ -121,48 +127,6 @@ pub fn begun_expr(alloc: Global) -> Exprs
     }
 }
 
-/// At this place, where the token is this word.
-fn on_word(word: &str, outer: Vec<Hole>, spot: Spot, token: &Token) -> Option<Exprs>
-    ensures { option_map exprs_view result ≡ expr.on_word word.now (holes_view outer.items) (spot_view spot) (token_view token.now) }
-{
-    if token.is_keyword(word) {
-        Some(Exprs { outer, spot })
-    } else {
-        None
-    }
-}
-
-/// With the next token at this place.
-fn step_spot(
-    alloc: Global,
-    outer: Vec<Hole>,
-    spot: Spot,
-    token: Token,
-) -> Result<Option<Exprs>, NoMemory>
-    requires { IsReadySpot (spot_view spot) }
-    ensures { IfOk result (λ next. option_map exprs_view next ≡ expr.step_spot (holes_view outer.items) (spot_view spot) (token_view token)) }
-{
-    match spot {
-        Spot::AtExpr => Ok(begin_expr(outer, &token)),
-        Spot::AtOperand { hole } => begin_operand(alloc, outer, hole, &token),
-        Spot::BehindExpr { read } => end_expr(alloc, outer, read, &token),
-        Spot::AtFrom => Ok(at_from(outer, &token)),
-        Spot::AtWhere { of } => Ok(at_where(alloc, outer, of, &token)),
-        Spot::AtWith { left } => Ok(at_with(outer, left, &token)),
-        Spot::AtDropped => Ok(dropped(outer, &token)),
-        Spot::AtDetermined { col } => {
-            Ok(on_word("determined", outer, Spot::AtBy { col }, &token))
-        }
-        Spot::AtBy { col } => Ok(on_word("by", outer, Spot::AtKeys { col }, &token)),
-        Spot::AtKeys { col } => Ok(open_keys(alloc, outer, col, &token)),
-        Spot::InKeys { col, by } => next_key(outer, col, by, &token),
-        Spot::AtFill { col, by } => Ok(fill_value(outer, col, by, token)),
-        Spot::AtKeysEnd { col, by, fill } => Ok(end_keys(outer, col, by, fill, &token)),
-        Spot::AtDropFrom { col, by, fill } => Ok(drop_from(outer, col, by, fill, &token)),
-        Spot::InWhere { of, preds } => next_where(alloc, outer, of, preds, token),
-    }
-}
-
 /// The expression that ends at this place.
 fn ended_spot(alloc: Global, spot: Spot) -> Result<Option<Expr>, NoMemory>
     requires { IsReadySpot (spot_view spot) }
@@ -170,7 +134,7 @@ fn ended_spot(alloc: Global, spot: Spot) -> Result<Option<Expr>, NoMemory>
 {
     match spot {
         Spot::BehindExpr { read } => Ok(Some(read)),
-        Spot::InWhere { of, preds } => selected(alloc, of, preds),
+        Spot::InWhere { selection } => selected(alloc, selection),
         Spot::AtExpr
         | Spot::AtOperand { .. }
         | Spot::AtFrom
@@ -192,7 +156,7 @@ fn spot_count(spot: &Spot) -> usize
     ensures { result ≡ min (expr.spot_count (spot_view spot.now)) (2 ^ 64 - 1) }
 {
     match spot {
-        Spot::InWhere { preds, .. } => preds.count(),
+        Spot::InWhere { selection } => selection.preds.count(),
         Spot::BehindExpr { .. }
         | Spot::AtExpr
         | Spot::AtOperand { .. }
@@ -219,13 +183,41 @@ impl Exprs {
         spot_count(&self.spot).saturating_add(self.outer.len())
     }
 
-    /// With the next token. `None` where the expression does not go on with it.
-    pub fn step(self, alloc: Global, token: Token) -> Result<Option<Exprs>, NoMemory>
-        requires { IsReadyExprs (exprs_view self) }
-        ensures { IfOk result (λ next. option_map exprs_view next ≡ expr.step (exprs_view self) (token_view token)) }
+    /// Goes to this place, where the token is this word. False where it is another.
+    fn on_word(&mut self, word: &str, spot: Spot, token: &Token) -> bool
+        ensures { then_some result (exprs_view self.new) ≡ expr.on_word word.now (holes_view self.old.outer.items) (spot_view spot) (token_view token.now) }
     {
-        let Exprs { outer, spot } = self;
-        step_spot(alloc, outer, spot, token)
+        if !token.is_keyword(word) {
+            return false;
+        }
+        self.spot = spot;
+        true
+    }
+
+    /// Goes behind the next token. False where the expression does not go on with it.
+    pub fn step(&mut self, alloc: Global, token: Token) -> Result<bool, NoMemory>
+        requires { IsReadyExprs (exprs_view self.old) }
+        ensures { IfOk result (λ goes. then_some goes (exprs_view self.new) ≡ expr.step (exprs_view self.old) (token_view token)) }
+    {
+        match mem::replace(&mut self.spot, Spot::AtExpr) {
+            Spot::AtExpr => Ok(self.begin_expr(&token)),
+            Spot::AtOperand { hole } => self.begin_operand(alloc, hole, &token),
+            Spot::BehindExpr { read } => self.end_expr(alloc, read, &token),
+            Spot::AtFrom => Ok(self.at_from(&token)),
+            Spot::AtWhere { of } => self.at_where(alloc, of, &token),
+            Spot::AtWith { left } => Ok(self.at_with(left, &token)),
+            Spot::AtDropped => Ok(self.dropped(&token)),
+            Spot::AtDetermined { col } => {
+                Ok(self.on_word("determined", Spot::AtBy { col }, &token))
+            }
+            Spot::AtBy { col } => Ok(self.on_word("by", Spot::AtKeys { col }, &token)),
+            Spot::AtKeys { col } => Ok(self.open_keys(alloc, col, &token)),
+            Spot::InKeys { col, by } => self.next_key(col, by, &token),
+            Spot::AtFill { col, by } => Ok(self.fill_value(col, by, token)),
+            Spot::AtKeysEnd { col, by, fill } => Ok(self.end_keys(col, by, fill, &token)),
+            Spot::AtDropFrom { col, by, fill } => Ok(self.drop_from(col, by, fill, &token)),
+            Spot::InWhere { selection } => self.next_where(alloc, selection, token),
+        }
     }
 
     /// The expression, where it ends here.

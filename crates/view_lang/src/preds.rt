@@ -1,61 +1,56 @@
 //! A predicate that is being read.
-ghost use Rattle.std.specs.Prelude.{◌≡◌, ◌+◌, ◌-◌, ◌^◌, min, [], IfOk, option_map, is_some, Some};
+ghost use Rattle.std.specs.Prelude.{◌≡◌, ◌+◌, ◌-◌, ◌^◌, min, [], IfOk, OnOk, option_map, is_some};
+ghost use Rattle.std.specs.Bool.{then_some};
 ghost use Rattle.lens_pred.specs.View.{formula_view};
 ghost use Rattle.view_lang.specs.TokenViews.{token_view};
 ghost use Rattle.grammar_laws.specs.PredParse as pred;
-ghost use Rattle.view_lang.specs.PredViews.{open_view, opens_view, place_view, preds_view};
+ghost use Rattle.view_lang.specs.PredViews.{open_view, opens_view, preds_view};
 
 mod behind;
 mod part;
 
 use crate::joining::{push_conjuncts, with_nots};
-use crate::preds::behind::{ended_behind, step_behind};
-use crate::preds::part::step_inside;
+use crate::preds::behind::ended_behind;
 use crate::token::Token;
 use lens_pred::{Formula, Op};
 use lens_values::{Name, NoMemory, Value};
 use std::alloc::Global;
+use std::mem;
 
-/// What was read of a predicate that waits for a part.
+/// What was read of a predicate before the part that comes or, behind a part, with it.
 #[derive(Debug, Drop)]
 pub struct Level {
     ors: Vec<Formula>,
     ands: Vec<Formula>,
+    /// How many "not"s wait for the part that comes.
     nots: usize,
 }
 
-/// What was read of the part that comes.
+/// Where in a predicate the next token stands.
 #[derive(Debug, Drop)]
 pub enum Place {
-    /// Nothing.
+    /// Where a part begins.
     Part,
-    /// A column.
+    /// Behind a column.
     Compared { col: Name },
-    /// A column and the sign of a comparison.
+    /// Behind a column and the sign of a comparison.
     Against { col: Name, op: Op },
-    /// A column and "in".
+    /// Behind a column and "in".
     InOpen { col: Name },
-    /// A column, "in", a parenthesis and these values, each with a comma behind it.
+    /// Behind a column, "in", a parenthesis and these values, each with a comma behind it.
     InValue { col: Name, values: Vec<Value> },
     /// The same, with no comma behind the last value.
     InNext { col: Name, values: Vec<Value> },
+    /// Behind a part.
+    Behind,
 }
 
-/// A predicate that is being read: within a part, or behind one. The predicates whose parentheses are open stand outside it.
+/// A predicate that is being read. The predicates whose parentheses are open stand outside it.
 #[derive(Debug, Drop)]
-pub enum Preds {
-    /// Within a part.
-    Inside {
-        outer: Vec<Level>,
-        level: Level,
-        place: Place,
-    },
-    /// Behind a part.
-    Behind {
-        outer: Vec<Level>,
-        ors: Vec<Formula>,
-        ands: Vec<Formula>,
-    },
+pub struct Preds {
+    outer: Vec<Level>,
+    level: Level,
+    place: Place,
 }
 
 /// Where a predicate begins.
@@ -73,37 +68,11 @@ fn fresh(alloc: Global) -> Level
 pub fn begun(alloc: Global) -> Preds
     ensures { preds_view result ≡ pred.inside [] pred.fresh pred.at_part }
 {
-    Preds::Inside {
+    Preds {
         outer: Vec::new(alloc),
         level: fresh(alloc),
         place: Place::Part,
     }
-}
-
-/// Within a part, at this place.
-fn inside(outer: Vec<Level>, level: Level, place: Place) -> Option<Preds>
-    ensures { option_map preds_view result ≡ Some (pred.inside (opens_view outer.items) (open_view level) (place_view place)) }
-{
-    Some(Preds::Inside {
-        outer,
-        level,
-        place,
-    })
-}
-
-/// Behind this part.
-fn add(
-    alloc: Global,
-    outer: Vec<Level>,
-    level: Level,
-    part: Formula,
-) -> Result<Option<Preds>, NoMemory>
-    ensures { IfOk result (λ next. option_map preds_view next ≡ Some (pred.add (opens_view outer.items) (open_view level) (formula_view part))) }
-{
-    let Level { ors, ands, nots } = level;
-    let mut ands = ands;
-    push_conjuncts(alloc, &mut ands, with_nots(alloc, nots, part)?)?;
-    Ok(Some(Preds::Behind { outer, ors, ands }))
 }
 
 /// How many parentheses and "not"s stand open outside, besides these.
@@ -120,18 +89,29 @@ fn count_open(outer: &[Level], inner: usize) -> usize
 impl Preds {
     ghost use Rattle.view_lang.specs.PredBounds.{HasFewNots};
 
-    /// With the next token. `None` where the predicate does not go on with it.
-    pub fn step(self, alloc: Global, token: Token) -> Result<Option<Preds>, NoMemory>
-        requires { HasFewNots (preds_view self) }
-        ensures { IfOk result (λ next. option_map preds_view next ≡ pred.step (preds_view self) (token_view token)) }
+    /// Goes behind this part.
+    fn add(&mut self, alloc: Global, part: Formula) -> Result<(), NoMemory>
+        ensures { OnOk result (preds_view self.new ≡ pred.add (opens_view self.old.outer.items) (open_view self.old.level) (formula_view part)) }
     {
-        match self {
-            Preds::Inside {
-                outer,
-                level,
-                place,
-            } => step_inside(alloc, outer, level, place, token),
-            Preds::Behind { outer, ors, ands } => step_behind(alloc, outer, ors, ands, &token),
+        let part = with_nots(alloc, self.level.nots, part)?;
+        push_conjuncts(alloc, &mut self.level.ands, part)?;
+        self.place = Place::Behind;
+        Ok(())
+    }
+
+    /// Goes behind the next token. False where the predicate does not go on with it.
+    pub fn step(&mut self, alloc: Global, token: Token) -> Result<bool, NoMemory>
+        requires { HasFewNots (preds_view self.old) }
+        ensures { IfOk result (λ goes. then_some goes (preds_view self.new) ≡ pred.step (preds_view self.old) (token_view token)) }
+    {
+        match mem::replace(&mut self.place, Place::Part) {
+            Place::Part => self.begin_part(alloc, &token),
+            Place::Compared { col } => Ok(self.behind_name(col, &token)),
+            Place::Against { col, op } => self.behind_op(alloc, col, op, token),
+            Place::InOpen { col } => Ok(self.open_values(alloc, col, &token)),
+            Place::InValue { col, values } => self.next_value(col, values, token),
+            Place::InNext { col, values } => self.end_value(alloc, col, values, token),
+            Place::Behind => self.step_behind(alloc, &token),
         }
     }
 
@@ -139,9 +119,9 @@ impl Preds {
     pub fn count(&self) -> usize
         ensures { result ≡ min (pred.count (preds_view self.now)) (2 ^ 64 - 1) }
     {
-        match self {
-            Preds::Inside { outer, level, .. } => count_open(outer, level.nots),
-            Preds::Behind { outer, .. } => count_open(outer, 0),
+        match self.place {
+            Place::Behind => count_open(&self.outer, 0),
+            _ => count_open(&self.outer, self.level.nots),
         }
     }
 
@@ -150,9 +130,9 @@ impl Preds {
     pub fn is_ended(&self) -> bool
         ensures { result ≡ is_some (pred.ended (preds_view self.now)) }
     {
-        match self {
-            Preds::Behind { outer, .. } => outer.is_empty(),
-            Preds::Inside { .. } => false,
+        match self.place {
+            Place::Behind => self.outer.is_empty(),
+            _ => false,
         }
     }
 
@@ -160,9 +140,14 @@ impl Preds {
     pub fn ended(self, alloc: Global) -> Result<Option<Formula>, NoMemory>
         ensures { IfOk result (λ found. option_map formula_view found ≡ pred.ended (preds_view self)) }
     {
-        match self {
-            Preds::Behind { outer, ors, ands } => ended_behind(alloc, outer, ors, ands),
-            Preds::Inside { .. } => Ok(None),
+        let Preds {
+            outer,
+            level,
+            place,
+        } = self;
+        match place {
+            Place::Behind => ended_behind(alloc, outer, level),
+            _ => Ok(None),
         }
     }
 }

@@ -1,12 +1,15 @@
 //! From a text to the definition that it says.
-ghost use Rattle.std.specs.Prelude.{◌≡◌, ◌≤◌, ◌+◌, length, drop};
+ghost use Rattle.std.specs.Prelude.{◌≡◌, ◌≤◌, ◌+◌, length, drop, Err, IfErr, OnOk};
 ghost use Rattle.std.specs.List.{prefix_len};
 ghost use Rattle.grammar_specs.specs.Tokens as language;
-ghost use Rattle.grammar_laws.specs.Reading.{reading};
+ghost use Rattle.grammar_laws.specs.DefParse as def;
+ghost use Rattle.grammar_laws.specs.Reading.{at_end, reading};
+ghost use Rattle.view_lang.specs.DefBounds.{IsReadyParse};
+ghost use Rattle.view_lang.specs.DefViews.{parse_view};
 ghost use Rattle.view_lang.specs.Reads.{IsAnswerOf, Reads};
 
 use crate::definition::{Definition, LangFault, Limit};
-use crate::defs::Parse;
+use crate::defs::{Parse, begun_definition};
 use crate::lexer::{blank_len, token_at};
 use crate::limits::limited;
 use lens_values::Text;
@@ -23,26 +26,36 @@ fn behind_blanks(text: &str, at: usize) -> usize
     at + blank_len(&text.as_bytes()[at..])
 }
 
-/// The answer of the bytes of a text.
-fn read(alloc: Global, text: &str) -> Result<Definition, LangFault>
-    ensures reads { Reads result (reading text.now) }
+/// Reads all tokens of the text. `Syntax` or `TooLarge` where the text says no definition already before its end.
+fn read_tokens(alloc: Global, text: &str, parse: &mut Parse) -> Result<(), LangFault>
+    requires { parse_view parse.old ≡ def.at_start }
+    ensures ready { OnOk result (IsReadyParse (parse_view parse.new)) }
+    ensures end { OnOk result (reading text.now ≡ at_end (length text.now) (def.ended (parse_view parse.new))) }
+    ensures fault { IfErr result (λ fault. Reads (Err fault) (reading text.now)) }
 {
-    let mut parse = Parse::AtStart;
     let mut at = behind_blanks(text, 0);
     while at < text.len() {
         let Some((token, len)) = token_at(alloc, text, at)? else {
             return Err(LangFault::Syntax { at });
         };
-        let Some(next) = parse.step(alloc, token)? else {
+        if !parse.step(alloc, token)? {
             return Err(LangFault::Syntax { at });
-        };
-        if next.count() > MAX_NESTING {
+        }
+        if parse.count() > MAX_NESTING {
             let what = Limit::Nesting;
             return Err(LangFault::TooLarge { what });
         }
-        parse = next;
         at = behind_blanks(text, at + len);
     }
+    Ok(())
+}
+
+/// The answer of the bytes of a text.
+fn read(alloc: Global, text: &str) -> Result<Definition, LangFault>
+    ensures reads { Reads result (reading text.now) }
+{
+    let mut parse = begun_definition();
+    read_tokens(alloc, text, &mut parse)?;
     match parse.ended(alloc)? {
         Some(definition) => limited(definition),
         None => Err(LangFault::Syntax { at: text.len() }),

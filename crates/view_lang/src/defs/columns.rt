@@ -1,14 +1,14 @@
 //! The columns of a table.
 ghost use Rattle.std.specs.Prelude.{◌≡◌, IfOk, option_map};
-ghost use Rattle.grammar_specs.specs.Written.{is_column_of};
 ghost use Rattle.view_lang.specs.TokenViews.{token_view};
 ghost use Rattle.grammar_laws.specs.DefParse as def;
 ghost use Rattle.view_lang.specs.DefViews.{parse_view};
 
-use crate::defs::{Head, Parse, Table};
+use crate::defs::read_columns::ReadColumns;
+use crate::defs::{Head, Opening, Parse, Table};
 use crate::preds::begun;
 use crate::token::Token;
-use lens_values::{Kind, Name, NoMemory};
+use lens_values::{Name, NoMemory};
 use std::alloc::Global;
 
 /// With the token where the columns begin.
@@ -18,65 +18,57 @@ pub fn open_columns(alloc: Global, name: Name, token: &Token) -> Option<Parse>
     if !token.is_open() {
         return None;
     }
-    let cols = Vec::new(alloc);
+    let cols = ReadColumns::new(alloc);
     let head = Head { name, cols };
-    Some(Parse::AtColumn { head })
-}
-
-/// Whether the name is that of a column.
-fn has_column(cols: &[(Name, Kind)], name: &Name) -> bool
-    ensures { result ≡ is_column_of cols.now name.now }
-{
-    cols.iter().any(|col| col.0 == *name)
+    Some(Parse::Before(Opening::AtColumn { head }))
 }
 
 /// With the token where a column begins, which is to have a new name.
 pub fn next_column(head: Head, token: &Token) -> Option<Parse>
-    ensures { option_map parse_view result ≡ def.next_column head.name head.cols.items (token_view token.now) }
+    ensures { option_map parse_view result ≡ def.next_column head.name head.cols (token_view token.now) }
 {
     let col = token.name()?;
-    if has_column(&head.cols, &col) {
+    if head.cols.has(&col) {
         return None;
     }
-    Some(Parse::AtKind { head, col })
+    Some(Parse::Before(Opening::AtKind { head, col }))
 }
 
 /// With the token where the kind of a column stands.
 pub fn column_kind(head: Head, col: Name, token: &Token) -> Result<Option<Parse>, NoMemory>
-    ensures { IfOk result (λ next. option_map parse_view next ≡ def.step (def.at_kind head.name head.cols.items col) (token_view token.now)) }
+    ensures { IfOk result (λ next. option_map parse_view next ≡ def.step (def.at_kind head.name head.cols col) (token_view token.now)) }
 {
     let Some(kind) = token.kind() else {
         return Ok(None);
     };
     let Head { name, cols } = head;
-    let mut cols = cols;
-    cols.push((col, kind))?;
+    let cols = cols.with(col, kind)?;
     let head = Head { name, cols };
-    Ok(Some(Parse::BehindColumn { head }))
+    Ok(Some(Parse::Before(Opening::BehindColumn { head })))
 }
 
 /// With the token behind a column.
 pub fn end_column(head: Head, token: &Token) -> Option<Parse>
-    ensures { option_map parse_view result ≡ def.end_column head.name head.cols.items (token_view token.now) }
+    ensures { option_map parse_view result ≡ def.end_column head.name head.cols (token_view token.now) }
 {
     if token.is_comma() {
-        return Some(Parse::AtColumn { head });
+        return Some(Parse::Before(Opening::AtColumn { head }));
     }
     if token.is_close() {
-        return Some(Parse::BehindColumns { head });
+        return Some(Parse::Before(Opening::BehindColumns { head }));
     }
     None
 }
 
 /// With the token behind the columns.
 pub fn end_columns(alloc: Global, head: Head, token: &Token) -> Option<Parse>
-    ensures { option_map parse_view result ≡ def.end_columns head.name head.cols.items (token_view token.now) }
+    ensures { option_map parse_view result ≡ def.end_columns head.name head.cols (token_view token.now) }
 {
     let deps = Vec::new(alloc);
     let table = Table { head, deps };
     if token.is_keyword("with") {
         let left = Vec::new(alloc);
-        return Some(Parse::InLeft { table, left });
+        return Some(Parse::Before(Opening::InLeft { table, left }));
     }
     if token.is_keyword("where") {
         let preds = begun(alloc);

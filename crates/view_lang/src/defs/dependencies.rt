@@ -6,7 +6,7 @@ ghost use Rattle.view_lang.specs.TokenViews.{token_view};
 ghost use Rattle.grammar_laws.specs.DefParse as def;
 ghost use Rattle.view_lang.specs.DefViews.{parse_view, HasDep};
 
-use crate::defs::{Parse, Table};
+use crate::defs::{Opening, Parse, Table};
 use crate::preds::begun;
 use crate::token::Token;
 use fd_closure::Dep;
@@ -21,16 +21,16 @@ pub fn next_left(
     left: Vec<Name>,
     token: &Token,
 ) -> Result<Option<Parse>, NoMemory>
-    ensures { IfOk result (λ next. option_map parse_view next ≡ def.next_left table.head.name table.head.cols.items table.deps.items left.items (token_view token.now)) }
+    ensures { IfOk result (λ next. option_map parse_view next ≡ def.next_left table.head.name table.head.cols table.deps.items left.items (token_view token.now)) }
 {
     if let Some(name) = token.name() {
         let mut left = left;
         left.push(name)?;
-        return Ok(Some(Parse::InLeft { table, left }));
+        return Ok(Some(Parse::Before(Opening::InLeft { table, left })));
     }
     if token.is_arrow() && !left.is_empty() {
         let right = Vec::new(alloc);
-        return Ok(Some(Parse::InRight { table, left, right }));
+        return Ok(Some(Parse::Before(Opening::InRight { table, left, right })));
     }
     Ok(None)
 }
@@ -68,11 +68,11 @@ pub fn with_dep(
 
 /// With the token behind a dependency.
 fn end_dep(alloc: Global, table: Table, token: &Token) -> Option<Parse>
-    ensures { option_map parse_view result ≡ def.end_dep table.head.name table.head.cols.items table.deps.items (token_view token.now) }
+    ensures { option_map parse_view result ≡ def.end_dep table.head.name table.head.cols table.deps.items (token_view token.now) }
 {
     if token.is_comma() {
         let left = Vec::new(alloc);
-        return Some(Parse::InLeft { table, left });
+        return Some(Parse::Before(Opening::InLeft { table, left }));
     }
     if token.is_keyword("where") {
         let preds = begun(alloc);
@@ -91,12 +91,12 @@ pub fn next_right(
     token: &Token,
 ) -> Result<Option<Parse>, NoMemory>
     requires { is_some_list left.items ≡ true }
-    ensures { IfOk result (λ next. option_map parse_view next ≡ def.next_right table.head.name table.head.cols.items table.deps.items left.items right.items (token_view token.now)) }
+    ensures { IfOk result (λ next. option_map parse_view next ≡ def.next_right table.head.name table.head.cols table.deps.items left.items right.items (token_view token.now)) }
 {
     if let Some(name) = token.name() {
         let mut right = right;
         right.push(name)?;
-        return Ok(Some(Parse::InRight { table, left, right }));
+        return Ok(Some(Parse::Before(Opening::InRight { table, left, right })));
     }
     if right.is_empty() {
         return Ok(None);

@@ -22,12 +22,12 @@ use std::alloc::Global;
 
 /// The table of these parts.
 fn table_of(alloc: Global, table: Table, pred: Pred) -> Result<Definition, NoMemory>
-    requires { HasNoRepeat table.head.cols.items }
-    ensures { IfOk result (λ d. definition_view d ≡ meaning.table table.head.name (map_of.from_entries table.head.cols.items) table.deps.items pred) }
+    requires { HasNoRepeat table.head.cols }
+    ensures { IfOk result (λ d. definition_view d ≡ meaning.table table.head.name (map_of.from_entries table.head.cols) table.deps.items pred) }
 {
     let Table { head, deps } = table;
     let Head { name, cols } = head;
-    match Columns::new(alloc, cols) {
+    match Columns::new(alloc, cols.into_list()) {
         Ok(cols) => {
             let deps = Deps::new(deps);
             Ok(Definition::Table {
@@ -56,8 +56,8 @@ fn no_condition(alloc: Global) -> Pred
 
 /// The table that ends behind its columns.
 pub fn bare_table(alloc: Global, head: Head) -> Result<Option<Definition>, NoMemory>
-    requires { HasNoRepeat head.cols.items }
-    ensures { IfOk result (λ found. option_map definition_view found ≡ def.ended (def.behind_columns head.name head.cols.items)) }
+    requires { HasNoRepeat head.cols }
+    ensures { IfOk result (λ found. option_map definition_view found ≡ def.ended (def.behind_columns head.name head.cols)) }
 {
     let deps = Vec::new(alloc);
     let table = Table { head, deps };
@@ -73,8 +73,8 @@ pub fn table_with_dep(
     right: Vec<Name>,
 ) -> Result<Option<Definition>, NoMemory>
     requires left { is_some_list left.items ≡ true }
-    requires cols { HasNoRepeat table.head.cols.items }
-    ensures { IfOk result (λ found. option_map definition_view found ≡ def.ended (def.in_right table.head.name table.head.cols.items table.deps.items left.items right.items)) }
+    requires cols { HasNoRepeat table.head.cols }
+    ensures { IfOk result (λ found. option_map definition_view found ≡ def.ended (def.in_right table.head.name table.head.cols table.deps.items left.items right.items)) }
 {
     if right.is_empty() {
         return Ok(None);
@@ -90,8 +90,8 @@ pub fn table_with_condition(
     preds: Preds,
 ) -> Result<Option<Definition>, NoMemory>
     requires ready { IsReady (preds_view preds) }
-    requires cols { HasNoRepeat table.head.cols.items }
-    ensures { IfOk result (λ found. option_map definition_view found ≡ def.ended (def.in_condition table.head.name table.head.cols.items table.deps.items (preds_view preds))) }
+    requires cols { HasNoRepeat table.head.cols }
+    ensures { IfOk result (λ found. option_map definition_view found ≡ def.ended (def.in_condition table.head.name table.head.cols table.deps.items (preds_view preds))) }
 {
     let Some(formula) = preds.ended(alloc)? else {
         return Ok(None);

@@ -1,5 +1,6 @@
 //! The predicate of a selection.
 ghost use Rattle.std.specs.Prelude.{◌≡◌, IfOk, option_map, option_and_then};
+ghost use Rattle.std.specs.Bool.{then_some};
 ghost use Rattle.lens_pred.specs.View.{formula_view};
 ghost use Rattle.grammar_specs.specs.Meaning as meaning;
 ghost use Rattle.view_lang.specs.TokenViews.{token_view};
@@ -10,22 +11,13 @@ ghost use Rattle.view_lang.specs.PredBounds.{IsReady, IsNormal};
 ghost use Rattle.view_lang.specs.PredViews.{preds_view};
 
 use crate::expr::Expr;
-use crate::exprs::operands::close;
-use crate::exprs::{Exprs, Hole, Spot, on_word};
+use crate::exprs::{Exprs, Selection, Spot};
 use crate::joining::pred_of;
-use crate::preds::{Preds, begun};
+use crate::preds::begun;
 use crate::token::Token;
 use lens_pred::Formula;
 use lens_values::NoMemory;
 use std::alloc::Global;
-
-/// With the token behind the operand of a "select".
-pub fn at_where(alloc: Global, outer: Vec<Hole>, of: Expr, token: &Token) -> Option<Exprs>
-    ensures { option_map exprs_view result ≡ expr.step_spot (holes_view outer.items) (expr.at_where (expr_view of)) (token_view token.now) }
-{
-    let preds = begun(alloc);
-    on_word("where", outer, Spot::InWhere { of, preds }, token)
-}
 
 /// The rows on which the formula holds.
 fn select_of(alloc: Global, of: Expr, formula: Formula) -> Result<Expr, NoMemory>
@@ -37,52 +29,55 @@ fn select_of(alloc: Global, of: Expr, formula: Formula) -> Result<Expr, NoMemory
     Ok(Expr::Select { pred, of })
 }
 
-/// The expression of a predicate that ends here.
-pub fn selected(alloc: Global, of: Expr, preds: Preds) -> Result<Option<Expr>, NoMemory>
-    requires { IsReady (preds_view preds) }
-    ensures { IfOk result (λ found. option_map expr_view found ≡ expr.selected (expr_view of) (preds_view preds)) }
+/// The selection, where its predicate ends here.
+pub fn selected(alloc: Global, selection: Box<Selection>) -> Result<Option<Expr>, NoMemory>
+    requires { IsReady (preds_view selection.value.preds) }
+    ensures { IfOk result (λ found. option_map expr_view found ≡ expr.selected (expr_view selection.value.of) (preds_view selection.value.preds)) }
 {
+    let Selection { of, preds } = Box::into_inner(selection);
     match preds.ended(alloc)? {
         Some(formula) => Ok(Some(select_of(alloc, of, formula)?)),
         None => Ok(None),
     }
 }
 
-/// Behind a predicate: the expression that it selects, up to the parenthesis behind it.
-fn end_where(
-    alloc: Global,
-    outer: Vec<Hole>,
-    of: Expr,
-    preds: Preds,
-) -> Result<Option<Exprs>, NoMemory>
-    requires { IsReady (preds_view preds) }
-    ensures { IfOk result (λ next. option_map exprs_view next ≡ option_and_then (expr.close (holes_view outer.items)) (expr.selected (expr_view of) (preds_view preds))) }
-{
-    match selected(alloc, of, preds)? {
-        Some(read) => close(alloc, outer, read),
-        None => Ok(None),
+impl Exprs {
+    /// Goes behind the token that stands behind the operand of a "select".
+    pub fn at_where(&mut self, alloc: Global, of: Expr, token: &Token) -> Result<bool, NoMemory>
+        ensures { IfOk result (λ goes. then_some goes (exprs_view self.new) ≡ expr.step_spot (holes_view self.old.outer.items) (expr.at_where (expr_view of)) (token_view token.now)) }
+    {
+        let preds = begun(alloc);
+        let selection = Box::new(alloc, Selection { of, preds })?;
+        Ok(self.on_word("where", Spot::InWhere { selection }, token))
     }
-}
 
-/// With the token within a predicate, or behind it.
-pub fn next_where(
-    alloc: Global,
-    outer: Vec<Hole>,
-    of: Expr,
-    preds: Preds,
-    token: Token,
-) -> Result<Option<Exprs>, NoMemory>
-    requires { IsReady (preds_view preds) }
-    ensures { IfOk result (λ next. option_map exprs_view next ≡ expr.next_where (holes_view outer.items) (expr_view of) (preds_view preds) (token_view token)) }
-{
-    if token.is_close() && preds.is_ended() {
-        return end_where(alloc, outer, of, preds);
-    }
-    match preds.step(alloc, token)? {
-        Some(preds) => {
-            let spot = Spot::InWhere { of, preds };
-            Ok(Some(Exprs { outer, spot }))
+    /// Goes behind the parenthesis that stands behind a predicate.
+    fn end_where(&mut self, alloc: Global, selection: Box<Selection>) -> Result<bool, NoMemory>
+        requires { IsReady (preds_view selection.value.preds) }
+        ensures { IfOk result (λ goes. then_some goes (exprs_view self.new) ≡ option_and_then (expr.close (holes_view self.old.outer.items)) (expr.selected (expr_view selection.value.of) (preds_view selection.value.preds))) }
+    {
+        match selected(alloc, selection)? {
+            Some(read) => self.close(alloc, read),
+            None => Ok(false),
         }
-        None => Ok(None),
+    }
+
+    /// Goes behind the token within a predicate, or behind it.
+    pub fn next_where(
+        &mut self,
+        alloc: Global,
+        selection: Box<Selection>,
+        token: Token,
+    ) -> Result<bool, NoMemory>
+        requires { IsReady (preds_view selection.value.preds) }
+        ensures { IfOk result (λ goes. then_some goes (exprs_view self.new) ≡ expr.next_where (holes_view self.old.outer.items) (expr_view selection.value.of) (preds_view selection.value.preds) (token_view token)) }
+    {
+        if token.is_close() && selection.preds.is_ended() {
+            return self.end_where(alloc, selection);
+        }
+        let mut selection = selection;
+        let goes = selection.preds.step(alloc, token)?;
+        self.spot = Spot::InWhere { selection };
+        Ok(goes)
     }
 }

@@ -1,175 +1,141 @@
 //! A predicate that is being read, within a part.
-ghost use Rattle.std.specs.Prelude.{◌≡◌, ◌≤◌, ◌∷◌, IfOk, option_map, Some};
+ghost use Rattle.std.specs.Prelude.{◌≡◌, ◌≤◌, ◌∷◌, IfOk, OnOk};
+ghost use Rattle.std.specs.Bool.{then_some};
 ghost use Rattle.lens_pred.specs.Op.{op_view};
 ghost use Rattle.view_lang.specs.TokenViews.{token_view};
 ghost use Rattle.grammar_laws.specs.PredParse as pred;
-ghost use Rattle.view_lang.specs.PredViews.{open_view, opens_view, place_view, preds_view};
+ghost use Rattle.view_lang.specs.PredViews.{open_view, opens_view, preds_view};
 
 use crate::joining::constant;
-use crate::preds::{Level, Place, Preds, add, fresh, inside};
+use crate::preds::{Place, Preds, fresh};
 use crate::token::Token;
 use lens_pred::{Formula, Op, Values};
 use lens_values::{Name, NoMemory, Value};
 use std::alloc::Global;
+use std::mem;
 
-/// One predicate more whose parenthesis is open.
-#[tactic(auto, using(crate::proofs::Opens::opened_view))]
-fn opened(alloc: Global, outer: Vec<Level>, level: Level) -> Result<Option<Preds>, NoMemory>
-    ensures { IfOk result (λ next. option_map preds_view next ≡ Some (pred.inside (open_view level ∷ opens_view outer.items) pred.fresh pred.at_part)) }
-{
-    let mut outer = outer;
-    outer.push(level)?;
-    Ok(Some(Preds::Inside {
-        outer,
-        level: fresh(alloc),
-        place: Place::Part,
-    }))
-}
+impl Preds {
+    /// Goes behind a parenthesis that opens a predicate.
+    #[tactic(auto, using(crate::proofs::Opens::opened_view))]
+    fn open(&mut self, alloc: Global) -> Result<(), NoMemory>
+        ensures { OnOk result (preds_view self.new ≡ pred.inside (open_view self.old.level ∷ opens_view self.old.outer.items) pred.fresh pred.at_part) }
+    {
+        let level = mem::replace(&mut self.level, fresh(alloc));
+        self.outer.push(level)?;
+        self.place = Place::Part;
+        Ok(())
+    }
 
-/// With a "not" more before the part.
-fn with_not(level: Level) -> Level
-    requires { level.nots ≤ 32 }
-    ensures { open_view result ≡ pred.with_not (open_view level) }
-{
-    let Level { ors, ands, nots } = level;
-    Level {
-        ors,
-        ands,
-        nots: nots + 1,
+    /// Goes behind the token where a part begins.
+    pub fn begin_part(&mut self, alloc: Global, token: &Token) -> Result<bool, NoMemory>
+        requires { self.old.level.nots ≤ 32 }
+        ensures { IfOk result (λ goes. then_some goes (preds_view self.new) ≡ pred.begin_part (opens_view self.old.outer.items) (open_view self.old.level) (token_view token.now)) }
+    {
+        if let Some(col) = token.name() {
+            self.place = Place::Compared { col };
+            return Ok(true);
+        }
+        if let Some(flag) = token.flag() {
+            self.add(alloc, constant(flag))?;
+            return Ok(true);
+        }
+        if token.is_keyword("not") {
+            self.level.nots += 1;
+            self.place = Place::Part;
+            return Ok(true);
+        }
+        if token.is_open() {
+            self.open(alloc)?;
+            return Ok(true);
+        }
+        Ok(false)
     }
-}
 
-/// With the token where a part begins.
-fn begin_part(
-    alloc: Global,
-    outer: Vec<Level>,
-    level: Level,
-    token: Token,
-) -> Result<Option<Preds>, NoMemory>
-    requires { level.nots ≤ 32 }
-    ensures { IfOk result (λ next. option_map preds_view next ≡ pred.begin_part (opens_view outer.items) (open_view level) (token_view token)) }
-{
-    if let Some(col) = token.name() {
-        return Ok(inside(outer, level, Place::Compared { col }));
+    /// Goes behind the token that stands behind a column.
+    pub fn behind_name(&mut self, col: Name, token: &Token) -> bool
+        ensures { then_some result (preds_view self.new) ≡ pred.behind_name (opens_view self.old.outer.items) (open_view self.old.level) col (token_view token.now) }
+    {
+        if let Some(op) = token.op() {
+            self.place = Place::Against { col, op };
+            return true;
+        }
+        if token.is_keyword("in") {
+            self.place = Place::InOpen { col };
+            return true;
+        }
+        false
     }
-    if let Some(flag) = token.flag() {
-        return add(alloc, outer, level, constant(flag));
-    }
-    if token.is_keyword("not") {
-        return Ok(inside(outer, with_not(level), Place::Part));
-    }
-    if token.is_open() {
-        return opened(alloc, outer, level);
-    }
-    Ok(None)
-}
 
-/// With the token behind a column.
-fn behind_name(outer: Vec<Level>, level: Level, col: Name, token: Token) -> Option<Preds>
-    ensures { option_map preds_view result ≡ pred.behind_name (opens_view outer.items) (open_view level) col (token_view token) }
-{
-    if let Some(op) = token.op() {
-        return inside(outer, level, Place::Against { col, op });
+    /// Goes behind the token that stands behind the sign of a comparison.
+    pub fn behind_op(
+        &mut self,
+        alloc: Global,
+        col: Name,
+        op: Op,
+        token: Token,
+    ) -> Result<bool, NoMemory>
+        ensures { IfOk result (λ goes. then_some goes (preds_view self.new) ≡ pred.behind_op (opens_view self.old.outer.items) (open_view self.old.level) col (op_view op) (token_view token)) }
+    {
+        if let Some(other) = token.name() {
+            self.add(alloc, Formula::CompareCols { col, op, other })?;
+            return Ok(true);
+        }
+        let Some(value) = token.into_literal() else {
+            return Ok(false);
+        };
+        self.add(alloc, Formula::Compare { col, op, value })?;
+        Ok(true)
     }
-    if token.is_keyword("in") {
-        return inside(outer, level, Place::InOpen { col });
-    }
-    None
-}
 
-/// With the token behind the sign of a comparison.
-fn behind_op(
-    alloc: Global,
-    outer: Vec<Level>,
-    level: Level,
-    col: Name,
-    op: Op,
-    token: Token,
-) -> Result<Option<Preds>, NoMemory>
-    ensures { IfOk result (λ next. option_map preds_view next ≡ pred.behind_op (opens_view outer.items) (open_view level) col (op_view op) (token_view token)) }
-{
-    if let Some(other) = token.name() {
-        return add(alloc, outer, level, Formula::CompareCols { col, op, other });
+    /// Goes behind the token that stands behind "in".
+    pub fn open_values(&mut self, alloc: Global, col: Name, token: &Token) -> bool
+        ensures { then_some result (preds_view self.new) ≡ pred.step_inside (opens_view self.old.outer.items) (open_view self.old.level) (pred.in_open col) (token_view token.now) }
+    {
+        if !token.is_open() {
+            return false;
+        }
+        let values = Vec::new(alloc);
+        self.place = Place::InValue { col, values };
+        true
     }
-    match token.into_literal() {
-        Some(value) => add(alloc, outer, level, Formula::Compare { col, op, value }),
-        None => Ok(None),
-    }
-}
 
-/// With the token behind "in".
-fn open_values(
-    alloc: Global,
-    outer: Vec<Level>,
-    level: Level,
-    col: Name,
-    token: &Token,
-) -> Option<Preds>
-    ensures { option_map preds_view result ≡ pred.step_inside (opens_view outer.items) (open_view level) (pred.in_open col) (token_view token.now) }
-{
-    if !token.is_open() {
-        return None;
+    /// Goes behind the token where a value is to stand.
+    pub fn next_value(
+        &mut self,
+        col: Name,
+        values: Vec<Value>,
+        token: Token,
+    ) -> Result<bool, NoMemory>
+        ensures { IfOk result (λ goes. then_some goes (preds_view self.new) ≡ pred.step_inside (opens_view self.old.outer.items) (open_view self.old.level) (pred.in_value col values.items) (token_view token)) }
+    {
+        let Some(value) = token.into_literal() else {
+            return Ok(false);
+        };
+        let mut values = values;
+        values.push(value)?;
+        self.place = Place::InNext { col, values };
+        Ok(true)
     }
-    let values = Vec::new(alloc);
-    inside(outer, level, Place::InValue { col, values })
-}
 
-/// With the token where a value is to stand.
-fn next_value(
-    outer: Vec<Level>,
-    level: Level,
-    col: Name,
-    values: Vec<Value>,
-    token: Token,
-) -> Result<Option<Preds>, NoMemory>
-    ensures { IfOk result (λ next. option_map preds_view next ≡ pred.step_inside (opens_view outer.items) (open_view level) (pred.in_value col values.items) (token_view token)) }
-{
-    let Some(value) = token.into_literal() else {
-        return Ok(None);
-    };
-    let mut values = values;
-    values.push(value)?;
-    Ok(inside(outer, level, Place::InNext { col, values }))
-}
-
-/// With the token behind a value.
-fn end_value(
-    alloc: Global,
-    outer: Vec<Level>,
-    level: Level,
-    col: Name,
-    values: Vec<Value>,
-    token: Token,
-) -> Result<Option<Preds>, NoMemory>
-    ensures { IfOk result (λ next. option_map preds_view next ≡ pred.step_inside (opens_view outer.items) (open_view level) (pred.in_next col values.items) (token_view token)) }
-{
-    if token.is_comma() {
-        return Ok(inside(outer, level, Place::InValue { col, values }));
-    }
-    if token.is_close() {
-        let values = Values::new(values);
-        return add(alloc, outer, level, Formula::OneOf { col, values });
-    }
-    Ok(None)
-}
-
-/// With the next token within a part.
-pub fn step_inside(
-    alloc: Global,
-    outer: Vec<Level>,
-    level: Level,
-    place: Place,
-    token: Token,
-) -> Result<Option<Preds>, NoMemory>
-    requires { level.nots ≤ 32 }
-    ensures { IfOk result (λ next. option_map preds_view next ≡ pred.step_inside (opens_view outer.items) (open_view level) (place_view place) (token_view token)) }
-{
-    match place {
-        Place::Part => begin_part(alloc, outer, level, token),
-        Place::Compared { col } => Ok(behind_name(outer, level, col, token)),
-        Place::Against { col, op } => behind_op(alloc, outer, level, col, op, token),
-        Place::InOpen { col } => Ok(open_values(alloc, outer, level, col, &token)),
-        Place::InValue { col, values } => next_value(outer, level, col, values, token),
-        Place::InNext { col, values } => end_value(alloc, outer, level, col, values, token),
+    /// Goes behind the token that stands behind a value.
+    pub fn end_value(
+        &mut self,
+        alloc: Global,
+        col: Name,
+        values: Vec<Value>,
+        token: Token,
+    ) -> Result<bool, NoMemory>
+        ensures { IfOk result (λ goes. then_some goes (preds_view self.new) ≡ pred.step_inside (opens_view self.old.outer.items) (open_view self.old.level) (pred.in_next col values.items) (token_view token)) }
+    {
+        if token.is_comma() {
+            self.place = Place::InValue { col, values };
+            return Ok(true);
+        }
+        if token.is_close() {
+            let values = Values::new(values);
+            self.add(alloc, Formula::OneOf { col, values })?;
+            return Ok(true);
+        }
+        Ok(false)
     }
 }

@@ -1,7 +1,7 @@
 use Rattle.std.proofs.Common.{◌-◌, length}
 use Rattle.view_lang.specs.DefViews.{parse_view}
 use Rattle.view_lang.proofs.ReadFrom.{IsRead}
-use Rattle.view_lang.proofs.reading.read.Given as goal
+use Rattle.view_lang.proofs.reading.read_tokens.Given as goal
 
 abbrev pub invariant-loop-at : goal.invariant-loop-at
 invariant-loop-at l = IsRead l.text l.at (parse_view l.parse)
