@@ -1,0 +1,3 @@
+pub mod Pastes
+pub mod Reached
+pub mod Runs

@@ -1,0 +1,67 @@
+//! Revision of rows and of relations, and merges.
+ghost use Rattle.std.specs.Prelude.{◌≡◌, IfOk, true};
+ghost use Rattle.lens_values.specs.SortedSet as set;
+ghost use Rattle.lens_specs.specs.Dependencies.{MeetsTree};
+ghost use Rattle.lens_specs.specs.Relation.{Fits};
+ghost use Rattle.lens_specs.specs.Revision as spec;
+ghost use Rattle.lens_specs.specs.TreeForm.{outputs};
+ghost use Rattle.lens_laws.specs.Trees.{IsTree};
+ghost use Rattle.revision.specs.Changes.{ChangesOnly, SameOutside};
+
+use crate::steps::{all_along, one_along};
+use fd_tree::Tree;
+use lens_values::{NoMemory, Row, copied};
+use row_sets::{Relation, RowSet};
+use std::alloc::Global;
+
+/// The row with what the revising rows say, along each edge in turn: the values on the right side of the first revising row
+/// that has the same on the left side. No column outside the outputs changes.
+pub fn revise_row(alloc: Global, tree: &Tree, row: &Row, by: &RowSet) -> Result<Row, NoMemory>
+    ensures value { IfOk result (λ revised. revised ≡ spec.revise_row tree.now row.now by.now) }
+    ensures keeps { IfOk result (λ revised. SameOutside (outputs tree.now) revised row.now) }
+{
+    let mut revised = row.copy(alloc)?;
+    for edge in tree.edges() {
+        revised = one_along(alloc, edge, &revised, by)?;
+    }
+    Ok(revised)
+}
+
+/// Each row of the relation revised by rows over its columns. Where the relation meets the tree, no two of its
+/// rows become one, so the result has as many.
+pub fn revise(
+    alloc: Global,
+    tree: &Tree,
+    relation: &Relation,
+    by: &RowSet,
+) -> Result<Relation, NoMemory>
+    requires { (row : _) → set.contains by.now row ≡ true → Fits relation.now.columns row }
+    ensures value { IfOk result (λ revised. revised ≡ record relation.now { rows = spec.revise tree.now relation.now.rows by.now }) }
+    ensures keeps { IfOk result (λ revised. ChangesOnly (outputs tree.now) relation.now.rows revised.rows) }
+    ensures as_many { IfOk result (λ revised. IsTree tree.now → MeetsTree relation.now.rows tree.now → set.len revised.rows ≡ set.len relation.now.rows) }
+{
+    relation.rows_fit();
+    let mut rows = copied(alloc, relation.rows().rows())?;
+    for edge in tree.edges() {
+        rows = all_along(alloc, edge, &rows, by)?;
+    }
+    let columns = relation.columns().copy(alloc)?;
+    Ok(Relation::with_rows(columns, RowSet::new(alloc, rows)?))
+}
+
+/// The revised rows of the relation, and the revising ones, which have the same columns. Where both relations meet the
+/// tree, so does the merge.
+pub fn merge(
+    alloc: Global,
+    tree: &Tree,
+    relation: &Relation,
+    by: &Relation,
+) -> Result<Relation, NoMemory>
+    requires { by.now.columns ≡ relation.now.columns }
+    ensures value { IfOk result (λ merged. merged ≡ record relation.now { rows = spec.merge tree.now relation.now.rows by.now.rows }) }
+    ensures meets { IfOk result (λ merged. IsTree tree.now → MeetsTree relation.now.rows tree.now → MeetsTree by.now.rows tree.now → MeetsTree merged.rows tree.now) }
+{
+    by.rows_fit();
+    let revised = revise(alloc, tree, relation, by.rows())?;
+    revised.union(alloc, by)
+}
