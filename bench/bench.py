@@ -67,15 +67,22 @@ def must_begin(reply, start):
         raise SystemExit(f"not what was expected: {reply[:200]!r}")
 
 
-def timed(server, steps):
-    """The lines, each with how its reply is to begin: what each takes in ms, and the peak memory after it in MB."""
+def timed(server, steps, times=1, digits=0):
+    """The lines, each with how its reply is to begin: the mean of what each takes in ms, and the peak memory after it in MB."""
     table = []
     for name, line, start in steps:
-        reply, seconds = server.ask(line)
-        must_begin(reply, start)
-        table.append((name, len(line), f"{seconds * 1000:,.0f} ms", f"{server.peak():,.0f} MB"))
+        total = 0.0
+        for _ in range(times):
+            reply, seconds = server.ask(line)
+            must_begin(reply, start)
+            total += seconds
+        table.append((name, len(line), f"{total / times * 1000:,.{digits}f} ms", f"{server.peak():,.0f} MB"))
     server.end()
     return table
+
+
+def define(text):
+    return ('{"do":"define","text":"' + text + '"}\n').encode()
 
 
 def large(program):
@@ -121,14 +128,11 @@ def chains(program):
     server.ask(b'{"do":"list"}\n')
     columns = ", ".join(f"c{number} int" for number in range(64))
     chain = [f"c{number} -> c{number + 1}" for number in range(63)]
-    table = []
-    for name, deps in [("in_order", chain), ("turned", chain[::-1])]:
-        line = f'{{"do":"define","text":"table {name} ({columns}) with {", ".join(deps)}"}}\n'.encode()
-        reply, seconds = server.ask(line)
-        must_begin(reply, b'{"ok":true')
-        table.append((f"define of 64 columns, a chain of 63 dependencies ({name})", len(line), f"{seconds * 1000:,.1f} ms", f"{server.peak():,.0f} MB"))
-    server.end()
-    return table
+    steps = [
+        (f"define of 64 columns, a chain of 63 dependencies ({name})", define(f"table {name} ({columns}) with {', '.join(deps)}"), b'{"ok":true')
+        for name, deps in [("in_order", chain), ("turned", chain[::-1])]
+    ]
+    return timed(server, steps, digits=1)
 
 
 def long_texts(program):
@@ -141,18 +145,10 @@ def long_texts(program):
         "refused at its last byte": front + ("1," * 4096)[: 4096 - len(front)],
         "of as many columns as it holds": ("table many (" + " int,".join(names))[:4096 - 5].rsplit(",", 1)[0] + ")",
         "of as many ands and ors as it holds": ("view v = select from counts where true" + " and true or true" * 4096)[:4096 - 5].rsplit(" ", 1)[0],
+        "of as many dependencies as it holds": "table twice (a int) with a->a" + ",a->a" * 813,
     }
-    table = []
-    for name, text in texts.items():
-        line = ('{"do":"define","text":"' + text + '"}\n').encode()
-        begin = time.perf_counter()
-        for _ in range(PUTS):
-            reply, _ = server.ask(line)
-            must_begin(reply, b'{"')
-        seconds = (time.perf_counter() - begin) / PUTS
-        table.append((f"define of {len(text):,} bytes, {name}", len(line), f"{seconds * 1000:,.2f} ms", f"{server.peak():,.0f} MB"))
-    server.end()
-    return table
+    steps = [(f"define of {len(text):,} bytes, {name}", define(text), b'{"') for name, text in texts.items()]
+    return timed(server, steps, times=PUTS, digits=2)
 
 
 def longest(program):

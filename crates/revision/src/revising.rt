@@ -27,8 +27,8 @@ pub fn revise_row(alloc: Global, tree: &Tree, row: &Row, by: &RowSet) -> Result<
     Ok(revised)
 }
 
-/// Each row of the relation revised by rows over its columns. Where the relation meets the tree, no two of its
-/// rows become one, so the result has as many.
+/// Each row of the relation revised by rows over its columns. Where the edges are a tree (`IsTree`), as those of
+/// `Tree::of` are, and the relation meets it, no two of its rows become one, so the result has as many.
 pub fn revise(
     alloc: Global,
     tree: &Tree,
@@ -49,8 +49,8 @@ pub fn revise(
     Ok(Relation::with_rows(columns, RowSet::new(alloc, rows)?))
 }
 
-/// The revised rows of the relation, and the revising ones, which have the same columns. Where both relations meet the
-/// tree, so does the merge.
+/// The revised rows of the relation, and the revising ones, which have the same columns. Where the edges are a tree
+/// (`IsTree`), as those of `Tree::of` are, and both relations meet it, so does the merge.
 pub fn merge(
     alloc: Global,
     tree: &Tree,
