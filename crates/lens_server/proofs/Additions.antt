@@ -1,6 +1,6 @@
 -- One definition more: the state after it, and what is kept of it.
 use Rattle.std.proofs.Common.{◌≡◌, ◌∙◌, ◌+◌, ◌≤◌, ℕ, Bool, true, false, List, [], ◌∷◌, ◌++◌, map, ap, sym, subst, refl, cond, arith, append-nil}
-use Rattle.std.specs.Prelude.{Option, Some, None, option_map, option_to_list, is_some, nat_eq, not, ◌&&◌, Ok}
+use Rattle.std.specs.Prelude.{Option, Some, None, option_map, option_to_list, is_some, nat_eq, Ok}
 use Rattle.std.specs.Ordering.{eq_by_cmp}
 use Rattle.std.specs.Cmp.Lexicographic.{nat_list_cmp_total, pointwise, texts_ties}
 use Rattle.std.specs.FinMap as finmap
@@ -12,7 +12,6 @@ use Rattle.lens_specs.specs.Keeping.{Kept, define, changed, CanCommit, Follows, 
 use Rattle.lens_specs.specs.Faults.{Rose}
 use Rattle.grammar_specs.specs.Meaning.{Definition, table, view, Expr}
 use Rattle.lens_specs.specs.Lens as spec
-use Rattle.lens_specs.specs.Names.{Names}
 use Rattle.lens_specs.specs.Dependencies.{Edge}
 use Rattle.lens_specs.specs.TreeForm.{tree_of}
 use Rattle.lens_specs.specs.Lens.{base, select, tree_or_none}
@@ -21,12 +20,12 @@ use Rattle.lens_specs.specs.Sort.{Sort}
 use Rattle.grammar_laws.specs.Reading.{reading}
 use Rattle.server_specs.specs.Answer.{defined, store_fault, text}
 use Rattle.server_specs.specs.Answering.{answer_definition, with_defined, with_text}
-use Rattle.server_specs.specs.State.{State, Catalogue, catalogue, dependent, is_table_of, lens_of, with_definition, with_dependent, with_lens, kept, rows_of_each}
+use Rattle.server_specs.specs.State.{State, Catalogue, catalogue, is_table_of, lens_of, with_definition, with_lens, kept, rows_of_each}
 use Rattle.lens_server.specs.Additions.{IsTaken, SameContents}
-use Rattle.lens_server.specs.Entries.{lens_view, lens_with, sort_under, lens_named, is_table, is_dependent, relation_of, last_of, relation_named, columns_named}
-use Rattle.lens_server.specs.Judgements.{Adds, adds_table, adds_view, IsViewOf, expr_from, is_none_left}
+use Rattle.lens_server.specs.Entries.{lens_view, lens_with, sort_under, lens_named, is_table, relation_of, last_of, relation_named, columns_named}
+use Rattle.lens_server.specs.Judgements.{Adds, adds_table, adds_view, IsViewOf, expr_from}
 use Rattle.lens_server.specs.Outcomes.{Outcome, made, not_kept}
-use Rattle.lens_server.specs.States.{state_of, state_with, IsConsistent, IsPlain, Consistent}
+use Rattle.lens_server.specs.States.{state_of, state_with, IsConsistent, Consistent}
 use Rattle.lens_server.specs.declared.entry.Lens.{Lens}
 use Rattle.lens_server.specs.declared.entry.Entry.{Entry}
 use Rattle.lens_server.specs.declared.addition.Addition.{Addition}
@@ -37,7 +36,7 @@ use Rattle.lens_server.proofs.Growing.{map_more, map-push, none_any}
 use Rattle.lens_server.proofs.Places.{same_name}
 use Rattle.lens_server.proofs.Sources.{table_selects_nothing}
 use Rattle.lens_server.proofs.Views.{in_catalogue}
-use Rattle.lens_server.proofs.Larger.{itself, relation_last, columns_more, AlsoHas, unmoved, dependent_deps, consistent_more}
+use Rattle.lens_server.proofs.Larger.{itself, relation_last, columns_more, consistent_more}
 
 -- ---- the state, and what is kept
 
@@ -126,32 +125,15 @@ outcome_grown old new said e more definition contents contents' count count' rep
       err = tt;
     }
 
--- a list of dependencies that is empty has no tree
-no_edges : (deps : List Edge) → not (is_none_left deps) ≡ false → tree_or_none (tree_of deps) ≡ []
-unfolding tree_of
-no_edges [] e = refl
-no_edges (d ∷ ds) e = cc
-
 -- a table's lens
 abbrev table_entry : Name → Columns → List Edge → Predicate → Entry
 table_entry name U deps P = record {
   name = name;
-  lens = record { table = name; columns = U; pred = P; tree = tree_or_none (tree_of deps); dependent = not (is_none_left deps); selected = None };
+  lens = record { table = name; columns = U; pred = P; tree = tree_or_none (tree_of deps); selected = None };
 }
-
-plain_table : (name : Name) (U : Columns) (deps : List Edge) (P : Predicate) → IsPlain (table_entry name U deps P).lens
-plain_table name U deps P = record { tree = no_edges deps; view = λ e. cc }
 
 own_name : (name : Name) → pointwise nat_eq name name ≡ true
 own_name name = texts_ties name name ∙ itself name
-
-lacking : (store : Store) (name : Name) → Consistent store → lens_named store.entries.items name ≡ None → set.contains (dependent store.texts.items) name ≡ false
-lacking store name c free = c.dependents name ∙ ap (is_dependent name) free
-
-dependent_table : (old : Names) (name : Name) (U : Columns) (deps : List Edge) (P : Predicate) → set.contains old name ≡ false
-    → AlsoHas old name (is_dependent name (Some (table_entry name U deps P).lens)) (with_dependent (Ok (table name U deps P)) old)
-dependent_table old name U deps P lacks =
-    subst (λ b. AlsoHas old name b (with_dependent (Ok (table name U deps P)) old)) (ap (λ t. t && not (is_none_left deps)) (sym (own_name name))) (dependent_deps old name U deps P lacks)
 
 outcome_table : (old new : Store) (said : List ℕ) (name : Name) (U : Columns) (deps : List Edge) (P : Predicate) (contents contents' : Option Kept) (count count' : ℕ) (reply : List ℕ)
     → Grows old new said (table_entry name U deps P) (Some (record { name = name; relation = record { columns = U; rows = set.empty }; last = old.version + 1 }))
@@ -165,11 +147,8 @@ outcome_table old new said name U deps P contents contents' count count' reply g
     let none : relation_named old.tables.items name ≡ None = c.defined name free in
     let source : columns_named (old.tables.items ++ t ∷ []) name ≡ Some U =
     ap (option_map (λ r. r.columns)) (relation_last old.tables.items t name none ∙ ap (λ b. cond b (Some t.relation) None) (itself name)) in
-    let also : AlsoHas (dependent old.texts.items) name (is_dependent name (Some e.lens)) (with_dependent (reading said) (dependent old.texts.items)) =
-    subst (λ o. AlsoHas (dependent old.texts.items) name (is_dependent name (Some e.lens)) (with_dependent o (dependent old.texts.items))) (sym read)
-    (dependent_table (dependent old.texts.items) name U deps P (lacking old name c free)) in
     outcome_grown old new said e (Some t) (table name U deps P) contents contents' count count' reply g
-    (consistent_more old.texts.items old.entries.items old.tables.items said e (Some t) c free (ap (λ o. with_definition o (catalogue old.texts.items)) read) also (plain_table name U deps P) refl (own_name name) source size)
+    (consistent_more old.texts.items old.entries.items old.tables.items said e (Some t) c free (ap (λ o. with_definition o (catalogue old.texts.items)) read) refl (own_name name) source size)
     (state_table old.texts.items old.tables.items old.version said t none refl)
     (λ j. record { texts = old.texts.items ++ said ∷ []; rows = sym (kept_insert (state_of old).tables name t.relation) j })
     told follows later is
@@ -218,12 +197,8 @@ outcome_view old new said name expr lens contents contents' count count' reply g
     let defines : with_definition (reading said) (catalogue old.texts.items) ≡ finmap.insert (catalogue old.texts.items) name (lens_view lens) =
     ap (λ o. with_definition o (catalogue old.texts.items)) read ∙ ap (λ o. with_lens name o (catalogue old.texts.items)) lensed in
     let other : is_table name lens ≡ false = ap (is_table name) v.over ∙ no_table old.entries.items name v.from source k free v.found v.table in
-    let also : AlsoHas (dependent old.texts.items) name (is_dependent name (Some lens)) (with_dependent (reading said) (dependent old.texts.items)) =
-    subst (λ o. AlsoHas (dependent old.texts.items) name (is_dependent name (Some lens)) (with_dependent o (dependent old.texts.items))) (sym read)
-    (subst (λ t. AlsoHas (dependent old.texts.items) name (t && lens.dependent) (dependent old.texts.items)) (sym other) (unmoved (dependent old.texts.items) name (lacking old name c free))) in
-    let plain : IsPlain (record source { selected = k }) = record { tree = (c.plain v.from source v.found).tree; view = v.plain } in
     outcome_grown old new said e None (view name expr) contents contents' count count' reply g
-    (consistent_more old.texts.items old.entries.items old.tables.items said e None c free defines also (subst IsPlain (sym v.over) plain) tt other
+    (consistent_more old.texts.items old.entries.items old.tables.items said e None c free defines tt other
     (subst (λ l. columns_named (old.tables.items ++ []) l.table ≡ Some l.columns) (sym v.over)
     (columns_more old.tables.items None source.table source.columns (c.sources v.from source v.found)))
     (subst (λ l. finmap.len l.columns ≤ 64) (sym v.over) (c.sizes v.from source v.found)))

@@ -110,8 +110,6 @@ consistent_set texts entries name ts i t r v at stands is same c = record {
   names = c.names;
   sources = λ n lens e. columns_set name ts i t r v at stands is same lens.table ∙ c.sources n lens e;
   sizes = c.sizes;
-  plain = c.plain;
-  dependents = c.dependents;
   defined = λ n e. none_set name ts i (record t { relation = r; last = v }) at is n (c.defined n e);
   tables_are = c.tables_are ∙ sym (length-set ts i (record t { relation = r; last = v }));
   views_are = ap (λ n. view_count (catalogue texts) + n) (length-set ts i (record t { relation = r; last = v })) ∙ c.views_are;

@@ -1,31 +1,24 @@
 -- Names and tables with one more: that the store stays consistent.
 use Rattle.std.proofs.Common.{◌≡◌, ◌∙◌, ◌+◌, ◌≤◌, ℕ, suc, Bool, true, false, List, [], ◌∷◌, ◌++◌, length, map, ap, sym, subst, refl, cond, arith, append-nil, length-append}
-use Rattle.std.specs.Prelude.{Option, Some, None, option_map, option_to_list, is_some, not, ◌||◌, Ok, if◌then◌else◌}
+use Rattle.std.specs.Prelude.{Option, Some, None, option_map, option_to_list, is_some, not, if◌then◌else◌}
 use Rattle.std.specs.Ordering.{eq_by_cmp, is_eq}
 use Rattle.std.specs.Cmp.{tied_itself}
 use Rattle.std.specs.Cmp.Lexicographic.{nat_list_cmp_total}
 use Rattle.std.specs.FinMap as finmap
 use Rattle.lens_values.specs.Order.{bytes_cmp}
-use Rattle.lens_values.specs.SortedSet as set
 use Rattle.lens_specs.specs.Relation.{Name, Relation, Columns}
-use Rattle.grammar_specs.specs.Meaning.{table}
 use Rattle.lens_specs.specs.Lens as spec
-use Rattle.lens_specs.specs.Names.{Names}
-use Rattle.lens_specs.specs.Dependencies.{Edge}
 use Rattle.lens_specs.specs.Lens.{base, select, tree_or_none}
-use Rattle.lens_specs.specs.Predicate.{Predicate}
 use Rattle.grammar_laws.specs.Reading.{reading}
 use Rattle.server_specs.specs.Defining.{table_count, view_count}
-use Rattle.server_specs.specs.State.{Catalogue, catalogue, dependent, is_table_of, with_definition, with_dependent}
-use Rattle.server_specs.proofs.Catalogues.{catalogue-push, dependent-after}
-use Rattle.lens_server.specs.Entries.{named as entry_named, entry_view, lens_view, lens_named, is_dependent, relation_of, relation_named, columns_named}
-use Rattle.lens_server.specs.Judgements.{is_none_left}
-use Rattle.lens_server.specs.States.{IsConsistent, IsPlain}
+use Rattle.server_specs.specs.State.{Catalogue, catalogue, is_table_of, with_definition}
+use Rattle.server_specs.proofs.Catalogues.{catalogue-push}
+use Rattle.lens_server.specs.Entries.{named as entry_named, entry_view, lens_view, lens_named, relation_of, relation_named, columns_named}
+use Rattle.lens_server.specs.States.{IsConsistent}
 use Rattle.lens_server.specs.declared.entry.Lens.{Lens}
 use Rattle.lens_server.specs.declared.entry.Entry.{Entry}
 use Rattle.lens_server.specs.declared.table.Table.{Table}
 use Rattle.lens_server.proofs.Growing.{found_still, found_last, map_more, map-push, count_more}
-use Rattle.lens_server.proofs.Places.{same_name}
 use Rattle.lens_server.proofs.Views.{found_view}
 
 pub itself : (t : Name) → eq_by_cmp bytes_cmp t t ≡ true
@@ -114,54 +107,13 @@ views_counted known name lens ts n (Some t) new counts e =
     count_more (λ n l. not (is_table_of n l)) known name lens new ∙ ap (λ b. if not b then suc (view_count known) else view_count known) counts in
     omega (arith, c, e, length-append ts (t ∷ []))
 
--- ---- tables with dependencies
-
--- the names of the set, and this one, if the flag says so
-abbrev pub AlsoHas : Names → Name → Bool → Names → Type 0
-AlsoHas old name flag new = (q : Name) → set.contains new q ≡ cond (eq_by_cmp bytes_cmp q name) flag (set.contains old q)
-
-either_flag : (b there : Bool) → (b || there) ≡ cond b true there
-either_flag true there = refl
-either_flag false there = refl
-
--- a name that the set lacks is still lacking
-pub unmoved : (old : Names) (name : Name) → set.contains old name ≡ false → AlsoHas old name false old
-unmoved old name lacks q = elim (eq_by_cmp bytes_cmp q name) as (λ b. eq_by_cmp bytes_cmp q name ≡ b → set.contains old q ≡ cond b false (set.contains old q)) [
-  | true ↦ λ e. ap (set.contains old) (same_name q name e) ∙ lacks
-  | false ↦ λ e. refl
-] refl
-
-pub dependent_deps : (old : Names) (name : Name) (columns : Columns) (deps : List Edge) (predicate : Predicate) → set.contains old name ≡ false
-    → AlsoHas old name (not (is_none_left deps)) (with_dependent (Ok (table name columns deps predicate)) old)
-dependent_deps old name columns [] predicate lacks = unmoved old name lacks
-dependent_deps old name columns (d ∷ ds) predicate lacks = λ q. set.contains-insert nat_list_cmp_total old name q ∙ either_flag (eq_by_cmp bytes_cmp q name) (set.contains old q)
-
--- the tables with dependencies are those of the names, with one name more
-dependents_more : (es : List Entry) (e : Entry) (old new : Names) → lens_named es e.name ≡ None → AlsoHas old e.name (is_dependent e.name (Some e.lens)) new
-    → ((q : Name) → set.contains old q ≡ is_dependent q (lens_named es q)) → (q : Name) → set.contains new q ≡ is_dependent q (lens_named (es ++ e ∷ []) q)
-dependents_more es e old new none also h q = also q ∙ ap (cond (eq_by_cmp bytes_cmp q e.name) (is_dependent e.name (Some e.lens))) (h q) ∙ by_lens (lens_named es q) refl
-  where
-    by_new : (b : Bool) → eq_by_cmp bytes_cmp q e.name ≡ b → cond b (is_dependent e.name (Some e.lens)) false ≡ is_dependent q (cond b (Some e.lens) None)
-    by_new true t = ap (λ n. is_dependent n (Some e.lens)) (sym (same_name q e.name t))
-    by_new false t = refl
-
-    by_lens : (o : Option Lens) → lens_named es q ≡ o
-        → cond (eq_by_cmp bytes_cmp q e.name) (is_dependent e.name (Some e.lens)) (is_dependent q o) ≡ is_dependent q (lens_named (es ++ e ∷ []) q)
-    by_lens None is = by_new (eq_by_cmp bytes_cmp q e.name) refl ∙ ap (is_dependent q) (sym (named_last es e q is))
-    by_lens (Some m) is = by_test (eq_by_cmp bytes_cmp q e.name) refl ∙ ap (is_dependent q) (sym (named_still es e q m is))
-      where
-        by_test : (b : Bool) → eq_by_cmp bytes_cmp q e.name ≡ b → cond b (is_dependent e.name (Some e.lens)) (is_dependent q (Some m)) ≡ is_dependent q (Some m)
-        by_test true t = let clash : None ≡ Some m = sym none ∙ ap (lens_named es) (sym (same_name q e.name t)) ∙ is in cc
-        by_test false t = refl
-
 -- ---- consistent
 
 pub consistent_more : (texts : List (List ℕ)) (es : List Entry) (ts : List Table) (said : List ℕ) (e : Entry) (more : Option Table) → IsConsistent texts es ts
     → lens_named es e.name ≡ None → with_definition (reading said) (catalogue texts) ≡ finmap.insert (catalogue texts) e.name (lens_view e.lens)
-    → AlsoHas (dependent texts) e.name (is_dependent e.name (Some e.lens)) (with_dependent (reading said) (dependent texts)) → IsPlain e.lens
     → HasName e.name more → Counts e.name (lens_view e.lens) more → columns_named (ts ++ option_to_list more) e.lens.table ≡ Some e.lens.columns → finmap.len e.lens.columns ≤ 64
     → IsConsistent (texts ++ said ∷ []) (es ++ e ∷ []) (ts ++ option_to_list more)
-consistent_more texts es ts said e more c new defines also plain has counts source size =
+consistent_more texts es ts said e more c new defines has counts source size =
     let grown : catalogue (texts ++ said ∷ []) ≡ finmap.insert (catalogue texts) e.name (lens_view e.lens) = catalogue-push texts said ∙ defines in
     let absent : finmap.find bytes_cmp e.name (map entry_view es) ≡ None = found_view e.name es ∙ ap (option_map lens_view) new in
     let unknown : finmap.get (catalogue texts) e.name ≡ None = ap (λ m. finmap.get m e.name) c.names ∙ finmap.get-from_entries nat_list_cmp_total (map entry_view es) e.name ∙ absent in
@@ -170,9 +122,6 @@ consistent_more texts es ts said e more c new defines also plain has counts sour
       sources = λ q l. one_of_both es e q l (λ m. columns_named (ts ++ option_to_list more) m.table ≡ Some m.columns)
           (λ m f. columns_more ts more m.table m.columns (c.sources q m f)) (λ _. source) (lens_named es q) refl;
       sizes = λ q l. one_of_both es e q l (λ m. finmap.len m.columns ≤ 64) (λ m f. c.sizes q m f) (λ _. size) (lens_named es q) refl;
-      plain = λ q l. one_of_both es e q l IsPlain (λ m f. c.plain q m f) (λ _. plain) (lens_named es q) refl;
-      dependents = λ q. ap (λ names. set.contains names q) (dependent-after texts said)
-          ∙ dependents_more es e (dependent texts) (with_dependent (reading said) (dependent texts)) new also c.dependents q;
       defined = defined_more es ts e more has c.defined;
       tables_are = ap table_count grown ∙ tables_counted (catalogue texts) e.name (lens_view e.lens) ts more unknown counts c.tables_are;
       views_are = ap (λ m. view_count m + length (ts ++ option_to_list more)) grown ∙ views_counted (catalogue texts) e.name (lens_view e.lens) ts (length es) more unknown counts c.views_are

@@ -1,17 +1,13 @@
 -- The sort of a table, or of a selection, by what its parts are refused for.
 use Rattle.std.proofs.Common.{◌≡◌, ◌∙◌, ◌≤◌, ◌+◌, ℕ, List, [], ◌∷◌, ◌++◌, ap, sym, refl, arith}
-use Rattle.std.specs.Prelude.{◌≢◌, Option, Some, None, option_map, Result, Ok, Err, not, nat_le, find}
-use Rattle.std.specs.Cmp.Lexicographic.{nat_list_cmp_total}
+use Rattle.std.specs.Prelude.{◌≢◌, Option, Some, None, option_map, Result, Ok, Err, not, nat_le}
 use Rattle.std.specs.FinMap as finmap
-use Rattle.std.specs.List.Sorted.{IsStrictlySortedBy}
 use Rattle.std.proofs.lemmas.Bool.{le-leb}
-use Rattle.lens_values.specs.Order.{bytes_cmp}
-use Rattle.lens_values.specs.SortedSet as set
 use Rattle.lens_specs.specs.Names.{Name, Names}
 use Rattle.lens_specs.specs.Columns.{Columns}
 use Rattle.lens_specs.specs.Dependencies.{Edge}
 use Rattle.lens_specs.specs.Lens.{tree_or_none}
-use Rattle.lens_specs.specs.Predicate.{Predicate, mentions, predicate_nodes, formula_nodes}
+use Rattle.lens_specs.specs.Predicate.{Predicate, predicate_nodes, formula_nodes}
 use Rattle.lens_specs.specs.Refusal as refusal
 use Rattle.lens_specs.specs.Refusal.{Refusal, unknown_column, or_else, unknown_name, unlike_kinds, least_mentioned, when, predicate_limit}
 use Rattle.lens_specs.specs.Sort.{Sort}
@@ -119,22 +115,25 @@ pub nodes_both : (P Q : Predicate) → predicate_nodes (P ++ Q) ≡ predicate_no
 nodes_both [] Q = omega arith
 nodes_both (f ∷ fs) Q = ap (λ n. formula_nodes f + n) (nodes_both fs Q) ∙ nodes_regrouped (formula_nodes f) (predicate_nodes fs) (predicate_nodes Q)
 
-no_items : set.items {R = bytes_cmp} set.empty ≡ []
-unfolding IsStrictlySortedBy
-no_items = set.items-from_list nat_list_cmp_total [] tt
-
-nothing_mentioned : (Q : Predicate) → least_mentioned Q (outputs []) ≡ None
-unfolding outputs
-nothing_mentioned Q = ap (find (mentions Q)) no_items
-
-fault_of_size : (U : Columns) (Q P : Predicate) → unknown_name U P ≡ None → unlike_kinds U P ≡ None → finmap.len U ≤ 64
-    → select_fault 2 (sort_from U Q []) P ≡ when (not (nat_le (predicate_nodes Q + predicate_nodes P) 256)) (refusal.too_large predicate_limit)
-fault_of_size U Q P known like columns =
-    rw (known, like, nothing_mentioned Q, le-leb (finmap.len U) 64 columns) (ap (λ n. when (not (nat_le n 256)) (refusal.too_large predicate_limit)) (nodes_both Q P))
-
--- a selection of a table with no edges that suits the columns is refused only for its size
-pub selection_fault : (U : Columns) (Q P : Predicate) (T : List Edge) → T ≡ [] → checked U P ≡ Ok tt → finmap.len U ≤ 64
-    → select_fault 2 (sort_from U Q T) P ≡ when (not (nat_le (predicate_nodes Q + predicate_nodes P) 256)) (refusal.too_large predicate_limit)
-selection_fault U Q P T none e columns =
+-- what remains to be refused of a selection whose predicate suits the columns
+sized : (U : Columns) (Q P : Predicate) (T : List Edge) → checked U P ≡ Ok tt → finmap.len U ≤ 64
+    → select_fault 2 (sort_from U Q T) P
+    ≡ or_else (option_map refusal.source_mentions_output (least_mentioned Q (outputs T))) (when (not (nat_le (predicate_nodes Q + predicate_nodes P) 256)) (refusal.too_large predicate_limit))
+sized U Q P T e columns =
     let w = passed (unknown_name U P) (unlike_kinds U P) e in
-    ap (λ es. select_fault 2 (sort_from U Q es) P) none ∙ fault_of_size U Q P w.0 w.1 columns
+    rw (w.0, w.1, le-leb (finmap.len U) 64 columns)
+    (ap (λ n. or_else (option_map refusal.source_mentions_output (least_mentioned Q (outputs T))) (when (not (nat_le n 256)) (refusal.too_large predicate_limit))) (nodes_both Q P))
+
+-- it is refused for the least output that the table's predicate mentions
+pub mention_fault : (U : Columns) (Q P : Predicate) (T : List Edge) (col : Name) → checked U P ≡ Ok tt → finmap.len U ≤ 64 → least_mentioned Q (outputs T) ≡ Some col
+    → select_fault 2 (sort_from U Q T) P ≡ Some (refusal.source_mentions_output col)
+mention_fault U Q P T col e columns is =
+    sized U Q P T e columns
+    ∙ ap (λ o. or_else (option_map refusal.source_mentions_output o) (when (not (nat_le (predicate_nodes Q + predicate_nodes P) 256)) (refusal.too_large predicate_limit))) is
+
+-- where it mentions none, only for its size
+pub selection_fault : (U : Columns) (Q P : Predicate) (T : List Edge) → checked U P ≡ Ok tt → finmap.len U ≤ 64 → least_mentioned Q (outputs T) ≡ None
+    → select_fault 2 (sort_from U Q T) P ≡ when (not (nat_le (predicate_nodes Q + predicate_nodes P) 256)) (refusal.too_large predicate_limit)
+selection_fault U Q P T e columns none =
+    sized U Q P T e columns
+    ∙ ap (λ o. or_else (option_map refusal.source_mentions_output o) (when (not (nat_le (predicate_nodes Q + predicate_nodes P) 256)) (refusal.too_large predicate_limit))) none

@@ -1,8 +1,7 @@
 -- What an expression over a table comes to, by the entries of the store.
-use Rattle.std.proofs.Common.{◌≡◌, ◌∙◌, Bool, true, false, ap, sym, refl}
-use Rattle.std.specs.Prelude.{Option, Some, None, option_map, not, ◌&&◌, ◌||◌, Result, Ok, Err, if◌then◌else◌}
+use Rattle.std.proofs.Common.{◌≡◌, ◌∙◌, Bool, true, false, ap, refl}
+use Rattle.std.specs.Prelude.{Option, Some, None, option_map, not, Result, Ok, Err, if◌then◌else◌}
 use Rattle.std.specs.FinMap as finmap
-use Rattle.lens_values.specs.SortedSet as set
 use Rattle.lens_specs.specs.Names.{Name}
 use Rattle.lens_specs.specs.Lens as spec
 use Rattle.lens_specs.specs.Lens.{base, select, select_sort}
@@ -14,8 +13,8 @@ use Rattle.grammar_specs.specs.Meaning as language
 use Rattle.server_specs.specs.Answer.{Answer, unknown_name, unbuilt}
 use Rattle.server_specs.specs.Defining as defining
 use Rattle.server_specs.specs.Defining.{is_other, is_view, over, where_typed}
-use Rattle.server_specs.specs.State.{catalogue, dependent, is_table_of}
-use Rattle.lens_server.specs.Entries.{lens_named, lens_view, lens_with, sort_under, is_table, is_dependent}
+use Rattle.server_specs.specs.State.{catalogue, is_table_of}
+use Rattle.lens_server.specs.Entries.{lens_named, lens_view, lens_with, sort_under, is_table}
 use Rattle.lens_server.specs.Judgements.{lens_verdict, source_verdict}
 use Rattle.lens_server.specs.Refusals.{verdict_of}
 use Rattle.lens_server.specs.States.{Consistent}
@@ -62,34 +61,24 @@ table_selects_nothing name lens e = none_selected name lens.table (sort_under le
 -- ---- a selection of a table
 
 -- the verdict on a selection of the name whose lens is there, or not
-selection_of : Predicate → Name → Option spec.Lens → Bool → Result spec.Lens Answer
-selection_of P name o b = if is_other name o || b then Err unbuilt else over (select P) (defining.lens_named name o)
+selection_of : Predicate → Name → Option spec.Lens → Result spec.Lens Answer
+selection_of P name o = if is_other name o then Err unbuilt else over (select P) (defining.lens_named name o)
 
-refused_over : (P : Predicate) (name : Name) (o : Option spec.Lens) (b : Bool) (a : Answer) → (o ≡ None → b ≡ false) → source_of name o ≡ Err a → selection_of P name o b ≡ Err a
+refused_over : (P : Predicate) (name : Name) (o : Option spec.Lens) (a : Answer) → source_of name o ≡ Err a → selection_of P name o ≡ Err a
 unfolding source_of selection_of
-refused_over P name None b a h e = ap (λ d. if d then Err unbuilt else Err (unknown_name name)) (h refl) ∙ e
-refused_over P name (Some lens) b a h e = by_test (is_table_of name lens) e
+refused_over P name None a e = cc
+refused_over P name (Some lens) a e = by_test (is_table_of name lens) e
   where
-    by_test : (t : Bool) → (if not t then Err unbuilt else Ok lens) ≡ Err a → (if not t || b then Err unbuilt else over (select P) (Ok lens)) ≡ Err a
+    by_test : (t : Bool) → (if not t then Err unbuilt else Ok lens) ≡ Err a → (if not t then Err unbuilt else over (select P) (Ok lens)) ≡ Err a
     by_test true e = cc
     by_test false e = e
 
-none_before : (o : Option Lens) → option_map lens_view o ≡ None → o ≡ None
-none_before None e = refl
-none_before (Some l) e = cc
-
 -- where the name is refused, so is a selection of it
 pub selection_of_none : (store : Store) (name : Name) (P : Predicate) (a : Answer) → Consistent store → source_verdict (catalogue store.texts.items) name ≡ Err a
-    → lens_verdict (catalogue store.texts.items) (dependent store.texts.items) (language.select P (language.named name)) ≡ Err a
+    → lens_verdict (catalogue store.texts.items) (language.select P (language.named name)) ≡ Err a
 unfolding source_of selection_of
 selection_of_none store name P a c e =
-    refused_over P name (finmap.get (catalogue store.texts.items) name) (set.contains (dependent store.texts.items) name) a
-    (λ none. c.dependents name ∙ ap (is_dependent name) (none_before (lens_named store.entries.items name) (sym (in_known store name (lens_named store.entries.items name) c refl) ∙ none))) e
-
--- the table was defined with dependencies exactly where its lens says so
-pub said_dependent : (store : Store) (name : Name) (lens : Lens) (b : Bool) → Consistent store → lens_named store.entries.items name ≡ Some lens → is_table name lens ≡ true
-    → lens.dependent ≡ b → set.contains (dependent store.texts.items) name ≡ b
-said_dependent store name lens b c found table is = c.dependents name ∙ ap (is_dependent name) found ∙ ap (λ t. t && lens.dependent) table ∙ is
+    refused_over P name (finmap.get (catalogue store.texts.items) name) a e
 
 -- the lens, unless it is refused
 abbrev pub unless_said : spec.Lens → Result (Unit {0}) Answer → Result spec.Lens Answer
@@ -104,21 +93,18 @@ over_table : (P : Predicate) (t : Name) (s : Sort) → over (select P) (Ok (base
 unfolding sort
 over_table P t s = typed (select_fault 2 s P) (select P (base t s)) (select_sort s P)
 
-selection_by : (P : Predicate) (name : Name) (lens : Lens) (b : Bool) → is_table name lens ≡ true → b ≡ false
-    → selection_of P name (Some (lens_view lens)) b
+selection_by : (P : Predicate) (name : Name) (lens : Lens) → is_table name lens ≡ true
+    → selection_of P name (Some (lens_view lens))
     ≡ unless_said (lens_with lens.table (sort_under lens) (Some P)) (verdict_of (select_fault 2 (sort_under lens) P))
 unfolding selection_of
-selection_by P name lens b table is =
-    (λ i. if not (table i) || is i then Err unbuilt else over (select P) (Ok (lens_view lens)))
+selection_by P name lens table =
+    ap (λ b. if not b then Err unbuilt else over (select P) (Ok (lens_view lens))) table
     ∙ ap (λ k. over (select P) (Ok (lens_with lens.table (sort_under lens) k))) (table_selects_nothing name lens table)
     ∙ over_table P lens.table (sort_under lens)
 
--- a selection of a table with no dependencies is refused where the predicate does not suit it
+-- a selection of a table is refused where it has no sort
 pub selection_verdict : (store : Store) (name : Name) (lens : Lens) (P : Predicate) → Consistent store → lens_named store.entries.items name ≡ Some lens → is_table name lens ≡ true
-    → lens.dependent ≡ false
-    → lens_verdict (catalogue store.texts.items) (dependent store.texts.items) (language.select P (language.named name))
+    → lens_verdict (catalogue store.texts.items) (language.select P (language.named name))
     ≡ unless_said (lens_with lens.table (sort_under lens) (Some P)) (verdict_of (select_fault 2 (sort_under lens) P))
 unfolding selection_of
-selection_verdict store name lens P c found table plain =
-    ap (λ o. selection_of P name o (set.contains (dependent store.texts.items) name)) (in_known store name (Some lens) c found)
-    ∙ selection_by P name lens (set.contains (dependent store.texts.items) name) table (said_dependent store name lens false c found table plain)
+selection_verdict store name lens P c found table = ap (selection_of P name) (in_known store name (Some lens) c found) ∙ selection_by P name lens table

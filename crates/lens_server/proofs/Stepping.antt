@@ -4,7 +4,6 @@ use Rattle.std.specs.Prelude.{Option, not, MatchResult, Result, Ok, Err, nat_le,
 use Rattle.std.specs.FinMap as finmap
 use Rattle.std.proofs.lemmas.Bool.{le-leb}
 use Rattle.lens_values.specs.Order.{bytes_cmp}
-use Rattle.lens_values.specs.SortedSet as set
 use Rattle.lens_values.specs.declared.value.NoMemory.{NoMemory}
 use Rattle.lens_specs.specs.Keeping.{Kept}
 use Rattle.lens_specs.specs.Lens.{Lens}
@@ -57,8 +56,6 @@ nothing_defined = record {
   names = refl;
   sources = λ n l e. cc;
   sizes = λ n l e. cc;
-  plain = λ n l e. cc;
-  dependents = λ n. set.contains-empty bytes_cmp n;
   defined = λ n e. refl;
   tables_are = ap (count_named is_table_of) no_entries;
   views_are = ap (λ es. count_named (λ name lens. not (is_table_of name lens)) es + 0) no_entries;

@@ -1,12 +1,12 @@
 -- Which definitions are taken, by what the store has.
-use Rattle.std.proofs.Common.{◌≡◌, ◌∙◌, ◌+◌, ◌<◌, ◌≤◌, ℕ, suc, Bool, true, false, List, [], ◌∷◌, length, ap, sym, refl, arith}
-use Rattle.std.specs.Prelude.{Option, Some, None, ◌==◌, not, nat_le, is_some, Result, Ok, Err, if◌then◌else◌}
+use Rattle.std.proofs.Common.{◌≡◌, ◌∙◌, ◌+◌, ◌<◌, ◌≤◌, ℕ, Bool, true, false, List, length, ap, sym, refl, arith}
+use Rattle.std.specs.Prelude.{Option, Some, None, nat_le, is_some, Result, Ok, Err, if◌then◌else◌}
 use Rattle.std.specs.FinMap as finmap
 use Rattle.std.proofs.lemmas.Bool.Decides.{nat_tests}
 use Rattle.lens_specs.specs.Columns.{Columns}
 use Rattle.lens_specs.specs.Dependencies.{Edge}
 use Rattle.lens_specs.specs.Lens as spec
-use Rattle.lens_specs.specs.Names.{Name, Names}
+use Rattle.lens_specs.specs.Names.{Name}
 use Rattle.lens_specs.specs.Predicate.{Predicate}
 use Rattle.lens_specs.specs.Refusal.{Refusal}
 use Rattle.lens_specs.specs.Sort.{Sort}
@@ -16,9 +16,9 @@ use Rattle.grammar_specs.specs.Meaning.{Definition, table, view, Expr}
 use Rattle.server_specs.specs.Answer.{Answer, name_taken, unbuilt}
 use Rattle.server_specs.specs.Defining.{is_taken, is_unbuilt, judged, judged_table, judged_view, lens_in, table_count, unless_full, view_count, where_lensed, where_sorted}
 use Rattle.lens_specs.specs.Refusal.{Limit, tables_limit, views_limit}
-use Rattle.server_specs.specs.State.{Catalogue, catalogue, dependent}
+use Rattle.server_specs.specs.State.{Catalogue, catalogue}
 use Rattle.lens_server.specs.Entries.{lens_named, lens_view}
-use Rattle.lens_server.specs.Judgements.{AddsTableOf, AddsViewOf, IsJudged, IsViewOf, adds_table, adds_view, is_none_left, lens_verdict}
+use Rattle.lens_server.specs.Judgements.{AddsTableOf, AddsViewOf, IsJudged, IsViewOf, adds_table, adds_view, lens_verdict}
 use Rattle.lens_server.specs.Refusals.{answered}
 use Rattle.lens_server.specs.States.{Consistent}
 use Rattle.lens_server.specs.declared.addition.Addition.{Addition}
@@ -43,13 +43,6 @@ not_full limit n h = grind (arith, nat_tests)
 
 -- ---- tables
 
-is_not_none : (n : ℕ) → (suc n == 0) ≡ false
-is_not_none n = grind (arith, nat_tests)
-
-pub none_left : (deps : List Edge) → (length deps == 0) ≡ is_none_left deps
-none_left [] = refl
-none_left (d ∷ ds) = is_not_none (length ds)
-
 sorted : (r : Result Sort Refusal) (s : Sort) (known : Catalogue) (d : Definition) → answered r ≡ Ok s → where_sorted r known d ≡ unless_full (nat_le 64 (table_count known)) tables_limit d
 sorted (Ok x) s known d e = refl
 sorted (Err r) s known d e = cc
@@ -61,7 +54,7 @@ answers (Err r) s e = cc
 -- a table is taken
 pub table_taken : (store : Store) (name : Name) (columns : Columns) (deps : List Edge) (predicate : Predicate) (sort : Sort) (addition : Addition) → Consistent store
     → is_taken (catalogue store.texts.items) name ≡ false → answered (table_sort columns deps predicate) ≡ Ok sort → finmap.len columns ≤ 64
-    → length store.tables.items < 64 → AddsTableOf addition store.version name sort (not (is_none_left deps))
+    → length store.tables.items < 64 → AddsTableOf addition store.version name sort
     → IsJudged (Ok addition) (judged_table (catalogue store.texts.items) name columns deps predicate) store
 table_taken store name columns deps predicate sort addition c free is size few adds =
     let known = catalogue store.texts.items in
@@ -82,15 +75,15 @@ built false r lens known d e = ap (λ x. where_lensed x known d) e
 -- a view is taken
 pub view_taken : (store : Store) (name : Name) (expr : Expr) (lens : Lens) (addition : Addition) → Consistent store
     → is_taken (catalogue store.texts.items) name ≡ false
-    → lens_verdict (catalogue store.texts.items) (dependent store.texts.items) expr ≡ Ok (lens_view lens) → IsViewOf lens expr store
+    → lens_verdict (catalogue store.texts.items) expr ≡ Ok (lens_view lens) → IsViewOf lens expr store
     → length store.entries.items < 256 + length store.tables.items → AddsViewOf addition store.version name lens
-    → IsJudged (Ok addition) (judged_view (catalogue store.texts.items) (dependent store.texts.items) name expr) store
+    → IsJudged (Ok addition) (judged_view (catalogue store.texts.items) name expr) store
 view_taken store name expr lens addition c free is viewed few adds =
     let known = catalogue store.texts.items in
     let d = view name expr in (
       d,
-      ap (λ b. if b then Err (name_taken name) else (if is_unbuilt known (dependent store.texts.items) expr then Err unbuilt else where_lensed (lens_in known expr) known d)) free
-          ∙ built (is_unbuilt known (dependent store.texts.items) expr) (lens_in known expr) (lens_view lens) known d is ∙ ap (λ b. unless_full b views_limit d) (not_full 256 (view_count known) (omega (arith, c.views_are, few))),
+      ap (λ b. if b then Err (name_taken name) else (if is_unbuilt known expr then Err unbuilt else where_lensed (lens_in known expr) known d)) free
+          ∙ built (is_unbuilt known expr) (lens_in known expr) (lens_view lens) known d is ∙ ap (λ b. unless_full b views_limit d) (not_full 256 (view_count known) (omega (arith, c.views_are, few))),
       adds_view name expr lens refl (free_name store name c free) viewed adds,
     )
 
@@ -118,7 +111,7 @@ view_says false true a r known d e is = cc
 view_says false false a r known d e is = lensed_says r known d e is
 
 -- a definition that is taken is the one that was judged
-pub judged_says : (known : Catalogue) (names : Names) (r : Result Definition Fault) (e : Definition) → judged known names r ≡ Ok e → r ≡ Ok e
-judged_says known names (Err fault) e is = cc
-judged_says known names (Ok (table name columns deps predicate)) e is = ap Ok (table_says _ _ _ known (table name columns deps predicate) e is)
-judged_says known names (Ok (view name expr)) e is = ap Ok (view_says _ _ _ _ known (view name expr) e is)
+pub judged_says : (known : Catalogue) (r : Result Definition Fault) (e : Definition) → judged known r ≡ Ok e → r ≡ Ok e
+judged_says known (Err fault) e is = cc
+judged_says known (Ok (table name columns deps predicate)) e is = ap Ok (table_says _ _ _ known (table name columns deps predicate) e is)
+judged_says known (Ok (view name expr)) e is = ap Ok (view_says _ _ _ _ known (view name expr) e is)

@@ -5,7 +5,6 @@ use Rattle.std.specs.Ordering.{eq_by_cmp}
 use Rattle.std.specs.Cmp.Lexicographic.{nat_list_cmp_total}
 use Rattle.std.specs.FinMap as finmap
 use Rattle.lens_values.specs.Order.{bytes_cmp}
-use Rattle.lens_values.specs.SortedSet as set
 use Rattle.lens_specs.specs.Relation.{Name, Relation}
 use Rattle.lens_specs.specs.Nodes.{select_get}
 use Rattle.lens_specs.specs.Predicate.{Predicate, holds}
@@ -15,7 +14,6 @@ use Rattle.lens_specs.specs.Lens.{base, get, table, rows_or_none, select}
 use Rattle.server_specs.specs.State.{catalogue}
 use Rattle.lens_server.specs.Entries.{relation_of, relation_named, entry_view, lens_view, lens_named}
 use Rattle.lens_server.specs.States.{IsConsistent}
-use Rattle.lens_server.specs.Shows.{is_shown}
 use Rattle.lens_server.specs.declared.entry.Entry.{Entry}
 use Rattle.lens_server.specs.declared.table.Table.{Table}
 
@@ -48,9 +46,9 @@ unfolding get
 get_table tables name s r e = rows_are tables name r e
 
 pub get_selection : (tables : List Table) (name : Name) (s : Sort) (P : Predicate) (r : Relation) → relation_named tables name ≡ Some r
-    → get (select P (base name s)) (finmap.from_entries (map relation_of tables)) ≡ set.filter (is_shown P true) r.rows
-unfolding get select_get
-get_selection tables name s P r e = ap (set.filter (holds P)) (rows_are tables name r e)
+    → get (select P (base name s)) (finmap.from_entries (map relation_of tables)) ≡ select_get (holds P) r.rows
+unfolding get
+get_selection tables name s P r e = ap (select_get (holds P)) (rows_are tables name r e)
 
 pub is_some-map : {A B : Type 0} (f : A → B) (o : Option A) → is_some (option_map f o) ≡ is_some o
 is_some-map f None = refl

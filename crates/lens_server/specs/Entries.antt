@@ -1,5 +1,5 @@
 -- What the entries and the tables of a server stand for.
-use Rattle.std.specs.Prelude.{ℕ, Bool, false, ◌&&◌, List, map, Option, Some, None, option_map}
+use Rattle.std.specs.Prelude.{ℕ, Bool, List, map, Option, Some, None, option_map}
 use Rattle.std.specs.FinMap as finmap
 use Rattle.lens_values.specs.Order.{bytes_cmp}
 use Rattle.lens_specs.specs.Relation.{Name, Columns, Relation}
@@ -40,11 +40,6 @@ entry_view entry = (entry.name, lens_view entry.lens)
 -- the first lens with the name
 abbrev pub lens_named : List Entry → Name → Option Lens
 lens_named entries name = finmap.find bytes_cmp name (map named entries)
-
--- whether a lens is there that is the table of the name, with dependencies
-abbrev pub is_dependent : Name → Option Lens → Bool
-is_dependent name None = false
-is_dependent name (Some lens) = is_table name lens && lens.dependent
 
 -- a relation by its table's name
 abbrev pub relation_of : Table → Name × Relation

@@ -1,12 +1,11 @@
 -- What is said of a definition, and what it adds.
-use Rattle.std.specs.Prelude.{◌≡◌, ◌≤◌, ◌+◌, ℕ, Bool, true, false, not, List, [], ◌∷◌, is_some, Option, Some, None, option_map, Result, Ok, Err, if◌then◌else◌}
+use Rattle.std.specs.Prelude.{◌≡◌, ◌≤◌, ◌+◌, ℕ, true, List, Option, Some, None, option_map, Result, Ok, Err, if◌then◌else◌}
 use Rattle.std.specs.Borrow.{Bor}
 use Rattle.std.specs.FinMap as finmap
 use Rattle.lens_values.specs.SortedSet as set
 use Rattle.lens_specs.specs.Columns.{least_outside, names}
 use Rattle.lens_specs.specs.Dependencies.{Edge}
 use Rattle.lens_specs.specs.Lens as spec
-use Rattle.lens_specs.specs.Names.{Names}
 use Rattle.lens_specs.specs.Predicate.{Predicate}
 use Rattle.lens_specs.specs.Refusal.{Refusal as RefusalOf, unknown_column, or_else}
 use Rattle.lens_specs.specs.Relation.{Name, Columns}
@@ -33,14 +32,9 @@ unknown_of_edge columns e = or_else (option_map unknown_column (least_outside e.
 abbrev pub sort_from : Columns → Predicate → List Edge → Sort
 sort_from columns predicate tree = record { columns = columns; predicate = predicate; tree = tree }
 
--- nothing is in the list
-abbrev pub is_none_left : List Edge → Bool
-is_none_left [] = true
-is_none_left (dep ∷ deps) = false
-
 -- an empty table of this sort, last changed at the next version
-pub record AddsTableOf (addition : Addition) (version : ℕ) (name : Name) (sort : Sort) (dependent : Bool) : Type 0 where
-  pub entry : addition.entry ≡ record { name = name; lens = record { table = name; columns = sort.columns; pred = sort.predicate; tree = sort.tree; dependent = dependent; selected = None } }
+pub record AddsTableOf (addition : Addition) (version : ℕ) (name : Name) (sort : Sort) : Type 0 where
+  pub entry : addition.entry ≡ record { name = name; lens = record { table = name; columns = sort.columns; pred = sort.predicate; tree = sort.tree; selected = None } }
   pub table : addition.table ≡ Some (record { name = name; relation = record { columns = sort.columns; rows = set.empty }; last = version + 1 })
   pub reply : addition.reply ≡ text (defined (version + 1))
 
@@ -51,7 +45,7 @@ abbrev pub expr_from : Option Predicate → Name → Expr
 expr_from None from = named from
 expr_from (Some P) from = select P (named from)
 
--- a table that is there under another name, or a selection of one that has no dependencies
+-- a table that is there under another name, or a selection of one
 pub record IsViewOf (lens : Lens) (expr : Expr) (store : Store) : Type 0 where
   pub from : Name
   pub source : Lens
@@ -59,12 +53,11 @@ pub record IsViewOf (lens : Lens) (expr : Expr) (store : Store) : Type 0 where
   pub is : expr ≡ expr_from selection from
   pub found : lens_named store.entries.items from ≡ Some source
   pub table : is_table from source ≡ true
-  pub plain : is_some selection ≡ true → source.dependent ≡ false
   pub over : lens ≡ record source { selected = selection }
 
 -- the lens of an expression that is built, or its first refusal
-abbrev pub lens_verdict : Catalogue → Names → Expr → Result spec.Lens Answer
-lens_verdict known dependent expr = if is_unbuilt known dependent expr then Err unbuilt else lens_in known expr
+abbrev pub lens_verdict : Catalogue → Expr → Result spec.Lens Answer
+lens_verdict known expr = if is_unbuilt known expr then Err unbuilt else lens_in known expr
 
 -- the lens is a view, or it is refused
 abbrev pub IsLensOf : Result Lens Refusal → Result spec.Lens Answer → Expr → Store → Type 0
@@ -92,7 +85,7 @@ pub record AddsViewOf (addition : Addition) (version : ℕ) (name : Name) (lens 
 pub data Adds (addition : Addition) (definition : Definition) (store : Store) : Type 0 where
   adds_table : (name : Name) (columns : Columns) (deps : List Edge) (predicate : Predicate) → definition ≡ table name columns deps predicate
       → lens_named store.entries.items name ≡ None → finmap.len columns ≤ 64
-      → AddsTableOf addition store.version name (sort_with columns deps predicate) (not (is_none_left deps)) → Adds addition definition store
+      → AddsTableOf addition store.version name (sort_with columns deps predicate) → Adds addition definition store
   adds_view : (name : Name) (expr : Expr) (lens : Lens) → definition ≡ view name expr → lens_named store.entries.items name ≡ None
       → IsViewOf lens expr store → AddsViewOf addition store.version name lens → Adds addition definition store
 

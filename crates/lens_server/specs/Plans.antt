@@ -1,9 +1,10 @@
 -- What a put comes to before it is made.
-use Rattle.std.specs.Prelude.{◌≡◌, ◌+◌, ℕ, [], ◌∷◌, get_or, map, Option, Some, None, if◌then◌else◌}
+use Rattle.std.specs.Prelude.{◌≡◌, ◌+◌, ℕ, List, [], ◌∷◌, get_or, map, Option, Some, None, if◌then◌else◌}
 use Rattle.std.specs.FinMap as finmap
 use Rattle.lens_specs.specs.Relation.{Name, Relation, Rows}
 use Rattle.lens_specs.specs.Predicate.{Predicate, holds}
 use Rattle.lens_specs.specs.Nodes.{select_put}
+use Rattle.lens_specs.specs.Dependencies.{Edge}
 use Rattle.lens_specs.specs.Delta.{Delta, diff, is_empty}
 use Rattle.server_specs.specs.Answer.{Answer, changed, text}
 use Rattle.server_specs.specs.State.{State}
@@ -17,9 +18,9 @@ use Rattle.lens_server.specs.declared.store.Store.{Store}
 use Rattle.lens_server.specs.declared.table.Table.{Table}
 
 -- the rows of the table after a put of the view
-abbrev pub source_put : Option Predicate → Rows → Rows → Rows
-source_put None N M = N
-source_put (Some P) N M = select_put [] (holds P) N M
+abbrev pub source_put : List Edge → Option Predicate → Rows → Rows → Rows
+source_put T None N M = N
+source_put T (Some P) N M = select_put T (holds P) N M
 
 -- the state with these rows in a table, which is last changed at the next version
 abbrev pub with_relation : Name → Relation → State → State

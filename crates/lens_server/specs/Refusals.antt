@@ -11,7 +11,7 @@ use Rattle.view_lang.specs.declared.definition.LangFault as lang
 use Rattle.view_lang.specs.declared.definition.LangFault.TheVariants as lang_fault
 use Rattle.request_text.specs.Answers.{limit_view}
 use Rattle.lens_server.specs.declared.refusal.Refusal.{Refusal}
-use Rattle.lens_server.specs.declared.refusal.Refusal.TheVariants.{Syntax, NameTaken, UnknownName, UnknownColumn, NotTree, PredKind, TooLarge, Unbuilt, NoMemory}
+use Rattle.lens_server.specs.declared.refusal.Refusal.TheVariants.{Syntax, NameTaken, UnknownName, UnknownColumn, NotTree, PredKind, SourceMentionsOutput, TooLarge, Unbuilt, NoMemory}
 
 -- the answer that a refusal is
 abbrev pub refusal_view : Refusal → Answer
@@ -21,6 +21,7 @@ refusal_view (UnknownName name) = unknown_name name
 refusal_view (UnknownColumn name) = refused (refusal.unknown_column name)
 refusal_view (NotTree a b) = refused (refusal.not_tree a b)
 refusal_view (PredKind name) = refused (refusal.predicate_kind name)
+refusal_view (SourceMentionsOutput col) = refused (refusal.source_mentions_output col)
 refusal_view (TooLarge what) = refused (refusal.too_large (limit_view what))
 refusal_view Unbuilt = unbuilt
 refusal_view NoMemory = memory

@@ -1,12 +1,7 @@
--- Rows that a view shows, and rows that it hides.
-use Rattle.std.specs.Prelude.{Bool, true, false, not, Option, Some, None}
+-- Rows that a view shows.
+use Rattle.std.specs.Prelude.{Bool, true, Option, Some, None}
 use Rattle.lens_values.specs.declared.row.Row.{Row}
 use Rattle.lens_specs.specs.Predicate.{Predicate, holds}
-
--- whether the predicate holds on the row, or whether it does not
-abbrev pub is_shown : Predicate → Bool → Row → Bool
-is_shown P true row = holds P row
-is_shown P false row = not (holds P row)
 
 -- whether the predicate holds on the row, if there is one
 abbrev pub is_selected : Option Predicate → Row → Bool

@@ -1,11 +1,10 @@
 -- What a store stands for.
-use Rattle.std.specs.Prelude.{◌≡◌, ◌≤◌, ◌+◌, ℕ, true, false, List, [], length, map, is_some, Some, None}
+use Rattle.std.specs.Prelude.{◌≡◌, ◌≤◌, ◌+◌, ℕ, List, length, map, Some, None}
 use Rattle.std.specs.FinMap as finmap
 use Rattle.lens_specs.specs.Relation.{Name}
-use Rattle.lens_values.specs.SortedSet as set
-use Rattle.server_specs.specs.State.{State, catalogue, dependent}
+use Rattle.server_specs.specs.State.{State, catalogue}
 use Rattle.server_specs.specs.Defining.{table_count, view_count}
-use Rattle.lens_server.specs.Entries.{entry_view, is_dependent, lens_named, columns_named, relation_named, relation_of, last_of}
+use Rattle.lens_server.specs.Entries.{entry_view, lens_named, columns_named, relation_named, relation_of, last_of}
 use Rattle.lens_server.specs.declared.entry.Lens.{Lens}
 use Rattle.lens_server.specs.declared.entry.Entry.{Entry}
 use Rattle.lens_server.specs.declared.table.Table.{Table}
@@ -20,20 +19,12 @@ state_with texts tables version =
 abbrev pub state_of : Store → State
 state_of store = state_with store.texts.items store.tables.items store.version
 
--- a lens of a table with no dependencies has no edges, and a selection is of such a table
-pub record IsPlain (lens : Lens) : Type 0 where
-  pub tree : lens.dependent ≡ false → lens.tree ≡ []
-  pub view : is_some lens.selected ≡ true → lens.dependent ≡ false
-
--- The names are those of the texts; the table under each lens is there, with the lens's columns, 64 at most; the tables with
--- dependencies are those of the texts, and only they have edges; each table has its name among the names; and the tables and views
--- are counted.
+-- The names are those of the texts; the table under each lens is there, with the lens's columns, 64 at most; each table has its
+-- name among the names; and the tables and views are counted.
 pub record IsConsistent (texts : List (List ℕ)) (entries : List Entry) (tables : List Table) : Type 0 where
   pub names : catalogue texts ≡ finmap.from_entries (map entry_view entries)
   pub sources : (name : Name) (lens : Lens) → lens_named entries name ≡ Some lens → columns_named tables lens.table ≡ Some lens.columns
   pub sizes : (name : Name) (lens : Lens) → lens_named entries name ≡ Some lens → finmap.len lens.columns ≤ 64
-  pub plain : (name : Name) (lens : Lens) → lens_named entries name ≡ Some lens → IsPlain lens
-  pub dependents : (name : Name) → set.contains (dependent texts) name ≡ is_dependent name (lens_named entries name)
   pub defined : (name : Name) → lens_named entries name ≡ None → relation_named tables name ≡ None
   pub tables_are : table_count (catalogue texts) ≡ length tables
   pub views_are : view_count (catalogue texts) + length tables ≡ length entries

@@ -30,10 +30,9 @@ pub fn table_addition(
     columns: Columns,
     pred: Pred,
     tree: Tree,
-    dependent: bool,
 ) -> Result<Addition, NoMemory>
     requires room { version < 2 ^ 64 - 1 }
-    ensures { IfOk result (λ addition. AddsTableOf addition version name (sort_from columns pred tree) dependent) }
+    ensures { IfOk result (λ addition. AddsTableOf addition version name (sort_from columns pred tree)) }
 {
     let reply = defined_text(alloc, version + 1)?;
     let relation = Relation::empty(alloc, columns.copy(alloc)?);
@@ -45,7 +44,6 @@ pub fn table_addition(
                 columns,
                 pred,
                 tree,
-                dependent,
                 selected: None,
             },
         },

@@ -4,7 +4,7 @@ ghost use Rattle.lens_specs.specs.Keeping.{Tells};
 ghost use Rattle.grammar_laws.specs.Reading.{reading};
 ghost use Rattle.server_specs.specs.Answering.{answer_definition};
 ghost use Rattle.server_specs.specs.Defining.{judged};
-ghost use Rattle.server_specs.specs.State.{catalogue, dependent, kept};
+ghost use Rattle.server_specs.specs.State.{catalogue, kept};
 ghost use Rattle.lens_server.specs.Judgements.{Adds};
 ghost use Rattle.lens_server.specs.Additions.{HasRoom, IsDefinition, IsTaken, SameContents};
 ghost use Rattle.lens_server.specs.Outcomes.{Outcome};
@@ -32,7 +32,7 @@ pub fn define<K: Keeper>(
     requires consistent { Consistent store.old }
     requires room { store.old.version < 2 ^ 64 - 1 }
     requires told { Tells (K.contents keeper.old) (kept (state_of store.old)) }
-    ensures outcome { Outcome (answer_definition text (judged (catalogue store.old.texts.items) (dependent store.old.texts.items) (reading text)) (state_of store.old)) store.old store.new (K.faults keeper.old) (K.faults keeper.new) (K.contents keeper.new) result }
+    ensures outcome { Outcome (answer_definition text (judged (catalogue store.old.texts.items) (reading text)) (state_of store.old)) store.old store.new (K.faults keeper.old) (K.faults keeper.new) (K.contents keeper.new) result }
     ensures place { K.place keeper.new ≡ K.place keeper.old }
 {
     match judge(alloc, store, &text) {

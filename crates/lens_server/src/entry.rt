@@ -18,8 +18,6 @@ pub struct Lens {
     pub pred: Pred,
     /// The tree of the table's dependencies, and so of the view's.
     pub tree: Tree,
-    /// Whether the table was defined with dependencies, be they trivial.
-    pub dependent: bool,
     /// What selects the rows of the view.
     pub selected: Option<Pred>,
 }

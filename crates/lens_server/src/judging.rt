@@ -3,7 +3,7 @@ ghost use Rattle.std.specs.Prelude.{◌≡◌, ◌<◌, ◌-◌, ◌^◌, true, 
 ghost use Rattle.grammar_laws.specs.Reading.{reading};
 ghost use Rattle.grammar_specs.specs.Faults.{has_few_columns, has_few_nodes};
 ghost use Rattle.server_specs.specs.Defining.{is_taken, judged};
-ghost use Rattle.server_specs.specs.State.{catalogue, dependent};
+ghost use Rattle.server_specs.specs.State.{catalogue};
 ghost use Rattle.view_lang.specs.DefViews.{definition_view};
 ghost use Rattle.lens_server.specs.Judgements.{IsJudged};
 ghost use Rattle.lens_server.specs.States.{Consistent};
@@ -22,7 +22,7 @@ use view_lang::{Definition, parse};
 pub fn judge(alloc: Global, store: &Store, text: &Text) -> Result<Addition, Refusal>
     requires consistent { Consistent store.now }
     requires room { store.now.version < 2 ^ 64 - 1 }
-    ensures { IsJudged result (judged (catalogue store.now.texts.items) (dependent store.now.texts.items) (reading text.now)) store.now }
+    ensures { IsJudged result (judged (catalogue store.now.texts.items) (reading text.now)) store.now }
 {
     let definition = parse(alloc, text)?;
     judge_definition(alloc, store, definition)
@@ -38,7 +38,7 @@ fn judge_definition(
     requires room { store.now.version < 2 ^ 64 - 1 }
     requires columns { has_few_columns (definition_view definition) ≡ true }
     requires nodes { has_few_nodes (definition_view definition) ≡ true }
-    ensures { IsJudged result (judged (catalogue store.now.texts.items) (dependent store.now.texts.items) (Ok (definition_view definition))) store.now }
+    ensures { IsJudged result (judged (catalogue store.now.texts.items) (Ok (definition_view definition))) store.now }
 {
     match definition {
         Definition::Table {

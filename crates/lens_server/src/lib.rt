@@ -10,7 +10,6 @@ mod planning;
 mod putting;
 mod reading;
 mod refusal;
-mod selecting;
 pub mod server;
 mod store;
 mod table;

@@ -15,10 +15,9 @@ ghost use Rattle.server_specs.specs.State.{catalogue, State};
 ghost use Rattle.lens_server.specs.Entries.{lens_view, columns_named};
 ghost use Rattle.lens_server.specs.Plans.{IsPlan, IsTablePlan, IsPlacedAt, accept_table, source_put};
 ghost use Rattle.lens_server.specs.Shows.{is_selected};
-ghost use Rattle.lens_server.specs.States.{state_of, Consistent, IsPlain};
+ghost use Rattle.lens_server.specs.States.{state_of, Consistent};
 
 use crate::entry::{Lens, lens_named};
-use crate::selecting::those;
 use crate::store::Store;
 use crate::table::{Table, place_of};
 use fd_tree::{Clash, Edge, first_clash};
@@ -31,6 +30,7 @@ use request_text::{
 use row_sets::{Relation, RowSet};
 use signed_delta::{TableDelta, diff};
 use std::alloc::Global;
+use whole_put::put_select;
 
 /// What a put comes to.
 #[derive(Drop)]
@@ -74,7 +74,6 @@ pub fn plan_put(
 /// What a put of these rows to a lens comes to.
 fn plan_sent(alloc: Global, store: &Store, lens: &Lens, rows: &JsonRows) -> Result<Plan, NoMemory>
     requires source { columns_named store.now.tables.items lens.now.table ≡ Some lens.now.columns }
-    requires plain { IsPlain lens.now }
     requires room { store.now.version < 2 ^ 64 - 1 }
     ensures { IfOk result (λ plan. IsPlan plan (answer_put [] rows.now (Some (lens_view lens.now)) (state_of store.now)) store.now) }
 {
@@ -93,7 +92,6 @@ fn plan_sent(alloc: Global, store: &Store, lens: &Lens, rows: &JsonRows) -> Resu
 /// What a put of this set of rows to a lens comes to.
 fn plan_set(alloc: Global, store: &Store, lens: &Lens, rows: RowSet) -> Result<Plan, NoMemory>
     requires source { columns_named store.now.tables.items lens.now.table ≡ Some lens.now.columns }
-    requires plain { IsPlain lens.now }
     requires fit { (row : _) → set.contains rows row ≡ true → Fits lens.now.columns row }
     requires room { store.now.version < 2 ^ 64 - 1 }
     ensures { IfOk result (λ plan. IsPlan plan (put_set rows (lens_view lens.now) (state_of store.now)) store.now) }
@@ -107,7 +105,6 @@ fn plan_set(alloc: Global, store: &Store, lens: &Lens, rows: RowSet) -> Result<P
 /// What a put of rows that the predicates hold on comes to.
 fn plan_rows(alloc: Global, store: &Store, lens: &Lens, rows: RowSet) -> Result<Plan, NoMemory>
     requires source { columns_named store.now.tables.items lens.now.table ≡ Some lens.now.columns }
-    requires plain { IsPlain lens.now }
     requires fit { (row : _) → set.contains rows row ≡ true → Fits lens.now.columns row }
     requires room { store.now.version < 2 ^ 64 - 1 }
     ensures { IfOk result (λ plan. IsPlan plan (unless_clash (clash lens.now.tree rows) (lens_view lens.now) rows (state_of store.now)) store.now) }
@@ -160,7 +157,6 @@ fn selects(selected: &Option<Pred>, row: &Row) -> bool
 /// What a put of rows of the lens's sort comes to.
 fn plan_view(alloc: Global, store: &Store, lens: &Lens, rows: RowSet) -> Result<Plan, NoMemory>
     requires source { columns_named store.now.tables.items lens.now.table ≡ Some lens.now.columns }
-    requires plain { IsPlain lens.now }
     requires fit { (row : _) → set.contains rows row ≡ true → Fits lens.now.columns row }
     requires room { store.now.version < 2 ^ 64 - 1 }
     ensures { IfOk result (λ plan. IsPlan plan (accept (lens_view lens.now) rows (changes (lens_view lens.now) rows (state_of store.now).tables) (state_of store.now)) store.now) }
@@ -180,24 +176,12 @@ fn source_after(
 ) -> Result<Relation, NoMemory>
     requires columns { old.now.columns ≡ lens.now.columns }
     requires fit { (row : _) → set.contains rows row ≡ true → Fits lens.now.columns row }
-    ensures { IfOk result (λ new. new ≡ record old.now { rows = source_put lens.now.selected rows old.now.rows }) }
+    ensures { IfOk result (λ new. new ≡ record old.now { rows = source_put lens.now.tree lens.now.selected rows old.now.rows }) }
 {
-    let columns = lens.columns.copy(alloc)?;
-    let after = rows_after(alloc, lens, old.rows(), rows)?;
-    old.rows_fit();
-    Ok(Relation::with_rows(columns, after))
-}
-
-/// The rows of the table after a put of the view: those that the view hides, and those that are put.
-fn rows_after(alloc: Global, lens: &Lens, old: &RowSet, rows: RowSet) -> Result<RowSet, NoMemory>
-    ensures { IfOk result (λ after. after ≡ source_put lens.now.selected rows old.now) }
-{
+    let view = Relation::with_rows(lens.columns.copy(alloc)?, rows);
     match &lens.selected {
-        Some(pred) => {
-            let hidden = those(alloc, pred, false, old)?;
-            hidden.union(alloc, &rows)
-        }
-        None => Ok(rows),
+        Some(pred) => put_select(alloc, &lens.tree, pred, &view, old),
+        None => Ok(view),
     }
 }
 

@@ -9,12 +9,12 @@ ghost use Rattle.lens_server.specs.Entries.{lens_view, columns_named};
 ghost use Rattle.lens_server.specs.States.{state_of, Consistent};
 
 use crate::entry::{Lens, lens_named};
-use crate::selecting::those;
 use crate::store::Store;
 use crate::table::table_named;
 use lens_values::{Name, NoMemory};
 use request_text::{Reply, shown_text, unknown_name_text};
 use std::alloc::Global;
+use whole_put::get_select;
 
 /// The reply to a read of the view.
 pub fn read(alloc: Global, store: &Store, view: &Name) -> Result<Reply, NoMemory>
@@ -35,8 +35,8 @@ fn show(alloc: Global, store: &Store, lens: &Lens) -> Result<Reply, NoMemory>
     let table = table_named(&store.tables, &lens.table);
     match &lens.selected {
         Some(pred) => {
-            let rows = those(alloc, pred, true, table.relation.rows())?;
-            shown_text(alloc, &rows, store.version)
+            let shown = get_select(alloc, pred, &table.relation)?;
+            shown_text(alloc, shown.rows(), store.version)
         }
         None => shown_text(alloc, table.relation.rows(), store.version),
     }

@@ -8,8 +8,8 @@ use fd_tree::TreeFault;
 use lens_pred::PredFault;
 use lens_values::{Name, Names, NoMemory};
 use request_text::{
-    Reply, name_taken_text, not_tree_text, pred_kind_text, syntax_text, too_large_text,
-    unbuilt_reply, unknown_column_text, unknown_name_text,
+    Reply, name_taken_text, not_tree_text, pred_kind_text, source_mentions_output_text,
+    syntax_text, too_large_text, unbuilt_reply, unknown_column_text, unknown_name_text,
 };
 use std::alloc::Global;
 use view_lang::{LangFault, Limit};
@@ -48,6 +48,11 @@ pub enum Refusal {
     PredKind {
         /// The column.
         name: Name,
+    },
+    /// The predicate of what is selected from mentions a column that a dependency writes.
+    SourceMentionsOutput {
+        /// The column.
+        col: Name,
     },
     /// There is too much of something.
     TooLarge {
@@ -126,6 +131,7 @@ pub fn refusal_reply(alloc: Global, why: &Refusal) -> Result<Reply, NoMemory>
         Refusal::UnknownColumn { name } => unknown_column_text(alloc, name),
         Refusal::NotTree { a, b } => not_tree_text(alloc, a, b),
         Refusal::PredKind { name } => pred_kind_text(alloc, name),
+        Refusal::SourceMentionsOutput { col } => source_mentions_output_text(alloc, col),
         Refusal::TooLarge { what } => too_large_text(alloc, *what),
         Refusal::Unbuilt => Ok(unbuilt_reply()),
         Refusal::NoMemory => Err(NoMemory),

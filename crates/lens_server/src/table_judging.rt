@@ -48,8 +48,7 @@ pub fn judge_table(
             what: Limit::Tables,
         });
     }
-    let dependent = !deps.is_empty();
-    Ok(table_addition(alloc, store.version, name, columns, pred, tree, dependent)?)
+    Ok(table_addition(alloc, store.version, name, columns, pred, tree)?)
 }
 
 /// The tree of the table's dependencies. Unknown columns are refused first, then sides that do not fit, and then unlike kinds.

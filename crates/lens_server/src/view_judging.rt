@@ -1,10 +1,10 @@
 //! Which views are taken.
-ghost use Rattle.std.specs.Prelude.{◌≡◌, ◌<◌, ◌≤◌, ◌-◌, ◌^◌, [], IfOk};
+ghost use Rattle.std.specs.Prelude.{◌≡◌, ◌<◌, ◌≤◌, ◌-◌, ◌^◌, IfOk};
 ghost use Rattle.std.specs.FinMap as finmap;
 ghost use Rattle.grammar_specs.specs.Meaning.{named, select};
 ghost use Rattle.lens_specs.specs.Typing.{select_fault};
 ghost use Rattle.server_specs.specs.Defining.{judged_view};
-ghost use Rattle.server_specs.specs.State.{catalogue, dependent};
+ghost use Rattle.server_specs.specs.State.{catalogue};
 ghost use Rattle.view_lang.specs.ExprViews.{expr_view};
 ghost use Rattle.lens_server.specs.Entries.{sort_under};
 ghost use Rattle.lens_server.specs.Judgements.{IsJudged, IsLensOf, IsSource, lens_verdict};
@@ -31,7 +31,7 @@ pub const MAX_NODES: usize = 256;
 pub fn judge_view(alloc: Global, store: &Store, name: Name, expr: Expr) -> Result<Addition, Refusal>
     requires consistent { Consistent store.now }
     requires room { store.now.version < 2 ^ 64 - 1 }
-    ensures { IsJudged result (judged_view (catalogue store.now.texts.items) (dependent store.now.texts.items) name (expr_view expr)) store.now }
+    ensures { IsJudged result (judged_view (catalogue store.now.texts.items) name (expr_view expr)) store.now }
 {
     if is_taken(store, &name) {
         return Err(Refusal::NameTaken { name });
@@ -43,10 +43,10 @@ pub fn judge_view(alloc: Global, store: &Store, name: Name, expr: Expr) -> Resul
     Ok(view_addition(alloc, store.version, name, lens)?)
 }
 
-/// The lens of an expression. Only a table itself and the selection of a table with no dependencies are built.
+/// The lens of an expression. Only a table itself and the selection of a table are built.
 fn view_lens(alloc: Global, store: &Store, expr: Expr) -> Result<Lens, Refusal>
     requires { Consistent store.now }
-    ensures { IsLensOf result (lens_verdict (catalogue store.now.texts.items) (dependent store.now.texts.items) (expr_view expr)) (expr_view expr) store.now }
+    ensures { IsLensOf result (lens_verdict (catalogue store.now.texts.items) (expr_view expr)) (expr_view expr) store.now }
 {
     match expr {
         Expr::Named { name } => table_lens(alloc, store, &name),
@@ -58,7 +58,7 @@ fn view_lens(alloc: Global, store: &Store, expr: Expr) -> Result<Lens, Refusal>
 /// The lens of a selection.
 fn select_lens(alloc: Global, store: &Store, pred: Pred, of: Expr) -> Result<Lens, Refusal>
     requires { Consistent store.now }
-    ensures { IsLensOf result (lens_verdict (catalogue store.now.texts.items) (dependent store.now.texts.items) (select pred (expr_view of))) (select pred (expr_view of)) store.now }
+    ensures { IsLensOf result (lens_verdict (catalogue store.now.texts.items) (select pred (expr_view of))) (select pred (expr_view of)) store.now }
 {
     match of {
         Expr::Named { name } => selection(alloc, store, &name, pred),
@@ -69,7 +69,7 @@ fn select_lens(alloc: Global, store: &Store, pred: Pred, of: Expr) -> Result<Len
 /// The lens of a table.
 fn table_lens(alloc: Global, store: &Store, name: &Name) -> Result<Lens, Refusal>
     requires { Consistent store.now }
-    ensures { IsLensOf result (lens_verdict (catalogue store.now.texts.items) (dependent store.now.texts.items) (named name.now)) (named name.now) store.now }
+    ensures { IsLensOf result (lens_verdict (catalogue store.now.texts.items) (named name.now)) (named name.now) store.now }
 {
     let source = source_named(store, name)?;
     Ok(lens_over(alloc, source, None)?)
@@ -78,12 +78,9 @@ fn table_lens(alloc: Global, store: &Store, name: &Name) -> Result<Lens, Refusal
 /// The lens of a selection of a table.
 fn selection(alloc: Global, store: &Store, name: &Name, pred: Pred) -> Result<Lens, Refusal>
     requires { Consistent store.now }
-    ensures { IsLensOf result (lens_verdict (catalogue store.now.texts.items) (dependent store.now.texts.items) (select pred (named name.now))) (select pred (named name.now)) store.now }
+    ensures { IsLensOf result (lens_verdict (catalogue store.now.texts.items) (select pred (named name.now))) (select pred (named name.now)) store.now }
 {
     let source = source_named(store, name)?;
-    if source.dependent {
-        return Err(Refusal::Unbuilt);
-    }
     check_selection(source, &pred)?;
     Ok(lens_over(alloc, source, Some(pred))?)
 }
@@ -100,13 +97,16 @@ fn source_named<'a>(store: &'a Store, name: &Name) -> Result<&'a Lens, Refusal>
     }
 }
 
-/// Whether the predicate suits the table's columns, and is not too large with the table's own.
+/// Whether the predicate suits the table's columns, the table's own mentions no column that a dependency writes, and both
+/// together are not too large.
 fn check_selection(source: &Lens, pred: &Pred) -> Result<(), Refusal>
-    requires plain { source.now.tree ≡ [] }
-    requires columns { finmap.len source.now.columns ≤ 64 }
+    requires { finmap.len source.now.columns ≤ 64 }
     ensures { Decides (λ u. u) result (verdict_of (select_fault 2 (sort_under source.now) pred.now)) }
 {
     pred.check(&source.columns)?;
+    if let Some(col) = source.pred.mentions_any(source.tree.outputs()) {
+        return Err(Refusal::SourceMentionsOutput { col });
+    }
     if source.pred.nodes().saturating_add(pred.nodes()) > MAX_NODES {
         return Err(Refusal::TooLarge {
             what: Limit::Predicate,
@@ -124,7 +124,6 @@ fn lens_over(alloc: Global, source: &Lens, selected: Option<Pred>) -> Result<Len
         columns: source.columns.copy(alloc)?,
         pred: source.pred.copy(alloc)?,
         tree: source.tree.copy(alloc)?,
-        dependent: source.dependent,
         selected,
     })
 }

@@ -4,7 +4,7 @@ use Rattle.std.specs.Prelude.{IfSome, codes, nat_le}
 use Rattle.std.specs.FinMap as finmap
 use Rattle.serde_json.specs.Data.{Data, null, boolean, number, string, array, object, Items, Members}
 use Rattle.lens_values.specs.declared.row.Row.{Row}
-use Rattle.lens_specs.specs.Names.{Name, Names}
+use Rattle.lens_specs.specs.Names.{Name}
 use Rattle.lens_specs.specs.Relation.{Rows}
 use Rattle.lens_specs.specs.Lens.{Lens, select, drop, join}
 use Rattle.lens_specs.specs.Delta.{TableDelta, changes}
@@ -18,7 +18,7 @@ use Rattle.grammar_specs.specs.Meaning as language
 use Rattle.grammar_specs.specs.Faults as faults
 use Rattle.grammar_specs.specs.Faults.{Fault, syntax_at}
 use Rattle.grammar_laws.specs.Reading.{reading}
-use Rattle.server_specs.specs.State.{State, Catalogue, catalogue, dependent}
+use Rattle.server_specs.specs.State.{State, Catalogue, catalogue}
 use Rattle.server_specs.specs.Answer.{Answer, long_line, not_json, bad_request, syntax, name_taken, unknown_name, refused, unbuilt}
 use Rattle.server_specs.specs.Request.{Request, define, read, put, edit, preview, describe, list, Asked, json_of, asked_in, unless_wrong, request_in, request_of, request_from, request}
 use Rattle.server_specs.specs.Sending.{BadRow}
@@ -125,25 +125,25 @@ lensed_err (Err first) known d h a e = let is : Err first ≡ Err a = cc in h a 
 lensed_err (Ok lens) known d h a e = full_err (nat_le 256 (view_count known)) views_limit d a e
 
 -- a definition is refused plainly
-pub judged_err : (known : Catalogue) (dependent : Names) (r : Result Definition Fault) → RefusesPlainly (judged known dependent r)
-judged_err known dependent (Err (syntax_at at)) a e = same_plain (syntax at) a (plain_syntax at) e
-judged_err known dependent (Err (faults.too_large what)) a e = same_plain (refused (too_large (limit_of what))) a (plain_refused (too_large (limit_of what))) e
-judged_err known dependent (Ok (table name columns deps P)) a e =
+pub judged_err : (known : Catalogue) (r : Result Definition Fault) → RefusesPlainly (judged known r)
+judged_err known (Err (syntax_at at)) a e = same_plain (syntax at) a (plain_syntax at) e
+judged_err known (Err (faults.too_large what)) a e = same_plain (refused (too_large (limit_of what))) a (plain_refused (too_large (limit_of what))) e
+judged_err known (Ok (table name columns deps P)) a e =
     unless_err (is_taken known name) (name_taken name) (where_sorted (table_sort columns deps P) known (table name columns deps P)) (plain_taken name)
     (sorted_err (table_sort columns deps P) known (table name columns deps P)) a e
-judged_err known dependent (Ok (view name expr)) a e =
-    unless_err (is_taken known name) (name_taken name) (cond (is_unbuilt known dependent expr) (Err unbuilt) (where_lensed (lens_in known expr) known (view name expr))) (plain_taken name)
-    (unless_err (is_unbuilt known dependent expr) unbuilt (where_lensed (lens_in known expr) known (view name expr)) plain_unbuilt
+judged_err known (Ok (view name expr)) a e =
+    unless_err (is_taken known name) (name_taken name) (cond (is_unbuilt known expr) (Err unbuilt) (where_lensed (lens_in known expr) known (view name expr))) (plain_taken name)
+    (unless_err (is_unbuilt known expr) unbuilt (where_lensed (lens_in known expr) known (view name expr)) plain_unbuilt
     (lensed_err (lens_in known expr) known (view name expr) (lens_err known expr))) a e
 
 said_defined : (s : State) (text : List ℕ) (d : Definition) → IsSaid s (answer_definition text (Ok d) s)
 said_defined s text (table name columns deps P) = record { refusal = λ h. absurd h; failure = λ h. h; rises = λ h. refl; stays = λ h. absurd (h tt); told = refl }
 said_defined s text (view name expr) = record { refusal = λ h. absurd h; failure = λ h. h; rises = λ h. refl; stays = λ h. absurd (h tt); told = refl }
 
-said_definition : (s : State) (text : List ℕ) (known : Catalogue) (dependent : Names) (o : Result Definition Fault) (r : Result Definition Answer) → judged known dependent o ≡ r
+said_definition : (s : State) (text : List ℕ) (known : Catalogue) (o : Result Definition Fault) (r : Result Definition Answer) → judged known o ≡ r
     → IsSaid s (answer_definition text r s)
-said_definition s text known dependent o (Err a) e = said_plain s a (judged_err known dependent o a e)
-said_definition s text known dependent o (Ok d) e = said_defined s text d
+said_definition s text known o (Err a) e = said_plain s a (judged_err known o a e)
+said_definition s text known o (Ok d) e = said_defined s text d
 
 -- ---- reads and puts
 
@@ -204,7 +204,7 @@ request_err lines.too_long a e = same_plain long_line a plain_long e
 
 said_request : (s : State) (r : Result Request Answer) → RefusesPlainly r → IsSaid s (answer_request r s)
 said_request s (Err refusal) h = said_plain s refusal (h refusal refl)
-said_request s (Ok (define text)) h = said_definition s text (catalogue s.texts) (dependent s.texts) (reading text) (judged (catalogue s.texts) (dependent s.texts) (reading text)) refl
+said_request s (Ok (define text)) h = said_definition s text (catalogue s.texts) (reading text) (judged (catalogue s.texts) (reading text)) refl
 said_request s (Ok (read name)) h = said_read s name (finmap.get (catalogue s.texts) name)
 said_request s (Ok (put name items None)) h = said_put s name items (finmap.get (catalogue s.texts) name)
 said_request s (Ok (put name items (Some on))) h = said_plain s unbuilt plain_unbuilt

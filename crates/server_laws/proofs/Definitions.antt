@@ -6,7 +6,7 @@ use Rattle.serde_json.specs.Data.{Items}
 use Rattle.lens_values.specs.SortedSet as set
 use Rattle.lens_values.specs.declared.row.Row.{Row}
 use Rattle.lens_laws.proofs.Names.{name_total, name_itself}
-use Rattle.lens_specs.specs.Names.{Name, Names}
+use Rattle.lens_specs.specs.Names.{Name}
 use Rattle.lens_specs.specs.Columns.{Columns}
 use Rattle.lens_specs.specs.Relation.{Relation}
 use Rattle.lens_specs.specs.Dependencies.{Edge}
@@ -17,7 +17,7 @@ use Rattle.lens_specs.specs.Lines.{Line}
 use Rattle.grammar_specs.specs.Meaning.{Definition, table, view, Expr}
 use Rattle.grammar_specs.specs.Faults.{Fault}
 use Rattle.grammar_laws.specs.Reading.{reading}
-use Rattle.server_specs.specs.State.{State, Catalogue, catalogue, dependent, lens_of, table_lens, with_lens}
+use Rattle.server_specs.specs.State.{State, Catalogue, catalogue, lens_of, table_lens, with_lens}
 use Rattle.server_specs.specs.Answer.{Answer, defined, shown, name_taken, unbuilt}
 use Rattle.server_specs.specs.Request.{Request, define, read, put, edit, preview, describe, list, request}
 use Rattle.server_specs.specs.Sending.{BadRow, rows_in}
@@ -38,7 +38,7 @@ unfolding answer
 answer_is s l text r asked is = ap (λ q. answer_request q s) asked ∙ ap (λ j. answer_definition text j s) is
 
 pub taken_is_read : (s : State) (text : List ℕ) (d : Definition) → judgement s text ≡ Ok d → reading text ≡ Ok d
-taken_is_read s text d j = (judged_ok (catalogue s.texts) (dependent s.texts) (reading text) d j).0
+taken_is_read s text d j = (judged_ok (catalogue s.texts) (reading text) d j).0
 
 pub taken_is_added : (s : State) (l : Line) (text : List ℕ) (d : Definition) → request l ≡ Ok (define text) → judgement s text ≡ Ok d → answer s l ≡ (defined (s.version + 1), with_defined text d s)
 taken_is_added s l text d asked j = answer_is s l text (Ok d) asked j
@@ -47,12 +47,12 @@ pub refused_stays : (s : State) (l : Line) (text : List ℕ) (refusal : Answer) 
 refused_stays s l text refusal asked j = answer_is s l text (Err refusal) asked j
 
 pub faults_told : (s : State) (l : Line) (text : List ℕ) (fault : Fault) → request l ≡ Ok (define text) → reading text ≡ Err fault → answer s l ≡ (fault_answer fault, s)
-faults_told s l text fault asked is = refused_stays s l text (fault_answer fault) asked (ap (judged (catalogue s.texts) (dependent s.texts)) is)
+faults_told s l text fault asked is = refused_stays s l text (fault_answer fault) asked (ap (judged (catalogue s.texts)) is)
 
 taken_from : (s : State) (text : List ℕ) (r : Result Definition Answer) → judgement s text ≡ r → (answer_definition text r s).0 ≡ defined (s.version + 1) → (d : Definition) × (judgement s text ≡ Ok d)
 taken_from s text (Ok d) is e = (d, is)
 taken_from s text (Err a) is e =
-    let none : told_version a ≡ None = (judged_err (catalogue s.texts) (dependent s.texts) (reading text) a is).told in
+    let none : told_version a ≡ None = (judged_err (catalogue s.texts) (reading text) a is).told in
     let some : told_version a ≡ Some (s.version + 1) = ap told_version e in
     cc
 
@@ -64,15 +64,15 @@ taken_where s l text asked = (
 
 -- ---- names that are taken
 
-twice : (known : Catalogue) (dependent : Names) (d : Definition) → is_taken known (defined_name d) ≡ true → judged known dependent (Ok d) ≡ Err (name_taken (defined_name d))
-twice known dependent (table name columns deps P) h = ap (λ b. cond b (Err (name_taken name)) (where_sorted (table_sort columns deps P) known (table name columns deps P))) h
-twice known dependent (view name expr) h =
-    ap (λ b. cond b (Err (name_taken name)) (cond (is_unbuilt known dependent expr) (Err unbuilt) (where_lensed (lens_in known expr) known (view name expr)))) h
+twice : (known : Catalogue) (d : Definition) → is_taken known (defined_name d) ≡ true → judged known (Ok d) ≡ Err (name_taken (defined_name d))
+twice known (table name columns deps P) h = ap (λ b. cond b (Err (name_taken name)) (where_sorted (table_sort columns deps P) known (table name columns deps P))) h
+twice known (view name expr) h =
+    ap (λ b. cond b (Err (name_taken name)) (cond (is_unbuilt known expr) (Err unbuilt) (where_lensed (lens_in known expr) known (view name expr)))) h
 
 pub taken_once : (s : State) (l : Line) (text : List ℕ) (d : Definition) (L : Lens) → request l ≡ Ok (define text) → reading text ≡ Ok d → finmap.get (catalogue s.texts) (defined_name d) ≡ Some L
     → answer s l ≡ (name_taken (defined_name d), s)
 taken_once s l text d L asked is e =
-    refused_stays s l text (name_taken (defined_name d)) asked (ap (judged (catalogue s.texts) (dependent s.texts)) is ∙ twice (catalogue s.texts) (dependent s.texts) d (ap is_some e))
+    refused_stays s l text (name_taken (defined_name d)) asked (ap (judged (catalogue s.texts)) is ∙ twice (catalogue s.texts) d (ap is_some e))
 
 -- ---- what the new name has
 
@@ -83,7 +83,7 @@ view_after s text name expr L j e = known_after s text (view name expr) j ∙ ap
 
 -- the lens of the view that is taken
 lens_taken : (s : State) (text : List ℕ) (name : Name) (expr : Expr) → judgement s text ≡ Ok (view name expr) → (L : Lens) × (lens_in (catalogue s.texts) expr ≡ Ok L)
-lens_taken s text name expr j = (judged_ok (catalogue s.texts) (dependent s.texts) (reading text) (view name expr) j).1.1
+lens_taken s text name expr j = (judged_ok (catalogue s.texts) (reading text) (view name expr) j).1.1
 
 -- a table that was put under a name with no rows shows none
 no_rows : (db : Tables) (name : Name) (columns : Columns) (deps : List Edge) (P : Predicate) → get (table_lens name columns deps P) (finmap.insert db name (record { columns = columns; rows = set.empty })) ≡ set.empty
@@ -125,10 +125,10 @@ beside known new name M L free e = get-other known new M name (not_free known ne
 
 stays_defined : (s : State) (text : List ℕ) (d : Definition) → judgement s text ≡ Ok d → (name : Name) (L : Lens) → Has s name L → Has (with_defined text d s) name L
 stays_defined s text (table new columns deps P) j name L e =
-    let free = (judged_ok (catalogue s.texts) (dependent s.texts) (reading text) (table new columns deps P) j).1.0 in
+    let free = (judged_ok (catalogue s.texts) (reading text) (table new columns deps P) j).1.0 in
     ap (λ k. finmap.get k name) (known_after s text (table new columns deps P) j) ∙ beside (catalogue s.texts) new name (table_lens new columns deps P) L free e
 stays_defined s text (view new expr) j name L e =
-    let free = (judged_ok (catalogue s.texts) (dependent s.texts) (reading text) (view new expr) j).1.0 in
+    let free = (judged_ok (catalogue s.texts) (reading text) (view new expr) j).1.0 in
     let w = lens_taken s text new expr j in
     ap (λ k. finmap.get k name) (view_after s text new expr w.0 j w.1) ∙ beside (catalogue s.texts) new name w.0 L free e
 

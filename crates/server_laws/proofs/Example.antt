@@ -18,7 +18,7 @@ use Rattle.lens_laws.proofs.Names.{name_total, name_itself}
 use Rattle.lens_laws.proofs.Relations.{from_those}
 use Rattle.lens_laws.proofs.Rows.{row_total, tied_row, row_itself}
 use Rattle.lens_laws.proofs.Sorts.{none_clash, none_off}
-use Rattle.lens_specs.specs.Names.{Name, Names}
+use Rattle.lens_specs.specs.Names.{Name}
 use Rattle.lens_specs.specs.Columns.{Columns, Fits, kind_at, is_kind}
 use Rattle.lens_specs.specs.Relation.{Rows, Relation, has}
 use Rattle.lens_specs.specs.Predicate.{gt, compare, Predicate, holds, mentions, compared}
@@ -32,7 +32,7 @@ use Rattle.grammar_specs.specs.Meaning.{Definition, table, view, named}
 use Rattle.grammar_specs.specs.Meaning as language
 use Rattle.grammar_specs.specs.Faults as faults
 use Rattle.grammar_laws.specs.Reading.{reading}
-use Rattle.server_specs.specs.State.{State, fresh, Catalogue, catalogue, sort_with, table_lens, is_table_of, dependent, with_definition, with_dependent, with_lens}
+use Rattle.server_specs.specs.State.{State, fresh, Catalogue, catalogue, sort_with, table_lens, is_table_of, with_definition, with_lens}
 use Rattle.server_specs.specs.Answer.{name_taken, unbuilt}
 use Rattle.server_specs.specs.Defining.{is_taken, count_named, table_count, view_count, is_other, unless_full, where_sorted, lens_named, over, where_typed, lens_in, where_lensed, judged}
 use Rattle.server_specs.specs.Answering.{put_set, with_defined}
@@ -118,10 +118,6 @@ no_tables = ap (count_named is_table_of) no_entries
 is_free : (name : Name) → is_taken none name ≡ false
 is_free name = ap is_some (finmap.get-empty bytes_cmp name)
 
--- no table has dependencies
-abbrev no_names : Names
-no_names = set.empty
-
 no_views : view_count one ≡ 0
 no_views = ap (count_named (λ name lens. not (is_table_of name lens))) (finmap.entries-insert name_total none t T ∙ ap (listed.put bytes_cmp t T) no_entries)
 
@@ -129,8 +125,8 @@ table_sorted : table_sort U [] [] ≡ Ok (sort_with U [] [])
 unfolding table_sort tree_of
 table_sorted = ap (λ n. unless_refused (or_else (when (not (nat_le n 64)) (too_large columns_limit)) None) (sort_with U [] [])) one_column
 
-first_taken : judged none no_names (reading first_text) ≡ Ok first
-first_taken = ap (judged none no_names) first_says
+first_taken : judged none (reading first_text) ≡ Ok first
+first_taken = ap (judged none) first_says
     ∙ ap (λ b. cond b (Err (name_taken t)) (where_sorted (table_sort U [] []) none first)) (is_free t)
     ∙ ap (λ r. where_sorted r none first) table_sorted
     ∙ ap (λ n. unless_full (nat_le 64 n) tables_limit first) no_tables
@@ -157,11 +153,10 @@ has_sort = ap (λ o. unless_refused o (select_sort (sort_with U [] []) P)) no_fa
 second_free : is_taken one v ≡ false
 second_free = ap is_some (get-other none t T v refl) ∙ is_free v
 
-second_taken_of_one : judged one no_names (Ok second) ≡ Ok second
+second_taken_of_one : judged one (Ok second) ≡ Ok second
 second_taken_of_one =
-    ap (λ b. cond b (Err (name_taken v)) (cond (is_other t (finmap.get one t) || set.contains no_names t) (Err unbuilt) (where_lensed (lens_in one (language.select P (named t))) one second))) second_free
-    ∙ ap (λ o. cond (is_other t o || set.contains no_names t) (Err unbuilt) (where_lensed (over (select P) (lens_named t o)) one second)) (get-new none t T)
-    ∙ ap (λ b. cond b (Err unbuilt) (where_lensed (over (select P) (Ok T)) one second)) (set.contains-empty bytes_cmp t)
+    ap (λ b. cond b (Err (name_taken v)) (cond (is_other t (finmap.get one t)) (Err unbuilt) (where_lensed (lens_in one (language.select P (named t))) one second))) second_free
+    ∙ ap (λ o. cond (is_other t o) (Err unbuilt) (where_lensed (over (select P) (lens_named t o)) one second)) (get-new none t T)
     ∙ ap (λ r. where_lensed (where_typed V r) one second) has_sort
     ∙ ap (λ n. unless_full (nat_le 256 n) views_limit second) no_views
 
@@ -173,22 +168,18 @@ with_table = with_defined first_text first fresh
 abbrev state : State
 state = with_defined second_text second with_table
 
--- the table has no dependencies
-none_dependent : dependent with_table.texts ≡ no_names
-none_dependent = ap (λ o. with_dependent o no_names) first_says
-
 known_one : catalogue with_table.texts ≡ one
 known_one = known_after fresh first_text first first_taken
 
-second_taken : judged (catalogue with_table.texts) (dependent with_table.texts) (reading second_text) ≡ Ok second
-second_taken = ap (λ k. judged k (dependent with_table.texts) (reading second_text)) known_one ∙ ap (λ names. judged one names (reading second_text)) none_dependent
-    ∙ ap (judged one no_names) second_says ∙ second_taken_of_one
+second_taken : judged (catalogue with_table.texts) (reading second_text) ≡ Ok second
+second_taken = ap (λ k. judged k (reading second_text)) known_one
+    ∙ ap (judged one) second_says ∙ second_taken_of_one
 
 with_table_valid : Valid with_table
-with_table_valid = valid_taken fresh first_text first fresh_is_valid first_taken (judged_ok none no_names (reading first_text) first first_taken).1
+with_table_valid = valid_taken fresh first_text first fresh_is_valid first_taken (judged_ok none (reading first_text) first first_taken).1
 
 valid : Valid state
-valid = valid_taken with_table second_text second with_table_valid second_taken (judged_ok (catalogue with_table.texts) (dependent with_table.texts) (reading second_text) second second_taken).1
+valid = valid_taken with_table second_text second with_table_valid second_taken (judged_ok (catalogue with_table.texts) (reading second_text) second second_taken).1
 
 known_view : finmap.get (catalogue state.texts) v ≡ Some V
 known_view =

@@ -9,7 +9,7 @@ use Rattle.lens_specs.specs.Delta.{changes}
 use Rattle.grammar_specs.specs.Meaning.{Definition, table, view}
 use Rattle.grammar_laws.specs.Reading.{reading}
 use Rattle.lens_specs.specs.Keeping.{Change, define, rows}
-use Rattle.server_specs.specs.State.{State, catalogue, dependent}
+use Rattle.server_specs.specs.State.{State, catalogue}
 use Rattle.server_specs.specs.Defining.{judged}
 use Rattle.server_specs.specs.Answering.{answer, answer_request, answer_definition, answer_read, answer_put, put_sent, put_set, unless_clash, unless_off, with_defined}
 use Rattle.server_specs.specs.Validity.{Valid}
@@ -33,10 +33,10 @@ pub puts_kept : (s : State) → Valid s → (name : Name) (L : Lens) → finmap.
 puts_kept s v name L e N none met = subst (λ o. KeptFollows (rows (changes L N s.tables)) s (unless_off o L N s).1) (sym none)
     (subst (λ c. KeptFollows (rows (changes L N s.tables)) s (unless_clash c L N s).1) (sym met) (accept_is_kept L N s (are_there L s.tables (lens_here s v name L e).are) (changes L N s.tables) refl))
 
-pub definitions_kept : (s : State) → Valid s → (text : List ℕ) (definition : Definition) → judged (catalogue s.texts) (dependent s.texts) (reading text) ≡ Ok definition
+pub definitions_kept : (s : State) → Valid s → (text : List ℕ) (definition : Definition) → judged (catalogue s.texts) (reading text) ≡ Ok definition
     → KeptFollows (define text (table_made definition)) s (with_defined text definition s)
 definitions_kept s v text (table name columns deps P) j =
-    let free = (judged_ok (catalogue s.texts) (dependent s.texts) (reading text) (table name columns deps P) j).1.0 in
+    let free = (judged_ok (catalogue s.texts) (reading text) (table name columns deps P) j).1.0 in
     table_is_kept text name columns s (with_defined text (table name columns deps P) s)
     (ap is_some (no_table name (finmap.get (catalogue s.texts) name) (finmap.get s.tables name) free (v.tables name))) refl refl
 definitions_kept s v text (view name expr) j = view_is_kept text s (with_defined text (view name expr) s) refl refl
@@ -46,10 +46,10 @@ definitions_kept s v text (view name expr) j = view_is_kept text s (with_defined
 IsKept : Answer × State → State → Type 0
 IsKept r s = IsChange r.0 → (change : Change) × KeptFollows change s r.1
 
-kept_definition : (s : State) → Valid s → (text : List ℕ) (r : Result Definition Answer) → judged (catalogue s.texts) (dependent s.texts) (reading text) ≡ r → IsKept (answer_definition text r s) s
+kept_definition : (s : State) → Valid s → (text : List ℕ) (r : Result Definition Answer) → judged (catalogue s.texts) (reading text) ≡ r → IsKept (answer_definition text r s) s
 unfolding IsKept
 kept_definition s v text (Ok d) j h = (define text (table_made d), definitions_kept s v text d j)
-kept_definition s v text (Err a) j h = absurd ((judged_err (catalogue s.texts) (dependent s.texts) (reading text) a j).change h)
+kept_definition s v text (Err a) j h = absurd ((judged_err (catalogue s.texts) (reading text) a j).change h)
 
 kept_read : (s : State) (name : Name) (o : Option Lens) → IsKept (answer_read name o s) s
 unfolding IsKept
@@ -79,7 +79,7 @@ kept_answer_put s v name items (Some L) e h = kept_sent s L (are_there L s.table
 kept_request : (s : State) → Valid s → (r : Result Request Answer) → RefusesPlainly r → IsKept (answer_request r s) s
 unfolding IsKept
 kept_request s v (Err refusal) r h = absurd ((r refusal refl).change h)
-kept_request s v (Ok (define_request text)) r h = kept_definition s v text (judged (catalogue s.texts) (dependent s.texts) (reading text)) refl h
+kept_request s v (Ok (define_request text)) r h = kept_definition s v text (judged (catalogue s.texts) (reading text)) refl h
 kept_request s v (Ok (read name)) r h = kept_read s name (finmap.get (catalogue s.texts) name) h
 kept_request s v (Ok (put_request name items None)) r h = kept_answer_put s v name items (finmap.get (catalogue s.texts) name) refl h
 kept_request s v (Ok (put_request name items (Some on))) r h = absurd h

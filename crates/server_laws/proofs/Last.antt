@@ -21,7 +21,7 @@ use Rattle.lens_specs.specs.Delta.{TableDelta, diff, is_empty, differences, chan
 use Rattle.grammar_specs.specs.Meaning.{Definition, table, view}
 use Rattle.lens_specs.specs.Lines.{Line}
 use Rattle.grammar_laws.specs.Reading.{reading}
-use Rattle.server_specs.specs.State.{State, catalogue, dependent}
+use Rattle.server_specs.specs.State.{State, catalogue}
 use Rattle.server_specs.specs.Answer.{Answer}
 use Rattle.server_specs.specs.Request.{Request, define, read, put as put_request, edit, preview, describe, list, request}
 use Rattle.server_specs.specs.Defining.{judged}
@@ -126,7 +126,7 @@ last_read s name (Some L) q = stays s q
 
 last_request : (s : State) → Valid s → (r : Result Request Answer) (q : Name) → IsLast s (answer_request r s).1 q
 last_request s v (Err refusal) q = stays s q
-last_request s v (Ok (define text)) q = last_definition s text (judged (catalogue s.texts) (dependent s.texts) (reading text)) q
+last_request s v (Ok (define text)) q = last_definition s text (judged (catalogue s.texts) (reading text)) q
 last_request s v (Ok (read name)) q = last_read s name (finmap.get (catalogue s.texts) name) q
 last_request s v (Ok (put_request name items None)) q = last_answer_put s name items v (finmap.get (catalogue s.texts) name) refl q
 last_request s v (Ok (put_request name items (Some on))) q = stays s q

@@ -11,8 +11,7 @@ use Rattle.lens_laws.proofs.Names.{name_total, name_itself, tied_name}
 use Rattle.lens_laws.proofs.Rules.{sort_is_typed, table_sort_is_sound}
 use Rattle.lens_laws.specs.Passes.{IsSound}
 use Rattle.lens_laws.specs.Rules.{BasesAreSound}
-use Rattle.lens_values.specs.SortedSet as set
-use Rattle.lens_specs.specs.Names.{Name, Names}
+use Rattle.lens_specs.specs.Names.{Name}
 use Rattle.lens_specs.specs.Dependencies.{Edge}
 use Rattle.lens_specs.specs.TreeForm.{TreeForm, is_tree, not_tree, tree_of}
 use Rattle.lens_specs.specs.Sort.{Sort}
@@ -25,7 +24,7 @@ use Rattle.grammar_specs.specs.Meaning.{Definition, table, view, Expr, named}
 use Rattle.grammar_specs.specs.Meaning as language
 use Rattle.grammar_specs.specs.Faults.{Fault}
 use Rattle.grammar_laws.specs.Reading.{reading}
-use Rattle.server_specs.specs.State.{Catalogue, catalogue, catalogue_onto, with_definition, with_lens, lens_of, join_of, sort_with, table_lens, is_table_of, dependent_onto, dependent, with_dependent}
+use Rattle.server_specs.specs.State.{Catalogue, catalogue, catalogue_onto, with_definition, with_lens, lens_of, join_of, sort_with, table_lens, is_table_of}
 use Rattle.server_specs.specs.Answer.{Answer, name_taken, unbuilt}
 use Rattle.server_specs.specs.Defining.{is_taken, table_count, view_count, unless_full, where_sorted, lens_named, where_typed, over, over_both, lens_in, where_lensed, is_unbuilt, judged, refused_from, first_refused}
 
@@ -54,15 +53,15 @@ passed true a r e h = cc
 passed false a r e h = (refl, h)
 
 -- what is judged well is the definition itself, and it is taken
-pub judged_ok : (known : Catalogue) (dependent : Names) (r : Result Definition Fault) (d : Definition) → judged known dependent r ≡ Ok d → (r ≡ Ok d) × IsTaken known d
-judged_ok known dependent (Err fault) d h = cc
-judged_ok known dependent (Ok (table name columns deps predicate)) d h =
+pub judged_ok : (known : Catalogue) (r : Result Definition Fault) (d : Definition) → judged known r ≡ Ok d → (r ≡ Ok d) × IsTaken known d
+judged_ok known (Err fault) d h = cc
+judged_ok known (Ok (table name columns deps predicate)) d h =
     let free = passed (is_taken known name) (name_taken name) (where_sorted (table_sort columns deps predicate) known (table name columns deps predicate)) d h in
     let w = sorted_ok (table_sort columns deps predicate) known (table name columns deps predicate) d free.1 in
     (ap Ok w.1, subst (IsTaken known) w.1 (free.0, w.0))
-judged_ok known dependent (Ok (view name expr)) d h =
-    let free = passed (is_taken known name) (name_taken name) (cond (is_unbuilt known dependent expr) (Err unbuilt) (where_lensed (lens_in known expr) known (view name expr))) d h in
-    let built = passed (is_unbuilt known dependent expr) unbuilt (where_lensed (lens_in known expr) known (view name expr)) d free.1 in
+judged_ok known (Ok (view name expr)) d h =
+    let free = passed (is_taken known name) (name_taken name) (cond (is_unbuilt known expr) (Err unbuilt) (where_lensed (lens_in known expr) known (view name expr))) d h in
+    let built = passed (is_unbuilt known expr) unbuilt (where_lensed (lens_in known expr) known (view name expr)) d free.1 in
     let w = lensed_ok (lens_in known expr) known (view name expr) d built.1 in
     (ap Ok w.1, subst (IsTaken known) w.1 (free.0, w.0))
 
@@ -241,29 +240,28 @@ place_none true o e = cc
 place_none false None e = (refl, refl)
 place_none false (Some n) e = cc
 
-none_refused : (known : Catalogue) (dependent : Names) (texts : List (List ℕ)) → AllKnown known → refused_from known dependent texts ≡ None → AllKnown (catalogue_onto known texts)
-none_refused known dependent [] all h = all
-none_refused known dependent (text ∷ texts) all h =
-    let w = place_none (is_err (judged known dependent (reading text))) (refused_from (with_definition (reading text) known) (with_dependent (reading text) dependent) texts) h in
-    let j = no_error (judged known dependent (reading text)) w.0 in
-    let d = judged_ok known dependent (reading text) j.0 j.1 in
-    none_refused (with_definition (reading text) known) (with_dependent (reading text) dependent) texts (subst (λ r. AllKnown (with_definition r known)) (sym d.0) (still_known known j.0 d.1 all)) w.1
+none_refused : (known : Catalogue) (texts : List (List ℕ)) → AllKnown known → refused_from known texts ≡ None → AllKnown (catalogue_onto known texts)
+none_refused known [] all h = all
+none_refused known (text ∷ texts) all h =
+    let w = place_none (is_err (judged known (reading text))) (refused_from (with_definition (reading text) known) texts) h in
+    let j = no_error (judged known (reading text)) w.0 in
+    let d = judged_ok known (reading text) j.0 j.1 in
+    none_refused (with_definition (reading text) known) texts (subst (λ r. AllKnown (with_definition r known)) (sym d.0) (still_known known j.0 d.1 all)) w.1
 
 -- every lens of a catalogue of taken texts is known
 pub all_known : (texts : List (List ℕ)) → first_refused texts ≡ None → AllKnown (catalogue texts)
-all_known texts h = none_refused finmap.empty set.empty texts (λ name L e. let f : None ≡ Some L = sym (finmap.get-empty bytes_cmp name) ∙ e in cc) h
+all_known texts h = none_refused finmap.empty texts (λ name L e. let f : None ≡ Some L = sym (finmap.get-empty bytes_cmp name) ∙ e in cc) h
 
-refused-push : (known : Catalogue) (names : Names) (texts : List (List ℕ)) (text : List ℕ) (d : Definition) → refused_from known names texts ≡ None
-    → judged (catalogue_onto known texts) (dependent_onto names texts) (reading text) ≡ Ok d → refused_from known names (texts ++ text ∷ []) ≡ None
-refused-push known names [] text d h j = ap (λ r. cond (is_err r) (Some 0) None) j
-refused-push known names (first ∷ texts) text d h j =
+refused-push : (known : Catalogue) (texts : List (List ℕ)) (text : List ℕ) (d : Definition) → refused_from known texts ≡ None
+    → judged (catalogue_onto known texts) (reading text) ≡ Ok d → refused_from known (texts ++ text ∷ []) ≡ None
+refused-push known [] text d h j = ap (λ r. cond (is_err r) (Some 0) None) j
+refused-push known (first ∷ texts) text d h j =
     let after = with_definition (reading first) known in
-    let dependents = with_dependent (reading first) names in
-    let w = place_none (is_err (judged known names (reading first))) (refused_from after dependents texts) h in
-    ap (λ b. cond b (Some 0) (option_map suc (refused_from after dependents (texts ++ text ∷ [])))) w.0
-    ∙ ap (option_map suc) (refused-push after dependents texts text d w.1 j)
+    let w = place_none (is_err (judged known (reading first))) (refused_from after texts) h in
+    ap (λ b. cond b (Some 0) (option_map suc (refused_from after (texts ++ text ∷ [])))) w.0
+    ∙ ap (option_map suc) (refused-push after texts text d w.1 j)
 
 -- one text more that is taken
-pub first_refused-push : (texts : List (List ℕ)) (text : List ℕ) (d : Definition) → first_refused texts ≡ None → judged (catalogue texts) (dependent texts) (reading text) ≡ Ok d
+pub first_refused-push : (texts : List (List ℕ)) (text : List ℕ) (d : Definition) → first_refused texts ≡ None → judged (catalogue texts) (reading text) ≡ Ok d
     → first_refused (texts ++ text ∷ []) ≡ None
-first_refused-push texts text d h j = refused-push finmap.empty set.empty texts text d h j
+first_refused-push texts text d h j = refused-push finmap.empty texts text d h j

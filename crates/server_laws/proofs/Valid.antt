@@ -28,7 +28,7 @@ use Rattle.grammar_specs.specs.Meaning.{Definition, table, view}
 use Rattle.lens_specs.specs.Lines.{Line}
 use Rattle.grammar_laws.specs.Reading.{reading}
 use Rattle.server_specs.proofs.Catalogues.{catalogue-push}
-use Rattle.server_specs.specs.State.{State, fresh, Catalogue, catalogue, with_definition, with_lens, sort_with, table_lens, is_table_of, dependent}
+use Rattle.server_specs.specs.State.{State, fresh, Catalogue, catalogue, with_definition, with_lens, sort_with, table_lens, is_table_of}
 use Rattle.server_specs.specs.Answer.{Answer}
 use Rattle.server_specs.specs.Request.{Request, define, read, put as put_request, edit, preview, describe, list, request}
 use Rattle.server_specs.specs.Defining.{judged, is_taken}
@@ -200,10 +200,10 @@ stored_view known db name L free other h q =
     ] refl)
 
 -- the catalogue after a definition that is taken
-pub known_after : (s : State) (text : List ℕ) (d : Definition) → judged (catalogue s.texts) (dependent s.texts) (reading text) ≡ Ok d → catalogue (s.texts ++ text ∷ []) ≡ with_definition (Ok d) (catalogue s.texts)
-known_after s text d j = catalogue-push s.texts text ∙ ap (λ r. with_definition r (catalogue s.texts)) (judged_ok (catalogue s.texts) (dependent s.texts) (reading text) d j).0
+pub known_after : (s : State) (text : List ℕ) (d : Definition) → judged (catalogue s.texts) (reading text) ≡ Ok d → catalogue (s.texts ++ text ∷ []) ≡ with_definition (Ok d) (catalogue s.texts)
+known_after s text d j = catalogue-push s.texts text ∙ ap (λ r. with_definition r (catalogue s.texts)) (judged_ok (catalogue s.texts) (reading text) d j).0
 
-stored_after : (s : State) (text : List ℕ) (d : Definition) → judged (catalogue s.texts) (dependent s.texts) (reading text) ≡ Ok d → (db : Tables) → AreStored (with_definition (Ok d) (catalogue s.texts)) db → AreStored (catalogue (s.texts ++ text ∷ [])) db
+stored_after : (s : State) (text : List ℕ) (d : Definition) → judged (catalogue s.texts) (reading text) ≡ Ok d → (db : Tables) → AreStored (with_definition (Ok d) (catalogue s.texts)) db → AreStored (catalogue (s.texts ++ text ∷ [])) db
 stored_after s text d j db h = subst (λ k. AreStored k db) (sym (known_after s text d j)) h
 
 inserted_names : (last : finmap.FinMap bytes_cmp ℕ) (db : Tables) (name : Name) (v : ℕ) (r : Relation) → ((q : Name) → is_some (finmap.get last q) ≡ is_some (finmap.get db q))
@@ -218,7 +218,7 @@ inserted_names last db name v r h q = ap is_some (finmap.get-insert name_total l
 later_all : (s : State) → Valid s → (q : Name) → IfSome (finmap.get s.last q) (λ version. version ≤ s.version + 1)
 later_all s v q = later (finmap.get s.last q) s.version (s.version + 1) (omega arith) (v.past q)
 
-pub valid_taken : (s : State) (text : List ℕ) (d : Definition) → Valid s → judged (catalogue s.texts) (dependent s.texts) (reading text) ≡ Ok d → IsTaken (catalogue s.texts) d → Valid (with_defined text d s)
+pub valid_taken : (s : State) (text : List ℕ) (d : Definition) → Valid s → judged (catalogue s.texts) (reading text) ≡ Ok d → IsTaken (catalogue s.texts) d → Valid (with_defined text d s)
 valid_taken s text (table name columns deps P) v j h = record {
   definitions = first_refused-push s.texts text (table name columns deps P) v.definitions j;
   tables = stored_after s text (table name columns deps P) j (finmap.insert s.tables name (record { columns = columns; rows = set.empty })) (stored_table (catalogue s.texts) s.tables name columns deps P v.tables);
@@ -235,9 +235,9 @@ valid_taken s text (view name expr) v j h =
       past = λ q. later_all s v q;
     }
 
-valid_definition : (s : State) (text : List ℕ) → Valid s → (r : Result Definition Answer) → judged (catalogue s.texts) (dependent s.texts) (reading text) ≡ r → Valid (answer_definition text r s).1
+valid_definition : (s : State) (text : List ℕ) → Valid s → (r : Result Definition Answer) → judged (catalogue s.texts) (reading text) ≡ r → Valid (answer_definition text r s).1
 valid_definition s text v (Err refusal) j = v
-valid_definition s text v (Ok d) j = valid_taken s text d v j (judged_ok (catalogue s.texts) (dependent s.texts) (reading text) d j).1
+valid_definition s text v (Ok d) j = valid_taken s text d v j (judged_ok (catalogue s.texts) (reading text) d j).1
 
 -- ---- answers and sessions
 
@@ -247,7 +247,7 @@ valid_read s name (Some L) v = v
 
 valid_request : (s : State) (r : Result Request Answer) → Valid s → Valid (answer_request r s).1
 valid_request s (Err refusal) v = v
-valid_request s (Ok (define text)) v = valid_definition s text v (judged (catalogue s.texts) (dependent s.texts) (reading text)) refl
+valid_request s (Ok (define text)) v = valid_definition s text v (judged (catalogue s.texts) (reading text)) refl
 valid_request s (Ok (read name)) v = valid_read s name (finmap.get (catalogue s.texts) name) v
 valid_request s (Ok (put_request name items None)) v = valid_answer_put s name items v (finmap.get (catalogue s.texts) name) refl
 valid_request s (Ok (put_request name items (Some on))) v = v

@@ -11,7 +11,7 @@ use Rattle.lens_specs.specs.Relation.{Name}
 use Rattle.grammar_specs.specs.Meaning.{Definition, table, view, Expr}
 use Rattle.grammar_specs.specs.Faults.{Fault}
 use Rattle.grammar_laws.specs.Reading.{reading}
-use Rattle.server_specs.specs.State.{State, catalogue, dependent, lens_of}
+use Rattle.server_specs.specs.State.{State, catalogue, lens_of}
 use Rattle.server_specs.specs.Answer.{Answer, defined, shown, name_taken}
 use Rattle.server_specs.specs.Request.{define, read, request}
 use Rattle.server_specs.specs.Defining.{fault_answer, judged}
@@ -19,7 +19,7 @@ use Rattle.server_specs.specs.Answering.{answer, with_defined}
 
 -- the judgement of a text behind the definitions of a state
 abbrev pub judgement : State → List ℕ → Result Definition Answer
-judgement s text = judged (catalogue s.texts) (dependent s.texts) (reading text)
+judgement s text = judged (catalogue s.texts) (reading text)
 
 -- the name that is defined
 abbrev pub defined_name : Definition → Name

@@ -9,7 +9,7 @@ use Rattle.grammar_specs.specs.Meaning.{Definition, table, view}
 use Rattle.lens_specs.specs.Lines.{Line}
 use Rattle.grammar_laws.specs.Reading.{reading}
 use Rattle.lens_specs.specs.Keeping.{Change, define, rows, changed, CanChange}
-use Rattle.server_specs.specs.State.{State, catalogue, dependent, kept}
+use Rattle.server_specs.specs.State.{State, catalogue, kept}
 use Rattle.server_specs.specs.Defining.{judged}
 use Rattle.server_specs.specs.Answering.{answer, put_set, with_defined}
 use Rattle.server_specs.specs.Validity.{Valid}
@@ -31,7 +31,7 @@ PutsAreKept = (s : State) → Valid s → (name : Name) (L : Lens) → finmap.ge
 
 -- a definition that is taken is kept, with its table
 abbrev pub DefinitionsAreKept : Type 0
-DefinitionsAreKept = (s : State) → Valid s → (text : List ℕ) (definition : Definition) → judged (catalogue s.texts) (dependent s.texts) (reading text) ≡ Ok definition
+DefinitionsAreKept = (s : State) → Valid s → (text : List ℕ) (definition : Definition) → judged (catalogue s.texts) (reading text) ≡ Ok definition
     → KeptFollows (define text (table_made definition)) s (with_defined text definition s)
 
 -- each answer that changes something is kept by one change that can be made

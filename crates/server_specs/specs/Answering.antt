@@ -12,7 +12,7 @@ use Rattle.lens_specs.specs.Delta.{TableDelta, changes}
 use Rattle.grammar_specs.specs.Meaning.{Definition, table, view}
 use Rattle.grammar_laws.specs.Reading.{reading}
 use Rattle.lens_specs.specs.Lines.{Line}
-use Rattle.server_specs.specs.State.{State, catalogue, dependent}
+use Rattle.server_specs.specs.State.{State, catalogue}
 use Rattle.server_specs.specs.Answer.{Answer, defined, shown, changed, unknown_name, bad_row, in_rows, off_predicate, clash, unbuilt}
 use Rattle.server_specs.specs.Request.{Request, define, read, put, edit, preview, describe, list, request}
 use Rattle.server_specs.specs.Defining.{judged}
@@ -90,7 +90,7 @@ answer_put name rows (Some lens) s = put_sent (rows_in (sort_of lens).columns ro
 -- A request is answered, or its refusal. What rests on a version, edits, previews, types and the list of definitions are not built.
 abbrev pub answer_request : Result Request Answer → State → Answer × State
 answer_request (Err refusal) s = unchanged refusal s
-answer_request (Ok (define text)) s = answer_definition text (judged (catalogue s.texts) (dependent s.texts) (reading text)) s
+answer_request (Ok (define text)) s = answer_definition text (judged (catalogue s.texts) (reading text)) s
 answer_request (Ok (read name)) s = answer_read name (finmap.get (catalogue s.texts) name) s
 answer_request (Ok (put name rows None)) s = answer_put name rows (finmap.get (catalogue s.texts) name) s
 answer_request (Ok (put name rows (Some on))) s = unchanged unbuilt s

@@ -1,8 +1,7 @@
 -- Which definitions are taken.
-use Rattle.std.specs.Prelude.{ℕ, suc, ◌||◌, Bool, true, false, not, List, [], ◌∷◌, nat_le, is_some, is_err, Option, Some, None, option_map, Result, Ok, Err, if◌then◌else◌}
+use Rattle.std.specs.Prelude.{ℕ, suc, Bool, true, false, not, List, [], ◌∷◌, nat_le, is_some, is_err, Option, Some, None, option_map, Result, Ok, Err, if◌then◌else◌}
 use Rattle.std.specs.FinMap as finmap
-use Rattle.lens_values.specs.SortedSet as set
-use Rattle.lens_specs.specs.Names.{Name, Names}
+use Rattle.lens_specs.specs.Names.{Name}
 use Rattle.lens_specs.specs.Columns.{Columns}
 use Rattle.lens_specs.specs.Dependencies.{Edge}
 use Rattle.lens_specs.specs.Predicate.{Predicate}
@@ -16,7 +15,7 @@ use Rattle.grammar_specs.specs.Meaning.{Expr, named, Definition, table, view}
 use Rattle.grammar_specs.specs.Faults as faults
 use Rattle.grammar_specs.specs.Faults.{Fault, syntax_at}
 use Rattle.grammar_laws.specs.Reading.{reading}
-use Rattle.server_specs.specs.State.{Catalogue, is_table_of, with_definition, with_dependent}
+use Rattle.server_specs.specs.State.{Catalogue, is_table_of, with_definition}
 use Rattle.server_specs.specs.Answer.{Answer, syntax, name_taken, unknown_name, refused, unbuilt}
 
 -- ---- names, and how many there are
@@ -66,15 +65,15 @@ judged_table known name columns deps predicate =
 
 -- ---- views
 
--- Only a table itself and the selection of a table with no dependencies are built.
-abbrev pub is_unbuilt : Catalogue → Names → Expr → Bool
-is_unbuilt known dependent (named source) = is_view known source
-is_unbuilt known dependent (language.select predicate (named source)) = is_view known source || set.contains dependent source
-is_unbuilt known dependent (language.select predicate (language.select inner of)) = true
-is_unbuilt known dependent (language.select predicate (language.drop column by value of)) = true
-is_unbuilt known dependent (language.select predicate (language.join left right)) = true
-is_unbuilt known dependent (language.drop column by value of) = true
-is_unbuilt known dependent (language.join left right) = true
+-- Only a table itself and the selection of a table are built.
+abbrev pub is_unbuilt : Catalogue → Expr → Bool
+is_unbuilt known (named source) = is_view known source
+is_unbuilt known (language.select predicate (named source)) = is_view known source
+is_unbuilt known (language.select predicate (language.select inner of)) = true
+is_unbuilt known (language.select predicate (language.drop column by value of)) = true
+is_unbuilt known (language.select predicate (language.join left right)) = true
+is_unbuilt known (language.drop column by value of) = true
+is_unbuilt known (language.join left right) = true
 
 -- the lens that the name has, or else the refusal
 abbrev pub lens_named : Name → Option Lens → Result Lens Answer
@@ -109,10 +108,10 @@ where_lensed (Err first) known definition = Err first
 where_lensed (Ok lens) known definition = unless_full (nat_le 256 (view_count known)) views_limit definition
 
 -- A view is taken where its name is free, its expression has a lens, and there are fewer than 256 views.
-abbrev pub judged_view : Catalogue → Names → Name → Expr → Result Definition Answer
-judged_view known dependent name expr =
+abbrev pub judged_view : Catalogue → Name → Expr → Result Definition Answer
+judged_view known name expr =
     if is_taken known name then Err (name_taken name)
-    else (if is_unbuilt known dependent expr then Err unbuilt else where_lensed (lens_in known expr) known (view name expr))
+    else (if is_unbuilt known expr then Err unbuilt else where_lensed (lens_in known expr) known (view name expr))
 
 -- ---- texts
 
@@ -127,19 +126,19 @@ abbrev pub fault_answer : Fault → Answer
 fault_answer (syntax_at at) = syntax at
 fault_answer (faults.too_large what) = refused (refusal.too_large (limit_of what))
 
--- the definition, where it is taken after those that made the catalogue and the tables with dependencies, or else its refusal
-abbrev pub judged : Catalogue → Names → Result Definition Fault → Result Definition Answer
-judged known dependent (Err fault) = Err (fault_answer fault)
-judged known dependent (Ok (table name columns deps predicate)) = judged_table known name columns deps predicate
-judged known dependent (Ok (view name expr)) = judged_view known dependent name expr
+-- the definition, where it is taken after those that made the catalogue, or else its refusal
+abbrev pub judged : Catalogue → Result Definition Fault → Result Definition Answer
+judged known (Err fault) = Err (fault_answer fault)
+judged known (Ok (table name columns deps predicate)) = judged_table known name columns deps predicate
+judged known (Ok (view name expr)) = judged_view known name expr
 
--- the place of the first of these texts that is refused after those that made the catalogue and the tables with dependencies
-abbrev pub refused_from : Catalogue → Names → List (List ℕ) → Option ℕ
-refused_from known dependent [] = None
-refused_from known dependent (text ∷ texts) =
-    if is_err (judged known dependent (reading text)) then Some 0
-    else option_map suc (refused_from (with_definition (reading text) known) (with_dependent (reading text) dependent) texts)
+-- the place of the first of these texts that is refused after those that made the catalogue
+abbrev pub refused_from : Catalogue → List (List ℕ) → Option ℕ
+refused_from known [] = None
+refused_from known (text ∷ texts) =
+    if is_err (judged known (reading text)) then Some 0
+    else option_map suc (refused_from (with_definition (reading text) known) texts)
 
 -- the place of the first of these texts that is refused, the texts being taken in order
 abbrev pub first_refused : List (List ℕ) → Option ℕ
-first_refused = refused_from finmap.empty set.empty
+first_refused = refused_from finmap.empty

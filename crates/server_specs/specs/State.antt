@@ -4,7 +4,7 @@ use Rattle.std.specs.Cmp.Lexicographic.{pointwise}
 use Rattle.std.specs.FinMap as finmap
 use Rattle.lens_values.specs.Order.{bytes_cmp}
 use Rattle.lens_values.specs.SortedSet as set
-use Rattle.lens_specs.specs.Names.{Name, Names}
+use Rattle.lens_specs.specs.Names.{Name}
 use Rattle.lens_specs.specs.Relation.{Columns, Rows, Relation}
 use Rattle.lens_specs.specs.Dependencies.{Edge}
 use Rattle.lens_specs.specs.TreeForm.{tree_of}
@@ -79,22 +79,6 @@ catalogue_onto known (text ∷ texts) = catalogue_onto (with_definition (reading
 -- the lenses that come of taking the definition texts in order
 abbrev pub catalogue : List (List ℕ) → Catalogue
 catalogue = catalogue_onto finmap.empty
-
--- with the name of a table that has dependencies
-abbrev pub with_dependent : Result Definition Fault → Names → Names
-with_dependent (Err fault) names = names
-with_dependent (Ok (table name columns [] predicate)) names = names
-with_dependent (Ok (table name columns (dep ∷ deps) predicate)) names = set.insert names name
-with_dependent (Ok (view name expr)) names = names
-
--- the tables of these texts that have dependencies, added to a set of names
-abbrev pub dependent_onto : Names → List (List ℕ) → Names
-dependent_onto names [] = names
-dependent_onto names (text ∷ texts) = dependent_onto (with_dependent (reading text) names) texts
-
--- the tables that were defined with dependencies
-abbrev pub dependent : List (List ℕ) → Names
-dependent = dependent_onto set.empty
 
 -- the rows of each table
 abbrev pub rows_of_each : List (Name × Relation) → List (Name × Rows)

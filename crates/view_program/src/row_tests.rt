@@ -57,7 +57,7 @@ const DEFINITIONS: &str =
 {"do":"define","text":"table albums (album text, quantity int) with album -> quantity where quantity >= 0"}
 {"ok":true,"version":4}
 {"do":"define","text":"view v = select from albums where true"}
-{"error":99,"ok":false}
+{"col":"quantity","error":27,"ok":false}
 {"do":"define","text":"view stock = albums"}
 {"ok":true,"version":5}"#;
 
@@ -89,6 +89,51 @@ const PUTS: &str =
 {"changed":[{"add":[{"k":-9223372036854775808},{"k":9223372036854775807}],"remove":[],"table":"n"}],"ok":true,"version":11}
 {"do":"read","view":"n"}
 {"ok":true,"rows":[{"k":-9223372036854775808},{"k":9223372036854775807}],"version":11}"#;
+
+/// Selections of tables with dependencies: hidden rows are revised, and those that would then be shown unsent are deleted.
+const SELECTIONS: &str =
+    r#"{"do":"define","text":"table sales (track text, album text, quantity int) with album -> quantity"}
+{"ok":true,"version":1}
+{"do":"define","text":"view big = select from sales where quantity > 2"}
+{"ok":true,"version":2}
+{"do":"put","view":"sales","rows":[{"album":"G","quantity":1,"track":"t1"},{"album":"G","quantity":1,"track":"t2"}]}
+{"changed":[{"add":[{"album":"G","quantity":1,"track":"t1"},{"album":"G","quantity":1,"track":"t2"}],"remove":[],"table":"sales"}],"ok":true,"version":3}
+{"do":"read","view":"big"}
+{"ok":true,"rows":[],"version":3}
+{"do":"put","view":"big","rows":[{"album":"G","quantity":5,"track":"t1"}]}
+{"changed":[{"add":[{"album":"G","quantity":5,"track":"t1"}],"remove":[{"album":"G","quantity":1,"track":"t1"},{"album":"G","quantity":1,"track":"t2"}],"table":"sales"}],"ok":true,"version":4}
+{"do":"read","view":"big"}
+{"ok":true,"rows":[{"album":"G","quantity":5,"track":"t1"}],"version":4}
+{"do":"put","view":"big","rows":[{"album":"G","quantity":5,"track":"t1"}]}
+{"changed":[],"ok":true,"version":4}
+{"do":"put","view":"sales","rows":[{"album":"G","quantity":1,"track":"t1"}]}
+{"changed":[{"add":[{"album":"G","quantity":1,"track":"t1"}],"remove":[{"album":"G","quantity":5,"track":"t1"}],"table":"sales"}],"ok":true,"version":5}
+{"do":"put","view":"big","rows":[{"album":"G","quantity":7,"track":"t1"}]}
+{"changed":[{"add":[{"album":"G","quantity":7,"track":"t1"}],"remove":[{"album":"G","quantity":1,"track":"t1"}],"table":"sales"}],"ok":true,"version":6}
+{"do":"put","view":"big","rows":[{"album":"G","quantity":8,"track":"t1"},{"album":"G","quantity":7,"track":"t2"}]}
+{"edge":{"left":["album"],"right":["quantity"]},"error":43,"ok":false,"rows":[{"album":"G","quantity":7,"track":"t2"},{"album":"G","quantity":8,"track":"t1"}]}
+{"do":"define","text":"table chain (track text, album text, quantity int) with track -> album, album -> quantity"}
+{"ok":true,"version":7}
+{"do":"define","text":"view most = select from chain where track != 'b'"}
+{"ok":true,"version":8}
+{"do":"put","view":"chain","rows":[{"album":"X","quantity":1,"track":"a"},{"album":"X","quantity":1,"track":"b"},{"album":"Y","quantity":2,"track":"c"}]}
+{"changed":[{"add":[{"album":"X","quantity":1,"track":"a"},{"album":"X","quantity":1,"track":"b"},{"album":"Y","quantity":2,"track":"c"}],"remove":[],"table":"chain"}],"ok":true,"version":9}
+{"do":"put","view":"most","rows":[{"album":"X","quantity":9,"track":"a"},{"album":"Y","quantity":2,"track":"c"}]}
+{"changed":[{"add":[{"album":"X","quantity":9,"track":"a"},{"album":"X","quantity":9,"track":"b"}],"remove":[{"album":"X","quantity":1,"track":"a"},{"album":"X","quantity":1,"track":"b"}],"table":"chain"}],"ok":true,"version":10}
+{"do":"define","text":"table q (k int, a int) with k -> a where a > 5"}
+{"ok":true,"version":11}
+{"do":"define","text":"view v = select from q where k = 1"}
+{"col":"a","error":27,"ok":false}
+{"do":"define","text":"view v = select from q where k = 'x'"}
+{"error":26,"name":"k","ok":false}
+{"do":"define","text":"table r (k int, a int, b int) with k -> a b where b > 5 and a > 5"}
+{"ok":true,"version":12}
+{"do":"define","text":"view v = select from r where true"}
+{"col":"a","error":27,"ok":false}
+{"do":"define","text":"table u (k int, a int) with k -> a where k > 0"}
+{"ok":true,"version":13}
+{"do":"define","text":"view v = select from u where a > 1"}
+{"ok":true,"version":14}"#;
 
 /// Lines that are no request, and requests that are not built.
 const REQUESTS: &str = r#"{"do":"read"}
@@ -130,6 +175,13 @@ fn follow(alloc: Global, scripts: &[&str]) -> Result<(Vec<u8>, Vec<u8>), Fail> {
         Vec::from_slice(alloc, sink.bytes())?,
         text_of(alloc, &replies)?,
     ))
+}
+
+#[test]
+fn selections(rt: HostRuntime) -> Result<(), Fail> {
+    let (given, wanted) = follow(rt.alloc(), &[SELECTIONS])?;
+    assert_eq!(rt; given, wanted);
+    Ok(())
 }
 
 #[test]

@@ -94,6 +94,8 @@ const THIRD: &str = r#"{"ok":true,"version":3}"#;
 
 const FOURTH: &str = r#"{"ok":true,"version":4}"#;
 
+const FIFTH: &str = r#"{"ok":true,"version":5}"#;
+
 const CHAIN_CLASH: &str =
     r#"{"edge":{"left":["track"],"right":["album"]},"error":43,"ok":false,"rows":[{"album":"X","quantity":1,"track":"t"},{"album":"Y","quantity":3,"track":"t"}]}"#;
 
@@ -260,8 +262,8 @@ fn dependencies(rt: HostRuntime) -> Result<(), Fail> {
         (MAKE_CYCLE, CYCLE),
         (PUT_ALBUMS, ALBUMS_PUT),
         (MAKE_TRIVIAL, THIRD),
-        (SELECT_TRIVIAL, UNBUILT),
-        (MAKE_CHAIN, FOURTH),
+        (SELECT_TRIVIAL, FOURTH),
+        (MAKE_CHAIN, FIFTH),
         (PUT_CHAIN, CHAIN_CLASH),
     ];
     let mut lines = Vec::new(alloc);

@@ -25,4 +25,4 @@ returns c =
     place_is lens.table tables c.place_of-place.result table
     (subst (λ ts. position (λ t. pointwise nat_eq lens.table t.name) ts ≡ Some c.place_of-place.result) c.deref.ensures.value c.place_of-place.ensures) in
     placed c.plan_table.result c.args.store.now lens c.args.rows table c.place_of-place.result c.in_ok-relation.relation at c.index-table.ensures
-    c.requires.source c.requires.plain c.in_ok-relation.ensures c.plan_table.ensures.plan c.plan_table.ensures.place
+    c.requires.source c.in_ok-relation.ensures c.plan_table.ensures.plan c.plan_table.ensures.place

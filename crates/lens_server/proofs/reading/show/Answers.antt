@@ -1,23 +1,21 @@
-use Rattle.std.proofs.Common.{◌≡◌, ◌∙◌, sym, ap, subst, true}
+use Rattle.std.proofs.Common.{◌≡◌, ◌∙◌, sym, ap, subst}
 use Rattle.std.specs.Prelude.{IfOk, Some}
-use Rattle.lens_values.specs.SortedSet as set
 use Rattle.lens_specs.specs.Lens.{get}
 use Rattle.server_specs.specs.Answer.{shown, text}
 use Rattle.lens_server.specs.Entries.{lens_view, lens_with, sort_under, relation_named}
-use Rattle.lens_server.specs.Shows.{is_shown}
 use Rattle.lens_server.specs.States.{state_of}
 use Rattle.lens_server.proofs.Views.{get_table, get_selection}
 use Rattle.lens_server.proofs.reading.show.Goals as goal
 
-pub returns-in_ok-rows-in-Some : goal.returns-in_ok-rows-in-Some
-returns-in_ok-rows-in-Some c =
+pub returns-in_ok-shown-in-Some : goal.returns-in_ok-shown-in-Some
+returns-in_ok-shown-in-Some c =
     let lens = c.args.lens.now in
     let store = c.args.store.now in
     let P = c.in-Some.pred in
     let there : relation_named store.tables.items lens.table ≡ Some c.table_named-table.result.now.relation =
     subst (λ ts. relation_named ts lens.table ≡ Some c.table_named-table.result.now.relation) c.deref.ensures.value c.table_named-table.ensures in
-    let same : c.in_ok-rows-in-Some.rows ≡ get (lens_view lens) (state_of store).tables =
-    c.in_ok-rows-in-Some.ensures ∙ ap (set.filter (is_shown P true)) c.rows.ensures
+    let same : c.rows.result.now ≡ get (lens_view lens) (state_of store).tables =
+    c.rows.ensures ∙ ap (λ r. r.rows) c.in_ok-shown-in-Some.ensures
     ∙ sym (get_selection store.tables.items lens.table (sort_under lens) P c.table_named-table.result.now.relation there)
     ∙ ap (λ k. get (lens_with lens.table (sort_under lens) k) (state_of store).tables) (sym c.in-Some.is) in
     subst (λ M. IfOk c.shown_text.result (λ reply. reply ≡ text (shown M store.version))) same c.shown_text.ensures

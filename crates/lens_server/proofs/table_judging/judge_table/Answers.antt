@@ -1,7 +1,6 @@
-use Rattle.std.proofs.Common.{◌∙◌, ◌<◌, length, sym, ap, subst, arith}
-use Rattle.std.specs.Prelude.{not}
-use Rattle.lens_server.specs.Judgements.{AddsTableOf, sort_from}
-use Rattle.lens_server.proofs.Verdicts.{none_left, table_taken}
+use Rattle.std.proofs.Common.{◌∙◌, ◌<◌, length, sym, arith}
+use Rattle.lens_server.specs.Judgements.{sort_from}
+use Rattle.lens_server.proofs.Verdicts.{table_taken}
 use Rattle.lens_server.proofs.table_judging.judge_table.Goals as goal
 
 pub returns : goal.returns
@@ -11,4 +10,4 @@ returns c =
     let sort = sort_from c.args.columns c.args.pred c.in_ok-tree.tree in
     table_taken store c.args.name c.args.columns c.args.deps.now c.args.pred sort c.in_ok-table_addition.field-0
     c.requires.consistent (sym c.is_taken.ensures ∙ c.if-is_taken.false) c.in_ok-tree.ensures c.requires.columns few
-    (subst (AddsTableOf c.in_ok-table_addition.field-0 store.version c.args.name sort) (ap not (c.is_empty-dependent.ensures ∙ none_left c.args.deps.now)) c.in_ok-table_addition.ensures)
+    c.in_ok-table_addition.ensures

@@ -17,7 +17,6 @@ returns c =
         is = refl;
         found = c.in_ok-source.ensures.0;
         table = c.in_ok-source.ensures.1;
-        plain = λ e. cc;
         over = c.in_ok-lens_over.ensures;
       },
     )

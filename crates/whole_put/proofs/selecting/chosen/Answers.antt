@@ -5,8 +5,8 @@ use Rattle.lens_values.specs.Row.{row_cmp}
 use Rattle.lens_values.specs.RowOrder.{row_cmp_total, row_cmp-IsAntisymmetric}
 use Rattle.lens_values.specs.SortedMap.{keys_rise}
 use Rattle.lens_values.specs.SortedSet as set
-use Rattle.lens_server.specs.Shows.{is_shown}
-use Rattle.lens_server.proofs.selecting.those.Goals as goal
+use Rattle.whole_put.specs.Shows.{is_shown}
+use Rattle.whole_put.proofs.selecting.chosen.Goals as goal
 
 pub from_rising-requires : goal.from_rising-requires
 from_rising-requires c =

@@ -1,0 +1,9 @@
+-- Rows that a selection shows, and rows that it hides.
+use Rattle.std.specs.Prelude.{Bool, true, false, not}
+use Rattle.lens_values.specs.declared.row.Row.{Row}
+use Rattle.lens_specs.specs.Predicate.{Predicate, holds}
+
+-- whether the predicate holds on the row, or whether it does not
+abbrev pub is_shown : Predicate → Bool → Row → Bool
+is_shown P true row = holds P row
+is_shown P false row = not (holds P row)
