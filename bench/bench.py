@@ -1,7 +1,7 @@
 #!/usr/bin/env python3
-"""Measures the built program: milliseconds a line, lines a second and peak memory.
+"""Measures the built program, and prints the table of docs/PROOF.md: the time of each line, and peak memory.
 
-Usage: bench/bench.py [PROGRAM]    (by itself the program that ./serve builds)
+Usage: bench/bench.py [PROGRAM]    (without the word, the program that ./serve builds)
 """
 import os
 import string
@@ -11,9 +11,14 @@ import time
 
 TOP = os.path.dirname(os.path.dirname(os.path.abspath(__file__)))
 ROWS = 100_000
+HIDING = 125_000
 PUTS = 1_000
 HUGE = 300_000
 LONGEST = 16_777_216
+
+
+TRACKS = "table tracks (album text, date int, rating int, track text)"
+DEPENDENCIES = " with track -> album date, date -> rating"
 
 
 class Server:
@@ -58,8 +63,8 @@ def row(number, rating=None):
     return f'{{"album":"album{number // 10}","date":{1950 + number % 70},"rating":{rating},"track":"track{number}"}}'
 
 
-def put(rows):
-    return ('{"do":"put","view":"tracks","rows":[' + ",".join(rows) + "]}\n").encode()
+def put(rows, view="tracks"):
+    return (f'{{"do":"put","view":"{view}","rows":[' + ",".join(rows) + "]}\n").encode()
 
 
 def must_begin(reply, start):
@@ -85,39 +90,58 @@ def define(text):
     return ('{"do":"define","text":"' + text + '"}\n').encode()
 
 
+def defined(program, *texts):
+    """A server that has taken these definitions."""
+    server = Server(program)
+    for text in texts:
+        reply, _ = server.ask(define(text))
+        must_begin(reply, b'{"ok":true')
+    return server
+
+
 def large(program):
     """Lines of 100,000 rows: what each takes in ms, and the peak memory after it in MB."""
-    server = Server(program)
-    reply, _ = server.ask(b'{"do":"define","text":"table tracks (album text, date int, rating int, track text)"}\n')
-    must_begin(reply, b'{"ok":true')
-    reply, _ = server.ask(b'{"do":"define","text":"view good = select from tracks where rating > 2"}\n')
-    must_begin(reply, b'{"ok":true')
+    server = defined(program, TRACKS, "view good = select from tracks where rating > 2")
     rows = [row(number) for number in range(ROWS)]
     changed = rows[:-1] + [row(ROWS - 1, 9)]
-    good = [line for line in rows if not ('"rating":0' in line or '"rating":1' in line or '"rating":2' in line)]
+    good = [line for line in rows if '"rating":3' in line or '"rating":4' in line]
     steps = [
         (f"put of {ROWS:,} rows", put(rows), b'{"changed":[{'),
         (f"read of {ROWS:,} rows", b'{"do":"read","view":"tracks"}\n', b'{"ok":true,"rows":[{'),
-        ("the same put again", put(rows), b'{"changed":[],'),
+        ("the same put again, which changes nothing", put(rows), b'{"changed":[],'),
         ("the put with one row changed", put(changed), b'{"changed":[{'),
-        (f"read of the view ({len(good):,} rows)", b'{"do":"read","view":"good"}\n', b'{"ok":true,"rows":[{'),
-        (f"put of the view with one row changed", put(good).replace(b'"tracks"', b'"good"', 1), b'{"changed":[{'),
+        (f"read of a view of {len(good):,} of the rows", b'{"do":"read","view":"good"}\n', b'{"ok":true,"rows":[{'),
+        ("put of that view with one row changed", put(good, "good"), b'{"changed":[{'),
     ]
     return timed(server, steps)
 
 
+def views(program):
+    """A put of a view of 100,000 rows with one of them changed, over a table without dependencies and over one with two; ms and MB."""
+    rows = [row(number) for number in range(HIDING)]
+    shown = [line for line in rows if '"rating":0' not in line]
+    changed = shown[:-1] + [shown[-1].replace('"album":"album', '"album":"other', 1)]
+    table = []
+    for name, dependencies in [
+        (f"put of a view of {len(shown):,} rows, one row changed", ""),
+        ("the same over a table with two dependencies", DEPENDENCIES),
+    ]:
+        server = defined(program, TRACKS + dependencies, "view shown = select from tracks where rating > 0")
+        reply, _ = server.ask(put(rows))
+        must_begin(reply, b'{"changed":[{')
+        table += timed(server, [(name, put(changed, "shown"), b'{"changed":[{')])
+    return table
+
+
 def dependent(program):
     """The put of 100,000 rows into a table with two dependencies, and a put of as many that clash; ms and MB."""
-    server = Server(program)
-    text = "table tracks (album text, date int, rating int, track text) with track -> album date, date -> rating"
-    reply, _ = server.ask(f'{{"do":"define","text":"{text}"}}\n'.encode())
-    must_begin(reply, b'{"ok":true')
+    server = defined(program, TRACKS + DEPENDENCIES)
     rows = [row(number) for number in range(ROWS)]
     clashing = rows[:-1] + [row(ROWS - 1, 9)]
     steps = [
-        (f"put of {ROWS:,} rows, two dependencies", put(rows), b'{"changed":[{'),
-        ("the same put again, two dependencies", put(rows), b'{"changed":[],'),
-        ("a put in which the last row clashes", put(clashing), b'{"edge":{'),
+        (f"put of {ROWS:,} rows into a table with two dependencies", put(rows), b'{"changed":[{'),
+        ("the same put again, which changes nothing", put(rows), b'{"changed":[],'),
+        ("a put to it of which the last row clashes", put(clashing), b'{"edge":{'),
     ]
     return timed(server, steps)
 
@@ -125,37 +149,38 @@ def dependent(program):
 def chains(program):
     """Definitions of 64 columns and 63 dependencies, in order and turned; ms and MB."""
     server = Server(program)
+    # A first line, so that the start of the program is not timed.
     server.ask(b'{"do":"list"}\n')
     columns = ", ".join(f"c{number} int" for number in range(64))
     chain = [f"c{number} -> c{number + 1}" for number in range(63)]
     steps = [
-        (f"define of 64 columns, a chain of 63 dependencies ({name})", define(f"table {name} ({columns}) with {', '.join(deps)}"), b'{"ok":true')
-        for name, deps in [("in_order", chain), ("turned", chain[::-1])]
+        (what, define(f"table {name} ({columns}) with {', '.join(deps)}"), b'{"ok":true')
+        for what, name, deps in [
+            ("definition of 64 columns with a chain of 63 dependencies, in order", "in_order", chain),
+            ("the same, the dependencies in the other order", "turned", chain[::-1]),
+        ]
     ]
     return timed(server, steps, digits=1)
 
 
 def long_texts(program):
     """Definitions of 4,096 bytes that are read to their end; ms a line and MB."""
-    server = Server(program)
-    server.ask(b'{"do":"define","text":"table counts (key int, value int)"}\n')
+    server = defined(program, "table counts (key int, value int)")
     front = "view v = select from counts where key in ("
     names = [f"c{first}{second}" for first in string.ascii_lowercase for second in string.ascii_lowercase]
     texts = {
-        "refused at its last byte": front + ("1," * 4096)[: 4096 - len(front)],
-        "of as many columns as it holds": ("table many (" + " int,".join(names))[:4096 - 5].rsplit(",", 1)[0] + ")",
-        "of as many ands and ors as it holds": ("view v = select from counts where true" + " and true or true" * 4096)[:4096 - 5].rsplit(" ", 1)[0],
-        "of as many dependencies as it holds": "table twice (a int) with a->a" + ",a->a" * 813,
+        "4,054 of them in one-byte tokens, refused at its end": front + ("1," * 4096)[: 4096 - len(front)],
+        "as many columns as it holds, refused at its end": ("table many (" + " int,".join(names))[:4096 - 5].rsplit(",", 1)[0] + ")",
+        "as many `and` and `or` as it holds, refused at its end": ("view v = select from counts where true" + " and true or true" * 4096)[:4096 - 5].rsplit(" ", 1)[0],
+        "as many dependencies as it holds, taken once and then refused for its name": "table twice (a int) with a->a" + ",a->a" * 813,
     }
-    steps = [(f"define of {len(text):,} bytes, {name}", define(text), b'{"') for name, text in texts.items()]
+    steps = [(f"definition of {len(text):,} bytes, {name}", define(text), b'{"') for name, text in texts.items()]
     return timed(server, steps, times=PUTS, digits=2)
 
 
 def longest(program):
     """A line of 16 MB of rows, and a read of them; ms, MB a second and MB."""
-    server = Server(program)
-    reply, _ = server.ask(b'{"do":"define","text":"table tracks (album text, date int, rating int, track text) where date > 0 and rating < 100"}\n')
-    must_begin(reply, b'{"ok":true')
+    server = defined(program, TRACKS + " where date > 0 and rating < 100")
     rows = [row(number) for number in range(HUGE)]
     line = put(rows)
     while len(line) > LONGEST:
@@ -163,18 +188,18 @@ def longest(program):
         line = put(rows)
     reply, seconds = server.ask(line)
     must_begin(reply, b'{"changed":[{')
-    table = [(f"put of {len(rows):,} rows in one line", len(line), f"{seconds * 1000:,.0f} ms", f"{server.peak():,.0f} MB")]
+    table = [(f"put of {len(rows):,} rows in one line, into a table with a predicate", len(line), f"{seconds * 1000:,.0f} ms", f"{server.peak():,.0f} MB")]
     reply, seconds = server.ask(b'{"do":"read","view":"tracks"}\n')
     must_begin(reply, b'{"ok":true,"rows":[{')
-    table.append((f"read of {len(rows):,} rows ({len(reply):,} bytes)", 30, f"{seconds * 1000:,.0f} ms, {len(reply) / seconds / 1e6:,.0f} MB/s", f"{server.peak():,.0f} MB"))
+    speed = f"{len(reply) / seconds / 1e6:,.0f} MB a second"
+    table.append((f"read of these rows, {len(reply):,} bytes of output, {speed}", 30, f"{seconds * 1000:,.0f} ms", f"{server.peak():,.0f} MB"))
     server.end()
     return table
 
 
 def small(program):
     """Single-row puts of a small table: lines a second, and the peak memory in MB."""
-    server = Server(program)
-    server.ask(b'{"do":"define","text":"table counts (key int, value int)"}\n')
+    server = defined(program, "table counts (key int, value int)")
     lines = [f'{{"do":"put","view":"counts","rows":[{{"key":1,"value":{number}}}]}}\n'.encode() for number in range(PUTS)]
     begin = time.perf_counter()
     for line in lines:
@@ -183,14 +208,14 @@ def small(program):
     seconds = time.perf_counter() - begin
     peak = server.peak()
     server.end()
-    return [(f"{PUTS:,} puts of one row", sum(map(len, lines)), f"{PUTS / seconds:,.0f} lines/s", f"{peak:,.0f} MB")]
+    return [(f"{PUTS:,} puts of one row to a small table", sum(map(len, lines)), f"{PUTS / seconds:,.0f} lines a second", f"{peak:,.0f} MB")]
 
 
 def main():
     program = sys.argv[1] if len(sys.argv) > 1 else os.path.join(TOP, "crates/view_program/out/view_program")
     print("| What | Bytes of input | Time | Peak memory |")
     print("|---|---|---|---|")
-    for name, size, taken, peak in large(program) + dependent(program) + chains(program) + long_texts(program) + longest(program) + small(program):
+    for name, size, taken, peak in large(program) + views(program) + dependent(program) + chains(program) + long_texts(program) + longest(program) + small(program):
         print(f"| {name} | {size:,} | {taken} | {peak} |")
 
 

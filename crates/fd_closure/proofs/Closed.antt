@@ -8,9 +8,9 @@ use Rattle.std.proofs.lemmas.List.{get_or_default, length-take, take-take, take_
 use Rattle.std.proofs.lemmas.List.Folds.{list_any_at}
 use Rattle.lens_values.specs.Order.{bytes_cmp}
 use Rattle.lens_values.specs.SortedSet as set
-use Rattle.lens_laws.proofs.Closures.{closure_is}
-use Rattle.lens_laws.proofs.Lists.{both_ways, in_head, left_true, right_true}
-use Rattle.lens_laws.proofs.Names.{name_exact, name_itself, name_total, tied_name}
+use Rattle.fd_laws.proofs.Closures.{closure_is}
+use Rattle.fd_laws.proofs.Lists.{both_ways, in_head, left_true, right_true}
+use Rattle.fd_laws.proofs.Names.{name_exact, name_itself, name_total, tied_name}
 use Rattle.lens_specs.specs.Names.{Name, Names, Within, is_among}
 use Rattle.lens_specs.specs.Dependencies.{AllEdges, Edge, IsClosed, closure}
 use Rattle.fd_closure.specs.Arrival.{AllIn, HaveAll, IsOnce}

@@ -7,8 +7,8 @@ use Rattle.std.proofs.lemmas.Bool.{and_from, and_parts, cases_Bool, cases_eq, eq
 use Rattle.std.proofs.lemmas.List.Sums.{sum_by_more, sum_by-take-le}
 use Rattle.lens_values.specs.Order.{bytes_cmp}
 use Rattle.lens_values.specs.SortedSet as names
-use Rattle.lens_laws.proofs.Lists.{left_true, right_true}
-use Rattle.lens_laws.proofs.Names.{name_itself, tied_name}
+use Rattle.fd_laws.proofs.Lists.{left_true, right_true}
+use Rattle.fd_laws.proofs.Names.{name_itself, tied_name}
 use Rattle.lens_specs.specs.Names.{Name, Names, is_among}
 use Rattle.lens_specs.specs.Dependencies.{Edge}
 use Rattle.fd_closure.specs.Arrival.{AllIn}

@@ -12,8 +12,8 @@ use Rattle.std.proofs.lemmas.List.Folds.{list_any_at}
 use Rattle.std.proofs.lemmas.Map.Keys.{Less-from_sorted}
 use Rattle.lens_values.specs.Order.{bytes_cmp}
 use Rattle.lens_values.specs.SortedSet as set
-use Rattle.lens_laws.proofs.Lists.{in_append_left, in_append_right, from_append, in_map, from_map}
-use Rattle.lens_laws.proofs.Names.{name_total, name_itself, tied_name}
+use Rattle.fd_laws.proofs.Lists.{in_append_left, in_append_right, from_append, in_map, from_map}
+use Rattle.fd_laws.proofs.Names.{name_total, name_itself, tied_name}
 use Rattle.lens_specs.specs.Names.{Name}
 use Rattle.lens_specs.specs.Dependencies.{Edge}
 use Rattle.fd_closure.specs.Entries.{Entry, PlacesBelow, entries_from, entry_cmp}

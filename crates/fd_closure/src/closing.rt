@@ -1,4 +1,5 @@
-//! Closures under dependencies, by counting what each dependency still lacks (Beeri and Bernstein, TODS 1979).
+//! Closures under dependencies, by counting what each dependency still lacks (Beeri and Bernstein,
+//! TODS 1979).
 ghost use Rattle.std.specs.Prelude.{◌≡◌, ◌≤◌, ◌<◌, ◌+◌, ◌-◌, ◌||◌, ◌&&◌, ℕ, IfOk, OnOk, length, nat_eq, slice_index, slice_index_or, slice_set, take};
 ghost use Rattle.lens_values.specs.SortedSet as set;
 ghost use Rattle.lens_specs.specs.Dependencies as spec;
@@ -14,8 +15,8 @@ use crate::index::{entries_of, indexed};
 use lens_values::{Name, Names, NoMemory};
 use std::alloc::Global;
 
-/// The least set of columns that has these, and with the left side of a dependency its right side. Its work grows with
-/// the size of the dependencies.
+/// The least set of columns that has these, and with the left side of a dependency its right side.
+/// Its work grows with the size of the dependencies.
 pub fn closure(alloc: Global, cols: &Names, deps: &[Dep]) -> Result<Names, NoMemory>
     ensures { IfOk result (λ found. found ≡ spec.closure cols.now deps.now) }
 {
@@ -44,7 +45,8 @@ pub fn implies(alloc: Global, deps: &[Dep], dep: &Dep) -> Result<bool, NoMemory>
 fn counted(alloc: Global, entries: &[(Name, usize)], count: usize) -> Result<Vec<usize>, NoMemory>
     requires { PlacesBelow count entries.now }
     ensures len { IfOk result (λ lacks. length lacks.items ≡ count) }
-    ensures counts { IfOk result (λ lacks. (d : ℕ) → d < count → slice_index lacks.items d ≡ uses entries.now d) }
+    ensures counts { IfOk result (λ lacks. (d : ℕ) → d < count
+        → slice_index lacks.items d ≡ uses entries.now d) }
 {
     let mut lacks = vec![in alloc; 0; count]?;
     for (_, place) in entries {
@@ -53,7 +55,8 @@ fn counted(alloc: Global, entries: &[(Name, usize)], count: usize) -> Result<Vec
     Ok(lacks)
 }
 
-// Counts down what the dependencies of these entries lack, and adds the right sides of those that lack nothing any more.
+// Counts down what the dependencies of these entries lack, and adds the right sides of those that
+// lack nothing any more.
 fn count_down(
     found: &mut Found,
     lacks: &mut [usize],
@@ -65,10 +68,14 @@ fn count_down(
     requires places { PlacesBelow (length deps.now) entries.now }
     requires counts { (d : ℕ) → d < length deps.now → uses entries.now d ≤ slice_index lacks.old d }
     ensures kept { OnOk result (IsKept found.new) }
-    ensures front { OnOk result (take (length found.old.order.items) found.new.order.items ≡ found.old.order.items) }
-    ensures counts { OnOk result ((d : ℕ) → d < length deps.now → slice_index lacks.new d + uses entries.now d ≡ slice_index lacks.old d) }
-    ensures within { OnOk result ((D : NameSet) → AllIn found.old.order.items D → ReadyWithin deps.now lacks.new D → AllIn found.new.order.items D) }
-    ensures among { OnOk result (ReadyAmong deps.now lacks.old found.old.order.items → ReadyAmong deps.now lacks.new found.new.order.items) }
+    ensures front { OnOk result (take (length found.old.order.items) found.new.order.items
+        ≡ found.old.order.items) }
+    ensures counts { OnOk result ((d : ℕ) → d < length deps.now
+        → slice_index lacks.new d + uses entries.now d ≡ slice_index lacks.old d) }
+    ensures within { OnOk result ((D : NameSet) → AllIn found.old.order.items D
+        → ReadyWithin deps.now lacks.new D → AllIn found.new.order.items D) }
+    ensures among { OnOk result (ReadyAmong deps.now lacks.old found.old.order.items
+        → ReadyAmong deps.now lacks.new found.new.order.items) }
 {
     for (_, place) in entries {
         lessen(found, lacks, *place, deps)?;
@@ -76,7 +83,8 @@ fn count_down(
     Ok(())
 }
 
-// Counts down what the dependency at the place lacks, and adds its right side where it lacks nothing any more.
+// Counts down what the dependency at the place lacks, and adds its right side where it lacks
+// nothing any more.
 fn lessen(
     found: &mut Found,
     lacks: &mut [usize],
@@ -88,9 +96,14 @@ fn lessen(
     requires place { place < length deps.now }
     requires some { 0 < slice_index lacks.old place }
     ensures kept { OnOk result (IsKept found.new) }
-    ensures front { OnOk result (take (length found.old.order.items) found.new.order.items ≡ found.old.order.items) }
+    ensures front { OnOk result (take (length found.old.order.items) found.new.order.items
+        ≡ found.old.order.items) }
     ensures lacks { lacks.new ≡ slice_set lacks.old place (slice_index lacks.old place - 1) }
-    ensures members { OnOk result ((c : _) (e : Edge) → is_among c found.new.order.items ≡ (is_among c found.old.order.items || (nat_eq (slice_index lacks.new place) 0 && set.contains (slice_index_or deps.now place e).right c))) }
+    ensures members { OnOk result ((c : _) (e : Edge)
+        → is_among c found.new.order.items
+        ≡ (is_among c found.old.order.items ||
+        (nat_eq (slice_index lacks.new place) 0 && set.contains
+        (slice_index_or deps.now place e).right c))) }
 {
     lacks[place] -= 1;
     if lacks[place] == 0 {

@@ -58,8 +58,11 @@ impl Found {
     pub fn add_all(&mut self, names: &[Name]) -> Result<(), NoMemory>
         requires { IsKept self.old }
         ensures kept { OnOk result (IsKept self.new) }
-        ensures front { OnOk result (take (length self.old.order.items) self.new.order.items ≡ self.old.order.items) }
-        ensures members { OnOk result ((c : _) → is_among c self.new.order.items ≡ (is_among c self.old.order.items || is_among c names.now)) }
+        ensures front { OnOk result (take (length self.old.order.items) self.new.order.items
+            ≡ self.old.order.items) }
+        ensures members { OnOk result ((c : _)
+            → is_among c self.new.order.items
+            ≡ (is_among c self.old.order.items || is_among c names.now)) }
     {
         for name in names {
             self.add(*name)?;

@@ -9,22 +9,26 @@ ghost use Rattle.fd_closure.specs.Entries.{entries_from, entry_cmp};
 ghost use Rattle.fd_closure.specs.Sides.{IsFull};
 
 use crate::dep::Dep;
-use lens_values::{Name, NoMemory, rising};
+use lens_values::{Name, NoMemory, into_sorted};
 use std::alloc::Global;
 
 /// Each name of a left side with the place of its dependency, in rising order.
 pub fn indexed(alloc: Global, deps: &[Dep]) -> Result<Vec<(Name, usize)>, NoMemory>
     ensures order { IfOk result (λ index. IsStrictlySortedBy entry_cmp index.items) }
-    ensures members { IfOk result (λ index. (e : _) → list_any (eq_by_cmp entry_cmp e) index.items ≡ list_any (eq_by_cmp entry_cmp e) (entries_from 0 deps.now)) }
-    ensures full { OnOk result ((k : ℕ) (d : Edge) → k < length deps.now → IsFull (slice_index_or deps.now k d)) }
+    ensures members { IfOk result (λ index. (e : _)
+        → list_any (eq_by_cmp entry_cmp e) index.items
+        ≡ list_any (eq_by_cmp entry_cmp e) (entries_from 0 deps.now)) }
+    ensures full { OnOk result ((k : ℕ) (d : Edge) → k < length deps.now
+        → IsFull (slice_index_or deps.now k d)) }
 {
-    Ok(rising(entries(alloc, deps)?))
+    Ok(into_sorted(entries(alloc, deps)?))
 }
 
 // Each name of a left side with the place of its dependency.
 fn entries(alloc: Global, deps: &[Dep]) -> Result<Vec<(Name, usize)>, NoMemory>
     ensures list { IfOk result (λ list. list.items ≡ entries_from 0 deps.now) }
-    ensures full { OnOk result ((k : ℕ) (d : Edge) → k < length deps.now → IsFull (slice_index_or deps.now k d)) }
+    ensures full { OnOk result ((k : ℕ) (d : Edge) → k < length deps.now
+        → IsFull (slice_index_or deps.now k d)) }
 {
     let mut list = Vec::new(alloc);
     for (place, dep) in deps.iter().enumerate() {

@@ -8,6 +8,3 @@ mod index;
 
 pub use closing::{closure, implies};
 pub use dep::{Dep, EmptySide};
-
-#[cfg(test)]
-mod tests;

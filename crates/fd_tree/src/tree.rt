@@ -1,11 +1,13 @@
 //! Trees of functional dependencies.
-ghost use Rattle.std.specs.Prelude.{◌≡◌, ◌≢◌, ◌++◌, IfOk, OnOk};
-ghost use Rattle.lens_values.specs.Gives.{Gives};
+ghost use Rattle.std.specs.Prelude.{◌≡◌, ◌≢◌, ◌++◌, IfOk, OnOk, false};
+ghost use Rattle.no_memory.specs.Gives.{Gives};
+ghost use Rattle.lens_values.specs.SortedSet as set;
 ghost use Rattle.lens_specs.specs.Names.{one};
 ghost use Rattle.lens_specs.specs.Dependencies.{AllEdges};
 ghost use Rattle.lens_specs.specs.TreeForm as spec;
 ghost use Rattle.lens_specs.specs.TreeForm.{tree_of, tree_without};
 ghost use Rattle.lens_specs.specs.Sort.{clash};
+ghost use Rattle.fd_laws.specs.Trees.{IsTree};
 ghost use Rattle.fd_tree.specs.ClashView.{shown_clash};
 ghost use Rattle.fd_tree.specs.Form.{form_of};
 ghost use Rattle.fd_tree.specs.Sides.{HasLeft};
@@ -16,7 +18,7 @@ use crate::clash::{Clash, first_clash};
 use crate::cleaning::grouped;
 use crate::edge::{Edge, edges_of};
 use crate::ordering::ordered;
-use crate::reducing::{reduced, single};
+use crate::reducing::reduced;
 use fd_closure::Dep;
 use lens_values::{Name, Names, NoMemory, copied};
 use row_sets::Relation;
@@ -35,6 +37,7 @@ impl Model for Tree {
     ghost use Rattle.std.specs.Coded.{coded_list};
     ghost use Rattle.lens_specs.specs.Dependencies.{AllEdges, Edge as EdgeOf};
     ghost use Rattle.lens_specs.specs.TreeForm as spec;
+    ghost use Rattle.fd_laws.specs.Trees.{IsTree};
     ghost use Rattle.fd_closure.specs.Sides.{coded_edge};
     ghost use Rattle.fd_tree.specs.Sides.{HasLeft};
 
@@ -44,17 +47,17 @@ impl Model for Tree {
 
     ghost view = { λ t. t.edges.items };
 
-    ghost invariant = { λ t. (t.outputs ≡ spec.outputs t.edges.items) × AllEdges HasLeft t.edges.items };
+    ghost invariant = { λ t. (t.outputs ≡ spec.outputs t.edges.items) × AllEdges HasLeft t.edges.items × IsTree t.edges.items };
 }
 
-/// Why dependencies have no tree form.
+/// Why no tree was made.
 #[derive(Debug, Drop)]
 pub enum TreeFault {
-    /// Two sides that do not fit.
+    /// The dependencies have no tree form, because two of their sides overlap.
     NotTree {
-        /// A side of the first edge.
+        /// A side of one edge.
         a: Names,
-        /// A side of the other.
+        /// A side of another.
         b: Names,
     },
     /// Memory ran out.
@@ -95,7 +98,7 @@ impl From<NoMemory> for TreeFault {
 }
 
 impl TreeFault {
-    /// The fault of two sides that do not fit.
+    /// The fault of two sides that overlap, or want of memory to copy them.
     pub(crate) fn of_sides(alloc: Global, a: &Names, b: &Names) -> TreeFault
         ensures { result ≢ fault.NoMemory → result ≡ fault.NotTree a.now b.now }
     {
@@ -106,7 +109,7 @@ impl TreeFault {
     }
 }
 
-// Equal sets.
+// Copies of both.
 fn both(alloc: Global, a: &Names, b: &Names) -> Result<(Names, Names), NoMemory>
     ensures { IfOk result (λ copies. copies ≡ (a.now, b.now)) }
 {
@@ -114,7 +117,8 @@ fn both(alloc: Global, a: &Names, b: &Names) -> Result<(Names, Names), NoMemory>
 }
 
 impl Tree {
-    /// The tree form of the dependencies (Bohannon, Pierce and Vaughan, PODS 2006), in the normal form of this server.
+    /// The tree form of the dependencies (Bohannon, Pierce and Vaughan, PODS 2006), in the normal
+    /// form of this server. `NotTree` where they have none.
     pub fn of(alloc: Global, deps: &[Dep]) -> Result<Tree, TreeFault>
         ensures { Gives fault.NoMemory result (form_of (tree_of deps.now)) }
     {
@@ -135,6 +139,13 @@ impl Tree {
         &self.outputs
     }
 
+    /// Does nothing, and tells a proof that the edges form a tree.
+    pub fn is_tree(&self)
+        ensures { IsTree self.now }
+    {
+        let _ = &self.edges;
+    }
+
     /// An equal tree.
     pub fn copy(&self, alloc: Global) -> Result<Tree, NoMemory>
         ensures { IfOk result (λ copy. copy ≡ self.now) }
@@ -145,16 +156,19 @@ impl Tree {
         })
     }
 
-    /// The tree with the column taken out of the right sides, without the edges that have none left.
+    /// The tree without the column, which no left side may have. An edge with no right column left
+    /// is dropped.
     pub fn without(&self, alloc: Global, col: &Name) -> Result<Tree, NoMemory>
+        requires { AllEdges (λ e. set.contains e.left col.now ≡ false) self.now }
         ensures { IfOk result (λ rest. rest ≡ tree_without (one col.now) self.now) }
     {
-        let edges = edges_without(alloc, &self.edges, &single(alloc, col)?)?;
+        let edges = edges_without(alloc, &self.edges, &Names::single(alloc, col)?)?;
         let outputs = outputs(alloc, &edges)?;
         Ok(Tree { edges, outputs })
     }
 
-    /// The tree form of the edges of both, those of this tree first.
+    /// The tree form of the edges of both, those of this tree first. `NotTree` where they have
+    /// none.
     pub fn join(&self, alloc: Global, other: &Tree) -> Result<Tree, TreeFault>
         ensures { Gives fault.NoMemory result (form_of (tree_of (self.now ++ other.now))) }
     {
@@ -163,7 +177,8 @@ impl Tree {
         Tree::form(alloc, edges)
     }
 
-    /// The first of the edges that the relation does not meet, with the least pair of its rows; none where it meets all.
+    /// The first of the edges that the relation violates, with the least pair of its rows; `None`
+    /// where it meets all.
     pub fn meets(&self, alloc: Global, relation: &Relation) -> Result<Option<Clash>, NoMemory>
         ensures { IfOk result (λ found. found ≡ shown_clash (clash self.now relation.now.rows)) }
     {
@@ -196,7 +211,7 @@ fn outputs(alloc: Global, edges: &[Edge]) -> Result<Names, NoMemory>
     Names::new(alloc, list)
 }
 
-// The edges without these columns on the right, and without those that have none left there.
+// The edges without these columns on the right. An edge with no right column left is dropped.
 fn edges_without(alloc: Global, edges: &[Edge], cols: &Names) -> Result<Vec<Edge>, NoMemory>
     ensures { IfOk result (λ rest. rest.items ≡ tree_without cols.now edges.now) }
 {

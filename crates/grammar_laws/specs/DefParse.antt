@@ -1,4 +1,4 @@
--- A definition that is being read, by its meaning: what was read of it, and what the next token does.
+-- The parser of definitions, by meaning: its states, and the step that each token makes.
 use Rattle.std.specs.Prelude.{codes, List, [], ◌∷◌, ◌++◌, Option, Some, None, option_map, option_and_then, ℕ, if◌then◌else◌, cond}
 use Rattle.std.specs.FinMap as map_of
 use Rattle.lens_values.specs.declared.value.Kind.{Kind}
@@ -96,7 +96,7 @@ ended at_view = None
 ended (at_equals n) = None
 ended (in_view n s) = option_map (view n) (expr.ended s)
 
--- how many parentheses and "not"s stand open
+-- how many parentheses and "not"s are open
 abbrev pub count : Parse → ℕ
 count at_start = 0
 count at_table = 0

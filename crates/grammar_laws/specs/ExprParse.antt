@@ -1,4 +1,4 @@
--- An expression that is being read, by its meaning: what was read of it, and what the next token does.
+-- The parser of expressions, by meaning: its states, and the step that each token makes.
 use Rattle.std.specs.Prelude.{codes, List, [], ◌∷◌, ◌++◌, Option, Some, None, option_map, option_and_then, length, ℕ, ◌+◌, if◌then◌else◌, cond}
 use Rattle.lens_values.specs.SortedSet as set
 use Rattle.lens_values.specs.declared.value.Value.{Value}
@@ -130,7 +130,7 @@ abbrev pub ended : Exprs → Option Expr
 ended (exprs [] spot) = ended_spot spot
 ended (exprs (h ∷ qs) spot) = None
 
--- how many parentheses and "not"s stand open
+-- how many parentheses and "not"s are open
 abbrev pub spot_count : Spot → ℕ
 spot_count at_expr = 0
 spot_count (at_operand h) = 0

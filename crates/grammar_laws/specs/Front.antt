@@ -4,7 +4,7 @@ use Rattle.lens_values.specs.Bytes.{is_lower, is_name, is_name_byte, is_text}
 use Rattle.lens_specs.specs.Predicate.{eq, ne, lt, le, gt, ge}
 use Rattle.grammar_specs.specs.Tokens.{Token, word, integer, text, open_paren, close_paren, comma, arrow, operator, is_digit, is_quote, digits_value, minus, Spells, Ends}
 
--- what is left behind the front that passes
+-- what is left after the front that passes
 abbrev pub drop_while : (ℕ → Bool) → List ℕ → List ℕ
 drop_while p [] = []
 drop_while p (b ∷ bytes) = if p b then drop_while p bytes else b ∷ bytes
@@ -22,7 +22,7 @@ abbrev pub negative_of : List ℕ → Option Token
 negative_of [] = None
 negative_of (b ∷ digits) = if nat_le (digits_value 0 (b ∷ digits)) (2 ^ 63) then Some (integer (minus (digits_value 0 (b ∷ digits)))) else None
 
--- the sign that these bytes begin with
+-- the operator or the punctuation that these bytes begin with
 abbrev pub sign_of : ℕ → List ℕ → Option (Token × List ℕ)
 sign_of b [] = if b == 40 then Some (open_paren, []) else if b == 41 then Some (close_paren, []) else if b == 44 then Some (comma, []) else if b == 61 then Some (operator eq, []) else if b == 60 then Some (operator lt, []) else if b == 62 then Some (operator gt, []) else None
 sign_of b (c ∷ rest) =
@@ -34,7 +34,7 @@ abbrev pub dash_of : List ℕ → Option (Token × List ℕ)
 dash_of [] = None
 dash_of (c ∷ rest) = if c == 62 then Some (arrow, rest) else option_map (λ t. (t, drop_while is_digit (c ∷ rest))) (negative_of (take_while is_digit (c ∷ rest)))
 
--- the word, integer or sign at the front, and what follows it
+-- the token at the front that is no text literal, and what follows it
 abbrev pub plain_at : ℕ → List ℕ → Option (Token × List ℕ)
 plain_at b rest =
     if is_lower b then option_map (λ t. (t, drop_while is_name_byte rest)) (word_of (b ∷ take_while is_name_byte rest))
@@ -62,7 +62,7 @@ text_token value = if is_text value then Some (text value) else None
 abbrev pub text_at : List ℕ → Option (Token × List ℕ)
 text_at rest = option_and_then (λ q. option_map (λ t. (t, q.1)) (text_token q.0)) (quoted_in rest)
 
--- the token at the front, which is no blank, and what follows it
+-- the token at the front, where no whitespace is, and what follows it
 abbrev pub token_at : ℕ → List ℕ → Option (Token × List ℕ)
 token_at b rest = if is_quote b then text_at rest else plain_at b rest
 
@@ -72,16 +72,16 @@ token_at b rest = if is_quote b then text_at rest else plain_at b rest
 abbrev pub word_at : List ℕ → Option Token
 word_at bytes = if is_name bytes then Some (word bytes) else None
 
--- the word, integer or sign in front of a text, and what follows it
+-- the token in front of a text that is no text literal, and what follows it
 abbrev pub plain_in_front : List ℕ → Option (Token × List ℕ)
 plain_in_front [] = None
 plain_in_front (b ∷ rest) = plain_at b rest
 
--- the token in front of a text that begins with no blank, and what follows it
+-- the token in front of a text that begins with no whitespace, and what follows it
 abbrev pub token_in_front : List ℕ → Option (Token × List ℕ)
 token_in_front [] = None
 token_in_front (b ∷ rest) = token_at b rest
 
--- the token stands in front of the bytes, this long, and ends there
+-- the token is in front of the bytes, this long, and ends there
 abbrev pub IsInFront : Token → ℕ → List ℕ → Type 0
 IsInFront token len bytes = (0 < len) × (len ≤ length bytes) × Spells token (take len bytes) × Ends token (drop len bytes)

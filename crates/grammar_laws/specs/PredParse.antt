@@ -1,4 +1,4 @@
--- A predicate that is being read, by its meaning: what was read of it, and what the next token does.
+-- The parser of predicates, by meaning: its states, and the step that each token makes.
 use Rattle.std.specs.Prelude.{ℕ, zero, suc, ◌+◌, List, [], ◌∷◌, ◌++◌, codes, Option, Some, None, if◌then◌else◌}
 use Rattle.lens_values.specs.declared.value.Value.{Value}
 use Rattle.lens_specs.specs.Names.{Name}
@@ -7,7 +7,7 @@ use Rattle.grammar_specs.specs.Tokens.{Token}
 use Rattle.grammar_specs.specs.Meaning.{conjuncts, disjuncts, conjunction, disjunction, constant}
 use Rattle.grammar_laws.specs.Tests.{is_keyword, name_in, op_in, flag_in, literal_in, is_open, is_close, is_comma}
 
--- what was read of a predicate that waits for a part: the disjuncts before the last "or", the conjuncts before the last "and", and how many "not"s
+-- one level of a predicate before a part: the disjuncts before the last "or", the conjuncts before the last "and", and the number of "not"s
 pub record Open : Type 0 where
   pub ors : List Formula
   pub ands : List Formula
@@ -17,7 +17,7 @@ pub record Open : Type 0 where
 abbrev pub fresh : Open
 fresh = record { ors = []; ands = []; nots = 0 }
 
--- what was read of the part that comes
+-- how far the next part was read
 pub data Place : Type 0 where
   at_part : Place
   compared : Name → Place
@@ -70,7 +70,7 @@ begin_part qs o t =
 abbrev pub behind_name : List Open → Open → Name → Token → Option Preds
 behind_name qs o c t = elim (op_in t) [ Some op ↦ Some (inside qs o (against c op)) | None ↦ if is_keyword (codes "in") t then Some (inside qs o (in_open c)) else None ]
 
--- behind the sign
+-- behind the operator
 abbrev pub behind_op : List Open → Open → Name → Op → Token → Option Preds
 behind_op qs o c op t = elim (name_in t) [ Some d ↦ Some (add qs o (compare_columns c op d)) | None ↦ elim (literal_in t) [ Some v ↦ Some (add qs o (compare c op v)) | None ↦ None ] ]
 
@@ -101,7 +101,7 @@ ended (inside qs o place) = None
 ended (behind [] ors ands) = Some (disjunction (alternatives ors ands))
 ended (behind (q ∷ qs) ors ands) = None
 
--- how many parentheses and "not"s stand open
+-- how many parentheses and "not"s are open
 abbrev pub open_count : List Open → ℕ
 open_count [] = 0
 open_count (q ∷ qs) = 1 + q.nots + open_count qs

@@ -25,7 +25,7 @@ pub data Fault : Type 0 where
 abbrev pub Begins : List Token → Type 0
 Begins tokens = (w : Written) × (more : List Token) × (is_definition w ≡ true) × (written_tokens w ≡ tokens ++ more)
 
--- A definition begins with these tokens, in which more than 32 parentheses and "not"s stand open at once.
+-- A definition begins with these tokens, in which more than 32 parentheses and "not"s are open at once.
 abbrev pub BeginsTooDeep : List Token → Type 0
 BeginsTooDeep tokens =
     (w : Written) × (more : List Token) × (is_definition w ≡ true) × (written_tokens w ≡ tokens ++ more) × (is_too_deep (take (length tokens) (nesting w)) ≡ true)
@@ -38,7 +38,7 @@ IsStopped front token = Begins front × (Begins (front ++ token ∷ []) → ⊥)
 abbrev pub IsUnfinished : List Token → Type 0
 IsUnfinished tokens = Begins tokens × ((w : Written) → is_definition w ≡ true → written_tokens w ≡ tokens → ⊥)
 
--- At this offset stands the first token that is wrong or with which no definition continues, or the text ends there too early.
+-- At this offset is the first thing that is no token, or the first token that no definition can continue with, or the text ends there too early.
 abbrev pub Stops : List ℕ → Placed → ℕ → Type 0
 Stops text front at =
     ((token : Token) × (left : List ℕ) × Stand 0 text (front ++ (at, token) ∷ []) left × IsStopped (tokens_in front) token)

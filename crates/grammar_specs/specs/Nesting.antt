@@ -1,4 +1,4 @@
--- How many parentheses of operands and parts, and "not"s that wait for their operand, stand open at each token, it included.
+-- How many parentheses of operands and parts, and "not"s before their operand, are open at each token, that token included.
 use Rattle.std.specs.Prelude.{ℕ, suc, List, [], ◌∷◌, ◌++◌, map, nat_lt, Bool, Option, Some, None}
 use Rattle.std.specs.List.{list_any}
 use Rattle.grammar_specs.specs.Tokens.{Token}
@@ -8,7 +8,7 @@ use Rattle.grammar_specs.specs.Written.{Part, literally, compares, compares_colu
 abbrev pub at_each : ℕ → List Token → List ℕ
 at_each n tokens = map (λ _. n) tokens
 
--- in a predicate that stands within n of them
+-- in a predicate within n of them
 abbrev mutual
   pub part_nesting : ℕ → Part → List ℕ
   part_nesting n (literally b) = n ∷ []
@@ -26,7 +26,7 @@ abbrev mutual
   pred_nesting n (alone a) = all_nesting n a
   pred_nesting n (either o a) = pred_nesting n o ++ n ∷ all_nesting n a
 
--- in an expression that stands within n of them
+-- in an expression within n of them
 abbrev mutual
   pub operand_nesting : ℕ → Operand → List ℕ
   operand_nesting n (bare c) = n ∷ []
@@ -48,10 +48,10 @@ abbrev pub nesting : Written → List ℕ
 nesting (table name columns deps condition) = 0 ∷ 0 ∷ 0 ∷ (at_each 0 (columns_tokens columns) ++ 0 ∷ (at_each 0 (deps_tokens deps) ++ where_nesting condition))
 nesting (view name e) = 0 ∷ 0 ∷ 0 ∷ expr_nesting 0 e
 
--- the most that may stand open at once
+-- the most that may be open at once
 abbrev pub max_nesting : ℕ
 max_nesting = 32
 
--- more stand open at one of the tokens
+-- more are open at one of the tokens
 abbrev pub is_too_deep : List ℕ → Bool
 is_too_deep counts = list_any (λ n. nat_lt max_nesting n) counts

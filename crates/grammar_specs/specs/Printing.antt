@@ -77,7 +77,7 @@ predicate_written (f ∷ g ∷ fs) = alone (joined_parts (only (part_of f)) (g �
 
 -- ---- the tree of a definition
 
--- a name stands bare, every other operand in parentheses
+-- a name is bare, every other operand is in parentheses
 abbrev pub operand_of : Expr → Operand
 operand_of (named n) = bare n
 operand_of (select P e) = enclosed (written.select (operand_of e) (predicate_written P))
@@ -118,22 +118,22 @@ token_bytes comma = 44 ∷ []
 token_bytes arrow = 45 ∷ 62 ∷ []
 token_bytes (operator op) = op_bytes op
 
--- whether no blank stands behind it
+-- whether no space follows it
 abbrev pub opens : Token → Bool
 opens open_paren = true
 opens other = false
 
--- whether no blank stands before it
+-- whether no space precedes it
 abbrev pub closes : Token → Bool
 closes close_paren = true
 closes comma = true
 closes other = false
 
--- what stands between two tokens
+-- the whitespace between two tokens
 abbrev pub gap : Token → Token → List ℕ
 gap s t = if opens s then [] else (if closes t then [] else 32 ∷ [])
 
--- one blank between tokens, but none behind "(" and none before ")" and ","
+-- one space between tokens, but none after "(" and none before ")" and ","
 abbrev pub spaced : List Token → List ℕ
 spaced [] = []
 spaced (t ∷ []) = token_bytes t

@@ -1,4 +1,4 @@
--- Where the tokens of a text stand: the longest at each place, with blanks between them.
+-- The tokens of a text and their offsets: the longest token at each place, with whitespace between them.
 use Rattle.std.specs.Prelude.{◌≡◌, ℕ, ◌+◌, true, false, List, [], ◌∷◌, ◌++◌, map, length}
 use Rattle.std.specs.List.{list_all}
 use Rattle.grammar_specs.specs.Tokens.{Token, Spells, Ends, is_blank}
@@ -11,7 +11,7 @@ Placed = List (ℕ × Token)
 abbrev pub tokens_in : Placed → List Token
 tokens_in placed = map (λ p. p.1) placed
 
--- all of them are blanks
+-- all of them are whitespace
 abbrev pub AreBlank : List ℕ → Type 0
 AreBlank bytes = list_all is_blank bytes ≡ true
 
@@ -22,15 +22,15 @@ Stand at bytes (p ∷ placed) left =
     (blanks spelling rest : List ℕ) × (bytes ≡ blanks ++ spelling ++ rest) × AreBlank blanks × (p.0 ≡ at + length blanks) × Spells p.1 spelling × Ends p.1 rest
     × Stand (at + length blanks + length spelling) rest placed left
 
--- no token stands in front
+-- no token is in front
 abbrev pub NoToken : List ℕ → Type 0
 NoToken bytes = (token : Token) (spelling rest : List ℕ) → bytes ≡ spelling ++ rest → Spells token spelling → Ends token rest → ⊥
 
--- The text is these tokens at their offsets, and then blanks up to its end.
+-- The text is these tokens at their offsets, and then whitespace up to its end.
 abbrev pub IsText : Placed → List ℕ → Type 0
 IsText placed text = (left : List ℕ) × Stand 0 text placed left × AreBlank left
 
--- The text is these tokens at their offsets, and then at this offset stands a wrong token, that is none.
+-- The text is these tokens at their offsets, and then at this offset comes something that is no token.
 abbrev pub GoesWrong : Placed → ℕ → List ℕ → Type 0
 GoesWrong placed at text =
     (before blanks : List ℕ) × (b : ℕ) × (rest : List ℕ) × (text ≡ before ++ blanks ++ b ∷ rest) × (at ≡ length before + length blanks)

@@ -6,7 +6,7 @@ use Rattle.lens_values.specs.Bytes.{is_name_byte, is_name, is_text}
 use Rattle.lens_specs.specs.Names.{Name}
 use Rattle.lens_specs.specs.Predicate.{Op, eq, ne, lt, le, gt, ge}
 
--- a word, an integer, a text or a sign
+-- a word, an integer, a text, an operator or punctuation
 pub data Token : Type 0 where
   word : List ℕ → Token
   integer : ℤ → Token
@@ -42,12 +42,12 @@ is_digit b = nat_le 48 b && nat_le b 57
 abbrev pub is_quote : ℕ → Bool
 is_quote b = b == 39
 
--- what the digits are worth behind a number
+-- the number that the digits give after a number
 abbrev pub digits_value : ℕ → List ℕ → ℕ
 digits_value n [] = n
 digits_value n (b ∷ bytes) = digits_value (10 * n + (b - 48)) bytes
 
--- the sign of a comparison
+-- the operator of a comparison
 abbrev pub op_bytes : Op → List ℕ
 op_bytes eq = codes "="
 op_bytes ne = codes "!="
@@ -78,7 +78,7 @@ quotes_doubled (b ∷ bytes) = if is_quote b then b ∷ b ∷ quotes_doubled byt
 
 -- ---- the bytes of a token
 
--- a token's bytes, apart from blanks
+-- a token's bytes, without whitespace
 abbrev pub Spells : Token → List ℕ → Type 0
 Spells (word w) bytes = (bytes ≡ w) × (is_name w ≡ true)
 Spells (integer z) bytes = SpellsInteger z bytes

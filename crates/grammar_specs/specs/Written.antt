@@ -1,4 +1,4 @@
--- Definitions as they stand in the text, with their parentheses, and the tokens that spell them.
+-- Definitions as they are written, with their parentheses, and the tokens that spell them.
 use Rattle.std.specs.Prelude.{ℕ, Bool, true, false, not, ◌&&◌, List, [], ◌∷◌, ◌++◌, map, flat_map, codes, nat_eq, Option, Some, None}
 use Rattle.std.specs.List.{list_any, list_all}
 use Rattle.std.specs.Cmp.Lexicographic.{pointwise}
@@ -165,7 +165,7 @@ abbrev mutual
   is_pred (alone a) = is_all a
   is_pred (either o a) = is_pred o && is_all a
 
--- every name is free, and names stand behind each "by"
+-- every name is free, and names follow each "by"
 abbrev mutual
   pub is_operand : Operand → Bool
   is_operand (bare n) = is_free_name n
@@ -181,7 +181,7 @@ abbrev mutual
 abbrev pub is_column_of : List (Name × Kind) → Name → Bool
 is_column_of columns name = list_any (λ c. pointwise nat_eq c.0 name) columns
 
--- each name is free, and none stands in two of these columns or in those before them
+-- each name is free, and no two of these columns and those before them have the same name
 abbrev pub are_columns : List (Name × Kind) → List (Name × Kind) → Bool
 are_columns before [] = true
 are_columns before (c ∷ columns) = is_free_name c.0 && not (is_column_of before c.0) && are_columns (before ++ c ∷ []) columns
@@ -195,7 +195,7 @@ abbrev pub is_condition : Option Pred → Bool
 is_condition None = true
 is_condition (Some p) = is_pred p
 
--- a table has a column, no column stands twice in it, no side and no "by" is empty, and no name is a reserved word
+-- a table has a column, its columns have distinct names, no side and no "by" is empty, and no name is a reserved word
 abbrev pub is_definition : Written → Bool
 is_definition (table name columns deps condition) =
     is_free_name name && (is_some_list columns && are_columns [] columns) && list_all is_dep deps && is_condition condition

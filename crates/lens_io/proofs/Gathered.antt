@@ -8,7 +8,7 @@ use Rattle.std.proofs.lemmas.List.{take-take, nil_from_length}
 use Rattle.std.proofs.lemmas.Bool.{ltb-true, ltb-false, eqb-true, eqb-false}
 use Rattle.lens_io.specs.declared.cutting.Cut.{Cut}
 use Rattle.lens_io.specs.declared.cutting.Cut.TheVariants.{Line, TooLong, End, Failed, Spent}
-use Rattle.lens_io.specs.Cutting.{HasNoNewline, NeedsNone, CutsOff, Says, SaysPassed, Step, Passed, sized, unended}
+use Rattle.lens_io.specs.Cutting.{HasNoNewline, IsNeeded, NeedsNone, CutsOff, Says, SaysPassed, Step, Passed, sized, unended}
 use Rattle.lens_io.proofs.Pieces.{clear-append, take_join, range_of, range_join, range_at, length-range}
 
 -- the buffer still begins with what waited at first, and the rest came since
@@ -89,10 +89,10 @@ pass_more items slice before taken count stop limit left0 left left' same is few
 
 -- its newline came
 pub pass_cut : (items slice : List ℕ) (before taken count stop limit at : ℕ) (left0 left left' : Option (List ℕ))
-    → slice ≡ items → stop ≡ count - (taken + count - limit) → taken + count ≤ limit + 1 → count ≤ length items → PassedOver before taken left0 left
+    → slice ≡ items → stop ≡ count - (taken + count - limit) → taken + count ≤ limit + 1 → count ≤ 65536 → count ≤ length items → PassedOver before taken left0 left
     → at < stop → HasNoNewline (slice_range slice 0 at) → get_or slice at 0 ≡ 10 → Consumes left left' (slice_range items 0 (0 + count))
     → Passed TooLong (slice_range items (at + 1) count) before (taken + count) limit false left0 left'
-pass_cut items slice before taken count stop limit at left0 left left' same is most inside p below clear newline consumed =
+pass_cut items slice before taken count stop limit at left0 left left' same is most small inside p below clear newline consumed =
     let size : length (slice_range items 0 (0 + count)) ≡ count = length-range items 0 (0 + count) (omega arith) (omega arith) ∙ omega arith in
     let rest : length (slice_range items (at + 1) count) ≡ count - (at + 1) = length-range items (at + 1) count (omega arith) inside in
     let parts : slice_range items 0 (0 + count) ≡ slice_range items 0 at ++ 10 ∷ slice_range items (at + 1) count =
@@ -108,6 +108,7 @@ pass_cut items slice before taken count stop limit at left0 left left' same is m
           inl (ap (λ v. p.came ++ v) parts ∙ sym (append_assoc p.came (slice_range items 0 at) (10 ∷ slice_range items (at + 1) count)), refl),
         ),
       );
+      needed = inr (p.came, slice_range items 0 (0 + count), refl, omega arith, p.clear);
       within = omega arith;
       most = most;
       at_end = λ h. cc;
@@ -115,10 +116,10 @@ pass_cut items slice before taken count stop limit at left0 left left' same is m
 
 -- the byte beyond the limit came
 pub pass_spent : (items slice : List ℕ) (before taken count stop limit : ℕ) (left0 left left' : Option (List ℕ))
-    → slice ≡ items → stop ≡ count - (taken + count - limit) → taken + count ≤ limit + 1 → limit < taken + count → taken ≤ limit → count ≤ length items → PassedOver before taken left0 left
+    → slice ≡ items → stop ≡ count - (taken + count - limit) → taken + count ≤ limit + 1 → limit < taken + count → taken ≤ limit → count ≤ 65536 → count ≤ length items → PassedOver before taken left0 left
     → HasNoNewline (slice_range slice 0 stop) → Consumes left left' (slice_range items 0 (0 + count))
     → Passed Spent (slice_range items (count - 1) count) before (taken + count) limit false left0 left'
-pass_spent items slice before taken count stop limit left0 left left' same is most over few inside p clear consumed =
+pass_spent items slice before taken count stop limit left0 left left' same is most over few small inside p clear consumed =
     let size : length (slice_range items 0 (0 + count)) ≡ count = length-range items 0 (0 + count) (omega arith) (omega arith) ∙ omega arith in
     let rest : length (slice_range items (count - 1) count) ≡ 1 = length-range items (count - 1) count (omega arith) inside ∙ omega arith in
     let at : stop ≡ count - 1 = omega arith in
@@ -136,6 +137,7 @@ pass_spent items slice before taken count stop limit left0 left left' same is mo
         omega arith,
         refl,
       );
+      needed = inr (p.came, slice_range items 0 (0 + count), refl, omega arith, p.clear);
       within = omega arith;
       most = most;
       at_end = λ h. cc;
@@ -153,6 +155,21 @@ false_end left left' h = cc
 false_once : (cut : Cut) → false ≡ true → cut ≡ End
 false_once cut h = cc
 
+-- what came without a newline was needed
+needed_all : (pending came bytes : List ℕ) → pending ++ came ≡ bytes → HasNoNewline bytes → IsNeeded pending came
+needed_all pending came bytes is clear = inr (came, [], sym (append-nil came), omega arith, subst HasNoNewline (sym is) clear)
+
+-- the last piece was needed where there was no newline before it
+needed_last : (first : ℕ) (items0 items items' : List ℕ) (end count : ℕ) (left0 left : Option (List ℕ)) → first ≤ end → end + count ≤ length items' → count ≤ 65536
+    → take end items' ≡ take end items → HasNoNewline (take end items) → Gathered first items0 items end left0 left → IsNeeded (take first items0) (slice_range items' first (end + count))
+needed_last first items0 items items' end count left0 left p inside small same clear g = inr (
+  slice_range items first end,
+  slice_range items' end (end + count),
+  range_join items' first end (end + count) p (omega arith) ∙ ap (λ v. v ++ slice_range items' end (end + count)) (range_front items' items first end p same),
+  omega (arith, length-range items' end (end + count) (omega arith) inside),
+  subst HasNoNewline (sym (whole first items0 items end left0 left p g)) clear,
+)
+
 -- the source failed
 pub step_failed : (items0 items items' : List ℕ) (first end before taken limit : ℕ) (left0 left left' : Option (List ℕ))
     → first ≤ end → end ≤ length items' → taken + first ≡ before + end → taken ≤ limit → HasNoNewline (take end items) → Gathered first items0 items end left0 left
@@ -165,6 +182,7 @@ step_failed items0 items items' first end before taken limit left0 left left' p 
       consumed = g'.consumed;
       counted = omega (arith, length-range items' first end p inside);
       says = (subst HasNoNewline (sym same ∙ sym (whole first items0 items' end left0 left' p g')) clear, refl, refl);
+      needed = needed_all _ _ _ (whole first items0 items' end left0 left' p g' ∙ same) clear;
       within = omega arith;
       most = omega arith;
       at_end = false_end left0 left';
@@ -197,6 +215,7 @@ step_last items0 items items' first end count before taken limit left0 left left
       says = says_unended (take first items0 ++ slice_range items' first end) (slice_range items' 0 end) (slice_range items' end end) end taken limit bytes
           (length-range items' 0 end (omega arith) inside ∙ omega arith) short
           (subst HasNoNewline (sym same ∙ sym (range_zero items' end)) clear) (range_none items' end);
+      needed = needed_all _ _ _ (whole first items0 items' end left0 left' p g' ∙ same) clear;
       within = omega arith;
       most = omega arith;
       at_end = λ _. inr last;
@@ -205,11 +224,11 @@ step_last items0 items items' first end count before taken limit left0 left left
 
 -- a newline came
 pub step_cut : (items0 items items' slice : List ℕ) (first end count before taken limit stop at : ℕ) (left0 left left' : Option (List ℕ))
-    → first ≤ end → end + count ≤ length items' → taken + first ≡ before + end → taken + count ≤ limit + 1 → HasNoNewline (take end items) → Gathered first items0 items end left0 left
+    → first ≤ end → end + count ≤ length items' → taken + first ≡ before + end → taken + count ≤ limit + 1 → count ≤ 65536 → HasNoNewline (take end items) → Gathered first items0 items end left0 left
     → take end items' ≡ take end items → Consumes left left' (slice_range items' end (end + count)) → slice ≡ items' → stop ≡ end + count - (taken + count - limit)
     → end ≤ at → at < stop → HasNoNewline (slice_range slice end at) → get_or slice at 0 ≡ 10
     → Step (sized (at - 0)) (take first items0) (slice_range items' 0 at) (slice_range items' (at + 1) (end + count)) before (taken + count) limit false false left0 left'
-step_cut items0 items items' slice first end count before taken limit stop at left0 left left' p inside counted few clear g same consumed is stops low high before_it newline =
+step_cut items0 items items' slice first end count before taken limit stop at left0 left left' p inside counted few small clear g same consumed is stops low high before_it newline =
     let g' : Gathered first items0 items' (end + count) left0 left' = Gathered-more first items0 items items' end count left0 left left' p same g consumed in
     let bytes : take first items0 ++ slice_range items' first (end + count) ≡ slice_range items' 0 at ++ 10 ∷ slice_range items' (at + 1) (end + count) =
     whole first items0 items' (end + count) left0 left' (omega arith) g' ∙ sym (range_zero items' (end + count))
@@ -222,6 +241,7 @@ step_cut items0 items items' slice first end count before taken limit stop at le
       consumed = g'.consumed;
       counted = omega (arith, length-range items' first (end + count) (omega arith) inside);
       says = says_sized _ (slice_range items' 0 at) (slice_range items' (at + 1) (end + count)) (at - 0) _ _ (length-range items' 0 at (omega arith) (omega arith)) (line_clear, inl (bytes, refl));
+      needed = needed_last first items0 items items' end count left0 left p inside small same clear g;
       within = omega (arith, length-range items' (at + 1) (end + count) (omega arith) inside);
       most = few;
       at_end = false_end left0 left';
@@ -230,12 +250,12 @@ step_cut items0 items items' slice first end count before taken limit stop at le
 
 -- the byte beyond the limit came
 pub step_spent : (items0 items items' slice : List ℕ) (first end count before taken limit stop : ℕ) (left0 left left' : Option (List ℕ))
-    → first ≤ end → end + count ≤ length items' → taken + first ≡ before + end → taken + count ≤ limit + 1 → limit < taken + count → taken ≤ limit
+    → first ≤ end → end + count ≤ length items' → taken + first ≡ before + end → taken + count ≤ limit + 1 → count ≤ 65536 → limit < taken + count → taken ≤ limit
     → HasNoNewline (take end items) → Gathered first items0 items end left0 left
     → take end items' ≡ take end items → Consumes left left' (slice_range items' end (end + count)) → slice ≡ items' → stop ≡ end + count - (taken + count - limit)
     → HasNoNewline (slice_range slice end stop)
     → Step Spent (take first items0) (slice_range items' 0 0) (slice_range items' (end + count - 1) (end + count)) before (taken + count) limit false false left0 left'
-step_spent items0 items items' slice first end count before taken limit stop left0 left left' p inside counted few over most clear g same consumed is stops after =
+step_spent items0 items items' slice first end count before taken limit stop left0 left left' p inside counted few small over most clear g same consumed is stops after =
     let g' : Gathered first items0 items' (end + count) left0 left' = Gathered-more first items0 items items' end count left0 left left' p same g consumed in
     let at : stop ≡ end + count - 1 = omega arith in
     let bytes : take first items0 ++ slice_range items' first (end + count) ≡ take (end + count - 1) items' ++ slice_range items' (end + count - 1) (end + count) =
@@ -250,6 +270,7 @@ step_spent items0 items items' slice first end count before taken limit stop lef
       consumed = g'.consumed;
       counted = omega (arith, length-range items' first (end + count) (omega arith) inside);
       says = (take (end + count - 1) items', piece_clear, bytes, one, omega arith, refl);
+      needed = needed_last first items0 items items' end count left0 left p inside small same clear g;
       within = omega arith;
       most = few;
       at_end = false_end left0 left';
@@ -281,6 +302,18 @@ says_passed Spent front came bytes line rest taken limit ended is clear long h =
   h.5,
 )
 
+needed_passed : (pending front came : List ℕ) → HasNoNewline (pending ++ front) → IsNeeded [] came → IsNeeded pending (front ++ came)
+needed_passed pending front came clear needed = elim needed [
+  | inl none ↦ inr (front, came, refl, omega (arith, ap length none), clear)
+  | inr e ↦ inr (
+    front ++ e.0,
+    e.1,
+    ap (λ v. front ++ v) e.2 ∙ sym (append_assoc front e.0 e.1),
+    e.3,
+    subst HasNoNewline (append_assoc pending front e.0) (clear-append (pending ++ front) e.0 clear e.4),
+  )
+]
+
 -- the line was too long, and the rest of it was passed over
 pub step_passed : (cut : Cut) (items0 items line rest : List ℕ) (first end before taken taken' limit : ℕ) (ended : Bool) (left0 left left' : Option (List ℕ))
     → first ≤ end → end ≤ length items → 16777216 < end → taken + first ≡ before + end → HasNoNewline (take end items) → Gathered first items0 items end left0 left
@@ -295,6 +328,7 @@ step_passed cut items0 items line rest first end before taken taken' limit ended
       consumed = Consumes-trans left0 left left' _ _ g.consumed passed.consumed;
       counted = omega (arith, passed.counted, length-append (slice_range items first end) passed.came, length-range items first end p inside);
       says = says_passed cut (take end items) passed.came _ line rest taken' limit ended bytes clear (omega arith) passed.says;
+      needed = needed_passed (take first items0) (slice_range items first end) passed.came (subst HasNoNewline (sym (whole first items0 items end left0 left p g)) clear) passed.needed;
       within = passed.within;
       most = passed.most;
       at_end = λ h. inr (passed.at_end h);
@@ -314,6 +348,7 @@ step_now items slice start end taken limit stop at ended left inside most given 
     subst (λ v. HasNoNewline (slice_range v start at)) is clear,
     inl (append-nil (slice_range items start end) ∙ range_at items start at end low (omega arith) inside (ap (λ v. get_or v at 0) (sym is) ∙ newline), refl),
   );
+  needed = inl refl;
   within = omega (arith, length-range items (at + 1) end (omega arith) inside);
   most = most;
   at_end = λ h. cc;
@@ -340,6 +375,7 @@ step_over items slice start end taken limit stop ended left inside most over giv
         omega arith,
         refl,
       );
+      needed = inl refl;
       within = omega arith;
       most = most;
       at_end = λ h. cc;

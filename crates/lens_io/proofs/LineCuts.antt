@@ -2,8 +2,8 @@
 use Rattle.std.proofs.Common.{◌≡◌, ◌≢◌, ◌≤◌, ◌<◌, ℕ, Bool, true, false, List, [], ◌∷◌, ◌++◌, length, ap, sym, ◌∙◌, refl}
 use Rattle.std.specs.Prelude.{◌==◌, cond}
 use Rattle.std.proofs.lemmas.Bool.{le-leb, lt-leb, ne_eqb}
-use Rattle.lens_specs.specs.Lines.{line, too_long}
-use Rattle.lens_specs.specs.Lines.{onto_first, pieces, without_empty_end, without_end, marked, each_marked, lines, whole}
+use Rattle.io_specs.specs.Lines.{line, too_long}
+use Rattle.io_specs.specs.Lines.{onto_first, pieces, without_empty_end, without_end, marked, each_marked, lines, whole}
 use Rattle.lens_io.specs.Cutting.{HasNoNewline}
 
 pieces_other : (b : ℕ) (bytes : List ℕ) → b ≢ 10 → pieces (b ∷ bytes) ≡ onto_first b (pieces bytes)

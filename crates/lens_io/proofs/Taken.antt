@@ -1,17 +1,17 @@
 -- The lines that were given so far are the first ones of the bytes that were taken.
-use Rattle.std.proofs.Common.{◌≡◌, ◌≢◌, ◌≤◌, ◌<◌, ◌+◌, ℕ, Bool, true, false, List, [], ◌∷◌, ◌++◌, take, length, ap, sym, subst, ◌∙◌, refl, arith, append_assoc, append-nil, length-append, inl, inr}
+use Rattle.std.proofs.Common.{◌≡◌, ◌≢◌, ◌≤◌, ◌<◌, ◌+◌, ◌-◌, ℕ, Bool, true, false, List, [], ◌∷◌, ◌++◌, take, length, ap, sym, subst, ◌∙◌, refl, arith, append_assoc, append-nil, length-append, inl, inr}
 use Rattle.std.specs.Prelude.{None, Some, IfSome}
 use Rattle.std.specs.declared.option.Option.{Option}
 use Rattle.std.specs.Io.KnownBytes.{Consumes, IsAtEnd}
 use Rattle.std.proofs.KnownBytes.{Consumes-nil, Consumes-trans}
 use Rattle.std.proofs.lemmas.List.{take_at, nil_from_length}
-use Rattle.lens_specs.specs.Lines.{Line, line, too_long}
-use Rattle.lens_specs.specs.Lines.{marked, lines, whole}
+use Rattle.io_specs.specs.Lines.{Line, line, too_long}
+use Rattle.io_specs.specs.Lines.{marked, lines, whole}
 use Rattle.lens_io.specs.declared.cutting.Cut.{Cut}
 use Rattle.lens_io.specs.declared.cutting.Cut.TheVariants as cut
-use Rattle.lens_io.specs.Cutting.{CutsOff, Step}
+use Rattle.lens_io.specs.Cutting.{CutsOff, IsNeeded, Step}
 pub use Rattle.lens_io.specs.Taken.{Taken}
-use Rattle.lens_io.specs.Taken.{Run, none_yet, one_line, one_too_long}
+use Rattle.lens_io.specs.Taken.{ComesInTime, Run, none_yet, one_line, one_too_long}
 use Rattle.lens_io.proofs.LineCuts.{lines_at, whole_at, lines-nil, lines_clear, whole_clear, marked_short, marked_long}
 
 pub Taken-nil : (left : Option (List ℕ)) → Taken [] [] 0 false left left
@@ -22,6 +22,7 @@ Taken-nil left = record {
   counted = refl;
   parts = refl;
   few = omega arith;
+  in_time = ([], [], refl, omega arith, omega (arith, ap length (whole_clear [] tt)));
   lines_are = λ _ rest. refl;
   whole_are = λ _ rest. refl;
   at_end = λ h. cc;
@@ -30,14 +31,31 @@ Taken-nil left = record {
 one_longer : (given : List Line) (l : Line) (more : List Line) → given ++ l ∷ more ≡ (given ++ l ∷ []) ++ more
 one_longer given l more = sym (append_assoc given (l ∷ []) more)
 
+-- what came last was needed, so the lines before were given
+in_time : (given : List Line) (pending came : List ℕ) (taken : ℕ) (left0 left : Option (List ℕ)) → (t : Taken given pending taken false left0 left) → IsNeeded pending came
+    → ComesInTime (length given) (t.all ++ came)
+in_time given pending came taken left0 left t needed = elim needed [
+  | inl none ↦
+      let last = t.in_time in
+      (last.0, last.1, ap (λ v. t.all ++ v) none ∙ append-nil t.all ∙ last.2, last.3, omega (arith, last.4))
+  | inr e ↦
+      let parts : t.all ++ e.0 ≡ t.front ++ (pending ++ e.0) = ap (λ v. v ++ e.0) t.parts ∙ append_assoc t.front pending e.0 in
+      let lines_of : whole (t.all ++ e.0) ≡ given =
+      ap whole parts ∙ t.whole_are refl (pending ++ e.0) ∙ ap (λ v. given ++ v) (whole_clear (pending ++ e.0) e.4) ∙ append-nil given in
+      (t.all ++ e.0, e.1, ap (λ v. t.all ++ v) e.2 ∙ sym (append_assoc t.all e.0 e.1), e.3, omega (arith, ap length lines_of))
+]
+
 -- a line was cut off
 pub Taken-cut : (given : List Line) (pending came piece rest : List ℕ) (taken taken' : ℕ) (ended : Bool) (left0 left left' : Option (List ℕ))
     → Taken given pending taken false left0 left → Consumes left left' came → taken' ≡ taken + length came → CutsOff (pending ++ came) piece rest ended
-    → (ended ≡ true → piece ≢ []) → (ended ≡ true → IsAtEnd left')
+    → IsNeeded pending came → (ended ≡ true → piece ≢ []) → (ended ≡ true → IsAtEnd left')
     → Taken (given ++ marked piece ∷ []) rest taken' ended left0 left'
-Taken-cut given pending came piece rest taken taken' ended left0 left left' t consumed counted cuts some last =
+Taken-cut given pending came piece rest taken taken' ended left0 left left' t consumed counted cuts needed some last =
     let grown : t.all ++ came ≡ t.front ++ (pending ++ came) = ap (λ v. v ++ came) t.parts ∙ append_assoc t.front pending came in
     let size : length (given ++ marked piece ∷ []) ≡ length given + 1 = length-append given (marked piece ∷ []) in
+    let before_last : length given ≡ length (given ++ marked piece ∷ []) - 1 = omega arith in
+    let timely : ComesInTime (length (given ++ marked piece ∷ []) - 1) (t.all ++ came) =
+    subst (λ n. ComesInTime n (t.all ++ came)) before_last (in_time given pending came taken left0 left t needed) in
     elim cuts.1 [
       | inl e ↦
           let ender : List ℕ = piece ++ 10 ∷ [] in
@@ -50,6 +68,7 @@ Taken-cut given pending came piece rest taken taken' ended left0 left left' t co
             counted = omega (arith, t.counted, length-append t.all came);
             parts = grown ∙ ap (λ v. t.front ++ v) e.0 ∙ sym (on rest);
             few = omega (arith, t.few, size, length-append t.front ender, length-append piece (10 ∷ []));
+            in_time = timely;
             lines_are = λ _ r. ap lines (on r) ∙ t.lines_are refl (piece ++ 10 ∷ r) ∙ ap (λ v. given ++ v) (lines_at piece r cuts.0) ∙ one_longer given (marked piece) (lines r);
             whole_are = λ _ r. ap whole (on r) ∙ t.whole_are refl (piece ++ 10 ∷ r) ∙ ap (λ v. given ++ v) (whole_at piece r cuts.0) ∙ one_longer given (marked piece) (whole r);
             at_end = λ h. cc;
@@ -65,6 +84,7 @@ Taken-cut given pending came piece rest taken taken' ended left0 left left' t co
             counted = omega (arith, t.counted, length-append t.all came);
             parts = sym (append-nil (t.all ++ came)) ∙ ap (λ v. (t.all ++ came) ++ v) (sym e.1);
             few = omega (arith, t.few, size, ap length here, length-append t.front piece);
+            in_time = timely;
             lines_are = λ h. absurd (let no : true ≡ false = sym e.2 ∙ h in cc);
             whole_are = λ h. absurd (let no : true ≡ false = sym e.2 ∙ h in cc);
             at_end = λ h. (e.1, ap lines here ∙ t.lines_are refl piece ∙ ap (λ v. given ++ v) (lines_clear piece cuts.0 not_none), last h);
@@ -88,7 +108,7 @@ pub Taken-line : (given : List Line) (pending text rest : List ℕ) (taken taken
 Taken-line given pending text rest taken taken' limit ended ended' left0 left left' t s =
     let before_end : ended ≡ false = step_open cut.Line pending text rest taken taken' limit ended ended' left left' s (λ e. cc) in
     subst (λ l. Taken (given ++ l ∷ []) rest taken' ended' left0 left') (marked_short text s.says.0)
-    (Taken-cut given pending s.came text rest taken taken' ended' left0 left left' (subst (λ b. Taken given pending taken b left0 left) before_end t) s.consumed s.counted s.says.1 s.says.2
+    (Taken-cut given pending s.came text rest taken taken' ended' left0 left left' (subst (λ b. Taken given pending taken b left0 left) before_end t) s.consumed s.counted s.says.1 s.needed s.says.2
     (step_last cut.Line pending text rest taken taken' limit ended ended' left left' s before_end))
 
 -- The next line was too long.
@@ -100,7 +120,7 @@ Taken-too_long given pending text rest taken taken' limit ended ended' left0 lef
     let piece : List ℕ = s.says.0 in
     let long : 16777216 < length piece = s.says.1 in
     subst (λ l. Taken (given ++ l ∷ []) rest taken' ended' left0 left') (marked_long piece long)
-    (Taken-cut given pending s.came piece rest taken taken' ended' left0 left left' (subst (λ b. Taken given pending taken b left0 left) before_end t) s.consumed s.counted s.says.2
+    (Taken-cut given pending s.came piece rest taken taken' ended' left0 left left' (subst (λ b. Taken given pending taken b left0 left) before_end t) s.consumed s.counted s.says.2 s.needed
     (λ _ e. absurd (omega (arith, long, ap length e)))
     (step_last cut.TooLong pending text rest taken taken' limit ended ended' left left' s before_end))
 

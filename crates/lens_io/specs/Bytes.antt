@@ -1,6 +1,6 @@
 -- What a sink has taken after several calls.
 use Rattle.std.specs.Prelude.{ℕ, List, take, ◌⊎◌}
-use Rattle.lens_specs.specs.Faults.{Rose}
+use Rattle.io_specs.specs.Faults.{Rose}
 use Rattle.std.specs.declared.option.Option.{Option}
 use Rattle.std.specs.Io.KnownBytes.{Appends}
 

@@ -1,11 +1,12 @@
--- A cutter of lines, and what one call of it says of the input.
-use Rattle.std.specs.Prelude.{◌≡◌, ◌≢◌, ◌≤◌, ◌<◌, ◌+◌, ℕ, Bool, true, false, List, [], ◌∷◌, ◌++◌, ◌⊎◌, length, nat_lt, nat_eq, if◌then◌else◌}
+-- A cutter of lines, and one call of it.
+use Rattle.std.specs.Prelude.{◌≡◌, ◌≢◌, ◌≤◌, ◌<◌, ◌+◌, ◌-◌, min, ℕ, Bool, true, false, List, [], ◌∷◌, ◌++◌, ◌⊎◌, length, nat_lt, nat_eq, if◌then◌else◌}
 use Rattle.std.specs.declared.option.Option.{Option}
 use Rattle.std.specs.Io.KnownBytes.{Consumes, IsAtEnd}
+use Rattle.lens_io.specs.Calls.{Call}
 use Rattle.lens_io.specs.declared.cutting.Cut.{Cut}
 use Rattle.lens_io.specs.declared.cutting.Cut.TheVariants.{Line, TooLong, End, Failed, Spent}
 
--- The bytes that were taken and not given yet, the line that was given last, how many bytes were taken in all and may be,
+-- The bytes that were taken and not given yet, the line that was given last, how many bytes were taken in all and how many may be,
 -- whether the source told its end, and whether the last answer was given.
 pub record Cutter : Type 0 where
   pub pending : List ℕ
@@ -32,7 +33,7 @@ HasNoNewline (b ∷ bytes) = (b ≢ 10) × HasNoNewline bytes
 abbrev pub CutsOff : List ℕ → List ℕ → List ℕ → Bool → Type 0
 CutsOff bytes piece rest ended = HasNoNewline piece × (((bytes ≡ piece ++ 10 ∷ rest) × (ended ≡ false)) ⊎ ((bytes ≡ piece) × (rest ≡ []) × (ended ≡ true)))
 
--- What an answer says of the bytes that waited or came: which line was cut off them, and what is left.
+-- An answer, by the bytes that waited or came: which line was cut off them, and which bytes are left.
 abbrev pub Says : Cut → List ℕ → List ℕ → List ℕ → ℕ → ℕ → Bool → Type 0
 Says Line bytes line rest taken limit ended = (length line ≤ 16777216) × CutsOff bytes line rest ended × (ended ≡ true → line ≢ [])
 Says TooLong bytes line rest taken limit ended = (piece : List ℕ) × (16777216 < length piece) × CutsOff bytes piece rest ended
@@ -40,12 +41,18 @@ Says End bytes line rest taken limit ended = (bytes ≡ []) × (rest ≡ []) × 
 Says Failed bytes line rest taken limit ended = HasNoNewline bytes × (rest ≡ []) × (ended ≡ false)
 Says Spent bytes line rest taken limit ended = (piece : List ℕ) × HasNoNewline piece × (bytes ≡ piece ++ rest) × (length rest ≡ 1) × (taken ≡ limit + 1) × (ended ≡ false)
 
+-- But for the last piece of at most 65,536 bytes, what was taken had no newline, nor had what waited before; where a line waited, nothing was taken.
+abbrev pub IsNeeded : List ℕ → List ℕ → Type 0
+IsNeeded pending came = (came ≡ []) ⊎ ((before : List ℕ) × (last : List ℕ) × (came ≡ before ++ last) × (length last ≤ 65536) × HasNoNewline (pending ++ before))
+
 -- One call. The bytes that came are those that the source lost, where it tells them.
 pub record Step (cut : Cut) (pending line rest : List ℕ) (taken taken' limit : ℕ) (ended ended' : Bool) (left left' : Option (List ℕ)) : Type 0 where
   pub came : List ℕ
   pub consumed : Consumes left left' came
   pub counted : taken' ≡ taken + length came
   pub says : Says cut (pending ++ came) line rest taken' limit ended'
+  -- no byte was asked for while a whole line waited
+  pub needed : IsNeeded pending came
   -- what was given is among the first bytes, and one byte more is taken at most
   pub within : taken' ≤ limit + length rest
   pub most : taken' ≤ limit + 1
@@ -53,15 +60,15 @@ pub record Step (cut : Cut) (pending line rest : List ℕ) (taken taken' limit :
   pub at_end : ended' ≡ true → ((ended ≡ true) × (left' ≡ left)) ⊎ IsAtEnd left'
   pub once : ended ≡ true → cut ≡ End
 
--- what a line of that length is
+-- the answer to a line of that length
 abbrev pub sized : ℕ → Cut
 sized size = if nat_lt 16777216 size then TooLong else Line
 
--- what so many bytes are at the end of the input
+-- the answer to so many bytes without a newline at the end of the input
 abbrev pub unended : ℕ → Cut
 unended size = if nat_eq size 0 then End else Line
 
--- what an answer says of the bytes that came while a line was passed over
+-- an answer, by the bytes that came while a line was passed over
 abbrev pub SaysPassed : Cut → List ℕ → List ℕ → ℕ → ℕ → Bool → Type 0
 SaysPassed Line came rest taken limit ended = ⊥
 SaysPassed TooLong came rest taken limit ended = (piece : List ℕ) × CutsOff came piece rest ended
@@ -75,6 +82,7 @@ pub record Passed (cut : Cut) (rest : List ℕ) (taken taken' limit : ℕ) (ende
   pub consumed : Consumes left left' came
   pub counted : taken' ≡ taken + length came
   pub says : SaysPassed cut came rest taken' limit ended'
+  pub needed : IsNeeded [] came
   pub within : taken' ≤ limit + length rest
   pub most : taken' ≤ limit + 1
   pub at_end : ended' ≡ true → IsAtEnd left'
@@ -86,3 +94,11 @@ IsNext bytes piece = HasNoNewline piece × (((tail : List ℕ) × (bytes ≡ pie
 -- No byte more is needed: a whole line waits, or the byte beyond the limit, or the end was told.
 abbrev pub NeedsNone : List ℕ → ℕ → ℕ → Bool → Type 0
 NeedsNone pending taken limit ended = ((piece : List ℕ) × (rest : List ℕ) × (pending ≡ piece ++ 10 ∷ rest)) ⊎ ((limit < taken) ⊎ (ended ≡ true))
+
+-- These calls were made only while no whole line waited, and one after another only where bytes came;
+-- each had room for 65,536 bytes, or up to one byte beyond the limit where that is fewer.
+abbrev pub AskInNeed : List ℕ → ℕ → ℕ → List Call → Type 0
+AskInNeed waiting taken limit [] = Unit {0}
+AskInNeed waiting taken limit (call ∷ calls) =
+    HasNoNewline waiting × (call.room ≡ min 65536 (limit + 1 - taken)) × (calls ≢ [] → call.came ≢ [])
+    × AskInNeed (waiting ++ call.came) (taken + length call.came) limit calls

@@ -1,4 +1,4 @@
--- A source and a sink in memory, as a test makes them.
+-- A source and a sink in memory, for tests.
 use Rattle.std.specs.Prelude.{◌==◌, ◌+◌, ◌-◌, ◌^◌, ◌++◌, ℕ, Bool, List, length, drop, min}
 use Rattle.std.specs.List.{list_any}
 

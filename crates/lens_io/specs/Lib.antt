@@ -1,4 +1,5 @@
 pub mod Bytes
+pub mod Calls
 pub mod CutterCode
 pub mod Cutting
 pub mod InMemory

@@ -3,7 +3,7 @@ use Rattle.std.specs.Prelude.{◌≡◌, ◌≤◌, ◌+◌, ◌^◌, ℕ, Bool,
 use Rattle.std.specs.declared.option.Option.{Option}
 use Rattle.lens_io.specs.declared.cutting.Found.{Found}
 use Rattle.lens_io.specs.declared.cutting.LineCutter.TheInside.{Inside}
-use Rattle.lens_io.specs.declared.devices.MemorySink.TheInside.{Inside as Sunk}
+use Rattle.lens_io.specs.declared.in_memory.MemorySink.TheInside.{Inside as Sunk}
 use Rattle.lens_io.specs.Cutting.{Step}
 
 -- The places lie in a buffer of that size, and at most one byte beyond the limit was taken, which still waits.
@@ -18,7 +18,7 @@ pub record IsWithin (found : Found) (limit size : ℕ) : Type 0 where
 
 -- A cutter has room for the longest line and one more call of a source.
 pub record Holds (c : Inside) : Type 0 where
-  pub capacity : 16842752 ≤ vec_capacity c.bytes
+  pub capacity : 16777216 + 65536 ≤ vec_capacity c.bytes
   pub limit : c.limit ≤ 2 ^ 40
   pub found : IsWithin c.found c.limit (vec_len c.bytes)
 

@@ -1,23 +1,25 @@
 //! Lines of a source.
 ghost use Rattle.std.specs.Prelude.{◌≡◌, ◌≢◌, ◌≤◌, ◌<◌, ◌^◌, ◌+◌, ◌-◌, ℕ, true, false, length, [], ◌∷◌, ◌++◌, take, drop, min, List, vec_len, vec_capacity, slice_range, slice_index, IfOk, OnErr, MatchOption, MatchResult};
 ghost use Rattle.std.specs.Io.KnownBytes.{Consumes, IsAtEnd, Keeps};
-ghost use Rattle.lens_specs.specs.Faults.{Rose};
-ghost use Rattle.lens_io.specs.Cutting.{HasNoNewline, NeedsNone, Step, Passed, is_last, sized, unended};
+ghost use Rattle.io_specs.specs.Faults.{Rose};
+ghost use Rattle.lens_io.specs.Calls.{Adds, AddsCall};
+ghost use Rattle.lens_io.specs.Cutting.{AskInNeed, HasNoNewline, NeedsNone, Step, Passed, is_last, sized, unended};
 ghost use Rattle.lens_io.specs.Within.{IsWithin, FoundStep};
 
 use crate::input_output::{Failed, Source};
-use lens_values::NoMemory;
+use io_specs::LONGEST_LINE;
+use no_memory::NoMemory;
 use std::alloc::Global;
 use std::marker::Model;
 
-/// What the next line is. Only after `Line` and `TooLong` another may be asked for.
+/// The answer to `LineCutter::next`. Only `Line` and `TooLong` are followed by another answer.
 #[derive(Clone, Copy, Debug, PartialEq, Eq)]
 pub enum Cut {
     /// A line, which `LineCutter::line` reads.
     Line,
-    /// A line of more than `LONGEST` bytes, which was passed over.
+    /// A line of more than `LONGEST_LINE` bytes, which was passed over.
     TooLong,
-    /// The input is at its end, and all its lines were given.
+    /// The input has ended, and all its lines were given.
     End,
     /// The source failed. Bytes after the last newline are dropped.
     Failed,
@@ -25,13 +27,11 @@ pub enum Cut {
     Spent,
 }
 
-/// How many bytes a line has at most, without its newline.
-pub const LONGEST: usize = 16_777_216;
-
-/// How many bytes one call of a source is asked for at most.
+/// The greatest room that one call of a source is given, in bytes.
 pub const ROOM: usize = 65_536;
 
-/// Cuts the bytes of a source into lines: up to each newline, and up to the end of the input where that is not empty.
+/// Cuts the bytes of a source into lines. A last line without a newline counts where it is not
+/// empty.
 #[derive(Debug, Drop)]
 pub struct LineCutter {
     bytes: Vec<u8>,
@@ -40,7 +40,8 @@ pub struct LineCutter {
     done: bool,
 }
 
-/// Where a call left off: the line stands from `line_start` to `line_end`, and what was taken and not given from `start` to `end`.
+/// The result of a call, by places in the buffer: the line is at `line_start..line_end`, and the
+/// bytes that wait for the next call are at `start..end`.
 #[derive(Clone, Copy, Debug, Drop)]
 struct Found {
     cut: Cut,
@@ -69,25 +70,42 @@ impl Model for LineCutter {
 }
 
 impl LineCutter {
-    /// A cutter of an input of at most `max_input` bytes. It takes room for the longest line, and none later. `NoMemory`: there is no room.
+    /// A cutter of an input of at most `max_input` bytes. It takes memory for the longest line, and
+    /// none later. `NoMemory`: there is no memory for it.
     pub fn new(alloc: Global, max_input: u64) -> Result<LineCutter, NoMemory>
         requires least { 1 ≤ max_input }
         requires most { max_input ≤ 2 ^ 40 }
-        ensures { IfOk result (λ cutter. cutter ≡ record { pending = []; line = []; taken = 0; limit = max_input; ended = false; done = false }) }
+        ensures { IfOk result (λ cutter.
+            cutter ≡ record {
+              pending = [];
+              line = [];
+              taken = 0;
+              limit = max_input;
+              ended = false;
+              done = false;
+            }) }
     {
         Ok(LineCutter {
-            bytes: Vec::with_capacity(alloc, LONGEST + ROOM)?,
+            bytes: Vec::with_capacity(alloc, LONGEST_LINE + ROOM)?,
             found: stopped(Cut::Line, 0, false),
             limit: max_input,
             done: false,
         })
     }
 
-    /// Finds the next line, in what waits or else in what the source gives.
+    /// Finds the next line. It asks the source only where no whole line waits.
     pub fn next<S: Source>(&mut self, source: &mut S) -> Cut
         requires { self.old.done ≡ false }
-        ensures step { Step result self.old.pending self.new.line self.new.pending self.old.taken self.new.taken self.old.limit self.old.ended self.new.ended (S.left source.old) (S.left source.new) }
-        ensures asks { NeedsNone self.old.pending self.old.taken self.old.limit self.old.ended → source.new ≡ source.old }
+        ensures step { Step result self.old.pending self.new.line self.new.pending self.old.taken self.new.taken
+            self.old.limit self.old.ended self.new.ended (S.left source.old) (S.left source.new) }
+
+        // The source is not asked where a whole line waits, and it is asked again only until one
+        // does.
+        ensures asks { NeedsNone self.old.pending self.old.taken self.old.limit self.old.ended
+            → source.new ≡ source.old }
+        ensures calls { Adds (AskInNeed self.old.pending self.old.taken self.old.limit)
+            (S.asked source.old) (S.asked source.new) }
+
         ensures limit { self.new.limit ≡ self.old.limit }
         ensures done { self.new.done ≡ is_last result }
         ensures later { S.faults source.old ≤ S.faults source.new }
@@ -122,9 +140,17 @@ fn ends(cut: Cut) -> bool
     }
 }
 
-/// Nothing waits.
+/// No line, and no byte waits.
 fn stopped(cut: Cut, taken: u64, ended: bool) -> Found
-    ensures { result ≡ record { cut = cut; line_start = 0; line_end = 0; start = 0; end = 0; taken = taken; ended = ended } }
+    ensures { result ≡ record {
+      cut = cut;
+      line_start = 0;
+      line_end = 0;
+      start = 0;
+      end = 0;
+      taken = taken;
+      ended = ended;
+    } }
 {
     Found {
         cut,
@@ -137,11 +163,13 @@ fn stopped(cut: Cut, taken: u64, ended: bool) -> Found
     }
 }
 
-/// The first newline between two places.
+/// The place of the first newline in a part of the buffer.
 fn newline_in(bytes: &[u8], from: usize, to: usize) -> Option<usize>
     requires order { from ≤ to }
     requires within { to ≤ length bytes.now }
-    ensures { MatchOption result (HasNoNewline (slice_range bytes.now from to)) (λ at. (from ≤ at) × (at < to) × HasNoNewline (slice_range bytes.now from at) × (slice_index bytes.now at ≡ 10)) }
+    ensures { MatchOption result (HasNoNewline (slice_range bytes.now from to))
+        (λ at. (from ≤ at) × (at < to) × HasNoNewline (slice_range bytes.now from at)
+        × (slice_index bytes.now at ≡ 10)) }
 {
     match memchr::memchr(b'\n', &bytes[from..to]) {
         Some(at) => Some(from + at),
@@ -149,7 +177,7 @@ fn newline_in(bytes: &[u8], from: usize, to: usize) -> Option<usize>
     }
 }
 
-/// Where the search stops: before the one byte that is beyond the limit.
+/// The end of the search for a newline: a byte beyond the limit is not searched.
 fn stop(end: usize, taken: u64, limit: u64) -> usize
     requires some { taken ≤ limit + end }
     requires one { taken ≤ limit + 1 }
@@ -158,7 +186,7 @@ fn stop(end: usize, taken: u64, limit: u64) -> usize
     if taken > limit { end - 1 } else { end }
 }
 
-/// Has at least so many bytes, for which there is room.
+/// Lengthens the buffer, within its capacity, to at least so many bytes.
 fn reach(bytes: &mut Vec<u8>, count: usize)
     requires { count ≤ vec_capacity bytes.old }
     ensures same { take (vec_len bytes.old) bytes.new.items ≡ bytes.old.items }
@@ -174,7 +202,7 @@ fn reach(bytes: &mut Vec<u8>, count: usize)
     }
 }
 
-/// Takes bytes from the source to the place `end` on.
+/// Asks the source once, for bytes at the place `end` of the buffer.
 fn ask<S: Source>(
     source: &mut S,
     bytes: &mut Vec<u8>,
@@ -185,15 +213,20 @@ fn ask<S: Source>(
     requires taken { taken ≤ limit }
     requires limit { limit ≤ 2 ^ 40 }
     requires end { end ≤ vec_len bytes.old }
-    requires room { end + 65536 ≤ vec_capacity bytes.old }
+    requires room { end + ROOM ≤ vec_capacity bytes.old }
     ensures bound { IfOk result (λ n. n ≤ min 65536 (limit + 1 - taken)) }
     ensures size { IfOk result (λ n. end + n ≤ vec_len bytes.new) }
     ensures longer { vec_len bytes.old ≤ vec_len bytes.new }
     ensures capacity { vec_capacity bytes.old ≤ vec_capacity bytes.new }
     ensures front { take end bytes.new.items ≡ take end bytes.old.items }
-    ensures came { IfOk result (λ n. Consumes (S.left source.old) (S.left source.new) (slice_range bytes.new.items end (end + n))) }
+    ensures came { IfOk result (λ n. Consumes (S.left source.old) (S.left source.new)
+        (slice_range bytes.new.items end (end + n))) }
     ensures last { IfOk result (λ n. n ≡ 0 → IsAtEnd (S.left source.new)) }
     ensures kept { OnErr result (Keeps (S.left source.old) (S.left source.new)) }
+    ensures call { IfOk result (λ n. AddsCall (S.asked source.old) (S.asked source.new)
+        (min 65536 (limit + 1 - taken)) (slice_range bytes.new.items end (end + n))) }
+    ensures call_failed { OnErr result (AddsCall (S.asked source.old) (S.asked source.new)
+        (min 65536 (limit + 1 - taken)) []) }
     ensures later { S.faults source.old ≤ S.faults source.new }
     ensures failed { OnErr result (Rose (S.faults source.old) (S.faults source.new)) }
 {
@@ -202,14 +235,18 @@ fn ask<S: Source>(
     source.take(&mut bytes[end..end + room])
 }
 
-/// Finds the next line in what waits, or else in what the source gives.
+/// Finds the next line among the bytes that wait, or asks the source for more.
 fn find<S: Source>(source: &mut S, bytes: &mut Vec<u8>, last: Found, limit: u64) -> Found
-    requires capacity { 16842752 ≤ vec_capacity bytes.old }
+    requires capacity { LONGEST_LINE + ROOM ≤ vec_capacity bytes.old }
     requires limit { limit ≤ 2 ^ 40 }
     requires last { IsWithin last limit (vec_len bytes.old) }
-    ensures capacity { 16842752 ≤ vec_capacity bytes.new }
-    ensures step { FoundStep result bytes.new.items (slice_range bytes.old.items last.start last.end) last.taken limit last.ended (S.left source.old) (S.left source.new) }
-    ensures asks { NeedsNone (slice_range bytes.old.items last.start last.end) last.taken limit last.ended → source.new ≡ source.old }
+    ensures capacity { LONGEST_LINE + ROOM ≤ vec_capacity bytes.new }
+    ensures step { FoundStep result bytes.new.items (slice_range bytes.old.items last.start last.end)
+        last.taken limit last.ended (S.left source.old) (S.left source.new) }
+    ensures asks { NeedsNone (slice_range bytes.old.items last.start last.end) last.taken limit last.ended
+        → source.new ≡ source.old }
+    ensures calls { Adds (AskInNeed (slice_range bytes.old.items last.start last.end) last.taken limit)
+        (S.asked source.old) (S.asked source.new) }
     ensures within { IsWithin result limit (vec_len bytes.new) }
     ensures later { S.faults source.old ≤ S.faults source.new }
     ensures failed { result.cut ≡ Cut.Failed → Rose (S.faults source.old) (S.faults source.new) }
@@ -228,22 +265,30 @@ fn find<S: Source>(source: &mut S, bytes: &mut Vec<u8>, last: Found, limit: u64)
     gather(source, bytes, last.end - last.start, last.taken, limit)
 }
 
-/// What a line of that length is.
+/// The answer to a line of that length.
 fn sized(size: usize) -> Cut
     ensures { result ≡ sized size }
 {
-    if size > LONGEST {
+    if size > LONGEST_LINE {
         Cut::TooLong
     } else {
         Cut::Line
     }
 }
 
-/// The line ends at the newline `at`.
+/// A line that ends at the newline `at`.
 fn cut_at(start: usize, at: usize, end: usize, taken: u64) -> Found
     requires order { start ≤ at }
     requires within { at < end }
-    ensures { result ≡ record { cut = sized (at - start); line_start = start; line_end = at; start = at + 1; end = end; taken = taken; ended = false } }
+    ensures { result ≡ record {
+      cut = sized (at - start);
+      line_start = start;
+      line_end = at;
+      start = at + 1;
+      end = end;
+      taken = taken;
+      ended = false;
+    } }
 {
     Found {
         cut: sized(at - start),
@@ -256,10 +301,18 @@ fn cut_at(start: usize, at: usize, end: usize, taken: u64) -> Found
     }
 }
 
-/// The byte beyond the limit is left.
+/// The input is longer than the limit. Only the byte beyond it still waits.
 fn spent(end: usize, taken: u64) -> Found
     requires { 1 ≤ end }
-    ensures { result ≡ record { cut = Cut.Spent; line_start = 0; line_end = 0; start = end - 1; end = end; taken = taken; ended = false } }
+    ensures { result ≡ record {
+      cut = Cut.Spent;
+      line_start = 0;
+      line_end = 0;
+      start = end - 1;
+      end = end;
+      taken = taken;
+      ended = false;
+    } }
 {
     Found {
         cut: Cut::Spent,
@@ -272,16 +325,24 @@ fn spent(end: usize, taken: u64) -> Found
     }
 }
 
-/// What so many bytes are at the end of the input.
+/// The answer to so many bytes without a newline at the end of the input.
 fn unended(size: usize) -> Cut
     ensures { result ≡ unended size }
 {
     if size == 0 { Cut::End } else { Cut::Line }
 }
 
-/// The input is at its end after the first `end` bytes.
+/// The input ended, and the first `end` bytes are its last line, if any.
 fn last_line(end: usize, taken: u64) -> Found
-    ensures { result ≡ record { cut = unended end; line_start = 0; line_end = end; start = end; end = end; taken = taken; ended = true } }
+    ensures { result ≡ record {
+      cut = unended end;
+      line_start = 0;
+      line_end = end;
+      start = end;
+      end = end;
+      taken = taken;
+      ended = true;
+    } }
 {
     Found {
         cut: unended(end),
@@ -294,7 +355,8 @@ fn last_line(end: usize, taken: u64) -> Found
     }
 }
 
-/// Finds a line that begins with the first bytes, which have no newline.
+/// Asks for bytes until a line is whole. It begins with the first bytes of the buffer, which have
+/// no newline.
 fn gather<S: Source>(
     source: &mut S,
     bytes: &mut Vec<u8>,
@@ -302,20 +364,23 @@ fn gather<S: Source>(
     before: u64,
     limit: u64,
 ) -> Found
-    requires capacity { 16842752 ≤ vec_capacity bytes.old }
+    requires capacity { LONGEST_LINE + ROOM ≤ vec_capacity bytes.old }
     requires limit { limit ≤ 2 ^ 40 }
     requires before { before ≤ limit }
     requires first { first ≤ vec_len bytes.old }
     requires clear { HasNoNewline (take first bytes.old.items) }
-    ensures capacity { 16842752 ≤ vec_capacity bytes.new }
-    ensures step { FoundStep result bytes.new.items (take first bytes.old.items) before limit false (S.left source.old) (S.left source.new) }
+    ensures capacity { LONGEST_LINE + ROOM ≤ vec_capacity bytes.new }
+    ensures step { FoundStep result bytes.new.items (take first bytes.old.items) before limit false
+        (S.left source.old) (S.left source.new) }
+    ensures calls { Adds (AskInNeed (take first bytes.old.items) before limit)
+        (S.asked source.old) (S.asked source.new) }
     ensures within { IsWithin result limit (vec_len bytes.new) }
     ensures later { S.faults source.old ≤ S.faults source.new }
     ensures failed { result.cut ≡ Cut.Failed → Rose (S.faults source.old) (S.faults source.new) }
 {
     let mut end = first;
     let mut taken = before;
-    'gather: while end <= LONGEST {
+    'gather: while end <= LONGEST_LINE {
         let count = match ask(source, bytes, end, taken, limit) {
             Ok(count) => count,
             Err(Failed) => return stopped(Cut::Failed, taken, false),
@@ -336,13 +401,15 @@ fn gather<S: Source>(
     pass_over(source, bytes, taken, limit)
 }
 
-/// Passes over the rest of a line that is too long.
+/// Drops the rest of a line that is too long.
 fn pass_over<S: Source>(source: &mut S, bytes: &mut Vec<u8>, before: u64, limit: u64) -> Found
-    requires capacity { 16842752 ≤ vec_capacity bytes.old }
+    requires capacity { LONGEST_LINE + ROOM ≤ vec_capacity bytes.old }
     requires limit { limit ≤ 2 ^ 40 }
     requires before { before ≤ limit }
-    ensures capacity { 16842752 ≤ vec_capacity bytes.new }
-    ensures passed { Passed result.cut (slice_range bytes.new.items result.start result.end) before result.taken limit result.ended (S.left source.old) (S.left source.new) }
+    ensures capacity { LONGEST_LINE + ROOM ≤ vec_capacity bytes.new }
+    ensures passed { Passed result.cut (slice_range bytes.new.items result.start result.end)
+        before result.taken limit result.ended (S.left source.old) (S.left source.new) }
+    ensures calls { Adds (AskInNeed [] before limit) (S.asked source.old) (S.asked source.new) }
     ensures within { IsWithin result limit (vec_len bytes.new) }
     ensures later { S.faults source.old ≤ S.faults source.new }
     ensures failed { result.cut ≡ Cut.Failed → Rose (S.faults source.old) (S.faults source.new) }

@@ -3,14 +3,15 @@ ghost use Rattle.std.specs.Prelude.{◌≡◌, ◌≤◌, ◌<◌, ℕ, List, le
 ghost use Rattle.std.specs.declared.option.Option.{Option};
 ghost use Rattle.std.specs.Io.{ReadsAtMost};
 ghost use Rattle.std.specs.Io.KnownBytes.{Appends, Keeps, ReadConsumes, WriteAppends};
-ghost use Rattle.lens_specs.specs.Faults.{Rose};
+ghost use Rattle.io_specs.specs.Faults.{Rose};
 ghost use Rattle.lens_io.specs.Bytes.{AppendsFront};
+ghost use Rattle.lens_io.specs.Calls.{AddsTake, Call};
 
 /// A source or a sink failed, and has counted it.
 #[derive(Clone, Copy, Debug, PartialEq, Eq)]
 pub struct Failed;
 
-/// Where bytes come from.
+/// A source of bytes.
 pub trait Source {
     /// The bytes that are left, where it tells them.
     ghost left: { Self → Option (List ℕ) };
@@ -18,16 +19,21 @@ pub trait Source {
     /// How often it has failed.
     ghost faults: { Self → ℕ };
 
-    /// Gives some of the bytes that are left, and answers how many; 0 is the end. `Failed`: it gave none.
+    /// The calls of `take` so far, where it tells them.
+    ghost asked: { Self → Option (List Call) };
+
+    /// Gives some of the bytes that are left, and answers how many; 0 is the end of the input.
+    /// `Failed`: it gave none.
     fn take(&mut self, into: &mut [u8]) -> Result<usize, Failed>
         requires { 0 < length into.old }
         ensures bound { ReadsAtMost result into.new }
         ensures bytes { ReadConsumes (left self.old) (left self.new) result into.new }
+        ensures call { AddsTake (asked self.old) (asked self.new) result into.new }
         ensures later { faults self.old ≤ faults self.new }
         ensures failed { OnErr result (Rose (faults self.old) (faults self.new)) };
 }
 
-/// Where bytes go.
+/// A sink of bytes.
 pub trait Sink {
     /// The bytes that it has taken, where it tells them.
     ghost taken: { Self → Option (List ℕ) };
@@ -35,7 +41,8 @@ pub trait Sink {
     /// How often it has failed.
     ghost faults: { Self → ℕ };
 
-    /// Takes a front of the piece, which is not empty, and answers how many bytes. `Failed`: it took none.
+    /// Takes some first bytes of the piece, at least one, and answers how many. `Failed`: it took
+    /// none.
     fn give(&mut self, piece: &[u8]) -> Result<usize, Failed>
         requires { 0 < length piece.now }
         ensures some { IfOk result (λ n. 0 < n) }
@@ -45,7 +52,8 @@ pub trait Sink {
         ensures failed { OnErr result (Rose (faults self.old) (faults self.new)) };
 }
 
-/// Gives all the bytes to the sink, one front after another. `Failed`: the sink failed, and took a front of them.
+/// Gives all the bytes to the sink, in as many calls as it needs. `Failed`: the sink failed, and
+/// took only the first of them.
 pub fn give_all<W: Sink>(sink: &mut W, bytes: &[u8]) -> Result<(), Failed>
     ensures ok { OnOk result (Appends (W.taken sink.old) (W.taken sink.new) bytes.now) }
     ensures front { OnErr result (AppendsFront (W.taken sink.old) (W.taken sink.new) bytes.now) }

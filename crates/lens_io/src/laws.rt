@@ -6,7 +6,8 @@ pub fn runs_give_lines()
     ensures { RunIsTaken }
 {}
 
-/// Each call that answers `Line` or `TooLong` gives one line more of the bytes taken, from none before the first call.
+/// Each call that answers `Line` or `TooLong` gives one line more of the bytes taken, from none
+/// before the first call.
 pub fn lines_are_given_one_by_one()
     ensures none { NoneIsGiven }
     ensures line { LineIsGiven }
@@ -24,7 +25,8 @@ pub fn end_gives_all_lines()
     ensures known { EndIsKnown }
 {}
 
-/// At `Failed` they are the whole lines of the bytes taken, and at `Spent` those of the bytes up to the limit.
+/// At `Failed` they are the whole lines of the bytes taken, and at `Spent` those of the bytes up to
+/// the limit.
 pub fn stops_give_whole_lines()
     ensures failed { FailedIsWhole }
     ensures spent { SpentIsWhole }

@@ -2,14 +2,12 @@
 #![tactic(auto)]
 
 pub mod cutting;
-#[cfg(test)]
-mod cutting_tests;
-pub mod devices;
-#[cfg(test)]
-mod devices_tests;
+pub mod in_memory;
 pub mod input_output;
 pub mod laws;
+pub mod streams;
 
-pub use cutting::{Cut, LONGEST, LineCutter, ROOM};
-pub use devices::{MemorySink, MemorySource, StreamSink, StreamSource, SureSource};
+pub use cutting::{Cut, LineCutter, ROOM};
+pub use in_memory::{MemorySink, MemorySource, SureSource};
 pub use input_output::{Failed, Sink, Source, give_all};
+pub use streams::{StreamSink, StreamSource};

@@ -1,9 +1,8 @@
 //! Whether a predicate suits columns.
-ghost use Rattle.std.specs.Prelude.{◌≡◌};
+ghost use Rattle.std.specs.Prelude.{◌≡◌, Some};
 ghost use Rattle.std.specs.List.{list_all};
 ghost use Rattle.lens_specs.specs.Columns as spec;
 ghost use Rattle.lens_specs.specs.Refusal.{unless as unless_of, unlike, unlike_all};
-ghost use Rattle.lens_values.specs.Value.{kind_of};
 ghost use Rattle.lens_pred.specs.Checked.{checked};
 ghost use Rattle.lens_pred.specs.View.{formula_view, list_view, predicate_view};
 
@@ -12,17 +11,18 @@ use crate::naming::Sought;
 use crate::pred::Pred;
 use lens_values::{Columns, Kind, Name, Value};
 
-/// Why a predicate does not suit columns.
+/// Why a predicate does not fit the columns.
 #[derive(Clone, Copy, Debug, PartialEq, Eq)]
 pub enum PredFault {
     /// The first name in text order that is no column.
     UnknownColumn { name: Name },
-    /// The (left) column of the first comparison of unlike kinds.
+    /// The (left) column of the first comparison with a value that does not fit, or of two kinds.
     PredKind { name: Name },
 }
 
 impl Pred {
-    /// Whether each name is a column, and only like kinds are compared. `UnknownColumn` comes before `PredKind`.
+    /// Whether each name is a column, and each comparison is with a value that fits or of two
+    /// columns of one kind. `UnknownColumn` comes before `PredKind`.
     pub fn check(&self, columns: &Columns) -> Result<(), PredFault>
         ensures { result ≡ checked columns.now self.now }
     {
@@ -37,19 +37,19 @@ impl Pred {
 }
 
 impl Formula {
-    // The (left) column of the first comparison of unlike kinds.
+    // The (left) column of the first comparison of two kinds.
     #[cycle(first_unlike)]
     fn first_unlike(&self, columns: &Columns) -> Option<Name>
         ensures { result ≡ unlike columns.now (formula_view self.now) }
     {
         match self {
             Formula::True | Formula::False => None,
-            Formula::Compare { col, value, .. } => unless(is_like(columns.kind(col), value), col),
+            Formula::Compare { col, value, .. } => unless(value.fits_at(columns.kind(col)), col),
             Formula::CompareCols { col, other, .. } => {
                 unless(are_like(columns.kind(col), columns.kind(other)), col)
             }
             Formula::OneOf { col, values } => {
-                unless(all_like(columns.kind(col), values.as_slice()), col)
+                unless(all_fit(columns.kind(col), values.as_slice()), col)
             }
             Formula::Not(inner) => inner.first_unlike(columns),
             Formula::And(members) | Formula::Or(members) => {
@@ -59,7 +59,7 @@ impl Formula {
     }
 }
 
-// The first in the formulas.
+// The first such column in the formulas.
 #[cycle(first_unlike)]
 fn first_unlike(members: &[Formula], columns: &Columns) -> Option<Name>
     ensures { result ≡ unlike_all columns.now (list_view (predicate_view members.now)) }
@@ -79,16 +79,6 @@ fn unless(holds: bool, name: &Name) -> Option<Name>
     if holds { None } else { Some(*name) }
 }
 
-// Whether the kind is there, and is that of the value.
-fn is_like(kind: Option<Kind>, value: &Value) -> bool
-    ensures { result ≡ spec.is_kind kind (kind_of value.now) }
-{
-    match kind {
-        Some(kind) => kind == value.kind(),
-        None => false,
-    }
-}
-
 // Whether both kinds are there and the same.
 fn are_like(left: Option<Kind>, right: Option<Kind>) -> bool
     ensures { result ≡ spec.like_kinds left right }
@@ -99,9 +89,9 @@ fn are_like(left: Option<Kind>, right: Option<Kind>) -> bool
     }
 }
 
-// Whether each of the values is of the kind.
-fn all_like(kind: Option<Kind>, values: &[Value]) -> bool
-    ensures { result ≡ list_all (λ v. spec.is_kind kind (kind_of v)) values.now }
+// Whether the column of this kind is there, and each of the values fits it.
+fn all_fit(kind: Option<Kind>, values: &[Value]) -> bool
+    ensures { result ≡ list_all (λ v. spec.fits_at (Some v) kind) values.now }
 {
-    values.iter().all(|value| is_like(kind, value))
+    values.iter().all(|value| value.fits_at(kind))
 }

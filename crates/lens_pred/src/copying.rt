@@ -7,7 +7,7 @@ use lens_values::{NoMemory, copied};
 use std::alloc::Global;
 
 impl Values {
-    /// Equal values.
+    /// Copies the values.
     pub fn copy(&self, alloc: Global) -> Result<Values, NoMemory>
         ensures { IfOk result (λ copy. copy ≡ self.now) }
     {
@@ -16,7 +16,7 @@ impl Values {
 }
 
 impl Formula {
-    /// An equal formula.
+    /// Copies the formula.
     #[cycle(copy)]
     pub fn copy(&self, alloc: Global) -> Result<Formula, NoMemory>
         ensures { IfOk result (λ copy. formula_view copy ≡ formula_view self.now) }
@@ -46,7 +46,7 @@ impl Formula {
 }
 
 impl Formulas {
-    /// Equal formulas.
+    /// Copies the formulas.
     #[cycle(copy)]
     pub fn copy(&self, alloc: Global) -> Result<Formulas, NoMemory>
         ensures { IfOk result (λ copy. formulas_view copy ≡ formulas_view self.now) }
@@ -64,7 +64,8 @@ pub(crate) fn append_copies(
     members: &[Formula],
     list: &mut Vec<Formula>,
 ) -> Result<(), NoMemory>
-    ensures { OnOk result (predicate_view list.new.items ≡ predicate_view list.old.items ++ predicate_view members.now) }
+    ensures { OnOk result (predicate_view list.new.items
+        ≡ predicate_view list.old.items ++ predicate_view members.now) }
 {
     list.reserve(members.len())?;
     for member in members {

@@ -30,11 +30,11 @@ pub enum Formula {
     True,
     /// Holds of no row.
     False,
-    /// The value in the column compares so with this one.
+    /// Compares a column with a value.
     Compare { col: Name, op: Op, value: Value },
-    /// The value in the column compares so with that in the other column.
+    /// Compares two columns.
     CompareCols { col: Name, op: Op, other: Name },
-    /// The value in the column is one of these.
+    /// The value of a column is one of these.
     OneOf { col: Name, values: Values },
     /// The condition does not hold.
     Not(Box<Formula>),
@@ -66,7 +66,7 @@ impl Values {
         self.list.as_slice()
     }
 
-    /// The list that they were made from.
+    /// The list that they hold.
     pub fn into_list(self) -> Vec<Value>
         ensures { result.items ≡ self }
     {
@@ -93,7 +93,7 @@ impl Formulas {
         self.list.as_slice()
     }
 
-    /// The list that they were made from.
+    /// The list that they hold.
     pub fn into_list(self) -> Vec<Formula>
         ensures { list_view (predicate_view result.items) ≡ formulas_view self }
     {

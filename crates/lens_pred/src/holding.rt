@@ -12,7 +12,7 @@ use crate::op::Op;
 use lens_values::{Row, Value};
 
 impl Formula {
-    /// Whether the row meets the formula. A comparison with a value that is not there does not hold.
+    /// Whether the row meets the formula. A comparison with a missing value does not hold.
     #[cycle(holds)]
     pub fn holds(&self, row: &Row) -> bool
         ensures { result ≡ spec.formula_holds (formula_view self.now) row.now }
@@ -45,7 +45,7 @@ pub(crate) fn all_hold(members: &[Formula], row: &Row) -> bool
     true
 }
 
-// Whether it meets one of them.
+// Whether the row meets one of the formulas.
 #[cycle(holds)]
 fn any_holds(members: &[Formula], row: &Row) -> bool
     ensures { result ≡ spec.any_holds (list_view (predicate_view members.now)) row.now }
@@ -58,9 +58,10 @@ fn any_holds(members: &[Formula], row: &Row) -> bool
     false
 }
 
-// Whether both values are there, in an order that the comparison allows.
+// Whether both values are present, in an order that passes the comparison.
 fn compares(left: Option<&Value>, op: Op, right: Option<&Value>) -> bool
-    ensures { result ≡ spec.compared (op_view op) (option_copied left.entry) (option_copied right.entry) }
+    ensures { result ≡ spec.compared (op_view op) (option_copied left.entry)
+        (option_copied right.entry) }
 {
     match (left, right) {
         (Some(left), Some(right)) => op.allows(left.cmp(right)),
@@ -68,7 +69,7 @@ fn compares(left: Option<&Value>, op: Op, right: Option<&Value>) -> bool
     }
 }
 
-// Whether the value is there, and is one of these.
+// Whether the value is present, and is one of these.
 fn is_one_of(value: Option<&Value>, values: &[Value]) -> bool
     ensures { result ≡ spec.is_one_of values.now (option_copied value.entry) }
 {

@@ -1,4 +1,5 @@
-//! Predicates on rows: which rows meet them, what they mention, how large they are, and how they are taken apart.
+//! Predicates on rows: which rows meet them, what they mention, how large they are, and how they
+//! are split.
 #![tactic(auto)]
 
 pub mod checking;
@@ -18,6 +19,3 @@ pub use formula::{Formula, Formulas, Values};
 pub use op::Op;
 pub use pred::{NotNormal, Pred};
 pub use splitting::SplitFault;
-
-#[cfg(test)]
-mod tests;

@@ -8,7 +8,7 @@ ghost use Rattle.lens_pred.specs.View.{formula_view, list_view, predicate_view};
 use crate::formula::Formula;
 use lens_values::{Columns, Name, NoMemory};
 
-/// Which names are sought in a formula.
+/// The names that are sought in a formula.
 #[derive(Clone, Copy)]
 pub(crate) enum Sought<'a> {
     /// This name.
@@ -20,7 +20,7 @@ pub(crate) enum Sought<'a> {
 }
 
 impl Sought<'_> {
-    // Whether the name is one of those that are sought.
+    // Whether the name is sought.
     fn passes(&self, name: &Name) -> bool
         ensures { result ≡ passes self.now name.now }
     {
@@ -76,7 +76,8 @@ impl Formula {
     /// Adds the names at the end, in text order. After an `Err` some of them may be there.
     #[cycle(append_names)]
     pub(crate) fn append_names(&self, list: &mut Vec<Name>) -> Result<(), NoMemory>
-        ensures { OnOk result (list.new.items ≡ list.old.items ++ names_in (formula_view self.now)) }
+        ensures { OnOk result (list.new.items
+            ≡ list.old.items ++ names_in (formula_view self.now)) }
     {
         match self {
             Formula::True | Formula::False => Ok(()),
@@ -96,7 +97,8 @@ impl Formula {
 // The first name in the formulas that is sought.
 #[cycle(first_name)]
 pub(crate) fn first_name_in(members: &[Formula], sought: Sought<'_>) -> Option<Name>
-    ensures { result ≡ find (passes sought.entry) (names_of_all (list_view (predicate_view members.now))) }
+    ensures { result ≡ find (passes sought.entry)
+        (names_of_all (list_view (predicate_view members.now))) }
 {
     for member in members {
         if let Some(name) = member.first_name(sought) {
@@ -109,7 +111,8 @@ pub(crate) fn first_name_in(members: &[Formula], sought: Sought<'_>) -> Option<N
 // Adds the names of all the formulas at the end.
 #[cycle(append_names)]
 pub(crate) fn append_names_of(members: &[Formula], list: &mut Vec<Name>) -> Result<(), NoMemory>
-    ensures { OnOk result (list.new.items ≡ list.old.items ++ names_of_all (list_view (predicate_view members.now))) }
+    ensures { OnOk result (list.new.items
+        ≡ list.old.items ++ names_of_all (list_view (predicate_view members.now))) }
 {
     for member in members {
         member.append_names(list)?;

@@ -6,7 +6,7 @@ ghost use Rattle.lens_pred.specs.View.{formula_view, list_view, predicate_view};
 use crate::formula::Formula;
 
 impl Formula {
-    /// How many nodes the formula has, or the greatest number where there are more.
+    /// Counts the nodes of the formula, up to `usize::MAX`.
     #[cycle(nodes)]
     pub fn nodes(&self) -> usize
         ensures { result ≡ min (formula_nodes (formula_view self.now)) (2 ^ 64 - 1) }

@@ -7,8 +7,8 @@ ghost use Rattle.lens_pred.specs.View.{formula_view, list_view, predicate_view};
 use crate::formula::Formula;
 
 impl Formula {
-    /// Whether each `And` and `Or` in it has two members or more and none of its own variant, and no list of values
-    /// is empty.
+    /// Whether each `And` and `Or` in it has two members or more and none of its own variant, and
+    /// no list of values is empty.
     #[cycle(normal)]
     pub fn is_normal(&self) -> bool
         ensures { result ≡ spec.is_normal (formula_view self.now) }

@@ -17,7 +17,7 @@ pub enum Op {
 }
 
 impl Op {
-    /// Whether values in this order pass.
+    /// Whether two values in this order pass the comparison.
     pub fn allows(self, ordering: Ordering) -> bool
         ensures { result ≡ test_of (op_view self) ordering }
     {

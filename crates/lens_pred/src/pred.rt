@@ -37,18 +37,20 @@ impl Model for Pred {
     ghost invariant = { λ p. IsTrue (list_all is_conjunct (predicate_view p.conjuncts.items)) };
 }
 
-/// The conjunct at this place, from 0, is out of normal form.
+/// The conjunct at this place, from 0, is not in normal form.
 #[derive(Clone, Copy, Debug, PartialEq, Eq)]
 pub struct NotNormal {
     pub index: usize,
 }
 
 impl Pred {
-    /// The predicate of these conjuncts, or the place of the first that is out of normal form.
+    /// Makes a predicate of these conjuncts, or gives the place of the first that is not in normal
+    /// form.
     pub fn new(conjuncts: Vec<Formula>) -> Result<Pred, NotNormal>
         ensures ok { IfOk result (λ pred. pred ≡ predicate_view conjuncts.items) }
         ensures normal { OnOk result (first_not_normal (predicate_view conjuncts.items) ≡ None) }
-        ensures err { IfErr result (λ fault. first_not_normal (predicate_view conjuncts.items) ≡ Some fault.index) }
+        ensures err { IfErr result (λ fault.
+            first_not_normal (predicate_view conjuncts.items) ≡ Some fault.index) }
     {
         match first_fault(&conjuncts) {
             Some(index) => Err(NotNormal { index }),
@@ -64,21 +66,21 @@ impl Pred {
         self.conjuncts.as_slice()
     }
 
-    /// How many nodes the conjuncts have, or the greatest number where there are more.
+    /// Counts the nodes of the conjuncts, up to `usize::MAX`.
     pub fn nodes(&self) -> usize
         ensures { result ≡ min (predicate_nodes self.now) (2 ^ 64 - 1) }
     {
         nodes_in(self.conjuncts())
     }
 
-    /// Whether the row meets the predicate. A comparison with a value that is not there does not hold.
+    /// Whether the row meets the predicate. A comparison with a missing value does not hold.
     pub fn holds(&self, row: &Row) -> bool
         ensures { result ≡ holds_of self.now row.now }
     {
         all_hold(self.conjuncts(), row)
     }
 
-    /// The predicate that asks for what both ask for: this one's conjuncts, and then the other's.
+    /// The conjunction of both predicates: this one's conjuncts, then the other's.
     pub fn join(&self, alloc: Global, other: &Pred) -> Result<Pred, NoMemory>
         ensures { IfOk result (λ both. both ≡ self.now ++ other.now) }
     {
@@ -88,7 +90,7 @@ impl Pred {
         Ok(Pred { conjuncts })
     }
 
-    /// An equal predicate.
+    /// Copies the predicate.
     pub fn copy(&self, alloc: Global) -> Result<Pred, NoMemory>
         ensures { IfOk result (λ copy. copy ≡ self.now) }
     {

@@ -1,8 +1,8 @@
-//! A predicate taken apart by a column.
+//! Splits a predicate by a column.
 ghost use Rattle.std.specs.Prelude.{◌≡◌, IfOk, position};
 ghost use Rattle.lens_specs.specs.Predicate.{with_name, without_name};
 ghost use Rattle.lens_specs.specs.Refusal.{is_mixed};
-ghost use Rattle.lens_values.specs.Gives.{Gives};
+ghost use Rattle.no_memory.specs.Gives.{Gives};
 ghost use Rattle.lens_pred.specs.Split.{split_of};
 ghost use Rattle.lens_pred.specs.View.{formula_view, predicate_view};
 
@@ -11,7 +11,7 @@ use crate::pred::Pred;
 use lens_values::{Name, NoMemory};
 use std::alloc::Global;
 
-/// Why a predicate cannot be taken apart.
+/// Why a predicate cannot be split.
 #[derive(Clone, Copy, Debug, PartialEq, Eq)]
 pub enum SplitFault {
     /// The conjunct at this place, from 0, is the first that mentions the column and another.
@@ -32,7 +32,8 @@ impl From<NoMemory> for SplitFault {
 }
 
 impl Pred {
-    /// The conjuncts that mention the column alone, and those that do not mention it, in their order.
+    /// The conjuncts that mention the column alone, and those that do not mention it, in their
+    /// order.
     pub fn split_on(&self, alloc: Global, col: &Name) -> Result<(Pred, Pred), SplitFault>
         ensures { Gives SplitFault.NoMemory result (split_of col.now self.now) }
     {
@@ -58,8 +59,10 @@ fn parted(
     conjuncts: &[Formula],
     col: &Name,
 ) -> Result<(Vec<Formula>, Vec<Formula>), NoMemory>
-    ensures with { IfOk result (λ parts. predicate_view parts.0.items ≡ with_name col.now (predicate_view conjuncts.now)) }
-    ensures without { IfOk result (λ parts. predicate_view parts.1.items ≡ without_name col.now (predicate_view conjuncts.now)) }
+    ensures with { IfOk result (λ parts.
+        predicate_view parts.0.items ≡ with_name col.now (predicate_view conjuncts.now)) }
+    ensures without { IfOk result (λ parts.
+        predicate_view parts.1.items ≡ without_name col.now (predicate_view conjuncts.now)) }
 {
     let mut with = Vec::new(alloc);
     let mut without = Vec::new(alloc);

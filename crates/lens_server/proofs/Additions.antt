@@ -9,7 +9,7 @@ use Rattle.lens_values.specs.Order.{bytes_cmp}
 use Rattle.lens_values.specs.SortedSet as set
 use Rattle.lens_specs.specs.Relation.{Name, Relation, Columns}
 use Rattle.lens_specs.specs.Keeping.{Kept, define, changed, CanCommit, Follows, Stays, Tells}
-use Rattle.lens_specs.specs.Faults.{Rose}
+use Rattle.io_specs.specs.Faults.{Rose}
 use Rattle.grammar_specs.specs.Meaning.{Definition, table, view, Expr}
 use Rattle.lens_specs.specs.Lens as spec
 use Rattle.lens_specs.specs.Dependencies.{Edge}
@@ -20,18 +20,19 @@ use Rattle.lens_specs.specs.Sort.{Sort}
 use Rattle.grammar_laws.specs.Reading.{reading}
 use Rattle.server_specs.specs.Answer.{defined, store_fault, text}
 use Rattle.server_specs.specs.Answering.{answer_definition, with_defined, with_text}
+use Rattle.server_specs.specs.Session.{answered, not_stored}
 use Rattle.server_specs.specs.State.{State, Catalogue, catalogue, is_table_of, lens_of, with_definition, with_lens, kept, rows_of_each}
 use Rattle.lens_server.specs.Additions.{IsTaken, SameContents}
 use Rattle.lens_server.specs.Entries.{lens_view, lens_with, sort_under, lens_named, is_table, relation_of, last_of, relation_named, columns_named}
 use Rattle.lens_server.specs.Judgements.{Adds, adds_table, adds_view, IsViewOf, expr_from}
-use Rattle.lens_server.specs.Outcomes.{Outcome, made, not_kept}
+use Rattle.lens_server.specs.Outcomes.{Outcome}
 use Rattle.lens_server.specs.States.{state_of, state_with, IsConsistent, Consistent}
 use Rattle.lens_server.specs.declared.entry.Lens.{Lens}
 use Rattle.lens_server.specs.declared.entry.Entry.{Entry}
 use Rattle.lens_server.specs.declared.addition.Addition.{Addition}
 use Rattle.lens_server.specs.declared.store.Store.{Store}
 use Rattle.lens_server.specs.declared.table.Table.{Table}
-use Rattle.lens_server.proofs.Changes.{kept_rows, told_after, rows_chosen}
+use Rattle.lens_server.proofs.Changes.{kept_rows, told_after, told_still, rows_chosen}
 use Rattle.lens_server.proofs.Growing.{map_more, map-push, none_any}
 use Rattle.lens_server.proofs.Places.{same_name}
 use Rattle.lens_server.proofs.Sources.{table_selects_nothing}
@@ -114,14 +115,14 @@ outcome_grown : (old new : Store) (said : List ℕ) (e : Entry) (more : Option T
     → changed (define said (option_map (λ t. t.name) more)) (kept (state_of old)) ≡ kept (with_defined said definition (state_of old))
     → Tells contents (kept (state_of old)) → Follows (λ a b. b ≡ changed (define said (option_map (λ t. t.name) more)) a) contents contents' → count ≤ count'
     → reply ≡ text (defined (old.version + 1))
-    → Outcome (answer_definition said (Ok definition) (state_of old)) old new count count' contents' (Ok reply)
+    → Outcome (answer_definition said (Ok definition) (state_of old)) old new count count' contents contents' (Ok reply)
 outcome_grown old new said e more definition contents contents' count count' reply g c after keeps told follows later is =
     let now : state_of new ≡ with_defined said definition (state_of old) = state_grown old new said e more g ∙ after in
     record {
       consistent = consistent_grown old new said e more g c;
       later = later;
       told = told_after (define said (option_map (λ t. t.name) more)) contents contents' (kept (state_of old)) (kept (state_of new)) follows told (keeps ∙ ap kept (sym now));
-      ok = made is now;
+      ok = answered is now;
       err = tt;
     }
 
@@ -140,7 +141,7 @@ outcome_table : (old new : Store) (said : List ℕ) (name : Name) (U : Columns) 
     → Consistent old → reading said ≡ Ok (table name U deps P) → lens_named old.entries.items name ≡ None → finmap.len U ≤ 64
     → Tells contents (kept (state_of old)) → Follows (λ a b. b ≡ changed (define said (Some name)) a) contents contents' → count ≤ count'
     → reply ≡ text (defined (old.version + 1))
-    → Outcome (answer_definition said (Ok (table name U deps P)) (state_of old)) old new count count' contents' (Ok reply)
+    → Outcome (answer_definition said (Ok (table name U deps P)) (state_of old)) old new count count' contents contents' (Ok reply)
 outcome_table old new said name U deps P contents contents' count count' reply g c read free size told follows later is =
     let e : Entry = table_entry name U deps P in
     let t : Table = record { name = name; relation = record { columns = U; rows = set.empty }; last = old.version + 1 } in
@@ -183,7 +184,7 @@ outcome_view : (old new : Store) (said : List ℕ) (name : Name) (expr : Expr) (
     → Consistent old → reading said ≡ Ok (view name expr) → lens_named old.entries.items name ≡ None → IsViewOf lens expr old
     → Tells contents (kept (state_of old)) → Follows (λ a b. b ≡ changed (define said None) a) contents contents' → count ≤ count'
     → reply ≡ text (defined (old.version + 1))
-    → Outcome (answer_definition said (Ok (view name expr)) (state_of old)) old new count count' contents' (Ok reply)
+    → Outcome (answer_definition said (Ok (view name expr)) (state_of old)) old new count count' contents contents' (Ok reply)
 outcome_view old new said name expr lens contents contents' count count' reply g c read free v told follows later is =
     let e : Entry = record { name = name; lens = lens } in
     let source = v.source in
@@ -211,15 +212,15 @@ pub addition_made : (addition : Addition) (definition : Definition) (old new : S
     → Follows (λ a b. b ≡ changed (define said (option_map (λ t. t.name) addition.table)) a) contents contents' → count ≤ count'
     → new.texts.items ≡ old.texts.items ++ said ∷ [] → new.entries.items ≡ old.entries.items ++ addition.entry ∷ []
     → new.tables.items ≡ old.tables.items ++ option_to_list addition.table → new.version ≡ old.version + 1
-    → Outcome (answer_definition said (Ok definition) (state_of old)) old new count count' contents' (Ok addition.reply)
+    → Outcome (answer_definition said (Ok definition) (state_of old)) old new count count' contents contents' (Ok addition.reply)
 addition_made addition definition old new said contents contents' count count' (adds_table name columns deps predicate is free size adds) c read told follows later texts entries tables version =
-    subst (λ d. Outcome (answer_definition said (Ok d) (state_of old)) old new count count' contents' (Ok addition.reply)) (sym is)
+    subst (λ d. Outcome (answer_definition said (Ok d) (state_of old)) old new count count' contents contents' (Ok addition.reply)) (sym is)
     (outcome_table old new said name columns deps predicate contents contents' count count' addition.reply
     (record { texts = texts; entries = entries ∙ ap (λ e. old.entries.items ++ e ∷ []) adds.entry; tables = tables ∙ ap (λ o. old.tables.items ++ option_to_list o) adds.table; version = version })
     c (read ∙ ap Ok is) free size told
     (subst (λ o. Follows (λ a b. b ≡ changed (define said (option_map (λ t. t.name) o)) a) contents contents') adds.table follows) later adds.reply)
 addition_made addition definition old new said contents contents' count count' (adds_view name expr lens is free viewed adds) c read told follows later texts entries tables version =
-    subst (λ d. Outcome (answer_definition said (Ok d) (state_of old)) old new count count' contents' (Ok addition.reply)) (sym is)
+    subst (λ d. Outcome (answer_definition said (Ok d) (state_of old)) old new count count' contents contents' (Ok addition.reply)) (sym is)
     (outcome_view old new said name expr lens contents contents' count count' addition.reply
     (record { texts = texts; entries = entries ∙ ap (λ e. old.entries.items ++ e ∷ []) adds.entry; tables = tables ∙ ap (λ o. old.tables.items ++ option_to_list o) adds.table; version = version })
     c (read ∙ ap Ok is) free viewed told
@@ -236,16 +237,10 @@ another_state said definition s same =
     let n : s.version + 1 ≡ s.version = sym (one_more said definition s) ∙ ap (λ x. x.version) same in
     omega (arith, n)
 
-stays_told : (contents contents' : Option Kept) (k : Kept) → Stays contents contents' → Tells contents k → Tells contents' k
-stays_told None None k s told = tt
-stays_told None (Some b) k s told = absurd s
-stays_told (Some a) None k s told = absurd s
-stays_told (Some a) (Some b) k s told = s ∙ told
-
 -- what becomes of a definition that the keeper did not keep
 pub addition_not_kept : (definition : Definition) (old new : Store) (said : List ℕ) (contents contents' : Option Kept) (count count' : ℕ) (reply : List ℕ)
     → SameContents old new → Consistent old → Tells contents (kept (state_of old)) → Stays contents contents' → count ≤ count' → Rose count count' → reply ≡ text store_fault
-    → Outcome (answer_definition said (Ok definition) (state_of old)) old new count count' contents' (Ok reply)
+    → Outcome (answer_definition said (Ok definition) (state_of old)) old new count count' contents contents' (Ok reply)
 addition_not_kept definition old new said contents contents' count count' reply same c told stays later rose is =
     let now : state_of new ≡ state_of old = λ i. state_with (same.texts i) (same.tables i) (same.version i) in
     record {
@@ -253,7 +248,7 @@ addition_not_kept definition old new said contents contents' count count' reply 
           (subst (λ es. IsConsistent new.texts.items es old.tables.items) (sym same.entries)
           (subst (λ xs. IsConsistent xs old.entries.items old.tables.items) (sym same.texts) c));
       later = later;
-      told = subst (λ s. Tells contents' (kept s)) (sym now) (stays_told contents contents' (kept (state_of old)) stays told);
-      ok = not_kept is now (another_state said definition (state_of old)) rose;
+      told = subst (λ s. Follows (λ _ contents. contents ≡ kept s) contents contents') (sym now) (told_still contents contents' (kept (state_of old)) stays told);
+      ok = not_stored is now (another_state said definition (state_of old)) rose;
       err = tt;
     }

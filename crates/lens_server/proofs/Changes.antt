@@ -12,7 +12,7 @@ use Rattle.lens_values.specs.RowOrder.{row_cmp_total, row_cmp-IsAntisymmetric}
 use Rattle.lens_values.specs.SortedSet as set
 use Rattle.lens_specs.specs.Relation.{Name, Relation, Rows}
 use Rattle.lens_specs.specs.Delta.{TableDelta, Applies, diff, new_view}
-use Rattle.lens_specs.specs.Keeping.{Kept, Change, rows, changed, or_empty, CanChange, CanCommit, Follows, Tells}
+use Rattle.lens_specs.specs.Keeping.{Kept, Change, rows, changed, or_empty, CanChange, CanCommit, Follows, Stays, Tells}
 use Rattle.server_specs.specs.State.{State, catalogue, kept, rows_of_each}
 use Rattle.server_specs.specs.Defining.{view_count}
 use Rattle.lens_server.specs.Entries.{relation_named, columns_named}
@@ -208,8 +208,21 @@ commit_can contents s name old W deltas told e is =
     subst (λ ds. CanCommit (rows ds) contents) (sym is) (can_commit (rows (record { table = name; delta = diff old.rows W } ∷ [])) contents (kept s) told (can_change s name old W e))
 
 -- contents that follow the change are what is kept after it
-pub told_after : (change : Change) (contents contents' : Option Kept) (k k' : Kept) → Follows (λ a b. b ≡ changed change a) contents contents' → Tells contents k → changed change k ≡ k' → Tells contents' k'
+pub told_after : (change : Change) (contents contents' : Option Kept) (k k' : Kept) → Follows (λ a b. b ≡ changed change a) contents contents' → Tells contents k → changed change k ≡ k'
+    → Follows (λ _ now. now ≡ k') contents contents'
 told_after change None None k k' f told is = tt
 told_after change None (Some b) k k' f told is = absurd f
 told_after change (Some a) None k k' f told is = absurd f
 told_after change (Some a) (Some b) k k' f told is = f ∙ ap (changed change) told ∙ is
+
+-- contents that stay are what was kept
+pub told_still : (contents contents' : Option Kept) (k : Kept) → Stays contents contents' → Tells contents k → Follows (λ _ now. now ≡ k) contents contents'
+told_still None None k s told = tt
+told_still None (Some b) k s told = absurd s
+told_still (Some a) None k s told = absurd s
+told_still (Some a) (Some b) k s told = s ∙ told
+
+-- contents of a keeper that was not called
+pub told_untouched : (contents : Option Kept) (k : Kept) → Tells contents k → Follows (λ _ now. now ≡ k) contents contents
+told_untouched None k told = tt
+told_untouched (Some a) k told = told

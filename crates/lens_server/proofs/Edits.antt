@@ -6,10 +6,11 @@ use Rattle.std.specs.FinMap as finmap
 use Rattle.lens_specs.specs.Relation.{Name}
 use Rattle.lens_specs.specs.Keeping.{Kept, rows, changed, CanCommit, Follows, Tells}
 use Rattle.server_specs.specs.Answer.{Answer}
+use Rattle.server_specs.specs.Session.{answered}
 use Rattle.server_specs.specs.State.{State, kept}
 use Rattle.signed_delta.specs.Tables.{table_delta}
 use Rattle.lens_server.specs.Entries.{relation_of}
-use Rattle.lens_server.specs.Outcomes.{Outcome, made}
+use Rattle.lens_server.specs.Outcomes.{Outcome}
 use Rattle.lens_server.specs.Places.{IsAt}
 use Rattle.lens_server.specs.Plans.{IsPlan, IsPlanned, IsEditOf, with_relation}
 use Rattle.lens_server.specs.States.{state_of, state_with, IsConsistent, Consistent}
@@ -28,7 +29,7 @@ place_within name (t ∷ ts) (suc i) at = let h = place_within name ts i at.1 in
 pub edit_within : (edit : Edit) (store : Store) → IsPlanned edit store → edit.place < length store.tables.items
 edit_within edit store p = place_within p.1.1 store.tables.items edit.place p.1.2
 
--- the relation that stands under the name of the table there
+-- the relation under the name of the table at the place
 relation_there : (store : Store) (name : Name) (i : ℕ) (t : Table) → IsAt name store.tables.items i → get_or store.tables.items i t ≡ t → finmap.get (state_of store).tables t.name ≡ Some t.relation
 relation_there store name i t at is =
     ap (finmap.get (state_of store).tables) (sym (name_at name store.tables.items i t at ∙ ap (λ x. x.name) is))
@@ -47,7 +48,7 @@ pub edit_made : (edit : Edit) (store : Store) (answer : Answer × State) (conten
     → IsPlan (plan.Change edit) answer store → Consistent store → Tells contents (kept (state_of store))
     → Follows (λ old new. new ≡ changed (rows (map table_delta edit.deltas.items)) old) contents contents' → count ≤ count'
     → ((table : Table) → table ≡ get_or store.tables.items edit.place table → tables'.items ≡ list_set store.tables.items edit.place (record table { relation = edit.relation; last = store.version + 1 }))
-    → Outcome answer store (record store { tables = tables'; version = store.version + 1 }) count count' contents' (Ok edit.reply)
+    → Outcome answer store (record store { tables = tables'; version = store.version + 1 }) count count' contents contents' (Ok edit.reply)
 edit_made edit store answer contents contents' count count' tables' p consistent told follows later became =
     let t = p.0 in
     let name = p.1 in
@@ -67,6 +68,6 @@ edit_made edit store answer contents contents' count count' tables' p consistent
           (ap (λ ds. changed (rows ds) (kept (state_of store))) e.deltas
           ∙ kept_changed (state_of store) t.name t.relation edit.relation (relation_there store name i t p.2 (p.3 t))
           ∙ ap kept (sym (after ∙ e.after)));
-      ok = made e.reply after;
+      ok = answered e.reply after;
       err = tt;
     }

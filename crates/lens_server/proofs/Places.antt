@@ -26,7 +26,7 @@ place_is name ts i d e =
     let facts = position-Some (λ t. pointwise nat_eq name t.name) ts i d e in
     at_of name ts i d facts.0 (sym (texts_ties name (get_or ts i d).name) ∙ facts.1) (λ k l. sym (texts_ties name (get_or ts k d).name) ∙ facts.2 k l)
 
--- what is found under the name is what stands there
+-- the table found under the name is the one at the place
 pub found_at : (name : Name) (ts : List Table) (i : ℕ) (d : Table) → IsAt name ts i → relation_named ts name ≡ Some (get_or ts i d).relation
 found_at name [] i d at = absurd at
 found_at name (t ∷ ts) zero d at = rw at refl
@@ -65,7 +65,7 @@ equal_is Greater e = cc
 pub same_name : (a b : Name) → eq_by_cmp bytes_cmp a b ≡ true → a ≡ b
 same_name a b e = slice_cmp-IsAntisymmetric nat_cmp-IsAntisymmetric a b (equal_is (bytes_cmp a b) e)
 
--- what stands there does not depend on what is asked for past the end
+-- the table at a place within the list does not depend on the default
 pub stands : (name : Name) (ts : List Table) (i : ℕ) (d e : Table) → IsAt name ts i → get_or ts i d ≡ get_or ts i e
 stands name [] i d e at = absurd at
 stands name (t ∷ ts) zero d e at = refl

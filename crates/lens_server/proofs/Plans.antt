@@ -1,7 +1,7 @@
--- What a put comes to, from the table that it changes.
+-- The plan of a put, from the table that it changes.
 use Rattle.std.proofs.Common.{◌≡◌, ◌∙◌, ℕ, get_or, ap, sym, subst, refl}
 use Rattle.std.specs.Prelude.{Result, Ok, Err, IfOk, Some}
-use Rattle.lens_values.specs.declared.value.NoMemory.{NoMemory}
+use Rattle.no_memory.specs.declared.NoMemory.{NoMemory}
 use Rattle.lens_specs.specs.Relation.{Name, Relation, Rows}
 use Rattle.lens_specs.specs.Lens.{table}
 use Rattle.lens_specs.specs.Delta.{diff, changes}
@@ -21,7 +21,7 @@ use Rattle.lens_server.proofs.Places.{found_at, stands, name_at, columns_at}
 use Rattle.lens_server.proofs.Puts.{accept_is}
 use Rattle.lens_server.proofs.Views.{rows_are}
 
--- what is accepted is the change of the table that stands there
+-- an accepted put is the change of the table at the place
 pub planned : (store : Store) (lens : Lens) (N : Rows) (t : Table) (i : ℕ) (new : Relation) → IsAt lens.table store.tables.items i → t ≡ get_or store.tables.items i t
     → columns_named store.tables.items lens.table ≡ Some lens.columns → new ≡ record t.relation { rows = source_put lens.tree lens.selected N t.relation.rows }
     → accept (lens_view lens) N (changes (lens_view lens) N (state_of store).tables) (state_of store)

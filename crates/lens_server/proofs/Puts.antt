@@ -1,4 +1,4 @@
--- What a put to a table, or to a selection of one, comes to.
+-- Puts to a table, or to a selection of one, by the change of the table.
 use Rattle.std.proofs.Common.{◌≡◌, ◌∙◌, Bool, true, false, [], ◌∷◌, ◌++◌, ap, refl, cond}
 use Rattle.std.specs.Prelude.{Option, Some, None, not, ◌&&◌, find}
 use Rattle.std.specs.Ordering.{eq_by_cmp}

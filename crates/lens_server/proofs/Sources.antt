@@ -1,4 +1,4 @@
--- What an expression over a table comes to, by the entries of the store.
+-- The verdict on an expression over a table, by the entries of the store.
 use Rattle.std.proofs.Common.{◌≡◌, ◌∙◌, Bool, true, false, ap, refl}
 use Rattle.std.specs.Prelude.{Option, Some, None, option_map, not, Result, Ok, Err, if◌then◌else◌}
 use Rattle.std.specs.FinMap as finmap

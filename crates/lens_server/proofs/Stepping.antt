@@ -4,24 +4,23 @@ use Rattle.std.specs.Prelude.{Option, not, MatchResult, Result, Ok, Err, nat_le,
 use Rattle.std.specs.FinMap as finmap
 use Rattle.std.proofs.lemmas.Bool.{le-leb}
 use Rattle.lens_values.specs.Order.{bytes_cmp}
-use Rattle.lens_values.specs.declared.value.NoMemory.{NoMemory}
+use Rattle.no_memory.specs.declared.NoMemory.{NoMemory}
 use Rattle.lens_specs.specs.Keeping.{Kept}
 use Rattle.lens_specs.specs.Lens.{Lens}
-use Rattle.lens_specs.specs.Lines.{line, too_long, marked}
+use Rattle.io_specs.specs.Lines.{line, too_long, marked}
 use Rattle.server_specs.specs.Answer.{memory, text}
 use Rattle.server_specs.specs.Answering.{answer, answer_request}
 use Rattle.server_specs.specs.Defining.{count_named}
 use Rattle.server_specs.specs.Request.{request}
-use Rattle.server_specs.specs.Session.{Step, Replies, answered, out_of_memory, not_stored}
+use Rattle.server_specs.specs.Session.{Step, Becomes, Replies, found_memory, out_of_memory}
 use Rattle.server_specs.specs.State.{State, is_table_of}
-use Rattle.lens_server.specs.Outcomes.{Outcome, Becomes, made, not_kept}
+use Rattle.lens_server.specs.Outcomes.{Outcome}
 use Rattle.lens_server.specs.States.{state_of, IsConsistent}
 use Rattle.lens_server.specs.declared.store.Store.{Store}
 
-replies : (old new : State) (count count' : ℕ) (bytes reply : List ℕ) → Becomes (answer_request (request (line bytes)) old) old count reply new count' → Replies old count (line bytes) reply new count'
+becomes : (old new : State) (count count' : ℕ) (bytes reply : List ℕ) → Becomes (answer_request (request (line bytes)) old) old count reply new count' → Replies old count (line bytes) reply new count'
 unfolding answer
-replies old new count count' bytes reply (made is now) = answered is now
-replies old new count count' bytes reply (not_kept is now differs rose) = not_stored is now differs rose
+becomes old new count count' bytes reply b = found_memory b
 
 short : (b : Bool) (bytes : List ℕ) → b ≡ true → (if b then line bytes else too_long) ≡ line bytes
 short true bytes e = refl
@@ -31,14 +30,14 @@ marked_short : (bytes : List ℕ) → length bytes ≤ 16777216 → line bytes �
 marked_short bytes h = sym (short (nat_le (length bytes) 16777216) bytes (le-leb (length bytes) 16777216 h))
 
 -- the reply to a line, or that of memory, is a step
-pub stepped : (before : State) (old new : Store) (count count' : ℕ) (contents : Option Kept) (bytes reply : List ℕ) (result : Result (List ℕ) NoMemory) → length bytes ≤ 16777216
-    → state_of old ≡ before → Outcome (answer_request (request (line bytes)) (state_of old)) old new count count' contents result → MatchResult result (λ r. reply ≡ r) (λ _. reply ≡ text memory)
+pub stepped : (before : State) (old new : Store) (count count' : ℕ) (contents contents' : Option Kept) (bytes reply : List ℕ) (result : Result (List ℕ) NoMemory) → length bytes ≤ 16777216
+    → state_of old ≡ before → Outcome (answer_request (request (line bytes)) (state_of old)) old new count count' contents contents' result → MatchResult result (λ r. reply ≡ r) (λ _. reply ≡ text memory)
     → Step before count (marked bytes) reply (state_of new) count'
-stepped before old new count count' contents bytes reply (Ok r) h is o said =
+stepped before old new count count' contents contents' bytes reply (Ok r) h is o said =
     subst (λ s. Step s count (marked bytes) reply (state_of new) count') is
     (subst (λ l. Step (state_of old) count l reply (state_of new) count') (marked_short bytes h)
-    (record { later = o.later; replied = replies (state_of old) (state_of new) count count' bytes reply (subst (λ x. Becomes (answer_request (request (line bytes)) (state_of old)) (state_of old) count x (state_of new) count') (sym said) o.ok) }))
-stepped before old new count count' contents bytes reply (Err e) h is o said =
+    (record { later = o.later; replied = becomes (state_of old) (state_of new) count count' bytes reply (subst (λ x. Becomes (answer_request (request (line bytes)) (state_of old)) (state_of old) count x (state_of new) count') (sym said) o.ok) }))
+stepped before old new count count' contents contents' bytes reply (Err e) h is o said =
     subst (λ s. Step s count (marked bytes) reply (state_of new) count') is
     (subst (λ l. Step (state_of old) count l reply (state_of new) count') (marked_short bytes h)
     (record { later = o.later; replied = out_of_memory tt said o.err }))

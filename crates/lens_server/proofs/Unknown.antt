@@ -4,7 +4,7 @@ use Rattle.std.proofs.Math.Seq.{drop-cons}
 use Rattle.std.specs.Prelude.{◌≢◌, Option, Some, None, is_some, Err}
 use Rattle.std.specs.FinMap as finmap
 use Rattle.lens_values.specs.SortedSet as set
-use Rattle.lens_laws.proofs.Columns.{names-get}
+use Rattle.fd_laws.proofs.Columns.{names-get}
 use Rattle.lens_laws.proofs.Least.{clash_is}
 use Rattle.lens_specs.specs.Names.{Name, Names}
 use Rattle.lens_specs.specs.Columns.{Columns, names}
@@ -59,12 +59,12 @@ form_shown f F a b is h = h (λ e. is_no_memory a b (sym is ∙ e)) ∙ ap Err i
 
 -- ---- clashes
 
--- the edge behind those before it
+-- the edge after those before it
 behind : (before : List Edge) (e : Edge) (after : List Edge) (d : Edge) → (length before < length (before ++ e ∷ after)) × (slice_index_or (before ++ e ∷ after) (length before) d ≡ e)
 behind [] e after d = (omega arith, refl)
 behind (k ∷ ks) e after d = let w = behind ks e after d in (omega (arith, w.0), w.1)
 
--- a clash that was found: the definition's, and its edge stands at its place
+-- the clash that was found is the definition's, and its edge is at its place
 pub record IsFoundClash (T : List Edge) (M : Rows) (found : Clash) : Type 0 where
   pub clash : spec.Clash
   pub is : Rattle.lens_specs.specs.Sort.clash T M ≡ Some clash

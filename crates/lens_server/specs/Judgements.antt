@@ -1,4 +1,4 @@
--- What is said of a definition, and what it adds.
+-- The verdict on a definition, and what it adds.
 use Rattle.std.specs.Prelude.{◌≡◌, ◌≤◌, ◌+◌, ℕ, true, List, Option, Some, None, option_map, Result, Ok, Err, if◌then◌else◌}
 use Rattle.std.specs.Borrow.{Bor}
 use Rattle.std.specs.FinMap as finmap
@@ -28,7 +28,7 @@ use Rattle.lens_server.specs.declared.store.Store.{Store}
 abbrev pub unknown_of_edge : Columns → Edge → Option RefusalOf
 unknown_of_edge columns e = or_else (option_map unknown_column (least_outside e.left (names columns))) (option_map unknown_column (least_outside e.right (names columns)))
 
--- the sort of these
+-- the sort with these columns, this predicate and these edges
 abbrev pub sort_from : Columns → Predicate → List Edge → Sort
 sort_from columns predicate tree = record { columns = columns; predicate = predicate; tree = tree }
 

@@ -1,22 +1,24 @@
--- What becomes of an answer.
-use Rattle.std.specs.Prelude.{◌≡◌, ◌≢◌, ◌≤◌, ℕ, List, Option, Result, IfOk, OnErr}
-use Rattle.lens_values.specs.declared.value.NoMemory.{NoMemory}
-use Rattle.lens_specs.specs.Faults.{Rose}
-use Rattle.lens_specs.specs.Keeping.{Kept, Tells}
+-- What a request needs, and what becomes of its answer.
+use Rattle.std.specs.Prelude.{◌≡◌, ◌≤◌, ◌<◌, ◌-◌, ◌^◌, ℕ, List, Option, Result, IfOk, OnErr}
+use Rattle.no_memory.specs.declared.NoMemory.{NoMemory}
+use Rattle.lens_specs.specs.Keeping.{Kept, Follows, Tells}
 use Rattle.server_specs.specs.State.{State, kept}
-use Rattle.server_specs.specs.Answer.{Answer, store_fault, text}
+use Rattle.server_specs.specs.Answer.{Answer}
+use Rattle.server_specs.specs.Session.{Becomes}
 use Rattle.lens_server.specs.States.{state_of, Consistent}
 use Rattle.lens_server.specs.declared.store.Store.{Store}
 
--- The reply is the answer's and the state is taken on; or the keeper failed, and the change is not made.
-pub data Becomes (answer : Answer × State) (old : State) (count : ℕ) (reply : List ℕ) (new : State) (count' : ℕ) : Type 0 where
-  made : reply ≡ text answer.0 → new ≡ answer.1 → Becomes answer old count reply new count'
-  not_kept : reply ≡ text store_fault → new ≡ old → answer.1 ≢ old → Rose count count' → Becomes answer old count reply new count'
+-- The store can take a request: it is consistent, its version can rise, and the keeper, where it tells its contents, has the state's.
+pub record IsReady (store : Store) (contents : Option Kept) : Type 0 where
+  pub consistent : Consistent store
+  pub room : store.version < 2 ^ 64 - 1
+  pub told : Tells contents (kept (state_of store))
 
--- One answer: what becomes of it, or nothing changed where memory ran out. What is kept is what the state has.
-pub record Outcome (answer : Answer × State) (old new : Store) (count count' : ℕ) (contents : Option Kept) (result : Result (List ℕ) NoMemory) : Type 0 where
+-- The answer is given, or memory ran out and the state is as it was. A keeper that tells its contents goes on to tell those of the
+-- new state.
+pub record Outcome (answer : Answer × State) (old new : Store) (count count' : ℕ) (contents contents' : Option Kept) (result : Result (List ℕ) NoMemory) : Type 0 where
   pub consistent : Consistent new
   pub later : count ≤ count'
-  pub told : Tells contents (kept (state_of new))
+  pub told : Follows (λ _ now. now ≡ kept (state_of new)) contents contents'
   pub ok : IfOk result (λ reply. Becomes answer (state_of old) count reply (state_of new) count')
   pub err : OnErr result (state_of new ≡ state_of old)

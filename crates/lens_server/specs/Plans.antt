@@ -1,4 +1,4 @@
--- What a put comes to before it is made.
+-- The plan of a put.
 use Rattle.std.specs.Prelude.{◌≡◌, ◌+◌, ℕ, List, [], ◌∷◌, get_or, map, Option, Some, None, if◌then◌else◌}
 use Rattle.std.specs.FinMap as finmap
 use Rattle.lens_specs.specs.Relation.{Name, Relation, Rows}
@@ -32,7 +32,7 @@ abbrev pub accept_table : Name → Relation → Delta → State → Answer × St
 accept_table name relation delta s =
     if is_empty delta then (changed [] s.version, s) else (changed (record { table = name; delta = delta } ∷ []) (s.version + 1), with_relation name relation s)
 
--- an edit is of the table at this place
+-- a plan that edits a table edits the one at this place
 abbrev pub IsPlacedAt : ℕ → Plan → Type 0
 IsPlacedAt place (plan.Answer reply) = Unit {0}
 IsPlacedAt place (plan.Change edit) = edit.place ≡ place
@@ -49,12 +49,12 @@ abbrev pub IsTablePlan : Plan → Table → Answer × State → State → Type 0
 IsTablePlan (plan.Answer reply) table answer s = (reply ≡ text answer.0) × (answer.1 ≡ s)
 IsTablePlan (plan.Change edit) table answer s = IsEditOf edit table answer s
 
--- the same, of the table that stands at the edit's place
+-- the same for the table at the edit's place
 abbrev pub IsPlan : Plan → Answer × State → Store → Type 0
 IsPlan (plan.Answer reply) answer store = (reply ≡ text answer.0) × (answer.1 ≡ state_of store)
 IsPlan (plan.Change edit) answer store =
     (table : Table) × (name : Name) × IsAt name store.tables.items edit.place × ((d : Table) → get_or store.tables.items edit.place d ≡ table) × IsEditOf edit table answer (state_of store)
 
--- the edit is planned for the store
+-- the edit is the plan of some answer
 abbrev pub IsPlanned : Edit → Store → Type 0
 IsPlanned edit store = (answer : Answer × State) × IsPlan (plan.Change edit) answer store

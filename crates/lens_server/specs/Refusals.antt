@@ -47,7 +47,7 @@ abbrev pub unknown_of_fault : pred.PredFault → Option Name
 unknown_of_fault (pred_fault.UnknownColumn name) = Some name
 unknown_of_fault (pred_fault.PredKind name) = None
 
--- The refusal is the verdict; want of memory may stand for any.
+-- The refusal is the verdict. Out of memory is allowed in place of any verdict.
 abbrev pub IsRefused : {U : Type 0} → Refusal → Result U Answer → Type 0
 IsRefused why verdict = why ≢ NoMemory → verdict ≡ Err (refusal_view why)
 

@@ -1,4 +1,4 @@
-//! What a definition adds.
+//! What a definition adds to the server.
 ghost use Rattle.std.specs.Prelude.{◌≡◌, ◌<◌, ◌-◌, ◌^◌, IfOk};
 ghost use Rattle.lens_server.specs.Judgements.{AddsTableOf, AddsViewOf, sort_from};
 
@@ -11,18 +11,18 @@ use request_text::{Reply, defined_text};
 use row_sets::Relation;
 use std::alloc::Global;
 
-/// What a definition adds.
+/// What a definition adds to the server.
 #[derive(Drop)]
 pub struct Addition {
     /// The name and its lens.
     pub entry: Entry,
-    /// The table that is made, if any.
+    /// The table that it makes, if any.
     pub table: Option<Table>,
     /// The reply.
     pub reply: Reply,
 }
 
-/// What a table adds.
+/// What the definition of a table adds.
 pub fn table_addition(
     alloc: Global,
     version: u64,
@@ -32,7 +32,8 @@ pub fn table_addition(
     tree: Tree,
 ) -> Result<Addition, NoMemory>
     requires room { version < 2 ^ 64 - 1 }
-    ensures { IfOk result (λ addition. AddsTableOf addition version name (sort_from columns pred tree)) }
+    ensures { IfOk result (λ addition.
+        AddsTableOf addition version name (sort_from columns pred tree)) }
 {
     let reply = defined_text(alloc, version + 1)?;
     let relation = Relation::empty(alloc, columns.copy(alloc)?);
@@ -56,7 +57,7 @@ pub fn table_addition(
     })
 }
 
-/// What a view adds.
+/// What the definition of a view adds.
 pub fn view_addition(
     alloc: Global,
     version: u64,

@@ -1,14 +1,11 @@
 //! One line, one answer.
-ghost use Rattle.std.specs.Prelude.{◌≡◌, ◌<◌, ◌-◌, ◌^◌};
-ghost use Rattle.lens_specs.specs.Keeping.{Tells};
-ghost use Rattle.lens_specs.specs.Lines.{line as short};
+ghost use Rattle.std.specs.Prelude.{◌≡◌, Ok};
+ghost use Rattle.io_specs.specs.Lines.{line as short};
 ghost use Rattle.request_text.specs.Requests.{request_view};
 ghost use Rattle.server_specs.specs.Answering.{answer_request};
 ghost use Rattle.server_specs.specs.Request.{request};
-ghost use Rattle.server_specs.specs.State.{kept};
-ghost use Rattle.std.specs.Prelude.{Ok};
-ghost use Rattle.lens_server.specs.Outcomes.{Outcome};
-ghost use Rattle.lens_server.specs.States.{state_of, Consistent};
+ghost use Rattle.lens_server.specs.Outcomes.{IsReady, Outcome};
+ghost use Rattle.lens_server.specs.States.{state_of};
 
 use crate::defining::define;
 use crate::putting::put;
@@ -28,10 +25,10 @@ pub fn answer_line<K: Keeper>(
     keeper: &mut K,
     line: &[u8],
 ) -> Result<Reply, NoMemory>
-    requires consistent { Consistent store.old }
-    requires room { store.old.version < 2 ^ 64 - 1 }
-    requires told { Tells (K.contents keeper.old) (kept (state_of store.old)) }
-    ensures outcome { Outcome (answer_request (request (short line.now)) (state_of store.old)) store.old store.new (K.faults keeper.old) (K.faults keeper.new) (K.contents keeper.new) result }
+    requires { IsReady store.old (K.contents keeper.old) }
+    ensures outcome { Outcome (answer_request (request (short line.now)) (state_of store.old))
+        store.old store.new (K.faults keeper.old) (K.faults keeper.new)
+        (K.contents keeper.old) (K.contents keeper.new) result }
     ensures place { K.place keeper.new ≡ K.place keeper.old }
 {
     match read_request(alloc, line) {
@@ -42,17 +39,18 @@ pub fn answer_line<K: Keeper>(
     }
 }
 
-/// Answers a request. What rests on a version, edits, previews, types and the list of definitions are not built.
+/// Answers a request. What rests on a version, edits, previews, types and the list of definitions
+/// are not built.
 fn answer_request<K: Keeper>(
     alloc: Global,
     store: &mut Store,
     keeper: &mut K,
     request: Request,
 ) -> Result<Reply, NoMemory>
-    requires consistent { Consistent store.old }
-    requires room { store.old.version < 2 ^ 64 - 1 }
-    requires told { Tells (K.contents keeper.old) (kept (state_of store.old)) }
-    ensures outcome { Outcome (answer_request (Ok (request_view request)) (state_of store.old)) store.old store.new (K.faults keeper.old) (K.faults keeper.new) (K.contents keeper.new) result }
+    requires { IsReady store.old (K.contents keeper.old) }
+    ensures outcome { Outcome (answer_request (Ok (request_view request)) (state_of store.old))
+        store.old store.new (K.faults keeper.old) (K.faults keeper.new)
+        (K.contents keeper.old) (K.contents keeper.new) result }
     ensures place { K.place keeper.new ≡ K.place keeper.old }
 {
     match request {

@@ -1,14 +1,13 @@
 //! Definitions of tables and views.
 ghost use Rattle.std.specs.Prelude.{◌≡◌, ◌<◌, ◌+◌, ◌-◌, ◌^◌, ◌++◌, ◌∷◌, [], List, ℕ, Option, Ok, OnOk, Some, None, option_map, option_to_list, vec_len, vec_capacity};
-ghost use Rattle.lens_specs.specs.Keeping.{Tells};
 ghost use Rattle.grammar_laws.specs.Reading.{reading};
 ghost use Rattle.server_specs.specs.Answering.{answer_definition};
 ghost use Rattle.server_specs.specs.Defining.{judged};
-ghost use Rattle.server_specs.specs.State.{catalogue, kept};
+ghost use Rattle.server_specs.specs.State.{catalogue};
 ghost use Rattle.lens_server.specs.Judgements.{Adds};
 ghost use Rattle.lens_server.specs.Additions.{HasRoom, IsDefinition, IsTaken, SameContents};
-ghost use Rattle.lens_server.specs.Outcomes.{Outcome};
-ghost use Rattle.lens_server.specs.States.{state_of, Consistent};
+ghost use Rattle.lens_server.specs.Outcomes.{IsReady, Outcome};
+ghost use Rattle.lens_server.specs.States.{state_of};
 ghost use Rattle.grammar_specs.specs.Meaning as language;
 
 use crate::addition::Addition;
@@ -22,17 +21,19 @@ use request_text::{Reply, store_fault_reply};
 use std::alloc::Global;
 use table_keeper::{Change, KeepFault, Keeper};
 
-/// Takes the definition that the text says. The reply is made and the room is taken before the change is committed.
+/// Takes the definition that the text says. The reply is made and memory is reserved before the
+/// change is committed.
 pub fn define<K: Keeper>(
     alloc: Global,
     store: &mut Store,
     keeper: &mut K,
     text: Text,
 ) -> Result<Reply, NoMemory>
-    requires consistent { Consistent store.old }
-    requires room { store.old.version < 2 ^ 64 - 1 }
-    requires told { Tells (K.contents keeper.old) (kept (state_of store.old)) }
-    ensures outcome { Outcome (answer_definition text (judged (catalogue store.old.texts.items) (reading text)) (state_of store.old)) store.old store.new (K.faults keeper.old) (K.faults keeper.new) (K.contents keeper.new) result }
+    requires { IsReady store.old (K.contents keeper.old) }
+    ensures outcome { Outcome
+        (answer_definition text (judged (catalogue store.old.texts.items) (reading text)) (state_of store.old))
+        store.old store.new (K.faults keeper.old) (K.faults keeper.new)
+        (K.contents keeper.old) (K.contents keeper.new) result }
     ensures place { K.place keeper.new ≡ K.place keeper.old }
 {
     match judge(alloc, store, &text) {
@@ -41,7 +42,7 @@ pub fn define<K: Keeper>(
     }
 }
 
-/// Takes the definition.
+/// Commits the definition, and adds it to the store.
 fn take<K: Keeper>(
     alloc: Global,
     store: &mut Store,
@@ -49,11 +50,12 @@ fn take<K: Keeper>(
     text: Text,
     addition: Addition,
 ) -> Result<Reply, NoMemory>
-    requires consistent { Consistent store.old }
-    requires room { store.old.version < 2 ^ 64 - 1 }
-    requires told { Tells (K.contents keeper.old) (kept (state_of store.old)) }
+    requires ready { IsReady store.old (K.contents keeper.old) }
     requires taken { IsTaken text addition store.old }
-    ensures outcome { (definition : language.Definition) → reading text ≡ Ok definition → Adds addition definition store.old → Outcome (answer_definition text (Ok definition) (state_of store.old)) store.old store.new (K.faults keeper.old) (K.faults keeper.new) (K.contents keeper.new) result }
+    ensures outcome { (definition : language.Definition) → reading text ≡ Ok definition → Adds addition definition store.old
+        → Outcome (answer_definition text (Ok definition) (state_of store.old))
+        store.old store.new (K.faults keeper.old) (K.faults keeper.new)
+        (K.contents keeper.old) (K.contents keeper.new) result }
     ensures place { K.place keeper.new ≡ K.place keeper.old }
 {
     make_room(store)?;
@@ -84,7 +86,8 @@ fn name_of(table: &Option<Table>) -> Option<Name>
 /// The text of a definition.
 fn text_of(change: Change) -> Text
     requires { IsDefinition change }
-    ensures { (text : List ℕ) → (table : Option (List ℕ)) → change ≡ Change.Define text table → result ≡ text }
+    ensures { (text : List ℕ) → (table : Option (List ℕ)) → change ≡ Change.Define text table
+        → result ≡ text }
 {
     match change {
         Change::Define { text, table: _ } => text,
@@ -92,7 +95,7 @@ fn text_of(change: Change) -> Text
     }
 }
 
-/// Takes room for one definition more.
+/// Reserves memory for one definition more.
 fn make_room(store: &mut Store) -> Result<(), NoMemory>
     ensures same { SameContents store.old store.new }
     ensures room { OnOk result (HasRoom store.new) }
@@ -103,7 +106,7 @@ fn make_room(store: &mut Store) -> Result<(), NoMemory>
     Ok(())
 }
 
-/// The store with one definition more, for which there is room. It takes no memory.
+/// Adds the definition to the store, which has reserved its memory.
 fn admit(store: &mut Store, text: Text, entry: Entry, table: Option<Table>)
     requires room { HasRoom store.old }
     requires version { store.old.version < 2 ^ 64 - 1 }
@@ -118,7 +121,7 @@ fn admit(store: &mut Store, text: Text, entry: Entry, table: Option<Table>)
     store.version += 1;
 }
 
-/// Adds the item, if there is one, for which there is room.
+/// Adds the item, if there is one. Its memory is reserved.
 fn push_some<T: Drop>(list: &mut Vec<T>, item: Option<T>)
     requires { vec_len list.old < vec_capacity list.old }
     ensures { list.new.items ≡ list.old.items ++ option_to_list item }
@@ -129,7 +132,7 @@ fn push_some<T: Drop>(list: &mut Vec<T>, item: Option<T>)
     }
 }
 
-/// Adds the item, for which there is room.
+/// Adds the item. Its memory is reserved.
 fn push<T: Drop>(list: &mut Vec<T>, item: T)
     requires { vec_len list.old < vec_capacity list.old }
     ensures { list.new.items ≡ list.old.items ++ item ∷ [] }

@@ -14,11 +14,11 @@ pub struct Lens {
     pub table: Name,
     /// The columns of the table, and so of the view.
     pub columns: Columns,
-    /// What holds on each row of the table.
+    /// The predicate of the table, which holds on each of its rows.
     pub pred: Pred,
     /// The tree of the table's dependencies, and so of the view's.
     pub tree: Tree,
-    /// What selects the rows of the view.
+    /// The predicate that selects the rows of the view. A table itself has none.
     pub selected: Option<Pred>,
 }
 
@@ -31,7 +31,7 @@ pub struct Entry {
     pub lens: Lens,
 }
 
-/// The lens under a name.
+/// The lens that a name has.
 pub fn lens_named<'a>(entries: &'a [Entry], name: &Name) -> Option<&'a Lens>
     ensures { option_copied result ≡ lens_named entries.now name.now }
 {

@@ -22,13 +22,15 @@ use view_lang::{Definition, parse};
 pub fn judge(alloc: Global, store: &Store, text: &Text) -> Result<Addition, Refusal>
     requires consistent { Consistent store.now }
     requires room { store.now.version < 2 ^ 64 - 1 }
-    ensures { IsJudged result (judged (catalogue store.now.texts.items) (reading text.now)) store.now }
+    ensures { IsJudged result
+        (judged (catalogue store.now.texts.items) (reading text.now)) store.now }
 {
     let definition = parse(alloc, text)?;
     judge_definition(alloc, store, definition)
 }
 
-/// What the definition adds, or why it is refused. A text says none that is too large by itself.
+/// What the definition adds, or why it is refused. The parser has kept the limits of columns and
+/// nodes.
 fn judge_definition(
     alloc: Global,
     store: &Store,
@@ -38,7 +40,8 @@ fn judge_definition(
     requires room { store.now.version < 2 ^ 64 - 1 }
     requires columns { has_few_columns (definition_view definition) ≡ true }
     requires nodes { has_few_nodes (definition_view definition) ≡ true }
-    ensures { IsJudged result (judged (catalogue store.now.texts.items) (Ok (definition_view definition))) store.now }
+    ensures { IsJudged result
+        (judged (catalogue store.now.texts.items) (Ok (definition_view definition))) store.now }
 {
     match definition {
         Definition::Table {
@@ -51,7 +54,7 @@ fn judge_definition(
     }
 }
 
-/// Whether a name has a lens.
+/// Whether the name has a lens already.
 pub fn is_taken(store: &Store, name: &Name) -> bool
     requires { Consistent store.now }
     ensures { result ≡ is_taken (catalogue store.now.texts.items) name.now }

@@ -17,4 +17,4 @@ mod table_judging;
 mod unknown_columns;
 mod view_judging;
 
-pub use server::{MAX_LINE, Server};
+pub use server::Server;

@@ -1,4 +1,4 @@
-//! What a put changes: found first, made later.
+//! Plans of puts: what a put will change is found first, and changed later.
 ghost use Rattle.std.specs.Prelude.{◌≡◌, ◌<◌, ◌-◌, ◌^◌, IfOk, Some, None, find, not, option_copied, length, nat_eq, position, slice_index_or, true, map, ◌∷◌, []};
 ghost use Rattle.std.specs.Cmp.Lexicographic.{pointwise};
 ghost use Rattle.std.specs.FinMap as finmap;
@@ -32,7 +32,7 @@ use signed_delta::{TableDelta, diff};
 use std::alloc::Global;
 use whole_put::put_select;
 
-/// What a put comes to.
+/// What a put will do.
 #[derive(Drop)]
 pub enum Plan {
     /// A reply, and nothing changes.
@@ -48,13 +48,13 @@ pub struct Edit {
     pub place: usize,
     /// The table after it.
     pub relation: Relation,
-    /// The difference of the table, alone.
+    /// The difference of the table, as a list of one.
     pub deltas: Vec<TableDelta>,
     /// The reply.
     pub reply: Reply,
 }
 
-/// What a put of these rows comes to.
+/// Plans a put of the rows that were sent to a view.
 pub fn plan_put(
     alloc: Global,
     store: &Store,
@@ -63,7 +63,9 @@ pub fn plan_put(
 ) -> Result<Plan, NoMemory>
     requires consistent { Consistent store.now }
     requires room { store.now.version < 2 ^ 64 - 1 }
-    ensures { IfOk result (λ plan. IsPlan plan (answer_put view.now rows.now (finmap.get (catalogue store.now.texts.items) view.now) (state_of store.now)) store.now) }
+    ensures { IfOk result (λ plan.
+        IsPlan plan (answer_put view.now rows.now
+        (finmap.get (catalogue store.now.texts.items) view.now) (state_of store.now)) store.now) }
 {
     match lens_named(&store.entries, view) {
         Some(lens) => plan_sent(alloc, store, lens, rows),
@@ -71,11 +73,13 @@ pub fn plan_put(
     }
 }
 
-/// What a put of these rows to a lens comes to.
+/// Plans a put of the rows that were sent to a lens.
 fn plan_sent(alloc: Global, store: &Store, lens: &Lens, rows: &JsonRows) -> Result<Plan, NoMemory>
     requires source { columns_named store.now.tables.items lens.now.table ≡ Some lens.now.columns }
     requires room { store.now.version < 2 ^ 64 - 1 }
-    ensures { IfOk result (λ plan. IsPlan plan (answer_put [] rows.now (Some (lens_view lens.now)) (state_of store.now)) store.now) }
+    ensures { IfOk result (λ plan.
+        IsPlan plan (answer_put [] rows.now (Some (lens_view lens.now)) (state_of store.now))
+        store.now) }
 {
     match rows_of(alloc, &lens.columns, rows) {
         Ok(rows) => plan_set(alloc, store, lens, rows),
@@ -89,12 +93,13 @@ fn plan_sent(alloc: Global, store: &Store, lens: &Lens, rows: &JsonRows) -> Resu
     }
 }
 
-/// What a put of this set of rows to a lens comes to.
+/// Plans a put of this set of rows to a lens.
 fn plan_set(alloc: Global, store: &Store, lens: &Lens, rows: RowSet) -> Result<Plan, NoMemory>
     requires source { columns_named store.now.tables.items lens.now.table ≡ Some lens.now.columns }
     requires fit { (row : _) → set.contains rows row ≡ true → Fits lens.now.columns row }
     requires room { store.now.version < 2 ^ 64 - 1 }
-    ensures { IfOk result (λ plan. IsPlan plan (put_set rows (lens_view lens.now) (state_of store.now)) store.now) }
+    ensures { IfOk result (λ plan.
+        IsPlan plan (put_set rows (lens_view lens.now) (state_of store.now)) store.now) }
 {
     match refused(lens, &rows) {
         Some(row) => Ok(Plan::Answer(off_predicate_text(alloc, row)?)),
@@ -102,12 +107,14 @@ fn plan_set(alloc: Global, store: &Store, lens: &Lens, rows: RowSet) -> Result<P
     }
 }
 
-/// What a put of rows that the predicates hold on comes to.
+/// Plans a put of rows on which the predicates hold.
 fn plan_rows(alloc: Global, store: &Store, lens: &Lens, rows: RowSet) -> Result<Plan, NoMemory>
     requires source { columns_named store.now.tables.items lens.now.table ≡ Some lens.now.columns }
     requires fit { (row : _) → set.contains rows row ≡ true → Fits lens.now.columns row }
     requires room { store.now.version < 2 ^ 64 - 1 }
-    ensures { IfOk result (λ plan. IsPlan plan (unless_clash (clash lens.now.tree rows) (lens_view lens.now) rows (state_of store.now)) store.now) }
+    ensures { IfOk result (λ plan.
+        IsPlan plan (unless_clash (clash lens.now.tree rows) (lens_view lens.now) rows
+        (state_of store.now)) store.now) }
 {
     match first_clash(alloc, lens.tree.edges(), &rows)? {
         Some(found) => Ok(Plan::Answer(clash_reply(alloc, lens.tree.edges(), &found)?)),
@@ -118,33 +125,35 @@ fn plan_rows(alloc: Global, store: &Store, lens: &Lens, rows: RowSet) -> Result<
 /// The reply that two rows clash on the edge at the place.
 fn clash_reply(alloc: Global, edges: &[Edge], found: &Clash) -> Result<Reply, NoMemory>
     requires { found.now.edge < length edges.now }
-    ensures { IfOk result (λ reply. (edge : _) → edge ≡ slice_index_or edges.now found.now.edge edge → reply ≡ text (spec_clash edge found.now.first found.now.second)) }
+    ensures { IfOk result (λ reply. (edge : _) → edge ≡ slice_index_or edges.now found.now.edge edge
+        → reply ≡ text (spec_clash edge found.now.first found.now.second)) }
 {
     clash_text(alloc, &edges[found.edge], &found.first, &found.second)
 }
 
-/// The least of the rows that the lens's predicate refuses, which is the table's and the one that selects.
+/// The least row that the table's predicate refuses, or the view's.
 fn refused<'a>(lens: &Lens, rows: &'a RowSet) -> Option<&'a Row>
     ensures { option_copied result ≡ off (sort_of (lens_view lens.now)).predicate rows.now }
 {
     first_refused(lens, rows.rows())
 }
 
-/// The first of the rows that the lens's predicate refuses.
+/// The first row that the table's predicate refuses, or the view's.
 fn first_refused<'a>(lens: &Lens, rows: &'a [Row]) -> Option<&'a Row>
-    ensures { option_copied result ≡ find (λ row. not (holds (sort_of (lens_view lens.now)).predicate row)) rows.now }
+    ensures { option_copied result
+        ≡ find (λ row. not (holds (sort_of (lens_view lens.now)).predicate row)) rows.now }
 {
     rows.iter().find(|row| !may_have(lens, row))
 }
 
-/// Whether the table's predicate holds on the row, and the one that selects.
+/// Whether the table's predicate holds on the row, and the view's.
 fn may_have(lens: &Lens, row: &Row) -> bool
     ensures { result ≡ holds (sort_of (lens_view lens.now)).predicate row.now }
 {
     lens.pred.holds(row) && selects(&lens.selected, row)
 }
 
-/// Whether what selects, if anything, holds on the row.
+/// Whether the view selects the row. A view that is the table itself selects every row.
 fn selects(selected: &Option<Pred>, row: &Row) -> bool
     ensures { result ≡ is_selected selected.now row.now }
 {
@@ -154,12 +163,15 @@ fn selects(selected: &Option<Pred>, row: &Row) -> bool
     }
 }
 
-/// What a put of rows of the lens's sort comes to.
+/// Plans a put of rows of the lens's sort.
 fn plan_view(alloc: Global, store: &Store, lens: &Lens, rows: RowSet) -> Result<Plan, NoMemory>
     requires source { columns_named store.now.tables.items lens.now.table ≡ Some lens.now.columns }
     requires fit { (row : _) → set.contains rows row ≡ true → Fits lens.now.columns row }
     requires room { store.now.version < 2 ^ 64 - 1 }
-    ensures { IfOk result (λ plan. IsPlan plan (accept (lens_view lens.now) rows (changes (lens_view lens.now) rows (state_of store.now).tables) (state_of store.now)) store.now) }
+    ensures { IfOk result (λ plan.
+        IsPlan plan (accept (lens_view lens.now) rows
+        (changes (lens_view lens.now) rows (state_of store.now).tables) (state_of store.now))
+        store.now) }
 {
     let place = place_of(&store.tables, &lens.table);
     let table = &store.tables[place];
@@ -167,7 +179,7 @@ fn plan_view(alloc: Global, store: &Store, lens: &Lens, rows: RowSet) -> Result<
     plan_table(alloc, store.version, place, table, relation)
 }
 
-/// The table after a put of the view.
+/// The table after the put of the view.
 fn source_after(
     alloc: Global,
     lens: &Lens,
@@ -176,7 +188,9 @@ fn source_after(
 ) -> Result<Relation, NoMemory>
     requires columns { old.now.columns ≡ lens.now.columns }
     requires fit { (row : _) → set.contains rows row ≡ true → Fits lens.now.columns row }
-    ensures { IfOk result (λ new. new ≡ record old.now { rows = source_put lens.now.tree lens.now.selected rows old.now.rows }) }
+    ensures { IfOk result (λ new.
+        new ≡ record old.now
+        { rows = source_put lens.now.tree lens.now.selected rows old.now.rows }) }
 {
     let view = Relation::with_rows(lens.columns.copy(alloc)?, rows);
     match &lens.selected {
@@ -185,7 +199,7 @@ fn source_after(
     }
 }
 
-/// What it comes to that a table becomes this relation.
+/// Plans that the table becomes this relation. Where nothing differs, the plan is a reply alone.
 fn plan_table(
     alloc: Global,
     version: u64,
@@ -195,7 +209,10 @@ fn plan_table(
 ) -> Result<Plan, NoMemory>
     requires columns { relation.columns ≡ table.now.relation.columns }
     requires room { version < 2 ^ 64 - 1 }
-    ensures plan { IfOk result (λ plan. (s : State) → s.version ≡ version → IsTablePlan plan table.now (accept_table table.now.name relation (spec.diff table.now.relation.rows relation.rows) s) s) }
+    ensures plan { IfOk result (λ plan. (s : State) → s.version ≡ version
+        → IsTablePlan plan table.now
+        (accept_table table.now.name relation
+        (spec.diff table.now.relation.rows relation.rows) s) s) }
     ensures place { IfOk result (IsPlacedAt place) }
 {
     let delta = diff(alloc, &table.relation, &relation)?;

@@ -19,7 +19,10 @@ use whole_put::get_select;
 /// The reply to a read of the view.
 pub fn read(alloc: Global, store: &Store, view: &Name) -> Result<Reply, NoMemory>
     requires { Consistent store.now }
-    ensures { IfOk result (λ reply. reply ≡ text (answer_read view.now (finmap.get (catalogue store.now.texts.items) view.now) (state_of store.now)).0) }
+    ensures { IfOk result (λ reply.
+        reply ≡ text
+        (answer_read view.now (finmap.get (catalogue store.now.texts.items) view.now)
+        (state_of store.now)).0) }
 {
     match lens_named(&store.entries, view) {
         Some(lens) => show(alloc, store, lens),
@@ -30,7 +33,9 @@ pub fn read(alloc: Global, store: &Store, view: &Name) -> Result<Reply, NoMemory
 /// The reply with the rows of the view.
 fn show(alloc: Global, store: &Store, lens: &Lens) -> Result<Reply, NoMemory>
     requires { columns_named store.now.tables.items lens.now.table ≡ Some lens.now.columns }
-    ensures { IfOk result (λ reply. reply ≡ text (shown (get (lens_view lens.now) (state_of store.now).tables) store.now.version)) }
+    ensures { IfOk result (λ reply.
+        reply ≡ text
+        (shown (get (lens_view lens.now) (state_of store.now).tables) store.now.version)) }
 {
     let table = table_named(&store.tables, &lens.table);
     match &lens.selected {

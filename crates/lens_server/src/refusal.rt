@@ -17,7 +17,7 @@ use view_lang::{LangFault, Limit};
 /// Why a definition is refused.
 #[derive(Debug, Drop)]
 pub enum Refusal {
-    /// The text goes wrong at this offset.
+    /// The text breaks the grammar at this offset.
     Syntax {
         /// The offset.
         at: usize,
@@ -37,26 +37,26 @@ pub enum Refusal {
         /// The name.
         name: Name,
     },
-    /// The dependencies are no tree: two sides that do not fit.
+    /// The dependencies form no tree: two of their sides do not fit together.
     NotTree {
         /// A side of the first edge.
         a: Names,
         /// A side of the other.
         b: Names,
     },
-    /// The column is compared with what is of another kind.
+    /// The column is compared with a value or a column of another kind.
     PredKind {
         /// The column.
         name: Name,
     },
-    /// The predicate of what is selected from mentions a column that a dependency writes.
+    /// The source's predicate mentions a column that a dependency determines.
     SourceMentionsOutput {
         /// The column.
         col: Name,
     },
-    /// There is too much of something.
+    /// A limit is passed.
     TooLarge {
-        /// What it is.
+        /// The limit.
         what: Limit,
     },
     /// What was asked for is not built yet.
@@ -119,7 +119,7 @@ impl From<PredFault> for Refusal {
     }
 }
 
-/// The reply that a refusal is. Where memory ran out there is none.
+/// The reply that tells the refusal. Where memory ran out there is none.
 pub fn refusal_reply(alloc: Global, why: &Refusal) -> Result<Reply, NoMemory>
     ensures reply { IfOk result (λ reply. reply ≡ text (refusal_view why.now)) }
     ensures said { OnOk result (why.now ≢ refusal.NoMemory) }

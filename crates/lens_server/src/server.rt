@@ -1,23 +1,21 @@
 //! The state, and what it answers.
 ghost use Rattle.std.specs.Prelude.{◌≡◌, ◌<◌, ◌-◌, ◌^◌, IfOk, MatchResult};
-ghost use Rattle.lens_specs.specs.Keeping.{Tells};
-ghost use Rattle.lens_specs.specs.Lines.{marked};
+ghost use Rattle.lens_specs.specs.Keeping.{Follows, Tells};
+ghost use Rattle.io_specs.specs.Lines.{marked};
 ghost use Rattle.server_specs.specs.Answer.{memory, text};
 ghost use Rattle.server_specs.specs.Session.{Step};
 ghost use Rattle.server_specs.specs.State as state;
 
 use crate::answering::answer_line;
 use crate::store::Store;
-use lens_values::NoMemory;
+use io_specs::LONGEST_LINE;
+use lens_values::{NoMemory, Text};
 use request_text::{Reply, long_reply, memory_reply};
 use std::alloc::Global;
 use std::marker::Model;
 use std::sync::ledger::Ledger;
 use step_counter::Steps;
 use table_keeper::Keeper;
-
-/// The greatest number of bytes of a line, without its newline.
-pub const MAX_LINE: usize = 16_777_216;
 
 /// The definitions, the tables and the version. A contract sees the state.
 #[derive(Debug, Drop)]
@@ -40,7 +38,7 @@ impl Model for Server {
 }
 
 impl Server {
-    /// The state of no definitions.
+    /// A server without definitions.
     pub fn fresh(alloc: Global) -> Result<Server, NoMemory>
         ensures { IfOk result (λ server. server ≡ state.fresh) }
     {
@@ -54,8 +52,9 @@ impl Server {
         })
     }
 
-    /// Answers one line. The reply and the state after it are those of the definition; or memory ran out, or the keeper failed
-    /// at a change, and nothing changed. What is kept is what the state has.
+    /// Answers one line. The reply and the state after it are those of the definition; or memory
+    /// ran out, or the keeper failed at a change, and nothing changed. A keeper that tells its
+    /// contents goes on to tell them, and has what the state has.
     pub fn answer<K: Keeper, L: Ledger>(
         &mut self,
         alloc: Global,
@@ -65,21 +64,30 @@ impl Server {
     ) -> Reply
         requires room { self.old.version < 2 ^ 64 - 1 }
         requires told { Tells (K.contents keeper.old) (state.kept self.old) }
-        ensures step { Step self.old (K.faults keeper.old) (marked line.now) result self.new (K.faults keeper.new) }
-        ensures told { Tells (K.contents keeper.new) (state.kept self.new) }
+        ensures step { Step self.old (K.faults keeper.old) (marked line.now) result self.new
+            (K.faults keeper.new) }
+        ensures told { Follows (λ _ now. now ≡ state.kept self.new) (K.contents keeper.old)
+            (K.contents keeper.new) }
         ensures place { K.place keeper.new ≡ K.place keeper.old }
 
         // Nothing is walked.
         ensures walked { walked.new ≡ walked.old }
     {
         let _ = walked;
-        if line.len() > MAX_LINE {
+        if line.len() > LONGEST_LINE {
             return long_reply();
         }
         reply_or_memory(answer_line(alloc, &mut self.store, keeper, line))
     }
 
-    /// How many changes were made.
+    /// The texts of the definitions, in order.
+    pub fn definitions(&self) -> &[Text]
+        ensures { result.now ≡ self.now.texts }
+    {
+        self.store.texts.as_slice()
+    }
+
+    /// The version: how many changes were made.
     pub fn version(&self) -> u64
         ensures { result ≡ self.now.version }
     {

@@ -8,7 +8,7 @@ use lens_values::Text;
 pub struct Store {
     /// The definition texts, as they were sent.
     pub texts: Vec<Text>,
-    /// The names in order of definition.
+    /// The names with their lenses, in order of definition.
     pub entries: Vec<Entry>,
     /// The tables in order of definition.
     pub tables: Vec<Table>,

@@ -21,10 +21,11 @@ use lens_values::{Columns, Name};
 use std::alloc::Global;
 use view_lang::Limit;
 
-/// The tables at most.
+/// The greatest number of tables.
 pub const MAX_TABLES: usize = 64;
 
-/// What the table adds, or why it is refused: its name is taken, it has no sort, or there are 64 tables.
+/// What the table adds, or why it is refused: its name is taken, it has no sort, or there are 64
+/// tables.
 pub fn judge_table(
     alloc: Global,
     store: &Store,
@@ -37,7 +38,8 @@ pub fn judge_table(
     requires room { store.now.version < 2 ^ 64 - 1 }
     requires columns { finmap.len columns ≤ 64 }
     requires nodes { predicate_nodes pred ≤ 256 }
-    ensures { IsJudged result (judged_table (catalogue store.now.texts.items) name columns deps.now pred) store.now }
+    ensures { IsJudged result
+        (judged_table (catalogue store.now.texts.items) name columns deps.now pred) store.now }
 {
     if is_taken(store, &name) {
         return Err(Refusal::NameTaken { name });
@@ -51,11 +53,13 @@ pub fn judge_table(
     Ok(table_addition(alloc, store.version, name, columns, pred, tree)?)
 }
 
-/// The tree of the table's dependencies. Unknown columns are refused first, then sides that do not fit, and then unlike kinds.
+/// The tree of the table's dependencies. Unknown columns are refused first, then dependencies that
+/// form no tree, and then kinds that differ.
 fn table_tree(alloc: Global, columns: &Columns, deps: &[Dep], pred: &Pred) -> Result<Tree, Refusal>
     requires columns { finmap.len columns.now ≤ 64 }
     requires nodes { predicate_nodes pred.now ≤ 256 }
-    ensures { Decides (sort_from columns.now pred.now) result (answered (table_sort columns.now deps.now pred.now)) }
+    ensures { Decides (sort_from columns.now pred.now) result
+        (answered (table_sort columns.now deps.now pred.now)) }
 {
     if let Some(name) = unknown_column(columns, deps, pred) {
         return Err(Refusal::UnknownColumn { name });

@@ -13,7 +13,9 @@ use lens_values::{Columns, Name, Names};
 
 /// The first unknown column of the dependencies, or else of the predicate.
 pub fn unknown_column(columns: &Columns, deps: &[Dep], pred: &Pred) -> Option<Name>
-    ensures { option_map unknown_column result ≡ or_else (unknown_in columns.now deps.now) (option_map unknown_column (unknown_name columns.now pred.now)) }
+    ensures { option_map unknown_column result
+        ≡ or_else (unknown_in columns.now deps.now)
+        (option_map unknown_column (unknown_name columns.now pred.now)) }
 {
     match first_unknown(columns, deps) {
         Some(name) => Some(name),
@@ -41,7 +43,8 @@ fn unknown_of_fault(fault: PredFault) -> Option<Name>
     }
 }
 
-/// The least unknown column of the first side that has one; the dependencies in order, the left side first.
+/// The least unknown column of the first side that has one; the dependencies in order, the left
+/// side first.
 fn first_unknown(columns: &Columns, deps: &[Dep]) -> Option<Name>
     ensures { option_map unknown_column result ≡ unknown_in columns.now deps.now }
 {
@@ -63,21 +66,21 @@ fn unknown_of(columns: &Columns, dep: &Dep) -> Option<Name>
     }
 }
 
-/// The least of the names that is no column.
+/// The least name that is no column.
 fn least_outside(columns: &Columns, side: &Names) -> Option<Name>
     ensures { result ≡ least_outside side.now (names columns.now) }
 {
     first_outside(columns, side.as_slice()).copied()
 }
 
-/// The first of the names that is no column.
+/// The first name that is no column.
 fn first_outside<'a>(columns: &Columns, side: &'a [Name]) -> Option<&'a Name>
     ensures { option_copied result ≡ find (λ c. not (set.contains (names columns.now) c)) side.now }
 {
     side.iter().find(|name| !has_column(columns, name))
 }
 
-/// Whether there is a column of the name.
+/// Whether there is a column with the name.
 #[tactic(auto, using(crate::proofs::Unknown::is_column))]
 fn has_column(columns: &Columns, name: &Name) -> bool
     ensures { result ≡ set.contains (names columns.now) name.now }

@@ -21,17 +21,19 @@ use lens_values::{Name, NoMemory};
 use std::alloc::Global;
 use view_lang::{Expr, Limit};
 
-/// The views at most.
+/// The greatest number of views.
 pub const MAX_VIEWS: usize = 256;
 
-/// The nodes of a predicate at most.
+/// The greatest number of nodes of a predicate.
 pub const MAX_NODES: usize = 256;
 
-/// What the view adds, or why it is refused: its name is taken, its expression has no lens, or there are 256 views.
+/// What the view adds, or why it is refused: its name is taken, its expression has no lens, or
+/// there are 256 views.
 pub fn judge_view(alloc: Global, store: &Store, name: Name, expr: Expr) -> Result<Addition, Refusal>
     requires consistent { Consistent store.now }
     requires room { store.now.version < 2 ^ 64 - 1 }
-    ensures { IsJudged result (judged_view (catalogue store.now.texts.items) name (expr_view expr)) store.now }
+    ensures { IsJudged result
+        (judged_view (catalogue store.now.texts.items) name (expr_view expr)) store.now }
 {
     if is_taken(store, &name) {
         return Err(Refusal::NameTaken { name });
@@ -46,7 +48,8 @@ pub fn judge_view(alloc: Global, store: &Store, name: Name, expr: Expr) -> Resul
 /// The lens of an expression. Only a table itself and the selection of a table are built.
 fn view_lens(alloc: Global, store: &Store, expr: Expr) -> Result<Lens, Refusal>
     requires { Consistent store.now }
-    ensures { IsLensOf result (lens_verdict (catalogue store.now.texts.items) (expr_view expr)) (expr_view expr) store.now }
+    ensures { IsLensOf result (lens_verdict (catalogue store.now.texts.items) (expr_view expr))
+        (expr_view expr) store.now }
 {
     match expr {
         Expr::Named { name } => table_lens(alloc, store, &name),
@@ -58,7 +61,9 @@ fn view_lens(alloc: Global, store: &Store, expr: Expr) -> Result<Lens, Refusal>
 /// The lens of a selection.
 fn select_lens(alloc: Global, store: &Store, pred: Pred, of: Expr) -> Result<Lens, Refusal>
     requires { Consistent store.now }
-    ensures { IsLensOf result (lens_verdict (catalogue store.now.texts.items) (select pred (expr_view of))) (select pred (expr_view of)) store.now }
+    ensures { IsLensOf result
+        (lens_verdict (catalogue store.now.texts.items) (select pred (expr_view of)))
+        (select pred (expr_view of)) store.now }
 {
     match of {
         Expr::Named { name } => selection(alloc, store, &name, pred),
@@ -69,7 +74,8 @@ fn select_lens(alloc: Global, store: &Store, pred: Pred, of: Expr) -> Result<Len
 /// The lens of a table.
 fn table_lens(alloc: Global, store: &Store, name: &Name) -> Result<Lens, Refusal>
     requires { Consistent store.now }
-    ensures { IsLensOf result (lens_verdict (catalogue store.now.texts.items) (named name.now)) (named name.now) store.now }
+    ensures { IsLensOf result (lens_verdict (catalogue store.now.texts.items) (named name.now))
+        (named name.now) store.now }
 {
     let source = source_named(store, name)?;
     Ok(lens_over(alloc, source, None)?)
@@ -78,7 +84,9 @@ fn table_lens(alloc: Global, store: &Store, name: &Name) -> Result<Lens, Refusal
 /// The lens of a selection of a table.
 fn selection(alloc: Global, store: &Store, name: &Name, pred: Pred) -> Result<Lens, Refusal>
     requires { Consistent store.now }
-    ensures { IsLensOf result (lens_verdict (catalogue store.now.texts.items) (select pred (named name.now))) (select pred (named name.now)) store.now }
+    ensures { IsLensOf result
+        (lens_verdict (catalogue store.now.texts.items) (select pred (named name.now)))
+        (select pred (named name.now)) store.now }
 {
     let source = source_named(store, name)?;
     check_selection(source, &pred)?;
@@ -97,11 +105,12 @@ fn source_named<'a>(store: &'a Store, name: &Name) -> Result<&'a Lens, Refusal>
     }
 }
 
-/// Whether the predicate suits the table's columns, the table's own mentions no column that a dependency writes, and both
-/// together are not too large.
+/// Tests a selection: its predicate suits the table's columns, the table's own predicate mentions
+/// no column that a dependency determines, and both together are not too large.
 fn check_selection(source: &Lens, pred: &Pred) -> Result<(), Refusal>
     requires { finmap.len source.now.columns ≤ 64 }
-    ensures { Decides (λ u. u) result (verdict_of (select_fault 2 (sort_under source.now) pred.now)) }
+    ensures { Decides (λ u. u) result
+        (verdict_of (select_fault 2 (sort_under source.now) pred.now)) }
 {
     pred.check(&source.columns)?;
     if let Some(col) = source.pred.mentions_any(source.tree.outputs()) {
@@ -115,7 +124,7 @@ fn check_selection(source: &Lens, pred: &Pred) -> Result<(), Refusal>
     Ok(())
 }
 
-/// A lens of the same table, by what selects.
+/// A lens of the same table with this selection.
 fn lens_over(alloc: Global, source: &Lens, selected: Option<Pred>) -> Result<Lens, NoMemory>
     ensures { IfOk result (λ lens. lens ≡ record source.now { selected = selected }) }
 {

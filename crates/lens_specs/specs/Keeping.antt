@@ -1,4 +1,4 @@
--- What a keeper keeps, and the changes that are made to it.
+-- The contents of a keeper, and the changes to them.
 use Rattle.std.specs.Prelude.{◌≡◌, ℕ, true, false, List, [], ◌∷◌, ◌++◌, Option, Some, None, is_some, nat_eq}
 use Rattle.std.specs.List.{list_any}
 use Rattle.std.specs.Cmp.Lexicographic.{pointwise}
@@ -8,12 +8,12 @@ use Rattle.lens_values.specs.SortedSet as set
 use Rattle.lens_specs.specs.Relation.{Name, Rows}
 use Rattle.lens_specs.specs.Delta.{TableDelta, Applies, new_view}
 
--- what is kept: the definition texts in order, and the rows of each table
+-- the contents: the definition texts in order, and the rows of each table
 pub record Kept : Type 0 where
   pub texts : List (List ℕ)
   pub rows : finmap.FinMap bytes_cmp Rows
 
--- nothing is kept
+-- the empty contents
 abbrev pub nothing : Kept
 nothing = record { texts = []; rows = finmap.empty }
 
@@ -22,7 +22,7 @@ pub data Change : Type 0 where
   define : List ℕ → Option Name → Change
   rows : List TableDelta → Change
 
--- the rows that are there
+-- the rows, or none where there is no table
 abbrev pub or_empty : Option Rows → Rows
 or_empty None = set.empty
 or_empty (Some found) = found
@@ -42,18 +42,18 @@ changed (define text None) kept = record kept { texts = kept.texts ++ text ∷ [
 changed (define text (Some table)) kept = record { texts = kept.texts ++ text ∷ []; rows = finmap.insert kept.rows table set.empty }
 changed (rows deltas) kept = record kept { rows = with_deltas deltas kept.rows }
 
--- contents that are told both before and after are those after the change
+-- the contents before and after are both told and related by the step, or both untold
 abbrev pub Follows : (Kept → Kept → Type 0) → Option Kept → Option Kept → Type 0
 Follows step None None = Unit {0}
 Follows step (Some old) (Some new) = step old new
 Follows step None (Some new) = ⊥
 Follows step (Some old) None = ⊥
 
--- contents that are told stay as they were
+-- the contents stay as they were, if they are told
 abbrev pub Stays : Option Kept → Option Kept → Type 0
 Stays = Follows (λ old new. new ≡ old)
 
--- contents, where they are told, are these
+-- the contents are these, if they are told
 abbrev pub Tells : Option Kept → Kept → Type 0
 Tells None kept = Unit {0}
 Tells (Some told) kept = told ≡ kept
@@ -65,13 +65,13 @@ AllApply (change ∷ changes) tables =
     (is_some (finmap.get tables change.table) ≡ true) × (Applies change.delta (rows_at tables change.table))
     × (list_any (λ later. pointwise nat_eq later.table change.table) changes ≡ false) × AllApply changes tables
 
--- The contents can be changed so: a new table is not there yet, and the differences apply, one to a table at most.
+-- the contents allow the change: a new table is not there yet, and the differences apply, at most one to a table
 abbrev pub CanChange : Change → Kept → Type 0
 CanChange (define text None) kept = Unit {0}
 CanChange (define text (Some table)) kept = is_some (finmap.get kept.rows table) ≡ false
 CanChange (rows deltas) kept = AllApply deltas kept.rows
 
--- contents, where they are told, can be changed so
+-- the contents allow the change, if they are told
 abbrev pub CanCommit : Change → Option Kept → Type 0
 CanCommit change None = Unit {0}
 CanCommit change (Some told) = CanChange change told

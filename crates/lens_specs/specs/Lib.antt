@@ -12,6 +12,4 @@ pub mod Lens
 pub mod Refusal
 pub mod Typing
 pub mod Delta
-pub mod Faults
-pub mod Lines
 pub mod Keeping

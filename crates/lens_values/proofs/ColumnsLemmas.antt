@@ -1,5 +1,5 @@
 -- What walks along columns show.
-use Rattle.std.proofs.Common.{◌≡◌, ℕ, ◌<◌, zero, suc, List, [], ◌∷◌, length, get_or, ap, sym, subst, ◌∙◌, refl, arith, Bool, true, false, cond, map}
+use Rattle.std.proofs.Common.{◌≡◌, ℕ, List, [], ◌∷◌, ap, sym, subst, ◌∙◌, refl, Bool, true, false, cond, map}
 use Rattle.std.specs.Prelude.{◌↔◌, ◌&&◌, IsTrue, not, filter, find, is_some, Option, Some, None, option_map}
 use Rattle.std.specs.List.{AllByRecursion, list_all}
 use Rattle.std.specs.List.Sorted.{IsStrictlySortedBy}
@@ -8,18 +8,14 @@ use Rattle.std.specs.declared.cmp.Ordering.TheVariants.{Less}
 use Rattle.std.specs.Cmp.{tied_itself}
 use Rattle.std.specs.Cmp.Lexicographic.{nat_list_cmp_total}
 use Rattle.std.specs.FinMap as finmap
-use Rattle.lens_values.specs.Columns.{Columns, ColumnsWithin, Fits, is_kind, is_other_kind, kind_at, kinds_differ, like_kinds, names, same_kind}
+use Rattle.lens_values.specs.Columns.{Columns, ColumnsWithin, is_kind, is_other_kind, kinds_differ, like_kinds, names}
 use Rattle.lens_values.specs.Order.{bytes_cmp}
-use Rattle.lens_values.specs.Row.{kind_pair}
-use Rattle.lens_values.specs.SortedMap.{keys_of, keys_rise, entries-from_entries}
+use Rattle.lens_values.specs.SortedMap.{keys_of, keys_rise}
 use Rattle.lens_values.specs.SortedSet as set
-use Rattle.lens_values.specs.Value.{kind_of}
-use Rattle.lens_values.specs.declared.row.Row.{Row}
 use Rattle.lens_values.specs.declared.value.Kind.{Kind}
-use Rattle.lens_values.specs.declared.value.Kind.TheVariants.{Int, Text, Flag}
-use Rattle.lens_values.specs.declared.value.Value.{Value}
 use Rattle.lens_values.proofs.Maps.{exact, is_tie}
 use Rattle.lens_values.proofs.Sets.{items-filter}
+use Rattle.lens_values.proofs.ValueLemmas.{kind_itself, same_is}
 
 -- ---- entries and what is found in them
 
@@ -39,7 +35,7 @@ module _ {X : Type 0} where
         | false ↦ λ _ all. cc
       ] refl all
 
-  nothing_above : (q : List ℕ) (es : List (List ℕ × X)) → AllByRecursion (λ k. bytes_cmp q k ≡ Less) (keys_of es) → finmap.find bytes_cmp q es ≡ None
+  pub nothing_above : (q : List ℕ) (es : List (List ℕ × X)) → AllByRecursion (λ k. bytes_cmp q k ≡ Less) (keys_of es) → finmap.find bytes_cmp q es ≡ None
   nothing_above q [] a = refl
   nothing_above q (e ∷ es) a = ap (λ b. cond b (Some e.1) (finmap.find bytes_cmp q es)) (ap is_eq a.0) ∙ nothing_above q es a.1
 
@@ -88,22 +84,6 @@ find-map p f (x ∷ xs) = ap (λ o. cond (p (f x)) (Some (f x)) o) (find-map p f
 
 -- ---- kinds
 
-pub kind_itself : (k : Kind) → same_kind k k ≡ true
-kind_itself Int = refl
-kind_itself Text = refl
-kind_itself Flag = refl
-
-same_is : (j k : Kind) → same_kind j k ≡ true → j ≡ k
-same_is Int Int e = refl
-same_is Int Text e = cc
-same_is Int Flag e = cc
-same_is Text Int e = cc
-same_is Text Text e = refl
-same_is Text Flag e = cc
-same_is Flag Int e = cc
-same_is Flag Text e = cc
-same_is Flag Flag e = refl
-
 there : (o : Option Kind) (k : Kind) → is_kind o k ≡ true → o ≡ Some k
 there None k e = cc
 there (Some j) k e = ap Some (same_is j k e)
@@ -137,46 +117,3 @@ clash_is U V =
     sym (ap (find test) shared ∙ find-filter test among (finmap.keys U) ∙ find-map (λ c. among c && test c) (λ e. e.0) (finmap.entries U)
     ∙ ap (option_map (λ e. e.0)) (find_alike _ _ (finmap.entries U) (each_entry (λ e. (among e.0 && test e.0) ≡ is_other_kind (finmap.get V e.0) e.1) (finmap.entries U) (keys_rise bytes_cmp U)
     (λ c k is. ap (λ b. b && test c) (known c) ∙ differ (finmap.get U c) (finmap.get V c) k (finmap.get-entries U c ∙ is)))))
-
--- ---- rows that fit
-
-kind_found : (b : Bool) (v : Value) (o : Option Kind) (p : Option Value) → o ≡ kind_at p → cond b (Some (kind_of v)) o ≡ kind_at (cond b (Some v) p)
-kind_found true v o p e = refl
-kind_found false v o p e = e
-
-find-kinds : (es : List (List ℕ × Value)) (c : List ℕ) → finmap.find bytes_cmp c (map kind_pair es) ≡ kind_at (finmap.find bytes_cmp c es)
-find-kinds [] c = refl
-find-kinds (e ∷ es) c = kind_found (eq_by_cmp bytes_cmp c e.0) e.1 _ _ (find-kinds es c)
-
-keys_of-kinds : (es : List (List ℕ × Value)) → keys_of (map kind_pair es) ≡ keys_of es
-keys_of-kinds [] = refl
-keys_of-kinds (e ∷ es) = ap (λ ks. e.0 ∷ ks) (keys_of-kinds es)
-
-kinds_at : (r : Row) (c : List ℕ) → finmap.find bytes_cmp c (map kind_pair (finmap.entries r)) ≡ kind_at (finmap.get r c)
-kinds_at r c = find-kinds (finmap.entries r) c ∙ ap kind_at (sym (finmap.get-entries r c))
-
--- a row fits where its names with the kinds of its values are the columns
-fits_is : (U : Columns) (r : Row) → (map kind_pair (finmap.entries r) ≡ finmap.entries U) ↔ Fits U r
-fits_is U r = (
-  λ is c. sym (kinds_at r c) ∙ ap (finmap.find bytes_cmp c) is ∙ sym (finmap.get-entries U c),
-  λ fits.
-      let rise : IsStrictlySortedBy bytes_cmp (keys_of (map kind_pair (finmap.entries r))) = subst (IsStrictlySortedBy bytes_cmp) (sym (keys_of-kinds (finmap.entries r))) (keys_rise bytes_cmp r) in
-      let made : Columns = finmap.from_entries (map kind_pair (finmap.entries r)) in
-      let same : made ≡ U = finmap.same_map nat_list_cmp_total exact _ _ (λ c. finmap.get-from_entries nat_list_cmp_total (map kind_pair (finmap.entries r)) c ∙ kinds_at r c ∙ fits c) in
-      sym (entries-from_entries bytes_cmp nat_list_cmp_total (map kind_pair (finmap.entries r)) rise) ∙ ap finmap.entries same,
-)
-
-at_same : {X Y : Type 0} (f : X → Y) (xs : List X) (i : ℕ) (x : X) → i < length xs → x ≡ get_or xs i x → (y : Y) → get_or (map f xs) i y ≡ f x
-at_same f [] i x l e y = absurd (omega arith)
-at_same f (z ∷ xs) zero x l e y = ap f (sym e)
-at_same f (z ∷ xs) (suc i) x l e y = at_same f xs i x (omega arith) e y
-
--- lists that differ at a place
-pub other_at : {X Y : Type 0} (f : X → Y) (xs : List X) (ys : List Y) (i : ℕ) (x : X) (y : Y) → i < length xs → x ≡ get_or xs i x → y ≡ get_or ys i y → map f xs ≡ ys → f x ≡ y
-other_at f xs ys i x y l e e' same = sym (at_same f xs i x l e y) ∙ ap (λ l. get_or l i y) same ∙ sym e'
-
-pub fits_along : (U : Columns) (r : Row) (ps : List (List ℕ × Value)) (cs : List (List ℕ × Kind)) → ps ≡ finmap.entries r → cs ≡ finmap.entries U → (map kind_pair ps ≡ cs) ↔ Fits U r
-fits_along U r ps cs e f = (
-  λ is. (fits_is U r).0 (ap (map kind_pair) (sym e) ∙ is ∙ f),
-  λ fits. ap (map kind_pair) e ∙ (fits_is U r).1 fits ∙ sym f,
-)

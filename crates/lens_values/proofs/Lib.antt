@@ -1,8 +1,10 @@
 pub mod ColumnsLemmas
 pub mod Dedup
+pub mod FitsLemmas
 pub mod Found
 pub mod Maps
 pub mod NameLemmas
+pub mod NamesLemmas
 pub mod Parts
 pub mod Places
 pub mod Repeated

@@ -12,7 +12,7 @@ use Rattle.std.proofs.lemmas.List.Kept.{IsStrictlySortedBy-filter}
 use Rattle.lens_values.specs.Keys.{first_with, is_among}
 use Rattle.lens_values.specs.Names.{Names}
 use Rattle.lens_values.specs.Order.{bytes_cmp}
-use Rattle.lens_values.specs.Part.{both_of, part_in, part_outside, from_entries-filter}
+use Rattle.lens_values.specs.Part.{override, restrict, exclude, from_entries-filter}
 use Rattle.lens_values.specs.SortedMap.{keys_of, keys_rise}
 use Rattle.lens_values.specs.SortedSet as set
 use Rattle.lens_values.proofs.Parts.{keys_of-filter}
@@ -50,21 +50,21 @@ module _ {X : Type 0} where
       (subst (IsStrictlySortedBy bytes_cmp) (sym (keys_of-filter p es)) (IsStrictlySortedBy-filter bytes_cmp p _ (entries_rise m es is)))
 
   pub both_made : (m n : MapOf X) (es fs all : EntriesOf X) → es ≡ finmap.entries m → fs ≡ finmap.entries n
-      → ((k : List ℕ) → first_with bytes_cmp (λ e. e.0) all k ≡ first_with bytes_cmp (λ e. e.0) (es ++ fs) k) → finmap.from_entries all ≡ both_of m n
+      → ((k : List ℕ) → first_with bytes_cmp (λ e. e.0) all k ≡ first_with bytes_cmp (λ e. e.0) (es ++ fs) k) → finmap.from_entries all ≡ override m n
   both_made m n es fs all e f alike = finmap.same_map nat_list_cmp_total exact _ _ (λ k.
       finmap.get-from_entries nat_list_cmp_total all k ∙ find-first_with k all ∙ ap (option_map (λ e. e.1)) (alike k)
       ∙ sym (find-first_with k (es ++ fs)) ∙ (λ i. finmap.find bytes_cmp k (e i ++ f i))
       ∙ sym (finmap.get-from_entries nat_list_cmp_total (finmap.entries m ++ finmap.entries n) k))
 
   pub part_made : (C : Names) (m : MapOf X) (ns : List (List ℕ)) (es part : EntriesOf X) → ns ≡ set.items C → es ≡ finmap.entries m
-      → part ≡ filter (λ e. is_among bytes_cmp ns e.0) es → finmap.from_entries part ≡ part_in C m
+      → part ≡ filter (λ e. is_among bytes_cmp ns e.0) es → finmap.from_entries part ≡ restrict C m
   part_made C m ns es part is e made =
       ap finmap.from_entries (made ∙ (λ i. filter (λ e. is_among bytes_cmp (is i) e.0) (e i)))
       ∙ from_entries-filter (is_among bytes_cmp (set.items C)) m
       ∙ (λ i. finmap.retain_keys m (λ c. sym (set.contains-items C c) i))
 
   pub outside_made : (C : Names) (m : MapOf X) (ns : List (List ℕ)) (es part : EntriesOf X) → ns ≡ set.items C → es ≡ finmap.entries m
-      → part ≡ filter (λ e. not (is_among bytes_cmp ns e.0)) es → finmap.from_entries part ≡ part_outside C m
+      → part ≡ filter (λ e. not (is_among bytes_cmp ns e.0)) es → finmap.from_entries part ≡ exclude C m
   outside_made C m ns es part is e made =
       ap finmap.from_entries (made ∙ (λ i. filter (λ e. not (is_among bytes_cmp (is i) e.0)) (e i)))
       ∙ from_entries-filter (λ c. not (is_among bytes_cmp (set.items C) c)) m

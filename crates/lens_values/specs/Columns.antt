@@ -3,14 +3,13 @@ use Rattle.std.specs.Prelude.{◌≡◌, ℕ, Bool, true, false, not, List, find
 use Rattle.std.specs.FinMap as map
 use Rattle.lens_values.specs.Order.{bytes_cmp}
 use Rattle.lens_values.specs.Names.{Names}
-use Rattle.lens_values.specs.Part.{both_of}
+use Rattle.lens_values.specs.Part.{override}
 use Rattle.lens_values.specs.SortedSet as set
-use Rattle.lens_values.specs.Value.{kind_of}
+use Rattle.lens_values.specs.Value.{fits, same_kind}
 use Rattle.lens_values.specs.declared.columns.ColumnsFault.{ColumnsFault}
 use Rattle.lens_values.specs.declared.columns.ColumnsFault.TheVariants.{KindClash}
 use Rattle.lens_values.specs.declared.row.Row.{Row}
 use Rattle.lens_values.specs.declared.value.Kind.{Kind}
-use Rattle.lens_values.specs.declared.value.Kind.TheVariants.{Int, Text, Flag}
 use Rattle.lens_values.specs.declared.value.Value.{Value}
 
 -- the kind of each column
@@ -21,30 +20,20 @@ Columns = map.FinMap bytes_cmp Kind
 unfoldable pub names : Columns → Names
 names U = set.from_list (map.keys U)
 
--- the kind of what a row has in a column
-abbrev pub kind_at : Option Value → Option Kind
-kind_at None = None
-kind_at (Some v) = Some (kind_of v)
+-- nothing where the column is not there, a value that fits where it is
+abbrev pub fits_at : Option Value → Option Kind → Bool
+fits_at None None = true
+fits_at None (Some k) = false
+fits_at (Some v) None = false
+fits_at (Some v) (Some k) = fits v k
 
--- the row has exactly these columns, each of its kind
+-- the row has exactly these columns, with a value that fits in each
 abbrev pub Fits : Columns → Row → Type 0
-Fits U r = (c : List ℕ) → kind_at (map.get r c) ≡ map.get U c
+Fits U r = (c : List ℕ) → fits_at (map.get r c) (map.get U c) ≡ true
 
 -- each column of U is in V, with the same kind
 abbrev pub ColumnsWithin : Columns → Columns → Type 0
 ColumnsWithin U V = (c : List ℕ) (k : Kind) → map.get U c ≡ Some k → map.get V c ≡ Some k
-
--- whether two kinds are the same
-abbrev pub same_kind : Kind → Kind → Bool
-same_kind Int Int = true
-same_kind Int Text = false
-same_kind Int Flag = false
-same_kind Text Int = false
-same_kind Text Text = true
-same_kind Text Flag = false
-same_kind Flag Int = false
-same_kind Flag Text = false
-same_kind Flag Flag = true
 
 -- whether the column is there with this kind
 abbrev pub is_kind : Option Kind → Kind → Bool
@@ -65,9 +54,9 @@ like_kinds j (Some k) = is_kind j k
 abbrev pub kinds_differ : Columns → Columns → Option (List ℕ)
 kinds_differ U V = find (λ c. not (like_kinds (map.get U c) (map.get V c))) (set.items (set.intersection (names U) (names V)))
 
--- the columns of both, unless one has a kind in each
+-- the columns of both, unless a shared one has two kinds
 abbrev pub union_from : Option (List ℕ) → Columns → Columns → Result Columns ColumnsFault
-union_from None U V = Ok (both_of U V)
+union_from None U V = Ok (override U V)
 union_from (Some c) U V = Err (KindClash c)
 
 -- the columns of both, or the least shared one with two kinds

@@ -1,6 +1,5 @@
 pub mod Bytes
 pub mod Columns
-pub mod Gives
 pub mod Keys
 pub mod Name
 pub mod NameBytes

@@ -3,7 +3,7 @@ use Rattle.std.specs.Prelude.{ℕ, List, if◌then◌else◌, Result, Ok, Err}
 use Rattle.lens_values.specs.Bytes.{is_name}
 use Rattle.lens_values.specs.declared.name.BadName.{BadName}
 
--- the answer where bytes are no name
+-- the fault of bytes that are not a name
 abbrev pub bad_name : BadName
 bad_name = record {}
 

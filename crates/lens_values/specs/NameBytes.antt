@@ -1,8 +1,8 @@
--- How a name lies in its array: the bytes, and zeros behind them.
+-- How an array holds a name: its bytes, and zeros after them.
 use Rattle.std.specs.Prelude.{◌≡◌, ℕ, ◌-◌, ◌≤◌, List, ◌++◌, length, take, replicate, IsTrue}
 use Rattle.lens_values.specs.Bytes.{is_name}
 
--- the bytes with zeros behind them, 32 in all
+-- the bytes with zeros after them, 32 in all
 abbrev pub padded : List ℕ → List ℕ
 padded v = v ++ replicate (32 - length v) 0
 

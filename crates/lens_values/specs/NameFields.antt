@@ -1,4 +1,4 @@
--- The fields of a name are given back by its bytes.
+-- The bytes of a name determine its fields.
 use Rattle.std.specs.Prelude.{◌≡◌, length, take}
 use Rattle.std.proofs.Common.{sym}
 use Rattle.std.proofs.lemmas.List.{length-take-le}

@@ -1,4 +1,4 @@
--- Maps from names: the part that stands at some of them, and two put together.
+-- Maps from names: the part at some of the names, and two maps put together.
 use Rattle.std.specs.Prelude.{◌≡◌, ℕ, Bool, true, false, not, List, [], ◌∷◌, ◌++◌, filter, refl, Option, Some, None}
 use Rattle.std.proofs.Common.{ap, sym, ◌∙◌, cond}
 use Rattle.std.specs.Ordering.{eq_by_cmp, is_eq}
@@ -11,17 +11,17 @@ use Rattle.lens_values.specs.Order.{bytes_cmp}
 use Rattle.lens_values.specs.Names.{Names}
 use Rattle.lens_values.specs.SortedSet as set
 
--- what the map has at the names of C
-abbrev pub part_in : {X : Type 0} → Names → map.FinMap bytes_cmp X → map.FinMap bytes_cmp X
-part_in C m = map.retain_keys m (set.contains C)
+-- the part of the map at the names of C
+abbrev pub restrict : {X : Type 0} → Names → map.FinMap bytes_cmp X → map.FinMap bytes_cmp X
+restrict C m = map.retain_keys m (set.contains C)
 
--- what the map has at other names
-abbrev pub part_outside : {X : Type 0} → Names → map.FinMap bytes_cmp X → map.FinMap bytes_cmp X
-part_outside C m = map.retain_keys m (λ c. not (set.contains C c))
+-- the part of the map at the other names
+abbrev pub exclude : {X : Type 0} → Names → map.FinMap bytes_cmp X → map.FinMap bytes_cmp X
+exclude C m = map.retain_keys m (λ c. not (set.contains C c))
 
--- what either map has, and the first's where both have something
-abbrev pub both_of : {X : Type 0} → map.FinMap bytes_cmp X → map.FinMap bytes_cmp X → map.FinMap bytes_cmp X
-both_of m n = map.from_entries (map.entries m ++ map.entries n)
+-- the entries of both maps, with the first's value where both have the name
+abbrev pub override : {X : Type 0} → map.FinMap bytes_cmp X → map.FinMap bytes_cmp X → map.FinMap bytes_cmp X
+override m n = map.from_entries (map.entries m ++ map.entries n)
 
 is_equal : (o : Ordering) → is_eq o ≡ true → o ≡ Equal
 is_equal Less e = cc

@@ -143,7 +143,7 @@ module _ {K : Type 0} {R : K → K → Ordering} where
   unfolding contains filter
   contains-filter_alike p s q alike = ap is_some (map.get-retain_keys s p q alike) ∙ or_none (p q) (map.get s q)
 
--- the empty set has nothing
+-- the empty set has no members
 pub contains-empty : {K : Type 0} (R : K → K → Ordering) (q : K) → contains (empty {R = R}) q ≡ false
 unfolding contains empty
 contains-empty R q = ap is_some (map.get-empty R q)

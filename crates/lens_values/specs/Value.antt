@@ -9,11 +9,27 @@ use Rattle.lens_values.specs.declared.value.Kind.TheVariants as kind
 use Rattle.lens_values.specs.declared.value.Value.{Value}
 use Rattle.lens_values.specs.declared.value.Value.TheVariants.{Int, Text, Flag}
 
--- numbers, texts or flags
+-- the kind of a value
 abbrev pub kind_of : Value → Kind
 kind_of (Int z) = kind.Int
 kind_of (Text bytes) = kind.Text
 kind_of (Flag b) = kind.Flag
+
+-- whether two kinds are the same
+abbrev pub same_kind : Kind → Kind → Bool
+same_kind kind.Int kind.Int = true
+same_kind kind.Int kind.Text = false
+same_kind kind.Int kind.Flag = false
+same_kind kind.Text kind.Int = false
+same_kind kind.Text kind.Text = true
+same_kind kind.Text kind.Flag = false
+same_kind kind.Flag kind.Int = false
+same_kind kind.Flag kind.Text = false
+same_kind kind.Flag kind.Flag = true
+
+-- whether the value fits the kind
+unfoldable pub fits : Value → Kind → Bool
+fits v k = same_kind (kind_of v) k
 
 -- numbers before texts before flags; then by number, by bytes, and false before true
 abbrev pub value_cmp : Value → Value → Ordering
@@ -27,7 +43,7 @@ value_cmp (Flag x) (Int y) = Greater
 value_cmp (Flag x) (Text y) = Greater
 value_cmp (Flag x) (Flag y) = bool_cmp x y
 
--- whether two rows have the same in a column
+-- whether both are the same value, or both are nothing
 abbrev pub same_value : Option Value → Option Value → Bool
 same_value None None = true
 same_value None (Some w) = false

@@ -5,17 +5,18 @@ ghost use Rattle.std.specs.List.{list_all};
 ghost use Rattle.std.specs.List.Sorted.{IsStrictlySortedBy};
 ghost use Rattle.std.specs.Ordering.{eq_by_cmp};
 ghost use Rattle.lens_values.specs.Columns.{ColumnsWithin, is_kind, is_other_kind, kinds_differ, names, union_of};
-ghost use Rattle.lens_values.specs.Gives.{Gives};
+ghost use Rattle.no_memory.specs.Gives.{Gives};
 ghost use Rattle.lens_values.specs.Order.{bytes_cmp};
-ghost use Rattle.lens_values.specs.Part.{both_of, part_in, part_outside};
+ghost use Rattle.lens_values.specs.Part.{override, restrict, exclude};
 ghost use Rattle.lens_values.specs.Repeats.{AreDistinct, IsLeastRepeated};
 ghost use Rattle.lens_values.specs.SortedMap.{keys_of};
 
-use crate::merging::{common, merged, missing};
+use crate::merging::{difference, intersection, union};
 use crate::name::Name;
 use crate::names::Names;
 use crate::sorting::{first_repeated, sorted_by_name};
-use crate::value::{Kind, NoMemory};
+use crate::value::Kind;
+use no_memory::NoMemory;
 use std::alloc::{AllocError, Global};
 use std::marker::Model;
 
@@ -43,14 +44,14 @@ impl Model for Columns {
     ghost invariant = { λ c. IsStrictlySortedBy bytes_cmp (keys_of c.pairs.items) };
 }
 
-/// Why pairs are no columns, or two columns have no union.
+/// Why pairs are not columns, or why there is no union.
 #[derive(Debug, PartialEq, Eq, Drop)]
 pub enum ColumnsFault {
-    /// The name stands in two pairs.
+    /// Two pairs have the name.
     Twice { name: Name },
     /// The name has two kinds.
     KindClash { name: Name },
-    /// Memory ran out.
+    /// Out of memory.
     NoMemory,
 }
 
@@ -77,11 +78,12 @@ impl From<NoMemory> for ColumnsFault {
 }
 
 impl Columns {
-    /// The columns of these pairs. `Twice` with the least name that stands in two of them.
+    /// The columns of these pairs. `Twice` with the least name that two of them have.
     pub fn new(_alloc: Global, pairs: Vec<(Name, Kind)>) -> Result<Columns, ColumnsFault>
         ensures ok { IfOk result (λ columns. columns ≡ map.from_entries pairs.items) }
         ensures distinct { OnOk result (AreDistinct (keys_of pairs.items)) }
-        ensures twice { (name : _) → result ≡ Err (ColumnsFault.Twice name) → IsLeastRepeated name (keys_of pairs.items) }
+        ensures twice { (name : _) → result ≡ Err (ColumnsFault.Twice name)
+            → IsLeastRepeated name (keys_of pairs.items) }
         ensures no_clash { (name : _) → result ≢ Err (ColumnsFault.KindClash name) }
     {
         let pairs = sorted_by_name(pairs)?;
@@ -139,19 +141,19 @@ impl Columns {
 
     /// The columns that are not among the names.
     pub fn minus(&self, alloc: Global, cols: &Names) -> Result<Columns, NoMemory>
-        ensures { IfOk result (λ rest. rest ≡ part_outside cols.now self.now) }
+        ensures { IfOk result (λ rest. rest ≡ exclude cols.now self.now) }
     {
         Ok(Columns {
-            pairs: missing(alloc, self.pairs(), cols.as_slice())?,
+            pairs: difference(alloc, self.pairs(), cols.as_slice())?,
         })
     }
 
     /// The columns that are among the names.
     pub fn meet(&self, alloc: Global, cols: &Names) -> Result<Columns, NoMemory>
-        ensures { IfOk result (λ part. part ≡ part_in cols.now self.now) }
+        ensures { IfOk result (λ part. part ≡ restrict cols.now self.now) }
     {
         Ok(Columns {
-            pairs: common(alloc, self.pairs(), cols.as_slice())?,
+            pairs: intersection(alloc, self.pairs(), cols.as_slice())?,
         })
     }
 
@@ -186,10 +188,10 @@ impl Columns {
 
     // The columns of both, with this one's kind where both have one.
     fn put_over(&self, alloc: Global, other: &Columns) -> Result<Columns, NoMemory>
-        ensures { IfOk result (λ both. both ≡ both_of self.now other.now) }
+        ensures { IfOk result (λ both. both ≡ override self.now other.now) }
     {
         Ok(Columns {
-            pairs: merged(alloc, self.pairs(), other.pairs())?,
+            pairs: union(alloc, self.pairs(), other.pairs())?,
         })
     }
 }
@@ -233,7 +235,8 @@ fn kind_in(pairs: &[(Name, Kind)], name: &Name) -> Option<Kind>
 
 // The first name that has another kind in the columns.
 fn first_clash(pairs: &[(Name, Kind)], columns: &Columns) -> Option<Name>
-    ensures { result ≡ option_map (λ e. e.0) (find (λ e. is_other_kind (map.get columns.now e.0) e.1) pairs.now) }
+    ensures { result ≡ option_map (λ e. e.0)
+        (find (λ e. is_other_kind (map.get columns.now e.0) e.1) pairs.now) }
 {
     for pair in pairs {
         if columns.clashes(pair) {

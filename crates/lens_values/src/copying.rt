@@ -1,11 +1,11 @@
-//! Copies that may find no memory.
+//! Copies, which may run out of memory.
 ghost use Rattle.std.specs.Prelude.{◌≡◌, ◌++◌, IfOk, OnOk};
 
 use crate::name::Name;
-use crate::value::NoMemory;
+use no_memory::NoMemory;
 use std::alloc::Global;
 
-/// A value of which an equal one can be made, if there is memory.
+/// A value that can be copied, unless memory runs out.
 pub trait TryClone {
     /// An equal value.
     fn try_clone(&self, alloc: Global) -> Result<Self, NoMemory>

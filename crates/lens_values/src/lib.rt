@@ -13,13 +13,11 @@ pub mod value;
 
 pub use columns::{Columns, ColumnsFault};
 pub use copying::{TryClone, copied};
-pub use merging::{Keyed, common, merged, missing};
+pub use merging::{Keyed, difference, intersection, union};
 pub use name::{BadName, Name};
 pub use names::Names;
+pub use no_memory::NoMemory;
 pub use row::{Row, RowFault};
-pub use sorting::{arrange, rising};
+pub use sorting::{into_sorted, sort_dedup};
 pub use text::{Text, TextFault};
-pub use value::{Kind, NoMemory, Value};
-
-#[cfg(test)]
-mod tests;
+pub use value::{Kind, Value};

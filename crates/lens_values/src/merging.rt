@@ -4,13 +4,13 @@ ghost use Rattle.std.specs.List.Sorted.{IsStrictlySortedBy};
 ghost use Rattle.lens_values.specs.Keys.{KeysRise, first_with, is_among};
 
 use crate::copying::{TryClone, append};
-use crate::value::NoMemory;
+use no_memory::NoMemory;
 use std::alloc::Global;
 use std::cmp::Ordering;
 
-/// What stands in a list by its key.
+/// A member of a list, with a key.
 pub trait Keyed<K> {
-    // What the value is ordered by.
+    // The key that the member is ordered by.
     ghost key: { Self → K };
 
     /// The key.
@@ -18,8 +18,9 @@ pub trait Keyed<K> {
         ensures { result.now ≡ key self.now };
 }
 
-/// Copies of the members of both lists in rising order of keys, and where both have a key the left one's.
-pub fn merged<K: Ord, T: Keyed<K> + TryClone + Drop>(
+/// Copies of the members of both lists in rising order of keys. Where both lists have a key, the
+/// left one's member is taken.
+pub fn union<K: Ord, T: Keyed<K> + TryClone + Drop>(
     alloc: Global,
     left: &[T],
     right: &[T],
@@ -27,7 +28,9 @@ pub fn merged<K: Ord, T: Keyed<K> + TryClone + Drop>(
     requires left { KeysRise K.cmp T.key left.now }
     requires right { KeysRise K.cmp T.key right.now }
     ensures order { IfOk result (λ all. KeysRise K.cmp T.key all.items) }
-    ensures members { IfOk result (λ all. (key : K) → first_with K.cmp T.key all.items key ≡ first_with K.cmp T.key (left.now ++ right.now) key) }
+    ensures members { IfOk result (λ all. (key : K)
+        → first_with K.cmp T.key all.items key
+        ≡ first_with K.cmp T.key (left.now ++ right.now) key) }
 {
     let mut all = Vec::with_capacity(alloc, left.len().saturating_add(right.len()))?;
     let mut i = 0;
@@ -55,14 +58,15 @@ pub fn merged<K: Ord, T: Keyed<K> + TryClone + Drop>(
 }
 
 /// Copies of the members of the list whose keys are not among the others.
-pub fn missing<K: Ord, T: Keyed<K> + TryClone + Drop>(
+pub fn difference<K: Ord, T: Keyed<K> + TryClone + Drop>(
     alloc: Global,
     list: &[T],
     keys: &[K],
 ) -> Result<Vec<T>, NoMemory>
     requires list { KeysRise K.cmp T.key list.now }
     requires keys { IsStrictlySortedBy K.cmp keys.now }
-    ensures { IfOk result (λ rest. rest.items ≡ filter (λ x. not (is_among K.cmp keys.now (T.key x))) list.now) }
+    ensures { IfOk result (λ rest.
+        rest.items ≡ filter (λ x. not (is_among K.cmp keys.now (T.key x))) list.now) }
 {
     let mut rest = Vec::new(alloc);
     let mut i = 0;
@@ -85,14 +89,15 @@ pub fn missing<K: Ord, T: Keyed<K> + TryClone + Drop>(
 }
 
 /// Copies of the members of the list whose keys are among the others.
-pub fn common<K: Ord, T: Keyed<K> + TryClone + Drop>(
+pub fn intersection<K: Ord, T: Keyed<K> + TryClone + Drop>(
     alloc: Global,
     list: &[T],
     keys: &[K],
 ) -> Result<Vec<T>, NoMemory>
     requires list { KeysRise K.cmp T.key list.now }
     requires keys { IsStrictlySortedBy K.cmp keys.now }
-    ensures { IfOk result (λ kept. kept.items ≡ filter (λ x. is_among K.cmp keys.now (T.key x)) list.now) }
+    ensures { IfOk result (λ kept.
+        kept.items ≡ filter (λ x. is_among K.cmp keys.now (T.key x)) list.now) }
 {
     let mut kept = Vec::with_capacity(alloc, list.len().min(keys.len()))?;
     let mut i = 0;

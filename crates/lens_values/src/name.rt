@@ -6,7 +6,7 @@ ghost use Rattle.lens_values.specs.Name.{name_of};
 
 use crate::copying::TryClone;
 use crate::merging::Keyed;
-use crate::value::NoMemory;
+use no_memory::NoMemory;
 use std::alloc::Global;
 use std::cmp::Ordering;
 use std::marker::Model;
@@ -38,7 +38,7 @@ impl Model for Name {
     ghost inverse_ok = { λ n kept. same_fields n kept };
 }
 
-/// Bytes that are no name.
+/// The bytes are not a name.
 #[derive(Clone, Copy, Debug, PartialEq, Eq)]
 pub struct BadName;
 
@@ -70,7 +70,7 @@ fn is_name(text: &[u8]) -> bool
 }
 
 impl Name {
-    /// The name of these bytes, or `BadName` where they are none.
+    /// The name of these bytes, or `BadName` where they are not one.
     pub fn new(s: &str) -> Result<Name, BadName>
         ensures { result ≡ name_of s.now }
     {

@@ -1,14 +1,14 @@
 //! A finite set of names.
 ghost use Rattle.std.specs.Prelude.{◌≡◌, IfOk};
 ghost use Rattle.std.specs.List.Sorted.{IsStrictlySortedBy};
-ghost use Rattle.lens_values.specs.Names.{share};
+ghost use Rattle.lens_values.specs.Names.{one, same_names, share};
 ghost use Rattle.lens_values.specs.Order.{bytes_cmp};
 ghost use Rattle.lens_values.specs.SortedSet as set;
 
-use crate::merging::{common, merged, missing};
+use crate::merging::{difference, intersection, union};
 use crate::name::Name;
-use crate::sorting::rising;
-use crate::value::NoMemory;
+use crate::sorting::into_sorted;
+use no_memory::NoMemory;
 use std::alloc::Global;
 use std::marker::Model;
 
@@ -34,12 +34,12 @@ impl Model for Names {
 }
 
 impl Names {
-    /// The set of these names, in whatever order and however often each stands there.
+    /// The set of these names, which may be in any order and repeat.
     pub fn new(_alloc: Global, list: Vec<Name>) -> Result<Names, NoMemory>
         ensures { IfOk result (λ names. names ≡ set.from_list list.items) }
     {
         Ok(Names {
-            names: rising(list),
+            names: into_sorted(list),
         })
     }
 
@@ -49,6 +49,15 @@ impl Names {
         ensures { result ≡ set.from_list list.items }
     {
         Names { names: list }
+    }
+
+    /// The set of one name.
+    pub fn single(alloc: Global, name: &Name) -> Result<Names, NoMemory>
+        ensures { IfOk result (λ single. single ≡ one name.now) }
+    {
+        let mut list = Vec::with_capacity(alloc, 1)?;
+        list.push(*name)?;
+        Names::new(alloc, list)
     }
 
     /// The names in rising order.
@@ -63,6 +72,13 @@ impl Names {
         ensures { result ≡ set.contains self.now name.now }
     {
         self.names.binary_search(name).is_ok()
+    }
+
+    /// Whether both sets have the same names.
+    pub fn same(&self, other: &Names) -> bool
+        ensures { result ≡ same_names self.now other.now }
+    {
+        self.as_slice() == other.as_slice()
     }
 
     /// Whether each name of this set is in the other.
@@ -85,7 +101,7 @@ impl Names {
         ensures { IfOk result (λ union. union ≡ set.union self.now other.now) }
     {
         Ok(Names {
-            names: merged(alloc, self.as_slice(), other.as_slice())?,
+            names: union(alloc, self.as_slice(), other.as_slice())?,
         })
     }
 
@@ -94,7 +110,7 @@ impl Names {
         ensures { IfOk result (λ rest. rest ≡ set.difference self.now other.now) }
     {
         Ok(Names {
-            names: missing(alloc, self.as_slice(), other.as_slice())?,
+            names: difference(alloc, self.as_slice(), other.as_slice())?,
         })
     }
 
@@ -103,7 +119,7 @@ impl Names {
         ensures { IfOk result (λ shared. shared ≡ set.intersection self.now other.now) }
     {
         Ok(Names {
-            names: common(alloc, self.as_slice(), other.as_slice())?,
+            names: intersection(alloc, self.as_slice(), other.as_slice())?,
         })
     }
 

@@ -1,28 +1,32 @@
 //! A row: a finite map from names to values.
-ghost use Rattle.std.specs.Prelude.{◌≡◌, ◌↔◌, IsTrue, IfOk, OnOk, map as list_map, option_copied};
+ghost use Rattle.std.specs.Prelude.{◌≡◌, ◌↔◌, IsTrue, IfOk, OnOk, option_copied};
 ghost use Rattle.std.specs.FinMap as map;
 ghost use Rattle.std.specs.List.Sorted.{IsStrictlySortedBy};
+ghost use Rattle.std.specs.Cmp.Lexicographic.{pointwise};
+ghost use Rattle.std.specs.List.{list_all, zip};
 ghost use Rattle.lens_values.specs.Columns.{Fits};
 ghost use Rattle.lens_values.specs.Order.{bytes_cmp};
-ghost use Rattle.lens_values.specs.Part.{both_of, part_in};
+ghost use Rattle.lens_values.specs.Part.{override, restrict};
 ghost use Rattle.lens_values.specs.Repeats.{AreDistinct, IsLeastRepeated};
-ghost use Rattle.lens_values.specs.Row.{agree, kind_pair};
+ghost use Rattle.lens_values.specs.Row.{agree, pair_fits};
 ghost use Rattle.lens_values.specs.SortedMap.{keys_of};
 ghost use Rattle.lens_values.specs.Value.{same_value};
 
 use crate::columns::Columns;
 use crate::copying::TryClone;
-use crate::merging::{Keyed, common, merged};
+use crate::merging::{Keyed, intersection, union};
 use crate::name::Name;
 use crate::names::Names;
 use crate::sorting::{first_repeated, sorted_by_name};
-use crate::value::{Kind, NoMemory, Value};
+use crate::value::{Kind, Value};
+use no_memory::NoMemory;
 use std::alloc::{AllocError, AllocFailed, Global};
 use std::cmp::Ordering;
 use std::marker::Model;
 use std::rc::Rc;
 
-/// A finite map from names to values, kept as its pairs in rising order of names. Copies share them.
+/// A finite map from names to values, kept as its pairs in rising order of names. Copies share
+/// them.
 #[derive(Debug, Drop)]
 pub struct Row {
     pairs: Rc<Vec<(Name, Value)>>,
@@ -46,12 +50,12 @@ impl Model for Row {
     ghost invariant = { λ r. IsStrictlySortedBy bytes_cmp (keys_of r.pairs.value.items) };
 }
 
-/// Why pairs are no row.
+/// Why pairs are not a row.
 #[derive(Debug, PartialEq, Eq, Drop)]
 pub enum RowFault {
-    /// The name stands in two pairs.
+    /// Two pairs have the name.
     Twice { name: Name },
-    /// Memory ran out.
+    /// Out of memory.
     NoMemory,
 }
 
@@ -78,11 +82,12 @@ impl<T: Drop> From<AllocFailed<T>> for RowFault {
 }
 
 impl Row {
-    /// The row of these pairs. `Twice` with the least name that stands in two of them.
+    /// The row of these pairs. `Twice` with the least name that two of them have.
     pub fn new(alloc: Global, pairs: Vec<(Name, Value)>) -> Result<Row, RowFault>
         ensures ok { IfOk result (λ row. row ≡ map.from_entries pairs.items) }
         ensures distinct { OnOk result (AreDistinct (keys_of pairs.items)) }
-        ensures twice { (name : _) → result ≡ Err (RowFault.Twice name) → IsLeastRepeated name (keys_of pairs.items) }
+        ensures twice { (name : _) → result ≡ Err (RowFault.Twice name)
+            → IsLeastRepeated name (keys_of pairs.items) }
     {
         let pairs = sorted_by_name(pairs)?;
         match first_repeated(&pairs) {
@@ -117,21 +122,21 @@ impl Row {
         self.pairs.as_slice()
     }
 
-    /// The part of the row that stands in these columns.
+    /// The part of the row in these columns.
     pub fn project(&self, alloc: Global, cols: &Names) -> Result<Row, NoMemory>
-        ensures { IfOk result (λ part. part ≡ part_in cols.now self.now) }
+        ensures { IfOk result (λ part. part ≡ restrict cols.now self.now) }
     {
-        Row::from_rising(alloc, common(alloc, self.pairs(), cols.as_slice())?)
+        Row::from_rising(alloc, intersection(alloc, self.pairs(), cols.as_slice())?)
     }
 
     /// The row with the columns of both, and with the other's value where both have one.
     pub fn paste(&self, alloc: Global, over: &Row) -> Result<Row, NoMemory>
-        ensures { IfOk result (λ both. both ≡ both_of over.now self.now) }
+        ensures { IfOk result (λ both. both ≡ override over.now self.now) }
     {
-        Row::from_rising(alloc, merged(alloc, over.pairs(), self.pairs())?)
+        Row::from_rising(alloc, union(alloc, over.pairs(), self.pairs())?)
     }
 
-    /// Whether both rows have the same in each of these columns.
+    /// Whether both rows have the same value, or none, in each of these columns.
     #[tactic(auto, unfolding(crate::specs::Row::agree))]
     pub fn agree_on(&self, other: &Row, cols: &Names) -> bool
         ensures { result ≡ agree cols.now self.now other.now }
@@ -141,11 +146,11 @@ impl Row {
             .all(|name| self.agrees_at(other, name))
     }
 
-    /// Whether the row has exactly these columns, each with a value of its kind.
+    /// Whether the row has exactly these columns, with a value that fits in each.
     pub fn fits(&self, columns: &Columns) -> bool
         ensures { IsTrue result ↔ Fits columns.now self.now }
     {
-        have_kinds(self.pairs(), columns.pairs())
+        all_fit(self.pairs(), columns.pairs())
     }
 
     /// An equal row.
@@ -157,7 +162,7 @@ impl Row {
         })
     }
 
-    // Whether both rows have the same in this column.
+    // Whether both rows have the same value, or none, in this column.
     fn agrees_at(&self, other: &Row, name: &Name) -> bool
         ensures { result ≡ same_value (map.get self.now name.now) (map.get other.now name.now) }
     {
@@ -169,26 +174,28 @@ impl Row {
     }
 }
 
-// Whether the names are these, each with a value of its kind.
-fn have_kinds(pairs: &[(Name, Value)], columns: &[(Name, Kind)]) -> bool
-    ensures { IsTrue result ↔ (list_map kind_pair pairs.now ≡ columns.now) }
+// Whether the pairs are in these columns, each with a value that fits.
+fn all_fit(pairs: &[(Name, Value)], columns: &[(Name, Kind)]) -> bool
+    ensures { result ≡ pointwise pair_fits pairs.now columns.now }
 {
-    if pairs.len() != columns.len() {
-        return false;
-    }
-    for i in 0..pairs.len() {
-        if !has_kind(&pairs[i], &columns[i]) {
-            return false;
-        }
-    }
-    true
+    pairs.len() == columns.len() && each_fits(pairs, columns)
 }
 
-// Whether the name is that of the column, and the value of its kind.
-fn has_kind(pair: &(Name, Value), column: &(Name, Kind)) -> bool
-    ensures { IsTrue result ↔ (kind_pair pair.now ≡ column.now) }
+// Whether each pair is in the column at its place, with a value that fits.
+fn each_fits(pairs: &[(Name, Value)], columns: &[(Name, Kind)]) -> bool
+    ensures { result ≡ list_all (λ e. pair_fits e.0 e.1) (zip pairs.now columns.now) }
 {
-    pair.0 == column.0 && pair.1.kind() == column.1
+    pairs
+        .iter()
+        .zip(columns)
+        .all(|(pair, column)| pair_fits(pair, column))
+}
+
+// Whether the value is in this column, and fits its kind.
+fn pair_fits(pair: &(Name, Value), column: &(Name, Kind)) -> bool
+    ensures { result ≡ pair_fits pair.now column.now }
+{
+    pair.0 == column.0 && pair.1.fits(column.1)
 }
 
 // The value of the first pair with this name.

@@ -1,9 +1,9 @@
 //! A text value.
 ghost use Rattle.std.specs.Prelude.{◌≡◌, List, ℕ, IfOk, Ok, string_bytes};
-ghost use Rattle.lens_values.specs.Gives.{Gives};
+ghost use Rattle.no_memory.specs.Gives.{Gives};
 ghost use Rattle.lens_values.specs.Text.{text_of};
 
-use crate::value::NoMemory;
+use no_memory::NoMemory;
 use std::alloc::{AllocError, Global};
 use std::cmp::Ordering;
 use std::marker::Model;
@@ -28,14 +28,14 @@ impl Model for Text {
     ghost invariant = { λ t. IsTrue (is_text (string_bytes t.inner)) };
 }
 
-/// Why bytes are no text.
+/// Why bytes are not a text.
 #[derive(Debug, PartialEq, Eq, Drop)]
 pub enum TextFault {
     /// More than 4,096 bytes.
     TooLong,
     /// U+0000 is among them.
     HasNul,
-    /// Memory ran out.
+    /// Out of memory.
     NoMemory,
 }
 
@@ -51,7 +51,8 @@ impl From<AllocError> for TextFault {
 }
 
 impl Text {
-    /// The text of these bytes. `TooLong` past 4,096 bytes, and else `HasNul` where U+0000 is among them.
+    /// The text of these bytes. `TooLong` where there are more than 4,096, and otherwise
+    /// `HasNul` where U+0000 is among them.
     pub fn new(alloc: Global, s: &str) -> Result<Text, TextFault>
         ensures { Gives TextFault.NoMemory result (text_of s.now) }
     {

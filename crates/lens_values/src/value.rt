@@ -1,26 +1,12 @@
 //! A value and its kind.
-ghost use Rattle.std.specs.Prelude.{◌≡◌, IfOk};
-ghost use Rattle.lens_values.specs.Value.{kind_of};
+ghost use Rattle.std.specs.Prelude.{◌≡◌, IfOk, Some};
+ghost use Rattle.lens_values.specs.Columns.{fits_at};
+ghost use Rattle.lens_values.specs.Value.{fits, kind_of};
 
 use crate::copying::TryClone;
 use crate::text::Text;
-use std::alloc::{AllocError, AllocFailed, Global};
-
-/// Memory ran out.
-#[derive(Clone, Copy, Debug, PartialEq, Eq)]
-pub struct NoMemory;
-
-impl From<AllocError> for NoMemory {
-    fn from(_: AllocError) -> NoMemory {
-        NoMemory
-    }
-}
-
-impl<T: Drop> From<AllocFailed<T>> for NoMemory {
-    fn from(_: AllocFailed<T>) -> NoMemory {
-        NoMemory
-    }
-}
+use no_memory::NoMemory;
+use std::alloc::Global;
 
 /// What a column holds: numbers, texts or truth values.
 #[derive(Clone, Copy, Debug, PartialEq, Eq, PartialOrd, Ord)]
@@ -47,6 +33,24 @@ impl Value {
             Value::Int(_) => Kind::Int,
             Value::Text(_) => Kind::Text,
             Value::Flag(_) => Kind::Flag,
+        }
+    }
+
+    /// Whether the value fits the kind.
+    #[tactic(auto, unfolding(crate::specs::Value::fits))]
+    pub fn fits(&self, kind: Kind) -> bool
+        ensures { result ≡ fits self.now kind }
+    {
+        self.kind() == kind
+    }
+
+    /// Whether the column of this kind is there, and the value fits it.
+    pub fn fits_at(&self, kind: Option<Kind>) -> bool
+        ensures { result ≡ fits_at (Some self.now) kind }
+    {
+        match kind {
+            Some(kind) => self.fits(kind),
+            None => false,
         }
     }
 

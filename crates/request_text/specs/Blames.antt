@@ -1,19 +1,22 @@
 -- What the faults of members stand for.
-use Rattle.std.specs.Prelude.{◌≡◌, ℕ, List, Result, Ok, Err}
+use Rattle.std.specs.Prelude.{◌≡◌, ℕ, List, Option, Some, None, Result, IfSome}
 use Rattle.request_text.specs.declared.member.MemberFault.{MemberFault}
 use Rattle.request_text.specs.declared.member.MemberFault.TheVariants as fault
+use Rattle.request_text.specs.Told.{RefusesBy, GivesTold}
 
--- the member of this name is wrong; want of memory is free
+-- the member that the fault says is wrong
+abbrev pub wrong_member : MemberFault → Option (List ℕ)
+wrong_member (fault.Wrong member) = Some member
+wrong_member fault.NoMemory = None
+
+-- the member of this name is wrong, or memory ran out
 abbrev pub Blames : MemberFault → List ℕ → Type 0
-Blames (fault.Wrong member) name = name ≡ member
-Blames fault.NoMemory name = Unit {0}
+Blames f name = IfSome (wrong_member f) (λ member. name ≡ member)
 
--- a refusal of the member that the fault names
+-- the expected refusal names the wrong member
 abbrev pub Refuses : {B : Type 0} → MemberFault → Result B (List ℕ) → Type 0
-Refuses (fault.Wrong member) expected = expected ≡ Err member
-Refuses fault.NoMemory expected = Unit {0}
+Refuses f expected = RefusesBy wrong_member f expected
 
--- what is found is what is expected, as it is seen, or its refusal; want of memory is free
+-- the value is the expected one, seen through the view, or the wrong member is the expected one
 abbrev pub Finds : {A B : Type 0} → (A → B) → Result A MemberFault → Result B (List ℕ) → Type 0
-Finds shown (Ok a) expected = expected ≡ Ok (shown a)
-Finds shown (Err f) expected = Refuses f expected
+Finds view found expected = GivesTold view wrong_member found expected

@@ -6,4 +6,5 @@ pub mod Printing
 pub mod ReplyBytes
 pub mod Requests
 pub mod RowFaults
-pub mod WantedMembers
+pub mod Told
+pub mod RequestFields

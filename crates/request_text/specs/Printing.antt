@@ -1,4 +1,4 @@
--- What is added to the text of a writer, and the line that it becomes.
+-- The tokens that a call adds to a writer, and the line of a JSON value.
 use Rattle.std.specs.Prelude.{◌≡◌, ℕ, List, [], ◌∷◌, ◌++◌}
 use Rattle.json.specs.Token.{Token}
 use Rattle.json.specs.Tree.{json_tokens}
@@ -10,7 +10,7 @@ use Rattle.serde_json.specs.Written.{compact_text, outline}
 abbrev pub data_tokens : Data → List Token
 data_tokens d = json_tokens (outline d)
 
--- these tokens come after the text that was there
+-- these tokens were added at the end of the text
 pub record Adds (old new : Written) (tokens : List Token) : Type 0 where
   pub before : new.before ≡ old.before
   pub after : new.tokens ≡ old.tokens ++ tokens

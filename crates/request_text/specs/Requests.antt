@@ -1,5 +1,5 @@
 -- What the requests of the code stand for.
-use Rattle.std.specs.Prelude.{◌≡◌, ℕ, List, Option, Some, option_map, option_and_then, codes, Result, Ok, Err}
+use Rattle.std.specs.Prelude.{ℕ, List, Option, Some, None, option_map, option_and_then, codes, Result}
 use Rattle.serde_json.specs.Data.{Items, Members}
 use Rattle.serde_json.specs.Find.{as_array, get_member}
 use Rattle.lens_specs.specs.Relation.{Name}
@@ -9,6 +9,7 @@ use Rattle.request_text.specs.declared.request.Request.{Request}
 use Rattle.request_text.specs.declared.request.Request.TheVariants.{Define, Read, Put, Edit, Preview, Describe, List as ToList}
 use Rattle.request_text.specs.declared.request.RequestFault.{RequestFault}
 use Rattle.request_text.specs.declared.request.RequestFault.TheVariants as fault
+use Rattle.request_text.specs.Told.{RefusesBy, GivesTold}
 
 -- the request that the definitions speak of
 abbrev pub request_view : Request → spec.Request
@@ -20,16 +21,19 @@ request_view (Preview view remove add on) = spec.preview view remove add on
 request_view (Describe view) = spec.describe view
 request_view ToList = spec.list
 
--- the fault tells the refusal; want of memory is free
-abbrev pub Tells : RequestFault → Result spec.Request Answer → Type 0
-Tells fault.NotJson expected = expected ≡ Err not_json
-Tells (fault.BadRequest member) expected = expected ≡ Err (bad_request member)
-Tells fault.NoMemory expected = Unit {0}
+-- the answer that refuses the line
+abbrev pub refusal : RequestFault → Option Answer
+refusal fault.NotJson = Some not_json
+refusal (fault.BadRequest member) = Some (bad_request member)
+refusal fault.NoMemory = None
 
--- what is read is what is expected: the request, or its refusal; want of memory is free
+-- the expected refusal is the one that the fault tells
+abbrev pub Tells : RequestFault → Result spec.Request Answer → Type 0
+Tells f expected = RefusesBy refusal f expected
+
+-- the request is the expected one, or the fault tells the expected refusal
 abbrev pub Reads : Result Request RequestFault → Result spec.Request Answer → Type 0
-Reads (Ok request) expected = expected ≡ Ok (request_view request)
-Reads (Err f) expected = Tells f expected
+Reads read expected = GivesTold request_view refusal read expected
 
 -- the name that is there
 abbrev pub view_in : Members → Option Name

@@ -1,5 +1,5 @@
 -- What the faults of rows stand for.
-use Rattle.std.specs.Prelude.{◌≡◌, ℕ, List, Result, Ok, Err}
+use Rattle.std.specs.Prelude.{ℕ, List, Option, Some, None, Result, Ok, Err}
 use Rattle.lens_values.specs.SortedSet as set
 use Rattle.lens_values.specs.declared.row.Row.{Row}
 use Rattle.lens_specs.specs.Relation.{Rows}
@@ -8,16 +8,20 @@ use Rattle.request_text.specs.declared.member.MemberFault.{MemberFault}
 use Rattle.request_text.specs.declared.member.MemberFault.TheVariants as member
 use Rattle.request_text.specs.declared.rows.RowsFault.{RowsFault}
 use Rattle.request_text.specs.declared.rows.RowsFault.TheVariants as fault
+use Rattle.request_text.specs.Told.{RefusesBy, GivesTold}
 
--- the fault tells the bad row: its index and its least wrong name; want of memory is free
+-- the bad row that the fault tells: its index and its least wrong name
+abbrev pub bad_row : RowsFault → Option BadRow
+bad_row (fault.BadRow index name) = Some (index, name)
+bad_row fault.NoMemory = None
+
+-- the expected refusal is the bad row that the fault tells
 abbrev pub TellsRow : {A : Type 0} → RowsFault → Result A BadRow → Type 0
-TellsRow (fault.BadRow index name) expected = expected ≡ Err (index, name)
-TellsRow fault.NoMemory expected = Unit {0}
+TellsRow f expected = RefusesBy bad_row f expected
 
--- what is given is what is expected, as it is seen, or its bad row; want of memory is free
+-- the value is the expected one, seen through the view, or the bad row is the expected one
 abbrev pub GivesRows : {A B : Type 0} → (A → B) → Result A RowsFault → Result B BadRow → Type 0
-GivesRows shown (Ok a) expected = expected ≡ Ok (shown a)
-GivesRows shown (Err f) expected = TellsRow f expected
+GivesRows view given expected = GivesTold view bad_row given expected
 
 -- the set of the rows, or the bad row
 abbrev pub set_of : Result (List Row) BadRow → Result Rows BadRow

@@ -1,4 +1,4 @@
-//! The lines of what is accepted. `NoMemory` is the only error.
+//! Replies to requests that succeed. `NoMemory` is the only error.
 ghost use Rattle.std.specs.Prelude.{◌≡◌, IfOk, map};
 ghost use Rattle.server_specs.specs.Answer as spec;
 ghost use Rattle.signed_delta.specs.Tables.{table_delta};
@@ -39,7 +39,8 @@ pub fn shown_text(alloc: Global, rows: &RowSet, version: u64) -> Result<Reply, N
 
 /// The line of a put that made these changes, with the version after it.
 pub fn changed_text(alloc: Global, changed: &[TableDelta], version: u64) -> Result<Reply, NoMemory>
-    ensures { IfOk result (λ reply. reply ≡ spec.text (spec.changed (map table_delta changed.now) version)) }
+    ensures { IfOk result (λ reply.
+        reply ≡ spec.text (spec.changed (map table_delta changed.now) version)) }
 {
     let mut out = begun(alloc)?;
     print_changes(&mut out, "changed", changed)?;
@@ -48,7 +49,8 @@ pub fn changed_text(alloc: Global, changed: &[TableDelta], version: u64) -> Resu
     ended(out)
 }
 
-/// The line that describes a view: its columns, dependencies and predicate, and the tables under it, at this version.
+/// The line that describes a view: its columns, dependencies and predicate, and the tables under
+/// it, at this version.
 pub fn described_text(
     alloc: Global,
     columns: &Columns,
@@ -57,7 +59,9 @@ pub fn described_text(
     tables: &Names,
     version: u64,
 ) -> Result<Reply, NoMemory>
-    ensures { IfOk result (λ reply. reply ≡ spec.text (spec.described columns.now edges.now (predicate_view conjuncts.now) tables.now version)) }
+    ensures { IfOk result (λ reply.
+        reply ≡ spec.text
+        (spec.described columns.now edges.now (predicate_view conjuncts.now) tables.now version)) }
 {
     let mut out = begun(alloc)?;
     print_columns(&mut out, "columns", columns)?;

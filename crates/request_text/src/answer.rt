@@ -4,22 +4,20 @@ ghost use Rattle.server_specs.specs.Answer.{text};
 ghost use Rattle.request_text.specs.Answers.{answer_view};
 
 use crate::accepted::{changed_text, defined_text, described_text, listed_text, shown_text};
-use crate::changes::Changes;
-use crate::edges::Edges;
-use crate::member::Member;
-use crate::refusals::{
+use crate::definition_errors::{
     default_refused_text, kind_clash_text, mixed_conjunct_text, name_taken_text,
     no_such_dependency_text, not_determined_text, not_tree_text, pred_kind_text,
     side_mentions_output_text, source_mentions_output_text, syntax_text, table_twice_text,
     too_large_text, unknown_column_text, unknown_name_text,
 };
-use crate::rejections::{
-    bad_request_text, bad_row_text, clash_text, off_predicate_text, stale_text,
-};
+use crate::lists::{Changes, Edges, Texts};
+use crate::member::Member;
 use crate::reply::{
     Reply, long_reply, memory_reply, not_json_reply, store_fault_reply, unbuilt_reply,
 };
-use crate::texts::Texts;
+use crate::request_errors::{
+    bad_request_text, bad_row_text, clash_text, off_predicate_text, stale_text,
+};
 use fd_tree::Edge;
 use lens_pred::Formulas;
 use lens_values::{Columns, Name, Names, NoMemory, Row};
@@ -27,7 +25,7 @@ use row_sets::RowSet;
 use std::alloc::Global;
 use view_lang::{Limit, Side};
 
-/// Which of a request's lists of rows.
+/// One of the lists of rows in a request.
 #[derive(Clone, Copy, Debug)]
 pub enum RowList {
     /// The rows of a put.
@@ -38,14 +36,14 @@ pub enum RowList {
     Add,
 }
 
-/// What a line is answered.
+/// The answer to a line.
 #[derive(Debug, Drop)]
 pub enum Answer {
     /// A definition was taken; the version after it.
     Defined {
         version: u64,
     },
-    /// The rows of a view, and the version at which they stand.
+    /// The rows of a view, and the version at which they were read.
     Shown {
         rows: RowSet,
         version: u64,
@@ -55,7 +53,8 @@ pub enum Answer {
         changed: Changes,
         version: u64,
     },
-    /// What a view is: its columns, the tree of its dependencies, its predicate and the tables under it; and the version.
+    /// What a view is: its columns, the tree of its dependencies, its predicate and the tables
+    /// under it; and the version.
     Described {
         columns: Columns,
         edges: Edges,
@@ -94,7 +93,7 @@ pub enum Answer {
     UnknownColumn {
         name: Name,
     },
-    /// The column has two kinds in a join, or the value that is to fill it has another one.
+    /// The column has two kinds in a join, or its default has another kind than the column.
     KindClash {
         name: Name,
     },
@@ -107,11 +106,13 @@ pub enum Answer {
     PredKind {
         name: Name,
     },
-    /// The least column that the source's predicate mentions although its dependencies determine it.
+    /// The least column that the source's predicate mentions although its dependencies determine
+    /// it.
     SourceMentionsOutput {
         col: Name,
     },
-    /// No dependency has the given columns as its left side and the one to drop on its right, or this stands in a left side.
+    /// No dependency has the given columns as its left side and the one to drop on its right, or
+    /// this stands in a left side.
     NoSuchDependency {
         col: Name,
     },
@@ -119,13 +120,14 @@ pub enum Answer {
     MixedConjunct {
         index: usize,
     },
-    /// The predicate refuses the value that fills the dropped column.
+    /// The predicate refuses the default of the dropped column.
     DefaultRefused,
     /// The least column of a join's right side that the shared columns do not determine.
     NotDetermined {
         col: Name,
     },
-    /// The least column that the predicate of a join's side mentions although its dependencies determine it.
+    /// The least column that the predicate of a join's side mentions although its dependencies
+    /// determine it.
     SideMentionsOutput {
         side: Side,
         col: Name,
@@ -144,7 +146,8 @@ pub enum Answer {
         index: usize,
         col: Member,
     },
-    /// The change rests on a version before the last change of the view's tables; that version, and the one now.
+    /// The change rests on a version before the last change of the view's tables; that version, and
+    /// the one now.
     Stale {
         changed_at: u64,
         version: u64,
@@ -153,7 +156,8 @@ pub enum Answer {
     OffPredicate {
         row: Row,
     },
-    /// The first edge that the sent rows do not meet, and the least two rows that do not, in order.
+    /// The first dependency that the sent rows break, and the least two rows that break it, in
+    /// order.
     Clash {
         edge: Edge,
         first: Row,

@@ -1,4 +1,4 @@
-//! What describes a view or lists definitions, printed token by token.
+//! Descriptions of views and lists of definitions, printed token by token.
 ghost use Rattle.std.specs.Prelude.{◌≡◌, [], ◌∷◌, OnOk};
 ghost use Rattle.std.specs.FinMap as finmap;
 ghost use Rattle.json.specs.Token.{key, string};
@@ -19,7 +19,8 @@ use view_lang::print_formula;
 
 /// A member that is an object from the columns to the words of their kinds.
 pub(crate) fn print_columns(out: &mut Writer, name: &str, columns: &Columns) -> Result<(), NoMemory>
-    ensures { OnOk result (Adds out.old out.new (key name.now ∷ data_tokens (object (columns_data (finmap.entries columns.now))))) }
+    ensures { OnOk result (Adds out.old out.new
+        (key name.now ∷ data_tokens (object (columns_data (finmap.entries columns.now))))) }
 {
     out.key(name)?;
     print_kinds(out, columns)?;
@@ -27,7 +28,8 @@ pub(crate) fn print_columns(out: &mut Writer, name: &str, columns: &Columns) -> 
 }
 
 fn print_kinds(out: &mut Writer, columns: &Columns) -> Result<(), NoMemory>
-    ensures { OnOk result (Adds out.old out.new (data_tokens (object (columns_data (finmap.entries columns.now))))) }
+    ensures { OnOk result (Adds out.old out.new
+        (data_tokens (object (columns_data (finmap.entries columns.now))))) }
 {
     out.begin_object()?;
     for column in columns.pairs() {
@@ -49,7 +51,8 @@ fn kind_word(kind: Kind) -> &'static str
 
 /// A member that is an array of edges.
 pub(crate) fn print_edges(out: &mut Writer, name: &str, edges: &[Edge]) -> Result<(), NoMemory>
-    ensures { OnOk result (Adds out.old out.new (key name.now ∷ data_tokens (array (edges_data edges.now)))) }
+    ensures { OnOk result (Adds out.old out.new
+        (key name.now ∷ data_tokens (array (edges_data edges.now)))) }
 {
     out.key(name)?;
     print_edge_list(out, edges)?;
@@ -74,7 +77,8 @@ pub(crate) fn print_conjuncts(
     name: &str,
     conjuncts: &[Formula],
 ) -> Result<(), NoMemory>
-    ensures { OnOk result (Adds out.old out.new (key name.now ∷ data_tokens (array (conjuncts_data (predicate_view conjuncts.now))))) }
+    ensures { OnOk result (Adds out.old out.new
+        (key name.now ∷ data_tokens (array (conjuncts_data (predicate_view conjuncts.now))))) }
 {
     out.key(name)?;
     print_conjunct_list(alloc, out, conjuncts)?;
@@ -86,7 +90,8 @@ fn print_conjunct_list(
     out: &mut Writer,
     conjuncts: &[Formula],
 ) -> Result<(), NoMemory>
-    ensures { OnOk result (Adds out.old out.new (data_tokens (array (conjuncts_data (predicate_view conjuncts.now))))) }
+    ensures { OnOk result (Adds out.old out.new
+        (data_tokens (array (conjuncts_data (predicate_view conjuncts.now))))) }
 {
     out.begin_array()?;
     for conjunct in conjuncts {
@@ -97,7 +102,8 @@ fn print_conjunct_list(
 }
 
 fn print_conjunct(alloc: Global, out: &mut Writer, conjunct: &Formula) -> Result<(), NoMemory>
-    ensures { OnOk result (Adds out.old out.new (string (printed_formula (formula_view conjunct.now)) ∷ [])) }
+    ensures { OnOk result (Adds out.old out.new
+        (string (printed_formula (formula_view conjunct.now)) ∷ [])) }
 {
     let text = print_formula(alloc, conjunct)?;
     out.string(text.as_str())?;
@@ -106,7 +112,8 @@ fn print_conjunct(alloc: Global, out: &mut Writer, conjunct: &Formula) -> Result
 
 /// A member that is an array of texts.
 pub(crate) fn print_texts(out: &mut Writer, name: &str, texts: &[Text]) -> Result<(), NoMemory>
-    ensures { OnOk result (Adds out.old out.new (key name.now ∷ data_tokens (array (texts_data texts.now)))) }
+    ensures { OnOk result (Adds out.old out.new
+        (key name.now ∷ data_tokens (array (texts_data texts.now)))) }
 {
     out.key(name)?;
     print_text_list(out, texts)?;

@@ -14,7 +14,7 @@ use lens_values::{Name, NoMemory, Row, Text, TextFault, Value};
 use serde_json::{Map, Value as Json};
 use std::alloc::Global;
 
-/// What a line is as JSON, or nothing where it is none.
+/// Reads a line as JSON. `None` where it is no JSON.
 pub(crate) fn json_in(alloc: Global, line: &[u8]) -> Result<Option<Json>, NoMemory>
     ensures { IfOk result (λ found. option_map view found ≡ json_of line.now) }
 {
@@ -73,7 +73,8 @@ pub(crate) fn name_member(json: &Json) -> Option<Name>
 
 /// The member of this name.
 pub(crate) fn member<'a>(members: &'a Map<String, Json>, name: &str) -> Option<&'a Json>
-    ensures { option_map (λ json. view json.now) result ≡ get_member name.now (members_view members.now.entries) }
+    ensures { option_map (λ json. view json.now) result
+        ≡ get_member name.now (members_view members.now.entries) }
 {
     members.get(name)
 }

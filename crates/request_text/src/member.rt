@@ -21,7 +21,7 @@ impl Model for Member {
     ghost view = { λ m. string_bytes m.text };
 }
 
-/// Why members say nothing: one of them is wrong, or memory ran out.
+/// Why members cannot be read: one of them is wrong, or memory ran out.
 #[derive(Debug, Drop)]
 pub(crate) enum MemberFault {
     Wrong { member: Member },

@@ -119,7 +119,8 @@ pub(crate) fn print_pair(
     first: &Row,
     second: &Row,
 ) -> Result<(), NoMemory>
-    ensures { OnOk result (Adds out.old out.new (key name.now ∷ data_tokens (pair_data first.now second.now))) }
+    ensures { OnOk result (Adds out.old out.new
+        (key name.now ∷ data_tokens (pair_data first.now second.now))) }
 {
     out.key(name)?;
     out.begin_array()?;
@@ -135,7 +136,8 @@ pub(crate) fn print_changes(
     name: &str,
     changes: &[TableDelta],
 ) -> Result<(), NoMemory>
-    ensures { OnOk result (Adds out.old out.new (key name.now ∷ data_tokens (array (changes_data (map table_delta changes.now))))) }
+    ensures { OnOk result (Adds out.old out.new
+        (key name.now ∷ data_tokens (array (changes_data (map table_delta changes.now))))) }
 {
     out.key(name)?;
     print_list(out, changes)?;
@@ -143,7 +145,8 @@ pub(crate) fn print_changes(
 }
 
 fn print_list(out: &mut Writer, changes: &[TableDelta]) -> Result<(), NoMemory>
-    ensures { OnOk result (Adds out.old out.new (data_tokens (array (changes_data (map table_delta changes.now))))) }
+    ensures { OnOk result (Adds out.old out.new
+        (data_tokens (array (changes_data (map table_delta changes.now))))) }
 {
     out.begin_array()?;
     for change in changes {
@@ -154,7 +157,8 @@ fn print_list(out: &mut Writer, changes: &[TableDelta]) -> Result<(), NoMemory>
 }
 
 fn print_change(out: &mut Writer, change: &TableDelta) -> Result<(), NoMemory>
-    ensures { OnOk result (Adds out.old out.new (data_tokens (change_data (table_delta change.now)))) }
+    ensures { OnOk result (Adds out.old out.new
+        (data_tokens (change_data (table_delta change.now)))) }
 {
     out.begin_object()?;
     print_set(out, "add", change.delta.add())?;
@@ -166,7 +170,8 @@ fn print_change(out: &mut Writer, change: &TableDelta) -> Result<(), NoMemory>
 
 /// A member that is an array of rows.
 pub(crate) fn print_set(out: &mut Writer, name: &str, rows: &RowSet) -> Result<(), NoMemory>
-    ensures { OnOk result (Adds out.old out.new (key name.now ∷ data_tokens (array (rows_data (set.items rows.now))))) }
+    ensures { OnOk result (Adds out.old out.new
+        (key name.now ∷ data_tokens (array (rows_data (set.items rows.now))))) }
 {
     out.key(name)?;
     print_rows(out, rows)?;
@@ -174,7 +179,8 @@ pub(crate) fn print_set(out: &mut Writer, name: &str, rows: &RowSet) -> Result<(
 }
 
 fn print_rows(out: &mut Writer, rows: &RowSet) -> Result<(), NoMemory>
-    ensures { OnOk result (Adds out.old out.new (data_tokens (array (rows_data (set.items rows.now))))) }
+    ensures { OnOk result (Adds out.old out.new
+        (data_tokens (array (rows_data (set.items rows.now))))) }
 {
     out.begin_array()?;
     for row in rows.rows() {

@@ -1,17 +1,17 @@
-//! What a line asks for.
+//! Requests, and how a line is read as one.
 ghost use Rattle.std.specs.Prelude.{◌≡◌, ℕ, List, Err, false, None, IfOk, option_map, option_and_then};
 ghost use Rattle.serde_json.specs.Find.{as_array, get_member};
 ghost use Rattle.serde_json.specs.View.{view, items_view, members_view};
-ghost use Rattle.lens_specs.specs.Lines as lines;
+ghost use Rattle.io_specs.specs.Lines as lines;
 ghost use Rattle.server_specs.specs.Answer.{Answer as AnswerOf, bad_request};
 ghost use Rattle.server_specs.specs.Request as spec;
 ghost use Rattle.request_text.specs.Requests.{Reads, Tells, request_view, said_in, view_in, rows_in, both_in, on_in, put_in, edit_in, preview_in};
-ghost use Rattle.request_text.specs.WantedMembers.{asked_view};
+ghost use Rattle.request_text.specs.RequestFields.{kind_view};
 
-use crate::json_rows::JsonRows;
+use crate::fields::{RequestKind, least_wrong};
 use crate::json_values::{json_in, member, name_member, text_member};
+use crate::lists::JsonRows;
 use crate::member::Member;
-use crate::wanted::{Asked, least_wrong};
 use lens_values::{Name, NoMemory, Text};
 use serde_json::{Map, Value as Json};
 use std::alloc::{AllocError, AllocFailed, Global};
@@ -133,69 +133,76 @@ fn request_of(alloc: Global, json: Json) -> Result<Request, RequestFault>
 }
 
 fn request_in(alloc: Global, members: Map<String, Json>) -> Result<Request, RequestFault>
-    ensures { Reads result (spec.request_in (spec.asked_in (members_view members.entries)) (members_view members.entries)) }
+    ensures { Reads result
+        (spec.request_in (spec.asked_in (members_view members.entries))
+        (members_view members.entries)) }
 {
-    match asked_in(&members) {
-        Some(asked) => request_for(alloc, asked, members),
+    match kind_in(&members) {
+        Some(kind) => request_for(alloc, kind, members),
         None => Err(RequestFault::bad_request(alloc, "do")),
     }
 }
 
-fn asked_in(members: &Map<String, Json>) -> Option<Asked>
-    ensures { option_map asked_view result ≡ spec.asked_in (members_view members.now.entries) }
+fn kind_in(members: &Map<String, Json>) -> Option<RequestKind>
+    ensures { option_map kind_view result ≡ spec.asked_in (members_view members.now.entries) }
 {
-    Asked::by_word(member(members, "do")?.as_str()?)
+    RequestKind::by_word(member(members, "do")?.as_str()?)
 }
 
 fn request_for(
     alloc: Global,
-    asked: Asked,
+    kind: RequestKind,
     members: Map<String, Json>,
 ) -> Result<Request, RequestFault>
-    ensures { Reads result (spec.unless_wrong (spec.least_wrong (asked_view asked) (members_view members.entries)) (asked_view asked) (members_view members.entries)) }
+    ensures { Reads result
+        (spec.unless_wrong (spec.least_wrong (kind_view kind) (members_view members.entries))
+        (kind_view kind) (members_view members.entries)) }
 {
-    match least_wrong(asked, &members) {
+    match least_wrong(kind, &members) {
         Some(name) => Err(RequestFault::bad_request(alloc, name)),
-        None => Ok(right_request(alloc, asked, members)?),
+        None => Ok(right_request(alloc, kind, members)?),
     }
 }
 
-// The request of members of which none is wrong.
+// Makes the request, where no member is wrong.
 fn right_request(
     alloc: Global,
-    asked: Asked,
+    kind: RequestKind,
     members: Map<String, Json>,
 ) -> Result<Request, NoMemory>
-    requires { spec.least_wrong (asked_view asked) (members_view members.entries) ≡ None }
-    ensures { IfOk result (λ request. request_view request ≡ spec.said (asked_view asked) (members_view members.entries)) }
+    requires { spec.least_wrong (kind_view kind) (members_view members.entries) ≡ None }
+    ensures { IfOk result (λ request.
+        request_view request ≡ spec.said (kind_view kind) (members_view members.entries)) }
 {
-    match said(alloc, asked, members)? {
+    match said(alloc, kind, members)? {
         Some(request) => Ok(request),
         None => unreachable!(),
     }
 }
 
-// The request, where its members are there.
+// Makes the request, if its members are there.
 fn said(
     alloc: Global,
-    asked: Asked,
+    kind: RequestKind,
     members: Map<String, Json>,
 ) -> Result<Option<Request>, NoMemory>
-    ensures { IfOk result (λ found. option_map request_view found ≡ said_in (asked_view asked) (members_view members.entries)) }
+    ensures { IfOk result (λ found.
+        option_map request_view found ≡ said_in (kind_view kind) (members_view members.entries)) }
 {
-    match asked {
-        Asked::Define => define_in(alloc, &members),
-        Asked::Read => Ok(read_in(&members)),
-        Asked::Put => Ok(put_in(members)),
-        Asked::Edit => Ok(edit_in(members)),
-        Asked::Preview => Ok(preview_in(members)),
-        Asked::Describe => Ok(describe_in(&members)),
-        Asked::List => Ok(Some(Request::List)),
+    match kind {
+        RequestKind::Define => define_in(alloc, &members),
+        RequestKind::Read => Ok(read_in(&members)),
+        RequestKind::Put => Ok(put_in(members)),
+        RequestKind::Edit => Ok(edit_in(members)),
+        RequestKind::Preview => Ok(preview_in(members)),
+        RequestKind::Describe => Ok(describe_in(&members)),
+        RequestKind::List => Ok(Some(Request::List)),
     }
 }
 
 fn define_in(alloc: Global, members: &Map<String, Json>) -> Result<Option<Request>, NoMemory>
-    ensures { IfOk result (λ found. option_map request_view found ≡ said_in spec.to_define (members_view members.now.entries)) }
+    ensures { IfOk result (λ found.
+        option_map request_view found ≡ said_in spec.to_define (members_view members.now.entries)) }
 {
     let Some(json) = member(members, "text") else {
         return Ok(None);
@@ -207,14 +214,16 @@ fn define_in(alloc: Global, members: &Map<String, Json>) -> Result<Option<Reques
 }
 
 fn read_in(members: &Map<String, Json>) -> Option<Request>
-    ensures { option_map request_view result ≡ said_in spec.to_read (members_view members.now.entries) }
+    ensures { option_map request_view result
+        ≡ said_in spec.to_read (members_view members.now.entries) }
 {
     let view = view_in(members)?;
     Some(Request::Read { view })
 }
 
 fn describe_in(members: &Map<String, Json>) -> Option<Request>
-    ensures { option_map request_view result ≡ said_in spec.to_describe (members_view members.now.entries) }
+    ensures { option_map request_view result
+        ≡ said_in spec.to_describe (members_view members.now.entries) }
 {
     let view = view_in(members)?;
     Some(Request::Describe { view })
@@ -281,7 +290,9 @@ fn both_in(mut members: Map<String, Json>) -> Option<(JsonRows, JsonRows)>
 // The rows of a member, moved out of its object.
 fn take_rows(members: &mut Map<String, Json>, name: &str) -> Option<JsonRows>
     ensures rows { result ≡ rows_in name.now (members_view members.old.entries) }
-    ensures others { (k : List ℕ) → spec.is_key k name.now ≡ false → get_member k (members_view members.new.entries) ≡ get_member k (members_view members.old.entries) }
+    ensures others { (k : List ℕ) → spec.is_key k name.now ≡ false
+        → get_member k (members_view members.new.entries)
+        ≡ get_member k (members_view members.old.entries) }
 {
     let json = take_member(members, name)?;
     Some(JsonRows::new(into_array(json)?))
@@ -289,8 +300,11 @@ fn take_rows(members: &mut Map<String, Json>, name: &str) -> Option<JsonRows>
 
 // A member moved out of its object.
 fn take_member(members: &mut Map<String, Json>, name: &str) -> Option<Json>
-    ensures taken { option_map view result ≡ get_member name.now (members_view members.old.entries) }
-    ensures others { (k : List ℕ) → spec.is_key k name.now ≡ false → get_member k (members_view members.new.entries) ≡ get_member k (members_view members.old.entries) }
+    ensures taken { option_map view result
+        ≡ get_member name.now (members_view members.old.entries) }
+    ensures others { (k : List ℕ) → spec.is_key k name.now ≡ false
+        → get_member k (members_view members.new.entries)
+        ≡ get_member k (members_view members.old.entries) }
 {
     members.remove(name)
 }

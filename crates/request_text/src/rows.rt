@@ -1,4 +1,4 @@
-//! Rows of the rows that were sent.
+//! The rows of a request, read from JSON.
 ghost use Rattle.std.specs.Prelude.{◌≡◌, List, Ok, Err, IfOk, IsOk, map, option_map};
 ghost use Rattle.std.specs.FinMap as finmap;
 ghost use Rattle.std.specs.List.{list_any};
@@ -12,25 +12,26 @@ ghost use Rattle.server_specs.specs.Sending as spec;
 ghost use Rattle.request_text.specs.Blames.{Blames, Finds};
 ghost use Rattle.request_text.specs.RowFaults.{GivesRows, TellsRow, fault_at, set_of};
 
-use crate::json_rows::JsonRows;
 use crate::json_values::{member, text_member};
+use crate::lists::JsonRows;
 use crate::member::{Member, MemberFault};
 use lens_values::{Columns, Kind, Name, NoMemory, Row, Value};
 use row_sets::RowSet;
 use serde_json::{Map, Value as Json};
 use std::alloc::{AllocError, AllocFailed, Global};
 
-/// Why a list of rows is none.
+/// Why the JSON is not a list of rows.
 #[derive(Debug, Drop)]
 pub enum RowsFault {
-    /// The first element that is no row of the columns.
+    /// The first element that is not a row of the columns.
     BadRow {
         /// Its place in the list, from 0.
         index: usize,
-        /// The least name of a column that is missing or of the wrong kind, or of a member that is no column.
+        /// The least name of a column that is missing or whose value does not fit, or of a member
+        /// that is not a column.
         col: Member,
     },
-    /// Memory ran out.
+    /// Out of memory.
     NoMemory,
 }
 
@@ -79,7 +80,8 @@ impl RowsFault {
     }
 }
 
-/// The set of the rows that were sent.
+/// Reads a set of rows. `BadRow` for the first element that is no row of the columns, or
+/// `NoMemory`.
 pub fn rows_of(alloc: Global, columns: &Columns, rows: &JsonRows) -> Result<RowSet, RowsFault>
     ensures { GivesRows (λ rows. rows) result (set_of (spec.rows_in columns.now rows.now)) }
 {
@@ -88,7 +90,8 @@ pub fn rows_of(alloc: Global, columns: &Columns, rows: &JsonRows) -> Result<RowS
 }
 
 fn rows_in(alloc: Global, columns: &Columns, items: &[Json]) -> Result<Vec<Row>, RowsFault>
-    ensures { GivesRows (λ list. list.items) result (spec.rows_in columns.now (items_view items.now)) }
+    ensures { GivesRows (λ list. list.items) result
+        (spec.rows_in columns.now (items_view items.now)) }
 {
     let mut rows = Vec::with_capacity(alloc, items.len())?;
     for (index, item) in items.iter().enumerate() {
@@ -123,7 +126,8 @@ fn row_of_members(
     columns: &Columns,
     members: &Map<String, Json>,
 ) -> Result<Row, MemberFault>
-    ensures { Finds (λ row. row) result (spec.row_of_members columns.now (members_view members.now.entries)) }
+    ensures { Finds (λ row. row) result
+        (spec.row_of_members columns.now (members_view members.now.entries)) }
 {
     match pairs_in(alloc, columns.pairs(), members) {
         Ok(pairs) => row_of_pairs(alloc, columns, members, pairs),
@@ -135,15 +139,17 @@ fn row_of_members(
     }
 }
 
-// The row of all columns, where no member is strange.
+// Makes the row, unless a member is no column.
 fn row_of_pairs(
     alloc: Global,
     columns: &Columns,
     members: &Map<String, Json>,
     pairs: Vec<(Name, Value)>,
 ) -> Result<Row, MemberFault>
-    requires { spec.pairs_in (finmap.entries columns.now) (members_view members.now.entries) ≡ Ok pairs.items }
-    ensures { Finds (λ row. row) result (spec.row_of_members columns.now (members_view members.now.entries)) }
+    requires { spec.pairs_in (finmap.entries columns.now) (members_view members.now.entries)
+        ≡ Ok pairs.items }
+    ensures { Finds (λ row. row) result
+        (spec.row_of_members columns.now (members_view members.now.entries)) }
 {
     match strange_beside(columns, members) {
         Some(name) => Err(MemberFault::wrong(alloc, name)),
@@ -151,10 +157,13 @@ fn row_of_pairs(
     }
 }
 
-// The first member that is no column. Beside all columns none is, where there are as many members.
+// The first member that is not a column, where each column has a member. If the counts are equal,
+// there is none.
 fn strange_beside<'a>(columns: &Columns, members: &'a Map<String, Json>) -> Option<&'a str>
-    requires { IsOk (spec.pairs_in (finmap.entries columns.now) (members_view members.now.entries)) }
-    ensures { option_map (λ name. name.now) result ≡ first_other (spec.is_column_of columns.now) (members_view members.now.entries) }
+    requires { IsOk (spec.pairs_in (finmap.entries columns.now)
+        (members_view members.now.entries)) }
+    ensures { option_map (λ name. name.now) result
+        ≡ first_other (spec.is_column_of columns.now) (members_view members.now.entries) }
 {
     if members.len() == columns.pairs().len() {
         return None;
@@ -163,7 +172,8 @@ fn strange_beside<'a>(columns: &Columns, members: &'a Map<String, Json>) -> Opti
 }
 
 fn first_strange<'a>(columns: &Columns, members: &'a Map<String, Json>) -> Option<&'a str>
-    ensures { option_map (λ name. name.now) result ≡ first_other (spec.is_column_of columns.now) (members_view members.now.entries) }
+    ensures { option_map (λ name. name.now) result
+        ≡ first_other (spec.is_column_of columns.now) (members_view members.now.entries) }
 {
     for name in members.keys() {
         if !is_column(columns.pairs(), name.as_str()) {
@@ -185,7 +195,8 @@ fn pairs_in(
     columns: &[(Name, Kind)],
     members: &Map<String, Json>,
 ) -> Result<Vec<(Name, Value)>, MemberFault>
-    ensures { Finds (λ pairs. pairs.items) result (spec.pairs_in columns.now (members_view members.now.entries)) }
+    ensures { Finds (λ pairs. pairs.items) result
+        (spec.pairs_in columns.now (members_view members.now.entries)) }
 {
     let mut pairs = Vec::with_capacity(alloc, columns.len())?;
     for column in columns {
@@ -202,7 +213,8 @@ fn value_at(
     members: &Map<String, Json>,
     column: &(Name, Kind),
 ) -> Result<Option<Value>, NoMemory>
-    ensures { IfOk result (λ found. found ≡ spec.value_at (members_view members.now.entries) column.now) }
+    ensures { IfOk result (λ found.
+        found ≡ spec.value_at (members_view members.now.entries) column.now) }
 {
     match member(members, column.0.as_str()) {
         Some(json) => value_in(alloc, column.1, json),
@@ -213,9 +225,20 @@ fn value_at(
 fn value_in(alloc: Global, kind: Kind, json: &Json) -> Result<Option<Value>, NoMemory>
     ensures { IfOk result (λ found. found ≡ spec.value_in kind (view json.now)) }
 {
-    match kind {
-        Kind::Int => Ok(json.as_i64().map(Value::Int)),
-        Kind::Text => Ok(text_member(alloc, json)?.map(Value::Text)),
-        Kind::Flag => Ok(json.as_bool().map(Value::Flag)),
+    match value_of(alloc, json)? {
+        Some(value) if value.fits(kind) => Ok(Some(value)),
+        _ => Ok(None),
+    }
+}
+
+// The value that the JSON says: a number of 64 bits, a text or a truth value.
+fn value_of(alloc: Global, json: &Json) -> Result<Option<Value>, NoMemory>
+    ensures { IfOk result (λ found. found ≡ spec.value_of (view json.now)) }
+{
+    match json {
+        Json::Bool(flag) => Ok(Some(Value::Flag(*flag))),
+        Json::Number(number) => Ok(number.as_i64().map(Value::Int)),
+        Json::String(_) => Ok(text_member(alloc, json)?.map(Value::Text)),
+        Json::Null | Json::Array(_) | Json::Object(_) => Ok(None),
     }
 }

@@ -1,12 +1,10 @@
 //! Rows revised by other rows along a tree of functional dependencies, and merges.
 #![tactic(auto)]
 
-mod firsts;
+mod first_by_key;
 mod pasting;
 pub mod revising;
-mod steps;
+pub mod steps;
 
 pub use revising::{merge, revise, revise_row};
-
-#[cfg(test)]
-mod tests;
+pub use steps::all_along;

@@ -5,7 +5,6 @@ ghost use Rattle.lens_specs.specs.Dependencies.{MeetsTree};
 ghost use Rattle.lens_specs.specs.Relation.{Fits};
 ghost use Rattle.lens_specs.specs.Revision as spec;
 ghost use Rattle.lens_specs.specs.TreeForm.{outputs};
-ghost use Rattle.lens_laws.specs.Trees.{IsTree};
 ghost use Rattle.revision.specs.Changes.{ChangesOnly, SameOutside};
 
 use crate::steps::{all_along, one_along};
@@ -14,8 +13,8 @@ use lens_values::{NoMemory, Row, copied};
 use row_sets::{Relation, RowSet};
 use std::alloc::Global;
 
-/// The row with what the revising rows say, along each edge in turn: the values on the right side of the first revising row
-/// that has the same on the left side. No column outside the outputs changes.
+/// The row revised along each edge in turn: where a revising row agrees with it on the left side,
+/// it takes the right side of the first such row. No column outside the outputs changes.
 pub fn revise_row(alloc: Global, tree: &Tree, row: &Row, by: &RowSet) -> Result<Row, NoMemory>
     ensures value { IfOk result (λ revised. revised ≡ spec.revise_row tree.now row.now by.now) }
     ensures keeps { IfOk result (λ revised. SameOutside (outputs tree.now) revised row.now) }
@@ -27,8 +26,8 @@ pub fn revise_row(alloc: Global, tree: &Tree, row: &Row, by: &RowSet) -> Result<
     Ok(revised)
 }
 
-/// Each row of the relation revised by rows over its columns. Where the edges are a tree (`IsTree`), as those of
-/// `Tree::of` are, and the relation meets it, no two of its rows become one, so the result has as many.
+/// Each row of the relation revised by rows over its columns. Where the relation meets the tree, no
+/// two of its rows become one, so the result has as many rows.
 pub fn revise(
     alloc: Global,
     tree: &Tree,
@@ -36,11 +35,15 @@ pub fn revise(
     by: &RowSet,
 ) -> Result<Relation, NoMemory>
     requires { (row : _) → set.contains by.now row ≡ true → Fits relation.now.columns row }
-    ensures value { IfOk result (λ revised. revised ≡ record relation.now { rows = spec.revise tree.now relation.now.rows by.now }) }
-    ensures keeps { IfOk result (λ revised. ChangesOnly (outputs tree.now) relation.now.rows revised.rows) }
-    ensures as_many { IfOk result (λ revised. IsTree tree.now → MeetsTree relation.now.rows tree.now → set.len revised.rows ≡ set.len relation.now.rows) }
+    ensures value { IfOk result (λ revised.
+        revised ≡ record relation.now { rows = spec.revise tree.now relation.now.rows by.now }) }
+    ensures keeps { IfOk result (λ revised.
+        ChangesOnly (outputs tree.now) relation.now.rows revised.rows) }
+    ensures as_many { IfOk result (λ revised. MeetsTree relation.now.rows tree.now
+        → set.len revised.rows ≡ set.len relation.now.rows) }
 {
     relation.rows_fit();
+    tree.is_tree();
     let mut rows = copied(alloc, relation.rows().rows())?;
     for edge in tree.edges() {
         rows = all_along(alloc, edge, &rows, by)?;
@@ -49,8 +52,8 @@ pub fn revise(
     Ok(Relation::with_rows(columns, RowSet::new(alloc, rows)?))
 }
 
-/// The revised rows of the relation, and the revising ones, which have the same columns. Where the edges are a tree
-/// (`IsTree`), as those of `Tree::of` are, and both relations meet it, so does the merge.
+/// The relation revised by the rows of another with the same columns, together with those rows.
+/// Where both relations meet the tree, the merge meets it.
 pub fn merge(
     alloc: Global,
     tree: &Tree,
@@ -58,10 +61,13 @@ pub fn merge(
     by: &Relation,
 ) -> Result<Relation, NoMemory>
     requires { by.now.columns ≡ relation.now.columns }
-    ensures value { IfOk result (λ merged. merged ≡ record relation.now { rows = spec.merge tree.now relation.now.rows by.now.rows }) }
-    ensures meets { IfOk result (λ merged. IsTree tree.now → MeetsTree relation.now.rows tree.now → MeetsTree by.now.rows tree.now → MeetsTree merged.rows tree.now) }
+    ensures value { IfOk result (λ merged.
+        merged ≡ record relation.now { rows = spec.merge tree.now relation.now.rows by.now.rows }) }
+    ensures meets { IfOk result (λ merged. MeetsTree relation.now.rows tree.now
+        → MeetsTree by.now.rows tree.now → MeetsTree merged.rows tree.now) }
 {
     by.rows_fit();
+    tree.is_tree();
     let revised = revise(alloc, tree, relation, by.rows())?;
     revised.union(alloc, by)
 }

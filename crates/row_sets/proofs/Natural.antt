@@ -6,7 +6,7 @@ use Rattle.std.specs.Ordering.{eq_by_cmp}
 use Rattle.std.specs.Cmp.Lexicographic.{nat_list_cmp_total}
 use Rattle.std.specs.FinMap as finmap
 use Rattle.lens_values.specs.Order.{bytes_cmp}
-use Rattle.lens_values.specs.Part.{both_of}
+use Rattle.lens_values.specs.Part.{override}
 use Rattle.lens_values.specs.Row.{row_cmp}
 use Rattle.lens_values.specs.RowOrder.{row_cmp_total, row_cmp-IsAntisymmetric}
 use Rattle.lens_values.specs.SortedMap.{keys_rise}
@@ -17,7 +17,8 @@ use Rattle.lens_values.specs.declared.value.Value.{Value}
 use Rattle.lens_values.proofs.Maps.{exact, is_tie}
 use Rattle.lens_specs.specs.Names.{Name, Names}
 use Rattle.lens_specs.specs.Rows.{agree, paste, paste_list, with_at}
-use Rattle.lens_specs.specs.Columns.{Columns, Fits, kind_at, names}
+use Rattle.lens_specs.specs.Columns.{Columns, Fits, fits_at, names}
+use Rattle.lens_values.proofs.FitsLemmas.{fits_same}
 use Rattle.lens_specs.specs.Relation.{Rows, join, joined_with, natural}
 use Rattle.row_sets.specs.Joins.{pairs_on}
 use Rattle.row_sets.proofs.Pairs.{agree_at, all_members, any-filtered, any-flat_map, one_of}
@@ -37,7 +38,7 @@ module _ {X : Type 0} where
   find_either [] fs c = refl
   find_either (e ∷ es) fs c = found (eq_by_cmp bytes_cmp c e.0) e.1 _ _ _ (find_either es fs c)
 
-  pub get-both : (m n : finmap.FinMap bytes_cmp X) (c : Name) → finmap.get (both_of m n) c ≡ first_of (finmap.get m c) (finmap.get n c)
+  pub get-both : (m n : finmap.FinMap bytes_cmp X) (c : Name) → finmap.get (override m n) c ≡ first_of (finmap.get m c) (finmap.get n c)
   get-both m n c = finmap.get-from_entries nat_list_cmp_total (finmap.entries m ++ finmap.entries n) c ∙ find_either (finmap.entries m) (finmap.entries n) c
       ∙ sym (λ i. first_of (finmap.get-entries m c i) (finmap.get-entries n c i))
 
@@ -65,22 +66,22 @@ in_names : (V : Columns) (c : Name) → list_any (eq_by_cmp bytes_cmp c) (set.it
 unfolding names
 in_names V c = ap (list_any (eq_by_cmp bytes_cmp c)) (set.items-from_list nat_list_cmp_total (finmap.keys V) (keys_rise bytes_cmp V)) ∙ sym (finmap.contains_key-keys V c)
 
-where_fits : (o p : Option Value) (k : Option Kind) → kind_at o ≡ k → cond (is_some k) o p ≡ first_of o p
+where_fits : (o p : Option Value) (k : Option Kind) → fits_at o k ≡ true → cond (is_some k) o p ≡ first_of o p
 where_fits None p None e = refl
 where_fits None p (Some k) e = cc
 where_fits (Some v) p None e = cc
 where_fits (Some v) p (Some k) e = refl
 
 -- pasted with a row over V, a row has what that row has, and else its own
-paste_is : (V : Columns) (m n : Row) → Fits V n → paste m (names V) n ≡ both_of n m
+paste_is : (V : Columns) (m n : Row) → Fits V n → paste m (names V) n ≡ override n m
 unfolding paste
 paste_is V m n fits = finmap.same_map nat_list_cmp_total exact _ _ (λ c.
     get-paste_list m n (set.items (names V)) c ∙ ap (λ b. cond b (finmap.get n c) (finmap.get m c)) (in_names V c)
     ∙ where_fits (finmap.get n c) (finmap.get m c) (finmap.get V c) (fits c) ∙ sym (get-both n m c))
 
-pasted_are : (S : Names) (V : Columns) (m : Row) (ns : List Row) → AllByRecursion (Fits V) ns → map (λ n. both_of n m) (filter (agree S m) ns) ≡ joined_with S (names V) m ns
+pasted_are : (S : Names) (V : Columns) (m : Row) (ns : List Row) → AllByRecursion (Fits V) ns → map (λ n. override n m) (filter (agree S m) ns) ≡ joined_with S (names V) m ns
 pasted_are S V m [] a = refl
-pasted_are S V m (n ∷ ns) a = elim (agree S m n) as (λ b. map (λ n. both_of n m) (cond b (n ∷ filter (agree S m) ns) (filter (agree S m) ns)) ≡ map (λ n. paste m (names V) n) (cond b (n ∷ filter (agree S m) ns) (filter (agree S m) ns))) [
+pasted_are S V m (n ∷ ns) a = elim (agree S m n) as (λ b. map (λ n. override n m) (cond b (n ∷ filter (agree S m) ns) (filter (agree S m) ns)) ≡ map (λ n. paste m (names V) n) (cond b (n ∷ filter (agree S m) ns) (filter (agree S m) ns))) [
   | true ↦ λ i. sym (paste_is V m n a.0) i ∷ pasted_are S V m ns a.1 i
   | false ↦ pasted_are S V m ns a.1
 ]
@@ -94,25 +95,25 @@ natural_is U V M N fit =
 
 -- ---- and they fit the columns of both
 
-one_kind : (mine other : Option Value) (k j : Option Kind) → kind_at mine ≡ k → kind_at other ≡ j → ((is_some k && is_some j) ≡ true → mine ≡ other) → kind_at (first_of other mine) ≡ first_of k j
-one_kind mine None k j e f same = e ∙ left k j f
-  where
-    left : (k j : Option Kind) → None ≡ j → k ≡ first_of k j
-    left None j f = f
-    left (Some k) j f = refl
-one_kind mine (Some w) None j e f same = f
-one_kind mine (Some w) (Some k) None e f same = cc
-one_kind mine (Some w) (Some k) (Some j) e f same = ap kind_at (sym (same refl)) ∙ e
+-- the first of two values fits in the first of two columns, where both values are equal if both columns are there
+one_fits : (mine other : Option Value) (k j : Option Kind) → fits_at mine k ≡ true → fits_at other j ≡ true → ((is_some k && is_some j) ≡ true → mine ≡ other)
+    → fits_at (first_of other mine) (first_of k j) ≡ true
+one_fits mine None None None e f same = e
+one_fits mine None None (Some j) e f same = cc
+one_fits mine None (Some k) None e f same = e
+one_fits mine None (Some k) (Some j) e f same = cc
+one_fits mine (Some w) None j e f same = f
+one_fits mine (Some w) (Some k) None e f same = cc
+one_fits mine (Some w) (Some k) (Some j) e f same = ap (λ o. fits_at o (Some k)) (sym (same refl)) ∙ e
 
 in_both : (U V : Columns) (c : Name) → (is_some (finmap.get U c) && is_some (finmap.get V c)) ≡ true → set.contains (set.intersection (names U) (names V)) c ≡ true
 in_both U V c both = set.contains-intersection nat_list_cmp_total (names U) (names V) c
     ∙ (λ i. (set.contains-items (names U) c ∙ in_names U c) i && (set.contains-items (names V) c ∙ in_names V c) i) ∙ both
 
-pair_fits : (U V : Columns) (m n : Row) → Fits U m → Fits V n → agree (set.intersection (names U) (names V)) m n ≡ true → Fits (both_of U V) (both_of n m)
+pair_fits : (U V : Columns) (m n : Row) → Fits U m → Fits V n → agree (set.intersection (names U) (names V)) m n ≡ true → Fits (override U V) (override n m)
 pair_fits U V m n fit fit' agrees c =
-    ap kind_at (get-both n m c)
-    ∙ one_kind (finmap.get m c) (finmap.get n c) (finmap.get U c) (finmap.get V c) (fit c) (fit' c) (λ both. agree_at (set.intersection (names U) (names V)) m n c agrees (in_both U V c both))
-    ∙ sym (get-both U V c)
+    fits_same _ _ _ _ (sym (get-both n m c)) (sym (get-both U V c))
+    (one_fits (finmap.get m c) (finmap.get n c) (finmap.get U c) (finmap.get V c) (fit c) (fit' c) (λ both. agree_at (set.intersection (names U) (names V)) m n c agrees (in_both U V c both)))
 
 first_holds : (a b : Bool) → (a && b) ≡ true → a ≡ true
 first_holds true b h = refl
@@ -123,13 +124,13 @@ second_holds true b h = h
 second_holds false b h = cc
 
 pub joined_fit : (U V : Columns) (M N : Rows) → ((m : Row) → set.contains M m ≡ true → Fits U m) → ((n : Row) → set.contains N n ≡ true → Fits V n)
-    → (row : Row) → set.contains (pairs_on (set.intersection (names U) (names V)) M N) row ≡ true → Fits (both_of U V) row
+    → (row : Row) → set.contains (pairs_on (set.intersection (names U) (names V)) M N) row ≡ true → Fits (override U V) row
 joined_fit U V M N fit fit' row there =
     let S : Names = set.intersection (names U) (names V) in
     let tied : Row → Bool = eq_by_cmp row_cmp row in
-    let w = one_of row_cmp_total row_cmp-IsAntisymmetric (λ m. list_any tied (map (λ n. both_of n m) (filter (agree S m) (set.items N)))) (set.items M)
-    (sym (any-flat_map tied (λ m. map (λ n. both_of n m) (filter (agree S m) (set.items N))) (set.items M))
-    ∙ sym (set.contains-from_list row_cmp_total (flat_map (λ m. map (λ n. both_of n m) (filter (agree S m) (set.items N))) (set.items M)) row) ∙ there) in
-    let v = one_of row_cmp_total row_cmp-IsAntisymmetric (λ n. agree S w.0 n && tied (both_of n w.0)) (set.items N) (sym (any-filtered tied (λ n. both_of n w.0) (agree S w.0) (set.items N)) ∙ w.2) in
-    let same : row ≡ both_of v.0 w.0 = row_cmp-IsAntisymmetric row (both_of v.0 w.0) (is_tie _ (second_holds (agree S w.0 v.0) (tied (both_of v.0 w.0)) v.2)) in
-    subst (Fits (both_of U V)) (sym same) (pair_fits U V w.0 v.0 (fit w.0 (set.contains-items M w.0 ∙ w.1)) (fit' v.0 (set.contains-items N v.0 ∙ v.1)) (first_holds (agree S w.0 v.0) (tied (both_of v.0 w.0)) v.2))
+    let w = one_of row_cmp_total row_cmp-IsAntisymmetric (λ m. list_any tied (map (λ n. override n m) (filter (agree S m) (set.items N)))) (set.items M)
+    (sym (any-flat_map tied (λ m. map (λ n. override n m) (filter (agree S m) (set.items N))) (set.items M))
+    ∙ sym (set.contains-from_list row_cmp_total (flat_map (λ m. map (λ n. override n m) (filter (agree S m) (set.items N))) (set.items M)) row) ∙ there) in
+    let v = one_of row_cmp_total row_cmp-IsAntisymmetric (λ n. agree S w.0 n && tied (override n w.0)) (set.items N) (sym (any-filtered tied (λ n. override n w.0) (agree S w.0) (set.items N)) ∙ w.2) in
+    let same : row ≡ override v.0 w.0 = row_cmp-IsAntisymmetric row (override v.0 w.0) (is_tie _ (second_holds (agree S w.0 v.0) (tied (override v.0 w.0)) v.2)) in
+    subst (Fits (override U V)) (sym same) (pair_fits U V w.0 v.0 (fit w.0 (set.contains-items M w.0 ∙ w.1)) (fit' v.0 (set.contains-items N v.0 ∙ v.1)) (first_holds (agree S w.0 v.0) (tied (override v.0 w.0)) v.2))

@@ -13,7 +13,7 @@ use Rattle.std.specs.FinMap.{IsAntisymmetric}
 use Rattle.std.proofs.lemmas.Bool.{cases_lt}
 use Rattle.std.proofs.lemmas.List.Folds.{list_any-append}
 use Rattle.std.proofs.lemmas.Map.Keys.{Less-from_sorted}
-use Rattle.lens_values.specs.Part.{both_of, part_in}
+use Rattle.lens_values.specs.Part.{override, restrict}
 use Rattle.lens_values.specs.Row.{row_cmp}
 use Rattle.lens_values.specs.RowOrder.{row_cmp_total, row_cmp-IsAntisymmetric}
 use Rattle.lens_values.specs.SortedSet as set
@@ -112,7 +112,7 @@ values_same None (Some w) e = cc
 values_same (Some v) None e = cc
 values_same (Some v) (Some w) e = ap Some (value_cmp-IsAntisymmetric v w (is_tie (value_cmp v w) e))
 
-get-part : (C : Names) (r : Row) (c : Name) → finmap.get (part_in C r) c ≡ cond (set.contains C c) (finmap.get r c) None
+get-part : (C : Names) (r : Row) (c : Name) → finmap.get (restrict C r) c ≡ cond (set.contains C c) (finmap.get r c) None
 get-part C r c = finmap.get-retain_keys r (set.contains C) c (λ x tie. ap (set.contains C) (sym (exact c x tie)))
 
 -- rows that agree have the same in each column
@@ -120,26 +120,26 @@ pub agree_at : (C : Names) (m n : Row) (c : Name) → agree C m n ≡ true → s
 unfolding agree
 agree_at C m n c h there = values_same _ _ (of_all nat_list_cmp_total exact (λ c. same_value (finmap.get m c) (finmap.get n c)) c (set.items C) h (sym (set.contains-items C c) ∙ there))
 
-parts_same : (C : Names) (m n : Row) → agree C m n ≡ true → part_in C n ≡ part_in C m
+parts_same : (C : Names) (m n : Row) → agree C m n ≡ true → restrict C n ≡ restrict C m
 parts_same C m n h = finmap.same_map nat_list_cmp_total exact _ _ (λ c.
     get-part C n c ∙ elim (set.contains C c) as (λ b. set.contains C c ≡ b → cond b (finmap.get n c) None ≡ cond b (finmap.get m c) None) [
       | true ↦ λ there. sym (agree_at C m n c h there)
       | false ↦ λ _. refl
     ] refl ∙ sym (get-part C m c))
 
-get_same : (C : Names) (m n : Row) (c : Name) → part_in C n ≡ part_in C m → set.contains C c ≡ true → finmap.get m c ≡ finmap.get n c
+get_same : (C : Names) (m n : Row) (c : Name) → restrict C n ≡ restrict C m → set.contains C c ≡ true → finmap.get m c ≡ finmap.get n c
 get_same C m n c e there =
-    let here : (r : Row) → finmap.get (part_in C r) c ≡ finmap.get r c = λ r. get-part C r c ∙ ap (λ b. cond b (finmap.get r c) None) there in
+    let here : (r : Row) → finmap.get (restrict C r) c ≡ finmap.get r c = λ r. get-part C r c ∙ ap (λ b. cond b (finmap.get r c) None) there in
     sym (here m) ∙ ap (λ p. finmap.get p c) (sym e) ∙ here n
 
 -- they agree exactly where their parts tie
-agree_is : (C : Names) (m n : Row) → is_eq (row_cmp (part_in C n) (part_in C m)) ≡ agree C m n
+agree_is : (C : Names) (m n : Row) → is_eq (row_cmp (restrict C n) (restrict C m)) ≡ agree C m n
 unfolding agree
 agree_is C m n = same_bool _ _
-    (λ tie. let e : part_in C n ≡ part_in C m = row_cmp-IsAntisymmetric _ _ (is_tie _ tie) in
+    (λ tie. let e : restrict C n ≡ restrict C m = row_cmp-IsAntisymmetric _ _ (is_tie _ tie) in
     all_pass nat_list_cmp_total exact (λ c. same_value (finmap.get m c) (finmap.get n c)) (set.items C) (all_members nat_list_cmp_total exact (λ c. same_value (finmap.get m c) (finmap.get n c) ≡ true) (set.items C)
     (λ c there. ap (same_value (finmap.get m c)) (sym (get_same C m n c e (set.contains-items C c ∙ there))) ∙ value_itself (finmap.get m c))))
-    (λ h. ap (λ p. is_eq (row_cmp p (part_in C m))) (parts_same C m n h) ∙ ap is_eq (tied_itself row_cmp_total (part_in C m)))
+    (λ h. ap (λ p. is_eq (row_cmp p (restrict C m))) (parts_same C m n h) ∙ ap is_eq (tied_itself row_cmp_total (restrict C m)))
 
 -- ---- an index
 
@@ -159,19 +159,19 @@ entry_cmp-IsAntisymmetric e f tie =
 -- what the index of a set pairs, the set pairs
 pub paired_is : (C : Names) (M N : Rows) (index : List (Row × Row))
     → ((e : Row × Row) → list_any (eq_by_cmp entry_cmp e) index ≡ list_any (eq_by_cmp entry_cmp e) (map (with_key C) (set.items N)))
-    → set.from_list (flat_map (λ m. map (λ e. both_of e.1 m) (filter (λ e. is_eq (row_cmp e.0 (part_in C m))) index)) (set.items M)) ≡ pairs_on C M N
+    → set.from_list (flat_map (λ m. map (λ e. override e.1 m) (filter (λ e. is_eq (row_cmp e.0 (restrict C m))) index)) (set.items M)) ≡ pairs_on C M N
 paired_is C M N index alike = set.same_set row_cmp_total row_cmp-IsAntisymmetric _ _ (λ q.
     let tied : Row → Bool = eq_by_cmp row_cmp q in
-    set.contains-from_list row_cmp_total (flat_map (λ m. map (λ e. both_of e.1 m) (filter (λ e. is_eq (row_cmp e.0 (part_in C m))) index)) (set.items M)) q
-    ∙ any-flat_map tied (λ m. map (λ e. both_of e.1 m) (filter (λ e. is_eq (row_cmp e.0 (part_in C m))) index)) (set.items M)
+    set.contains-from_list row_cmp_total (flat_map (λ m. map (λ e. override e.1 m) (filter (λ e. is_eq (row_cmp e.0 (restrict C m))) index)) (set.items M)) q
+    ∙ any-flat_map tied (λ m. map (λ e. override e.1 m) (filter (λ e. is_eq (row_cmp e.0 (restrict C m))) index)) (set.items M)
     ∙ any_alike _ _ (set.items M) (λ m.
-    any-filtered tied (λ e. both_of e.1 m) (λ e. is_eq (row_cmp e.0 (part_in C m))) index
-    ∙ same_members entry_cmp_total entry_cmp-IsAntisymmetric index (map (with_key C) (set.items N)) alike (λ e. is_eq (row_cmp e.0 (part_in C m)) && tied (both_of e.1 m))
-    ∙ any-map (λ e. is_eq (row_cmp e.0 (part_in C m)) && tied (both_of e.1 m)) (with_key C) (set.items N)
-    ∙ any_alike _ _ (set.items N) (λ n. ap (λ b. b && tied (both_of n m)) (agree_is C m n))
-    ∙ sym (any-filtered tied (λ n. both_of n m) (agree C m) (set.items N)))
-    ∙ sym (any-flat_map tied (λ m. map (λ n. both_of n m) (filter (agree C m) (set.items N))) (set.items M))
-    ∙ sym (set.contains-from_list row_cmp_total (flat_map (λ m. map (λ n. both_of n m) (filter (agree C m) (set.items N))) (set.items M)) q))
+    any-filtered tied (λ e. override e.1 m) (λ e. is_eq (row_cmp e.0 (restrict C m))) index
+    ∙ same_members entry_cmp_total entry_cmp-IsAntisymmetric index (map (with_key C) (set.items N)) alike (λ e. is_eq (row_cmp e.0 (restrict C m)) && tied (override e.1 m))
+    ∙ any-map (λ e. is_eq (row_cmp e.0 (restrict C m)) && tied (override e.1 m)) (with_key C) (set.items N)
+    ∙ any_alike _ _ (set.items N) (λ n. ap (λ b. b && tied (override n m)) (agree_is C m n))
+    ∙ sym (any-filtered tied (λ n. override n m) (agree C m) (set.items N)))
+    ∙ sym (any-flat_map tied (λ m. map (λ n. override n m) (filter (agree C m) (set.items N))) (set.items M))
+    ∙ sym (set.contains-from_list row_cmp_total (flat_map (λ m. map (λ n. override n m) (filter (agree C m) (set.items N))) (set.items M)) q))
 
 first_no_higher : (a b : Ordering) → ordering_then a b ≡ Less → is_gt a ≡ false
 first_no_higher Less b e = refl

@@ -1,5 +1,5 @@
 -- The part of rows that stands in some columns, and what still fits.
-use Rattle.std.proofs.Common.{◌≡◌, List, [], ◌∷◌, ap, sym, ◌∙◌, refl, Bool, true, false, cond, Option, None}
+use Rattle.std.proofs.Common.{◌≡◌, List, [], ◌∷◌, ap, sym, ◌∙◌, refl, Bool, true, false, None}
 use Rattle.std.specs.Prelude.{◌||◌, map}
 use Rattle.std.specs.Ordering.{eq_by_cmp, is_eq}
 use Rattle.std.specs.declared.cmp.Ordering.{Ordering}
@@ -9,19 +9,19 @@ use Rattle.std.specs.Cmp.{tied_itself}
 use Rattle.std.specs.FinMap as finmap
 use Rattle.std.specs.FinMap.{slice_cmp-IsAntisymmetric, nat_cmp-IsAntisymmetric}
 use Rattle.lens_values.specs.Order.{bytes_cmp}
-use Rattle.lens_values.specs.Part.{part_in}
+use Rattle.lens_values.specs.Part.{restrict}
 use Rattle.lens_values.specs.Row.{row_cmp}
 use Rattle.lens_values.specs.RowOrder.{row_cmp_total, row_cmp-IsAntisymmetric}
 use Rattle.lens_values.specs.SortedSet as set
 use Rattle.lens_values.specs.declared.row.Row.{Row}
-use Rattle.lens_values.specs.declared.value.Value.{Value}
 use Rattle.lens_specs.specs.Names.{Names}
 use Rattle.lens_specs.specs.Rows.{cut}
-use Rattle.lens_specs.specs.Columns.{kind_at, columns_in}
+use Rattle.lens_specs.specs.Columns.{columns_in}
+use Rattle.lens_values.proofs.FitsLemmas.{fits_same, fits_cond}
 use Rattle.lens_specs.specs.Relation.{Columns, Rows, Fits, image, project}
 use Rattle.row_sets.specs.Members.{is_in}
 
-pub parts_are : (C : Names) (rows : Rows) → set.from_list (map (part_in C) (set.items rows)) ≡ project C rows
+pub parts_are : (C : Names) (rows : Rows) → set.from_list (map (restrict C) (set.items rows)) ≡ project C rows
 unfolding project image cut
 parts_are C rows = refl
 
@@ -41,10 +41,6 @@ one_of t (x ∷ xs) h = elim (t x) as (λ b. t x ≡ b → (b || list_any t xs) 
   | false ↦ λ e more. let w = one_of t xs more in (w.0, ap (λ b. eq_by_cmp row_cmp w.0 x || b) w.1 ∙ or-true (eq_by_cmp row_cmp w.0 x), w.2)
 ] refl h
 
-kind_cond : (b : Bool) (o : Option Value) → kind_at (cond b o None) ≡ cond b (kind_at o) None
-kind_cond true o = refl
-kind_cond false o = refl
-
 name_exact : finmap.IsAntisymmetric bytes_cmp
 name_exact = slice_cmp-IsAntisymmetric nat_cmp-IsAntisymmetric
 
@@ -53,8 +49,9 @@ fits_cut : (C : Names) (columns : Columns) (row : Row) → Fits columns row → 
 unfolding cut
 fits_cut C columns row fits c =
     let inside = set.contains C in
-    ap kind_at (finmap.get-retain_keys row inside c (λ x tie. ap inside (sym (name_exact c x tie)))) ∙ kind_cond (inside c) (finmap.get row c)
-    ∙ ap (λ o. cond (inside c) o None) (fits c) ∙ sym (finmap.get-retain_keys columns inside c (λ x tie. ap inside (sym (name_exact c x tie))))
+    fits_same _ _ _ _ (sym (finmap.get-retain_keys row inside c (λ x tie. ap inside (sym (name_exact c x tie)))))
+    (sym (finmap.get-retain_keys columns inside c (λ x tie. ap inside (sym (name_exact c x tie)))))
+    (fits_cond (inside c) (finmap.get row c) None (finmap.get columns c) None (λ _. fits c) (λ _. refl))
 
 pub projected_fit : (C : Names) (columns : Columns) (rows : Rows) → ((row : Row) → set.contains rows row ≡ true → Fits columns row)
     → (row : Row) → set.contains (project C rows) row ≡ true → Fits (columns_in columns C) row

@@ -1,8 +1,8 @@
--- Rows put together with the rows of another set.
+-- Pasted pairs of rows of two sets.
 use Rattle.std.specs.Prelude.{filter, flat_map, map}
 use Rattle.std.specs.declared.cmp.Ordering.{Ordering}
 use Rattle.std.specs.Ordering.{on, then_cmp}
-use Rattle.lens_values.specs.Part.{both_of, part_in}
+use Rattle.lens_values.specs.Part.{override, restrict}
 use Rattle.lens_values.specs.Row.{row_cmp}
 use Rattle.lens_values.specs.SortedSet as set
 use Rattle.lens_values.specs.declared.row.Row.{Row}
@@ -14,10 +14,10 @@ use Rattle.lens_specs.specs.Relation.{Rows}
 abbrev pub entry_cmp : Row × Row → Row × Row → Ordering
 entry_cmp = then_cmp (on (λ e. e.0) row_cmp) (on (λ e. e.1) row_cmp)
 
--- a row behind what it has in the columns
+-- the row's part in the columns, and the row
 abbrev pub with_key : Names → Row → Row × Row
-with_key C r = (part_in C r, r)
+with_key C r = (restrict C r, r)
 
--- each pair of rows that agree on C, put together
+-- all pairs of rows that agree on C, pasted
 abbrev pub pairs_on : Names → Rows → Rows → Rows
-pairs_on C M N = set.from_list (flat_map (λ m. map (λ n. both_of n m) (filter (agree C m) (set.items N))) (set.items M))
+pairs_on C M N = set.from_list (flat_map (λ m. map (λ n. override n m) (filter (agree C m) (set.items N))) (set.items M))

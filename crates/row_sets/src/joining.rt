@@ -1,24 +1,27 @@
-//! Pairs of rows that have the same in some columns, found by an index.
+//! Pairs of rows that agree on some columns, found by an index.
 ghost use Rattle.std.specs.Prelude.{◌≡◌, ◌++◌, IfOk, OnOk, filter, flat_map, map};
 ghost use Rattle.std.specs.List.{list_any};
 ghost use Rattle.std.specs.List.Sorted.{IsStrictlySortedBy};
 ghost use Rattle.std.specs.Ordering.{eq_by_cmp, is_eq};
-ghost use Rattle.lens_values.specs.Part.{both_of, part_in};
+ghost use Rattle.lens_values.specs.Part.{override, restrict};
 ghost use Rattle.lens_values.specs.Row.{row_cmp};
 ghost use Rattle.row_sets.specs.Joins.{entry_cmp, with_key};
 
-use lens_values::{Names, NoMemory, Row, rising};
+use lens_values::{Names, NoMemory, Row, into_sorted};
 use std::alloc::Global;
 
-/// The rows, each behind what it has in the columns, in rising order of these parts and then of the rows.
+/// The index of the rows by these columns: each row after its part in the columns, in rising order
+/// of the parts and then of the rows.
 pub fn indexed(alloc: Global, rows: &[Row], cols: &Names) -> Result<Vec<(Row, Row)>, NoMemory>
     ensures order { IfOk result (λ index. IsStrictlySortedBy entry_cmp index.items) }
-    ensures members { IfOk result (λ index. (e : _) → list_any (eq_by_cmp entry_cmp e) index.items ≡ list_any (eq_by_cmp entry_cmp e) (map (with_key cols.now) rows.now)) }
+    ensures members { IfOk result (λ index. (e : _)
+        → list_any (eq_by_cmp entry_cmp e) index.items
+        ≡ list_any (eq_by_cmp entry_cmp e) (map (with_key cols.now) rows.now)) }
 {
-    Ok(rising(entries(alloc, rows, cols)?))
+    Ok(into_sorted(entries(alloc, rows, cols)?))
 }
 
-// The rows, each behind what it has in the columns.
+// Each row after its part in the columns, in the order of the rows.
 fn entries(alloc: Global, rows: &[Row], cols: &Names) -> Result<Vec<(Row, Row)>, NoMemory>
     ensures { IfOk result (λ list. list.items ≡ map (with_key cols.now) rows.now) }
 {
@@ -30,7 +33,7 @@ fn entries(alloc: Global, rows: &[Row], cols: &Names) -> Result<Vec<(Row, Row)>,
     Ok(list)
 }
 
-/// Each of the rows put together with each indexed row that has the same in the columns.
+/// Each of the rows pasted with each indexed row that agrees with it on the columns.
 pub fn paired(
     alloc: Global,
     rows: &[Row],
@@ -38,7 +41,10 @@ pub fn paired(
     index: &[(Row, Row)],
 ) -> Result<Vec<Row>, NoMemory>
     requires { IsStrictlySortedBy entry_cmp index.now }
-    ensures { IfOk result (λ pairs. pairs.items ≡ flat_map (λ m. map (λ e. both_of e.1 m) (filter (λ e. is_eq (row_cmp e.0 (part_in cols.now m))) index.now)) rows.now) }
+    ensures { IfOk result (λ pairs.
+        pairs.items ≡ flat_map (λ m.
+        map (λ e. override e.1 m)
+        (filter (λ e. is_eq (row_cmp e.0 (restrict cols.now m))) index.now)) rows.now) }
 {
     let mut pairs = Vec::new(alloc);
     for row in rows {
@@ -48,14 +54,15 @@ pub fn paired(
     Ok(pairs)
 }
 
-// Adds the row put together with each of the indexed rows.
+// Adds the row pasted with each of the indexed rows.
 fn append_pairs(
     pairs: &mut Vec<Row>,
     alloc: Global,
     row: &Row,
     index: &[(Row, Row)],
 ) -> Result<(), NoMemory>
-    ensures { OnOk result (pairs.new.items ≡ pairs.old.items ++ map (λ e. both_of e.1 row.now) index.now) }
+    ensures { OnOk result (pairs.new.items
+        ≡ pairs.old.items ++ map (λ e. override e.1 row.now) index.now) }
 {
     for entry in index {
         pairs.push(row.paste(alloc, &entry.1)?)?;
@@ -63,7 +70,7 @@ fn append_pairs(
     Ok(())
 }
 
-// The entries with this part, which stand beside each other.
+// The entries with this part, which are neighbours.
 fn with_part<'a>(index: &'a [(Row, Row)], part: &Row) -> &'a [(Row, Row)]
     requires { IsStrictlySortedBy entry_cmp index.now }
     ensures { result.now ≡ filter (λ e. is_eq (row_cmp e.0 part.now)) index.now }

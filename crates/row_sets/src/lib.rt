@@ -9,6 +9,3 @@ pub mod row_tree;
 pub use relation::Relation;
 pub use row_set::RowSet;
 pub use row_tree::RowTree;
-
-#[cfg(test)]
-mod tests;

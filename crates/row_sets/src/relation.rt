@@ -1,7 +1,7 @@
 //! Relations: rows over the same columns.
 ghost use Rattle.std.specs.Prelude.{◌≡◌, IfOk, OnOk, OnErr, not, true, None};
 ghost use Rattle.lens_values.specs.Columns.{kinds_differ, names};
-ghost use Rattle.lens_values.specs.Part.{both_of};
+ghost use Rattle.lens_values.specs.Part.{override};
 ghost use Rattle.lens_values.specs.SortedSet as set;
 ghost use Rattle.lens_specs.specs.Relation.{Fits, join_relations, project_relation};
 
@@ -10,7 +10,7 @@ use lens_values::{Columns, Names, NoMemory, Row};
 use std::alloc::Global;
 use std::marker::Model;
 
-/// A set of rows that all have the columns. A contract sees the columns and the rows.
+/// A set of rows that all fit the columns. A contract sees the columns and the rows.
 #[derive(Debug, Drop)]
 pub struct Relation {
     columns: Columns,
@@ -31,7 +31,7 @@ impl Model for Relation {
 }
 
 impl Relation {
-    /// The relation with no row.
+    /// The empty relation with these columns.
     pub fn empty(alloc: Global, columns: Columns) -> Relation
         ensures { result ≡ record { columns = columns; rows = set.empty } }
     {
@@ -41,7 +41,7 @@ impl Relation {
         }
     }
 
-    /// The relation of these rows, which all have the columns.
+    /// The relation of these rows, which all fit the columns.
     pub fn with_rows(columns: Columns, rows: RowSet) -> Relation
         requires { (row : _) → set.contains rows row ≡ true → Fits columns row }
         ensures { result ≡ record { columns = columns; rows = rows } }
@@ -63,7 +63,7 @@ impl Relation {
         &self.rows
     }
 
-    /// Does nothing, and tells a proof that each row of a relation has its columns.
+    /// Does nothing; its contract says that each row of the relation fits its columns.
     pub fn rows_fit(&self)
         ensures { (row : _) → set.contains self.now.rows row ≡ true → Fits self.now.columns row }
     {
@@ -77,10 +77,12 @@ impl Relation {
         self.rows.has(row)
     }
 
-    /// Adds a row that has the columns, and says whether it is new. After `NoMemory` the relation is as it was.
+    /// Adds a row that fits the columns, and says whether it is new. After `NoMemory` the relation
+    /// is unchanged.
     pub fn add(&mut self, row: Row) -> Result<bool, NoMemory>
         requires { Fits self.old.columns row }
-        ensures ok { OnOk result (self.new ≡ record self.old { rows = set.insert self.old.rows row }) }
+        ensures ok { OnOk result (self.new
+            ≡ record self.old { rows = set.insert self.old.rows row }) }
         ensures new { IfOk result (λ new. new ≡ not (set.contains self.old.rows row)) }
         ensures err { OnErr result (self.new ≡ self.old) }
     {
@@ -88,10 +90,20 @@ impl Relation {
         Ok(new)
     }
 
+    /// An equal relation.
+    pub fn copy(&self, alloc: Global) -> Result<Relation, NoMemory>
+        ensures { IfOk result (λ copy. copy ≡ self.now) }
+    {
+        let columns = self.columns.copy(alloc)?;
+        let rows = self.rows.copy(alloc)?;
+        Ok(Relation { columns, rows })
+    }
+
     /// The rows of either relation, which have the same columns.
     pub fn union(&self, alloc: Global, other: &Relation) -> Result<Relation, NoMemory>
         requires { other.now.columns ≡ self.now.columns }
-        ensures { IfOk result (λ union. union ≡ record self.now { rows = set.union self.now.rows other.now.rows }) }
+        ensures { IfOk result (λ union.
+            union ≡ record self.now { rows = set.union self.now.rows other.now.rows }) }
     {
         let columns = self.columns.copy(alloc)?;
         let rows = self.rows.union(alloc, &other.rows)?;
@@ -101,14 +113,15 @@ impl Relation {
     /// The rows of this relation that are not in the other, which has the same columns.
     pub fn minus(&self, alloc: Global, other: &Relation) -> Result<Relation, NoMemory>
         requires { other.now.columns ≡ self.now.columns }
-        ensures { IfOk result (λ rest. rest ≡ record self.now { rows = set.difference self.now.rows other.now.rows }) }
+        ensures { IfOk result (λ rest.
+            rest ≡ record self.now { rows = set.difference self.now.rows other.now.rows }) }
     {
         let columns = self.columns.copy(alloc)?;
         let rows = self.rows.minus(alloc, &other.rows)?;
         Ok(Relation { columns, rows })
     }
 
-    /// What the rows have in those of the columns that are among the names.
+    /// The projection of the relation on those of its columns that are among the names.
     pub fn project(&self, alloc: Global, columns: &Names) -> Result<Relation, NoMemory>
         ensures { IfOk result (λ part. part ≡ project_relation columns.now self.now) }
     {
@@ -117,8 +130,8 @@ impl Relation {
         Ok(Relation { columns, rows })
     }
 
-    /// The natural join: each pair of a row of this relation and one of the other that have the same in the shared
-    /// columns, put together. A shared column has one kind.
+    /// The natural join: all pairs of a row of this relation and one of the other that agree on the
+    /// shared columns, pasted. A shared column has one kind in both.
     pub fn join(&self, alloc: Global, other: &Relation) -> Result<Relation, NoMemory>
         requires { kinds_differ self.now.columns other.now.columns ≡ None }
         ensures { IfOk result (λ joined. joined ≡ join_relations self.now other.now) }
@@ -133,7 +146,7 @@ impl Relation {
 // The columns of both. A shared column has one kind.
 fn united(alloc: Global, left: &Columns, right: &Columns) -> Result<Columns, NoMemory>
     requires { kinds_differ left.now right.now ≡ None }
-    ensures { IfOk result (λ all. all ≡ both_of left.now right.now) }
+    ensures { IfOk result (λ all. all ≡ override left.now right.now) }
 {
     match left.union(alloc, right) {
         Ok(all) => Ok(all),

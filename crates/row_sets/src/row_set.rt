@@ -2,13 +2,13 @@
 ghost use Rattle.std.specs.Prelude.{◌≡◌, IfOk, OnOk, OnErr, map, not};
 ghost use Rattle.std.specs.List.Sorted.{IsStrictlySortedBy};
 ghost use Rattle.lens_specs.specs.Relation.{project};
-ghost use Rattle.lens_values.specs.Part.{part_in};
+ghost use Rattle.lens_values.specs.Part.{restrict};
 ghost use Rattle.lens_values.specs.Row.{row_cmp};
 ghost use Rattle.lens_values.specs.SortedSet as set;
 ghost use Rattle.row_sets.specs.Joins.{pairs_on};
 
 use crate::joining::{indexed, paired};
-use lens_values::{Names, NoMemory, Row, copied, merged, missing, rising};
+use lens_values::{Names, NoMemory, Row, copied, difference, into_sorted, union};
 use std::alloc::Global;
 use std::marker::Model;
 
@@ -34,11 +34,13 @@ impl Model for RowSet {
 }
 
 impl RowSet {
-    /// The set of these rows, in whatever order and however often each stands there.
+    /// The set of these rows, which may be in any order and repeat.
     pub fn new(_alloc: Global, rows: Vec<Row>) -> Result<RowSet, NoMemory>
         ensures { IfOk result (λ made. made ≡ set.from_list rows.items) }
     {
-        Ok(RowSet { rows: rising(rows) })
+        Ok(RowSet {
+            rows: into_sorted(rows),
+        })
     }
 
     /// The set of these rows, which rise strictly.
@@ -63,7 +65,7 @@ impl RowSet {
         self.rows.binary_search(row).is_ok()
     }
 
-    /// The set with no row.
+    /// The empty set.
     pub fn empty(alloc: Global) -> RowSet
         ensures { result ≡ set.empty }
     {
@@ -92,7 +94,7 @@ impl RowSet {
         ensures { IfOk result (λ union. union ≡ set.union self.now other.now) }
     {
         Ok(RowSet {
-            rows: merged(alloc, self.rows(), other.rows())?,
+            rows: union(alloc, self.rows(), other.rows())?,
         })
     }
 
@@ -101,19 +103,19 @@ impl RowSet {
         ensures { IfOk result (λ rest. rest ≡ set.difference self.now other.now) }
     {
         Ok(RowSet {
-            rows: missing(alloc, self.rows(), other.rows())?,
+            rows: difference(alloc, self.rows(), other.rows())?,
         })
     }
 
-    /// What the rows have in these columns.
+    /// The projection of the rows on these columns.
     pub fn project(&self, alloc: Global, columns: &Names) -> Result<RowSet, NoMemory>
         ensures { IfOk result (λ part. part ≡ project columns.now self.now) }
     {
         RowSet::new(alloc, projected(alloc, self.rows(), columns)?)
     }
 
-    /// Each pair of a row of this set and one of the other that have the same in these columns, put together. What the
-    /// other's row has stands where both have something.
+    /// All pairs of a row of this set and one of the other that agree on these columns, pasted.
+    /// Where both rows have a value, the other's is taken.
     pub fn join(&self, alloc: Global, other: &RowSet, cols: &Names) -> Result<RowSet, NoMemory>
         ensures { IfOk result (λ joined. joined ≡ pairs_on cols.now self.now other.now) }
     {
@@ -131,9 +133,9 @@ impl RowSet {
     }
 }
 
-// Each row's part that stands in these columns.
+// Each row's part in these columns.
 fn projected(alloc: Global, rows: &[Row], columns: &Names) -> Result<Vec<Row>, NoMemory>
-    ensures { IfOk result (λ parts. parts.items ≡ map (part_in columns.now) rows.now) }
+    ensures { IfOk result (λ parts. parts.items ≡ map (restrict columns.now) rows.now) }
 {
     let mut parts = Vec::with_capacity(alloc, rows.len())?;
     for row in rows {

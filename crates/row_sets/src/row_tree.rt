@@ -1,4 +1,4 @@
-//! A finite set of rows that takes and gives up single rows quickly.
+//! A finite set of rows with quick insertion and removal.
 ghost use Rattle.std.specs.Prelude.{◌≡◌, IfOk, OnOk, OnErr, length};
 ghost use Rattle.lens_values.specs.SortedSet as set;
 
@@ -27,7 +27,7 @@ impl Model for RowTree {
 }
 
 impl RowTree {
-    /// The set with no row.
+    /// The empty set.
     pub fn new(alloc: Global) -> RowTree
         ensures { result ≡ set.empty }
     {
@@ -36,7 +36,7 @@ impl RowTree {
         }
     }
 
-    /// How many rows it has.
+    /// The number of rows.
     pub fn count(&self) -> usize
         ensures { result ≡ length (set.items self.now) }
     {
@@ -59,7 +59,7 @@ impl RowTree {
         Ok(())
     }
 
-    /// Takes a row out, if it is there. It needs no memory.
+    /// Removes the row, if it is there. It allocates nothing.
     pub fn remove(&mut self, row: &Row)
         ensures { self.new ≡ set.remove self.old row.now }
     {

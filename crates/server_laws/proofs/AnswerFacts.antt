@@ -8,8 +8,8 @@ use Rattle.lens_specs.specs.Names.{Name}
 use Rattle.lens_specs.specs.Relation.{Rows}
 use Rattle.lens_specs.specs.Lens.{Lens, select, drop, join}
 use Rattle.lens_specs.specs.Delta.{TableDelta, changes}
-use Rattle.lens_specs.specs.Lines as lines
-use Rattle.lens_specs.specs.Lines.{Line, line}
+use Rattle.io_specs.specs.Lines as lines
+use Rattle.io_specs.specs.Lines.{Line, line}
 use Rattle.lens_specs.specs.Sort.{Sort, Clash}
 use Rattle.lens_specs.specs.Typing.{sort, table_sort}
 use Rattle.lens_specs.specs.Refusal.{Refusal, Limit, tables_limit, views_limit, too_large}

@@ -8,7 +8,7 @@ use Rattle.std.specs.declared.cmp.Ordering.TheVariants.{Less, Equal, Greater}
 use Rattle.lens_values.specs.Row.{row_cmp}
 use Rattle.lens_values.specs.declared.row.Row.{Row}
 use Rattle.lens_laws.proofs.Least.{clash_is}
-use Rattle.lens_laws.proofs.Rows.{row_total, row_exact}
+use Rattle.fd_laws.proofs.Rows.{row_total, row_exact}
 use Rattle.lens_laws.proofs.Sorts.{clash_none}
 use Rattle.lens_laws.specs.Checks.{IsClash, IsNoLater, IsLeastClash, IsFirstClash}
 use Rattle.lens_specs.specs.Relation.{Rows}
@@ -57,7 +57,7 @@ same_clash c d a b e f = λ i. record { place = a i; edge = b i; first = e i; se
 heads : (e k : Edge) (es ks : List Edge) → e ∷ es ≡ k ∷ ks → (e ≡ k) × (es ≡ ks)
 heads e k es ks h = (cc, cc)
 
--- what is before the edge, what the edge is and what is behind it, for two clashes that are both first
+-- the edges before it, the edge itself and the edges after it, for two clashes that are both first
 unique : (M : Rows) (n : ℕ) (c d : Clash) (before after before' after' : List Edge) → before ++ c.edge ∷ after ≡ before' ++ d.edge ∷ after'
     → c.place ≡ n + length before → d.place ≡ n + length before' → MeetsTree M before → MeetsTree M before'
     → IsLeastClash c.edge M c.first c.second → IsLeastClash d.edge M d.first d.second → c ≡ d

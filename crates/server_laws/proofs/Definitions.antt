@@ -5,7 +5,7 @@ use Rattle.std.specs.FinMap as finmap
 use Rattle.serde_json.specs.Data.{Items}
 use Rattle.lens_values.specs.SortedSet as set
 use Rattle.lens_values.specs.declared.row.Row.{Row}
-use Rattle.lens_laws.proofs.Names.{name_total, name_itself}
+use Rattle.fd_laws.proofs.Names.{name_total, name_itself}
 use Rattle.lens_specs.specs.Names.{Name}
 use Rattle.lens_specs.specs.Columns.{Columns}
 use Rattle.lens_specs.specs.Relation.{Relation}
@@ -13,7 +13,7 @@ use Rattle.lens_specs.specs.Dependencies.{Edge}
 use Rattle.lens_specs.specs.Predicate.{Predicate}
 use Rattle.lens_specs.specs.Lens.{Tables, Lens, sort_of, get, rows_or_none}
 use Rattle.lens_specs.specs.Typing.{table_sort}
-use Rattle.lens_specs.specs.Lines.{Line}
+use Rattle.io_specs.specs.Lines.{Line}
 use Rattle.grammar_specs.specs.Meaning.{Definition, table, view, Expr}
 use Rattle.grammar_specs.specs.Faults.{Fault}
 use Rattle.grammar_laws.specs.Reading.{reading}

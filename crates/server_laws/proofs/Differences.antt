@@ -12,18 +12,18 @@ use Rattle.lens_values.specs.Row.{row_cmp}
 use Rattle.lens_values.specs.SortedMap.{keys_rise}
 use Rattle.lens_values.specs.SortedSet as set
 use Rattle.lens_values.specs.declared.row.Row.{Row}
-use Rattle.lens_laws.proofs.Lists.{in_head, false_from, absurd_false}
-use Rattle.lens_laws.proofs.Names.{name_itself, tied_name}
-use Rattle.lens_laws.proofs.Relations.{same_rel, in_minus, from_minus}
-use Rattle.lens_laws.proofs.Rows.{tied_row, row_itself}
+use Rattle.fd_laws.proofs.Lists.{in_head, false_from, absurd_false}
+use Rattle.fd_laws.proofs.Names.{name_itself, tied_name}
+use Rattle.fd_laws.proofs.Relations.{same_rel, in_minus, from_minus}
+use Rattle.fd_laws.proofs.Rows.{tied_row, row_itself}
 use Rattle.lens_specs.specs.Names.{Name, Names, is_among}
 use Rattle.lens_specs.specs.Relation.{Rows, has, minus}
 use Rattle.lens_specs.specs.Lens.{Tables, table}
 use Rattle.lens_specs.specs.Delta.{diff, is_empty, differences}
 
--- ---- names that stand once
+-- ---- names without repeats
 
--- no name stands twice
+-- no name is repeated
 abbrev pub Distinct : List Name → Type 0
 Distinct [] = Unit {0}
 Distinct (t ∷ ts) = (is_among t ts ≡ false) × Distinct ts
@@ -40,7 +40,7 @@ rising_distinct (t ∷ ts) h = (none_among t ts h.0, rising_distinct ts h.1)
 pub items_distinct : (M : Names) → Distinct (set.items M)
 items_distinct M = rising_distinct (set.items M) (keys_rise bytes_cmp M)
 
--- a name that is behind is not this one
+-- a name of the rest is not this one
 pub other_name : (t u : Name) (ts : List Name) → is_among t ts ≡ false → is_among u ts ≡ true → eq_by_cmp bytes_cmp u t ≡ false
 other_name t u ts o i = false_from _ (λ e. absurd_false _ i (ap (λ v. is_among v ts) (tied_name u t e) ∙ o))
 

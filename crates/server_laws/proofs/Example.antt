@@ -13,13 +13,15 @@ use Rattle.lens_values.specs.declared.row.Row.{Row}
 use Rattle.lens_values.specs.declared.value.Kind.{Kind}
 use Rattle.lens_values.specs.declared.value.Kind.TheVariants as kind
 use Rattle.lens_values.specs.declared.value.Value.TheVariants.{Int}
-use Rattle.lens_laws.proofs.Lists.{false_from, absurd_false}
-use Rattle.lens_laws.proofs.Names.{name_total, name_itself}
-use Rattle.lens_laws.proofs.Relations.{from_those}
-use Rattle.lens_laws.proofs.Rows.{row_total, tied_row, row_itself}
+use Rattle.fd_laws.proofs.Lists.{false_from, absurd_false}
+use Rattle.fd_laws.proofs.Names.{name_total, name_itself}
+use Rattle.fd_laws.proofs.Relations.{from_those}
+use Rattle.fd_laws.proofs.Rows.{row_total, tied_row, row_itself}
 use Rattle.lens_laws.proofs.Sorts.{none_clash, none_off}
 use Rattle.lens_specs.specs.Names.{Name}
-use Rattle.lens_specs.specs.Columns.{Columns, Fits, kind_at, is_kind}
+use Rattle.lens_specs.specs.Columns.{Columns, Fits, fits_at}
+use Rattle.lens_values.proofs.FitsLemmas.{fits_same, fits_cond}
+use Rattle.lens_values.proofs.ValueLemmas.{int_fits}
 use Rattle.lens_specs.specs.Relation.{Rows, Relation, has}
 use Rattle.lens_specs.specs.Predicate.{gt, compare, Predicate, holds, mentions, compared}
 use Rattle.lens_specs.specs.Refusal.{Refusal, unknown_column, predicate_kind, source_mentions_output, or_else, or_name, when, unless as or_unlike, too_large, columns_limit, tables_limit, views_limit, unknown_name, unlike_kinds, least_mentioned}
@@ -142,7 +144,8 @@ no_fault : select_fault 2 (sort_with U [] []) P ≡ None
 unfolding tree_of
 no_fault =
     both (option_map unknown_column (unknown_name U P)) _ (ap (λ o. option_map unknown_column (cond (not (is_some o)) (Some a) None)) column)
-    (both (option_map predicate_kind (unlike_kinds U P)) _ (ap (λ o. option_map predicate_kind (or_name (or_unlike (is_kind o kind.Int) a) None)) column)
+    (both (option_map predicate_kind (unlike_kinds U P)) _ (ap (λ o. option_map predicate_kind (or_name (or_unlike (fits_at (Some (Int (pos 0))) o) a) None)) column
+    ∙ ap (λ b. option_map predicate_kind (or_name (or_unlike b a) None)) (int_fits (pos 0)))
     (both (option_map source_mentions_output (least_mentioned [] (outputs []))) _ (ap (option_map source_mentions_output) (nothing_mentioned (set.items (outputs []))))
     (ap (λ n. or_else (when (not (nat_le n 64)) (too_large columns_limit)) None) one_column)))
 
@@ -205,9 +208,8 @@ only : (r : Row) → has N r ≡ true → r ≡ row
 only r i = tied_row r row (or_no (eq_by_cmp row_cmp r row) (sym (set.contains-from_list row_total (row ∷ []) r) ∙ i))
 
 row_fits : Fits U row
-row_fits c = ap kind_at (finmap.get-from_entries name_total ((a, Int (pos 1)) ∷ []) c)
-    ∙ elim (eq_by_cmp bytes_cmp c a) as (λ b. kind_at (cond b (Some (Int (pos 1))) None) ≡ cond b (Some kind.Int) None) [ true ↦ refl | false ↦ refl ]
-    ∙ sym (finmap.get-from_entries name_total listing c)
+row_fits c = fits_same _ _ _ _ (sym (finmap.get-from_entries name_total ((a, Int (pos 1)) ∷ []) c)) (sym (finmap.get-from_entries name_total listing c))
+    (fits_cond (eq_by_cmp bytes_cmp c a) (Some (Int (pos 1))) None (Some kind.Int) None (λ _. int_fits (pos 1)) (λ _. refl))
 
 all_fit : AllFit U N
 all_fit r i = subst (Fits U) (sym (only r i)) row_fits

@@ -8,8 +8,8 @@ use Rattle.lens_values.specs.Order.{bytes_cmp}
 use Rattle.lens_values.specs.SortedSet as set
 use Rattle.lens_laws.proofs.Deltas.{diff_leads, diff_applies}
 use Rattle.lens_laws.proofs.Lenses.{put_leaves}
-use Rattle.lens_laws.proofs.Lists.{in_head, in_tail}
-use Rattle.lens_laws.proofs.Names.{one_is, name_total, name_exact, name_itself, tied_name}
+use Rattle.fd_laws.proofs.Lists.{in_head, in_tail}
+use Rattle.fd_laws.proofs.Names.{one_is, name_total, name_exact, name_itself, tied_name}
 use Rattle.server_laws.proofs.Differences.{Distinct, items_distinct, other_name, empty_same, not_later}
 use Rattle.lens_specs.specs.Names.{Name, Names, is_among}
 use Rattle.lens_specs.specs.Relation.{Rows, Relation, Columns}

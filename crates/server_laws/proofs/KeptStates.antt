@@ -19,7 +19,7 @@ use Rattle.server_specs.specs.Sending.{BadRow, rows_in}
 use Rattle.serde_json.specs.Data.{Items}
 use Rattle.lens_values.specs.SortedSet as set
 use Rattle.lens_values.specs.declared.row.Row.{Row}
-use Rattle.lens_specs.specs.Lines.{Line}
+use Rattle.io_specs.specs.Lines.{Line}
 use Rattle.server_laws.proofs.AnswerFacts.{RefusesPlainly, judged_err, request_err}
 use Rattle.server_laws.specs.Answers.{IsChange}
 use Rattle.server_laws.proofs.Kept.{AreThere, accept_is_kept, table_is_kept, view_is_kept}

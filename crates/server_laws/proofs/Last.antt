@@ -9,8 +9,8 @@ use Rattle.lens_values.specs.Order.{bytes_cmp}
 use Rattle.lens_values.specs.SortedSet as set
 use Rattle.lens_values.specs.declared.row.Row.{Row}
 use Rattle.lens_laws.proofs.Lenses.{get_after, put_leaves}
-use Rattle.lens_laws.proofs.Lists.{absurd_false}
-use Rattle.lens_laws.proofs.Names.{name_total, tied_name}
+use Rattle.fd_laws.proofs.Lists.{absurd_false}
+use Rattle.fd_laws.proofs.Names.{name_total, tied_name}
 use Rattle.lens_laws.specs.Lenses.{AreOf}
 use Rattle.lens_specs.specs.Names.{Name, is_among}
 use Rattle.lens_specs.specs.Relation.{Relation, Rows, has}
@@ -19,7 +19,7 @@ use Rattle.lens_specs.specs.Sort.{off, Clash, clash, IsOf}
 use Rattle.lens_specs.specs.Lens.{Tables, Lens, sort_of, tables_of, table as rows_of_table, put}
 use Rattle.lens_specs.specs.Delta.{TableDelta, diff, is_empty, differences, changes}
 use Rattle.grammar_specs.specs.Meaning.{Definition, table, view}
-use Rattle.lens_specs.specs.Lines.{Line}
+use Rattle.io_specs.specs.Lines.{Line}
 use Rattle.grammar_laws.specs.Reading.{reading}
 use Rattle.server_specs.specs.State.{State, catalogue}
 use Rattle.server_specs.specs.Answer.{Answer}

@@ -4,6 +4,8 @@ pub mod Taken
 pub mod Stored
 pub mod Valid
 pub mod AnswerFacts
+pub mod Texts
+pub mod Sessions
 pub mod Clashes
 pub mod Puts
 pub mod KeptStates

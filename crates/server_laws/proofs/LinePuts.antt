@@ -8,7 +8,7 @@ use Rattle.lens_specs.specs.Relation.{Rows}
 use Rattle.lens_specs.specs.Sort.{off, Clash}
 use Rattle.lens_specs.specs.Lens.{Lens, sort_of, get}
 use Rattle.lens_specs.specs.Delta.{TableDelta, changes}
-use Rattle.lens_specs.specs.Lines.{Line}
+use Rattle.io_specs.specs.Lines.{Line}
 use Rattle.server_specs.specs.State.{State, catalogue}
 use Rattle.server_specs.specs.Answer.{shown, changed}
 use Rattle.server_specs.specs.Request.{read, request}

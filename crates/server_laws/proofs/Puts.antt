@@ -11,8 +11,8 @@ use Rattle.lens_values.specs.SortedSet as set
 use Rattle.lens_values.specs.declared.row.Row.{Row}
 use Rattle.lens_laws.proofs.Least.{clash_is, off_is}
 use Rattle.lens_laws.proofs.Lenses.{get_sort, get_after, put_back, put_leaves}
-use Rattle.lens_laws.proofs.Lists.{in_cons}
-use Rattle.lens_laws.proofs.Names.{name_total, name_exact, name_itself, tied_name, one_is}
+use Rattle.fd_laws.proofs.Lists.{in_cons}
+use Rattle.fd_laws.proofs.Names.{name_total, name_exact, name_itself, tied_name, one_is}
 use Rattle.lens_laws.specs.Checks.{IsOff}
 use Rattle.lens_laws.specs.Edits.{AreDiffs}
 use Rattle.lens_laws.specs.Lenses.{AreOf}

@@ -6,7 +6,7 @@ use Rattle.std.specs.Cmp.Lexicographic.{pointwise, texts_ties}
 use Rattle.std.specs.FinMap as finmap
 use Rattle.lens_values.specs.SortedSet as set
 use Rattle.lens_laws.proofs.Lenses.{put_leaves}
-use Rattle.lens_laws.proofs.Names.{name_total, name_itself, one_is}
+use Rattle.fd_laws.proofs.Names.{name_total, name_itself, one_is}
 use Rattle.lens_laws.proofs.Rules.{sort_is_typed}
 use Rattle.lens_laws.specs.Lenses.{IsTyped, AreOf}
 use Rattle.lens_specs.specs.Names.{Name}

@@ -6,8 +6,8 @@ use Rattle.std.specs.Cmp.Lexicographic.{texts_ties}
 use Rattle.std.specs.FinMap as finmap
 use Rattle.std.specs.Ordering.{eq_by_cmp}
 use Rattle.lens_values.specs.Order.{bytes_cmp}
-use Rattle.lens_laws.proofs.Lists.{false_from}
-use Rattle.lens_laws.proofs.Names.{name_total, name_itself, tied_name}
+use Rattle.fd_laws.proofs.Lists.{false_from}
+use Rattle.fd_laws.proofs.Names.{name_total, name_itself, tied_name}
 use Rattle.lens_laws.proofs.Rules.{sort_is_typed, table_sort_is_sound}
 use Rattle.lens_laws.specs.Passes.{IsSound}
 use Rattle.lens_laws.specs.Rules.{BasesAreSound}

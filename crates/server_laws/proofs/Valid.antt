@@ -1,4 +1,4 @@
--- Every state that the server comes to is valid.
+-- Every state that the server reaches is valid.
 use Rattle.std.proofs.Common.{◌≡◌, ◌≤◌, ◌+◌, ℕ, Bool, true, false, cond, ◌||◌, List, [], ◌∷◌, ◌++◌, Option, Some, None, Result, Ok, Err, is_some, refl, sym, ap, subst, ◌∙◌, arith}
 use Rattle.std.specs.Prelude.{IfSome}
 use Rattle.std.proofs.lemmas.Bool.{true≢false}
@@ -11,8 +11,8 @@ use Rattle.lens_values.specs.Row.{row_cmp}
 use Rattle.lens_values.specs.SortedSet as set
 use Rattle.lens_values.specs.declared.row.Row.{Row}
 use Rattle.lens_laws.proofs.Lenses.{get_after}
-use Rattle.lens_laws.proofs.Lists.{absurd_false}
-use Rattle.lens_laws.proofs.Names.{name_total, name_itself, tied_name}
+use Rattle.fd_laws.proofs.Lists.{absurd_false}
+use Rattle.fd_laws.proofs.Names.{name_total, name_itself, tied_name}
 use Rattle.lens_laws.proofs.Sorts.{none_off, none_clash}
 use Rattle.lens_laws.specs.Lenses.{AreOf}
 use Rattle.lens_specs.specs.Names.{Name, is_among}
@@ -25,7 +25,7 @@ use Rattle.lens_specs.specs.Lens.{Tables, Lens, sort_of, tables_of, put}
 use Rattle.lens_specs.specs.Delta.{TableDelta, changes, differences, diff, is_empty}
 use Rattle.lens_specs.specs.Lens.{table as rows_of_table}
 use Rattle.grammar_specs.specs.Meaning.{Definition, table, view}
-use Rattle.lens_specs.specs.Lines.{Line}
+use Rattle.io_specs.specs.Lines.{Line}
 use Rattle.grammar_laws.specs.Reading.{reading}
 use Rattle.server_specs.proofs.Catalogues.{catalogue-push}
 use Rattle.server_specs.specs.State.{State, fresh, Catalogue, catalogue, with_definition, with_lens, sort_with, table_lens, is_table_of}
@@ -34,7 +34,7 @@ use Rattle.server_specs.specs.Request.{Request, define, read, put as put_request
 use Rattle.server_specs.specs.Defining.{judged, is_taken}
 use Rattle.server_specs.specs.Sending.{BadRow, rows_in}
 use Rattle.server_specs.specs.Answering.{answer, answer_request, answer_definition, answer_read, answer_put, put_sent, put_set, unless_clash, unless_off, accept, with_last, with_defined}
-use Rattle.server_specs.specs.Session.{Replies, answered, out_of_memory, not_stored, Exchange, Chain, last_state, Session}
+use Rattle.server_specs.specs.Session.{Replies, answered, not_stored, found_memory, out_of_memory, Exchange, Chain, last_state, Session}
 use Rattle.server_specs.specs.Validity.{IsStoredAs, IsStored, Valid}
 use Rattle.server_specs.proofs.Sent.{sent_fit}
 use Rattle.server_laws.proofs.Stored.{AreStored, as_stored, stored_put, put_names, are_there, IsHere, lens_here}
@@ -262,9 +262,9 @@ valid_answer s l v = valid_request s (request l) v
 
 valid_step : (s : State) (count : ℕ) (l : Line) (reply : List ℕ) (t : State) (count' : ℕ) → Valid s → Replies s count l reply t count' → Valid t
 valid_step s count l reply t count' v r = elim r [
-  | answered told is ↦ subst Valid (sym is) (valid_answer s l v)
+  | found_memory (answered told is) ↦ subst Valid (sym is) (valid_answer s l v)
   | out_of_memory short told is ↦ subst Valid (sym is) v
-  | not_stored told is moved grew ↦ subst Valid (sym is) v
+  | found_memory (not_stored told is moved grew) ↦ subst Valid (sym is) v
 ]
 
 valid_chain : (s : State) (count : ℕ) (es : List Exchange) → Valid s → Chain s count es → AllByRecursion (λ e. Valid e.state) es × Valid (last_state s es)

@@ -5,7 +5,7 @@ use Rattle.lens_values.specs.SortedSet as set
 use Rattle.lens_specs.specs.Columns.{Columns}
 use Rattle.lens_specs.specs.Dependencies.{Edge}
 use Rattle.lens_specs.specs.Lens.{Lens, get}
-use Rattle.lens_specs.specs.Lines.{Line}
+use Rattle.io_specs.specs.Lines.{Line}
 use Rattle.lens_specs.specs.Predicate.{Predicate}
 use Rattle.lens_specs.specs.Relation.{Name}
 use Rattle.grammar_specs.specs.Meaning.{Definition, table, view, Expr}
@@ -17,7 +17,7 @@ use Rattle.server_specs.specs.Request.{define, read, request}
 use Rattle.server_specs.specs.Defining.{fault_answer, judged}
 use Rattle.server_specs.specs.Answering.{answer, with_defined}
 
--- the judgement of a text behind the definitions of a state
+-- the judgement of a text after the definitions of a state
 abbrev pub judgement : State → List ℕ → Result Definition Answer
 judgement s text = judged (catalogue s.texts) (reading text)
 
@@ -34,7 +34,7 @@ TakenIsRead = (s : State) (text : List ℕ) (definition : Definition) → judgem
 abbrev pub TakenWhereJudged : Type 0
 TakenWhereJudged = (s : State) (l : Line) (text : List ℕ) → request l ≡ Ok (define text) → ((answer s l).0 ≡ defined (s.version + 1)) ↔ ((definition : Definition) × (judgement s text ≡ Ok definition))
 
--- a definition that is taken stands behind the others, with its table, and the version is one more
+-- a definition that is taken is added after the others, with its table, and the version rises by one
 abbrev pub TakenIsAdded : Type 0
 TakenIsAdded = (s : State) (l : Line) (text : List ℕ) (definition : Definition) → request l ≡ Ok (define text) → judgement s text ≡ Ok definition
     → answer s l ≡ (defined (s.version + 1), with_defined text definition s)
@@ -63,6 +63,6 @@ abbrev pub NamesAreTakenOnce : Type 0
 NamesAreTakenOnce = (s : State) (l : Line) (text : List ℕ) (definition : Definition) (L : Lens) → request l ≡ Ok (define text) → reading text ≡ Ok definition
     → finmap.get (catalogue s.texts) (defined_name definition) ≡ Some L → answer s l ≡ (name_taken (defined_name definition), s)
 
--- no answer takes a lens from its name, or gives the name another
+-- no answer changes the lens of a name
 abbrev pub LensesStay : Type 0
 LensesStay = (s : State) (l : Line) (name : Name) (L : Lens) → finmap.get (catalogue s.texts) name ≡ Some L → finmap.get (catalogue (answer s l).1.texts) name ≡ Some L

@@ -6,7 +6,7 @@ use Rattle.lens_specs.specs.Sort.{off, clash}
 use Rattle.lens_specs.specs.Lens.{Lens, sort_of}
 use Rattle.lens_specs.specs.Delta.{changes}
 use Rattle.grammar_specs.specs.Meaning.{Definition, table, view}
-use Rattle.lens_specs.specs.Lines.{Line}
+use Rattle.io_specs.specs.Lines.{Line}
 use Rattle.grammar_laws.specs.Reading.{reading}
 use Rattle.lens_specs.specs.Keeping.{Change, define, rows, changed, CanChange}
 use Rattle.server_specs.specs.State.{State, catalogue, kept}

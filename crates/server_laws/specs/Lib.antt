@@ -4,5 +4,6 @@ pub mod AnswerLaws
 pub mod PutLaws
 pub mod LineLaws
 pub mod KeptLaws
+pub mod SessionLaws
 pub mod DefineLaws
 pub mod Witness

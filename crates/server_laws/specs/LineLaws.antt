@@ -6,7 +6,7 @@ use Rattle.lens_values.specs.SortedSet as set
 use Rattle.lens_values.specs.declared.row.Row.{Row}
 use Rattle.lens_specs.specs.Relation.{Name}
 use Rattle.lens_specs.specs.Lens.{Lens, sort_of, get}
-use Rattle.lens_specs.specs.Lines.{Line}
+use Rattle.io_specs.specs.Lines.{Line}
 use Rattle.server_specs.specs.State.{State, catalogue}
 use Rattle.server_specs.specs.Answer.{shown, changed}
 use Rattle.server_specs.specs.Request.{read, put, request}

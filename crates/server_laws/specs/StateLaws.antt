@@ -1,11 +1,11 @@
--- The laws of states: each that the server comes to is valid.
+-- The laws of states: each one that the server reaches is valid.
 use Rattle.std.specs.Prelude.{◌≡◌, ℕ, List, Some, Ok}
 use Rattle.std.specs.List.{AllByRecursion}
 use Rattle.std.specs.FinMap as finmap
 use Rattle.lens_specs.specs.Relation.{Name}
 use Rattle.lens_specs.specs.Lens.{Lens, sort_of}
 use Rattle.lens_specs.specs.Typing.{sort}
-use Rattle.lens_specs.specs.Lines.{Line}
+use Rattle.io_specs.specs.Lines.{Line}
 use Rattle.lens_laws.specs.Lenses.{IsTyped, AreOf}
 use Rattle.server_specs.specs.State.{State, fresh, catalogue}
 use Rattle.server_specs.specs.Answering.{answer}

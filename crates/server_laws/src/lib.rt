@@ -1,5 +1,5 @@
-//! The laws of the server: what every state, every answer and every session keeps, each the contract of a function with an
-//! empty body.
+//! The laws of the server: what every state, every answer and every session keeps, each the
+//! contract of a function with an empty body.
 #![tactic(auto)]
 
 ghost use Rattle.server_laws.specs.AnswerLaws.{AnswersDoNotFail, ChangesRaiseVersions, LastFollows, OthersStay, RefusalsChangeNothing, VersionsAreTold};
@@ -7,10 +7,12 @@ ghost use Rattle.server_laws.specs.DefineLaws.{FaultsAreTold, LensesStay, NamesA
 ghost use Rattle.server_laws.specs.KeptLaws.{ChangesAreKept, DefinitionsAreKept, PutsAreKept};
 ghost use Rattle.server_laws.specs.LineLaws.{LinesPutSets, LinesReadViews, NextLineReads, NothingIsPut};
 ghost use Rattle.server_laws.specs.PutLaws.{AcceptedOrRefused, AcceptedWhereTyped, ChangesAreDifferences, ChangesAreTold, OtherTablesStay, PutThenRead, ReadThenPut, RefusedByFirstClash, RefusedByLeastRow, SentRowsFit};
+ghost use Rattle.server_laws.specs.SessionLaws.{AnswersReadOtherwise, FaultsAreCounted, RepliesAreAnswers, SessionsAreComplete};
 ghost use Rattle.server_laws.specs.StateLaws.{AnswersStayValid, FreshIsValid, LensesAreTyped, SessionsStayValid};
 ghost use Rattle.server_laws.specs.Witness.{PutsCanChange};
 
-/// Every state that the server comes to is valid, and in a valid state each lens has a sort and its tables.
+/// Every state that the server reaches is valid, and in a valid state each lens has a sort and its
+/// tables.
 pub fn states_stay_valid()
     ensures fresh { FreshIsValid }
     ensures answers { AnswersStayValid }
@@ -24,7 +26,8 @@ pub fn refusals_change_nothing()
     ensures failure { AnswersDoNotFail }
 {}
 
-/// A put is accepted exactly where the new view meets its type; it is then read again, and changes exactly the differences.
+/// A put is accepted exactly where the new view meets its type; it is then read again, and changes
+/// exactly the differences.
 pub fn puts_are_lawful()
     ensures fits { SentRowsFit }
     ensures accepted { AcceptedWhereTyped }
@@ -38,7 +41,8 @@ pub fn puts_are_lawful()
     ensures get_put { ReadThenPut }
 {}
 
-/// Lines that read and put: what a line put, the next one reads, and to put what is shown changes nothing.
+/// Lines that read and put: what a line put, the next one reads, and to put what is shown changes
+/// nothing.
 pub fn lines_are_lawful()
     ensures reads { LinesReadViews }
     ensures puts { LinesPutSets }
@@ -46,7 +50,8 @@ pub fn lines_are_lawful()
     ensures get_put { NothingIsPut }
 {}
 
-/// A definition is taken exactly where it is judged so, is shown from then on, and its name is never taken again.
+/// A definition is taken exactly where it is judged so, is shown from then on, and its name is
+/// never taken again.
 pub fn definitions_are_judged()
     ensures read { TakenIsRead }
     ensures taken { TakenWhereJudged }
@@ -59,12 +64,23 @@ pub fn definitions_are_judged()
     ensures stays { LensesStay }
 {}
 
-/// The version rises by one exactly where something changes, and each table tells the version that changed it last.
+/// The version rises by one exactly where something changes, and each table tells the version that
+/// changed it last.
 pub fn versions_rise()
     ensures rises { ChangesRaiseVersions }
     ensures stays { OthersStay }
     ensures told { VersionsAreTold }
     ensures last { LastFollows }
+{}
+
+/// Over a session in which the keeper does not fail, each reply is the answer to its line, or says
+/// that memory ran out. Where none says that, the replies are exactly the answers, in order. Of
+/// each rise of the keeper's count at most one reply tells.
+pub fn sessions_are_complete()
+    ensures answers { RepliesAreAnswers }
+    ensures complete { SessionsAreComplete }
+    ensures faults { FaultsAreCounted }
+    ensures failures { AnswersReadOtherwise }
 {}
 
 /// What a keeper keeps of a state follows each change.

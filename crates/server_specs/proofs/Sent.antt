@@ -1,6 +1,6 @@
 -- Rows that are sent fit the columns.
-use Rattle.std.proofs.Common.{◌≡◌, true, false, cond, List, [], ◌∷◌, Option, Some, None, refl, sym, ap, subst, ◌∙◌}
-use Rattle.std.specs.Prelude.{ℕ, ◌||◌, option_map, option_and_then, Result, Ok, Err}
+use Rattle.std.proofs.Common.{◌≡◌, Bool, true, false, cond, List, [], ◌∷◌, Option, Some, None, refl, sym, ap, subst, ◌∙◌}
+use Rattle.std.specs.Prelude.{ℕ, ◌||◌, option_and_then, Result, Ok, Err}
 use Rattle.std.specs.FinMap as finmap
 use Rattle.std.specs.List.{list_any}
 use Rattle.std.specs.Ordering.{eq_by_cmp, is_eq}
@@ -13,31 +13,28 @@ use Rattle.lens_values.specs.Order.{bytes_cmp}
 use Rattle.lens_values.specs.Row.{row_cmp}
 use Rattle.lens_values.specs.RowOrder.{row_cmp_total, row_cmp-IsAntisymmetric}
 use Rattle.lens_values.specs.SortedSet as set
-use Rattle.lens_values.specs.Value.{kind_of}
+use Rattle.lens_values.specs.Value.{fits}
 use Rattle.lens_values.specs.declared.value.Kind.{Kind}
-use Rattle.lens_values.specs.declared.value.Kind.TheVariants as kind
 use Rattle.lens_values.specs.declared.value.Value.{Value}
-use Rattle.lens_values.specs.declared.value.Value.TheVariants.{Int, Text, Flag}
 use Rattle.lens_values.specs.declared.row.Row.{Row}
 use Rattle.lens_specs.specs.Names.{Name}
-use Rattle.lens_specs.specs.Columns.{Columns, Fits, kind_at}
+use Rattle.lens_specs.specs.Columns.{Columns, Fits, fits_at}
+use Rattle.lens_values.proofs.FitsLemmas.{fits_same, fits_cond}
 use Rattle.lens_specs.specs.Relation.{has}
 use Rattle.server_specs.specs.Request.{first_other}
-use Rattle.server_specs.specs.Sending.{BadRow, value_in, value_at, with_pair, pairs_in, is_column_of, row_from, row_of_members, row_in, with_row, rows_in}
+use Rattle.server_specs.specs.Sending.{BadRow, value_of, fitting, value_in, value_at, with_pair, pairs_in, is_column_of, row_from, row_of_members, row_in, with_row, rows_in}
 
 chained : {A B : Type 0} (f : A → Option B) (o : Option A) (y : B) → option_and_then f o ≡ Some y → (x : A) × (o ≡ Some x) × (f x ≡ Some y)
 chained f None y e = cc
 chained f (Some x) y e = (x, refl, e)
 
-mapped : {A B : Type 0} (f : A → B) (o : Option A) (y : B) → option_map f o ≡ Some y → (x : A) × (o ≡ Some x) × (f x ≡ y)
-mapped f None y e = cc
-mapped f (Some x) y e = (x, refl, cc)
+-- a value that is read fits its kind
+kept_fits : (k : Kind) (x v : Value) (b : Bool) → fits x k ≡ b → cond b (Some x) None ≡ Some v → fits v k ≡ true
+kept_fits k x v true e is = let same : x ≡ v = cc in ap (λ w. fits w k) (sym same) ∙ e
+kept_fits k x v false e is = cc
 
--- a value that is read is of its kind
-value_kind : (k : Kind) (d : Data) (v : Value) → value_in k d ≡ Some v → kind_of v ≡ k
-value_kind kind.Int d v e = let w = mapped Int _ v e in ap kind_of (sym w.2)
-value_kind kind.Text d v e = let w = mapped Text _ v e in ap kind_of (sym w.2)
-value_kind kind.Flag d v e = let w = mapped Flag _ v e in ap kind_of (sym w.2)
+value_fits : (k : Kind) (d : Data) (v : Value) → value_in k d ≡ Some v → fits v k ≡ true
+value_fits k d v e = let w = chained (fitting k) (value_of d) v e in kept_fits k w.0 v (fits w.0 k) refl w.2
 
 paired : (name : Name) (o : Option Value) (others : Result (List (Name × Value)) Name) (pairs : List (Name × Value)) → with_pair name o others ≡ Ok pairs
     → (v : Value) × (rest : List (Name × Value)) × (o ≡ Some v) × (others ≡ Ok rest) × ((name, v) ∷ rest ≡ pairs)
@@ -45,19 +42,16 @@ paired name None others pairs e = cc
 paired name (Some v) (Ok rest) pairs e = (v, rest, refl, refl, cc)
 paired name (Some v) (Err wrong) pairs e = cc
 
--- the pairs have the kinds of the columns
-pairs_kinds : (columns : List (Name × Kind)) (ms : Members) (pairs : List (Name × Value)) → pairs_in columns ms ≡ Ok pairs
-    → (c : Name) → kind_at (finmap.find bytes_cmp c pairs) ≡ finmap.find bytes_cmp c columns
-pairs_kinds [] ms pairs e c = let f : [] ≡ pairs = cc in ap (λ ps. kind_at (finmap.find bytes_cmp c ps)) (sym f)
-pairs_kinds (column ∷ columns) ms pairs e c =
+-- the pairs fit the columns
+pairs_fit : (columns : List (Name × Kind)) (ms : Members) (pairs : List (Name × Value)) → pairs_in columns ms ≡ Ok pairs
+    → (c : Name) → fits_at (finmap.find bytes_cmp c pairs) (finmap.find bytes_cmp c columns) ≡ true
+pairs_fit [] ms pairs e c = let f : [] ≡ pairs = cc in ap (λ ps. fits_at (finmap.find bytes_cmp c ps) None) (sym f)
+pairs_fit (column ∷ columns) ms pairs e c =
     let w = paired column.0 (value_at ms column) (pairs_in columns ms) pairs e in
     let d = chained (value_in column.1) (find.get_member column.0 ms) w.0 w.2 in
-    let rest = pairs_kinds columns ms w.1 w.3 c in
-    ap (λ ps. kind_at (finmap.find bytes_cmp c ps)) (sym w.4)
-    ∙ elim (eq_by_cmp bytes_cmp c column.0) as (λ b. kind_at (cond b (Some w.0) (finmap.find bytes_cmp c w.1)) ≡ cond b (Some column.1) (finmap.find bytes_cmp c columns)) [
-      | true ↦ ap Some (value_kind column.1 d.0 w.0 d.2)
-      | false ↦ rest
-    ]
+    ap (λ ps. fits_at (finmap.find bytes_cmp c ps) (finmap.find bytes_cmp c (column ∷ columns))) (sym w.4)
+    ∙ fits_cond (eq_by_cmp bytes_cmp c column.0) (Some w.0) (finmap.find bytes_cmp c w.1) (Some column.1) (finmap.find bytes_cmp c columns)
+    (λ _. value_fits column.1 d.0 w.0 d.2) (λ _. pairs_fit columns ms w.1 w.3 c)
 
 from_pairs : (result : Result (List (Name × Value)) Name) (strange : Option (List ℕ)) (r : Row) → row_from result strange ≡ Ok r → (pairs : List (Name × Value)) × (result ≡ Ok pairs) × (finmap.from_entries pairs ≡ r)
 from_pairs (Ok pairs) None r e = (pairs, refl, cc)
@@ -67,7 +61,7 @@ from_pairs (Err wrong) strange r e = cc
 members_fit : (columns : Columns) (ms : Members) (r : Row) → row_of_members columns ms ≡ Ok r → Fits columns r
 members_fit columns ms r e =
     let w = from_pairs (pairs_in (finmap.entries columns) ms) (first_other (is_column_of columns) ms) r e in
-    λ c. ap (λ m. kind_at (finmap.get m c)) (sym w.2) ∙ ap kind_at (finmap.get-from_entries nat_list_cmp_total w.0 c) ∙ pairs_kinds (finmap.entries columns) ms w.0 w.1 c ∙ sym (finmap.get-entries columns c)
+    λ c. fits_same _ _ _ _ (sym (finmap.get-from_entries nat_list_cmp_total w.0 c) ∙ ap (λ m. finmap.get m c) w.2) (sym (finmap.get-entries columns c)) (pairs_fit (finmap.entries columns) ms w.0 w.1 c)
 
 row_fits : (columns : Columns) (d : Data) (r : Row) → row_in columns d ≡ Ok r → Fits columns r
 row_fits columns null r e = cc
@@ -83,7 +77,7 @@ rowed (Err name) others rows e = cc
 rowed (Ok row) (Ok rest) rows e = (row, rest, refl, refl, cc)
 rowed (Ok row) (Err bad) rows e = cc
 
--- each row of the list has the columns
+-- each row of the list fits the columns
 abbrev AllFit : Columns → List Row → Type 0
 AllFit columns rows = (r : Row) → list_any (eq_by_cmp row_cmp r) rows ≡ true → Fits columns r
 
@@ -105,6 +99,6 @@ listed_fit columns (item d ds) rows e =
     let w = rowed (row_in columns d) (rows_in columns ds) rows e in
     subst (AllFit columns) w.4 (one_more columns w.0 w.1 (row_fits columns d w.0 w.2) (listed_fit columns ds w.1 w.3))
 
--- each row that is sent has the columns, each of its kind
+-- each row that is sent fits the columns
 pub sent_fit : (columns : Columns) (items : Items) (rows : List Row) → rows_in columns items ≡ Ok rows → (r : Row) → has (set.from_list rows) r ≡ true → Fits columns r
 sent_fit columns items rows e r i = listed_fit columns items rows e r (sym (set.contains-from_list row_cmp_total rows r) ∙ i)

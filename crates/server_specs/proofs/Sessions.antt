@@ -2,7 +2,7 @@
 use Rattle.std.proofs.Common.{◌≡◌, ◌<◌, ◌+◌, ℕ, List, [], ◌∷◌, ◌++◌, map, take, length, get_or, refl, ap, sym, subst, ◌∙◌}
 use Rattle.std.proofs.lemmas.List.{take_more}
 use Rattle.server_specs.specs.State.{State}
-use Rattle.lens_specs.specs.Lines.{Line}
+use Rattle.io_specs.specs.Lines.{Line}
 use Rattle.server_specs.specs.Session.{Step, Exchange, Chain, last_state, last_count, Session}
 
 Chain-push : (s : State) (count : ℕ) (es : List Exchange) (e : Exchange) → Chain s count es

@@ -7,8 +7,8 @@ use Rattle.server_specs.specs.Answer as spec
 use Rattle.server_specs.specs.Answer.{memory, text}
 use Rattle.server_specs.specs.Request.{request}
 use Rattle.server_specs.specs.Answering.{answer}
-use Rattle.lens_specs.specs.Lines.{line, too_long, marked}
-use Rattle.server_specs.specs.Session.{Step, answered, out_of_memory, IsShort}
+use Rattle.io_specs.specs.Lines.{line, too_long, marked}
+use Rattle.server_specs.specs.Session.{Step, answered, found_memory, out_of_memory, IsShort}
 
 too_many : (n : ℕ) → 16777216 < n → nat_le n 16777216 ≡ false
 too_many n h = lt-leb n 16777216 h
@@ -16,7 +16,7 @@ too_many n h = lt-leb n 16777216 h
 -- what is too long is refused for that
 pub long_line : (s : State) (count : ℕ) (bytes reply : List ℕ) → 16777216 < length bytes → reply ≡ text spec.long_line → Step s count (marked bytes) reply s count
 unfolding answer request
-long_line s count bytes reply h e = rw (too_many (length bytes) h) (record { later = omega arith; replied = answered e refl })
+long_line s count bytes reply h e = rw (too_many (length bytes) h) (record { later = omega arith; replied = found_memory (answered e refl) })
 
 short : (b : Bool) (bytes : List ℕ) → b ≡ true → IsShort (if b then line bytes else too_long)
 short true bytes e = tt

@@ -8,13 +8,13 @@ use Rattle.lens_specs.specs.Lens.{Lens}
 use Rattle.lens_specs.specs.Sort.{Clash}
 use Rattle.lens_specs.specs.Delta.{TableDelta, changes}
 use Rattle.grammar_specs.specs.Meaning.{Definition, table, view}
-use Rattle.lens_specs.specs.Lines.{Line}
+use Rattle.io_specs.specs.Lines.{Line}
 use Rattle.server_specs.specs.State.{State}
 use Rattle.server_specs.specs.Answer.{Answer}
 use Rattle.server_specs.specs.Request.{Request, define, read, put, edit, preview, describe, list, request}
 use Rattle.server_specs.specs.Sending.{BadRow}
 use Rattle.server_specs.specs.Answering.{answer, answer_request, answer_definition, answer_read, answer_put, put_sent, unless_clash, unless_off, accept}
-use Rattle.server_specs.specs.Session.{Step, answered, out_of_memory, not_stored}
+use Rattle.server_specs.specs.Session.{Step, answered, not_stored, found_memory, out_of_memory}
 
 -- the version of the state of an answer
 abbrev version_of : Answer × State → ℕ
@@ -66,7 +66,7 @@ version-answer s l = asked (request l) s
 
 pub version-step : (old : State) (count : ℕ) (l : Line) (reply : List ℕ) (new : State) (count' : ℕ) → Step old count l reply new count' → new.version ≤ old.version + 1
 version-step old count l reply new count' step = elim step.replied [
-  | answered r s ↦ subst (λ t. t.version ≤ old.version + 1) (sym s) (version-answer old l)
+  | found_memory (answered r s) ↦ subst (λ t. t.version ≤ old.version + 1) (sym s) (version-answer old l)
   | out_of_memory h r s ↦ subst (λ t. t.version ≤ old.version + 1) (sym s) (omega arith)
-  | not_stored r s n h ↦ subst (λ t. t.version ≤ old.version + 1) (sym s) (omega arith)
+  | found_memory (not_stored r s n h) ↦ subst (λ t. t.version ≤ old.version + 1) (sym s) (omega arith)
 ]

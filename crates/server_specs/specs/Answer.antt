@@ -25,7 +25,7 @@ pub data Listed : Type 0 where
   in_remove : Listed
   in_add : Listed
 
--- what is accepted, with the version after it or at it; and the refusals
+-- what was accepted, with the version after it or the present one; or why it is refused
 pub data Answer : Type 0 where
   defined : ℕ → Answer
   shown : Rows → ℕ → Answer
@@ -142,12 +142,12 @@ list_word in_rows = codes "rows"
 list_word in_remove = codes "remove"
 list_word in_add = codes "add"
 
--- the side of a join
+-- the word of a side of a join
 abbrev pub side_word : Side → List ℕ
 side_word left_side = codes "left"
 side_word right_side = codes "right"
 
--- what is too large
+-- the word of a limit
 abbrev pub limit_word : Limit → List ℕ
 limit_word columns_limit = codes "columns"
 limit_word lens_limit = codes "lens"

@@ -11,7 +11,7 @@ use Rattle.lens_specs.specs.Lens.{Lens, get, put as put_rows, sort_of}
 use Rattle.lens_specs.specs.Delta.{TableDelta, changes}
 use Rattle.grammar_specs.specs.Meaning.{Definition, table, view}
 use Rattle.grammar_laws.specs.Reading.{reading}
-use Rattle.lens_specs.specs.Lines.{Line}
+use Rattle.io_specs.specs.Lines.{Line}
 use Rattle.server_specs.specs.State.{State, catalogue}
 use Rattle.server_specs.specs.Answer.{Answer, defined, shown, changed, unknown_name, bad_row, in_rows, off_predicate, clash, unbuilt}
 use Rattle.server_specs.specs.Request.{Request, define, read, put, edit, preview, describe, list, request}
@@ -77,7 +77,7 @@ unless_off (Some row) lens rows s = unchanged (off_predicate row) s
 abbrev pub put_set : Rows → Lens → State → Answer × State
 put_set rows lens s = unless_off (off (sort_of lens).predicate rows) lens rows s
 
--- what is sent are rows of the view's columns
+-- the rows that were sent are put, where they have the view's columns
 abbrev pub put_sent : Result (List Row) BadRow → Lens → State → Answer × State
 put_sent (Err bad) lens s = unchanged (bad_row in_rows bad.0 bad.1) s
 put_sent (Ok rows) lens s = put_set (set.from_list rows) lens s

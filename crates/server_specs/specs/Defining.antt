@@ -37,7 +37,7 @@ table_count known = count_named is_table_of (finmap.entries known)
 abbrev pub view_count : Catalogue → ℕ
 view_count known = count_named (λ name lens. not (is_table_of name lens)) (finmap.entries known)
 
--- whether the lens that is there is another than the table of the name
+-- whether the name has a lens that is not the table itself
 abbrev pub is_other : Name → Option Lens → Bool
 is_other name None = false
 is_other name (Some lens) = not (is_table_of name lens)
@@ -95,7 +95,7 @@ abbrev pub over_both : Result Lens Answer → Result Lens Answer → Result Lens
 over_both (Err first) right = Err first
 over_both (Ok lens) right = over (join lens) right
 
--- the lens of an expression, or its first refusal: operands before what stands over them
+-- the lens of an expression, or its first refusal: operands come before their node, the left one first
 abbrev pub lens_in : Catalogue → Expr → Result Lens Answer
 lens_in known (named name) = lens_named name (finmap.get known name)
 lens_in known (language.select predicate of) = over (select predicate) (lens_in known of)
@@ -115,7 +115,7 @@ judged_view known name expr =
 
 -- ---- texts
 
--- what a text says too much of
+-- the limit that a text passes
 abbrev pub limit_of : faults.Limit → Limit
 limit_of faults.columns = columns_limit
 limit_of faults.predicate = predicate_limit

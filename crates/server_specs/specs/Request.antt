@@ -10,7 +10,7 @@ use Rattle.serde_json.specs.Read as json
 use Rattle.lens_values.specs.Bytes.{is_text, is_name}
 use Rattle.lens_values.specs.Order.{bytes_cmp}
 use Rattle.lens_specs.specs.Relation.{Name}
-use Rattle.lens_specs.specs.Lines.{Line, line, too_long}
+use Rattle.io_specs.specs.Lines.{Line, line, too_long}
 use Rattle.server_specs.specs.Answer.{Answer, long_line, not_json, bad_request}
 
 -- A request, with what it asks for: a definition's text; a view's name; rows that are sent; and the version on which a change rests.

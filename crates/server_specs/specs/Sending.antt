@@ -1,33 +1,44 @@
 -- Rows that are sent.
-use Rattle.std.specs.Prelude.{ℕ, suc, Bool, List, [], ◌∷◌, is_some, Option, Some, None, option_map, option_and_then, Result, Ok, Err}
+use Rattle.std.specs.Prelude.{ℕ, suc, Bool, List, [], ◌∷◌, is_some, if◌then◌else◌, Option, Some, None, option_map, option_and_then, Result, Ok, Err}
 use Rattle.std.specs.FinMap as finmap
 use Rattle.serde_json.specs.Data.{Data, null, boolean, number, string, array, object, Items, no_items, item, Members}
 use Rattle.serde_json.specs.Find as find
 use Rattle.lens_values.specs.declared.value.Kind.{Kind}
-use Rattle.lens_values.specs.declared.value.Kind.TheVariants as kind
+use Rattle.lens_values.specs.Value.{fits}
 use Rattle.lens_values.specs.declared.value.Value.{Value}
 use Rattle.lens_values.specs.declared.value.Value.TheVariants.{Int, Text, Flag}
 use Rattle.lens_values.specs.declared.row.Row.{Row}
 use Rattle.lens_specs.specs.Relation.{Name, Columns}
 use Rattle.server_specs.specs.Request.{text_in, first_other, least_of}
 
--- a number of 64 bits, a text or a truth value
-abbrev pub value_in : Kind → Data → Option Value
-value_in kind.Int d = option_map Int (option_and_then find.as_i64 (find.as_number d))
-value_in kind.Text d = option_map Text (text_in d)
-value_in kind.Flag d = option_map Flag (find.as_bool d)
+-- the value that the data says: a number of 64 bits, a text or a truth value
+abbrev pub value_of : Data → Option Value
+value_of null = None
+value_of (boolean b) = Some (Flag b)
+value_of (number n) = option_map Int (find.as_i64 n)
+value_of (string bytes) = option_map Text (text_in (string bytes))
+value_of (array ds) = None
+value_of (object ms) = None
 
--- what the members have in a column, where it is of the column's kind
+-- the value, if it fits the kind
+abbrev pub fitting : Kind → Value → Option Value
+fitting k v = if fits v k then Some v else None
+
+-- the value that the data says, if it fits the kind
+abbrev pub value_in : Kind → Data → Option Value
+value_in k d = option_and_then (fitting k) (value_of d)
+
+-- the value that the members have for a column, if it fits
 abbrev pub value_at : Members → Name × Kind → Option Value
 value_at ms column = option_and_then (value_in column.1) (find.get_member column.0 ms)
 
--- the column with its value before the others
+-- the column with its value, in front of the others
 abbrev pub with_pair : Name → Option Value → Result (List (Name × Value)) Name → Result (List (Name × Value)) Name
 with_pair name None others = Err name
 with_pair name (Some value) (Ok pairs) = Ok ((name, value) ∷ pairs)
 with_pair name (Some value) (Err wrong) = Err wrong
 
--- each of the columns with its value, or the first that is missing or of the wrong kind
+-- each of the columns with its value, or the first that is missing or whose value does not fit
 abbrev pub pairs_in : List (Name × Kind) → Members → Result (List (Name × Value)) Name
 pairs_in [] ms = Ok []
 pairs_in (column ∷ columns) ms = with_pair column.0 (value_at ms column) (pairs_in columns ms)
@@ -42,7 +53,7 @@ row_from (Ok pairs) None = Ok (finmap.from_entries pairs)
 row_from (Ok pairs) (Some strange) = Err strange
 row_from (Err wrong) strange = Err (least_of wrong strange)
 
--- An object whose members are exactly the columns, each of its kind; or its least wrong name.
+-- the row of an object whose members are exactly the columns, each with a value that fits; or its least wrong name
 abbrev pub row_of_members : Columns → Members → Result Row (List ℕ)
 row_of_members columns ms = row_from (pairs_in (finmap.entries columns) ms) (first_other (is_column_of columns) ms)
 
@@ -68,7 +79,7 @@ BadRow = ℕ × List ℕ
 abbrev pub later : BadRow → BadRow
 later bad = (suc bad.0, bad.1)
 
--- the row before the others
+-- the row in front of the others
 abbrev pub with_row : Result Row (List ℕ) → Result (List Row) BadRow → Result (List Row) BadRow
 with_row (Err name) others = Err (0, name)
 with_row (Ok row) (Ok rows) = Ok (row ∷ rows)

@@ -1,9 +1,9 @@
 -- A session: what the server replies to lines, one after another.
 use Rattle.std.specs.Prelude.{◌≡◌, ◌≢◌, ◌≤◌, ℕ, List, [], ◌∷◌, map}
-use Rattle.lens_specs.specs.Faults.{Rose}
-use Rattle.lens_specs.specs.Lines.{Line, line, too_long}
+use Rattle.io_specs.specs.Faults.{Rose}
+use Rattle.io_specs.specs.Lines.{Line, line, too_long}
 use Rattle.server_specs.specs.State.{State}
-use Rattle.server_specs.specs.Answer.{memory, store_fault, text}
+use Rattle.server_specs.specs.Answer.{Answer, memory, store_fault, text}
 use Rattle.server_specs.specs.Answering.{answer}
 
 -- the line is not too long
@@ -11,11 +11,16 @@ abbrev pub IsShort : Line → Type 0
 IsShort (line bytes) = Unit {0}
 IsShort too_long = ⊥
 
--- What one line may get, and what it leaves: the answer and its state; or memory ran out, or the keeper failed, and nothing changed.
+-- What becomes of an answer: its text is the reply, and its state the new one; or the keeper failed at the change, and nothing
+-- changed.
+pub data Becomes (a : Answer × State) (old : State) (count : ℕ) (reply : List ℕ) (new : State) (count' : ℕ) : Type 0 where
+  answered : reply ≡ text a.0 → new ≡ a.1 → Becomes a old count reply new count'
+  not_stored : reply ≡ text store_fault → new ≡ old → a.1 ≢ old → Rose count count' → Becomes a old count reply new count'
+
+-- What one line may get: what becomes of its answer; or, where it is not too long, that memory ran out, and nothing changed.
 pub data Replies (old : State) (count : ℕ) (l : Line) (reply : List ℕ) (new : State) (count' : ℕ) : Type 0 where
-  answered : reply ≡ text (answer old l).0 → new ≡ (answer old l).1 → Replies old count l reply new count'
+  found_memory : Becomes (answer old l) old count reply new count' → Replies old count l reply new count'
   out_of_memory : IsShort l → reply ≡ text memory → new ≡ old → Replies old count l reply new count'
-  not_stored : reply ≡ text store_fault → new ≡ old → (answer old l).1 ≢ old → Rose count count' → Replies old count l reply new count'
 
 -- One step of a session: a line is replied to, and no count falls.
 pub record Step (old : State) (count : ℕ) (l : Line) (reply : List ℕ) (new : State) (count' : ℕ) : Type 0 where

@@ -3,7 +3,6 @@ use Rattle.std.specs.Prelude.{ℕ, Bool, false, List, [], ◌∷◌, nat_eq, Opt
 use Rattle.std.specs.Cmp.Lexicographic.{pointwise}
 use Rattle.std.specs.FinMap as finmap
 use Rattle.lens_values.specs.Order.{bytes_cmp}
-use Rattle.lens_values.specs.SortedSet as set
 use Rattle.lens_specs.specs.Names.{Name}
 use Rattle.lens_specs.specs.Relation.{Columns, Rows, Relation}
 use Rattle.lens_specs.specs.Dependencies.{Edge}
@@ -76,7 +75,7 @@ abbrev pub catalogue_onto : Catalogue → List (List ℕ) → Catalogue
 catalogue_onto known [] = known
 catalogue_onto known (text ∷ texts) = catalogue_onto (with_definition (reading text) known) texts
 
--- the lenses that come of taking the definition texts in order
+-- the lenses of the definitions, whose texts are taken in order
 abbrev pub catalogue : List (List ℕ) → Catalogue
 catalogue = catalogue_onto finmap.empty
 

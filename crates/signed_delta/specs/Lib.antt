@@ -1,3 +1,3 @@
-pub mod Apart
+pub mod Disjoint
 pub mod DeltaCode
 pub mod Tables

@@ -2,7 +2,7 @@
 ghost use Rattle.std.specs.Prelude.{◌≡◌, IfOk};
 ghost use Rattle.lens_specs.specs.Delta as spec;
 ghost use Rattle.lens_specs.specs.Delta.{AppliesTo};
-ghost use Rattle.signed_delta.specs.Apart.{AreApart};
+ghost use Rattle.signed_delta.specs.Disjoint.{AreApart};
 
 use crate::sides::both_sides;
 use lens_values::{Name, NoMemory};
@@ -19,7 +19,7 @@ pub struct Delta {
 
 impl Model for Delta {
     ghost use Rattle.lens_specs.specs.Delta as spec;
-    ghost use Rattle.signed_delta.specs.Apart.{AreApart};
+    ghost use Rattle.signed_delta.specs.Disjoint.{AreApart};
     ghost use Rattle.signed_delta.specs.DeltaCode.{coded_delta};
 
     ghost Value = { spec.Delta };
@@ -61,7 +61,7 @@ impl Delta {
         self.remove.rows().is_empty() && self.add.rows().is_empty()
     }
 
-    /// An equal difference.
+    /// Copies the difference.
     pub fn copy(&self, alloc: Global) -> Result<Delta, NoMemory>
         ensures { IfOk result (λ copy. copy ≡ self.now) }
     {
@@ -70,7 +70,7 @@ impl Delta {
         Ok(Delta { remove, add })
     }
 
-    /// The difference that leads back: it removes what this one adds, and adds what this one removes.
+    /// The inverse: it removes what this one adds, and adds what this one removes.
     pub fn invert(self) -> Delta
         ensures { result ≡ record { remove = self.add; add = self.remove } }
     {
@@ -80,7 +80,7 @@ impl Delta {
         }
     }
 
-    /// The rows after it: less those to remove, and with those to add.
+    /// Applies the difference: the rows without those to remove, and with those to add.
     pub fn apply_to(&self, alloc: Global, rows: &RowSet) -> Result<RowSet, NoMemory>
         ensures { IfOk result (λ after. after ≡ spec.new_view rows.now self.now) }
     {
@@ -89,10 +89,11 @@ impl Delta {
         Ok(after)
     }
 
-    /// The relation after it, over the same columns.
+    /// Applies the difference to a relation, over the same columns.
     pub fn apply(&self, alloc: Global, relation: &Relation) -> Result<Relation, NoMemory>
         requires { AppliesTo self.now relation.now }
-        ensures { IfOk result (λ after. after ≡ record relation.now { rows = spec.new_view relation.now.rows self.now }) }
+        ensures { IfOk result (λ after.
+            after ≡ record relation.now { rows = spec.new_view relation.now.rows self.now }) }
     {
         relation.rows_fit();
         let columns = relation.columns().copy(alloc)?;
@@ -106,12 +107,12 @@ impl Delta {
 pub struct TableDelta {
     /// The table's name.
     pub table: Name,
-    /// What its rows differ by.
+    /// The difference of its rows.
     pub delta: Delta,
 }
 
 impl TableDelta {
-    /// An equal difference of the same table.
+    /// Copies the difference of the table.
     pub fn copy(&self, alloc: Global) -> Result<TableDelta, NoMemory>
         ensures { IfOk result (λ copy. copy ≡ self.now) }
     {
@@ -123,7 +124,7 @@ impl TableDelta {
     }
 }
 
-/// The difference that leads from the old rows to the new ones, by one walk along both.
+/// The difference from the old rows to the new ones, found by one walk along both.
 pub fn diff(alloc: Global, old: &Relation, new: &Relation) -> Result<Delta, NoMemory>
     requires { new.now.columns ≡ old.now.columns }
     ensures { IfOk result (λ delta. delta ≡ spec.diff old.now.rows new.now.rows) }

@@ -2,8 +2,6 @@
 #![tactic(auto)]
 
 pub mod delta;
-#[cfg(test)]
-mod delta_tests;
 mod sides;
 
 pub use delta::{Delta, TableDelta, diff};

@@ -1,4 +1,4 @@
-//! The rows of either list alone.
+//! The rows that only one of two lists has.
 ghost use Rattle.std.specs.Prelude.{◌≡◌, ◌++◌, IfOk, OnOk, filter, not};
 ghost use Rattle.std.specs.List.Sorted.{IsStrictlySortedBy};
 ghost use Rattle.lens_values.specs.Row.{row_cmp};
@@ -8,7 +8,7 @@ use lens_values::{NoMemory, Row};
 use std::alloc::Global;
 use std::cmp::Ordering;
 
-/// What two lists of rows differ by.
+/// The difference of two lists of rows.
 #[derive(Debug, Drop)]
 pub struct Sides {
     /// The rows of the old list that the new one lacks.
@@ -21,8 +21,10 @@ pub struct Sides {
 pub fn both_sides(alloc: Global, old: &[Row], new: &[Row]) -> Result<Sides, NoMemory>
     requires old { IsStrictlySortedBy row_cmp old.now }
     requires new { IsStrictlySortedBy row_cmp new.now }
-    ensures remove { IfOk result (λ sides. sides.remove.items ≡ filter (λ row. not (is_in new.now row)) old.now) }
-    ensures add { IfOk result (λ sides. sides.add.items ≡ filter (λ row. not (is_in old.now row)) new.now) }
+    ensures remove { IfOk result (λ sides.
+        sides.remove.items ≡ filter (λ row. not (is_in new.now row)) old.now) }
+    ensures add { IfOk result (λ sides.
+        sides.add.items ≡ filter (λ row. not (is_in old.now row)) new.now) }
 {
     let mut remove = Vec::new(alloc);
     let mut add = Vec::new(alloc);

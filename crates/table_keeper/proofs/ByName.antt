@@ -1,4 +1,4 @@
--- The rows of tables by name: where a table stands, and what putting one there does.
+-- The rows of tables by name: the place of a table, and what putting one there does.
 use Rattle.std.proofs.Common.{◌≡◌, ℕ, ◌<◌, zero, suc, arith, List, [], ◌∷◌, length, get_or, set, Bool, true, false, cond, Option, Some, refl, sym, ap, ◌∙◌, subst}
 use Rattle.std.specs.Prelude.{◌||◌, map, is_some}
 use Rattle.std.specs.FinMap as finmap

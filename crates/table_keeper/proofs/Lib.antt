@@ -1,4 +1,3 @@
-pub mod Additions
 pub mod Places
 pub mod Deltas
 pub mod ByName

@@ -1,4 +1,4 @@
-//! What is kept, and the changes that are made to it.
+//! The contents of a keeper, and the changes to them.
 ghost use Rattle.std.specs.Prelude.{◌≡◌, ◌++◌, ◌∷◌, [], IfOk, OnOk, OnErr, Some, false, is_some};
 ghost use Rattle.std.specs.FinMap as finmap;
 ghost use Rattle.lens_specs.specs.Keeping as keeping;
@@ -16,7 +16,8 @@ pub fn make(kept: &mut Kept, alloc: Global, change: &Change) -> Result<(), NoMem
     requires rising { Rise kept.old.tables.items }
     requires can { CanChange (change_view change.now) (kept_view kept.old) }
     ensures rising { Rise kept.new.tables.items }
-    ensures ok { OnOk result (kept_view kept.new ≡ changed (change_view change.now) (kept_view kept.old)) }
+    ensures ok { OnOk result (kept_view kept.new
+        ≡ changed (change_view change.now) (kept_view kept.old)) }
     ensures err { OnErr result (kept_view kept.new ≡ kept_view kept.old) }
 {
     match change {
@@ -30,7 +31,8 @@ fn define(kept: &mut Kept, alloc: Global, text: &Text, table: Option<Name>) -> R
     requires rising { Rise kept.old.tables.items }
     requires can { CanChange (keeping.define text.now table) (kept_view kept.old) }
     ensures rising { Rise kept.new.tables.items }
-    ensures ok { OnOk result (kept_view kept.new ≡ changed (keeping.define text.now table) (kept_view kept.old)) }
+    ensures ok { OnOk result (kept_view kept.new
+        ≡ changed (keeping.define text.now table) (kept_view kept.old)) }
     ensures err { OnErr result (kept_view kept.new ≡ kept_view kept.old) }
 {
     match table {
@@ -48,12 +50,13 @@ fn add_text(texts: &mut Vec<Text>, alloc: Global, text: &Text) -> Result<(), NoM
     Ok(())
 }
 
-// Adds a definition that makes a table. Its text has its room before the table is made.
+// Adds a definition that makes a table. Memory for its text is reserved before the table is made.
 fn define_table(kept: &mut Kept, alloc: Global, text: &Text, name: Name) -> Result<(), NoMemory>
     requires rising { Rise kept.old.tables.items }
     requires can { CanChange (keeping.define text.now (Some name)) (kept_view kept.old) }
     ensures rising { Rise kept.new.tables.items }
-    ensures ok { OnOk result (kept_view kept.new ≡ changed (keeping.define text.now (Some name)) (kept_view kept.old)) }
+    ensures ok { OnOk result (kept_view kept.new
+        ≡ changed (keeping.define text.now (Some name)) (kept_view kept.old)) }
     ensures err { OnErr result (kept_view kept.new ≡ kept_view kept.old) }
 {
     let text = text.copy(alloc)?;
@@ -73,7 +76,7 @@ fn copied_texts(alloc: Global, texts: &[Text]) -> Result<Vec<Text>, NoMemory>
     Ok(copies)
 }
 
-/// Equal contents.
+/// A copy of the contents.
 pub fn copied_contents(alloc: Global, kept: &Kept) -> Result<Kept, NoMemory>
     ensures texts { IfOk result (λ copy. copy.definitions.items ≡ kept.now.definitions.items) }
     ensures tables { IfOk result (λ copy. copy.tables.items ≡ kept.now.tables.items) }

@@ -1,9 +1,9 @@
-//! Where the definitions and the tables are kept.
+//! Keepers: places where the definitions and the tables are kept.
 ghost use Rattle.std.specs.Prelude.{◌≡◌, ◌≤◌, ℕ, List, Bool, true, is_some, Some, OnOk, OnErr, IfOk};
 ghost use Rattle.std.specs.declared.option.Option.{Option};
 ghost use Rattle.std.specs.List.Sorted.{IsStrictlySortedBy};
 ghost use Rattle.lens_values.specs.Order.{bytes_cmp};
-ghost use Rattle.lens_specs.specs.Faults.{Rose};
+ghost use Rattle.io_specs.specs.Faults.{Rose};
 ghost use Rattle.lens_specs.specs.Keeping as keeping;
 ghost use Rattle.lens_specs.specs.Keeping.{CanCommit, Follows, Stays, Tells, changed};
 ghost use Rattle.table_keeper.specs.Changes.{change_view, kept_view, names_of};
@@ -33,7 +33,7 @@ impl From<NoMemory> for KeepFault {
     }
 }
 
-/// One change, which is made whole.
+/// One change. It is made whole or not at all.
 #[derive(Debug, Drop)]
 pub enum Change {
     /// A definition's text, and the name of the table that it makes, if any.
@@ -100,7 +100,8 @@ pub trait Keeper {
     /// Gives what is kept, with its tables in rising order of names.
     fn load(&mut self, alloc: Global) -> Result<Kept, KeepFault>
         ensures ok { IfOk result (λ kept. Tells (contents self.old) (kept_view kept)) }
-        ensures rising { IfOk result (λ kept. IsStrictlySortedBy bytes_cmp (names_of kept.tables.items)) }
+        ensures rising { IfOk result (λ kept. IsStrictlySortedBy bytes_cmp
+            (names_of kept.tables.items)) }
         ensures kept { Stays (contents self.old) (contents self.new) }
         ensures place { place self.new ≡ place self.old }
         ensures later { faults self.old ≤ faults self.new }
@@ -109,7 +110,8 @@ pub trait Keeper {
     /// Makes the change, whole, or leaves what is kept.
     fn commit(&mut self, alloc: Global, change: &Change) -> Result<(), KeepFault>
         requires { CanCommit (change_view change.now) (contents self.old) }
-        ensures ok { OnOk result (Follows (λ old new. new ≡ changed (change_view change.now) old) (contents self.old) (contents self.new)) }
+        ensures ok { OnOk result (Follows (λ old new. new ≡ changed (change_view change.now) old)
+            (contents self.old) (contents self.new)) }
         ensures err { OnErr result (Stays (contents self.old) (contents self.new)) }
         ensures place { place self.new ≡ place self.old }
         ensures later { faults self.old ≤ faults self.new }

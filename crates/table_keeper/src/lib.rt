@@ -4,8 +4,6 @@
 mod contents;
 pub mod keeper;
 pub mod memory;
-#[cfg(test)]
-mod memory_tests;
 mod store;
 mod tables;
 

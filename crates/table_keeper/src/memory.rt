@@ -1,6 +1,6 @@
 //! Keepers in memory.
 ghost use Rattle.std.specs.Prelude.{◌≡◌, ◌≤◌, IfOk, OnOk, OnErr, None, Some, false, true, is_some};
-ghost use Rattle.lens_specs.specs.Faults.{Rose};
+ghost use Rattle.io_specs.specs.Faults.{Rose};
 ghost use Rattle.lens_specs.specs.Keeping.{CanChange, changed};
 ghost use Rattle.table_keeper.specs.Calls.{after_call, calls_of, fails, held, held_surely};
 ghost use Rattle.table_keeper.specs.Changes.{change_view, kept_view};
@@ -10,14 +10,14 @@ use crate::keeper::{Change, KeepFault, Keeper, Kept};
 use crate::store::Store;
 use std::alloc::Global;
 
-/// Keeps in memory, and never fails. Only memory can run out.
+/// Keeps its contents in memory. Its calls fail only where memory runs out, so it counts no faults.
 #[derive(Debug, Drop)]
 pub struct SureKeeper {
     store: Store,
 }
 
 impl SureKeeper {
-    /// A keeper that keeps these, at no place. It takes no memory.
+    /// A keeper with these contents and no place. It takes no memory.
     pub fn holding(kept: Kept) -> SureKeeper
         requires { Rise kept.tables.items }
         ensures { held_surely result ≡ record { kept = kept_view kept; place = None } }
@@ -63,7 +63,8 @@ impl Keeper for SureKeeper {
     }
 }
 
-/// Keeps in memory. Its calls to attach, load and commit are numbered from 1, and those that are listed fail.
+/// Keeps its contents in memory, for tests. Its calls to attach, load and commit are numbered from
+/// 1, and the listed ones fail.
 #[derive(Debug, Drop)]
 pub struct MemoryKeeper {
     store: Store,
@@ -73,11 +74,13 @@ pub struct MemoryKeeper {
 }
 
 impl MemoryKeeper {
-    /// A keeper that keeps these, at no place, and whose calls with these numbers fail. It takes no memory.
+    /// A keeper with these contents and no place, whose calls with these numbers fail. It takes no
+    /// memory.
     pub fn holding(kept: Kept, failing: Vec<u64>) -> MemoryKeeper
         requires { Rise kept.tables.items }
         ensures held { held result ≡ record { kept = kept_view kept; place = None } }
-        ensures calls { calls_of result ≡ record { calls = 0; faults = 0; failing = failing.items } }
+        ensures calls { calls_of result
+            ≡ record { calls = 0; faults = 0; failing = failing.items } }
     {
         MemoryKeeper {
             store: Store::holding(kept),
@@ -125,10 +128,12 @@ impl Keeper for MemoryKeeper {
     ghost faults = { λ k. k.faults };
 
     fn attach(&mut self, alloc: Global, new_place: &str) -> Result<(), KeepFault>
-        ensures ok { OnOk result (held self.new ≡ record (held self.old) { place = Some new_place.now }) }
+        ensures ok { OnOk result (held self.new
+            ≡ record (held self.old) { place = Some new_place.now }) }
         ensures err { OnErr result (held self.new ≡ held self.old) }
         ensures later { (calls_of self.old).faults ≤ (calls_of self.new).faults }
-        ensures failed { result ≡ Err KeepFault.Failed → Rose (calls_of self.old).faults (calls_of self.new).faults }
+        ensures failed { result ≡ Err KeepFault.Failed
+            → Rose (calls_of self.old).faults (calls_of self.new).faults }
 
         // Exactly the listed calls fail.
         ensures listed { fails (calls_of self.old) ≡ true → result ≡ Err KeepFault.Failed }
@@ -145,7 +150,8 @@ impl Keeper for MemoryKeeper {
         ensures rising { IfOk result (λ kept. Rise kept.tables.items) }
         ensures held { held self.new ≡ held self.old }
         ensures later { (calls_of self.old).faults ≤ (calls_of self.new).faults }
-        ensures failed { result ≡ Err KeepFault.Failed → Rose (calls_of self.old).faults (calls_of self.new).faults }
+        ensures failed { result ≡ Err KeepFault.Failed
+            → Rose (calls_of self.old).faults (calls_of self.new).faults }
 
         // Exactly the listed calls fail.
         ensures listed { fails (calls_of self.old) ≡ true → result ≡ Err KeepFault.Failed }
@@ -159,10 +165,15 @@ impl Keeper for MemoryKeeper {
 
     fn commit(&mut self, alloc: Global, change: &Change) -> Result<(), KeepFault>
         requires { CanChange (change_view change.now) (held self.old).kept }
-        ensures ok { OnOk result (held self.new ≡ record (held self.old) { kept = changed (change_view change.now) (held self.old).kept }) }
+        ensures ok { OnOk result (held self.new
+            ≡ record (held self.old) {
+              kept = changed (change_view change.now)
+                  (held self.old).kept;
+            }) }
         ensures err { OnErr result (held self.new ≡ held self.old) }
         ensures later { (calls_of self.old).faults ≤ (calls_of self.new).faults }
-        ensures failed { result ≡ Err KeepFault.Failed → Rose (calls_of self.old).faults (calls_of self.new).faults }
+        ensures failed { result ≡ Err KeepFault.Failed
+            → Rose (calls_of self.old).faults (calls_of self.new).faults }
 
         // Exactly the listed calls fail.
         ensures listed { fails (calls_of self.old) ≡ true → result ≡ Err KeepFault.Failed }

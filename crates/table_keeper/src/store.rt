@@ -10,7 +10,8 @@ use lens_values::NoMemory;
 use std::alloc::Global;
 use std::marker::Model;
 
-/// Definitions and tables in rising order of names, and a place. A contract sees what they stand for.
+/// The definitions, the tables in rising order of names, and the place. A contract sees the
+/// contents and the place.
 #[derive(Debug, Drop)]
 pub struct Store {
     kept: Kept,
@@ -33,7 +34,7 @@ impl Model for Store {
 }
 
 impl Store {
-    /// Holds these, at no place. It takes no memory.
+    /// Holds these contents, at no place. It takes no memory.
     pub fn holding(kept: Kept) -> Store
         requires { Rise kept.tables.items }
         ensures { result ≡ record { kept = kept_view kept; place = None } }
@@ -71,7 +72,8 @@ impl Store {
     /// Makes a change, whole or not at all.
     pub fn change(&mut self, alloc: Global, change: &Change) -> Result<(), NoMemory>
         requires { CanChange (change_view change.now) self.old.kept }
-        ensures ok { OnOk result (self.new ≡ record self.old { kept = changed (change_view change.now) self.old.kept }) }
+        ensures ok { OnOk result (self.new
+            ≡ record self.old { kept = changed (change_view change.now) self.old.kept }) }
         ensures err { OnErr result (self.new ≡ self.old) }
     {
         make(&mut self.kept, alloc, change)?;

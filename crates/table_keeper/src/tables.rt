@@ -16,24 +16,25 @@ use row_sets::RowSet;
 use signed_delta::TableDelta;
 use std::alloc::Global;
 
-/// A table, and the place where it goes.
+/// A table, and its place in the list.
 #[derive(Debug, Drop)]
 pub struct Placed {
-    /// Where it goes.
+    /// Its place.
     pub place: usize,
     /// The table.
     pub table: KeptTable,
 }
 
-// Where the table of this name is, or where it would go.
+// The place of the table with this name, or the place for a new one.
 fn search(tables: &[KeptTable], name: &Name) -> Result<usize, usize>
     ensures bound { IsSearchInRange result (length tables.now) }
-    ensures position { IsBinarySearchResult (λ other. bytes_cmp other name.now) (names_of tables.now) result }
+    ensures position { IsBinarySearchResult (λ other. bytes_cmp other name.now)
+        (names_of tables.now) result }
 {
     tables.binary_search_by_key(name, |kept| kept.table)
 }
 
-// Where the table of this name is.
+// The place of the table with this name.
 fn place_of(tables: &[KeptTable], name: &Name) -> usize
     requires rising { Rise tables.now }
     requires there { is_named (names_of tables.now) name.now ≡ true }
@@ -46,7 +47,7 @@ fn place_of(tables: &[KeptTable], name: &Name) -> usize
     }
 }
 
-// Where a new table of this name goes.
+// The place for a new table with this name.
 fn free_place(tables: &[KeptTable], name: &Name) -> usize
     requires rising { Rise tables.now }
     requires absent { is_named (names_of tables.now) name.now ≡ false }
@@ -64,7 +65,8 @@ pub fn add_table(tables: &mut Vec<KeptTable>, alloc: Global, name: Name) -> Resu
     requires rising { Rise tables.old.items }
     requires absent { is_named (names_of tables.old.items) name ≡ false }
     ensures rising { Rise tables.new.items }
-    ensures ok { OnOk result (rows_in tables.new.items ≡ finmap.insert (rows_in tables.old.items) name set.empty) }
+    ensures ok { OnOk result (rows_in tables.new.items
+        ≡ finmap.insert (rows_in tables.old.items) name set.empty) }
     ensures err { OnErr result (tables.new.items ≡ tables.old.items) }
 {
     let place = free_place(tables, &name);
@@ -76,12 +78,13 @@ pub fn add_table(tables: &mut Vec<KeptTable>, alloc: Global, name: Name) -> Resu
     Ok(())
 }
 
-// The table of this difference after it.
+// The table that the difference changes, as it is after that.
 fn table_after(alloc: Global, tables: &[KeptTable], change: &TableDelta) -> Result<Placed, NoMemory>
     requires rising { Rise tables.now }
     requires there { IsThere (rows_in tables.now) (table_delta change.now) }
     ensures fits { IfOk result (FitsAt (names_of tables.now)) }
-    ensures entry { IfOk result (λ placed. entry_of placed ≡ entry_after (rows_in tables.now) (table_delta change.now)) }
+    ensures entry { IfOk result (λ placed.
+        entry_of placed ≡ entry_after (rows_in tables.now) (table_delta change.now)) }
 {
     let place = place_of(tables, &change.table);
     let rows = change.delta.apply_to(alloc, &tables[place].rows)?;
@@ -92,16 +95,19 @@ fn table_after(alloc: Global, tables: &[KeptTable], change: &TableDelta) -> Resu
     Ok(Placed { place, table })
 }
 
-/// The tables of these differences, each after its own.
+/// The tables that the differences change, as they are after that.
 pub fn tables_after(
     alloc: Global,
     tables: &[KeptTable],
     changes: &[TableDelta],
 ) -> Result<Vec<Placed>, NoMemory>
     requires rising { Rise tables.now }
-    requires there { AllByRecursion (λ change. IsThere (rows_in tables.now) (table_delta change)) changes.now }
+    requires there { AllByRecursion
+        (λ change. IsThere (rows_in tables.now) (table_delta change)) changes.now }
     ensures fits { IfOk result (λ all. AllByRecursion (FitsAt (names_of tables.now)) all.items) }
-    ensures entries { IfOk result (λ all. map entry_of all.items ≡ map (λ change. entry_after (rows_in tables.now) (table_delta change)) changes.now) }
+    ensures entries { IfOk result (λ all.
+        map entry_of all.items
+        ≡ map (λ change. entry_after (rows_in tables.now) (table_delta change)) changes.now) }
 {
     let mut all = Vec::with_capacity(alloc, changes.len())?;
     for change in changes {
@@ -115,7 +121,8 @@ fn put(tables: &mut [KeptTable], placed: Placed)
     requires rising { Rise tables.old }
     requires fits { FitsAt (names_of tables.old) placed }
     ensures names { names_of tables.new ≡ names_of tables.old }
-    ensures rows { rows_in tables.new ≡ finmap.insert (rows_in tables.old) placed.table.table placed.table.rows }
+    ensures rows { rows_in tables.new
+        ≡ finmap.insert (rows_in tables.old) placed.table.table placed.table.rows }
 {
     tables[placed.place] = placed.table;
 }
@@ -132,7 +139,7 @@ pub fn put_all(tables: &mut [KeptTable], all: Vec<Placed>)
     }
 }
 
-/// Makes the differences of these tables, all or none.
+/// Applies the differences, all or none.
 pub fn change_tables(
     tables: &mut [KeptTable],
     alloc: Global,
@@ -141,7 +148,8 @@ pub fn change_tables(
     requires rising { Rise tables.old }
     requires apply { AllApply (map table_delta changes.now) (rows_in tables.old) }
     ensures names { names_of tables.new ≡ names_of tables.old }
-    ensures ok { OnOk result (rows_in tables.new ≡ with_deltas (map table_delta changes.now) (rows_in tables.old)) }
+    ensures ok { OnOk result (rows_in tables.new
+        ≡ with_deltas (map table_delta changes.now) (rows_in tables.old)) }
     ensures err { OnErr result (tables.new ≡ tables.old) }
 {
     let all = tables_after(alloc, tables, changes)?;
@@ -149,7 +157,7 @@ pub fn change_tables(
     Ok(())
 }
 
-/// Equal tables.
+/// Copies of the tables.
 pub fn copied(alloc: Global, tables: &[KeptTable]) -> Result<Vec<KeptTable>, NoMemory>
     ensures { IfOk result (λ copies. copies.items ≡ tables.now) }
 {

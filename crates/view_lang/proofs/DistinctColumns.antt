@@ -1,4 +1,4 @@
--- The names of columns stand once each.
+-- Columns with distinct names.
 use Rattle.std.proofs.Common.{◌≡◌, ℕ, suc, ◌+◌, ◌≤◌, Bool, true, false, cond, List, [], ◌∷◌, ◌++◌, refl, sym, ap, subst, ◌∙◌, arith}
 use Rattle.std.specs.Prelude.{not, ◌≢◌, ◌&&◌, ◌||◌, nat_eq, count_by, Result, Err}
 use Rattle.lens_values.specs.declared.columns.ColumnsFault.{ColumnsFault}
@@ -75,11 +75,11 @@ one_at_most front (c ∷ cs) name h =
     last : (front : Cols) (c : Name × Kind) (name : Name) → name ≡ c.0 → (is_column_of front name || is_column_of (c ∷ []) name) ≡ true
     last front c name e = ap (λ b. is_column_of front name || (b || false)) (ap (λ n. is_word c.0 n) e ∙ word_itself c.0) ∙ or_true (is_column_of front name)
 
--- no name stands in two columns
+-- no two columns have the same name
 pub no_repeat : (cs : Cols) → are_columns [] cs ≡ true → (name : List ℕ) → IsLeastRepeated name (keys_of cs) → ⊥
 no_repeat cs h name r = omega (arith, one_at_most [] cs name h, r.twice)
 
--- what the columns of these pairs answer, no fault but want of memory
+-- columns with distinct names fail only where memory runs out
 pub only_memory : {T : Type 0} (ks : List (List ℕ)) (r : Result T ColumnsFault) (f : ColumnsFault) → r ≡ Err f → ((f ≡ NoMemory) → ⊥)
     → ((name : List ℕ) → r ≡ Err (Twice name) → IsLeastRepeated name ks) → ((name : List ℕ) → r ≢ Err (KindClash name)) → ((name : List ℕ) → IsLeastRepeated name ks → ⊥) → ⊥
 only_memory ks r (Twice name) is no_memory twice clash distinct = distinct name (twice name is)

@@ -12,7 +12,7 @@ use Rattle.std.proofs.lemmas.Bool.Decides.{nat_tests}
 use Rattle.grammar_specs.specs.Tokens.{word, is_digit}
 use Rattle.grammar_laws.specs.Front.{drop_while, word_of, word_at, plain_in_front, positive_of, negative_of, dash_of}
 use Rattle.grammar_laws.proofs.FrontLists.{one_more, drop_while_is, front_passes, take_front, drop_front, lower_passes, word_is, not_digit}
-use Rattle.view_lang.specs.declared.token.Token as code
+use Rattle.view_lang.specs.declared.parsing.token.Token as code
 use Rattle.view_lang.specs.TokenViews.{token_view, front_of, begins_word, begins_integer, begins_arrow, is_integer_text, integer_at}
 
 first_branch : {X : Type 0} (x y : X) (b : Bool) → b ≡ true → cond b x y ≡ x

@@ -4,7 +4,7 @@ use Rattle.std.proofs.Common.{◌≡◌, ℕ, suc, true, false, List, [], ◌∷
 use Rattle.std.specs.Prelude.{◌==◌, Some, None}
 use Rattle.grammar_specs.specs.Meaning.{Expr}
 use Rattle.grammar_specs.specs.Written.{is_some_list}
-use Rattle.view_lang.specs.declared.exprs.Hole as code
+use Rattle.view_lang.specs.declared.parsing.expressions.Hole as code
 use Rattle.grammar_laws.specs.ExprParse.{Hole, Spot, exprs, at_expr, fill, close, ended}
 use Rattle.view_lang.specs.ExprsViews.{hole_view, holes_before, holes_view}
 

@@ -5,7 +5,7 @@ use Rattle.std.proofs.lemmas.List.{drop_all}
 use Rattle.std.proofs.Common.{◌≡◌, ℕ, ◌<◌, ◌≤◌, drop, get_or, suc, ◌+◌, List, [], ◌∷◌, ◌++◌, length, refl, sym, ap, ◌∙◌, arith}
 use Rattle.std.specs.Prelude.{false, is_some, ◌==◌, Some, None}
 use Rattle.lens_specs.specs.Predicate.{Formula}
-use Rattle.view_lang.specs.declared.preds.Level as code
+use Rattle.view_lang.specs.declared.parsing.predicates.Level as code
 use Rattle.grammar_laws.specs.PredParse.{Open, fresh, at_part, inside, behind, add, close, ended, open_count}
 use Rattle.view_lang.specs.PredViews.{open_view, opens_before, opens_view}
 

@@ -3,7 +3,7 @@ use Rattle.std.proofs.Common.{◌≡◌, ◌∙◌, Bool, true, false, List, [],
 use Rattle.std.specs.Prelude.{string_bytes}
 use Rattle.grammar_specs.specs.Tokens.{Token}
 use Rattle.grammar_specs.specs.Printing.{token_bytes, opens, closes, gap, spaced}
-use Rattle.view_lang.specs.declared.printer.Printer.{Printer}
+use Rattle.view_lang.specs.declared.printing.printer.Printer.{Printer}
 use Rattle.view_lang.specs.PrintAdds.{blank, before, bytes_after, glued_after, Puts, Adds}
 
 -- ---- one token

@@ -1,4 +1,4 @@
--- What a definition that is being read keeps.
+-- What holds of a definition while it is read.
 use Rattle.std.specs.Prelude.{◌≡◌, ℕ, List, true}
 use Rattle.lens_values.specs.Repeats.{IsLeastRepeated}
 use Rattle.lens_values.specs.SortedMap.{keys_of}
@@ -6,11 +6,11 @@ use Rattle.grammar_specs.specs.Written.{is_some_list}
 use Rattle.grammar_laws.specs.DefParse.{Cols, Parse, at_start, at_table, at_open, at_column, at_kind, behind_column, behind_columns, in_left, in_right, in_condition, at_view, at_equals, in_view}
 use Rattle.view_lang.specs.PredBounds.{IsReady, IsReadyExprs}
 
--- no name stands in two columns
+-- no two columns have the same name
 abbrev pub HasNoRepeat : Cols → Type 0
 HasNoRepeat cs = (name : List ℕ) → IsLeastRepeated name (keys_of cs) → ⊥
 
--- no column stands twice where the columns end, a left side that was read has a name, and predicates are ready
+-- the columns have distinct names where they end, a left side has a column, and predicates are ready
 abbrev pub IsReadyParse : Parse → Type 0
 IsReadyParse at_start = Unit {0}
 IsReadyParse at_table = Unit {0}

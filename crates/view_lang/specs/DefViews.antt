@@ -4,11 +4,11 @@ use Rattle.lens_specs.specs.Dependencies.{Edge}
 use Rattle.grammar_specs.specs.Meaning as meaning
 use Rattle.view_lang.specs.declared.definition.Definition as code
 use Rattle.view_lang.specs.declared.definition.Definition.TheVariants as whole
-use Rattle.view_lang.specs.declared.defs.Table as code_table
-use Rattle.view_lang.specs.declared.defs.Parse as code_parse
-use Rattle.view_lang.specs.declared.defs.Parse.TheVariants.{Before, InCondition, InView}
-use Rattle.view_lang.specs.declared.defs.Opening as code_opening
-use Rattle.view_lang.specs.declared.defs.Opening.TheVariants.{AtStart, AtTable, AtOpen, AtColumn, AtKind, BehindColumn, BehindColumns, InLeft, InRight, AtView, AtEquals}
+use Rattle.view_lang.specs.declared.parsing.definitions.Table as code_table
+use Rattle.view_lang.specs.declared.parsing.definitions.Parse as code_parse
+use Rattle.view_lang.specs.declared.parsing.definitions.Parse.TheVariants.{Before, InCondition, InView}
+use Rattle.view_lang.specs.declared.parsing.definitions.Opening as code_opening
+use Rattle.view_lang.specs.declared.parsing.definitions.Opening.TheVariants.{AtStart, AtTable, AtOpen, AtColumn, AtKind, BehindColumn, BehindColumns, InLeft, InRight, AtView, AtEquals}
 use Rattle.grammar_laws.specs.DefParse.{Parse, at_start, at_table, at_open, at_column, at_kind, behind_column, behind_columns, in_left, in_right, in_condition, at_view, at_equals, in_view}
 use Rattle.view_lang.specs.ExprViews.{expr_view}
 use Rattle.view_lang.specs.ExprsViews.{exprs_view}

@@ -1,10 +1,10 @@
 -- What an expression of the code that is being read stands for.
 use Rattle.std.specs.Prelude.{List, [], ◌∷◌}
-use Rattle.view_lang.specs.declared.exprs.Hole as code
-use Rattle.view_lang.specs.declared.exprs.Hole.TheVariants.{OfSelect, OfDrop, LeftOfJoin, RightOfJoin}
-use Rattle.view_lang.specs.declared.exprs.Spot as code_spot
-use Rattle.view_lang.specs.declared.exprs.Spot.TheVariants.{AtExpr, AtOperand, BehindExpr, AtFrom, AtWhere, AtWith, AtDropped, AtDetermined, AtBy, AtKeys, InKeys, AtFill, AtKeysEnd, AtDropFrom, InWhere}
-use Rattle.view_lang.specs.declared.exprs.Exprs as code_exprs
+use Rattle.view_lang.specs.declared.parsing.expressions.Hole as code
+use Rattle.view_lang.specs.declared.parsing.expressions.Hole.TheVariants.{OfSelect, OfDrop, LeftOfJoin, RightOfJoin}
+use Rattle.view_lang.specs.declared.parsing.expressions.Spot as code_spot
+use Rattle.view_lang.specs.declared.parsing.expressions.Spot.TheVariants.{AtExpr, AtOperand, BehindExpr, AtFrom, AtWhere, AtWith, AtDropped, AtDetermined, AtBy, AtKeys, InKeys, AtFill, AtKeysEnd, AtDropFrom, InWhere}
+use Rattle.view_lang.specs.declared.parsing.expressions.Exprs as code_exprs
 use Rattle.grammar_laws.specs.ExprParse.{Hole, of_select, of_drop, left_of_join, right_of_join, Spot, at_expr, at_operand, behind_expr, at_from, at_where, at_with, at_dropped, at_determined, at_by, at_keys, in_keys, at_fill, at_keys_end, at_drop_from, in_where, Exprs, exprs}
 use Rattle.view_lang.specs.ExprViews.{expr_view}
 use Rattle.view_lang.specs.PredViews.{preds_view}
@@ -41,7 +41,7 @@ spot_view (InKeys c by) = in_keys c by.items
 spot_view (AtFill c by) = at_fill c by.items
 spot_view (AtKeysEnd c by v) = at_keys_end c by.items v
 spot_view (AtDropFrom c by v) = at_drop_from c by.items v
-spot_view (InWhere s) = in_where (expr_view s.value.of) (preds_view s.value.preds)
+spot_view (InWhere s) = in_where (expr_view s.value.of.value) (preds_view s.value.preds)
 
 -- what was read of an expression, as the language has it
 abbrev pub exprs_view : code_exprs.Exprs → Exprs

@@ -1,4 +1,4 @@
--- What a predicate that is being read keeps.
+-- What holds of a predicate while it is read.
 use Rattle.std.specs.Prelude.{◌≡◌, ◌≤◌, true, Some}
 use Rattle.std.specs.List.{list_all}
 use Rattle.lens_specs.specs.Predicate.{Formula}
@@ -7,7 +7,7 @@ use Rattle.lens_pred.specs.NormalForm.{is_conjunct}
 use Rattle.grammar_laws.specs.PredParse.{Preds, inside, behind, ended}
 use Rattle.grammar_laws.specs.ExprParse.{Spot, at_expr, at_operand, behind_expr, at_from, at_where, at_with, at_dropped, at_determined, at_by, at_keys, in_keys, at_fill, at_keys_end, at_drop_from, in_where, Exprs, exprs}
 
--- 32 "not"s at most wait for the part
+-- at most 32 "not"s are open before the next part
 abbrev pub HasFewNots : Preds → Type 0
 HasFewNots (inside qs o place) = o.nots ≤ 32
 HasFewNots (behind qs ors ands) = Unit {0}
@@ -16,7 +16,7 @@ HasFewNots (behind qs ors ands) = Unit {0}
 abbrev pub IsNormal : Formula → Type 0
 IsNormal f = list_all is_conjunct (conjuncts f) ≡ true
 
--- few "not"s wait, and where it ends, it is in normal form
+-- few "not"s are open, and a predicate that ends here is in normal form
 abbrev pub IsReady : Preds → Type 0
 IsReady s = HasFewNots s × ((f : Formula) → ended s ≡ Some f → IsNormal f)
 

@@ -2,10 +2,10 @@
 use Rattle.std.specs.Prelude.{List, [], ◌∷◌}
 use Rattle.lens_pred.specs.Op.{op_view}
 use Rattle.lens_pred.specs.View.{predicate_view}
-use Rattle.view_lang.specs.declared.preds.Level as code
-use Rattle.view_lang.specs.declared.preds.Place as code_place
-use Rattle.view_lang.specs.declared.preds.Place.TheVariants.{Part, Compared, Against, InOpen, InValue, InNext, Behind}
-use Rattle.view_lang.specs.declared.preds.Preds as code_preds
+use Rattle.view_lang.specs.declared.parsing.predicates.Level as code
+use Rattle.view_lang.specs.declared.parsing.predicates.Place as code_place
+use Rattle.view_lang.specs.declared.parsing.predicates.Place.TheVariants.{Part, Compared, Against, InOpen, InValue, InNext, Behind}
+use Rattle.view_lang.specs.declared.parsing.predicates.Preds as code_preds
 use Rattle.grammar_laws.specs.PredParse.{Open, at_part, compared, against, in_open, in_value, in_next, Preds, inside, behind}
 
 -- what waits for a part, as the language has it

@@ -7,17 +7,17 @@ use Rattle.lens_specs.specs.Predicate.{Formula, Predicate}
 use Rattle.grammar_specs.specs.Tokens.{Token, word, open_paren, close_paren, comma}
 use Rattle.grammar_specs.specs.Written.{Dep, literal, part_tokens, all_tokens, column_tokens, dep_tokens}
 use Rattle.grammar_specs.specs.Printing.{part_of, all_of_formula, token_bytes, opens, closes}
-use Rattle.view_lang.specs.declared.printer.Printer.{Printer}
+use Rattle.view_lang.specs.declared.printing.printer.Printer.{Printer}
 
--- what stands before a token that does not close: a blank, unless it is glued to the last
+-- the whitespace before a token that does not close: a space, unless it is glued to the last
 abbrev pub blank : Bool → List ℕ
 blank glued = if glued then [] else 32 ∷ []
 
--- what stands before a token
+-- the whitespace before a token
 abbrev pub before : Bool → Token → List ℕ
 before glued t = if closes t then [] else blank glued
 
--- the bytes of the tokens, with what stands before each
+-- the bytes of the tokens, each after its whitespace
 abbrev pub bytes_after : Bool → List Token → List ℕ
 bytes_after glued [] = []
 bytes_after glued (t ∷ ts) = before glued t ++ token_bytes t ++ bytes_after (opens t) ts
@@ -27,12 +27,12 @@ abbrev pub glued_after : Bool → List Token → Bool
 glued_after glued [] = glued
 glued_after glued (t ∷ ts) = glued_after (opens t) ts
 
--- the bytes come after the text that was there, and the next token is glued to them or not
+-- the bytes were added at the end of the text, and the next token is glued to them or not
 pub record Puts (old new : Printer) (bytes : List ℕ) (glued : Bool) : Type 0 where
   pub text : string_bytes new.text ≡ string_bytes old.text ++ bytes
   pub next : new.glued ≡ glued
 
--- the tokens come after the text that was there
+-- the tokens were added at the end of the text
 pub record Adds (old new : Printer) (tokens : List Token) : Type 0 where
   pub text : string_bytes new.text ≡ string_bytes old.text ++ bytes_after old.glued tokens
   pub next : new.glued ≡ glued_after old.glued tokens

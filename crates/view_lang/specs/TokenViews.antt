@@ -6,8 +6,8 @@ use Rattle.lens_specs.specs.Predicate.{eq, ne, lt, le, gt, ge}
 use Rattle.grammar_specs.specs.Tokens.{Token, word, integer, open_paren, close_paren, comma, arrow, operator, is_digit, Spells, Ends}
 use Rattle.grammar_specs.specs.Tokens as tokens
 use Rattle.grammar_laws.specs.Front.{sign_of, positive_of, negative_of}
-use Rattle.view_lang.specs.declared.token.Token as code
-use Rattle.view_lang.specs.declared.token.Token.TheVariants as token
+use Rattle.view_lang.specs.declared.parsing.token.Token as code
+use Rattle.view_lang.specs.declared.parsing.token.Token.TheVariants as token
 use Rattle.lens_pred.specs.Op.{op_view}
 
 -- what a token of the code stands for
@@ -31,7 +31,7 @@ front_of text found = option_map (λ f. (token_view f.0, drop f.1 text)) found
 abbrev pub IsFront : List ℕ → Option (code.Token × ℕ) → Type 0
 IsFront text found = IfSome found (λ f. (0 < f.1) × (f.1 ≤ length text))
 
--- the sign in front of a text, and what follows it
+-- the operator or the punctuation in front of a text, and what follows it
 abbrev pub sign_in_front : List ℕ → Option (Token × List ℕ)
 sign_in_front [] = None
 sign_in_front (b ∷ rest) = sign_of b rest
@@ -63,15 +63,15 @@ abbrev pub integer_at : List ℕ → Option Token
 integer_at [] = None
 integer_at (b ∷ digits) = if is_digit b then positive_of (b ∷ digits) else negative_of digits
 
--- ---- signs
+-- ---- operators and punctuation
 
--- the sign of two bytes
+-- the operator of two bytes
 abbrev pub long_sign_at : ℕ → ℕ → Option Token
 long_sign_at first second =
     if first == 33 && second == 61 then Some (operator ne) else if first == 60 && second == 61 then Some (operator le)
     else if first == 62 && second == 61 then Some (operator ge) else None
 
--- the sign of one byte
+-- the operator or the punctuation of one byte
 abbrev pub short_sign_at : ℕ → Option Token
 short_sign_at first =
     if first == 40 then Some open_paren else if first == 41 then Some close_paren else if first == 44 then Some comma

@@ -48,25 +48,25 @@ impl Deps {
 pub enum Definition {
     /// A table.
     Table {
-        /// What the table is called.
+        /// The name of the table.
         name: Name,
         /// Its columns.
         cols: Columns,
         /// Its dependencies, in the order of the text.
         deps: Deps,
-        /// What holds on each of its rows.
+        /// Its predicate.
         pred: Pred,
     },
     /// A view.
     View {
-        /// What the view is called.
+        /// The name of the view.
         name: Name,
-        /// The rows that it shows.
+        /// The expression of its rows.
         expr: Expr,
     },
 }
 
-/// What can be too large.
+/// The limits of a definition and of a server.
 #[derive(Clone, Copy, Debug, PartialEq, Eq)]
 pub enum Limit {
     /// The columns of a table.
@@ -75,7 +75,7 @@ pub enum Limit {
     Lens,
     /// The nodes of a predicate.
     Predicate,
-    /// The parentheses and "not"s that stand open at once.
+    /// The parentheses and "not"s that are open at once.
     Nesting,
     /// The tables.
     Tables,
@@ -86,9 +86,9 @@ pub enum Limit {
 /// A side of a join.
 #[derive(Clone, Copy, Debug, PartialEq, Eq)]
 pub enum Side {
-    /// What is joined.
+    /// The left side.
     Left,
-    /// What it is joined with.
+    /// The right side.
     Right,
 }
 

@@ -8,30 +8,30 @@ use lens_values::{Name, Names, Value};
 pub enum Expr {
     /// A table or a view by its name.
     Named {
-        /// What it is called.
+        /// Its name.
         name: Name,
     },
     /// The rows on which a predicate holds.
     Select {
-        /// What holds on each of them.
+        /// The predicate.
         pred: Pred,
-        /// Whose rows they are.
+        /// The expression whose rows they are.
         of: Box<Expr>,
     },
-    /// Without a column, which these columns determine and this value fills.
+    /// A drop of one column, which other columns determine.
     Drop {
         /// The column that is left out.
         col: Name,
         /// The columns that determine it.
         by: Names,
-        /// Its value on a row for which they determine none.
+        /// The value of the column on a row for which the others determine none.
         fill: Value,
-        /// Whose rows they are.
+        /// The expression whose rows they are.
         of: Box<Expr>,
     },
-    /// The rows of both that agree.
+    /// A join.
     Join {
-        /// The side that loses a row which the view loses.
+        /// The side from which rows are deleted.
         left: Box<Expr>,
         /// The other side.
         right: Box<Expr>,

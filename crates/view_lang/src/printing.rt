@@ -1,4 +1,4 @@
-//! From a definition to its text.
+//! Prints definitions and formulas.
 ghost use Rattle.std.specs.Prelude.{◌≡◌, IfOk, OnOk, string_bytes};
 ghost use Rattle.grammar_specs.specs.Printing.{definition_written, printed, printed_formula};
 ghost use Rattle.grammar_specs.specs.Written.{written_tokens};
@@ -6,11 +6,16 @@ ghost use Rattle.lens_pred.specs.View.{formula_view};
 ghost use Rattle.view_lang.specs.DefViews.{definition_view};
 ghost use Rattle.view_lang.specs.PrintAdds.{Adds};
 
+mod expressions;
+mod formulas;
+mod printer;
+mod tables;
+
 use crate::definition::Definition;
-use crate::print_exprs::print_expr;
-use crate::print_formulas::print_alone;
-use crate::print_tables::{print_columns, print_condition, print_deps};
-use crate::printer::Printer;
+use crate::printing::expressions::print_expr;
+use crate::printing::formulas::print_alone;
+use crate::printing::printer::Printer;
+use crate::printing::tables::{print_columns, print_condition, print_deps};
 use lens_pred::{Formula, Op};
 use lens_values::NoMemory;
 use std::alloc::Global;
@@ -34,7 +39,8 @@ pub fn print_formula(alloc: Global, formula: &Formula) -> Result<String, NoMemor
 }
 
 fn print_definition(out: &mut Printer, definition: &Definition) -> Result<(), NoMemory>
-    ensures { OnOk result (Adds out.old out.new (written_tokens (definition_written (definition_view definition.now)))) }
+    ensures { OnOk result (Adds out.old out.new
+        (written_tokens (definition_written (definition_view definition.now)))) }
 {
     match definition {
         Definition::Table {

@@ -4,13 +4,13 @@ use Rattle.std.specs.Prelude.{None, Some, IfSome}
 use Rattle.std.specs.declared.option.Option.{Option}
 use Rattle.std.specs.Io.KnownBytes.{Appends}
 use Rattle.std.proofs.KnownBytes.{Appends-trans, Consumes-nil}
-use Rattle.lens_specs.specs.Keeping.{Kept, Tells}
-use Rattle.lens_specs.specs.Lines.{Line, too_long, whole}
-use Rattle.server_specs.specs.State.{State, fresh, kept}
+use Rattle.lens_specs.specs.Keeping.{Kept, Follows, Tells}
+use Rattle.io_specs.specs.Lines.{Line, too_long, whole}
+use Rattle.server_specs.specs.State.{State, kept}
 use Rattle.server_specs.specs.Answer.{long_line, text}
 use Rattle.server_specs.specs.Answering.{answer}
 use Rattle.server_specs.specs.Request.{request}
-use Rattle.server_specs.specs.Session.{Session, answered}
+use Rattle.server_specs.specs.Session.{Session, answered, found_memory}
 use Rattle.server_specs.specs.Session as steps
 use Rattle.server_specs.proofs.Sessions.{Session-nil, Session-push}
 use Rattle.server_specs.proofs.Versions.{version-step}
@@ -18,33 +18,57 @@ use Rattle.lens_io.specs.declared.cutting.Cut.{Cut}
 use Rattle.lens_io.specs.declared.cutting.Cut.TheVariants as cut
 use Rattle.lens_io.specs.Bytes.{AppendsFront}
 use Rattle.lens_io.specs.Cutting.{Cutter, Step, is_last}
+use Rattle.lens_io.specs.Taken.{ComesInTime}
 use Rattle.lens_io.proofs.Fronts.{Appends-nil}
 use Rattle.lens_io.proofs.Taken.{Taken, Taken-nil, Taken-line, Taken-too_long, Taken-ended, Taken-failed, Taken-spent, if_some, longer}
 use Rattle.view_program.specs.Running.{Serves, AreFirst, BreaksOff, joined, line_of, status_of}
 
-pub record Served (cutter : Cutter) (server : State) (left0 left given0 given : Option (List ℕ)) (count0 count : ℕ) (contents : Option Kept) : Type 0 where
+-- Where they are told, the contents are those of this state, and were told before.
+abbrev pub IsStored : State → Option Kept → Option Kept → Type 0
+IsStored server = Follows (λ _ now. now ≡ kept server)
+
+pub told_now : (server : State) (contents contents' : Option Kept) → IsStored server contents contents' → Tells contents' (kept server)
+told_now server None None h = tt
+told_now server None (Some now) h = absurd h
+told_now server (Some old) None h = absurd h
+told_now server (Some old) (Some now) h = h
+
+pub stored_same : (server : State) (contents : Option Kept) → Tells contents (kept server) → IsStored server contents contents
+stored_same server None h = tt
+stored_same server (Some now) h = h
+
+stored_next : (server server' : State) (contents mid contents' : Option Kept) → IsStored server contents mid → IsStored server' mid contents' → IsStored server' contents contents'
+stored_next server server' None None contents' p q = q
+stored_next server server' None (Some m) contents' p q = absurd p
+stored_next server server' (Some old) None contents' p q = absurd p
+stored_next server server' (Some old) (Some m) None p q = absurd q
+stored_next server server' (Some old) (Some m) (Some now) p q = q
+
+pub record Served (first : State) (limit : ℕ) (cutter : Cutter) (server : State) (left0 left given0 given : Option (List ℕ)) (count0 count : ℕ) (contents0 contents : Option Kept) : Type 0 where
   pub lines : List Line
   pub replies : List (List ℕ)
   pub taken : Taken lines cutter.pending cutter.taken cutter.ended left0 left
-  pub session : Session fresh count0 lines replies server count
-  pub stored : Tells contents (kept server)
+  pub session : Session first count0 lines replies server count
+  pub stored : IsStored server contents0 contents
   pub gave : Appends given0 given (joined replies)
-  pub version : server.version ≤ length lines
-  pub limit : cutter.limit ≡ 4294967296
+  pub version : server.version ≤ first.version + length lines
+  pub as_many : length replies ≡ length lines
+  pub limit_is : cutter.limit ≡ limit
   pub within : cutter.taken ≤ cutter.limit + 1
   pub going : cutter.done ≡ false
 
-pub Served-nil : (left given : Option (List ℕ)) (count : ℕ) (contents : Option Kept) → Tells contents (kept fresh)
-    → Served (record { pending = []; line = []; taken = 0; limit = 4294967296; ended = false; done = false }) fresh left left given given count count contents
-Served-nil left given count contents told = record {
+pub Served-nil : (first : State) (limit : ℕ) (left given : Option (List ℕ)) (count : ℕ) (contents : Option Kept) → Tells contents (kept first)
+    → Served first limit (record { pending = []; line = []; taken = 0; limit = limit; ended = false; done = false }) first left left given given count count contents contents
+Served-nil first limit left given count contents told = record {
   lines = [];
   replies = [];
   taken = Taken-nil left;
-  session = Session-nil fresh count;
-  stored = told;
+  session = Session-nil first count;
+  stored = stored_same first contents told;
   gave = Appends-nil given;
   version = omega arith;
-  limit = refl;
+  as_many = refl;
+  limit_is = refl;
   within = omega arith;
   going = refl;
 }
@@ -66,7 +90,7 @@ given_more cut.Spent given pending text rest taken taken' limit ended ended' lef
 -- what is too long is refused for that
 too_long_step : (s : State) (count : ℕ) (reply : List ℕ) → reply ≡ text long_line → steps.Step s count too_long reply s count
 unfolding answer request
-too_long_step s count reply e = record { later = omega arith; replied = answered e refl }
+too_long_step s count reply e = record { later = omega arith; replied = found_memory (answered e refl) }
 
 pub other_step : (c : Cut) (s : State) (count : ℕ) (bytes reply : List ℕ) → (c ≡ cut.Line → ⊥) → reply ≡ text long_line → steps.Step s count (line_of c bytes) reply s count
 other_step cut.Line s count bytes reply other e = absurd (other refl)
@@ -81,18 +105,18 @@ first_lines given pending taken true left0 left t = inr (sym (t.at_end refl).1, 
 first_lines given pending taken false left0 left t = inl (whole pending, sym (t.whole_are refl pending) ∙ ap whole (sym t.parts))
 
 -- The last answer ends the run.
-pub finished : (c : Cut) (cutter cutter' : Cutter) (server : State) (left0 left left' given0 given : Option (List ℕ)) (count0 count : ℕ) (contents : Option Kept)
-    → Served cutter server left0 left given0 given count0 count contents
+pub finished : (first : State) (limit : ℕ) (c : Cut) (cutter cutter' : Cutter) (server : State) (left0 left left' given0 given : Option (List ℕ)) (count0 count : ℕ) (contents0 contents : Option Kept)
+    → Served first limit cutter server left0 left given0 given count0 count contents0 contents
     → Step c cutter.pending cutter'.line cutter'.pending cutter.taken cutter'.taken cutter.limit cutter.ended cutter'.ended left left' → is_last c ≡ true
-    → Serves (status_of c) left0 left' given0 given count0 count contents
-finished cut.Line cutter cutter' server left0 left left' given0 given count0 count contents s t last = absurd (let no : false ≡ true = last in cc)
-finished cut.TooLong cutter cutter' server left0 left left' given0 given count0 count contents s t last = absurd (let no : false ≡ true = last in cc)
-finished cut.End cutter cutter' server left0 left left' given0 given count0 count contents s t last =
+    → Serves first limit (status_of c) left0 left' given0 given count0 count contents0 contents
+finished first limit cut.Line cutter cutter' server left0 left left' given0 given count0 count contents0 contents s t last = absurd (let no : false ≡ true = last in cc)
+finished first limit cut.TooLong cutter cutter' server left0 left left' given0 given count0 count contents0 contents s t last = absurd (let no : false ≡ true = last in cc)
+finished first limit cut.End cutter cutter' server left0 left left' given0 given count0 count contents0 contents s t last =
     let found = Taken-ended s.lines cutter.pending cutter'.line cutter'.pending cutter.taken cutter'.taken cutter.limit cutter.ended cutter'.ended left0 left left' s.taken t in
     record {
       came = found.0;
       consumed = found.1;
-      most = omega (arith, found.2, t.most, s.limit);
+      most = omega (arith, found.2, t.most, s.limit_is);
       taken = s.lines;
       replies = s.replies;
       last = server;
@@ -105,13 +129,14 @@ finished cut.End cutter cutter' server left0 left left' given0 given count0 coun
       no_lines = λ h. absurd (omega (arith, h));
       all_replies = λ _. s.gave;
       some_replies = λ h. absurd (omega (arith, h));
+      in_time = λ h. absurd (omega (arith, h));
     }
-finished cut.Failed cutter cutter' server left0 left left' given0 given count0 count contents s t last =
+finished first limit cut.Failed cutter cutter' server left0 left left' given0 given count0 count contents0 contents s t last =
     let found = Taken-failed s.lines cutter.pending cutter'.line cutter'.pending cutter.taken cutter'.taken cutter.limit cutter.ended cutter'.ended left0 left left' s.taken t in
     record {
       came = found.0;
       consumed = found.1;
-      most = omega (arith, found.2, t.most, s.limit);
+      most = omega (arith, found.2, t.most, s.limit_is);
       taken = s.lines;
       replies = s.replies;
       last = server;
@@ -124,13 +149,14 @@ finished cut.Failed cutter cutter' server left0 left left' given0 given count0 c
       no_lines = λ h. absurd (omega (arith, h));
       all_replies = λ _. s.gave;
       some_replies = λ h. absurd (omega (arith, h));
+      in_time = λ h. absurd (omega (arith, h));
     }
-finished cut.Spent cutter cutter' server left0 left left' given0 given count0 count contents s t last =
+finished first limit cut.Spent cutter cutter' server left0 left left' given0 given count0 count contents0 contents s t last =
     let found = Taken-spent s.lines cutter.pending cutter'.line cutter'.pending cutter.taken cutter'.taken cutter.limit cutter.ended cutter'.ended left0 left left' s.taken t in
     record {
       came = found.0;
       consumed = found.1;
-      most = omega (arith, found.2, s.limit);
+      most = omega (arith, found.2, s.limit_is);
       taken = s.lines;
       replies = s.replies;
       last = server;
@@ -138,18 +164,19 @@ finished cut.Spent cutter cutter' server left0 left left' given0 given count0 co
       stored = s.stored;
       all_lines = λ h. absurd (omega (arith, h));
       failed_lines = λ h. absurd (omega (arith, h));
-      spent_lines = λ _. (found.3 ∙ ap (λ n. whole (take n found.0)) s.limit, omega (arith, found.2, s.limit));
+      spent_lines = λ _. (found.3 ∙ ap (λ n. whole (take n found.0)) s.limit_is, omega (arith, found.2, s.limit_is));
       some_lines = λ h. absurd (omega (arith, h));
       no_lines = λ h. absurd (omega (arith, h));
       all_replies = λ _. s.gave;
       some_replies = λ h. absurd (omega (arith, h));
+      in_time = λ h. absurd (omega (arith, h));
     }
 
 -- Past the limit the input is longer than that.
-pub spent_input : (status : ℕ) (left left' given given' : Option (List ℕ)) (count count' : ℕ) (contents : Option Kept)
-    → Serves status left left' given given' count count' contents → status ≡ 8 → IfSome left (λ bytes. 4294967296 < length bytes)
-spent_input status left left' given given' count count' contents s is =
-    if_some left (λ bytes. length s.came ≤ length bytes) (λ bytes. 4294967296 < length bytes) (λ bytes h. omega (arith, h, (s.spent_lines is).1)) (longer left left' s.came s.consumed)
+pub spent_input : (first : State) (limit most status : ℕ) (left left' given given' : Option (List ℕ)) (count count' : ℕ) (contents contents' : Option Kept) → limit ≡ most
+    → Serves first limit status left left' given given' count count' contents contents' → status ≡ 8 → IfSome left (λ bytes. most < length bytes)
+spent_input first limit most status left left' given given' count count' contents contents' same s is =
+    if_some left (λ bytes. length s.came ≤ length bytes) (λ bytes. most < length bytes) (λ bytes h. omega (arith, same, h, (s.spent_lines is).1)) (longer left left' s.came s.consumed)
 
 -- the statuses at a last answer
 pub ends_of : (c : Cut) → (status_of c ≡ 0) ⊎ ((status_of c ≡ 4) ⊎ ((status_of c ≡ 5) ⊎ (status_of c ≡ 8)))
@@ -160,29 +187,30 @@ ends_of cut.Failed = inr (inl refl)
 ends_of cut.Spent = inr (inr (inr refl))
 
 -- a version never rises above the bytes that were taken
-pub room : (cutter : Cutter) (server : State) (left0 left given0 given : Option (List ℕ)) (count0 count : ℕ) (contents : Option Kept)
-    → Served cutter server left0 left given0 given count0 count contents → server.version < 2 ^ 64 - 1
-room cutter server left0 left given0 given count0 count contents s =
+pub room : (first : State) (limit : ℕ) (cutter : Cutter) (server : State) (left0 left given0 given : Option (List ℕ)) (count0 count : ℕ) (contents0 contents : Option Kept)
+    → Served first limit cutter server left0 left given0 given count0 count contents0 contents → first.version + limit + 1 < 2 ^ 64 - 1 → server.version < 2 ^ 64 - 1
+room first limit cutter server left0 left given0 given count0 count contents0 contents s few =
     let t = s.taken in
-    omega (arith, s.version, s.within, s.limit, t.few, t.counted, ap length t.parts, length-append t.front cutter.pending)
+    omega (arith, few, s.version, s.within, s.limit_is, t.few, t.counted, ap length t.parts, length-append t.front cutter.pending)
 
 -- One line more was answered and its reply given.
-pub Served-more : (c : Cut) (cutter cutter' : Cutter) (server server' : State) (left0 left left' given0 given given' : Option (List ℕ)) (count0 count count' : ℕ) (contents contents' : Option Kept) (reply : List ℕ)
-    → Served cutter server left0 left given0 given count0 count contents
+pub Served-more : (first : State) (limit : ℕ) (c : Cut) (cutter cutter' : Cutter) (server server' : State) (left0 left left' given0 given given' : Option (List ℕ)) (count0 count count' : ℕ) (contents0 contents contents' : Option Kept) (reply : List ℕ)
+    → Served first limit cutter server left0 left given0 given count0 count contents0 contents
     → Step c cutter.pending cutter'.line cutter'.pending cutter.taken cutter'.taken cutter.limit cutter.ended cutter'.ended left left' → is_last c ≡ false
     → cutter'.limit ≡ cutter.limit → cutter'.done ≡ is_last c
-    → steps.Step server count (line_of c cutter'.line) reply server' count' → Tells contents' (kept server') → Appends given given' reply
-    → Served cutter' server' left0 left' given0 given' count0 count' contents'
-Served-more c cutter cutter' server server' left0 left left' given0 given given' count0 count count' contents contents' reply s t going limit done step told gave = record {
+    → steps.Step server count (line_of c cutter'.line) reply server' count' → IsStored server' contents contents' → Appends given given' reply
+    → Served first limit cutter' server' left0 left' given0 given' count0 count' contents0 contents'
+Served-more first limit c cutter cutter' server server' left0 left left' given0 given given' count0 count count' contents0 contents contents' reply s t going limit_kept done step told gave = record {
   lines = s.lines ++ line_of c cutter'.line ∷ [];
   replies = s.replies ++ reply ∷ [];
   taken = given_more c s.lines cutter.pending cutter'.line cutter'.pending cutter.taken cutter'.taken cutter.limit cutter.ended cutter'.ended left0 left left' s.taken t going;
-  session = Session-push fresh count0 s.lines s.replies server count s.session (line_of c cutter'.line) reply server' count' step;
-  stored = told;
+  session = Session-push first count0 s.lines s.replies server count s.session (line_of c cutter'.line) reply server' count' step;
+  stored = stored_next server server' contents0 contents contents' s.stored told;
   gave = subst (Appends given0 given') (sym (joined-push s.replies reply)) (Appends-trans given0 given given' (joined s.replies) reply s.gave gave);
   version = omega (arith, s.version, version-step server count (line_of c cutter'.line) reply server' count' step, length-append s.lines (line_of c cutter'.line ∷ []));
-  limit = limit ∙ s.limit;
-  within = omega (arith, t.most, limit);
+  as_many = omega (arith, s.as_many, length-append s.lines (line_of c cutter'.line ∷ []), length-append s.replies (reply ∷ []));
+  limit_is = limit_kept ∙ s.limit_is;
+  within = omega (arith, t.most, limit_kept);
   going = done ∙ going;
 }
 
@@ -193,23 +221,25 @@ broken_off : (a b c : Option (List ℕ)) (before : List (List ℕ)) (reply : Lis
 broken_off a b c before reply p q = (before, reply, q.0, refl, Appends-trans a b c (joined before) (take q.0 reply) p q.1)
 
 -- The sink failed at the last reply.
-pub unwritten : (c : Cut) (cutter cutter' : Cutter) (server server' : State) (left0 left left' given0 given given' : Option (List ℕ)) (count0 count count' : ℕ) (contents contents' : Option Kept) (reply : List ℕ)
-    → Served cutter server left0 left given0 given count0 count contents
+pub unwritten : (first : State) (limit : ℕ) (c : Cut) (cutter cutter' : Cutter) (server server' : State) (left0 left left' given0 given given' : Option (List ℕ)) (count0 count count' : ℕ) (contents0 contents contents' : Option Kept) (reply : List ℕ)
+    → Served first limit cutter server left0 left given0 given count0 count contents0 contents
     → Step c cutter.pending cutter'.line cutter'.pending cutter.taken cutter'.taken cutter.limit cutter.ended cutter'.ended left left' → is_last c ≡ false
-    → steps.Step server count (line_of c cutter'.line) reply server' count' → Tells contents' (kept server') → AppendsFront given given' reply
-    → Serves 5 left0 left' given0 given' count0 count' contents'
-unwritten c cutter cutter' server server' left0 left left' given0 given given' count0 count count' contents contents' reply s t going step told gave =
+    → steps.Step server count (line_of c cutter'.line) reply server' count' → IsStored server' contents contents' → AppendsFront given given' reply
+    → Serves first limit 5 left0 left' given0 given' count0 count' contents0 contents'
+unwritten first limit c cutter cutter' server server' left0 left left' given0 given given' count0 count count' contents0 contents contents' reply s t going step told gave =
     let now : Taken (s.lines ++ line_of c cutter'.line ∷ []) cutter'.pending cutter'.taken cutter'.ended left0 left' =
     given_more c s.lines cutter.pending cutter'.line cutter'.pending cutter.taken cutter'.taken cutter.limit cutter.ended cutter'.ended left0 left left' s.taken t going in
+    let same : length (s.lines ++ line_of c cutter'.line ∷ []) ≡ length (s.replies ++ reply ∷ []) =
+    omega (arith, s.as_many, length-append s.lines (line_of c cutter'.line ∷ []), length-append s.replies (reply ∷ [])) in
     record {
       came = now.all;
       consumed = now.consumed;
-      most = omega (arith, now.counted, t.most, s.limit);
+      most = omega (arith, now.counted, t.most, s.limit_is);
       taken = s.lines ++ line_of c cutter'.line ∷ [];
       replies = s.replies ++ reply ∷ [];
       last = server';
-      session = Session-push fresh count0 s.lines s.replies server count s.session (line_of c cutter'.line) reply server' count' step;
-      stored = told;
+      session = Session-push first count0 s.lines s.replies server count s.session (line_of c cutter'.line) reply server' count' step;
+      stored = stored_next server server' contents0 contents contents' s.stored told;
       all_lines = λ h. absurd (omega (arith, h));
       failed_lines = λ h. absurd (omega (arith, h));
       spent_lines = λ h. absurd (omega (arith, h));
@@ -217,19 +247,21 @@ unwritten c cutter cutter' server server' left0 left left' given0 given given' c
       no_lines = λ h. absurd (omega (arith, h));
       all_replies = λ h. absurd (h refl);
       some_replies = λ _. broken_off given0 given given' s.replies reply s.gave gave;
+      in_time = λ _. subst (λ n. ComesInTime (n - 1) now.all) same now.in_time;
     }
 
 -- a run that took nothing and gave nothing
-pub served_nothing : (left given : Option (List ℕ)) (count : ℕ) (contents : Option Kept) → Tells contents (kept fresh) → Serves 3 left left given given count count contents
-served_nothing left given count contents told = record {
+pub served_nothing : (first : State) (limit : ℕ) (left given : Option (List ℕ)) (count : ℕ) (contents : Option Kept) → Tells contents (kept first)
+    → Serves first limit 3 left left given given count count contents contents
+served_nothing first limit left given count contents told = record {
   came = [];
   consumed = Consumes-nil left;
   most = omega arith;
   taken = [];
   replies = [];
-  last = fresh;
-  session = Session-nil fresh count;
-  stored = told;
+  last = first;
+  session = Session-nil first count;
+  stored = stored_same first contents told;
   all_lines = λ h. absurd (omega (arith, h));
   failed_lines = λ h. absurd (omega (arith, h));
   spent_lines = λ h. absurd (omega (arith, h));
@@ -237,6 +269,7 @@ served_nothing left given count contents told = record {
   no_lines = λ _. refl;
   all_replies = λ _. Appends-nil given;
   some_replies = λ h. absurd (omega (arith, h));
+  in_time = λ h. absurd (omega (arith, h));
 }
 
 -- with no fault a run ends at the end of the input or at the limit
@@ -253,8 +286,8 @@ completed status read write ends reads writes no_read no_write = elim ends [
   ]
 ]
 
-unspent : (status size : ℕ) → (status ≡ 0) ⊎ ((status ≡ 3) ⊎ (status ≡ 8)) → (status ≡ 8 → 4294967296 < size) → size ≤ 4294967296 → (status ≡ 0) ⊎ (status ≡ 3)
-unspent status size ends spent short = elim ends [
+unspent : (limit status size : ℕ) → (status ≡ 0) ⊎ ((status ≡ 3) ⊎ (status ≡ 8)) → (status ≡ 8 → limit < size) → size ≤ limit → (status ≡ 0) ⊎ (status ≡ 3)
+unspent limit status size ends spent short = elim ends [
   | inl e ↦ inl e
   | inr r ↦ elim r [
     | inl e ↦ inr e
@@ -263,7 +296,7 @@ unspent status size ends spent short = elim ends [
 ]
 
 -- an input that is told to be no longer than the limit is served to its end
-pub completed_told : (status : ℕ) (left : Option (List ℕ)) → (status ≡ 0) ⊎ ((status ≡ 3) ⊎ (status ≡ 8)) → (status ≡ 8 → IfSome left (λ bytes. 4294967296 < length bytes))
-    → IfSome left (λ bytes. length bytes ≤ 4294967296 → (status ≡ 0) ⊎ (status ≡ 3))
-completed_told status None ends spent = tt
-completed_told status (Some bytes) ends spent = λ short. unspent status (length bytes) ends spent short
+pub completed_told : (limit status : ℕ) (left : Option (List ℕ)) → (status ≡ 0) ⊎ ((status ≡ 3) ⊎ (status ≡ 8)) → (status ≡ 8 → IfSome left (λ bytes. limit < length bytes))
+    → IfSome left (λ bytes. length bytes ≤ limit → (status ≡ 0) ⊎ (status ≡ 3))
+completed_told limit status None ends spent = tt
+completed_told limit status (Some bytes) ends spent = λ short. unspent limit status (length bytes) ends spent short

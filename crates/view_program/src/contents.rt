@@ -1,4 +1,4 @@
-//! What is kept before the first line.
+//! The contents of a keeper before the first line.
 ghost use Rattle.std.specs.Prelude.{◌≡◌};
 ghost use Rattle.server_specs.specs.State.{fresh, kept};
 ghost use Rattle.table_keeper.specs.Changes.{kept_view};

@@ -90,7 +90,8 @@ const PUTS: &str =
 {"do":"read","view":"n"}
 {"ok":true,"rows":[{"k":-9223372036854775808},{"k":9223372036854775807}],"version":11}"#;
 
-/// Selections of tables with dependencies: hidden rows are revised, and those that would then be shown unsent are deleted.
+/// Selections of tables with dependencies: hidden rows are revised, and those that would then be
+/// shown unsent are deleted.
 const SELECTIONS: &str =
     r#"{"do":"define","text":"table sales (track text, album text, quantity int) with album -> quantity"}
 {"ok":true,"version":1}

@@ -5,7 +5,8 @@ ghost use Rattle.server_specs.specs.State.{fresh, kept};
 
 use crate::contents::nothing;
 use crate::running::run;
-use lens_io::{LONGEST, MemorySink, MemorySource, ROOM};
+use io_specs::LONGEST_LINE;
+use lens_io::{MemorySink, MemorySource, ROOM};
 use std::alloc::Global;
 use std::marker::Brand;
 use std::sync::ledger::{Blank, Ledger};
@@ -162,7 +163,8 @@ fn failing(alloc: Global, number: u64) -> Result<Vec<u64>, Fail> {
 #[test]
 fn words_and_devices(rt: HostRuntime) -> Result<(), Fail> {
     let alloc = rt.alloc();
-    // The words, the input, the calls of the source and of the sink that fail, the status and the output.
+    // The words, the input, the calls of the source and of the sink that fail, the status and the
+    // output.
     for (words, input, source, sink, status, output) in [
         (0, "x\n", 0, 0, 2, USAGE),
         (1, "", 0, 0, 0, ""),
@@ -189,7 +191,7 @@ fn words_and_devices(rt: HostRuntime) -> Result<(), Fail> {
 #[test]
 fn lines_that_are_no_request(rt: HostRuntime) -> Result<(), Fail> {
     let alloc = rt.alloc();
-    let mut bytes = vec![in alloc; b'a'; LONGEST + 1]?;
+    let mut bytes = vec![in alloc; b'a'; LONGEST_LINE + 1]?;
     bytes.extend_from_slice(b"\n")?;
     bytes.extend_from_slice(LIST.as_bytes())?;
     bytes.extend_from_slice(b"\n\xff\n")?;

@@ -1,1 +1,4 @@
+pub mod Cuts
+pub mod Drops
+pub mod Joins
 pub mod Selections

@@ -1,4 +1,4 @@
--- What a selection shows and hides, and what a put of it comes to, row by row.
+-- A selection and its put, row by row.
 use Rattle.std.proofs.Common.{◌≡◌, ◌∙◌, ℕ, suc, Bool, true, false, List, [], ◌∷◌, length, map, arith, ap, sym, refl}
 use Rattle.std.specs.Prelude.{not, ◌==◌, ◌&&◌, ◌||◌}
 use Rattle.std.proofs.lemmas.Bool.Decides.{nat_tests}
@@ -10,7 +10,7 @@ use Rattle.lens_specs.specs.Dependencies.{Edge, MeetsTree}
 use Rattle.lens_specs.specs.Relation.{Rows, has, those, image}
 use Rattle.lens_specs.specs.Revision.{merge, revise, revise_row}
 use Rattle.lens_specs.specs.Nodes.{select_get, select_put, select_merged}
-use Rattle.lens_laws.specs.Trees.{IsTree}
+use Rattle.fd_laws.specs.Trees.{IsTree}
 use Rattle.lens_laws.specs.Shapes.{Shape}
 use Rattle.lens_laws.proofs.Select.{select_lawful}
 
@@ -23,11 +23,11 @@ both : (a b : Bool) → (a && b) ≡ true → (a ≡ true) × (b ≡ true)
 both true b e = (refl, e)
 both false b e = cc
 
--- a row that is kept is there, and passes
+-- a row of the result is a row of the relation, and passes
 pub kept_is : (p : Row → Bool) (M : Rows) (q : Row) → has (those p M) q ≡ true → (has M q ≡ true) × (p q ≡ true)
 kept_is p M q h = both (has M q) (p q) (sym (in_those p M q) ∙ h)
 
--- where each row passes, all are kept
+-- where each row passes, the result is the whole relation
 pub all_kept : (p : Row → Bool) (M : Rows) → ((q : Row) → has M q ≡ true → p q ≡ true) → those p M ≡ M
 all_kept p M all = set.same_set row_cmp_total row_cmp-IsAntisymmetric (those p M) M (λ q. in_those p M q ∙ by_test (has M q) (p q) (all q))
   where
@@ -72,7 +72,7 @@ less_extra P N A q =
     set.contains-difference row_cmp_total A (set.difference (those P A) N) q
     ∙ ap (λ b. has A q && not b) (set.contains-difference row_cmp_total (those P A) N q ∙ ap (λ b. b && not (has N q)) (in_those P A q))
 
--- what is hidden still, and the view
+-- the source after a put: the rows that are hidden still, and the view
 abbrev pub put_rows : List Edge → (Row → Bool) → Rows → Rows → Rows
 put_rows T P N M = set.union (those (λ r. not (P r)) (revise T (those (λ r. not (P r)) M) N)) N
 
@@ -89,7 +89,7 @@ put_is T P N M =
     ∙ sym (ap (λ b. b && not ((b && P q) && not (has N q))) (in_union R N q))
     ∙ sym (less_extra P N A q))
 
--- where each row of the view passes, the view is shown after the put
+-- where each row of the view passes, the view is read again
 pub shown_after : (T : List Edge) (P : Row → Bool) (N M : Rows) → ((q : Row) → has N q ≡ true → P q ≡ true) → select_get P (put_rows T P N M) ≡ N
 unfolding select_get
 shown_after T P N M all =
@@ -107,8 +107,8 @@ shown_after T P N M all =
     by_test false false true h = h refl
     by_test false false false h = refl
 
--- where the source meets the tree, to put back what is shown changes nothing
+-- where the source meets the tree, to put back what is read changes nothing
 pub put_back : (T : List Edge) (P : Row → Bool) (U : Columns) (M : Rows) → IsTree T → MeetsTree M T → ((q : Row) → has M q ≡ true → Fits U q) → put_rows T P (select_get P M) M ≡ M
 put_back T P U M tree meets fits =
     let s : Shape = record { columns = U; holds = λ r. true; tree = T } in
-    put_is T P (select_get P M) M ∙ (select_lawful s P tree (λ a b h. refl)).get_put M (record { columns = fits; holds = λ r h. refl; meets = meets })
+    put_is T P (select_get P M) M ∙ (select_lawful s P tree (λ a b h k r i. refl)).get_put M (record { columns = fits; holds = λ r h. refl; meets = meets })

@@ -1,1 +1,2 @@
+pub mod Joinable
 pub mod Shows

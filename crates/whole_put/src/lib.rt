@@ -1,9 +1,11 @@
-//! What the nodes of a lens show of their sources, and what a put of a view makes of them, over whole relations.
+//! The nodes of a lens over whole relations: the view that each shows of its sources, and the
+//! sources after a put of it.
 #![tactic(auto)]
 
+pub mod dropping;
+pub mod joining;
 pub mod selecting;
 
+pub use dropping::{get_drop, put_drop};
+pub use joining::{get_join, put_join};
 pub use selecting::{get_select, put_select};
-
-#[cfg(test)]
-mod tests;

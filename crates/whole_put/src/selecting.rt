@@ -6,7 +6,6 @@ ghost use Rattle.lens_specs.specs.Nodes.{select_get, select_put};
 ghost use Rattle.lens_specs.specs.Predicate.{holds};
 ghost use Rattle.lens_specs.specs.Relation.{has, those};
 ghost use Rattle.lens_specs.specs.Revision as spec;
-ghost use Rattle.lens_laws.specs.Trees.{IsTree};
 ghost use Rattle.whole_put.specs.Shows.{is_shown};
 
 use fd_tree::Tree;
@@ -18,14 +17,16 @@ use std::alloc::Global;
 
 /// The rows of the source that the predicate holds on.
 pub fn get_select(alloc: Global, pred: &Pred, source: &Relation) -> Result<Relation, NoMemory>
-    ensures { IfOk result (λ view. view ≡ record source.now { rows = select_get (holds pred.now) source.now.rows }) }
+    ensures { IfOk result (λ view.
+        view ≡ record source.now { rows = select_get (holds pred.now) source.now.rows }) }
 {
     part(alloc, pred, true, source)
 }
 
-/// The source after a put of the view (Bohannon, Pierce and Vaughan, PODS 2006): the rows that the predicate refuses, revised
-/// by the view along the tree, without those that it then holds on, and the view. Where the predicate holds on each row of
-/// the view, the view is read again; and where the source meets the tree, to put back what is read changes nothing.
+/// The source after a put of the view (Bohannon, Pierce and Vaughan, PODS 2006): the rows that the
+/// predicate refuses, revised by the view along the tree, without those that it then holds on, and
+/// the view. Where the predicate holds on each row of the view, the view is read again; and where
+/// the source meets the tree, to put back what is read changes nothing.
 pub fn put_select(
     alloc: Global,
     tree: &Tree,
@@ -34,11 +35,19 @@ pub fn put_select(
     source: &Relation,
 ) -> Result<Relation, NoMemory>
     requires { view.now.columns ≡ source.now.columns }
-    ensures value { IfOk result (λ after. after ≡ record source.now { rows = select_put tree.now (holds pred.now) view.now.rows source.now.rows }) }
-    ensures put_get { IfOk result (λ after. ((row : Row) → has view.now.rows row ≡ true → holds pred.now row ≡ true) → select_get (holds pred.now) after.rows ≡ view.now.rows) }
-    ensures get_put { IfOk result (λ after. IsTree tree.now → MeetsTree source.now.rows tree.now → view.now.rows ≡ select_get (holds pred.now) source.now.rows → after ≡ source.now) }
+    ensures value { IfOk result (λ after.
+        after ≡ record source.now {
+          rows = select_put tree.now
+              (holds pred.now) view.now.rows source.now.rows;
+        }) }
+    ensures put_get { IfOk result (λ after.
+        ((row : Row) → has view.now.rows row ≡ true → holds pred.now row ≡ true)
+        → select_get (holds pred.now) after.rows ≡ view.now.rows) }
+    ensures get_put { IfOk result (λ after. MeetsTree source.now.rows tree.now
+        → view.now.rows ≡ select_get (holds pred.now) source.now.rows → after ≡ source.now) }
 {
     source.rows_fit();
+    tree.is_tree();
     let hidden = part(alloc, pred, false, source)?;
     let still_hidden = hidden_after(alloc, tree, pred, hidden, view)?;
     still_hidden.union(alloc, view)
@@ -53,8 +62,13 @@ fn hidden_after(
     view: &Relation,
 ) -> Result<Relation, NoMemory>
     requires columns { view.now.columns ≡ hidden.columns }
-    requires hidden { (row : Row) → has hidden.rows row ≡ true → is_shown pred.now false row ≡ true }
-    ensures { IfOk result (λ rest. rest ≡ record hidden { rows = those (is_shown pred.now false) (spec.revise tree.now hidden.rows view.now.rows) }) }
+    requires hidden { (row : Row) → has hidden.rows row ≡ true
+        → is_shown pred.now false row ≡ true }
+    ensures { IfOk result (λ rest.
+        rest ≡ record hidden {
+          rows = those (is_shown pred.now false)
+              (spec.revise tree.now hidden.rows view.now.rows);
+        }) }
 {
     if tree.edges().is_empty() {
         return Ok(hidden);
@@ -66,7 +80,8 @@ fn hidden_after(
 
 /// The rows that the predicate holds on, or the others.
 fn part(alloc: Global, pred: &Pred, shown: bool, relation: &Relation) -> Result<Relation, NoMemory>
-    ensures { IfOk result (λ some. some ≡ record relation.now { rows = those (is_shown pred.now shown) relation.now.rows }) }
+    ensures { IfOk result (λ some.
+        some ≡ record relation.now { rows = those (is_shown pred.now shown) relation.now.rows }) }
 {
     let rows = chosen(alloc, pred, shown, relation.rows())?;
     relation.rows_fit();

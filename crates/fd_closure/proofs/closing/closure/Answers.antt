@@ -6,7 +6,7 @@ use Rattle.std.specs.Vec.{with_items}
 use Rattle.std.proofs.lemmas.List.{take_all, with_items_is}
 use Rattle.lens_values.specs.Order.{bytes_cmp}
 use Rattle.lens_values.specs.SortedSet as set
-use Rattle.lens_laws.proofs.Closures.{closure_is}
+use Rattle.fd_laws.proofs.Closures.{closure_is}
 use Rattle.lens_specs.specs.Dependencies as spec
 use Rattle.lens_specs.specs.Names.{Name, is_among}
 use Rattle.fd_closure.specs.Entries.{PlacesBelow}

@@ -48,6 +48,6 @@ returns-clause-keeps c =
     (revised_keeps c.args.tree.now c.args.relation.now.rows c.args.by.now)
 
 pub returns-clause-as_many : goal.returns-clause-as_many
-returns-clause-as_many c = λ tree meets.
+returns-clause-as_many c = λ meets.
     let rows = made (goal.at.returns-clause-as_many c).In_ok-new in
-    ap (λ r. set.len r.rows) c.with_rows.ensures ∙ ap set.len rows ∙ revised_len c.args.tree.now c.args.relation.now.rows c.args.by.now tree meets
+    ap (λ r. set.len r.rows) c.with_rows.ensures ∙ ap set.len rows ∙ revised_len c.args.tree.now c.args.relation.now.rows c.args.by.now c.is_tree.ensures meets

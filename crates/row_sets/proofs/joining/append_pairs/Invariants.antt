@@ -1,6 +1,6 @@
 use Rattle.std.proofs.Common.{◌≡◌, ◌++◌, take, map}
-use Rattle.lens_values.specs.Part.{both_of}
+use Rattle.lens_values.specs.Part.{override}
 use Rattle.row_sets.proofs.joining.append_pairs.Given as goal
 
 abbrev pub invariant-loop-entry : goal.invariant-loop-entry
-invariant-loop-entry l = l.pairs.items ≡ l.fn.pairs.items ++ map (λ e. both_of e.1 l.row) (take l.entry-index l.index)
+invariant-loop-entry l = l.pairs.items ≡ l.fn.pairs.items ++ map (λ e. override e.1 l.row) (take l.entry-index l.index)

@@ -5,4 +5,4 @@ use Rattle.row_sets.specs.Joins.{entry_cmp}
 use Rattle.row_sets.proofs.joining.indexed.Goals as goal
 
 pub returns-clause-members : goal.returns-clause-members
-returns-clause-members c = λ e. c.rising.ensures.members e ∙ ap (list_any (eq_by_cmp entry_cmp e)) c.in_ok-entries.ensures
+returns-clause-members c = λ e. c.into_sorted.ensures.members e ∙ ap (list_any (eq_by_cmp entry_cmp e)) c.in_ok-entries.ensures

@@ -2,19 +2,19 @@ use Rattle.std.proofs.Common.{◌≡◌, ◌++◌, ◌∷◌, [], List, take, ma
 use Rattle.std.specs.Prelude.{filter, flat_map}
 use Rattle.std.specs.Ordering.{is_eq}
 use Rattle.std.proofs.lemmas.List.{flat_map_more, take_more}
-use Rattle.lens_values.specs.Part.{both_of, part_in}
+use Rattle.lens_values.specs.Part.{override, restrict}
 use Rattle.lens_values.specs.Row.{row_cmp}
 use Rattle.lens_values.specs.declared.row.Row.{Row}
 use Rattle.row_sets.proofs.joining.paired.Goals as goal
 
 pub loop-row-preserved : goal.loop-row-preserved
 loop-row-preserved c =
-    let with : Row → List Row = λ m. map (λ e. both_of e.1 m) (filter (λ e. is_eq (row_cmp e.0 (part_in c.args.cols.now m))) c.args.index.now) in
+    let with : Row → List Row = λ m. map (λ e. override e.1 m) (filter (λ e. is_eq (row_cmp e.0 (restrict c.args.cols.now m))) c.args.index.now) in
     let i = c.loop-row.row-index in
     let row : Row = c.row-item.result in
-    let found : c.with_part.result.now ≡ filter (λ e. is_eq (row_cmp e.0 (part_in c.args.cols.now row))) c.args.index.now =
+    let found : c.with_part.result.now ≡ filter (λ e. is_eq (row_cmp e.0 (restrict c.args.cols.now row))) c.args.index.now =
     c.with_part.ensures ∙ ap (λ k. filter (λ e. is_eq (row_cmp e.0 k)) c.args.index.now) c.in_ok-key.ensures in
     c.in_ok-append_pairs.ensures
-    ∙ (λ z. c.loop-row.invariant z ++ map (λ e. both_of e.1 row) (found z))
+    ∙ (λ z. c.loop-row.invariant z ++ map (λ e. override e.1 row) (found z))
     ∙ flat_map_more with [] (take i c.args.rows.now) row
     ∙ ap (flat_map with) (ap (λ r. take i c.args.rows.now ++ r ∷ []) c.row-item.is ∙ sym (take_more c.args.rows.now i row c.loop-row-test.true))

@@ -1,11 +1,11 @@
 use Rattle.std.proofs.Common.{refl}
-use Rattle.view_program.proofs.Served.{other_step}
+use Rattle.view_program.proofs.Served.{other_step, stored_same}
 use Rattle.view_program.proofs.running.reply_to.Goals as goal
 
 pub returns-in_default : goal.returns-in_default
 returns-in_default g c = record {
   step = other_step c.args.cut _ _ _ _ c.in_default.not-Line c.long_reply.ensures;
-  told = c.requires.told;
+  told = stored_same c.args.server.now _ c.requires.told;
   place = refl;
   walked = refl;
 }

@@ -7,7 +7,7 @@ use Rattle.view_program.proofs.running.serve.Goals as goal
 
 pub lines-init : goal.lines-init
 lines-init g c = record {
-  served = rw (c.requires.cutter, c.requires.server) (Served-nil _ _ _ _ c.requires.told);
+  served = rw c.requires.cutter (Served-nil _ _ _ _ _ _ c.requires.told);
   source = omega arith;
   sink = omega arith;
   keeper = omega arith;
@@ -17,7 +17,7 @@ lines-init g c = record {
 
 pub returns-then-done-clause-serves : goal.returns-then-done-clause-serves
 returns-then-done-clause-serves g c = rw c.status_of.ensures
-    (finished c.next-cut.result c.lines.cutter c.next-cut.new.self c.lines.server _ _ _ _ _ _ _ _ c.lines.invariant.served c.next-cut.ensures.step
+    (finished _ _ c.next-cut.result c.lines.cutter c.next-cut.new.self c.lines.server _ _ _ _ _ _ _ _ _ c.lines.invariant.served c.next-cut.ensures.step
     (sym c.next-cut.ensures.done ∙ sym c.done.ensures ∙ c.if-done.true))
 
 pub returns-then-done-clause-ends : goal.returns-then-done-clause-ends
@@ -27,7 +27,7 @@ pub returns-in-Err-clause-serves : goal.returns-in-Err-clause-serves
 returns-in-Err-clause-serves g c =
     let step : Step c.lines.server (g.K.Keeper.faults c.lines.keeper) (line_of c.next-cut.result c.next-cut.new.self.line) c.reply_to-reply.result c.reply_to-reply.new.server (g.K.Keeper.faults c.reply_to-reply.new.keeper) =
     rw (← c.line.ensures) c.reply_to-reply.ensures.step in
-    unwritten c.next-cut.result c.lines.cutter c.next-cut.new.self c.lines.server c.reply_to-reply.new.server _ _ _ _ _ _ _ _ _ _ _ c.reply_to-reply.result
+    unwritten _ _ c.next-cut.result c.lines.cutter c.next-cut.new.self c.lines.server c.reply_to-reply.new.server _ _ _ _ _ _ _ _ _ _ _ _ c.reply_to-reply.result
     c.lines.invariant.served c.next-cut.ensures.step (sym c.next-cut.ensures.done ∙ sym c.done.ensures ∙ c.if-done.false) step c.reply_to-reply.ensures.told c.in-Err.ensures.front
 
 pub lines-smaller : goal.lines-smaller
@@ -42,7 +42,7 @@ lines-preserved g c =
     let step : Step c.lines.server (g.K.Keeper.faults c.lines.keeper) (line_of c.next-cut.result c.next-cut.new.self.line) c.reply_to-reply.result c.reply_to-reply.new.server (g.K.Keeper.faults c.reply_to-reply.new.keeper) =
     rw (← c.line.ensures) c.reply_to-reply.ensures.step in
     record {
-      served = Served-more c.next-cut.result c.lines.cutter c.next-cut.new.self c.lines.server c.reply_to-reply.new.server _ _ _ _ _ _ _ _ _ _ _ c.reply_to-reply.result
+      served = Served-more _ _ c.next-cut.result c.lines.cutter c.next-cut.new.self c.lines.server c.reply_to-reply.new.server _ _ _ _ _ _ _ _ _ _ _ _ c.reply_to-reply.result
           c.lines.invariant.served c.next-cut.ensures.step (sym c.next-cut.ensures.done ∙ sym c.done.ensures ∙ c.if-done.false) c.next-cut.ensures.limit c.next-cut.ensures.done
           step c.reply_to-reply.ensures.told c.in-Ok.ensures.ok;
       source = omega (arith, c.next-cut.ensures.later);

@@ -4,8 +4,8 @@ use Rattle.view_program.proofs.running.serve.Given as goal
 
 abbrev pub invariant-lines : goal.invariant-lines
 invariant-lines g l = record {
-  served : Served l.cutter l.server (g.S.Source.left l.fn.source) (g.S.Source.left l.source) (g.W.Sink.taken l.fn.sink) (g.W.Sink.taken l.sink)
-      (g.K.Keeper.faults l.fn.keeper) (g.K.Keeper.faults l.keeper) (g.K.Keeper.contents l.keeper);
+  served : Served l.fn.server l.fn.cutter.limit l.cutter l.server (g.S.Source.left l.fn.source) (g.S.Source.left l.source) (g.W.Sink.taken l.fn.sink) (g.W.Sink.taken l.sink)
+      (g.K.Keeper.faults l.fn.keeper) (g.K.Keeper.faults l.keeper) (g.K.Keeper.contents l.fn.keeper) (g.K.Keeper.contents l.keeper);
   source : g.S.Source.faults l.fn.source ≤ g.S.Source.faults l.source;
   sink : g.W.Sink.faults l.fn.sink ≤ g.W.Sink.faults l.sink;
   keeper : g.K.Keeper.faults l.fn.keeper ≤ g.K.Keeper.faults l.keeper;

@@ -8,7 +8,6 @@ use Rattle.lens_specs.specs.Nodes.{select_get}
 use Rattle.lens_specs.specs.Predicate.{holds}
 use Rattle.lens_specs.specs.Relation.{has, those}
 use Rattle.lens_specs.specs.Revision as spec
-use Rattle.lens_laws.specs.Trees.{IsTree}
 use Rattle.whole_put.specs.Shows.{is_shown}
 use Rattle.whole_put.proofs.Selections.{kept_is, put_back, put_is, put_rows, shown_after}
 use Rattle.whole_put.proofs.selecting.put_select.Goals as goal
@@ -51,6 +50,6 @@ returns-clause-get_put c =
     let N = c.args.view.now.rows in
     let M = c.args.source.now in
     IfOk-weaker c.union.result (λ after. after ≡ record M { rows = put_rows T P N M.rows })
-    (λ after. IsTree T → MeetsTree M.rows T → N ≡ select_get P M.rows → after ≡ M)
-    (λ after is tree meets shown. is ∙ (λ i. record { columns = M.columns; rows = (ap (λ V. put_rows T P V M.rows) shown ∙ put_back T P M.columns M.rows tree meets c.rows_fit.ensures) i }))
+    (λ after. MeetsTree M.rows T → N ≡ select_get P M.rows → after ≡ M)
+    (λ after is meets shown. is ∙ (λ i. record { columns = M.columns; rows = (ap (λ V. put_rows T P V M.rows) shown ∙ put_back T P M.columns M.rows c.is_tree.ensures meets c.rows_fit.ensures) i }))
     (made (goal.at.returns-clause-get_put c).After-union)

@@ -5,14 +5,14 @@ use Rattle.lens_values.proofs.Maps.{exact, entries_rise, part_rises, part_made}
 use Rattle.lens_values.proofs.Sets.{items_rise}
 use Rattle.lens_values.proofs.columns.Columns.meet.Goals as goal
 
-pub common-requires-clause-list : goal.common-requires-clause-list
-common-requires-clause-list c = entries_rise c.args.self.now _ c.pairs.ensures
+pub intersection-requires-clause-list : goal.intersection-requires-clause-list
+intersection-requires-clause-list c = entries_rise c.args.self.now _ c.pairs.ensures
 
-pub common-requires-clause-keys : goal.common-requires-clause-keys
-common-requires-clause-keys c = items_rise nat_list_cmp_total exact c.args.cols.now _ c.as_slice.ensures
+pub intersection-requires-clause-keys : goal.intersection-requires-clause-keys
+intersection-requires-clause-keys c = items_rise nat_list_cmp_total exact c.args.cols.now _ c.as_slice.ensures
 
 pub invariant_of-result : goal.invariant_of-result
-invariant_of-result c = part_rises c.args.self.now (is_among bytes_cmp c.as_slice.result.now) _ _ c.pairs.ensures c.in_ok-common.ensures
+invariant_of-result c = part_rises c.args.self.now (is_among bytes_cmp c.as_slice.result.now) _ _ c.pairs.ensures c.in_ok-intersection.ensures
 
 pub returns : goal.returns
-returns c = part_made c.args.cols.now c.args.self.now _ _ _ c.as_slice.ensures c.pairs.ensures c.in_ok-common.ensures
+returns c = part_made c.args.cols.now c.args.self.now _ _ _ c.as_slice.ensures c.pairs.ensures c.in_ok-intersection.ensures

@@ -6,14 +6,14 @@ use Rattle.lens_values.proofs.Maps.{exact, entries_rise, part_rises, outside_mad
 use Rattle.lens_values.proofs.Sets.{items_rise}
 use Rattle.lens_values.proofs.columns.Columns.minus.Goals as goal
 
-pub missing-requires-clause-list : goal.missing-requires-clause-list
-missing-requires-clause-list c = entries_rise c.args.self.now _ c.pairs.ensures
+pub difference-requires-clause-list : goal.difference-requires-clause-list
+difference-requires-clause-list c = entries_rise c.args.self.now _ c.pairs.ensures
 
-pub missing-requires-clause-keys : goal.missing-requires-clause-keys
-missing-requires-clause-keys c = items_rise nat_list_cmp_total exact c.args.cols.now _ c.as_slice.ensures
+pub difference-requires-clause-keys : goal.difference-requires-clause-keys
+difference-requires-clause-keys c = items_rise nat_list_cmp_total exact c.args.cols.now _ c.as_slice.ensures
 
 pub invariant_of-result : goal.invariant_of-result
-invariant_of-result c = part_rises c.args.self.now (λ k. not (is_among bytes_cmp c.as_slice.result.now k)) _ _ c.pairs.ensures c.in_ok-missing.ensures
+invariant_of-result c = part_rises c.args.self.now (λ k. not (is_among bytes_cmp c.as_slice.result.now k)) _ _ c.pairs.ensures c.in_ok-difference.ensures
 
 pub returns : goal.returns
-returns c = outside_made c.args.cols.now c.args.self.now _ _ _ c.as_slice.ensures c.pairs.ensures c.in_ok-missing.ensures
+returns c = outside_made c.args.cols.now c.args.self.now _ _ _ c.as_slice.ensures c.pairs.ensures c.in_ok-difference.ensures

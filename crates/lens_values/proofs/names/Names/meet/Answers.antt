@@ -3,14 +3,14 @@ use Rattle.lens_values.proofs.Maps.{exact}
 use Rattle.lens_values.proofs.Sets.{items_rise, own_keys_rise, filter_rises, intersection_made}
 use Rattle.lens_values.proofs.names.Names.meet.Goals as goal
 
-pub common-requires-clause-list : goal.common-requires-clause-list
-common-requires-clause-list c = own_keys_rise nat_list_cmp_total exact c.args.self.now _ c.as_slice.ensures
+pub intersection-requires-clause-list : goal.intersection-requires-clause-list
+intersection-requires-clause-list c = own_keys_rise nat_list_cmp_total exact c.args.self.now _ c.as_slice.ensures
 
-pub common-requires-clause-keys : goal.common-requires-clause-keys
-common-requires-clause-keys c = items_rise nat_list_cmp_total exact c.args.other.now _ c.as_slice-2.ensures
+pub intersection-requires-clause-keys : goal.intersection-requires-clause-keys
+intersection-requires-clause-keys c = items_rise nat_list_cmp_total exact c.args.other.now _ c.as_slice-2.ensures
 
 pub invariant_of-result : goal.invariant_of-result
-invariant_of-result c = filter_rises nat_list_cmp_total exact c.args.self.now _ _ _ c.as_slice.ensures c.in_ok-common.ensures
+invariant_of-result c = filter_rises nat_list_cmp_total exact c.args.self.now _ _ _ c.as_slice.ensures c.in_ok-intersection.ensures
 
 pub returns : goal.returns
-returns c = intersection_made nat_list_cmp_total exact c.args.self.now c.args.other.now _ _ _ c.as_slice.ensures c.as_slice-2.ensures c.in_ok-common.ensures
+returns c = intersection_made nat_list_cmp_total exact c.args.self.now c.args.other.now _ _ _ c.as_slice.ensures c.as_slice-2.ensures c.in_ok-intersection.ensures

@@ -6,4 +6,4 @@ use Rattle.lens_values.proofs.names.Names.new.Goals as goal
 
 pub returns : goal.returns
 returns c = same_set nat_list_cmp_total exact _ _ (λ name.
-    contains-from_list nat_list_cmp_total _ name ∙ c.rising.ensures.members name ∙ sym (contains-from_list nat_list_cmp_total _ name))
+    contains-from_list nat_list_cmp_total _ name ∙ c.into_sorted.ensures.members name ∙ sym (contains-from_list nat_list_cmp_total _ name))

@@ -1,6 +1,6 @@
 use Rattle.std.proofs.Common.{◌≡◌, ◌∙◌, sym, ap, subst, refl, true}
 use Rattle.lens_values.specs.Columns.{kinds_differ}
-use Rattle.lens_values.specs.Part.{both_of}
+use Rattle.lens_values.specs.Part.{override}
 use Rattle.lens_values.specs.SortedSet as set
 use Rattle.lens_specs.specs.Columns.{both_columns, names}
 use Rattle.lens_specs.specs.Names.{Names}
@@ -9,7 +9,7 @@ use Rattle.row_sets.specs.Joins.{pairs_on}
 use Rattle.row_sets.proofs.Natural.{joined_fit, natural_is}
 use Rattle.row_sets.proofs.relation.Relation.join.Goals as goal
 
-same_columns : (U V : Columns) → both_of U V ≡ both_columns U V
+same_columns : (U V : Columns) → override U V ≡ both_columns U V
 unfolding both_columns
 same_columns U V = refl
 

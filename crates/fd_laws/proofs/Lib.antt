@@ -1,0 +1,10 @@
+pub mod Lists
+pub mod Names
+pub mod Rows
+pub mod Relations
+pub mod Trees
+pub mod Closures
+pub mod TreeForms
+pub mod Columns
+pub mod Implied
+pub mod Outputs

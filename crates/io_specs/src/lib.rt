@@ -1,0 +1,5 @@
+//! Definitions of the lines of an input, and of the counts of faults of handed-in objects.
+#![tactic(auto)]
+
+/// How many bytes a line has at most, without its newline.
+pub const LONGEST_LINE: usize = 16_777_216;

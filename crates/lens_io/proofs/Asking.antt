@@ -1,0 +1,82 @@
+-- The calls of a source that were made in need, one after another.
+use Rattle.std.proofs.Common.{◌≤◌, arith, slice_range, ◌≡◌, ◌≢◌, ◌+◌, ◌-◌, ℕ, List, [], ◌∷◌, ◌++◌, length, ap, sym, subst, ◌∙◌, refl, append_assoc, append-nil}
+use Rattle.std.specs.Prelude.{None, Some, min}
+use Rattle.std.specs.declared.option.Option.{Option}
+use Rattle.lens_io.specs.Calls.{Call, Adds, AddsCall}
+use Rattle.lens_io.specs.Cutting.{HasNoNewline, AskInNeed}
+use Rattle.lens_io.proofs.Pieces.{clear-append, length-range}
+
+-- The source was asked in need so far: calls that are in need from here on are so from the first one on.
+pub record Asking (waiting : List ℕ) (taken taken' limit : ℕ) (old new : Option (List Call)) : Type 0 where
+  pub now : List ℕ
+  pub clear : HasNoNewline now
+  pub follows : (end : Option (List Call)) → Adds (AskInNeed now taken' limit) new end → Adds (AskInNeed waiting taken limit) old end
+
+add_all : (P Q : List Call → Type 0) (old new : Option (List Call)) → ((calls : List Call) → P calls → Q calls) → Adds P old new → Adds Q old new
+add_all P Q None new f p = tt
+add_all P Q (Some xs) None f p = absurd p
+add_all P Q (Some xs) (Some ys) f p = (p.0, p.1, f p.0 p.2)
+
+add_first : (P Q : List Call → Type 0) (old mid new : Option (List Call)) (room : ℕ) (came : List ℕ) → ((calls : List Call) → P calls → Q (record { room = room; came = came } ∷ calls))
+    → AddsCall old mid room came → Adds P mid new → Adds Q old new
+add_first P Q None mid new room came f p q = tt
+add_first P Q (Some xs) None new room came f p q = absurd p
+add_first P Q (Some xs) (Some ys) None room came f p q = absurd q
+add_first P Q (Some xs) (Some ys) (Some zs) room came f p q = (
+  record { room = room; came = came } ∷ q.0,
+  q.1 ∙ ap (λ v. v ++ q.0) p.1 ∙ append_assoc xs p.0 q.0 ∙ ap (λ v. xs ++ (v ++ q.0)) p.2,
+  f q.0 q.2,
+)
+
+add_one : (Q : List Call → Type 0) (old new : Option (List Call)) (room : ℕ) (came : List ℕ) → Q (record { room = room; came = came } ∷ []) → AddsCall old new room came → Adds Q old new
+add_one Q old new room came h p = add_all (λ calls. calls ≡ record { room = room; came = came } ∷ []) Q old new (λ calls is. subst Q (sym is) h) p
+
+pub add_none : (Q : List Call → Type 0) (known : Option (List Call)) → Q [] → Adds Q known known
+add_none Q None h = tt
+add_none Q (Some xs) h = ([], sym (append-nil xs), h)
+
+pub Asking-nil : (waiting : List ℕ) (taken limit : ℕ) (known : Option (List Call)) → HasNoNewline waiting → Asking waiting taken taken limit known known
+Asking-nil waiting taken limit known clear = record { now = waiting; clear = clear; follows = λ end h. h }
+
+-- one call more gave bytes without a newline
+pub Asking-more : (waiting : List ℕ) (taken taken' limit room : ℕ) (old mid new : Option (List Call)) (came : List ℕ) → Asking waiting taken taken' limit old mid
+    → AddsCall mid new room came → room ≡ min 65536 (limit + 1 - taken') → HasNoNewline came → came ≢ [] → Asking waiting taken (taken' + length came) limit old new
+Asking-more waiting taken taken' limit room old mid new came asking call is clear some = record {
+  now = asking.now ++ came;
+  clear = clear-append asking.now came asking.clear clear;
+  follows = λ end h.
+      asking.follows end
+      (add_first (AskInNeed (asking.now ++ came) (taken' + length came) limit) (AskInNeed asking.now taken' limit) mid new end room came (λ calls p. (asking.clear, is, λ _. some, p)) call h);
+}
+
+-- the last call
+pub Asking-last : (waiting : List ℕ) (taken taken' limit room : ℕ) (old mid new : Option (List Call)) (came : List ℕ) → Asking waiting taken taken' limit old mid
+    → AddsCall mid new room came → room ≡ min 65536 (limit + 1 - taken') → Adds (AskInNeed waiting taken limit) old new
+Asking-last waiting taken taken' limit room old mid new came asking call is =
+    asking.follows new (add_one (AskInNeed asking.now taken' limit) mid new room came (asking.clear, is, λ none. absurd (none refl), tt) call)
+
+behind : (front waiting : List ℕ) (taken limit : ℕ) (calls : List Call) → HasNoNewline front → AskInNeed waiting taken limit calls → AskInNeed (front ++ waiting) taken limit calls
+behind front waiting taken limit [] clear h = tt
+behind front waiting taken limit (call ∷ calls) clear h = (
+  clear-append front waiting clear h.0,
+  h.1,
+  h.2,
+  subst (λ v. AskInNeed v (taken + length call.came) limit calls) (sym (append_assoc front waiting call.came))
+      (behind front (waiting ++ call.came) (taken + length call.came) limit calls clear h.3),
+)
+
+-- the calls that passed over the rest of a line
+pub Asking-passed : (waiting : List ℕ) (taken taken' limit : ℕ) (old mid new : Option (List Call)) → Asking waiting taken taken' limit old mid
+    → Adds (AskInNeed [] taken' limit) mid new → Adds (AskInNeed waiting taken limit) old new
+Asking-passed waiting taken taken' limit old mid new asking passed =
+    asking.follows new (add_all (AskInNeed [] taken' limit) (AskInNeed asking.now taken' limit) mid new
+    (λ calls h. subst (λ v. AskInNeed v taken' limit calls) (append-nil asking.now) (behind asking.now [] taken' limit calls asking.clear h)) passed)
+
+-- one call more filled a part of the buffer
+pub asked_more : (waiting : List ℕ) (taken taken' limit : ℕ) (old mid new : Option (List Call)) (items : List ℕ) (end count : ℕ) → end + count ≤ length items → count ≢ 0
+    → Asking waiting taken taken' limit old mid → AddsCall mid new (min 65536 (limit + 1 - taken')) (slice_range items end (end + count)) → HasNoNewline (slice_range items end (end + count))
+    → Asking waiting taken (taken' + count) limit old new
+asked_more waiting taken taken' limit old mid new items end count inside some asking call clear =
+    let size : length (slice_range items end (end + count)) ≡ count = length-range items end (end + count) (omega arith) inside ∙ omega arith in
+    subst (λ n. Asking waiting taken (taken' + n) limit old new) size
+    (Asking-more waiting taken taken' limit _ old mid new (slice_range items end (end + count)) asking call refl clear (λ none. omega (arith, some, size, ap length none)))

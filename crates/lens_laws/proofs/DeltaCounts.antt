@@ -1,0 +1,217 @@
+-- How many rows the differences at the nodes have.
+use Rattle.std.proofs.Common.{◌≡◌, ℕ, suc, ◌+◌, ◌*◌, ◌≤◌, Bool, not, List, [], ◌∷◌, ◌++◌, length, map, arith, Some}
+use Rattle.std.proofs.lemmas.List.{length-append, length-map}
+use Rattle.std.proofs.lemmas.Nat.{mul-le}
+use Rattle.lens_values.specs.SortedSet as set
+use Rattle.lens_values.specs.declared.value.Value.{Value}
+use Rattle.lens_values.specs.declared.row.Row.{Row}
+use Rattle.lens_laws.proofs.Asked.{contains_head, contains_tail}
+use Rattle.lens_laws.proofs.Counts.{count-from_list, count-none, count-those, count-within, count-project}
+use Rattle.fd_laws.proofs.Relations.{from_minus}
+use Rattle.lens_specs.specs.Delta.{Delta, new_view}
+use Rattle.lens_specs.specs.Dependencies.{Edge, edge}
+use Rattle.lens_specs.specs.Names.{Name, Names, one}
+use Rattle.lens_specs.specs.Nodes.{drop_put}
+use Rattle.lens_specs.specs.Relation.{Rows, those, union, minus, image, project}
+use Rattle.lens_specs.specs.Revision.{revise, revise_row}
+use Rattle.lens_specs.specs.Rows.{with_at}
+use Rattle.lens_laws.specs.Asked.{left_sides}
+use Rattle.lens_laws.specs.JoinKinds.{is_kept, is_free, less_delta, join_delta_left_kept, join_delta_right_free}
+use Rattle.lens_laws.specs.KeyedDeltas.{find_by, found_each, found, is_changed, touched, select_touched, select_delta, drop_delta, merge_delta, join_delta_right, suspects, is_over, join_delta_left}
+use Rattle.lens_laws.specs.Work.{count_of, rows_of, rows_down, GivesAtMost}
+
+count-union : (M N : Rows) → count_of (union M N) ≤ count_of M + count_of N
+unfolding set.union
+count-union M N =
+    let h = count-from_list (set.items M ++ set.items N) in
+    let e = length-append (set.items M) (set.items N) in
+    omega arith
+
+count-minus : (M N : Rows) → count_of (minus M N) ≤ count_of M
+count-minus M N = count-within (minus M N) M (λ r i. (from_minus M N r i).0)
+
+count-image : (f : Row → Row) (M : Rows) → count_of (image f M) ≤ count_of M
+unfolding image
+count-image f M = let h = count-from_list (map f (set.items M)) in let e = length-map (set.items M) f in omega arith
+
+count-revise : (T : List Edge) (M L : Rows) → count_of (revise T M L) ≤ count_of M
+unfolding revise
+count-revise T M L = count-image (λ m. revise_row T m L) M
+
+-- ---- rows found
+count-found_each : (C : Names) (M : Rows) (ls : List Row) (n : ℕ) → ((k : Row) → count_of (find_by C k M) ≤ n) → count_of (found_each C M ls) ≤ length ls * n
+count-found_each C M [] n h = let e = count-none in omega arith
+count-found_each C M (l ∷ ls) n h =
+    let i = count-found_each C M ls n h in
+    let j = h l in
+    let u = count-union (find_by C l M) (found_each C M ls) in
+    let step : suc (length ls) * n ≡ n + length ls * n = grind arith in
+    omega arith
+
+count-found : (F : List Edge) (M L : Rows) (n : ℕ) → GivesAtMost n (left_sides F) M → count_of (found F M L) ≤ length F * (count_of L * n)
+unfolding found
+count-found [] M L n h = let e = count-none in omega arith
+count-found (e ∷ es) M L n h =
+    let i = count-found es M L n (λ C k j. h C k (contains_tail C e.left (left_sides es) j)) in
+    let j = count-found_each e.left M (set.items L) n (λ k. h e.left k (contains_head e.left (left_sides es))) in
+    let u = count-union (found_each e.left M (set.items L)) (found es M L) in
+    let step : suc (length es) * (count_of L * n) ≡ count_of L * n + length es * (count_of L * n) = grind arith in
+    omega arith
+
+pub count-touched : (F : List Edge) (M L : Rows) (n : ℕ) → GivesAtMost n (left_sides F) M → count_of (touched F M L) ≤ length F * (count_of L * n)
+unfolding touched
+count-touched F M L n h = let i = count-found F M L n h in let j = count-those (is_changed F L) (found F M L) in omega arith
+
+touched_few : (F : List Edge) (M L : Rows) (n : ℕ) → length F ≤ 64 → GivesAtMost n (left_sides F) M → count_of (touched F M L) ≤ 64 * (count_of L * n)
+touched_few F M L n few h =
+    let i = count-touched F M L n h in
+    let j = mul-le (length F) (count_of L * n) 64 (count_of L * n) few (omega arith) in
+    omega arith
+
+-- ---- one node
+within_down : (r a n t x y : ℕ) → 1 ≤ n → t ≤ 64 * (a * n) → x ≤ r + t → y ≤ a + t → x + y ≤ 512 * (r + a) * n
+within_down r a n t x y hn ht hx hy =
+    let p : a * n ≤ (r + a) * n = mul-le a n (r + a) n (omega arith) (omega arith) in
+    let q : (r + a) * 1 ≤ (r + a) * n = mul-le (r + a) 1 (r + a) n (omega arith) hn in
+    let e : 512 * (r + a) * n ≡ 512 * ((r + a) * n) = grind arith in
+    omega arith
+
+pub select_delta_small : (F : List Edge) (P : Row → Bool) (M : Rows) (d : Delta) (n : ℕ) → length F ≤ 64 → 1 ≤ n → GivesAtMost n (left_sides F) M → rows_of (select_delta F P M d) ≤ rows_down (rows_of d) n
+unfolding select_delta select_touched
+select_delta_small F P M d n few some h =
+    let T = those (λ m. not (P m)) (touched F M d.add) in
+    let t = touched_few F M d.add n few h in
+    let a = count-those (λ m. not (P m)) (touched F M d.add) in
+    let b = count-union d.remove T in
+    let c = count-revise F T d.add in
+    let e = count-those (λ r. not (P r)) (revise F T d.add) in
+    let f = count-union d.add (those (λ r. not (P r)) (revise F T d.add)) in
+    within_down (count_of d.remove) (count_of d.add) n (count_of T) _ _ some (omega arith) b (omega arith)
+
+drop_put_small : (A : Name) (X : Names) (a : Value) (N M : Rows) → count_of (drop_put A X a N M) ≤ count_of N
+unfolding drop_put
+drop_put_small A X a N M =
+    let h = count-image (λ n. with_at n A (Some a)) N in
+    let i = count-revise (edge X (one A) ∷ []) (image (λ n. with_at n A (Some a)) N) M in
+    omega arith
+
+pub drop_delta_small : (A : Name) (X : Names) (a : Value) (M : Rows) (d : Delta) → rows_of (drop_delta A X a M d) ≤ rows_of d
+unfolding drop_delta
+drop_delta_small A X a M d = let h = drop_put_small A X a d.remove M in let i = drop_put_small A X a d.add M in omega arith
+
+merge_removes_few : (F : List Edge) (M A : Rows) (n : ℕ) → length F ≤ 64 → GivesAtMost n (left_sides F) M → count_of (merge_delta F M A).remove ≤ 64 * (count_of A * n)
+unfolding merge_delta
+merge_removes_few F M A n few h = touched_few F M A n few h
+
+merge_adds_few : (F : List Edge) (M A : Rows) (n : ℕ) → length F ≤ 64 → GivesAtMost n (left_sides F) M → count_of (merge_delta F M A).add ≤ 64 * (count_of A * n) + count_of A
+unfolding merge_delta
+merge_adds_few F M A n few h =
+    let t = touched_few F M A n few h in
+    let c = count-revise F (touched F M A) A in
+    let m = count-minus A M in
+    let u = count-union (revise F (touched F M A) A) (minus A M) in
+    omega arith
+
+right_removes : (V : Names) (G : List Edge) (N : Rows) (d : Delta) (n : ℕ) → length G ≤ 64 → GivesAtMost n (left_sides G) N → count_of (join_delta_right V G N d).remove ≤ 64 * (count_of d.add * n)
+right_removes V G N d n few h =
+    let p = count-project V d.add in
+    let m = merge_removes_few G N (project V d.add) n few h in
+    let k = mul-le (count_of (project V d.add)) n (count_of d.add) n p (omega arith) in
+    omega arith
+
+right_adds : (V : Names) (G : List Edge) (N : Rows) (d : Delta) (n : ℕ) → length G ≤ 64 → GivesAtMost n (left_sides G) N → count_of (join_delta_right V G N d).add ≤ 64 * (count_of d.add * n) + count_of d.add
+right_adds V G N d n few h =
+    let p = count-project V d.add in
+    let m = merge_adds_few G N (project V d.add) n few h in
+    let k = mul-le (count_of (project V d.add)) n (count_of d.add) n p (omega arith) in
+    omega arith
+
+-- every product with fewer factors is within the greatest one
+under : (a d n1 n2 : ℕ) → a ≤ d → 1 ≤ n1 → 1 ≤ n2 → (a ≤ d * (n1 * n2)) × (a * n1 ≤ d * (n1 * n2)) × (a * n2 ≤ d * (n1 * n2)) × (a * n2 * n1 ≤ d * (n1 * n2))
+under a d n1 n2 h h1 h2 =
+    let p : 1 * 1 ≤ n1 * n2 = mul-le 1 1 n1 n2 h1 h2 in
+    let q : n1 * 1 ≤ n1 * n2 = mul-le n1 1 n1 n2 (omega arith) h2 in
+    let r : 1 * n2 ≤ n1 * n2 = mul-le 1 n2 n1 n2 h1 (omega arith) in
+    let s : a * 1 ≤ d * (n1 * n2) = mul-le a 1 d (n1 * n2) h (omega arith) in
+    let t : a * n1 ≤ d * (n1 * n2) = mul-le a n1 d (n1 * n2) h (omega arith) in
+    let u : a * n2 ≤ d * (n1 * n2) = mul-le a n2 d (n1 * n2) h (omega arith) in
+    let v : a * (n1 * n2) ≤ d * (n1 * n2) = mul-le a (n1 * n2) d (n1 * n2) h (omega arith) in
+    let e : a * n2 * n1 ≡ a * (n1 * n2) = grind arith in
+    (omega arith, omega arith, omega arith, omega arith)
+
+pub right_delta_small : (V : Names) (G : List Edge) (N : Rows) (d : Delta) (n1 n2 : ℕ) → length G ≤ 64 → 1 ≤ n1 → 1 ≤ n2 → GivesAtMost n2 (left_sides G) N → rows_of (join_delta_right V G N d) ≤ rows_down (rows_of d) (2 * n1 * n2)
+right_delta_small V G N d n1 n2 few h1 h2 h =
+    let x = right_removes V G N d n2 few h in
+    let y = right_adds V G N d n2 few h in
+    let w = under (count_of d.add) (rows_of d) n1 n2 (omega arith) h1 h2 in
+    let w0 = w.0 in let w2 = w.2 in
+    let e : 512 * rows_of d * (2 * n1 * n2) ≡ 1024 * (rows_of d * (n1 * n2)) = grind arith in
+    omega arith
+
+suspects_few : (S U : Names) (M : Rows) (d : Delta) (added : Rows) (n : ℕ) → ((k : Row) → count_of (find_by S k M) ≤ n) → count_of (suspects S U M d added) ≤ count_of d.remove + count_of added * n
+unfolding suspects
+suspects_few S U M d added n h =
+    let p = count-project U d.remove in
+    let f = count-found_each S M (set.items added) n h in
+    let u = count-union (project U d.remove) (found_each S M (set.items added)) in
+    omega arith
+
+-- a difference less some rows has at most the suspects besides
+less_count : (test : Row → Bool) (suspected : Rows) (d : Delta) → rows_of (less_delta test suspected d) ≤ rows_of d + count_of suspected
+less_count test suspected d =
+    let e = count-those test suspected in
+    let f = count-union d.remove (those test suspected) in
+    let g = count-those (λ r. not (test r)) d.add in
+    omega arith
+
+-- a source merged along F, less suspects under the key of what comes on the other side
+both_few : (S W : Names) (F : List Edge) (M : Rows) (d : Delta) (added : Rows) (test : Row → Bool) (a b : ℕ) → length F ≤ 64 → 1 ≤ a → 1 ≤ b → GivesAtMost a (S ∷ left_sides F) M
+    → count_of added ≤ 64 * (count_of d.add * b) + count_of d.add → rows_of (less_delta test (suspects S W M d added) (merge_delta F M (project W d.add))) ≤ rows_down (rows_of d) (2 * a * b)
+both_few S W F M d added test a b few ha hb h other =
+    let keys : GivesAtMost a (left_sides F) M = λ C k i. h C k (contains_tail C S (left_sides F) i) in
+    let p = count-project W d.add in
+    let k = mul-le (count_of (project W d.add)) a (count_of d.add) a p (omega arith) in
+    let x = merge_removes_few F M (project W d.add) a few keys in
+    let y = merge_adds_few F M (project W d.add) a few keys in
+    let c = suspects_few S W M d added a (λ q. h S q (contains_head S (left_sides F))) in
+    let l = less_count test (suspects S W M d added) (merge_delta F M (project W d.add)) in
+    let z : count_of added * a ≤ (64 * (count_of d.add * b) + count_of d.add) * a = mul-le (count_of added) a (64 * (count_of d.add * b) + count_of d.add) a other (omega arith) in
+    let z' : (64 * (count_of d.add * b) + count_of d.add) * a ≡ 64 * (count_of d.add * b * a) + count_of d.add * a = grind arith in
+    let w = under (count_of d.add) (rows_of d) a b (omega arith) ha hb in
+    let v = under (count_of d.remove) (rows_of d) a b (omega arith) ha hb in
+    let w0 = w.0 in let w1 = w.1 in let w3 = w.3 in let v0 = v.0 in
+    let last : 512 * rows_of d * (2 * a * b) ≡ 1024 * (rows_of d * (a * b)) = grind arith in
+    omega arith
+
+left_adds : (U : Names) (F : List Edge) (M : Rows) (d : Delta) (a : ℕ) → length F ≤ 64 → GivesAtMost a (left_sides F) M → count_of (merge_delta F M (project U d.add)).add ≤ 64 * (count_of d.add * a) + count_of d.add
+left_adds U F M d a few h =
+    let p = count-project U d.add in
+    let m = merge_adds_few F M (project U d.add) a few h in
+    let k = mul-le (count_of (project U d.add)) a (count_of d.add) a p (omega arith) in
+    omega arith
+
+pub left_delta_small : (U V : Names) (F G : List Edge) (M N O : Rows) (d : Delta) (a b : ℕ) → length F ≤ 64 → length G ≤ 64 → 1 ≤ a → 1 ≤ b
+    → GivesAtMost a (set.intersection U V ∷ left_sides F) M → GivesAtMost b (left_sides G) N → rows_of (join_delta_left U V F G M N O d) ≤ rows_down (rows_of d) (2 * a * b)
+unfolding join_delta_left
+left_delta_small U V F G M N O d a b fewF fewG ha hb hM hN =
+    let S = set.intersection U V in
+    let right = join_delta_right V G N d in
+    both_few S U F M d right.add (is_over S V (new_view N right) O) a b fewF ha hb hM (right_adds V G N d b fewG hN)
+
+pub left_kept_small : (U V : Names) (F G : List Edge) (M N O : Rows) (d : Delta) (a b : ℕ) → length F ≤ 64 → length G ≤ 64 → 1 ≤ a → 1 ≤ b
+    → GivesAtMost a (set.intersection U V ∷ left_sides F) M → GivesAtMost b (left_sides G) N → rows_of (join_delta_left_kept U V F G M N O d) ≤ rows_down (rows_of d) (2 * a * b)
+unfolding join_delta_left_kept
+left_kept_small U V F G M N O d a b fewF fewG ha hb hM hN =
+    let S = set.intersection U V in
+    let right = join_delta_right V G N d in
+    both_few S U F M d right.add (is_kept S V (new_view N right) O) a b fewF ha hb hM (right_adds V G N d b fewG hN)
+
+pub right_free_small : (U V : Names) (F G : List Edge) (M N O : Rows) (d : Delta) (a b : ℕ) → length F ≤ 64 → length G ≤ 64 → 1 ≤ a → 1 ≤ b
+    → GivesAtMost a (left_sides F) M → GivesAtMost b (set.intersection U V ∷ left_sides G) N → rows_of (join_delta_right_free U V F G M N O d) ≤ rows_down (rows_of d) (2 * a * b)
+unfolding join_delta_right_free
+right_free_small U V F G M N O d a b fewF fewG ha hb hM hN =
+    let S = set.intersection U V in
+    let left = merge_delta F M (project U d.add) in
+    let few = both_few S V G N d left.add (is_free S V (new_view M left) O) b a fewG hb ha hN (left_adds U F M d a fewF hM) in
+    let turn : 512 * rows_of d * (2 * b * a) ≡ 512 * rows_of d * (2 * a * b) = grind arith in
+    omega arith

@@ -1,0 +1,210 @@
+-- A rename of sorts: the predicate and the tree with the new name say of a row what the old ones say of it turned back.
+use Rattle.std.proofs.Common.{◌≡◌, Bool, true, false, cond, not, ◌&&◌, ◌||◌, List, [], ◌∷◌, ◌++◌, Some, None, refl, sym, ap, ◌∙◌, subst, inl, inr, is_some}
+use Rattle.std.proofs.lemmas.Bool.{cases_Bool, or_cases, true≢false}
+use Rattle.std.specs.FinMap as finmap
+use Rattle.std.specs.Ordering.{eq_by_cmp}
+use Rattle.lens_values.specs.Order.{bytes_cmp}
+use Rattle.lens_values.specs.SortedSet as set
+use Rattle.lens_values.specs.declared.row.Row.{Row}
+use Rattle.fd_laws.proofs.Columns.{names-get}
+use Rattle.fd_laws.proofs.Lists.{left_true, right_true, both_ways, false_from, absurd_false, in_append_left, in_append_right, from_append}
+use Rattle.fd_laws.proofs.Names.{name_total, name_exact, name_itself, tied_name}
+use Rattle.lens_laws.proofs.Rename.{other_name, in_renamed, from_renamed, get-renamed, at-back, rename_lawful}
+use Rattle.lens_laws.proofs.Sorts.{lawful_of}
+use Rattle.lens_specs.specs.Columns.{Columns, names}
+use Rattle.lens_specs.specs.Dependencies.{Edge, AllEdges}
+use Rattle.lens_specs.specs.Names.{Name, Names, Within, Disjoint, is_among}
+use Rattle.lens_specs.specs.Predicate.{Formula, truth, falsity, compare, compare_columns, one_of, negation, all_of, any_of, Formulas, no_formulas, formulas, compared, is_one_of, formula_holds, all_hold, any_holds, holds, names_in, names_of_all, Predicate, mentions, formula_mentions}
+use Rattle.lens_specs.specs.Rows.{at}
+use Rattle.lens_specs.specs.Sort.{Sort, IsOf}
+use Rattle.lens_laws.specs.Passes.{IsSound}
+use Rattle.lens_laws.specs.Rename.{renamed, renamed_names, renamed_row, renamed_columns, renamed_edge, renamed_tree, renamed_formula, renamed_formulas, renamed_predicate, rename_sort, rename_get, rename_put, CanRename, rename_shape}
+use Rattle.lens_laws.specs.Shapes.{shape_of, IsLawfulNode}
+use Rattle.fd_laws.specs.Trees.{IsBefore, IsTree, EdgesWithin}
+
+-- ---- predicates
+abbrev Lacks : List Name → Name → Type 0
+Lacks ns B = (c : Name) → is_among c ns ≡ true → eq_by_cmp bytes_cmp c B ≡ false
+
+lacks_first : (xs ys : List Name) (B : Name) → Lacks (xs ++ ys) B → Lacks xs B
+lacks_first xs ys B h c i = h c (in_append_left (eq_by_cmp bytes_cmp) tied_name name_itself c xs ys i)
+
+lacks_second : (xs ys : List Name) (B : Name) → Lacks (xs ++ ys) B → Lacks ys B
+lacks_second xs ys B h c i = h c (in_append_right (eq_by_cmp bytes_cmp) tied_name name_itself c xs ys i)
+
+mutual
+  formula_renamed : (f : Formula) (A B : Name) (r : Row) → Lacks (names_in f) B → formula_holds (renamed_formula A B f) r ≡ formula_holds f (renamed_row B A r)
+  formula_renamed truth A B r h = refl
+  formula_renamed falsity A B r h = refl
+  formula_renamed (compare c op v) A B r h = ap (λ o. compared op o (Some v)) (sym (at-back A B r c (h c (left_true _ _ (name_itself c)))))
+  formula_renamed (compare_columns c op d) A B r h =
+      ap (λ o. compared op o (at r (renamed A B d))) (sym (at-back A B r c (h c (left_true _ _ (name_itself c)))))
+      ∙ ap (compared op (at (renamed_row B A r) c)) (sym (at-back A B r d (h d (right_true (eq_by_cmp bytes_cmp d c) _ (left_true _ _ (name_itself d))))))
+  formula_renamed (one_of c vs) A B r h = ap (is_one_of vs) (sym (at-back A B r c (h c (left_true _ _ (name_itself c)))))
+  formula_renamed (negation f) A B r h = ap not (formula_renamed f A B r h)
+  formula_renamed (all_of fs) A B r h = all_renamed fs A B r h
+  formula_renamed (any_of fs) A B r h = any_renamed fs A B r h
+
+  all_renamed : (fs : Formulas) (A B : Name) (r : Row) → Lacks (names_of_all fs) B → all_hold (renamed_formulas A B fs) r ≡ all_hold fs (renamed_row B A r)
+  all_renamed no_formulas A B r h = refl
+  all_renamed (formulas f fs) A B r h =
+      ap (λ x. x && all_hold (renamed_formulas A B fs) r) (formula_renamed f A B r (lacks_first (names_in f) (names_of_all fs) B h))
+      ∙ ap (λ x. formula_holds f (renamed_row B A r) && x) (all_renamed fs A B r (lacks_second (names_in f) (names_of_all fs) B h))
+
+  any_renamed : (fs : Formulas) (A B : Name) (r : Row) → Lacks (names_of_all fs) B → any_holds (renamed_formulas A B fs) r ≡ any_holds fs (renamed_row B A r)
+  any_renamed no_formulas A B r h = refl
+  any_renamed (formulas f fs) A B r h =
+      ap (λ x. x || any_holds (renamed_formulas A B fs) r) (formula_renamed f A B r (lacks_first (names_in f) (names_of_all fs) B h))
+      ∙ ap (λ x. formula_holds f (renamed_row B A r) || x) (any_renamed fs A B r (lacks_second (names_in f) (names_of_all fs) B h))
+
+pub predicate_renamed : (P : Predicate) (A B : Name) (r : Row) → ((c : Name) → mentions P c ≡ true → eq_by_cmp bytes_cmp c B ≡ false) → holds (renamed_predicate A B P) r ≡ holds P (renamed_row B A r)
+predicate_renamed [] A B r h = refl
+predicate_renamed (f ∷ fs) A B r h =
+    ap (λ x. x && holds (renamed_predicate A B fs) r) (formula_renamed f A B r (λ c i. h c (left_true _ _ i)))
+    ∙ ap (λ x. formula_holds f (renamed_row B A r) && x) (predicate_renamed fs A B r (λ c i. h c (right_true _ _ i)))
+
+-- ---- what a renamed predicate mentions
+abbrev From : Name → Name → List Name → Name → Type 0
+From A B ns q = (c : Name) × (is_among c ns ≡ true) × (q ≡ renamed A B c)
+
+from_one : (A B c q : Name) → eq_by_cmp bytes_cmp q (renamed A B c) ≡ true → From A B (c ∷ []) q
+from_one A B c q e = (c, left_true _ _ (name_itself c), tied_name q (renamed A B c) e)
+
+from_first : (A B : Name) (xs ys : List Name) (q : Name) → From A B xs q → From A B (xs ++ ys) q
+from_first A B xs ys q w = (w.0, in_append_left (eq_by_cmp bytes_cmp) tied_name name_itself w.0 xs ys w.1, w.2)
+
+from_second : (A B : Name) (xs ys : List Name) (q : Name) → From A B ys q → From A B (xs ++ ys) q
+from_second A B xs ys q w = (w.0, in_append_right (eq_by_cmp bytes_cmp) tied_name name_itself w.0 xs ys w.1, w.2)
+
+alone : (b : Bool) → (b || false) ≡ true → b ≡ true
+alone true e = refl
+alone false e = e
+
+mutual
+  names_renamed : (f : Formula) (A B q : Name) → is_among q (names_in (renamed_formula A B f)) ≡ true → From A B (names_in f) q
+  names_renamed truth A B q i = absurd (true≢false (sym i))
+  names_renamed falsity A B q i = absurd (true≢false (sym i))
+  names_renamed (compare c op v) A B q i = from_one A B c q (alone _ i)
+  names_renamed (compare_columns c op d) A B q i = elim (or_cases (eq_by_cmp bytes_cmp q (renamed A B c)) (eq_by_cmp bytes_cmp q (renamed A B d) || false) i) [
+    | inl e ↦ from_first A B (c ∷ []) (d ∷ []) q (from_one A B c q e)
+    | inr e ↦ from_second A B (c ∷ []) (d ∷ []) q (from_one A B d q (alone _ e))
+  ]
+  names_renamed (one_of c vs) A B q i = from_one A B c q (alone _ i)
+  names_renamed (negation f) A B q i = names_renamed f A B q i
+  names_renamed (all_of fs) A B q i = all_names_renamed fs A B q i
+  names_renamed (any_of fs) A B q i = all_names_renamed fs A B q i
+
+  all_names_renamed : (fs : Formulas) (A B q : Name) → is_among q (names_of_all (renamed_formulas A B fs)) ≡ true → From A B (names_of_all fs) q
+  all_names_renamed no_formulas A B q i = absurd (true≢false (sym i))
+  all_names_renamed (formulas f fs) A B q i = elim (from_append (eq_by_cmp bytes_cmp) tied_name name_itself q (names_in (renamed_formula A B f)) (names_of_all (renamed_formulas A B fs)) i) [
+    | inl j ↦ from_first A B (names_in f) (names_of_all fs) q (names_renamed f A B q j)
+    | inr j ↦ from_second A B (names_in f) (names_of_all fs) q (all_names_renamed fs A B q j)
+  ]
+
+pub mentions_renamed : (P : Predicate) (A B q : Name) → mentions (renamed_predicate A B P) q ≡ true → (c : Name) × (mentions P c ≡ true) × (q ≡ renamed A B c)
+mentions_renamed [] A B q h = absurd (true≢false (sym h))
+mentions_renamed (f ∷ fs) A B q h = elim (or_cases (formula_mentions (renamed_formula A B f) q) (mentions (renamed_predicate A B fs) q) h) [
+  | inl i ↦ let w = names_renamed f A B q i in (w.0, left_true _ _ w.1, w.2)
+  | inr i ↦ let w = mentions_renamed fs A B q i in (w.0, right_true (formula_mentions f w.0) _ w.1, w.2)
+]
+
+-- ---- columns
+pub names-renamed : (A B : Name) (U : Columns) → set.contains (names U) A ≡ true → set.contains (names U) B ≡ false → names (renamed_columns A B U) ≡ renamed_names A B (names U)
+names-renamed A B U a b = set.same_set name_total name_exact _ _ (λ c. names-get (renamed_columns A B U) c ∙ ap is_some (get-renamed A B U c) ∙ elim (cases_Bool (eq_by_cmp bytes_cmp c B)) [
+  | inl t ↦
+      ap (λ x. is_some (cond x (finmap.get U A) (cond (eq_by_cmp bytes_cmp c A) None (finmap.get U c)))) t ∙ sym (names-get U A) ∙ a
+      ∙ sym (ap (set.contains (renamed_names A B (names U))) (tied_name c B t ∙ sym (ap (λ x. cond x B A) (name_itself A))) ∙ in_renamed A B (names U) A a)
+  | inr f ↦
+      ap (λ x. is_some (cond x (finmap.get U A) (cond (eq_by_cmp bytes_cmp c A) None (finmap.get U c)))) f
+      ∙ elim (cases_Bool (eq_by_cmp bytes_cmp c A)) [
+        | inl t ↦ ap (λ x. is_some (cond x None (finmap.get U c))) t ∙ sym (false_from _ (λ i.
+            let w = from_renamed A B (names U) c i in
+            gone c w.0 w.1 t f w.2))
+        | inr g ↦ ap (λ x. is_some (cond x None (finmap.get U c))) g ∙ sym (names-get U c) ∙ both_ways _ _
+            (λ i. ap (set.contains (renamed_names A B (names U))) (sym (ap (λ x. cond x B c) g)) ∙ in_renamed A B (names U) c i)
+            (λ i. let w = from_renamed A B (names U) c i in kept c w.0 w.1 f w.2)
+      ]
+])
+  where
+    -- the new name of a column is B or the column, and not A
+    gone : (c d : Name) → set.contains (names U) d ≡ true → eq_by_cmp bytes_cmp c A ≡ true → eq_by_cmp bytes_cmp c B ≡ false → c ≡ renamed A B d → ⊥
+    gone c d i t f is = elim (cases_Bool (eq_by_cmp bytes_cmp d A)) [
+      | inl u ↦ absurd_false _ (ap (λ z. eq_by_cmp bytes_cmp z B) (is ∙ ap (λ x. cond x B d) u) ∙ name_itself B) f
+      | inr u ↦ absurd_false _ (ap (λ z. eq_by_cmp bytes_cmp z A) (sym (is ∙ ap (λ x. cond x B d) u)) ∙ t) u
+    ]
+
+    kept : (c d : Name) → set.contains (names U) d ≡ true → eq_by_cmp bytes_cmp c B ≡ false → c ≡ renamed A B d → set.contains (names U) c ≡ true
+    kept c d i f is = elim (cases_Bool (eq_by_cmp bytes_cmp d A)) [
+      | inl u ↦ absurd_false _ (ap (λ z. eq_by_cmp bytes_cmp z B) (is ∙ ap (λ x. cond x B d) u) ∙ name_itself B) f
+      | inr u ↦ ap (set.contains (names U)) (is ∙ ap (λ x. cond x B d) u) ∙ i
+    ]
+
+pub renamed_within : (A B : Name) (X Y : Names) → Within X Y → Within (renamed_names A B X) (renamed_names A B Y)
+renamed_within A B X Y w q i = let v = from_renamed A B X q i in ap (set.contains (renamed_names A B Y)) v.2 ∙ in_renamed A B Y v.0 (w v.0 v.1)
+
+-- ---- trees: columns other than B keep apart
+same_renamed : (A B c d : Name) → eq_by_cmp bytes_cmp c B ≡ false → eq_by_cmp bytes_cmp d B ≡ false → renamed A B c ≡ renamed A B d → c ≡ d
+same_renamed A B c d oc od is = elim (cases_Bool (eq_by_cmp bytes_cmp c A)) [
+  | inl t ↦ elim (cases_Bool (eq_by_cmp bytes_cmp d A)) [
+    | inl u ↦ tied_name c A t ∙ sym (tied_name d A u)
+    | inr u ↦ absurd_false _ (ap (λ z. eq_by_cmp bytes_cmp z B) (sym (ap (λ x. cond x B d) u) ∙ sym is ∙ ap (λ x. cond x B c) t) ∙ name_itself B) od
+  ]
+  | inr t ↦ elim (cases_Bool (eq_by_cmp bytes_cmp d A)) [
+    | inl u ↦ absurd_false _ (ap (λ z. eq_by_cmp bytes_cmp z B) (sym (ap (λ x. cond x B c) t) ∙ is ∙ ap (λ x. cond x B d) u) ∙ name_itself B) oc
+    | inr u ↦ sym (ap (λ x. cond x B c) t) ∙ is ∙ ap (λ x. cond x B d) u
+  ]
+]
+
+module _ (A B : Name) (U : Names) (free : set.contains U B ≡ false) where
+  renamed_apart : (X Y : Names) → Within X U → Within Y U → Disjoint X Y → Disjoint (renamed_names A B X) (renamed_names A B Y)
+  renamed_apart X Y wx wy h q i = false_from _ (λ j.
+      let x = from_renamed A B X q i in let y = from_renamed A B Y q j in
+      let is = same_renamed A B x.0 y.0 (other_name x.0 B U (wx x.0 x.1) free) (other_name y.0 B U (wy y.0 y.1) free) (sym x.2 ∙ y.2) in
+      absurd_false _ (ap (set.contains Y) is ∙ y.1) (h x.0 x.1))
+
+  abbrev In : Edge → Type 0
+  In e = Within e.left U × Within e.right U
+
+  renamed_before : (e k : Edge) → In e → In k → IsBefore e k → IsBefore (renamed_edge A B e) (renamed_edge A B k)
+  renamed_before e k we wk b = record {
+    lefts = renamed_apart e.left k.left we.0 wk.0 b.lefts;
+    rights = renamed_apart e.right k.right we.1 wk.1 b.rights;
+    reads = renamed_apart e.left k.right we.0 wk.1 b.reads;
+    fits = elim b.fits [ inl p ↦ inl (renamed_apart k.left e.right wk.0 we.1 p) | inr w ↦ inr (renamed_within A B k.left e.right w) ];
+  }
+
+  all_before : (e : Edge) (T : List Edge) → In e → AllEdges In T → AllEdges (IsBefore e) T → AllEdges (IsBefore (renamed_edge A B e)) (renamed_tree A B T)
+  all_before e [] we w h = tt
+  all_before e (k ∷ ks) we w h = (renamed_before e k we w.0 h.0, all_before e ks we w.1 h.1)
+
+  pub renamed_is_tree : (T : List Edge) → AllEdges In T → IsTree T → IsTree (renamed_tree A B T)
+  renamed_is_tree [] w h = tt
+  renamed_is_tree (e ∷ es) w h = (renamed_apart e.left e.right w.0.0 w.0.1 h.0, all_before e es w.0 w.1 h.1, renamed_is_tree es w.1 h.2)
+
+  pub renamed_edges_within : (T : List Edge) → AllEdges In T → EdgesWithin (renamed_names A B U) (renamed_tree A B T)
+  renamed_edges_within [] w = tt
+  renamed_edges_within (e ∷ es) w = ((renamed_within A B e.left U w.0.0, renamed_within A B e.right U w.0.1), renamed_edges_within es w.1)
+
+-- ---- sorts
+module _ (s : Sort) (A B : Name) (sound : IsSound s) (column : set.contains (names s.columns) A ≡ true) (free : set.contains (names s.columns) B ≡ false) where
+  pub can_rename : CanRename (shape_of s) A B
+  can_rename = record { column = column; free = free; within = sound.within }
+
+  rename_sort_is : shape_of (rename_sort s A B) ≡ rename_shape (shape_of s) A B
+  rename_sort_is = λ i. record {
+    columns = renamed_columns A B s.columns;
+    holds = λ r. predicate_renamed s.predicate A B r (λ c h. other_name c B (names s.columns) (sound.pred c h) free) i;
+    tree = renamed_tree A B s.tree;
+  }
+
+  pub rename_is_sound : IsSound (rename_sort s A B)
+  rename_is_sound = record {
+    tree = renamed_is_tree A B (names s.columns) free s.tree sound.within sound.tree;
+    within = subst (λ W. EdgesWithin W (renamed_tree A B s.tree)) (sym (names-renamed A B s.columns column free)) (renamed_edges_within A B (names s.columns) free s.tree sound.within);
+    pred = λ q h.
+        let w = mentions_renamed s.predicate A B q h in
+        ap (λ W. set.contains W q) (names-renamed A B s.columns column free) ∙ ap (set.contains (renamed_names A B (names s.columns))) w.2 ∙ in_renamed A B (names s.columns) w.0 (sound.pred w.0 w.1);
+  }
+
+  pub rename_law : IsLawfulNode (λ M. IsOf M s) (λ N. IsOf N (rename_sort s A B)) (rename_get A B) (λ N M. rename_put A B N)
+  rename_law = lawful_of s (rename_sort s A B) (rename_shape (shape_of s) A B) (rename_get A B) (λ N M. rename_put A B N) rename_sort_is (rename_lawful (shape_of s) A B can_rename)

@@ -1,0 +1,108 @@
+-- The sorts that the rule gives have at most 64 columns, and a table's sort has keys.
+use Rattle.std.proofs.Common.{◌≡◌, length, ap, sym, ◌∙◌, arith, ℕ, ◌≤◌, not, List, ◌++◌, refl, subst, Option, Some, None, option_map, Result, Ok, Err}
+use Rattle.std.proofs.lemmas.Bool.{leb-true}
+use Rattle.std.proofs.lemmas.List.{length-map}
+use Rattle.std.specs.Prelude.{nat_le}
+use Rattle.std.specs.FinMap as finmap
+use Rattle.std.specs.Cmp.Lexicographic.{nat_list_cmp_total}
+use Rattle.lens_values.specs.SortedSet as set
+use Rattle.lens_values.specs.Order.{bytes_cmp}
+use Rattle.lens_values.specs.SortedMap.{keys_rise}
+use Rattle.lens_laws.proofs.Asked.{form_keyed}
+use Rattle.lens_laws.proofs.Work.{view_edges_few}
+use Rattle.lens_laws.specs.Rules.{BasesAreSound}
+use Rattle.lens_laws.proofs.Rules.{sort_is_typed, got, unrefused, neither, never}
+use Rattle.lens_specs.specs.Columns.{Columns, names, fits_at, least_outside, kinds_differ}
+use Rattle.lens_values.specs.declared.value.Value.{Value}
+use Rattle.lens_specs.specs.Dependencies.{Edge, AllEdges}
+use Rattle.lens_specs.specs.Lens.{sort_of, view_names, Lens, base, select, drop, join, nodes_of, select_sort, drop_sort, join_sort, tables_of}
+use Rattle.lens_specs.specs.Names.{Name, Names}
+use Rattle.lens_specs.specs.Predicate.{Predicate}
+use Rattle.lens_specs.specs.Refusal.{Refusal, left_side, right_side, unknown_column, kind_clash, predicate_kind, source_mentions_output, no_such_dependency, mixed_conjunct, default_refused, not_determined, side_mentions_output, table_twice, when, is_column, unknown_name, unlike_kinds, least_mentioned, first_mixed, too_much}
+use Rattle.lens_specs.specs.Sort.{Sort}
+use Rattle.lens_specs.specs.TreeForm as form
+use Rattle.lens_specs.specs.TreeForm.{TreeForm, tree_of, outputs}
+use Rattle.lens_specs.specs.Typing.{form_fault, is_determined, default_holds, undetermined, select_fault, drop_fault, join_fault, shared_table, sort, table_sort, table_sort_with}
+use Rattle.lens_laws.specs.Asked.{IsFilled, HasKeys}
+use Rattle.lens_laws.specs.Work.{BasesAreSmall}
+
+few_columns : (nodes : ℕ) (s : Sort) → too_much nodes s ≡ None → finmap.len s.columns ≤ 64
+few_columns nodes s e = leb-true (finmap.len s.columns) 64 (never (nat_le (finmap.len s.columns) 64) _ (neither (when (not (nat_le (finmap.len s.columns) 64)) _) _ e).0)
+
+select_small : (n : ℕ) (s : Sort) (P : Predicate) → select_fault n s P ≡ None → finmap.len (select_sort s P).columns ≤ 64
+select_small n s P e =
+    let a = neither (option_map unknown_column (unknown_name s.columns P)) _ e in
+    let b = neither (option_map predicate_kind (unlike_kinds s.columns P)) _ a.1 in
+    let c = neither (option_map source_mentions_output (least_mentioned s.predicate (outputs s.tree))) _ b.1 in
+    few_columns n (select_sort s P) c.1
+
+drop_small : (n : ℕ) (s : Sort) (A : Name) (X : Names) (v : Value) → drop_fault n s A X v ≡ None → finmap.len (drop_sort s A).columns ≤ 64
+drop_small n s A X v e =
+    let a = neither (when (not (is_column s.columns A)) (unknown_column A)) _ e in
+    let b = neither (option_map unknown_column (least_outside X (names s.columns))) _ a.1 in
+    let c = neither (when (not (fits_at (Some v) (finmap.get s.columns A))) (kind_clash A)) _ b.1 in
+    let d = neither (when (not (is_determined X A s.tree)) (no_such_dependency A)) _ c.1 in
+    let f = neither (option_map mixed_conjunct (first_mixed A s.predicate)) _ d.1 in
+    let g = neither (when (not (default_holds A v s.predicate)) default_refused) _ f.1 in
+    few_columns n (drop_sort s A) g.1
+
+join_small : (n : ℕ) (s t : Sort) (twice : Option Name) → join_fault n s t twice ≡ None → finmap.len (join_sort s t).columns ≤ 64
+join_small n s t twice e =
+    let a = neither (option_map kind_clash (kinds_differ s.columns t.columns)) _ e in
+    let b = neither (form_fault (tree_of (s.tree ++ t.tree))) _ a.1 in
+    let c = neither (option_map not_determined (undetermined s t)) _ b.1 in
+    let d = neither (option_map (side_mentions_output left_side) (least_mentioned s.predicate (outputs s.tree))) _ c.1 in
+    let f = neither (option_map (side_mentions_output right_side) (least_mentioned t.predicate (outputs t.tree))) _ d.1 in
+    let g = neither (option_map table_twice twice) _ f.1 in
+    few_columns n (join_sort s t) g.1
+
+pub sort_is_small : (L : Lens) (s : Sort) → BasesAreSmall L → sort L ≡ Ok s → finmap.len s.columns ≤ 64
+unfolding sort
+sort_is_small (base t k) s h e = let same : k ≡ s = cc in subst (λ z. finmap.len z.columns ≤ 64) same h
+sort_is_small (select P C) s h e =
+    let w = got (sort C) _ s e in
+    let u = unrefused _ _ s w.2 in
+    subst (λ z. finmap.len z.columns ≤ 64) u.1 (select_small (nodes_of (select P C)) w.0 P u.0)
+sort_is_small (drop A X v C) s h e =
+    let w = got (sort C) _ s e in
+    let u = unrefused _ _ s w.2 in
+    subst (λ z. finmap.len z.columns ≤ 64) u.1 (drop_small (nodes_of (drop A X v C)) w.0 A X v u.0)
+sort_is_small (join A B) s h e =
+    let w = got (sort A) _ s e in
+    let v = got (sort B) _ s w.2 in
+    let u = unrefused _ _ s v.2 in
+    subst (λ z. finmap.len z.columns ≤ 64) u.1 (join_small (nodes_of (join A B)) w.0 v.0 (shared_table (tables_of A) (tables_of B)) u.0)
+
+-- ---- tables
+formed : (U : Columns) (F : List Edge) (P : Predicate) (s : Sort) (t : TreeForm) → tree_of F ≡ t → IsFilled (names U) → AllEdges (λ e. IsFilled e.left) F → table_sort_with U F P t ≡ Ok s
+    → (finmap.len s.columns ≤ 64) × IsFilled (names s.columns) × AllEdges (λ e. IsFilled e.left × IsFilled e.right) s.tree
+formed U F P s (form.not_tree X Y) is c h e = cc
+formed U F P s (form.is_tree T) is c h e =
+    let u = unrefused _ _ s e in
+    subst (λ z. (finmap.len z.columns ≤ 64) × IsFilled (names z.columns) × AllEdges (λ e. IsFilled e.left × IsFilled e.right) z.tree) u.1
+    (few_columns 1 (record { columns = U; predicate = P; tree = T }) (neither (option_map predicate_kind (unlike_kinds U P)) _ u.0).1, c, form_keyed F T is h)
+
+chosen : (U : Columns) (F : List Edge) (P : Predicate) (s : Sort) (o : Option Refusal) → IsFilled (names U) → AllEdges (λ e. IsFilled e.left) F
+    → elim o as (λ _. Result Sort Refusal) [ Some r ↦ Err r | None ↦ table_sort_with U F P (tree_of F) ] ≡ Ok s
+    → (finmap.len s.columns ≤ 64) × IsFilled (names s.columns) × AllEdges (λ e. IsFilled e.left × IsFilled e.right) s.tree
+chosen U F P s (Some r) c h e = cc
+chosen U F P s None c h e = formed U F P s (tree_of F) refl c h e
+
+pub table_has_keys : (t : Name) (U : Columns) (F : List Edge) (P : Predicate) (s : Sort) → IsFilled (names U) → AllEdges (λ e. IsFilled e.left) F → table_sort U F P ≡ Ok s → HasKeys (base t s) × BasesAreSmall (base t s)
+unfolding table_sort
+table_has_keys t U F P s c h e = let w = chosen U F P s _ c h e in ((w.1, w.2), w.0)
+
+-- as many names as columns
+names_columns : (U : Columns) → length (set.items (names U)) ≡ finmap.len U
+unfolding names
+names_columns U = ap length (set.items-from_list nat_list_cmp_total (finmap.keys U) (keys_rise bytes_cmp U)) ∙ length-map (finmap.entries U) (λ e. e.0) ∙ sym (finmap.len-entries U)
+
+pub sort_edges_few : (L : Lens) (s : Sort) → BasesAreSound L → BasesAreSmall L → HasKeys L → sort L ≡ Ok s → length s.tree ≤ 64
+sort_edges_few L s sound small keys e =
+    let t = sort_is_typed L s sound e in
+    let a = view_edges_few L t.1 keys in
+    let b = sort_is_small L s small e in
+    let c = names_columns s.columns in
+    let d : length s.tree ≡ length (sort_of L).tree = ap (λ z. length z.tree) t.0 in
+    let f : length (set.items (names s.columns)) ≡ length (set.items (view_names L)) = ap (λ z. length (set.items (names z.columns))) t.0 in
+    omega arith

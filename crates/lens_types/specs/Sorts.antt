@@ -1,0 +1,23 @@
+-- A sort and its parts, and the sorts of a selection and of a projection.
+use Rattle.std.specs.Prelude.{ℕ, List, Result}
+use Rattle.lens_values.specs.declared.value.Value.{Value}
+use Rattle.lens_specs.specs.Columns.{Columns}
+use Rattle.lens_specs.specs.Dependencies.{Edge}
+use Rattle.lens_specs.specs.Names.{Name, Names}
+use Rattle.lens_specs.specs.Predicate.{Predicate}
+use Rattle.lens_specs.specs.Sort.{Sort}
+use Rattle.lens_specs.specs.Lens.{select_sort, drop_sort}
+use Rattle.lens_specs.specs.Refusal.{Refusal}
+use Rattle.lens_specs.specs.Typing.{select_fault, drop_fault, unless_refused}
+
+-- the sort of these parts
+abbrev pub sort_from : Columns → Predicate → List Edge → Sort
+sort_from U P T = record { columns = U; predicate = P; tree = T }
+
+-- the sort of the rows that P holds on, in a lens of so many nodes, or its first refusal
+abbrev pub selection : ℕ → Sort → Predicate → Result Sort Refusal
+selection nodes s P = unless_refused (select_fault nodes s P) (select_sort s P)
+
+-- the sort without A, which X determines and a fills, in a lens of so many nodes, or its first refusal
+abbrev pub projection : ℕ → Sort → Name → Names → Value → Result Sort Refusal
+projection nodes s A X a = unless_refused (drop_fault nodes s A X a) (drop_sort s A)

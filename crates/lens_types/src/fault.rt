@@ -1,0 +1,157 @@
+//! Why a table or a lens has no sort.
+ghost use Rattle.std.specs.Prelude.{◌≡◌};
+ghost use Rattle.lens_types.specs.Faults.{with_inputs};
+
+use fd_tree::TreeFault;
+use lens_pred::{PredFault, SplitFault};
+use lens_values::{Name, Names, NoMemory};
+
+/// The limit that is exceeded.
+#[derive(Clone, Copy, Debug, PartialEq, Eq)]
+pub enum SizeLimit {
+    /// More than 64 columns.
+    Columns,
+    /// More than 64 nodes of a lens.
+    Lens,
+    /// More than 256 nodes of a predicate.
+    Predicate,
+}
+
+/// Why the rules give no sort.
+#[derive(Debug, Drop)]
+pub enum TypeFault {
+    /// No column has the name.
+    UnknownColumn {
+        /// The name.
+        name: Name,
+    },
+    /// The column is of another kind than the value that fills it.
+    KindClash {
+        /// The column.
+        name: Name,
+    },
+    /// The dependencies have no tree form, because two of their sides overlap.
+    NotTree {
+        /// A side of one edge.
+        a: Names,
+        /// A side of another.
+        b: Names,
+    },
+    /// The column is compared with a value or a column of another kind.
+    PredKind {
+        /// The column.
+        name: Name,
+    },
+    /// The predicate of the selected source mentions a column that a dependency writes.
+    SourceMentionsOutput {
+        /// The column.
+        col: Name,
+    },
+    /// The named columns do not determine the dropped column, or that column determines others.
+    NoSuchDependency {
+        /// The dropped column.
+        col: Name,
+    },
+    /// A conjunct mentions the dropped column and another one.
+    MixedConjunct {
+        /// The place of the first such conjunct, from 0.
+        index: usize,
+    },
+    /// The conjuncts on the column do not hold on the value that fills it.
+    DefaultRefused,
+    /// A limit is exceeded.
+    TooLarge {
+        /// The limit.
+        what: SizeLimit,
+    },
+}
+
+/// Why a call gives no sort.
+#[derive(Debug, Drop)]
+pub enum Refused<T> {
+    /// The rules give none.
+    Rule {
+        /// The first fault.
+        fault: TypeFault,
+        /// The inputs of the call.
+        back: T,
+    },
+    /// Memory ran out. The inputs of the call are dropped.
+    NoMemory,
+}
+
+impl Refused<()> {
+    /// The refusal, together with the inputs of the call.
+    pub(crate) fn with<T: Drop>(self, back: T) -> Refused<T>
+        ensures { result ≡ with_inputs self back }
+    {
+        match self {
+            Refused::Rule { fault, back: () } => Refused::Rule { fault, back },
+            Refused::NoMemory => Refused::NoMemory,
+        }
+    }
+}
+
+impl From<TypeFault> for Refused<()> {
+    ghost use Rattle.std.specs.Prelude.{◌≡◌};
+    ghost use Rattle.lens_types.specs.Faults.{of_fault};
+
+    ghost from_gives = { λ fault why. why ≡ of_fault fault };
+
+    fn from(fault: TypeFault) -> Refused<()> {
+        Refused::Rule { fault, back: () }
+    }
+}
+
+impl From<NoMemory> for Refused<()> {
+    ghost use Rattle.std.specs.Prelude.{◌≡◌};
+    ghost use Rattle.lens_types.specs.declared.fault.Refused.TheVariants as refused;
+
+    ghost from_gives = { λ _ why. why ≡ refused.NoMemory };
+
+    fn from(_: NoMemory) -> Refused<()> {
+        Refused::NoMemory
+    }
+}
+
+impl From<TreeFault> for Refused<()> {
+    ghost use Rattle.std.specs.Prelude.{◌≡◌};
+    ghost use Rattle.lens_types.specs.Faults.{of_tree};
+
+    ghost from_gives = { λ fault why. why ≡ of_tree fault };
+
+    fn from(fault: TreeFault) -> Refused<()> {
+        match fault {
+            TreeFault::NotTree { a, b } => Refused::from(TypeFault::NotTree { a, b }),
+            TreeFault::NoMemory => Refused::NoMemory,
+        }
+    }
+}
+
+impl From<PredFault> for Refused<()> {
+    ghost use Rattle.std.specs.Prelude.{◌≡◌};
+    ghost use Rattle.lens_types.specs.Faults.{of_pred};
+
+    ghost from_gives = { λ fault why. why ≡ of_pred fault };
+
+    fn from(fault: PredFault) -> Refused<()> {
+        match fault {
+            PredFault::UnknownColumn { name } => Refused::from(TypeFault::UnknownColumn { name }),
+            PredFault::PredKind { name } => Refused::from(TypeFault::PredKind { name }),
+        }
+    }
+}
+
+impl From<SplitFault> for Refused<()> {
+    ghost use Rattle.std.specs.Prelude.{◌≡◌};
+    ghost use Rattle.lens_types.specs.Faults.{of_split};
+
+    ghost from_gives = { λ fault why. why ≡ of_split fault };
+
+    fn from(fault: SplitFault) -> Refused<()> {
+        match fault {
+            SplitFault::Mixed { index } => Refused::from(TypeFault::MixedConjunct { index }),
+            SplitFault::NoMemory => Refused::NoMemory,
+        }
+    }
+}

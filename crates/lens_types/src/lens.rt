@@ -1,0 +1,229 @@
+//! Lenses to which the rules give a sort.
+ghost use Rattle.std.specs.Prelude.{◌≡◌, ◌≤◌, IfOk, Ok};
+ghost use Rattle.lens_specs.specs.Lens as spec;
+ghost use Rattle.lens_specs.specs.Lens.{nodes_of, tables_of};
+ghost use Rattle.lens_specs.specs.Typing.{sort as sort_given};
+ghost use Rattle.lens_laws.specs.Lenses.{IsTyped};
+ghost use Rattle.lens_types.specs.Kept.{IsLens};
+ghost use Rattle.lens_types.specs.Lenses.{kept_sort, lens_view};
+
+use crate::fault::Refused;
+use crate::sort::Sort;
+use lens_pred::Pred;
+use lens_values::{Name, Names, NoMemory, Value};
+use std::alloc::Global;
+use std::marker::Model;
+
+/// The root of a lens, with its sort.
+#[cycle(lens)]
+#[derive(Debug, Drop)]
+pub enum Lens {
+    /// A table.
+    Base {
+        /// The table's name.
+        table: Name,
+        /// The table's sort.
+        sort: Sort,
+    },
+    /// The rows on which a predicate holds.
+    Select {
+        /// What holds on each of them.
+        pred: Pred,
+        /// The lens whose rows are selected.
+        of: Box<TypedLens>,
+        /// The sort of the rows.
+        sort: Sort,
+    },
+    /// The rows of a lens without one column.
+    Drop {
+        /// The dropped column.
+        col: Name,
+        /// The columns that determine it.
+        by: Names,
+        /// Its value on a row for which they determine none.
+        fill: Value,
+        /// The lens whose column is dropped.
+        of: Box<TypedLens>,
+        /// The sort of the rows.
+        sort: Sort,
+    },
+}
+
+/// A lens with the sort that the typing rules give it. A contract sees the lens of the definition.
+#[cycle(lens)]
+#[derive(Debug, Drop)]
+pub struct TypedLens {
+    lens: Lens,
+    nodes: usize,
+}
+
+impl Model for TypedLens {
+    ghost use Rattle.std.proofs.Common.{arith};
+    ghost use Rattle.lens_specs.specs.Lens as spec;
+    ghost use Rattle.lens_specs.specs.Lens.{nodes_of};
+    ghost use Rattle.lens_types.specs.Kept.{IsKept};
+    ghost use Rattle.lens_types.specs.LensCode.{lens_code};
+
+    ghost Value = { spec.Lens };
+
+    ghost coded = { lens_code };
+
+    ghost use Rattle.lens_types.specs.Lenses.{kept_sort, lens_view};
+
+    ghost view = { λ t. lens_view t.lens };
+
+    ghost invariant = { λ t. IsKept (lens_view t.lens) (kept_sort t.lens) t.nodes };
+
+    ghost size = { nodes_of };
+
+    ghost size_decreases = { λ a h. Prim.grind arith };
+}
+
+impl TypedLens {
+    /// A table of this name and sort.
+    pub fn base(table: Name, sort: Sort) -> TypedLens
+        ensures { result ≡ spec.base table sort }
+    {
+        // The sort of a table has to be sound, which each sort is.
+        let _ = sort.cols();
+        TypedLens {
+            lens: Lens::Base { table, sort },
+            nodes: 1,
+        }
+    }
+
+    /// The root.
+    pub fn lens(&self) -> &Lens
+        ensures view { lens_view result.now ≡ self.now }
+        ensures sort { sort_given self.now ≡ Ok (kept_sort result.now) }
+        ensures typed { IsTyped self.now }
+    {
+        &self.lens
+    }
+
+    /// The sort.
+    pub fn sort(&self) -> &Sort
+        ensures given { sort_given self.now ≡ Ok result.now }
+        ensures typed { IsTyped self.now }
+    {
+        match &self.lens {
+            Lens::Base { sort, .. } | Lens::Select { sort, .. } | Lens::Drop { sort, .. } => sort,
+        }
+    }
+
+    /// The number of nodes.
+    pub fn nodes(&self) -> usize
+        ensures number { result ≡ nodes_of self.now }
+        ensures few { result ≤ 64 }
+    {
+        self.nodes
+    }
+
+    /// The names of the tables under the lens.
+    #[tactic(auto, unfolding(lens_specs::specs::Lens::tables_of))]
+    pub fn tables(&self, alloc: Global) -> Result<Names, NoMemory>
+        ensures { IfOk result (λ names. names ≡ tables_of self.now) }
+    {
+        match &self.lens {
+            Lens::Base { table, .. } => Names::single(alloc, table),
+            Lens::Select { of, .. } | Lens::Drop { of, .. } => of.tables(alloc),
+        }
+    }
+
+    /// The rows on which the predicate holds.
+    pub fn select(self, alloc: Global, pred: Pred) -> Result<TypedLens, Refused<(TypedLens, Pred)>>
+        ensures { IsLens result (self, pred) (spec.select pred self) }
+    {
+        let nodes = self.nodes() + 1;
+        let sort = match self.sort().selected(alloc, nodes, &pred) {
+            Ok(sort) => sort,
+            Err(why) => return Err(why.with((self, pred))),
+        };
+        let Ok(of) = boxed(alloc, self) else {
+            return Err(Refused::NoMemory);
+        };
+        let lens = Lens::Select { pred, of, sort };
+        Ok(TypedLens { lens, nodes })
+    }
+
+    /// The rows without the column, which `by` determines. A new row takes `fill` where `by`
+    /// determines no value.
+    pub fn drop_column(
+        self,
+        alloc: Global,
+        col: Name,
+        by: Names,
+        fill: Value,
+    ) -> Result<TypedLens, Refused<(TypedLens, Names, Value)>>
+        ensures { IsLens result (self, by, fill) (spec.drop col by fill self) }
+    {
+        let nodes = self.nodes() + 1;
+        let sort = match self.sort().dropped(alloc, nodes, &col, &by, &fill) {
+            Ok(sort) => sort,
+            Err(why) => return Err(why.with((self, by, fill))),
+        };
+        let Ok(of) = boxed(alloc, self) else {
+            return Err(Refused::NoMemory);
+        };
+        let lens = Lens::Drop {
+            col,
+            by,
+            fill,
+            of,
+            sort,
+        };
+        Ok(TypedLens { lens, nodes })
+    }
+
+    /// An equal lens.
+    #[cycle(copy)]
+    pub fn copy(&self, alloc: Global) -> Result<TypedLens, NoMemory>
+        ensures { IfOk result (λ copy. copy ≡ self.now) }
+    {
+        Ok(TypedLens {
+            lens: self.lens.copy(alloc)?,
+            nodes: self.nodes,
+        })
+    }
+}
+
+impl Lens {
+    // An equal root.
+    #[cycle(copy)]
+    fn copy(&self, alloc: Global) -> Result<Lens, NoMemory>
+        ensures view { IfOk result (λ copy. lens_view copy ≡ lens_view self.now) }
+        ensures sort { IfOk result (λ copy. kept_sort copy ≡ kept_sort self.now) }
+    {
+        match self {
+            Lens::Base { table, sort } => Ok(Lens::Base {
+                table: *table,
+                sort: sort.copy(alloc)?,
+            }),
+            Lens::Select { pred, of, sort } => Ok(Lens::Select {
+                pred: pred.copy(alloc)?,
+                of: Box::new(alloc, of.copy(alloc)?)?,
+                sort: sort.copy(alloc)?,
+            }),
+            Lens::Drop {
+                col,
+                by,
+                fill,
+                of,
+                sort,
+            } => Ok(Lens::Drop {
+                col: *col,
+                by: by.copy(alloc)?,
+                fill: fill.copy(alloc)?,
+                of: Box::new(alloc, of.copy(alloc)?)?,
+                sort: sort.copy(alloc)?,
+            }),
+        }
+    }
+}
+
+// The lens in a box.
+fn boxed(alloc: Global, lens: TypedLens) -> Result<Box<TypedLens>, NoMemory>
+    ensures { IfOk result (λ boxed. boxed.value ≡ lens) }
+{
+    Ok(Box::new(alloc, lens)?)
+}

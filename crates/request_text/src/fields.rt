@@ -1,0 +1,195 @@
+//! The members of each request.
+ghost use Rattle.std.specs.Prelude.{◌≡◌, map, not, option_map};
+ghost use Rattle.serde_json.specs.Data.{Members};
+ghost use Rattle.serde_json.specs.View.{view, members_view};
+ghost use Rattle.server_specs.specs.Request as spec;
+ghost use Rattle.request_text.specs.RequestFields.{kind_view, shape_view, fields_of, field_view};
+
+use crate::json_values::{is_text, member, name_member};
+use serde_json::{Map, Value as Json};
+
+/// The kind of a request.
+#[derive(Clone, Copy, Debug, Drop)]
+pub(crate) enum RequestKind {
+    Define,
+    Read,
+    Put,
+    Edit,
+    Preview,
+    Describe,
+    List,
+}
+
+/// The shape that a member must have.
+#[derive(Clone, Copy, Debug, Drop)]
+pub(crate) enum Shape {
+    Word,
+    Text,
+    Name,
+    Rows,
+    Version,
+}
+
+/// A member of a request: its name, its shape, and whether it has to be there.
+#[derive(Clone, Copy, Debug, Drop)]
+pub(crate) struct Field {
+    name: &'static str,
+    shape: Shape,
+    needed: bool,
+}
+
+const ADD: Field = Field {
+    name: "add",
+    shape: Shape::Rows,
+    needed: true,
+};
+
+const DO: Field = Field {
+    name: "do",
+    shape: Shape::Word,
+    needed: true,
+};
+
+const ON: Field = Field {
+    name: "on",
+    shape: Shape::Version,
+    needed: false,
+};
+
+const REMOVE: Field = Field {
+    name: "remove",
+    shape: Shape::Rows,
+    needed: true,
+};
+
+const ROWS: Field = Field {
+    name: "rows",
+    shape: Shape::Rows,
+    needed: true,
+};
+
+const TEXT: Field = Field {
+    name: "text",
+    shape: Shape::Text,
+    needed: true,
+};
+
+const VIEW: Field = Field {
+    name: "view",
+    shape: Shape::Name,
+    needed: true,
+};
+
+// The members of each request, in byte order of their names.
+const TO_DEFINE: [Field; 2] = [DO, TEXT];
+
+const TO_SHOW: [Field; 2] = [DO, VIEW];
+
+const TO_PUT: [Field; 4] = [DO, ON, ROWS, VIEW];
+
+const TO_EDIT: [Field; 5] = [ADD, DO, ON, REMOVE, VIEW];
+
+const TO_LIST: [Field; 1] = [DO];
+
+impl RequestKind {
+    /// The kind of request that the word names.
+    pub(crate) fn by_word(word: &str) -> Option<RequestKind>
+        ensures { option_map kind_view result ≡ spec.asked_by word.now }
+    {
+        match word {
+            "define" => Some(RequestKind::Define),
+            "read" => Some(RequestKind::Read),
+            "put" => Some(RequestKind::Put),
+            "edit" => Some(RequestKind::Edit),
+            "preview" => Some(RequestKind::Preview),
+            "type" => Some(RequestKind::Describe),
+            "list" => Some(RequestKind::List),
+            _ => None,
+        }
+    }
+
+    fn fields(self) -> &'static [Field]
+        ensures { map field_view result.now ≡ fields_of self }
+    {
+        match self {
+            RequestKind::Define => &TO_DEFINE,
+            RequestKind::Read | RequestKind::Describe => &TO_SHOW,
+            RequestKind::Put => &TO_PUT,
+            RequestKind::Edit | RequestKind::Preview => &TO_EDIT,
+            RequestKind::List => &TO_LIST,
+        }
+    }
+}
+
+/// The least member that is missing, unknown or of the wrong shape.
+pub(crate) fn least_wrong(kind: RequestKind, members: &Map<String, Json>) -> Option<&str>
+    ensures { option_map (λ name. name.now) result
+        ≡ spec.least_wrong (kind_view kind) (members_view members.now.entries) }
+{
+    let fields = kind.fields();
+    lesser(first_wrong(fields, members), first_unknown(fields, members))
+}
+
+fn lesser<'a>(name: Option<&'a str>, other: Option<&'a str>) -> Option<&'a str>
+    ensures { option_map (λ text. text.now) result
+        ≡ spec.lesser (option_map (λ text. text.now) name.entry)
+        (option_map (λ text. text.now) other.entry) }
+{
+    match (name, other) {
+        (Some(name), Some(other)) if other < name => Some(other),
+        (Some(name), _) => Some(name),
+        (None, other) => other,
+    }
+}
+
+fn first_wrong(fields: &[Field], members: &Map<String, Json>) -> Option<&'static str>
+    ensures { option_map (λ name. name.now) result
+        ≡ spec.first_wrong (map field_view fields.now) (members_view members.now.entries) }
+{
+    for member in fields {
+        if is_wrong(members, member) {
+            return Some(member.name);
+        }
+    }
+    None
+}
+
+fn is_wrong(members: &Map<String, Json>, field: &Field) -> bool
+    ensures { result ≡ spec.is_wrong (members_view members.now.entries) (field_view field.now) }
+{
+    match member(members, field.name) {
+        Some(json) => !has_shape(field.shape, json),
+        None => field.needed,
+    }
+}
+
+fn has_shape(shape: Shape, json: &Json) -> bool
+    ensures { result ≡ spec.has_shape (shape_view shape) (view json.now) }
+{
+    match shape {
+        Shape::Word => json.is_string(),
+        Shape::Text => is_text(json),
+        Shape::Name => name_member(json).is_some(),
+        Shape::Rows => json.is_array(),
+        Shape::Version => json.as_u64().is_some(),
+    }
+}
+
+fn first_unknown<'a>(fields: &[Field], members: &'a Map<String, Json>) -> Option<&'a str>
+    ensures { option_map (λ name. name.now) result
+        ≡ spec.first_other (spec.is_wanted (map field_view fields.now))
+        (members_view members.now.entries) }
+{
+    for name in members.keys() {
+        if !is_wanted(fields, name.as_str()) {
+            return Some(name.as_str());
+        }
+    }
+    None
+}
+
+fn is_wanted(fields: &[Field], name: &str) -> bool
+    ensures { result ≡ spec.is_wanted (map field_view fields.now) name.now }
+{
+    fields.iter().any(|member| name == member.name)
+}

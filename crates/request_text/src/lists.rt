@@ -1,0 +1,152 @@
+//! Lists that requests and answers hold, each seen by contracts as the list of its members.
+ghost use Rattle.std.specs.Prelude.{◌≡◌, map};
+ghost use Rattle.signed_delta.specs.Tables.{table_delta};
+ghost use Rattle.serde_json.specs.View.{items_view};
+
+use fd_tree::Edge;
+use lens_values::Text;
+use serde_json::Value as Json;
+use signed_delta::TableDelta;
+use std::marker::Model;
+
+/// The differences of the tables that a put changed. A contract sees them as the definitions speak
+/// of them.
+#[derive(Debug, Drop)]
+pub struct Changes {
+    list: Vec<TableDelta>,
+}
+
+impl Model for Changes {
+    ghost use Rattle.std.specs.Prelude.{List, map};
+    ghost use Rattle.lens_specs.specs.Delta as spec;
+    ghost use Rattle.signed_delta.specs.Tables.{table_delta};
+    ghost use Rattle.request_text.specs.ChangesCode.{coded_changes};
+
+    ghost Value = { List spec.TableDelta };
+
+    ghost coded = { coded_changes };
+
+    ghost view = { λ c. map table_delta c.list.items };
+}
+
+impl Changes {
+    /// These differences.
+    pub fn new(list: Vec<TableDelta>) -> Changes
+        ensures { result ≡ map table_delta list.items }
+    {
+        Changes { list }
+    }
+
+    /// The differences in their order.
+    pub fn as_slice(&self) -> &[TableDelta]
+        ensures { map table_delta result.now ≡ self.now }
+    {
+        self.list.as_slice()
+    }
+
+    /// The differences in their order, handed on without a copy.
+    pub fn into_list(self) -> Vec<TableDelta>
+        ensures { map table_delta result.items ≡ self }
+    {
+        self.list
+    }
+}
+
+/// Edges, in order. A contract sees the list of their sides.
+#[derive(Debug, Drop)]
+pub struct Edges {
+    list: Vec<Edge>,
+}
+
+impl Model for Edges {
+    ghost use Rattle.std.specs.Prelude.{List};
+    ghost use Rattle.std.specs.Coded.{coded_list};
+    ghost use Rattle.lens_specs.specs.Dependencies as spec;
+    ghost use Rattle.fd_closure.specs.Sides.{coded_edge};
+
+    ghost Value = { List spec.Edge };
+
+    ghost coded = { coded_list coded_edge };
+
+    ghost view = { λ e. e.list.items };
+}
+
+impl Edges {
+    /// These edges.
+    pub fn new(list: Vec<Edge>) -> Edges
+        ensures { result ≡ list.items }
+    {
+        Edges { list }
+    }
+
+    /// The edges in their order.
+    pub fn as_slice(&self) -> &[Edge]
+        ensures { result.now ≡ self.now }
+    {
+        self.list.as_slice()
+    }
+}
+
+/// The elements of a request's list, as they were sent. A contract sees them as JSON items.
+#[derive(Debug, Drop)]
+pub struct JsonRows {
+    list: Vec<Json>,
+}
+
+impl Model for JsonRows {
+    ghost use Rattle.serde_json.specs.Data.{Items};
+    ghost use Rattle.serde_json.specs.View.{items_view};
+    ghost use Rattle.request_text.specs.ItemsCode.{coded_items};
+
+    ghost Value = { Items };
+
+    ghost coded = { coded_items };
+
+    ghost view = { λ r. items_view r.list.items };
+}
+
+impl JsonRows {
+    /// These elements.
+    pub fn new(list: Vec<Json>) -> JsonRows
+        ensures { result ≡ items_view list.items }
+    {
+        JsonRows { list }
+    }
+
+    /// The elements in the order in which they were sent.
+    pub fn as_slice(&self) -> &[Json]
+        ensures { items_view result.now ≡ self.now }
+    {
+        self.list.as_slice()
+    }
+}
+
+/// Texts, in order. A contract sees the list of their bytes.
+#[derive(Debug, Drop)]
+pub struct Texts {
+    list: Vec<Text>,
+}
+
+impl Model for Texts {
+    ghost use Rattle.std.specs.Prelude.{List, ℕ};
+
+    ghost Value = { List (List ℕ) };
+
+    ghost view = { λ t. t.list.items };
+}
+
+impl Texts {
+    /// These texts.
+    pub fn new(list: Vec<Text>) -> Texts
+        ensures { result ≡ list.items }
+    {
+        Texts { list }
+    }
+
+    /// The texts in their order.
+    pub fn as_slice(&self) -> &[Text]
+        ensures { result.now ≡ self.now }
+    {
+        self.list.as_slice()
+    }
+}

@@ -1,0 +1,91 @@
+//! Replies that refuse a request or its rows. `NoMemory` is the only error.
+ghost use Rattle.std.specs.Prelude.{◌≡◌, IfOk};
+ghost use Rattle.server_specs.specs.Answer as spec;
+ghost use Rattle.request_text.specs.Answers.{list_view};
+
+use crate::answer::RowList;
+use crate::member::Member;
+use crate::printing::{
+    begun, ended, print_edge, print_flag, print_number, print_pair, print_row, print_text,
+};
+use crate::reply::Reply;
+use fd_tree::Edge;
+use lens_values::{NoMemory, Row};
+use std::alloc::Global;
+
+/// The line that refuses a request of which this member is wrong.
+pub fn bad_request_text(alloc: Global, member: &Member) -> Result<Reply, NoMemory>
+    ensures { IfOk result (λ reply. reply ≡ spec.text (spec.bad_request member.now)) }
+{
+    let mut out = begun(alloc)?;
+    print_number(&mut out, "error", 12)?;
+    print_text(&mut out, "member", member.as_str())?;
+    print_flag(&mut out, "ok", false)?;
+    ended(out)
+}
+
+/// The line that refuses a list of which this element is no row of the columns.
+pub fn bad_row_text(
+    alloc: Global,
+    list: RowList,
+    index: usize,
+    col: &Member,
+) -> Result<Reply, NoMemory>
+    ensures { IfOk result (λ reply.
+        reply ≡ spec.text (spec.bad_row (list_view list) index col.now)) }
+{
+    let mut out = begun(alloc)?;
+    print_text(&mut out, "col", col.as_str())?;
+    print_number(&mut out, "error", 40)?;
+    print_number(&mut out, "index", index as u64)?;
+    print_text(&mut out, "list", list_word(list))?;
+    print_flag(&mut out, "ok", false)?;
+    ended(out)
+}
+
+/// The line that refuses a change that rests on an older version: the last change of the view's
+/// tables, and the version now.
+pub fn stale_text(alloc: Global, changed_at: u64, version: u64) -> Result<Reply, NoMemory>
+    ensures { IfOk result (λ reply. reply ≡ spec.text (spec.stale changed_at version)) }
+{
+    let mut out = begun(alloc)?;
+    print_number(&mut out, "changed_at", changed_at)?;
+    print_number(&mut out, "error", 41)?;
+    print_flag(&mut out, "ok", false)?;
+    print_number(&mut out, "version", version)?;
+    ended(out)
+}
+
+/// The line that refuses a row that the view's predicate refuses.
+pub fn off_predicate_text(alloc: Global, row: &Row) -> Result<Reply, NoMemory>
+    ensures { IfOk result (λ reply. reply ≡ spec.text (spec.off_predicate row.now)) }
+{
+    let mut out = begun(alloc)?;
+    print_number(&mut out, "error", 42)?;
+    print_flag(&mut out, "ok", false)?;
+    print_row(&mut out, "row", row)?;
+    ended(out)
+}
+
+/// The line that refuses rows of which two break a dependency.
+pub fn clash_text(alloc: Global, edge: &Edge, first: &Row, second: &Row) -> Result<Reply, NoMemory>
+    ensures { IfOk result (λ reply. reply ≡ spec.text (spec.clash edge.now first.now second.now)) }
+{
+    let mut out = begun(alloc)?;
+    print_edge(&mut out, "edge", edge)?;
+    print_number(&mut out, "error", 43)?;
+    print_flag(&mut out, "ok", false)?;
+    print_pair(&mut out, "rows", first, second)?;
+    ended(out)
+}
+
+// The member that holds the list.
+fn list_word(list: RowList) -> &'static str
+    ensures { result.now ≡ spec.list_word (list_view list) }
+{
+    match list {
+        RowList::Rows => "rows",
+        RowList::Remove => "remove",
+        RowList::Add => "add",
+    }
+}

@@ -1,0 +1,7 @@
+use Rattle.lens_values.specs.Part.{restrict}
+use Rattle.lens_values.specs.Row.{row_cmp}
+use Rattle.fd_tree.proofs.Places.{Holds}
+use Rattle.revision.proofs.first_by_key.first_by_key.Given as goal
+
+abbrev pub invariant-loop-place : goal.invariant-loop-place
+invariant-loop-place l = Holds row_cmp (restrict l.cols) l.places l.rows l.place

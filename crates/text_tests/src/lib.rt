@@ -1,0 +1,25 @@
+//! Tests of the crates of texts, requests, lines and keepers, with answers from outside.
+#![tactic(auto)]
+
+#[cfg(test)]
+mod answers;
+#[cfg(test)]
+mod cuts;
+#[cfg(test)]
+mod definitions;
+#[cfg(test)]
+mod devices;
+#[cfg(test)]
+mod keepers;
+#[cfg(test)]
+mod limits;
+#[cfg(test)]
+mod printed;
+#[cfg(test)]
+mod refusals;
+#[cfg(test)]
+mod requests;
+#[cfg(test)]
+mod samples;
+#[cfg(test)]
+mod script;

@@ -1,0 +1,28 @@
+//! Tests of the crates of values, rows, dependencies, predicates and lenses, with answers from
+//! outside.
+#![tactic(auto)]
+
+#[cfg(test)]
+mod clashes;
+#[cfg(test)]
+mod closures;
+#[cfg(test)]
+mod differences;
+#[cfg(test)]
+mod formulas;
+#[cfg(test)]
+mod lenses;
+#[cfg(test)]
+mod predicates;
+#[cfg(test)]
+mod puts;
+#[cfg(test)]
+mod revisions;
+#[cfg(test)]
+mod samples;
+#[cfg(test)]
+mod sets;
+#[cfg(test)]
+mod trees;
+#[cfg(test)]
+mod values;

@@ -1,8 +1,0 @@
-use Rattle.std.proofs.Common.{◌∙◌, ap}
-use Rattle.std.specs.Prelude.{option_map}
-use Rattle.grammar_specs.specs.Tokens.{integer}
-use Rattle.view_lang.proofs.Numbers.{parsed_integer}
-use Rattle.view_lang.proofs.lexer.number_of.Goals as goal
-
-pub returns : goal.returns
-returns c = ap (option_map integer) c.ok.ensures.value ∙ parsed_integer c.args.text.now c.parse.result c.parse.ensures.value.0 c.requires

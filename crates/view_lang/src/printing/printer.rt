@@ -1,0 +1,181 @@
+//! Tokens written one after another, with spaces between them.
+ghost use Rattle.std.specs.Prelude.{◌≡◌, [], ◌∷◌, ◌++◌, OnOk, IsTrue, false, string_bytes};
+ghost use Rattle.grammar_specs.specs.Tokens as token;
+ghost use Rattle.grammar_specs.specs.Tokens.{op_bytes, quotes_doubled};
+ghost use Rattle.grammar_specs.specs.Written.{literal};
+ghost use Rattle.lens_pred.specs.Op.{op_view};
+ghost use Rattle.view_lang.specs.PrintAdds.{blank, Puts, Adds};
+
+use lens_pred::Op;
+use lens_values::{Name, NoMemory, Value};
+use std::alloc::Global;
+
+/// A text to which tokens are added.
+#[derive(Drop)]
+pub(crate) struct Printer {
+    text: String,
+    // Whether the next token follows without a space: at the start, and after an open parenthesis.
+    glued: bool,
+}
+
+impl Printer {
+    /// Nothing is written yet.
+    pub(crate) fn new(alloc: Global) -> Printer
+        ensures text { string_bytes result.text ≡ [] }
+        ensures glued { IsTrue result.glued }
+    {
+        Printer {
+            text: String::new(alloc),
+            glued: true,
+        }
+    }
+
+    /// The text.
+    pub(crate) fn into_text(self) -> String
+        ensures { result ≡ self.text }
+    {
+        let Printer { text, .. } = self;
+        text
+    }
+
+    /// A word.
+    pub(crate) fn word(&mut self, word: &str) -> Result<(), NoMemory>
+        ensures { OnOk result (Adds self.old self.new (token.word word.now ∷ [])) }
+    {
+        self.put(word)
+    }
+
+    /// A name.
+    pub(crate) fn name(&mut self, name: &Name) -> Result<(), NoMemory>
+        ensures { OnOk result (Adds self.old self.new (token.word name.now ∷ [])) }
+    {
+        self.put(name.as_str())
+    }
+
+    /// A literal.
+    pub(crate) fn literal(&mut self, value: &Value) -> Result<(), NoMemory>
+        ensures { OnOk result (Adds self.old self.new (literal value.now ∷ [])) }
+    {
+        match value {
+            Value::Int(number) => self.integer(*number),
+            Value::Text(text) => self.quoted(text.as_str()),
+            Value::Flag(true) => self.word("true"),
+            Value::Flag(false) => self.word("false"),
+        }
+    }
+
+    /// The operator of a comparison.
+    pub(crate) fn operator(&mut self, op: Op) -> Result<(), NoMemory>
+        ensures { OnOk result (Adds self.old self.new (token.operator (op_view op) ∷ [])) }
+    {
+        self.put(sign_of(op))
+    }
+
+    /// `->`
+    pub(crate) fn arrow(&mut self) -> Result<(), NoMemory>
+        ensures { OnOk result (Adds self.old self.new (token.arrow ∷ [])) }
+    {
+        self.put("->")
+    }
+
+    /// `(`
+    pub(crate) fn open(&mut self) -> Result<(), NoMemory>
+        ensures { OnOk result (Adds self.old self.new (token.open_paren ∷ [])) }
+    {
+        self.put("(")?;
+        self.glued = true;
+        Ok(())
+    }
+
+    /// `)`
+    pub(crate) fn close(&mut self) -> Result<(), NoMemory>
+        ensures { OnOk result (Adds self.old self.new (token.close_paren ∷ [])) }
+    {
+        self.glue(")")
+    }
+
+    /// `,`
+    pub(crate) fn comma(&mut self) -> Result<(), NoMemory>
+        ensures { OnOk result (Adds self.old self.new (token.comma ∷ [])) }
+    {
+        self.glue(",")
+    }
+
+    // A number in decimal.
+    fn integer(&mut self, number: i64) -> Result<(), NoMemory>
+        ensures { OnOk result (Adds self.old self.new (token.integer number ∷ [])) }
+    {
+        self.space()?;
+        write!(self.text, "{number}")?;
+        self.glued = false;
+        Ok(())
+    }
+
+    // A text between quotes, with each quote in it written twice.
+    fn quoted(&mut self, value: &str) -> Result<(), NoMemory>
+        ensures { OnOk result (Adds self.old self.new (token.text value.now ∷ [])) }
+    {
+        self.space()?;
+        self.text.push('\'')?;
+        push_doubled(&mut self.text, value)?;
+        self.text.push('\'')?;
+        self.glued = false;
+        Ok(())
+    }
+
+    // A space, unless the next token is glued to the last.
+    fn space(&mut self) -> Result<(), NoMemory>
+        ensures { OnOk result (Puts self.old self.new (blank self.old.glued) self.old.glued) }
+    {
+        if !self.glued {
+            self.text.push(' ')?;
+        }
+        Ok(())
+    }
+
+    // A token of this spelling that is neither opened nor closed.
+    fn put(&mut self, spelling: &str) -> Result<(), NoMemory>
+        ensures { OnOk result (Puts self.old self.new
+            (blank self.old.glued ++ spelling.now) false) }
+    {
+        self.space()?;
+        self.text.push_str(spelling)?;
+        self.glued = false;
+        Ok(())
+    }
+    // A token of this spelling that closes.
+    fn glue(&mut self, spelling: &str) -> Result<(), NoMemory>
+        ensures { OnOk result (Puts self.old self.new spelling.now false) }
+    {
+        self.text.push_str(spelling)?;
+        self.glued = false;
+        Ok(())
+    }
+}
+
+// Adds the bytes of the value, with each quote written twice.
+fn push_doubled(text: &mut String, value: &str) -> Result<(), NoMemory>
+    ensures { OnOk result (string_bytes text.new
+        ≡ string_bytes text.old ++ quotes_doubled value.now) }
+{
+    for c in value.chars() {
+        if c == '\'' {
+            text.push(c)?;
+        }
+        text.push(c)?;
+    }
+    Ok(())
+}
+
+fn sign_of(op: Op) -> &'static str
+    ensures { result.now ≡ op_bytes (op_view op) }
+{
+    match op {
+        Op::Eq => "=",
+        Op::Ne => "!=",
+        Op::Lt => "<",
+        Op::Le => "<=",
+        Op::Gt => ">",
+        Op::Ge => ">=",
+    }
+}

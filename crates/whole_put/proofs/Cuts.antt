@@ -1,0 +1,82 @@
+-- Columns of a projection and of a join, and shared columns with one kind.
+use Rattle.std.proofs.Common.{◌≡◌, Bool, true, false, not, cond, Option, Some, None, refl, sym, ap, ◌∙◌, inl, inr}
+use Rattle.std.proofs.lemmas.Bool.{cases_Bool, true≢false}
+use Rattle.std.specs.FinMap as map
+use Rattle.std.specs.Ordering.{eq_by_cmp}
+use Rattle.lens_values.specs.Order.{bytes_cmp}
+use Rattle.lens_values.specs.SortedSet as set
+use Rattle.lens_values.specs.Value.{same_kind}
+use Rattle.lens_values.specs.declared.value.Kind.{Kind}
+use Rattle.lens_values.specs.declared.value.Kind.TheVariants.{Int, Text, Flag}
+use Rattle.lens_specs.specs.Names.{Name, Names, one}
+use Rattle.lens_specs.specs.Columns.{Columns, both_columns, columns_in, is_kind, kinds_differ, like_kinds, names, without_column}
+use Rattle.fd_laws.proofs.Columns.{get-both_left, get-both_right, get-without_other, get-without_same, no_kind}
+use Rattle.fd_laws.proofs.Lists.{find_none}
+use Rattle.fd_laws.proofs.Names.{in_shared, name_exact, name_itself, name_total, one_is, rest_out, rest_same, tied_name}
+
+-- ---- shared columns
+
+kind_is : (j k : Kind) → same_kind j k ≡ true → j ≡ k
+kind_is Int Int e = refl
+kind_is Int Text e = absurd (true≢false (sym e))
+kind_is Int Flag e = absurd (true≢false (sym e))
+kind_is Text Int e = absurd (true≢false (sym e))
+kind_is Text Text e = refl
+kind_is Text Flag e = absurd (true≢false (sym e))
+kind_is Flag Int e = absurd (true≢false (sym e))
+kind_is Flag Text e = absurd (true≢false (sym e))
+kind_is Flag Flag e = refl
+
+has_kind : (o : Option Kind) (k : Kind) → is_kind o k ≡ true → o ≡ Some k
+has_kind None k e = absurd (true≢false (sym e))
+has_kind (Some j) k e = ap Some (kind_is j k e)
+
+alike_kinds : (o p : Option Kind) → like_kinds o p ≡ true → o ≡ p
+alike_kinds o None e = absurd (true≢false (sym e))
+alike_kinds o (Some k) e = has_kind o k e
+
+not_out : (b : Bool) → not b ≡ false → b ≡ true
+not_out true e = refl
+not_out false e = absurd (true≢false e)
+
+-- where no shared column has two kinds, each has one
+pub one_kind : (U V : Columns) → kinds_differ U V ≡ None → (c : Name) → set.contains (names U) c ≡ true → set.contains (names V) c ≡ true → map.get U c ≡ map.get V c
+one_kind U V none c i j =
+    alike_kinds (map.get U c) (map.get V c) (not_out _
+    (find_none (eq_by_cmp bytes_cmp) tied_name name_itself (λ c. not (like_kinds (map.get U c) (map.get V c))) (set.items (set.intersection (names U) (names V))) none c
+    (sym (set.contains-items (set.intersection (names U) (names V)) c) ∙ in_shared (names U) (names V) c i j)))
+
+-- ---- columns cut down
+
+get-in : (U : Columns) (C : Names) (c : Name) → map.get (columns_in U C) c ≡ cond (set.contains C c) (map.get U c) None
+get-in U C c = map.get-retain_keys U (set.contains C) c (λ x tie. ap (set.contains C) (sym (name_exact c x tie)))
+
+own_kind : (U : Columns) (c : Name) → cond (set.contains (names U) c) (map.get U c) None ≡ map.get U c
+own_kind U c = elim (cases_Bool (set.contains (names U) c)) [
+  | inl i ↦ ap (λ b. cond b (map.get U c) None) i
+  | inr o ↦ ap (λ b. cond b (map.get U c) None) o ∙ sym (no_kind U c o)
+]
+
+-- the left columns, from those of both
+pub left_columns : (U V : Columns) → columns_in (both_columns U V) (names U) ≡ U
+left_columns U V = map.same_map name_total name_exact _ _ (λ c. get-in (both_columns U V) (names U) c ∙ elim (cases_Bool (set.contains (names U) c)) [
+  | inl i ↦ ap (λ b. cond b (map.get (both_columns U V) c) None) i ∙ get-both_left U V c i
+  | inr o ↦ ap (λ b. cond b (map.get (both_columns U V) c) None) o ∙ sym (no_kind U c o)
+])
+
+-- the right columns
+pub right_columns : (U V : Columns) → kinds_differ U V ≡ None → columns_in (both_columns U V) (names V) ≡ V
+right_columns U V none = map.same_map name_total name_exact _ _ (λ c. get-in (both_columns U V) (names V) c ∙ elim (cases_Bool (set.contains (names V) c)) [
+  | inl j ↦ ap (λ b. cond b (map.get (both_columns U V) c) None) j ∙ elim (cases_Bool (set.contains (names U) c)) [
+    | inl i ↦ get-both_left U V c i ∙ one_kind U V none c i j
+    | inr o ↦ get-both_right U V c o
+  ]
+  | inr p ↦ ap (λ b. cond b (map.get (both_columns U V) c) None) p ∙ sym (no_kind V c p)
+])
+
+-- the columns but one
+pub other_columns : (U : Columns) (A : Name) → columns_in U (set.difference (names U) (one A)) ≡ without_column U A
+other_columns U A = map.same_map name_total name_exact _ _ (λ c. get-in U (set.difference (names U) (one A)) c ∙ elim (cases_Bool (set.contains (one A) c)) [
+  | inl t ↦ ap (λ b. cond b (map.get U c) None) (rest_out (names U) (one A) c t) ∙ sym (ap (λ d. map.get (without_column U A) d) (one_is A c t) ∙ get-without_same U A)
+  | inr o ↦ ap (λ b. cond b (map.get U c) None) (rest_same (names U) (one A) c o) ∙ own_kind U c ∙ sym (get-without_other U A c o)
+])

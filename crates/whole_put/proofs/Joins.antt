@@ -1,0 +1,113 @@
+-- A join and its put.
+use Rattle.std.proofs.Common.{◌≡◌, List, ◌++◌, Bool, true, refl, ap, ◌∙◌}
+use Rattle.lens_values.specs.declared.row.Row.{Row}
+use Rattle.lens_specs.specs.Columns.{Fits, both_columns, names}
+use Rattle.lens_specs.specs.Dependencies.{Edge, Meets, MeetsTree}
+use Rattle.lens_specs.specs.Names.{Names, Within}
+use Rattle.lens_specs.specs.Nodes.{join_get, join_left, join_over, join_put_left, join_right}
+use Rattle.lens_specs.specs.Relation.{IsRelation, Relation, Rows, has, minus, project}
+use Rattle.lens_specs.specs.Revision.{merge}
+use Rattle.lens_specs.specs.Rows.{agree, cut}
+use Rattle.fd_laws.specs.Trees.{EdgesWithin, IsTree}
+use Rattle.lens_laws.specs.Shapes.{CanJoin, IsIn, Shape, join_shape}
+use Rattle.fd_laws.proofs.Closures.{closure_is, implies_sound}
+use Rattle.lens_laws.proofs.Join.{join_lawful}
+use Rattle.fd_laws.proofs.Relations.{in_project}
+use Rattle.fd_laws.proofs.Rows.{agree_back, agree_on, agree_within, agree-cut}
+use Rattle.fd_laws.proofs.Trees.{both_edges}
+use Rattle.fd_laws.proofs.TreeForms.{all_append, append_parts}
+use Rattle.whole_put.specs.Joinable.{CanBePut, shared_names}
+use Rattle.whole_put.proofs.Cuts.{one_kind}
+
+-- ---- the values that the body computes in turn
+
+module _ (A B : Relation) (F G : List Edge) (view left_part right_part merged new_right over new_left : Relation)
+    (is_left_part : left_part ≡ record { columns = A.columns; rows = project (names A.columns) view.rows })
+    (is_right_part : right_part ≡ record { columns = B.columns; rows = project (names B.columns) view.rows })
+    (is_merged : merged ≡ record A { rows = merge F A.rows left_part.rows }) (is_new_right : new_right ≡ record B { rows = merge G B.rows right_part.rows })
+    (is_over : over ≡ record merged { rows = project (names merged.columns) (minus (join_get (names merged.columns) (names new_right.columns) merged.rows new_right.rows) view.rows) })
+    (is_new_left : new_left ≡ record merged { rows = minus merged.rows over.rows }) where
+  merged_is : merged ≡ record A { rows = join_left (names A.columns) F view.rows A.rows }
+  unfolding join_left
+  merged_is = is_merged ∙ ap (λ (R : Relation). record A { rows = merge F A.rows R.rows }) is_left_part
+
+  pub right_made : new_right ≡ record B { rows = join_right (names B.columns) G view.rows B.rows }
+  unfolding join_right
+  right_made = is_new_right ∙ ap (λ (R : Relation). record B { rows = merge G B.rows R.rows }) is_right_part
+
+  over_rows : over.rows ≡ project (names A.columns) (join_over (names A.columns) (names B.columns) F G view.rows A.rows B.rows)
+  unfolding join_over
+  over_rows = ap (λ (R : Relation). R.rows) is_over
+      ∙ (λ i. project (names (merged_is i).columns) (minus (join_get (names (merged_is i).columns) (names (right_made i).columns) (merged_is i).rows (right_made i).rows) view.rows))
+
+  pub left_made : new_left ≡ record A { rows = join_put_left (names A.columns) (names B.columns) F G view.rows A.rows B.rows }
+  unfolding join_put_left
+  left_made = is_new_left ∙ (λ i. record { columns = (merged_is i).columns; rows = minus (merged_is i).rows (over_rows i) })
+
+-- ---- the laws
+
+-- rows that agree, on the columns of the edges, with rows that meet the edges meet them too
+cut_meets : (U : Names) (T : List Edge) (M O : Rows) → EdgesWithin U T → ((q : Row) → has O q ≡ true → (r : Row) × (has M r ≡ true) × (agree U q r ≡ true)) → MeetsTree M T → MeetsTree O T
+cut_meets U T M O within from = both_edges (λ e. Within e.left U × Within e.right U) (λ e. Meets M e.left e.right) (λ e. Meets O e.left e.right)
+    (λ e w mm p q ip iq g.
+    let v = from p ip in let u = from q iq in
+    let left = agree_on e.left v.0 p u.0 (agree_back e.left p v.0 (agree_within e.left U p v.0 w.0 v.2)) (agree_on e.left p q u.0 g (agree_within e.left U q u.0 w.0 u.2)) in
+    agree_on e.right p v.0 q (agree_within e.right U p v.0 w.1 v.2) (agree_on e.right v.0 u.0 q (mm v.0 u.0 v.1 u.1 left) (agree_back e.right q u.0 (agree_within e.right U q u.0 w.1 u.2))))
+    T within
+
+module _ (A B : Relation) (F G : List Edge) (O : Rows) (left_tree : IsTree F) (right_tree : IsTree G) (can : CanBePut A.columns B.columns F G) (fit_left : IsRelation A) (fit_right : IsRelation B)
+    (left_meets : MeetsTree A.rows F) (right_meets : MeetsTree B.rows G) (fit_view : (r : Row) → has O r ≡ true → Fits (both_columns A.columns B.columns) r)
+    (view_left : MeetsTree (project (names A.columns) O) F) (view_right : MeetsTree (project (names B.columns) O) G) where
+  abbrev U : Names
+  U = names A.columns
+
+  abbrev V : Names
+  V = names B.columns
+
+  -- shapes with no test of rows
+  abbrev s : Shape
+  s = record { columns = A.columns; holds = λ r. true; tree = F }
+
+  abbrev t : Shape
+  t = record { columns = B.columns; holds = λ r. true; tree = G }
+
+  can_join : CanJoin s t (F ++ G)
+  can_join = record {
+    kinds = one_kind A.columns B.columns can.kinds;
+    tree_left = left_tree;
+    tree_right = right_tree;
+    within_left = can.left_within;
+    within_right = can.right_within;
+    sees_left = λ a b h. refl;
+    sees_right = λ a b h. refl;
+    keeps_left = λ M L h k r i. refl;
+    keeps_right = λ M L h k r i. refl;
+    splits = λ O h. append_parts (λ e. Meets O e.left e.right) F G h;
+    joins = λ O f g. all_append (λ e. Meets O e.left e.right) F G f g;
+    decides = λ N m. implies_sound (shared_names A.columns B.columns) V _ G N (closure_is (shared_names A.columns B.columns) G) can.decides m;
+  }
+
+  -- a view whose parts meet the trees meets both
+  meets_left : MeetsTree O F
+  meets_left = cut_meets U F (project U O) O can.left_within (λ r i. (cut U r, in_project U O r i, agree_back U _ r (agree-cut U r))) view_left
+
+  meets_right : MeetsTree O G
+  meets_right = cut_meets V G (project V O) O can.right_within (λ r i. (cut V r, in_project V O r i, agree_back V _ r (agree-cut V r))) view_right
+
+  of_left : IsIn A.rows s
+  of_left = record { columns = fit_left; holds = λ r i. refl; meets = left_meets }
+
+  of_right : IsIn B.rows t
+  of_right = record { columns = fit_right; holds = λ r i. refl; meets = right_meets }
+
+  of_view : IsIn O (join_shape s t (F ++ G))
+  of_view = record { columns = fit_view; holds = λ r i. refl; meets = all_append (λ e. Meets O e.left e.right) F G meets_left meets_right }
+
+  pub put_get : join_get U V (join_put_left U V F G O A.rows B.rows) (join_right V G O B.rows) ≡ O
+  put_get = (join_lawful s t (F ++ G) can_join).put_get O A.rows B.rows of_left of_right of_view
+
+  pub get_put_left : O ≡ join_get U V A.rows B.rows → join_put_left U V F G O A.rows B.rows ≡ A.rows
+  get_put_left same = ap (λ K. join_put_left U V F G K A.rows B.rows) same ∙ (join_lawful s t (F ++ G) can_join).get_put_left A.rows B.rows of_left of_right
+
+  pub get_put_right : O ≡ join_get U V A.rows B.rows → join_right V G O B.rows ≡ B.rows
+  get_put_right same = ap (λ K. join_right V G K B.rows) same ∙ (join_lawful s t (F ++ G) can_join).get_put_right A.rows B.rows of_left of_right

@@ -1,0 +1,81 @@
+//! Projections: the rows of a source without one of its columns.
+ghost use Rattle.std.specs.Prelude.{◌≡◌, ◌∷◌, [], false, true, IfOk, Some, map};
+ghost use Rattle.std.specs.FinMap as finmap;
+ghost use Rattle.lens_values.specs.Part.{override};
+ghost use Rattle.lens_values.specs.SortedSet as set;
+ghost use Rattle.lens_specs.specs.Columns.{fits_at, names, without_column};
+ghost use Rattle.lens_specs.specs.Dependencies.{Meets};
+ghost use Rattle.lens_specs.specs.Names.{one};
+ghost use Rattle.lens_specs.specs.Nodes.{drop_get, drop_put};
+
+use fd_tree::Edge;
+use lens_values::{Name, Names, NoMemory, Row, Value};
+use revision::all_along;
+use row_sets::{Relation, RowSet};
+use std::alloc::Global;
+
+/// The rows of the source without the column.
+pub fn get_drop(alloc: Global, col: &Name, source: &Relation) -> Result<Relation, NoMemory>
+    ensures { let U = source.now.columns in
+        IfOk result (λ view. view ≡ record { columns = without_column U col.now; rows = drop_get (names U) col.now source.now.rows }) }
+{
+    let all = source.columns().names(alloc)?;
+    let kept = all.minus(alloc, &Names::single(alloc, col)?)?;
+    source.project(alloc, &kept)
+}
+
+/// The source after a put of the view (Bohannon, Pierce and Vaughan, PODS 2006), where the columns
+/// of `by` determine the column: each row of the view, with the column's value on the source rows
+/// that agree with it on `by`, and with `fill` where none does. The view is read again, and to put
+/// back what is read changes nothing.
+pub fn put_drop(
+    alloc: Global,
+    col: &Name,
+    by: &Names,
+    fill: &Value,
+    view: &Relation,
+    source: &Relation,
+) -> Result<Relation, NoMemory>
+    requires column { fits_at (Some fill.now) (finmap.get source.now.columns col.now) ≡ true }
+    requires apart { set.contains by.now col.now ≡ false }
+    requires determined { Meets source.now.rows by.now (one col.now) }
+    requires columns { view.now.columns ≡ without_column source.now.columns col.now }
+    ensures value { let rows = drop_put col.now by.now fill.now view.now.rows source.now.rows in
+        IfOk result (λ after. after ≡ record source.now { rows = rows }) }
+    ensures put_get { IfOk result (λ after.
+        drop_get (names source.now.columns) col.now after.rows ≡ view.now.rows) }
+    ensures get_put { let shown = drop_get (names source.now.columns) col.now source.now.rows in
+        IfOk result (λ after. view.now.rows ≡ shown → after ≡ source.now) }
+{
+    view.rows_fit();
+    source.rows_fit();
+    let left = by.copy(alloc)?;
+    let right = Names::single(alloc, col)?;
+    let edge = Edge { left, right };
+    let default = default_row(alloc, col, fill)?;
+    let filled = with_default(alloc, &default, view.rows().rows())?;
+    let moved = all_along(alloc, &edge, &filled, source.rows())?;
+    let rows = RowSet::new(alloc, moved)?;
+    let columns = source.columns().copy(alloc)?;
+    Ok(Relation::with_rows(columns, rows))
+}
+
+// The row with this value in one column.
+fn default_row(alloc: Global, name: &Name, value: &Value) -> Result<Row, NoMemory>
+    ensures { IfOk result (λ row. row ≡ finmap.from_entries ((name.now, value.now) ∷ [])) }
+{
+    let mut pairs = Vec::new(alloc);
+    pairs.push((*name, value.copy(alloc)?))?;
+    Row::from_rising(alloc, pairs)
+}
+
+// Each of the rows, with the value of the default in its column.
+fn with_default(alloc: Global, default: &Row, rows: &[Row]) -> Result<Vec<Row>, NoMemory>
+    ensures { IfOk result (λ filled. filled.items ≡ map (override default.now) rows.now) }
+{
+    let mut filled = Vec::with_capacity(alloc, rows.len())?;
+    for row in rows {
+        filled.push(row.paste(alloc, default)?)?;
+    }
+    Ok(filled)
+}
