@@ -12,23 +12,34 @@ fn says(alloc: Global, text: &str, printed: &str) -> Result<bool, Fail> {
     }
 }
 
-// Whether the text says a view of this name that is the table or view of that name.
-fn is_view(alloc: Global, text: &str, view: &str, of: &str) -> Result<bool, Fail> {
+// Whether this is a view of this name that is the table or view of that name.
+fn is_view(definition: &Definition, view: &str, of: &str) -> bool {
+    match definition {
+        Definition::View { name, expr } => name.as_str() == view && is_named(expr, of),
+        Definition::Table { .. } => false,
+    }
+}
+
+// Whether this is the table or view of the name.
+fn is_named(expr: &Expr, of: &str) -> bool {
+    match expr {
+        Expr::Named { name } => name.as_str() == of,
+        _ => false,
+    }
+}
+
+// Whether the text says such a view.
+fn says_view(alloc: Global, text: &str, view: &str, of: &str) -> Result<bool, Fail> {
     match parse(alloc, &Text::new(alloc, text)?) {
-        Ok(
-            Definition::View {
-                name,
-                expr: Expr::Named { name: named },
-            },
-        ) => Ok(name.as_str() == view && named.as_str() == of),
-        _ => Ok(false),
+        Ok(definition) => Ok(is_view(&definition, view, of)),
+        Err(_) => Ok(false),
     }
 }
 
 #[test]
 fn views_are_read(rt: HostRuntime) -> Result<(), Fail> {
     let alloc = rt.alloc();
-    assert!(rt; is_view(alloc, "view v=t", "v", "t")?);
+    assert!(rt; says_view(alloc, "view v=t", "v", "t")?);
     assert!(rt; says(alloc, "view v=t", "view v = t")?);
     assert!(rt; says(alloc, "\tview\r\nv = t \n", "view v = t")?);
     let sent =

@@ -1,45 +1,40 @@
 //! Requests and rows as other programs write them.
-use crate::samples::{GOODS, columns, is_line, rows, sent};
+use crate::samples::{GOODS, columns, is_line, request, rows, sent};
 use request_text::{
     JsonRows, Request, RequestFault, RowsFault, read_request, row_value, rows_of, shown_text,
 };
 use std::alloc::Global;
 use std::test::Fail;
 
-// What the line asks for.
-fn request(alloc: Global, line: &str) -> Result<Request, RequestFault> {
-    read_request(alloc, line.as_bytes())
-}
-
 // Whether the line asks for the definition of the text.
-fn defines(alloc: Global, line: &str, wanted: &str) -> bool {
-    match request(alloc, line) {
-        Ok(Request::Define { text }) => text.as_str() == wanted,
-        _ => false,
+fn defines(alloc: Global, line: &str, wanted: &str) -> Result<bool, Fail> {
+    match &request(alloc, line)? {
+        Request::Define { text } => Ok(text.as_str() == wanted),
+        _ => Ok(false),
     }
 }
 
 // Whether the line asks for the rows of the view.
-fn reads(alloc: Global, line: &str, wanted: &str) -> bool {
-    match request(alloc, line) {
-        Ok(Request::Read { view }) => view.as_str() == wanted,
-        _ => false,
+fn reads(alloc: Global, line: &str, wanted: &str) -> Result<bool, Fail> {
+    match &request(alloc, line)? {
+        Request::Read { view } => Ok(view.as_str() == wanted),
+        _ => Ok(false),
     }
 }
 
 // Whether the line asks for the sort of the view.
-fn describes(alloc: Global, line: &str, wanted: &str) -> bool {
-    match request(alloc, line) {
-        Ok(Request::Describe { view }) => view.as_str() == wanted,
-        _ => false,
+fn describes(alloc: Global, line: &str, wanted: &str) -> Result<bool, Fail> {
+    match &request(alloc, line)? {
+        Request::Describe { view } => Ok(view.as_str() == wanted),
+        _ => Ok(false),
     }
 }
 
 // Whether the line asks for the definitions.
-fn lists(alloc: Global, line: &str) -> bool {
-    match request(alloc, line) {
-        Ok(Request::List) => true,
-        _ => false,
+fn lists(alloc: Global, line: &str) -> Result<bool, Fail> {
+    match &request(alloc, line)? {
+        Request::List => Ok(true),
+        _ => Ok(false),
     }
 }
 
@@ -49,92 +44,80 @@ fn has(rows: &JsonRows, count: usize) -> bool {
 }
 
 // Whether the line puts so many rows to the view a, where the version is this one.
-fn puts(alloc: Global, line: &str, count: usize, version: Option<u64>) -> bool {
-    match request(alloc, line) {
-        Ok(Request::Put { view, rows, on }) => {
-            view.as_str() == "a" && has(&rows, count) && on == version
+fn puts(alloc: Global, line: &str, count: usize, version: Option<u64>) -> Result<bool, Fail> {
+    match &request(alloc, line)? {
+        Request::Put { view, rows, on } => {
+            Ok(view.as_str() == "a" && has(rows, count) && *on == version)
         }
-        _ => false,
+        _ => Ok(false),
     }
 }
 
 // Whether the line edits the view a by so many rows, where the version is this one.
-fn edits(alloc: Global, line: &str, counts: [usize; 2], version: Option<u64>) -> bool {
-    match request(alloc, line) {
-        Ok(
-            Request::Edit {
-                view,
-                remove,
-                add,
-                on,
-            },
-        ) => {
-            let rows = has(&remove, counts[0]) && has(&add, counts[1]);
-            view.as_str() == "a" && rows && on == version
+fn edits(
+    alloc: Global,
+    line: &str,
+    counts: [usize; 2],
+    version: Option<u64>,
+) -> Result<bool, Fail> {
+    match &request(alloc, line)? {
+        Request::Edit {
+            view,
+            remove,
+            add,
+            on,
+        } => {
+            let rows = has(remove, counts[0]) && has(add, counts[1]);
+            Ok(view.as_str() == "a" && rows && *on == version)
         }
-        _ => false,
+        _ => Ok(false),
     }
 }
 
 // Whether the line asks what an edit of the view a by so many rows would change.
-fn previews(alloc: Global, line: &str, counts: [usize; 2], version: Option<u64>) -> bool {
-    match request(alloc, line) {
-        Ok(
-            Request::Preview {
-                view,
-                remove,
-                add,
-                on,
-            },
-        ) => {
-            let rows = has(&remove, counts[0]) && has(&add, counts[1]);
-            view.as_str() == "a" && rows && on == version
-        }
-        _ => false,
+fn previews(alloc: Global, line: &str, counts: [usize; 2]) -> Result<bool, Fail> {
+    match &request(alloc, line)? {
+        Request::Preview {
+            view,
+            remove,
+            add,
+            on: None,
+        } => Ok(view.as_str() == "a" && has(remove, counts[0]) && has(add, counts[1])),
+        _ => Ok(false),
     }
 }
 
 #[test]
-fn requests_are_read(rt: HostRuntime) {
+fn requests_are_read(rt: HostRuntime) -> Result<(), Fail> {
     let alloc = rt.alloc();
     let text = "table goods (name text, quantity int)";
     let line = r#"{"do":"define","text":"table goods (name text, quantity int)"}"#;
-    assert!(rt; defines(alloc, line, text));
-    assert!(rt; reads(alloc, r#" { "view" : "goods", "do" : "read" } "#, "goods"));
-    assert!(rt; describes(alloc, r#"{"do":"type","view":"a"}"#, "a"));
-    assert!(rt; lists(alloc, r#"{"do":"list"}"#));
+    assert!(rt; defines(alloc, line, text)?);
+    assert!(rt; reads(alloc, r#" { "view" : "goods", "do" : "read" } "#, "goods")?);
+    assert!(rt; describes(alloc, r#"{"do":"type","view":"a"}"#, "a")?);
+    assert!(rt; lists(alloc, r#"{"do":"list"}"#)?);
+    Ok(())
 }
 
 #[test]
-fn changes_are_read(rt: HostRuntime) {
+fn changes_are_read(rt: HostRuntime) -> Result<(), Fail> {
     let alloc = rt.alloc();
-    assert!(rt;
-        puts(
-            alloc,
-            r#"{"do":"put","view":"a","rows":[{"name":"nail"},3]}"#,
-            2,
-            None
-        )
-    );
-    assert!(rt;
-        puts(
-            alloc,
-            r#"{"do":"put","view":"a","rows":[],"on":1}"#,
-            0,
-            Some(1)
-        )
-    );
+    let line = r#"{"do":"put","view":"a","rows":[{"name":"nail"},3]}"#;
+    assert!(rt; puts(alloc, line, 2, None)?);
+    let line = r#"{"do":"put","view":"a","rows":[],"on":1}"#;
+    assert!(rt; puts(alloc, line, 0, Some(1))?);
     let line = r#"{"do":"edit","view":"a","remove":[],"add":[]}"#;
-    assert!(rt; edits(alloc, line, [0, 0], None));
+    assert!(rt; edits(alloc, line, [0, 0], None)?);
     let line = r#"{"do":"edit","view":"a","remove":[1],"add":[2,3],"on":9}"#;
-    assert!(rt; edits(alloc, line, [1, 2], Some(9)));
+    assert!(rt; edits(alloc, line, [1, 2], Some(9))?);
     let line = r#"{"do":"preview","view":"a","remove":[1],"add":[]}"#;
-    assert!(rt; previews(alloc, line, [1, 0], None));
+    assert!(rt; previews(alloc, line, [1, 0])?);
+    Ok(())
 }
 
 // Whether the line is refused for the member.
 fn is_bad(alloc: Global, line: &str, wanted: &str) -> bool {
-    match request(alloc, line) {
+    match read_request(alloc, line.as_bytes()) {
         Err(RequestFault::BadRequest { member }) => member.as_str() == wanted,
         _ => false,
     }

@@ -45,13 +45,28 @@ pub(crate) fn edge(alloc: Global, left: &str, right: &str) -> Result<Edge, Fail>
     })
 }
 
-/// The rows of a put, as JSON.
-pub(crate) fn sent(alloc: Global, rows: &str) -> Result<JsonRows, Fail> {
-    let line = format!(in alloc; "{{\"do\":\"put\",\"view\":\"goods\",\"rows\":{rows}}}")?;
+/// What the line asks for.
+pub(crate) fn request(alloc: Global, line: &str) -> Result<Request, Fail> {
     match read_request(alloc, line.as_bytes()) {
-        Ok(Request::Put { rows, .. }) => Ok(rows),
+        Ok(request) => Ok(request),
+        Err(_) => Err(Fail::from("refused")),
+    }
+}
+
+/// The rows that the line puts.
+pub(crate) fn put_rows(alloc: Global, line: &str) -> Result<JsonRows, Fail> {
+    match request(alloc, line)? {
+        Request::Put { rows, .. } => Ok(rows),
         _ => Err(Fail::from("no put")),
     }
+}
+
+/// The rows of JSON, as a put sends them.
+pub(crate) fn sent(alloc: Global, rows: &str) -> Result<JsonRows, Fail> {
+    put_rows(
+        alloc,
+        &format!(in alloc; "{{\"do\":\"put\",\"view\":\"goods\",\"rows\":{rows}}}")?,
+    )
 }
 
 /// The set of the rows of JSON, with the columns that the text lists.
@@ -84,8 +99,7 @@ fn delta(alloc: Global, remove: &RowSet, add: RowSet) -> Result<Delta, NoMemory>
     Ok(Delta::new(remove, add))
 }
 
-/// The difference of the table that removes and adds these rows of JSON, with the columns that the
-/// text lists.
+/// The difference of the table that removes and adds these rows of JSON.
 pub(crate) fn difference(
     alloc: Global,
     table: &str,

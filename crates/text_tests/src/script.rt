@@ -1,8 +1,6 @@
 //! A put to a view of tracks and albums: its request, its rows and its reply.
-use crate::samples::{columns, difference, is_line};
-use request_text::{
-    Answer, Changes, JsonRows, Request, read_request, reply_text, rows_of, shown_text,
-};
+use crate::samples::{columns, difference, is_line, put_rows, request};
+use request_text::{Answer, Changes, Request, reply_text, rows_of, shown_text};
 use signed_delta::TableDelta;
 use std::alloc::Global;
 use std::test::Fail;
@@ -10,18 +8,18 @@ use std::test::Fail;
 const PUT: &str =
     r#"{"do":"put","view":"stock","rows":[{"album":"Show","quantity":3,"rating":4,"track":"Lullaby"},{"album":"Disintegration","quantity":7,"rating":5,"track":"Lovesong"}]}"#;
 
-// The rows that are put to the view.
-fn put(alloc: Global, line: &str, wanted: &str) -> Result<JsonRows, Fail> {
-    match read_request(alloc, line.as_bytes()) {
-        Ok(Request::Put { view, rows, on }) if view.as_str() == wanted && on == None => Ok(rows),
-        _ => Err(Fail::from("no put")),
+// Whether the line puts rows to the view.
+fn puts_to(alloc: Global, line: &str, wanted: &str) -> Result<bool, Fail> {
+    match &request(alloc, line)? {
+        Request::Put { view, .. } => Ok(view.as_str() == wanted),
+        _ => Ok(false),
     }
 }
 
 // Whether the put rows of the view are shown so.
 fn are_shown(alloc: Global, line: &str, shown: &str) -> Result<bool, Fail> {
     let columns = columns(alloc, "album:text quantity:int rating:int track:text")?;
-    match rows_of(alloc, &columns, &put(alloc, line, "stock")?) {
+    match rows_of(alloc, &columns, &put_rows(alloc, line)?) {
         Ok(rows) => Ok(is_line(&shown_text(alloc, &rows, 6)?, shown)),
         Err(_) => Ok(false),
     }
@@ -32,6 +30,7 @@ fn rows_are_put(rt: HostRuntime) -> Result<(), Fail> {
     let alloc = rt.alloc();
     let shown =
         r#"{"ok":true,"rows":[{"album":"Disintegration","quantity":7,"rating":5,"track":"Lovesong"},{"album":"Show","quantity":3,"rating":4,"track":"Lullaby"}],"version":6}"#;
+    assert!(rt; puts_to(alloc, PUT, "stock")?);
     assert!(rt; are_shown(alloc, PUT, shown)?);
     Ok(())
 }
