@@ -4,6 +4,7 @@
 Usage: bench/bench.py [PROGRAM]    (without the word, the program that ./serve builds)
 """
 import os
+import re
 import string
 import subprocess
 import sys
@@ -133,6 +134,54 @@ def views(program):
     return table
 
 
+def without_date(line):
+    """The row as a view without dates has it."""
+    return re.sub(r'"date":[0-9]+,', "", line)
+
+
+def drops(program):
+    """A put through a drop over a selection, of 10,000 and of 100,000 rows, with one of them changed; ms and MB."""
+    table = []
+    for count in (ROWS // 10, ROWS):
+        rows = [row(number) for number in range(count * 5 // 4)]
+        shown = [without_date(line) for line in rows if '"rating":0' not in line]
+        changed = shown[:-1] + [shown[-1].replace('"album":"album', '"album":"other', 1)]
+        server = defined(
+            program,
+            TRACKS + " with track -> album date rating",
+            "view undated = drop date determined by (track, 2018) from (select from tracks where rating > 0)",
+        )
+        reply, _ = server.ask(put(rows))
+        must_begin(reply, b'{"changed":[{')
+        table += timed(server, [(f"put through a drop over a selection of {count:,} rows, one row changed", put(changed, "undated"), b'{"changed":[{')])
+    return table
+
+
+def joins(program):
+    """A join of tracks and a tenth as many albums, with a drop and a selection over it: a read, and a put with one row changed; ms and MB."""
+    table = []
+    for count in (ROWS // 10, ROWS):
+        albums = [f'{{"album":"album{number}","quantity":{3 + number % 5}}}' for number in range(count // 10)]
+        tracks = [row(number) for number in range(count)]
+        stock = [without_date(line).replace(',"rating"', f',"quantity":{3 + number // 10 % 5},"rating"', 1) for number, line in enumerate(tracks)]
+        changed = stock[:-1] + [re.sub(r'"rating":[0-9]+', '"rating":9', stock[-1])]
+        server = defined(
+            program,
+            TRACKS + " with track -> date rating",
+            "table albums (album text, quantity int) with album -> quantity",
+            "view stock = select from (drop date determined by (track, 2018) from (join_dl tracks with albums)) where quantity > 2",
+        )
+        for line in (put(tracks), put(albums, "albums")):
+            reply, _ = server.ask(line)
+            must_begin(reply, b'{"changed":[{')
+        steps = [
+            (f"read of a join of {count:,} rows with {count // 10:,}, a drop and a selection over it", b'{"do":"read","view":"stock"}\n', b'{"ok":true,"rows":[{'),
+            ("put of that view with one row changed", put(changed, "stock"), b'{"changed":[{'),
+        ]
+        table += timed(server, steps)
+    return table
+
+
 def dependent(program):
     """The put of 100,000 rows into a table with two dependencies, and a put of as many that clash; ms and MB."""
     server = defined(program, TRACKS + DEPENDENCIES)
@@ -215,7 +264,7 @@ def main():
     program = sys.argv[1] if len(sys.argv) > 1 else os.path.join(TOP, "crates/view_program/out/view_program")
     print("| What | Bytes of input | Time | Peak memory |")
     print("|---|---|---|---|")
-    for name, size, taken, peak in large(program) + views(program) + dependent(program) + chains(program) + long_texts(program) + longest(program) + small(program):
+    for name, size, taken, peak in large(program) + views(program) + drops(program) + joins(program) + dependent(program) + chains(program) + long_texts(program) + longest(program) + small(program):
         print(f"| {name} | {size:,} | {taken} | {peak} |")
 
 

@@ -3,6 +3,7 @@ ghost use Rattle.std.specs.Prelude.{◌≡◌, ◌≢◌, ◌++◌, IfOk, OnOk, 
 ghost use Rattle.no_memory.specs.Gives.{Gives};
 ghost use Rattle.lens_values.specs.SortedSet as set;
 ghost use Rattle.lens_specs.specs.Names.{one};
+ghost use Rattle.lens_specs.specs.Dependencies as dependencies;
 ghost use Rattle.lens_specs.specs.Dependencies.{AllEdges};
 ghost use Rattle.lens_specs.specs.TreeForm as spec;
 ghost use Rattle.lens_specs.specs.TreeForm.{tree_of, tree_without};
@@ -18,8 +19,8 @@ use crate::clash::{Clash, first_clash};
 use crate::cleaning::grouped;
 use crate::edge::{Edge, edges_of};
 use crate::ordering::ordered;
-use crate::reducing::reduced;
-use fd_closure::Dep;
+use crate::reducing::{full, reduced};
+use fd_closure::{Dep, closure};
 use lens_values::{Name, Names, NoMemory, copied};
 use row_sets::Relation;
 use std::alloc::{AllocError, AllocFailed, Global};
@@ -137,6 +138,14 @@ impl Tree {
         ensures { result.now ≡ spec.outputs self.now }
     {
         &self.outputs
+    }
+
+    /// The least set of columns that has these, and with the left side of an edge its right side.
+    pub fn closure(&self, alloc: Global, cols: &Names) -> Result<Names, NoMemory>
+        ensures { IfOk result (λ found. found ≡ dependencies.closure cols.now self.now) }
+    {
+        let deps = full(alloc, copied(alloc, &self.edges)?)?;
+        closure(alloc, cols, &deps)
     }
 
     /// Does nothing, and tells a proof that the edges form a tree.

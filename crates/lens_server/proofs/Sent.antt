@@ -1,13 +1,19 @@
--- Rows that are sent have the columns, each of its kind.
+-- Rows that are sent: those that are refused, and that they have the columns, each of its kind.
 use Rattle.std.proofs.Common.{◌≡◌, ◌∙◌, true, List, ap, refl}
-use Rattle.std.specs.Prelude.{Result, Ok, Err}
+use Rattle.std.specs.Prelude.{Result, Ok, Err, find, not}
 use Rattle.serde_json.specs.Data.{Items}
 use Rattle.lens_values.specs.SortedSet as set
 use Rattle.lens_values.specs.declared.row.Row.{Row}
+use Rattle.lens_specs.specs.Predicate.{Predicate, holds}
 use Rattle.lens_specs.specs.Relation.{Columns, Rows, Fits}
+use Rattle.lens_specs.specs.Sort.{off}
 use Rattle.server_specs.proofs.Sent as sent
 use Rattle.server_specs.specs.Sending.{BadRow, rows_in}
 use Rattle.request_text.specs.RowFaults.{set_of}
+
+pub off_is : (P : Predicate) (M : Rows) → off P M ≡ find (λ r. not (holds P r)) (set.items M)
+unfolding off
+off_is P M = refl
 
 set_fits : (columns : Columns) (ds : Items) (o : Result (List Row) BadRow) (rows : Rows) → rows_in columns ds ≡ o → set_of o ≡ Ok rows
     → (r : Row) → set.contains rows r ≡ true → Fits columns r

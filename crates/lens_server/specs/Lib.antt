@@ -1,10 +1,6 @@
-pub mod Entries
-pub mod Shows
 pub mod States
 pub mod Outcomes
-pub mod Refusals
-pub mod Judgements
-pub mod Additions
-pub mod Places
 pub mod Plans
+pub mod Defining
+pub mod Differing
 pub mod StateCode

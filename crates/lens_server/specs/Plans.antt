@@ -1,60 +1,63 @@
--- The plan of a put.
-use Rattle.std.specs.Prelude.{◌≡◌, ◌+◌, ℕ, List, [], ◌∷◌, get_or, map, Option, Some, None, if◌then◌else◌}
-use Rattle.std.specs.FinMap as finmap
-use Rattle.lens_specs.specs.Relation.{Name, Relation, Rows}
-use Rattle.lens_specs.specs.Predicate.{Predicate, holds}
-use Rattle.lens_specs.specs.Nodes.{select_put}
-use Rattle.lens_specs.specs.Dependencies.{Edge}
-use Rattle.lens_specs.specs.Delta.{Delta, diff, is_empty}
-use Rattle.server_specs.specs.Answer.{Answer, changed, text}
+-- Plans: the answer to a request, and the change that is made before it is given.
+use Rattle.std.specs.Prelude.{◌≡◌, ◌<◌, ◌+◌, ℕ, List, [], ◌∷◌, ◌++◌, Option, Some, None}
+use Rattle.lens_specs.specs.Delta.{TableDelta}
+use Rattle.lens_specs.specs.Keeping.{rows}
+use Rattle.lens_specs.specs.Lens.{Tables}
+use Rattle.request_text.specs.Answers.{answer_view}
+use Rattle.server_specs.specs.Answer.{Answer, changed}
+use Rattle.server_specs.specs.Changing.{with_last}
 use Rattle.server_specs.specs.State.{State}
-use Rattle.signed_delta.specs.Tables.{table_delta}
-use Rattle.lens_server.specs.Places.{IsAt}
+use Rattle.server_specs.specs.Validity.{Valid}
+use Rattle.server_laws.specs.KeptLaws.{KeptFollows}
+use Rattle.table_keeper.specs.Changes.{change_view}
+use Rattle.view_catalog.specs.Admissions.{IsAdmissible}
+use Rattle.view_catalog.specs.Contents.{Contents}
+use Rattle.view_catalog.specs.declared.prepared.Prepared.{Prepared}
 use Rattle.lens_server.specs.States.{state_of}
-use Rattle.lens_server.specs.declared.planning.Plan.{Plan}
-use Rattle.lens_server.specs.declared.planning.Plan.TheVariants as plan
-use Rattle.lens_server.specs.declared.planning.Edit.{Edit}
+use Rattle.lens_server.specs.declared.plan.Plan.{Plan}
+use Rattle.lens_server.specs.declared.plan.Staged.{Staged}
 use Rattle.lens_server.specs.declared.store.Store.{Store}
-use Rattle.lens_server.specs.declared.table.Table.{Table}
 
--- the rows of the table after a put of the view
-abbrev pub source_put : List Edge → Option Predicate → Rows → Rows → Rows
-source_put T None N M = N
-source_put T (Some P) N M = select_put T (holds P) N M
+-- the texts, and the definition's, if there is one
+abbrev pub texts_with : Option Prepared → List (List ℕ) → List (List ℕ)
+texts_with None texts = texts
+texts_with (Some prepared) texts = texts ++ prepared.text ∷ []
 
--- the state with these rows in a table, which is last changed at the next version
-abbrev pub with_relation : Name → Relation → State → State
-with_relation name relation s =
-    record s { tables = finmap.insert s.tables name relation; version = s.version + 1; last = finmap.insert s.last name (s.version + 1) }
+-- the state after a change
+abbrev pub after : Staged → State → State
+after staged s = record { texts = texts_with staged.definition s.texts; tables = staged.tables; version = s.version + 1; last = staged.last }
 
--- the answer to a put after which the table is this relation, and the state after it
-abbrev pub accept_table : Name → Relation → Delta → State → Answer × State
-accept_table name relation delta s =
-    if is_empty delta then (changed [] s.version, s) else (changed (record { table = name; delta = delta } ∷ []) (s.version + 1), with_relation name relation s)
+-- the catalogue can take the definition, if there is one, without memory
+abbrev pub CanTake : Option Prepared → Contents → Type 0
+CanTake None catalog = Unit {0}
+CanTake (Some prepared) catalog = (0 < catalog.room) × IsAdmissible catalog.texts prepared
 
--- a plan that edits a table edits the one at this place
-abbrev pub IsPlacedAt : ℕ → Plan → Type 0
-IsPlacedAt place (plan.Answer reply) = Unit {0}
-IsPlacedAt place (plan.Change edit) = edit.place ≡ place
+-- The change can be made: the catalogue can take the definition, the keeper's contents follow, and the state after it is valid.
+pub record IsStaged (staged : Staged) (store : Store) : Type 0 where
+  pub definition : CanTake staged.definition store.catalog
+  pub kept : KeptFollows (change_view staged.change) (state_of store) (after staged (state_of store))
+  pub valid : Valid (after staged (state_of store))
 
--- the edit turns this table into its relation, and its reply and the state after it are the answer's
-pub record IsEditOf (edit : Edit) (table : Table) (answer : Answer × State) (s : State) : Type 0 where
-  pub columns : edit.relation.columns ≡ table.relation.columns
-  pub deltas : map table_delta edit.deltas.items ≡ record { table = table.name; delta = diff table.relation.rows edit.relation.rows } ∷ []
-  pub reply : edit.reply ≡ text answer.0
-  pub after : answer.1 ≡ with_relation table.name edit.relation s
+-- the change leads to the state, or there is none and the state is the present one
+abbrev pub Leads : Option Staged → State → Store → Type 0
+Leads None next store = next ≡ state_of store
+Leads (Some staged) next store = (next ≡ after staged (state_of store)) × IsStaged staged store
 
--- the answer's reply and state, or the edit that leads to them
-abbrev pub IsTablePlan : Plan → Table → Answer × State → State → Type 0
-IsTablePlan (plan.Answer reply) table answer s = (reply ≡ text answer.0) × (answer.1 ≡ s)
-IsTablePlan (plan.Change edit) table answer s = IsEditOf edit table answer s
+-- the plan has the answer, and leads to the state after it
+pub record IsPlan (plan : Plan) (expected : Answer × State) (store : Store) : Type 0 where
+  pub answer : answer_view plan.answer ≡ expected.0
+  pub leads : Leads plan.staged expected.1 store
 
--- the same for the table at the edit's place
-abbrev pub IsPlan : Plan → Answer × State → Store → Type 0
-IsPlan (plan.Answer reply) answer store = (reply ≡ text answer.0) × (answer.1 ≡ state_of store)
-IsPlan (plan.Change edit) answer store =
-    (table : Table) × (name : Name) × IsAt name store.tables.items edit.place × ((d : Table) → get_or store.tables.items edit.place d ≡ table) × IsEditOf edit table answer (state_of store)
+-- the plan is that of some answer
+abbrev pub IsPlanned : Plan → Store → Type 0
+IsPlanned plan store = (expected : Answer × State) × IsPlan plan expected store
 
--- the edit is the plan of some answer
-abbrev pub IsPlanned : Edit → Store → Type 0
-IsPlanned edit store = (answer : Answer × State) × IsPlan (plan.Change edit) answer store
+-- The plan tells these differences with the next version, and its change makes the tables these, each changed one last changed then.
+pub record IsChange (deltas : List TableDelta) (new : Tables) (store : Store) (plan : Plan) : Type 0 where
+  pub answer : answer_view plan.answer ≡ changed deltas (store.version + 1)
+  pub staged : Staged
+  pub is : plan.staged ≡ Some staged
+  pub change : change_view staged.change ≡ rows deltas
+  pub definition : staged.definition ≡ None
+  pub tables : staged.tables ≡ new
+  pub last : staged.last ≡ with_last (store.version + 1) deltas store.last

@@ -1,20 +1,22 @@
 //! One line, one answer.
-ghost use Rattle.std.specs.Prelude.{◌≡◌, Ok};
+ghost use Rattle.std.specs.Prelude.{◌≡◌, ◌<◌, ◌-◌, ◌^◌, IfOk, Ok};
 ghost use Rattle.io_specs.specs.Lines.{line as short};
 ghost use Rattle.request_text.specs.Requests.{request_view};
 ghost use Rattle.server_specs.specs.Answering.{answer_request};
 ghost use Rattle.server_specs.specs.Request.{request};
+ghost use Rattle.server_specs.specs.Validity.{Valid};
 ghost use Rattle.lens_server.specs.Outcomes.{IsReady, Outcome};
+ghost use Rattle.lens_server.specs.Plans.{IsPlan};
 ghost use Rattle.lens_server.specs.States.{state_of};
 
-use crate::defining::define;
-use crate::putting::put;
-use crate::reading::read;
+use crate::changing::plan_put;
+use crate::defining::plan_definition;
+use crate::plan::Plan;
+use crate::questions::read_answer;
+use crate::settling::settle;
 use crate::store::Store;
 use lens_values::NoMemory;
-use request_text::{
-    Reply, Request, RequestFault, bad_request_text, not_json_reply, read_request, unbuilt_reply,
-};
+use request_text::{Answer, Reply, Request, RequestFault, read_request};
 use std::alloc::Global;
 use table_keeper::Keeper;
 
@@ -27,39 +29,44 @@ pub fn answer_line<K: Keeper>(
 ) -> Result<Reply, NoMemory>
     requires { IsReady store.old (K.contents keeper.old) }
     ensures outcome { Outcome (answer_request (request (short line.now)) (state_of store.old))
-        store.old store.new (K.faults keeper.old) (K.faults keeper.new)
+        (state_of store.old) (state_of store.new) (K.faults keeper.old) (K.faults keeper.new)
         (K.contents keeper.old) (K.contents keeper.new) result }
     ensures place { K.place keeper.new ≡ K.place keeper.old }
 {
+    let plan = plan_line(alloc, store, line)?;
+    settle(alloc, store, keeper, plan)
+}
+
+/// Plans the answer to a line.
+fn plan_line(alloc: Global, store: &mut Store, line: &[u8]) -> Result<Plan, NoMemory>
+    requires valid { Valid (state_of store.old) }
+    requires room { store.old.version < 2 ^ 64 - 1 }
+    ensures same { state_of store.new ≡ state_of store.old }
+    ensures plan { IfOk result (λ plan. IsPlan plan
+        (answer_request (request (short line.now)) (state_of store.old)) store.new) }
+{
     match read_request(alloc, line) {
-        Ok(request) => answer_request(alloc, store, keeper, request),
-        Err(RequestFault::NotJson) => Ok(not_json_reply()),
-        Err(RequestFault::BadRequest { member }) => bad_request_text(alloc, &member),
+        Ok(request) => plan_request(alloc, store, request),
+        Err(RequestFault::NotJson) => Ok(Plan::unchanged(Answer::NotJson)),
+        Err(RequestFault::BadRequest { member }) => {
+            Ok(Plan::unchanged(Answer::BadRequest { member }))
+        }
         Err(RequestFault::NoMemory) => Err(NoMemory),
     }
 }
 
-/// Answers a request. What rests on a version, edits, previews, types and the list of definitions
-/// are not built.
-fn answer_request<K: Keeper>(
-    alloc: Global,
-    store: &mut Store,
-    keeper: &mut K,
-    request: Request,
-) -> Result<Reply, NoMemory>
-    requires { IsReady store.old (K.contents keeper.old) }
-    ensures outcome { Outcome (answer_request (Ok (request_view request)) (state_of store.old))
-        store.old store.new (K.faults keeper.old) (K.faults keeper.new)
-        (K.contents keeper.old) (K.contents keeper.new) result }
-    ensures place { K.place keeper.new ≡ K.place keeper.old }
+/// Plans the answer to a request. Edits, previews, types and the list of definitions are not built.
+fn plan_request(alloc: Global, store: &mut Store, request: Request) -> Result<Plan, NoMemory>
+    requires valid { Valid (state_of store.old) }
+    requires room { store.old.version < 2 ^ 64 - 1 }
+    ensures same { state_of store.new ≡ state_of store.old }
+    ensures plan { IfOk result (λ plan. IsPlan plan
+        (answer_request (Ok (request_view request)) (state_of store.old)) store.new) }
 {
     match request {
-        Request::Define { text } => define(alloc, store, keeper, text),
-        Request::Read { view } => read(alloc, store, &view),
-        Request::Put { view, rows, on } => match on {
-            None => put(alloc, store, keeper, &view, &rows),
-            Some(_) => Ok(unbuilt_reply()),
-        },
-        _ => Ok(unbuilt_reply()),
+        Request::Define { text } => plan_definition(alloc, store, text),
+        Request::Read { view } => Ok(Plan::unchanged(read_answer(alloc, store, &view)?)),
+        Request::Put { view, rows, on } => plan_put(alloc, store, &view, &rows, on),
+        _ => Ok(Plan::unchanged(Answer::Unbuilt)),
     }
 }

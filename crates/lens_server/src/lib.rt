@@ -1,20 +1,16 @@
 //! The server: requests are answered one line at a time.
 #![tactic(auto)]
 
-mod addition;
 mod answering;
+mod changing;
 mod defining;
-mod entry;
-mod judging;
-mod planning;
-mod putting;
-mod reading;
-mod refusal;
+mod differing;
+mod last_changes;
+mod plan;
+mod questions;
+mod refusals;
 pub mod server;
+mod settling;
 mod store;
-mod table;
-mod table_judging;
-mod unknown_columns;
-mod view_judging;
 
 pub use server::Server;

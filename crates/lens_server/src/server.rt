@@ -7,6 +7,7 @@ ghost use Rattle.server_specs.specs.Session.{Step};
 ghost use Rattle.server_specs.specs.State as state;
 
 use crate::answering::answer_line;
+use crate::last_changes::LastChanges;
 use crate::store::Store;
 use io_specs::LONGEST_LINE;
 use lens_values::{NoMemory, Text};
@@ -16,6 +17,8 @@ use std::marker::Model;
 use std::sync::ledger::Ledger;
 use step_counter::Steps;
 use table_keeper::Keeper;
+use view_catalog::Catalog;
+use whole_put::Db;
 
 /// The definitions, the tables and the version. A contract sees the state.
 #[derive(Debug, Drop)]
@@ -26,7 +29,8 @@ pub struct Server {
 impl Model for Server {
     ghost use Rattle.server_specs.specs.State as state;
     ghost use Rattle.lens_server.specs.StateCode.{coded_state};
-    ghost use Rattle.lens_server.specs.States.{state_of, Consistent};
+    ghost use Rattle.server_specs.specs.Validity.{Valid};
+    ghost use Rattle.lens_server.specs.States.{state_of};
 
     ghost Value = { state.State };
 
@@ -34,7 +38,7 @@ impl Model for Server {
 
     ghost view = { λ s. state_of s.store };
 
-    ghost invariant = { λ s. Consistent s.store };
+    ghost invariant = { λ s. Valid (state_of s.store) };
 }
 
 impl Server {
@@ -44,9 +48,9 @@ impl Server {
     {
         Ok(Server {
             store: Store {
-                texts: Vec::new(alloc),
-                entries: Vec::new(alloc),
-                tables: Vec::new(alloc),
+                catalog: Catalog::new(alloc),
+                tables: Db::new(alloc),
+                last: LastChanges::new(alloc),
                 version: 0,
             },
         })
@@ -84,7 +88,7 @@ impl Server {
     pub fn definitions(&self) -> &[Text]
         ensures { result.now ≡ self.now.texts }
     {
-        self.store.texts.as_slice()
+        self.store.catalog.definitions()
     }
 
     /// The version: how many changes were made.

@@ -1,17 +1,18 @@
-//! What the server holds: definitions, tables and the version.
-use crate::entry::Entry;
-use crate::table::Table;
-use lens_values::Text;
+//! What the server holds.
 
-/// The definition texts in order, the lens of each name, the tables and the version.
+use crate::last_changes::LastChanges;
+use view_catalog::Catalog;
+use whole_put::Db;
+
+/// The definitions with their lenses, the tables, the version, and the last change of each table.
 #[derive(Debug, Drop)]
 pub struct Store {
-    /// The definition texts, as they were sent.
-    pub texts: Vec<Text>,
-    /// The names with their lenses, in order of definition.
-    pub entries: Vec<Entry>,
-    /// The tables in order of definition.
-    pub tables: Vec<Table>,
+    /// The definitions, and the lens of each name.
+    pub catalog: Catalog,
+    /// The tables.
+    pub tables: Db,
+    /// The version that changed each table last.
+    pub last: LastChanges,
     /// How many changes were made.
     pub version: u64,
 }

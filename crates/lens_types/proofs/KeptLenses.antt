@@ -1,25 +1,25 @@
 -- What is kept of a lens, and what is kept of a lens made of it.
-use Rattle.std.proofs.Common.{Some, ◌≡◌, ◌∙◌, ◌+◌, ◌≤◌, ℕ, suc, Bool, true, false, not, ap, sym, refl, arith, rules}
-use Rattle.std.specs.Prelude.{None, option_map, Result, Ok, IsOk, nat_le}
+use Rattle.std.proofs.Common.{Some, ◌≡◌, ◌∙◌, ◌+◌, ◌++◌, ◌≤◌, ℕ, suc, Bool, true, false, not, ap, sym, refl, arith, rules}
+use Rattle.std.specs.Prelude.{None, Option, option_map, Result, Ok, Err, IfOk, IsOk, nat_le}
 use Rattle.std.specs.FinMap as finmap
 use Rattle.std.proofs.lemmas.Bool.Decides.{nat_tests}
 use Rattle.lens_values.specs.declared.value.Value.{Value}
-use Rattle.lens_specs.specs.Columns.{names, fits_at, least_outside}
-use Rattle.lens_specs.specs.Lens.{Lens, base, select, drop, join, nodes_of, select_sort, drop_sort}
+use Rattle.lens_specs.specs.Columns.{names, fits_at, kinds_differ, least_outside}
+use Rattle.lens_specs.specs.Lens.{Lens, base, select, drop, join, join_sort, nodes_of, select_sort, drop_sort, tables_of}
 use Rattle.lens_specs.specs.Names.{Name, Names}
 use Rattle.lens_specs.specs.Predicate.{Predicate}
 use Rattle.lens_specs.specs.Refusal as refusal
 use Rattle.lens_specs.specs.Refusal.{Refusal, or_else, when, is_column, first_mixed, least_mentioned, unknown_name, unlike_kinds, too_much}
 use Rattle.lens_specs.specs.Sort.{Sort}
-use Rattle.lens_specs.specs.TreeForm.{outputs}
-use Rattle.lens_specs.specs.Typing.{sort, and_then, select_fault, drop_fault, is_determined, default_holds}
+use Rattle.lens_specs.specs.TreeForm.{outputs, tree_of}
+use Rattle.lens_specs.specs.Typing.{sort, and_then, select_fault, drop_fault, join_fault, form_fault, is_determined, default_holds, shared_table, undetermined}
 use Rattle.lens_laws.specs.Lenses.{IsTyped}
 use Rattle.lens_laws.specs.Passes.{IsSound}
 use Rattle.lens_laws.specs.Rules.{BasesAreSound}
 use Rattle.lens_laws.proofs.Rules.{sort_is_typed}
-use Rattle.lens_types.specs.Faults.{IsRefused, with_inputs}
+use Rattle.lens_types.specs.Faults.{Decides, IsRefused, with_inputs}
 use Rattle.lens_types.specs.Kept.{IsKept}
-use Rattle.lens_types.specs.Sorts.{selection, projection}
+use Rattle.lens_types.specs.Sorts.{natural_join, selection, projection}
 use Rattle.lens_types.specs.declared.fault.Refused.{Refused}
 use Rattle.lens_types.specs.declared.fault.Refused.TheVariants as refused
 use Rattle.lens_types.proofs.Parts.{neither, unrefused}
@@ -72,6 +72,15 @@ pub sort-drop : (C : Lens) (t : Sort) (n : ℕ) (A : Name) (X : Names) (a : Valu
 unfolding sort
 sort-drop C t n A X a k = ap (λ r. and_then r (λ s. projection (suc (nodes_of C)) s A X a)) k.sort ∙ ap (λ m. projection m t A X a) (next n (nodes_of C) k.size)
 
+-- that of two lenses joined
+pub sort-join : (A B : Lens) (s t : Sort) (n : ℕ) → sort A ≡ Ok s → sort B ≡ Ok t → n ≡ nodes_of (join A B) → sort (join A B) ≡ natural_join n s t (shared_table (tables_of A) (tables_of B))
+unfolding sort
+sort-join A B s t n a b size =
+    let twice = shared_table (tables_of A) (tables_of B) in
+    ap (λ r. and_then r (λ x. and_then (sort B) (λ y. natural_join (nodes_of (join A B)) x y twice))) a
+    ∙ ap (λ r. and_then r (λ y. natural_join (nodes_of (join A B)) s y twice)) b
+    ∙ ap (λ m. natural_join m s t twice) (sym size)
+
 unless : (n : ℕ) (r : Refusal) → when (not (nat_le n 64)) r ≡ None → n ≤ 64
 unless n r e = by_test (nat_le n 64) refl e
   where
@@ -116,3 +125,27 @@ drop_kept C t s n A X a k e = record {
   size = sym (next n (nodes_of C) k.size);
   few = few_projected (n + 1) t s A X a e;
 }
+
+few_joined : (n : ℕ) (s t x : Sort) (twice : Option Name) → natural_join n s t twice ≡ Ok x → n ≤ 64
+few_joined n s t x twice e =
+    let a = neither (option_map refusal.kind_clash (kinds_differ s.columns t.columns)) _ (unrefused (join_fault n s t twice) (join_sort s t) x e).0 in
+    let b = neither (form_fault (tree_of (s.tree ++ t.tree))) _ a.1 in
+    let c = neither (option_map refusal.not_determined (undetermined s t)) _ b.1 in
+    let d = neither (option_map (refusal.side_mentions_output refusal.left_side) (least_mentioned s.predicate (outputs s.tree))) _ c.1 in
+    let f = neither (option_map (refusal.side_mentions_output refusal.right_side) (least_mentioned t.predicate (outputs t.tree))) _ d.1 in
+    let g = neither (option_map refusal.table_twice twice) _ f.1 in
+    few n (join_sort s t) g.1
+
+-- and that of a join of two lenses
+pub join_kept : (A B : Lens) (s t x : Sort) (n : ℕ) → sort A ≡ Ok s → sort B ≡ Ok t → IsTyped A → IsTyped B → n ≡ nodes_of (join A B) → sort (join A B) ≡ Ok x → IsKept (join A B) x n
+join_kept A B s t x n a b left right size e = record {
+  sort = e;
+  sound = (bases_are_sound A left, bases_are_sound B right);
+  size = size;
+  few = few_joined n s t x (shared_table (tables_of A) (tables_of B)) (sym (sort-join A B s t n a b size) ∙ e);
+}
+
+-- what holds of a sort that is decided
+pub if_decided : {T : Type 0} (r : Result Sort (Refused T)) (given : T) (v : Result Sort Refusal) (P : Sort → Type 0) → ((x : Sort) → v ≡ Ok x → P x) → Decides (λ x. x) r given v → IfOk r P
+if_decided (Ok x) given v P h d = h x d
+if_decided (Err why) given v P h d = tt

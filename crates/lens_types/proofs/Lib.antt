@@ -5,4 +5,5 @@ pub mod Drops
 pub mod Parts
 pub mod Selections
 pub mod Projections
+pub mod Joins
 pub mod KeptLenses

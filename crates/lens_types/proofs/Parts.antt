@@ -35,6 +35,10 @@ smaller true b c q r s e = cc
 pub few_in_two : (n : ℕ) (s : Sort) → too_much n s ≡ None → too_much 2 s ≡ None
 few_in_two n s e = smaller (not (nat_le (finmap.len s.columns) 64)) (not (nat_le n 64)) (not (nat_le (predicate_nodes s.predicate) 256)) _ _ _ e
 
+-- nor in one of three
+pub few_in_three : (n : ℕ) (s : Sort) → too_much n s ≡ None → too_much 3 s ≡ None
+few_in_three n s e = smaller (not (nat_le (finmap.len s.columns) 64)) (not (nat_le n 64)) (not (nat_le (predicate_nodes s.predicate) 256)) _ _ _ e
+
 -- equal parts make one sort
 pub same_parts : (U V : Columns) (P Q : Predicate) (T W : List Edge) → IsSound (sort_from U P T) → V ≡ U → Q ≡ P → W ≡ T → IsSound (sort_from V Q W)
 same_parts U V P Q T W h u p t = rw (u, p, t) h

@@ -2,6 +2,8 @@
 use Rattle.std.specs.Prelude.{◌≡◌, Result, Ok, Err}
 use Rattle.lens_specs.specs.Refusal as refusal
 use Rattle.lens_specs.specs.Refusal.{Refusal}
+use Rattle.lens_values.specs.declared.columns.ColumnsFault as columns
+use Rattle.lens_values.specs.declared.columns.ColumnsFault.TheVariants as columns_fault
 use Rattle.fd_tree.specs.declared.tree.TreeFault as tree
 use Rattle.fd_tree.specs.declared.tree.TreeFault.TheVariants as tree_fault
 use Rattle.lens_pred.specs.declared.checking.PredFault as pred
@@ -10,8 +12,10 @@ use Rattle.lens_pred.specs.declared.splitting.SplitFault as split
 use Rattle.lens_pred.specs.declared.splitting.SplitFault.TheVariants as split_fault
 use Rattle.lens_types.specs.declared.fault.SizeLimit.{SizeLimit}
 use Rattle.lens_types.specs.declared.fault.SizeLimit.TheVariants.{Columns, Lens, Predicate}
+use Rattle.lens_types.specs.declared.fault.Side.{Side}
+use Rattle.lens_types.specs.declared.fault.Side.TheVariants.{Left, Right}
 use Rattle.lens_types.specs.declared.fault.TypeFault.{TypeFault}
-use Rattle.lens_types.specs.declared.fault.TypeFault.TheVariants.{UnknownColumn, KindClash, NotTree, PredKind, SourceMentionsOutput, NoSuchDependency, MixedConjunct, DefaultRefused, TooLarge}
+use Rattle.lens_types.specs.declared.fault.TypeFault.TheVariants.{UnknownColumn, KindClash, NotTree, PredKind, SourceMentionsOutput, NoSuchDependency, MixedConjunct, DefaultRefused, NotDetermined, SideMentionsOutput, TableTwice, TooLarge}
 use Rattle.lens_types.specs.declared.fault.Refused.{Refused}
 use Rattle.lens_types.specs.declared.fault.Refused.TheVariants.{Rule, NoMemory}
 
@@ -20,6 +24,11 @@ abbrev pub limit_view : SizeLimit → refusal.Limit
 limit_view Columns = refusal.columns_limit
 limit_view Lens = refusal.lens_limit
 limit_view Predicate = refusal.predicate_limit
+
+-- the side of a join
+abbrev pub side_view : Side → refusal.Side
+side_view Left = refusal.left_side
+side_view Right = refusal.right_side
 
 -- the refusal that a fault is
 abbrev pub fault_view : TypeFault → Refusal
@@ -31,6 +40,9 @@ fault_view (SourceMentionsOutput col) = refusal.source_mentions_output col
 fault_view (NoSuchDependency col) = refusal.no_such_dependency col
 fault_view (MixedConjunct index) = refusal.mixed_conjunct index
 fault_view DefaultRefused = refusal.default_refused
+fault_view (NotDetermined col) = refusal.not_determined col
+fault_view (SideMentionsOutput side col) = refusal.side_mentions_output (side_view side) col
+fault_view (TableTwice name) = refusal.table_twice name
 fault_view (TooLarge what) = refusal.too_large (limit_view what)
 
 -- ---- what a call answers
@@ -55,6 +67,12 @@ with_inputs NoMemory given = NoMemory
 -- the refusal by a fault
 abbrev pub of_fault : TypeFault → Refused (Unit {0})
 of_fault fault = Rule fault tt
+
+-- of columns that are put together; a name that stands twice among them has two kinds
+abbrev pub of_columns : columns.ColumnsFault → Refused (Unit {0})
+of_columns (columns_fault.Twice name) = of_fault (KindClash name)
+of_columns (columns_fault.KindClash name) = of_fault (KindClash name)
+of_columns columns_fault.NoMemory = NoMemory
 
 -- of dependencies
 abbrev pub of_tree : tree.TreeFault → Refused (Unit {0})

@@ -1,5 +1,6 @@
 pub mod Drops
 pub mod Faults
+pub mod Joins
 pub mod Kept
 pub mod LensCode
 pub mod Lenses

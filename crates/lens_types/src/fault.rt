@@ -4,7 +4,8 @@ ghost use Rattle.lens_types.specs.Faults.{with_inputs};
 
 use fd_tree::TreeFault;
 use lens_pred::{PredFault, SplitFault};
-use lens_values::{Name, Names, NoMemory};
+use lens_values::{ColumnsFault, Name, Names, NoMemory};
+use thiserror::Error;
 
 /// The limit that is exceeded.
 #[derive(Clone, Copy, Debug, PartialEq, Eq)]
@@ -17,20 +18,54 @@ pub enum SizeLimit {
     Predicate,
 }
 
+impl SizeLimit {
+    /// A sentence that says what is exceeded.
+    pub fn sentence(self) -> &'static str {
+        match self {
+            SizeLimit::Columns => "there are more than 64 columns",
+            SizeLimit::Lens => "the lens has more than 64 nodes",
+            SizeLimit::Predicate => "the predicate has more than 256 nodes",
+        }
+    }
+}
+
+/// A side of a join.
+#[derive(Clone, Copy, Debug, PartialEq, Eq)]
+pub enum Side {
+    /// The left side.
+    Left,
+    /// The right side.
+    Right,
+}
+
+impl Side {
+    /// The name of the side.
+    pub fn word(self) -> &'static str {
+        match self {
+            Side::Left => "left",
+            Side::Right => "right",
+        }
+    }
+}
+
 /// Why the rules give no sort.
-#[derive(Debug, Drop)]
+#[derive(Debug, Drop, Error)]
 pub enum TypeFault {
     /// No column has the name.
+    #[error("no column has the name {}", .name.as_str())]
     UnknownColumn {
         /// The name.
         name: Name,
     },
-    /// The column is of another kind than the value that fills it.
+    /// The column is of another kind than the value that fills it, or is shared by the sides of a
+    /// join with another kind in each.
+    #[error("column {} has two kinds", .name.as_str())]
     KindClash {
         /// The column.
         name: Name,
     },
     /// The dependencies have no tree form, because two of their sides overlap.
+    #[error("the dependencies have no tree form, because two of their sides overlap")]
     NotTree {
         /// A side of one edge.
         a: Names,
@@ -38,28 +73,54 @@ pub enum TypeFault {
         b: Names,
     },
     /// The column is compared with a value or a column of another kind.
+    #[error("column {} is compared with a value or a column of another kind", .name.as_str())]
     PredKind {
         /// The column.
         name: Name,
     },
     /// The predicate of the selected source mentions a column that a dependency writes.
+    #[error("the source's predicate mentions {}, which a dependency writes", .col.as_str())]
     SourceMentionsOutput {
         /// The column.
         col: Name,
     },
     /// The named columns do not determine the dropped column, or that column determines others.
+    #[error("the named columns do not determine {}, or it determines others", .col.as_str())]
     NoSuchDependency {
         /// The dropped column.
         col: Name,
     },
     /// A conjunct mentions the dropped column and another one.
+    #[error("conjunct {index} mentions the dropped column and another one")]
     MixedConjunct {
         /// The place of the first such conjunct, from 0.
         index: usize,
     },
     /// The conjuncts on the column do not hold on the value that fills it.
+    #[error("the predicate does not hold on the value that fills the dropped column")]
     DefaultRefused,
+    /// The shared columns of a join do not determine a column of its right side.
+    #[error("the shared columns do not determine {} of the right side", .col.as_str())]
+    NotDetermined {
+        /// The least such column.
+        col: Name,
+    },
+    /// The predicate of a side of a join mentions a column that a dependency writes.
+    #[error("the {} side's predicate mentions the output {}", .side.word(), .col.as_str())]
+    SideMentionsOutput {
+        /// The side.
+        side: Side,
+        /// The column.
+        col: Name,
+    },
+    /// Both sides of a join are over the table.
+    #[error("both sides are over the table {}", .name.as_str())]
+    TableTwice {
+        /// The least such table.
+        name: Name,
+    },
     /// A limit is exceeded.
+    #[error("{}", .what.sentence())]
     TooLarge {
         /// The limit.
         what: SizeLimit,
@@ -111,6 +172,22 @@ impl From<NoMemory> for Refused<()> {
 
     fn from(_: NoMemory) -> Refused<()> {
         Refused::NoMemory
+    }
+}
+
+impl From<ColumnsFault> for Refused<()> {
+    ghost use Rattle.std.specs.Prelude.{◌≡◌};
+    ghost use Rattle.lens_types.specs.Faults.{of_columns};
+
+    ghost from_gives = { λ fault why. why ≡ of_columns fault };
+
+    fn from(fault: ColumnsFault) -> Refused<()> {
+        match fault {
+            ColumnsFault::Twice { name } | ColumnsFault::KindClash { name } => {
+                Refused::from(TypeFault::KindClash { name })
+            }
+            ColumnsFault::NoMemory => Refused::NoMemory,
+        }
     }
 }
 

@@ -1,10 +1,12 @@
 //! Lenses to which the rules give a sort.
-ghost use Rattle.std.specs.Prelude.{◌≡◌, ◌≤◌, IfOk, Ok};
+ghost use Rattle.std.specs.Prelude.{◌≡◌, ◌≤◌, IfOk, Ok, find, option_copied};
+ghost use Rattle.lens_values.specs.SortedSet as set;
 ghost use Rattle.lens_specs.specs.Lens as spec;
 ghost use Rattle.lens_specs.specs.Lens.{nodes_of, tables_of};
-ghost use Rattle.lens_specs.specs.Typing.{sort as sort_given};
+ghost use Rattle.lens_specs.specs.Typing.{shared_table, sort as sort_given};
 ghost use Rattle.lens_laws.specs.Lenses.{IsTyped};
-ghost use Rattle.lens_types.specs.Kept.{IsLens};
+ghost use Rattle.lens_types.specs.Faults.{Decides};
+ghost use Rattle.lens_types.specs.Kept.{IsKept, IsLens};
 ghost use Rattle.lens_types.specs.Lenses.{kept_sort, lens_view};
 
 use crate::fault::Refused;
@@ -44,6 +46,15 @@ pub enum Lens {
         fill: Value,
         /// The lens whose column is dropped.
         of: Box<TypedLens>,
+        /// The sort of the rows.
+        sort: Sort,
+    },
+    /// The rows of the natural join of two lenses. A put deletes rows of the left one alone.
+    Join {
+        /// The lens whose rows a put may delete.
+        left: Box<TypedLens>,
+        /// The lens of which the shared columns determine the row.
+        right: Box<TypedLens>,
         /// The sort of the rows.
         sort: Sort,
     },
@@ -107,7 +118,10 @@ impl TypedLens {
         ensures typed { IsTyped self.now }
     {
         match &self.lens {
-            Lens::Base { sort, .. } | Lens::Select { sort, .. } | Lens::Drop { sort, .. } => sort,
+            Lens::Base { sort, .. }
+            | Lens::Select { sort, .. }
+            | Lens::Drop { sort, .. }
+            | Lens::Join { sort, .. } => sort,
         }
     }
 
@@ -127,6 +141,9 @@ impl TypedLens {
         match &self.lens {
             Lens::Base { table, .. } => Names::single(alloc, table),
             Lens::Select { of, .. } | Lens::Drop { of, .. } => of.tables(alloc),
+            Lens::Join { left, right, .. } => {
+                left.tables(alloc)?.union(alloc, &right.tables(alloc)?)
+            }
         }
     }
 
@@ -175,6 +192,30 @@ impl TypedLens {
         Ok(TypedLens { lens, nodes })
     }
 
+    /// The rows of the natural join. A put deletes rows of this lens alone, whose tables the right
+    /// one may not be over, and the shared columns determine the right row.
+    pub fn join_dl(
+        self,
+        alloc: Global,
+        right: TypedLens,
+    ) -> Result<TypedLens, Refused<(TypedLens, TypedLens)>>
+        ensures { IsLens result (self, right) (spec.join self right) }
+    {
+        let nodes = self.nodes() + right.nodes() + 1;
+        let sort = match joined_sort(alloc, &self, &right, nodes) {
+            Ok(sort) => sort,
+            Err(why) => return Err(why.with((self, right))),
+        };
+        let Ok(left) = boxed(alloc, self) else {
+            return Err(Refused::NoMemory);
+        };
+        let Ok(right) = boxed(alloc, right) else {
+            return Err(Refused::NoMemory);
+        };
+        let lens = Lens::Join { left, right, sort };
+        Ok(TypedLens { lens, nodes })
+    }
+
     /// An equal lens.
     #[cycle(copy)]
     pub fn copy(&self, alloc: Global) -> Result<TypedLens, NoMemory>
@@ -217,8 +258,48 @@ impl Lens {
                 of: Box::new(alloc, of.copy(alloc)?)?,
                 sort: sort.copy(alloc)?,
             }),
+            Lens::Join { left, right, sort } => Ok(Lens::Join {
+                left: Box::new(alloc, left.copy(alloc)?)?,
+                right: Box::new(alloc, right.copy(alloc)?)?,
+                sort: sort.copy(alloc)?,
+            }),
         }
     }
+}
+
+// The sort of the join, which has so many nodes, or the first refusal.
+fn joined_sort(
+    alloc: Global,
+    left: &TypedLens,
+    right: &TypedLens,
+    nodes: usize,
+) -> Result<Sort, Refused<()>>
+    requires { nodes ≡ nodes_of (spec.join left.now right.now) }
+    ensures sort { Decides (λ s. s) result tt (sort_given (spec.join left.now right.now)) }
+    ensures kept { IfOk result (λ s. IsKept (spec.join left.now right.now) s nodes) }
+{
+    let twice = shared_table(alloc, left, right)?;
+    left.sort().joined(alloc, nodes, right.sort(), twice)
+}
+
+// The least table that both lenses are over.
+fn shared_table(
+    alloc: Global,
+    left: &TypedLens,
+    right: &TypedLens,
+) -> Result<Option<Name>, NoMemory>
+    ensures { IfOk result (λ name. name ≡ shared_table (tables_of left.now) (tables_of right.now)) }
+{
+    let tables = left.tables(alloc)?;
+    let others = right.tables(alloc)?;
+    Ok(first_among(tables.as_slice(), &others).copied())
+}
+
+// The first of the names that is among the others.
+fn first_among<'a>(names: &'a [Name], others: &Names) -> Option<&'a Name>
+    ensures { option_copied result ≡ find (set.contains others.now) names.now }
+{
+    names.iter().find(|name| others.has(name))
 }
 
 // The lens in a box.

@@ -4,10 +4,11 @@ ghost use Rattle.std.specs.Prelude.{◌≡◌, IfOk};
 ghost use Rattle.lens_specs.specs.Typing.{table_sort};
 ghost use Rattle.lens_laws.specs.Passes.{IsSound};
 ghost use Rattle.lens_types.specs.Faults.{Decides};
-ghost use Rattle.lens_types.specs.Sorts.{sort_from, selection, projection};
+ghost use Rattle.lens_types.specs.Sorts.{sort_from, selection, projection, natural_join};
 
 use crate::dropping::dropped_parts;
 use crate::fault::{Refused, TypeFault};
+use crate::joining::joined_parts;
 use crate::selecting::selected_pred;
 use crate::sizes::size_fault;
 use crate::unknowns::unknown_column;
@@ -114,6 +115,21 @@ impl Sort {
             pred,
             tree: self.tree().without(alloc, col)?,
         })
+    }
+
+    /// The sort of the natural join with rows of the other sort, or the first refusal. The lens has
+    /// `nodes` nodes, and `twice` is the least table that both sides are over.
+    pub fn joined(
+        &self,
+        alloc: Global,
+        nodes: usize,
+        other: &Sort,
+        twice: Option<Name>,
+    ) -> Result<Sort, Refused<()>>
+        ensures { Decides (λ s. s) result tt (natural_join nodes self.now other.now twice) }
+    {
+        let (cols, pred, tree) = joined_parts(alloc, self, other, nodes, twice)?;
+        Ok(Sort { cols, pred, tree })
     }
 
     /// An equal sort.

@@ -3,15 +3,17 @@ ghost use Rattle.std.specs.Prelude.{◌≡◌, IfOk};
 ghost use Rattle.server_specs.specs.Answer.{text};
 ghost use Rattle.request_text.specs.Answers.{answer_view};
 
-use crate::accepted::{changed_text, defined_text, described_text, listed_text, shown_text};
+use crate::changes::changed_text;
 use crate::definition_errors::{
     default_refused_text, kind_clash_text, mixed_conjunct_text, name_taken_text,
     no_such_dependency_text, not_determined_text, not_tree_text, pred_kind_text,
     side_mentions_output_text, source_mentions_output_text, syntax_text, table_twice_text,
     too_large_text, unknown_column_text, unknown_name_text,
 };
+use crate::definitions::defined_text;
 use crate::lists::{Changes, Edges, Texts};
 use crate::member::Member;
+use crate::questions::{described_text, listed_text, shown_text};
 use crate::reply::{
     Reply, long_reply, memory_reply, not_json_reply, store_fault_reply, unbuilt_reply,
 };

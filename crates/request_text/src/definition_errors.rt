@@ -14,7 +14,7 @@ use std::alloc::Global;
 use view_lang::{Limit, Side};
 
 /// The line that refuses a text that goes wrong at this byte, or ends there too early.
-pub fn syntax_text(alloc: Global, at: usize) -> Result<Reply, NoMemory>
+pub(crate) fn syntax_text(alloc: Global, at: usize) -> Result<Reply, NoMemory>
     ensures { IfOk result (λ reply. reply ≡ spec.text (spec.syntax at)) }
 {
     let mut out = begun(alloc)?;
@@ -25,21 +25,21 @@ pub fn syntax_text(alloc: Global, at: usize) -> Result<Reply, NoMemory>
 }
 
 /// The line that refuses a definition of a name that is taken.
-pub fn name_taken_text(alloc: Global, name: &Name) -> Result<Reply, NoMemory>
+pub(crate) fn name_taken_text(alloc: Global, name: &Name) -> Result<Reply, NoMemory>
     ensures { IfOk result (λ reply. reply ≡ spec.text (spec.name_taken name.now)) }
 {
     refuse_name(alloc, 21, name)
 }
 
 /// The line that refuses a name that no table and no view has.
-pub fn unknown_name_text(alloc: Global, name: &Name) -> Result<Reply, NoMemory>
+pub(crate) fn unknown_name_text(alloc: Global, name: &Name) -> Result<Reply, NoMemory>
     ensures { IfOk result (λ reply. reply ≡ spec.text (spec.unknown_name name.now)) }
 {
     refuse_name(alloc, 22, name)
 }
 
 /// The line that refuses a column that is not known.
-pub fn unknown_column_text(alloc: Global, name: &Name) -> Result<Reply, NoMemory>
+pub(crate) fn unknown_column_text(alloc: Global, name: &Name) -> Result<Reply, NoMemory>
     ensures { IfOk result (λ reply.
         reply ≡ spec.text (spec.refused (refusal.unknown_column name.now))) }
 {
@@ -48,7 +48,7 @@ pub fn unknown_column_text(alloc: Global, name: &Name) -> Result<Reply, NoMemory
 
 /// The line that refuses a join in which this column has two kinds, or a drop whose default has
 /// another kind.
-pub fn kind_clash_text(alloc: Global, name: &Name) -> Result<Reply, NoMemory>
+pub(crate) fn kind_clash_text(alloc: Global, name: &Name) -> Result<Reply, NoMemory>
     ensures { IfOk result (λ reply.
         reply ≡ spec.text (spec.refused (refusal.kind_clash name.now))) }
 {
@@ -56,7 +56,7 @@ pub fn kind_clash_text(alloc: Global, name: &Name) -> Result<Reply, NoMemory>
 }
 
 /// The line that refuses dependencies that are no tree, with the two sides that do not fit.
-pub fn not_tree_text(alloc: Global, a: &Names, b: &Names) -> Result<Reply, NoMemory>
+pub(crate) fn not_tree_text(alloc: Global, a: &Names, b: &Names) -> Result<Reply, NoMemory>
     ensures { IfOk result (λ reply.
         reply ≡ spec.text (spec.refused (refusal.not_tree a.now b.now))) }
 {
@@ -69,7 +69,7 @@ pub fn not_tree_text(alloc: Global, a: &Names, b: &Names) -> Result<Reply, NoMem
 }
 
 /// The line that refuses a predicate that compares this column with another kind.
-pub fn pred_kind_text(alloc: Global, name: &Name) -> Result<Reply, NoMemory>
+pub(crate) fn pred_kind_text(alloc: Global, name: &Name) -> Result<Reply, NoMemory>
     ensures { IfOk result (λ reply.
         reply ≡ spec.text (spec.refused (refusal.predicate_kind name.now))) }
 {
@@ -78,7 +78,7 @@ pub fn pred_kind_text(alloc: Global, name: &Name) -> Result<Reply, NoMemory>
 
 /// The line that refuses to select from a view whose predicate mentions this column, which its
 /// dependencies determine.
-pub fn source_mentions_output_text(alloc: Global, col: &Name) -> Result<Reply, NoMemory>
+pub(crate) fn source_mentions_output_text(alloc: Global, col: &Name) -> Result<Reply, NoMemory>
     ensures { IfOk result (λ reply.
         reply ≡ spec.text (spec.refused (refusal.source_mentions_output col.now))) }
 {
@@ -86,7 +86,7 @@ pub fn source_mentions_output_text(alloc: Global, col: &Name) -> Result<Reply, N
 }
 
 /// The line that refuses to drop this column, which no dependency determines by the given ones.
-pub fn no_such_dependency_text(alloc: Global, col: &Name) -> Result<Reply, NoMemory>
+pub(crate) fn no_such_dependency_text(alloc: Global, col: &Name) -> Result<Reply, NoMemory>
     ensures { IfOk result (λ reply.
         reply ≡ spec.text (spec.refused (refusal.no_such_dependency col.now))) }
 {
@@ -94,7 +94,7 @@ pub fn no_such_dependency_text(alloc: Global, col: &Name) -> Result<Reply, NoMem
 }
 
 /// The line that refuses to drop a column that the conjunct at this place mentions beside another.
-pub fn mixed_conjunct_text(alloc: Global, index: usize) -> Result<Reply, NoMemory>
+pub(crate) fn mixed_conjunct_text(alloc: Global, index: usize) -> Result<Reply, NoMemory>
     ensures { IfOk result (λ reply.
         reply ≡ spec.text (spec.refused (refusal.mixed_conjunct index))) }
 {
@@ -106,7 +106,7 @@ pub fn mixed_conjunct_text(alloc: Global, index: usize) -> Result<Reply, NoMemor
 }
 
 /// The line that refuses a value for a dropped column that the predicate refuses.
-pub fn default_refused_text(alloc: Global) -> Result<Reply, NoMemory>
+pub(crate) fn default_refused_text(alloc: Global) -> Result<Reply, NoMemory>
     ensures { IfOk result (λ reply. reply ≡ spec.text (spec.refused refusal.default_refused)) }
 {
     let mut out = begun(alloc)?;
@@ -117,7 +117,7 @@ pub fn default_refused_text(alloc: Global) -> Result<Reply, NoMemory>
 
 /// The line that refuses a join whose shared columns do not determine this column of the right
 /// side.
-pub fn not_determined_text(alloc: Global, col: &Name) -> Result<Reply, NoMemory>
+pub(crate) fn not_determined_text(alloc: Global, col: &Name) -> Result<Reply, NoMemory>
     ensures { IfOk result (λ reply.
         reply ≡ spec.text (spec.refused (refusal.not_determined col.now))) }
 {
@@ -126,7 +126,11 @@ pub fn not_determined_text(alloc: Global, col: &Name) -> Result<Reply, NoMemory>
 
 /// The line that refuses a join of which this side's predicate mentions this column, which its
 /// dependencies determine.
-pub fn side_mentions_output_text(alloc: Global, side: Side, col: &Name) -> Result<Reply, NoMemory>
+pub(crate) fn side_mentions_output_text(
+    alloc: Global,
+    side: Side,
+    col: &Name,
+) -> Result<Reply, NoMemory>
     ensures { IfOk result (λ reply.
         reply ≡ spec.text (spec.refused (refusal.side_mentions_output (side_view side) col.now))) }
 {
@@ -139,7 +143,7 @@ pub fn side_mentions_output_text(alloc: Global, side: Side, col: &Name) -> Resul
 }
 
 /// The line that refuses a join with this table on both sides.
-pub fn table_twice_text(alloc: Global, name: &Name) -> Result<Reply, NoMemory>
+pub(crate) fn table_twice_text(alloc: Global, name: &Name) -> Result<Reply, NoMemory>
     ensures { IfOk result (λ reply.
         reply ≡ spec.text (spec.refused (refusal.table_twice name.now))) }
 {
@@ -147,7 +151,7 @@ pub fn table_twice_text(alloc: Global, name: &Name) -> Result<Reply, NoMemory>
 }
 
 /// The line that refuses a definition of which this is too large.
-pub fn too_large_text(alloc: Global, what: Limit) -> Result<Reply, NoMemory>
+pub(crate) fn too_large_text(alloc: Global, what: Limit) -> Result<Reply, NoMemory>
     ensures { IfOk result (λ reply.
         reply ≡ spec.text (spec.refused (refusal.too_large (limit_view what)))) }
 {

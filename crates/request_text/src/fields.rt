@@ -1,11 +1,14 @@
-//! The members of each request.
+//! The kinds of requests, and which member of one is wrong.
 ghost use Rattle.std.specs.Prelude.{◌≡◌, map, not, option_map};
 ghost use Rattle.serde_json.specs.Data.{Members};
 ghost use Rattle.serde_json.specs.View.{view, members_view};
 ghost use Rattle.server_specs.specs.Request as spec;
 ghost use Rattle.request_text.specs.RequestFields.{kind_view, shape_view, fields_of, field_view};
 
+use crate::changes::{TO_EDIT, TO_PUT};
+use crate::definitions::TO_DEFINE;
 use crate::json_values::{is_text, member, name_member};
+use crate::questions::{TO_LIST, TO_SHOW};
 use serde_json::{Map, Value as Json};
 
 /// The kind of a request.
@@ -38,58 +41,47 @@ pub(crate) struct Field {
     needed: bool,
 }
 
-const ADD: Field = Field {
+pub(crate) const ADD: Field = Field {
     name: "add",
     shape: Shape::Rows,
     needed: true,
 };
 
-const DO: Field = Field {
+pub(crate) const DO: Field = Field {
     name: "do",
     shape: Shape::Word,
     needed: true,
 };
 
-const ON: Field = Field {
+pub(crate) const ON: Field = Field {
     name: "on",
     shape: Shape::Version,
     needed: false,
 };
 
-const REMOVE: Field = Field {
+pub(crate) const REMOVE: Field = Field {
     name: "remove",
     shape: Shape::Rows,
     needed: true,
 };
 
-const ROWS: Field = Field {
+pub(crate) const ROWS: Field = Field {
     name: "rows",
     shape: Shape::Rows,
     needed: true,
 };
 
-const TEXT: Field = Field {
+pub(crate) const TEXT: Field = Field {
     name: "text",
     shape: Shape::Text,
     needed: true,
 };
 
-const VIEW: Field = Field {
+pub(crate) const VIEW: Field = Field {
     name: "view",
     shape: Shape::Name,
     needed: true,
 };
-
-// The members of each request, in byte order of their names.
-const TO_DEFINE: [Field; 2] = [DO, TEXT];
-
-const TO_SHOW: [Field; 2] = [DO, VIEW];
-
-const TO_PUT: [Field; 4] = [DO, ON, ROWS, VIEW];
-
-const TO_EDIT: [Field; 5] = [ADD, DO, ON, REMOVE, VIEW];
-
-const TO_LIST: [Field; 1] = [DO];
 
 impl RequestKind {
     /// The kind of request that the word names.

@@ -65,7 +65,7 @@ pub fn long_reply() -> Reply
 }
 
 /// The reply to a line that is no JSON. It takes no memory.
-pub fn not_json_reply() -> Reply
+pub(crate) fn not_json_reply() -> Reply
     ensures { result ≡ text not_json }
 {
     Reply {
@@ -83,7 +83,7 @@ pub fn store_fault_reply() -> Reply
 }
 
 /// The reply to what is not built yet. It takes no memory.
-pub fn unbuilt_reply() -> Reply
+pub(crate) fn unbuilt_reply() -> Reply
     ensures { result ≡ text unbuilt }
 {
     Reply {

@@ -1,17 +1,19 @@
 //! Requests, and how a line is read as one.
-ghost use Rattle.std.specs.Prelude.{◌≡◌, ℕ, List, Err, false, None, IfOk, option_map, option_and_then};
-ghost use Rattle.serde_json.specs.Find.{as_array, get_member};
-ghost use Rattle.serde_json.specs.View.{view, items_view, members_view};
+ghost use Rattle.std.specs.Prelude.{◌≡◌, Err, None, IfOk, option_map};
+ghost use Rattle.serde_json.specs.View.{view, members_view};
 ghost use Rattle.io_specs.specs.Lines as lines;
 ghost use Rattle.server_specs.specs.Answer.{Answer as AnswerOf, bad_request};
 ghost use Rattle.server_specs.specs.Request as spec;
-ghost use Rattle.request_text.specs.Requests.{Reads, Tells, request_view, said_in, view_in, rows_in, both_in, on_in, put_in, edit_in, preview_in};
+ghost use Rattle.request_text.specs.Requests.{Reads, Tells, request_view, said_in};
 ghost use Rattle.request_text.specs.RequestFields.{kind_view};
 
+use crate::changes::{edit_in, preview_in, put_in};
+use crate::definitions::define_in;
 use crate::fields::{RequestKind, least_wrong};
-use crate::json_values::{json_in, member, name_member, text_member};
+use crate::json_values::{json_in, member};
 use crate::lists::JsonRows;
 use crate::member::Member;
+use crate::questions::{describe_in, read_in};
 use lens_values::{Name, NoMemory, Text};
 use serde_json::{Map, Value as Json};
 use std::alloc::{AllocError, AllocFailed, Global};
@@ -197,124 +199,5 @@ fn said(
         RequestKind::Preview => Ok(preview_in(members)),
         RequestKind::Describe => Ok(describe_in(&members)),
         RequestKind::List => Ok(Some(Request::List)),
-    }
-}
-
-fn define_in(alloc: Global, members: &Map<String, Json>) -> Result<Option<Request>, NoMemory>
-    ensures { IfOk result (λ found.
-        option_map request_view found ≡ said_in spec.to_define (members_view members.now.entries)) }
-{
-    let Some(json) = member(members, "text") else {
-        return Ok(None);
-    };
-    match text_member(alloc, json)? {
-        Some(text) => Ok(Some(Request::Define { text })),
-        None => Ok(None),
-    }
-}
-
-fn read_in(members: &Map<String, Json>) -> Option<Request>
-    ensures { option_map request_view result
-        ≡ said_in spec.to_read (members_view members.now.entries) }
-{
-    let view = view_in(members)?;
-    Some(Request::Read { view })
-}
-
-fn describe_in(members: &Map<String, Json>) -> Option<Request>
-    ensures { option_map request_view result
-        ≡ said_in spec.to_describe (members_view members.now.entries) }
-{
-    let view = view_in(members)?;
-    Some(Request::Describe { view })
-}
-
-fn put_in(mut members: Map<String, Json>) -> Option<Request>
-    ensures { option_map request_view result ≡ put_in (members_view members.entries) }
-{
-    let view = view_in(&members)?;
-    let on = on_in(&members);
-    let rows = take_rows(&mut members, "rows")?;
-    Some(Request::Put { view, rows, on })
-}
-
-fn edit_in(members: Map<String, Json>) -> Option<Request>
-    ensures { option_map request_view result ≡ edit_in (members_view members.entries) }
-{
-    let view = view_in(&members)?;
-    let on = on_in(&members);
-    let (remove, add) = both_in(members)?;
-    Some(Request::Edit {
-        view,
-        remove,
-        add,
-        on,
-    })
-}
-
-fn preview_in(members: Map<String, Json>) -> Option<Request>
-    ensures { option_map request_view result ≡ preview_in (members_view members.entries) }
-{
-    let view = view_in(&members)?;
-    let on = on_in(&members);
-    let (remove, add) = both_in(members)?;
-    Some(Request::Preview {
-        view,
-        remove,
-        add,
-        on,
-    })
-}
-
-fn view_in(members: &Map<String, Json>) -> Option<Name>
-    ensures { result ≡ view_in (members_view members.now.entries) }
-{
-    name_member(member(members, "view")?)
-}
-
-fn on_in(members: &Map<String, Json>) -> Option<u64>
-    ensures { result ≡ on_in (members_view members.now.entries) }
-{
-    member(members, "on")?.as_u64()
-}
-
-// The rows to remove and the rows to add.
-fn both_in(mut members: Map<String, Json>) -> Option<(JsonRows, JsonRows)>
-    ensures { result ≡ both_in (members_view members.entries) }
-{
-    let remove = take_rows(&mut members, "remove")?;
-    let add = take_rows(&mut members, "add")?;
-    Some((remove, add))
-}
-
-// The rows of a member, moved out of its object.
-fn take_rows(members: &mut Map<String, Json>, name: &str) -> Option<JsonRows>
-    ensures rows { result ≡ rows_in name.now (members_view members.old.entries) }
-    ensures others { (k : List ℕ) → spec.is_key k name.now ≡ false
-        → get_member k (members_view members.new.entries)
-        ≡ get_member k (members_view members.old.entries) }
-{
-    let json = take_member(members, name)?;
-    Some(JsonRows::new(into_array(json)?))
-}
-
-// A member moved out of its object.
-fn take_member(members: &mut Map<String, Json>, name: &str) -> Option<Json>
-    ensures taken { option_map view result
-        ≡ get_member name.now (members_view members.old.entries) }
-    ensures others { (k : List ℕ) → spec.is_key k name.now ≡ false
-        → get_member k (members_view members.new.entries)
-        ≡ get_member k (members_view members.old.entries) }
-{
-    members.remove(name)
-}
-
-// The elements of an array, moved out of it.
-fn into_array(json: Json) -> Option<Vec<Json>>
-    ensures { option_map (λ list. items_view list.items) result ≡ as_array (view json) }
-{
-    match json {
-        Json::Array(list) => Some(list),
-        _ => None,
     }
 }

@@ -14,7 +14,7 @@ use lens_values::{NoMemory, Row};
 use std::alloc::Global;
 
 /// The line that refuses a request of which this member is wrong.
-pub fn bad_request_text(alloc: Global, member: &Member) -> Result<Reply, NoMemory>
+pub(crate) fn bad_request_text(alloc: Global, member: &Member) -> Result<Reply, NoMemory>
     ensures { IfOk result (λ reply. reply ≡ spec.text (spec.bad_request member.now)) }
 {
     let mut out = begun(alloc)?;
@@ -25,7 +25,7 @@ pub fn bad_request_text(alloc: Global, member: &Member) -> Result<Reply, NoMemor
 }
 
 /// The line that refuses a list of which this element is no row of the columns.
-pub fn bad_row_text(
+pub(crate) fn bad_row_text(
     alloc: Global,
     list: RowList,
     index: usize,
@@ -45,7 +45,7 @@ pub fn bad_row_text(
 
 /// The line that refuses a change that rests on an older version: the last change of the view's
 /// tables, and the version now.
-pub fn stale_text(alloc: Global, changed_at: u64, version: u64) -> Result<Reply, NoMemory>
+pub(crate) fn stale_text(alloc: Global, changed_at: u64, version: u64) -> Result<Reply, NoMemory>
     ensures { IfOk result (λ reply. reply ≡ spec.text (spec.stale changed_at version)) }
 {
     let mut out = begun(alloc)?;
@@ -57,7 +57,7 @@ pub fn stale_text(alloc: Global, changed_at: u64, version: u64) -> Result<Reply,
 }
 
 /// The line that refuses a row that the view's predicate refuses.
-pub fn off_predicate_text(alloc: Global, row: &Row) -> Result<Reply, NoMemory>
+pub(crate) fn off_predicate_text(alloc: Global, row: &Row) -> Result<Reply, NoMemory>
     ensures { IfOk result (λ reply. reply ≡ spec.text (spec.off_predicate row.now)) }
 {
     let mut out = begun(alloc)?;
@@ -68,7 +68,12 @@ pub fn off_predicate_text(alloc: Global, row: &Row) -> Result<Reply, NoMemory>
 }
 
 /// The line that refuses rows of which two break a dependency.
-pub fn clash_text(alloc: Global, edge: &Edge, first: &Row, second: &Row) -> Result<Reply, NoMemory>
+pub(crate) fn clash_text(
+    alloc: Global,
+    edge: &Edge,
+    first: &Row,
+    second: &Row,
+) -> Result<Reply, NoMemory>
     ensures { IfOk result (λ reply. reply ≡ spec.text (spec.clash edge.now first.now second.now)) }
 {
     let mut out = begun(alloc)?;

@@ -17,15 +17,20 @@ use Rattle.io_specs.specs.Lines.{Line}
 use Rattle.grammar_specs.specs.Meaning.{Definition, table, view, Expr}
 use Rattle.grammar_specs.specs.Faults.{Fault}
 use Rattle.grammar_laws.specs.Reading.{reading}
-use Rattle.server_specs.specs.State.{State, Catalogue, catalogue, lens_of, table_lens, with_lens}
-use Rattle.server_specs.specs.Answer.{Answer, defined, shown, name_taken, unbuilt}
+use Rattle.catalog_specs.specs.Catalogue.{Catalogue, catalogue, lens_of, table_lens, with_lens}
+use Rattle.catalog_specs.specs.Judging as judging
+use Rattle.catalog_specs.specs.Judging.{CatalogFault, language, is_taken, where_sorted, lens_in, where_lensed, is_unbuilt, judged}
+use Rattle.server_specs.specs.State.{State}
+use Rattle.server_specs.specs.Answer.{Answer, defined, shown, name_taken}
 use Rattle.server_specs.specs.Request.{Request, define, read, put, edit, preview, describe, list, request}
 use Rattle.server_specs.specs.Sending.{BadRow, rows_in}
-use Rattle.server_specs.specs.Defining.{is_taken, where_sorted, lens_in, where_lensed, is_unbuilt, fault_answer, judged}
-use Rattle.server_specs.specs.Answering.{answer, answer_request, answer_definition, answer_read, answer_put, put_sent, with_defined}
+use Rattle.server_specs.specs.Defining.{text_answer, fault_answer}
+use Rattle.server_specs.specs.Defining.{answer_definition, with_defined}
+use Rattle.server_specs.specs.Changing.{answer_put, put_sent}
+use Rattle.server_specs.specs.Answering.{answer, answer_request}
 use Rattle.server_laws.specs.Answers.{told_version}
 use Rattle.server_laws.specs.DefineLaws.{judgement, defined_name}
-use Rattle.server_laws.proofs.AnswerFacts.{judged_err}
+use Rattle.server_laws.proofs.AnswerFacts.{plain_fault}
 use Rattle.server_laws.proofs.LinePuts.{lines_read, put_texts}
 use Rattle.server_laws.proofs.Taken.{judged_ok, get-new, get-other, not_free, lens_is}
 use Rattle.server_laws.proofs.Valid.{known_after}
@@ -33,7 +38,7 @@ use Rattle.server_laws.proofs.Valid.{known_after}
 -- ---- the answer to a definition
 
 -- the answer to a line that defines, by the judgement of its text
-answer_is : (s : State) (l : Line) (text : List ℕ) (r : Result Definition Answer) → request l ≡ Ok (define text) → judgement s text ≡ r → answer s l ≡ answer_definition text r s
+answer_is : (s : State) (l : Line) (text : List ℕ) (r : Result Definition CatalogFault) → request l ≡ Ok (define text) → judgement s text ≡ r → answer s l ≡ answer_definition text r s
 unfolding answer
 answer_is s l text r asked is = ap (λ q. answer_request q s) asked ∙ ap (λ j. answer_definition text j s) is
 
@@ -43,17 +48,17 @@ taken_is_read s text d j = (judged_ok (catalogue s.texts) (reading text) d j).0
 pub taken_is_added : (s : State) (l : Line) (text : List ℕ) (d : Definition) → request l ≡ Ok (define text) → judgement s text ≡ Ok d → answer s l ≡ (defined (s.version + 1), with_defined text d s)
 taken_is_added s l text d asked j = answer_is s l text (Ok d) asked j
 
-pub refused_stays : (s : State) (l : Line) (text : List ℕ) (refusal : Answer) → request l ≡ Ok (define text) → judgement s text ≡ Err refusal → answer s l ≡ (refusal, s)
-refused_stays s l text refusal asked j = answer_is s l text (Err refusal) asked j
+pub refused_stays : (s : State) (l : Line) (text : List ℕ) (fault : CatalogFault) → request l ≡ Ok (define text) → judgement s text ≡ Err fault → answer s l ≡ (fault_answer fault, s)
+refused_stays s l text fault asked j = answer_is s l text (Err fault) asked j
 
-pub faults_told : (s : State) (l : Line) (text : List ℕ) (fault : Fault) → request l ≡ Ok (define text) → reading text ≡ Err fault → answer s l ≡ (fault_answer fault, s)
-faults_told s l text fault asked is = refused_stays s l text (fault_answer fault) asked (ap (judged (catalogue s.texts)) is)
+pub faults_told : (s : State) (l : Line) (text : List ℕ) (fault : Fault) → request l ≡ Ok (define text) → reading text ≡ Err fault → answer s l ≡ (text_answer fault, s)
+faults_told s l text fault asked is = refused_stays s l text (language fault) asked (ap (judged (catalogue s.texts)) is)
 
-taken_from : (s : State) (text : List ℕ) (r : Result Definition Answer) → judgement s text ≡ r → (answer_definition text r s).0 ≡ defined (s.version + 1) → (d : Definition) × (judgement s text ≡ Ok d)
+taken_from : (s : State) (text : List ℕ) (r : Result Definition CatalogFault) → judgement s text ≡ r → (answer_definition text r s).0 ≡ defined (s.version + 1) → (d : Definition) × (judgement s text ≡ Ok d)
 taken_from s text (Ok d) is e = (d, is)
-taken_from s text (Err a) is e =
-    let none : told_version a ≡ None = (judged_err (catalogue s.texts) (reading text) a is).told in
-    let some : told_version a ≡ Some (s.version + 1) = ap told_version e in
+taken_from s text (Err fault) is e =
+    let none : told_version (fault_answer fault) ≡ None = (plain_fault fault).told in
+    let some : told_version (fault_answer fault) ≡ Some (s.version + 1) = ap told_version e in
     cc
 
 pub taken_where : (s : State) (l : Line) (text : List ℕ) → request l ≡ Ok (define text) → ((answer s l).0 ≡ defined (s.version + 1)) ↔ ((d : Definition) × (judgement s text ≡ Ok d))
@@ -64,15 +69,15 @@ taken_where s l text asked = (
 
 -- ---- names that are taken
 
-twice : (known : Catalogue) (d : Definition) → is_taken known (defined_name d) ≡ true → judged known (Ok d) ≡ Err (name_taken (defined_name d))
-twice known (table name columns deps P) h = ap (λ b. cond b (Err (name_taken name)) (where_sorted (table_sort columns deps P) known (table name columns deps P))) h
+twice : (known : Catalogue) (d : Definition) → is_taken known (defined_name d) ≡ true → judged known (Ok d) ≡ Err (judging.name_taken (defined_name d))
+twice known (table name columns deps P) h = ap (λ b. cond b (Err (judging.name_taken name)) (where_sorted (table_sort columns deps P) known (table name columns deps P))) h
 twice known (view name expr) h =
-    ap (λ b. cond b (Err (name_taken name)) (cond (is_unbuilt known expr) (Err unbuilt) (where_lensed (lens_in known expr) known (view name expr)))) h
+    ap (λ b. cond b (Err (judging.name_taken name)) (cond (is_unbuilt known expr) (Err judging.unbuilt) (where_lensed (lens_in known expr) known (view name expr)))) h
 
 pub taken_once : (s : State) (l : Line) (text : List ℕ) (d : Definition) (L : Lens) → request l ≡ Ok (define text) → reading text ≡ Ok d → finmap.get (catalogue s.texts) (defined_name d) ≡ Some L
     → answer s l ≡ (name_taken (defined_name d), s)
 taken_once s l text d L asked is e =
-    refused_stays s l text (name_taken (defined_name d)) asked (ap (judged (catalogue s.texts)) is ∙ twice (catalogue s.texts) d (ap is_some e))
+    refused_stays s l text (judging.name_taken (defined_name d)) asked (ap (judged (catalogue s.texts)) is ∙ twice (catalogue s.texts) d (ap is_some e))
 
 -- ---- what the new name has
 
@@ -132,8 +137,8 @@ stays_defined s text (view new expr) j name L e =
     let w = lens_taken s text new expr j in
     ap (λ k. finmap.get k name) (view_after s text new expr w.0 j w.1) ∙ beside (catalogue s.texts) new name w.0 L free e
 
-stays_definition : (s : State) (text : List ℕ) (r : Result Definition Answer) → judgement s text ≡ r → (name : Name) (L : Lens) → Has s name L → Has (answer_definition text r s).1 name L
-stays_definition s text (Err refusal) j name L e = e
+stays_definition : (s : State) (text : List ℕ) (r : Result Definition CatalogFault) → judgement s text ≡ r → (name : Name) (L : Lens) → Has s name L → Has (answer_definition text r s).1 name L
+stays_definition s text (Err fault) j name L e = e
 stays_definition s text (Ok d) j name L e = stays_defined s text d j name L e
 
 stays_sent : (s : State) (r : Result (List Row) BadRow) (M : Lens) (name : Name) (L : Lens) → Has s name L → Has (put_sent r M s).1 name L
@@ -144,14 +149,10 @@ stays_put : (s : State) (at : Name) (items : Items) (o : Option Lens) (name : Na
 stays_put s at items None name L e = e
 stays_put s at items (Some M) name L e = stays_sent s (rows_in (sort_of M).columns items) M name L e
 
-stays_read : (s : State) (at : Name) (o : Option Lens) (name : Name) (L : Lens) → Has s name L → Has (answer_read at o s).1 name L
-stays_read s at None name L e = e
-stays_read s at (Some M) name L e = e
-
 stays_request : (s : State) (r : Result Request Answer) (name : Name) (L : Lens) → Has s name L → Has (answer_request r s).1 name L
 stays_request s (Err refusal) name L e = e
 stays_request s (Ok (define text)) name L e = stays_definition s text (judgement s text) refl name L e
-stays_request s (Ok (read at)) name L e = stays_read s at (finmap.get (catalogue s.texts) at) name L e
+stays_request s (Ok (read at)) name L e = e
 stays_request s (Ok (put at items None)) name L e = stays_put s at items (finmap.get (catalogue s.texts) at) name L e
 stays_request s (Ok (put at items (Some on))) name L e = e
 stays_request s (Ok (edit at remove add on)) name L e = e

@@ -34,10 +34,11 @@ use Rattle.grammar_specs.specs.Meaning.{Definition, table, view, named}
 use Rattle.grammar_specs.specs.Meaning as language
 use Rattle.grammar_specs.specs.Faults as faults
 use Rattle.grammar_laws.specs.Reading.{reading}
-use Rattle.server_specs.specs.State.{State, fresh, Catalogue, catalogue, sort_with, table_lens, is_table_of, with_definition, with_lens}
-use Rattle.server_specs.specs.Answer.{name_taken, unbuilt}
-use Rattle.server_specs.specs.Defining.{is_taken, count_named, table_count, view_count, is_other, unless_full, where_sorted, lens_named, over, where_typed, lens_in, where_lensed, judged}
-use Rattle.server_specs.specs.Answering.{put_set, with_defined}
+use Rattle.catalog_specs.specs.Catalogue.{Catalogue, catalogue, sort_with, table_lens, is_table_of, with_definition, with_lens}
+use Rattle.catalog_specs.specs.Judging.{name_taken, unbuilt, is_taken, count_named, table_count, view_count, is_other, unless_full, where_sorted, lens_named, over, where_typed, lens_in, where_lensed, judged}
+use Rattle.server_specs.specs.State.{State, fresh}
+use Rattle.server_specs.specs.Defining.{with_defined}
+use Rattle.server_specs.specs.Changing.{put_set}
 use Rattle.server_specs.specs.Validity.{Valid}
 use Rattle.server_laws.proofs.Puts.{accepted_where}
 use Rattle.server_laws.proofs.Taken.{judged_ok, get-new, get-other}
@@ -111,13 +112,13 @@ nothing : {A : Type 0} (es : List A) → length es ≡ 0 → es ≡ []
 nothing [] e = refl
 nothing (x ∷ es) e = absurd (omega arith)
 
-no_entries : finmap.entries none ≡ []
+pub no_entries : finmap.entries none ≡ []
 no_entries = nothing (finmap.entries none) (sym (finmap.len-entries none) ∙ finmap.len-empty bytes_cmp Lens)
 
-no_tables : table_count none ≡ 0
+pub no_tables : table_count none ≡ 0
 no_tables = ap (count_named is_table_of) no_entries
 
-is_free : (name : Name) → is_taken none name ≡ false
+pub is_free : (name : Name) → is_taken none name ≡ false
 is_free name = ap is_some (finmap.get-empty bytes_cmp name)
 
 no_views : view_count one ≡ 0
@@ -133,10 +134,10 @@ first_taken = ap (judged none) first_says
     ∙ ap (λ r. where_sorted r none first) table_sorted
     ∙ ap (λ n. unless_full (nat_le 64 n) tables_limit first) no_tables
 
-both : (x y : Option Refusal) → x ≡ None → y ≡ None → or_else x y ≡ None
+pub both : (x y : Option Refusal) → x ≡ None → y ≡ None → or_else x y ≡ None
 both x y p q = ap (λ o. or_else o y) p ∙ q
 
-nothing_mentioned : (ns : List Name) → find (mentions []) ns ≡ None
+pub nothing_mentioned : (ns : List Name) → find (mentions []) ns ≡ None
 nothing_mentioned [] = refl
 nothing_mentioned (n ∷ ns) = nothing_mentioned ns
 

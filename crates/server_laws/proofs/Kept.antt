@@ -19,7 +19,7 @@ use Rattle.lens_specs.specs.Lens.{Tables, Lens, base, select, drop, join, tables
 use Rattle.lens_specs.specs.Delta.{Delta, TableDelta, diff, new_view, Applies, is_empty, differences, changes}
 use Rattle.lens_specs.specs.Keeping.{define, rows, or_empty, rows_at, with_deltas, changed, AllApply, CanChange}
 use Rattle.server_specs.specs.State.{State, rows_of_each, kept}
-use Rattle.server_specs.specs.Answering.{accept}
+use Rattle.server_specs.specs.Changing.{accept}
 use Rattle.server_laws.specs.KeptLaws.{KeptFollows}
 
 -- the rows of each table

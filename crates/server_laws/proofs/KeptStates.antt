@@ -9,9 +9,13 @@ use Rattle.lens_specs.specs.Delta.{changes}
 use Rattle.grammar_specs.specs.Meaning.{Definition, table, view}
 use Rattle.grammar_laws.specs.Reading.{reading}
 use Rattle.lens_specs.specs.Keeping.{Change, define, rows}
-use Rattle.server_specs.specs.State.{State, catalogue}
-use Rattle.server_specs.specs.Defining.{judged}
-use Rattle.server_specs.specs.Answering.{answer, answer_request, answer_definition, answer_read, answer_put, put_sent, put_set, unless_clash, unless_off, with_defined}
+use Rattle.catalog_specs.specs.Catalogue.{catalogue}
+use Rattle.catalog_specs.specs.Judging.{CatalogFault, judged}
+use Rattle.server_specs.specs.State.{State}
+use Rattle.server_specs.specs.Questions.{about, rows_told}
+use Rattle.server_specs.specs.Defining.{answer_definition, with_defined}
+use Rattle.server_specs.specs.Changing.{answer_put, put_sent, put_set, unless_clash, unless_off}
+use Rattle.server_specs.specs.Answering.{answer, answer_request}
 use Rattle.server_specs.specs.Validity.{Valid}
 use Rattle.server_specs.specs.Answer.{Answer}
 use Rattle.server_specs.specs.Request.{Request, define as define_request, read, put as put_request, edit, preview, describe, list, request}
@@ -20,7 +24,7 @@ use Rattle.serde_json.specs.Data.{Items}
 use Rattle.lens_values.specs.SortedSet as set
 use Rattle.lens_values.specs.declared.row.Row.{Row}
 use Rattle.io_specs.specs.Lines.{Line}
-use Rattle.server_laws.proofs.AnswerFacts.{RefusesPlainly, judged_err, request_err}
+use Rattle.server_laws.proofs.AnswerFacts.{RefusesPlainly, plain_fault, request_err}
 use Rattle.server_laws.specs.Answers.{IsChange}
 use Rattle.server_laws.proofs.Kept.{AreThere, accept_is_kept, table_is_kept, view_is_kept}
 use Rattle.server_laws.proofs.Stored.{are_there, lens_here}
@@ -46,12 +50,12 @@ definitions_kept s v text (view name expr) j = view_is_kept text s (with_defined
 IsKept : Answer × State → State → Type 0
 IsKept r s = IsChange r.0 → (change : Change) × KeptFollows change s r.1
 
-kept_definition : (s : State) → Valid s → (text : List ℕ) (r : Result Definition Answer) → judged (catalogue s.texts) (reading text) ≡ r → IsKept (answer_definition text r s) s
+kept_definition : (s : State) → Valid s → (text : List ℕ) (r : Result Definition CatalogFault) → judged (catalogue s.texts) (reading text) ≡ r → IsKept (answer_definition text r s) s
 unfolding IsKept
 kept_definition s v text (Ok d) j h = (define text (table_made d), definitions_kept s v text d j)
-kept_definition s v text (Err a) j h = absurd ((judged_err (catalogue s.texts) (reading text) a j).change h)
+kept_definition s v text (Err fault) j h = absurd ((plain_fault fault).change h)
 
-kept_read : (s : State) (name : Name) (o : Option Lens) → IsKept (answer_read name o s) s
+kept_read : (s : State) (name : Name) (o : Option Lens) → IsKept (about (rows_told s) name o, s) s
 unfolding IsKept
 kept_read s name None h = absurd h
 kept_read s name (Some L) h = absurd h

@@ -21,12 +21,15 @@ use Rattle.lens_specs.specs.Delta.{TableDelta, diff, is_empty, differences, chan
 use Rattle.grammar_specs.specs.Meaning.{Definition, table, view}
 use Rattle.io_specs.specs.Lines.{Line}
 use Rattle.grammar_laws.specs.Reading.{reading}
-use Rattle.server_specs.specs.State.{State, catalogue}
+use Rattle.catalog_specs.specs.Catalogue.{catalogue}
+use Rattle.catalog_specs.specs.Judging.{CatalogFault, judged}
+use Rattle.server_specs.specs.State.{State}
 use Rattle.server_specs.specs.Answer.{Answer}
 use Rattle.server_specs.specs.Request.{Request, define, read, put as put_request, edit, preview, describe, list, request}
-use Rattle.server_specs.specs.Defining.{judged}
 use Rattle.server_specs.specs.Sending.{BadRow, rows_in}
-use Rattle.server_specs.specs.Answering.{answer, answer_request, answer_definition, answer_read, answer_put, put_sent, unless_clash, unless_off, accept, with_last}
+use Rattle.server_specs.specs.Defining.{answer_definition}
+use Rattle.server_specs.specs.Changing.{answer_put, put_sent, unless_clash, unless_off, accept, with_last}
+use Rattle.server_specs.specs.Answering.{answer, answer_request}
 use Rattle.server_specs.specs.Validity.{Valid}
 use Rattle.server_laws.proofs.Differences.{empty_same}
 use Rattle.server_laws.proofs.Puts.{same_table}
@@ -107,8 +110,8 @@ last_answer_put s name items v None is q = stays s q
 last_answer_put s name items v (Some L) is q = last_sent s L items (lens_here s v name L is) (rows_in (sort_of L).columns items) refl q
 
 -- a definition changes the table that it makes
-last_definition : (s : State) (text : List ℕ) (r : Result Definition Answer) (q : Name) → IsLast s (answer_definition text r s).1 q
-last_definition s text (Err refusal) q = stays s q
+last_definition : (s : State) (text : List ℕ) (r : Result Definition CatalogFault) (q : Name) → IsLast s (answer_definition text r s).1 q
+last_definition s text (Err fault) q = stays s q
 last_definition s text (Ok (view name expr)) q = inr (refl, refl)
 last_definition s text (Ok (table name columns deps P)) q =
     let M : Relation = record { columns = columns; rows = set.empty } in
@@ -120,14 +123,10 @@ last_definition s text (Ok (table name columns deps P)) q =
       )
     ]
 
-last_read : (s : State) (name : Name) (o : Option Lens) (q : Name) → IsLast s (answer_read name o s).1 q
-last_read s name None q = stays s q
-last_read s name (Some L) q = stays s q
-
 last_request : (s : State) → Valid s → (r : Result Request Answer) (q : Name) → IsLast s (answer_request r s).1 q
 last_request s v (Err refusal) q = stays s q
 last_request s v (Ok (define text)) q = last_definition s text (judged (catalogue s.texts) (reading text)) q
-last_request s v (Ok (read name)) q = last_read s name (finmap.get (catalogue s.texts) name) q
+last_request s v (Ok (read name)) q = stays s q
 last_request s v (Ok (put_request name items None)) q = last_answer_put s name items v (finmap.get (catalogue s.texts) name) refl q
 last_request s v (Ok (put_request name items (Some on))) q = stays s q
 last_request s v (Ok (edit name remove add on)) q = stays s q

@@ -12,4 +12,6 @@ pub mod KeptStates
 pub mod LinePuts
 pub mod Last
 pub mod Definitions
+pub mod Views
 pub mod Example
+pub mod DropExample

@@ -9,10 +9,13 @@ use Rattle.lens_specs.specs.Sort.{off, Clash}
 use Rattle.lens_specs.specs.Lens.{Lens, sort_of, get}
 use Rattle.lens_specs.specs.Delta.{TableDelta, changes}
 use Rattle.io_specs.specs.Lines.{Line}
-use Rattle.server_specs.specs.State.{State, catalogue}
+use Rattle.catalog_specs.specs.Catalogue.{catalogue}
+use Rattle.server_specs.specs.State.{State}
 use Rattle.server_specs.specs.Answer.{shown, changed}
 use Rattle.server_specs.specs.Request.{read, request}
-use Rattle.server_specs.specs.Answering.{answer, answer_request, answer_read, answer_put, put_sent, put_set, unless_clash, unless_off, accept}
+use Rattle.server_specs.specs.Questions.{about, rows_told}
+use Rattle.server_specs.specs.Changing.{answer_put, put_sent, put_set, unless_clash, unless_off, accept}
+use Rattle.server_specs.specs.Answering.{answer, answer_request}
 use Rattle.server_specs.specs.Validity.{Valid}
 use Rattle.server_laws.proofs.Puts.{put_then_read, read_then_put}
 use Rattle.server_specs.proofs.Sent.{sent_fit}
@@ -22,7 +25,7 @@ use Rattle.server_laws.specs.PutLaws.{IsPut}
 
 pub lines_read : (s : State) (l : Line) (name : Name) (L : Lens) → IsReadLine s l name L → answer s l ≡ (shown (get L s.tables) s.version, s)
 unfolding answer
-lines_read s l name L h = ap (λ q. answer_request q s) h.asked ∙ ap (λ o. answer_read name o s) h.lens
+lines_read s l name L h = ap (λ q. answer_request q s) h.asked ∙ ap (λ o. (about (rows_told s) name o, s)) h.lens
 
 pub lines_put : (s : State) (l : Line) (name : Name) (L : Lens) (rows : List Row) → IsPutLine s l name L rows → answer s l ≡ put_set (set.from_list rows) L s
 unfolding answer

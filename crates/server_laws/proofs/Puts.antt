@@ -23,9 +23,10 @@ use Rattle.lens_specs.specs.Dependencies.{Edge}
 use Rattle.lens_specs.specs.Sort.{Sort, off, Clash, clash as first_clash, IsOf}
 use Rattle.lens_specs.specs.Lens.{Tables, Lens, base, select, drop, join, sort_of, tables_of, table, rows_or_none, get, put}
 use Rattle.lens_specs.specs.Delta.{TableDelta, diff, is_empty, differences, changes}
-use Rattle.server_specs.specs.State.{State, catalogue}
+use Rattle.catalog_specs.specs.Catalogue.{catalogue}
+use Rattle.server_specs.specs.State.{State}
 use Rattle.server_specs.specs.Answer.{Answer, changed, clash, off_predicate}
-use Rattle.server_specs.specs.Answering.{put_set, unless_clash, unless_off, accept}
+use Rattle.server_specs.specs.Changing.{put_set, unless_clash, unless_off, accept}
 use Rattle.server_specs.specs.Validity.{Valid}
 use Rattle.server_laws.proofs.Clashes.{clash_of_first, least_is_one}
 use Rattle.server_laws.proofs.Differences.{empty_same, none_differ}

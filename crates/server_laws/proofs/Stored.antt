@@ -13,7 +13,8 @@ use Rattle.lens_specs.specs.Names.{Name}
 use Rattle.lens_specs.specs.Relation.{Relation, Rows}
 use Rattle.lens_specs.specs.Sort.{Sort, IsOfSort}
 use Rattle.lens_specs.specs.Lens.{Tables, Lens, base, select, drop, join, sort_of, tables_of, put}
-use Rattle.server_specs.specs.State.{State, Catalogue, catalogue}
+use Rattle.catalog_specs.specs.Catalogue.{Catalogue, catalogue}
+use Rattle.server_specs.specs.State.{State}
 use Rattle.server_specs.specs.Validity.{IsRelationOf, IsStoredAs, IsStored, Valid}
 use Rattle.server_laws.proofs.Kept.{AreThere, put_keeps}
 use Rattle.server_laws.proofs.Taken.{BasesAre, IsKnown, all_known}

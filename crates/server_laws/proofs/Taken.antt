@@ -24,9 +24,8 @@ use Rattle.grammar_specs.specs.Meaning.{Definition, table, view, Expr, named}
 use Rattle.grammar_specs.specs.Meaning as language
 use Rattle.grammar_specs.specs.Faults.{Fault}
 use Rattle.grammar_laws.specs.Reading.{reading}
-use Rattle.server_specs.specs.State.{Catalogue, catalogue, catalogue_onto, with_definition, with_lens, lens_of, join_of, sort_with, table_lens, is_table_of}
-use Rattle.server_specs.specs.Answer.{Answer, name_taken, unbuilt}
-use Rattle.server_specs.specs.Defining.{is_taken, table_count, view_count, unless_full, where_sorted, lens_named, where_typed, over, over_both, lens_in, where_lensed, is_unbuilt, judged, refused_from, first_refused}
+use Rattle.catalog_specs.specs.Catalogue.{Catalogue, catalogue, catalogue_onto, with_definition, with_lens, lens_of, join_of, sort_with, table_lens, is_table_of}
+use Rattle.catalog_specs.specs.Judging.{CatalogFault, name_taken, unbuilt, is_taken, table_count, view_count, unless_full, where_sorted, lens_named, where_typed, over, over_both, lens_in, where_lensed, is_unbuilt, judged, refused_from, first_refused}
 
 -- ---- what a judgement says
 
@@ -43,12 +42,12 @@ sorted_ok : (r : Result Sort Refusal) (known : Catalogue) (d e : Definition) →
 sorted_ok (Ok sort) known d e h = ((sort, refl), full_ok (nat_le 64 (table_count known)) tables_limit d e h)
 sorted_ok (Err first) known d e h = cc
 
-lensed_ok : (r : Result Lens Answer) (known : Catalogue) (d e : Definition) → where_lensed r known d ≡ Ok e → ((lens : Lens) × (r ≡ Ok lens)) × (d ≡ e)
+lensed_ok : (r : Result Lens CatalogFault) (known : Catalogue) (d e : Definition) → where_lensed r known d ≡ Ok e → ((lens : Lens) × (r ≡ Ok lens)) × (d ≡ e)
 lensed_ok (Ok lens) known d e h = ((lens, refl), full_ok (nat_le 256 (view_count known)) views_limit d e h)
 lensed_ok (Err first) known d e h = cc
 
 -- what is no refusal passes the test
-passed : (b : Bool) (a : Answer) (r : Result Definition Answer) (e : Definition) → cond b (Err a) r ≡ Ok e → (b ≡ false) × (r ≡ Ok e)
+passed : (b : Bool) (a : CatalogFault) (r : Result Definition CatalogFault) (e : Definition) → cond b (Err a) r ≡ Ok e → (b ≡ false) × (r ≡ Ok e)
 passed true a r e h = cc
 passed false a r e h = (refl, h)
 
@@ -165,11 +164,11 @@ typed_ok lens (Ok s) L h = ((s, refl), cc)
 typed_ok lens (Err first) L h = cc
 
 -- the operand has a lens, and the node over it a sort
-over_ok : (node : Lens → Lens) (r : Result Lens Answer) (L : Lens) → over node r ≡ Ok L → (C : Lens) × (r ≡ Ok C) × ((s : Sort) × (sort (node C) ≡ Ok s)) × (node C ≡ L)
+over_ok : (node : Lens → Lens) (r : Result Lens CatalogFault) (L : Lens) → over node r ≡ Ok L → (C : Lens) × (r ≡ Ok C) × ((s : Sort) × (sort (node C) ≡ Ok s)) × (node C ≡ L)
 over_ok node (Err first) L h = cc
 over_ok node (Ok C) L h = let w = typed_ok (node C) (sort (node C)) L h in (C, refl, w.0, w.1)
 
-both_ok : (l r : Result Lens Answer) (L : Lens) → over_both l r ≡ Ok L → (A : Lens) × (B : Lens) × (l ≡ Ok A) × (r ≡ Ok B) × ((s : Sort) × (sort (join A B) ≡ Ok s)) × (join A B ≡ L)
+both_ok : (l r : Result Lens CatalogFault) (L : Lens) → over_both l r ≡ Ok L → (A : Lens) × (B : Lens) × (l ≡ Ok A) × (r ≡ Ok B) × ((s : Sort) × (sort (join A B) ≡ Ok s)) × (join A B ≡ L)
 both_ok (Err first) r L h = cc
 both_ok (Ok A) r L h = let w = over_ok (join A) r L h in (A, w.0, refl, w.1, w.2, w.3)
 

@@ -27,13 +27,16 @@ use Rattle.lens_specs.specs.Lens.{table as rows_of_table}
 use Rattle.grammar_specs.specs.Meaning.{Definition, table, view}
 use Rattle.io_specs.specs.Lines.{Line}
 use Rattle.grammar_laws.specs.Reading.{reading}
-use Rattle.server_specs.proofs.Catalogues.{catalogue-push}
-use Rattle.server_specs.specs.State.{State, fresh, Catalogue, catalogue, with_definition, with_lens, sort_with, table_lens, is_table_of}
+use Rattle.catalog_specs.specs.Catalogue.{Catalogue, catalogue, with_definition, with_lens, sort_with, table_lens, is_table_of}
+use Rattle.catalog_specs.specs.Judging.{CatalogFault, judged, is_taken}
+use Rattle.catalog_specs.proofs.Catalogues.{catalogue-push}
+use Rattle.server_specs.specs.State.{State, fresh}
 use Rattle.server_specs.specs.Answer.{Answer}
 use Rattle.server_specs.specs.Request.{Request, define, read, put as put_request, edit, preview, describe, list, request}
-use Rattle.server_specs.specs.Defining.{judged, is_taken}
 use Rattle.server_specs.specs.Sending.{BadRow, rows_in}
-use Rattle.server_specs.specs.Answering.{answer, answer_request, answer_definition, answer_read, answer_put, put_sent, put_set, unless_clash, unless_off, accept, with_last, with_defined}
+use Rattle.server_specs.specs.Defining.{answer_definition, with_defined}
+use Rattle.server_specs.specs.Changing.{answer_put, put_sent, put_set, unless_clash, unless_off, accept, with_last}
+use Rattle.server_specs.specs.Answering.{answer, answer_request}
 use Rattle.server_specs.specs.Session.{Replies, answered, not_stored, found_memory, out_of_memory, Exchange, Chain, last_state, Session}
 use Rattle.server_specs.specs.Validity.{IsStoredAs, IsStored, Valid}
 use Rattle.server_specs.proofs.Sent.{sent_fit}
@@ -235,20 +238,16 @@ valid_taken s text (view name expr) v j h =
       past = λ q. later_all s v q;
     }
 
-valid_definition : (s : State) (text : List ℕ) → Valid s → (r : Result Definition Answer) → judged (catalogue s.texts) (reading text) ≡ r → Valid (answer_definition text r s).1
-valid_definition s text v (Err refusal) j = v
+valid_definition : (s : State) (text : List ℕ) → Valid s → (r : Result Definition CatalogFault) → judged (catalogue s.texts) (reading text) ≡ r → Valid (answer_definition text r s).1
+valid_definition s text v (Err fault) j = v
 valid_definition s text v (Ok d) j = valid_taken s text d v j (judged_ok (catalogue s.texts) (reading text) d j).1
 
 -- ---- answers and sessions
 
-valid_read : (s : State) (name : Name) (o : Option Lens) → Valid s → Valid (answer_read name o s).1
-valid_read s name None v = v
-valid_read s name (Some L) v = v
-
 valid_request : (s : State) (r : Result Request Answer) → Valid s → Valid (answer_request r s).1
 valid_request s (Err refusal) v = v
 valid_request s (Ok (define text)) v = valid_definition s text v (judged (catalogue s.texts) (reading text)) refl
-valid_request s (Ok (read name)) v = valid_read s name (finmap.get (catalogue s.texts) name) v
+valid_request s (Ok (read name)) v = v
 valid_request s (Ok (put_request name items None)) v = valid_answer_put s name items v (finmap.get (catalogue s.texts) name) refl
 valid_request s (Ok (put_request name items (Some on))) v = v
 valid_request s (Ok (edit name remove add on)) v = v

@@ -11,14 +11,17 @@ use Rattle.lens_specs.specs.Relation.{Name}
 use Rattle.grammar_specs.specs.Meaning.{Definition, table, view, Expr}
 use Rattle.grammar_specs.specs.Faults.{Fault}
 use Rattle.grammar_laws.specs.Reading.{reading}
-use Rattle.server_specs.specs.State.{State, catalogue, lens_of}
-use Rattle.server_specs.specs.Answer.{Answer, defined, shown, name_taken}
+use Rattle.catalog_specs.specs.Catalogue.{catalogue, lens_of}
+use Rattle.catalog_specs.specs.Judging.{CatalogFault, judged}
+use Rattle.server_specs.specs.State.{State}
+use Rattle.server_specs.specs.Answer.{defined, shown, name_taken}
 use Rattle.server_specs.specs.Request.{define, read, request}
-use Rattle.server_specs.specs.Defining.{fault_answer, judged}
-use Rattle.server_specs.specs.Answering.{answer, with_defined}
+use Rattle.server_specs.specs.Defining.{text_answer, fault_answer}
+use Rattle.server_specs.specs.Defining.{with_defined}
+use Rattle.server_specs.specs.Answering.{answer}
 
 -- the judgement of a text after the definitions of a state
-abbrev pub judgement : State → List ℕ → Result Definition Answer
+abbrev pub judgement : State → List ℕ → Result Definition CatalogFault
 judgement s text = judged (catalogue s.texts) (reading text)
 
 -- the name that is defined
@@ -39,13 +42,13 @@ abbrev pub TakenIsAdded : Type 0
 TakenIsAdded = (s : State) (l : Line) (text : List ℕ) (definition : Definition) → request l ≡ Ok (define text) → judgement s text ≡ Ok definition
     → answer s l ≡ (defined (s.version + 1), with_defined text definition s)
 
--- a definition that is refused leaves the state, and the answer is its refusal
+-- a definition that is refused leaves the state, and the answer says why
 abbrev pub RefusedStays : Type 0
-RefusedStays = (s : State) (l : Line) (text : List ℕ) (refusal : Answer) → request l ≡ Ok (define text) → judgement s text ≡ Err refusal → answer s l ≡ (refusal, s)
+RefusedStays = (s : State) (l : Line) (text : List ℕ) (fault : CatalogFault) → request l ≡ Ok (define text) → judgement s text ≡ Err fault → answer s l ≡ (fault_answer fault, s)
 
 -- a text that says no definition is refused for its fault
 abbrev pub FaultsAreTold : Type 0
-FaultsAreTold = (s : State) (l : Line) (text : List ℕ) (fault : Fault) → request l ≡ Ok (define text) → reading text ≡ Err fault → answer s l ≡ (fault_answer fault, s)
+FaultsAreTold = (s : State) (l : Line) (text : List ℕ) (fault : Fault) → request l ≡ Ok (define text) → reading text ≡ Err fault → answer s l ≡ (text_answer fault, s)
 
 -- a new table shows no rows, at the version after
 abbrev pub NewTablesAreEmpty : Type 0

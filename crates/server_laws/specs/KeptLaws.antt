@@ -9,9 +9,12 @@ use Rattle.grammar_specs.specs.Meaning.{Definition, table, view}
 use Rattle.io_specs.specs.Lines.{Line}
 use Rattle.grammar_laws.specs.Reading.{reading}
 use Rattle.lens_specs.specs.Keeping.{Change, define, rows, changed, CanChange}
-use Rattle.server_specs.specs.State.{State, catalogue, kept}
-use Rattle.server_specs.specs.Defining.{judged}
-use Rattle.server_specs.specs.Answering.{answer, put_set, with_defined}
+use Rattle.catalog_specs.specs.Catalogue.{catalogue}
+use Rattle.catalog_specs.specs.Judging.{judged}
+use Rattle.server_specs.specs.State.{State, kept}
+use Rattle.server_specs.specs.Defining.{with_defined}
+use Rattle.server_specs.specs.Changing.{put_set}
+use Rattle.server_specs.specs.Answering.{answer}
 use Rattle.server_specs.specs.Validity.{Valid}
 use Rattle.server_laws.specs.Answers.{IsChange}
 

@@ -6,4 +6,5 @@ pub mod LineLaws
 pub mod KeptLaws
 pub mod SessionLaws
 pub mod DefineLaws
+pub mod ViewLaws
 pub mod Witness

@@ -7,11 +7,13 @@ use Rattle.lens_values.specs.declared.row.Row.{Row}
 use Rattle.lens_specs.specs.Relation.{Name}
 use Rattle.lens_specs.specs.Lens.{Lens, sort_of, get}
 use Rattle.io_specs.specs.Lines.{Line}
-use Rattle.server_specs.specs.State.{State, catalogue}
+use Rattle.catalog_specs.specs.Catalogue.{catalogue}
+use Rattle.server_specs.specs.State.{State}
 use Rattle.server_specs.specs.Answer.{shown, changed}
 use Rattle.server_specs.specs.Request.{read, put, request}
 use Rattle.server_specs.specs.Sending.{rows_in}
-use Rattle.server_specs.specs.Answering.{answer, put_set}
+use Rattle.server_specs.specs.Changing.{put_set}
+use Rattle.server_specs.specs.Answering.{answer}
 use Rattle.server_specs.specs.Validity.{Valid}
 use Rattle.server_laws.specs.Answers.{IsAccepted}
 

@@ -13,10 +13,11 @@ use Rattle.lens_specs.specs.Lens.{Lens, sort_of, get, tables_of}
 use Rattle.lens_specs.specs.Delta.{changes, differences}
 use Rattle.lens_laws.specs.Checks.{IsFirstClash, IsOff}
 use Rattle.lens_laws.specs.Edits.{AreDiffs}
-use Rattle.server_specs.specs.State.{State, catalogue}
+use Rattle.catalog_specs.specs.Catalogue.{catalogue}
+use Rattle.server_specs.specs.State.{State}
 use Rattle.server_specs.specs.Answer.{changed, clash, off_predicate}
 use Rattle.server_specs.specs.Sending.{rows_in}
-use Rattle.server_specs.specs.Answering.{put_set}
+use Rattle.server_specs.specs.Changing.{put_set}
 use Rattle.server_specs.specs.Validity.{Valid}
 use Rattle.server_laws.specs.Answers.{IsAccepted}
 

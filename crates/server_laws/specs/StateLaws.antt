@@ -7,7 +7,8 @@ use Rattle.lens_specs.specs.Lens.{Lens, sort_of}
 use Rattle.lens_specs.specs.Typing.{sort}
 use Rattle.io_specs.specs.Lines.{Line}
 use Rattle.lens_laws.specs.Lenses.{IsTyped, AreOf}
-use Rattle.server_specs.specs.State.{State, fresh, catalogue}
+use Rattle.catalog_specs.specs.Catalogue.{catalogue}
+use Rattle.server_specs.specs.State.{State, fresh}
 use Rattle.server_specs.specs.Answering.{answer}
 use Rattle.server_specs.specs.Session.{Session}
 use Rattle.server_specs.specs.Validity.{Valid}

@@ -1,10 +1,15 @@
 -- That the premises of the laws of puts can be met.
 use Rattle.std.specs.Prelude.{◌≡◌, true, false}
+use Rattle.lens_values.specs.declared.value.Value.{Value}
 use Rattle.lens_values.specs.declared.row.Row.{Row}
+use Rattle.lens_specs.specs.Names.{Names}
 use Rattle.lens_specs.specs.Relation.{Name, Rows, has}
-use Rattle.lens_specs.specs.Lens.{Lens, get}
-use Rattle.server_specs.specs.State.{State, is_table_of}
-use Rattle.server_specs.specs.Answering.{put_set}
+use Rattle.lens_specs.specs.Predicate.{Predicate}
+use Rattle.lens_specs.specs.Sort.{Sort}
+use Rattle.lens_specs.specs.Lens.{Lens, base, select, drop, get}
+use Rattle.catalog_specs.specs.Catalogue.{is_table_of}
+use Rattle.server_specs.specs.State.{State}
+use Rattle.server_specs.specs.Changing.{put_set}
 use Rattle.server_laws.specs.Answers.{IsAccepted}
 use Rattle.server_laws.specs.PutLaws.{IsPut}
 
@@ -20,3 +25,14 @@ pub record PutsCanChange : Type 0 where
   pub row : Row
   pub there : has rows row ≡ true
   pub new : has (get lens state.tables) row ≡ false
+
+-- such a put over a view that drops a column of a selection of a table
+pub record DropsCanChange : Type 0 where
+  pub change : PutsCanChange
+  pub column : Name
+  pub by : Names
+  pub fill : Value
+  pub predicate : Predicate
+  pub table : Name
+  pub sort : Sort
+  pub drops : change.lens ≡ drop column by fill (select predicate (base table sort))

@@ -9,7 +9,8 @@ ghost use Rattle.server_laws.specs.LineLaws.{LinesPutSets, LinesReadViews, NextL
 ghost use Rattle.server_laws.specs.PutLaws.{AcceptedOrRefused, AcceptedWhereTyped, ChangesAreDifferences, ChangesAreTold, OtherTablesStay, PutThenRead, ReadThenPut, RefusedByFirstClash, RefusedByLeastRow, SentRowsFit};
 ghost use Rattle.server_laws.specs.SessionLaws.{AnswersReadOtherwise, FaultsAreCounted, RepliesAreAnswers, SessionsAreComplete};
 ghost use Rattle.server_laws.specs.StateLaws.{AnswersStayValid, FreshIsValid, LensesAreTyped, SessionsStayValid};
-ghost use Rattle.server_laws.specs.Witness.{PutsCanChange};
+ghost use Rattle.server_laws.specs.ViewLaws.{FullIsTold, RulesAreTold, TypedIsTaken, UnbuiltIsTold, UnknownIsTold};
+ghost use Rattle.server_laws.specs.Witness.{DropsCanChange, PutsCanChange};
 
 /// Every state that the server reaches is valid, and in a valid state each lens has a sort and its
 /// tables.
@@ -64,6 +65,17 @@ pub fn definitions_are_judged()
     ensures stays { LensesStay }
 {}
 
+/// A view whose name is free is refused for what is not built, then for a name that has no lens or
+/// for the first refusal of a left side or of its whole lens, then for too many views; or else it
+/// is taken.
+pub fn views_are_judged()
+    ensures unbuilt { UnbuiltIsTold }
+    ensures unknown { UnknownIsTold }
+    ensures rules { RulesAreTold }
+    ensures full { FullIsTold }
+    ensures taken { TypedIsTaken }
+{}
+
 /// The version rises by one exactly where something changes, and each table tells the version that
 /// changed it last.
 pub fn versions_rise()
@@ -90,7 +102,9 @@ pub fn kept_follows()
     ensures changes { ChangesAreKept }
 {}
 
-/// The premises of the laws of puts can be met, over a view, by a put that changes something.
+/// The premises of the laws of puts can be met, over a view, by a put that changes something; also
+/// over a view that drops a column of a selection.
 pub fn premises_can_be_met()
-    ensures { PutsCanChange }
+    ensures puts { PutsCanChange }
+    ensures drops { DropsCanChange }
 {}

@@ -9,11 +9,14 @@ use Rattle.lens_specs.specs.Sort.{Clash}
 use Rattle.lens_specs.specs.Delta.{TableDelta, changes}
 use Rattle.grammar_specs.specs.Meaning.{Definition, table, view}
 use Rattle.io_specs.specs.Lines.{Line}
+use Rattle.catalog_specs.specs.Judging.{CatalogFault}
 use Rattle.server_specs.specs.State.{State}
 use Rattle.server_specs.specs.Answer.{Answer}
 use Rattle.server_specs.specs.Request.{Request, define, read, put, edit, preview, describe, list, request}
 use Rattle.server_specs.specs.Sending.{BadRow}
-use Rattle.server_specs.specs.Answering.{answer, answer_request, answer_definition, answer_read, answer_put, put_sent, unless_clash, unless_off, accept}
+use Rattle.server_specs.specs.Defining.{answer_definition}
+use Rattle.server_specs.specs.Changing.{answer_put, put_sent, unless_clash, unless_off, accept}
+use Rattle.server_specs.specs.Answering.{answer, answer_request}
 use Rattle.server_specs.specs.Session.{Step, answered, not_stored, found_memory, out_of_memory}
 
 -- the version of the state of an answer
@@ -36,14 +39,10 @@ puts : (rows : Result (List Row) BadRow) (lens : Lens) (s : State) → version_o
 puts (Err bad) lens s = omega arith
 puts (Ok rows) lens s = unless _ lens _ s
 
-defines : (text : List ℕ) (judgement : Result Definition Answer) (s : State) → version_of (answer_definition text judgement s) ≤ s.version + 1
-defines text (Err refusal) s = omega arith
+defines : (text : List ℕ) (judgement : Result Definition CatalogFault) (s : State) → version_of (answer_definition text judgement s) ≤ s.version + 1
+defines text (Err fault) s = omega arith
 defines text (Ok (table name columns deps predicate)) s = omega arith
 defines text (Ok (view name expr)) s = omega arith
-
-reads : (name : Name) (lens : Option Lens) (s : State) → version_of (answer_read name lens s) ≤ s.version + 1
-reads name None s = omega arith
-reads name (Some lens) s = omega arith
 
 sends : (name : Name) (rows : Items) (lens : Option Lens) (s : State) → version_of (answer_put name rows lens s) ≤ s.version + 1
 sends name rows None s = omega arith
@@ -52,7 +51,7 @@ sends name rows (Some lens) s = puts _ lens s
 asked : (r : Result Request Answer) (s : State) → version_of (answer_request r s) ≤ s.version + 1
 asked (Err refusal) s = omega arith
 asked (Ok (define text)) s = defines text _ s
-asked (Ok (read name)) s = reads name _ s
+asked (Ok (read name)) s = omega arith
 asked (Ok (put name rows None)) s = sends name rows _ s
 asked (Ok (put name rows (Some on))) s = omega arith
 asked (Ok (edit name remove add on)) s = omega arith

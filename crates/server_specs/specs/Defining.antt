@@ -1,119 +1,19 @@
--- Which definitions are taken.
-use Rattle.std.specs.Prelude.{ℕ, suc, Bool, true, false, not, List, [], ◌∷◌, nat_le, is_some, is_err, Option, Some, None, option_map, Result, Ok, Err, if◌then◌else◌}
+-- What a definition is answered, and the state after it.
+use Rattle.std.specs.Prelude.{ℕ, ◌+◌, List, [], ◌∷◌, ◌++◌, Result, Ok, Err}
 use Rattle.std.specs.FinMap as finmap
-use Rattle.lens_specs.specs.Names.{Name}
-use Rattle.lens_specs.specs.Columns.{Columns}
-use Rattle.lens_specs.specs.Dependencies.{Edge}
-use Rattle.lens_specs.specs.Predicate.{Predicate}
-use Rattle.lens_specs.specs.Sort.{Sort}
-use Rattle.lens_specs.specs.Lens.{Lens, select, drop, join}
-use Rattle.lens_specs.specs.Typing.{sort, table_sort}
-use Rattle.lens_specs.specs.Refusal.{Refusal, Limit, columns_limit, predicate_limit, nesting_limit, tables_limit, views_limit}
+use Rattle.lens_values.specs.SortedSet as set
+use Rattle.lens_specs.specs.Relation.{Name, Columns}
 use Rattle.lens_specs.specs.Refusal as refusal
-use Rattle.grammar_specs.specs.Meaning as language
-use Rattle.grammar_specs.specs.Meaning.{Expr, named, Definition, table, view}
+use Rattle.lens_specs.specs.Refusal.{Limit, columns_limit, predicate_limit, nesting_limit}
+use Rattle.grammar_specs.specs.Meaning.{Definition, table, view}
 use Rattle.grammar_specs.specs.Faults as faults
 use Rattle.grammar_specs.specs.Faults.{Fault, syntax_at}
 use Rattle.grammar_laws.specs.Reading.{reading}
-use Rattle.server_specs.specs.State.{Catalogue, is_table_of, with_definition}
-use Rattle.server_specs.specs.Answer.{Answer, syntax, name_taken, unknown_name, refused, unbuilt}
-
--- ---- names, and how many there are
-
--- whether the name has a lens already
-abbrev pub is_taken : Catalogue → Name → Bool
-is_taken known name = is_some (finmap.get known name)
-
--- how many of the names pass the test with their lenses
-abbrev pub count_named : (Name → Lens → Bool) → List (Name × Lens) → ℕ
-count_named passes [] = 0
-count_named passes (entry ∷ entries) = if passes entry.0 entry.1 then suc (count_named passes entries) else count_named passes entries
-
--- the number of tables
-abbrev pub table_count : Catalogue → ℕ
-table_count known = count_named is_table_of (finmap.entries known)
-
--- the number of views
-abbrev pub view_count : Catalogue → ℕ
-view_count known = count_named (λ name lens. not (is_table_of name lens)) (finmap.entries known)
-
--- whether the name has a lens that is not the table itself
-abbrev pub is_other : Name → Option Lens → Bool
-is_other name None = false
-is_other name (Some lens) = not (is_table_of name lens)
-
--- whether the name is a view's
-abbrev pub is_view : Catalogue → Name → Bool
-is_view known name = is_other name (finmap.get known name)
-
--- ---- tables
-
--- the definition, or the refusal where there are too many
-abbrev pub unless_full : Bool → Limit → Definition → Result Definition Answer
-unless_full true limit definition = Err (refused (refusal.too_large limit))
-unless_full false limit definition = Ok definition
-
--- the definition where its columns, dependencies and conjuncts give a sort and there are fewer than 64 tables, or else its first refusal
-abbrev pub where_sorted : Result Sort Refusal → Catalogue → Definition → Result Definition Answer
-where_sorted (Err first) known definition = Err (refused first)
-where_sorted (Ok sort) known definition = unless_full (nat_le 64 (table_count known)) tables_limit definition
-
--- A table is taken where its name is free, it has a sort, and there are fewer than 64 tables.
-abbrev pub judged_table : Catalogue → Name → Columns → List Edge → Predicate → Result Definition Answer
-judged_table known name columns deps predicate =
-    if is_taken known name then Err (name_taken name) else where_sorted (table_sort columns deps predicate) known (table name columns deps predicate)
-
--- ---- views
-
--- Only a table itself and the selection of a table are built.
-abbrev pub is_unbuilt : Catalogue → Expr → Bool
-is_unbuilt known (named source) = is_view known source
-is_unbuilt known (language.select predicate (named source)) = is_view known source
-is_unbuilt known (language.select predicate (language.select inner of)) = true
-is_unbuilt known (language.select predicate (language.drop column by value of)) = true
-is_unbuilt known (language.select predicate (language.join left right)) = true
-is_unbuilt known (language.drop column by value of) = true
-is_unbuilt known (language.join left right) = true
-
--- the lens that the name has, or else the refusal
-abbrev pub lens_named : Name → Option Lens → Result Lens Answer
-lens_named name None = Err (unknown_name name)
-lens_named name (Some lens) = Ok lens
-
--- the lens where it has a sort, or else the refusal of its root
-abbrev pub where_typed : Lens → Result Sort Refusal → Result Lens Answer
-where_typed lens (Ok sort) = Ok lens
-where_typed lens (Err first) = Err (refused first)
-
--- with the lens of an operand, where it has one
-abbrev pub over : (Lens → Lens) → Result Lens Answer → Result Lens Answer
-over node (Err first) = Err first
-over node (Ok lens) = where_typed (node lens) (sort (node lens))
-
--- with the lenses of both operands; the left one is refused first
-abbrev pub over_both : Result Lens Answer → Result Lens Answer → Result Lens Answer
-over_both (Err first) right = Err first
-over_both (Ok lens) right = over (join lens) right
-
--- the lens of an expression, or its first refusal: operands come before their node, the left one first
-abbrev pub lens_in : Catalogue → Expr → Result Lens Answer
-lens_in known (named name) = lens_named name (finmap.get known name)
-lens_in known (language.select predicate of) = over (select predicate) (lens_in known of)
-lens_in known (language.drop column by value of) = over (drop column by value) (lens_in known of)
-lens_in known (language.join left right) = over_both (lens_in known left) (lens_in known right)
-
--- the definition of a view whose expression has a lens, where there are fewer than 256 views, or else its first refusal
-abbrev pub where_lensed : Result Lens Answer → Catalogue → Definition → Result Definition Answer
-where_lensed (Err first) known definition = Err first
-where_lensed (Ok lens) known definition = unless_full (nat_le 256 (view_count known)) views_limit definition
-
--- A view is taken where its name is free, its expression has a lens, and there are fewer than 256 views.
-abbrev pub judged_view : Catalogue → Name → Expr → Result Definition Answer
-judged_view known name expr =
-    if is_taken known name then Err (name_taken name)
-    else (if is_unbuilt known expr then Err unbuilt else where_lensed (lens_in known expr) known (view name expr))
-
--- ---- texts
+use Rattle.catalog_specs.specs.Catalogue.{catalogue}
+use Rattle.catalog_specs.specs.Judging as judging
+use Rattle.catalog_specs.specs.Judging.{CatalogFault, language, rule, judged}
+use Rattle.server_specs.specs.State.{State, unchanged}
+use Rattle.server_specs.specs.Answer.{Answer, defined, syntax, name_taken, unknown_name, refused, unbuilt}
 
 -- the limit that a text passes
 abbrev pub limit_of : faults.Limit → Limit
@@ -121,24 +21,40 @@ limit_of faults.columns = columns_limit
 limit_of faults.predicate = predicate_limit
 limit_of faults.nested = nesting_limit
 
--- the refusal of a text
-abbrev pub fault_answer : Fault → Answer
-fault_answer (syntax_at at) = syntax at
-fault_answer (faults.too_large what) = refused (refusal.too_large (limit_of what))
+-- the answer to a text that has a fault
+abbrev pub text_answer : Fault → Answer
+text_answer (syntax_at at) = syntax at
+text_answer (faults.too_large what) = refused (refusal.too_large (limit_of what))
 
--- the definition, where it is taken after those that made the catalogue, or else its refusal
-abbrev pub judged : Catalogue → Result Definition Fault → Result Definition Answer
-judged known (Err fault) = Err (fault_answer fault)
-judged known (Ok (table name columns deps predicate)) = judged_table known name columns deps predicate
-judged known (Ok (view name expr)) = judged_view known name expr
+-- the answer that tells why a definition is refused
+abbrev pub fault_answer : CatalogFault → Answer
+fault_answer (language fault) = text_answer fault
+fault_answer (judging.name_taken name) = name_taken name
+fault_answer (judging.unknown_name name) = unknown_name name
+fault_answer (rule first) = refused first
+fault_answer judging.unbuilt = unbuilt
 
--- the place of the first of these texts that is refused after those that made the catalogue
-abbrev pub refused_from : Catalogue → List (List ℕ) → Option ℕ
-refused_from known [] = None
-refused_from known (text ∷ texts) =
-    if is_err (judged known (reading text)) then Some 0
-    else option_map suc (refused_from (with_definition (reading text) known) texts)
+-- ---- definitions that are taken
 
--- the place of the first of these texts that is refused, the texts being taken in order
-abbrev pub first_refused : List (List ℕ) → Option ℕ
-first_refused = refused_from finmap.empty
+-- the state with a text, and one version more
+abbrev pub with_text : List ℕ → State → State
+with_text text s = record s { texts = s.texts ++ text ∷ []; version = s.version + 1 }
+
+-- the state with an empty table, last changed at the version
+abbrev pub with_table : Name → Columns → State → State
+with_table name columns s =
+    record s { tables = finmap.insert s.tables name (record { columns = columns; rows = set.empty }); last = finmap.insert s.last name s.version }
+
+-- the state after a definition was taken
+abbrev pub with_defined : List ℕ → Definition → State → State
+with_defined text (table name columns deps predicate) s = with_table name columns (with_text text s)
+with_defined text (view name expr) s = with_text text s
+
+-- a definition is taken, or refused
+abbrev pub answer_definition : List ℕ → Result Definition CatalogFault → State → Answer × State
+answer_definition text (Err fault) s = unchanged (fault_answer fault) s
+answer_definition text (Ok definition) s = (defined (s.version + 1), with_defined text definition s)
+
+-- what `define` is answered, and the state after it
+abbrev pub define_answer : List ℕ → State → Answer × State
+define_answer text s = answer_definition text (judged (catalogue s.texts) (reading text)) s

@@ -2,7 +2,9 @@ pub mod Answer
 pub mod Request
 pub mod State
 pub mod Defining
+pub mod Questions
 pub mod Sending
+pub mod Changing
 pub mod Answering
 pub mod Session
 pub mod Validity

@@ -1,20 +1,12 @@
--- The state of the server, and the lenses that its definitions make.
-use Rattle.std.specs.Prelude.{ℕ, Bool, false, List, [], ◌∷◌, nat_eq, Option, Some, None, map, option_map, Result, Ok, Err}
-use Rattle.std.specs.Cmp.Lexicographic.{pointwise}
+-- The state of the server, and what a keeper keeps of it.
+use Rattle.std.specs.Prelude.{ℕ, List, [], map}
 use Rattle.std.specs.FinMap as finmap
 use Rattle.lens_values.specs.Order.{bytes_cmp}
 use Rattle.lens_specs.specs.Names.{Name}
-use Rattle.lens_specs.specs.Relation.{Columns, Rows, Relation}
-use Rattle.lens_specs.specs.Dependencies.{Edge}
-use Rattle.lens_specs.specs.TreeForm.{tree_of}
-use Rattle.lens_specs.specs.Predicate.{Predicate}
-use Rattle.lens_specs.specs.Sort.{Sort}
-use Rattle.lens_specs.specs.Lens.{Tables, Lens, base, select, drop, join, tree_or_none}
+use Rattle.lens_specs.specs.Relation.{Rows, Relation}
+use Rattle.lens_specs.specs.Lens.{Tables}
 use Rattle.lens_specs.specs.Keeping.{Kept}
-use Rattle.grammar_specs.specs.Meaning as language
-use Rattle.grammar_specs.specs.Meaning.{Expr, named, Definition, table, view}
-use Rattle.grammar_specs.specs.Faults.{Fault}
-use Rattle.grammar_laws.specs.Reading.{reading}
+use Rattle.server_specs.specs.Answer.{Answer}
 
 -- the definition texts in order, the tables, the version, and for each table the version that changed it last
 pub record State : Type 0 where
@@ -27,58 +19,6 @@ pub record State : Type 0 where
 abbrev pub fresh : State
 fresh = record { texts = []; tables = finmap.empty; version = 0; last = finmap.empty }
 
--- a lens for each name
-abbrev pub Catalogue : Type 0
-Catalogue = finmap.FinMap bytes_cmp Lens
-
--- the join of two lenses that are there
-abbrev pub join_of : Option Lens → Option Lens → Option Lens
-join_of None right = None
-join_of (Some left) None = None
-join_of (Some left) (Some right) = Some (join left right)
-
--- the lens of an expression, where the names in it are known; a view's name stands for its lens
-abbrev pub lens_of : Expr → Catalogue → Option Lens
-lens_of (named name) known = finmap.get known name
-lens_of (language.select predicate of) known = option_map (select predicate) (lens_of of known)
-lens_of (language.drop column by value of) known = option_map (drop column by value) (lens_of of known)
-lens_of (language.join left right) known = join_of (lens_of left known) (lens_of right known)
-
--- the sort of a table with these columns and conjuncts, and dependencies whose tree form is a tree
-abbrev pub sort_with : Columns → List Edge → Predicate → Sort
-sort_with columns deps predicate = record { columns = columns; predicate = predicate; tree = tree_or_none (tree_of deps) }
-
--- the lens of a table
-abbrev pub table_lens : Name → Columns → List Edge → Predicate → Lens
-table_lens name columns deps predicate = base name (sort_with columns deps predicate)
-
--- whether the lens is the table of this name itself
-abbrev pub is_table_of : Name → Lens → Bool
-is_table_of name (base of sort) = pointwise nat_eq of name
-is_table_of name (select predicate lens) = false
-is_table_of name (drop column by value lens) = false
-is_table_of name (join left right) = false
-
--- the catalogue with the lens under the name, where there is one
-abbrev pub with_lens : Name → Option Lens → Catalogue → Catalogue
-with_lens name None known = known
-with_lens name (Some lens) known = finmap.insert known name lens
-
--- the catalogue with one definition more
-abbrev pub with_definition : Result Definition Fault → Catalogue → Catalogue
-with_definition (Err fault) known = known
-with_definition (Ok (table name columns deps predicate)) known = with_lens name (Some (table_lens name columns deps predicate)) known
-with_definition (Ok (view name expr)) known = with_lens name (lens_of expr known) known
-
--- the definitions that the texts say, one after another, added to a catalogue
-abbrev pub catalogue_onto : Catalogue → List (List ℕ) → Catalogue
-catalogue_onto known [] = known
-catalogue_onto known (text ∷ texts) = catalogue_onto (with_definition (reading text) known) texts
-
--- the lenses of the definitions, whose texts are taken in order
-abbrev pub catalogue : List (List ℕ) → Catalogue
-catalogue = catalogue_onto finmap.empty
-
 -- the rows of each table
 abbrev pub rows_of_each : List (Name × Relation) → List (Name × Rows)
 rows_of_each tables = map (λ t. (t.0, t.1.rows)) tables
@@ -86,3 +26,7 @@ rows_of_each tables = map (λ t. (t.0, t.1.rows)) tables
 -- what a keeper keeps of a state: the texts and the rows of each table
 abbrev pub kept : State → Kept
 kept s = record { texts = s.texts; rows = finmap.from_entries (rows_of_each (finmap.entries s.tables)) }
+
+-- the answer, and the state as it was
+abbrev pub unchanged : Answer → State → Answer × State
+unchanged answer s = (answer, s)

@@ -4,8 +4,9 @@ use Rattle.std.specs.FinMap as finmap
 use Rattle.lens_specs.specs.Relation.{Name, Relation}
 use Rattle.lens_specs.specs.Sort.{IsOfSort}
 use Rattle.lens_specs.specs.Lens.{Lens, sort_of}
-use Rattle.server_specs.specs.State.{State, catalogue, is_table_of}
-use Rattle.server_specs.specs.Defining.{first_refused}
+use Rattle.catalog_specs.specs.Catalogue.{catalogue, is_table_of}
+use Rattle.catalog_specs.specs.Judging.{first_refused}
+use Rattle.server_specs.specs.State.{State}
 
 -- a relation is there, and of the sort of the lens
 abbrev pub IsRelationOf : Lens → Option Relation → Type 0

@@ -12,13 +12,16 @@ use lens_values::{Name, NoMemory, Text};
 use row_sets::RowSet;
 use signed_delta::TableDelta;
 use std::alloc::Global;
+use thiserror::Error;
 
 /// Why a keeper refused.
-#[derive(Debug, PartialEq, Eq, Drop)]
+#[derive(Debug, PartialEq, Eq, Drop, Error)]
 pub enum KeepFault {
     /// The keeper failed, and its count of faults rose.
+    #[error("the keeper failed")]
     Failed,
     /// Memory ran out.
+    #[error("memory ran out")]
     NoMemory,
 }
 

@@ -1,37 +1,41 @@
 //! Replies to what is taken, as other programs read them.
-use crate::samples::{GOODS, columns, difference, edge, is_line, names, number, rows, text};
+use crate::printed::{number, pair, text};
+use crate::samples::{GOODS, columns, difference, edge, names, prints, replies, rows};
 use lens_pred::{Formula, Formulas, Op};
 use lens_values::Text;
-use request_text::{
-    Answer, Changes, Edges, Texts, changed_text, long_reply, memory_reply, not_json_reply,
-    reply_text, shown_text, store_fault_reply, unbuilt_reply,
-};
+use request_text::{Answer, Changes, Edges, Texts, long_reply, memory_reply, store_fault_reply};
 use signed_delta::TableDelta;
 use std::alloc::Global;
 use std::test::Fail;
 
-// Whether the answer is printed as the line.
-fn prints(alloc: Global, answer: &Answer, line: &str) -> Result<bool, Fail> {
-    Ok(is_line(&reply_text(alloc, answer)?, line))
-}
+// Columns, rows of them, a version, and the answer that shows these.
+const SHOWN: [(&str, &str, u64, &str); 2] = [
+    (
+        GOODS,
+        r#"[{"name":"nail","quantity":1},{"name":"axe","quantity":7}]"#,
+        4,
+        r#"{"ok":true,"rows":[{"name":"axe","quantity":7},{"name":"nail","quantity":1}],"version":4}"#,
+    ),
+    (
+        "album:text quantity:int rating:int track:text",
+        r#"[{"album":"Show","quantity":3,"rating":4,"track":"Lullaby"},{"album":"Disintegration","quantity":7,"rating":5,"track":"Lovesong"}]"#,
+        6,
+        r#"{"ok":true,"rows":[{"album":"Disintegration","quantity":7,"rating":5,"track":"Lovesong"},{"album":"Show","quantity":3,"rating":4,"track":"Lullaby"}],"version":6}"#,
+    ),
+];
 
 #[test]
 fn definitions_and_rows(rt: HostRuntime) -> Result<(), Fail> {
     let alloc = rt.alloc();
-    assert!(rt;
-        prints(
-            alloc,
-            &Answer::Defined { version: 1 },
-            r#"{"ok":true,"version":1}"#
-        )?
-    );
-    let sent = r#"[{"name":"nail","quantity":1},{"name":"axe","quantity":7}]"#;
-    let rows = rows(alloc, GOODS, sent)?;
-    let shown =
-        r#"{"ok":true,"rows":[{"name":"axe","quantity":7},{"name":"nail","quantity":1}],"version":4}"#;
-    assert!(rt; is_line(&shown_text(alloc, &rows, 4)?, shown));
-    assert!(rt; prints(alloc, &Answer::Shown { rows, version: 4 }, shown)?);
-    Ok(())
+    for (cols, json, version, line) in SHOWN {
+        let rows = rows(alloc, cols, json)?;
+        prints(alloc, Answer::Shown { rows, version }, line)?;
+    }
+    prints(
+        alloc,
+        Answer::Defined { version: 1 },
+        r#"{"ok":true,"version":1}"#,
+    )
 }
 
 // The definitions of these texts, at version 2.
@@ -46,66 +50,107 @@ fn listed(alloc: Global, texts: &[&str]) -> Result<Answer, Fail> {
     })
 }
 
+// Texts of definitions, and the answer that lists them.
+const LISTED: [(&[&str], &str); 2] = [
+    (&[], r#"{"definitions":[],"ok":true,"version":2}"#),
+    (
+        &[
+            "table t (a int)",
+            "view v = select from t\n\twhere a != '\"é\\'",
+        ],
+        r#"{"definitions":["table t (a int)","view v = select from t\n\twhere a != '\"é\\'"],"ok":true,"version":2}"#,
+    ),
+];
+
 #[test]
 fn lists_of_definitions(rt: HostRuntime) -> Result<(), Fail> {
-    let alloc = rt.alloc();
-    let none = r#"{"definitions":[],"ok":true,"version":2}"#;
-    assert!(rt; prints(alloc, &listed(alloc, &[])?, none)?);
-    let texts = [
-        "table t (a int)",
-        "view v = select from t\n\twhere a != '\"é\\'",
-    ];
-    let line =
-        r#"{"definitions":["table t (a int)","view v = select from t\n\twhere a != '\"é\\'"],"ok":true,"version":2}"#;
-    assert!(rt; prints(alloc, &listed(alloc, &texts)?, line)?);
+    for (texts, line) in LISTED {
+        prints(rt.alloc(), listed(rt.alloc(), texts)?, line)?;
+    }
     Ok(())
 }
 
-// What is added to the goods, and what is removed from the sold ones.
-fn changes(alloc: Global) -> Result<Vec<TableDelta>, Fail> {
-    let axe = r#"[{"name":"axe","quantity":7}]"#;
-    let saw = r#"[{"name":"saw","quantity":4}]"#;
-    let first = difference(alloc, "goods", GOODS, "[]", axe)?;
-    let second = difference(alloc, "sold", GOODS, saw, "[]")?;
-    Ok(vec![in alloc; first, second]?)
+// A table and its columns, and the rows that are removed and added.
+type Change<'a> = ([&'a str; 2], [&'a str; 2]);
+
+// The answer that these two tables change.
+fn changed(
+    alloc: Global,
+    [(first, of_first), (second, of_second)]: [Change; 2],
+    version: u64,
+) -> Result<Answer, Fail> {
+    let first = difference(alloc, first, of_first)?;
+    let second = difference(alloc, second, of_second)?;
+    Ok(Answer::Changed {
+        changed: Changes::new(vec![in alloc; first, second]?),
+        version,
+    })
 }
+
+// Changes of two tables, the version after them, and the answer.
+const CHANGED: [([Change; 2], u64, &str); 2] = [
+    (
+        [
+            (["goods", GOODS], ["[]", r#"[{"name":"axe","quantity":7}]"#]),
+            (["sold", GOODS], [r#"[{"name":"saw","quantity":4}]"#, "[]"]),
+        ],
+        4,
+        r#"{"changed":[{"add":[{"name":"axe","quantity":7}],"remove":[],"table":"goods"},{"add":[],"remove":[{"name":"saw","quantity":4}],"table":"sold"}],"ok":true,"version":4}"#,
+    ),
+    (
+        [
+            (
+                ["albums", "album:text quantity:int"],
+                [
+                    r#"[{"album":"Disintegration","quantity":6}]"#,
+                    r#"[{"album":"Disintegration","quantity":7}]"#,
+                ],
+            ),
+            (
+                ["tracks", "track:text date:int rating:int album:text"],
+                [
+                    r#"[{"track":"Lullaby","date":1989,"rating":3,"album":"Show"},{"track":"Lullaby","date":1989,"rating":3,"album":"Galore"},{"track":"Trust","date":1992,"rating":4,"album":"Wish"},{"track":"Lovesong","date":1989,"rating":5,"album":"Paris"}]"#,
+                    r#"[{"track":"Lullaby","date":1989,"rating":4,"album":"Show"},{"track":"Lullaby","date":1989,"rating":4,"album":"Galore"},{"track":"Lovesong","date":1989,"rating":5,"album":"Disintegration"}]"#,
+                ],
+            ),
+        ],
+        6,
+        r#"{"changed":[{"add":[{"album":"Disintegration","quantity":7}],"remove":[{"album":"Disintegration","quantity":6}],"table":"albums"},{"add":[{"album":"Disintegration","date":1989,"rating":5,"track":"Lovesong"},{"album":"Galore","date":1989,"rating":4,"track":"Lullaby"},{"album":"Show","date":1989,"rating":4,"track":"Lullaby"}],"remove":[{"album":"Galore","date":1989,"rating":3,"track":"Lullaby"},{"album":"Paris","date":1989,"rating":5,"track":"Lovesong"},{"album":"Show","date":1989,"rating":3,"track":"Lullaby"},{"album":"Wish","date":1992,"rating":4,"track":"Trust"}],"table":"tracks"}],"ok":true,"version":6}"#,
+    ),
+];
 
 #[test]
 fn changes_of_tables(rt: HostRuntime) -> Result<(), Fail> {
-    let alloc = rt.alloc();
-    let line =
-        r#"{"changed":[{"add":[{"name":"axe","quantity":7}],"remove":[],"table":"goods"},{"add":[],"remove":[{"name":"saw","quantity":4}],"table":"sold"}],"ok":true,"version":4}"#;
-    let list = changes(alloc)?;
-    assert!(rt; is_line(&changed_text(alloc, &list, 4)?, line));
-    let changed = Changes::new(Changes::new(list).into_list());
-    assert!(rt;
-        prints(
-            alloc,
-            &Answer::Changed {
-                changed,
-                version: 4
-            },
-            line
-        )?
-    );
+    for (tables, version, line) in CHANGED {
+        prints(rt.alloc(), changed(rt.alloc(), tables, version)?, line)?;
+    }
     Ok(())
 }
 
 // One of two comparisons, with a quote of each kind and the least number.
 fn either(alloc: Global) -> Result<Formula, Fail> {
     let first = text(alloc, "name", "it's \"é\"")?;
-    let second = number("quantity", Op::Eq, -9223372036854775808)?;
-    Ok(Formula::Or(Formulas::new(vec![in alloc; first, second]?)))
+    let second = number("quantity", Op::Eq, i64::MIN)?;
+    Ok(Formula::Or(pair(alloc, first, second)?))
+}
+
+// The conjuncts of the view.
+fn conjuncts(alloc: Global) -> Result<Formulas, Fail> {
+    pair(alloc, number("quantity", Op::Gt, 2)?, either(alloc)?)
+}
+
+// The one edge of the view.
+fn edges(alloc: Global) -> Result<Edges, Fail> {
+    let edge = edge(alloc, "name", "quantity")?;
+    Ok(Edges::new(vec![in alloc; edge]?))
 }
 
 // What a view of two columns is.
 fn view(alloc: Global) -> Result<Answer, Fail> {
-    let edge = edge(alloc, "name", "quantity")?;
-    let conjuncts = vec![in alloc; number("quantity", Op::Gt, 2)?, either(alloc)?]?;
     Ok(Answer::Described {
         columns: columns(alloc, GOODS)?,
-        edges: Edges::new(vec![in alloc; edge]?),
-        conjuncts: Formulas::new(conjuncts),
+        edges: edges(alloc)?,
+        conjuncts: conjuncts(alloc)?,
         tables: names(alloc, "stock goods")?,
         version: 18446744073709551615,
     })
@@ -127,29 +172,46 @@ fn descriptions(rt: HostRuntime) -> Result<(), Fail> {
     let alloc = rt.alloc();
     let line =
         r#"{"columns":{"sold":"bool"},"dependencies":[],"ok":true,"predicate":[],"tables":["goods"],"version":1}"#;
-    assert!(rt; prints(alloc, &table(alloc)?, line)?);
+    prints(alloc, table(alloc)?, line)?;
     let line =
         r#"{"columns":{"name":"text","quantity":"int"},"dependencies":[{"left":["name"],"right":["quantity"]}],"ok":true,"predicate":["quantity > 2","name = 'it''s \"é\"' or quantity = -9223372036854775808"],"tables":["goods","stock"],"version":18446744073709551615}"#;
-    assert!(rt; prints(alloc, &view(alloc)?, line)?);
-    Ok(())
+    prints(alloc, view(alloc)?, line)
 }
 
 #[test]
-fn replies_that_take_no_memory(rt: HostRuntime) {
-    assert!(rt; is_line(&memory_reply(), r#"{"error":1,"ok":false}"#));
-    assert!(rt; is_line(&long_reply(), r#"{"error":10,"ok":false}"#));
-    assert!(rt; is_line(&not_json_reply(), r#"{"error":11,"ok":false}"#));
-    assert!(rt; is_line(&store_fault_reply(), r#"{"error":90,"ok":false}"#));
-    assert!(rt; is_line(&unbuilt_reply(), r#"{"error":99,"ok":false}"#));
+fn replies_that_take_no_memory() -> Result<(), Fail> {
+    replies(&memory_reply(), r#"{"error":1,"ok":false}"#)?;
+    replies(&long_reply(), r#"{"error":10,"ok":false}"#)?;
+    replies(&store_fault_reply(), r#"{"error":90,"ok":false}"#)
 }
+
+// The answer that has this number and no values.
+fn plain(number: u8) -> Result<Answer, Fail> {
+    match number {
+        1 => Ok(Answer::Memory),
+        10 => Ok(Answer::TooLong),
+        11 => Ok(Answer::NotJson),
+        30 => Ok(Answer::DefaultRefused),
+        90 => Ok(Answer::StoreFault),
+        99 => Ok(Answer::Unbuilt),
+        _ => Err(Fail::from("no answer")),
+    }
+}
+
+// Numbers of answers, and their lines.
+const PLAIN: [(u8, &str); 6] = [
+    (1, r#"{"error":1,"ok":false}"#),
+    (10, r#"{"error":10,"ok":false}"#),
+    (11, r#"{"error":11,"ok":false}"#),
+    (30, r#"{"error":30,"ok":false}"#),
+    (90, r#"{"error":90,"ok":false}"#),
+    (99, r#"{"error":99,"ok":false}"#),
+];
 
 #[test]
 fn answers_without_values(rt: HostRuntime) -> Result<(), Fail> {
-    let alloc = rt.alloc();
-    assert!(rt; prints(alloc, &Answer::Memory, r#"{"error":1,"ok":false}"#)?);
-    assert!(rt; prints(alloc, &Answer::TooLong, r#"{"error":10,"ok":false}"#)?);
-    assert!(rt; prints(alloc, &Answer::NotJson, r#"{"error":11,"ok":false}"#)?);
-    assert!(rt; prints(alloc, &Answer::StoreFault, r#"{"error":90,"ok":false}"#)?);
-    assert!(rt; prints(alloc, &Answer::Unbuilt, r#"{"error":99,"ok":false}"#)?);
+    for (number, line) in PLAIN {
+        prints(rt.alloc(), plain(number)?, line)?;
+    }
     Ok(())
 }

@@ -1,4 +1,5 @@
 //! What sources give and sinks take, call after call.
+use crate::samples::expect;
 use lens_io::{
     Cut, Failed, LineCutter, MemorySink, MemorySource, Sink, Source, StreamSink, StreamSource,
     SureSource, give_all,
@@ -7,10 +8,11 @@ use std::alloc::Global;
 use std::collections::VecDeque;
 use std::test::Fail;
 
-// Whether a call with room for three bytes gives so many, and these.
-fn gives<S: Source>(source: &mut S, count: Result<usize, Failed>, bytes: &[u8]) -> bool {
+// Fails where a call with room for three bytes does not give so many, none for a fault, and these.
+fn gives<S: Source>(source: &mut S, count: Option<usize>, bytes: &str) -> Result<(), Fail> {
     let mut into = *b"---";
-    source.take(&mut into) == count && into.as_slice() == bytes
+    let given = source.take(&mut into).ok() == count;
+    expect(given && into.as_slice() == bytes.as_bytes(), bytes)
 }
 
 // The letters a to e, two a call; the second call fails.
@@ -19,57 +21,69 @@ fn letters(alloc: Global) -> Result<MemorySource, Fail> {
     Ok(MemorySource::new(bytes, 2, vec![in alloc; 2]?))
 }
 
+// What the calls give, none for a fault, and how many faults there were before.
+const PIECES: [(Option<usize>, &str, u64); 5] = [
+    (Some(2), "ab-", 0),
+    (None, "---", 0),
+    (Some(2), "cd-", 1),
+    (Some(1), "e--", 1),
+    (Some(0), "---", 1),
+];
+
 #[test]
 fn sources_in_pieces(rt: HostRuntime) -> Result<(), Fail> {
-    let alloc = rt.alloc();
-    let mut source = letters(alloc)?;
-    assert!(rt; gives(&mut source, Ok(2), b"ab-"));
-    assert!(rt; source.faults() == 0);
-    assert!(rt; gives(&mut source, Err(Failed), b"---"));
-    assert!(rt; gives(&mut source, Ok(2), b"cd-"));
-    assert!(rt; gives(&mut source, Ok(1), b"e--"));
-    assert!(rt; gives(&mut source, Ok(0), b"---"));
-    assert!(rt; source.faults() == 1);
+    let mut source = letters(rt.alloc())?;
+    for (count, bytes, faults) in PIECES {
+        expect(source.faults() == faults, bytes)?;
+        gives(&mut source, count, bytes)?;
+    }
     Ok(())
 }
+
+// What the calls give.
+const GIVEN: [(Option<usize>, &str); 3] = [(Some(3), "abc"), (Some(2), "de-"), (Some(0), "---")];
 
 #[test]
 fn sources_that_do_not_fail(rt: HostRuntime) -> Result<(), Fail> {
-    let alloc = rt.alloc();
-    let mut source = SureSource::new(Vec::from_slice(alloc, b"abcde")?);
-    assert!(rt; gives(&mut source, Ok(3), b"abc"));
-    assert!(rt; gives(&mut source, Ok(2), b"de-"));
-    assert!(rt; gives(&mut source, Ok(0), b"---"));
+    let mut source = SureSource::new(Vec::from_slice(rt.alloc(), b"abcde")?);
+    for (count, bytes) in GIVEN {
+        gives(&mut source, count, bytes)?;
+    }
     Ok(())
 }
+
+// Pieces, and how many bytes are taken of them, none for a fault.
+const TAKEN: [(&str, Option<usize>); 3] = [("abc", Some(2)), ("c", Some(1)), ("d", None)];
 
 #[test]
 fn sinks_have_room(rt: HostRuntime) -> Result<(), Fail> {
-    let alloc = rt.alloc();
-    let mut sink = MemorySink::new(alloc, 3, 2, Vec::new(alloc))?;
-    assert!(rt; sink.give(b"abc") == Ok(2));
-    assert!(rt; sink.give(b"c") == Ok(1));
-    assert!(rt; sink.give(b"d") == Err(Failed));
-    assert!(rt; sink.faults() == 1);
-    assert!(rt; sink.bytes() == b"abc".as_slice());
-    Ok(())
+    let mut sink = MemorySink::new(rt.alloc(), 3, 2, Vec::new(rt.alloc()))?;
+    for (piece, count) in TAKEN {
+        expect(sink.give(piece.as_bytes()).ok() == count, piece)?;
+    }
+    expect(
+        sink.faults() == 1 && sink.bytes() == b"abc".as_slice(),
+        "abc",
+    )
 }
 
-// Whether a sink with so much room, two bytes a call, whose call of this number fails, has these of
-// five bytes.
-fn takes(alloc: Global, room: usize, failing: u64, bytes: &[u8]) -> Result<bool, Fail> {
+// Fails where a sink with so much room, two bytes a call, whose call of this number fails, does not
+// have these of five bytes.
+fn takes(alloc: Global, room: usize, failing: u64, bytes: &str) -> Result<(), Fail> {
     let mut sink = MemorySink::new(alloc, room, 2, vec![in alloc; failing]?)?;
     let all = give_all(&mut sink, b"abcde").is_ok();
-    Ok(sink.bytes() == bytes && all == (bytes.len() == 5))
+    let whole = all == (bytes.len() == 5);
+    expect(whole && sink.bytes() == bytes.as_bytes(), bytes)
 }
+
+// The room of a sink, its call that fails, and the bytes that it has.
+const FRONTS: [(usize, u64, &str); 4] = [(5, 9, "abcde"), (4, 9, "abcd"), (5, 2, "ab"), (0, 9, "")];
 
 #[test]
 fn sinks_take_a_front(rt: HostRuntime) -> Result<(), Fail> {
-    let alloc = rt.alloc();
-    assert!(rt; takes(alloc, 5, 9, b"abcde")?);
-    assert!(rt; takes(alloc, 4, 9, b"abcd")?);
-    assert!(rt; takes(alloc, 5, 2, b"ab")?);
-    assert!(rt; takes(alloc, 0, 9, b"")?);
+    for (room, failing, bytes) in FRONTS {
+        takes(rt.alloc(), room, failing, bytes)?;
+    }
     Ok(())
 }
 
@@ -82,17 +96,18 @@ fn written(alloc: Global, bytes: &[u8]) -> Result<VecDeque<u8>, Fail> {
     }
 }
 
-// Whether the next line is this one.
-fn cuts<S: Source>(cutter: &mut LineCutter, source: &mut S, line: &[u8]) -> bool {
-    !cutter.done() && cutter.next(source) == Cut::Line && cutter.line() == line
+// Fails where the next line is not this one.
+fn cuts<S: Source>(cutter: &mut LineCutter, source: &mut S, line: &str) -> Result<(), Fail> {
+    let cut = !cutter.done() && cutter.next(source) == Cut::Line;
+    expect(cut && cutter.line() == line.as_bytes(), line)
 }
 
 #[test]
 fn streams_of_std(rt: HostRuntime) -> Result<(), Fail> {
-    let alloc = rt.alloc();
-    let mut source = StreamSource::new(written(alloc, b"x\ny")?);
-    let mut cutter = LineCutter::new(alloc, 100)?;
-    assert!(rt; cuts(&mut cutter, &mut source, b"x"));
-    assert!(rt; cuts(&mut cutter, &mut source, b"y"));
+    let mut source = StreamSource::new(written(rt.alloc(), b"x\ny")?);
+    let mut cutter = LineCutter::new(rt.alloc(), 100)?;
+    for line in ["x", "y"] {
+        cuts(&mut cutter, &mut source, line)?;
+    }
     Ok(())
 }

@@ -4,6 +4,7 @@ ghost use Rattle.lens_specs.specs.Keeping as keeping;
 ghost use Rattle.lens_values.specs.SortedSet as set;
 ghost use Rattle.table_keeper.specs.Changes.{change_view};
 
+use crate::samples::expect;
 use lens_values::{Name, Row, Text, Value};
 use row_sets::RowSet;
 use signed_delta::{Delta, TableDelta};
@@ -20,12 +21,15 @@ fn definition(alloc: Global, text: &str, table: Option<Name>) -> Result<Change, 
     Ok(Change::Define { text, table })
 }
 
-// The set of the row with this number in the column k.
+// The row with this number in the column k.
+fn row(alloc: Global, number: i64) -> Result<Row, Fail> {
+    let pairs = vec![in alloc; (Name::new("k")?, Value::Int(number))]?;
+    Ok(Row::new(alloc, pairs)?)
+}
+
+// The set of the row with this number.
 fn one_row(alloc: Global, number: i64) -> Result<RowSet, Fail> {
-    let mut pairs = Vec::new(alloc);
-    pairs.push((Name::new("k")?, Value::Int(number)))?;
-    let mut rows = Vec::new(alloc);
-    rows.push(Row::new(alloc, pairs)?)?;
+    let rows = vec![in alloc; row(alloc, number)?]?;
     Ok(RowSet::new(alloc, rows)?)
 }
 
@@ -53,52 +57,74 @@ fn with_a_row(alloc: Global, name: Name) -> Result<SureKeeper, Fail> {
     Ok(keeper)
 }
 
-// Whether this is one definition and the one table n with the row of 1.
-fn is_kept(alloc: Global, kept: &Kept) -> Result<bool, Fail> {
-    let text = kept.definitions.first().ok_or("no definition")?;
+// Fails where the first definition is not this one.
+fn is_defined(definitions: &[Text], text: &str) -> Result<(), Fail> {
+    let first = definitions.first().ok_or("no definition")?;
+    expect(definitions.len() == 1 && first.as_str() == text, text)
+}
+
+// Fails where this is not one definition and the one table n with the row of 1.
+fn is_kept(alloc: Global, kept: &Kept) -> Result<(), Fail> {
+    is_defined(&kept.definitions, "table n (k int)")?;
     let table = kept.tables.first().ok_or("no table")?;
-    let first = text.as_str() == "table n (k int)" && table.table.as_str() == "n";
-    let alone = kept.definitions.len() == 1 && kept.tables.len() == 1;
-    Ok(first && alone && table.rows.rows() == one_row(alloc, 1)?.rows())
+    let alone = kept.tables.len() == 1 && table.table.as_str() == "n";
+    expect(
+        alone && table.rows.rows() == one_row(alloc, 1)?.rows(),
+        "rows",
+    )
 }
 
 #[test]
 fn keeps_a_table_and_its_rows(rt: HostRuntime) -> Result<(), Fail> {
     let alloc = rt.alloc();
     let mut keeper = with_a_row(alloc, Name::new("n")?)?;
-    assert!(rt; is_kept(alloc, &keeper.load(alloc)?)?);
+    is_kept(alloc, &keeper.load(alloc)?)?;
     keeper.attach(alloc, "x")?;
-    assert!(rt; is_kept(alloc, &keeper.load(alloc)?)?);
-    assert!(rt; is_kept(alloc, keeper.kept())?);
-    Ok(())
+    is_kept(alloc, &keeper.load(alloc)?)?;
+    is_kept(alloc, keeper.kept())
 }
 
 #[test]
 fn holds_nothing_at_first(rt: HostRuntime) -> Result<(), Fail> {
     let alloc = rt.alloc();
     let kept = SureKeeper::holding(Kept::nothing(alloc)).load(alloc)?;
-    assert!(rt; kept.definitions.is_empty());
-    assert!(rt; kept.tables.is_empty());
-    Ok(())
+    expect(
+        kept.definitions.is_empty() && kept.tables.is_empty(),
+        "nothing",
+    )
 }
 
 // A keeper of nothing, whose second call fails.
 fn second_fails(alloc: Global) -> Result<MemoryKeeper, Fail> {
-    let mut failing = Vec::new(alloc);
-    failing.push(2)?;
+    let failing = vec![in alloc; 2]?;
     Ok(MemoryKeeper::holding(Kept::nothing(alloc), failing))
 }
+
+fn told(answer: Result<(), KeepFault>) -> &'static str {
+    match answer {
+        Ok(()) => "done",
+        Err(KeepFault::Failed) => "failed",
+        Err(KeepFault::NoMemory) => "no memory",
+    }
+}
+
+// What the keeper answers to the definition of a view.
+fn commit_view(alloc: Global, keeper: &mut MemoryKeeper) -> Result<&'static str, Fail> {
+    let change = definition(alloc, "view v = n", None)?;
+    Ok(told(keeper.commit(alloc, &change)))
+}
+
+// What the keeper answers to each commit, and how many definitions it has then.
+const COMMITS: [(&str, usize); 3] = [("done", 1), ("failed", 1), ("done", 2)];
 
 #[test]
 fn fails_at_the_listed_calls(rt: HostRuntime) -> Result<(), Fail> {
     let alloc = rt.alloc();
     let mut keeper = second_fails(alloc)?;
-    let change = definition(alloc, "view v = n", None)?;
-    keeper.commit(alloc, &change)?;
-    assert!(rt; keeper.commit(alloc, &change) == Err(KeepFault::Failed));
-    assert!(rt; keeper.kept().definitions.len() == 1);
-    keeper.commit(alloc, &change)?;
-    assert!(rt; keeper.load(alloc)?.definitions.len() == 2);
+    for (answer, count) in COMMITS {
+        expect(commit_view(alloc, &mut keeper)? == answer, answer)?;
+        expect(keeper.kept().definitions.len() == count, answer)?;
+    }
     keeper.attach(alloc, "x")?;
-    Ok(())
+    expect(keeper.load(alloc)?.definitions.len() == 2, "definitions")
 }

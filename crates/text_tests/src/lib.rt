@@ -4,6 +4,8 @@
 #[cfg(test)]
 mod answers;
 #[cfg(test)]
+mod catalogs;
+#[cfg(test)]
 mod cuts;
 #[cfg(test)]
 mod definitions;
@@ -21,5 +23,3 @@ mod refusals;
 mod requests;
 #[cfg(test)]
 mod samples;
-#[cfg(test)]
-mod script;

@@ -1,100 +1,130 @@
 //! Formulas and definitions that are printed.
-use crate::samples::{columns, names, number, text};
+use crate::samples::{columns, expect, names};
 use fd_closure::Dep;
 use lens_pred::{Formula, Formulas, Op, Pred, Values};
-use lens_values::{Name, Value};
+use lens_values::{Name, Text, Value};
 use std::alloc::Global;
 use std::test::Fail;
 use view_lang::{Definition, Deps, Expr, print, print_formula};
 
-// Whether the formula is printed so.
-fn is_printed(alloc: Global, formula: &Formula, text: &str) -> Result<bool, Fail> {
-    Ok(print_formula(alloc, formula)?.as_str() == text)
+// Fails where the formula is not printed so.
+fn is_formula(alloc: Global, formula: Formula, text: &str) -> Result<(), Fail> {
+    expect(print_formula(alloc, &formula)?.as_str() == text, text)
 }
 
-// The column a in these numbers.
-fn one_of(alloc: Global, numbers: [i64; 2]) -> Result<Formula, Fail> {
-    let values = vec![in alloc; Value::Int(numbers[0]), Value::Int(numbers[1])]?;
-    Ok(Formula::OneOf {
-        col: Name::new("a")?,
-        values: Values::new(values),
-    })
+// Fails where the definition is not printed so.
+fn is_definition(alloc: Global, definition: Definition, text: &str) -> Result<(), Fail> {
+    expect(print(alloc, &definition)?.as_str() == text, text)
 }
 
-// `a <= c`.
-fn at_most() -> Result<Formula, Fail> {
-    Ok(Formula::CompareCols {
-        col: Name::new("a")?,
-        op: Op::Le,
-        other: Name::new("c")?,
-    })
+/// The column against a number.
+pub(crate) fn number(col: &str, op: Op, number: i64) -> Result<Formula, Fail> {
+    let col = Name::new(col)?;
+    let value = Value::Int(number);
+    Ok(Formula::Compare { col, op, value })
+}
+
+/// The column is the text.
+pub(crate) fn text(alloc: Global, col: &str, text: &str) -> Result<Formula, Fail> {
+    let col = Name::new(col)?;
+    let value = Value::Text(Text::new(alloc, text)?);
+    let op = Op::Eq;
+    Ok(Formula::Compare { col, op, value })
 }
 
 // `c = true`.
 fn flagged() -> Result<Formula, Fail> {
-    Ok(Formula::Compare {
-        col: Name::new("c")?,
-        op: Op::Eq,
-        value: Value::Flag(true),
-    })
+    let col = Name::new("c")?;
+    let value = Value::Flag(true);
+    let op = Op::Eq;
+    Ok(Formula::Compare { col, op, value })
 }
+
+// `a <= c`.
+fn at_most() -> Result<Formula, Fail> {
+    let col = Name::new("a")?;
+    let other = Name::new("c")?;
+    let op = Op::Le;
+    Ok(Formula::CompareCols { col, op, other })
+}
+
+// The column a in these numbers.
+fn one_of(alloc: Global, [first, second]: [i64; 2]) -> Result<Formula, Fail> {
+    let col = Name::new("a")?;
+    let values = Values::new(vec![in alloc; Value::Int(first), Value::Int(second)]?);
+    Ok(Formula::OneOf { col, values })
+}
+
+// Columns against numbers, as they are printed.
+const NUMBERS: [(Op, i64, &str); 2] = [
+    (Op::Ge, -5, "a >= -5"),
+    (Op::Ne, i64::MIN, "a != -9223372036854775808"),
+];
 
 #[test]
 fn comparisons_are_printed(rt: HostRuntime) -> Result<(), Fail> {
     let alloc = rt.alloc();
-    assert!(rt; is_printed(alloc, &Formula::True, "true")?);
-    assert!(rt; is_printed(alloc, &Formula::False, "false")?);
-    assert!(rt; is_printed(alloc, &number("a", Op::Ge, -5)?, "a >= -5")?);
-    assert!(rt;
-        is_printed(
-            alloc,
-            &number("a", Op::Ne, i64::MIN)?,
-            "a != -9223372036854775808"
-        )?
-    );
-    assert!(rt; is_printed(alloc, &text(alloc, "b", "it's ''")?, "b = 'it''s '''''")?);
-    assert!(rt; is_printed(alloc, &one_of(alloc, [1, -2])?, "a in (1, -2)")?);
-    assert!(rt; is_printed(alloc, &flagged()?, "c = true")?);
-    assert!(rt; is_printed(alloc, &at_most()?, "a <= c")?);
-    Ok(())
+    for (op, value, printed) in NUMBERS {
+        is_formula(alloc, number("a", op, value)?, printed)?;
+    }
+    is_formula(alloc, text(alloc, "b", "it's ''")?, "b = 'it''s '''''")?;
+    is_formula(alloc, one_of(alloc, [1, -2])?, "a in (1, -2)")?;
+    is_formula(alloc, flagged()?, "c = true")?;
+    is_formula(alloc, at_most()?, "a <= c")
 }
 
 fn not(alloc: Global, formula: Formula) -> Result<Formula, Fail> {
     Ok(Formula::Not(Box::new(alloc, formula)?))
 }
 
-fn both(alloc: Global, first: Formula, second: Formula) -> Result<Formula, Fail> {
-    Ok(Formula::And(Formulas::new(vec![in alloc; first, second]?)))
+/// The two formulas, in this order.
+pub(crate) fn pair(alloc: Global, first: Formula, second: Formula) -> Result<Formulas, Fail> {
+    Ok(Formulas::new(vec![in alloc; first, second]?))
 }
 
-fn either(alloc: Global, first: Formula, second: Formula) -> Result<Formula, Fail> {
-    Ok(Formula::Or(Formulas::new(vec![in alloc; first, second]?)))
+// `a < 3` and `b = 'x'`, to be joined.
+fn small_x(alloc: Global) -> Result<Formulas, Fail> {
+    pair(alloc, number("a", Op::Lt, 3)?, text(alloc, "b", "x")?)
 }
 
 // `a < 3 or b = 'x'`.
 fn small_or_x(alloc: Global) -> Result<Formula, Fail> {
-    either(alloc, number("a", Op::Lt, 3)?, text(alloc, "b", "x")?)
+    Ok(Formula::Or(small_x(alloc)?))
 }
 
 // `a < 3 and b = 'x'`.
 fn small_and_x(alloc: Global) -> Result<Formula, Fail> {
-    both(alloc, number("a", Op::Lt, 3)?, text(alloc, "b", "x")?)
+    Ok(Formula::And(small_x(alloc)?))
+}
+
+// `true`, and a formula within it.
+fn within(alloc: Global) -> Result<Formula, Fail> {
+    Ok(Formula::And(pair(alloc, small_or_x(alloc)?, Formula::True)?))
+}
+
+// `false`, or a formula beside it.
+fn beside(alloc: Global) -> Result<Formula, Fail> {
+    Ok(Formula::Or(pair(alloc, Formula::False, small_and_x(alloc)?)?))
 }
 
 #[test]
 fn nested_formulas_are_printed(rt: HostRuntime) -> Result<(), Fail> {
     let alloc = rt.alloc();
-    assert!(rt; is_printed(alloc, &small_or_x(alloc)?, "a < 3 or b = 'x'")?);
-    assert!(rt; is_printed(alloc, &small_and_x(alloc)?, "a < 3 and b = 'x'")?);
-    let negated = not(alloc, small_and_x(alloc)?)?;
-    assert!(rt; is_printed(alloc, &negated, "not (a < 3 and b = 'x')")?);
-    let within = both(alloc, small_or_x(alloc)?, Formula::True)?;
-    assert!(rt; is_printed(alloc, &within, "(a < 3 or b = 'x') and true")?);
-    let open = either(alloc, Formula::False, small_and_x(alloc)?)?;
-    assert!(rt; is_printed(alloc, &open, "false or a < 3 and b = 'x'")?);
-    let twice = not(alloc, not(alloc, number("a", Op::Lt, 3)?)?)?;
-    assert!(rt; is_printed(alloc, &twice, "not not a < 3")?);
-    Ok(())
+    is_formula(alloc, Formula::True, "true")?;
+    is_formula(alloc, Formula::False, "false")?;
+    is_formula(alloc, small_or_x(alloc)?, "a < 3 or b = 'x'")?;
+    is_formula(alloc, small_and_x(alloc)?, "a < 3 and b = 'x'")?;
+    is_formula(alloc, within(alloc)?, "(a < 3 or b = 'x') and true")?;
+    is_formula(alloc, beside(alloc)?, "false or a < 3 and b = 'x'")
+}
+
+#[test]
+fn negations_are_printed(rt: HostRuntime) -> Result<(), Fail> {
+    let alloc = rt.alloc();
+    let both = small_and_x(alloc)?;
+    is_formula(alloc, not(alloc, both)?, "not (a < 3 and b = 'x')")?;
+    let once = not(alloc, number("a", Op::Lt, 3)?)?;
+    is_formula(alloc, not(alloc, once)?, "not not a < 3")
 }
 
 // The dependency of a -> b, alone.
@@ -103,86 +133,76 @@ fn a_to_b(alloc: Global) -> Result<Deps, Fail> {
     Ok(Deps::new(vec![in alloc; dep]?))
 }
 
+// `(a < 3 or b = 'x') and not a in (1, 2)`.
+fn few(alloc: Global) -> Result<Pred, Fail> {
+    let few = not(alloc, one_of(alloc, [1, 2])?)?;
+    Ok(Pred::new(pair(alloc, small_or_x(alloc)?, few)?.into_list())?)
+}
+
 // The table w.
 fn table(alloc: Global) -> Result<Definition, Fail> {
-    let few = not(alloc, one_of(alloc, [1, 2])?)?;
     Ok(Definition::Table {
         name: Name::new("w")?,
         cols: columns(alloc, "b:text a:int")?,
         deps: a_to_b(alloc)?,
-        pred: Pred::new(vec![in alloc; small_or_x(alloc)?, few]?)?,
+        pred: few(alloc)?,
     })
 }
 
 #[test]
 fn tables_are_printed(rt: HostRuntime) -> Result<(), Fail> {
-    let alloc = rt.alloc();
     let text = "table w (a int, b text) with a -> b where (a < 3 or b = 'x') and not a in (1, 2)";
-    assert!(rt; print(alloc, &table(alloc)?)?.as_str() == text);
-    Ok(())
+    is_definition(rt.alloc(), table(rt.alloc())?, text)
 }
 
 fn named(word: &str) -> Result<Expr, Fail> {
-    Ok(Expr::Named {
-        name: Name::new(word)?,
-    })
+    let name = Name::new(word)?;
+    Ok(Expr::Named { name })
 }
 
 fn joined(alloc: Global, left: Expr, right: Expr) -> Result<Expr, Fail> {
-    Ok(Expr::Join {
-        left: Box::new(alloc, left)?,
-        right: Box::new(alloc, right)?,
-    })
-}
-
-// The tracks joined with the albums.
-fn tracks_and_albums(alloc: Global) -> Result<Expr, Fail> {
-    joined(alloc, named("tracks")?, named("albums")?)
+    let left = Box::new(alloc, left)?;
+    let right = Box::new(alloc, right)?;
+    Ok(Expr::Join { left, right })
 }
 
 fn selected(alloc: Global, conjunct: Formula, of: Expr) -> Result<Expr, Fail> {
-    Ok(Expr::Select {
-        pred: Pred::new(vec![in alloc; conjunct]?)?,
-        of: Box::new(alloc, of)?,
-    })
+    let pred = Pred::new(vec![in alloc; conjunct]?)?;
+    let of = Box::new(alloc, of)?;
+    Ok(Expr::Select { pred, of })
 }
 
-// Without the date, which the track determines.
-fn dropped(alloc: Global, of: Expr) -> Result<Expr, Fail> {
+// The tracks joined with the albums, without the date, which the track determines.
+fn dropped(alloc: Global) -> Result<Expr, Fail> {
     Ok(Expr::Drop {
         col: Name::new("date")?,
         by: names(alloc, "track")?,
         fill: Value::Int(2018),
-        of: Box::new(alloc, of)?,
+        of: Box::new(alloc, joined(alloc, named("tracks")?, named("albums")?)?)?,
     })
 }
 
 // A join under a drop under a select beside a name.
 fn nested(alloc: Global) -> Result<Expr, Fail> {
-    let under = dropped(alloc, tracks_and_albums(alloc)?)?;
-    joined(
-        alloc,
-        selected(alloc, small_or_x(alloc)?, under)?,
-        named("t")?,
-    )
+    let left = selected(alloc, small_or_x(alloc)?, dropped(alloc)?)?;
+    joined(alloc, left, named("t")?)
 }
 
-// Whether the view v of the expression is printed so.
-fn is_view(alloc: Global, expr: Expr, text: &str) -> Result<bool, Fail> {
+// Fails where the view v of the expression is not printed so.
+fn is_view(alloc: Global, expr: Expr, text: &str) -> Result<(), Fail> {
     let name = Name::new("v")?;
-    Ok(print(alloc, &Definition::View { name, expr })?.as_str() == text)
+    is_definition(alloc, Definition::View { name, expr }, text)
 }
 
 #[test]
 fn views_are_printed(rt: HostRuntime) -> Result<(), Fail> {
     let alloc = rt.alloc();
-    assert!(rt; is_view(alloc, named("t")?, "view v = t")?);
+    is_view(alloc, named("t")?, "view v = t")?;
     let small = selected(alloc, number("a", Op::Lt, 3)?, named("t")?)?;
-    assert!(rt; is_view(alloc, small, "view v = select from t where a < 3")?);
+    is_view(alloc, small, "view v = select from t where a < 3")?;
     let text = "view v = drop date determined by (track, 2018) from (join_dl tracks with albums)";
-    assert!(rt; is_view(alloc, dropped(alloc, tracks_and_albums(alloc)?)?, text)?);
+    is_view(alloc, dropped(alloc)?, text)?;
     let text =
         "view v = join_dl (select from (drop date determined by (track, 2018) from (join_dl tracks with albums)) where a < 3 or b = 'x') with t";
-    assert!(rt; is_view(alloc, nested(alloc)?, text)?);
-    Ok(())
+    is_view(alloc, nested(alloc)?, text)
 }

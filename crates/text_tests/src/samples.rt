@@ -1,12 +1,29 @@
-//! Values that tests write as texts.
+//! Values that tests write as texts, and comparisons that name the case that fails.
 use fd_tree::Edge;
-use lens_pred::{Formula, Op};
-use lens_values::{Columns, Kind, Name, Names, NoMemory, Row, Text, Value};
-use request_text::{JsonRows, Reply, Request, read_request, rows_of};
+use lens_values::{Columns, Kind, Name, Names, NoMemory, Row};
+use request_text::{
+    Answer, JsonRows, Reply, Request, RowList, RowsFault, read_request, reply_text, rows_of,
+};
 use row_sets::RowSet;
 use signed_delta::{Delta, TableDelta};
 use std::alloc::Global;
 use std::test::Fail;
+
+/// Fails, with the case, where something does not hold of it.
+pub(crate) fn expect(holds: bool, case: &str) -> Result<(), Fail> {
+    if holds { Ok(()) } else { Err(Fail::from(case)) }
+}
+
+/// The front, the piece so many times, the middle, and the end as often.
+pub(crate) fn around(
+    alloc: Global,
+    [front, piece, middle, end]: [&str; 4],
+    count: usize,
+) -> Result<String, Fail> {
+    let pieces = piece.repeat(alloc, count)?;
+    let ends = end.repeat(alloc, count)?;
+    Ok(format!(in alloc; "{front}{pieces}{middle}{ends}")?)
+}
 
 /// The names that the text lists, as `a b`.
 pub(crate) fn names(alloc: Global, text: &str) -> Result<Names, Fail> {
@@ -27,12 +44,17 @@ fn kind(word: &str) -> Result<Kind, Fail> {
     }
 }
 
+// The name and the kind of a column, as `a:int`.
+fn column(word: &str) -> Result<(Name, Kind), Fail> {
+    let (name, of) = word.split_once(':').ok_or("no column")?;
+    Ok((Name::new(name)?, kind(of)?))
+}
+
 /// The columns that the text lists, as `a:int b:text`.
 pub(crate) fn columns(alloc: Global, text: &str) -> Result<Columns, Fail> {
     let mut pairs = Vec::new(alloc);
     for word in text.split_whitespace() {
-        let (column, of) = word.split_once(':').ok_or("no column")?;
-        pairs.push((Name::new(column)?, kind(of)?))?;
+        pairs.push(column(word)?)?;
     }
     Ok(Columns::new(alloc, pairs)?)
 }
@@ -45,52 +67,48 @@ pub(crate) fn edge(alloc: Global, left: &str, right: &str) -> Result<Edge, Fail>
     })
 }
 
-/// What the line asks for.
-pub(crate) fn request(alloc: Global, line: &str) -> Result<Request, Fail> {
+// The rows that the line puts.
+fn put_rows(alloc: Global, line: &str) -> Result<JsonRows, Fail> {
     match read_request(alloc, line.as_bytes()) {
-        Ok(request) => Ok(request),
-        Err(_) => Err(Fail::from("refused")),
-    }
-}
-
-/// The rows that the line puts.
-pub(crate) fn put_rows(alloc: Global, line: &str) -> Result<JsonRows, Fail> {
-    match request(alloc, line)? {
-        Request::Put { rows, .. } => Ok(rows),
+        Ok(Request::Put { rows, .. }) => Ok(rows),
         _ => Err(Fail::from("no put")),
     }
 }
 
-/// The rows of JSON, as a put sends them.
-pub(crate) fn sent(alloc: Global, rows: &str) -> Result<JsonRows, Fail> {
-    put_rows(
-        alloc,
-        &format!(in alloc; "{{\"do\":\"put\",\"view\":\"goods\",\"rows\":{rows}}}")?,
-    )
+// The rows of JSON, as a put sends them.
+fn sent(alloc: Global, rows: &str) -> Result<JsonRows, Fail> {
+    let line = format!(in alloc; "{{\"do\":\"put\",\"view\":\"goods\",\"rows\":{rows}}}")?;
+    put_rows(alloc, &line)
 }
 
-/// The set of the rows of JSON, with the columns that the text lists.
+/// The rows of JSON with these columns, at version 0, or why they are refused.
+pub(crate) fn answered(alloc: Global, cols: &str, json: &str) -> Result<Answer, Fail> {
+    match rows_of(alloc, &columns(alloc, cols)?, &sent(alloc, json)?) {
+        Ok(rows) => Ok(Answer::Shown { rows, version: 0 }),
+        Err(RowsFault::BadRow { index, col }) => Ok(Answer::BadRow {
+            list: RowList::Rows,
+            index,
+            col,
+        }),
+        Err(RowsFault::NoMemory) => Err(Fail::from("no memory")),
+    }
+}
+
+/// The set of the rows of JSON, with these columns.
 pub(crate) fn rows(alloc: Global, cols: &str, json: &str) -> Result<RowSet, Fail> {
-    let columns = columns(alloc, cols)?;
-    match rows_of(alloc, &columns, &sent(alloc, json)?) {
-        Ok(rows) => Ok(rows),
-        Err(_) => Err(Fail::from("rows that are not right")),
+    match answered(alloc, cols, json)? {
+        Answer::Shown { rows, .. } => Ok(rows),
+        _ => Err(Fail::from("bad rows")),
     }
 }
 
 /// The columns of the goods.
 pub(crate) const GOODS: &str = "name:text quantity:int";
 
-/// The one row of JSON, with the columns of the goods.
+/// The first of the rows of JSON, with the columns of the goods.
 pub(crate) fn good(alloc: Global, json: &str) -> Result<Row, Fail> {
-    let list = format!(in alloc; "[{json}]")?;
-    Ok(
-        rows(alloc, GOODS, &list)?
-            .rows()
-            .first()
-            .ok_or("no row")?
-            .copy(alloc)?,
-    )
+    let set = rows(alloc, GOODS, json)?;
+    Ok(set.rows().first().ok_or("no row")?.copy(alloc)?)
 }
 
 // What is removed, but for what is added.
@@ -99,40 +117,29 @@ fn delta(alloc: Global, remove: &RowSet, add: RowSet) -> Result<Delta, NoMemory>
     Ok(Delta::new(remove, add))
 }
 
-/// The difference of the table that removes and adds these rows of JSON.
+/// The difference of the table of these columns that removes and adds these rows of JSON.
 pub(crate) fn difference(
     alloc: Global,
-    table: &str,
-    cols: &str,
-    remove: &str,
-    add: &str,
+    [table, cols]: [&str; 2],
+    [remove, add]: [&str; 2],
 ) -> Result<TableDelta, Fail> {
+    let table = Name::new(table)?;
     let remove = rows(alloc, cols, remove)?;
-    Ok(TableDelta {
-        table: Name::new(table)?,
-        delta: delta(alloc, &remove, rows(alloc, cols, add)?)?,
-    })
+    let delta = delta(alloc, &remove, rows(alloc, cols, add)?)?;
+    Ok(TableDelta { table, delta })
 }
 
-/// The column against a number.
-pub(crate) fn number(col: &str, op: Op, number: i64) -> Result<Formula, Fail> {
-    Ok(Formula::Compare {
-        col: Name::new(col)?,
-        op,
-        value: Value::Int(number),
-    })
-}
-
-/// The column is the text.
-pub(crate) fn text(alloc: Global, col: &str, text: &str) -> Result<Formula, Fail> {
-    Ok(Formula::Compare {
-        col: Name::new(col)?,
-        op: Op::Eq,
-        value: Value::Text(Text::new(alloc, text)?),
-    })
-}
-
-/// Whether the reply is the line, and a newline.
-pub(crate) fn is_line(reply: &Reply, line: &str) -> bool {
+// Whether the reply is the line, and a newline.
+fn is_line(reply: &Reply, line: &str) -> bool {
     reply.bytes().strip_suffix(b"\n") == Some(line.as_bytes())
+}
+
+/// Fails where the reply is not the line and a newline.
+pub(crate) fn replies(reply: &Reply, line: &str) -> Result<(), Fail> {
+    expect(is_line(reply, line), line)
+}
+
+/// Fails where the answer is not printed as the line.
+pub(crate) fn prints(alloc: Global, answer: Answer, line: &str) -> Result<(), Fail> {
+    replies(&reply_text(alloc, &answer)?, line)
 }

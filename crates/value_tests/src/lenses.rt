@@ -1,18 +1,18 @@
 //! Sorts and lenses that have one, and why some have none.
 use crate::formulas::{compare, either, nothing, only, where_is};
-use crate::samples::{are_columns, are_edges, are_names, columns, deps, names, value};
+use crate::samples::{are_columns, are_edges, are_names, columns, deps, name, names, value};
 use lens_pred::{Formula, Pred};
 use lens_types::{Lens, Refused, SizeLimit, Sort, TypeFault, TypedLens};
 use lens_values::{Columns, Kind, Name};
 use std::alloc::Global;
-use std::test::Fail;
+use std::process::Abort;
 
 // The fault of what has to be refused.
-fn fault_of<R: Drop, T: Drop>(answer: Result<R, Refused<T>>) -> Result<TypeFault, Fail> {
+fn fault_of<R: Drop, T: Drop>(rt: &impl Abort, answer: Result<R, Refused<T>>) -> TypeFault {
     match answer {
-        Ok(_) => Err(Fail::from("taken")),
-        Err(Refused::Rule { fault, .. }) => Ok(fault),
-        Err(Refused::NoMemory) => Err(Fail::from("no memory")),
+        Ok(_) => panic!(rt; "taken"),
+        Err(Refused::Rule { fault, .. }) => fault,
+        Err(Refused::NoMemory) => panic!(rt; "no memory"),
     }
 }
 
@@ -27,6 +27,9 @@ fn says(fault: &TypeFault) -> (u8, &str) {
         TypeFault::NoSuchDependency { col } => (28, col.as_str()),
         TypeFault::MixedConjunct { .. } => (29, ""),
         TypeFault::DefaultRefused => (30, ""),
+        TypeFault::NotDetermined { col } => (31, col.as_str()),
+        TypeFault::SideMentionsOutput { col, .. } => (32, col.as_str()),
+        TypeFault::TableTwice { name } => (33, name.as_str()),
         TypeFault::TooLarge { .. } => (34, ""),
     }
 }
@@ -45,49 +48,85 @@ fn is_too_large(fault: &TypeFault, limit: SizeLimit) -> bool {
     }
 }
 
-// The table of these columns, dependencies and rows.
-fn table(
+/// The table of these columns, dependencies and rows.
+pub(crate) fn table(
+    rt: &impl Abort,
     alloc: Global,
-    name: &str,
+    table: &str,
     cols: &str,
     under: &str,
     pred: Pred,
-) -> Result<TypedLens, Fail> {
-    let sort = Sort::table(alloc, columns(alloc, cols)?, &deps(alloc, under)?, pred)?;
-    Ok(TypedLens::base(Name::new(name)?, sort))
+) -> TypedLens {
+    let cols = columns(rt, alloc, cols);
+    let sort = Sort::table(alloc, cols, &deps(rt, alloc, under), pred).expect(rt, "a sort");
+    TypedLens::base(name(rt, table), sort)
+}
+
+/// The lens without the column, which the others determine. A new row takes the value.
+pub(crate) fn leave_out(
+    rt: &impl Abort,
+    alloc: Global,
+    lens: TypedLens,
+    col: &str,
+    by: &str,
+    fill: &str,
+) -> TypedLens {
+    let by = names(rt, alloc, by);
+    let fill = value(rt, alloc, fill);
+    lens.drop_column(alloc, name(rt, col), by, fill)
+        .expect(rt, "a lens")
 }
 
 const TRACKS: &str = "track:text date:int rating:int album:text";
 
-// The tracks, whose dates and ratings they determine, and on whose rows the predicate holds.
-fn tracks(alloc: Global, pred: Pred) -> Result<TypedLens, Fail> {
-    table(alloc, "tracks", TRACKS, "track -> date rating", pred)
+/// The tracks, whose dates and ratings they determine, and on whose rows the predicate holds.
+pub(crate) fn tracks(rt: &impl Abort, alloc: Global, pred: Pred) -> TypedLens {
+    table(rt, alloc, "tracks", TRACKS, "track -> date rating", pred)
+}
+
+// The tracks whose ratings are 3 at least.
+fn rated(rt: &impl Abort, alloc: Global) -> TypedLens {
+    tracks(rt, alloc, where_is(rt, alloc, "rating", ">=", "3"))
 }
 
 // The albums, which determine their quantity.
-fn albums(alloc: Global) -> Result<TypedLens, Fail> {
+fn albums(rt: &impl Abort, alloc: Global) -> TypedLens {
     let cols = "album:text quantity:int";
-    table(alloc, "albums", cols, "album -> quantity", nothing(alloc)?)
+    table(
+        rt,
+        alloc,
+        "albums",
+        cols,
+        "album -> quantity",
+        nothing(rt, alloc),
+    )
 }
 
 // The tracks of an album and from 1990 on, without their ratings.
-fn unrated(alloc: Global) -> Result<TypedLens, Fail> {
-    let lens = tracks(alloc, where_is(alloc, "album", "=", "Show")?)?;
-    let lens = lens.select(alloc, where_is(alloc, "date", ">=", "1990")?)?;
-    let by = names(alloc, "track")?;
-    Ok(lens.drop_column(alloc, Name::new("rating")?, by, value(alloc, "3")?)?)
+fn unrated(rt: &impl Abort, alloc: Global) -> TypedLens {
+    let lens = tracks(rt, alloc, where_is(rt, alloc, "album", "=", "Show"));
+    let recent = where_is(rt, alloc, "date", ">=", "1990");
+    let lens = lens.select(alloc, recent).expect(rt, "a lens");
+    leave_out(rt, alloc, lens, "rating", "track", "3")
 }
 
 // Whether the sort has these columns, edges and so many nodes of its predicate.
 fn is_sort(
+    rt: &impl Abort,
     alloc: Global,
     sort: &Sort,
     cols: &str,
     edges: &str,
     nodes: usize,
-) -> Result<bool, Fail> {
-    let alike = are_columns(alloc, sort.cols(), cols)? && sort.pred().nodes() == nodes;
-    Ok(alike && are_edges(alloc, sort.tree().edges(), edges)?)
+) -> bool {
+    are_columns(rt, alloc, sort.cols(), cols)
+        && are_edges(rt, alloc, sort.tree().edges(), edges)
+        && sort.pred().nodes() == nodes
+}
+
+// Whether this is the only table of the lens.
+fn is_over(rt: &impl Abort, alloc: Global, lens: &TypedLens, table: &str) -> bool {
+    are_names(rt, alloc, &lens.tables(alloc).expect(rt, "memory"), table)
 }
 
 // The nodes under a lens that leaves a column out.
@@ -99,135 +138,138 @@ fn nodes_under(lens: &TypedLens) -> Option<usize> {
 }
 
 #[test]
-fn tables_have_sorts(rt: HostRuntime) -> Result<(), Fail> {
+fn tables_have_sorts(rt: HostRuntime) {
     let alloc = rt.alloc();
-    let albums = albums(alloc)?;
+    let lens = albums(&rt, alloc);
     let cols = "album:text quantity:int";
-    assert!(rt; is_sort(alloc, albums.sort(), cols, "album -> quantity", 0)?);
-    assert!(rt; albums.nodes() == 1);
-    assert!(rt; are_names(alloc, &albums.tables(alloc)?, "albums")?);
-    Ok(())
+    assert!(rt; is_sort(&rt, alloc, lens.sort(), cols, "album -> quantity", 0));
+    assert!(rt; lens.nodes() == 1);
+    assert!(rt; is_over(&rt, alloc, &lens, "albums"));
 }
 
 #[test]
-fn lenses_have_sorts(rt: HostRuntime) -> Result<(), Fail> {
+fn lenses_have_sorts(rt: HostRuntime) {
     let alloc = rt.alloc();
-    let lens = unrated(alloc)?.copy(alloc)?;
-    let sort = lens.sort().copy(alloc)?;
-    assert!(rt;
-        is_sort(
-            alloc,
-            &sort,
-            "album:text date:int track:text",
-            "track -> date",
-            2
-        )?
-    );
+    let lens = unrated(&rt, alloc).copy(alloc).expect(&rt, "memory");
+    let sort = lens.sort().copy(alloc).expect(&rt, "memory");
+    let cols = "album:text date:int track:text";
+    assert!(rt; is_sort(&rt, alloc, &sort, cols, "track -> date", 2));
     assert!(rt; lens.nodes() == 3);
     assert!(rt; nodes_under(&lens) == Some(2));
-    assert!(rt; are_names(alloc, &lens.tables(alloc)?, "tracks")?);
-    Ok(())
+    assert!(rt; is_over(&rt, alloc, &lens, "tracks"));
 }
 
 // Why there is no table of the tracks' columns with these dependencies and this predicate.
-fn table_fault(alloc: Global, under: &str, pred: Pred) -> Result<TypeFault, Fail> {
-    let cols = columns(alloc, TRACKS)?;
-    fault_of(Sort::table(alloc, cols, &deps(alloc, under)?, pred))
+fn table_fault(rt: &impl Abort, alloc: Global, under: &str, pred: Pred) -> TypeFault {
+    let cols = columns(rt, alloc, TRACKS);
+    fault_of(rt, Sort::table(alloc, cols, &deps(rt, alloc, under), pred))
 }
 
 // Whether these are the two sides that do not fit.
-fn is_of_sides(alloc: Global, fault: &TypeFault, first: &str, second: &str) -> Result<bool, Fail> {
+fn is_of_sides(rt: &impl Abort, alloc: Global, fault: &TypeFault, sides: [&str; 2]) -> bool {
     match fault {
         TypeFault::NotTree { a, b } => {
-            Ok(are_names(alloc, a, first)? && are_names(alloc, b, second)?)
+            are_names(rt, alloc, a, sides[0]) && are_names(rt, alloc, b, sides[1])
         }
-        _ => Ok(false),
+        _ => false,
     }
 }
 
 #[test]
-fn tables_that_are_refused(rt: HostRuntime) -> Result<(), Fail> {
+fn tables_that_are_refused(rt: HostRuntime) {
     let alloc = rt.alloc();
-    let found = table_fault(alloc, "track -> genre", nothing(alloc)?)?;
-    assert!(rt; is_fault(&found, 23, "genre"));
-    let found = table_fault(alloc, "", where_is(alloc, "date", "=", "x")?)?;
-    assert!(rt; is_fault(&found, 26, "date"));
-    let found = table_fault(alloc, "date -> rating, album -> rating", nothing(alloc)?)?;
-    assert!(rt; is_of_sides(alloc, &found, "rating", "rating")?);
-    Ok(())
+    let fault = table_fault(&rt, alloc, "track -> genre", nothing(&rt, alloc));
+    assert!(rt; is_fault(&fault, 23, "genre"));
+    let fault = table_fault(&rt, alloc, "", where_is(&rt, alloc, "date", "=", "x"));
+    assert!(rt; is_fault(&fault, 26, "date"));
+    let fault = table_fault(
+        &rt,
+        alloc,
+        "date -> rating, album -> rating",
+        nothing(&rt, alloc),
+    );
+    assert!(rt; is_of_sides(&rt, alloc, &fault, ["rating", "rating"]));
 }
 
-// Why the selection from the lens is refused.
-fn select_fault(alloc: Global, lens: TypedLens, col: &str, word: &str) -> Result<TypeFault, Fail> {
-    fault_of(lens.select(alloc, where_is(alloc, col, ">=", word)?))
+// Whether the selection from the lens is refused for this fault.
+fn is_not_selected(
+    rt: &impl Abort,
+    alloc: Global,
+    lens: TypedLens,
+    col: &str,
+    least: &str,
+    fault: (u8, &str),
+) -> bool {
+    let pred = where_is(rt, alloc, col, ">=", least);
+    is_fault(&fault_of(rt, lens.select(alloc, pred)), fault.0, fault.1)
 }
 
 #[test]
-fn selections_that_are_refused(rt: HostRuntime) -> Result<(), Fail> {
+fn selections_that_are_refused(rt: HostRuntime) {
     let alloc = rt.alloc();
+    assert!(rt; is_not_selected(&rt, alloc, albums(&rt, alloc), "genre", "1", (23, "genre")));
+    assert!(rt; is_not_selected(&rt, alloc, albums(&rt, alloc), "album", "1", (26, "album")));
     assert!(rt;
-        is_fault(
-            &select_fault(alloc, albums(alloc)?, "genre", "1")?,
-            23,
-            "genre"
+        is_not_selected(
+            &rt,
+            alloc,
+            rated(&rt, alloc),
+            "date",
+            "1990",
+            (27, "rating")
         )
     );
-    assert!(rt;
-        is_fault(
-            &select_fault(alloc, albums(alloc)?, "album", "1")?,
-            26,
-            "album"
-        )
-    );
-    let rated = tracks(alloc, where_is(alloc, "rating", ">=", "3")?)?;
-    assert!(rt; is_fault(&select_fault(alloc, rated, "date", "1990")?, 27, "rating"));
-    Ok(())
 }
 
 // Why the column of the lens is not dropped.
 fn drop_fault(
+    rt: &impl Abort,
     alloc: Global,
     lens: TypedLens,
     col: &str,
     by: &str,
     fill: &str,
-) -> Result<TypeFault, Fail> {
-    let by = names(alloc, by)?;
-    let fill = value(alloc, fill)?;
-    fault_of(lens.drop_column(alloc, Name::new(col)?, by, fill))
+) -> TypeFault {
+    let by = names(rt, alloc, by);
+    let fill = value(rt, alloc, fill);
+    fault_of(rt, lens.drop_column(alloc, name(rt, col), by, fill))
 }
 
-// The same of the tracks.
-fn tracks_fault(alloc: Global, col: &str, by: &str, fill: &str) -> Result<TypeFault, Fail> {
-    drop_fault(alloc, tracks(alloc, nothing(alloc)?)?, col, by, fill)
+// Whether the column of the tracks is not dropped for this fault.
+fn is_kept(
+    rt: &impl Abort,
+    alloc: Global,
+    col: &str,
+    by: &str,
+    fill: &str,
+    fault: (u8, &str),
+) -> bool {
+    let lens = tracks(rt, alloc, nothing(rt, alloc));
+    is_fault(
+        &drop_fault(rt, alloc, lens, col, by, fill),
+        fault.0,
+        fault.1,
+    )
 }
 
 #[test]
-fn columns_that_are_not_dropped(rt: HostRuntime) -> Result<(), Fail> {
+fn columns_that_are_not_dropped(rt: HostRuntime) {
     let alloc = rt.alloc();
-    assert!(rt; is_fault(&tracks_fault(alloc, "genre", "track", "1")?, 23, "genre"));
-    assert!(rt; is_fault(&tracks_fault(alloc, "rating", "genre", "1")?, 23, "genre"));
-    assert!(rt;
-        is_fault(
-            &tracks_fault(alloc, "rating", "track", "true")?,
-            24,
-            "rating"
-        )
-    );
-    assert!(rt; is_fault(&tracks_fault(alloc, "rating", "album", "1")?, 28, "rating"));
-    let rated = tracks(alloc, where_is(alloc, "rating", ">=", "3")?)?;
-    assert!(rt; is_fault(&drop_fault(alloc, rated, "rating", "track", "2")?, 30, ""));
-    Ok(())
+    assert!(rt; is_kept(&rt, alloc, "genre", "track", "1", (23, "genre")));
+    assert!(rt; is_kept(&rt, alloc, "rating", "genre", "1", (23, "genre")));
+    assert!(rt; is_kept(&rt, alloc, "rating", "track", "true", (24, "rating")));
+    assert!(rt; is_kept(&rt, alloc, "rating", "album", "1", (28, "rating")));
+    let fault = drop_fault(&rt, alloc, rated(&rt, alloc), "rating", "track", "2");
+    assert!(rt; is_fault(&fault, 30, ""));
 }
 
 // The tracks whose conjunct at 1 mentions the rating and the date.
-fn mixed(alloc: Global) -> Result<TypedLens, Fail> {
-    let recent = compare(alloc, "date", ">=", "1990")?;
-    let good = compare(alloc, "rating", ">=", "4")?;
-    let conjunct = either(alloc, recent, good)?;
-    let lens = tracks(alloc, where_is(alloc, "rating", ">=", "3")?)?;
-    let whole = lens.sort().pred().join(alloc, &only(alloc, conjunct)?)?;
-    tracks(alloc, whole)
+fn mixed(rt: &impl Abort, alloc: Global) -> TypedLens {
+    let recent = compare(rt, alloc, "date", ">=", "1990");
+    let good = compare(rt, alloc, "rating", ">=", "4");
+    let second = only(rt, alloc, either(rt, alloc, recent, good));
+    let first = where_is(rt, alloc, "rating", ">=", "3");
+    tracks(rt, alloc, first.join(alloc, &second).expect(rt, "memory"))
 }
 
 // The place of the conjunct that is mixed.
@@ -239,81 +281,144 @@ fn mixed_place(fault: &TypeFault) -> Option<usize> {
 }
 
 #[test]
-fn conjunct_that_is_mixed(rt: HostRuntime) -> Result<(), Fail> {
+fn conjunct_that_is_mixed(rt: HostRuntime) {
     let alloc = rt.alloc();
-    let found = drop_fault(alloc, mixed(alloc)?, "rating", "track", "3")?;
-    assert!(rt; mixed_place(&found) == Some(1));
-    Ok(())
+    let fault = drop_fault(&rt, alloc, mixed(&rt, alloc), "rating", "track", "3");
+    assert!(rt; mixed_place(&fault) == Some(1));
 }
 
 // So many columns: the letter, the letter twice and on.
 fn push_columns(
+    rt: &impl Abort,
     alloc: Global,
     pairs: &mut Vec<(Name, Kind)>,
     letter: char,
     count: usize,
-) -> Result<(), Fail> {
+) {
     let mut word = String::new(alloc);
     for _ in 0..count {
-        word.push(letter)?;
-        pairs.push((Name::new(&word)?, Kind::Int))?;
+        word.push(letter).expect(rt, "memory");
+        pairs
+            .push((name(rt, &word), Kind::Int))
+            .expect(rt, "memory");
     }
-    Ok(())
 }
 
-// So many columns on each of five letters.
-fn many_columns(alloc: Global, each: usize) -> Result<Columns, Fail> {
+// Whether the join is refused by the rule of this number, which says this name.
+fn refuses_join(
+    rt: &impl Abort,
+    alloc: Global,
+    left: TypedLens,
+    right: TypedLens,
+    number: u8,
+    word: &str,
+) -> bool {
+    is_fault(&fault_of(rt, left.join_dl(alloc, right)), number, word)
+}
+
+// Albums with a number in place of a text.
+fn loans(rt: &impl Abort, alloc: Global) -> TypedLens {
+    let cols = "album:int day:int";
+    table(rt, alloc, "loans", cols, "album -> day", nothing(rt, alloc))
+}
+
+#[test]
+fn joins_that_are_refused(rt: HostRuntime) {
+    let alloc = rt.alloc();
+    let all = tracks(&rt, alloc, nothing(&rt, alloc));
+    assert!(rt; refuses_join(&rt, alloc, all, loans(&rt, alloc), 24, "album"));
+    let all = tracks(&rt, alloc, nothing(&rt, alloc));
+    assert!(rt; refuses_join(&rt, alloc, albums(&rt, alloc), all, 31, "date"));
+    let good = rated(&rt, alloc);
+    assert!(rt; refuses_join(&rt, alloc, good, albums(&rt, alloc), 32, "rating"));
+    let all = tracks(&rt, alloc, nothing(&rt, alloc));
+    let again = tracks(&rt, alloc, nothing(&rt, alloc));
+    assert!(rt; refuses_join(&rt, alloc, all, again, 33, "tracks"));
+}
+
+// The tracks with the quantity of their album.
+fn stock(rt: &impl Abort, alloc: Global) -> TypedLens {
+    let all = tracks(rt, alloc, nothing(rt, alloc));
+    all.join_dl(alloc, albums(rt, alloc)).expect(rt, "a lens")
+}
+
+#[test]
+fn joins_have_the_columns_and_edges_of_both(rt: HostRuntime) {
+    let alloc = rt.alloc();
+    let lens = stock(&rt, alloc);
+    let cols = "album:text date:int quantity:int rating:int track:text";
+    let edges = "track -> date rating, album -> quantity";
+    assert!(rt; is_sort(&rt, alloc, lens.sort(), cols, edges, 0));
+    assert!(rt; lens.nodes() == 3);
+    assert!(rt;
+        are_names(
+            &rt,
+            alloc,
+            &lens.tables(alloc).expect(&rt, "memory"),
+            "albums tracks"
+        )
+    );
+}
+
+// 13 columns on each of five letters.
+fn many_columns(rt: &impl Abort, alloc: Global) -> Columns {
     let mut pairs = Vec::new(alloc);
-    for letter in ['a', 'b', 'c', 'd', 'e'] {
-        push_columns(alloc, &mut pairs, letter, each)?;
+    for letter in "abcde".chars() {
+        push_columns(rt, alloc, &mut pairs, letter, 13);
     }
-    Ok(Columns::new(alloc, pairs)?)
+    Columns::new(alloc, pairs).expect(rt, "columns")
 }
 
 // A table, selected from so many times.
-fn selected(alloc: Global, times: usize) -> Result<TypedLens, Fail> {
-    let mut lens = albums(alloc)?;
+fn selected(rt: &impl Abort, alloc: Global, times: usize) -> TypedLens {
+    let mut lens = albums(rt, alloc);
     for _ in 0..times {
-        lens = lens.select(alloc, nothing(alloc)?)?;
+        lens = lens.select(alloc, nothing(rt, alloc)).expect(rt, "a lens");
     }
-    Ok(lens)
+    lens
 }
 
 // The predicate of so many conjuncts.
-fn long(alloc: Global, count: usize) -> Result<Pred, Fail> {
+fn long(rt: &impl Abort, alloc: Global, count: usize) -> Pred {
     let mut conjuncts = Vec::new(alloc);
     for _ in 0..count {
-        conjuncts.push(Formula::True)?;
+        conjuncts.push(Formula::True).expect(rt, "memory");
     }
-    Ok(Pred::new(conjuncts)?)
+    Pred::new(conjuncts).expect(rt, "a normal form")
+}
+
+// Whether a selection with a predicate of so many nodes is refused.
+fn refuses_nodes(rt: &impl Abort, alloc: Global, count: usize) -> bool {
+    let answer = albums(rt, alloc).select(alloc, long(rt, alloc, count));
+    is_too_large(&fault_of(rt, answer), SizeLimit::Predicate)
+}
+
+// Whether a selection has a predicate of so many nodes.
+fn takes_nodes(rt: &impl Abort, alloc: Global, count: usize) -> bool {
+    let pred = long(rt, alloc, count);
+    let lens = albums(rt, alloc).select(alloc, pred).expect(rt, "a lens");
+    lens.sort().pred().nodes() == count
 }
 
 #[test]
-fn lenses_that_are_too_large(rt: HostRuntime) -> Result<(), Fail> {
+fn lenses_that_are_too_large(rt: HostRuntime) {
     let alloc = rt.alloc();
-    let lens = selected(alloc, 63)?;
+    let lens = selected(&rt, alloc, 63);
     assert!(rt; lens.nodes() == 64);
-    let found = fault_of(lens.select(alloc, nothing(alloc)?))?;
-    assert!(rt; is_too_large(&found, SizeLimit::Lens));
-    let found = fault_of(albums(alloc)?.select(alloc, long(alloc, 257)?))?;
-    assert!(rt; is_too_large(&found, SizeLimit::Predicate));
-    assert!(rt;
-        albums(alloc)?
-            .select(alloc, long(alloc, 256)?)?
-            .sort()
-            .pred()
-            .nodes()
-            == 256
-    );
-    Ok(())
+    let fault = fault_of(&rt, lens.select(alloc, nothing(&rt, alloc)));
+    assert!(rt; is_too_large(&fault, SizeLimit::Lens));
+    assert!(rt; takes_nodes(&rt, alloc, 256));
+    assert!(rt; refuses_nodes(&rt, alloc, 257));
 }
 
 #[test]
-fn tables_that_are_too_wide(rt: HostRuntime) -> Result<(), Fail> {
+fn tables_that_are_too_wide(rt: HostRuntime) {
     let alloc = rt.alloc();
-    let found = fault_of(Sort::table(alloc, many_columns(alloc, 13)?, &[], nothing(alloc)?))?;
-    assert!(rt; is_too_large(&found, SizeLimit::Columns));
-    let widest = many_columns(alloc, 13)?.minus(alloc, &names(alloc, "e")?)?;
-    assert!(rt; Sort::table(alloc, widest, &[], nothing(alloc)?).is_ok());
-    Ok(())
+    let widest = many_columns(&rt, alloc)
+        .minus(alloc, &names(&rt, alloc, "e"))
+        .expect(&rt, "memory");
+    assert!(rt; widest.pairs().len() == 64);
+    assert!(rt; Sort::table(alloc, widest, &[], nothing(&rt, alloc)).is_ok());
+    let answer = Sort::table(alloc, many_columns(&rt, alloc), &[], nothing(&rt, alloc));
+    assert!(rt; is_too_large(&fault_of(&rt, answer), SizeLimit::Columns));
 }

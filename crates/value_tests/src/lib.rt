@@ -15,6 +15,8 @@ mod lenses;
 #[cfg(test)]
 mod predicates;
 #[cfg(test)]
+mod premises;
+#[cfg(test)]
 mod puts;
 #[cfg(test)]
 mod revisions;
@@ -24,5 +26,7 @@ mod samples;
 mod sets;
 #[cfg(test)]
 mod trees;
+#[cfg(test)]
+mod trees_of_lenses;
 #[cfg(test)]
 mod values;

@@ -1,78 +1,127 @@
 //! Rows revised by other rows along a tree of dependencies.
-ghost use Rattle.std.specs.Prelude.{◌≡◌};
-
-use crate::samples::{are_rows, columns, relation, row, rows, tree};
-use fd_tree::Tree;
-use revision::{merge, revise, revise_row};
-use row_sets::Relation;
+use crate::samples::{are_rows, columns, relation, row, row_list, rows, tree};
+use revision::{all_along, merge, revise, revise_row};
 use std::alloc::Global;
-use std::test::Fail;
+use std::process::Abort;
 
 // Whether the row becomes the other by the rows, along the tree.
-fn becomes(alloc: Global, under: &str, by: &str, before: &str, after: &str) -> Result<bool, Fail> {
-    let tree = tree(alloc, under)?;
-    let revised = revise_row(alloc, &tree, &row(alloc, before)?, &rows(alloc, by)?)?;
-    Ok(revised == row(alloc, after)?)
+fn becomes(
+    rt: &impl Abort,
+    alloc: Global,
+    under: &str,
+    by: &str,
+    before: &str,
+    after: &str,
+) -> bool {
+    let tree = tree(rt, alloc, under);
+    let by = rows(rt, alloc, by);
+    let old = row(rt, alloc, before);
+    let revised = revise_row(alloc, &tree, &old, &by).expect(rt, "memory");
+    revised == row(rt, alloc, after)
 }
 
 #[test]
-fn rows_are_revised_along_a_chain(rt: HostRuntime) -> Result<(), Fail> {
+fn rows_are_revised_along_a_chain(rt: HostRuntime) {
     let alloc = rt.alloc();
     let chain = "a -> b, b -> c";
-    assert!(rt; becomes(alloc, chain, "a=1 b=2 c=5", "a=1 b=1 c=1", "a=1 b=2 c=5")?);
-    assert!(rt; becomes(alloc, chain, "a=1 b=2 c=5", "a=9 b=2 c=1", "a=9 b=2 c=5")?);
-    assert!(rt; becomes(alloc, chain, "a=1 b=2 c=5", "a=9 b=8 c=1", "a=9 b=8 c=1")?);
-    Ok(())
+    assert!(rt;
+        becomes(
+            &rt,
+            alloc,
+            chain,
+            "a=1 b=2 c=5",
+            "a=1 b=1 c=1",
+            "a=1 b=2 c=5"
+        )
+    );
+    assert!(rt;
+        becomes(
+            &rt,
+            alloc,
+            chain,
+            "a=1 b=2 c=5",
+            "a=9 b=2 c=1",
+            "a=9 b=2 c=5"
+        )
+    );
+    assert!(rt;
+        becomes(
+            &rt,
+            alloc,
+            chain,
+            "a=1 b=2 c=5",
+            "a=9 b=8 c=1",
+            "a=9 b=8 c=1"
+        )
+    );
 }
 
-// Whether the relation is revised to these rows by the other, and merged with it to those.
-fn are(
+// Whether the rows become the others by the rows, along the one edge.
+fn are_moved(
+    rt: &impl Abort,
     alloc: Global,
-    tree: &Tree,
-    old: &Relation,
-    by: &Relation,
-    all: [&str; 2],
-) -> Result<bool, Fail>
-    requires { by.now.columns ≡ old.now.columns }
-{
-    by.rows_fit();
-    let revised = revise(alloc, tree, old, by.rows())?;
-    let merged = merge(alloc, tree, old, by)?;
-    Ok(are_rows(alloc, revised.rows(), all[0])? && are_rows(alloc, merged.rows(), all[1])?)
+    under: &str,
+    by: &str,
+    before: &str,
+    after: &str,
+) -> bool {
+    let tree = tree(rt, alloc, under);
+    let edge = tree.edges().first().expect(rt, "an edge");
+    let by = rows(rt, alloc, by);
+    let old = row_list(rt, alloc, before);
+    let moved = all_along(alloc, edge, &old, &by).expect(rt, "memory");
+    moved.as_slice() == row_list(rt, alloc, after).as_slice()
 }
 
-// The same of relations with the columns of a track.
-fn follow(alloc: Global, under: &str, old: &str, by: &str, all: [&str; 2]) -> Result<bool, Fail> {
-    let tree = tree(alloc, under)?;
-    let cols = columns(alloc, "album:text quantity:int track:text")?;
-    let old = relation(alloc, &cols, old)?;
-    let by = relation(alloc, &cols, by)?;
-    are(alloc, &tree, &old, &by, all)
+#[test]
+fn rows_are_moved_along_an_edge(rt: HostRuntime) {
+    let alloc = rt.alloc();
+    let before = "a=2 b=1; a=1 b=1; a=1 b=3";
+    let after = "a=2 b=1; a=1 b=7; a=1 b=7";
+    assert!(rt; are_moved(&rt, alloc, "a -> b", "a=1 b=7; a=1 b=8", before, after));
+}
+
+// Whether the relation, with the columns of a track, is revised to the first rows by the other, and
+// merged with it to the second.
+fn follow(
+    rt: &impl Abort,
+    alloc: Global,
+    under: &str,
+    old: &str,
+    by: &str,
+    all: [&str; 2],
+) -> bool {
+    let tree = tree(rt, alloc, under);
+    let cols = columns(rt, alloc, "album:text quantity:int track:text");
+    let old = relation(rt, alloc, &cols, old);
+    let by = relation(rt, alloc, &cols, by);
+    by.rows_fit();
+    let revised = revise(alloc, &tree, &old, by.rows()).expect(rt, "memory");
+    let merged = merge(alloc, &tree, &old, &by).expect(rt, "memory");
+    are_rows(rt, alloc, revised.rows(), all[0]) && are_rows(rt, alloc, merged.rows(), all[1])
 }
 
 // The row of an album that is the second edge's alone is revised.
 #[test]
-fn edges_behind_the_first_revise(rt: HostRuntime) -> Result<(), Fail> {
+fn edges_behind_the_first_revise(rt: HostRuntime) {
     let alloc = rt.alloc();
     let chain = "track -> album, album -> quantity";
     let old = "album=X quantity=1 track=b";
     let by = "album=X quantity=9 track=a";
     let revised = "album=X quantity=9 track=b";
     let merged = "album=X quantity=9 track=a; album=X quantity=9 track=b";
-    assert!(rt; becomes(alloc, chain, by, old, revised)?);
-    assert!(rt; follow(alloc, chain, old, by, [revised, merged])?);
-    Ok(())
+    assert!(rt; becomes(&rt, alloc, chain, by, old, revised));
+    assert!(rt; follow(&rt, alloc, chain, old, by, [revised, merged]));
 }
 
 // Two rows that become one, and a row that nothing revises.
 #[test]
-fn revised_rows_are_a_set(rt: HostRuntime) -> Result<(), Fail> {
+fn revised_rows_are_a_set(rt: HostRuntime) {
     let alloc = rt.alloc();
     let old = "album=X quantity=1 track=b; album=X quantity=2 track=b; album=Y quantity=1 track=b";
     let by = "album=X quantity=9 track=a";
     let revised = "album=X quantity=9 track=b; album=Y quantity=1 track=b";
     let merged =
         "album=X quantity=9 track=a; album=X quantity=9 track=b; album=Y quantity=1 track=b";
-    assert!(rt; follow(alloc, "album -> quantity", old, by, [revised, merged])?);
-    Ok(())
+    assert!(rt; follow(&rt, alloc, "album -> quantity", old, by, [revised, merged]));
 }

@@ -1,10 +1,11 @@
 //! Names, texts, values, columns and rows.
-use crate::samples::{are_columns, are_names, columns, names, row, value};
+use crate::samples::{are_columns, are_names, columns, name, names, row, value};
 use lens_values::{
-    Columns, ColumnsFault, Kind, Name, Row, RowFault, Text, TextFault, TryClone, Value, copied,
+    Columns, ColumnsFault, Kind, Name, Names, Row, RowFault, Text, TextFault, TryClone, Value,
+    copied,
 };
 use std::alloc::Global;
-use std::test::Fail;
+use std::process::Abort;
 
 // Whether the text is a name, of the same bytes.
 fn is_name(text: &str) -> bool {
@@ -16,20 +17,24 @@ fn is_name(text: &str) -> bool {
 
 #[test]
 fn names_are_words(rt: HostRuntime) {
-    assert!(rt; is_name("a"));
-    assert!(rt; is_name("_x9"));
-    assert!(rt; is_name("abcdefghijklmnopqrstuvwxyz_01234"));
-    assert!(rt; !is_name("abcdefghijklmnopqrstuvwxyz_012345"));
-    assert!(rt; !is_name("9x"));
+    for word in "a _x9 abcdefghijklmnopqrstuvwxyz_01234".split_whitespace() {
+        assert!(rt; is_name(word), "{word}");
+    }
+    for word in "abcdefghijklmnopqrstuvwxyz_012345 9x A a-b".split_whitespace() {
+        assert!(rt; !is_name(word), "{word}");
+    }
     assert!(rt; !is_name(""));
-    assert!(rt; !is_name("A"));
-    assert!(rt; !is_name("a-b"));
+}
+
+// A letter so many times.
+fn letters(rt: &impl Abort, alloc: Global, count: usize) -> String {
+    "a".repeat(alloc, count).expect(rt, "memory")
 }
 
 // Whether the bytes are a text, and so is its copy.
-fn is_text(alloc: Global, text: &str) -> Result<bool, Fail> {
-    let made = Text::new(alloc, text)?;
-    Ok(made.as_str() == text && made.copy(alloc)?.as_str() == text)
+fn is_text(rt: &impl Abort, alloc: Global, text: &str) -> bool {
+    let made = Text::new(alloc, text).expect(rt, "a text");
+    made.as_str() == text && made.copy(alloc).expect(rt, "memory").as_str() == text
 }
 
 // Why the bytes are no text.
@@ -38,204 +43,268 @@ fn text_fault(alloc: Global, text: &str) -> Option<TextFault> {
 }
 
 #[test]
-fn texts_are_short_and_have_no_nul(rt: HostRuntime) -> Result<(), Fail> {
+fn texts_are_short_and_have_no_nul(rt: HostRuntime) {
     let alloc = rt.alloc();
-    assert!(rt; is_text(alloc, "ab")?);
-    assert!(rt; is_text(alloc, "a".repeat(alloc, 4096)?.as_str())?);
-    assert!(rt; text_fault(alloc, "a".repeat(alloc, 4097)?.as_str()) == Some(TextFault::TooLong));
+    assert!(rt; is_text(&rt, alloc, "ab"));
+    assert!(rt; is_text(&rt, alloc, &letters(&rt, alloc, 4096)));
+    assert!(rt; text_fault(alloc, &letters(&rt, alloc, 4097)) == Some(TextFault::TooLong));
     assert!(rt; text_fault(alloc, "a\0b") == Some(TextFault::HasNul));
-    Ok(())
 }
 
 // Whether the word's value is of the kind, and is copied in two ways.
-fn is_copied(alloc: Global, word: &str, kind: Kind) -> Result<bool, Fail> {
-    let value = value(alloc, word)?;
-    let same = value.copy(alloc)? == value && value.try_clone(alloc)? == value;
-    Ok(same && value.kind() == kind)
+fn is_copied(rt: &impl Abort, alloc: Global, word: &str, kind: Kind) -> bool {
+    let value = value(rt, alloc, word);
+    let copied = value.copy(alloc).expect(rt, "memory") == value;
+    let cloned = value.try_clone(alloc).expect(rt, "memory") == value;
+    copied && cloned && value.kind() == kind && value.fits(kind) && value.fits_at(Some(kind))
+}
+
+// How many members a copy of a list of two has.
+fn copied_length(rt: &impl Abort, alloc: Global) -> usize {
+    copied(alloc, &[Value::Int(7), Value::Flag(true)])
+        .expect(rt, "memory")
+        .len()
 }
 
 #[test]
-fn values_have_kinds_and_copies(rt: HostRuntime) -> Result<(), Fail> {
+fn values_have_kinds_and_copies(rt: HostRuntime) {
     let alloc = rt.alloc();
-    assert!(rt; Value::Int(7).copy(alloc)? == Value::Int(7));
-    assert!(rt; is_copied(alloc, "7", Kind::Int)?);
-    assert!(rt; is_copied(alloc, "x", Kind::Text)?);
-    assert!(rt; is_copied(alloc, "true", Kind::Flag)?);
-    assert!(rt; copied(alloc, &[Value::Int(7), Value::Flag(true)])?.len() == 2);
-    Ok(())
+    assert!(rt; !Value::Int(7).fits(Kind::Text));
+    assert!(rt; !Value::Int(7).fits_at(None));
+    assert!(rt; is_copied(&rt, alloc, "7", Kind::Int));
+    assert!(rt; is_copied(&rt, alloc, "x", Kind::Text));
+    assert!(rt; is_copied(&rt, alloc, "true", Kind::Flag));
+    assert!(rt; copied_length(&rt, alloc) == 2);
 }
 
 // Whether the union, the difference and the intersection of the two are these.
-fn are_combined(alloc: Global, first: &str, second: &str, all: [&str; 3]) -> Result<bool, Fail> {
-    let first = names(alloc, first)?;
-    let second = names(alloc, second)?;
-    let union = are_names(alloc, &first.union(alloc, &second)?, all[0])?;
-    let minus = are_names(alloc, &first.minus(alloc, &second)?, all[1])?;
-    Ok(union && minus && are_names(alloc, &first.meet(alloc, &second)?, all[2])?)
+fn are_combined(rt: &impl Abort, alloc: Global, first: &str, second: &str, all: [&str; 3]) -> bool {
+    let first = names(rt, alloc, first);
+    let second = names(rt, alloc, second);
+    let union = first.union(alloc, &second).expect(rt, "memory");
+    let minus = first.minus(alloc, &second).expect(rt, "memory");
+    let meet = first.meet(alloc, &second).expect(rt, "memory");
+    are_names(rt, alloc, &union, all[0])
+        && are_names(rt, alloc, &minus, all[1])
+        && are_names(rt, alloc, &meet, all[2])
 }
 
 // Whether the names are these words, in this order, and so are their copy.
-fn are_listed(alloc: Global, text: &str, first: &str, second: &str) -> Result<bool, Fail> {
-    let set = names(alloc, text)?;
-    let words = [Name::new(first)?, Name::new(second)?];
-    Ok(set.as_slice() == words.as_slice() && set.copy(alloc)?.as_slice() == words.as_slice())
+fn are_listed(rt: &impl Abort, alloc: Global, text: &str, words: [Name; 2]) -> bool {
+    let set = names(rt, alloc, text);
+    let copy = set.copy(alloc).expect(rt, "memory");
+    set.as_slice() == words.as_slice() && copy.as_slice() == words.as_slice()
+}
+
+// Whether the set of one name is this one.
+fn is_single(rt: &impl Abort, alloc: Global, word: &str, text: &str) -> bool {
+    let single = Names::single(alloc, &name(rt, word)).expect(rt, "memory");
+    single.same(&names(rt, alloc, text))
 }
 
 // Whether the first set lies within the second.
-fn lies_within(alloc: Global, first: &str, second: &str) -> Result<bool, Fail> {
-    Ok(names(alloc, first)?.within(&names(alloc, second)?))
+fn lies_within(rt: &impl Abort, alloc: Global, first: &str, second: &str) -> bool {
+    names(rt, alloc, first).within(&names(rt, alloc, second))
 }
 
 // Whether the sets share a name.
-fn share(alloc: Global, first: &str, second: &str) -> Result<bool, Fail> {
-    Ok(names(alloc, first)?.meets(&names(alloc, second)?))
+fn share(rt: &impl Abort, alloc: Global, first: &str, second: &str) -> bool {
+    names(rt, alloc, first).meets(&names(rt, alloc, second))
+}
+
+// Whether the name is in the set.
+fn has(rt: &impl Abort, alloc: Global, text: &str, word: &str) -> bool {
+    names(rt, alloc, text).has(&name(rt, word))
 }
 
 #[test]
-fn names_are_sets(rt: HostRuntime) -> Result<(), Fail> {
+fn names_are_sets(rt: HostRuntime) {
     let alloc = rt.alloc();
-    assert!(rt; are_listed(alloc, "b a b", "a", "b")?);
-    assert!(rt; are_combined(alloc, "a b", "b c", ["a b c", "a", "b"])?);
-    assert!(rt; lies_within(alloc, "a b", "a b c")?);
-    assert!(rt; !lies_within(alloc, "a b", "a c")?);
-    assert!(rt; share(alloc, "a b", "b c")?);
-    assert!(rt; !share(alloc, "a b", "c")?);
-    assert!(rt; names(alloc, "a b")?.has(&Name::new("b")?));
-    assert!(rt; !names(alloc, "a b")?.has(&Name::new("c")?));
-    Ok(())
+    assert!(rt; are_listed(&rt, alloc, "b a b", [name(&rt, "a"), name(&rt, "b")]));
+    assert!(rt; are_combined(&rt, alloc, "a b", "b c", ["a b c", "a", "b"]));
+    assert!(rt; is_single(&rt, alloc, "a", "a"));
+    assert!(rt; !is_single(&rt, alloc, "a", "a b"));
+    assert!(rt; lies_within(&rt, alloc, "a b", "a b c"));
+    assert!(rt; !lies_within(&rt, alloc, "a b", "a c"));
+    assert!(rt; share(&rt, alloc, "a b", "b c"));
+    assert!(rt; !share(&rt, alloc, "a b", "c"));
+    assert!(rt; has(&rt, alloc, "a b", "b"));
+    assert!(rt; !has(&rt, alloc, "a b", "c"));
 }
 
 // Whether the columns are these pairs, in this order, and so are their copy.
-fn are_pairs(alloc: Global, text: &str, pairs: [(Name, Kind); 2]) -> Result<bool, Fail> {
-    let made = columns(alloc, text)?;
-    Ok(made.pairs() == pairs.as_slice() && made.copy(alloc)?.pairs() == pairs.as_slice())
+fn are_pairs(rt: &impl Abort, alloc: Global, text: &str, pairs: [(Name, Kind); 2]) -> bool {
+    let made = columns(rt, alloc, text);
+    let copy = made.copy(alloc).expect(rt, "memory");
+    made.pairs() == pairs.as_slice() && copy.pairs() == pairs.as_slice()
 }
 
-// The name that stands twice.
-fn twice(alloc: Global, name: Name) -> Result<Option<ColumnsFault>, Fail> {
-    let pairs = vec![in alloc; (name, Kind::Int), (name, Kind::Int)]?;
-    Ok(Columns::new(alloc, pairs).err())
+// Why there are no columns with the name twice.
+fn twice(rt: &impl Abort, alloc: Global, name: Name) -> Option<ColumnsFault> {
+    let mut pairs = Vec::new(alloc);
+    pairs.push((name, Kind::Int)).expect(rt, "memory");
+    pairs.push((name, Kind::Int)).expect(rt, "memory");
+    Columns::new(alloc, pairs).err()
+}
+
+// The place of the column.
+fn place(rt: &impl Abort, alloc: Global, text: &str, col: &str) -> Option<usize> {
+    columns(rt, alloc, text).place_of(&name(rt, col))
+}
+
+// Whether the names of the columns are these, and the first is a text.
+fn are_named(rt: &impl Abort, alloc: Global, text: &str, first: &Name, all: &str) -> bool {
+    let made = columns(rt, alloc, text);
+    let found = made.names(alloc).expect(rt, "memory");
+    made.kind(first) == Some(Kind::Text) && are_names(rt, alloc, &found, all)
 }
 
 #[test]
-fn columns_are_maps(rt: HostRuntime) -> Result<(), Fail> {
+fn columns_are_maps(rt: HostRuntime) {
     let alloc = rt.alloc();
-    let a = Name::new("a")?;
-    let b = Name::new("b")?;
-    assert!(rt; are_pairs(alloc, "b:int a:text", [(a, Kind::Text), (b, Kind::Int)])?);
-    assert!(rt; twice(alloc, a)? == Some(ColumnsFault::Twice { name: a }));
-    assert!(rt; columns(alloc, "a:text b:int")?.place_of(&b) == Some(1));
-    assert!(rt; columns(alloc, "a:text")?.place_of(&b) == None);
-    assert!(rt; columns(alloc, "a:text b:int")?.kind(&a) == Some(Kind::Text));
-    assert!(rt; are_names(alloc, &columns(alloc, "a:text b:int")?.names(alloc)?, "a b")?);
-    Ok(())
+    let a = name(&rt, "a");
+    let b = name(&rt, "b");
+    assert!(rt;
+        are_pairs(
+            &rt,
+            alloc,
+            "b:int a:text",
+            [(a, Kind::Text), (b, Kind::Int)]
+        )
+    );
+    assert!(rt; twice(&rt, alloc, a) == Some(ColumnsFault::Twice { name: a }));
+    assert!(rt; place(&rt, alloc, "a:text b:int", "b") == Some(1));
+    assert!(rt; place(&rt, alloc, "a:text", "b") == None);
+    assert!(rt; are_named(&rt, alloc, "a:text b:int", &a, "a b"));
 }
 
 // Whether the columns of both are these.
-fn are_united(alloc: Global, first: &str, second: &str, all: &str) -> Result<bool, Fail> {
-    let union = columns(alloc, first)?.union(alloc, &columns(alloc, second)?)?;
-    are_columns(alloc, &union, all)
+fn are_united(rt: &impl Abort, alloc: Global, first: &str, second: &str, all: &str) -> bool {
+    let second = columns(rt, alloc, second);
+    let union = columns(rt, alloc, first)
+        .union(alloc, &second)
+        .expect(rt, "a union");
+    are_columns(rt, alloc, &union, all)
 }
 
 // Why the columns have no union.
-fn clash(alloc: Global, first: &str, second: &str) -> Result<Option<ColumnsFault>, Fail> {
-    let first = columns(alloc, first)?;
-    Ok(first.union(alloc, &columns(alloc, second)?).err())
+fn clash(rt: &impl Abort, alloc: Global, first: &str, second: &str) -> Option<ColumnsFault> {
+    let second = columns(rt, alloc, second);
+    columns(rt, alloc, first).union(alloc, &second).err()
 }
 
 // Whether these columns are left beside the names, and these at them.
-fn are_parted(alloc: Global, cols: &str, at: &str, beside: [&str; 2]) -> Result<bool, Fail> {
-    let cols = columns(alloc, cols)?;
-    let at = names(alloc, at)?;
-    let minus = are_columns(alloc, &cols.minus(alloc, &at)?, beside[0])?;
-    Ok(minus && are_columns(alloc, &cols.meet(alloc, &at)?, beside[1])?)
+fn are_parted(rt: &impl Abort, alloc: Global, cols: &str, at: &str, parts: [&str; 2]) -> bool {
+    let cols = columns(rt, alloc, cols);
+    let at = names(rt, alloc, at);
+    let minus = cols.minus(alloc, &at).expect(rt, "memory");
+    let meet = cols.meet(alloc, &at).expect(rt, "memory");
+    are_columns(rt, alloc, &minus, parts[0]) && are_columns(rt, alloc, &meet, parts[1])
 }
 
 // Whether the first columns are among the second.
-fn are_among(alloc: Global, first: &str, second: &str) -> Result<bool, Fail> {
-    Ok(columns(alloc, first)?.within(&columns(alloc, second)?))
+fn are_among(rt: &impl Abort, alloc: Global, first: &str, second: &str) -> bool {
+    columns(rt, alloc, first).within(&columns(rt, alloc, second))
 }
 
 #[test]
-fn columns_are_united_and_parted(rt: HostRuntime) -> Result<(), Fail> {
+fn columns_are_united_and_parted(rt: HostRuntime) {
     let alloc = rt.alloc();
-    let b = Name::new("b")?;
-    assert!(rt; are_united(alloc, "a:text b:int", "b:int c:bool", "a:text b:int c:bool")?);
+    let b = name(&rt, "b");
     assert!(rt;
-        clash(alloc, "a:text b:int", "b:text")? == Some(ColumnsFault::KindClash { name: b })
+        are_united(
+            &rt,
+            alloc,
+            "a:text b:int",
+            "b:int c:bool",
+            "a:text b:int c:bool"
+        )
     );
-    assert!(rt; are_parted(alloc, "a:text b:int", "b", ["a:text", "b:int"])?);
-    assert!(rt; are_among(alloc, "b:int", "a:text b:int")?);
-    assert!(rt; !are_among(alloc, "b:text", "a:text b:int")?);
-    Ok(())
+    assert!(rt;
+        clash(&rt, alloc, "a:text b:int", "b:text") == Some(ColumnsFault::KindClash { name: b })
+    );
+    assert!(rt; are_parted(&rt, alloc, "a:text b:int", "b", ["a:text", "b:int"]));
+    assert!(rt; are_among(&rt, alloc, "b:int", "a:text b:int"));
+    assert!(rt; !are_among(&rt, alloc, "b:text", "a:text b:int"));
 }
 
-// Whether a row of the pairs in the other order has the values, and so has its copy.
-fn has_values(alloc: Global) -> Result<bool, Fail> {
-    let text = Value::Text(Text::new(alloc, "x")?);
-    let pairs = vec![in alloc; (Name::new("b")?, Value::Int(1)), (Name::new("a")?, text)]?;
-    let row = Row::new(alloc, pairs)?;
-    Ok(is_mixed(&row)? && is_mixed(&row.copy(alloc)?)?)
+// Whether the row of the pairs in the other order has the values, and so has its copy.
+fn has_values(rt: &impl Abort, alloc: Global) -> bool {
+    let made = row(rt, alloc, "b=1 a=x");
+    let copy = made.copy(alloc).expect(rt, "memory");
+    is_mixed(rt, &made) && is_mixed(rt, &copy)
 }
 
 // Whether the row is of the text x at a and of 1 at b.
-fn is_mixed(row: &Row) -> Result<bool, Fail> {
-    let a = match row.value(&Name::new("a")?) {
+fn is_mixed(rt: &impl Abort, row: &Row) -> bool {
+    let a = match row.value(&name(rt, "a")) {
         Some(Value::Text(text)) => text.as_str() == "x",
         _ => false,
     };
-    let b = row.value(&Name::new("b")?) == Some(&Value::Int(1));
-    Ok(a && b && row.pairs().len() == 2)
+    let b = row.value(&name(rt, "b")) == Some(&Value::Int(1));
+    a && b && row.pairs().len() == 2
 }
 
 // Why a row has not two values at one column.
-fn two_values(alloc: Global, name: Name) -> Result<Option<RowFault>, Fail> {
-    let pairs = vec![in alloc; (name, Value::Int(1)), (name, Value::Int(2))]?;
-    Ok(Row::new(alloc, pairs).err())
+fn two_values(rt: &impl Abort, alloc: Global, name: Name) -> Option<RowFault> {
+    let mut pairs = Vec::new(alloc);
+    pairs.push((name, Value::Int(1))).expect(rt, "memory");
+    pairs.push((name, Value::Int(2))).expect(rt, "memory");
+    Row::new(alloc, pairs).err()
 }
 
 // Whether the row has the columns.
-fn fits(alloc: Global, text: &str, cols: &str) -> Result<bool, Fail> {
-    Ok(row(alloc, text)?.fits(&columns(alloc, cols)?))
+fn fits(rt: &impl Abort, alloc: Global, text: &str, cols: &str) -> bool {
+    row(rt, alloc, text).fits(&columns(rt, alloc, cols))
 }
 
 #[test]
-fn rows_are_maps(rt: HostRuntime) -> Result<(), Fail> {
+fn rows_are_maps(rt: HostRuntime) {
     let alloc = rt.alloc();
-    let a = Name::new("a")?;
-    assert!(rt; has_values(alloc)?);
-    assert!(rt; two_values(alloc, a)? == Some(RowFault::Twice { name: a }));
-    assert!(rt; fits(alloc, "a=x b=1", "a:text b:int")?);
-    assert!(rt; !fits(alloc, "a=x b=1", "a:int b:int")?);
-    assert!(rt; !fits(alloc, "a=x b=1", "a:text")?);
-    assert!(rt; !fits(alloc, "a=x", "a:text b:int")?);
-    Ok(())
+    let a = name(&rt, "a");
+    assert!(rt; has_values(&rt, alloc));
+    assert!(rt; two_values(&rt, alloc, a) == Some(RowFault::Twice { name: a }));
+    assert!(rt; fits(&rt, alloc, "a=x b=1", "a:text b:int"));
+    assert!(rt; !fits(&rt, alloc, "a=x b=1", "a:int b:int"));
+    assert!(rt; !fits(&rt, alloc, "a=x b=1", "a:text"));
+    assert!(rt; !fits(&rt, alloc, "a=x", "a:text b:int"));
 }
 
 // Whether the row at these columns is that one.
-fn is_projected(alloc: Global, text: &str, cols: &str, part: &str) -> Result<bool, Fail> {
-    let cut = row(alloc, text)?.project(alloc, &names(alloc, cols)?)?;
-    Ok(cut == row(alloc, part)?)
+fn is_projected(rt: &impl Abort, alloc: Global, text: &str, cols: &str, part: &str) -> bool {
+    let cols = names(rt, alloc, cols);
+    let cut = row(rt, alloc, text)
+        .project(alloc, &cols)
+        .expect(rt, "memory");
+    cut == row(rt, alloc, part)
 }
 
 // Whether the second row over the first is the third.
-fn is_pasted(alloc: Global, first: &str, second: &str, both: &str) -> Result<bool, Fail> {
-    let pasted = row(alloc, first)?.paste(alloc, &row(alloc, second)?)?;
-    Ok(pasted == row(alloc, both)?)
+fn is_pasted(rt: &impl Abort, alloc: Global, first: &str, second: &str, both: &str) -> bool {
+    let second = row(rt, alloc, second);
+    let pasted = row(rt, alloc, first)
+        .paste(alloc, &second)
+        .expect(rt, "memory");
+    pasted == row(rt, alloc, both)
 }
 
 // Whether the rows have the same values at the columns.
-fn agree(alloc: Global, first: &str, second: &str, cols: &str) -> Result<bool, Fail> {
-    Ok(row(alloc, first)?.agree_on(&row(alloc, second)?, &names(alloc, cols)?))
+fn agree(rt: &impl Abort, alloc: Global, first: &str, second: &str, cols: &str) -> bool {
+    let cols = names(rt, alloc, cols);
+    row(rt, alloc, first).agree_on(&row(rt, alloc, second), &cols)
+}
+
+// Whether the first row comes before the second.
+fn is_before(rt: &impl Abort, alloc: Global, first: &str, second: &str) -> bool {
+    row(rt, alloc, first) < row(rt, alloc, second)
 }
 
 #[test]
-fn rows_are_cut_and_pasted(rt: HostRuntime) -> Result<(), Fail> {
+fn rows_are_cut_and_pasted(rt: HostRuntime) {
     let alloc = rt.alloc();
-    assert!(rt; is_projected(alloc, "a=1 b=2", "a", "a=1")?);
-    assert!(rt; is_pasted(alloc, "a=1 b=2", "b=3 c=4", "a=1 b=3 c=4")?);
-    assert!(rt; agree(alloc, "a=1 b=2", "a=1 b=3", "a")?);
-    assert!(rt; !agree(alloc, "a=1 b=2", "a=1 b=3", "a b")?);
-    assert!(rt; row(alloc, "a=1 b=2")? < row(alloc, "b=3 c=4")?);
-    Ok(())
+    assert!(rt; is_projected(&rt, alloc, "a=1 b=2", "a", "a=1"));
+    assert!(rt; is_pasted(&rt, alloc, "a=1 b=2", "b=3 c=4", "a=1 b=3 c=4"));
+    assert!(rt; agree(&rt, alloc, "a=1 b=2", "a=1 b=3", "a"));
+    assert!(rt; !agree(&rt, alloc, "a=1 b=2", "a=1 b=3", "a b"));
+    assert!(rt; is_before(&rt, alloc, "a=1 b=2", "b=3 c=4"));
 }

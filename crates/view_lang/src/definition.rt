@@ -7,6 +7,7 @@ use lens_pred::Pred;
 use lens_values::{Columns, Name, NoMemory};
 use std::alloc::AllocError;
 use std::marker::Model;
+use thiserror::Error;
 
 /// Dependencies, in order. A contract sees the list of their edges.
 #[derive(Debug, Drop)]
@@ -83,6 +84,20 @@ pub enum Limit {
     Views,
 }
 
+impl Limit {
+    /// A sentence that says what is exceeded.
+    pub fn sentence(self) -> &'static str {
+        match self {
+            Limit::Columns => "there are more than 64 columns",
+            Limit::Lens => "the lens has more than 64 nodes",
+            Limit::Predicate => "the predicate has more than 256 nodes",
+            Limit::Nesting => "more than 32 parentheses and \"not\"s are open at once",
+            Limit::Tables => "there are 64 tables already",
+            Limit::Views => "there are 256 views already",
+        }
+    }
+}
+
 /// A side of a join.
 #[derive(Clone, Copy, Debug, PartialEq, Eq)]
 pub enum Side {
@@ -93,19 +108,22 @@ pub enum Side {
 }
 
 /// Why a text gives no definition.
-#[derive(Debug, PartialEq, Eq, Drop)]
+#[derive(Debug, PartialEq, Eq, Drop, Error)]
 pub enum LangFault {
     /// The text goes wrong at this offset.
+    #[error("the text goes wrong at offset {at}")]
     Syntax {
         /// Where the first wrong token begins, or the length of the text where it ends too early.
         at: usize,
     },
     /// Something is too large.
+    #[error("{}", .what.sentence())]
     TooLarge {
         /// What it is.
         what: Limit,
     },
     /// Memory ran out.
+    #[error("memory ran out")]
     NoMemory,
 }
 

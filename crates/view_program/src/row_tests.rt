@@ -23,11 +23,11 @@ const DEFINITIONS: &str =
 {"do":"define","text":"view v = nowhere"}
 {"error":22,"name":"nowhere","ok":false}
 {"do":"define","text":"view v = join_dl nowhere with tracks"}
-{"error":99,"ok":false}
+{"error":22,"name":"nowhere","ok":false}
 {"do":"define","text":"view v = drop date determined by (track, 2018) from tracks"}
-{"error":99,"ok":false}
-{"do":"define","text":"view v = select from (select from tracks where true) where true"}
-{"error":99,"ok":false}
+{"col":"date","error":28,"ok":false}
+{"do":"define","text":"view v = select from (select from tracks where true) where genre = 1"}
+{"error":23,"name":"genre","ok":false}
 {"do":"define","text":"view v = select from tracks where genre = 'x'"}
 {"error":23,"name":"genre","ok":false}
 {"do":"define","text":"view v = select from tracks where rating = 'x' and genre = 1"}
@@ -136,6 +136,100 @@ const SELECTIONS: &str =
 {"do":"define","text":"view v = select from u where a > 1"}
 {"ok":true,"version":14}"#;
 
+/// Views that drop a column: new rows take its default, and rows that stay keep their values.
+const DROPS: &str =
+    r#"{"do":"define","text":"table tracks (track text, date int, rating int, album text) with track -> date rating"}
+{"ok":true,"version":1}
+{"do":"define","text":"view d = drop date determined by (track, 2018) from tracks"}
+{"ok":true,"version":2}
+{"do":"put","view":"tracks","rows":[{"album":"Wish","date":1992,"rating":4,"track":"Trust"}]}
+{"changed":[{"add":[{"album":"Wish","date":1992,"rating":4,"track":"Trust"}],"remove":[],"table":"tracks"}],"ok":true,"version":3}
+{"do":"put","view":"d","rows":[{"album":"Wish","rating":4,"track":"Trust"},{"album":"Wish","rating":2,"track":"Disco"}]}
+{"changed":[{"add":[{"album":"Wish","date":2018,"rating":2,"track":"Disco"}],"remove":[],"table":"tracks"}],"ok":true,"version":4}
+{"do":"read","view":"tracks"}
+{"ok":true,"rows":[{"album":"Wish","date":1992,"rating":4,"track":"Trust"},{"album":"Wish","date":2018,"rating":2,"track":"Disco"}],"version":4}
+{"do":"read","view":"d"}
+{"ok":true,"rows":[{"album":"Wish","rating":2,"track":"Disco"},{"album":"Wish","rating":4,"track":"Trust"}],"version":4}
+{"do":"put","view":"d","rows":[{"album":"Wish","date":1992,"rating":4,"track":"Trust"}]}
+{"col":"date","error":40,"index":0,"list":"rows","ok":false}
+{"do":"define","text":"view good = drop date determined by (track, 2018) from (select from tracks where album = 'Wish')"}
+{"ok":true,"version":5}
+{"do":"put","view":"good","rows":[{"album":"Show","rating":4,"track":"Trust"}]}
+{"error":42,"ok":false,"row":{"album":"Show","rating":4,"track":"Trust"}}
+{"do":"define","text":"view v = drop rating determined by (album, 0) from tracks"}
+{"col":"rating","error":28,"ok":false}
+{"do":"define","text":"table m (k int, a int, b int) with k -> a b where a < b"}
+{"ok":true,"version":6}
+{"do":"define","text":"view v = drop a determined by (k, 0) from m"}
+{"error":29,"index":0,"ok":false}
+{"do":"define","text":"table p (k int, a int) with k -> a where a > 5"}
+{"ok":true,"version":7}
+{"do":"define","text":"view v = drop a determined by (k, 3) from p"}
+{"error":30,"ok":false}
+{"do":"define","text":"view v = drop a determined by (k, 'x') from p"}
+{"error":24,"name":"a","ok":false}
+{"do":"define","text":"view v = drop x determined by (k, 3) from p"}
+{"error":23,"name":"x","ok":false}
+{"do":"define","text":"view v = select from (select from tracks where rating > 3) where album = 'Wish'"}
+{"col":"rating","error":27,"ok":false}"#;
+
+/// A join of tracks with the quantity of their album: rows are deleted from the left side alone.
+const JOINS: &str =
+    r#"{"do":"define","text":"table tracks (track text, date int, rating int, album text) with track -> date rating"}
+{"ok":true,"version":1}
+{"do":"define","text":"table albums (album text, quantity int) with album -> quantity"}
+{"ok":true,"version":2}
+{"do":"define","text":"view stock = select from (drop date determined by (track, 2018) from (join_dl tracks with albums)) where quantity > 2"}
+{"ok":true,"version":3}
+{"do":"put","view":"tracks","rows":[{"track":"Lullaby","date":1989,"rating":3,"album":"Galore"},{"track":"Lullaby","date":1989,"rating":3,"album":"Show"},{"track":"Lovesong","date":1989,"rating":5,"album":"Galore"},{"track":"Lovesong","date":1989,"rating":5,"album":"Paris"},{"track":"Trust","date":1992,"rating":4,"album":"Wish"}]}
+{"changed":[{"add":[{"album":"Galore","date":1989,"rating":3,"track":"Lullaby"},{"album":"Galore","date":1989,"rating":5,"track":"Lovesong"},{"album":"Paris","date":1989,"rating":5,"track":"Lovesong"},{"album":"Show","date":1989,"rating":3,"track":"Lullaby"},{"album":"Wish","date":1992,"rating":4,"track":"Trust"}],"remove":[],"table":"tracks"}],"ok":true,"version":4}
+{"do":"put","view":"albums","rows":[{"album":"Disintegration","quantity":6},{"album":"Show","quantity":3},{"album":"Galore","quantity":1},{"album":"Paris","quantity":4},{"album":"Wish","quantity":5}]}
+{"changed":[{"add":[{"album":"Disintegration","quantity":6},{"album":"Galore","quantity":1},{"album":"Paris","quantity":4},{"album":"Show","quantity":3},{"album":"Wish","quantity":5}],"remove":[],"table":"albums"}],"ok":true,"version":5}
+{"do":"read","view":"stock"}
+{"ok":true,"rows":[{"album":"Paris","quantity":4,"rating":5,"track":"Lovesong"},{"album":"Show","quantity":3,"rating":3,"track":"Lullaby"},{"album":"Wish","quantity":5,"rating":4,"track":"Trust"}],"version":5}
+{"do":"put","view":"stock","rows":[{"album":"Paris","quantity":4,"rating":5,"track":"Lovesong"},{"album":"Show","quantity":3,"rating":3,"track":"Lullaby"},{"album":"Wish","quantity":5,"rating":4,"track":"Trust"}]}
+{"changed":[],"ok":true,"version":5}
+{"do":"put","view":"stock","rows":[{"album":"Show","quantity":2,"rating":3,"track":"Lullaby"}]}
+{"error":42,"ok":false,"row":{"album":"Show","quantity":2,"rating":3,"track":"Lullaby"}}
+{"do":"put","view":"stock","rows":[{"album":"Show","quantity":4,"rating":5,"track":"Lovesong"},{"album":"Show","quantity":3,"rating":3,"track":"Lullaby"}]}
+{"edge":{"left":["album"],"right":["quantity"]},"error":43,"ok":false,"rows":[{"album":"Show","quantity":3,"rating":3,"track":"Lullaby"},{"album":"Show","quantity":4,"rating":5,"track":"Lovesong"}]}
+{"do":"put","view":"stock","rows":[]}
+{"changed":[{"add":[],"remove":[{"album":"Paris","date":1989,"rating":5,"track":"Lovesong"},{"album":"Show","date":1989,"rating":3,"track":"Lullaby"},{"album":"Wish","date":1992,"rating":4,"track":"Trust"}],"table":"tracks"}],"ok":true,"version":6}
+{"do":"read","view":"tracks"}
+{"ok":true,"rows":[{"album":"Galore","date":1989,"rating":3,"track":"Lullaby"},{"album":"Galore","date":1989,"rating":5,"track":"Lovesong"}],"version":6}
+{"do":"define","text":"table loans (album int, day int) with album -> day"}
+{"ok":true,"version":7}
+{"do":"define","text":"view v = join_dl tracks with loans"}
+{"error":24,"name":"album","ok":false}
+{"do":"define","text":"view v = join_dl albums with tracks"}
+{"col":"date","error":31,"ok":false}
+{"do":"define","text":"table n (k int)"}
+{"ok":true,"version":8}
+{"do":"define","text":"view v = join_dl tracks with n"}
+{"col":"k","error":31,"ok":false}
+{"do":"define","text":"view v = join_dl (select from tracks where rating > 3) with albums"}
+{"col":"rating","error":32,"ok":false,"side":"left"}
+{"do":"define","text":"view v = join_dl tracks with tracks"}
+{"error":33,"name":"tracks","ok":false}
+{"do":"define","text":"view v = join_dl stock with loans"}
+{"error":99,"ok":false}
+{"do":"define","text":"view v = join_dl nowhere with stock"}
+{"error":99,"ok":false}
+{"do":"define","text":"table l (x int, a int, b int)"}
+{"ok":true,"version":9}
+{"do":"define","text":"table r (a int, b int) with a -> b"}
+{"ok":true,"version":10}
+{"do":"define","text":"view j = join_dl l with r"}
+{"ok":true,"version":11}
+{"do":"put","view":"l","rows":[{"a":1,"b":1,"x":1},{"a":1,"b":2,"x":2}]}
+{"changed":[{"add":[{"a":1,"b":1,"x":1},{"a":1,"b":2,"x":2}],"remove":[],"table":"l"}],"ok":true,"version":12}
+{"do":"put","view":"r","rows":[{"a":1,"b":1}]}
+{"changed":[{"add":[{"a":1,"b":1}],"remove":[],"table":"r"}],"ok":true,"version":13}
+{"do":"put","view":"j","rows":[{"a":1,"b":2,"x":3}]}
+{"changed":[{"add":[{"a":1,"b":2,"x":3}],"remove":[{"a":1,"b":2,"x":2}],"table":"l"},{"add":[{"a":1,"b":2}],"remove":[{"a":1,"b":1}],"table":"r"}],"ok":true,"version":14}
+{"do":"read","view":"j"}
+{"ok":true,"rows":[{"a":1,"b":2,"x":3}],"version":14}"#;
+
 /// Lines that are no request, and requests that are not built.
 const REQUESTS: &str = r#"{"do":"read"}
 {"error":12,"member":"view","ok":false}
@@ -181,6 +275,20 @@ fn follow(alloc: Global, scripts: &[&str]) -> Result<(Vec<u8>, Vec<u8>), Fail> {
 #[test]
 fn selections(rt: HostRuntime) -> Result<(), Fail> {
     let (given, wanted) = follow(rt.alloc(), &[SELECTIONS])?;
+    assert_eq!(rt; given, wanted);
+    Ok(())
+}
+
+#[test]
+fn joins(rt: HostRuntime) -> Result<(), Fail> {
+    let (given, wanted) = follow(rt.alloc(), &[JOINS])?;
+    assert_eq!(rt; given, wanted);
+    Ok(())
+}
+
+#[test]
+fn drops(rt: HostRuntime) -> Result<(), Fail> {
+    let (given, wanted) = follow(rt.alloc(), &[DROPS])?;
     assert_eq!(rt; given, wanted);
     Ok(())
 }

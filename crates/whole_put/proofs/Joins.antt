@@ -1,5 +1,5 @@
 -- A join and its put.
-use Rattle.std.proofs.Common.{◌≡◌, List, ◌++◌, Bool, true, refl, ap, ◌∙◌}
+use Rattle.std.proofs.Common.{◌≡◌, List, ◌++◌, true, refl, ap, ◌∙◌}
 use Rattle.lens_values.specs.declared.row.Row.{Row}
 use Rattle.lens_specs.specs.Columns.{Fits, both_columns, names}
 use Rattle.lens_specs.specs.Dependencies.{Edge, Meets, MeetsTree}

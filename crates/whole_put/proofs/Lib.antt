@@ -1,4 +1,7 @@
 pub mod Cuts
 pub mod Drops
+pub mod JoinedLenses
 pub mod Joins
+pub mod Lenses
 pub mod Selections
+pub mod Tables

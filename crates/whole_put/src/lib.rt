@@ -1,11 +1,17 @@
 //! The nodes of a lens over whole relations: the view that each shows of its sources, and the
-//! sources after a put of it.
+//! sources after a put of it; and the same of whole lenses over tables.
 #![tactic(auto)]
 
+pub mod db;
 pub mod dropping;
+pub mod getting;
 pub mod joining;
+pub mod putting;
 pub mod selecting;
 
+pub use db::Db;
 pub use dropping::{get_drop, put_drop};
+pub use getting::get;
 pub use joining::{get_join, put_join};
+pub use putting::put;
 pub use selecting::{get_select, put_select};

@@ -1,5 +1,6 @@
+use Rattle.server_laws.proofs.DropExample.{drops_can_change}
 use Rattle.server_laws.proofs.Example.{puts_can_change}
 use Rattle.server_laws.proofs.premises_can_be_met.Goals as goal
 
 pub returns : goal.returns
-returns c = puts_can_change
+returns c = record { puts = puts_can_change; drops = drops_can_change }

@@ -1,10 +1,8 @@
-use Rattle.std.proofs.Common.{sym, subst, []}
-use Rattle.lens_server.specs.States.{IsConsistent}
-use Rattle.lens_server.proofs.Stepping.{nothing_defined}
+use Rattle.std.proofs.Common.{sym, subst}
+use Rattle.server_specs.specs.Validity.{Valid}
+use Rattle.server_laws.proofs.Valid.{fresh_is_valid}
 use Rattle.lens_server.proofs.server.Server.fresh.Goals as goal
 
 pub invariant_of-result : goal.invariant_of-result
 invariant_of-result c =
-    subst (λ ts. IsConsistent c.new.result.items c.new-2.result.items ts) (sym c.new-3.ensures.items)
-    (subst (λ es. IsConsistent c.new.result.items es []) (sym c.new-2.ensures.items)
-    (subst (λ xs. IsConsistent xs [] []) (sym c.new.ensures.items) nothing_defined))
+    subst Valid (λ i. record { texts = sym c.new.ensures i; tables = sym c.new-2.ensures i; version = 0; last = sym c.new-3.ensures i }) fresh_is_valid

@@ -8,3 +8,6 @@ returns-in-Base-2-clause-typed c = subst IsTyped c.self.view_is (kept_is_typed _
 
 pub returns-in-Base-3-clause-typed : goal.returns-in-Base-3-clause-typed
 returns-in-Base-3-clause-typed c = subst IsTyped c.self.view_is (kept_is_typed _ _ _ c.self.invariant)
+
+pub returns-in-Base-4-clause-typed : goal.returns-in-Base-4-clause-typed
+returns-in-Base-4-clause-typed c = subst IsTyped c.self.view_is (kept_is_typed _ _ _ c.self.invariant)

@@ -1,0 +1,56 @@
+-- Clashes as they are found.
+use Rattle.std.proofs.Common.{◌≡◌, ◌∙◌, ◌<◌, List, [], ◌∷◌, ◌++◌, length, slice_index_or, ap, sym, subst, refl, arith}
+use Rattle.std.specs.Prelude.{Option, Some, None}
+use Rattle.lens_laws.proofs.Least.{clash_is}
+use Rattle.lens_specs.specs.Dependencies.{Edge}
+use Rattle.lens_specs.specs.Lens.{Lens}
+use Rattle.lens_specs.specs.Relation.{Rows}
+use Rattle.lens_specs.specs.Sort as spec
+use Rattle.lens_specs.specs.Sort.{clash}
+use Rattle.fd_tree.specs.ClashView.{shown_clash}
+use Rattle.fd_tree.specs.declared.clash.Clash.{Clash}
+use Rattle.request_text.specs.Answers.{answer_view}
+use Rattle.server_specs.specs.Answer.{clash as clash_answer}
+use Rattle.server_specs.specs.Changing.{unless_clash}
+use Rattle.lens_server.specs.Plans.{IsPlan, Leads}
+use Rattle.lens_server.specs.States.{state_of}
+use Rattle.lens_server.specs.declared.plan.Plan.{Plan}
+use Rattle.lens_server.specs.declared.store.Store.{Store}
+
+-- the edge after those before it
+behind : (before : List Edge) (e : Edge) (after : List Edge) (d : Edge) → (length before < length (before ++ e ∷ after)) × (slice_index_or (before ++ e ∷ after) (length before) d ≡ e)
+behind [] e after d = (omega arith, refl)
+behind (k ∷ ks) e after d = let w = behind ks e after d in (omega (arith, w.0), w.1)
+
+-- the clash that was found is the definition's, and its edge is at its place
+pub record IsFoundClash (T : List Edge) (M : Rows) (found : Clash) : Type 0 where
+  pub clash : spec.Clash
+  pub is : Rattle.lens_specs.specs.Sort.clash T M ≡ Some clash
+  pub below : found.edge < length T
+  pub edge : (d : Edge) → clash.edge ≡ slice_index_or T found.edge d
+  pub first : found.first ≡ clash.first
+  pub second : found.second ≡ clash.second
+
+of_clash : (T : List Edge) (M : Rows) (found : Clash) (o : Option spec.Clash) → clash T M ≡ o → Some found ≡ shown_clash o → IsFoundClash T M found
+of_clash T M found None is e = cc
+of_clash T M found (Some c) is e =
+    let w = clash_is T M c is in
+    let place : found.edge ≡ length w.before = (let p : found.edge ≡ c.place = cc in omega (arith, p, w.place)) in
+    record {
+      clash = c;
+      is = is;
+      below = subst (λ n. n < length T) (sym place) (subst (λ F. length w.before < length F) (sym w.parts) (behind w.before c.edge w.after c.edge).0);
+      edge = λ d. sym (ap (λ n. slice_index_or T n d) place ∙ ap (λ F. slice_index_or F (length w.before) d) w.parts ∙ (behind w.before c.edge w.after d).1);
+      first = cc;
+      second = cc;
+    }
+
+pub found_clash : (T : List Edge) (M : Rows) (found : Clash) → Some found ≡ shown_clash (clash T M) → IsFoundClash T M found
+found_clash T M found e = of_clash T M found (clash T M) refl e
+
+-- the plan of a clash that is there
+pub clash_planned : (store : Store) (plan : Plan) (o : Option spec.Clash) (c : spec.Clash) (L : Lens) (N : Rows) → o ≡ Some c
+    → answer_view plan.answer ≡ clash_answer c.edge c.first c.second → plan.staged ≡ None → IsPlan plan (unless_clash o L N (state_of store)) store
+clash_planned store plan o c L N is answer staged =
+    subst (λ p. IsPlan plan (unless_clash p L N (state_of store)) store) (sym is)
+    (record { answer = answer; leads = subst (λ s. Leads s (state_of store) store) (sym staged) refl })

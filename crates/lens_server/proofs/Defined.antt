@@ -1,0 +1,112 @@
+-- What a definition that was prepared makes of the state.
+use Rattle.std.proofs.Common.{◌≡◌, ◌∙◌, ◌+◌, ◌<◌, ℕ, false, List, [], ◌∷◌, ◌++◌, ap, sym, subst, refl}
+use Rattle.std.specs.Prelude.{Some, None, Ok, if◌then◌else◌}
+use Rattle.std.specs.FinMap as finmap
+use Rattle.lens_specs.specs.Columns.{Columns}
+use Rattle.lens_specs.specs.Dependencies.{Edge}
+use Rattle.lens_specs.specs.Keeping.{define}
+use Rattle.lens_specs.specs.Lens.{Lens}
+use Rattle.lens_specs.specs.Names.{Name}
+use Rattle.lens_specs.specs.Predicate.{Predicate}
+use Rattle.grammar_specs.specs.Meaning.{Definition, Expr, table, view}
+use Rattle.grammar_laws.specs.Reading.{reading}
+use Rattle.catalog_specs.specs.Catalogue.{catalogue, is_table_of, table_lens, with_lens}
+use Rattle.catalog_specs.specs.Judging.{judged}
+use Rattle.request_text.specs.Answers.{answer_view}
+use Rattle.server_specs.specs.Answer.{defined}
+use Rattle.server_specs.specs.Defining.{answer_definition, define_answer, with_defined}
+use Rattle.server_specs.specs.State.{State}
+use Rattle.server_specs.specs.Validity.{Valid}
+use Rattle.server_laws.specs.KeptLaws.{KeptFollows, table_made}
+use Rattle.server_laws.proofs.KeptStates.{definitions_kept}
+use Rattle.server_laws.proofs.Stored.{name_same}
+use Rattle.server_laws.proofs.Taken.{all_known, get-new, judged_ok, lens_is, lens_is_known, not_own}
+use Rattle.server_laws.proofs.Valid.{known_after, valid_taken}
+use Rattle.table_keeper.specs.Changes.{change_view}
+use Rattle.view_catalog.specs.Admissions.{IsAdmissible, table_in}
+use Rattle.view_catalog.specs.Judgements.{name_in}
+use Rattle.view_catalog.specs.declared.prepared.Prepared.{Prepared}
+use Rattle.lens_server.specs.Defining.{last_with, tables_with}
+use Rattle.lens_server.specs.Plans.{CanTake, IsPlan, IsStaged, Leads, after, texts_with}
+use Rattle.lens_server.specs.States.{state_of}
+use Rattle.lens_server.specs.declared.plan.Plan.{Plan}
+use Rattle.lens_server.specs.declared.plan.Staged.{Staged}
+use Rattle.lens_server.specs.declared.store.Store.{Store}
+
+-- the tables, the last changes and the table's name are those of the definition
+record IsMade (s : State) (prepared : Prepared) (d : Definition) : Type 0 where
+  tables : tables_with (table_in prepared.name prepared.lens) prepared.lens s.tables ≡ (with_defined prepared.text d s).tables
+  last : last_with (table_in prepared.name prepared.lens) (s.version + 1) s.last ≡ (with_defined prepared.text d s).last
+  table : table_in prepared.name prepared.lens ≡ table_made d
+
+table_is_made : (s : State) (prepared : Prepared) (name : Name) (columns : Columns) (deps : List Edge) (P : Predicate) → prepared.name ≡ name
+    → prepared.lens ≡ table_lens name columns deps P → IsMade s prepared (table name columns deps P)
+table_is_made s prepared name columns deps P n l =
+    let t : table_in prepared.name prepared.lens ≡ Some name = (λ i. table_in (n i) (l i)) ∙ ap (λ b. if b then Some name else None) (name_same name) in record {
+      tables = (λ i. tables_with (t i) (l i) s.tables);
+      last = ap (λ o. last_with o (s.version + 1) s.last) t;
+      table = t;
+    }
+
+view_is_made : (s : State) (prepared : Prepared) (name : Name) (expr : Expr) (L : Lens) → prepared.name ≡ name → prepared.lens ≡ L → is_table_of name L ≡ false
+    → IsMade s prepared (view name expr)
+view_is_made s prepared name expr L n l other =
+    let t : table_in prepared.name prepared.lens ≡ None = (λ i. table_in (n i) (l i)) ∙ ap (λ b. if b then Some name else None) other in record {
+      tables = ap (λ o. tables_with o prepared.lens s.tables) t;
+      last = ap (λ o. last_with o (s.version + 1) s.last) t;
+      table = t;
+    }
+
+is_made : (s : State) (prepared : Prepared) (d : Definition) → Valid s → judged (catalogue s.texts) (reading prepared.text) ≡ Ok d → name_in d ≡ prepared.name
+    → finmap.get (catalogue (s.texts ++ prepared.text ∷ [])) prepared.name ≡ Some prepared.lens → IsMade s prepared d
+is_made s prepared (table name columns deps P) v j n l =
+    let got : Some (table_lens name columns deps P) ≡ Some prepared.lens =
+    sym (get-new (catalogue s.texts) name (table_lens name columns deps P)) ∙ ap (λ k. finmap.get k name) (sym (known_after s prepared.text (table name columns deps P) j))
+    ∙ ap (finmap.get (catalogue (s.texts ++ prepared.text ∷ []))) n ∙ l in
+    let is : prepared.lens ≡ table_lens name columns deps P = cc in
+    table_is_made s prepared name columns deps P (sym n) is
+is_made s prepared (view name expr) v j n l =
+    let known = catalogue s.texts in
+    let all = all_known s.texts v.definitions in
+    let taken = (judged_ok known (reading prepared.text) (view name expr) j).1 in
+    let k = lens_is_known known all expr taken.1.0 taken.1.1 in
+    let got : Some taken.1.0 ≡ Some prepared.lens =
+    sym (get-new known name taken.1.0) ∙ ap (λ m. finmap.get m name) (sym (known_after s prepared.text (view name expr) j ∙ ap (λ o. with_lens name o known) (lens_is known expr taken.1.0 taken.1.1)))
+    ∙ ap (finmap.get (catalogue (s.texts ++ prepared.text ∷ []))) n ∙ l in
+    let is : prepared.lens ≡ taken.1.0 = cc in
+    view_is_made s prepared name expr taken.1.0 (sym n) is (not_own known name taken.0 taken.1.0 k.bases)
+
+defined_is : (text : List ℕ) (d : Definition) (s : State)
+    → with_defined text d s ≡ record { texts = s.texts ++ text ∷ []; tables = (with_defined text d s).tables; version = s.version + 1; last = (with_defined text d s).last }
+defined_is text (table name columns deps P) s = refl
+defined_is text (view name expr) s = refl
+
+-- the plan that the catalogue takes a definition
+pub definition_planned : (store : Store) (prepared : Prepared) (plan : Plan) (staged : Staged) → Valid (state_of store) → 0 < store.catalog.room → IsAdmissible store.catalog.texts prepared
+    → answer_view plan.answer ≡ defined (store.version + 1) → plan.staged ≡ Some staged
+    → change_view staged.change ≡ define prepared.text (table_in prepared.name prepared.lens) → staged.definition ≡ Some prepared
+    → staged.tables ≡ tables_with (table_in prepared.name prepared.lens) prepared.lens store.tables
+    → staged.last ≡ last_with (table_in prepared.name prepared.lens) (store.version + 1) store.last
+    → IsPlan plan (define_answer prepared.text (state_of store)) store
+definition_planned store prepared plan staged v room a answer is change definition tables last =
+    let s = state_of store in
+    let d = a.definition in
+    let made = is_made s prepared d v a.taken a.named a.lens in
+    let next : with_defined prepared.text d s ≡ after staged s =
+    defined_is prepared.text d s ∙ (λ i. record {
+      texts = texts_with (sym definition i) s.texts;
+      tables = (sym made.tables ∙ sym tables) i;
+      version = s.version + 1;
+      last = (sym made.last ∙ sym last) i;
+    }) in
+    let changed : define prepared.text (table_made d) ≡ change_view staged.change = ap (define prepared.text) (sym made.table) ∙ sym change in
+    let follows : KeptFollows (change_view staged.change) s (after staged s) =
+    subst (λ c. KeptFollows c s (after staged s)) changed
+    (subst (λ t. KeptFollows (define prepared.text (table_made d)) s t) next (definitions_kept s v prepared.text d a.taken)) in
+    let ready : IsStaged staged store = record {
+      definition = subst (λ o. CanTake o store.catalog) (sym definition) (room, a);
+      kept = follows;
+      valid = subst Valid next (valid_taken s prepared.text d v a.taken (judged_ok (catalogue s.texts) (reading prepared.text) d a.taken).1);
+    } in
+    subst (λ r. IsPlan plan (answer_definition prepared.text r s) store) (sym a.taken)
+    (record { answer = answer; leads = subst (λ o. Leads o (with_defined prepared.text d s) store) (sym is) (next, ready) })

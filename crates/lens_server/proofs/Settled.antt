@@ -1,0 +1,88 @@
+-- What becomes of a plan.
+use Rattle.std.proofs.Common.{◌≡◌, ◌∙◌, ◌+◌, ◌≤◌, ℕ, List, ap, sym, subst, refl, arith}
+use Rattle.std.specs.Prelude.{◌≢◌, Option, Some, None, Ok, Err}
+use Rattle.no_memory.specs.declared.NoMemory.{NoMemory}
+use Rattle.io_specs.specs.Faults.{Rose}
+use Rattle.lens_specs.specs.Keeping.{CanChange, CanCommit, Change, Follows, Kept, Stays, Tells, changed}
+use Rattle.server_specs.specs.Answer.{Answer, store_fault, text}
+use Rattle.server_specs.specs.Session.{answered, not_stored}
+use Rattle.server_specs.specs.State.{State, kept}
+use Rattle.server_specs.specs.Validity.{Valid}
+use Rattle.table_keeper.specs.Changes.{change_view}
+use Rattle.lens_server.specs.Outcomes.{Outcome}
+use Rattle.lens_server.specs.Plans.{IsStaged, after}
+use Rattle.lens_server.specs.States.{state_of}
+use Rattle.lens_server.specs.declared.plan.Staged.{Staged}
+use Rattle.lens_server.specs.declared.store.Store.{Store}
+
+-- ---- what the keeper tells
+
+can_commit : (change : Change) (contents : Option Kept) (k : Kept) → Tells contents k → CanChange change k → CanCommit change contents
+can_commit change None k told can = tt
+can_commit change (Some t) k told can = subst (CanChange change) (sym told) can
+
+-- a change that is staged can be committed
+pub staged_can : (staged : Staged) (store : Store) (contents : Option Kept) → IsStaged staged store → Tells contents (kept (state_of store)) → CanCommit (change_view staged.change) contents
+staged_can staged store contents h told = can_commit (change_view staged.change) contents (kept (state_of store)) told h.kept.1
+
+-- contents that follow the change are what is kept after it
+told_after : (change : Change) (contents contents' : Option Kept) (k k' : Kept) → Follows (λ a b. b ≡ changed change a) contents contents' → Tells contents k → changed change k ≡ k'
+    → Follows (λ _ now. now ≡ k') contents contents'
+told_after change None None k k' f told is = tt
+told_after change None (Some b) k k' f told is = absurd f
+told_after change (Some a) None k k' f told is = absurd f
+told_after change (Some a) (Some b) k k' f told is = f ∙ ap (changed change) told ∙ is
+
+-- contents that stay are what was kept
+pub told_still : (contents contents' : Option Kept) (k : Kept) → Stays contents contents' → Tells contents k → Follows (λ _ now. now ≡ k) contents contents'
+told_still None None k s told = tt
+told_still None (Some b) k s told = absurd s
+told_still (Some a) None k s told = absurd s
+told_still (Some a) (Some b) k s told = s ∙ told
+
+-- contents of a keeper that was not called
+pub told_untouched : (contents : Option Kept) (k : Kept) → Tells contents k → Follows (λ _ now. now ≡ k) contents contents
+told_untouched None k told = tt
+told_untouched (Some a) k told = told
+
+-- ---- outcomes
+
+-- nothing changes, and the answer is given
+pub outcome_unchanged : (answer : Answer × State) (s : State) (count : ℕ) (contents : Option Kept) (reply : List ℕ) → Valid s → Tells contents (kept s) → reply ≡ text answer.0 → answer.1 ≡ s
+    → Outcome answer s s count count contents contents (Ok reply)
+outcome_unchanged answer s count contents reply v told r is =
+    record { valid = v; later = omega arith; told = told_untouched contents (kept s) told; ok = answered r (sym is); err = tt }
+
+-- memory ran out
+pub outcome_no_memory : (answer : Answer × State) (s : State) (count count' : ℕ) (contents contents' : Option Kept) (e : NoMemory) → Valid s → count ≤ count' → Tells contents (kept s)
+    → Stays contents contents' → Outcome answer s s count count' contents contents' (Err e)
+outcome_no_memory answer s count count' contents contents' e v later told stays =
+    record { valid = v; later = later; told = told_still contents contents' (kept s) stays told; ok = tt; err = refl }
+
+-- the change is made
+pub outcome_made : (staged : Staged) (store : Store) (answer : Answer × State) (count count' : ℕ) (contents contents' : Option Kept) (reply : List ℕ) → IsStaged staged store
+    → Tells contents (kept (state_of store)) → Follows (λ a b. b ≡ changed (change_view staged.change) a) contents contents' → count ≤ count'
+    → reply ≡ text answer.0 → answer.1 ≡ after staged (state_of store) → (new : State) → new ≡ after staged (state_of store)
+    → Outcome answer (state_of store) new count count' contents contents' (Ok reply)
+outcome_made staged store answer count count' contents contents' reply h told follows later r is new became = record {
+  valid = subst Valid (sym became) h.valid;
+  later = later;
+  told = told_after (change_view staged.change) contents contents' (kept (state_of store)) (kept new) follows told (sym (ap kept became ∙ h.kept.0));
+  ok = answered r (became ∙ sym is);
+  err = tt;
+}
+
+raised : (staged : Staged) (s t : State) → t ≡ after staged s → t ≢ s
+raised staged s t is same = let up : t.version ≡ s.version + 1 = ap (λ x. x.version) is in let no : t.version ≡ s.version = ap (λ x. x.version) same in absurd (omega (arith, up, no))
+
+-- the keeper failed
+pub outcome_not_stored : (staged : Staged) (store : Store) (answer : Answer × State) (count count' : ℕ) (contents contents' : Option Kept) (reply : List ℕ) → Valid (state_of store)
+    → Tells contents (kept (state_of store)) → Stays contents contents' → count ≤ count' → Rose count count' → reply ≡ text store_fault → answer.1 ≡ after staged (state_of store)
+    → Outcome answer (state_of store) (state_of store) count count' contents contents' (Ok reply)
+outcome_not_stored staged store answer count count' contents contents' reply v told stays later rose r is = record {
+  valid = v;
+  later = later;
+  told = told_still contents contents' (kept (state_of store)) stays told;
+  ok = not_stored r refl (raised staged (state_of store) answer.1 is) rose;
+  err = tt;
+}

@@ -1,0 +1,43 @@
+//! What a request comes to: its answer, and the change to make.
+ghost use Rattle.std.specs.Prelude.{◌≡◌, None};
+
+use crate::last_changes::LastChanges;
+use request_text::Answer;
+use table_keeper::Change;
+use view_catalog::Prepared;
+use whole_put::Db;
+
+/// A change that is prepared whole. To make it takes no memory.
+#[derive(Drop)]
+pub struct Staged {
+    /// What the keeper makes of its contents.
+    pub change: Change,
+    /// The definition that the catalogue takes, if any.
+    pub definition: Option<Prepared>,
+    /// The tables after it.
+    pub tables: Db,
+    /// The last change of each table after it.
+    pub last: LastChanges,
+}
+
+/// The answer to a request, and what is changed before it is given.
+#[derive(Drop)]
+pub struct Plan {
+    /// The answer.
+    pub answer: Answer,
+    /// The change, if there is one.
+    pub staged: Option<Staged>,
+}
+
+impl Plan {
+    /// The answer, where nothing changes.
+    pub fn unchanged(answer: Answer) -> Plan
+        ensures answer { result.answer ≡ answer }
+        ensures staged { result.staged ≡ None }
+    {
+        Plan {
+            answer,
+            staged: None,
+        }
+    }
+}

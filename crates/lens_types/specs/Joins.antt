@@ -1,0 +1,32 @@
+-- What a join is refused for by the columns of its sides, and by its sides without their sizes.
+use Rattle.std.specs.Prelude.{Option, Some, None, option_map, Result, Ok, Err}
+use Rattle.lens_specs.specs.Columns.{Columns, both_columns, kinds_differ}
+use Rattle.lens_specs.specs.Names.{Name}
+use Rattle.lens_specs.specs.Refusal.{Refusal, left_side, right_side, kind_clash, not_determined, side_mentions_output, table_twice, or_else, least_mentioned}
+use Rattle.lens_specs.specs.Sort.{Sort}
+use Rattle.lens_specs.specs.TreeForm.{outputs}
+use Rattle.lens_specs.specs.Typing.{undetermined}
+
+-- the columns of both, unless a shared one has two kinds
+abbrev pub columns_from : Option Name → Columns → Columns → Result Columns Refusal
+columns_from (Some name) U V = Err (kind_clash name)
+columns_from None U V = Ok (both_columns U V)
+
+-- the same, by the least shared column with two kinds
+abbrev pub joined_columns : Columns → Columns → Result Columns Refusal
+joined_columns U V = columns_from (kinds_differ U V) U V
+
+-- the least output of the sort's tree that its predicate mentions
+abbrev pub mentioned_output : Sort → Option Name
+mentioned_output s = least_mentioned s.predicate (outputs s.tree)
+
+-- a side whose predicate mentions an output, the left one first, or a table that both have
+abbrev pub mention_fault : Sort → Sort → Option Name → Option Refusal
+mention_fault s t twice =
+    or_else (option_map (side_mentions_output left_side) (mentioned_output s))
+    (or_else (option_map (side_mentions_output right_side) (mentioned_output t))
+    (option_map table_twice twice))
+
+-- a right column that is not determined, or one of these
+abbrev pub sides_fault : Sort → Sort → Option Name → Option Refusal
+sides_fault s t twice = or_else (option_map not_determined (undetermined s t)) (mention_fault s t twice)

@@ -1,0 +1,94 @@
+//! Questions: the members of requests that change nothing, and the lines of what was asked for.
+ghost use Rattle.std.specs.Prelude.{◌≡◌, IfOk, option_map};
+ghost use Rattle.serde_json.specs.View.{members_view};
+ghost use Rattle.server_specs.specs.Answer as spec;
+ghost use Rattle.server_specs.specs.Request.{to_describe, to_read};
+ghost use Rattle.lens_pred.specs.View.{predicate_view};
+ghost use Rattle.request_text.specs.Requests.{request_view, said_in};
+
+use crate::describing::{print_columns, print_conjuncts, print_edges, print_texts};
+use crate::fields::{DO, Field, VIEW};
+use crate::printing::{begun, ended, print_flag, print_names, print_number, print_set};
+use crate::reply::Reply;
+use crate::request::Request;
+use crate::request_members::view_in;
+use fd_tree::Edge;
+use lens_pred::Formula;
+use lens_values::{Columns, Names, NoMemory, Text};
+use row_sets::RowSet;
+use serde_json::{Map, Value as Json};
+use std::alloc::Global;
+
+/// The members of a question about one view, in byte order of their names.
+pub(crate) const TO_SHOW: [Field; 2] = [DO, VIEW];
+
+/// The one member of a request to list.
+pub(crate) const TO_LIST: [Field; 1] = [DO];
+
+/// A request to read, if its view is there.
+pub(crate) fn read_in(members: &Map<String, Json>) -> Option<Request>
+    ensures { option_map request_view result
+        ≡ said_in to_read (members_view members.now.entries) }
+{
+    let view = view_in(members)?;
+    Some(Request::Read { view })
+}
+
+/// A request to describe, if its view is there.
+pub(crate) fn describe_in(members: &Map<String, Json>) -> Option<Request>
+    ensures { option_map request_view result
+        ≡ said_in to_describe (members_view members.now.entries) }
+{
+    let view = view_in(members)?;
+    Some(Request::Describe { view })
+}
+
+/// The line that shows these rows, at this version.
+pub(crate) fn shown_text(alloc: Global, rows: &RowSet, version: u64) -> Result<Reply, NoMemory>
+    ensures { IfOk result (λ reply. reply ≡ spec.text (spec.shown rows.now version)) }
+{
+    let mut out = begun(alloc)?;
+    print_flag(&mut out, "ok", true)?;
+    print_set(&mut out, "rows", rows)?;
+    print_number(&mut out, "version", version)?;
+    ended(out)
+}
+
+/// The line that describes a view: its columns, dependencies and predicate, and the tables under
+/// it, at this version.
+pub(crate) fn described_text(
+    alloc: Global,
+    columns: &Columns,
+    edges: &[Edge],
+    conjuncts: &[Formula],
+    tables: &Names,
+    version: u64,
+) -> Result<Reply, NoMemory>
+    ensures { IfOk result (λ reply.
+        reply ≡ spec.text
+        (spec.described columns.now edges.now (predicate_view conjuncts.now) tables.now version)) }
+{
+    let mut out = begun(alloc)?;
+    print_columns(&mut out, "columns", columns)?;
+    print_edges(&mut out, "dependencies", edges)?;
+    print_flag(&mut out, "ok", true)?;
+    print_conjuncts(alloc, &mut out, "predicate", conjuncts)?;
+    print_names(&mut out, "tables", tables)?;
+    print_number(&mut out, "version", version)?;
+    ended(out)
+}
+
+/// The line that lists the definitions as they were sent, at this version.
+pub(crate) fn listed_text(
+    alloc: Global,
+    definitions: &[Text],
+    version: u64,
+) -> Result<Reply, NoMemory>
+    ensures { IfOk result (λ reply. reply ≡ spec.text (spec.listed definitions.now version)) }
+{
+    let mut out = begun(alloc)?;
+    print_texts(&mut out, "definitions", definitions)?;
+    print_flag(&mut out, "ok", true)?;
+    print_number(&mut out, "version", version)?;
+    ended(out)
+}

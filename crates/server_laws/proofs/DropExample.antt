@@ -1,0 +1,370 @@
+-- A state with a table and a drop of a selection of it, and a put that changes it.
+use Rattle.std.proofs.Common.{◌≡◌, ◌+◌, ℕ, Bool, true, false, cond, not, ◌||◌, ◌&&◌, List, [], ◌∷◌, Option, Some, None, option_map, is_some, Result, Ok, Err, refl, sym, ap, subst, ◌∙◌}
+use Rattle.std.proofs.lemmas.Bool.{true≢false, and_parts}
+use Rattle.std.specs.Prelude.{◌-◌, codes, pos, nat_le, nat_eq}
+use Rattle.std.specs.List.{find, list_any}
+use Rattle.std.specs.List.Sorted.{IsStrictlySortedBy}
+use Rattle.std.specs.FinMap as finmap
+use Rattle.std.specs.FinMap.Entries as listed
+use Rattle.std.specs.Ordering.{eq_by_cmp}
+use Rattle.lens_values.specs.Order.{bytes_cmp}
+use Rattle.lens_values.specs.Row.{row_cmp}
+use Rattle.lens_values.specs.SortedSet as set
+use Rattle.lens_values.specs.declared.row.Row.{Row}
+use Rattle.lens_values.specs.declared.value.Kind.{Kind}
+use Rattle.lens_values.specs.declared.value.Kind.TheVariants as kind
+use Rattle.lens_values.specs.declared.value.Value.TheVariants.{Int}
+use Rattle.lens_values.proofs.FitsLemmas.{fits_same}
+use Rattle.lens_values.proofs.ValueLemmas.{int_fits}
+use Rattle.fd_laws.proofs.Closures.{closure_is}
+use Rattle.fd_laws.proofs.Columns.{names-get, get-without}
+use Rattle.fd_laws.proofs.Lists.{both_ways, false_from, absurd_false}
+use Rattle.fd_laws.proofs.Names.{name_total, name_exact, name_itself, tied_name, one_is, one_itself, in_rest, from_rest, subset_from}
+use Rattle.fd_laws.proofs.Relations.{from_those, from_project}
+use Rattle.fd_laws.proofs.Rows.{row_total, tied_row, row_itself, agree_itself}
+use Rattle.lens_laws.proofs.Sorts.{none_clash, none_off}
+use Rattle.lens_specs.specs.Names.{Name, Within, one, same_names, share}
+use Rattle.lens_specs.specs.Rows.{agree}
+use Rattle.lens_specs.specs.Columns.{Columns, Fits, fits_at, names, least_outside, without_column}
+use Rattle.lens_specs.specs.Relation.{Rows, Relation, has, those}
+use Rattle.lens_specs.specs.Dependencies.{Edge, edge, closure, MeetsTree}
+use Rattle.lens_specs.specs.TreeForm.{TreeForm, is_tree, narrowed_by, reduce_edge, with_right, kept_edge, is_free, stuck, put_first, checked, tree_of, outputs}
+use Rattle.lens_specs.specs.Predicate.{gt, compare, Predicate, holds, compared}
+use Rattle.lens_specs.specs.Sort.{Sort}
+use Rattle.lens_specs.specs.Refusal.{Refusal, unknown_column, kind_clash, predicate_kind, source_mentions_output, no_such_dependency, or_else, or_name, when, unless as or_unlike, too_large, columns_limit, tables_limit, views_limit, unknown_name, unlike_kinds, least_mentioned}
+use Rattle.lens_specs.specs.Nodes.{select_get, drop_get}
+use Rattle.lens_specs.specs.Lens.{Lens, select, drop, select_sort, drop_sort, sort_of, view_names, get, rows_or_none, tree_or_none, table as rows_of_table}
+use Rattle.lens_specs.specs.Typing.{and_then, unless_refused, select_fault, is_determined, drop_fault, sort, table_sort_with, table_sort}
+use Rattle.grammar_specs.specs.Meaning as meaning
+use Rattle.grammar_specs.specs.Meaning.{Expr, named, Definition, table, view}
+use Rattle.grammar_specs.specs.Faults as faults
+use Rattle.grammar_laws.specs.Reading.{reading}
+use Rattle.catalog_specs.specs.Catalogue.{Catalogue, catalogue, sort_with, table_lens, is_table_of, with_definition, with_lens}
+use Rattle.catalog_specs.specs.Judging.{name_taken, unbuilt, is_taken, count_named, view_count, is_other, unless_full, where_sorted, lens_named, over, where_typed, lens_in, where_lensed, judged}
+use Rattle.server_specs.specs.State.{State, fresh}
+use Rattle.server_specs.specs.Defining.{with_defined}
+use Rattle.server_specs.specs.Changing.{put_set}
+use Rattle.server_specs.specs.Validity.{Valid}
+use Rattle.server_laws.proofs.Example.{no_entries, no_tables, is_free as is_free_name, both, nothing_mentioned}
+use Rattle.server_laws.proofs.Puts.{accepted_where}
+use Rattle.server_laws.proofs.Taken.{judged_ok, get-new, get-other}
+use Rattle.server_laws.proofs.Valid.{fresh_is_valid, known_after, valid_taken, of_lens}
+use Rattle.server_laws.specs.Answers.{IsAccepted}
+use Rattle.server_laws.specs.PutLaws.{AllFit, IsPut}
+use Rattle.server_laws.specs.Witness.{DropsCanChange}
+
+-- ---- the tree of one dependency
+
+abbrev a : Name
+a = codes "a"
+
+abbrev b : Name
+b = codes "b"
+
+-- a determines b
+abbrev e : Edge
+e = edge (one a) (one b)
+
+other : a ≡ b → ⊥
+other h = true≢false (sym (name_itself a) ∙ ap (eq_by_cmp bytes_cmp a) h)
+
+a_alone : set.contains (one b) a ≡ false
+a_alone = false_from _ (λ i. other (one_is b a i))
+
+b_alone : set.contains (one a) b ≡ false
+b_alone = false_from _ (λ i. other (sym (one_is a b i)))
+
+items_one : (n : Name) → set.items (one n) ≡ n ∷ []
+unfolding IsStrictlySortedBy
+items_one n = set.items-from_list name_total (n ∷ []) (tt, tt)
+
+len_one : set.len (one b) ≡ 1
+unfolding set.len set.insert set.empty
+len_one = finmap.len-insert name_total (finmap.empty {X = Unit {0}} {R = bytes_cmp}) b tt
+    ∙ ap (λ o. cond (is_some o) (finmap.len (finmap.empty {X = Unit {0}} {R = bytes_cmp})) (finmap.len (finmap.empty {X = Unit {0}} {R = bytes_cmp}) + 1)) (finmap.get-empty bytes_cmp b)
+    ∙ ap (λ n. n + 1) (finmap.len-empty bytes_cmp (Unit {0}))
+
+rest_is : set.difference (one b) (one a) ≡ one b
+rest_is = set.same_set name_total name_exact _ _ (λ q. both_ways _ _ (λ i. (from_rest (one b) (one a) q i).0) (λ i. in_rest (one b) (one a) q i (ap (set.contains (one a)) (one_is b q i) ∙ b_alone)))
+
+-- without b on its right side, the edge determines nothing
+nothing_else : Within (set.remove (one b) b) (one a)
+nothing_else c i =
+    let w = and_parts _ _ (sym (set.contains-remove name_total (one b) b c) ∙ i) in
+    absurd (true≢false (sym w.0 ∙ ap (λ n. not (eq_by_cmp bytes_cmp n b)) (one_is b c w.1) ∙ ap not (name_itself b)))
+
+not_implied : set.contains (closure (one a) (narrowed_by e b ∷ [])) b ≡ false
+not_implied = false_from _ (λ i. absurd_false _ ((closure_is (one a) (narrowed_by e b ∷ [])).least (one a) (λ c j. j) ((λ w. nothing_else), tt) b i) b_alone)
+
+unshared : share (one a) (one b) ≡ false
+unshared = ap (list_any (set.contains (one b))) (items_one a) ∙ ap (λ s. s || false) a_alone
+
+free : is_free (e ∷ []) e ≡ true
+free = ap (λ s. elim (cond s (Some e) None) as (λ _. Bool) [ None ↦ true | Some k ↦ false ]) unshared
+
+ordered_one : checked (e ∷ []) ≡ is_tree (e ∷ [])
+ordered_one = ap (λ f. elim (cond f (Some e) None) as (λ _. TreeForm) [ None ↦ stuck (e ∷ []) | Some k ↦ put_first k (is_tree []) ]) free
+
+form : tree_of (e ∷ []) ≡ is_tree (e ∷ [])
+unfolding tree_of
+form = ap (λ R. checked (with_right (reduce_edge [] (edge (one a) R) (set.items R) [] ∷ []))) rest_is
+    ∙ ap (λ ns. checked (with_right (reduce_edge [] e ns [] ∷ []))) (items_one b)
+    ∙ ap (λ c. checked (with_right (cond c (narrowed_by e b) e ∷ []))) not_implied
+    ∙ ap (λ n. checked (kept_edge (nat_eq n 0) e [])) len_one
+    ∙ ordered_one
+
+-- ---- the definitions
+
+abbrev t : Name
+t = codes "t"
+
+abbrev d : Name
+d = codes "d"
+
+abbrev listing : List (Name × Kind)
+listing = (a, kind.Int) ∷ (b, kind.Int) ∷ []
+
+abbrev U : Columns
+U = finmap.from_entries listing
+
+abbrev P : Predicate
+P = compare a gt (Int (pos 0)) ∷ []
+
+abbrev first_text : List ℕ
+first_text = codes "table t (a int, b int) with a -> b"
+
+abbrev second_text : List ℕ
+second_text = codes "view d = drop b determined by (a, 0) from (select from t where a > 0)"
+
+abbrev first : Definition
+first = table t U (e ∷ []) []
+
+abbrev expr : Expr
+expr = meaning.drop b (one a) (Int (pos 0)) (meaning.select P (named t))
+
+abbrev second : Definition
+second = view d expr
+
+column : finmap.get U a ≡ Some kind.Int
+column = finmap.get-from_entries name_total listing a
+
+dropped : finmap.get U b ≡ Some kind.Int
+dropped = finmap.get-from_entries name_total listing b
+
+abbrev last_column : Columns
+last_column = finmap.from_entries ((b, kind.Int) ∷ [])
+
+one_column : finmap.len last_column ≡ 1
+one_column = finmap.len-insert name_total (finmap.empty {X = Kind} {R = bytes_cmp}) b kind.Int
+    ∙ ap (λ o. cond (is_some o) (finmap.len (finmap.empty {X = Kind} {R = bytes_cmp})) (finmap.len (finmap.empty {X = Kind} {R = bytes_cmp}) + 1)) (finmap.get-empty bytes_cmp b)
+    ∙ ap (λ n. n + 1) (finmap.len-empty bytes_cmp Kind)
+
+two_columns : finmap.len U ≡ 2
+two_columns = finmap.len-insert name_total last_column a kind.Int
+    ∙ ap (λ o. cond (is_some o) (finmap.len last_column) (finmap.len last_column + 1)) (finmap.get-from_entries name_total ((b, kind.Int) ∷ []) a)
+    ∙ ap (λ n. n + 1) one_column
+
+first_says : reading first_text ≡ Ok first
+first_says = ap (λ n. cond (nat_le n 64) (Ok first) (Err (faults.too_large faults.columns))) two_columns
+
+second_says : reading second_text ≡ Ok second
+second_says = refl
+
+-- ---- the table is taken
+
+abbrev none : Catalogue
+none = finmap.empty
+
+abbrev S : Sort
+S = sort_with U (e ∷ []) []
+
+abbrev T : Lens
+T = table_lens t U (e ∷ []) []
+
+abbrev V : Lens
+V = drop b (one a) (Int (pos 0)) (select P T)
+
+-- the catalogue of the table
+abbrev known : Catalogue
+known = finmap.insert none t T
+
+inside : (c : Name) → finmap.get U c ≡ Some kind.Int → least_outside (one c) (names U) ≡ None
+inside c h = ap (find (λ n. not (set.contains (names U) n))) (items_one c) ∙ ap (λ s. cond (not s) (Some c) None) (names-get U c ∙ ap is_some h)
+
+-- the sort of the table, from what is unknown in its dependency, and from its tree form
+abbrev sort_from : Option Name → Option Name → TreeForm → Result Sort Refusal
+sort_from x y f = elim (or_else (or_else (option_map unknown_column x) (or_else (option_map unknown_column y) None)) None) as (λ _. Result Sort Refusal) [ Some r ↦ Err r | None ↦ table_sort_with U (e ∷ []) [] f ]
+
+-- the sort of the table, with this tree form
+abbrev sort_as : TreeForm → Result Sort Refusal
+sort_as f = Ok (record { columns = U; predicate = []; tree = tree_or_none f })
+
+table_sorted : table_sort U (e ∷ []) [] ≡ Ok S
+unfolding table_sort
+table_sorted = ap (λ x. sort_from x (least_outside (one b) (names U)) (tree_of (e ∷ []))) (inside a column)
+    ∙ ap (λ y. sort_from None y (tree_of (e ∷ []))) (inside b dropped)
+    ∙ ap (table_sort_with U (e ∷ []) []) form
+    ∙ ap (λ n. unless_refused (or_else (when (not (nat_le n 64)) (too_large columns_limit)) None) (record { columns = U; predicate = []; tree = e ∷ [] })) two_columns
+    ∙ ap sort_as (sym form)
+
+first_taken : judged none (reading first_text) ≡ Ok first
+first_taken = ap (judged none) first_says
+    ∙ ap (λ x. cond x (Err (name_taken t)) (where_sorted (table_sort U (e ∷ []) []) none first)) (is_free_name t)
+    ∙ ap (λ r. where_sorted r none first) table_sorted
+    ∙ ap (λ n. unless_full (nat_le 64 n) tables_limit first) no_tables
+
+-- ---- the view is taken
+
+selected : select_fault 2 S P ≡ None
+selected =
+    both (option_map unknown_column (unknown_name U P)) _ (ap (λ o. option_map unknown_column (cond (not (is_some o)) (Some a) None)) column)
+    (both (option_map predicate_kind (unlike_kinds U P)) _ (ap (λ o. option_map predicate_kind (or_name (or_unlike (fits_at (Some (Int (pos 0))) o) a) None)) column
+    ∙ ap (λ x. option_map predicate_kind (or_name (or_unlike x a) None)) (int_fits (pos 0)))
+    (both (option_map source_mentions_output (least_mentioned [] (outputs S.tree))) _ (ap (option_map source_mentions_output) (nothing_mentioned (set.items (outputs S.tree))))
+    (ap (λ n. or_else (when (not (nat_le n 64)) (too_large columns_limit)) None) two_columns)))
+
+same_one : same_names (one a) (one a) ≡ true
+same_one = ap (λ s. s && s) (subset_from (one a) (one a) (λ c i. i))
+
+determined : is_determined (one a) b S.tree ≡ true
+determined = ap (λ f. is_determined (one a) b (tree_or_none f)) form
+    ∙ ap (λ s. ((s && set.contains (one b) b) || false) && not (set.contains (one a) b || false)) same_one
+    ∙ ap (λ s. (s || false) && not (set.contains (one a) b || false)) (one_itself b)
+    ∙ ap (λ s. not (s || false)) b_alone
+
+rest_column : finmap.len (without_column U b) ≡ 1
+rest_column = finmap.len-remove name_total U b ∙ ap (λ o. cond (is_some o) (finmap.len U - 1) (finmap.len U)) dropped ∙ ap (λ n. n - 1) two_columns
+
+drops : drop_fault 3 (select_sort S P) b (one a) (Int (pos 0)) ≡ None
+drops =
+    both (when (not (is_some (finmap.get U b))) (unknown_column b)) _ (ap (λ o. when (not (is_some o)) (unknown_column b)) dropped)
+    (both (option_map unknown_column (least_outside (one a) (names U))) _ (ap (option_map unknown_column) (inside a column))
+    (both (when (not (fits_at (Some (Int (pos 0))) (finmap.get U b))) (kind_clash b)) _
+    (ap (λ o. when (not (fits_at (Some (Int (pos 0))) o)) (kind_clash b)) dropped ∙ ap (λ x. when (not x) (kind_clash b)) (int_fits (pos 0)))
+    (both (when (not (is_determined (one a) b S.tree)) (no_such_dependency b)) _ (ap (λ x. when (not x) (no_such_dependency b)) determined)
+    (ap (λ n. or_else (when (not (nat_le n 64)) (too_large columns_limit)) None) rest_column))))
+
+has_sort : sort V ≡ Ok (sort_of V)
+unfolding sort
+has_sort = ap (λ o. and_then (unless_refused o (select_sort S P)) (λ s. unless_refused (drop_fault 3 s b (one a) (Int (pos 0))) (drop_sort s b))) selected
+    ∙ ap (λ o. unless_refused o (drop_sort (select_sort S P) b)) drops
+
+selection_sort : sort (select P T) ≡ Ok (select_sort S P)
+unfolding sort
+selection_sort = ap (λ o. unless_refused o (select_sort S P)) selected
+
+no_views : view_count known ≡ 0
+no_views = ap (count_named (λ name lens. not (is_table_of name lens))) (finmap.entries-insert name_total none t T ∙ ap (listed.put bytes_cmp t T) no_entries)
+
+second_free : is_taken known d ≡ false
+second_free = ap is_some (get-other none t T d refl) ∙ is_free_name d
+
+second_taken_of : judged known (Ok second) ≡ Ok second
+second_taken_of =
+    ap (λ x. cond x (Err (name_taken d)) (cond (is_other t (finmap.get known t)) (Err unbuilt) (where_lensed (lens_in known expr) known second))) second_free
+    ∙ ap (λ o. cond (is_other t o) (Err unbuilt) (where_lensed (over (drop b (one a) (Int (pos 0))) (over (select P) (lens_named t o))) known second)) (get-new none t T)
+    ∙ ap (λ r. where_lensed (over (drop b (one a) (Int (pos 0))) (where_typed (select P T) r)) known second) selection_sort
+    ∙ ap (λ r. where_lensed (where_typed V r) known second) has_sort
+    ∙ ap (λ n. unless_full (nat_le 256 n) views_limit second) no_views
+
+-- ---- the state
+
+abbrev with_table : State
+with_table = with_defined first_text first fresh
+
+abbrev state : State
+state = with_defined second_text second with_table
+
+known_is : catalogue with_table.texts ≡ known
+known_is = known_after fresh first_text first first_taken
+
+second_taken : judged (catalogue with_table.texts) (reading second_text) ≡ Ok second
+second_taken = ap (λ k. judged k (reading second_text)) known_is
+    ∙ ap (judged known) second_says ∙ second_taken_of
+
+with_table_valid : Valid with_table
+with_table_valid = valid_taken fresh first_text first fresh_is_valid first_taken (judged_ok none (reading first_text) first first_taken).1
+
+valid : Valid state
+valid = valid_taken with_table second_text second with_table_valid second_taken (judged_ok (catalogue with_table.texts) (reading second_text) second second_taken).1
+
+known_view : finmap.get (catalogue state.texts) d ≡ Some V
+known_view =
+    ap (λ k. finmap.get k d) (known_after with_table second_text second second_taken ∙ ap (with_definition (Ok second)) known_is
+    ∙ ap (λ o. with_lens d (option_map (drop b (one a) (Int (pos 0))) (option_map (select P) o)) known) (get-new none t T))
+    ∙ get-new known d V
+
+-- ---- the put
+
+abbrev row : Row
+row = finmap.from_entries ((a, Int (pos 1)) ∷ [])
+
+abbrev N : Rows
+N = set.from_list (row ∷ [])
+
+there : has N row ≡ true
+there = set.contains-from_list row_total (row ∷ []) row ∙ ap (λ x. x || false) (row_itself row)
+
+or_no : (x : Bool) → (x || false) ≡ true → x ≡ true
+or_no true h = refl
+or_no false h = absurd (true≢false (sym h))
+
+only : (r : Row) → has N r ≡ true → r ≡ row
+only r i = tied_row r row (or_no (eq_by_cmp row_cmp r row) (sym (set.contains-from_list row_total (row ∷ []) r) ∙ i))
+
+-- at a column that is a's, b's or neither
+fits_by : (x y : Bool) → (x ≡ true → y ≡ true → ⊥) → fits_at (cond x (Some (Int (pos 1))) None) (cond y None (cond x (Some kind.Int) (cond y (Some kind.Int) None))) ≡ true
+fits_by true true h = absurd (h refl refl)
+fits_by true false h = int_fits (pos 1)
+fits_by false true h = refl
+fits_by false false h = refl
+
+row_fits : Fits (without_column U b) row
+row_fits c = fits_same _ _ _ _ (sym (finmap.get-from_entries name_total ((a, Int (pos 1)) ∷ []) c))
+    (sym (get-without U b c ∙ ap (cond (eq_by_cmp bytes_cmp c b) None) (finmap.get-from_entries name_total listing c)))
+    (fits_by (eq_by_cmp bytes_cmp c a) (eq_by_cmp bytes_cmp c b) (λ i j. other (sym (tied_name c a i) ∙ tied_name c b j)))
+
+all_fit : AllFit (without_column U b) N
+all_fit r i = subst (Fits (without_column U b)) (sym (only r i)) row_fits
+
+row_holds : holds P row ≡ true
+row_holds = ap (λ o. compared gt o (Some (Int (pos 0))) && true) (finmap.get-from_entries name_total ((a, Int (pos 1)) ∷ []) a)
+
+rows_put : IsPut state d V N
+rows_put = record { valid = valid; lens = known_view; rows = all_fit }
+
+-- one row alone meets every tree
+meets_alone : (F : List Edge) → MeetsTree N F
+meets_alone [] = tt
+meets_alone (k ∷ ks) = (
+  λ r s i j h. subst (λ q. agree k.right q s ≡ true) (sym (only r i)) (subst (λ q. agree k.right row q ≡ true) (sym (only s j)) (agree_itself k.right row)),
+  meets_alone ks,
+)
+
+accepted : IsAccepted (put_set N V state).0
+accepted = (accepted_where state d V N rows_put).1
+    (of_lens V N all_fit (none_off P N (λ r i. ap (holds P) (only r i) ∙ row_holds)) (none_clash (sort_of V).tree N (meets_alone (sort_of V).tree)))
+
+no_rows : (r : Row) → has (rows_of_table state.tables t) r ≡ false
+no_rows r =
+    ap (λ o. has (rows_or_none o) r) (finmap.get-insert name_total finmap.empty t (record { columns = U; rows = set.empty }) t
+    ∙ ap (λ x. cond x (Some (record { columns = U; rows = set.empty })) (finmap.get (finmap.empty {X = Relation} {R = bytes_cmp}) t)) (name_itself t))
+    ∙ set.contains-empty row_cmp r
+
+is_new : has (get V state.tables) row ≡ false
+unfolding get select_get drop_get
+is_new = false_from _ (λ i.
+    let w = from_project (set.difference (view_names (select P T)) (one b)) (those (holds P) (rows_of_table state.tables t)) row i in
+    absurd_false _ (from_those (holds P) (rows_of_table state.tables t) w.0 w.1).0 (no_rows w.0))
+
+pub drops_can_change : DropsCanChange
+drops_can_change = record {
+  change = record { state = state; name = d; lens = V; rows = N; put = rows_put; view = λ name. refl; accepted = accepted; row = row; there = there; new = is_new };
+  column = b;
+  by = one a;
+  fill = Int (pos 0);
+  predicate = P;
+  table = t;
+  sort = S;
+  drops = refl;
+}

@@ -1,0 +1,189 @@
+-- Which views are taken, by the sort of the whole lens.
+use Rattle.std.proofs.Common.{◌≡◌, ◌<◌, ◌≤◌, ◌+◌, ℕ, Bool, true, false, cond, List, Option, Some, None, option_map, Result, Ok, Err, refl, sym, ap, ◌∙◌, ◌⊎◌, inl, inr}
+use Rattle.std.specs.Prelude.{nat_le}
+use Rattle.std.proofs.lemmas.Bool.{lt-leb, le-leb}
+use Rattle.std.specs.FinMap as finmap
+use Rattle.lens_values.specs.declared.value.Value.{Value}
+use Rattle.lens_specs.specs.Names.{Name, Names}
+use Rattle.lens_specs.specs.Predicate.{Predicate}
+use Rattle.lens_specs.specs.Sort.{Sort}
+use Rattle.lens_specs.specs.Lens.{Lens, select, drop, join, select_sort, drop_sort, join_sort, sort_of, tables_of, nodes_of}
+use Rattle.lens_specs.specs.Refusal.{Refusal, too_large, views_limit}
+use Rattle.lens_specs.specs.Typing.{and_then, unless_refused, select_fault, drop_fault, join_fault, shared_table, sort}
+use Rattle.grammar_specs.specs.Meaning as meaning
+use Rattle.grammar_specs.specs.Meaning.{Definition, view, Expr, named}
+use Rattle.io_specs.specs.Lines.{Line}
+use Rattle.catalog_specs.specs.Catalogue.{Catalogue, catalogue, lens_of, join_of}
+use Rattle.catalog_specs.specs.Judging as judging
+use Rattle.catalog_specs.specs.Judging.{CatalogFault, rule, is_taken, is_unbuilt, view_count, unless_full, lens_named, where_typed, over, over_both, lens_in, where_lensed, judged}
+use Rattle.server_specs.specs.State.{State}
+use Rattle.server_specs.specs.Answer.{defined, unknown_name, refused, unbuilt}
+use Rattle.server_specs.specs.Defining.{with_defined}
+use Rattle.server_specs.specs.Answering.{answer}
+use Rattle.server_laws.specs.DefineLaws.{judgement}
+use Rattle.server_laws.specs.ViewLaws.{DefinesView, DefinesBuilt, HasName, IsLeftSide}
+use Rattle.server_laws.proofs.Definitions.{taken_is_added, refused_stays}
+use Rattle.server_laws.proofs.Taken.{AllKnown, all_known}
+
+-- ---- the lens of an expression is judged as a whole
+
+mapped : {A B : Type 0} (f : A → B) (o : Option A) (y : B) → option_map f o ≡ Some y → (x : A) × (o ≡ Some x) × (f x ≡ y)
+mapped f None y e = cc
+mapped f (Some x) y e = (x, refl, cc)
+
+joined : (l r : Option Lens) (L : Lens) → join_of l r ≡ Some L → (A : Lens) × (B : Lens) × (l ≡ Some A) × (r ≡ Some B) × (join A B ≡ L)
+joined None r L e = cc
+joined (Some A) None L e = cc
+joined (Some A) (Some B) L e = (A, B, refl, refl, cc)
+
+-- the node over an operand, where what refuses the operand refuses the node
+over_from : (node : Lens → Lens) (C : Lens) (r : Result Sort Refusal) → ((first : Refusal) → r ≡ Err first → sort (node C) ≡ Err first) → over node (where_typed C r) ≡ where_typed (node C) (sort (node C))
+over_from node C (Ok s) fails = refl
+over_from node C (Err first) fails = sym (ap (where_typed (node C)) (fails first refl))
+
+select_fails : (P : Predicate) (C : Lens) (first : Refusal) → sort C ≡ Err first → sort (select P C) ≡ Err first
+unfolding sort
+select_fails P C first e = ap (λ r. and_then r (λ s. unless_refused (select_fault (nodes_of (select P C)) s P) (select_sort s P))) e
+
+drop_fails : (A : Name) (X : Names) (a : Value) (C : Lens) (first : Refusal) → sort C ≡ Err first → sort (drop A X a C) ≡ Err first
+unfolding sort
+drop_fails A X a C first e = ap (λ r. and_then r (λ s. unless_refused (drop_fault (nodes_of (drop A X a C)) s A X a) (drop_sort s A))) e
+
+-- the sort of a join of lenses with these sorts
+abbrev joined_sort : Lens → Lens → Result Sort Refusal → Result Sort Refusal → Result Sort Refusal
+joined_sort A B l r = and_then l (λ s. and_then r (λ t. unless_refused (join_fault (nodes_of (join A B)) s t (shared_table (tables_of A) (tables_of B))) (join_sort s t)))
+
+left_fails : (A B : Lens) (first : Refusal) → sort A ≡ Err first → sort (join A B) ≡ Err first
+unfolding sort
+left_fails A B first e = ap (λ l. joined_sort A B l (sort B)) e
+
+right_fails : (A B : Lens) (s : Sort) (first : Refusal) → sort A ≡ Ok s → sort B ≡ Err first → sort (join A B) ≡ Err first
+unfolding sort
+right_fails A B s first e f = ap (λ l. joined_sort A B l (sort B)) e ∙ ap (joined_sort A B (Ok s)) f
+
+both_from : (A B : Lens) (l : Result Sort Refusal) → sort A ≡ l → over_both (where_typed A l) (where_typed B (sort B)) ≡ where_typed (join A B) (sort (join A B))
+both_from A B (Ok s) e = over_from (join A) B (sort B) (λ first f. right_fails A B s first e f)
+both_from A B (Err first) e = sym (ap (where_typed (join A B)) (left_fails A B first e))
+
+-- an expression over lenses with sorts is refused exactly as its whole lens is
+whole : (known : Catalogue) → AllKnown known → (expr : Expr) (L : Lens) → lens_of expr known ≡ Some L → lens_in known expr ≡ where_typed L (sort L)
+whole known all (named name) L e = ap (lens_named name) e ∙ sym (ap (where_typed L) (all name L e).sorted)
+whole known all (meaning.select P of) L e =
+    let w = mapped (select P) (lens_of of known) L e in
+    ap (over (select P)) (whole known all of w.0 w.1) ∙ over_from (select P) w.0 (sort w.0) (select_fails P w.0) ∙ ap (λ M. where_typed M (sort M)) w.2
+whole known all (meaning.drop A X a of) L e =
+    let w = mapped (drop A X a) (lens_of of known) L e in
+    ap (over (drop A X a)) (whole known all of w.0 w.1) ∙ over_from (drop A X a) w.0 (sort w.0) (drop_fails A X a w.0) ∙ ap (λ M. where_typed M (sort M)) w.2
+whole known all (meaning.join left right) L e =
+    let w = joined (lens_of left known) (lens_of right known) L e in
+    ap (λ l. over_both l (lens_in known right)) (whole known all left w.0 w.2) ∙ ap (over_both (where_typed w.0 (sort w.0))) (whole known all right w.1 w.3)
+    ∙ both_from w.0 w.1 (sort w.0) refl ∙ ap (λ M. where_typed M (sort M)) w.4
+
+-- ---- an expression with no lens
+
+unmapped : {A B : Type 0} (f : A → B) (o : Option A) → option_map f o ≡ None → o ≡ None
+unmapped f None e = refl
+unmapped f (Some x) e = cc
+
+unjoined : (A : Lens) (o : Option Lens) → join_of (Some A) o ≡ None → o ≡ None
+unjoined A None e = refl
+unjoined A (Some B) e = cc
+
+-- a name in it has no lens, or a left side in it has one that is refused; and this is the refusal
+abbrev Fails : Catalogue → Expr → Result Lens CatalogFault → Type 0
+Fails known expr r = ((name : Name) × HasName expr name × (finmap.get known name ≡ None) × (r ≡ Err (judging.unknown_name name)))
+    ⊎ ((part : Expr) × IsLeftSide part expr × (lens : Lens) × (lens_of part known ≡ Some lens) × (first : Refusal) × (sort lens ≡ Err first) × (r ≡ Err (rule first)))
+
+under : (node : Lens → Lens) (known : Catalogue) (of : Expr) (r : Result Lens CatalogFault) → Fails known of r → Fails known of (over node r)
+under node known of r (inl w) = inl (w.0, w.1, w.2, ap (over node) w.3)
+under node known of r (inr w) = inr (w.0, w.1, w.2, w.3, w.4, w.5, ap (over node) w.6)
+
+left_missing : (known : Catalogue) (left right : Expr) (l r : Result Lens CatalogFault) → Fails known left l → Fails known (meaning.join left right) (over_both l r)
+left_missing known left right l r (inl w) = inl (w.0, inl w.1, w.2, ap (λ x. over_both x r) w.3)
+left_missing known left right l r (inr w) = inr (w.0, inr (inl w.1), w.2, w.3, w.4, w.5, ap (λ x. over_both x r) w.6)
+
+right_missing : (known : Catalogue) (left right : Expr) (A : Lens) (l r : Result Lens CatalogFault) → l ≡ Ok A → Fails known right r → Fails known (meaning.join left right) (over_both l r)
+right_missing known left right A l r e (inl w) = inl (w.0, inr w.1, w.2, ap (λ x. over_both x r) e ∙ ap (over (join A)) w.3)
+right_missing known left right A l r e (inr w) = inr (w.0, inr (inr w.1), w.2, w.3, w.4, w.5, ap (λ x. over_both x r) e ∙ ap (over (join A)) w.6)
+
+both_missing : (known : Catalogue) → AllKnown known → (left right : Expr) → (lens_of left known ≡ None → Fails known left (lens_in known left)) → (lens_of right known ≡ None → Fails known right (lens_in known right))
+    → join_of (lens_of left known) (lens_of right known) ≡ None → Fails known (meaning.join left right) (over_both (lens_in known left) (lens_in known right))
+both_missing known all left right no_left no_right e = by_left (lens_of left known) refl
+  where
+    by_sort : (A : Lens) → lens_of left known ≡ Some A → (r : Result Sort Refusal) → sort A ≡ r → Fails known (meaning.join left right) (over_both (lens_in known left) (lens_in known right))
+    by_sort A is (Ok s) sorted =
+        right_missing known left right A (lens_in known left) (lens_in known right) (whole known all left A is ∙ ap (where_typed A) sorted)
+        (no_right (unjoined A (lens_of right known) (ap (λ o. join_of o (lens_of right known)) (sym is) ∙ e)))
+    by_sort A is (Err first) failed =
+        inr (left, inl refl, A, is, first, failed, ap (λ x. over_both x (lens_in known right)) (whole known all left A is ∙ ap (where_typed A) failed))
+
+    by_left : (o : Option Lens) → lens_of left known ≡ o → Fails known (meaning.join left right) (over_both (lens_in known left) (lens_in known right))
+    by_left None is = left_missing known left right (lens_in known left) (lens_in known right) (no_left is)
+    by_left (Some A) is = by_sort A is (sort A) refl
+
+missing : (known : Catalogue) → AllKnown known → (expr : Expr) → lens_of expr known ≡ None → Fails known expr (lens_in known expr)
+missing known all (named name) e = inl (name, refl, e, ap (lens_named name) e)
+missing known all (meaning.select P of) e = under (select P) known of (lens_in known of) (missing known all of (unmapped (select P) (lens_of of known) e))
+missing known all (meaning.drop A X a of) e = under (drop A X a) known of (lens_in known of) (missing known all of (unmapped (drop A X a) (lens_of of known) e))
+missing known all (meaning.join left right) e = both_missing known all left right (missing known all left) (missing known all right) e
+
+-- ---- the answer
+
+-- the judgement of a view whose name is free, by whether it is built
+free_judged : (s : State) (l : Line) (text : List ℕ) (name : Name) (expr : Expr) → DefinesView s l text name expr
+    → judgement s text ≡ cond (is_unbuilt (catalogue s.texts) expr) (Err judging.unbuilt) (where_lensed (lens_in (catalogue s.texts) expr) (catalogue s.texts) (view name expr))
+free_judged s l text name expr h =
+    let known = catalogue s.texts in
+    ap (judged known) h.says
+    ∙ ap (λ b. cond b (Err (judging.name_taken name)) (cond (is_unbuilt known expr) (Err judging.unbuilt) (where_lensed (lens_in known expr) known (view name expr)))) h.free
+
+pub unbuilt_told : (s : State) (l : Line) (text : List ℕ) (name : Name) (expr : Expr) → DefinesView s l text name expr
+    → is_unbuilt (catalogue s.texts) expr ≡ true → answer s l ≡ (unbuilt, s)
+unbuilt_told s l text name expr h u =
+    let known = catalogue s.texts in
+    refused_stays s l text judging.unbuilt h.asked (free_judged s l text name expr h ∙ ap (λ b. cond b (Err judging.unbuilt) (where_lensed (lens_in known expr) known (view name expr))) u)
+
+-- the judgement of a view that is built, by the lens of its expression
+built_judged : (s : State) (l : Line) (text : List ℕ) (name : Name) (expr : Expr) → DefinesBuilt s l text name expr
+    → (r : Result Lens CatalogFault) → lens_in (catalogue s.texts) expr ≡ r → judgement s text ≡ where_lensed r (catalogue s.texts) (view name expr)
+built_judged s l text name expr h r e =
+    let known = catalogue s.texts in
+    free_judged s l text name expr h.defines ∙ ap (λ b. cond b (Err judging.unbuilt) (where_lensed (lens_in known expr) known (view name expr))) h.built
+    ∙ ap (λ o. where_lensed o known (view name expr)) e
+
+pub unknown_told : (s : State) (l : Line) (text : List ℕ) (name : Name) (expr : Expr) → DefinesBuilt s l text name expr → lens_of expr (catalogue s.texts) ≡ None
+    → ((from : Name) × HasName expr from × (finmap.get (catalogue s.texts) from ≡ None) × (answer s l ≡ (unknown_name from, s)))
+    ⊎ ((part : Expr) × IsLeftSide part expr × (lens : Lens) × (lens_of part (catalogue s.texts) ≡ Some lens) × (first : Refusal) × (sort lens ≡ Err first) × (answer s l ≡ (refused first, s)))
+unknown_told s l text name expr h e = elim (missing (catalogue s.texts) (all_known s.texts h.defines.valid.definitions) expr e) [
+  | inl w ↦ inl (w.0, w.1, w.2, refused_stays s l text (judging.unknown_name w.0) h.defines.asked (built_judged s l text name expr h (Err (judging.unknown_name w.0)) w.3))
+  | inr w ↦ inr (w.0, w.1, w.2, w.3, w.4, w.5, refused_stays s l text (rule w.4) h.defines.asked (built_judged s l text name expr h (Err (rule w.4)) w.6))
+]
+
+-- the lens of the expression, by the sort of the whole lens
+lens_is_typed : (s : State) (l : Line) (text : List ℕ) (name : Name) (expr : Expr) → DefinesBuilt s l text name expr
+    → (L : Lens) → lens_of expr (catalogue s.texts) ≡ Some L → (r : Result Sort Refusal) → sort L ≡ r → lens_in (catalogue s.texts) expr ≡ where_typed L r
+lens_is_typed s l text name expr h L e r is = whole (catalogue s.texts) (all_known s.texts h.defines.valid.definitions) expr L e ∙ ap (where_typed L) is
+
+pub rules_told : (s : State) (l : Line) (text : List ℕ) (name : Name) (expr : Expr) → DefinesBuilt s l text name expr
+    → (L : Lens) → lens_of expr (catalogue s.texts) ≡ Some L → (first : Refusal) → sort L ≡ Err first → answer s l ≡ (refused first, s)
+rules_told s l text name expr h L e first is =
+    refused_stays s l text (rule first) h.defines.asked (built_judged s l text name expr h (Err (rule first)) (lens_is_typed s l text name expr h L e (Err first) is))
+
+-- the judgement of a view whose lens has a sort, by how many views there are
+typed_judged : (s : State) (l : Line) (text : List ℕ) (name : Name) (expr : Expr) → DefinesBuilt s l text name expr
+    → (L : Lens) → lens_of expr (catalogue s.texts) ≡ Some L → sort L ≡ Ok (sort_of L) → (b : Bool) → nat_le 256 (view_count (catalogue s.texts)) ≡ b
+    → judgement s text ≡ unless_full b views_limit (view name expr)
+typed_judged s l text name expr h L e is b full =
+    built_judged s l text name expr h (Ok L) (lens_is_typed s l text name expr h L e (Ok (sort_of L)) is) ∙ ap (λ f. unless_full f views_limit (view name expr)) full
+
+pub full_told : (s : State) (l : Line) (text : List ℕ) (name : Name) (expr : Expr) → DefinesBuilt s l text name expr
+    → (L : Lens) → lens_of expr (catalogue s.texts) ≡ Some L → sort L ≡ Ok (sort_of L) → 256 ≤ view_count (catalogue s.texts)
+    → answer s l ≡ (refused (too_large views_limit), s)
+full_told s l text name expr h L e is full =
+    refused_stays s l text (rule (too_large views_limit)) h.defines.asked (typed_judged s l text name expr h L e is true (le-leb 256 (view_count (catalogue s.texts)) full))
+
+pub typed_taken : (s : State) (l : Line) (text : List ℕ) (name : Name) (expr : Expr) → DefinesBuilt s l text name expr
+    → (L : Lens) → lens_of expr (catalogue s.texts) ≡ Some L → sort L ≡ Ok (sort_of L) → view_count (catalogue s.texts) < 256
+    → answer s l ≡ (defined (s.version + 1), with_defined text (view name expr) s)
+typed_taken s l text name expr h L e is few =
+    taken_is_added s l text (view name expr) h.defines.asked (typed_judged s l text name expr h L e is false (lt-leb 256 (view_count (catalogue s.texts)) few))

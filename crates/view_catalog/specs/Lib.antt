@@ -1,0 +1,5 @@
+pub mod Admissions
+pub mod Contents
+pub mod Faults
+pub mod Judgements
+pub mod Keys

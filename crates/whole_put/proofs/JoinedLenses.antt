@@ -1,0 +1,143 @@
+-- What a join of two lenses shows, and a put to it.
+use Rattle.std.proofs.Common.{◌≡◌, ◌∙◌, Bool, true, false, not, cond, List, [], ◌∷◌, ap, refl, subst, sym, Option, Some, None, Ok, find}
+use Rattle.std.specs.Prelude.{is_some}
+use Rattle.std.proofs.lemmas.Bool.{true≢false}
+use Rattle.std.specs.FinMap as finmap
+use Rattle.std.specs.Ordering.{eq_by_cmp}
+use Rattle.lens_values.specs.Order.{bytes_cmp}
+use Rattle.lens_values.specs.SortedSet as set
+use Rattle.lens_values.specs.Value.{same_kind}
+use Rattle.lens_values.specs.declared.value.Kind.{Kind}
+use Rattle.lens_values.specs.declared.value.Kind.TheVariants.{Int, Text, Flag}
+use Rattle.lens_specs.specs.Columns.{Columns, both_columns, kinds_differ, like_kinds, names}
+use Rattle.lens_specs.specs.Dependencies.{Edge, MeetsTree}
+use Rattle.lens_specs.specs.Lens.{Lens, Tables, join, get, put, sort_of, tables_of, view, view_names}
+use Rattle.lens_specs.specs.Names.{Name, is_among}
+use Rattle.lens_specs.specs.Nodes.{join_get, join_put_left, join_right}
+use Rattle.lens_specs.specs.Relation.{Relation, Rows, project}
+use Rattle.lens_specs.specs.Sort.{IsOf, IsOfSort, Sort}
+use Rattle.lens_specs.specs.Typing as typing
+use Rattle.fd_laws.proofs.Columns.{names-get}
+use Rattle.fd_laws.proofs.Lists.{in_head, in_tail}
+use Rattle.fd_laws.proofs.Names.{apart_back, from_shared, name_itself, tied_name}
+use Rattle.lens_laws.specs.Lenses.{AreOf, IsTyped}
+use Rattle.lens_laws.specs.Shapes.{IsIn, join_shape, shape_of}
+use Rattle.lens_laws.proofs.Join.{part_left, part_right}
+use Rattle.lens_laws.proofs.Lenses.{are_same, get_sort, put_leaves}
+use Rattle.lens_laws.proofs.NodeLaws.{both_can, join_law, sound}
+use Rattle.lens_laws.proofs.Passes.{join_sort_is}
+use Rattle.lens_laws.proofs.Sorts.{clash_none, to_in}
+use Rattle.whole_put.specs.Joinable.{CanBePut}
+use Rattle.whole_put.proofs.Lenses.{given_is, over}
+
+-- ---- shared columns
+
+same_itself : (k : Kind) → same_kind k k ≡ true
+same_itself Int = refl
+same_itself Text = refl
+same_itself Flag = refl
+
+alike : (o p : Option Kind) → o ≡ p → is_some o ≡ true → not (like_kinds o p) ≡ false
+alike None p e i = absurd (true≢false (sym i))
+alike (Some k) p e i = ap (λ q. not (like_kinds (Some k) q)) (sym e) ∙ ap not (same_itself k)
+
+find_nothing : (p : Name → Bool) (ns : List Name) → ((c : Name) → is_among c ns ≡ true → p c ≡ false) → find p ns ≡ None
+find_nothing p [] h = refl
+find_nothing p (n ∷ ns) h =
+    ap (λ b. cond b (Some n) (find p ns)) (h n (in_head (eq_by_cmp bytes_cmp) tied_name name_itself n ns))
+    ∙ find_nothing p ns (λ c i. h c (in_tail (eq_by_cmp bytes_cmp) tied_name name_itself c n ns i))
+
+one_kind_each : (U V : Columns) → ((c : Name) → set.contains (names U) c ≡ true → set.contains (names V) c ≡ true → finmap.get U c ≡ finmap.get V c) → kinds_differ U V ≡ None
+one_kind_each U V same = find_nothing (λ c. not (like_kinds (finmap.get U c) (finmap.get V c))) (set.items (set.intersection (names U) (names V))) (λ c i.
+    let w = from_shared (names U) (names V) c (set.contains-items (set.intersection (names U) (names V)) c ∙ i) in
+    alike (finmap.get U c) (finmap.get V c) (same c w.0 w.1) (sym (names-get U c) ∙ w.0))
+
+-- ---- what is shown
+
+-- the join of what both sides show is what a join shows
+pub shown_joined : (L A B : Lens) (db : Tables) (M N : Relation) → join A B ≡ L → M ≡ view A db → N ≡ view B db
+    → record { columns = both_columns M.columns N.columns; rows = join_get (names M.columns) (names N.columns) M.rows N.rows } ≡ view L db
+unfolding get
+shown_joined L A B db M N is left right =
+    (λ i. record { columns = both_columns (left i).columns (right i).columns; rows = join_get (names (left i).columns) (names (right i).columns) (left i).rows (right i).rows })
+    ∙ ap (λ K. view K db) is
+
+-- ---- a put
+
+-- the rows of the left side after a put of a join
+abbrev pub left_after : Lens → Lens → Rows → Tables → Rows
+left_after A B O db = join_put_left (view_names A) (view_names B) (sort_of A).tree (sort_of B).tree O (get A db) (get B db)
+
+-- the rows of the right side
+abbrev pub right_after : Lens → Rows → Tables → Rows
+right_after B O db = join_right (view_names B) (sort_of B).tree O (get B db)
+
+-- the tree of the sort that the rules give
+pub kept_tree : (L : Lens) (s : Sort) (T : List Edge) → IsTyped L → typing.sort L ≡ Ok s → T ≡ s.tree → T ≡ (sort_of L).tree
+kept_tree L s T typed given tree = tree ∙ ap (λ (k : Sort). k.tree) (given_is L s typed given)
+
+module _ (A B : Lens) (typed : IsTyped (join A B)) where
+  kinds : kinds_differ (sort_of A).columns (sort_of B).columns ≡ None
+  kinds = one_kind_each (sort_of A).columns (sort_of B).columns typed.2.kinds
+
+  -- what both sides show can be joined
+  pub shown_alike : (db : Tables) (M N : Relation) → M ≡ view A db → N ≡ view B db → kinds_differ M.columns N.columns ≡ None
+  shown_alike db M N left right = (λ i. kinds_differ (left i).columns (right i).columns) ∙ kinds
+
+  can_be_put : CanBePut (sort_of A).columns (sort_of B).columns (sort_of A).tree (sort_of B).tree
+  can_be_put = record {
+    left_within = (sound A typed.0).within;
+    right_within = (sound B typed.1).within;
+    kinds = kinds;
+    decides = typed.2.decides;
+  }
+
+  in_view : (O : Rows) → IsOf O (sort_of (join A B)) → IsIn O (join_shape (shape_of (sort_of A)) (shape_of (sort_of B)) (sort_of (join A B)).tree)
+  in_view O o = subst (λ k. IsIn O k) (join_sort_is (sort_of A) (sort_of B)) (to_in O (sort_of (join A B)) o)
+
+  module _ (db : Tables) (M N : Relation) (F G : List Edge) (left : M ≡ view A db) (right : N ≡ view B db) (left_tree : F ≡ (sort_of A).tree) (right_tree : G ≡ (sort_of B).tree) where
+    pub put_can : CanBePut M.columns N.columns F G
+    put_can = rw (left, right, left_tree, right_tree) can_be_put
+
+    pub left_meets : AreOf A db → MeetsTree M.rows F
+    left_meets a = rw (left, left_tree) (clash_none (sort_of A).tree (get A db) (get_sort A db typed.0 a).clash)
+
+    pub right_meets : AreOf B db → MeetsTree N.rows G
+    right_meets a = rw (right, right_tree) (clash_none (sort_of B).tree (get B db) (get_sort B db typed.1 a).clash)
+
+    pub columns_of_both : (sort_of (join A B)).columns ≡ both_columns M.columns N.columns
+    columns_of_both = λ i. both_columns (sym left i).columns (sym right i).columns
+
+    -- the parts of the view meet the trees
+    pub view_left : (O : Rows) → IsOf O (sort_of (join A B)) → MeetsTree (project (names M.columns) O) F
+    view_left O o =
+        rw (left, left_tree) (part_left (shape_of (sort_of A)) (shape_of (sort_of B)) (sort_of (join A B)).tree (both_can A B typed) O (in_view O o)).meets
+
+    pub view_right : (O : Rows) → IsOf O (sort_of (join A B)) → MeetsTree (project (names N.columns) O) G
+    view_right O o =
+        rw (right, right_tree) (part_right (shape_of (sort_of A)) (shape_of (sort_of B)) (sort_of (join A B)).tree (both_can A B typed) O (in_view O o)).meets
+
+    -- ---- the sources after a put
+
+    pub left_source : (O : Rows) (after : Relation) → after ≡ record M { rows = join_put_left (names M.columns) (names N.columns) F G O M.rows N.rows } → after ≡ over A (left_after A B O db)
+    left_source O after is =
+        is ∙ (λ i. record (left i) { rows = join_put_left (names (left i).columns) (names (right i).columns) (left_tree i) (right_tree i) O (left i).rows (right i).rows })
+
+    pub right_source : (O : Rows) (after : Relation) → after ≡ record N { rows = join_right (names N.columns) G O N.rows } → after ≡ over B (right_after B O db)
+    right_source O after is = is ∙ (λ i. record (right i) { rows = join_right (names (right i).columns) (right_tree i) O (right i).rows })
+
+  module _ (db : Tables) (are : AreOf (join A B) db) (O : Rows) (of_sort : IsOf O (sort_of (join A B))) where
+    pub left_is_of_sort : IsOfSort (over A (left_after A B O db)) (sort_of A)
+    left_is_of_sort = (refl, (join_law A B typed).put_sort_left O (get A db) (get B db) (get_sort A db typed.0 are.0) (get_sort B db typed.1 are.1) of_sort)
+
+    pub right_is_of_sort : IsOfSort (over B (right_after B O db)) (sort_of B)
+    right_is_of_sort = (refl, (join_law A B typed).put_sort_right O (get A db) (get B db) (get_sort A db typed.0 are.0) (get_sort B db typed.1 are.1) of_sort)
+
+  -- a put to the left side leaves the tables of the right one
+  pub right_tables : (db after : Tables) (S : Rows) → after ≡ put A S db → AreOf B db → AreOf B after
+  right_tables db after S is a = subst (AreOf B) (sym is) (are_same B db (put A S db) (λ t i. put_leaves A S db t (apart_back (tables_of A) (tables_of B) typed.3 t i)) a)
+
+-- a put to a join is the put to its left side, then that to its right side
+pub put_joined : (L A B : Lens) (db after : Tables) (O S T : Rows) → join A B ≡ L → S ≡ left_after A B O db → T ≡ right_after B O db → after ≡ put A S db → put B T after ≡ put L O db
+unfolding put
+put_joined L A B db after O S T is s t e = (λ i. put B (t i) ((e ∙ ap (λ K. put A K db) s) i)) ∙ ap (λ K. put K O db) is

@@ -1,0 +1,149 @@
+-- What a lens shows and a put to it, by its root.
+use Rattle.std.proofs.Common.{◌≡◌, ◌∙◌, true, false, List, ap, refl, subst, sym, Some}
+use Rattle.std.specs.Prelude.{Result, Ok, IfOk}
+use Rattle.std.specs.FinMap as finmap
+use Rattle.std.proofs.lemmas.Result.{IfOk-weaker}
+use Rattle.no_memory.specs.declared.NoMemory.{NoMemory}
+use Rattle.lens_values.specs.SortedSet as set
+use Rattle.lens_values.specs.declared.value.Value.{Value}
+use Rattle.lens_specs.specs.Columns.{fits_at, names, without_column}
+use Rattle.lens_specs.specs.Dependencies.{Edge, Meets}
+use Rattle.lens_specs.specs.Lens.{Lens, Tables, base, select, drop, join, get, put, sort_of, view, rows_or_none}
+use Rattle.lens_specs.specs.Names.{Name, Names, one}
+use Rattle.lens_specs.specs.Nodes.{drop_get, drop_put, select_get, select_put}
+use Rattle.lens_specs.specs.Predicate.{Predicate, holds}
+use Rattle.lens_specs.specs.Relation.{Relation, Rows}
+use Rattle.lens_specs.specs.Rows.{agree}
+use Rattle.lens_specs.specs.Sort.{IsOf, IsOfSort, Sort}
+use Rattle.lens_specs.specs.Typing as typing
+use Rattle.fd_laws.proofs.Names.{one_is}
+use Rattle.fd_laws.proofs.Rows.{agree_at, agree_from}
+use Rattle.fd_laws.proofs.Trees.{at_edge}
+use Rattle.lens_laws.specs.Lenses.{AreOf, IsTyped}
+use Rattle.lens_laws.specs.Rules.{BasesAreSound}
+use Rattle.lens_laws.proofs.Lenses.{get_after, get_sort, put_back}
+use Rattle.lens_laws.proofs.NodeLaws.{drop_law, select_law}
+use Rattle.lens_laws.proofs.Rules.{sort_is_typed}
+use Rattle.lens_laws.proofs.Sorts.{clash_none}
+
+-- ---- what is shown
+
+same_value : (M N : Relation) → Some M ≡ Some N → M ≡ N
+same_value M N e = cc
+
+shown_of_base : (t : Name) (s : Sort) (db : Tables) (M : Relation) → Some M ≡ finmap.get db t → AreOf (base t s) db → M ≡ view (base t s) db
+unfolding get
+shown_of_base t s db M there a =
+    let columns = ap (λ (N : Relation). N.columns) (same_value M a.0 (there ∙ a.1)) ∙ a.2.0 in
+    λ i. record { columns = columns i; rows = rows_or_none (there i) }
+
+-- the table is what a lens of it shows
+pub shown_table : (L : Lens) (t : Name) (s : Sort) (db : Tables) (M : Relation) → base t s ≡ L → Some M ≡ finmap.get db t → AreOf L db → M ≡ view L db
+shown_table L t s db M is there = subst (λ K. AreOf K db → M ≡ view K db) is (shown_of_base t s db M there)
+
+-- the selected rows of what its source shows are what a selection shows
+pub shown_selected : (L C : Lens) (P : Predicate) (db : Tables) (M : Relation) → select P C ≡ L → M ≡ view C db → record M { rows = select_get (holds P) M.rows } ≡ view L db
+unfolding get
+shown_selected L C P db M is shown = ap (λ (N : Relation). record N { rows = select_get (holds P) N.rows }) shown ∙ ap (λ K. view K db) is
+
+-- what its source shows without the column is what a projection shows
+pub shown_dropped : (L C : Lens) (A : Name) (X : Names) (a : Value) (db : Tables) (M : Relation) → drop A X a C ≡ L → M ≡ view C db
+    → record { columns = without_column M.columns A; rows = drop_get (names M.columns) A M.rows } ≡ view L db
+unfolding get
+shown_dropped L C A X a db M is shown =
+    ap (λ (N : Relation). record { columns = without_column N.columns A; rows = drop_get (names N.columns) A N.rows }) shown ∙ ap (λ K. view K db) is
+
+-- what is shown is of the lens's sort
+pub shown_is_of_sort : (r : Result Relation NoMemory) (L : Lens) (db : Tables) → IsTyped L → AreOf L db → IfOk r (λ shown. shown ≡ view L db) → IfOk r (λ shown. IsOfSort shown (sort_of L))
+shown_is_of_sort r L db typed are =
+    let here : IsOfSort (view L db) (sort_of L) = (refl, get_sort L db typed are) in
+    IfOk-weaker r (λ shown. shown ≡ view L db) (λ shown. IsOfSort shown (sort_of L)) (λ shown is. subst (λ M. IsOfSort M (sort_of L)) (sym is) here)
+
+-- ---- the source of a node after a put
+
+bases_are_sound : (L : Lens) → IsTyped L → BasesAreSound L
+bases_are_sound (base t s) h = h
+bases_are_sound (select P C) h = bases_are_sound C h.0
+bases_are_sound (drop A X a C) h = bases_are_sound C h.0
+bases_are_sound (join A B) h = (bases_are_sound A h.0, bases_are_sound B h.1)
+
+-- the sort that the rules give
+pub given_is : (L : Lens) (s : Sort) → IsTyped L → typing.sort L ≡ Ok s → s ≡ sort_of L
+given_is L s typed given = (sort_is_typed L s (bases_are_sound L typed) given).0
+
+-- these rows over the columns of the lens
+abbrev pub over : Lens → Rows → Relation
+over L rows = record { columns = (sort_of L).columns; rows = rows }
+
+-- what its source shows after a put of a selection
+abbrev pub under_selected : Predicate → Lens → Rows → Tables → Relation
+under_selected P C N db = over C (select_put (sort_of C).tree (holds P) N (get C db))
+
+pub source_selected : (C : Lens) (P : Predicate) (db : Tables) (N : Rows) (M after : Relation) (T : List Edge) (s : Sort) → IsTyped C → typing.sort C ≡ Ok s → T ≡ s.tree → M ≡ view C db
+    → after ≡ record M { rows = select_put T (holds P) N M.rows } → after ≡ under_selected P C N db
+source_selected C P db N M after T s typed given tree shown is =
+    let trees = tree ∙ ap (λ (k : Sort). k.tree) (given_is C s typed given) in
+    is ∙ (λ i. record (shown i) { rows = select_put (trees i) (holds P) N (shown i).rows })
+
+pub selected_is_of_sort : (C : Lens) (P : Predicate) (db : Tables) (N : Rows) → IsTyped (select P C) → AreOf C db → IsOf N (sort_of (select P C)) → IsOfSort (under_selected P C N db) (sort_of C)
+selected_is_of_sort C P db N typed are of_sort = (refl, (select_law P C typed).put_sort N (get C db) (get_sort C db typed.0 are) of_sort)
+
+-- what its source shows after a put of a projection
+abbrev pub under_dropped : Name → Names → Value → Lens → Rows → Tables → Relation
+under_dropped A X a C N db = over C (drop_put A X a N (get C db))
+
+pub source_dropped : (C : Lens) (A : Name) (X : Names) (a : Value) (db : Tables) (N : Rows) (M after : Relation) → M ≡ view C db
+    → after ≡ record M { rows = drop_put A X a N M.rows } → after ≡ under_dropped A X a C N db
+source_dropped C A X a db N M after shown is = is ∙ ap (λ (K : Relation). record K { rows = drop_put A X a N K.rows }) shown
+
+pub dropped_is_of_sort : (C : Lens) (A : Name) (X : Names) (a : Value) (db : Tables) (N : Rows) → IsTyped (drop A X a C) → AreOf C db → IsOf N (sort_of (drop A X a C)) → IsOfSort (under_dropped A X a C N db) (sort_of C)
+dropped_is_of_sort C A X a db N typed are of_sort = (refl, (drop_law A X a C typed).put_sort N (get C db) (get_sort C db typed.0 are) of_sort)
+
+-- ---- what a put to a projection asks
+
+module _ (C : Lens) (A : Name) (X : Names) (a : Value) (typed : IsTyped (drop A X a C)) where
+  -- the default fits the column
+  pub column_fits : (db : Tables) (M : Relation) → M ≡ view C db → fits_at (Some a) (finmap.get M.columns A) ≡ true
+  column_fits db M shown = ap (λ (K : Relation). fits_at (Some a) (finmap.get K.columns A)) shown ∙ typed.1.column
+
+  -- the column is not among those that determine it
+  pub column_apart : set.contains X A ≡ false
+  column_apart = ap (λ Y. set.contains Y A) (sym typed.1.left) ∙ at_edge (λ e. set.contains e.left A ≡ false) (sort_of C).tree typed.1.from typed.1.among typed.1.lefts
+
+  in_right : (c : Name) → set.contains (one A) c ≡ true → set.contains typed.1.from.right c ≡ true
+  in_right c i = ap (set.contains typed.1.from.right) (one_is A c i) ∙ typed.1.right
+
+  -- rows of the source's sort that agree on the columns that determine it agree on the column
+  determined : (M : Rows) → IsOf M (sort_of C) → Meets M X (one A)
+  determined M of_sort r s there there' alike =
+      let met = at_edge (λ e. Meets M e.left e.right) (sort_of C).tree typed.1.from typed.1.among (clash_none (sort_of C).tree M of_sort.clash) in
+      let right = met r s there there' (ap (λ Y. agree Y r s) typed.1.left ∙ alike) in
+      agree_from (one A) r s (λ c i. agree_at typed.1.from.right r s right c (in_right c i))
+
+  pub source_determined : (db : Tables) (M : Relation) → AreOf C db → M ≡ view C db → Meets M.rows X (one A)
+  source_determined db M are shown = subst (λ (K : Relation). Meets K.rows X (one A)) (sym shown) (determined (get C db) (get_sort C db typed.0 are))
+
+-- ---- the tables after a put
+
+pub put_table : (L : Lens) (t : Name) (s : Sort) (db : Tables) (V : Relation) → base t s ≡ L → IsOfSort V (sort_of L) → finmap.insert db t V ≡ put L V.rows db
+unfolding put
+put_table L t s db V is = subst (λ K. IsOfSort V (sort_of K) → finmap.insert db t V ≡ put K V.rows db) is (λ o i. finmap.insert db t (record { columns = o.0 i; rows = V.rows }))
+
+pub put_selected : (L C : Lens) (P : Predicate) (db : Tables) (N S : Rows) → select P C ≡ L → S ≡ select_put (sort_of C).tree (holds P) N (get C db) → put C S db ≡ put L N db
+unfolding put
+put_selected L C P db N S is rows = ap (λ K. put C K db) rows ∙ ap (λ K. put K N db) is
+
+pub put_dropped : (L C : Lens) (A : Name) (X : Names) (a : Value) (db : Tables) (N S : Rows) → drop A X a C ≡ L → S ≡ drop_put A X a N (get C db) → put C S db ≡ put L N db
+unfolding put
+put_dropped L C A X a db N S is rows = ap (λ K. put C K db) rows ∙ ap (λ K. put K N db) is
+
+-- the laws of the tables after a put
+module _ (r : Result Tables NoMemory) (L : Lens) (N : Rows) (db : Tables) (typed : IsTyped L) (are : AreOf L db) where
+  pub read_again : IsOf N (sort_of L) → IfOk r (λ after. after ≡ put L N db) → IfOk r (λ after. get L after ≡ N)
+  read_again of_sort = IfOk-weaker r (λ after. after ≡ put L N db) (λ after. get L after ≡ N) (λ after is. ap (get L) is ∙ (get_after L db typed are N of_sort).1)
+
+  pub unchanged : IfOk r (λ after. after ≡ put L N db) → IfOk r (λ after. N ≡ get L db → after ≡ db)
+  unchanged = IfOk-weaker r (λ after. after ≡ put L N db) (λ after. N ≡ get L db → after ≡ db) (λ after is shown. is ∙ ap (λ K. put L K db) shown ∙ put_back L db typed are)
+
+  pub of_their_sorts : IsOf N (sort_of L) → IfOk r (λ after. after ≡ put L N db) → IfOk r (λ after. AreOf L after)
+  of_their_sorts of_sort = IfOk-weaker r (λ after. after ≡ put L N db) (λ after. AreOf L after) (λ after is. subst (AreOf L) (sym is) (get_after L db typed are N of_sort).0)
