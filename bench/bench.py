@@ -68,6 +68,11 @@ def put(rows, view="tracks"):
     return (f'{{"do":"put","view":"{view}","rows":[' + ",".join(rows) + "]}\n").encode()
 
 
+def edit(view, remove, add, do="edit", on=None):
+    rests = "" if on is None else f',"on":{on}'
+    return (f'{{"do":"{do}","view":"{view}","remove":[' + ",".join(remove) + '],"add":[' + ",".join(add) + f"]{rests}}}\n").encode()
+
+
 def must_begin(reply, start):
     if not reply.startswith(start):
         raise SystemExit(f"not what was expected: {reply[:200]!r}")
@@ -134,6 +139,48 @@ def views(program):
     return table
 
 
+def renamed(line):
+    """The row with another track."""
+    return line.replace('"track":"track', '"track":"other', 1)
+
+
+def edits(program):
+    """Edits and a preview of a view of 100,000 rows, and edits that are refused; ms and MB."""
+    server = defined(program, TRACKS, "view shown = select from tracks where rating > 0")
+    rows = [row(number) for number in range(HIDING)]
+    shown = [line for line in rows if '"rating":0' not in line]
+    reply, _ = server.ask(put(rows))
+    must_begin(reply, b'{"changed":[{')
+    first, last = [shown[0]], [shown[-1]]
+    some, many = shown[ROWS // 10 : ROWS // 5], shown[ROWS // 4 : ROWS * 3 // 4]
+    steps = [
+        (f"edit of a view of {len(shown):,} rows, one row replaced", edit("shown", last, map(renamed, last)), b'{"changed":[{'),
+        ("preview of such an edit", edit("shown", first, map(renamed, first), "preview"), b'{"changed":[{'),
+        (f"edit of that view, {len(some):,} rows replaced", edit("shown", some, map(renamed, some)), b'{"changed":[{'),
+        ("the same edit again, which changes nothing", edit("shown", some, map(renamed, some)), b'{"changed":[],'),
+        (f"edit of that view, {len(many):,} rows replaced", edit("shown", many, map(renamed, many)), b'{"changed":[{'),
+        ("an edit of one row that rests on an old version, refused", edit("shown", first, [], on=1), b'{"changed_at":'),
+        ("an edit of one row that the view would not show, refused", edit("shown", [], [row(0)]), b'{"error":42,'),
+    ]
+    return timed(server, steps)
+
+
+def questions(program):
+    """Questions over a table of 100,000 rows, and lines that are refused; ms a line and MB."""
+    server = defined(program, TRACKS + DEPENDENCIES, "view known = select from tracks where track != ''", "view good = select from known where rating > 2")
+    reply, _ = server.ask(put([row(number) for number in range(ROWS)]))
+    must_begin(reply, b'{"changed":[{')
+    steps = [
+        (f"a type, over a table of {ROWS:,} rows", b'{"do":"type","view":"good"}\n', b'{"columns":{'),
+        ("a list of the definitions", b'{"do":"list"}\n', b'{"definitions":['),
+        ("a line that is no JSON", b'{"do":"list"\n', b'{"error":11,'),
+        ("a request with a member that is wrong", b'{"do":"edit","view":"good","remove":[],"add":[],"on":null}\n', b'{"error":12,'),
+        ("an edit of a view that is not there", edit("nothing", [], [row(0)]), b'{"error":22,'),
+        ("an edit with a row that is none", edit("good", [], ["3"]), b'{"col":'),
+    ]
+    return timed(server, steps, times=PUTS, digits=3)
+
+
 def without_date(line):
     """The row as a view without dates has it."""
     return re.sub(r'"date":[0-9]+,', "", line)
@@ -177,6 +224,8 @@ def joins(program):
         steps = [
             (f"read of a join of {count:,} rows with {count // 10:,}, a drop and a selection over it", b'{"do":"read","view":"stock"}\n', b'{"ok":true,"rows":[{'),
             ("put of that view with one row changed", put(changed, "stock"), b'{"changed":[{'),
+            ("edit of that view, one row replaced", edit("stock", stock[:1], [re.sub(r'"rating":[0-9]+', '"rating":9', stock[0])]), b'{"changed":[{'),
+            ("preview of such an edit", edit("stock", stock[1:2], [re.sub(r'"rating":[0-9]+', '"rating":9', stock[1])], "preview"), b'{"changed":[{'),
         ]
         table += timed(server, steps)
     return table
@@ -264,7 +313,7 @@ def main():
     program = sys.argv[1] if len(sys.argv) > 1 else os.path.join(TOP, "crates/view_program/out/view_program")
     print("| What | Bytes of input | Time | Peak memory |")
     print("|---|---|---|---|")
-    for name, size, taken, peak in large(program) + views(program) + drops(program) + joins(program) + dependent(program) + chains(program) + long_texts(program) + longest(program) + small(program):
+    for name, size, taken, peak in large(program) + views(program) + edits(program) + questions(program) + drops(program) + joins(program) + dependent(program) + chains(program) + long_texts(program) + longest(program) + small(program):
         print(f"| {name} | {size:,} | {taken} | {peak} |")
 
 

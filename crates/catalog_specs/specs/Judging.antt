@@ -1,5 +1,5 @@
 -- Which definitions are taken.
-use Rattle.std.specs.Prelude.{ℕ, suc, Bool, true, false, not, ◌||◌, List, [], ◌∷◌, nat_le, is_some, is_err, Option, Some, None, option_map, Result, Ok, Err, if◌then◌else◌}
+use Rattle.std.specs.Prelude.{ℕ, suc, Bool, true, false, not, List, [], ◌∷◌, nat_le, is_some, is_err, Option, Some, None, option_map, Result, Ok, Err, if◌then◌else◌}
 use Rattle.std.specs.FinMap as finmap
 use Rattle.lens_specs.specs.Names.{Name}
 use Rattle.lens_specs.specs.Columns.{Columns}
@@ -15,13 +15,12 @@ use Rattle.grammar_specs.specs.Faults.{Fault}
 use Rattle.grammar_laws.specs.Reading.{reading}
 use Rattle.catalog_specs.specs.Catalogue.{Catalogue, is_table_of, with_definition}
 
--- why a definition is refused: the fault of its text, a name that has a lens already, a name that has none, the rule that it breaks, or that it is not built
+-- why a definition is refused: the fault of its text, a name that has a lens already, a name that has none, or the rule that it breaks
 pub data CatalogFault : Type 0 where
   language : Fault → CatalogFault
   name_taken : Name → CatalogFault
   unknown_name : Name → CatalogFault
   rule : Refusal → CatalogFault
-  unbuilt : CatalogFault
 
 -- ---- names, and how many there are
 
@@ -42,15 +41,6 @@ table_count known = count_named is_table_of (finmap.entries known)
 abbrev pub view_count : Catalogue → ℕ
 view_count known = count_named (λ name lens. not (is_table_of name lens)) (finmap.entries known)
 
--- whether the name has a lens that is not the table itself
-abbrev pub is_other : Name → Option Lens → Bool
-is_other name None = false
-is_other name (Some lens) = not (is_table_of name lens)
-
--- whether the name is a view's
-abbrev pub is_view : Catalogue → Name → Bool
-is_view known name = is_other name (finmap.get known name)
-
 -- ---- tables
 
 -- the definition, or the refusal where there are too many
@@ -69,13 +59,6 @@ judged_table known name columns deps predicate =
     if is_taken known name then Err (name_taken name) else where_sorted (table_sort columns deps predicate) known (table name columns deps predicate)
 
 -- ---- views
-
--- A view over a view is not built: whether the expression names a view, wherever in it.
-abbrev pub is_unbuilt : Catalogue → Expr → Bool
-is_unbuilt known (named source) = is_view known source
-is_unbuilt known (meaning.select predicate of) = is_unbuilt known of
-is_unbuilt known (meaning.drop column by value of) = is_unbuilt known of
-is_unbuilt known (meaning.join left right) = is_unbuilt known left || is_unbuilt known right
 
 -- the lens that the name has, or else the refusal
 abbrev pub lens_named : Name → Option Lens → Result Lens CatalogFault
@@ -97,7 +80,8 @@ abbrev pub over_both : Result Lens CatalogFault → Result Lens CatalogFault →
 over_both (Err first) right = Err first
 over_both (Ok lens) right = over (join lens) right
 
--- the lens of an expression, or its first refusal: operands come before their node, the left one first
+-- The lens of an expression, or its first refusal: operands come before their node, the left one first. A view's name stands for its
+-- lens, as a table's does.
 abbrev pub lens_in : Catalogue → Expr → Result Lens CatalogFault
 lens_in known (named name) = lens_named name (finmap.get known name)
 lens_in known (meaning.select predicate of) = over (select predicate) (lens_in known of)
@@ -109,11 +93,9 @@ abbrev pub where_lensed : Result Lens CatalogFault → Catalogue → Definition 
 where_lensed (Err first) known definition = Err first
 where_lensed (Ok lens) known definition = unless_full (nat_le 256 (view_count known)) views_limit definition
 
--- A view is taken where its name is free, its expression is built and has a lens, and there are fewer than 256 views.
+-- A view is taken where its name is free, its expression has a lens, and there are fewer than 256 views.
 abbrev pub judged_view : Catalogue → Name → Expr → Result Definition CatalogFault
-judged_view known name expr =
-    if is_taken known name then Err (name_taken name)
-    else (if is_unbuilt known expr then Err unbuilt else where_lensed (lens_in known expr) known (view name expr))
+judged_view known name expr = if is_taken known name then Err (name_taken name) else where_lensed (lens_in known expr) known (view name expr)
 
 -- ---- texts
 

@@ -6,19 +6,16 @@ use Rattle.no_memory.specs.declared.NoMemory.{NoMemory}
 use Rattle.lens_specs.specs.Delta.{TableDelta, changes}
 use Rattle.lens_specs.specs.Keeping.{rows}
 use Rattle.lens_specs.specs.Lens.{Lens, Tables, put, sort_of}
-use Rattle.lens_specs.specs.Relation.{Fits, Rows, has}
-use Rattle.lens_specs.specs.Sort.{clash, off}
-use Rattle.lens_values.specs.declared.row.Row.{Row}
+use Rattle.lens_specs.specs.Relation.{Rows}
+use Rattle.lens_specs.specs.Sort.{IsOf}
 use Rattle.request_text.specs.Answers.{answer_view}
 use Rattle.server_specs.specs.Answer as answers
 use Rattle.server_specs.specs.Changing.{accept}
-use Rattle.server_specs.specs.State.{State}
 use Rattle.server_specs.specs.Validity.{Valid}
 use Rattle.server_laws.specs.KeptLaws.{KeptFollows}
 use Rattle.server_laws.proofs.Kept.{accept_is_kept}
-use Rattle.server_laws.proofs.Puts.{put_is_accept}
 use Rattle.server_laws.proofs.Stored.{IsHere, are_there}
-use Rattle.server_laws.proofs.Valid.{valid_put_set}
+use Rattle.server_laws.proofs.Valid.{valid_accept}
 use Rattle.signed_delta.specs.Tables.{table_delta}
 use Rattle.signed_delta.specs.declared.delta.TableDelta.{TableDelta as DeltaOf}
 use Rattle.table_keeper.specs.Changes.{change_view}
@@ -26,11 +23,6 @@ use Rattle.lens_server.specs.Plans.{CanTake, IsChange, IsPlan, IsStaged, Leads, 
 use Rattle.lens_server.specs.States.{state_of}
 use Rattle.lens_server.specs.declared.plan.Plan.{Plan}
 use Rattle.lens_server.specs.declared.store.Store.{Store}
-
--- what is accepted where the view is of the lens's sort is valid
-pub accept_is_valid : (s : State) (L : Lens) (N : Rows) → Valid s → IsHere s L → ((r : Row) → has N r ≡ true → Fits (sort_of L).columns r) → off (sort_of L).predicate N ≡ None
-    → clash (sort_of L).tree N ≡ None → Valid (accept L N (changes L N s.tables) s).1
-accept_is_valid s L N v here fits none met = subst (λ r. Valid r.1) (put_is_accept N L s none met) (valid_put_set s L N v here fits)
 
 -- where no table changes, nothing does
 pub nothing_planned : (store : Store) (L : Lens) (N : Rows) (plan : Plan) (ds : List TableDelta) → changes L N store.tables ≡ ds → ds ≡ []
@@ -42,10 +34,9 @@ nothing_planned store L N plan ds is none answer staged =
 
 -- the tables become those of the put
 pub change_planned : (store : Store) (L : Lens) (N : Rows) (plan : Plan) (tables : Tables) (d : TableDelta) (ds : List TableDelta) → Valid (state_of store) → IsHere (state_of store) L
-    → ((r : Row) → has N r ≡ true → Fits (sort_of L).columns r) → off (sort_of L).predicate N ≡ None → clash (sort_of L).tree N ≡ None
-    → tables ≡ put L N store.tables → changes L N store.tables ≡ d ∷ ds → IsChange (d ∷ ds) tables store plan
+    → IsOf N (sort_of L) → tables ≡ put L N store.tables → changes L N store.tables ≡ d ∷ ds → IsChange (d ∷ ds) tables store plan
     → IsPlan plan (accept L N (changes L N store.tables) (state_of store)) store
-change_planned store L N plan tables d ds v here fits none met put is p =
+change_planned store L N plan tables d ds v here typed put is p =
     let s = state_of store in
     let staged = p.staged in
     let next : (accept L N (d ∷ ds) s).1 ≡ after staged s = (λ i. record {
@@ -60,19 +51,18 @@ change_planned store L N plan tables d ds v here fits none met put is p =
     let ready : IsStaged staged store = record {
       definition = subst (λ o. CanTake o store.catalog) (sym p.definition) tt;
       kept = kept;
-      valid = subst Valid (ap (λ l. (accept L N l s).1) is ∙ next) (accept_is_valid s L N v here fits none met);
+      valid = subst Valid next (valid_accept s L N v here typed (d ∷ ds) is);
     } in
     subst (λ l. IsPlan plan (accept L N l s) store) (sym is)
     (record { answer = p.answer; leads = subst (λ o. Leads o (accept L N (d ∷ ds) s).1 store) (sym p.is) (next, ready) })
 
 -- what was found to change, by whether anything does
 pub put_planned : (store : Store) (L : Lens) (N : Rows) (tables : Tables) (ds : List TableDelta) (result : Result Plan NoMemory) → Valid (state_of store) → IsHere (state_of store) L
-    → ((r : Row) → has N r ≡ true → Fits (sort_of L).columns r) → off (sort_of L).predicate N ≡ None → clash (sort_of L).tree N ≡ None
-    → tables ≡ put L N store.tables → changes L N store.tables ≡ ds → ds ≢ [] → IfOk result (IsChange ds tables store)
+    → IsOf N (sort_of L) → tables ≡ put L N store.tables → changes L N store.tables ≡ ds → ds ≢ [] → IfOk result (IsChange ds tables store)
     → IfOk result (λ plan. IsPlan plan (accept L N (changes L N store.tables) (state_of store)) store)
-put_planned store L N tables [] result v here fits none met put is some h = absurd (some refl)
-put_planned store L N tables (d ∷ ds) (Err e) v here fits none met put is some h = tt
-put_planned store L N tables (d ∷ ds) (Ok plan) v here fits none met put is some h = change_planned store L N plan tables d ds v here fits none met put is h
+put_planned store L N tables [] result v here typed put is some h = absurd (some refl)
+put_planned store L N tables (d ∷ ds) (Err e) v here typed put is some h = tt
+put_planned store L N tables (d ∷ ds) (Ok plan) v here typed put is some h = change_planned store L N plan tables d ds v here typed put is h
 
 no_length : (n : ℕ) → (suc n == 0) ≡ true → ⊥
 no_length n e = grind (arith, nat_tests)

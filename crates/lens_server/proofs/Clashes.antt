@@ -1,21 +1,15 @@
 -- Clashes as they are found.
 use Rattle.std.proofs.Common.{◌≡◌, ◌∙◌, ◌<◌, List, [], ◌∷◌, ◌++◌, length, slice_index_or, ap, sym, subst, refl, arith}
-use Rattle.std.specs.Prelude.{Option, Some, None}
+use Rattle.std.specs.Prelude.{Option, Some, None, Err}
 use Rattle.lens_laws.proofs.Least.{clash_is}
 use Rattle.lens_specs.specs.Dependencies.{Edge}
-use Rattle.lens_specs.specs.Lens.{Lens}
 use Rattle.lens_specs.specs.Relation.{Rows}
 use Rattle.lens_specs.specs.Sort as spec
 use Rattle.lens_specs.specs.Sort.{clash}
 use Rattle.fd_tree.specs.ClashView.{shown_clash}
 use Rattle.fd_tree.specs.declared.clash.Clash.{Clash}
-use Rattle.request_text.specs.Answers.{answer_view}
-use Rattle.server_specs.specs.Answer.{clash as clash_answer}
+use Rattle.server_specs.specs.Answer.{Answer, clash as clash_answer}
 use Rattle.server_specs.specs.Changing.{unless_clash}
-use Rattle.lens_server.specs.Plans.{IsPlan, Leads}
-use Rattle.lens_server.specs.States.{state_of}
-use Rattle.lens_server.specs.declared.plan.Plan.{Plan}
-use Rattle.lens_server.specs.declared.store.Store.{Store}
 
 -- the edge after those before it
 behind : (before : List Edge) (e : Edge) (after : List Edge) (d : Edge) → (length before < length (before ++ e ∷ after)) × (slice_index_or (before ++ e ∷ after) (length before) d ≡ e)
@@ -48,9 +42,6 @@ of_clash T M found (Some c) is e =
 pub found_clash : (T : List Edge) (M : Rows) (found : Clash) → Some found ≡ shown_clash (clash T M) → IsFoundClash T M found
 found_clash T M found e = of_clash T M found (clash T M) refl e
 
--- the plan of a clash that is there
-pub clash_planned : (store : Store) (plan : Plan) (o : Option spec.Clash) (c : spec.Clash) (L : Lens) (N : Rows) → o ≡ Some c
-    → answer_view plan.answer ≡ clash_answer c.edge c.first c.second → plan.staged ≡ None → IsPlan plan (unless_clash o L N (state_of store)) store
-clash_planned store plan o c L N is answer staged =
-    subst (λ p. IsPlan plan (unless_clash p L N (state_of store)) store) (sym is)
-    (record { answer = answer; leads = subst (λ s. Leads s (state_of store) store) (sym staged) refl })
+-- a clash that is there is told
+pub clash_asked : (o : Option spec.Clash) (c : spec.Clash) (N : Rows) (answer : Answer) → o ≡ Some c → answer ≡ clash_answer c.edge c.first c.second → unless_clash o N ≡ Err answer
+clash_asked o c N answer is told = ap (λ p. unless_clash p N) is ∙ ap Err (sym told)

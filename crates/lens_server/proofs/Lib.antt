@@ -1,8 +1,9 @@
 pub mod Alike
+pub mod Asking
 pub mod Changed
 pub mod Clashes
 pub mod Defined
+pub mod Formulas
 pub mod Lists
-pub mod Sent
 pub mod Settled
 pub mod Stepping

@@ -9,10 +9,11 @@ ghost use Rattle.lens_server.specs.Outcomes.{IsReady, Outcome};
 ghost use Rattle.lens_server.specs.Plans.{IsPlan};
 ghost use Rattle.lens_server.specs.States.{state_of};
 
-use crate::changing::plan_put;
+use crate::changing::{plan_change, preview_answer};
 use crate::defining::plan_definition;
 use crate::plan::Plan;
-use crate::questions::read_answer;
+use crate::questions::{list_answer, read_answer, type_answer};
+use crate::sent::Sent;
 use crate::settling::settle;
 use crate::store::Store;
 use lens_values::NoMemory;
@@ -55,7 +56,7 @@ fn plan_line(alloc: Global, store: &mut Store, line: &[u8]) -> Result<Plan, NoMe
     }
 }
 
-/// Plans the answer to a request. Edits, previews, types and the list of definitions are not built.
+/// Plans the answer to a request.
 fn plan_request(alloc: Global, store: &mut Store, request: Request) -> Result<Plan, NoMemory>
     requires valid { Valid (state_of store.old) }
     requires room { store.old.version < 2 ^ 64 - 1 }
@@ -66,7 +67,25 @@ fn plan_request(alloc: Global, store: &mut Store, request: Request) -> Result<Pl
     match request {
         Request::Define { text } => plan_definition(alloc, store, text),
         Request::Read { view } => Ok(Plan::unchanged(read_answer(alloc, store, &view)?)),
-        Request::Put { view, rows, on } => plan_put(alloc, store, &view, &rows, on),
-        _ => Ok(Plan::unchanged(Answer::Unbuilt)),
+        Request::Put { view, rows, on } => {
+            plan_change(alloc, store, &view, &Sent::Whole { rows }, on)
+        }
+        Request::Edit {
+            view,
+            remove,
+            add,
+            on,
+        } => plan_change(alloc, store, &view, &Sent::Edited { remove, add }, on),
+        Request::Preview {
+            view,
+            remove,
+            add,
+            on,
+        } => {
+            let sent = Sent::Edited { remove, add };
+            Ok(Plan::unchanged(preview_answer(alloc, store, &view, &sent, on)?))
+        }
+        Request::Describe { view } => Ok(Plan::unchanged(type_answer(alloc, store, &view)?)),
+        Request::List => Ok(Plan::unchanged(list_answer(alloc, store)?)),
     }
 }

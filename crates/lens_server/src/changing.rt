@@ -1,173 +1,95 @@
 //! Changes of views.
-ghost use Rattle.std.specs.Prelude.{◌≡◌, ◌<◌, ◌-◌, ◌^◌, ℕ, IfOk, None, find, map, not, option_copied, length, slice_index_or, true};
-ghost use Rattle.lens_values.specs.SortedSet as set;
+ghost use Rattle.std.specs.Prelude.{◌≡◌, ◌<◌, ◌-◌, ◌^◌, IfOk, Ok, map};
 ghost use Rattle.lens_specs.specs.Delta.{changes};
-ghost use Rattle.lens_specs.specs.Lens.{put as put_rows, sort_of};
-ghost use Rattle.lens_specs.specs.Predicate.{holds};
-ghost use Rattle.lens_specs.specs.Relation.{Fits};
-ghost use Rattle.lens_specs.specs.Sort as sorts;
-ghost use Rattle.lens_specs.specs.Sort.{IsOfSort, clash, off};
-ghost use Rattle.lens_laws.specs.Lenses.{AreOf};
+ghost use Rattle.lens_specs.specs.Lens.{sort_of};
+ghost use Rattle.lens_specs.specs.Sort.{IsOf};
 ghost use Rattle.request_text.specs.Answers.{answer_view};
-ghost use Rattle.server_specs.specs.Answer as answers;
-ghost use Rattle.server_specs.specs.Changing.{accept, put_answer, put_sent, put_set, unless_clash};
-ghost use Rattle.server_specs.specs.Sending.{rows_in};
+ghost use Rattle.server_specs.specs.Changing as spec;
+ghost use Rattle.server_specs.specs.Changing.{accept, asked_view, change_answer, foretold, settled};
 ghost use Rattle.server_specs.specs.Validity.{Valid};
 ghost use Rattle.server_laws.proofs.Stored.{IsHere};
 ghost use Rattle.signed_delta.specs.Tables.{table_delta};
+ghost use Rattle.lens_server.specs.Asking.{sent_of};
 ghost use Rattle.lens_server.specs.Plans.{IsChange, IsPlan};
 ghost use Rattle.lens_server.specs.States.{state_of};
 
-use crate::differing::differences;
+use crate::differing::{Effect, effect_of};
+use crate::new_view::{Refusal, asked_view};
 use crate::plan::{Plan, Staged};
+use crate::sent::Sent;
 use crate::store::Store;
-use fd_tree::{Clash, Edge, first_clash};
-use lens_pred::Pred;
 use lens_types::TypedLens;
-use lens_values::{Name, NoMemory, Row};
-use request_text::{Answer, Changes, JsonRows, RowList, RowsFault, rows_of};
-use row_sets::{Relation, RowSet};
+use lens_values::{Name, NoMemory};
+use request_text::{Answer, Changes};
+use row_sets::RowSet;
 use signed_delta::TableDelta;
 use std::alloc::Global;
 use table_keeper::Change;
-use whole_put::{Db, put};
+use whole_put::Db;
 
-/// Plans what `put` is answered. A put that rests on a version is not built.
-pub fn plan_put(
+/// Plans what `put` and `edit` are answered.
+pub fn plan_change(
     alloc: Global,
     store: &Store,
     view: &Name,
-    rows: &JsonRows,
+    sent: &Sent,
     on: Option<u64>,
 ) -> Result<Plan, NoMemory>
     requires valid { Valid (state_of store.now) }
     requires room { store.now.version < 2 ^ 64 - 1 }
-    ensures { IfOk result (λ plan.
-        IsPlan plan (put_answer view.now rows.now on (state_of store.now)) store.now) }
+    ensures { IfOk result (λ plan. IsPlan plan
+        (change_answer (sent_of sent.now) on view.now (state_of store.now)) store.now) }
 {
-    if on.is_some() {
-        return Ok(Plan::unchanged(Answer::Unbuilt));
-    }
     match store.catalog.lens(view) {
-        Some(lens) => plan_sent(alloc, store, lens, rows),
+        Some(lens) => plan_asked(alloc, store, lens, sent, on),
         None => Ok(Plan::unchanged(Answer::UnknownName { name: *view })),
     }
 }
 
-/// Plans a put of the rows that were sent.
-fn plan_sent(
+/// Plans a change of the view of a lens.
+fn plan_asked(
     alloc: Global,
     store: &Store,
     lens: &TypedLens,
-    rows: &JsonRows,
+    sent: &Sent,
+    on: Option<u64>,
 ) -> Result<Plan, NoMemory>
     requires valid { Valid (state_of store.now) }
     requires here { IsHere (state_of store.now) lens.now }
     requires room { store.now.version < 2 ^ 64 - 1 }
-    ensures { IfOk result (λ plan.
-        IsPlan plan (put_sent (rows_in (sort_of lens.now).columns rows.now) lens.now
+    ensures { IfOk result (λ plan. IsPlan plan
+        (settled (asked_view (state_of store.now) lens.now (sent_of sent.now) on) lens.now
         (state_of store.now)) store.now) }
 {
-    match rows_of(alloc, lens.sort().cols(), rows) {
-        Ok(rows) => plan_set(alloc, store, lens, rows),
-        Err(RowsFault::BadRow { index, col }) => Ok(Plan::unchanged(Answer::BadRow {
-            list: RowList::Rows,
-            index,
-            col,
-        })),
-        Err(RowsFault::NoMemory) => Err(NoMemory),
+    match asked_view(alloc, store, lens, sent, on) {
+        Ok(rows) => plan_view(alloc, store, lens, rows),
+        Err(Refusal::Told { answer }) => Ok(Plan::unchanged(answer)),
+        Err(Refusal::NoMemory) => Err(NoMemory),
     }
 }
 
-/// Plans a put of a set of rows that fit the columns of the view.
-fn plan_set(alloc: Global, store: &Store, lens: &TypedLens, rows: RowSet) -> Result<Plan, NoMemory>
-    requires valid { Valid (state_of store.now) }
-    requires here { IsHere (state_of store.now) lens.now }
-    requires fit { (row : _) → set.contains rows row ≡ true → Fits (sort_of lens.now).columns row }
-    requires room { store.now.version < 2 ^ 64 - 1 }
-    ensures { IfOk result (λ plan.
-        IsPlan plan (put_set rows lens.now (state_of store.now)) store.now) }
-{
-    match least_refused(lens.sort().pred(), &rows) {
-        Some(row) => Ok(Plan::unchanged(Answer::OffPredicate {
-            row: row.copy(alloc)?,
-        })),
-        None => plan_met(alloc, store, lens, rows),
-    }
-}
-
-/// The least row that the predicate refuses.
-fn least_refused<'a>(pred: &Pred, rows: &'a RowSet) -> Option<&'a Row>
-    ensures { option_copied result ≡ off pred.now rows.now }
-{
-    first_refused(pred, rows.rows())
-}
-
-/// The first row that the predicate refuses.
-fn first_refused<'a>(pred: &Pred, rows: &'a [Row]) -> Option<&'a Row>
-    ensures { option_copied result ≡ find (λ row. not (holds pred.now row)) rows.now }
-{
-    rows.iter().find(|row| !pred.holds(row))
-}
-
-/// Plans a put of rows on which the predicate of the view holds.
-fn plan_met(alloc: Global, store: &Store, lens: &TypedLens, rows: RowSet) -> Result<Plan, NoMemory>
-    requires valid { Valid (state_of store.now) }
-    requires here { IsHere (state_of store.now) lens.now }
-    requires fit { (row : _) → set.contains rows row ≡ true → Fits (sort_of lens.now).columns row }
-    requires met { off (sort_of lens.now).predicate rows ≡ None }
-    requires room { store.now.version < 2 ^ 64 - 1 }
-    ensures { IfOk result (λ plan.
-        IsPlan plan (unless_clash (clash (sort_of lens.now).tree rows) lens.now rows
-        (state_of store.now)) store.now) }
-{
-    let edges = lens.sort().tree().edges();
-    match first_clash(alloc, edges, &rows)? {
-        Some(found) => Ok(Plan::unchanged(clash_answer(alloc, edges, found)?)),
-        None => plan_view(alloc, store, lens, rows),
-    }
-}
-
-/// The answer that two rows clash on the edge at the place.
-fn clash_answer(alloc: Global, edges: &[Edge], found: Clash) -> Result<Answer, NoMemory>
-    requires { found.edge < length edges.now }
-    ensures { IfOk result (λ answer.
-        (edge : _) → edge ≡ slice_index_or edges.now found.edge edge
-        → answer_view answer ≡ answers.clash edge found.first found.second) }
-{
-    Ok(Answer::Clash {
-        edge: edges[found.edge].copy(alloc)?,
-        first: found.first,
-        second: found.second,
-    })
-}
-
-/// Plans a put of rows of the view's sort. Where no table changes, nothing does.
+/// Plans that the rows are the view. Where no table changes, nothing does.
 fn plan_view(alloc: Global, store: &Store, lens: &TypedLens, rows: RowSet) -> Result<Plan, NoMemory>
     requires valid { Valid (state_of store.now) }
     requires here { IsHere (state_of store.now) lens.now }
-    requires fit { (row : _) → set.contains rows row ≡ true → Fits (sort_of lens.now).columns row }
-    requires met { off (sort_of lens.now).predicate rows ≡ None }
-    requires apart { clash (sort_of lens.now).tree rows ≡ None }
+    requires typed { IsOf rows (sort_of lens.now) }
     requires room { store.now.version < 2 ^ 64 - 1 }
     ensures { IfOk result (λ plan.
-        IsPlan plan (accept lens.now rows (changes lens.now rows (state_of store.now).tables)
+        IsPlan plan (accept lens.now rows (changes lens.now rows store.now.tables)
         (state_of store.now)) store.now) }
 {
-    let view = Relation::with_rows(lens.sort().cols().copy(alloc)?, rows);
-    let tables = put(alloc, lens, &view, &store.tables)?;
-    let deltas = differences(alloc, &lens.tables(alloc)?, &store.tables, &tables)?;
+    let Effect { tables, deltas } = effect_of(alloc, store, lens, rows)?;
     if deltas.as_slice().is_empty() {
         return Ok(Plan::unchanged(Answer::Changed {
             changed: Changes::new(deltas),
             version: store.version,
         }));
     }
-    plan_change(alloc, store, tables, deltas)
+    plan_tables(alloc, store, tables, deltas)
 }
 
 /// Plans that the tables become these, which differ so.
-fn plan_change(
+fn plan_tables(
     alloc: Global,
     store: &Store,
     tables: Db,
@@ -202,4 +124,61 @@ fn copies(alloc: Global, deltas: &[TableDelta]) -> Result<Vec<TableDelta>, NoMem
         copies.push(delta.copy(alloc)?)?;
     }
     Ok(copies)
+}
+
+/// What `preview` is answered: what the edit would change.
+pub fn preview_answer(
+    alloc: Global,
+    store: &Store,
+    view: &Name,
+    sent: &Sent,
+    on: Option<u64>,
+) -> Result<Answer, NoMemory>
+    requires { Valid (state_of store.now) }
+    ensures { IfOk result (λ answer. answer_view answer
+        ≡ spec.preview_answer (sent_of sent.now) on view.now (state_of store.now)) }
+{
+    match store.catalog.lens(view) {
+        Some(lens) => foretold(alloc, store, lens, sent, on),
+        None => Ok(Answer::UnknownName { name: *view }),
+    }
+}
+
+/// What a change of the view of a lens would change, or its refusal.
+fn foretold(
+    alloc: Global,
+    store: &Store,
+    lens: &TypedLens,
+    sent: &Sent,
+    on: Option<u64>,
+) -> Result<Answer, NoMemory>
+    requires { IsHere (state_of store.now) lens.now }
+    ensures { IfOk result (λ answer. answer_view answer
+        ≡ foretold (asked_view (state_of store.now) lens.now (sent_of sent.now) on) lens.now
+        (state_of store.now)) }
+{
+    match asked_view(alloc, store, lens, sent, on) {
+        Ok(rows) => changes_told(alloc, store, lens, rows),
+        Err(Refusal::Told { answer }) => Ok(answer),
+        Err(Refusal::NoMemory) => Err(NoMemory),
+    }
+}
+
+/// What would change were the rows the view, at the present version.
+fn changes_told(
+    alloc: Global,
+    store: &Store,
+    lens: &TypedLens,
+    rows: RowSet,
+) -> Result<Answer, NoMemory>
+    requires here { IsHere (state_of store.now) lens.now }
+    requires typed { IsOf rows (sort_of lens.now) }
+    ensures { IfOk result (λ answer. answer_view answer
+        ≡ foretold (Ok rows) lens.now (state_of store.now)) }
+{
+    let Effect { deltas, .. } = effect_of(alloc, store, lens, rows)?;
+    Ok(Answer::Changed {
+        changed: Changes::new(deltas),
+        version: store.version,
+    })
 }

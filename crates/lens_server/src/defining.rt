@@ -72,7 +72,7 @@ fn tables_with(
     match table {
         Some(name) => {
             let columns = prepared.lens().sort().cols().copy(alloc)?;
-            tables.with(alloc, name, &Relation::empty(alloc, columns))
+            tables.with(alloc, name, Relation::empty(alloc, columns))
         }
         None => tables.copy(alloc),
     }

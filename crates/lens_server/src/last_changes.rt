@@ -1,7 +1,7 @@
 //! The version that changed each table last.
 ghost use Rattle.std.specs.Prelude.{◌≡◌, IfOk, OnErr, OnOk, map};
 ghost use Rattle.std.specs.FinMap as finmap;
-ghost use Rattle.server_specs.specs.Changing.{with_last};
+ghost use Rattle.server_specs.specs.Changing.{last_change, latest, with_last};
 ghost use Rattle.signed_delta.specs.Tables.{table_delta};
 
 use lens_values::{Name, NoMemory};
@@ -74,6 +74,27 @@ impl LastChanges {
             copy.set(table, *version)?;
         }
         Ok(copy)
+    }
+
+    /// The greatest version that changed one of these tables last, or 0.
+    pub fn latest(&self, tables: &[Name]) -> u64
+        ensures { result ≡ latest self.now tables.now }
+    {
+        let mut latest = 0;
+        for table in tables {
+            latest = latest.max(self.last_change(table));
+        }
+        latest
+    }
+
+    // The version that changed the table last, or 0.
+    fn last_change(&self, table: &Name) -> u64
+        ensures { result ≡ last_change self.now table.now }
+    {
+        match self.versions.get(table) {
+            Some(version) => *version,
+            None => 0,
+        }
     }
 
     // The version changed the table.

@@ -25,7 +25,6 @@ pub fn refusal(fault: CatalogFault) -> Result<Answer, NoMemory>
         CatalogFault::NameTaken { name } => Ok(Answer::NameTaken { name }),
         CatalogFault::UnknownName { name } => Ok(Answer::UnknownName { name }),
         CatalogFault::Rule { fault } => Ok(rule_refusal(fault)),
-        CatalogFault::Unbuilt => Ok(Answer::Unbuilt),
         CatalogFault::NoMemory => Err(NoMemory),
     }
 }

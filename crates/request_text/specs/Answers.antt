@@ -9,7 +9,7 @@ use Rattle.view_lang.specs.declared.definition.Side.TheVariants.{Left, Right}
 use Rattle.view_lang.specs.declared.definition.Limit.{Limit}
 use Rattle.view_lang.specs.declared.definition.Limit.TheVariants.{Columns, Lens, Predicate as PredicateNodes, Nesting, Tables, Views}
 use Rattle.request_text.specs.declared.answer.Answer.{Answer}
-use Rattle.request_text.specs.declared.answer.Answer.TheVariants.{Defined, Shown, Changed, Described, Listed, Memory, TooLong, NotJson, BadRequest, Syntax, NameTaken, UnknownName, UnknownColumn, KindClash, NotTree, PredKind, SourceMentionsOutput, NoSuchDependency, MixedConjunct, DefaultRefused, NotDetermined, SideMentionsOutput, TableTwice, TooLarge, BadRow, Stale, OffPredicate, Clash, StoreFault, Unbuilt}
+use Rattle.request_text.specs.declared.answer.Answer.TheVariants.{Defined, Shown, Changed, Described, Listed, Memory, TooLong, NotJson, BadRequest, Syntax, NameTaken, UnknownName, UnknownColumn, KindClash, NotTree, PredKind, SourceMentionsOutput, NoSuchDependency, MixedConjunct, DefaultRefused, NotDetermined, SideMentionsOutput, TableTwice, TooLarge, BadRow, Stale, OffPredicate, Clash, StoreFault}
 use Rattle.request_text.specs.declared.answer.RowList.{RowList}
 use Rattle.request_text.specs.declared.answer.RowList.TheVariants.{Rows, Remove, Add}
 
@@ -68,4 +68,3 @@ answer_view (Stale changed_at version) = spec.stale changed_at version
 answer_view (OffPredicate row) = spec.off_predicate row
 answer_view (Clash edge first second) = spec.clash edge first second
 answer_view StoreFault = spec.store_fault
-answer_view Unbuilt = spec.unbuilt

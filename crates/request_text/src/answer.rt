@@ -14,9 +14,7 @@ use crate::definitions::defined_text;
 use crate::lists::{Changes, Edges, Texts};
 use crate::member::Member;
 use crate::questions::{described_text, listed_text, shown_text};
-use crate::reply::{
-    Reply, long_reply, memory_reply, not_json_reply, store_fault_reply, unbuilt_reply,
-};
+use crate::reply::{Reply, long_reply, memory_reply, not_json_reply, store_fault_reply};
 use crate::request_errors::{
     bad_request_text, bad_row_text, clash_text, off_predicate_text, stale_text,
 };
@@ -50,7 +48,8 @@ pub enum Answer {
         rows: RowSet,
         version: u64,
     },
-    /// What a put changed, and the version after it.
+    /// What a put or an edit changed, and the version after it; or what a preview would change, and
+    /// the version now.
     Changed {
         changed: Changes,
         version: u64,
@@ -148,18 +147,18 @@ pub enum Answer {
         index: usize,
         col: Member,
     },
-    /// The change rests on a version before the last change of the view's tables; that version, and
-    /// the one now.
+    /// The change rests on a version before the last change of the view's tables, or on one that is
+    /// yet to come; the version of that last change, and the one now.
     Stale {
         changed_at: u64,
         version: u64,
     },
-    /// The least of the sent rows that the view's predicate refuses.
+    /// The least row of the new view that the view's predicate refuses.
     OffPredicate {
         row: Row,
     },
-    /// The first dependency that the sent rows break, and the least two rows that break it, in
-    /// order.
+    /// The first dependency that the rows of the new view break, and the least two rows that break
+    /// it, in order.
     Clash {
         edge: Edge,
         first: Row,
@@ -167,8 +166,6 @@ pub enum Answer {
     },
     /// The store failed.
     StoreFault,
-    /// What was asked for is not built yet.
-    Unbuilt,
 }
 
 /// The line of an answer, or `NoMemory`.
@@ -228,6 +225,5 @@ pub fn reply_text(alloc: Global, answer: &Answer) -> Result<Reply, NoMemory>
             second,
         } => clash_text(alloc, edge, first, second),
         Answer::StoreFault => Ok(store_fault_reply()),
-        Answer::Unbuilt => Ok(unbuilt_reply()),
     }
 }

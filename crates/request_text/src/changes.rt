@@ -71,7 +71,7 @@ fn both_in(mut members: Map<String, Json>) -> Option<(JsonRows, JsonRows)>
     Some((remove, add))
 }
 
-/// The line of a put that made these changes, with the version after it.
+/// The line that tells these changes, and the version.
 pub(crate) fn changed_text(
     alloc: Global,
     changed: &[TableDelta],

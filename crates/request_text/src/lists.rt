@@ -9,8 +9,8 @@ use serde_json::Value as Json;
 use signed_delta::TableDelta;
 use std::marker::Model;
 
-/// The differences of the tables that a put changed. A contract sees them as the definitions speak
-/// of them.
+/// The differences of the tables that are changed. A contract sees them as the definitions speak of
+/// them.
 #[derive(Debug, Drop)]
 pub struct Changes {
     list: Vec<TableDelta>,

@@ -1,6 +1,6 @@
 //! Reply lines.
 ghost use Rattle.std.specs.Prelude.{◌≡◌, codes};
-ghost use Rattle.server_specs.specs.Answer.{long_line, memory, not_json, store_fault, text, unbuilt};
+ghost use Rattle.server_specs.specs.Answer.{long_line, memory, not_json, store_fault, text};
 
 use std::marker::Model;
 
@@ -79,14 +79,5 @@ pub fn store_fault_reply() -> Reply
 {
     Reply {
         source: Source::Fixed(b"{\"error\":90,\"ok\":false}\n"),
-    }
-}
-
-/// The reply to what is not built yet. It takes no memory.
-pub(crate) fn unbuilt_reply() -> Reply
-    ensures { result ≡ text unbuilt }
-{
-    Reply {
-        source: Source::Fixed(b"{\"error\":99,\"ok\":false}\n"),
     }
 }

@@ -29,13 +29,13 @@ pub enum Request {
     Read {
         view: Name,
     },
-    /// To make these rows the rows of a view, where the version is this one.
+    /// To make these rows the rows of a view. The change may rest on a version.
     Put {
         view: Name,
         rows: JsonRows,
         on: Option<u64>,
     },
-    /// To change the rows of a view, where the version is this one.
+    /// To remove rows of a view and to add others. The change may rest on a version.
     Edit {
         view: Name,
         remove: JsonRows,
@@ -53,7 +53,7 @@ pub enum Request {
     Describe {
         view: Name,
     },
-    /// To show the names of tables and views.
+    /// To show the definitions.
     List,
 }
 

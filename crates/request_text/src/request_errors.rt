@@ -43,7 +43,7 @@ pub(crate) fn bad_row_text(
     ended(out)
 }
 
-/// The line that refuses a change that rests on an older version: the last change of the view's
+/// The line that refuses a change for the version that it rests on: the last change of the view's
 /// tables, and the version now.
 pub(crate) fn stale_text(alloc: Global, changed_at: u64, version: u64) -> Result<Reply, NoMemory>
     ensures { IfOk result (λ reply. reply ≡ spec.text (spec.stale changed_at version)) }

@@ -43,9 +43,6 @@ least_pairs e M r s p q a b = one_pair r s p q (a.least p q b.clash) (b.least r 
 met_no_clash : (e : Edge) (M : Rows) (r s : Row) → Meets M e.left e.right → IsClash e M r s → ⊥
 met_no_clash e M r s h c = true≢false (sym (h r s c.first c.second c.left) ∙ c.right)
 
-met_front : (M : Rows) (T : List Edge) (e : Edge) (es : List Edge) → T ≡ e ∷ es → MeetsTree M T → Meets M e.left e.right
-met_front M T e es is h = (subst (MeetsTree M) is h).0
-
 -- rows that meet the tree have no clash with it
 met_not_first : (M : Rows) (before : List Edge) (e : Edge) (after : List Edge) (r s : Row) → MeetsTree M (before ++ e ∷ after) → IsClash e M r s → ⊥
 met_not_first M [] e after r s h c = met_no_clash e M r s h.0 c

@@ -1,17 +1,20 @@
--- Definitions that are taken or refused, and what a new name shows.
-use Rattle.std.proofs.Common.{◌≡◌, ◌+◌, ℕ, true, false, cond, List, Option, Some, None, Result, Ok, Err, is_some, refl, sym, ap, subst, ◌∙◌}
+-- Definitions that are taken or refused, what a new name shows, and what stays.
+use Rattle.std.proofs.Common.{◌≡◌, ◌+◌, ℕ, true, false, cond, List, Option, Some, None, Result, Ok, Err, is_some, inl, inr, refl, sym, ap, subst, ◌∙◌}
 use Rattle.std.specs.Prelude.{◌↔◌}
+use Rattle.std.proofs.lemmas.Bool.{or_cases, true≢false}
 use Rattle.std.specs.FinMap as finmap
-use Rattle.serde_json.specs.Data.{Items}
+use Rattle.std.specs.Ordering.{eq_by_cmp}
+use Rattle.lens_values.specs.Order.{bytes_cmp}
 use Rattle.lens_values.specs.SortedSet as set
-use Rattle.lens_values.specs.declared.row.Row.{Row}
-use Rattle.fd_laws.proofs.Names.{name_total, name_itself}
+use Rattle.fd_laws.proofs.Lists.{false_from}
+use Rattle.fd_laws.proofs.Names.{name_total, name_itself, tied_name, one_is}
+use Rattle.lens_laws.proofs.Lenses.{get_same}
 use Rattle.lens_specs.specs.Names.{Name}
 use Rattle.lens_specs.specs.Columns.{Columns}
 use Rattle.lens_specs.specs.Relation.{Relation}
 use Rattle.lens_specs.specs.Dependencies.{Edge}
 use Rattle.lens_specs.specs.Predicate.{Predicate}
-use Rattle.lens_specs.specs.Lens.{Tables, Lens, sort_of, get, rows_or_none}
+use Rattle.lens_specs.specs.Lens.{Tables, Lens, base, select, drop, join, get, tables_of, rows_or_none}
 use Rattle.lens_specs.specs.Typing.{table_sort}
 use Rattle.io_specs.specs.Lines.{Line}
 use Rattle.grammar_specs.specs.Meaning.{Definition, table, view, Expr}
@@ -19,20 +22,21 @@ use Rattle.grammar_specs.specs.Faults.{Fault}
 use Rattle.grammar_laws.specs.Reading.{reading}
 use Rattle.catalog_specs.specs.Catalogue.{Catalogue, catalogue, lens_of, table_lens, with_lens}
 use Rattle.catalog_specs.specs.Judging as judging
-use Rattle.catalog_specs.specs.Judging.{CatalogFault, language, is_taken, where_sorted, lens_in, where_lensed, is_unbuilt, judged}
+use Rattle.catalog_specs.specs.Judging.{CatalogFault, language, is_taken, where_sorted, lens_in, where_lensed, judged}
 use Rattle.server_specs.specs.State.{State}
 use Rattle.server_specs.specs.Answer.{Answer, defined, shown, name_taken}
 use Rattle.server_specs.specs.Request.{Request, define, read, put, edit, preview, describe, list, request}
-use Rattle.server_specs.specs.Sending.{BadRow, rows_in}
-use Rattle.server_specs.specs.Defining.{text_answer, fault_answer}
-use Rattle.server_specs.specs.Defining.{answer_definition, with_defined}
-use Rattle.server_specs.specs.Changing.{answer_put, put_sent}
+use Rattle.server_specs.specs.Defining.{text_answer, fault_answer, answer_definition, with_defined}
+use Rattle.server_specs.specs.Changing.{Sent, whole, edited, changed_at, asked_view, changed_by}
 use Rattle.server_specs.specs.Answering.{answer, answer_request}
-use Rattle.server_laws.specs.Answers.{told_version}
+use Rattle.server_specs.specs.Validity.{IsStored, Valid}
+use Rattle.server_laws.specs.Answers.{IsChange}
 use Rattle.server_laws.specs.DefineLaws.{judgement, defined_name}
-use Rattle.server_laws.proofs.AnswerFacts.{plain_fault}
-use Rattle.server_laws.proofs.LinePuts.{lines_read, put_texts}
-use Rattle.server_laws.proofs.Taken.{judged_ok, get-new, get-other, not_free, lens_is}
+use Rattle.server_laws.proofs.AnswerFacts.{fault_refuses}
+use Rattle.server_laws.proofs.Changes.{lines_read, texts_settled}
+use Rattle.server_laws.proofs.Stale.{latest_same}
+use Rattle.server_laws.proofs.Stored.{lens_here}
+use Rattle.server_laws.proofs.Taken.{BasesAre, judged_ok, get-new, get-other, not_free, lens_is}
 use Rattle.server_laws.proofs.Valid.{known_after}
 
 -- ---- the answer to a definition
@@ -56,10 +60,7 @@ faults_told s l text fault asked is = refused_stays s l text (language fault) as
 
 taken_from : (s : State) (text : List ℕ) (r : Result Definition CatalogFault) → judgement s text ≡ r → (answer_definition text r s).0 ≡ defined (s.version + 1) → (d : Definition) × (judgement s text ≡ Ok d)
 taken_from s text (Ok d) is e = (d, is)
-taken_from s text (Err fault) is e =
-    let none : told_version (fault_answer fault) ≡ None = (plain_fault fault).told in
-    let some : told_version (fault_answer fault) ≡ Some (s.version + 1) = ap told_version e in
-    cc
+taken_from s text (Err fault) is e = absurd ((fault_refuses s fault).change (subst IsChange (sym e) tt))
 
 pub taken_where : (s : State) (l : Line) (text : List ℕ) → request l ≡ Ok (define text) → ((answer s l).0 ≡ defined (s.version + 1)) ↔ ((d : Definition) × (judgement s text ≡ Ok d))
 taken_where s l text asked = (
@@ -71,8 +72,7 @@ taken_where s l text asked = (
 
 twice : (known : Catalogue) (d : Definition) → is_taken known (defined_name d) ≡ true → judged known (Ok d) ≡ Err (judging.name_taken (defined_name d))
 twice known (table name columns deps P) h = ap (λ b. cond b (Err (judging.name_taken name)) (where_sorted (table_sort columns deps P) known (table name columns deps P))) h
-twice known (view name expr) h =
-    ap (λ b. cond b (Err (judging.name_taken name)) (cond (is_unbuilt known expr) (Err judging.unbuilt) (where_lensed (lens_in known expr) known (view name expr)))) h
+twice known (view name expr) h = ap (λ b. cond b (Err (judging.name_taken name)) (where_lensed (lens_in known expr) known (view name expr))) h
 
 pub taken_once : (s : State) (l : Line) (text : List ℕ) (d : Definition) (L : Lens) → request l ≡ Ok (define text) → reading text ≡ Ok d → finmap.get (catalogue s.texts) (defined_name d) ≡ Some L
     → answer s l ≡ (name_taken (defined_name d), s)
@@ -121,7 +121,7 @@ views_show s l m text name expr asked j again =
 -- ---- names keep their lenses
 
 -- the name has the lens in the catalogue of the state
-abbrev Has : State → Name → Lens → Type 0
+abbrev pub Has : State → Name → Lens → Type 0
 Has s name L = finmap.get (catalogue s.texts) name ≡ Some L
 
 -- a name that is taken has its lens beside one more that is new
@@ -141,21 +141,16 @@ stays_definition : (s : State) (text : List ℕ) (r : Result Definition CatalogF
 stays_definition s text (Err fault) j name L e = e
 stays_definition s text (Ok d) j name L e = stays_defined s text d j name L e
 
-stays_sent : (s : State) (r : Result (List Row) BadRow) (M : Lens) (name : Name) (L : Lens) → Has s name L → Has (put_sent r M s).1 name L
-stays_sent s (Err bad) M name L e = e
-stays_sent s (Ok rows) M name L e = ap (λ texts. finmap.get (catalogue texts) name) (put_texts (set.from_list rows) M s) ∙ e
-
-stays_put : (s : State) (at : Name) (items : Items) (o : Option Lens) (name : Name) (L : Lens) → Has s name L → Has (answer_put at items o s).1 name L
-stays_put s at items None name L e = e
-stays_put s at items (Some M) name L e = stays_sent s (rows_in (sort_of M).columns items) M name L e
+stays_changed : (s : State) (sent : Sent) (on : Option ℕ) (at : Name) (o : Option Lens) (name : Name) (L : Lens) → Has s name L → Has (changed_by sent on at o s).1 name L
+stays_changed s sent on at None name L e = e
+stays_changed s sent on at (Some M) name L e = ap (λ texts. finmap.get (catalogue texts) name) (texts_settled (asked_view s M sent on) M s) ∙ e
 
 stays_request : (s : State) (r : Result Request Answer) (name : Name) (L : Lens) → Has s name L → Has (answer_request r s).1 name L
 stays_request s (Err refusal) name L e = e
 stays_request s (Ok (define text)) name L e = stays_definition s text (judgement s text) refl name L e
 stays_request s (Ok (read at)) name L e = e
-stays_request s (Ok (put at items None)) name L e = stays_put s at items (finmap.get (catalogue s.texts) at) name L e
-stays_request s (Ok (put at items (Some on))) name L e = e
-stays_request s (Ok (edit at remove add on)) name L e = e
+stays_request s (Ok (put at rows on)) name L e = stays_changed s (whole rows) on at (finmap.get (catalogue s.texts) at) name L e
+stays_request s (Ok (edit at remove add on)) name L e = stays_changed s (edited remove add) on at (finmap.get (catalogue s.texts) at) name L e
 stays_request s (Ok (preview at remove add on)) name L e = e
 stays_request s (Ok (describe at)) name L e = e
 stays_request s (Ok list) name L e = e
@@ -163,3 +158,60 @@ stays_request s (Ok list) name L e = e
 pub lenses_stay : (s : State) (l : Line) (name : Name) (L : Lens) → Has s name L → Has (answer s l).1 name L
 unfolding answer
 lenses_stay s l name L e = stays_request s (request l) name L e
+
+-- ---- what a definition leaves
+
+-- the tables under a lens are in the catalogue
+bases_there : (known : Catalogue) (L : Lens) → BasesAre known L → (q : Name) → set.contains (tables_of L) q ≡ true → is_some (finmap.get known q) ≡ true
+unfolding tables_of
+bases_there known (base t s) b q i = ap (λ n. is_some (finmap.get known n)) (one_is t q i) ∙ ap is_some b
+bases_there known (select P C) b q i = bases_there known C b q i
+bases_there known (drop A X a C) b q i = bases_there known C b q i
+bases_there known (join A B) b q i = elim (or_cases _ _ (sym (set.contains-union name_total (tables_of A) (tables_of B) q) ∙ i)) [
+  | inl j ↦ bases_there known A b.0 q j
+  | inr j ↦ bases_there known B b.1 q j
+]
+
+-- a table that is there is in the catalogue
+stored_there : (q : Name) (o : Option Lens) (r : Option Relation) → IsStored q o r → is_some r ≡ true → is_some o ≡ true
+stored_there q None r h i = absurd (true≢false (sym i ∙ ap is_some h))
+stored_there q (Some L) r h i = refl
+
+-- a name that has a lens is another than one that is free
+other : (known : Catalogue) (name q : Name) → is_taken known name ≡ false → is_some (finmap.get known q) ≡ true → eq_by_cmp bytes_cmp q name ≡ false
+other known name q free h = false_from _ (λ is. absurd (true≢false (sym h ∙ ap (λ n. is_some (finmap.get known n)) (tied_name q name is) ∙ free)))
+
+-- what is under other names stays
+left_alone : {X : Type 0} (m : finmap.FinMap bytes_cmp X) (name : Name) (x : X) (q : Name) → eq_by_cmp bytes_cmp q name ≡ false → finmap.get (finmap.insert m name x) q ≡ finmap.get m q
+left_alone m name x q o = finmap.get-insert name_total m name x q ∙ ap (λ b. cond b (Some x) (finmap.get m q)) o
+
+-- each name that has a lens has its table and its last change, if any, as before
+record Leaves (s t : State) : Type 0 where
+  tables : (q : Name) → is_some (finmap.get (catalogue s.texts) q) ≡ true → finmap.get t.tables q ≡ finmap.get s.tables q
+  last : (q : Name) → is_some (finmap.get (catalogue s.texts) q) ≡ true → finmap.get t.last q ≡ finmap.get s.last q
+
+leaves_definition : (s : State) (text : List ℕ) (r : Result Definition CatalogFault) → judgement s text ≡ r → Leaves s (answer_definition text r s).1
+leaves_definition s text (Err fault) j = record { tables = λ q h. refl; last = λ q h. refl }
+leaves_definition s text (Ok (view name expr)) j = record { tables = λ q h. refl; last = λ q h. refl }
+leaves_definition s text (Ok (table name columns deps P)) j =
+    let free = (judged_ok (catalogue s.texts) (reading text) (table name columns deps P) j).1.0 in
+    record {
+      tables = λ q h. left_alone s.tables name (record { columns = columns; rows = set.empty }) q (other (catalogue s.texts) name q free h);
+      last = λ q h. left_alone s.last name (s.version + 1) q (other (catalogue s.texts) name q free h);
+    }
+
+leaves : (s : State) (l : Line) (text : List ℕ) → request l ≡ Ok (define text) → Leaves s (answer s l).1
+leaves s l text asked = subst (λ r. Leaves s r.1) (sym (answer_is s l text (judgement s text) asked refl)) (leaves_definition s text (judgement s text) refl)
+
+pub tables_left : (s : State) → Valid s → (l : Line) (text : List ℕ) → request l ≡ Ok (define text) → (t : Name) → is_some (finmap.get s.tables t) ≡ true → finmap.get (answer s l).1.tables t ≡ finmap.get s.tables t
+tables_left s v l text asked t h = (leaves s l text asked).tables t (stored_there t (finmap.get (catalogue s.texts) t) (finmap.get s.tables t) (v.tables t) h)
+
+pub views_left : (s : State) → Valid s → (l : Line) (text : List ℕ) → request l ≡ Ok (define text) → (name : Name) (L : Lens) → finmap.get (catalogue s.texts) name ≡ Some L
+    → (get L (answer s l).1.tables ≡ get L s.tables) × (changed_at (answer s l).1 L ≡ changed_at s L)
+views_left s v l text asked name L e =
+    let w = leaves s l text asked in
+    let bases = (lens_here s v name L e).known.bases in
+    let there : (q : Name) → set.contains (tables_of L) q ≡ true → is_some (finmap.get (catalogue s.texts) q) ≡ true = bases_there (catalogue s.texts) L bases in (
+      get_same L s.tables (answer s l).1.tables (λ q i. w.tables q (there q i)),
+      latest_same (answer s l).1.last s.last (set.items (tables_of L)) (λ q i. w.last q (there q (set.contains-items (tables_of L) q ∙ i))),
+    )

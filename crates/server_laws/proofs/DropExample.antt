@@ -1,9 +1,8 @@
 -- A state with a table and a drop of a selection of it, and a put that changes it.
 use Rattle.std.proofs.Common.{◌≡◌, ◌+◌, ℕ, Bool, true, false, cond, not, ◌||◌, ◌&&◌, List, [], ◌∷◌, Option, Some, None, option_map, is_some, Result, Ok, Err, refl, sym, ap, subst, ◌∙◌}
-use Rattle.std.proofs.lemmas.Bool.{true≢false, and_parts}
-use Rattle.std.specs.Prelude.{◌-◌, codes, pos, nat_le, nat_eq}
-use Rattle.std.specs.List.{find, list_any}
-use Rattle.std.specs.List.Sorted.{IsStrictlySortedBy}
+use Rattle.std.proofs.lemmas.Bool.{true≢false}
+use Rattle.std.specs.Prelude.{◌-◌, codes, pos, nat_le}
+use Rattle.std.specs.List.{find}
 use Rattle.std.specs.FinMap as finmap
 use Rattle.std.specs.FinMap.Entries as listed
 use Rattle.std.specs.Ordering.{eq_by_cmp}
@@ -16,19 +15,18 @@ use Rattle.lens_values.specs.declared.value.Kind.TheVariants as kind
 use Rattle.lens_values.specs.declared.value.Value.TheVariants.{Int}
 use Rattle.lens_values.proofs.FitsLemmas.{fits_same}
 use Rattle.lens_values.proofs.ValueLemmas.{int_fits}
-use Rattle.fd_laws.proofs.Closures.{closure_is}
 use Rattle.fd_laws.proofs.Columns.{names-get, get-without}
-use Rattle.fd_laws.proofs.Lists.{both_ways, false_from, absurd_false}
-use Rattle.fd_laws.proofs.Names.{name_total, name_exact, name_itself, tied_name, one_is, one_itself, in_rest, from_rest, subset_from}
+use Rattle.fd_laws.proofs.Lists.{false_from, absurd_false}
+use Rattle.fd_laws.proofs.Names.{name_total, name_itself, tied_name, one_itself, subset_from}
 use Rattle.fd_laws.proofs.Relations.{from_those, from_project}
 use Rattle.fd_laws.proofs.Rows.{row_total, tied_row, row_itself, agree_itself}
 use Rattle.lens_laws.proofs.Sorts.{none_clash, none_off}
-use Rattle.lens_specs.specs.Names.{Name, Within, one, same_names, share}
+use Rattle.lens_specs.specs.Names.{Name, one, same_names}
 use Rattle.lens_specs.specs.Rows.{agree}
 use Rattle.lens_specs.specs.Columns.{Columns, Fits, fits_at, names, least_outside, without_column}
 use Rattle.lens_specs.specs.Relation.{Rows, Relation, has, those}
-use Rattle.lens_specs.specs.Dependencies.{Edge, edge, closure, MeetsTree}
-use Rattle.lens_specs.specs.TreeForm.{TreeForm, is_tree, narrowed_by, reduce_edge, with_right, kept_edge, is_free, stuck, put_first, checked, tree_of, outputs}
+use Rattle.lens_specs.specs.Dependencies.{Edge, MeetsTree}
+use Rattle.lens_specs.specs.TreeForm.{TreeForm, tree_of, outputs}
 use Rattle.lens_specs.specs.Predicate.{gt, compare, Predicate, holds, compared}
 use Rattle.lens_specs.specs.Sort.{Sort}
 use Rattle.lens_specs.specs.Refusal.{Refusal, unknown_column, kind_clash, predicate_kind, source_mentions_output, no_such_dependency, or_else, or_name, when, unless as or_unlike, too_large, columns_limit, tables_limit, views_limit, unknown_name, unlike_kinds, least_mentioned}
@@ -40,78 +38,18 @@ use Rattle.grammar_specs.specs.Meaning.{Expr, named, Definition, table, view}
 use Rattle.grammar_specs.specs.Faults as faults
 use Rattle.grammar_laws.specs.Reading.{reading}
 use Rattle.catalog_specs.specs.Catalogue.{Catalogue, catalogue, sort_with, table_lens, is_table_of, with_definition, with_lens}
-use Rattle.catalog_specs.specs.Judging.{name_taken, unbuilt, is_taken, count_named, view_count, is_other, unless_full, where_sorted, lens_named, over, where_typed, lens_in, where_lensed, judged}
+use Rattle.catalog_specs.specs.Judging.{name_taken, is_taken, count_named, view_count, unless_full, where_sorted, lens_named, over, where_typed, lens_in, where_lensed, judged}
 use Rattle.server_specs.specs.State.{State, fresh}
 use Rattle.server_specs.specs.Defining.{with_defined}
-use Rattle.server_specs.specs.Changing.{put_set}
 use Rattle.server_specs.specs.Validity.{Valid}
 use Rattle.server_laws.proofs.Example.{no_entries, no_tables, is_free as is_free_name, both, nothing_mentioned}
+use Rattle.server_laws.proofs.OneEdge.{a, b, e, other, b_alone, items_one, form}
 use Rattle.server_laws.proofs.Puts.{accepted_where}
 use Rattle.server_laws.proofs.Taken.{judged_ok, get-new, get-other}
-use Rattle.server_laws.proofs.Valid.{fresh_is_valid, known_after, valid_taken, of_lens}
+use Rattle.server_laws.proofs.Valid.{fresh_is_valid, known_after, valid_taken}
 use Rattle.server_laws.specs.Answers.{IsAccepted}
-use Rattle.server_laws.specs.PutLaws.{AllFit, IsPut}
+use Rattle.server_laws.specs.PutLaws.{AllFit, IsPut, put_set}
 use Rattle.server_laws.specs.Witness.{DropsCanChange}
-
--- ---- the tree of one dependency
-
-abbrev a : Name
-a = codes "a"
-
-abbrev b : Name
-b = codes "b"
-
--- a determines b
-abbrev e : Edge
-e = edge (one a) (one b)
-
-other : a ≡ b → ⊥
-other h = true≢false (sym (name_itself a) ∙ ap (eq_by_cmp bytes_cmp a) h)
-
-a_alone : set.contains (one b) a ≡ false
-a_alone = false_from _ (λ i. other (one_is b a i))
-
-b_alone : set.contains (one a) b ≡ false
-b_alone = false_from _ (λ i. other (sym (one_is a b i)))
-
-items_one : (n : Name) → set.items (one n) ≡ n ∷ []
-unfolding IsStrictlySortedBy
-items_one n = set.items-from_list name_total (n ∷ []) (tt, tt)
-
-len_one : set.len (one b) ≡ 1
-unfolding set.len set.insert set.empty
-len_one = finmap.len-insert name_total (finmap.empty {X = Unit {0}} {R = bytes_cmp}) b tt
-    ∙ ap (λ o. cond (is_some o) (finmap.len (finmap.empty {X = Unit {0}} {R = bytes_cmp})) (finmap.len (finmap.empty {X = Unit {0}} {R = bytes_cmp}) + 1)) (finmap.get-empty bytes_cmp b)
-    ∙ ap (λ n. n + 1) (finmap.len-empty bytes_cmp (Unit {0}))
-
-rest_is : set.difference (one b) (one a) ≡ one b
-rest_is = set.same_set name_total name_exact _ _ (λ q. both_ways _ _ (λ i. (from_rest (one b) (one a) q i).0) (λ i. in_rest (one b) (one a) q i (ap (set.contains (one a)) (one_is b q i) ∙ b_alone)))
-
--- without b on its right side, the edge determines nothing
-nothing_else : Within (set.remove (one b) b) (one a)
-nothing_else c i =
-    let w = and_parts _ _ (sym (set.contains-remove name_total (one b) b c) ∙ i) in
-    absurd (true≢false (sym w.0 ∙ ap (λ n. not (eq_by_cmp bytes_cmp n b)) (one_is b c w.1) ∙ ap not (name_itself b)))
-
-not_implied : set.contains (closure (one a) (narrowed_by e b ∷ [])) b ≡ false
-not_implied = false_from _ (λ i. absurd_false _ ((closure_is (one a) (narrowed_by e b ∷ [])).least (one a) (λ c j. j) ((λ w. nothing_else), tt) b i) b_alone)
-
-unshared : share (one a) (one b) ≡ false
-unshared = ap (list_any (set.contains (one b))) (items_one a) ∙ ap (λ s. s || false) a_alone
-
-free : is_free (e ∷ []) e ≡ true
-free = ap (λ s. elim (cond s (Some e) None) as (λ _. Bool) [ None ↦ true | Some k ↦ false ]) unshared
-
-ordered_one : checked (e ∷ []) ≡ is_tree (e ∷ [])
-ordered_one = ap (λ f. elim (cond f (Some e) None) as (λ _. TreeForm) [ None ↦ stuck (e ∷ []) | Some k ↦ put_first k (is_tree []) ]) free
-
-form : tree_of (e ∷ []) ≡ is_tree (e ∷ [])
-unfolding tree_of
-form = ap (λ R. checked (with_right (reduce_edge [] (edge (one a) R) (set.items R) [] ∷ []))) rest_is
-    ∙ ap (λ ns. checked (with_right (reduce_edge [] e ns [] ∷ []))) (items_one b)
-    ∙ ap (λ c. checked (with_right (cond c (narrowed_by e b) e ∷ []))) not_implied
-    ∙ ap (λ n. checked (kept_edge (nat_eq n 0) e [])) len_one
-    ∙ ordered_one
 
 -- ---- the definitions
 
@@ -261,8 +199,8 @@ second_free = ap is_some (get-other none t T d refl) ∙ is_free_name d
 
 second_taken_of : judged known (Ok second) ≡ Ok second
 second_taken_of =
-    ap (λ x. cond x (Err (name_taken d)) (cond (is_other t (finmap.get known t)) (Err unbuilt) (where_lensed (lens_in known expr) known second))) second_free
-    ∙ ap (λ o. cond (is_other t o) (Err unbuilt) (where_lensed (over (drop b (one a) (Int (pos 0))) (over (select P) (lens_named t o))) known second)) (get-new none t T)
+    ap (λ x. cond x (Err (name_taken d)) (where_lensed (lens_in known expr) known second)) second_free
+    ∙ ap (λ o. where_lensed (over (drop b (one a) (Int (pos 0))) (over (select P) (lens_named t o))) known second) (get-new none t T)
     ∙ ap (λ r. where_lensed (over (drop b (one a) (Int (pos 0))) (where_typed (select P T) r)) known second) selection_sort
     ∙ ap (λ r. where_lensed (where_typed V r) known second) has_sort
     ∙ ap (λ n. unless_full (nat_le 256 n) views_limit second) no_views
@@ -342,8 +280,8 @@ meets_alone (k ∷ ks) = (
 )
 
 accepted : IsAccepted (put_set N V state).0
-accepted = (accepted_where state d V N rows_put).1
-    (of_lens V N all_fit (none_off P N (λ r i. ap (holds P) (only r i) ∙ row_holds)) (none_clash (sort_of V).tree N (meets_alone (sort_of V).tree)))
+accepted = (accepted_where V N state all_fit).1
+    (record { columns = all_fit; off = none_off P N (λ r i. ap (holds P) (only r i) ∙ row_holds); clash = none_clash (sort_of V).tree N (meets_alone (sort_of V).tree) })
 
 no_rows : (r : Row) → has (rows_of_table state.tables t) r ≡ false
 no_rows r =

@@ -35,16 +35,15 @@ use Rattle.grammar_specs.specs.Meaning as language
 use Rattle.grammar_specs.specs.Faults as faults
 use Rattle.grammar_laws.specs.Reading.{reading}
 use Rattle.catalog_specs.specs.Catalogue.{Catalogue, catalogue, sort_with, table_lens, is_table_of, with_definition, with_lens}
-use Rattle.catalog_specs.specs.Judging.{name_taken, unbuilt, is_taken, count_named, table_count, view_count, is_other, unless_full, where_sorted, lens_named, over, where_typed, lens_in, where_lensed, judged}
+use Rattle.catalog_specs.specs.Judging.{name_taken, is_taken, count_named, table_count, view_count, unless_full, where_sorted, lens_named, over, where_typed, lens_in, where_lensed, judged}
 use Rattle.server_specs.specs.State.{State, fresh}
 use Rattle.server_specs.specs.Defining.{with_defined}
-use Rattle.server_specs.specs.Changing.{put_set}
 use Rattle.server_specs.specs.Validity.{Valid}
 use Rattle.server_laws.proofs.Puts.{accepted_where}
 use Rattle.server_laws.proofs.Taken.{judged_ok, get-new, get-other}
-use Rattle.server_laws.proofs.Valid.{fresh_is_valid, known_after, valid_taken, of_lens}
+use Rattle.server_laws.proofs.Valid.{fresh_is_valid, known_after, valid_taken}
 use Rattle.server_laws.specs.Answers.{IsAccepted}
-use Rattle.server_laws.specs.PutLaws.{AllFit, IsPut}
+use Rattle.server_laws.specs.PutLaws.{AllFit, IsPut, put_set}
 use Rattle.server_laws.specs.Witness.{PutsCanChange}
 
 -- ---- the definitions
@@ -52,16 +51,16 @@ use Rattle.server_laws.specs.Witness.{PutsCanChange}
 abbrev t : Name
 t = codes "t"
 
-abbrev v : Name
+abbrev pub v : Name
 v = codes "v"
 
-abbrev a : Name
+abbrev pub a : Name
 a = codes "a"
 
-abbrev listing : List (Name × Kind)
+abbrev pub listing : List (Name × Kind)
 listing = (a, kind.Int) ∷ []
 
-abbrev U : Columns
+abbrev pub U : Columns
 U = finmap.from_entries listing
 
 abbrev P : Predicate
@@ -79,7 +78,7 @@ first = table t U [] []
 abbrev second : Definition
 second = view v (language.select P (named t))
 
-column : finmap.get U a ≡ Some kind.Int
+pub column : finmap.get U a ≡ Some kind.Int
 column = finmap.get-from_entries name_total listing a
 
 one_column : finmap.len U ≡ 1
@@ -101,14 +100,14 @@ none = finmap.empty
 abbrev T : Lens
 T = table_lens t U [] []
 
-abbrev V : Lens
+abbrev pub V : Lens
 V = select P T
 
 -- the catalogue of the table
 abbrev one : Catalogue
 one = finmap.insert none t T
 
-nothing : {A : Type 0} (es : List A) → length es ≡ 0 → es ≡ []
+pub nothing : {A : Type 0} (es : List A) → length es ≡ 0 → es ≡ []
 nothing [] e = refl
 nothing (x ∷ es) e = absurd (omega arith)
 
@@ -159,8 +158,8 @@ second_free = ap is_some (get-other none t T v refl) ∙ is_free v
 
 second_taken_of_one : judged one (Ok second) ≡ Ok second
 second_taken_of_one =
-    ap (λ b. cond b (Err (name_taken v)) (cond (is_other t (finmap.get one t)) (Err unbuilt) (where_lensed (lens_in one (language.select P (named t))) one second))) second_free
-    ∙ ap (λ o. cond (is_other t o) (Err unbuilt) (where_lensed (over (select P) (lens_named t o)) one second)) (get-new none t T)
+    ap (λ b. cond b (Err (name_taken v)) (where_lensed (lens_in one (language.select P (named t))) one second)) second_free
+    ∙ ap (λ o. where_lensed (over (select P) (lens_named t o)) one second) (get-new none t T)
     ∙ ap (λ r. where_lensed (where_typed V r) one second) has_sort
     ∙ ap (λ n. unless_full (nat_le 256 n) views_limit second) no_views
 
@@ -169,7 +168,7 @@ second_taken_of_one =
 abbrev with_table : State
 with_table = with_defined first_text first fresh
 
-abbrev state : State
+abbrev pub state : State
 state = with_defined second_text second with_table
 
 known_one : catalogue with_table.texts ≡ one
@@ -182,23 +181,23 @@ second_taken = ap (λ k. judged k (reading second_text)) known_one
 with_table_valid : Valid with_table
 with_table_valid = valid_taken fresh first_text first fresh_is_valid first_taken (judged_ok none (reading first_text) first first_taken).1
 
-valid : Valid state
+pub valid : Valid state
 valid = valid_taken with_table second_text second with_table_valid second_taken (judged_ok (catalogue with_table.texts) (reading second_text) second second_taken).1
 
-known_view : finmap.get (catalogue state.texts) v ≡ Some V
+pub known_view : finmap.get (catalogue state.texts) v ≡ Some V
 known_view =
     ap (λ k. finmap.get k v) (known_after with_table second_text second second_taken ∙ ap (with_definition (Ok second)) known_one ∙ ap (λ o. with_lens v (option_map (select P) o) one) (get-new none t T))
     ∙ get-new one v V
 
 -- ---- the put
 
-abbrev row : Row
+abbrev pub row : Row
 row = finmap.from_entries ((a, Int (pos 1)) ∷ [])
 
-abbrev N : Rows
+abbrev pub N : Rows
 N = set.from_list (row ∷ [])
 
-there : has N row ≡ true
+pub there : has N row ≡ true
 there = set.contains-from_list row_total (row ∷ []) row ∙ ap (λ b. b || false) (row_itself row)
 
 or_no : (b : Bool) → (b || false) ≡ true → b ≡ true
@@ -212,7 +211,7 @@ row_fits : Fits U row
 row_fits c = fits_same _ _ _ _ (sym (finmap.get-from_entries name_total ((a, Int (pos 1)) ∷ []) c)) (sym (finmap.get-from_entries name_total listing c))
     (fits_cond (eq_by_cmp bytes_cmp c a) (Some (Int (pos 1))) None (Some kind.Int) None (λ _. int_fits (pos 1)) (λ _. refl))
 
-all_fit : AllFit U N
+pub all_fit : AllFit U N
 all_fit r i = subst (Fits U) (sym (only r i)) row_fits
 
 row_holds : holds P row ≡ true
@@ -225,10 +224,10 @@ none_clashes : clash (sort_of V).tree N ≡ None
 unfolding tree_of
 none_clashes = none_clash [] N tt
 
-accepted : IsAccepted (put_set N V state).0
-accepted = (accepted_where state v V N rows_put).1 (of_lens V N all_fit (none_off P N (λ r i. ap (holds P) (only r i) ∙ row_holds)) none_clashes)
+pub accepted : IsAccepted (put_set N V state).0
+accepted = (accepted_where V N state all_fit).1 (record { columns = all_fit; off = none_off P N (λ r i. ap (holds P) (only r i) ∙ row_holds); clash = none_clashes })
 
-is_new : has (get V state.tables) row ≡ false
+pub is_new : has (get V state.tables) row ≡ false
 unfolding get select_get
 is_new = false_from _ (λ i. absurd_false _ (from_those (holds P) (rows_of_table state.tables t) row i).0
     (ap (λ o. has (rows_or_none o) row) (finmap.get-insert name_total finmap.empty t (record { columns = U; rows = set.empty }) t

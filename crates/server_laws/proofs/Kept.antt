@@ -9,12 +9,10 @@ use Rattle.lens_values.specs.SortedSet as set
 use Rattle.lens_laws.proofs.Deltas.{diff_leads, diff_applies}
 use Rattle.lens_laws.proofs.Lenses.{put_leaves}
 use Rattle.fd_laws.proofs.Lists.{in_head, in_tail}
-use Rattle.fd_laws.proofs.Names.{one_is, name_total, name_exact, name_itself, tied_name}
+use Rattle.fd_laws.proofs.Names.{name_total, name_exact, name_itself, tied_name}
 use Rattle.server_laws.proofs.Differences.{Distinct, items_distinct, other_name, empty_same, not_later}
 use Rattle.lens_specs.specs.Names.{Name, Names, is_among}
 use Rattle.lens_specs.specs.Relation.{Rows, Relation, Columns}
-use Rattle.lens_specs.specs.Predicate.{Predicate}
-use Rattle.lens_specs.specs.Sort.{Sort}
 use Rattle.lens_specs.specs.Lens.{Tables, Lens, base, select, drop, join, tables_of, table, put, rows_or_none}
 use Rattle.lens_specs.specs.Delta.{Delta, TableDelta, diff, new_view, Applies, is_empty, differences, changes}
 use Rattle.lens_specs.specs.Keeping.{define, rows, or_empty, rows_at, with_deltas, changed, AllApply, CanChange}
@@ -177,16 +175,6 @@ kept_put L N db h = kept_differences db (put L N db) (tables_of L) (put_leads L 
 -- The changes of a put apply to what is kept, one to a table at most.
 pub put_applies : (L : Lens) (N : Rows) (db : Tables) → AreThere L db → AllApply (changes L N db) (rows_of db)
 put_applies L N db h = kept_apply db (put L N db) (tables_of L) (put_leads L N db h)
-
--- a table is there
-pub there_base : (t : Name) (s : Sort) (db : Tables) → is_some (finmap.get db t) ≡ true → AreThere (base t s) db
-unfolding tables_of
-there_base t s db h u i = ap (λ n. is_some (finmap.get db n)) (one_is t u i) ∙ h
-
--- and so it is for the selections of it
-pub there_select : (P : Predicate) (t : Name) (s : Sort) (db : Tables) → is_some (finmap.get db t) ≡ true → AreThere (select P (base t s)) db
-unfolding tables_of
-there_select P t s db h u i = there_base t s db h u i
 
 -- ---- a definition
 

@@ -4,18 +4,15 @@ use Rattle.std.proofs.lemmas.Bool.{cases_Bool, or_cases, or_parts, true≢false}
 use Rattle.std.specs.FinMap as finmap
 use Rattle.std.specs.List.{list_any}
 use Rattle.std.specs.Ordering.{eq_by_cmp}
-use Rattle.serde_json.specs.Data.{Items}
 use Rattle.lens_values.specs.Order.{bytes_cmp}
 use Rattle.lens_values.specs.SortedSet as set
-use Rattle.lens_values.specs.declared.row.Row.{Row}
 use Rattle.lens_laws.proofs.Lenses.{get_after, put_leaves}
 use Rattle.fd_laws.proofs.Lists.{absurd_false}
 use Rattle.fd_laws.proofs.Names.{name_total, tied_name}
 use Rattle.lens_laws.specs.Lenses.{AreOf}
 use Rattle.lens_specs.specs.Names.{Name, is_among}
-use Rattle.lens_specs.specs.Relation.{Relation, Rows, has}
-use Rattle.lens_specs.specs.Columns.{Fits}
-use Rattle.lens_specs.specs.Sort.{off, Clash, clash, IsOf}
+use Rattle.lens_specs.specs.Relation.{Relation, Rows}
+use Rattle.lens_specs.specs.Sort.{IsOf}
 use Rattle.lens_specs.specs.Lens.{Tables, Lens, sort_of, tables_of, table as rows_of_table, put}
 use Rattle.lens_specs.specs.Delta.{TableDelta, diff, is_empty, differences, changes}
 use Rattle.grammar_specs.specs.Meaning.{Definition, table, view}
@@ -26,16 +23,14 @@ use Rattle.catalog_specs.specs.Judging.{CatalogFault, judged}
 use Rattle.server_specs.specs.State.{State}
 use Rattle.server_specs.specs.Answer.{Answer}
 use Rattle.server_specs.specs.Request.{Request, define, read, put as put_request, edit, preview, describe, list, request}
-use Rattle.server_specs.specs.Sending.{BadRow, rows_in}
 use Rattle.server_specs.specs.Defining.{answer_definition}
-use Rattle.server_specs.specs.Changing.{answer_put, put_sent, unless_clash, unless_off, accept, with_last}
+use Rattle.server_specs.specs.Changing.{Sent, whole, edited, asked_view, accept, with_last, settled, changed_by}
 use Rattle.server_specs.specs.Answering.{answer, answer_request}
 use Rattle.server_specs.specs.Validity.{Valid}
+use Rattle.server_laws.proofs.Asked.{GivesTyped, asked_typed}
 use Rattle.server_laws.proofs.Differences.{empty_same}
 use Rattle.server_laws.proofs.Puts.{same_table}
-use Rattle.server_specs.proofs.Sent.{sent_fit}
 use Rattle.server_laws.proofs.Stored.{IsHere, lens_here}
-use Rattle.server_laws.proofs.Valid.{of_lens}
 use Rattle.server_laws.specs.AnswerLaws.{IsLast}
 
 -- the table is of one of the differences
@@ -92,22 +87,13 @@ last_accept s L N here n [] is q = stays s q
 last_accept s L N here n (d ∷ ds) is q = subst (λ l. IsLast s (record s { tables = put L N s.tables; version = s.version + 1; last = with_last (s.version + 1) l s.last }) q) is
     (last_put s L N here.are (get_after L s.tables here.typed here.are N n).0 q)
 
-last_unless_clash : (s : State) (L : Lens) (N : Rows) → IsHere s L → ((r : Row) → has N r ≡ true → Fits (sort_of L).columns r) → off (sort_of L).predicate N ≡ None
-    → (o : Option Clash) → clash (sort_of L).tree N ≡ o → (q : Name) → IsLast s (unless_clash o L N s).1 q
-last_unless_clash s L N here fits none None is q = last_accept s L N here (of_lens L N fits none is) (changes L N s.tables) refl q
-last_unless_clash s L N here fits none (Some c) is q = stays s q
+last_settled : (s : State) (L : Lens) → IsHere s L → (r : Result Rows Answer) → GivesTyped L r → (q : Name) → IsLast s (settled r L s).1 q
+last_settled s L here (Err refusal) typed q = stays s q
+last_settled s L here (Ok N) typed q = last_accept s L N here (typed N refl) (changes L N s.tables) refl q
 
-last_unless_off : (s : State) (L : Lens) (N : Rows) → IsHere s L → ((r : Row) → has N r ≡ true → Fits (sort_of L).columns r) → (o : Option Row) → off (sort_of L).predicate N ≡ o → (q : Name) → IsLast s (unless_off o L N s).1 q
-last_unless_off s L N here fits None is q = last_unless_clash s L N here fits is (clash (sort_of L).tree N) refl q
-last_unless_off s L N here fits (Some r) is q = stays s q
-
-last_sent : (s : State) (L : Lens) (items : Items) → IsHere s L → (o : Result (List Row) BadRow) → rows_in (sort_of L).columns items ≡ o → (q : Name) → IsLast s (put_sent o L s).1 q
-last_sent s L items here (Err bad) is q = stays s q
-last_sent s L items here (Ok rows) is q = last_unless_off s L (set.from_list rows) here (sent_fit (sort_of L).columns items rows is) (off (sort_of L).predicate (set.from_list rows)) refl q
-
-last_answer_put : (s : State) (name : Name) (items : Items) → Valid s → (o : Option Lens) → finmap.get (catalogue s.texts) name ≡ o → (q : Name) → IsLast s (answer_put name items o s).1 q
-last_answer_put s name items v None is q = stays s q
-last_answer_put s name items v (Some L) is q = last_sent s L items (lens_here s v name L is) (rows_in (sort_of L).columns items) refl q
+last_changed : (s : State) → Valid s → (sent : Sent) (on : Option ℕ) (name : Name) (o : Option Lens) → finmap.get (catalogue s.texts) name ≡ o → (q : Name) → IsLast s (changed_by sent on name o s).1 q
+last_changed s v sent on name None is q = stays s q
+last_changed s v sent on name (Some L) is q = let here = lens_here s v name L is in last_settled s L here (asked_view s L sent on) (asked_typed s L here sent on) q
 
 -- a definition changes the table that it makes
 last_definition : (s : State) (text : List ℕ) (r : Result Definition CatalogFault) (q : Name) → IsLast s (answer_definition text r s).1 q
@@ -127,9 +113,8 @@ last_request : (s : State) → Valid s → (r : Result Request Answer) (q : Name
 last_request s v (Err refusal) q = stays s q
 last_request s v (Ok (define text)) q = last_definition s text (judged (catalogue s.texts) (reading text)) q
 last_request s v (Ok (read name)) q = stays s q
-last_request s v (Ok (put_request name items None)) q = last_answer_put s name items v (finmap.get (catalogue s.texts) name) refl q
-last_request s v (Ok (put_request name items (Some on))) q = stays s q
-last_request s v (Ok (edit name remove add on)) q = stays s q
+last_request s v (Ok (put_request name rows on)) q = last_changed s v (whole rows) on name (finmap.get (catalogue s.texts) name) refl q
+last_request s v (Ok (edit name remove add on)) q = last_changed s v (edited remove add) on name (finmap.get (catalogue s.texts) name) refl q
 last_request s v (Ok (preview name remove add on)) q = stays s q
 last_request s v (Ok (describe name)) q = stays s q
 last_request s v (Ok list) q = stays s q

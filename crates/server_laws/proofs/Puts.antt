@@ -1,5 +1,5 @@
 -- The laws of puts over valid states.
-use Rattle.std.proofs.Common.{◌≡◌, Bool, true, false, cond, List, [], ◌∷◌, Option, Some, None, ◌⊎◌, inl, inr, refl, sym, ap, subst, ◌∙◌}
+use Rattle.std.proofs.Common.{◌≡◌, Bool, true, false, cond, List, [], ◌∷◌, Option, Some, None, Result, Ok, Err, ◌⊎◌, inl, inr, refl, sym, ap, subst, ◌∙◌}
 use Rattle.std.specs.Prelude.{◌↔◌}
 use Rattle.std.proofs.lemmas.Bool.{cases_Bool, or_cases, true≢false}
 use Rattle.std.specs.FinMap as finmap
@@ -26,14 +26,14 @@ use Rattle.lens_specs.specs.Delta.{TableDelta, diff, is_empty, differences, chan
 use Rattle.catalog_specs.specs.Catalogue.{catalogue}
 use Rattle.server_specs.specs.State.{State}
 use Rattle.server_specs.specs.Answer.{Answer, changed, clash, off_predicate}
-use Rattle.server_specs.specs.Changing.{put_set, unless_clash, unless_off, accept}
+use Rattle.server_specs.specs.Changing.{unless_clash, unless_off, accept, settled}
 use Rattle.server_specs.specs.Validity.{Valid}
+use Rattle.server_laws.proofs.Asked.{passes_sort}
 use Rattle.server_laws.proofs.Clashes.{clash_of_first, least_is_one}
 use Rattle.server_laws.proofs.Differences.{empty_same, none_differ}
 use Rattle.server_laws.proofs.Stored.{IsHere, lens_here}
-use Rattle.server_laws.proofs.Valid.{of_lens}
 use Rattle.server_laws.specs.Answers.{IsAccepted}
-use Rattle.server_laws.specs.PutLaws.{IsFirstClashOf, IsPut}
+use Rattle.server_laws.specs.PutLaws.{AllFit, IsFirstClashOf, put_set}
 
 -- ---- tables that a put does not change
 
@@ -77,52 +77,51 @@ unchanged_put L N db a b e = finmap.same_map name_total name_exact (put L N db) 
 
 -- ---- what is accepted
 
-here_of : (s : State) (name : Name) (L : Lens) (N : Rows) → IsPut s name L N → IsHere s L
-here_of s name L N p = lens_here s p.valid name L p.lens
-
 accepts : (L : Lens) (N : Rows) (ds : List TableDelta) (s : State) → IsAccepted (accept L N ds s).0
 accepts L N [] s = tt
 accepts L N (d ∷ ds) s = tt
 
-not_clash : (o : Option Clash) (L : Lens) (N : Rows) (s : State) → IsAccepted (unless_clash o L N s).0 → o ≡ None
-not_clash None L N s h = refl
-not_clash (Some c) L N s h = absurd h
+-- what becomes of a put, by the first row that is off and by the first clash
+abbrev by_tests : Option Row → Option Clash → Lens → Rows → State → Answer × State
+by_tests o c L N s = settled (unless_off o (unless_clash c N)) L s
 
-not_off : (o : Option Row) (L : Lens) (N : Rows) (s : State) → IsAccepted (unless_off o L N s).0 → (o ≡ None) × (first_clash (sort_of L).tree N ≡ None)
-not_off None L N s h = (refl, not_clash (first_clash (sort_of L).tree N) L N s h)
-not_off (Some r) L N s h = absurd h
+passes : (o : Option Row) (c : Option Clash) (L : Lens) (N : Rows) (s : State) → IsAccepted (by_tests o c L N s).0 → (o ≡ None) × (c ≡ None)
+passes None None L N s h = (refl, refl)
+passes None (Some c) L N s h = absurd h
+passes (Some r) c L N s h = absurd h
 
 -- where nothing is refused, a put is `accept`
 pub put_is_accept : (N : Rows) (L : Lens) (s : State) → off (sort_of L).predicate N ≡ None → first_clash (sort_of L).tree N ≡ None → put_set N L s ≡ accept L N (changes L N s.tables) s
-put_is_accept N L s none met = ap (λ o. unless_off o L N s) none ∙ ap (λ c. unless_clash c L N s) met
+put_is_accept N L s none met = ap (λ r. settled r L s) (passes_sort (sort_of L) N none met)
 
 -- an accepted put, as `accept`
-accepted_is : (L : Lens) (N : Rows) (s : State) → IsAccepted (put_set N L s).0 → put_set N L s ≡ accept L N (changes L N s.tables) s
-accepted_is L N s h = let w = not_off (off (sort_of L).predicate N) L N s h in put_is_accept N L s w.0 w.1
+pub accepted_is : (L : Lens) (N : Rows) (s : State) → IsAccepted (put_set N L s).0 → put_set N L s ≡ accept L N (changes L N s.tables) s
+accepted_is L N s h = let w = passes (off (sort_of L).predicate N) (first_clash (sort_of L).tree N) L N s h in put_is_accept N L s w.0 w.1
 
-typed_of : (s : State) (name : Name) (L : Lens) (N : Rows) → IsPut s name L N → IsAccepted (put_set N L s).0 → IsOf N (sort_of L)
-typed_of s name L N p h = let w = not_off (off (sort_of L).predicate N) L N s h in of_lens L N p.rows w.0 w.1
+typed_of : (L : Lens) (N : Rows) (s : State) → AllFit (sort_of L).columns N → IsAccepted (put_set N L s).0 → IsOf N (sort_of L)
+typed_of L N s fits h =
+    let w = passes (off (sort_of L).predicate N) (first_clash (sort_of L).tree N) L N s h in
+    record { columns = fits; off = w.0; clash = w.1 }
 
-pub accepted_where : (s : State) (name : Name) (L : Lens) (N : Rows) → IsPut s name L N → IsAccepted (put_set N L s).0 ↔ IsOf N (sort_of L)
-accepted_where s name L N p = (
-  typed_of s name L N p,
+pub accepted_where : (L : Lens) (N : Rows) (s : State) → AllFit (sort_of L).columns N → IsAccepted (put_set N L s).0 ↔ IsOf N (sort_of L)
+accepted_where L N s fits = (
+  typed_of L N s fits,
   λ n. subst (λ r. IsAccepted r.0) (sym (put_is_accept N L s n.off n.clash)) (accepts L N (changes L N s.tables) s),
 )
 
 -- an answer to a put
-abbrev IsSettled : State → Answer × State → Type 0
+abbrev pub IsSettled : State → Answer × State → Type 0
 IsSettled s r = IsAccepted r.0 ⊎ (((row : Row) × (r ≡ (off_predicate row, s))) ⊎ ((edge : Edge) × (first : Row) × (second : Row) × (r ≡ (clash edge first second, s))))
 
-clash_case : (s : State) (L : Lens) (N : Rows) (o : Option Clash) → IsSettled s (unless_clash o L N s)
-clash_case s L N None = inl (accepts L N (changes L N s.tables) s)
-clash_case s L N (Some c) = inr (inr (c.edge, c.first, c.second, refl))
+either_case : (o : Option Row) (c : Option Clash) (L : Lens) (N : Rows) (s : State) → IsSettled s (by_tests o c L N s)
+either_case None None L N s = inl (accepts L N (changes L N s.tables) s)
+either_case None (Some c) L N s = inr (inr (c.edge, c.first, c.second, refl))
+either_case (Some row) c L N s = inr (inl (row, refl))
 
-either_case : (s : State) (L : Lens) (N : Rows) (o : Option Row) → IsSettled s (unless_off o L N s)
-either_case s L N None = clash_case s L N (first_clash (sort_of L).tree N)
-either_case s L N (Some row) = inr (inl (row, refl))
+pub accepted_or_refused : (L : Lens) (N : Rows) (s : State) → IsSettled s (put_set N L s)
+accepted_or_refused L N s = either_case (off (sort_of L).predicate N) (first_clash (sort_of L).tree N) L N s
 
-pub accepted_or_refused : (s : State) (name : Name) (L : Lens) (N : Rows) → IsPut s name L N → IsSettled s (put_set N L s)
-accepted_or_refused s name L N p = either_case s L N (off (sort_of L).predicate N)
+-- ---- what is refused for a row
 
 off_of_least : (P : Predicate) (N : Rows) (row : Row) → IsOff (holds P) N row → (o : Option Row) → off P N ≡ o → o ≡ Some row
 off_of_least P N row w None is = absurd (true≢false (sym (off_none P N is row w.there) ∙ w.refused))
@@ -130,18 +129,15 @@ off_of_least P N row w (Some r) is =
     let v = off_is P N r is in
     ap Some (least_is_one r row (row_cmp r row) refl (v.least row w.there w.refused) (w.least r v.there v.refused))
 
-no_row : (o : Option Clash) (L : Lens) (N : Rows) (s : State) (row : Row) → unless_clash o L N s ≡ (off_predicate row, s) → ⊥
-no_row None L N s row e = subst IsAccepted (ap (λ r. r.0) e) (accepts L N (changes L N s.tables) s)
-no_row (Some c) L N s row e = let f : clash c.edge c.first c.second ≡ off_predicate row = ap (λ r. r.0) e in cc
+refusing : (o : Option Row) (c : Option Clash) (L : Lens) (N : Rows) (s : State) (row : Row) → by_tests o c L N s ≡ (off_predicate row, s) → o ≡ Some row
+refusing None None L N s row e = absurd (subst IsAccepted (ap (λ r. r.0) e) (accepts L N (changes L N s.tables) s))
+refusing None (Some c) L N s row e = let f : clash c.edge c.first c.second ≡ off_predicate row = ap (λ r. r.0) e in cc
+refusing (Some r) c L N s row e = let f : off_predicate r ≡ off_predicate row = ap (λ r. r.0) e in ap Some (cc)
 
-refusing : (o : Option Row) (L : Lens) (N : Rows) (s : State) (row : Row) → unless_off o L N s ≡ (off_predicate row, s) → o ≡ Some row
-refusing None L N s row e = absurd (no_row (first_clash (sort_of L).tree N) L N s row e)
-refusing (Some r) L N s row e = let f : off_predicate r ≡ off_predicate row = ap (λ r. r.0) e in ap Some (cc)
-
-pub refused_by : (s : State) (name : Name) (L : Lens) (N : Rows) → IsPut s name L N → (row : Row) → (put_set N L s ≡ (off_predicate row, s)) ↔ IsOff (holds (sort_of L).predicate) N row
-refused_by s name L N p row = (
-  λ e. off_is (sort_of L).predicate N row (refusing (off (sort_of L).predicate N) L N s row e),
-  λ w. ap (λ o. unless_off o L N s) (off_of_least (sort_of L).predicate N row w (off (sort_of L).predicate N) refl),
+pub refused_by : (L : Lens) (N : Rows) (s : State) (row : Row) → (put_set N L s ≡ (off_predicate row, s)) ↔ IsOff (holds (sort_of L).predicate) N row
+refused_by L N s row = (
+  λ e. off_is (sort_of L).predicate N row (refusing (off (sort_of L).predicate N) (first_clash (sort_of L).tree N) L N s row e),
+  λ w. ap (λ o. by_tests o (first_clash (sort_of L).tree N) L N s) (off_of_least (sort_of L).predicate N row w (off (sort_of L).predicate N) refl),
 )
 
 -- ---- what is refused for a clash
@@ -149,31 +145,36 @@ refused_by s name L N p row = (
 parts_same : (e k : Edge) (r p s q : Row) → clash e r s ≡ clash k p q → (e ≡ k) × (r ≡ p) × (s ≡ q)
 parts_same e k r p s q h = (cc, cc, cc)
 
-clashing : (o : Option Clash) (L : Lens) (N : Rows) (s : State) (edge : Edge) (first second : Row) → unless_clash o L N s ≡ (clash edge first second, s)
-    → (c : Clash) × (o ≡ Some c) × (c.edge ≡ edge) × (c.first ≡ first) × (c.second ≡ second)
-clashing None L N s edge first second e = absurd (subst IsAccepted (ap (λ r. r.0) e) (accepts L N (changes L N s.tables) s))
-clashing (Some c) L N s edge first second e = let w = parts_same c.edge edge c.first first c.second second (ap (λ r. r.0) e) in (c, refl, w.0, w.1, w.2)
+-- no row is off, and the first clash has this edge and these rows
+record IsClashing (o : Option Row) (c : Option Clash) (edge : Edge) (first second : Row) : Type 0 where
+  not_off : o ≡ None
+  found : Clash
+  is : c ≡ Some found
+  edge_is : found.edge ≡ edge
+  first_is : found.first ≡ first
+  second_is : found.second ≡ second
 
-met_rows : (o : Option Row) (L : Lens) (N : Rows) (s : State) (edge : Edge) (first second : Row) → unless_off o L N s ≡ (clash edge first second, s)
-    → (o ≡ None) × (unless_clash (first_clash (sort_of L).tree N) L N s ≡ (clash edge first second, s))
-met_rows None L N s edge first second e = (refl, e)
-met_rows (Some r) L N s edge first second e = let f : off_predicate r ≡ clash edge first second = ap (λ r. r.0) e in cc
+clashing : (o : Option Row) (c : Option Clash) (L : Lens) (N : Rows) (s : State) (edge : Edge) (first second : Row) → by_tests o c L N s ≡ (clash edge first second, s)
+    → IsClashing o c edge first second
+clashing None None L N s edge first second e = absurd (subst IsAccepted (ap (λ r. r.0) e) (accepts L N (changes L N s.tables) s))
+clashing None (Some c) L N s edge first second e =
+    let w = parts_same c.edge edge c.first first c.second second (ap (λ r. r.0) e) in
+    record { not_off = refl; found = c; is = refl; edge_is = w.0; first_is = w.1; second_is = w.2 }
+clashing (Some r) c L N s edge first second e = let f : off_predicate r ≡ clash edge first second = ap (λ r. r.0) e in cc
 
-clashes_from : (s : State) (L : Lens) (N : Rows) (edge : Edge) (first second : Row) → put_set N L s ≡ (clash edge first second, s) → IsFirstClashOf (sort_of L) N edge first second
-clashes_from s L N edge first second e =
-    let w = met_rows (off (sort_of L).predicate N) L N s edge first second e in
-    let v = clashing (first_clash (sort_of L).tree N) L N s edge first second w.1 in
-    (off_none (sort_of L).predicate N w.0, (v.0, clash_is (sort_of L).tree N v.0 v.1, v.2, v.3, v.4))
+clashes_from : (L : Lens) (N : Rows) (s : State) (edge : Edge) (first second : Row) → put_set N L s ≡ (clash edge first second, s) → IsFirstClashOf (sort_of L) N edge first second
+clashes_from L N s edge first second e =
+    let w = clashing (off (sort_of L).predicate N) (first_clash (sort_of L).tree N) L N s edge first second e in
+    (off_none (sort_of L).predicate N w.not_off, (w.found, clash_is (sort_of L).tree N w.found w.is, w.edge_is, w.first_is, w.second_is))
 
 as_clash : (c : Clash) (edge : Edge) (first second : Row) (s : State) → c.edge ≡ edge → c.first ≡ first → c.second ≡ second → ◌≡◌ {A = Answer × State} (clash c.edge c.first c.second, s) (clash edge first second, s)
 as_clash c edge first second s e f g = λ i. (clash (e i) (f i) (g i), s)
 
-pub clashes_by : (s : State) (name : Name) (L : Lens) (N : Rows) → IsPut s name L N → (edge : Edge) (first second : Row)
-    → (put_set N L s ≡ (clash edge first second, s)) ↔ IsFirstClashOf (sort_of L) N edge first second
-clashes_by s name L N p edge first second = (
-  clashes_from s L N edge first second,
-  λ h. ap (λ o. unless_off o L N s) (none_off (sort_of L).predicate N h.0)
-      ∙ ap (λ o. unless_clash o L N s) (clash_of_first (sort_of L).tree N h.1.0 h.1.1 (first_clash (sort_of L).tree N) refl)
+pub clashes_by : (L : Lens) (N : Rows) (s : State) (edge : Edge) (first second : Row) → (put_set N L s ≡ (clash edge first second, s)) ↔ IsFirstClashOf (sort_of L) N edge first second
+clashes_by L N s edge first second = (
+  clashes_from L N s edge first second,
+  λ h. ap (λ o. by_tests o (first_clash (sort_of L).tree N) L N s) (none_off (sort_of L).predicate N h.0)
+      ∙ ap (λ c. by_tests None c L N s) (clash_of_first (sort_of L).tree N h.1.0 h.1.1 (first_clash (sort_of L).tree N) refl)
       ∙ as_clash h.1.0 edge first second s h.1.2 h.1.3 h.1.4,
 )
 
@@ -185,15 +186,16 @@ read_again s L N here n [] is =
     ap (get L) (sym (unchanged_put L N s.tables here.are after.0 is)) ∙ after.1
 read_again s L N here n (d ∷ ds) is = (get_after L s.tables here.typed here.are N n).1
 
-pub put_then_read : (s : State) (name : Name) (L : Lens) (N : Rows) → IsPut s name L N → IsAccepted (put_set N L s).0 → get L (put_set N L s).1.tables ≡ N
-put_then_read s name L N p h = ap (λ r. get L r.1.tables) (accepted_is L N s h) ∙ read_again s L N (here_of s name L N p) (typed_of s name L N p h) (changes L N s.tables) refl
+pub put_then_read : (s : State) (L : Lens) (N : Rows) → IsHere s L → AllFit (sort_of L).columns N → IsAccepted (put_set N L s).0 → get L (put_set N L s).1.tables ≡ N
+put_then_read s L N here fits h = ap (λ r. get L r.1.tables) (accepted_is L N s h) ∙ read_again s L N here (typed_of L N s fits h) (changes L N s.tables) refl
 
-told : (s : State) (L : Lens) (N : Rows) (ds : List TableDelta) → (accept L N ds s).0 ≡ changed ds (accept L N ds s).1.version
+-- the changes are told, with the version after them
+pub told : (s : State) (L : Lens) (N : Rows) (ds : List TableDelta) → (accept L N ds s).0 ≡ changed ds (accept L N ds s).1.version
 told s L N [] = refl
 told s L N (d ∷ ds) = refl
 
-pub changes_told : (s : State) (name : Name) (L : Lens) (N : Rows) → IsPut s name L N → IsAccepted (put_set N L s).0 → (put_set N L s).0 ≡ changed (changes L N s.tables) (put_set N L s).1.version
-changes_told s name L N p h = let e = accepted_is L N s h in
+pub changes_told : (L : Lens) (N : Rows) (s : State) → IsAccepted (put_set N L s).0 → (put_set N L s).0 ≡ changed (changes L N s.tables) (put_set N L s).1.version
+changes_told L N s h = let e = accepted_is L N s h in
     ap (λ r. r.0) e ∙ told s L N (changes L N s.tables) ∙ ap (λ r. changed (changes L N s.tables) r.1.version) (sym e)
 
 are_diffs : (ts : List Name) (old new : Tables) → AreDiffs old new (differences ts old new)
@@ -207,9 +209,9 @@ differ : (s : State) (L : Lens) (N : Rows) (ds : List TableDelta) → changes L 
 differ s L N [] is = is ∙ sym (none_differ (set.items (tables_of L)) s.tables)
 differ s L N (d ∷ ds) is = refl
 
-pub changes_differ : (s : State) (name : Name) (L : Lens) (N : Rows) → IsPut s name L N → IsAccepted (put_set N L s).0
+pub changes_differ : (L : Lens) (N : Rows) (s : State) → IsAccepted (put_set N L s).0
     → (changes L N s.tables ≡ differences (set.items (tables_of L)) s.tables (put_set N L s).1.tables) × AreDiffs s.tables (put_set N L s).1.tables (changes L N s.tables)
-changes_differ s name L N p h =
+changes_differ L N s h =
     let e : changes L N s.tables ≡ differences (set.items (tables_of L)) s.tables (put_set N L s).1.tables =
     differ s L N (changes L N s.tables) refl ∙ ap (λ r. differences (set.items (tables_of L)) s.tables r.1.tables) (sym (accepted_is L N s h)) in
     (e, subst (AreDiffs s.tables (put_set N L s).1.tables) (sym e) (are_diffs (set.items (tables_of L)) s.tables (put_set N L s).1.tables))
@@ -218,13 +220,9 @@ leaves : (L : Lens) (N : Rows) (ds : List TableDelta) (s : State) (t : Name) →
 leaves L N [] s t o = refl
 leaves L N (d ∷ ds) s t o = put_leaves L N s.tables t o
 
-others_met : (o : Option Clash) (L : Lens) (N : Rows) (s : State) (t : Name) → set.contains (tables_of L) t ≡ false → finmap.get (unless_clash o L N s).1.tables t ≡ finmap.get s.tables t
-others_met None L N s t o = leaves L N (changes L N s.tables) s t o
-others_met (Some c) L N s t o = refl
-
-pub others_stay : (r : Option Row) (L : Lens) (N : Rows) (s : State) (t : Name) → set.contains (tables_of L) t ≡ false → finmap.get (unless_off r L N s).1.tables t ≡ finmap.get s.tables t
-others_stay None L N s t o = others_met (first_clash (sort_of L).tree N) L N s t o
-others_stay (Some r) L N s t o = refl
+pub others_stay : (r : Result Rows Answer) (L : Lens) (s : State) (t : Name) → set.contains (tables_of L) t ≡ false → finmap.get (settled r L s).1.tables t ≡ finmap.get s.tables t
+others_stay (Err refusal) L s t o = refl
+others_stay (Ok N) L s t o = leaves L N (changes L N s.tables) s t o
 
 -- to put back what was read
 pub read_then_put : (s : State) → Valid s → (name : Name) (L : Lens) → finmap.get (catalogue s.texts) name ≡ Some L → put_set (get L s.tables) L s ≡ (changed [] s.version, s)

@@ -25,7 +25,7 @@ use Rattle.grammar_specs.specs.Meaning as language
 use Rattle.grammar_specs.specs.Faults.{Fault}
 use Rattle.grammar_laws.specs.Reading.{reading}
 use Rattle.catalog_specs.specs.Catalogue.{Catalogue, catalogue, catalogue_onto, with_definition, with_lens, lens_of, join_of, sort_with, table_lens, is_table_of}
-use Rattle.catalog_specs.specs.Judging.{CatalogFault, name_taken, unbuilt, is_taken, table_count, view_count, unless_full, where_sorted, lens_named, where_typed, over, over_both, lens_in, where_lensed, is_unbuilt, judged, refused_from, first_refused}
+use Rattle.catalog_specs.specs.Judging.{CatalogFault, name_taken, is_taken, table_count, view_count, unless_full, where_sorted, lens_named, where_typed, over, over_both, lens_in, where_lensed, judged, refused_from, first_refused}
 
 -- ---- what a judgement says
 
@@ -59,9 +59,8 @@ judged_ok known (Ok (table name columns deps predicate)) d h =
     let w = sorted_ok (table_sort columns deps predicate) known (table name columns deps predicate) d free.1 in
     (ap Ok w.1, subst (IsTaken known) w.1 (free.0, w.0))
 judged_ok known (Ok (view name expr)) d h =
-    let free = passed (is_taken known name) (name_taken name) (cond (is_unbuilt known expr) (Err unbuilt) (where_lensed (lens_in known expr) known (view name expr))) d h in
-    let built = passed (is_unbuilt known expr) unbuilt (where_lensed (lens_in known expr) known (view name expr)) d free.1 in
-    let w = lensed_ok (lens_in known expr) known (view name expr) d built.1 in
+    let free = passed (is_taken known name) (name_taken name) (where_lensed (lens_in known expr) known (view name expr)) d h in
+    let w = lensed_ok (lens_in known expr) known (view name expr) d free.1 in
     (ap Ok w.1, subst (IsTaken known) w.1 (free.0, w.0))
 
 pub no_error : {A E : Type 0} (r : Result A E) → is_err r ≡ false → (a : A) × (r ≡ Ok a)

@@ -6,7 +6,7 @@ use Rattle.std.specs.Fmt.{digits}
 use Rattle.serde_json.proofs.OnLiterals.{serde_json_on_literals}
 use Rattle.lens_specs.specs.Refusal as refusal
 use Rattle.lens_specs.specs.Refusal.{Refusal}
-use Rattle.server_specs.specs.Answer.{Answer, defined, shown, changed, described, listed, memory, long_line, not_json, bad_request, syntax, name_taken, unknown_name, refused, bad_row, stale, off_predicate, clash, store_fault, unbuilt, text}
+use Rattle.server_specs.specs.Answer.{Answer, defined, shown, changed, described, listed, memory, long_line, not_json, bad_request, syntax, name_taken, unknown_name, refused, bad_row, stale, off_predicate, clash, store_fault, text}
 use Rattle.server_laws.specs.Answers.{IsFailure}
 
 -- whether the two answers read alike
@@ -53,7 +53,6 @@ otherwise (stale changed_at version) h = record { memory = refl; fault = refl }
 otherwise (off_predicate row) h = record { memory = refl; fault = refl }
 otherwise (clash edge first second) h = record { memory = refl; fault = refl }
 otherwise store_fault h = absurd (h tt)
-otherwise unbuilt h = record { memory = refl; fault = refl }
 
 memory_reads : reads_as memory memory ≡ true
 unfolding text serde_json_on_literals digits

@@ -5,7 +5,6 @@ use Rattle.std.proofs.lemmas.Bool.{true≢false}
 use Rattle.std.specs.FinMap as finmap
 use Rattle.std.specs.List.{AllByRecursion}
 use Rattle.std.specs.Ordering.{eq_by_cmp}
-use Rattle.serde_json.specs.Data.{Items}
 use Rattle.lens_values.specs.Order.{bytes_cmp}
 use Rattle.lens_values.specs.Row.{row_cmp}
 use Rattle.lens_values.specs.SortedSet as set
@@ -20,7 +19,7 @@ use Rattle.lens_specs.specs.Columns.{Columns, Fits}
 use Rattle.lens_specs.specs.Relation.{Relation, Rows, has}
 use Rattle.lens_specs.specs.Predicate.{Predicate}
 use Rattle.lens_specs.specs.Dependencies.{Edge, MeetsTree}
-use Rattle.lens_specs.specs.Sort.{Sort, off, Clash, clash, IsOf}
+use Rattle.lens_specs.specs.Sort.{Sort, IsOf}
 use Rattle.lens_specs.specs.Lens.{Tables, Lens, sort_of, tables_of, put}
 use Rattle.lens_specs.specs.Delta.{TableDelta, changes, differences, diff, is_empty}
 use Rattle.lens_specs.specs.Lens.{table as rows_of_table}
@@ -33,15 +32,15 @@ use Rattle.catalog_specs.proofs.Catalogues.{catalogue-push}
 use Rattle.server_specs.specs.State.{State, fresh}
 use Rattle.server_specs.specs.Answer.{Answer}
 use Rattle.server_specs.specs.Request.{Request, define, read, put as put_request, edit, preview, describe, list, request}
-use Rattle.server_specs.specs.Sending.{BadRow, rows_in}
 use Rattle.server_specs.specs.Defining.{answer_definition, with_defined}
-use Rattle.server_specs.specs.Changing.{answer_put, put_sent, put_set, unless_clash, unless_off, accept, with_last}
+use Rattle.server_specs.specs.Changing.{Sent, whole, edited, of_sort, asked_view, accept, with_last, settled, changed_by}
 use Rattle.server_specs.specs.Answering.{answer, answer_request}
 use Rattle.server_specs.specs.Session.{Replies, answered, not_stored, found_memory, out_of_memory, Exchange, Chain, last_state, Session}
 use Rattle.server_specs.specs.Validity.{IsStoredAs, IsStored, Valid}
-use Rattle.server_specs.proofs.Sent.{sent_fit}
+use Rattle.server_laws.proofs.Asked.{GivesTyped, sort_typed, asked_typed}
 use Rattle.server_laws.proofs.Stored.{AreStored, as_stored, stored_put, put_names, are_there, IsHere, lens_here}
 use Rattle.server_laws.proofs.Taken.{IsTaken, judged_ok, not_own, lens_is, lens_is_known, all_known, first_refused-push}
+use Rattle.server_laws.specs.PutLaws.{put_set}
 
 pub fresh_is_valid : Valid fresh
 fresh_is_valid = record {
@@ -123,35 +122,21 @@ valid_put s L N v here are =
       past = λ q. with_last_past (s.version + 1) (changes L N s.tables) s.last (λ u. later (finmap.get s.last u) s.version (s.version + 1) (omega arith) (v.past u)) q;
     }
 
--- rows that the predicate holds on, and that do not clash
-pub of_lens : (L : Lens) (N : Rows) → ((r : Row) → has N r ≡ true → Fits (sort_of L).columns r) → off (sort_of L).predicate N ≡ None → clash (sort_of L).tree N ≡ None → IsOf N (sort_of L)
-of_lens L N fits none met = record { columns = fits; off = none; clash = met }
-
-valid_accept : (s : State) (L : Lens) (N : Rows) → Valid s → IsHere s L → IsOf N (sort_of L) → (ds : List TableDelta) → changes L N s.tables ≡ ds → Valid (accept L N ds s).1
+pub valid_accept : (s : State) (L : Lens) (N : Rows) → Valid s → IsHere s L → IsOf N (sort_of L) → (ds : List TableDelta) → changes L N s.tables ≡ ds → Valid (accept L N ds s).1
 valid_accept s L N v here n [] is = v
 valid_accept s L N v here n (d ∷ ds) is = subst (λ l. Valid (record s { tables = put L N s.tables; version = s.version + 1; last = with_last (s.version + 1) l s.last })) is
     (valid_put s L N v here (get_after L s.tables here.typed here.are N n).0)
 
-valid_unless_clash : (s : State) (L : Lens) (N : Rows) → Valid s → IsHere s L → ((r : Row) → has N r ≡ true → Fits (sort_of L).columns r) → off (sort_of L).predicate N ≡ None
-    → (c : Option Clash) → clash (sort_of L).tree N ≡ c → Valid (unless_clash c L N s).1
-valid_unless_clash s L N v here fits none None is = valid_accept s L N v here (of_lens L N fits none is) (changes L N s.tables) refl
-valid_unless_clash s L N v here fits none (Some c) is = v
-
-valid_unless_off : (s : State) (L : Lens) (N : Rows) → Valid s → IsHere s L → ((r : Row) → has N r ≡ true → Fits (sort_of L).columns r)
-    → (o : Option Row) → off (sort_of L).predicate N ≡ o → Valid (unless_off o L N s).1
-valid_unless_off s L N v here fits None is = valid_unless_clash s L N v here fits is (clash (sort_of L).tree N) refl
-valid_unless_off s L N v here fits (Some r) is = v
+valid_settled : (s : State) (L : Lens) → Valid s → IsHere s L → (r : Result Rows Answer) → GivesTyped L r → Valid (settled r L s).1
+valid_settled s L v here (Err refusal) typed = v
+valid_settled s L v here (Ok N) typed = valid_accept s L N v here (typed N refl) (changes L N s.tables) refl
 
 pub valid_put_set : (s : State) (L : Lens) (N : Rows) → Valid s → IsHere s L → ((r : Row) → has N r ≡ true → Fits (sort_of L).columns r) → Valid (put_set N L s).1
-valid_put_set s L N v here fits = valid_unless_off s L N v here fits (off (sort_of L).predicate N) refl
+valid_put_set s L N v here fits = valid_settled s L v here (of_sort (sort_of L) N) (sort_typed L N fits)
 
-valid_put_sent : (s : State) (L : Lens) (items : Items) → Valid s → IsHere s L → (o : Result (List Row) BadRow) → rows_in (sort_of L).columns items ≡ o → Valid (put_sent o L s).1
-valid_put_sent s L items v here (Err bad) is = v
-valid_put_sent s L items v here (Ok rows) is = valid_put_set s L (set.from_list rows) v here (sent_fit (sort_of L).columns items rows is)
-
-valid_answer_put : (s : State) (name : Name) (items : Items) → Valid s → (o : Option Lens) → finmap.get (catalogue s.texts) name ≡ o → Valid (answer_put name items o s).1
-valid_answer_put s name items v None is = v
-valid_answer_put s name items v (Some L) is = valid_put_sent s L items v (lens_here s v name L is) (rows_in (sort_of L).columns items) refl
+valid_changed : (s : State) → Valid s → (sent : Sent) (on : Option ℕ) (name : Name) (o : Option Lens) → finmap.get (catalogue s.texts) name ≡ o → Valid (changed_by sent on name o s).1
+valid_changed s v sent on name None is = v
+valid_changed s v sent on name (Some L) is = let here = lens_here s v name L is in valid_settled s L v here (asked_view s L sent on) (asked_typed s L here sent on)
 
 -- ---- definitions
 
@@ -248,9 +233,8 @@ valid_request : (s : State) (r : Result Request Answer) → Valid s → Valid (a
 valid_request s (Err refusal) v = v
 valid_request s (Ok (define text)) v = valid_definition s text v (judged (catalogue s.texts) (reading text)) refl
 valid_request s (Ok (read name)) v = v
-valid_request s (Ok (put_request name items None)) v = valid_answer_put s name items v (finmap.get (catalogue s.texts) name) refl
-valid_request s (Ok (put_request name items (Some on))) v = v
-valid_request s (Ok (edit name remove add on)) v = v
+valid_request s (Ok (put_request name rows on)) v = valid_changed s v (whole rows) on name (finmap.get (catalogue s.texts) name) refl
+valid_request s (Ok (edit name remove add on)) v = valid_changed s v (edited remove add) on name (finmap.get (catalogue s.texts) name) refl
 valid_request s (Ok (preview name remove add on)) v = v
 valid_request s (Ok (describe name)) v = v
 valid_request s (Ok list) v = v
@@ -259,14 +243,14 @@ pub valid_answer : (s : State) (l : Line) → Valid s → Valid (answer s l).1
 unfolding answer
 valid_answer s l v = valid_request s (request l) v
 
-valid_step : (s : State) (count : ℕ) (l : Line) (reply : List ℕ) (t : State) (count' : ℕ) → Valid s → Replies s count l reply t count' → Valid t
+pub valid_step : (s : State) (count : ℕ) (l : Line) (reply : List ℕ) (t : State) (count' : ℕ) → Valid s → Replies s count l reply t count' → Valid t
 valid_step s count l reply t count' v r = elim r [
   | found_memory (answered told is) ↦ subst Valid (sym is) (valid_answer s l v)
   | out_of_memory short told is ↦ subst Valid (sym is) v
   | found_memory (not_stored told is moved grew) ↦ subst Valid (sym is) v
 ]
 
-valid_chain : (s : State) (count : ℕ) (es : List Exchange) → Valid s → Chain s count es → AllByRecursion (λ e. Valid e.state) es × Valid (last_state s es)
+pub valid_chain : (s : State) (count : ℕ) (es : List Exchange) → Valid s → Chain s count es → AllByRecursion (λ e. Valid e.state) es × Valid (last_state s es)
 valid_chain s count [] v c = (tt, v)
 valid_chain s count (e ∷ es) v c =
     let here = valid_step s count e.line e.reply e.state e.count v c.0.replied in

@@ -1,6 +1,6 @@
 -- Which views are taken, by the sort of the whole lens.
 use Rattle.std.proofs.Common.{◌≡◌, ◌<◌, ◌≤◌, ◌+◌, ℕ, Bool, true, false, cond, List, Option, Some, None, option_map, Result, Ok, Err, refl, sym, ap, ◌∙◌, ◌⊎◌, inl, inr}
-use Rattle.std.specs.Prelude.{nat_le}
+use Rattle.std.specs.Prelude.{◌↔◌, nat_le}
 use Rattle.std.proofs.lemmas.Bool.{lt-leb, le-leb}
 use Rattle.std.specs.FinMap as finmap
 use Rattle.lens_values.specs.declared.value.Value.{Value}
@@ -15,15 +15,16 @@ use Rattle.grammar_specs.specs.Meaning.{Definition, view, Expr, named}
 use Rattle.io_specs.specs.Lines.{Line}
 use Rattle.catalog_specs.specs.Catalogue.{Catalogue, catalogue, lens_of, join_of}
 use Rattle.catalog_specs.specs.Judging as judging
-use Rattle.catalog_specs.specs.Judging.{CatalogFault, rule, is_taken, is_unbuilt, view_count, unless_full, lens_named, where_typed, over, over_both, lens_in, where_lensed, judged}
+use Rattle.catalog_specs.specs.Judging.{CatalogFault, rule, is_taken, view_count, unless_full, lens_named, where_typed, over, over_both, lens_in, where_lensed, judged}
 use Rattle.server_specs.specs.State.{State}
-use Rattle.server_specs.specs.Answer.{defined, unknown_name, refused, unbuilt}
+use Rattle.server_specs.specs.Answer.{defined, unknown_name, refused}
 use Rattle.server_specs.specs.Defining.{with_defined}
 use Rattle.server_specs.specs.Answering.{answer}
+use Rattle.server_specs.specs.Validity.{Valid}
 use Rattle.server_laws.specs.DefineLaws.{judgement}
-use Rattle.server_laws.specs.ViewLaws.{DefinesView, DefinesBuilt, HasName, IsLeftSide}
+use Rattle.server_laws.specs.ViewLaws.{DefinesView, HasName, IsLeftSide}
 use Rattle.server_laws.proofs.Definitions.{taken_is_added, refused_stays}
-use Rattle.server_laws.proofs.Taken.{AllKnown, all_known}
+use Rattle.server_laws.proofs.Taken.{AllKnown, all_known, lens_is, lens_is_known}
 
 -- ---- the lens of an expression is judged as a whole
 
@@ -79,6 +80,15 @@ whole known all (meaning.join left right) L e =
     ap (λ l. over_both l (lens_in known right)) (whole known all left w.0 w.2) ∙ ap (over_both (where_typed w.0 (sort w.0))) (whole known all right w.1 w.3)
     ∙ both_from w.0 w.1 (sort w.0) refl ∙ ap (λ M. where_typed M (sort M)) w.4
 
+pub taken_where_sorted : (s : State) → Valid s → (expr : Expr) (L : Lens)
+    → (lens_in (catalogue s.texts) expr ≡ Ok L) ↔ ((lens_of expr (catalogue s.texts) ≡ Some L) × (sort L ≡ Ok (sort_of L)))
+taken_where_sorted s v expr L =
+    let known = catalogue s.texts in
+    let all = all_known s.texts v.definitions in (
+      λ e. (lens_is known expr L e, (lens_is_known known all expr L e).sorted),
+      λ w. whole known all expr L w.0 ∙ ap (where_typed L) w.1,
+    )
+
 -- ---- an expression with no lens
 
 unmapped : {A B : Type 0} (f : A → B) (o : Option A) → option_map f o ≡ None → o ≡ None
@@ -129,61 +139,48 @@ missing known all (meaning.join left right) e = both_missing known all left righ
 
 -- ---- the answer
 
--- the judgement of a view whose name is free, by whether it is built
+-- the judgement of a view whose name is free, by the lens of its expression
 free_judged : (s : State) (l : Line) (text : List ℕ) (name : Name) (expr : Expr) → DefinesView s l text name expr
-    → judgement s text ≡ cond (is_unbuilt (catalogue s.texts) expr) (Err judging.unbuilt) (where_lensed (lens_in (catalogue s.texts) expr) (catalogue s.texts) (view name expr))
-free_judged s l text name expr h =
+    → (r : Result Lens CatalogFault) → lens_in (catalogue s.texts) expr ≡ r → judgement s text ≡ where_lensed r (catalogue s.texts) (view name expr)
+free_judged s l text name expr h r e =
     let known = catalogue s.texts in
     ap (judged known) h.says
-    ∙ ap (λ b. cond b (Err (judging.name_taken name)) (cond (is_unbuilt known expr) (Err judging.unbuilt) (where_lensed (lens_in known expr) known (view name expr)))) h.free
-
-pub unbuilt_told : (s : State) (l : Line) (text : List ℕ) (name : Name) (expr : Expr) → DefinesView s l text name expr
-    → is_unbuilt (catalogue s.texts) expr ≡ true → answer s l ≡ (unbuilt, s)
-unbuilt_told s l text name expr h u =
-    let known = catalogue s.texts in
-    refused_stays s l text judging.unbuilt h.asked (free_judged s l text name expr h ∙ ap (λ b. cond b (Err judging.unbuilt) (where_lensed (lens_in known expr) known (view name expr))) u)
-
--- the judgement of a view that is built, by the lens of its expression
-built_judged : (s : State) (l : Line) (text : List ℕ) (name : Name) (expr : Expr) → DefinesBuilt s l text name expr
-    → (r : Result Lens CatalogFault) → lens_in (catalogue s.texts) expr ≡ r → judgement s text ≡ where_lensed r (catalogue s.texts) (view name expr)
-built_judged s l text name expr h r e =
-    let known = catalogue s.texts in
-    free_judged s l text name expr h.defines ∙ ap (λ b. cond b (Err judging.unbuilt) (where_lensed (lens_in known expr) known (view name expr))) h.built
+    ∙ ap (λ b. cond b (Err (judging.name_taken name)) (where_lensed (lens_in known expr) known (view name expr))) h.free
     ∙ ap (λ o. where_lensed o known (view name expr)) e
 
-pub unknown_told : (s : State) (l : Line) (text : List ℕ) (name : Name) (expr : Expr) → DefinesBuilt s l text name expr → lens_of expr (catalogue s.texts) ≡ None
+pub unknown_told : (s : State) (l : Line) (text : List ℕ) (name : Name) (expr : Expr) → DefinesView s l text name expr → lens_of expr (catalogue s.texts) ≡ None
     → ((from : Name) × HasName expr from × (finmap.get (catalogue s.texts) from ≡ None) × (answer s l ≡ (unknown_name from, s)))
     ⊎ ((part : Expr) × IsLeftSide part expr × (lens : Lens) × (lens_of part (catalogue s.texts) ≡ Some lens) × (first : Refusal) × (sort lens ≡ Err first) × (answer s l ≡ (refused first, s)))
-unknown_told s l text name expr h e = elim (missing (catalogue s.texts) (all_known s.texts h.defines.valid.definitions) expr e) [
-  | inl w ↦ inl (w.0, w.1, w.2, refused_stays s l text (judging.unknown_name w.0) h.defines.asked (built_judged s l text name expr h (Err (judging.unknown_name w.0)) w.3))
-  | inr w ↦ inr (w.0, w.1, w.2, w.3, w.4, w.5, refused_stays s l text (rule w.4) h.defines.asked (built_judged s l text name expr h (Err (rule w.4)) w.6))
+unknown_told s l text name expr h e = elim (missing (catalogue s.texts) (all_known s.texts h.valid.definitions) expr e) [
+  | inl w ↦ inl (w.0, w.1, w.2, refused_stays s l text (judging.unknown_name w.0) h.asked (free_judged s l text name expr h (Err (judging.unknown_name w.0)) w.3))
+  | inr w ↦ inr (w.0, w.1, w.2, w.3, w.4, w.5, refused_stays s l text (rule w.4) h.asked (free_judged s l text name expr h (Err (rule w.4)) w.6))
 ]
 
 -- the lens of the expression, by the sort of the whole lens
-lens_is_typed : (s : State) (l : Line) (text : List ℕ) (name : Name) (expr : Expr) → DefinesBuilt s l text name expr
+lens_is_typed : (s : State) (l : Line) (text : List ℕ) (name : Name) (expr : Expr) → DefinesView s l text name expr
     → (L : Lens) → lens_of expr (catalogue s.texts) ≡ Some L → (r : Result Sort Refusal) → sort L ≡ r → lens_in (catalogue s.texts) expr ≡ where_typed L r
-lens_is_typed s l text name expr h L e r is = whole (catalogue s.texts) (all_known s.texts h.defines.valid.definitions) expr L e ∙ ap (where_typed L) is
+lens_is_typed s l text name expr h L e r is = whole (catalogue s.texts) (all_known s.texts h.valid.definitions) expr L e ∙ ap (where_typed L) is
 
-pub rules_told : (s : State) (l : Line) (text : List ℕ) (name : Name) (expr : Expr) → DefinesBuilt s l text name expr
+pub rules_told : (s : State) (l : Line) (text : List ℕ) (name : Name) (expr : Expr) → DefinesView s l text name expr
     → (L : Lens) → lens_of expr (catalogue s.texts) ≡ Some L → (first : Refusal) → sort L ≡ Err first → answer s l ≡ (refused first, s)
 rules_told s l text name expr h L e first is =
-    refused_stays s l text (rule first) h.defines.asked (built_judged s l text name expr h (Err (rule first)) (lens_is_typed s l text name expr h L e (Err first) is))
+    refused_stays s l text (rule first) h.asked (free_judged s l text name expr h (Err (rule first)) (lens_is_typed s l text name expr h L e (Err first) is))
 
 -- the judgement of a view whose lens has a sort, by how many views there are
-typed_judged : (s : State) (l : Line) (text : List ℕ) (name : Name) (expr : Expr) → DefinesBuilt s l text name expr
+typed_judged : (s : State) (l : Line) (text : List ℕ) (name : Name) (expr : Expr) → DefinesView s l text name expr
     → (L : Lens) → lens_of expr (catalogue s.texts) ≡ Some L → sort L ≡ Ok (sort_of L) → (b : Bool) → nat_le 256 (view_count (catalogue s.texts)) ≡ b
     → judgement s text ≡ unless_full b views_limit (view name expr)
 typed_judged s l text name expr h L e is b full =
-    built_judged s l text name expr h (Ok L) (lens_is_typed s l text name expr h L e (Ok (sort_of L)) is) ∙ ap (λ f. unless_full f views_limit (view name expr)) full
+    free_judged s l text name expr h (Ok L) (lens_is_typed s l text name expr h L e (Ok (sort_of L)) is) ∙ ap (λ f. unless_full f views_limit (view name expr)) full
 
-pub full_told : (s : State) (l : Line) (text : List ℕ) (name : Name) (expr : Expr) → DefinesBuilt s l text name expr
+pub full_told : (s : State) (l : Line) (text : List ℕ) (name : Name) (expr : Expr) → DefinesView s l text name expr
     → (L : Lens) → lens_of expr (catalogue s.texts) ≡ Some L → sort L ≡ Ok (sort_of L) → 256 ≤ view_count (catalogue s.texts)
     → answer s l ≡ (refused (too_large views_limit), s)
 full_told s l text name expr h L e is full =
-    refused_stays s l text (rule (too_large views_limit)) h.defines.asked (typed_judged s l text name expr h L e is true (le-leb 256 (view_count (catalogue s.texts)) full))
+    refused_stays s l text (rule (too_large views_limit)) h.asked (typed_judged s l text name expr h L e is true (le-leb 256 (view_count (catalogue s.texts)) full))
 
-pub typed_taken : (s : State) (l : Line) (text : List ℕ) (name : Name) (expr : Expr) → DefinesBuilt s l text name expr
+pub typed_taken : (s : State) (l : Line) (text : List ℕ) (name : Name) (expr : Expr) → DefinesView s l text name expr
     → (L : Lens) → lens_of expr (catalogue s.texts) ≡ Some L → sort L ≡ Ok (sort_of L) → view_count (catalogue s.texts) < 256
     → answer s l ≡ (defined (s.version + 1), with_defined text (view name expr) s)
 typed_taken s l text name expr h L e is few =
-    taken_is_added s l text (view name expr) h.defines.asked (typed_judged s l text name expr h L e is false (lt-leb 256 (view_count (catalogue s.texts)) few))
+    taken_is_added s l text (view name expr) h.asked (typed_judged s l text name expr h L e is false (lt-leb 256 (view_count (catalogue s.texts)) few))

@@ -1,9 +1,11 @@
--- The laws of answers: what a refusal leaves, and how the version rises.
-use Rattle.std.specs.Prelude.{◌≡◌, ◌+◌, ◌⊎◌, Some, IfSome}
+-- The laws of answers: what a refusal and a question leave, and how the version rises.
+use Rattle.std.specs.Prelude.{◌≡◌, ◌+◌, ◌⊎◌, Some, IfSome, Result, Ok, Err}
 use Rattle.std.specs.FinMap as finmap
 use Rattle.lens_specs.specs.Relation.{Name}
 use Rattle.io_specs.specs.Lines.{Line}
 use Rattle.server_specs.specs.State.{State}
+use Rattle.server_specs.specs.Answer.{Answer}
+use Rattle.server_specs.specs.Request.{Request, define, read, put, edit, preview, describe, list, request}
 use Rattle.server_specs.specs.Answering.{answer}
 use Rattle.server_specs.specs.Validity.{Valid}
 use Rattle.server_laws.specs.Answers.{IsRefusal, IsFailure, IsChange, told_version}
@@ -12,13 +14,28 @@ use Rattle.server_laws.specs.Answers.{IsRefusal, IsFailure, IsChange, told_versi
 abbrev pub RefusalsChangeNothing : Type 0
 RefusalsChangeNothing = (s : State) (l : Line) → IsRefusal (answer s l).0 → (answer s l).1 ≡ s
 
+-- what is only asked, or foretold
+abbrev pub IsQuestion : Result Request Answer → Type 0
+IsQuestion (Err refusal) = ⊥
+IsQuestion (Ok (define text)) = ⊥
+IsQuestion (Ok (read name)) = Unit {0}
+IsQuestion (Ok (put name rows on)) = ⊥
+IsQuestion (Ok (edit name remove add on)) = ⊥
+IsQuestion (Ok (preview name remove add on)) = Unit {0}
+IsQuestion (Ok (describe name)) = Unit {0}
+IsQuestion (Ok list) = Unit {0}
+
+-- a question leaves the state as it was
+abbrev pub QuestionsChangeNothing : Type 0
+QuestionsChangeNothing = (s : State) (l : Line) → IsQuestion (request l) → (answer s l).1 ≡ s
+
 -- no answer says that the machine failed
 abbrev pub AnswersDoNotFail : Type 0
 AnswersDoNotFail = (s : State) (l : Line) → IsFailure (answer s l).0 → ⊥
 
--- a change raises the version by one
+-- a change that is not only foretold raises the version by one
 abbrev pub ChangesRaiseVersions : Type 0
-ChangesRaiseVersions = (s : State) (l : Line) → IsChange (answer s l).0 → (answer s l).1.version ≡ s.version + 1
+ChangesRaiseVersions = (s : State) (l : Line) → (IsQuestion (request l) → ⊥) → IsChange (answer s l).0 → (answer s l).1.version ≡ s.version + 1
 
 -- every other answer leaves the state, and so the version
 abbrev pub OthersStay : Type 0

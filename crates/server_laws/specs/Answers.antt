@@ -1,6 +1,6 @@
 -- Kinds of answers.
 use Rattle.std.specs.Prelude.{ℕ, [], ◌∷◌, Option, Some, None}
-use Rattle.server_specs.specs.Answer.{Answer, defined, shown, changed, described, listed, memory, long_line, not_json, bad_request, syntax, name_taken, unknown_name, refused, bad_row, stale, off_predicate, clash, store_fault, unbuilt}
+use Rattle.server_specs.specs.Answer.{Answer, defined, shown, changed, described, listed, memory, long_line, not_json, bad_request, syntax, name_taken, unknown_name, refused, bad_row, stale, off_predicate, clash, store_fault}
 
 -- nothing is done, and the answer says why
 abbrev pub IsRefusal : Answer → Type 0
@@ -22,7 +22,6 @@ IsRefusal (stale changed_at version) = Unit {0}
 IsRefusal (off_predicate row) = Unit {0}
 IsRefusal (clash edge first second) = Unit {0}
 IsRefusal store_fault = Unit {0}
-IsRefusal unbuilt = Unit {0}
 
 -- the machine failed: no memory, or no store
 abbrev pub IsFailure : Answer → Type 0
@@ -44,9 +43,8 @@ IsFailure (stale changed_at version) = ⊥
 IsFailure (off_predicate row) = ⊥
 IsFailure (clash edge first second) = ⊥
 IsFailure store_fault = Unit {0}
-IsFailure unbuilt = ⊥
 
--- a put was accepted
+-- a put or an edit is accepted, or a preview says that it would be
 abbrev pub IsAccepted : Answer → Type 0
 IsAccepted (defined version) = ⊥
 IsAccepted (shown rows version) = ⊥
@@ -66,9 +64,8 @@ IsAccepted (stale changed_at version) = ⊥
 IsAccepted (off_predicate row) = ⊥
 IsAccepted (clash edge first second) = ⊥
 IsAccepted store_fault = ⊥
-IsAccepted unbuilt = ⊥
 
--- a definition was taken, or a put was accepted that changes a table
+-- a definition is taken, or a change of a table is told
 abbrev pub IsChange : Answer → Type 0
 IsChange (defined version) = Unit {0}
 IsChange (shown rows version) = ⊥
@@ -89,7 +86,6 @@ IsChange (stale changed_at version) = ⊥
 IsChange (off_predicate row) = ⊥
 IsChange (clash edge first second) = ⊥
 IsChange store_fault = ⊥
-IsChange unbuilt = ⊥
 
 -- the version that the answer tells, where it tells one
 abbrev pub told_version : Answer → Option ℕ
@@ -111,4 +107,3 @@ told_version (stale changed_at version) = Some version
 told_version (off_predicate row) = None
 told_version (clash edge first second) = None
 told_version store_fault = None
-told_version unbuilt = None

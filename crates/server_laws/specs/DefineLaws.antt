@@ -1,5 +1,5 @@
--- The laws of definitions: which are taken, and what a new name shows.
-use Rattle.std.specs.Prelude.{◌≡◌, ◌↔◌, ◌+◌, ℕ, List, Some, Result, Ok, Err}
+-- The laws of definitions: which are taken, what a new name shows, and that what was there stays.
+use Rattle.std.specs.Prelude.{◌≡◌, ◌↔◌, ◌+◌, ℕ, true, List, Some, is_some, Result, Ok, Err}
 use Rattle.std.specs.FinMap as finmap
 use Rattle.lens_values.specs.SortedSet as set
 use Rattle.lens_specs.specs.Columns.{Columns}
@@ -16,9 +16,10 @@ use Rattle.catalog_specs.specs.Judging.{CatalogFault, judged}
 use Rattle.server_specs.specs.State.{State}
 use Rattle.server_specs.specs.Answer.{defined, shown, name_taken}
 use Rattle.server_specs.specs.Request.{define, read, request}
-use Rattle.server_specs.specs.Defining.{text_answer, fault_answer}
-use Rattle.server_specs.specs.Defining.{with_defined}
+use Rattle.server_specs.specs.Defining.{text_answer, fault_answer, with_defined}
+use Rattle.server_specs.specs.Changing.{changed_at}
 use Rattle.server_specs.specs.Answering.{answer}
+use Rattle.server_specs.specs.Validity.{Valid}
 
 -- the judgement of a text after the definitions of a state
 abbrev pub judgement : State → List ℕ → Result Definition CatalogFault
@@ -56,7 +57,8 @@ NewTablesAreEmpty = (s : State) (l m : Line) (text : List ℕ) (name : Name) (co
     → judgement s text ≡ Ok (table name columns deps predicate) → request m ≡ Ok (read name)
     → answer (answer s l).1 m ≡ (shown set.empty (s.version + 1), (answer s l).1)
 
--- a new view shows what the lens of its expression gets from the tables, at the version after
+-- A new view shows what the lens of its expression gets from the tables, at the version after. The names in the expression may be
+-- those of views.
 abbrev pub NewViewsShow : Type 0
 NewViewsShow = (s : State) (l m : Line) (text : List ℕ) (name : Name) (expr : Expr) → request l ≡ Ok (define text) → judgement s text ≡ Ok (view name expr) → request m ≡ Ok (read name)
     → (lens : Lens) × (lens_of expr (catalogue s.texts) ≡ Some lens) × (answer (answer s l).1 m ≡ (shown (get lens s.tables) (s.version + 1), (answer s l).1))
@@ -69,3 +71,14 @@ NamesAreTakenOnce = (s : State) (l : Line) (text : List ℕ) (definition : Defin
 -- no answer changes the lens of a name
 abbrev pub LensesStay : Type 0
 LensesStay = (s : State) (l : Line) (name : Name) (L : Lens) → finmap.get (catalogue s.texts) name ≡ Some L → finmap.get (catalogue (answer s l).1.texts) name ≡ Some L
+
+-- a definition, taken or refused, leaves each table that was there
+abbrev pub DefinitionsLeaveTables : Type 0
+DefinitionsLeaveTables = (s : State) → Valid s → (l : Line) (text : List ℕ) → request l ≡ Ok (define text)
+    → (table : Name) → is_some (finmap.get s.tables table) ≡ true → finmap.get (answer s l).1.tables table ≡ finmap.get s.tables table
+
+-- and what each view shows, with its last change
+abbrev pub DefinitionsLeaveViews : Type 0
+DefinitionsLeaveViews = (s : State) → Valid s → (l : Line) (text : List ℕ) → request l ≡ Ok (define text)
+    → (name : Name) (L : Lens) → finmap.get (catalogue s.texts) name ≡ Some L
+    → (get L (answer s l).1.tables ≡ get L s.tables) × (changed_at (answer s l).1 L ≡ changed_at s L)

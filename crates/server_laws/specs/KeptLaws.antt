@@ -12,11 +12,13 @@ use Rattle.lens_specs.specs.Keeping.{Change, define, rows, changed, CanChange}
 use Rattle.catalog_specs.specs.Catalogue.{catalogue}
 use Rattle.catalog_specs.specs.Judging.{judged}
 use Rattle.server_specs.specs.State.{State, kept}
+use Rattle.server_specs.specs.Request.{request}
 use Rattle.server_specs.specs.Defining.{with_defined}
-use Rattle.server_specs.specs.Changing.{put_set}
 use Rattle.server_specs.specs.Answering.{answer}
 use Rattle.server_specs.specs.Validity.{Valid}
 use Rattle.server_laws.specs.Answers.{IsChange}
+use Rattle.server_laws.specs.AnswerLaws.{IsQuestion}
+use Rattle.server_laws.specs.PutLaws.{put_set}
 
 -- what is kept after is what was kept, after a change that can be made
 abbrev pub KeptFollows : Change → State → State → Type 0
@@ -37,6 +39,6 @@ abbrev pub DefinitionsAreKept : Type 0
 DefinitionsAreKept = (s : State) → Valid s → (text : List ℕ) (definition : Definition) → judged (catalogue s.texts) (reading text) ≡ Ok definition
     → KeptFollows (define text (table_made definition)) s (with_defined text definition s)
 
--- each answer that changes something is kept by one change that can be made
+-- each answer that changes something, and does not only foretell it, is kept by one change that can be made
 abbrev pub ChangesAreKept : Type 0
-ChangesAreKept = (s : State) → Valid s → (l : Line) → IsChange (answer s l).0 → (change : Change) × KeptFollows change s (answer s l).1
+ChangesAreKept = (s : State) → Valid s → (l : Line) → (IsQuestion (request l) → ⊥) → IsChange (answer s l).0 → (change : Change) × KeptFollows change s (answer s l).1

@@ -2,7 +2,8 @@ pub mod Answers
 pub mod StateLaws
 pub mod AnswerLaws
 pub mod PutLaws
-pub mod LineLaws
+pub mod ChangeLaws
+pub mod UpdateLaws
 pub mod KeptLaws
 pub mod SessionLaws
 pub mod DefineLaws

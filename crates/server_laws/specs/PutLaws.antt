@@ -15,11 +15,15 @@ use Rattle.lens_laws.specs.Checks.{IsFirstClash, IsOff}
 use Rattle.lens_laws.specs.Edits.{AreDiffs}
 use Rattle.catalog_specs.specs.Catalogue.{catalogue}
 use Rattle.server_specs.specs.State.{State}
-use Rattle.server_specs.specs.Answer.{changed, clash, off_predicate}
+use Rattle.server_specs.specs.Answer.{Answer, changed, clash, off_predicate}
 use Rattle.server_specs.specs.Sending.{rows_in}
-use Rattle.server_specs.specs.Changing.{put_set}
+use Rattle.server_specs.specs.Changing.{of_sort, settled}
 use Rattle.server_specs.specs.Validity.{Valid}
 use Rattle.server_laws.specs.Answers.{IsAccepted}
+
+-- what becomes of a set of rows that is put as the new view
+abbrev pub put_set : Rows → Lens → State → Answer × State
+put_set N L s = settled (of_sort (sort_of L) N) L s
 
 -- every row has the columns, each of its kind
 abbrev pub AllFit : Columns → Rows → Type 0

@@ -2,8 +2,9 @@
 use Rattle.std.specs.Prelude.{◌≡◌, ℕ, List, Some, Ok}
 use Rattle.std.specs.List.{AllByRecursion}
 use Rattle.std.specs.FinMap as finmap
-use Rattle.lens_specs.specs.Relation.{Name}
-use Rattle.lens_specs.specs.Lens.{Lens, sort_of}
+use Rattle.lens_specs.specs.Relation.{Name, Rows}
+use Rattle.lens_specs.specs.Sort.{IsOf}
+use Rattle.lens_specs.specs.Lens.{Tables, Lens, sort_of, get, put}
 use Rattle.lens_specs.specs.Typing.{sort}
 use Rattle.io_specs.specs.Lines.{Line}
 use Rattle.lens_laws.specs.Lenses.{IsTyped, AreOf}
@@ -30,3 +31,14 @@ SessionsStayValid = (s : State) (count : ℕ) (lines : List Line) (replies : Lis
 abbrev pub LensesAreTyped : Type 0
 LensesAreTyped = (s : State) → Valid s → (name : Name) (L : Lens) → finmap.get (catalogue s.texts) name ≡ Some L
     → (sort L ≡ Ok (sort_of L)) × IsTyped L × AreOf L s.tables
+
+-- preservation of sorts, PutGet and GetPut, over tables
+pub record IsLawfulOver (L : Lens) (db : Tables) : Type 0 where
+  pub shows : IsOf (get L db) (sort_of L)
+  pub stays : (N : Rows) → IsOf N (sort_of L) → AreOf L (put L N db)
+  pub put_get : (N : Rows) → IsOf N (sort_of L) → get L (put L N db) ≡ N
+  pub get_put : put L (get L db) db ≡ db
+
+-- each lens of a valid state is lawful over its tables
+abbrev pub LensesAreLawful : Type 0
+LensesAreLawful = (s : State) → Valid s → (name : Name) (L : Lens) → finmap.get (catalogue s.texts) name ≡ Some L → IsLawfulOver L s.tables

@@ -1,5 +1,5 @@
 -- The laws of definitions of views: what is refused, in which order, and what is taken.
-use Rattle.std.specs.Prelude.{◌≡◌, ◌⊎◌, ◌+◌, ◌<◌, ◌≤◌, ℕ, true, false, List, Some, None, Ok, Err}
+use Rattle.std.specs.Prelude.{◌≡◌, ◌↔◌, ◌⊎◌, ◌+◌, ◌<◌, ◌≤◌, ℕ, false, List, Some, None, Ok, Err}
 use Rattle.std.specs.FinMap as finmap
 use Rattle.lens_specs.specs.Names.{Name}
 use Rattle.lens_specs.specs.Lens.{Lens, sort_of}
@@ -9,9 +9,9 @@ use Rattle.grammar_specs.specs.Meaning.{view, Expr, named, select, drop, join}
 use Rattle.grammar_laws.specs.Reading.{reading}
 use Rattle.io_specs.specs.Lines.{Line}
 use Rattle.catalog_specs.specs.Catalogue.{catalogue, lens_of}
-use Rattle.catalog_specs.specs.Judging.{is_taken, is_unbuilt, view_count}
+use Rattle.catalog_specs.specs.Judging.{is_taken, view_count, lens_in}
 use Rattle.server_specs.specs.State.{State}
-use Rattle.server_specs.specs.Answer.{defined, unknown_name, refused, unbuilt}
+use Rattle.server_specs.specs.Answer.{defined, unknown_name, refused}
 use Rattle.server_specs.specs.Request.{define, request}
 use Rattle.server_specs.specs.Defining.{with_defined}
 use Rattle.server_specs.specs.Answering.{answer}
@@ -23,11 +23,6 @@ pub record DefinesView (s : State) (l : Line) (text : List ℕ) (name : Name) (e
   pub asked : request l ≡ Ok (define text)
   pub says : reading text ≡ Ok (view name expr)
   pub free : is_taken (catalogue s.texts) name ≡ false
-
--- the line does so, and the expression names no view
-pub record DefinesBuilt (s : State) (l : Line) (text : List ℕ) (name : Name) (expr : Expr) : Type 0 where
-  pub defines : DefinesView s l text name expr
-  pub built : is_unbuilt (catalogue s.texts) expr ≡ false
 
 -- the expression has the name in it
 abbrev pub HasName : Expr → Name → Type 0
@@ -43,30 +38,31 @@ IsLeftSide part (select predicate of) = IsLeftSide part of
 IsLeftSide part (drop column by value of) = IsLeftSide part of
 IsLeftSide part (join left right) = (part ≡ left) ⊎ (IsLeftSide part left ⊎ IsLeftSide part right)
 
--- what is not built is told first
-abbrev pub UnbuiltIsTold : Type 0
-UnbuiltIsTold = (s : State) (l : Line) (text : List ℕ) (name : Name) (expr : Expr) → DefinesView s l text name expr
-    → is_unbuilt (catalogue s.texts) expr ≡ true → answer s l ≡ (unbuilt, s)
+-- An expression has a lens that passes the tests exactly where it has a lens, each name in it standing for its own, and that lens has
+-- a sort: to test each node as it is met is to test the whole.
+abbrev pub TakenWhereSorted : Type 0
+TakenWhereSorted = (s : State) → Valid s → (expr : Expr) (L : Lens)
+    → (lens_in (catalogue s.texts) expr ≡ Ok L) ↔ ((lens_of expr (catalogue s.texts) ≡ Some L) × (sort L ≡ Ok (sort_of L)))
 
 -- where the expression has no lens, a name in it that has none is told, or the first refusal of a left side in it that has a lens
 abbrev pub UnknownIsTold : Type 0
-UnknownIsTold = (s : State) (l : Line) (text : List ℕ) (name : Name) (expr : Expr) → DefinesBuilt s l text name expr → lens_of expr (catalogue s.texts) ≡ None
+UnknownIsTold = (s : State) (l : Line) (text : List ℕ) (name : Name) (expr : Expr) → DefinesView s l text name expr → lens_of expr (catalogue s.texts) ≡ None
     → ((from : Name) × HasName expr from × (finmap.get (catalogue s.texts) from ≡ None) × (answer s l ≡ (unknown_name from, s)))
     ⊎ ((part : Expr) × IsLeftSide part expr × (lens : Lens) × (lens_of part (catalogue s.texts) ≡ Some lens) × (first : Refusal) × (sort lens ≡ Err first) × (answer s l ≡ (refused first, s)))
 
 -- where its lens has no sort, the first refusal of the whole lens is told, operands before their node
 abbrev pub RulesAreTold : Type 0
-RulesAreTold = (s : State) (l : Line) (text : List ℕ) (name : Name) (expr : Expr) → DefinesBuilt s l text name expr
+RulesAreTold = (s : State) (l : Line) (text : List ℕ) (name : Name) (expr : Expr) → DefinesView s l text name expr
     → (lens : Lens) → lens_of expr (catalogue s.texts) ≡ Some lens → (first : Refusal) → sort lens ≡ Err first → answer s l ≡ (refused first, s)
 
 -- where its lens has a sort, and there are 256 views, that is told
 abbrev pub FullIsTold : Type 0
-FullIsTold = (s : State) (l : Line) (text : List ℕ) (name : Name) (expr : Expr) → DefinesBuilt s l text name expr
+FullIsTold = (s : State) (l : Line) (text : List ℕ) (name : Name) (expr : Expr) → DefinesView s l text name expr
     → (lens : Lens) → lens_of expr (catalogue s.texts) ≡ Some lens → sort lens ≡ Ok (sort_of lens) → 256 ≤ view_count (catalogue s.texts)
     → answer s l ≡ (refused (too_large views_limit), s)
 
 -- where its lens has a sort, and there are fewer views, it is taken
 abbrev pub TypedIsTaken : Type 0
-TypedIsTaken = (s : State) (l : Line) (text : List ℕ) (name : Name) (expr : Expr) → DefinesBuilt s l text name expr
+TypedIsTaken = (s : State) (l : Line) (text : List ℕ) (name : Name) (expr : Expr) → DefinesView s l text name expr
     → (lens : Lens) → lens_of expr (catalogue s.texts) ≡ Some lens → sort lens ≡ Ok (sort_of lens) → view_count (catalogue s.texts) < 256
     → answer s l ≡ (defined (s.version + 1), with_defined text (view name expr) s)

@@ -1,5 +1,6 @@
--- That the premises of the laws of puts can be met.
-use Rattle.std.specs.Prelude.{◌≡◌, true, false}
+-- That the premises of the laws of puts and of updates can be met.
+use Rattle.std.specs.Prelude.{◌≡◌, ℕ, true, false, List, [], ◌∷◌, Some}
+use Rattle.std.specs.FinMap as finmap
 use Rattle.lens_values.specs.declared.value.Value.{Value}
 use Rattle.lens_values.specs.declared.row.Row.{Row}
 use Rattle.lens_specs.specs.Names.{Names}
@@ -7,11 +8,15 @@ use Rattle.lens_specs.specs.Relation.{Name, Rows, has}
 use Rattle.lens_specs.specs.Predicate.{Predicate}
 use Rattle.lens_specs.specs.Sort.{Sort}
 use Rattle.lens_specs.specs.Lens.{Lens, base, select, drop, get}
-use Rattle.catalog_specs.specs.Catalogue.{is_table_of}
+use Rattle.io_specs.specs.Lines.{Line}
+use Rattle.catalog_specs.specs.Catalogue.{catalogue, is_table_of}
 use Rattle.server_specs.specs.State.{State}
-use Rattle.server_specs.specs.Changing.{put_set}
-use Rattle.server_laws.specs.Answers.{IsAccepted}
-use Rattle.server_laws.specs.PutLaws.{IsPut}
+use Rattle.server_specs.specs.Answering.{answer}
+use Rattle.server_specs.specs.Session.{Exchange, Session}
+use Rattle.server_specs.specs.Validity.{Valid}
+use Rattle.server_laws.specs.Answers.{IsAccepted, IsChange}
+use Rattle.server_laws.specs.PutLaws.{IsPut, put_set}
+use Rattle.server_laws.specs.UpdateLaws.{RestsOnRead}
 
 -- a valid state with a view that is no table, and an accepted put of a row that the view lacks
 pub record PutsCanChange : Type 0 where
@@ -36,3 +41,24 @@ pub record DropsCanChange : Type 0 where
   pub table : Name
   pub sort : Sort
   pub drops : change.lens ≡ drop column by fill (select predicate (base table sort))
+
+-- A session from a valid state in which a view, which is no table, is read, and the next line changes a table through it and rests
+-- on the version read.
+pub record UpdatesCanRest : Type 0 where
+  pub state : State
+  pub valid : Valid state
+  pub lines : List Line
+  pub replies : List (List ℕ)
+  pub last : State
+  pub session : Session state 0 lines replies last 0
+  pub reading : Exchange
+  pub changing : Exchange
+  pub exchanges : session.exchanges ≡ reading ∷ changing ∷ []
+  pub name : Name
+  pub lens : Lens
+  pub known : finmap.get (catalogue state.texts) name ≡ Some lens
+  pub view : (table : Name) → is_table_of table lens ≡ false
+  pub rows : Rows
+  pub version : ℕ
+  pub rests : RestsOnRead state [] reading [] changing name rows version
+  pub changes : IsChange (answer reading.state changing.line).0

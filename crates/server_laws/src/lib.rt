@@ -2,28 +2,32 @@
 //! contract of a function with an empty body.
 #![tactic(auto)]
 
-ghost use Rattle.server_laws.specs.AnswerLaws.{AnswersDoNotFail, ChangesRaiseVersions, LastFollows, OthersStay, RefusalsChangeNothing, VersionsAreTold};
-ghost use Rattle.server_laws.specs.DefineLaws.{FaultsAreTold, LensesStay, NamesAreTakenOnce, NewTablesAreEmpty, NewViewsShow, RefusedStays, TakenIsAdded, TakenIsRead, TakenWhereJudged};
+ghost use Rattle.server_laws.specs.AnswerLaws.{AnswersDoNotFail, ChangesRaiseVersions, LastFollows, OthersStay, QuestionsChangeNothing, RefusalsChangeNothing, VersionsAreTold};
+ghost use Rattle.server_laws.specs.ChangeLaws.{BadRowsAreTold, LastChangeIsGreatest, LinesAcceptedOrRefused, LinesAcceptedWhereTyped, LinesLeaveOthers, LinesMakeDifferences, LinesPutSets, LinesReadViews, LinesRefusedByFirstClash, LinesRefusedByLeastRow, LinesSettle, LinesTellChanges, NextLineReads, NothingIsChanged, PresentIsNotStale, PreviewsForetell, RemovedComeFirst, SentViewsFit, StaleIsTold, UnknownNamesAreTold};
+ghost use Rattle.server_laws.specs.DefineLaws.{DefinitionsLeaveTables, DefinitionsLeaveViews, FaultsAreTold, LensesStay, NamesAreTakenOnce, NewTablesAreEmpty, NewViewsShow, RefusedStays, TakenIsAdded, TakenIsRead, TakenWhereJudged};
 ghost use Rattle.server_laws.specs.KeptLaws.{ChangesAreKept, DefinitionsAreKept, PutsAreKept};
-ghost use Rattle.server_laws.specs.LineLaws.{LinesPutSets, LinesReadViews, NextLineReads, NothingIsPut};
 ghost use Rattle.server_laws.specs.PutLaws.{AcceptedOrRefused, AcceptedWhereTyped, ChangesAreDifferences, ChangesAreTold, OtherTablesStay, PutThenRead, ReadThenPut, RefusedByFirstClash, RefusedByLeastRow, SentRowsFit};
 ghost use Rattle.server_laws.specs.SessionLaws.{AnswersReadOtherwise, FaultsAreCounted, RepliesAreAnswers, SessionsAreComplete};
-ghost use Rattle.server_laws.specs.StateLaws.{AnswersStayValid, FreshIsValid, LensesAreTyped, SessionsStayValid};
-ghost use Rattle.server_laws.specs.ViewLaws.{FullIsTold, RulesAreTold, TypedIsTaken, UnbuiltIsTold, UnknownIsTold};
-ghost use Rattle.server_laws.specs.Witness.{DropsCanChange, PutsCanChange};
+ghost use Rattle.server_laws.specs.StateLaws.{AnswersStayValid, FreshIsValid, LensesAreLawful, LensesAreTyped, SessionsStayValid};
+ghost use Rattle.server_laws.specs.UpdateLaws.{NoUpdateIsLost};
+ghost use Rattle.server_laws.specs.ViewLaws.{FullIsTold, RulesAreTold, TakenWhereSorted, TypedIsTaken, UnknownIsTold};
+ghost use Rattle.server_laws.specs.Witness.{DropsCanChange, PutsCanChange, UpdatesCanRest};
 
 /// Every state that the server reaches is valid, and in a valid state each lens has a sort and its
-/// tables.
+/// tables, and keeps the laws of lenses over them.
 pub fn states_stay_valid()
     ensures fresh { FreshIsValid }
     ensures answers { AnswersStayValid }
     ensures sessions { SessionsStayValid }
     ensures lenses { LensesAreTyped }
+    ensures lawful { LensesAreLawful }
 {}
 
-/// A refusal leaves the state as it was, and the answer to a line is never that the machine failed.
+/// A refusal and a question leave the state as it was, and the answer to a line is never that the
+/// machine failed.
 pub fn refusals_change_nothing()
     ensures state { RefusalsChangeNothing }
+    ensures questions { QuestionsChangeNothing }
     ensures failure { AnswersDoNotFail }
 {}
 
@@ -42,17 +46,40 @@ pub fn puts_are_lawful()
     ensures get_put { ReadThenPut }
 {}
 
-/// Lines that read and put: what a line put, the next one reads, and to put what is shown changes
-/// nothing.
-pub fn lines_are_lawful()
+/// A line that puts or edits is refused for its name, a bad row, a stale version, or as the put of
+/// the new view that it sends; or else it is accepted, its changes are told, and the next line
+/// reads that view. A preview is answered as the edit would be.
+pub fn changes_are_lawful()
     ensures reads { LinesReadViews }
+    ensures settle { LinesSettle }
+    ensures unknown { UnknownNamesAreTold }
+    ensures bad { BadRowsAreTold }
+    ensures removed { RemovedComeFirst }
+    ensures stale { StaleIsTold }
+    ensures greatest { LastChangeIsGreatest }
+    ensures present { PresentIsNotStale }
+    ensures fits { SentViewsFit }
     ensures puts { LinesPutSets }
+    ensures accepted { LinesAcceptedWhereTyped }
+    ensures refused { LinesRefusedByLeastRow }
+    ensures clashes { LinesRefusedByFirstClash }
+    ensures either { LinesAcceptedOrRefused }
+    ensures get_put { NothingIsChanged }
     ensures put_get { NextLineReads }
-    ensures get_put { NothingIsPut }
+    ensures told { LinesTellChanges }
+    ensures differences { LinesMakeDifferences }
+    ensures others { LinesLeaveOthers }
+    ensures previews { PreviewsForetell }
+{}
+
+/// A change that rests on a version at which its view was read, and is accepted, finds the view as
+/// it was read.
+pub fn no_update_is_lost()
+    ensures { NoUpdateIsLost }
 {}
 
 /// A definition is taken exactly where it is judged so, is shown from then on, and its name is
-/// never taken again.
+/// never taken again. It leaves each table and each view that was there.
 pub fn definitions_are_judged()
     ensures read { TakenIsRead }
     ensures taken { TakenWhereJudged }
@@ -63,21 +90,23 @@ pub fn definitions_are_judged()
     ensures views { NewViewsShow }
     ensures once { NamesAreTakenOnce }
     ensures stays { LensesStay }
+    ensures tables_stay { DefinitionsLeaveTables }
+    ensures views_stay { DefinitionsLeaveViews }
 {}
 
-/// A view whose name is free is refused for what is not built, then for a name that has no lens or
-/// for the first refusal of a left side or of its whole lens, then for too many views; or else it
-/// is taken.
+/// A view whose name is free is refused for a name that has no lens, or for the first refusal of a
+/// left side or of its whole lens, then for too many views; or else it is taken. The names in it
+/// may be those of tables and of views.
 pub fn views_are_judged()
-    ensures unbuilt { UnbuiltIsTold }
+    ensures whole { TakenWhereSorted }
     ensures unknown { UnknownIsTold }
     ensures rules { RulesAreTold }
     ensures full { FullIsTold }
     ensures taken { TypedIsTaken }
 {}
 
-/// The version rises by one exactly where something changes, and each table tells the version that
-/// changed it last.
+/// The version rises by one exactly where something changes and is not only foretold, and each
+/// table tells the version that changed it last.
 pub fn versions_rise()
     ensures rises { ChangesRaiseVersions }
     ensures stays { OthersStay }
@@ -103,8 +132,10 @@ pub fn kept_follows()
 {}
 
 /// The premises of the laws of puts can be met, over a view, by a put that changes something; also
-/// over a view that drops a column of a selection.
+/// over a view that drops a column of a selection. Those of the law of updates can be met by a
+/// session.
 pub fn premises_can_be_met()
     ensures puts { PutsCanChange }
     ensures drops { DropsCanChange }
+    ensures updates { UpdatesCanRest }
 {}

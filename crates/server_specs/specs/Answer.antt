@@ -45,7 +45,6 @@ pub data Answer : Type 0 where
   off_predicate : Row → Answer
   clash : Edge → Row → Row → Answer
   store_fault : Answer
-  unbuilt : Answer
 
 -- a value as JSON
 abbrev pub value_data : Value → Data
@@ -209,7 +208,6 @@ answer_data (off_predicate row) = error 42 (not_ok (member (codes "row") (row_da
 answer_data (clash edge first second) =
     object (member (codes "edge") (edge_data edge) (numbered 43 (not_ok (member (codes "rows") (pair_data first second) no_members))))
 answer_data store_fault = error 90 (not_ok no_members)
-answer_data unbuilt = error 99 (not_ok no_members)
 
 -- the line of an answer: compact JSON and a newline
 unfoldable pub text : Answer → List ℕ

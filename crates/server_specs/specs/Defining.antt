@@ -13,7 +13,7 @@ use Rattle.catalog_specs.specs.Catalogue.{catalogue}
 use Rattle.catalog_specs.specs.Judging as judging
 use Rattle.catalog_specs.specs.Judging.{CatalogFault, language, rule, judged}
 use Rattle.server_specs.specs.State.{State, unchanged}
-use Rattle.server_specs.specs.Answer.{Answer, defined, syntax, name_taken, unknown_name, refused, unbuilt}
+use Rattle.server_specs.specs.Answer.{Answer, defined, syntax, name_taken, unknown_name, refused}
 
 -- the limit that a text passes
 abbrev pub limit_of : faults.Limit → Limit
@@ -32,7 +32,6 @@ fault_answer (language fault) = text_answer fault
 fault_answer (judging.name_taken name) = name_taken name
 fault_answer (judging.unknown_name name) = unknown_name name
 fault_answer (rule first) = refused first
-fault_answer judging.unbuilt = unbuilt
 
 -- ---- definitions that are taken
 

@@ -193,19 +193,17 @@ fn plain(number: u8) -> Result<Answer, Fail> {
         11 => Ok(Answer::NotJson),
         30 => Ok(Answer::DefaultRefused),
         90 => Ok(Answer::StoreFault),
-        99 => Ok(Answer::Unbuilt),
         _ => Err(Fail::from("no answer")),
     }
 }
 
 // Numbers of answers, and their lines.
-const PLAIN: [(u8, &str); 6] = [
+const PLAIN: [(u8, &str); 5] = [
     (1, r#"{"error":1,"ok":false}"#),
     (10, r#"{"error":10,"ok":false}"#),
     (11, r#"{"error":11,"ok":false}"#),
     (30, r#"{"error":30,"ok":false}"#),
     (90, r#"{"error":90,"ok":false}"#),
-    (99, r#"{"error":99,"ok":false}"#),
 ];
 
 #[test]

@@ -1,10 +1,43 @@
 //! Catalogues of definitions, and why a definition is refused.
 use crate::samples::expect;
-use lens_types::TypeFault;
 use lens_values::{Name, Text};
 use std::alloc::Global;
 use std::test::Fail;
-use view_catalog::{Catalog, CatalogFault, Prepared};
+use view_catalog::{Catalog, Prepared};
+
+/// Takes the definition.
+pub(crate) fn admit(alloc: Global, catalog: &mut Catalog, text: &str) -> Result<(), Fail> {
+    let prepared = catalog.prepare(alloc, Text::new(alloc, text)?)?;
+    catalog.admit(prepared);
+    Ok(())
+}
+
+/// A catalogue of these definitions.
+pub(crate) fn catalog_of(alloc: Global, texts: &[&str]) -> Result<Catalog, Fail> {
+    let mut catalog = Catalog::new(alloc);
+    for text in texts {
+        admit(alloc, &mut catalog, text)?;
+    }
+    Ok(catalog)
+}
+
+// Why the definition is refused, or nothing where it is prepared.
+fn refusal(alloc: Global, catalog: &mut Catalog, text: &str) -> Result<String, Fail> {
+    match catalog.prepare(alloc, Text::new(alloc, text)?) {
+        Ok(_) => Ok(String::new(alloc)),
+        Err(fault) => Ok(format!(in alloc; "{fault}")?),
+    }
+}
+
+/// Fails where the definition is not refused so, or is not prepared where no reason is given.
+pub(crate) fn judges(
+    alloc: Global,
+    catalog: &mut Catalog,
+    text: &str,
+    why: &str,
+) -> Result<(), Fail> {
+    expect(refusal(alloc, catalog, text)?.as_str() == why, text)
+}
 
 // Fails where this is not of the text and the name, or is a table where it should be none.
 fn is_of(prepared: &Prepared, [text, name]: [&str; 2], nodes: usize) -> Result<(), Fail> {
@@ -61,56 +94,47 @@ fn definitions_are_taken(rt: HostRuntime) -> Result<(), Fail> {
     is_tracks(&tracks(rt.alloc())?)
 }
 
-// The number of the rule that is broken.
-fn rule_number(fault: &TypeFault) -> u8 {
-    match fault {
-        TypeFault::KindClash { .. } => 24,
-        TypeFault::NoSuchDependency { .. } => 28,
-        TypeFault::DefaultRefused => 30,
-        TypeFault::SideMentionsOutput { .. } => 32,
-        _ => 0,
-    }
-}
-
-// The number of the fault.
-fn number(fault: &CatalogFault) -> u8 {
-    match fault {
-        CatalogFault::Lang { .. } => 20,
-        CatalogFault::NameTaken { .. } => 21,
-        CatalogFault::UnknownName { .. } => 22,
-        CatalogFault::Rule { fault } => rule_number(fault),
-        CatalogFault::Unbuilt => 99,
-        CatalogFault::NoMemory => 1,
-    }
-}
-
-// Fails where the definition is not refused by this number.
-fn refuses(alloc: Global, catalog: &mut Catalog, text: &str, why: u8) -> Result<(), Fail> {
-    match catalog.prepare(alloc, Text::new(alloc, text)?) {
-        Ok(_) => Err(Fail::from(text)),
-        Err(fault) => expect(number(&fault) == why, text),
-    }
-}
-
-// Definitions beside the table and the view, and why they are refused: for the text and names, for
-// what is not built before what is wrong beside it, and for the rules.
-const REFUSED: [(&str, u8); 10] = [
-    ("view", 20),
-    ("view v = u", 21),
-    ("view w = u", 22),
-    ("view w = select from v where c = 1", 99),
-    ("view w = join_dl u with t", 22),
-    ("view w = join_dl v with t", 99),
-    ("view w = join_dl t with t", 32),
-    ("view w = drop b determined by (a, true) from t", 24),
-    ("view w = drop a determined by (b, 1) from t", 28),
-    ("view w = drop b determined by (a, 0) from t", 30),
+// Definitions beside the table and the view, and why they are refused: for the text and names, and
+// for the rules.
+const REFUSED: [(&str, &str); 10] = [
+    ("view", "the text goes wrong at offset 4"),
+    ("view v = u", "the name v is taken"),
+    ("view w = u", "no table and no view has the name u"),
+    (
+        "view w = select from v where c = 1",
+        "no column has the name c",
+    ),
+    (
+        "view w = join_dl u with t",
+        "no table and no view has the name u",
+    ),
+    (
+        "view w = join_dl v with t",
+        "the right side's predicate mentions the output b",
+    ),
+    (
+        "view w = join_dl t with t",
+        "the left side's predicate mentions the output b",
+    ),
+    (
+        "view w = drop b determined by (a, true) from t",
+        "column b has two kinds",
+    ),
+    (
+        "view w = drop a determined by (b, 1) from t",
+        "the named columns do not determine a, or it determines others",
+    ),
+    (
+        "view w = drop b determined by (a, 0) from t",
+        "the predicate does not hold on the value that fills the dropped column",
+    ),
 ];
 
 #[test]
 fn definitions_that_are_refused(rt: HostRuntime) -> Result<(), Fail> {
+    let mut catalog = tracks(rt.alloc())?;
     for (text, why) in REFUSED {
-        refuses(rt.alloc(), &mut tracks(rt.alloc())?, text, why)?;
+        judges(rt.alloc(), &mut catalog, text, why)?;
     }
-    Ok(())
+    is_tracks(&catalog)
 }

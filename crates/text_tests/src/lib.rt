@@ -23,3 +23,7 @@ mod refusals;
 mod requests;
 #[cfg(test)]
 mod samples;
+#[cfg(test)]
+mod view_limits;
+#[cfg(test)]
+mod views;

@@ -1,14 +1,18 @@
 //! Sorts and lenses that have one, and why some have none.
 use crate::formulas::{compare, either, nothing, only, where_is};
 use crate::samples::{are_columns, are_edges, are_names, columns, deps, name, names, value};
-use lens_pred::{Formula, Pred};
-use lens_types::{Lens, Refused, SizeLimit, Sort, TypeFault, TypedLens};
-use lens_values::{Columns, Kind, Name};
+use lens_pred::Pred;
+use lens_types::{Lens, Refused, Sort, TypeFault, TypedLens};
+use lens_values::Value;
 use std::alloc::Global;
 use std::process::Abort;
+use std::test::Fail;
 
-// The fault of what has to be refused.
-fn fault_of<R: Drop, T: Drop>(rt: &impl Abort, answer: Result<R, Refused<T>>) -> TypeFault {
+/// The fault of what has to be refused.
+pub(crate) fn fault_of<R: Drop, T: Drop>(
+    rt: &impl Abort,
+    answer: Result<R, Refused<T>>,
+) -> TypeFault {
     match answer {
         Ok(_) => panic!(rt; "taken"),
         Err(Refused::Rule { fault, .. }) => fault,
@@ -38,14 +42,6 @@ fn says(fault: &TypeFault) -> (u8, &str) {
 fn is_fault(fault: &TypeFault, number: u8, word: &str) -> bool {
     let (found, name) = says(fault);
     found == number && name == word
-}
-
-// Whether this is too large.
-fn is_too_large(fault: &TypeFault, limit: SizeLimit) -> bool {
-    match fault {
-        TypeFault::TooLarge { what } => *what == limit,
-        _ => false,
-    }
 }
 
 /// The table of these columns, dependencies and rows.
@@ -89,8 +85,8 @@ fn rated(rt: &impl Abort, alloc: Global) -> TypedLens {
     tracks(rt, alloc, where_is(rt, alloc, "rating", ">=", "3"))
 }
 
-// The albums, which determine their quantity.
-fn albums(rt: &impl Abort, alloc: Global) -> TypedLens {
+/// The albums, which determine their quantity.
+pub(crate) fn albums(rt: &impl Abort, alloc: Global) -> TypedLens {
     let cols = "album:text quantity:int";
     table(
         rt,
@@ -157,6 +153,40 @@ fn lenses_have_sorts(rt: HostRuntime) {
     assert!(rt; lens.nodes() == 3);
     assert!(rt; nodes_under(&lens) == Some(2));
     assert!(rt; is_over(&rt, alloc, &lens, "tracks"));
+}
+
+// Whether a selection from the tracks, which are of this sort, adds its conjunct alone.
+fn is_selected(rt: &impl Abort, alloc: Global, sort: &Sort) -> Result<bool, Fail> {
+    let recent = where_is(rt, alloc, "date", ">=", "1990");
+    let found = sort.selected(alloc, 2, &recent)?;
+    Ok(is_sort(rt, alloc, &found, TRACKS, "track -> date rating", 1))
+}
+
+// Whether the tracks, which are of this sort, lose the column of ratings and what determines it.
+fn is_dropped(rt: &impl Abort, alloc: Global, sort: &Sort) -> Result<bool, Fail> {
+    let by = names(rt, alloc, "track");
+    let found = sort.dropped(alloc, 2, &name(rt, "rating"), &by, &Value::Int(3))?;
+    let cols = "album:text date:int track:text";
+    Ok(is_sort(rt, alloc, &found, cols, "track -> date", 0))
+}
+
+// Whether a join of the tracks with the albums, which are of these sorts, has what both have.
+fn is_joined(rt: &impl Abort, alloc: Global, sort: &Sort, albums: &Sort) -> Result<bool, Fail> {
+    let found = sort.joined(alloc, 3, albums, None)?;
+    let cols = "album:text date:int quantity:int rating:int track:text";
+    let edges = "track -> date rating, album -> quantity";
+    Ok(is_sort(rt, alloc, &found, cols, edges, 0))
+}
+
+#[test]
+fn sorts_are_selected_dropped_and_joined(rt: HostRuntime) -> Result<(), Fail> {
+    let alloc = rt.alloc();
+    let all = tracks(&rt, alloc, nothing(&rt, alloc));
+    assert!(rt; is_selected(&rt, alloc, all.sort())?);
+    assert!(rt; is_dropped(&rt, alloc, all.sort())?);
+    let albums = albums(&rt, alloc);
+    assert!(rt; is_joined(&rt, alloc, all.sort(), albums.sort())?);
+    Ok(())
 }
 
 // Why there is no table of the tracks' columns with these dependencies and this predicate.
@@ -287,23 +317,6 @@ fn conjunct_that_is_mixed(rt: HostRuntime) {
     assert!(rt; mixed_place(&fault) == Some(1));
 }
 
-// So many columns: the letter, the letter twice and on.
-fn push_columns(
-    rt: &impl Abort,
-    alloc: Global,
-    pairs: &mut Vec<(Name, Kind)>,
-    letter: char,
-    count: usize,
-) {
-    let mut word = String::new(alloc);
-    for _ in 0..count {
-        word.push(letter).expect(rt, "memory");
-        pairs
-            .push((name(rt, &word), Kind::Int))
-            .expect(rt, "memory");
-    }
-}
-
 // Whether the join is refused by the rule of this number, which says this name.
 fn refuses_join(
     rt: &impl Abort,
@@ -358,67 +371,4 @@ fn joins_have_the_columns_and_edges_of_both(rt: HostRuntime) {
             "albums tracks"
         )
     );
-}
-
-// 13 columns on each of five letters.
-fn many_columns(rt: &impl Abort, alloc: Global) -> Columns {
-    let mut pairs = Vec::new(alloc);
-    for letter in "abcde".chars() {
-        push_columns(rt, alloc, &mut pairs, letter, 13);
-    }
-    Columns::new(alloc, pairs).expect(rt, "columns")
-}
-
-// A table, selected from so many times.
-fn selected(rt: &impl Abort, alloc: Global, times: usize) -> TypedLens {
-    let mut lens = albums(rt, alloc);
-    for _ in 0..times {
-        lens = lens.select(alloc, nothing(rt, alloc)).expect(rt, "a lens");
-    }
-    lens
-}
-
-// The predicate of so many conjuncts.
-fn long(rt: &impl Abort, alloc: Global, count: usize) -> Pred {
-    let mut conjuncts = Vec::new(alloc);
-    for _ in 0..count {
-        conjuncts.push(Formula::True).expect(rt, "memory");
-    }
-    Pred::new(conjuncts).expect(rt, "a normal form")
-}
-
-// Whether a selection with a predicate of so many nodes is refused.
-fn refuses_nodes(rt: &impl Abort, alloc: Global, count: usize) -> bool {
-    let answer = albums(rt, alloc).select(alloc, long(rt, alloc, count));
-    is_too_large(&fault_of(rt, answer), SizeLimit::Predicate)
-}
-
-// Whether a selection has a predicate of so many nodes.
-fn takes_nodes(rt: &impl Abort, alloc: Global, count: usize) -> bool {
-    let pred = long(rt, alloc, count);
-    let lens = albums(rt, alloc).select(alloc, pred).expect(rt, "a lens");
-    lens.sort().pred().nodes() == count
-}
-
-#[test]
-fn lenses_that_are_too_large(rt: HostRuntime) {
-    let alloc = rt.alloc();
-    let lens = selected(&rt, alloc, 63);
-    assert!(rt; lens.nodes() == 64);
-    let fault = fault_of(&rt, lens.select(alloc, nothing(&rt, alloc)));
-    assert!(rt; is_too_large(&fault, SizeLimit::Lens));
-    assert!(rt; takes_nodes(&rt, alloc, 256));
-    assert!(rt; refuses_nodes(&rt, alloc, 257));
-}
-
-#[test]
-fn tables_that_are_too_wide(rt: HostRuntime) {
-    let alloc = rt.alloc();
-    let widest = many_columns(&rt, alloc)
-        .minus(alloc, &names(&rt, alloc, "e"))
-        .expect(&rt, "memory");
-    assert!(rt; widest.pairs().len() == 64);
-    assert!(rt; Sort::table(alloc, widest, &[], nothing(&rt, alloc)).is_ok());
-    let answer = Sort::table(alloc, many_columns(&rt, alloc), &[], nothing(&rt, alloc));
-    assert!(rt; is_too_large(&fault_of(&rt, answer), SizeLimit::Columns));
 }

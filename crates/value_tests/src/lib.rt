@@ -13,6 +13,10 @@ mod formulas;
 #[cfg(test)]
 mod lenses;
 #[cfg(test)]
+mod limits;
+#[cfg(test)]
+mod lists;
+#[cfg(test)]
 mod predicates;
 #[cfg(test)]
 mod premises;

@@ -1,8 +1,10 @@
 //! Rows revised by other rows along a tree of dependencies.
 use crate::samples::{are_rows, columns, relation, row, row_list, rows, tree};
+use revision::steps::one_along;
 use revision::{all_along, merge, revise, revise_row};
 use std::alloc::Global;
 use std::process::Abort;
+use std::test::Fail;
 
 // Whether the row becomes the other by the rows, along the tree.
 fn becomes(
@@ -79,6 +81,47 @@ fn rows_are_moved_along_an_edge(rt: HostRuntime) {
     let before = "a=2 b=1; a=1 b=1; a=1 b=3";
     let after = "a=2 b=1; a=1 b=7; a=1 b=7";
     assert!(rt; are_moved(&rt, alloc, "a -> b", "a=1 b=7; a=1 b=8", before, after));
+}
+
+// Whether the row alone becomes the other by the rows, along the one edge.
+fn is_moved(
+    rt: &impl Abort,
+    alloc: Global,
+    under: &str,
+    by: &str,
+    before: &str,
+    after: &str,
+) -> Result<bool, Fail> {
+    let tree = tree(rt, alloc, under);
+    let edge = tree.edges().first().ok_or("no edge")?;
+    let moved = one_along(alloc, edge, &row(rt, alloc, before), &rows(rt, alloc, by))?;
+    Ok(moved == row(rt, alloc, after))
+}
+
+#[test]
+fn row_is_moved_along_an_edge(rt: HostRuntime) -> Result<(), Fail> {
+    let alloc = rt.alloc();
+    assert!(rt;
+        is_moved(
+            &rt,
+            alloc,
+            "a -> b",
+            "a=1 b=7; a=1 b=8",
+            "a=1 b=3",
+            "a=1 b=7"
+        )?
+    );
+    assert!(rt;
+        is_moved(
+            &rt,
+            alloc,
+            "a -> b",
+            "a=1 b=7; a=1 b=8",
+            "a=2 b=1",
+            "a=2 b=1"
+        )?
+    );
+    Ok(())
 }
 
 // Whether the relation, with the columns of a track, is revised to the first rows by the other, and

@@ -53,7 +53,7 @@ fn only(rt: &impl Abort, alloc: Global, table: &Name, sort: &Sort, text: &str) -
 {
     let rows = of_sort(rt, alloc, sort, text);
     let mut db = Db::new(alloc);
-    db.set(*table, rows).expect(rt, "memory");
+    db.set(alloc, *table, rows).expect(rt, "memory");
     db
 }
 

@@ -15,7 +15,7 @@ use Rattle.grammar_specs.specs.Meaning as meaning
 use Rattle.grammar_specs.specs.Meaning.{Definition, table, view, Expr, named}
 use Rattle.grammar_specs.specs.Faults.{Fault}
 use Rattle.catalog_specs.specs.Catalogue.{Catalogue, with_definition, with_lens, lens_of, join_of, sort_with, table_lens}
-use Rattle.catalog_specs.specs.Judging.{CatalogFault, name_taken, unbuilt, is_taken, table_count, view_count, unless_full, where_sorted, lens_named, where_typed, over, over_both, lens_in, where_lensed, is_unbuilt, judged}
+use Rattle.catalog_specs.specs.Judging.{CatalogFault, name_taken, is_taken, table_count, view_count, unless_full, where_sorted, lens_named, where_typed, over, over_both, lens_in, where_lensed, judged}
 use Rattle.view_catalog.specs.Judgements.{name_in}
 
 -- ---- the sort of a table
@@ -112,7 +112,6 @@ grows known (Ok (table name columns deps predicate)) d h =
     grows_from known (table name columns deps predicate) d (table_lens name columns deps predicate)
     (sorted_ok (table_sort columns deps predicate) known (table name columns deps predicate) d free.1) free.0 refl
 grows known (Ok (view name expr)) d h =
-    let free = passed (is_taken known name) (name_taken name) (cond (is_unbuilt known expr) (Err unbuilt) (where_lensed (lens_in known expr) known (view name expr))) d h in
-    let built = passed (is_unbuilt known expr) unbuilt (where_lensed (lens_in known expr) known (view name expr)) d free.1 in
-    let w = lensed_ok (lens_in known expr) known (view name expr) d built.1 in
+    let free = passed (is_taken known name) (name_taken name) (where_lensed (lens_in known expr) known (view name expr)) d h in
+    let w = lensed_ok (lens_in known expr) known (view name expr) d free.1 in
     grows_from known (view name expr) d w.0.0 w.1 free.0 (ap (λ o. with_lens name o known) (lens_is known expr w.0.0 w.0.1))

@@ -1,6 +1,6 @@
 -- What the faults of the code are in the definition, and when a call decides what a definition says.
 use Rattle.std.specs.Prelude.{◌≡◌, ◌≢◌, Result, Ok, Err}
-use Rattle.lens_specs.specs.Refusal.{too_large, lens_limit, tables_limit, views_limit}
+use Rattle.lens_specs.specs.Refusal.{too_large, lens_limit, nesting_limit, tables_limit, views_limit}
 use Rattle.grammar_specs.specs.Faults as language
 use Rattle.catalog_specs.specs.Judging as judging
 use Rattle.lens_types.specs.Faults as types
@@ -11,7 +11,7 @@ use Rattle.view_lang.specs.declared.definition.LangFault.TheVariants as lang_fau
 use Rattle.view_lang.specs.declared.definition.Limit.{Limit}
 use Rattle.view_lang.specs.declared.definition.Limit.TheVariants.{Columns, Lens, Predicate, Nesting, Tables, Views}
 use Rattle.view_catalog.specs.declared.fault.CatalogFault.{CatalogFault}
-use Rattle.view_catalog.specs.declared.fault.CatalogFault.TheVariants.{Lang, NameTaken, UnknownName, Rule, Unbuilt, NoMemory}
+use Rattle.view_catalog.specs.declared.fault.CatalogFault.TheVariants.{Lang, NameTaken, UnknownName, Rule, NoMemory}
 
 -- the fault by a limit: the text exceeds three of them, and the catalogue the others
 abbrev pub limit_view : Limit → judging.CatalogFault
@@ -22,20 +22,23 @@ limit_view Lens = judging.rule (too_large lens_limit)
 limit_view Tables = judging.rule (too_large tables_limit)
 limit_view Views = judging.rule (too_large views_limit)
 
--- the fault of a text; want of memory is none of the definition, and any stands for it
+-- A refusal that no definition gets. It stands for want of memory, which is no fault of the definition.
+abbrev pub no_fault : judging.CatalogFault
+no_fault = judging.rule (too_large nesting_limit)
+
+-- the fault of a text
 abbrev pub language_view : lang.LangFault → judging.CatalogFault
 language_view (lang_fault.Syntax at) = judging.language (language.syntax_at at)
 language_view (lang_fault.TooLarge what) = limit_view what
-language_view lang_fault.NoMemory = judging.unbuilt
+language_view lang_fault.NoMemory = no_fault
 
--- the fault that the definition has; want of memory is none of it, and any stands for it
+-- the fault that the definition has
 abbrev pub fault_view : CatalogFault → judging.CatalogFault
 fault_view (Lang fault) = language_view fault
 fault_view (NameTaken name) = judging.name_taken name
 fault_view (UnknownName name) = judging.unknown_name name
 fault_view (Rule fault) = judging.rule (types.fault_view fault)
-fault_view Unbuilt = judging.unbuilt
-fault_view NoMemory = judging.unbuilt
+fault_view NoMemory = no_fault
 
 -- ---- what a call answers
 

@@ -89,8 +89,9 @@ impl Catalog {
     }
 
     /// The definition that the text says, or why it is refused. The catalogue stays the same, and
-    /// has room for the definition. `Lang` where the text is no definition or a limit is exceeded,
-    /// then `NameTaken`, `Unbuilt`, `UnknownName` and `Rule`; or `NoMemory`.
+    /// has room for the definition. `Lang` where the text is no definition, then `NameTaken`, then
+    /// `UnknownName` or `Rule`, whichever comes first in the expression, and at last `Lang` where
+    /// there are 64 tables or 256 views; or `NoMemory`.
     pub fn prepare(&mut self, alloc: Global, text: Text) -> Result<Prepared, CatalogFault>
         ensures prepared { IsPrepared result text self.old.texts }
         ensures texts { self.new.texts ≡ self.old.texts }

@@ -32,9 +32,6 @@ pub enum CatalogFault {
         /// The first rule that is broken.
         fault: TypeFault,
     },
-    /// A view over a view is not built.
-    #[error("a view over a view is not built")]
-    Unbuilt,
     /// Memory ran out.
     #[error("memory ran out")]
     NoMemory,

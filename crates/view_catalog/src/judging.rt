@@ -1,10 +1,10 @@
 //! Which definitions are taken.
-ghost use Rattle.std.specs.Prelude.{◌≡◌, false, Ok};
+ghost use Rattle.std.specs.Prelude.{◌≡◌, Ok};
 ghost use Rattle.std.specs.FinMap as finmap;
 ghost use Rattle.grammar_laws.specs.Reading.{reading};
 ghost use Rattle.lens_specs.specs.Lens.{drop, join, select};
 ghost use Rattle.catalog_specs.specs.Catalogue.{catalogue};
-ghost use Rattle.catalog_specs.specs.Judging.{is_unbuilt, is_view, judged, judged_table, judged_view, lens_in, lens_named, over};
+ghost use Rattle.catalog_specs.specs.Judging.{judged, judged_table, judged_view, lens_in, lens_named, over};
 ghost use Rattle.view_lang.specs.DefViews.{definition_view};
 ghost use Rattle.view_lang.specs.ExprViews.{expr_view};
 ghost use Rattle.view_catalog.specs.Faults.{Decides, over_limit};
@@ -12,7 +12,6 @@ ghost use Rattle.view_catalog.specs.Judgements.{IsJudged};
 
 use crate::catalog::Catalog;
 use crate::fault::CatalogFault;
-use crate::prepared::is_table;
 use fd_closure::Dep;
 use lens_pred::Pred;
 use lens_types::{Sort, TypedLens};
@@ -88,8 +87,8 @@ fn judge_table(
     Ok(Named { name, lens })
 }
 
-/// The view, or why it is refused: its name is taken, its expression names a view or has no lens,
-/// or there are 256 views.
+/// The view, or why it is refused: its name is taken, its expression has no lens, or there are 256
+/// views.
 fn judge_view(
     alloc: Global,
     catalog: &Catalog,
@@ -101,9 +100,6 @@ fn judge_view(
 {
     if catalog.has(&name) {
         return Err(CatalogFault::NameTaken { name });
-    }
-    if is_unbuilt(catalog, &expr) {
-        return Err(CatalogFault::Unbuilt);
     }
     let lens = lens_in(alloc, catalog, expr)?;
     if catalog.views() >= MAX_VIEWS {
@@ -121,31 +117,9 @@ fn over_limit(what: Limit) -> CatalogFault
     }
 }
 
-/// Whether the expression names a view.
-fn is_unbuilt(catalog: &Catalog, expr: &Expr) -> bool
-    ensures { result ≡ is_unbuilt (catalogue catalog.now.texts) (expr_view expr.now) }
-{
-    match expr {
-        Expr::Named { name } => is_view(catalog, name),
-        Expr::Select { of, .. } | Expr::Drop { of, .. } => is_unbuilt(catalog, of),
-        Expr::Join { left, right } => is_unbuilt(catalog, left) || is_unbuilt(catalog, right),
-    }
-}
-
-/// Whether the name is a view's.
-fn is_view(catalog: &Catalog, name: &Name) -> bool
-    ensures { result ≡ is_view (catalogue catalog.now.texts) name.now }
-{
-    match catalog.lens(name) {
-        Some(lens) => !is_table(lens, name),
-        None => false,
-    }
-}
-
 /// The lens of the expression, or why it has none: operands are judged before the node over them,
-/// the left one first.
+/// the left one first. The name of a view stands for its lens, as that of a table does.
 fn lens_in(alloc: Global, catalog: &Catalog, expr: Expr) -> Result<TypedLens, CatalogFault>
-    requires { is_unbuilt (catalogue catalog.now.texts) (expr_view expr) ≡ false }
     ensures { Decides (λ lens. lens) result
         (lens_in (catalogue catalog.now.texts) (expr_view expr)) }
 {
@@ -194,7 +168,7 @@ fn joined(alloc: Global, left: TypedLens, right: TypedLens) -> Result<TypedLens,
     Ok(left.join_dl(alloc, right)?)
 }
 
-/// A lens like the one that the name has.
+/// A copy of the lens that the name has.
 fn lens_named(alloc: Global, catalog: &Catalog, name: &Name) -> Result<TypedLens, CatalogFault>
     ensures { Decides (λ lens. lens) result
         (lens_named name.now (finmap.get (catalogue catalog.now.texts) name.now)) }

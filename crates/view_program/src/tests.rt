@@ -77,7 +77,10 @@ const OFF_PREDICATE: &str = r#"{"error":42,"ok":false,"row":{"name":"axe","quant
 
 const UNKNOWN_NAME: &str = r#"{"error":22,"name":"nothing","ok":false}"#;
 
-const UNBUILT: &str = r#"{"error":99,"ok":false}"#;
+const NONE_LISTED: &str = r#"{"definitions":[],"ok":true,"version":0}"#;
+
+const LISTED: &str =
+    r#"{"definitions":["table goods (name text, quantity int)","view big = select from goods where quantity > 2"],"ok":true,"version":4}"#;
 
 const CLASH: &str =
     r#"{"edge":{"left":["album"],"right":["quantity"]},"error":43,"ok":false,"rows":[{"album":"Show","quantity":3},{"album":"Show","quantity":4}]}"#;
@@ -142,7 +145,7 @@ fn status_of<K: Keeper>(
 }
 
 /// The lines, each with its newline.
-pub fn text_of(alloc: Global, lines: &[&str]) -> Result<Vec<u8>, Fail> {
+fn text_of(alloc: Global, lines: &[&str]) -> Result<Vec<u8>, Fail> {
     let mut text = Vec::new(alloc);
     for line in lines {
         text.extend_from_slice(line.as_bytes())?;
@@ -204,7 +207,7 @@ fn lines_that_are_no_request(rt: HostRuntime) -> Result<(), Fail> {
         status_of(alloc, 1, &mut source, &mut sink, &mut keeper)?,
         0
     );
-    let replies = [TOO_LONG, UNBUILT, NOT_JSON, NOT_JSON];
+    let replies = [TOO_LONG, NONE_LISTED, NOT_JSON, NOT_JSON];
     assert_eq!(rt; sink.bytes(), text_of(alloc, &replies)?.as_slice());
     Ok(())
 }
@@ -212,7 +215,7 @@ fn lines_that_are_no_request(rt: HostRuntime) -> Result<(), Fail> {
 /// What a run over these lines gives, byte by byte, where this call of the keeper fails.
 pub fn replies_to(alloc: Global, call: u64, lines: &[&str]) -> Result<(u8, MemorySink), Fail> {
     let mut source = MemorySource::new(text_of(alloc, lines)?, 1, Vec::new(alloc));
-    let mut sink = MemorySink::new(alloc, 8000, 1, Vec::new(alloc))?;
+    let mut sink = MemorySink::new(alloc, 10_000, 1, Vec::new(alloc))?;
     let mut keeper = MemoryKeeper::holding(nothing(alloc), failing(alloc, call)?);
     let status = status_of(alloc, 1, &mut source, &mut sink, &mut keeper)?;
     Ok((status, sink))
@@ -239,7 +242,7 @@ fn scripts(rt: HostRuntime) -> Result<(), Fail> {
         TABLE_READ,
         OFF_PREDICATE,
         UNKNOWN_NAME,
-        UNBUILT,
+        LISTED,
     ];
     let put_again = [MAKE_TABLE, MAKE_VIEW, PUT_TABLE, PUT_TABLE];
     let stored_later = [FIRST, SECOND, NOT_STORED, TABLE_PUT];

@@ -23,12 +23,15 @@ use Rattle.fd_laws.proofs.Names.{apart_back, from_shared, name_itself, tied_name
 use Rattle.lens_laws.specs.Lenses.{AreOf, IsTyped}
 use Rattle.lens_laws.specs.Shapes.{IsIn, join_shape, shape_of}
 use Rattle.lens_laws.proofs.Join.{part_left, part_right}
-use Rattle.lens_laws.proofs.Lenses.{are_same, get_sort, put_leaves}
+use Rattle.lens_laws.proofs.Lenses.{are_same, put_leaves}
 use Rattle.lens_laws.proofs.NodeLaws.{both_can, join_law, sound}
 use Rattle.lens_laws.proofs.Passes.{join_sort_is}
 use Rattle.lens_laws.proofs.Sorts.{clash_none, to_in}
 use Rattle.whole_put.specs.Joinable.{CanBePut}
+use Rattle.whole_put.specs.Sources.{AreShown}
+use Rattle.whole_put.specs.declared.sources.Sources.{Sources}
 use Rattle.whole_put.proofs.Lenses.{given_is, over}
+use Rattle.whole_put.proofs.Shown.{shown_alike_after}
 
 -- ---- shared columns
 
@@ -65,12 +68,12 @@ shown_joined L A B db M N is left right =
 -- ---- a put
 
 -- the rows of the left side after a put of a join
-abbrev pub left_after : Lens → Lens → Rows → Tables → Rows
-left_after A B O db = join_put_left (view_names A) (view_names B) (sort_of A).tree (sort_of B).tree O (get A db) (get B db)
+abbrev pub left_after : Lens → Lens → Rows → Rows → Rows → Rows
+left_after A B O M N = join_put_left (view_names A) (view_names B) (sort_of A).tree (sort_of B).tree O M N
 
 -- the rows of the right side
-abbrev pub right_after : Lens → Rows → Tables → Rows
-right_after B O db = join_right (view_names B) (sort_of B).tree O (get B db)
+abbrev pub right_after : Lens → Rows → Rows → Rows
+right_after B O N = join_right (view_names B) (sort_of B).tree O N
 
 -- the tree of the sort that the rules give
 pub kept_tree : (L : Lens) (s : Sort) (T : List Edge) → IsTyped L → typing.sort L ≡ Ok s → T ≡ s.tree → T ≡ (sort_of L).tree
@@ -95,49 +98,61 @@ module _ (A B : Lens) (typed : IsTyped (join A B)) where
   in_view : (O : Rows) → IsOf O (sort_of (join A B)) → IsIn O (join_shape (shape_of (sort_of A)) (shape_of (sort_of B)) (sort_of (join A B)).tree)
   in_view O o = subst (λ k. IsIn O k) (join_sort_is (sort_of A) (sort_of B)) (to_in O (sort_of (join A B)) o)
 
-  module _ (db : Tables) (M N : Relation) (F G : List Edge) (left : M ≡ view A db) (right : N ≡ view B db) (left_tree : F ≡ (sort_of A).tree) (right_tree : G ≡ (sort_of B).tree) where
+  module _ (M N : Relation) (F G : List Edge) (left : IsOfSort M (sort_of A)) (right : IsOfSort N (sort_of B)) (left_tree : F ≡ (sort_of A).tree) (right_tree : G ≡ (sort_of B).tree) where
     pub put_can : CanBePut M.columns N.columns F G
-    put_can = rw (left, right, left_tree, right_tree) can_be_put
+    put_can =
+        let left_columns = left.0 in
+        let right_columns = right.0 in
+        rw (left_columns, right_columns, left_tree, right_tree) can_be_put
 
-    pub left_meets : AreOf A db → MeetsTree M.rows F
-    left_meets a = rw (left, left_tree) (clash_none (sort_of A).tree (get A db) (get_sort A db typed.0 a).clash)
+    pub left_meets : MeetsTree M.rows F
+    left_meets = rw left_tree (clash_none (sort_of A).tree M.rows left.1.clash)
 
-    pub right_meets : AreOf B db → MeetsTree N.rows G
-    right_meets a = rw (right, right_tree) (clash_none (sort_of B).tree (get B db) (get_sort B db typed.1 a).clash)
+    pub right_meets : MeetsTree N.rows G
+    right_meets = rw right_tree (clash_none (sort_of B).tree N.rows right.1.clash)
 
     pub columns_of_both : (sort_of (join A B)).columns ≡ both_columns M.columns N.columns
-    columns_of_both = λ i. both_columns (sym left i).columns (sym right i).columns
+    columns_of_both = λ i. both_columns (sym left.0 i) (sym right.0 i)
 
     -- the parts of the view meet the trees
     pub view_left : (O : Rows) → IsOf O (sort_of (join A B)) → MeetsTree (project (names M.columns) O) F
     view_left O o =
-        rw (left, left_tree) (part_left (shape_of (sort_of A)) (shape_of (sort_of B)) (sort_of (join A B)).tree (both_can A B typed) O (in_view O o)).meets
+        let left_columns = left.0 in
+        rw (left_columns, left_tree) (part_left (shape_of (sort_of A)) (shape_of (sort_of B)) (sort_of (join A B)).tree (both_can A B typed) O (in_view O o)).meets
 
     pub view_right : (O : Rows) → IsOf O (sort_of (join A B)) → MeetsTree (project (names N.columns) O) G
     view_right O o =
-        rw (right, right_tree) (part_right (shape_of (sort_of A)) (shape_of (sort_of B)) (sort_of (join A B)).tree (both_can A B typed) O (in_view O o)).meets
+        let right_columns = right.0 in
+        rw (right_columns, right_tree) (part_right (shape_of (sort_of A)) (shape_of (sort_of B)) (sort_of (join A B)).tree (both_can A B typed) O (in_view O o)).meets
 
     -- ---- the sources after a put
 
-    pub left_source : (O : Rows) (after : Relation) → after ≡ record M { rows = join_put_left (names M.columns) (names N.columns) F G O M.rows N.rows } → after ≡ over A (left_after A B O db)
+    pub left_source : (O : Rows) (after : Relation) → after ≡ record M { rows = join_put_left (names M.columns) (names N.columns) F G O M.rows N.rows } → after ≡ over A (left_after A B O M.rows N.rows)
     left_source O after is =
-        is ∙ (λ i. record (left i) { rows = join_put_left (names (left i).columns) (names (right i).columns) (left_tree i) (right_tree i) O (left i).rows (right i).rows })
+        is ∙ (λ i. record { columns = left.0 i; rows = join_put_left (names (left.0 i)) (names (right.0 i)) (left_tree i) (right_tree i) O M.rows N.rows })
 
-    pub right_source : (O : Rows) (after : Relation) → after ≡ record N { rows = join_right (names N.columns) G O N.rows } → after ≡ over B (right_after B O db)
-    right_source O after is = is ∙ (λ i. record (right i) { rows = join_right (names (right i).columns) (right_tree i) O (right i).rows })
+    pub right_source : (O : Rows) (after : Relation) → after ≡ record N { rows = join_right (names N.columns) G O N.rows } → after ≡ over B (right_after B O N.rows)
+    right_source O after is = is ∙ (λ i. record { columns = right.0 i; rows = join_right (names (right.0 i)) (right_tree i) O N.rows })
 
-  module _ (db : Tables) (are : AreOf (join A B) db) (O : Rows) (of_sort : IsOf O (sort_of (join A B))) where
-    pub left_is_of_sort : IsOfSort (over A (left_after A B O db)) (sort_of A)
-    left_is_of_sort = (refl, (join_law A B typed).put_sort_left O (get A db) (get B db) (get_sort A db typed.0 are.0) (get_sort B db typed.1 are.1) of_sort)
+  module _ (O M N : Rows) (left : IsOf M (sort_of A)) (right : IsOf N (sort_of B)) (of_sort : IsOf O (sort_of (join A B))) where
+    pub left_is_of_sort : IsOfSort (over A (left_after A B O M N)) (sort_of A)
+    left_is_of_sort = (refl, (join_law A B typed).put_sort_left O M N left right of_sort)
 
-    pub right_is_of_sort : IsOfSort (over B (right_after B O db)) (sort_of B)
-    right_is_of_sort = (refl, (join_law A B typed).put_sort_right O (get A db) (get B db) (get_sort A db typed.0 are.0) (get_sort B db typed.1 are.1) of_sort)
+    pub right_is_of_sort : IsOfSort (over B (right_after B O N)) (sort_of B)
+    right_is_of_sort = (refl, (join_law A B typed).put_sort_right O M N left right of_sort)
 
   -- a put to the left side leaves the tables of the right one
+  right_left : (db after : Tables) (S : Rows) → after ≡ put A S db → (t : Name) → set.contains (tables_of B) t ≡ true → finmap.get after t ≡ finmap.get db t
+  right_left db after S is t i = ap (λ (K : Tables). finmap.get K t) is ∙ put_leaves A S db t (apart_back (tables_of A) (tables_of B) typed.3 t i)
+
   pub right_tables : (db after : Tables) (S : Rows) → after ≡ put A S db → AreOf B db → AreOf B after
-  right_tables db after S is a = subst (AreOf B) (sym is) (are_same B db (put A S db) (λ t i. put_leaves A S db t (apart_back (tables_of A) (tables_of B) typed.3 t i)) a)
+  right_tables db after S is a = are_same B db after (right_left db after S is) a
+
+  -- and what its sources show
+  pub right_sources : (db after : Tables) (S : Rows) (under : Sources) → after ≡ put A S db → AreShown B db under → AreShown B after under
+  right_sources db after S under is shown = shown_alike_after B db after under (right_left db after S is) shown
 
 -- a put to a join is the put to its left side, then that to its right side
-pub put_joined : (L A B : Lens) (db after : Tables) (O S T : Rows) → join A B ≡ L → S ≡ left_after A B O db → T ≡ right_after B O db → after ≡ put A S db → put B T after ≡ put L O db
+pub put_joined : (L A B : Lens) (db after : Tables) (O S T : Rows) → join A B ≡ L → S ≡ left_after A B O (get A db) (get B db) → T ≡ right_after B O (get B db) → after ≡ put A S db → put B T after ≡ put L O db
 unfolding put
 put_joined L A B db after O S T is s t e = (λ i. put B (t i) ((e ∙ ap (λ K. put A K db) s) i)) ∙ ap (λ K. put K O db) is

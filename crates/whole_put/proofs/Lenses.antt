@@ -75,36 +75,38 @@ given_is L s typed given = (sort_is_typed L s (bases_are_sound L typed) given).0
 abbrev pub over : Lens → Rows → Relation
 over L rows = record { columns = (sort_of L).columns; rows = rows }
 
--- what its source shows after a put of a selection
-abbrev pub under_selected : Predicate → Lens → Rows → Tables → Relation
-under_selected P C N db = over C (select_put (sort_of C).tree (holds P) N (get C db))
+-- what is shown is of its sort
+pub view_is_of_sort : (L : Lens) (db : Tables) (M : Relation) → IsTyped L → AreOf L db → M ≡ view L db → IsOfSort M (sort_of L)
+view_is_of_sort L db M typed are shown =
+    let here : IsOfSort (view L db) (sort_of L) = (refl, get_sort L db typed are) in
+    subst (λ N. IsOfSort N (sort_of L)) (sym shown) here
 
-pub source_selected : (C : Lens) (P : Predicate) (db : Tables) (N : Rows) (M after : Relation) (T : List Edge) (s : Sort) → IsTyped C → typing.sort C ≡ Ok s → T ≡ s.tree → M ≡ view C db
-    → after ≡ record M { rows = select_put T (holds P) N M.rows } → after ≡ under_selected P C N db
-source_selected C P db N M after T s typed given tree shown is =
+-- the rows of its source after a put of a selection
+abbrev pub under_selected : Predicate → Lens → Rows → Rows → Rows
+under_selected P C N M = select_put (sort_of C).tree (holds P) N M
+
+pub source_selected : (C : Lens) (P : Predicate) (N : Rows) (M after : Relation) (T : List Edge) (s : Sort) → IsTyped C → typing.sort C ≡ Ok s → T ≡ s.tree → M.columns ≡ (sort_of C).columns
+    → after ≡ record M { rows = select_put T (holds P) N M.rows } → after ≡ over C (under_selected P C N M.rows)
+source_selected C P N M after T s typed given tree columns is =
     let trees = tree ∙ ap (λ (k : Sort). k.tree) (given_is C s typed given) in
-    is ∙ (λ i. record (shown i) { rows = select_put (trees i) (holds P) N (shown i).rows })
+    is ∙ (λ i. record { columns = columns i; rows = select_put (trees i) (holds P) N M.rows })
 
-pub selected_is_of_sort : (C : Lens) (P : Predicate) (db : Tables) (N : Rows) → IsTyped (select P C) → AreOf C db → IsOf N (sort_of (select P C)) → IsOfSort (under_selected P C N db) (sort_of C)
-selected_is_of_sort C P db N typed are of_sort = (refl, (select_law P C typed).put_sort N (get C db) (get_sort C db typed.0 are) of_sort)
+pub selected_is_of_sort : (C : Lens) (P : Predicate) (N M : Rows) → IsTyped (select P C) → IsOf M (sort_of C) → IsOf N (sort_of (select P C)) → IsOfSort (over C (under_selected P C N M)) (sort_of C)
+selected_is_of_sort C P N M typed of_source of_view = (refl, (select_law P C typed).put_sort N M of_source of_view)
 
--- what its source shows after a put of a projection
-abbrev pub under_dropped : Name → Names → Value → Lens → Rows → Tables → Relation
-under_dropped A X a C N db = over C (drop_put A X a N (get C db))
+pub source_dropped : (C : Lens) (A : Name) (X : Names) (a : Value) (N : Rows) (M after : Relation) → M.columns ≡ (sort_of C).columns
+    → after ≡ record M { rows = drop_put A X a N M.rows } → after ≡ over C (drop_put A X a N M.rows)
+source_dropped C A X a N M after columns is = is ∙ (λ i. record { columns = columns i; rows = drop_put A X a N M.rows })
 
-pub source_dropped : (C : Lens) (A : Name) (X : Names) (a : Value) (db : Tables) (N : Rows) (M after : Relation) → M ≡ view C db
-    → after ≡ record M { rows = drop_put A X a N M.rows } → after ≡ under_dropped A X a C N db
-source_dropped C A X a db N M after shown is = is ∙ ap (λ (K : Relation). record K { rows = drop_put A X a N K.rows }) shown
-
-pub dropped_is_of_sort : (C : Lens) (A : Name) (X : Names) (a : Value) (db : Tables) (N : Rows) → IsTyped (drop A X a C) → AreOf C db → IsOf N (sort_of (drop A X a C)) → IsOfSort (under_dropped A X a C N db) (sort_of C)
-dropped_is_of_sort C A X a db N typed are of_sort = (refl, (drop_law A X a C typed).put_sort N (get C db) (get_sort C db typed.0 are) of_sort)
+pub dropped_is_of_sort : (C : Lens) (A : Name) (X : Names) (a : Value) (N M : Rows) → IsTyped (drop A X a C) → IsOf M (sort_of C) → IsOf N (sort_of (drop A X a C)) → IsOfSort (over C (drop_put A X a N M)) (sort_of C)
+dropped_is_of_sort C A X a N M typed of_source of_view = (refl, (drop_law A X a C typed).put_sort N M of_source of_view)
 
 -- ---- what a put to a projection asks
 
 module _ (C : Lens) (A : Name) (X : Names) (a : Value) (typed : IsTyped (drop A X a C)) where
   -- the default fits the column
-  pub column_fits : (db : Tables) (M : Relation) → M ≡ view C db → fits_at (Some a) (finmap.get M.columns A) ≡ true
-  column_fits db M shown = ap (λ (K : Relation). fits_at (Some a) (finmap.get K.columns A)) shown ∙ typed.1.column
+  pub column_fits : (M : Relation) → M.columns ≡ (sort_of C).columns → fits_at (Some a) (finmap.get M.columns A) ≡ true
+  column_fits M columns = ap (λ U. fits_at (Some a) (finmap.get U A)) columns ∙ typed.1.column
 
   -- the column is not among those that determine it
   pub column_apart : set.contains X A ≡ false
@@ -114,14 +116,11 @@ module _ (C : Lens) (A : Name) (X : Names) (a : Value) (typed : IsTyped (drop A 
   in_right c i = ap (set.contains typed.1.from.right) (one_is A c i) ∙ typed.1.right
 
   -- rows of the source's sort that agree on the columns that determine it agree on the column
-  determined : (M : Rows) → IsOf M (sort_of C) → Meets M X (one A)
+  pub determined : (M : Rows) → IsOf M (sort_of C) → Meets M X (one A)
   determined M of_sort r s there there' alike =
       let met = at_edge (λ e. Meets M e.left e.right) (sort_of C).tree typed.1.from typed.1.among (clash_none (sort_of C).tree M of_sort.clash) in
       let right = met r s there there' (ap (λ Y. agree Y r s) typed.1.left ∙ alike) in
       agree_from (one A) r s (λ c i. agree_at typed.1.from.right r s right c (in_right c i))
-
-  pub source_determined : (db : Tables) (M : Relation) → AreOf C db → M ≡ view C db → Meets M.rows X (one A)
-  source_determined db M are shown = subst (λ (K : Relation). Meets K.rows X (one A)) (sym shown) (determined (get C db) (get_sort C db typed.0 are))
 
 -- ---- the tables after a put
 
@@ -138,12 +137,12 @@ unfolding put
 put_dropped L C A X a db N S is rows = ap (λ K. put C K db) rows ∙ ap (λ K. put K N db) is
 
 -- the laws of the tables after a put
-module _ (r : Result Tables NoMemory) (L : Lens) (N : Rows) (db : Tables) (typed : IsTyped L) (are : AreOf L db) where
-  pub read_again : IsOf N (sort_of L) → IfOk r (λ after. after ≡ put L N db) → IfOk r (λ after. get L after ≡ N)
-  read_again of_sort = IfOk-weaker r (λ after. after ≡ put L N db) (λ after. get L after ≡ N) (λ after is. ap (get L) is ∙ (get_after L db typed are N of_sort).1)
+module _ (after : Tables) (L : Lens) (N : Rows) (db : Tables) (typed : IsTyped L) (are : AreOf L db) (is : after ≡ put L N db) where
+  pub read_again : IsOf N (sort_of L) → get L after ≡ N
+  read_again of_sort = ap (get L) is ∙ (get_after L db typed are N of_sort).1
 
-  pub unchanged : IfOk r (λ after. after ≡ put L N db) → IfOk r (λ after. N ≡ get L db → after ≡ db)
-  unchanged = IfOk-weaker r (λ after. after ≡ put L N db) (λ after. N ≡ get L db → after ≡ db) (λ after is shown. is ∙ ap (λ K. put L K db) shown ∙ put_back L db typed are)
+  pub unchanged : N ≡ get L db → after ≡ db
+  unchanged shown = is ∙ ap (λ K. put L K db) shown ∙ put_back L db typed are
 
-  pub of_their_sorts : IsOf N (sort_of L) → IfOk r (λ after. after ≡ put L N db) → IfOk r (λ after. AreOf L after)
-  of_their_sorts of_sort = IfOk-weaker r (λ after. after ≡ put L N db) (λ after. AreOf L after) (λ after is. subst (AreOf L) (sym is) (get_after L db typed are N of_sort).0)
+  pub of_their_sorts : IsOf N (sort_of L) → AreOf L after
+  of_their_sorts of_sort = subst (AreOf L) (sym is) (get_after L db typed are N of_sort).0

@@ -4,4 +4,5 @@ pub mod JoinedLenses
 pub mod Joins
 pub mod Lenses
 pub mod Selections
+pub mod Shown
 pub mod Tables

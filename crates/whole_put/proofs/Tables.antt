@@ -1,13 +1,16 @@
 -- Values by names, and the entries of a map that has them.
-use Rattle.std.proofs.Common.{◌≡◌, ◌∙◌, true, List, [], ◌∷◌, ◌++◌, ap, cond, refl, sym, Some}
+use Rattle.std.proofs.Common.{◌≡◌, ◌∙◌, Bool, true, false, List, [], ◌∷◌, ◌++◌, ap, cond, refl, sym, Option, Some}
+use Rattle.std.specs.Prelude.{option_map}
 use Rattle.std.specs.BTreeMap.{is_at}
 use Rattle.std.specs.Cmp.{both_ways}
 use Rattle.std.specs.FinMap as finmap
+use Rattle.std.specs.List.{AllZip}
 use Rattle.std.specs.Map.{lookup}
 use Rattle.std.specs.Ordering.{eq_by_cmp}
 use Rattle.fd_laws.proofs.Names.{name_exact, name_itself, name_total, tied_name}
 use Rattle.lens_values.specs.Order.{bytes_cmp}
 use Rattle.lens_specs.specs.Names.{Name}
+use Rattle.whole_put.specs.Seen.{seen_entries}
 
 -- ---- the value at a name
 
@@ -48,3 +51,34 @@ with_last (d ∷ es) e db = ap (λ m. finmap.insert m d.0 d.1) (with_last es e d
 pub with_all_in_none : {X : Type 0} (es : List (Name × X)) → with_all es finmap.empty ≡ finmap.from_entries es
 with_all_in_none [] = refl
 with_all_in_none (e ∷ es) = ap (λ m. finmap.insert m e.0 e.1) (with_all_in_none es)
+
+-- ---- entries, each with what is seen of its value
+
+module _ {X Y : Type 0} (f : X → Y) where
+  seen_choice : (b : Bool) (v : X) (later : Option X) → cond b (Some (f v)) (option_map f later) ≡ option_map f (cond b (Some v) later)
+  seen_choice true v later = refl
+  seen_choice false v later = refl
+
+  found_seen : (es : List (Name × X)) (q : Name) → lookup (is_at (bytes_cmp q)) (seen_entries f es) ≡ option_map f (lookup (is_at (bytes_cmp q)) es)
+  found_seen [] q = refl
+  found_seen (e ∷ es) q =
+      ap (cond (is_at (bytes_cmp q) e.0) (Some (f e.1))) (found_seen es q) ∙ seen_choice (is_at (bytes_cmp q) e.0) e.1 (lookup (is_at (bytes_cmp q)) es)
+
+  -- what is seen of the first entry at a name is what the map has there
+  pub seen_at : (es : List (Name × X)) (q : Name) → option_map f (lookup (is_at (bytes_cmp q)) es) ≡ finmap.get (finmap.from_entries {R = bytes_cmp} (seen_entries f es)) q
+  seen_at es q = sym (found_seen es q) ∙ looked_up (seen_entries f es) q
+
+  -- entries that have one more value are seen as the map with what is seen of it
+  pub seen_updated : (old new : List (Name × X)) (k : Name) (v : X)
+      → ((q : Name) → lookup (is_at (bytes_cmp q)) new ≡ cond (is_at (bytes_cmp k) q) (Some v) (lookup (is_at (bytes_cmp q)) old))
+      → finmap.from_entries {R = bytes_cmp} (seen_entries f new) ≡ finmap.insert (finmap.from_entries {R = bytes_cmp} (seen_entries f old)) k (f v)
+  seen_updated old new k v h = updated (seen_entries f old) (seen_entries f new) k (f v) (λ q.
+      found_seen new q ∙ ap (option_map f) (h q) ∙ sym (seen_choice (is_at (bytes_cmp k) q) v (lookup (is_at (bytes_cmp q)) old))
+      ∙ ap (cond (is_at (bytes_cmp k) q) (Some (f v))) (sym (found_seen old q)))
+
+  -- entries of the same names, of whose values the same is seen, are seen alike
+  pub seen_alike : (old new : List (Name × X)) → AllZip (λ p q. (q.0 ≡ p.0) × (f q.1 ≡ f p.1)) old new → seen_entries f new ≡ seen_entries f old
+  seen_alike [] [] h = refl
+  seen_alike [] (n ∷ new) h = absurd h
+  seen_alike (o ∷ old) [] h = absurd h
+  seen_alike (o ∷ old) (n ∷ new) h = λ i. (h.0.0 i, h.0.1 i) ∷ seen_alike old new h.1 i

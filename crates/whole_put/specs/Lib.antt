@@ -1,2 +1,4 @@
 pub mod Joinable
+pub mod Seen
 pub mod Shows
+pub mod Sources

@@ -7,11 +7,13 @@ use row_sets::Relation;
 use std::alloc::Global;
 use std::collections::BTreeMap;
 use std::marker::Model;
+use std::rc::Rc;
 
-/// A relation for each of some names. A contract sees the tables of the definition.
+/// A relation for each of some names. Copies share the relations. A contract sees the tables of the
+/// definition.
 #[derive(Debug, Drop)]
 pub struct Db {
-    tables: BTreeMap<Name, Relation>,
+    tables: BTreeMap<Name, Rc<Relation>>,
 }
 
 impl Model for Db {
@@ -19,12 +21,13 @@ impl Model for Db {
     ghost use Rattle.std.specs.FinMap as finmap;
     ghost use Rattle.lens_specs.specs.Lens.{Tables};
     ghost use Rattle.row_sets.specs.Codes.{coded_relation};
+    ghost use Rattle.whole_put.specs.Seen.{seen_entries};
 
     ghost Value = { Tables };
 
     ghost coded = { finmap.code (coded_list coded_ℕ) coded_relation };
 
-    ghost view = { λ d. finmap.from_entries d.tables.entries };
+    ghost view = { λ d. finmap.from_entries (seen_entries (λ shared. shared.value) d.tables.entries) };
 }
 
 impl Db {
@@ -39,11 +42,12 @@ impl Db {
 
     /// Puts the relation at the name, in place of the one that is there. After `NoMemory` the
     /// tables are unchanged.
-    pub fn set(&mut self, table: Name, relation: Relation) -> Result<(), NoMemory>
+    pub fn set(&mut self, alloc: Global, table: Name, relation: Relation) -> Result<(), NoMemory>
         ensures ok { OnOk result (self.new ≡ finmap.insert self.old table relation) }
         ensures err { OnErr result (self.new ≡ self.old) }
     {
-        self.tables.insert(table, relation)?;
+        let shared = Rc::new(alloc, relation)?;
+        self.tables.insert(table, shared)?;
         Ok(())
     }
 
@@ -51,7 +55,10 @@ impl Db {
     pub fn table(&self, name: &Name) -> Option<&Relation>
         ensures { option_copied result ≡ finmap.get self.now name.now }
     {
-        self.tables.get(name)
+        match self.tables.get(name) {
+            Some(shared) => Some(shared.as_ref()),
+            None => None,
+        }
     }
 
     /// The relation at a name that has one.
@@ -65,24 +72,22 @@ impl Db {
         }
     }
 
-    /// Equal tables.
-    pub fn copy(&self, alloc: Global) -> Result<Db, NoMemory>
+    /// Equal tables, which share the relations.
+    pub fn copy(&self, _alloc: Global) -> Result<Db, NoMemory>
         ensures { IfOk result (λ copy. copy ≡ self.now) }
     {
-        let mut copy = Db::new(alloc);
-        for (name, relation) in self.tables.iter().rev() {
-            copy.set(*name, relation.copy(alloc)?)?;
-        }
-        Ok(copy)
+        Ok(Db {
+            tables: self.tables.clone()?,
+        })
     }
 
     /// The tables with this relation at the name, in place of the one that is there.
-    pub fn with(&self, alloc: Global, name: &Name, relation: &Relation) -> Result<Db, NoMemory>
+    pub fn with(&self, alloc: Global, name: &Name, relation: Relation) -> Result<Db, NoMemory>
         ensures { IfOk result (λ after.
-            after ≡ finmap.insert self.now name.now relation.now) }
+            after ≡ finmap.insert self.now name.now relation) }
     {
         let mut after = self.copy(alloc)?;
-        after.set(*name, relation.copy(alloc)?)?;
+        after.set(alloc, *name, relation)?;
         Ok(after)
     }
 }

@@ -8,6 +8,7 @@ pub mod getting;
 pub mod joining;
 pub mod putting;
 pub mod selecting;
+mod sources;
 
 pub use db::Db;
 pub use dropping::{get_drop, put_drop};

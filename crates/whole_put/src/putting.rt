@@ -1,17 +1,18 @@
 //! The tables after a put of the view that a lens shows of them.
-ghost use Rattle.std.specs.Prelude.{◌≡◌, IfOk};
+ghost use Rattle.std.specs.Prelude.{◌≡◌, IfOk, OnOk};
 ghost use Rattle.lens_specs.specs.Lens as spec;
 ghost use Rattle.lens_specs.specs.Lens.{sort_of, view_names};
 ghost use Rattle.lens_specs.specs.Nodes.{drop_put, join_put_left, join_right, select_put};
 ghost use Rattle.lens_specs.specs.Predicate.{holds};
 ghost use Rattle.lens_specs.specs.Sort.{IsOfSort};
 ghost use Rattle.lens_laws.specs.Lenses.{AreOf, IsTyped};
+ghost use Rattle.whole_put.specs.Sources.{AreShown};
 
 use crate::db::Db;
 use crate::dropping::put_drop;
-use crate::getting::get;
 use crate::joining::put_join;
 use crate::selecting::put_select;
+use crate::sources::Sources;
 use lens_pred::Pred;
 use lens_types::{Lens, TypedLens};
 use lens_values::{Name, Names, NoMemory, Value};
@@ -29,11 +30,33 @@ pub fn put(alloc: Global, lens: &TypedLens, view: &Relation, db: &Db) -> Result<
         view.now.rows ≡ spec.get lens.now db.now → after ≡ db.now) }
     ensures sorts { IfOk result (λ after. AreOf lens.now after) }
 {
+    // The lens has to be typed, which each lens is.
+    let _ = lens.sort();
+    let under = Sources::of(alloc, lens, db)?;
+    let mut after = db.copy(alloc)?;
+    write(alloc, lens, &under, view.copy(alloc)?, &mut after)?;
+    Ok(after)
+}
+
+// Makes the tables those after a put of the view. `under` is what the sources showed before.
+fn write(
+    alloc: Global,
+    lens: &TypedLens,
+    under: &Sources,
+    view: Relation,
+    db: &mut Db,
+) -> Result<(), NoMemory>
+    requires tables { AreOf lens.now db.old }
+    requires under { AreShown lens.now db.old under.now }
+    requires view { IsOfSort view (sort_of lens.now) }
+    ensures { OnOk result (db.new ≡ spec.put lens.now view.rows db.old) }
+{
     match lens.lens() {
-        Lens::Base { table, .. } => db.with(alloc, table, view),
+        Lens::Base { table, .. } => db.set(alloc, *table, view),
         Lens::Select { pred, of, .. } => {
-            let source = under_select(alloc, pred, of, view, db)?;
-            put(alloc, of, &source, db)
+            let (shown, rest) = under.only();
+            let source = under_select(alloc, pred, of, &view, shown)?;
+            write(alloc, of, rest, source, db)
         }
         Lens::Drop {
             col,
@@ -42,38 +65,39 @@ pub fn put(alloc: Global, lens: &TypedLens, view: &Relation, db: &Db) -> Result<
             of,
             ..
         } => {
-            let source = under_drop(alloc, col, by, fill, of, view, db)?;
-            put(alloc, of, &source, db)
+            let (shown, rest) = under.only();
+            let source = under_drop(alloc, col, by, fill, of, &view, shown)?;
+            write(alloc, of, rest, source, db)
         }
         Lens::Join { left, right, .. } => {
-            let (left_source, right_source) = under_join(alloc, left, right, view, db)?;
-            let left_put = put(alloc, left, &left_source, db)?;
-            put(alloc, right, &right_source, &left_put)
+            let (left_now, right_now) = under.both();
+            let sources = under_join(alloc, left, right, &view, left_now.0, right_now.0)?;
+            write(alloc, left, left_now.1, sources.0, db)?;
+            write(alloc, right, right_now.1, sources.1, db)
         }
     }
 }
 
-// What the lens under a selection shows after a put of the selection.
+// The source of a selection after a put of the selection.
 fn under_select(
     alloc: Global,
     pred: &Pred,
     of: &TypedLens,
     view: &Relation,
-    db: &Db,
+    source: &Relation,
 ) -> Result<Relation, NoMemory>
     requires typed { IsTyped (spec.select pred.now of.now) }
-    requires tables { AreOf of.now db.now }
+    requires source { IsOfSort source.now (sort_of of.now) }
     requires view { IsOfSort view.now (sort_of (spec.select pred.now of.now)) }
     ensures rows { let s = sort_of of.now in
-        IfOk result (λ source. source.rows
-        ≡ select_put s.tree (holds pred.now) view.now.rows (spec.get of.now db.now)) }
-    ensures sort { IfOk result (λ source. IsOfSort source (sort_of of.now)) }
+        IfOk result (λ after. after.rows
+        ≡ select_put s.tree (holds pred.now) view.now.rows source.now.rows) }
+    ensures sort { IfOk result (λ after. IsOfSort after (sort_of of.now)) }
 {
-    let source = get(alloc, of, db)?;
-    put_select(alloc, of.sort().tree(), pred, view, &source)
+    put_select(alloc, of.sort().tree(), pred, view, source)
 }
 
-// What the lens under a projection shows after a put of the projection.
+// The source of a projection after a put of the projection.
 fn under_drop(
     alloc: Global,
     col: &Name,
@@ -81,46 +105,45 @@ fn under_drop(
     fill: &Value,
     of: &TypedLens,
     view: &Relation,
-    db: &Db,
+    source: &Relation,
 ) -> Result<Relation, NoMemory>
     requires typed { IsTyped (spec.drop col.now by.now fill.now of.now) }
-    requires tables { AreOf of.now db.now }
+    requires source { IsOfSort source.now (sort_of of.now) }
     requires view { IsOfSort view.now (sort_of (spec.drop col.now by.now fill.now of.now)) }
-    ensures rows { IfOk result (λ source. source.rows
-        ≡ drop_put col.now by.now fill.now view.now.rows (spec.get of.now db.now)) }
-    ensures sort { IfOk result (λ source. IsOfSort source (sort_of of.now)) }
+    ensures rows { IfOk result (λ after. after.rows
+        ≡ drop_put col.now by.now fill.now view.now.rows source.now.rows) }
+    ensures sort { IfOk result (λ after. IsOfSort after (sort_of of.now)) }
 {
-    let source = get(alloc, of, db)?;
-    put_drop(alloc, col, by, fill, view, &source)
+    put_drop(alloc, col, by, fill, view, source)
 }
 
-// What the lenses under a join show after a put of the join.
+// The sources of a join after a put of the join.
 fn under_join(
     alloc: Global,
     left: &TypedLens,
     right: &TypedLens,
     view: &Relation,
-    db: &Db,
+    left_source: &Relation,
+    right_source: &Relation,
 ) -> Result<(Relation, Relation), NoMemory>
     requires typed { IsTyped (spec.join left.now right.now) }
-    requires tables { AreOf (spec.join left.now right.now) db.now }
+    requires left { IsOfSort left_source.now (sort_of left.now) }
+    requires right { IsOfSort right_source.now (sort_of right.now) }
     requires view { IsOfSort view.now (sort_of (spec.join left.now right.now)) }
     ensures left_rows { let U = view_names left.now in
         let V = view_names right.now in
         let F = (sort_of left.now).tree in
         let G = (sort_of right.now).tree in
-        let M = spec.get left.now db.now in
-        let N = spec.get right.now db.now in
-        IfOk result (λ sources. sources.0.rows ≡ join_put_left U V F G view.now.rows M N) }
+        let M = left_source.now.rows in
+        let N = right_source.now.rows in
+        IfOk result (λ after. after.0.rows ≡ join_put_left U V F G view.now.rows M N) }
     ensures right_rows { let V = view_names right.now in
         let G = (sort_of right.now).tree in
-        let N = spec.get right.now db.now in
-        IfOk result (λ sources. sources.1.rows ≡ join_right V G view.now.rows N) }
-    ensures left_sort { IfOk result (λ sources. IsOfSort sources.0 (sort_of left.now)) }
-    ensures right_sort { IfOk result (λ sources. IsOfSort sources.1 (sort_of right.now)) }
+        let N = right_source.now.rows in
+        IfOk result (λ after. after.1.rows ≡ join_right V G view.now.rows N) }
+    ensures left_sort { IfOk result (λ after. IsOfSort after.0 (sort_of left.now)) }
+    ensures right_sort { IfOk result (λ after. IsOfSort after.1 (sort_of right.now)) }
 {
-    let left_source = get(alloc, left, db)?;
-    let right_source = get(alloc, right, db)?;
     let left_tree = left.sort().tree();
     let right_tree = right.sort().tree();
     put_join(
@@ -128,7 +151,7 @@ fn under_join(
         left_tree,
         right_tree,
         view,
-        &left_source,
-        &right_source,
+        left_source,
+        right_source,
     )
 }

@@ -1,19 +1,7 @@
-use Rattle.std.proofs.Common.{◌∙◌, ◌+◌, ap, refl}
-use Rattle.std.specs.Prelude.{map}
-use Rattle.lens_specs.specs.Keeping.{rows}
-use Rattle.server_specs.specs.Answer.{changed}
-use Rattle.server_specs.specs.Changing.{with_last}
-use Rattle.signed_delta.specs.Tables.{table_delta}
+use Rattle.std.proofs.Common.{sym}
+use Rattle.server_laws.proofs.Stored.{lens_here}
+use Rattle.lens_server.specs.States.{state_of}
 use Rattle.lens_server.proofs.changing.plan_change.Goals as goal
 
-pub returns : goal.returns
-returns c =
-    let version = c.args.store.now.version + 1 in record {
-      answer = ap (λ ds. changed ds version) c.new.ensures;
-      staged = _;
-      is = refl;
-      change = ap (λ ds. rows (map table_delta ds)) (c.in_ok-kept.ensures ∙ c.as_slice-2.ensures.value);
-      definition = refl;
-      tables = refl;
-      last = c.in_ok-last.ensures ∙ ap (λ ds. with_last version (map table_delta ds) c.args.store.now.last) c.as_slice.ensures.value;
-    }
+pub plan_asked-requires-clause-here : goal.plan_asked-requires-clause-here
+plan_asked-requires-clause-here c = lens_here (state_of c.args.store.now) c.requires.valid c.args.view.now c.in-Some.lens.now (sym c.in-Some.ensures)

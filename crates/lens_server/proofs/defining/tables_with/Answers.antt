@@ -16,4 +16,4 @@ returns-in_ok-columns-in-Some c =
     ∙ ap (λ l. (sort_of l).columns) c.lens.ensures in
     let empty : c.empty.result ≡ record { columns = (sort_of L).columns; rows = set.empty } = c.empty.ensures ∙ ap (λ U. record { columns = U; rows = set.empty }) columns in
     let same = ap (finmap.insert c.args.tables.now c.in-Some.name) empty ∙ sym (ap (λ o. tables_with o L c.args.tables.now) c.in-Some.is) in
-    subst (λ db. IfOk c.with-in-Some.result (λ after. after ≡ db)) same c.with-in-Some.ensures
+    subst (λ db. IfOk c.with.result (λ after. after ≡ db)) same c.with.ensures

@@ -7,4 +7,4 @@ use Rattle.view_catalog.proofs.judging.judge_view.Goals as goal
 pub returns : goal.returns
 returns c =
     view_made (catalogue c.args.catalog.now.texts) c.args.name (expr_view c.args.expr) c.in_ok-lens.lens
-    (sym c.has.ensures ∙ c.if-has.false) (sym c.is_unbuilt.ensures ∙ c.if-is_unbuilt.false) c.in_ok-lens.ensures (omega arith)
+    (sym c.has.ensures ∙ c.if-has.false) c.in_ok-lens.ensures (omega arith)

@@ -1,4 +1,4 @@
-use Rattle.std.proofs.Common.{◌≡◌, ap, subst, sym}
+use Rattle.std.proofs.Common.{◌≡◌, ◌∙◌, ap, subst, sym}
 use Rattle.std.specs.Prelude.{IfOk}
 use Rattle.std.proofs.lemmas.Result.{IfOk-weaker}
 use Rattle.lens_specs.specs.Lens.{sort_of}
@@ -6,7 +6,7 @@ use Rattle.lens_specs.specs.Columns.{names}
 use Rattle.lens_specs.specs.Nodes.{join_put_left, join_right}
 use Rattle.lens_specs.specs.Relation.{Relation}
 use Rattle.lens_specs.specs.Sort.{IsOfSort}
-use Rattle.whole_put.proofs.JoinedLenses.{kept_tree, left_after, left_is_of_sort, left_meets, left_source, put_can, right_after, right_is_of_sort, right_meets, right_source, view_left, view_right}
+use Rattle.whole_put.proofs.JoinedLenses.{columns_of_both, kept_tree, left_after, left_is_of_sort, left_meets, left_source, put_can, right_after, right_is_of_sort, right_meets, right_source, view_left, view_right}
 use Rattle.whole_put.proofs.Lenses.{over}
 use Rattle.whole_put.proofs.putting.under_join.Goals as goal
 use Rattle.whole_put.proofs.putting.under_join.Goals.{After-put_join, After-tree-right_tree}
@@ -20,84 +20,94 @@ right_tree c = kept_tree c.args.right.now c.sort-2.result.now c.tree-right_tree.
 pub put_join-requires-clause-can : goal.put_join-requires-clause-can
 put_join-requires-clause-can c =
     let d = (goal.at.put_join-requires-clause-can c).After-tree-right_tree in
-    put_can c.args.left.now c.args.right.now c.requires.typed c.args.db.now c.in_ok-left_source.left_source c.in_ok-right_source.right_source _ _ c.in_ok-left_source.ensures.value c.in_ok-right_source.ensures.value (left_tree d) (right_tree d)
+    put_can c.args.left.now c.args.right.now c.requires.typed c.args.left_source.now c.args.right_source.now _ _ c.requires.left c.requires.right (left_tree d) (right_tree d)
 
 pub put_join-requires-clause-left_meets : goal.put_join-requires-clause-left_meets
 put_join-requires-clause-left_meets c =
     let d = (goal.at.put_join-requires-clause-left_meets c).After-tree-right_tree in
-    left_meets c.args.left.now c.args.right.now c.requires.typed c.args.db.now c.in_ok-left_source.left_source c.in_ok-right_source.right_source _ _ c.in_ok-left_source.ensures.value c.in_ok-right_source.ensures.value (left_tree d) (right_tree d) c.requires.tables.0
+    left_meets c.args.left.now c.args.right.now c.requires.typed c.args.left_source.now c.args.right_source.now _ _ c.requires.left c.requires.right (left_tree d) (right_tree d)
 
 pub put_join-requires-clause-right_meets : goal.put_join-requires-clause-right_meets
 put_join-requires-clause-right_meets c =
     let d = (goal.at.put_join-requires-clause-right_meets c).After-tree-right_tree in
-    right_meets c.args.left.now c.args.right.now c.requires.typed c.args.db.now c.in_ok-left_source.left_source c.in_ok-right_source.right_source _ _ c.in_ok-left_source.ensures.value c.in_ok-right_source.ensures.value (left_tree d) (right_tree d) c.requires.tables.1
+    right_meets c.args.left.now c.args.right.now c.requires.typed c.args.left_source.now c.args.right_source.now _ _ c.requires.left c.requires.right (left_tree d) (right_tree d)
+
+pub put_join-requires-clause-columns : goal.put_join-requires-clause-columns
+put_join-requires-clause-columns c =
+    let d = (goal.at.put_join-requires-clause-columns c).After-tree-right_tree in
+    c.requires.view.0 ∙ columns_of_both c.args.left.now c.args.right.now c.requires.typed c.args.left_source.now c.args.right_source.now _ _ c.requires.left c.requires.right (left_tree d) (right_tree d)
 
 pub put_join-requires-clause-view_left : goal.put_join-requires-clause-view_left
 put_join-requires-clause-view_left c =
     let d = (goal.at.put_join-requires-clause-view_left c).After-tree-right_tree in
-    view_left c.args.left.now c.args.right.now c.requires.typed c.args.db.now c.in_ok-left_source.left_source c.in_ok-right_source.right_source _ _ c.in_ok-left_source.ensures.value c.in_ok-right_source.ensures.value (left_tree d) (right_tree d) c.args.view.now.rows c.requires.view.1
+    view_left c.args.left.now c.args.right.now c.requires.typed c.args.left_source.now c.args.right_source.now _ _ c.requires.left c.requires.right (left_tree d) (right_tree d) c.args.view.now.rows c.requires.view.1
 
 pub put_join-requires-clause-view_right : goal.put_join-requires-clause-view_right
 put_join-requires-clause-view_right c =
     let d = (goal.at.put_join-requires-clause-view_right c).After-tree-right_tree in
-    view_right c.args.left.now c.args.right.now c.requires.typed c.args.db.now c.in_ok-left_source.left_source c.in_ok-right_source.right_source _ _ c.in_ok-left_source.ensures.value c.in_ok-right_source.ensures.value (left_tree d) (right_tree d) c.args.view.now.rows c.requires.view.1
+    view_right c.args.left.now c.args.right.now c.requires.typed c.args.left_source.now c.args.right_source.now _ _ c.requires.left c.requires.right (left_tree d) (right_tree d) c.args.view.now.rows c.requires.view.1
 
 -- ---- the sources are those of the definition
 
-left_made : (c : After-put_join) → IfOk c.put_join.result (λ sources. sources.0 ≡ over c.args.left.now (left_after c.args.left.now c.args.right.now c.args.view.now.rows c.args.db.now))
+-- the left source after the put, and the right one
+abbrev new_left : After-put_join → Relation
+new_left c = over c.args.left.now (left_after c.args.left.now c.args.right.now c.args.view.now.rows c.args.left_source.now.rows c.args.right_source.now.rows)
+
+abbrev new_right : After-put_join → Relation
+new_right c = over c.args.right.now (right_after c.args.right.now c.args.view.now.rows c.args.right_source.now.rows)
+
+left_made : (c : After-put_join) → IfOk c.put_join.result (λ after. after.0 ≡ new_left c)
 left_made c =
     let d = (goal.at.After-put_join c).After-tree-right_tree in
     let A = c.args.left.now in
     let B = c.args.right.now in
     let O = c.args.view.now.rows in
-    let M = c.in_ok-left_source.left_source in
-    let N = c.in_ok-right_source.right_source in
+    let M = c.args.left_source.now in
+    let N = c.args.right_source.now in
     let F = c.tree-left_tree.result.now in
     let G = c.tree-right_tree.result.now in
-    IfOk-weaker c.put_join.result (λ sources. sources.0 ≡ record M { rows = join_put_left (names M.columns) (names N.columns) F G O M.rows N.rows }) (λ sources. sources.0 ≡ over A (left_after A B O c.args.db.now))
-    (λ sources is. left_source A B c.requires.typed c.args.db.now M N F G c.in_ok-left_source.ensures.value c.in_ok-right_source.ensures.value (left_tree d) (right_tree d) O sources.0 is)
+    IfOk-weaker c.put_join.result (λ after. after.0 ≡ record M { rows = join_put_left (names M.columns) (names N.columns) F G O M.rows N.rows }) (λ after. after.0 ≡ new_left c)
+    (λ after is. left_source A B c.requires.typed M N F G c.requires.left c.requires.right (left_tree d) (right_tree d) O after.0 is)
     c.put_join.ensures.left
 
-right_made : (c : After-put_join) → IfOk c.put_join.result (λ sources. sources.1 ≡ over c.args.right.now (right_after c.args.right.now c.args.view.now.rows c.args.db.now))
+right_made : (c : After-put_join) → IfOk c.put_join.result (λ after. after.1 ≡ new_right c)
 right_made c =
     let d = (goal.at.After-put_join c).After-tree-right_tree in
     let A = c.args.left.now in
     let B = c.args.right.now in
     let O = c.args.view.now.rows in
-    let M = c.in_ok-left_source.left_source in
-    let N = c.in_ok-right_source.right_source in
+    let M = c.args.left_source.now in
+    let N = c.args.right_source.now in
     let F = c.tree-left_tree.result.now in
     let G = c.tree-right_tree.result.now in
-    IfOk-weaker c.put_join.result (λ sources. sources.1 ≡ record N { rows = join_right (names N.columns) G O N.rows }) (λ sources. sources.1 ≡ over B (right_after B O c.args.db.now))
-    (λ sources is. right_source A B c.requires.typed c.args.db.now M N F G c.in_ok-left_source.ensures.value c.in_ok-right_source.ensures.value (left_tree d) (right_tree d) O sources.1 is)
+    IfOk-weaker c.put_join.result (λ after. after.1 ≡ record N { rows = join_right (names N.columns) G O N.rows }) (λ after. after.1 ≡ new_right c)
+    (λ after is. right_source A B c.requires.typed M N F G c.requires.left c.requires.right (left_tree d) (right_tree d) O after.1 is)
     c.put_join.ensures.right
 
 pub returns-clause-left_rows : goal.returns-clause-left_rows
 returns-clause-left_rows c =
-    let U = over c.args.left.now (left_after c.args.left.now c.args.right.now c.args.view.now.rows c.args.db.now) in
-    IfOk-weaker c.put_join.result (λ sources. sources.0 ≡ U) (λ sources. sources.0.rows ≡ U.rows) (λ sources is. ap (λ (M : Relation). M.rows) is) (left_made (goal.at.returns-clause-left_rows c).After-put_join)
+    let d = (goal.at.returns-clause-left_rows c).After-put_join in
+    let U = new_left d in
+    IfOk-weaker c.put_join.result (λ after. after.0 ≡ U) (λ after. after.0.rows ≡ U.rows) (λ after is. ap (λ (M : Relation). M.rows) is) (left_made d)
 
 pub returns-clause-right_rows : goal.returns-clause-right_rows
 returns-clause-right_rows c =
-    let U = over c.args.right.now (right_after c.args.right.now c.args.view.now.rows c.args.db.now) in
-    IfOk-weaker c.put_join.result (λ sources. sources.1 ≡ U) (λ sources. sources.1.rows ≡ U.rows) (λ sources is. ap (λ (M : Relation). M.rows) is) (right_made (goal.at.returns-clause-right_rows c).After-put_join)
+    let d = (goal.at.returns-clause-right_rows c).After-put_join in
+    let U = new_right d in
+    IfOk-weaker c.put_join.result (λ after. after.1 ≡ U) (λ after. after.1.rows ≡ U.rows) (λ after is. ap (λ (M : Relation). M.rows) is) (right_made d)
 
 pub returns-clause-left_sort : goal.returns-clause-left_sort
 returns-clause-left_sort c =
+    let d = (goal.at.returns-clause-left_sort c).After-put_join in
     let A = c.args.left.now in
-    let B = c.args.right.now in
-    let O = c.args.view.now.rows in
-    let U = over A (left_after A B O c.args.db.now) in
-    let of_sort = left_is_of_sort A B c.requires.typed c.args.db.now c.requires.tables O c.requires.view.1 in
-    IfOk-weaker c.put_join.result (λ sources. sources.0 ≡ U) (λ sources. IsOfSort sources.0 (sort_of A)) (λ sources is. subst (λ M. IsOfSort M (sort_of A)) (sym is) of_sort)
-    (left_made (goal.at.returns-clause-left_sort c).After-put_join)
+    let U = new_left d in
+    let of_sort = left_is_of_sort A c.args.right.now c.requires.typed c.args.view.now.rows c.args.left_source.now.rows c.args.right_source.now.rows c.requires.left.1 c.requires.right.1 c.requires.view.1 in
+    IfOk-weaker c.put_join.result (λ after. after.0 ≡ U) (λ after. IsOfSort after.0 (sort_of A)) (λ after is. subst (λ M. IsOfSort M (sort_of A)) (sym is) of_sort) (left_made d)
 
 pub returns-clause-right_sort : goal.returns-clause-right_sort
 returns-clause-right_sort c =
-    let A = c.args.left.now in
+    let d = (goal.at.returns-clause-right_sort c).After-put_join in
     let B = c.args.right.now in
-    let O = c.args.view.now.rows in
-    let U = over B (right_after B O c.args.db.now) in
-    let of_sort = right_is_of_sort A B c.requires.typed c.args.db.now c.requires.tables O c.requires.view.1 in
-    IfOk-weaker c.put_join.result (λ sources. sources.1 ≡ U) (λ sources. IsOfSort sources.1 (sort_of B)) (λ sources is. subst (λ M. IsOfSort M (sort_of B)) (sym is) of_sort)
-    (right_made (goal.at.returns-clause-right_sort c).After-put_join)
+    let U = new_right d in
+    let of_sort = right_is_of_sort c.args.left.now B c.requires.typed c.args.view.now.rows c.args.left_source.now.rows c.args.right_source.now.rows c.requires.left.1 c.requires.right.1 c.requires.view.1 in
+    IfOk-weaker c.put_join.result (λ after. after.1 ≡ U) (λ after. IsOfSort after.1 (sort_of B)) (λ after is. subst (λ M. IsOfSort M (sort_of B)) (sym is) of_sort) (right_made d)

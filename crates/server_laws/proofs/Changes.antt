@@ -1,0 +1,159 @@
+-- Lines that read, put, edit and preview.
+use Rattle.std.proofs.Common.{◌≡◌, ◌⊎◌, true, false, ℕ, List, [], ◌∷◌, Option, Some, None, Result, Ok, Err, inl, inr, refl, sym, ap, subst, ◌∙◌}
+use Rattle.std.specs.Prelude.{◌↔◌}
+use Rattle.std.proofs.lemmas.Bool.{cases_Bool}
+use Rattle.std.specs.FinMap as finmap
+use Rattle.serde_json.specs.Data.{Items}
+use Rattle.lens_values.specs.SortedSet as set
+use Rattle.lens_values.specs.declared.row.Row.{Row}
+use Rattle.lens_laws.specs.Checks.{IsOff}
+use Rattle.lens_laws.specs.Edits.{AreDiffs}
+use Rattle.lens_specs.specs.Names.{Name}
+use Rattle.lens_specs.specs.Relation.{Rows}
+use Rattle.lens_specs.specs.Predicate.{holds}
+use Rattle.lens_specs.specs.Dependencies.{Edge}
+use Rattle.lens_specs.specs.Sort.{IsOf}
+use Rattle.lens_specs.specs.Lens.{Lens, sort_of, get, tables_of}
+use Rattle.lens_specs.specs.Delta.{TableDelta, changes, differences}
+use Rattle.io_specs.specs.Lines.{Line}
+use Rattle.catalog_specs.specs.Catalogue.{catalogue}
+use Rattle.server_specs.specs.State.{State}
+use Rattle.server_specs.specs.Answer.{Answer, shown, changed, stale, unknown_name, bad_row, in_remove, in_add, off_predicate, clash}
+use Rattle.server_specs.specs.Request.{read, edit, preview, request}
+use Rattle.server_specs.specs.Sending.{rows_in}
+use Rattle.server_specs.specs.Questions.{about, rows_told}
+use Rattle.server_specs.specs.Changing.{Sent, whole, edited, as_set, set_in, edit_of, sent_view, changed_at, is_stale, unless_stale, of_sort, tested, asked_view, accept, settled, foretold, changed_by}
+use Rattle.server_specs.specs.Answering.{answer, answer_request}
+use Rattle.server_specs.specs.Validity.{Valid}
+use Rattle.server_laws.proofs.AnswerFacts.{asked_refuses}
+use Rattle.server_laws.proofs.Asked.{sent_fits}
+use Rattle.server_laws.proofs.Puts.{IsSettled, accepted_where, accepted_or_refused, refused_by, clashes_by, put_then_read, told, changes_told, changes_differ, others_stay, read_then_put}
+use Rattle.server_laws.proofs.Stored.{lens_here}
+use Rattle.server_laws.specs.Answers.{IsAccepted, IsRefusal}
+use Rattle.server_laws.specs.ChangeLaws.{IsReadLine, change_request, IsChangeLine, SendsView}
+use Rattle.server_laws.specs.PutLaws.{AllFit, IsFirstClashOf, put_set}
+
+pub lines_read : (s : State) (l : Line) (name : Name) (L : Lens) → IsReadLine s l name L → answer s l ≡ (shown (get L s.tables) s.version, s)
+unfolding answer
+lines_read s l name L h = ap (λ q. answer_request q s) h.asked ∙ ap (λ o. (about (rows_told s) name o, s)) h.lens
+
+-- ---- lines that change
+
+-- the answer to a line that changes, by what its name has
+change_is : (s : State) (l : Line) (name : Name) (sent : Sent) (on : Option ℕ) → request l ≡ Ok (change_request sent name on)
+    → answer s l ≡ changed_by sent on name (finmap.get (catalogue s.texts) name) s
+unfolding answer
+change_is s l name (whole rows) on asked = ap (λ r. answer_request r s) asked
+change_is s l name (edited remove add) on asked = ap (λ r. answer_request r s) asked
+
+pub lines_settle : (s : State) (l : Line) (name : Name) (L : Lens) (sent : Sent) (on : Option ℕ) → IsChangeLine s l name L sent on → answer s l ≡ settled (asked_view s L sent on) L s
+lines_settle s l name L sent on h = change_is s l name sent on h.asked ∙ ap (λ o. changed_by sent on name o s) h.lens
+
+pub unknown_told : (s : State) (l : Line) (name : Name) (sent : Sent) (on : Option ℕ) → request l ≡ Ok (change_request sent name on) → finmap.get (catalogue s.texts) name ≡ None
+    → answer s l ≡ (unknown_name name, s)
+unknown_told s l name sent on asked none = change_is s l name sent on asked ∙ ap (λ o. changed_by sent on name o s) none
+
+pub bad_told : (s : State) (l : Line) (name : Name) (L : Lens) (sent : Sent) (on : Option ℕ) → IsChangeLine s l name L sent on → (bad : Answer) → sent_view sent L s ≡ Err bad → answer s l ≡ (bad, s)
+bad_told s l name L sent on h bad is = lines_settle s l name L sent on h ∙ ap (λ r. settled (tested s L on r) L s) is
+
+pub removed_first : (s : State) (l : Line) (name : Name) (L : Lens) (remove add : Items) (on : Option ℕ) → IsChangeLine s l name L (edited remove add) on
+    → (index : ℕ) (column : List ℕ) → rows_in (sort_of L).columns remove ≡ Err (index, column) → answer s l ≡ (bad_row in_remove index column, s)
+removed_first s l name L remove add on h index column is = bad_told s l name L (edited remove add) on h (bad_row in_remove index column)
+    (ap (λ r. edit_of (get L s.tables) (as_set in_remove r) (set_in in_add (sort_of L).columns add)) is)
+
+pub others_left : (s : State) (l : Line) (name : Name) (L : Lens) (sent : Sent) (on : Option ℕ) → IsChangeLine s l name L sent on
+    → (t : Name) → set.contains (tables_of L) t ≡ false → finmap.get (answer s l).1.tables t ≡ finmap.get s.tables t
+others_left s l name L sent on h t o = ap (λ r. finmap.get r.1.tables t) (lines_settle s l name L sent on h) ∙ others_stay (asked_view s L sent on) L s t o
+
+texts_accept : (L : Lens) (N : Rows) (ds : List TableDelta) (s : State) → (accept L N ds s).1.texts ≡ s.texts
+texts_accept L N [] s = refl
+texts_accept L N (d ∷ ds) s = refl
+
+-- a change leaves the definitions
+pub texts_settled : (r : Result Rows Answer) (L : Lens) (s : State) → (settled r L s).1.texts ≡ s.texts
+texts_settled (Err refusal) L s = refl
+texts_settled (Ok N) L s = texts_accept L N (changes L N s.tables) s
+
+-- ---- lines that send a new view
+
+module _ (s : State) (l : Line) (name : Name) (L : Lens) (on : Option ℕ) (N : Rows) (h : SendsView s l name L on N) where
+  -- the answer, by whether the version is stale
+  sent_settles : answer s l ≡ settled (unless_stale (is_stale s L on) (changed_at s L) s.version (of_sort (sort_of L) N)) L s
+  sent_settles = lines_settle s l name L h.sent on h.line ∙ ap (λ r. settled (tested s L on r) L s) h.view
+
+  pub stale_told : is_stale s L on ≡ true → answer s l ≡ (stale (changed_at s L) s.version, s)
+  stale_told old = sent_settles ∙ ap (λ b. settled (unless_stale b (changed_at s L) s.version (of_sort (sort_of L) N)) L s) old
+
+  pub views_fit : Valid s → AllFit (sort_of L).columns N
+  views_fit v = sent_fits s L (lens_here s v name L h.line.lens) h.sent N h.view
+
+  pub puts_set : is_stale s L on ≡ false → answer s l ≡ put_set N L s
+  puts_set fresh = sent_settles ∙ ap (λ b. settled (unless_stale b (changed_at s L) s.version (of_sort (sort_of L) N)) L s) fresh
+
+  pub lines_accepted : Valid s → is_stale s L on ≡ false → IsAccepted (answer s l).0 ↔ IsOf N (sort_of L)
+  lines_accepted v fresh = subst (λ r. IsAccepted r.0 ↔ IsOf N (sort_of L)) (sym (puts_set fresh)) (accepted_where L N s (views_fit v))
+
+  pub by_least_row : is_stale s L on ≡ false → (row : Row) → (answer s l ≡ (off_predicate row, s)) ↔ IsOff (holds (sort_of L).predicate) N row
+  by_least_row fresh row = subst (λ r. (r ≡ (off_predicate row, s)) ↔ IsOff (holds (sort_of L).predicate) N row) (sym (puts_set fresh)) (refused_by L N s row)
+
+  pub by_first_clash : is_stale s L on ≡ false → (edge : Edge) (first second : Row) → (answer s l ≡ (clash edge first second, s)) ↔ IsFirstClashOf (sort_of L) N edge first second
+  by_first_clash fresh edge first second =
+      subst (λ r. (r ≡ (clash edge first second, s)) ↔ IsFirstClashOf (sort_of L) N edge first second) (sym (puts_set fresh)) (clashes_by L N s edge first second)
+
+  pub no_fourth : is_stale s L on ≡ false → IsSettled s (answer s l)
+  no_fourth fresh = subst (IsSettled s) (sym (puts_set fresh)) (accepted_or_refused L N s)
+
+  -- what is accepted is not stale, and is a put
+  accepted_puts : IsAccepted (answer s l).0 → answer s l ≡ put_set N L s
+  accepted_puts accepted = elim (cases_Bool (is_stale s L on)) [
+    | inl old ↦ absurd (subst (λ r. IsAccepted r.0) (stale_told old) accepted)
+    | inr fresh ↦ puts_set fresh
+  ]
+
+  put_accepted : IsAccepted (answer s l).0 → IsAccepted (put_set N L s).0
+  put_accepted accepted = subst (λ r. IsAccepted r.0) (accepted_puts accepted) accepted
+
+  pub next_reads : Valid s → IsAccepted (answer s l).0 → (m : Line) → request m ≡ Ok (read name) → (answer (answer s l).1 m).0 ≡ shown N (answer s l).1.version
+  next_reads v accepted m asked =
+      let is = accepted_puts accepted in
+      let texts : (answer s l).1.texts ≡ s.texts = ap (λ r. r.1.texts) is ∙ texts_settled (of_sort (sort_of L) N) L s in
+      let reads = lines_read (answer s l).1 m name L (record { asked = asked; lens = ap (λ t. finmap.get (catalogue t) name) texts ∙ h.line.lens }) in
+      let rows_are : get L (answer s l).1.tables ≡ N = ap (λ r. get L r.1.tables) is ∙ put_then_read s L N (lens_here s v name L h.line.lens) (views_fit v) (put_accepted accepted) in
+      ap (λ r. r.0) reads ∙ ap (λ M. shown M (answer s l).1.version) rows_are
+
+  pub lines_tell : IsAccepted (answer s l).0 → (answer s l).0 ≡ changed (changes L N s.tables) (answer s l).1.version
+  lines_tell accepted = subst (λ r. r.0 ≡ changed (changes L N s.tables) r.1.version) (sym (accepted_puts accepted)) (changes_told L N s (put_accepted accepted))
+
+  pub lines_differ : IsAccepted (answer s l).0
+      → (changes L N s.tables ≡ differences (set.items (tables_of L)) s.tables (answer s l).1.tables) × AreDiffs s.tables (answer s l).1.tables (changes L N s.tables)
+  lines_differ accepted =
+      subst (λ r. (changes L N s.tables ≡ differences (set.items (tables_of L)) s.tables r.1.tables) × AreDiffs s.tables r.1.tables (changes L N s.tables)) (sym (accepted_puts accepted))
+      (changes_differ L N s (put_accepted accepted))
+
+pub nothing_changed : (s : State) → Valid s → (l : Line) (name : Name) (L : Lens) (on : Option ℕ) → SendsView s l name L on (get L s.tables) → is_stale s L on ≡ false
+    → answer s l ≡ (changed [] s.version, s)
+nothing_changed s v l name L on h fresh = puts_set s l name L on (get L s.tables) h fresh ∙ read_then_put s v name L h.line.lens
+
+-- ---- previews
+
+-- the answer to an edit, and the answer to its preview
+abbrev Foretells : State → Answer × State → Answer → Type 0
+Foretells s r a =
+    (IsRefusal r.0 × (a ≡ r.0))
+    ⊎ ((L : Lens) × (N : Rows) × (r.0 ≡ changed (changes L N s.tables) r.1.version) × (a ≡ changed (changes L N s.tables) s.version))
+
+foretells_lens : (s : State) (L : Lens) (r : Result Rows Answer) → ((a : Answer) → r ≡ Err a → IsRefusal a) → Foretells s (settled r L s) (foretold r L s)
+foretells_lens s L (Err a) h = inl (h a refl, refl)
+foretells_lens s L (Ok N) h = inr (L, N, told s L N (changes L N s.tables), refl)
+
+foretells_name : (s : State) (sent : Sent) (on : Option ℕ) (name : Name) (o : Option Lens) → Foretells s (changed_by sent on name o s) (about (λ L. foretold (asked_view s L sent on) L s) name o)
+foretells_name s sent on name None = inl (tt, refl)
+foretells_name s sent on name (Some L) = foretells_lens s L (asked_view s L sent on) (λ a e. (asked_refuses s L sent on a e).refusal)
+
+pub previews_foretell : (s : State) (l m : Line) (name : Name) (remove add : Items) (on : Option ℕ) → request l ≡ Ok (edit name remove add on) → request m ≡ Ok (preview name remove add on)
+    → Foretells s (answer s l) (answer s m).0
+unfolding answer
+previews_foretell s l m name remove add on e f =
+    subst (λ r. Foretells s (answer_request r s) (answer_request (request m) s).0) (sym e)
+    (subst (λ r. Foretells s (answer_request (Ok (edit name remove add on)) s) (answer_request r s).0) (sym f)
+    (foretells_name s (edited remove add) on name (finmap.get (catalogue s.texts) name)))

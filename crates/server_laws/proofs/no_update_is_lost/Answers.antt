@@ -1,0 +1,5 @@
+use Rattle.server_laws.proofs.NoLost.{no_update_lost}
+use Rattle.server_laws.proofs.no_update_is_lost.Goals as goal
+
+pub returns : goal.returns
+returns c = no_update_lost

@@ -1,0 +1,70 @@
+use Rattle.std.proofs.Common.{◌≡◌, ◌∙◌, ap, subst, sym}
+use Rattle.std.specs.Prelude.{IfOk}
+use Rattle.lens_specs.specs.Lens.{base, select, drop, join, view}
+use Rattle.lens_laws.specs.Lenses.{IsTyped}
+use Rattle.lens_types.specs.Lenses.{lens_view}
+use Rattle.whole_put.specs.Sources.{AreShown}
+use Rattle.whole_put.proofs.JoinedLenses.{shown_alike, shown_joined}
+use Rattle.whole_put.proofs.Lenses.{shown_dropped, shown_selected, shown_table}
+use Rattle.whole_put.proofs.Shown.{left_shown, only_shown, right_shown}
+use Rattle.whole_put.proofs.sources.shown_over.Goals as goal
+use Rattle.whole_put.proofs.sources.shown_over.Goals.{After-both}
+
+pub returns-in-Base : goal.returns-in-Base
+returns-in-Base c =
+    let L = c.args.lens.now in
+    let is : base c.in-Base.table c.in-Base.sort ≡ L = sym (ap lens_view c.in-Base.is) ∙ c.lens.ensures.view in
+    let same = shown_table L c.in-Base.table c.in-Base.sort c.args.db.now c.at.result.now is c.at.ensures c.requires.tables in
+    subst (λ u. IfOk c.copy.result (λ shown. shown ≡ u)) same c.copy.ensures
+
+pub returns-in-Select : goal.returns-in-Select
+returns-in-Select c =
+    let L = c.args.lens.now in
+    let C = c.in-Select.of.value in
+    let db = c.args.db.now in
+    let S = c.args.under.now in
+    let M = c.only.result.0.now in
+    let is : select c.in-Select.pred C ≡ L = sym (ap lens_view c.in-Select.is) ∙ c.lens.ensures.view in
+    let under = subst (λ K. AreShown K db S) (sym is) c.requires.under in
+    let source = only_shown C db S c.only.result.1.now M under c.only.ensures in
+    subst (λ u. IfOk c.get_select.result (λ shown. shown ≡ u)) (shown_selected L C c.in-Select.pred db M is source) c.get_select.ensures
+
+pub returns-in-Drop : goal.returns-in-Drop
+returns-in-Drop c =
+    let L = c.args.lens.now in
+    let C = c.in-Drop.of.value in
+    let db = c.args.db.now in
+    let S = c.args.under.now in
+    let M = c.only-in-Drop.result.0.now in
+    let is : drop c.in-Drop.col c.in-Drop.by c.in-Drop.fill C ≡ L = sym (ap lens_view c.in-Drop.is) ∙ c.lens.ensures.view in
+    let under = subst (λ K. AreShown K db S) (sym is) c.requires.under in
+    let source = only_shown C db S c.only-in-Drop.result.1.now M under c.only-in-Drop.ensures in
+    subst (λ u. IfOk c.get_drop.result (λ shown. shown ≡ u)) (shown_dropped L C c.in-Drop.col c.in-Drop.by c.in-Drop.fill db M is source) c.get_drop.ensures
+
+-- ---- a join
+
+is_join : (c : After-both) → join c.in-Join.left.value c.in-Join.right.value ≡ c.args.lens.now
+is_join c = sym (ap lens_view c.in-Join.is) ∙ c.lens.ensures.view
+
+under_join : (c : After-both) → AreShown (join c.in-Join.left.value c.in-Join.right.value) c.args.db.now c.args.under.now
+under_join c = subst (λ K. AreShown K c.args.db.now c.args.under.now) (sym (is_join c)) c.requires.under
+
+left_is : (c : After-both) → c.both.result.0.0.now ≡ view c.in-Join.left.value c.args.db.now
+left_is c =
+    left_shown c.in-Join.left.value c.in-Join.right.value c.args.db.now c.args.under.now c.both.result.0.1.now c.both.result.1.1.now c.both.result.0.0.now c.both.result.1.0.now (under_join c) c.both.ensures
+
+right_is : (c : After-both) → c.both.result.1.0.now ≡ view c.in-Join.right.value c.args.db.now
+right_is c =
+    right_shown c.in-Join.left.value c.in-Join.right.value c.args.db.now c.args.under.now c.both.result.0.1.now c.both.result.1.1.now c.both.result.0.0.now c.both.result.1.0.now (under_join c) c.both.ensures
+
+pub get_join-requires : goal.get_join-requires
+get_join-requires c =
+    let d = (goal.at.get_join-requires c).After-both in
+    let typed = subst IsTyped (sym (is_join d)) c.lens.ensures.typed in
+    shown_alike c.in-Join.left.value c.in-Join.right.value typed c.args.db.now c.both.result.0.0.now c.both.result.1.0.now (left_is d) (right_is d)
+
+pub returns-in-Join : goal.returns-in-Join
+returns-in-Join c =
+    let d = (goal.at.returns-in-Join c).After-both in
+    let same = shown_joined c.args.lens.now c.in-Join.left.value c.in-Join.right.value c.args.db.now c.both.result.0.0.now c.both.result.1.0.now (is_join d) (left_is d) (right_is d) in
+    subst (λ u. IfOk c.get_join.result (λ shown. shown ≡ u)) same c.get_join.ensures

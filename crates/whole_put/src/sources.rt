@@ -1,0 +1,141 @@
+//! What the sources of a lens show, each asked once.
+ghost use Rattle.std.specs.Prelude.{◌≡◌, IfOk, Some, is_some, true};
+ghost use Rattle.lens_specs.specs.Lens as spec;
+ghost use Rattle.lens_laws.specs.Lenses.{AreOf};
+ghost use Rattle.whole_put.specs.Sources.{AreShown, both_of, only_of};
+
+use crate::db::Db;
+use crate::dropping::get_drop;
+use crate::joining::get_join;
+use crate::selecting::get_select;
+use lens_types::{Lens, TypedLens};
+use lens_values::NoMemory;
+use row_sets::Relation;
+use std::alloc::Global;
+
+/// What the sources of a lens show of the tables, with their own sources.
+#[derive(Debug, Drop)]
+pub enum Sources {
+    /// A table has none.
+    Table,
+    /// The source of a selection or of a drop.
+    One {
+        /// What it shows.
+        shown: Relation,
+        /// Its sources.
+        under: Box<Sources>,
+    },
+    /// The sources of a join.
+    Two {
+        /// What the left one shows.
+        left: Relation,
+        /// Its sources.
+        under_left: Box<Sources>,
+        /// What the right one shows.
+        right: Relation,
+        /// Its sources.
+        under_right: Box<Sources>,
+    },
+}
+
+impl Sources {
+    /// What the sources of the lens show.
+    pub fn of(alloc: Global, lens: &TypedLens, db: &Db) -> Result<Sources, NoMemory>
+        requires { AreOf lens.now db.now }
+        ensures { IfOk result (λ sources. AreShown lens.now db.now sources) }
+    {
+        match lens.lens() {
+            Lens::Base { .. } => Ok(Sources::Table),
+            Lens::Select { of, .. } | Lens::Drop { of, .. } => {
+                let under = Sources::of(alloc, of, db)?;
+                let shown = shown_over(alloc, of, &under, db)?;
+                Sources::one(alloc, shown, under)
+            }
+            Lens::Join { left, right, .. } => {
+                let under_left = Sources::of(alloc, left, db)?;
+                let under_right = Sources::of(alloc, right, db)?;
+                let left_shown = shown_over(alloc, left, &under_left, db)?;
+                let right_shown = shown_over(alloc, right, &under_right, db)?;
+                Sources::two(alloc, (left_shown, under_left), (right_shown, under_right))
+            }
+        }
+    }
+
+    // The source that shows this, over its own sources.
+    fn one(alloc: Global, shown: Relation, under: Sources) -> Result<Sources, NoMemory>
+        ensures { IfOk result (λ sources. only_of sources ≡ Some (shown, under)) }
+    {
+        Ok(Sources::One {
+            shown,
+            under: Box::new(alloc, under)?,
+        })
+    }
+
+    // The sources that show these, each over its own sources.
+    fn two(
+        alloc: Global,
+        left: (Relation, Sources),
+        right: (Relation, Sources),
+    ) -> Result<Sources, NoMemory>
+        ensures { IfOk result (λ sources. both_of sources ≡ Some (left, right)) }
+    {
+        let under_left = Box::new(alloc, left.1)?;
+        let under_right = Box::new(alloc, right.1)?;
+        Ok(Sources::Two {
+            left: left.0,
+            under_left,
+            right: right.0,
+            under_right,
+        })
+    }
+
+    /// What the one source shows, and its sources.
+    pub fn only(&self) -> (&Relation, &Sources)
+        requires { is_some (only_of self.now) ≡ true }
+        ensures { only_of self.now ≡ Some (result.0.now, result.1.now) }
+    {
+        match self {
+            Sources::One { shown, under } => (shown, under.as_ref()),
+            _ => unreachable!(),
+        }
+    }
+
+    /// What the left source shows, and its sources; and the same of the right one.
+    pub fn both(&self) -> ((&Relation, &Sources), (&Relation, &Sources))
+        requires { is_some (both_of self.now) ≡ true }
+        ensures { both_of self.now
+            ≡ Some ((result.0.0.now, result.0.1.now), (result.1.0.now, result.1.1.now)) }
+    {
+        match self {
+            Sources::Two {
+                left,
+                under_left,
+                right,
+                under_right,
+            } => ((left, under_left.as_ref()), (right, under_right.as_ref())),
+            _ => unreachable!(),
+        }
+    }
+}
+
+// What the lens shows, of what its sources show.
+fn shown_over(
+    alloc: Global,
+    lens: &TypedLens,
+    under: &Sources,
+    db: &Db,
+) -> Result<Relation, NoMemory>
+    requires tables { AreOf lens.now db.now }
+    requires under { AreShown lens.now db.now under.now }
+    ensures { IfOk result (λ shown. shown ≡ spec.view lens.now db.now) }
+{
+    match lens.lens() {
+        Lens::Base { table, .. } => db.at(table).copy(alloc),
+        Lens::Select { pred, .. } => get_select(alloc, pred, under.only().0),
+        Lens::Drop { col, .. } => get_drop(alloc, col, under.only().0),
+        Lens::Join { .. } => {
+            let (left, right) = under.both();
+            get_join(alloc, left.0, right.0)
+        }
+    }
+}
