@@ -5,15 +5,19 @@ Usage: bench/bench.py [PROGRAM]    (without the word, the program that ./serve b
 """
 import os
 import re
+import sqlite3
 import string
 import subprocess
 import sys
+import tempfile
 import time
 
 TOP = os.path.dirname(os.path.dirname(os.path.abspath(__file__)))
 ROWS = 100_000
 HIDING = 125_000
 PUTS = 1_000
+ROUNDS = 8
+COMMITS = 250
 HUGE = 300_000
 LONGEST = 16_777_216
 
@@ -25,8 +29,8 @@ DEPENDENCIES = " with track -> album date, date -> rating"
 class Server:
     """The program, asked a line at a time."""
 
-    def __init__(self, program):
-        self.process = subprocess.Popen([program], stdin=subprocess.PIPE, stdout=subprocess.PIPE, bufsize=0)
+    def __init__(self, program, *words):
+        self.process = subprocess.Popen([program, *words], stdin=subprocess.PIPE, stdout=subprocess.PIPE, bufsize=0)
 
     def ask(self, line):
         """The reply to a line, and how long it took, in seconds."""
@@ -309,11 +313,78 @@ def small(program):
     return [(f"{PUTS:,} puts of one row to a small table", sum(map(len, lines)), f"{PUTS / seconds:,.0f} lines a second", f"{peak:,.0f} MB")]
 
 
+def one_row(number):
+    return f'{{"key":{number},"value":{number}}}'
+
+
+def kept(program, folder):
+    """A put of 100,000 rows to a new store, and the opening of that store; ms and MB."""
+    path = os.path.join(folder, "large.db")
+    rows = [row(number) for number in range(ROWS)]
+    server = Server(program, "--store", path)
+    server.ask(define(TRACKS))
+    line = put(rows)
+    reply, seconds = server.ask(line)
+    must_begin(reply, b'{"changed":[{')
+    table = [(f"put of {ROWS:,} rows into an empty table of a store in a file", len(line), f"{seconds * 1000:,.0f} ms", f"{server.peak():,.0f} MB")]
+    server.end()
+    begin = time.perf_counter()
+    server = Server(program, "--store", path)
+    server.ask(b'{"do":"list"}\n')
+    seconds = time.perf_counter() - begin
+    table.append((f"start over that store, to the first reply; the file has {os.path.getsize(path) / 1e6:,.1f} MB", 14, f"{seconds * 1000:,.0f} ms", f"{server.peak():,.0f} MB"))
+    server.end()
+    return table
+
+
+def committed(program, folder):
+    """Changes of one row, each one transaction in a file, in turn with SQLite itself: a write-ahead log, full synchronous writes; a second."""
+    server = Server(program, "--store", os.path.join(folder, "small.db"))
+    server.ask(define("table counts (key int, value int)"))
+    other = sqlite3.connect(os.path.join(folder, "other.db"), isolation_level=None)
+    other.execute("PRAGMA journal_mode=WAL")
+    other.execute("PRAGMA synchronous=FULL")
+    other.execute("CREATE TABLE t_counts (c_key INTEGER NOT NULL, c_value INTEGER NOT NULL, UNIQUE (c_key, c_value)) STRICT")
+    ours = theirs = 0.0
+    for first in range(0, ROUNDS * COMMITS, COMMITS):
+        for number in range(first, first + COMMITS):
+            reply, seconds = server.ask(edit("counts", [], [one_row(number)]))
+            must_begin(reply, b'{"changed":[{')
+            ours += seconds
+        begin = time.perf_counter()
+        for number in range(first, first + COMMITS):
+            other.execute("BEGIN")
+            other.execute("INSERT INTO t_counts (c_key, c_value) VALUES (?, ?)", (number, number))
+            other.execute("COMMIT")
+        theirs += time.perf_counter() - begin
+    peak = server.peak()
+    server.end()
+    other.close()
+    size = len(edit("counts", [], [one_row(0)]))
+    count = ROUNDS * COMMITS
+    return [(f"edits of one row, each one transaction in a file; SQLite alone made {count / theirs:,.0f} a second in the same minute", size, f"{count / ours:,.0f} lines a second", f"{peak:,.0f} MB")]
+
+
+def rehearsed(program):
+    """A rehearsal of 1,000; seconds."""
+    begin = time.perf_counter()
+    done = subprocess.run([program, "--rehearse", "1000"], stdin=subprocess.DEVNULL, capture_output=True, check=True)
+    seconds = time.perf_counter() - begin
+    must_begin(done.stdout, b'{"accepted":')
+    return [("`--rehearse 1000`", 0, f"{seconds:,.1f} s", "")]
+
+
+def stores(program):
+    """The lines of stores, in a folder beside the program."""
+    with tempfile.TemporaryDirectory(dir=os.path.dirname(os.path.abspath(program))) as folder:
+        return kept(program, folder) + committed(program, folder) + rehearsed(program)
+
+
 def main():
     program = sys.argv[1] if len(sys.argv) > 1 else os.path.join(TOP, "crates/view_program/out/view_program")
     print("| What | Bytes of input | Time | Peak memory |")
     print("|---|---|---|---|")
-    for name, size, taken, peak in large(program) + views(program) + edits(program) + questions(program) + drops(program) + joins(program) + dependent(program) + chains(program) + long_texts(program) + longest(program) + small(program):
+    for name, size, taken, peak in large(program) + views(program) + edits(program) + questions(program) + drops(program) + joins(program) + dependent(program) + chains(program) + long_texts(program) + longest(program) + small(program) + stores(program):
         print(f"| {name} | {size:,} | {taken} | {peak} |")
 
 

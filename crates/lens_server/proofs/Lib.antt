@@ -1,9 +1,13 @@
+pub mod Admitted
 pub mod Alike
 pub mod Asking
 pub mod Changed
 pub mod Clashes
 pub mod Defined
 pub mod Formulas
+pub mod Inspected
 pub mod Lists
 pub mod Settled
 pub mod Stepping
+pub mod Stored
+pub mod Told

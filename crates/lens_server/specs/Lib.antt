@@ -5,3 +5,5 @@ pub mod Asking
 pub mod Defining
 pub mod Differing
 pub mod StateCode
+pub mod StartFaults
+pub mod Starting

@@ -2,13 +2,16 @@
 ghost use Rattle.std.specs.Prelude.{◌≡◌, IfOk, OnErr, OnOk, map};
 ghost use Rattle.std.specs.FinMap as finmap;
 ghost use Rattle.server_specs.specs.Changing.{last_change, latest, with_last};
+ghost use Rattle.opening_specs.specs.Opening.{mapped};
 ghost use Rattle.signed_delta.specs.Tables.{table_delta};
+ghost use Rattle.table_keeper.specs.Places.{rows_in};
 
 use lens_values::{Name, NoMemory};
 use signed_delta::TableDelta;
 use std::alloc::Global;
 use std::collections::BTreeMap;
 use std::marker::Model;
+use table_keeper::KeptTable;
 
 /// A version for each table. A contract sees the map of the definition.
 #[derive(Debug, Drop)]
@@ -37,6 +40,17 @@ impl LastChanges {
         LastChanges {
             versions: BTreeMap::new(alloc),
         }
+    }
+
+    /// Each of these tables was last changed at version 0.
+    pub fn at_start(alloc: Global, tables: &[KeptTable]) -> Result<LastChanges, NoMemory>
+        ensures { IfOk result (λ last. last ≡ mapped (λ _. 0) (rows_in tables.now)) }
+    {
+        let mut last = LastChanges::new(alloc);
+        for kept in tables.iter().rev() {
+            last.set(&kept.table, 0)?;
+        }
+        Ok(last)
     }
 
     /// The last changes once the version changed this table.

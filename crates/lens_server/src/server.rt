@@ -1,13 +1,16 @@
 //! The state, and what it answers.
-ghost use Rattle.std.specs.Prelude.{◌≡◌, ◌<◌, ◌-◌, ◌^◌, IfOk, MatchResult};
-ghost use Rattle.lens_specs.specs.Keeping.{Follows, Tells};
+ghost use Rattle.std.specs.Prelude.{◌≡◌, ◌≤◌, ◌<◌, ◌-◌, ◌^◌, Err, MatchResult};
+ghost use Rattle.lens_specs.specs.Keeping.{Follows, Stays, Tells};
+ghost use Rattle.io_specs.specs.Faults.{Rose};
 ghost use Rattle.io_specs.specs.Lines.{marked};
 ghost use Rattle.server_specs.specs.Answer.{memory, text};
 ghost use Rattle.server_specs.specs.Session.{Step};
 ghost use Rattle.server_specs.specs.State as state;
+ghost use Rattle.lens_server.specs.Starting.{Opens};
 
 use crate::answering::answer_line;
-use crate::last_changes::LastChanges;
+use crate::opening::store_of;
+use crate::starting::StartFault;
 use crate::store::Store;
 use io_specs::LONGEST_LINE;
 use lens_values::{NoMemory, Text};
@@ -17,8 +20,6 @@ use std::marker::Model;
 use std::sync::ledger::Ledger;
 use step_counter::Steps;
 use table_keeper::Keeper;
-use view_catalog::Catalog;
-use whole_put::Db;
 
 /// The definitions, the tables and the version. A contract sees the state.
 #[derive(Debug, Drop)]
@@ -42,18 +43,20 @@ impl Model for Server {
 }
 
 impl Server {
-    /// A server without definitions.
-    pub fn fresh(alloc: Global) -> Result<Server, NoMemory>
-        ensures { IfOk result (λ server. server ≡ state.fresh) }
+    /// Starts a server over what the keeper has: the state that it opens to, with version 0. It is
+    /// `Damaged` exactly where it opens to none, with its first damage; `StoreFault` where the
+    /// keeper failed, or `NoMemory`. What is kept stays as it is.
+    pub fn start<K: Keeper>(alloc: Global, keeper: &mut K) -> Result<Server, StartFault>
+        ensures opened { Opens (K.contents keeper.old) result }
+        ensures kept { Stays (K.contents keeper.old) (K.contents keeper.new) }
+        ensures place { K.place keeper.new ≡ K.place keeper.old }
+        ensures later { K.faults keeper.old ≤ K.faults keeper.new }
+        ensures failed { result ≡ Err StartFault.StoreFault
+            → Rose (K.faults keeper.old) (K.faults keeper.new) }
     {
-        Ok(Server {
-            store: Store {
-                catalog: Catalog::new(alloc),
-                tables: Db::new(alloc),
-                last: LastChanges::new(alloc),
-                version: 0,
-            },
-        })
+        let kept = keeper.load(alloc)?;
+        let store = store_of(alloc, kept)?;
+        Ok(Server { store })
     }
 
     /// Answers one line. The reply and the state after it are those of the definition; or memory

@@ -1,2 +1,2 @@
-pub mod Nothing
+pub mod Opened
 pub mod Served

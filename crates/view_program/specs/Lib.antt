@@ -1,2 +1,3 @@
 pub mod Running
+pub mod Opening
 pub mod Words

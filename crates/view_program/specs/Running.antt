@@ -1,11 +1,15 @@
 -- What one run of the program does.
-use Rattle.std.specs.Prelude.{◌≡◌, ◌≢◌, ◌≤◌, ◌+◌, ◌-◌, ◌⊎◌, ℕ, List, [], ◌∷◌, ◌++◌, flat_map, length, take, codes}
-use Rattle.std.specs.declared.option.Option.{Option}
+use Rattle.std.specs.Prelude.{◌≡◌, ◌≢◌, ◌≤◌, ◌+◌, ◌-◌, ◌⊎◌, ℕ, Bool, true, List, [], ◌∷◌, ◌++◌, flat_map, length, take, codes, Option, Some, None, Result, Ok, Err}
 use Rattle.std.specs.Io.KnownBytes.{Appends, Consumes, IsAtEnd}
-use Rattle.lens_specs.specs.Keeping.{Kept, Follows}
+use Rattle.lens_specs.specs.Keeping.{Kept, Follows, Stays, Tells}
 use Rattle.io_specs.specs.Lines.{Line, line, too_long, lines, whole}
 use Rattle.server_specs.specs.State.{State, kept}
 use Rattle.server_specs.specs.Session.{Session}
+use Rattle.opening_specs.specs.Opening.{Damage, opened, damage_text}
+use Rattle.command_words.specs.Settings.{Settings}
+use Rattle.rehearsal.specs.Rehearsal.{rehearsal}
+use Rattle.rehearsal.specs.Rehearsed.{Rehearsed, Stopped}
+use Rattle.lens_io.specs.Bytes.{AppendsFront, GivesUnlessFailed}
 use Rattle.lens_io.specs.Taken.{ComesInTime}
 use Rattle.lens_io.specs.declared.cutting.Cut.{Cut}
 use Rattle.lens_io.specs.declared.cutting.Cut.TheVariants as cut
@@ -13,10 +17,6 @@ use Rattle.lens_io.specs.declared.cutting.Cut.TheVariants as cut
 -- the line that a faulty command line is answered with
 abbrev pub usage : List ℕ
 usage = codes "usage: view_program [--store PATH] [--max-input N] [--rehearse N]" ++ 10 ∷ []
-
--- how many bytes of the input are served
-abbrev pub max_input : ℕ
-max_input = 4294967296
 
 -- the replies one after another
 abbrev pub joined : List (List ℕ) → List ℕ
@@ -78,3 +78,65 @@ pub record Serves (first : State) (limit status : ℕ) (left left' given given' 
   pub some_replies : status ≡ 5 → BreaksOff given given' replies
   -- where the sink failed at the last reply, each whole line but for those of the last 65,536 bytes had its reply before that
   pub in_time : status ≡ 5 → ComesInTime (length replies - 1) came
+
+-- ---- the store
+
+-- the place of the contents, once the given one was chosen, if there is one
+abbrev pub place_after : Option (List ℕ) → Option (List ℕ) → Option (List ℕ)
+place_after None present = present
+place_after (Some chosen) present = Some chosen
+
+-- no place is chosen, or the contents stay where one is
+abbrev pub IsAtEntry : Option (List ℕ) → Bool → Type 0
+IsAtEntry store stays = (store ≡ None) ⊎ (stays ≡ true)
+
+-- the contents are as at entry, unless others were chosen
+abbrev pub StaysAtEntry : Option (List ℕ) → Bool → Option Kept → Option Kept → Type 0
+StaysAtEntry store stays contents contents' = IsAtEntry store stays → Stays contents contents'
+
+-- What was loaded opens to this. It is what was kept at entry, where that is told and no others were chosen. The keeper's count was
+-- this one then, and had not fallen.
+pub record Loads (store : Option (List ℕ)) (stays : Bool) (contents : Option Kept) (count start : ℕ) (result : Result State Damage) : Type 0 where
+  pub loaded : Kept
+  pub at_entry : IsAtEntry store stays → Tells contents loaded
+  pub opens : opened loaded ≡ result
+  pub later : count ≤ start
+
+-- ---- whole runs
+
+-- the statuses of a run that took lines
+abbrev pub IsServed : ℕ → Type 0
+IsServed status = (status ≡ 0) ⊎ ((status ≡ 4) ⊎ ((status ≡ 5) ⊎ (status ≡ 8)))
+
+-- The lines of the source were served, from the state that was loaded on.
+pub record Runs (s : Settings) (stays : Bool) (status : ℕ) (left left' given given' : Option (List ℕ)) (count count' : ℕ) (contents contents' : Option Kept) : Type 0 where
+  pub first : State
+  pub start : ℕ
+  pub loads : Loads s.store stays contents count start (Ok first)
+  pub serves : Serves first s.max_input status left left' given given' start count' contents contents'
+
+-- The lines of the rehearsal of n were answered, from the state that was loaded on, and their summary was given; a front of it where
+-- the sink failed.
+pub record Rehearses (s : Settings) (n : ℕ) (stays : Bool) (status : ℕ) (given given' : Option (List ℕ)) (count count' : ℕ) (contents contents' : Option Kept) : Type 0 where
+  pub first : State
+  pub start : ℕ
+  pub loads : Loads s.store stays contents count start (Ok first)
+  pub told : List ℕ
+  pub last : State
+  pub rehearsed : Rehearsed first start (rehearsal n) told last count'
+  pub stored : Follows (λ _ now. now ≡ kept last) contents contents'
+  pub all : status ≡ 0 → Appends given given' told
+  pub some : status ≡ 5 → AppendsFront given given' told
+
+-- Memory ran out in a rehearsal of n: before it began, and the contents are as at entry; or in it, and they are those of the last state.
+pub data StopsShort (s : Settings) (n : ℕ) (stays : Bool) (count count' : ℕ) (contents contents' : Option Kept) : Type 0 where
+  before : StaysAtEntry s.store stays contents contents' → StopsShort s n stays count count' contents contents'
+  amid : (first last : State) (start : ℕ) → Loads s.store stays contents count start (Ok first) → Stopped first start (rehearsal n) last count'
+      → Follows (λ _ now. now ≡ kept last) contents contents' → StopsShort s n stays count count' contents contents'
+
+-- What was loaded is damaged, and the line that tells its first damage was given; a front of it where the sink failed.
+pub record Refuses (s : Settings) (stays : Bool) (given given' : Option (List ℕ)) (failures failures' count : ℕ) (contents : Option Kept) : Type 0 where
+  pub damage : Damage
+  pub start : ℕ
+  pub loads : Loads s.store stays contents count start (Err damage)
+  pub told : GivesUnlessFailed given given' failures failures' (damage_text damage)

@@ -1,24 +1,32 @@
 //! The program: a request a line on the standard input, and a reply a line on the standard output.
 #![tactic(auto)]
 
-ghost use Rattle.std.specs.Prelude.{◌≡◌, ◌≢◌, ◌↔◌, length};
+ghost use Rattle.std.specs.Prelude.{◌≡◌, ◌≢◌, ◌↔◌, None, map, string_bytes};
+ghost use Rattle.command_words.specs.Settings.{settings};
 
-mod contents;
+#[cfg(test)]
+mod file_tests;
+mod giving;
+mod opening;
 #[cfg(test)]
 mod row_tests;
 pub mod running;
 #[cfg(test)]
+mod store_tests;
+#[cfg(test)]
 mod tests;
+#[cfg(test)]
+mod word_tests;
 mod words;
 
 use lens_io::{StreamSink, StreamSource};
 use running::run;
+use sqlite_keeper::SqliteKeeper;
 use std::io;
 use std::marker::Brand;
 use std::process::ExitCode;
 use std::sync::ledger::{Blank, Ledger};
 use step_counter::Steps;
-use table_keeper::SureKeeper;
 
 fn main(rt: HostRuntime) -> ExitCode {
     match words::collected(&rt) {
@@ -27,17 +35,18 @@ fn main(rt: HostRuntime) -> ExitCode {
     }
 }
 
-/// Serves the standard input, from a state of no definitions that is kept in memory.
+/// Serves the standard input. The tables are kept in a file, or else in memory.
 fn serve_host<L: Ledger>(rt: &HostRuntime, words: &[String], blank: Blank) -> u8
     requires name { blank.name ≡ L.name }
     requires parts { blank.parts ≡ L.parts }
     requires one { blank.parts ≡ 1 }
-    ensures words { (result ≡ 2) ↔ (length words.now ≢ 1) }
+    ensures words { result ≢ 3
+        → ((result ≡ 2) ↔ (settings (map string_bytes words.now) ≡ None)) }
 {
     let alloc = rt.alloc();
     let mut source = StreamSource::new(rt.reader());
     let mut sink = StreamSink::new(io::writer(rt));
-    let mut keeper = SureKeeper::holding(contents::nothing(alloc));
+    let mut keeper = SqliteKeeper::new(rt);
     let mut walked = Steps::<L>::new(blank);
     run(
         alloc,

@@ -10,12 +10,13 @@ mod requests;
 mod staleness;
 mod views_of_views;
 
-use crate::tests::replies_to;
+use crate::tests::{failing, outcome};
 use std::alloc::Global;
 use std::test::Fail;
+use table_keeper::{Kept, MemoryKeeper};
 
 /// Tracks on albums, how many of each album there are, and a view over both.
-const BASE: &str =
+pub const BASE: &str =
     r#"{"do":"define","text":"table tracks (track text, date int, rating int, album text) with track -> date rating"}
 {"ok":true,"version":1}
 {"do":"define","text":"table albums (album text, quantity int) with album -> quantity"}
@@ -35,6 +36,17 @@ fn follow(alloc: Global, scripts: &[&str]) -> Result<(), Fail> {
 
 /// The same, where this call of the keeper fails.
 fn follow_failing(alloc: Global, call: u64, scripts: &[&str]) -> Result<(), Fail> {
+    let mut keeper = MemoryKeeper::holding(Kept::nothing(alloc), failing(alloc, call)?);
+    follow_over(alloc, "", &mut keeper, scripts)
+}
+
+/// The same over this keeper, with these words.
+pub fn follow_over(
+    alloc: Global,
+    words: &str,
+    keeper: &mut MemoryKeeper,
+    scripts: &[&str],
+) -> Result<(), Fail> {
     let mut requests = Vec::new(alloc);
     let mut wanted = Vec::new(alloc);
     for script in scripts {
@@ -48,13 +60,13 @@ fn follow_failing(alloc: Global, call: u64, scripts: &[&str]) -> Result<(), Fail
             is_request = !is_request;
         }
     }
-    let (status, sink) = replies_to(alloc, call, &requests)?;
+    let (status, sink) = outcome(alloc, words, &requests, keeper)?;
     expect(status == 0, "the status")?;
     are(sink.bytes(), &wanted)
 }
 
 /// Fails where the replies are not these lines.
-fn are(replies: &[u8], wanted: &[&str]) -> Result<(), Fail> {
+pub fn are(replies: &[u8], wanted: &[&str]) -> Result<(), Fail> {
     let mut replies = str::from_utf8(replies)?.lines();
     for line in wanted {
         let reply = replies.next().ok_or("no reply")?;
@@ -64,7 +76,7 @@ fn are(replies: &[u8], wanted: &[&str]) -> Result<(), Fail> {
 }
 
 /// Fails with these words where something does not hold.
-fn expect(holds: bool, words: &str) -> Result<(), Fail> {
+pub fn expect(holds: bool, words: &str) -> Result<(), Fail> {
     if holds {
         Ok(())
     } else {

@@ -1,9 +1,6 @@
 //! Whole runs over sources, sinks and keepers in memory.
 ghost use Rattle.std.specs.Prelude.{◌≡◌, ◌≤◌};
-ghost use Rattle.lens_specs.specs.Keeping.{Tells};
-ghost use Rattle.server_specs.specs.State.{fresh, kept};
 
-use crate::contents::nothing;
 use crate::running::run;
 use io_specs::LONGEST_LINE;
 use lens_io::{MemorySink, MemorySource, ROOM};
@@ -12,9 +9,10 @@ use std::marker::Brand;
 use std::sync::ledger::{Blank, Ledger};
 use std::test::Fail;
 use step_counter::Steps;
-use table_keeper::{Keeper, MemoryKeeper, SureKeeper};
+use table_keeper::{Keeper, Kept, MemoryKeeper, SureKeeper};
 
-const USAGE: &str = "usage: view_program [--store PATH] [--max-input N] [--rehearse N]\n";
+/// The line that words which are refused are answered with.
+pub const USAGE: &str = "usage: view_program [--store PATH] [--max-input N] [--rehearse N]\n";
 
 const MAKE_TABLE: &str = r#"{"do":"define","text":"table goods (name text, quantity int)"}"#;
 
@@ -32,7 +30,8 @@ const PUT_OFF: &str = r#"{"do":"put","view":"big","rows":[{"name":"axe","quantit
 
 const READ_NOTHING: &str = r#"{"do":"read","view":"nothing"}"#;
 
-const LIST: &str = r#"{"do":"list"}"#;
+/// A request for the definitions.
+pub const LIST: &str = r#"{"do":"list"}"#;
 
 const MAKE_DEPENDENT: &str =
     r#"{"do":"define","text":"table albums (album text, quantity int) with album -> quantity"}"#;
@@ -77,7 +76,8 @@ const OFF_PREDICATE: &str = r#"{"error":42,"ok":false,"row":{"name":"axe","quant
 
 const UNKNOWN_NAME: &str = r#"{"error":22,"name":"nothing","ok":false}"#;
 
-const NONE_LISTED: &str = r#"{"definitions":[],"ok":true,"version":0}"#;
+/// The reply to it where there are none.
+pub const NONE_LISTED: &str = r#"{"definitions":[],"ok":true,"version":0}"#;
 
 const LISTED: &str =
     r#"{"definitions":["table goods (name text, quantity int)","view big = select from goods where quantity > 2"],"ok":true,"version":4}"#;
@@ -117,7 +117,6 @@ fn run_counted<K: Keeper, L: Ledger>(
     keeper: &mut K,
     blank: Blank,
 ) -> u8
-    requires told { Tells (K.contents keeper.old) (kept fresh) }
     requires name { blank.name ≡ L.name }
     requires parts { blank.parts ≡ L.parts }
     requires one { blank.parts ≡ 1 }
@@ -126,26 +125,31 @@ fn run_counted<K: Keeper, L: Ledger>(
     run(alloc, words, source, sink, keeper, &mut walked)
 }
 
-/// The status of a run with so many words.
+/// The program's name and these words.
+pub fn words_of(alloc: Global, words: &str) -> Result<Vec<String>, Fail> {
+    let mut all = Vec::new(alloc);
+    all.push(String::from_str(alloc, "view_program")?)?;
+    for word in words.split_whitespace() {
+        all.push(String::from_str(alloc, word)?)?;
+    }
+    Ok(all)
+}
+
+/// The status of a run with these words.
 fn status_of<K: Keeper>(
     alloc: Global,
-    words: usize,
+    words: &str,
     source: &mut MemorySource,
     sink: &mut MemorySink,
     keeper: &mut K,
-) -> Result<u8, Fail>
-    requires told { Tells (K.contents keeper.old) (kept fresh) }
-{
-    let mut said = Vec::new(alloc);
-    for _ in 0..words {
-        said.push(String::from_str(alloc, "view_program")?)?;
-    }
+) -> Result<u8, Fail> {
+    let words = words_of(alloc, words)?;
     let blank = Blank::new(1);
-    Ok(run_counted::<K, Brand>(alloc, &said, source, sink, keeper, blank))
+    Ok(run_counted::<K, Brand>(alloc, &words, source, sink, keeper, blank))
 }
 
 /// The lines, each with its newline.
-fn text_of(alloc: Global, lines: &[&str]) -> Result<Vec<u8>, Fail> {
+pub fn text_of(alloc: Global, lines: &[&str]) -> Result<Vec<u8>, Fail> {
     let mut text = Vec::new(alloc);
     for line in lines {
         text.extend_from_slice(line.as_bytes())?;
@@ -155,7 +159,7 @@ fn text_of(alloc: Global, lines: &[&str]) -> Result<Vec<u8>, Fail> {
 }
 
 /// Numbers of the calls that fail: this one, or none at 0.
-fn failing(alloc: Global, number: u64) -> Result<Vec<u64>, Fail> {
+pub fn failing(alloc: Global, number: u64) -> Result<Vec<u64>, Fail> {
     let mut numbers = Vec::new(alloc);
     if number > 0 {
         numbers.push(number)?;
@@ -169,18 +173,17 @@ fn words_and_devices(rt: HostRuntime) -> Result<(), Fail> {
     // The words, the input, the calls of the source and of the sink that fail, the status and the
     // output.
     for (words, input, source, sink, status, output) in [
-        (0, "x\n", 0, 0, 2, USAGE),
-        (1, "", 0, 0, 0, ""),
-        (2, "x\n", 0, 0, 2, USAGE),
-        (2, "x\n", 0, 1, 2, ""),
-        (1, "x\n", 1, 0, 4, ""),
-        (1, "x", 2, 0, 4, ""),
-        (1, "x\n", 0, 1, 5, ""),
+        ("", "", 0, 0, 0, ""),
+        ("x", "x\n", 0, 0, 2, USAGE),
+        ("x", "x\n", 0, 1, 2, ""),
+        ("", "x\n", 1, 0, 4, ""),
+        ("", "x", 2, 0, 4, ""),
+        ("", "x\n", 0, 1, 5, ""),
     ] {
         let bytes = Vec::from_slice(alloc, input.as_bytes())?;
         let mut source = MemorySource::new(bytes, ROOM, failing(alloc, source)?);
         let mut sink = MemorySink::new(alloc, 100, ROOM, failing(alloc, sink)?)?;
-        let mut keeper = SureKeeper::holding(nothing(alloc));
+        let mut keeper = SureKeeper::holding(Kept::nothing(alloc));
         assert_eq!(rt;
             status_of(alloc, words, &mut source, &mut sink, &mut keeper)?,
             status
@@ -202,9 +205,9 @@ fn lines_that_are_no_request(rt: HostRuntime) -> Result<(), Fail> {
     bytes.extend_from_slice(nested.as_slice())?;
     let mut source = MemorySource::new(bytes, ROOM, Vec::new(alloc));
     let mut sink = MemorySink::new(alloc, 1000, ROOM, Vec::new(alloc))?;
-    let mut keeper = SureKeeper::holding(nothing(alloc));
+    let mut keeper = SureKeeper::holding(Kept::nothing(alloc));
     assert_eq!(rt;
-        status_of(alloc, 1, &mut source, &mut sink, &mut keeper)?,
+        status_of(alloc, "", &mut source, &mut sink, &mut keeper)?,
         0
     );
     let replies = [TOO_LONG, NONE_LISTED, NOT_JSON, NOT_JSON];
@@ -212,13 +215,23 @@ fn lines_that_are_no_request(rt: HostRuntime) -> Result<(), Fail> {
     Ok(())
 }
 
-/// What a run over these lines gives, byte by byte, where this call of the keeper fails.
-pub fn replies_to(alloc: Global, call: u64, lines: &[&str]) -> Result<(u8, MemorySink), Fail> {
+/// What a run with these words gives for these lines, byte by byte.
+pub fn outcome<K: Keeper>(
+    alloc: Global,
+    words: &str,
+    lines: &[&str],
+    keeper: &mut K,
+) -> Result<(u8, MemorySink), Fail> {
     let mut source = MemorySource::new(text_of(alloc, lines)?, 1, Vec::new(alloc));
     let mut sink = MemorySink::new(alloc, 10_000, 1, Vec::new(alloc))?;
-    let mut keeper = MemoryKeeper::holding(nothing(alloc), failing(alloc, call)?);
-    let status = status_of(alloc, 1, &mut source, &mut sink, &mut keeper)?;
+    let status = status_of(alloc, words, &mut source, &mut sink, keeper)?;
     Ok((status, sink))
+}
+
+/// What a run over nothing gives for these lines, where this call of the keeper fails.
+pub fn replies_to(alloc: Global, call: u64, lines: &[&str]) -> Result<(u8, MemorySink), Fail> {
+    let mut keeper = MemoryKeeper::holding(Kept::nothing(alloc), failing(alloc, call)?);
+    outcome(alloc, "", lines, &mut keeper)
 }
 
 #[test]
@@ -249,7 +262,7 @@ fn scripts(rt: HostRuntime) -> Result<(), Fail> {
     let (status, sink) = replies_to(alloc, 0, &all)?;
     assert_eq!(rt; status, 0);
     assert_eq!(rt; sink.bytes(), text_of(alloc, &replies)?.as_slice());
-    let (status, sink) = replies_to(alloc, 3, &put_again)?;
+    let (status, sink) = replies_to(alloc, 4, &put_again)?;
     assert_eq!(rt; status, 0);
     assert_eq!(rt; sink.bytes(), text_of(alloc, &stored_later)?.as_slice());
     Ok(())

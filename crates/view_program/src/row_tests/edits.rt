@@ -134,5 +134,5 @@ fn edits(rt: HostRuntime) -> Result<(), Fail> {
 
 #[test]
 fn keeper_that_fails(rt: HostRuntime) -> Result<(), Fail> {
-    follow_failing(rt.alloc(), 6, &[BASE, NOT_STORED])
+    follow_failing(rt.alloc(), 7, &[BASE, NOT_STORED])
 }

@@ -1,0 +1,56 @@
+//! The options as they are written.
+ghost use Rattle.std.specs.Prelude.{◌≡◌, ◌↔◌, Some, None, Err, IfOk, map, string_bytes};
+ghost use Rattle.clap.specs.declared.error.kind.ErrorKind.TheVariants.{OutOfMemory};
+ghost use Rattle.command_words.specs.Options.{entries};
+ghost use Rattle.command_words.specs.Views.{options_view};
+
+use crate::settings::WordsFault;
+use clap::error::ErrorKind;
+use clap::{Arg, Command};
+use std::alloc::Global;
+
+/// The values of the options, as they are written.
+#[derive(Drop)]
+pub struct Options<'a> {
+    pub store: Option<&'a str>,
+    pub max_input: Option<&'a str>,
+    pub rehearse: Option<&'a str>,
+}
+
+/// Parses the words. `Refused`: the command does not take them; `NoMemory`.
+pub fn parse<'a>(alloc: Global, words: &'a [String]) -> Result<Options<'a>, WordsFault>
+    ensures ok { IfOk result (λ options.
+        entries (map string_bytes words.now) ≡ Some (options_view options)) }
+    ensures refused { result ≡ Err WordsFault.Refused
+        → entries (map string_bytes words.now) ≡ None }
+{
+    let store = Arg::new(alloc, "store").long("store");
+    let max_input = Arg::new(alloc, "max-input").long("max-input");
+    let rehearse = Arg::new(alloc, "rehearse").long("rehearse");
+    let Ok(command) = Command::new(alloc, "view_program").arg(store) else {
+        return Err(WordsFault::NoMemory);
+    };
+    let Ok(command) = command.arg(max_input) else {
+        return Err(WordsFault::NoMemory);
+    };
+    let Ok(command) = command.arg(rehearse) else {
+        return Err(WordsFault::NoMemory);
+    };
+    match command.try_get_matches_from(words) {
+        Ok(matches) => Ok(Options {
+            store: matches.get_str("store"),
+            max_input: matches.get_str("max-input"),
+            rehearse: matches.get_str("rehearse"),
+        }),
+        Err(error) => Err(fault_of(error.kind())),
+    }
+}
+
+fn fault_of(kind: ErrorKind) -> WordsFault
+    ensures { (result ≡ WordsFault.NoMemory) ↔ (kind ≡ OutOfMemory) }
+{
+    match kind {
+        ErrorKind::OutOfMemory => WordsFault::NoMemory,
+        _ => WordsFault::Refused,
+    }
+}

@@ -1,0 +1,74 @@
+-- What a start gives, and what its parts do.
+use Rattle.std.specs.Prelude.{◌≡◌, ◌≢◌, ℕ, false, List, Option, Some, None, option_map, Result, Ok, Err}
+use Rattle.std.specs.FinMap as finmap
+use Rattle.lens_values.specs.Order.{bytes_cmp}
+use Rattle.lens_values.specs.SortedSet as set
+use Rattle.lens_specs.specs.Keeping.{Kept}
+use Rattle.lens_specs.specs.Names.{Name, is_among}
+use Rattle.lens_specs.specs.Relation.{Rows}
+use Rattle.catalog_specs.specs.Catalogue.{Catalogue, catalogue}
+use Rattle.catalog_specs.specs.Judging.{first_refused}
+use Rattle.server_specs.specs.State.{State}
+use Rattle.opening_specs.specs.Opening as opening
+use Rattle.opening_specs.specs.Opening.{IsOpened, all_names, damage_among, damage_at, definition, opened, table_sort_of}
+use Rattle.table_keeper.specs.declared.keeper.KeptTable.{KeptTable}
+use Rattle.view_catalog.specs.declared.fault.CatalogFault.{CatalogFault}
+use Rattle.view_catalog.specs.declared.fault.CatalogFault.TheVariants.{NoMemory}
+use Rattle.lens_server.specs.States.{state_of}
+use Rattle.lens_server.specs.declared.admitting.Admitted.{Admitted}
+use Rattle.lens_server.specs.declared.damage.Damage.{Damage}
+use Rattle.lens_server.specs.declared.damage.Damage.TheVariants as damage
+use Rattle.lens_server.specs.declared.starting.StartFault.{StartFault}
+use Rattle.lens_server.specs.declared.starting.StartFault.TheVariants as fault
+use Rattle.lens_server.specs.declared.store.Store.{Store}
+
+-- the damage that the definitions speak of
+abbrev pub damage_view : Damage → opening.Damage
+damage_view (damage.Definition index) = opening.definition index
+damage_view (damage.Missing table) = opening.missing table
+damage_view (damage.Strange table) = opening.strange table
+damage_view (damage.BadRow table row) = opening.bad_row table row
+damage_view (damage.ClashIn table first second) = opening.clash_in table first second
+
+-- the state, or the damage, is what was loaded opens to, unless the keeper failed or memory ran out
+abbrev pub Opens : Option Kept → Result State StartFault → Type 0
+Opens contents (Ok s) = IsOpened contents (Ok s)
+Opens contents (Err (fault.Damaged damage)) = IsOpened contents (Err (damage_view damage))
+Opens contents (Err fault.StoreFault) = Unit {0}
+Opens contents (Err fault.NoMemory) = Unit {0}
+
+-- the store, or the damage, is what is kept opens to, unless memory ran out
+abbrev pub IsStoreOf : Result Store StartFault → Kept → Type 0
+IsStoreOf (Ok store) kept = opened kept ≡ Ok (state_of store)
+IsStoreOf (Err (fault.Damaged damage)) kept = opened kept ≡ Err (damage_view damage)
+IsStoreOf (Err fault.StoreFault) kept = ⊥
+IsStoreOf (Err fault.NoMemory) kept = Unit {0}
+
+-- ---- definitions
+
+-- each table of the catalogue is among the names
+abbrev pub HasTables : Catalogue → List Name → Type 0
+HasTables known names = (q : Name) → is_among q names ≡ false → table_sort_of q (finmap.get known q) ≡ None
+
+-- all of the texts are taken, and the names of their tables are there; or the first that is refused is told, unless memory ran out
+abbrev pub AreAdmitted : Result Admitted StartFault → List (List ℕ) → Type 0
+AreAdmitted (Ok admitted) texts = (admitted.catalog.texts ≡ texts) × (first_refused texts ≡ None) × HasTables (catalogue texts) admitted.tables.items
+AreAdmitted (Err (fault.Damaged damage)) texts = option_map definition (first_refused texts) ≡ Some (damage_view damage)
+AreAdmitted (Err fault.StoreFault) texts = ⊥
+AreAdmitted (Err fault.NoMemory) texts = Unit {0}
+
+-- the definition at the place is refused, or memory ran out
+abbrev pub IsRefusedAt : ℕ → CatalogFault → StartFault → Type 0
+IsRefusedAt place why (fault.Damaged damage) = (why ≢ NoMemory) × (damage_view damage ≡ definition place)
+IsRefusedAt place why fault.StoreFault = ⊥
+IsRefusedAt place why fault.NoMemory = Unit {0}
+
+-- ---- tables
+
+-- the first damage of the tables, by rising name
+abbrev pub damage_of_tables : Catalogue → finmap.FinMap bytes_cmp Rows → Option opening.Damage
+damage_of_tables known rows = damage_among known rows (set.items (all_names known rows))
+
+-- the table is defined, and its kept rows are of its sort
+abbrev pub IsSound : Catalogue → KeptTable → Type 0
+IsSound known kept = damage_at kept.table (table_sort_of kept.table (finmap.get known kept.table)) (Some kept.rows) ≡ None

@@ -1,0 +1,57 @@
+-- One session after another.
+use Rattle.std.proofs.Common.{◌≡◌, ◌≤◌, ◌+◌, ℕ, List, [], ◌∷◌, ◌++◌, map, length, refl, ap, sym, subst, ◌∙◌, arith}
+use Rattle.std.proofs.lemmas.List.{map-append, length-map}
+use Rattle.io_specs.specs.Lines.{Line}
+use Rattle.server_specs.specs.State.{State}
+use Rattle.server_specs.specs.Session.{Exchange, Chain, last_state, last_count, Session}
+use Rattle.server_specs.proofs.Versions.{version-step}
+
+Chain-append : (s : State) (count : ℕ) (es fs : List Exchange) → Chain s count es → Chain (last_state s es) (last_count count es) fs → Chain s count (es ++ fs)
+Chain-append s count [] fs p q = q
+Chain-append s count (e ∷ es) fs p q = (p.0, Chain-append e.state e.count es fs p.1 q)
+
+last_state-append : (s : State) (es fs : List Exchange) → last_state s (es ++ fs) ≡ last_state (last_state s es) fs
+last_state-append s [] fs = refl
+last_state-append s (e ∷ es) fs = last_state-append e.state es fs
+
+last_count-append : (count : ℕ) (es fs : List Exchange) → last_count count (es ++ fs) ≡ last_count (last_count count es) fs
+last_count-append count [] fs = refl
+last_count-append count (e ∷ es) fs = last_count-append e.count es fs
+
+-- two sessions, where the second goes on from the first, are one
+pub Session-append : (s : State) (count : ℕ) (lines : List Line) (replies : List (List ℕ)) (mid : State) (between : ℕ) (lines' : List Line) (replies' : List (List ℕ)) (last : State) (after : ℕ)
+    → Session s count lines replies mid between → Session mid between lines' replies' last after → Session s count (lines ++ lines') (replies ++ replies') last after
+Session-append s count lines replies mid between lines' replies' last after p q =
+    let from : Chain (last_state s p.exchanges) (last_count count p.exchanges) q.exchanges =
+    subst (λ c. Chain (last_state s p.exchanges) c q.exchanges) (sym p.count_is) (subst (λ t. Chain t between q.exchanges) (sym p.last_is) q.chain) in
+    record {
+      exchanges = p.exchanges ++ q.exchanges;
+      chain = Chain-append s count p.exchanges q.exchanges p.chain from;
+      lines_are = map-append (λ x. x.line) p.exchanges q.exchanges ∙ (λ i. p.lines_are i ++ q.lines_are i);
+      replies_are = map-append (λ x. x.reply) p.exchanges q.exchanges ∙ (λ i. p.replies_are i ++ q.replies_are i);
+      last_is = last_state-append s p.exchanges q.exchanges ∙ ap (λ t. last_state t q.exchanges) p.last_is ∙ q.last_is;
+      count_is = last_count-append count p.exchanges q.exchanges ∙ ap (λ c. last_count c q.exchanges) p.count_is ∙ q.count_is;
+    }
+
+version-chain : (s : State) (count : ℕ) (es : List Exchange) → Chain s count es → (last_state s es).version ≤ s.version + length es
+version-chain s count [] h = omega arith
+version-chain s count (e ∷ es) h = omega (arith, version-chain e.state e.count es h.1, version-step s count e.line e.reply e.state e.count h.0)
+
+-- a line raises the version by one at most
+pub version-session : (s : State) (count : ℕ) (lines : List Line) (replies : List (List ℕ)) (last : State) (after : ℕ) → Session s count lines replies last after → last.version ≤ s.version + length lines
+version-session s count lines replies last after h =
+    let long : length (map (λ x. x.line) h.exchanges) ≡ length lines = ap length h.lines_are in
+    omega (arith, version-chain s count h.exchanges h.chain, ap (λ t. t.version) h.last_is, long, length-map h.exchanges (λ x. x.line))
+
+later-chain : (s : State) (count : ℕ) (es : List Exchange) → Chain s count es → count ≤ last_count count es
+later-chain s count [] h = omega arith
+later-chain s count (e ∷ es) h = omega (arith, later-chain e.state e.count es h.1, h.0.later)
+
+-- no count falls
+pub later-session : (s : State) (count : ℕ) (lines : List Line) (replies : List (List ℕ)) (last : State) (after : ℕ) → Session s count lines replies last after → count ≤ after
+later-session s count lines replies last after h = omega (arith, later-chain s count h.exchanges h.chain, h.count_is)
+
+-- a line gets one reply
+pub length-replies : (s : State) (count : ℕ) (lines : List Line) (replies : List (List ℕ)) (last : State) (after : ℕ) → Session s count lines replies last after → length replies ≡ length lines
+length-replies s count lines replies last after h =
+    sym (ap length h.replies_are) ∙ length-map h.exchanges (λ x. x.reply) ∙ sym (length-map h.exchanges (λ x. x.line)) ∙ ap length h.lines_are

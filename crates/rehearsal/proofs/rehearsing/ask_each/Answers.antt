@@ -1,0 +1,24 @@
+use Rattle.std.proofs.Common.{◌∷◌, [], ◌∙◌, ap, string_bytes}
+use Rattle.io_specs.specs.Lines.{marked}
+use Rattle.rehearsal.proofs.Loops.{Halted-next, Passes-next, Room-next}
+use Rattle.rehearsal.proofs.Points.{on_err}
+use Rattle.rehearsal.proofs.rehearsing.ask_each.Goals as goal
+
+pub ask-requires-clause-room : goal.ask-requires-clause-room
+ask-requires-clause-room g c = Room-next _ _ (λ line. marked (string_bytes line)) c.args.lines.now c.loop-line.line-index c.loop-line-test.true c.requires.room c.loop-line.invariant.passes
+
+pub returns-in_err-ask-clause-halted : goal.returns-in_err-ask-clause-halted
+returns-in_err-ask-clause-halted g c =
+    on_err c.from_residual.result _
+    (Halted-next _ _ _ (λ line. marked (string_bytes line)) c.args.lines.now c.loop-line.line-index c.line-item.result _ c.loop-line-test.true c.line-item.is (ap marked c.as_bytes.ensures.value)
+    c.loop-line.invariant.passes c.in_err-ask.ensures.halted)
+
+pub loop-line-preserved : goal.loop-line-preserved
+loop-line-preserved g c =
+    let here = c.in_ok-ask.ensures.done in
+    record {
+      passes = Passes-next _ _ _ (λ line. marked (string_bytes line)) c.args.lines.now c.loop-line.line-index c.line-item.result _ c.loop-line-test.true c.line-item.is (ap marked c.as_bytes.ensures.value)
+          c.loop-line.invariant.passes (here.0 ∷ [], here.1);
+      place = c.in_ok-ask.ensures.place ∙ c.loop-line.invariant.place;
+      walked = c.in_ok-ask.ensures.walked ∙ c.loop-line.invariant.walked;
+    }

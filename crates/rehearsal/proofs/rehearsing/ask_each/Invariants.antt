@@ -1,0 +1,12 @@
+use Rattle.std.proofs.Common.{◌≡◌, map, take, string_bytes}
+use Rattle.io_specs.specs.Lines.{marked}
+use Rattle.rehearsal.specs.Stages.{Passes, at}
+use Rattle.rehearsal.proofs.rehearsing.ask_each.Given as goal
+
+abbrev pub invariant-loop-line : goal.invariant-loop-line
+invariant-loop-line g l = record {
+  passes : Passes (at l.fn.server (g.K.Keeper.faults l.fn.keeper) (g.K.Keeper.contents l.fn.keeper) l.fn.tally) (map (λ line. marked (string_bytes line)) (take l.line-index l.lines))
+      (at l.server (g.K.Keeper.faults l.keeper) (g.K.Keeper.contents l.keeper) l.tally);
+  place : g.K.Keeper.place l.keeper ≡ g.K.Keeper.place l.fn.keeper;
+  walked : l.walked ≡ l.fn.walked;
+}

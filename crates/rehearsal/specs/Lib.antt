@@ -1,0 +1,4 @@
+pub mod Rehearsal
+pub mod Rehearsed
+pub mod Stages
+pub mod Summary

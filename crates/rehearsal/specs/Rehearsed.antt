@@ -1,0 +1,23 @@
+-- What becomes of a rehearsal.
+use Rattle.std.specs.Prelude.{◌≡◌, ◌≢◌, ℕ, List, ◌++◌}
+use Rattle.std.specs.List.{AllByRecursion}
+use Rattle.io_specs.specs.Lines.{Line}
+use Rattle.server_specs.specs.State.{State}
+use Rattle.server_specs.specs.Answer.{memory, text}
+use Rattle.server_specs.specs.Session.{Session}
+use Rattle.rehearsal.specs.Summary.{summary}
+
+-- The lines were answered one after another, none for want of memory, and the text is the summary of the replies.
+pub record Rehearsed (first : State) (count : ℕ) (lines : List Line) (told : List ℕ) (last : State) (count' : ℕ) : Type 0 where
+  pub replies : List (List ℕ)
+  pub session : Session first count lines replies last count'
+  pub found_memory : AllByRecursion (λ reply. reply ≢ text memory) replies
+  pub told_is : told ≡ summary replies last.version
+
+-- The first of the lines were answered one after another, until memory ran out.
+pub record Stopped (first : State) (count : ℕ) (lines : List Line) (last : State) (count' : ℕ) : Type 0 where
+  pub taken : List Line
+  pub rest : List Line
+  pub front : taken ++ rest ≡ lines
+  pub replies : List (List ℕ)
+  pub session : Session first count taken replies last count'

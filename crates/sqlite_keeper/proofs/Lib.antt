@@ -1,0 +1,3 @@
+pub mod CellsLemmas
+pub mod NamesAlike
+pub mod Texts

@@ -1,0 +1,16 @@
+//! A keeper of definitions and rows in a file that sqlite3 reads.
+#![tactic(auto)]
+
+mod cells;
+mod changing;
+mod database;
+mod format;
+pub mod keeper;
+mod loading;
+mod placing;
+mod refusal;
+mod short_files;
+mod statements;
+mod tables;
+
+pub use keeper::SqliteKeeper;

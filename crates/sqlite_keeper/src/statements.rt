@@ -1,0 +1,173 @@
+//! The texts of the statements over a table.
+ghost use Rattle.std.specs.Prelude.{◌≡◌, ◌++◌, IfOk, OnOk, codes, flat_map, string_bytes};
+ghost use Rattle.sqlite_keeper.specs.Statements.{create_text, delete_text, insert_text, select_text};
+ghost use Rattle.sqlite_keeper.specs.Statements.{column_text, listed, marks_text, names_text};
+ghost use Rattle.sqlite_keeper.specs.Statements.{piece, type_text};
+
+use lens_values::{Kind, Name, Value};
+use std::alloc::{AllocError, Global};
+
+/// Makes the table of these columns.
+pub fn create_text(
+    alloc: Global,
+    table: &Name,
+    columns: &[(Name, Kind)],
+) -> Result<String, AllocError>
+    ensures { IfOk result (λ text. string_bytes text ≡ create_text table.now columns.now) }
+{
+    let mut text = String::from_str(alloc, "CREATE TABLE t_")?;
+    text.push_str(table.as_str())?;
+    text.push_str(" (")?;
+    push_columns(&mut text, columns)?;
+    text.push_str("UNIQUE (")?;
+    push_names(&mut text, columns)?;
+    text.push_str(")) STRICT")?;
+    Ok(text)
+}
+
+/// Reads these columns of each row.
+pub fn select_text(
+    alloc: Global,
+    table: &Name,
+    columns: &[(Name, Kind)],
+) -> Result<String, AllocError>
+    ensures { IfOk result (λ text. string_bytes text ≡ select_text table.now columns.now) }
+{
+    let mut text = String::from_str(alloc, "SELECT ")?;
+    push_names(&mut text, columns)?;
+    text.push_str(" FROM t_")?;
+    text.push_str(table.as_str())?;
+    Ok(text)
+}
+
+/// Adds a row of these columns.
+pub fn insert_text(
+    alloc: Global,
+    table: &Name,
+    columns: &[(Name, Value)],
+) -> Result<String, AllocError>
+    ensures { IfOk result (λ text. string_bytes text ≡ insert_text table.now columns.now) }
+{
+    let mut text = String::from_str(alloc, "INSERT INTO t_")?;
+    text.push_str(table.as_str())?;
+    text.push_str(" (")?;
+    push_names(&mut text, columns)?;
+    text.push_str(") VALUES (")?;
+    push_marks(&mut text, columns)?;
+    text.push_str(")")?;
+    Ok(text)
+}
+
+/// Removes the row that has given values in these columns.
+pub fn delete_text(
+    alloc: Global,
+    table: &Name,
+    columns: &[(Name, Value)],
+) -> Result<String, AllocError>
+    ensures { IfOk result (λ text. string_bytes text ≡ delete_text table.now columns.now) }
+{
+    let mut text = String::from_str(alloc, "DELETE FROM t_")?;
+    text.push_str(table.as_str())?;
+    text.push_str(" WHERE ")?;
+    push_listed(&mut text, columns, "c_", " AND c_", " = ?")?;
+    Ok(text)
+}
+
+// Adds the columns' names and types.
+fn push_columns(text: &mut String, columns: &[(Name, Kind)]) -> Result<(), AllocError>
+    ensures { OnOk result (string_bytes text.new
+        ≡ string_bytes text.old ++ flat_map column_text columns.now) }
+{
+    for column in columns {
+        push_piece(text, "c_", &column.0, type_text(column.1))?;
+    }
+    Ok(())
+}
+
+fn type_text(kind: Kind) -> &'static str
+    ensures { result.now ≡ type_text kind }
+{
+    match kind {
+        Kind::Int | Kind::Flag => " INTEGER NOT NULL, ",
+        Kind::Text => " TEXT NOT NULL, ",
+    }
+}
+
+// Adds the columns' names with commas between them.
+fn push_names<T>(text: &mut String, columns: &[(Name, T)]) -> Result<(), AllocError>
+    ensures { OnOk result (string_bytes text.new
+        ≡ string_bytes text.old ++ names_text columns.now) }
+{
+    push_listed(text, columns, "c_", ", c_", "")
+}
+
+// Adds the columns' names, each between two texts. The front of the first is its own.
+fn push_listed<T>(
+    text: &mut String,
+    columns: &[(Name, T)],
+    first: &str,
+    later: &str,
+    back: &str,
+) -> Result<(), AllocError>
+    ensures { OnOk result (string_bytes text.new
+        ≡ string_bytes text.old ++ listed first.now later.now back.now columns.now) }
+{
+    match columns {
+        [] => Ok(()),
+        [column, rest @ ..] => {
+            push_piece(text, first, &column.0, back)?;
+            push_each(text, rest, later, back)
+        }
+    }
+}
+
+// Adds the columns' names, each between two texts.
+fn push_each<T>(
+    text: &mut String,
+    columns: &[(Name, T)],
+    front: &str,
+    back: &str,
+) -> Result<(), AllocError>
+    ensures { OnOk result (string_bytes text.new
+        ≡ string_bytes text.old ++ flat_map (piece front.now back.now) columns.now) }
+{
+    for column in columns {
+        push_piece(text, front, &column.0, back)?;
+    }
+    Ok(())
+}
+
+// Adds a name between two texts.
+fn push_piece(text: &mut String, front: &str, name: &Name, back: &str) -> Result<(), AllocError>
+    ensures { OnOk result (string_bytes text.new
+        ≡ string_bytes text.old ++ (front.now ++ name.now ++ back.now)) }
+{
+    text.push_str(front)?;
+    text.push_str(name.as_str())?;
+    text.push_str(back)
+}
+
+// Adds a parameter for each column.
+fn push_marks<T>(text: &mut String, columns: &[(Name, T)]) -> Result<(), AllocError>
+    ensures { OnOk result (string_bytes text.new
+        ≡ string_bytes text.old ++ marks_text columns.now) }
+{
+    match columns {
+        [] => Ok(()),
+        [_, rest @ ..] => {
+            text.push_str("?")?;
+            push_more_marks(text, rest)
+        }
+    }
+}
+
+// Adds a parameter for each further column.
+fn push_more_marks<T>(text: &mut String, columns: &[(Name, T)]) -> Result<(), AllocError>
+    ensures { OnOk result (string_bytes text.new
+        ≡ string_bytes text.old ++ flat_map (λ _. codes ", ?") columns.now) }
+{
+    for _column in columns {
+        text.push_str(", ?")?;
+    }
+    Ok(())
+}

@@ -1,0 +1,19 @@
+//! Tests of the keeper in a file: what it keeps, and the files and changes that it refuses.
+#![tactic(auto)]
+
+#[cfg(test)]
+mod attaching;
+#[cfg(test)]
+mod changes;
+#[cfg(test)]
+mod committing;
+#[cfg(test)]
+mod folders;
+#[cfg(test)]
+mod keeping;
+#[cfg(test)]
+mod loading;
+#[cfg(test)]
+mod other_writers;
+#[cfg(test)]
+mod stores;
