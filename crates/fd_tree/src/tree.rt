@@ -155,6 +155,13 @@ impl Tree {
         let _ = &self.edges;
     }
 
+    /// Does nothing, and tells a proof that each edge has a column on its left side.
+    pub fn lefts_are_full(&self)
+        ensures { AllEdges HasLeft self.now }
+    {
+        let _ = &self.edges;
+    }
+
     /// An equal tree.
     pub fn copy(&self, alloc: Global) -> Result<Tree, NoMemory>
         ensures { IfOk result (λ copy. copy ≡ self.now) }

@@ -1,10 +1,13 @@
-//! Rows revised by other rows along a tree of functional dependencies, and merges.
+//! Rows revised by other rows along a tree of functional dependencies, merges, and the rows that
+//! revision changes.
 #![tactic(auto)]
 
 mod first_by_key;
 mod pasting;
 pub mod revising;
 pub mod steps;
+pub mod touching;
 
 pub use revising::{merge, revise, revise_row};
-pub use steps::all_along;
+pub use steps::{all_along, one_along};
+pub use touching::{Touched, afters, befores, revise_touched};

@@ -1,5 +1,5 @@
 //! Revision of rows and of relations, and merges.
-ghost use Rattle.std.specs.Prelude.{◌≡◌, IfOk, true};
+ghost use Rattle.std.specs.Prelude.{◌≡◌, IfOk, map, true};
 ghost use Rattle.lens_values.specs.SortedSet as set;
 ghost use Rattle.lens_specs.specs.Dependencies.{MeetsTree};
 ghost use Rattle.lens_specs.specs.Relation.{Fits};
@@ -26,6 +26,23 @@ pub fn revise_row(alloc: Global, tree: &Tree, row: &Row, by: &RowSet) -> Result<
     Ok(revised)
 }
 
+/// Each of the rows revised, in their order.
+pub fn revised_rows(
+    alloc: Global,
+    tree: &Tree,
+    rows: &[Row],
+    by: &RowSet,
+) -> Result<Vec<Row>, NoMemory>
+    ensures { IfOk result (λ revised. revised.items ≡ map (λ m.
+        spec.revise_row tree.now m by.now) rows.now) }
+{
+    let mut revised = copied(alloc, rows)?;
+    for edge in tree.edges() {
+        revised = all_along(alloc, edge, &revised, by)?;
+    }
+    Ok(revised)
+}
+
 /// Each row of the relation revised by rows over its columns. Where the relation meets the tree, no
 /// two of its rows become one, so the result has as many rows.
 pub fn revise(
@@ -44,10 +61,7 @@ pub fn revise(
 {
     relation.rows_fit();
     tree.is_tree();
-    let mut rows = copied(alloc, relation.rows().rows())?;
-    for edge in tree.edges() {
-        rows = all_along(alloc, edge, &rows, by)?;
-    }
+    let rows = revised_rows(alloc, tree, relation.rows().rows(), by)?;
     let columns = relation.columns().copy(alloc)?;
     Ok(Relation::with_rows(columns, RowSet::new(alloc, rows)?))
 }

@@ -15,6 +15,7 @@ pub mod KeptStates
 pub mod Last
 pub mod Definitions
 pub mod Views
+pub mod Keys
 pub mod Since
 pub mod NoLost
 pub mod Example

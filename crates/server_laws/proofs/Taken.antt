@@ -233,7 +233,7 @@ still_known known d h all = let a = adds known d h all in subst AllKnown (sym a.
 
 -- ---- texts that are all taken
 
-place_none : (b : Bool) (o : Option ℕ) → cond b (Some 0) (option_map suc o) ≡ None → (b ≡ false) × (o ≡ None)
+pub place_none : (b : Bool) (o : Option ℕ) → cond b (Some 0) (option_map suc o) ≡ None → (b ≡ false) × (o ≡ None)
 place_none true o e = cc
 place_none false None e = (refl, refl)
 place_none false (Some n) e = cc

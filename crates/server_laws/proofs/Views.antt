@@ -28,11 +28,11 @@ use Rattle.server_laws.proofs.Taken.{AllKnown, all_known, lens_is, lens_is_known
 
 -- ---- the lens of an expression is judged as a whole
 
-mapped : {A B : Type 0} (f : A → B) (o : Option A) (y : B) → option_map f o ≡ Some y → (x : A) × (o ≡ Some x) × (f x ≡ y)
+pub mapped : {A B : Type 0} (f : A → B) (o : Option A) (y : B) → option_map f o ≡ Some y → (x : A) × (o ≡ Some x) × (f x ≡ y)
 mapped f None y e = cc
 mapped f (Some x) y e = (x, refl, cc)
 
-joined : (l r : Option Lens) (L : Lens) → join_of l r ≡ Some L → (A : Lens) × (B : Lens) × (l ≡ Some A) × (r ≡ Some B) × (join A B ≡ L)
+pub joined : (l r : Option Lens) (L : Lens) → join_of l r ≡ Some L → (A : Lens) × (B : Lens) × (l ≡ Some A) × (r ≡ Some B) × (join A B ≡ L)
 joined None r L e = cc
 joined (Some A) None L e = cc
 joined (Some A) (Some B) L e = (A, B, refl, refl, cc)

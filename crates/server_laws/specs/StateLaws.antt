@@ -1,5 +1,5 @@
 -- The laws of states: each one that the server reaches is valid.
-use Rattle.std.specs.Prelude.{◌≡◌, ℕ, List, Some, Ok}
+use Rattle.std.specs.Prelude.{◌≡◌, ◌<◌, ◌^◌, ℕ, List, Some, Ok, length}
 use Rattle.std.specs.List.{AllByRecursion}
 use Rattle.std.specs.FinMap as finmap
 use Rattle.lens_specs.specs.Relation.{Name, Rows}
@@ -7,6 +7,7 @@ use Rattle.lens_specs.specs.Sort.{IsOf}
 use Rattle.lens_specs.specs.Lens.{Tables, Lens, sort_of, get, put}
 use Rattle.lens_specs.specs.Typing.{sort}
 use Rattle.io_specs.specs.Lines.{Line}
+use Rattle.lens_laws.specs.Asked.{HasKeys}
 use Rattle.lens_laws.specs.Lenses.{IsTyped, AreOf}
 use Rattle.catalog_specs.specs.Catalogue.{catalogue}
 use Rattle.server_specs.specs.State.{State, fresh}
@@ -31,6 +32,14 @@ SessionsStayValid = (s : State) (count : ℕ) (lines : List Line) (replies : Lis
 abbrev pub LensesAreTyped : Type 0
 LensesAreTyped = (s : State) → Valid s → (name : Name) (L : Lens) → finmap.get (catalogue s.texts) name ≡ Some L
     → (sort L ≡ Ok (sort_of L)) × IsTyped L × AreOf L s.tables
+
+-- each text has fewer than 2 ^ 64 bytes
+abbrev pub AreShort : List (List ℕ) → Type 0
+AreShort texts = AllByRecursion (λ text. length text < 2 ^ 64) texts
+
+-- each lens of a valid state has keys: its tables have columns, and their dependencies both sides
+abbrev pub LensesHaveKeys : Type 0
+LensesHaveKeys = (s : State) → Valid s → AreShort s.texts → (name : Name) (L : Lens) → finmap.get (catalogue s.texts) name ≡ Some L → HasKeys L
 
 -- preservation of sorts, PutGet and GetPut, over tables
 pub record IsLawfulOver (L : Lens) (db : Tables) : Type 0 where

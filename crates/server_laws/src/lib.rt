@@ -8,18 +8,19 @@ ghost use Rattle.server_laws.specs.DefineLaws.{DefinitionsLeaveTables, Definitio
 ghost use Rattle.server_laws.specs.KeptLaws.{ChangesAreKept, DefinitionsAreKept, PutsAreKept};
 ghost use Rattle.server_laws.specs.PutLaws.{AcceptedOrRefused, AcceptedWhereTyped, ChangesAreDifferences, ChangesAreTold, OtherTablesStay, PutThenRead, ReadThenPut, RefusedByFirstClash, RefusedByLeastRow, SentRowsFit};
 ghost use Rattle.server_laws.specs.SessionLaws.{AnswersReadOtherwise, FaultsAreCounted, RepliesAreAnswers, SessionsAreComplete};
-ghost use Rattle.server_laws.specs.StateLaws.{AnswersStayValid, FreshIsValid, LensesAreLawful, LensesAreTyped, SessionsStayValid};
+ghost use Rattle.server_laws.specs.StateLaws.{AnswersStayValid, FreshIsValid, LensesAreLawful, LensesAreTyped, LensesHaveKeys, SessionsStayValid};
 ghost use Rattle.server_laws.specs.UpdateLaws.{NoUpdateIsLost};
 ghost use Rattle.server_laws.specs.ViewLaws.{FullIsTold, RulesAreTold, TakenWhereSorted, TypedIsTaken, UnknownIsTold};
 ghost use Rattle.server_laws.specs.Witness.{DropsCanChange, PutsCanChange, UpdatesCanRest};
 
-/// Every state that the server reaches is valid, and in a valid state each lens has a sort and its
-/// tables, and keeps the laws of lenses over them.
+/// Every state that the server reaches is valid, and in a valid state each lens has a sort, keys and
+/// its tables, and keeps the laws of lenses over them.
 pub fn states_stay_valid()
     ensures fresh { FreshIsValid }
     ensures answers { AnswersStayValid }
     ensures sessions { SessionsStayValid }
     ensures lenses { LensesAreTyped }
+    ensures keys { LensesHaveKeys }
     ensures lawful { LensesAreLawful }
 {}
 

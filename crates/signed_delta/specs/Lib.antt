@@ -1,3 +1,4 @@
 pub mod Disjoint
 pub mod DeltaCode
+pub mod Keys
 pub mod Tables

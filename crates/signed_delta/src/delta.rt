@@ -1,14 +1,20 @@
 //! Differences of sets of rows.
-ghost use Rattle.std.specs.Prelude.{◌≡◌, IfOk};
+ghost use Rattle.std.specs.Prelude.{◌≡◌, ◌≤◌, ◌+◌, ◌*◌, ℕ, true, length, IfOk};
+ghost use Rattle.lens_values.specs.SortedSet as set;
 ghost use Rattle.lens_specs.specs.Delta as spec;
 ghost use Rattle.lens_specs.specs.Delta.{AppliesTo};
 ghost use Rattle.signed_delta.specs.Disjoint.{AreApart};
+ghost use Rattle.lens_specs.specs.Relation.{Fits};
 
+use crate::asking::{absent, present};
+use crate::look::Look;
 use crate::sides::both_sides;
 use lens_values::{Name, NoMemory};
 use row_sets::{Relation, RowSet};
 use std::alloc::Global;
 use std::marker::Model;
+use std::sync::ledger::Ledger;
+use step_counter::Steps;
 
 /// Rows to remove and rows to add, with no row in both. A contract sees the two sets.
 #[derive(Debug, Drop)]
@@ -133,4 +139,28 @@ pub fn diff(alloc: Global, old: &Relation, new: &Relation) -> Result<Delta, NoMe
     let remove = RowSet::from_rising(sides.remove);
     let add = RowSet::from_rising(sides.add);
     Ok(Delta::new(remove, add))
+}
+
+/// The difference that leads from the look's rows to the same without the rows to remove and with
+/// those to add. A row that is in both stays, or is added.
+pub fn of_touched<K: Look, L: Ledger>(
+    alloc: Global,
+    remove: &RowSet,
+    add: &RowSet,
+    look: &K,
+    looked: &mut Steps<L>,
+) -> Result<Delta, NoMemory>
+    requires remove { (row : _) → set.contains remove.now row ≡ true
+        → Fits (K.relation look.now).columns row }
+    requires add { (row : _) → set.contains add.now row ≡ true
+        → Fits (K.relation look.now).columns row }
+    ensures delta { IfOk result (λ delta. let V = (K.relation look.now).rows in delta
+        ≡ spec.diff V (spec.new_view V (record { remove = remove.now; add = add.now }))) }
+    ensures looks { (n : ℕ) → K.within look.now n → looked.new ≤ looked.old
+        + n * (length (set.items remove.now) + length (set.items add.now)) }
+{
+    let rest = remove.minus(alloc, add)?;
+    let gone = present(alloc, &rest, look, looked)?;
+    let new = absent(alloc, add, look, looked)?;
+    Ok(Delta::new(gone, new))
 }

@@ -51,8 +51,8 @@ pub fn both_sides(alloc: Global, old: &[Row], new: &[Row]) -> Result<Sides, NoMe
     Ok(Sides { remove, add })
 }
 
-// Adds copies of the rows at the end.
-fn append(list: &mut Vec<Row>, alloc: Global, rows: &[Row]) -> Result<(), NoMemory>
+/// Adds copies of the rows at the end.
+pub fn append(list: &mut Vec<Row>, alloc: Global, rows: &[Row]) -> Result<(), NoMemory>
     ensures { OnOk result (list.new.items ≡ list.old.items ++ rows.now) }
 {
     for row in rows {

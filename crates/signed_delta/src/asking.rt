@@ -1,0 +1,88 @@
+//! One question for each of some rows.
+ghost use Rattle.std.specs.Prelude.{◌≡◌, ◌≢◌, ◌≤◌, ◌+◌, ◌*◌, ℕ, true, length, Contains, IfOk, is_some};
+ghost use Rattle.lens_values.specs.SortedSet as set;
+ghost use Rattle.lens_specs.specs.Relation.{Fits, has, minus, those};
+ghost use Rattle.lens_specs.specs.Rows.{at};
+ghost use Rattle.lens_laws.specs.KeyedDeltas.{found_each};
+
+use crate::look::Look;
+use crate::sides::append;
+use lens_values::{Names, NoMemory};
+use row_sets::RowSet;
+use std::alloc::Global;
+use std::sync::ledger::Ledger;
+use step_counter::Steps;
+
+/// Those of the rows that are in the relation.
+pub fn present<K: Look, L: Ledger>(
+    alloc: Global,
+    rows: &RowSet,
+    look: &K,
+    looked: &mut Steps<L>,
+) -> Result<RowSet, NoMemory>
+    requires { (row : _) → set.contains rows.now row ≡ true
+        → Fits (K.relation look.now).columns row }
+    ensures rows { IfOk result (λ some. some ≡ those (has (K.relation look.now).rows) rows.now) }
+    ensures looks { (n : ℕ) → K.within look.now n → looked.new ≤ looked.old
+        + n * length (set.items rows.now) }
+{
+    let mut some = Vec::new(alloc);
+    for row in rows.rows() {
+        if look.has(alloc, row, looked)? {
+            some.push(row.copy(alloc)?)?;
+        }
+    }
+    Ok(RowSet::from_rising(some))
+}
+
+/// Those of the rows that are not in the relation.
+pub fn absent<K: Look, L: Ledger>(
+    alloc: Global,
+    rows: &RowSet,
+    look: &K,
+    looked: &mut Steps<L>,
+) -> Result<RowSet, NoMemory>
+    requires { (row : _) → set.contains rows.now row ≡ true
+        → Fits (K.relation look.now).columns row }
+    ensures rows { IfOk result (λ some. some ≡ minus rows.now (K.relation look.now).rows) }
+    ensures looks { (n : ℕ) → K.within look.now n → looked.new ≤ looked.old
+        + n * length (set.items rows.now) }
+{
+    let mut some = Vec::new(alloc);
+    for row in rows.rows() {
+        if !look.has(alloc, row, looked)? {
+            some.push(row.copy(alloc)?)?;
+        }
+    }
+    Ok(RowSet::from_rising(some))
+}
+
+/// The rows of the relation that agree with one of these in the columns. Each part that they have
+/// there is asked for once.
+pub fn find_each<K: Look, L: Ledger>(
+    alloc: Global,
+    cols: &Names,
+    rows: &RowSet,
+    look: &K,
+    looked: &mut Steps<L>,
+) -> Result<RowSet, NoMemory>
+    requires some { length (set.items cols.now) ≢ 0 }
+    requires asked { Contains (K.asked look.now) cols.now }
+    requires have { (row : _) → set.contains rows.now row ≡ true → (c : _)
+        → set.contains cols.now c ≡ true → is_some (at row c) ≡ true }
+    ensures found { IfOk result (λ found. found
+        ≡ found_each cols.now (K.relation look.now).rows (set.items rows.now)) }
+    ensures looks { (n : ℕ) → K.within look.now n → looked.new ≤ looked.old
+        + n * length (set.items rows.now) }
+    ensures few { IfOk result (λ found. (n : ℕ) → K.within look.now n → length (set.items found)
+        ≤ n * length (set.items rows.now)) }
+{
+    let keys = rows.project(alloc, cols)?;
+    let mut all = Vec::new(alloc);
+    for key in keys.rows() {
+        let found = look.find(alloc, cols, key, looked)?;
+        append(&mut all, alloc, found.rows())?;
+    }
+    let union = RowSet::new(alloc, all)?;
+    Ok(union)
+}
