@@ -1,0 +1,14 @@
+pub mod Adding
+pub mod Agreeing
+pub mod Defining
+pub mod Fields
+pub mod Groups
+pub mod Known
+pub mod Listed
+pub mod Mixed
+pub mod Put
+pub mod Sets
+pub mod Tabled
+pub mod Taken
+pub mod Views
+pub mod Whole

@@ -1,0 +1,14 @@
+//! Tables by key: their rows, and indexes by columns.
+#![tactic(auto)]
+
+mod filling;
+mod index;
+mod key;
+mod keyed;
+pub mod need;
+mod several;
+mod table;
+pub mod tables;
+
+pub use need::Need;
+pub use tables::Tables;
