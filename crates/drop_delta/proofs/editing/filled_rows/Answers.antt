@@ -1,0 +1,17 @@
+use Rattle.std.proofs.Common.{◌≡◌, IfOk, subst}
+use Rattle.signed_delta.proofs.Looks.{listed_at}
+use Rattle.drop_delta.specs.Dropped.{filled_in}
+use Rattle.drop_delta.proofs.Filling.{made_all}
+use Rattle.drop_delta.proofs.editing.filled_rows.Goals as goal
+
+pub filled_row-requires-clause-have : goal.filled_row-requires-clause-have
+filled_row-requires-clause-have g c = λ k i. c.requires.have c.row-item.result
+    (listed_at c.args.rows.now c.rows-row-items.result.now c.loop-row.row-index c.row-item.result c.rows-row-items.ensures c.loop-row-test.true c.row-item.is) k i
+
+pub returns : goal.returns
+returns g c = record {
+  rows = subst (λ s. IfOk c.new.result (λ filled. filled ≡ s))
+      (made_all (filled_in c.args.edge.now c.args.default.now (g.S.Look.relation c.args.source.now).rows) c.args.rows.now c.rows-row-items.result.now
+      c.loop-row.filled.items c.loop-row.row-index c.rows-row-items.ensures c.loop-row-test.false c.loop-row.invariant)
+      c.new.ensures;
+}

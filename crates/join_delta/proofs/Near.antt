@@ -1,0 +1,174 @@
+-- Left rows that are over, found among the pairs with the right rows near them.
+use Rattle.std.proofs.Common.{◌≡◌, is_some, sym, ap, ◌∙◌, subst, true, false, inl, inr}
+use Rattle.std.specs.Ordering.{eq_by_cmp}
+use Rattle.std.proofs.lemmas.Bool.{and_from, and_parts, not-true, not_from_false}
+use Rattle.lens_values.specs.Part.{restrict}
+use Rattle.lens_values.specs.Row.{row_cmp}
+use Rattle.lens_values.specs.SortedSet as set
+use Rattle.lens_values.specs.declared.row.Row.{Row}
+use Rattle.lens_specs.specs.Columns.{Columns, Fits, names}
+use Rattle.lens_specs.specs.Delta.{Delta, new_view}
+use Rattle.lens_specs.specs.Names.{Name, Names}
+use Rattle.lens_specs.specs.Nodes.{join_get}
+use Rattle.lens_specs.specs.Relation.{Rows, has, minus, project, those}
+use Rattle.lens_specs.specs.Rows.{agree, at, cut, paste}
+use Rattle.lens_laws.specs.KeyedDeltas.{found_each, is_over}
+use Rattle.fd_laws.proofs.Columns.{fits_names}
+use Rattle.lens_laws.proofs.Deltas.{from_found_each, from_new_view, in_found_each, in_new_view_added, in_new_view_kept}
+use Rattle.lens_laws.proofs.Join.{cut_left, cut_right, from_natural, in_natural}
+use Rattle.fd_laws.proofs.Lists.{absurd_false, any_at, any_from, both_ways, false_from}
+use Rattle.fd_laws.proofs.Names.{from_shared}
+use Rattle.fd_laws.proofs.Relations.{from_join, from_minus, from_project, from_those, in_join, in_minus, in_project, in_those, same_rel}
+use Rattle.fd_laws.proofs.Rows.{row_itself, tied_row}
+use Rattle.row_sets.specs.Joins.{pairs_on}
+use Rattle.row_sets.proofs.Natural.{natural_is}
+use Rattle.join_delta.specs.Joined.{shared_names}
+use Rattle.join_delta.specs.Pairs.{has_parts}
+
+-- a row over the columns of one side has a value in each shared column
+pub shared_left : (U V : Columns) (r : Row) → Fits U r → (c : Name) → set.contains (shared_names U V) c ≡ true → is_some (at r c) ≡ true
+shared_left U V r fit c i = fits_names U r fit c ∙ (from_shared (names U) (names V) c i).0
+
+pub shared_right : (U V : Columns) (r : Row) → Fits V r → (c : Name) → set.contains (shared_names U V) c ≡ true → is_some (at r c) ≡ true
+shared_right U V r fit c i = fits_names V r fit c ∙ (from_shared (names U) (names V) c i).1
+
+-- what a left row is over by
+over_by : (S V : Names) (N O : Rows) (r : Row) → is_over S V N O r ≡ true → (n : Row) × (has N n ≡ true) × (agree S r n ≡ true) × (has O (paste r V n) ≡ false)
+unfolding is_over
+over_by S V N O r h =
+    let w = any_from (eq_by_cmp row_cmp) tied_row row_itself _ (set.items (those (agree S r) N)) h in
+    let v = from_those (agree S r) N w.0 (set.contains-items _ w.0 ∙ w.1) in
+    (w.0, v.0, v.1, not-true _ w.2)
+
+is_over_by : (S V : Names) (N O : Rows) (r n : Row) → has N n ≡ true → agree S r n ≡ true → has O (paste r V n) ≡ false → is_over S V N O r ≡ true
+unfolding is_over
+is_over_by S V N O r n i g z = any_at (eq_by_cmp row_cmp) tied_row row_itself _ (set.items (those (agree S r) N)) n (sym (set.contains-items _ n) ∙ in_those (agree S r) N n i g) (not_from_false _ z)
+
+-- X are left rows; the right source is changed, and the join edited
+module _ (U V : Columns) (M N X : Rows) (change d : Delta) (fit_left : (m : Row) → has M m ≡ true → Fits U m) (fit_right : (n : Row) → has N n ≡ true → Fits V n)
+    (fit : (x : Row) → has X x ≡ true → Fits U x) (fit_new : (n : Row) → has change.add n ≡ true → Fits V n) where
+  abbrev S : Names
+  S = shared_names U V
+
+  abbrev J : Rows
+  J = join_get (names U) (names V) M N
+
+  -- the right rows near them
+  abbrev pub near : Rows
+  near = new_view (found_each S N (set.items X)) change
+
+  -- and the pairs with these
+  abbrev pub pairs : Rows
+  pairs = join_get (names U) (names V) X near
+
+  -- those of the join as it was
+  abbrev pub old : Rows
+  old = those (has_parts (names U) (names V) M N) pairs
+
+  near_fits : (n : Row) → has near n ≡ true → Fits V n
+  near_fits n i = elim (from_new_view (found_each S N (set.items X)) change n i) [
+    | inl w ↦ fit_right n (from_found_each S N (set.items X) n w.0)
+    | inr j ↦ fit_new n j
+  ]
+
+  near_new : (n : Row) → has near n ≡ true → has (new_view N change) n ≡ true
+  near_new n i = elim (from_new_view (found_each S N (set.items X)) change n i) [
+    | inl w ↦ in_new_view_kept N change n (from_found_each S N (set.items X) n w.0) w.1
+    | inr j ↦ in_new_view_added N change n j
+  ]
+
+  new_near : (x n : Row) → has X x ≡ true → has (new_view N change) n ≡ true → agree S x n ≡ true → has near n ≡ true
+  new_near x n there i g = elim (from_new_view N change n i) [
+    | inl w ↦ in_new_view_kept (found_each S N (set.items X)) change n (in_found_each S N (set.items X) x n (sym (set.contains-items X x) ∙ there) w.0 g) w.1
+    | inr j ↦ in_new_view_added (found_each S N (set.items X)) change n j
+  ]
+
+  -- a pair, by its parts
+  from_pairs : (q : Row) → has pairs q ≡ true → (x : Row) × (n : Row) × (has X x ≡ true) × (has near n ≡ true) × (agree S x n ≡ true) × (q ≡ paste x (names V) n)
+  unfolding join_get
+  from_pairs q i = from_join S (names V) X near q i
+
+  in_pairs : (x n : Row) → has X x ≡ true → has near n ≡ true → agree S x n ≡ true → has pairs (paste x (names V) n) ≡ true
+  unfolding join_get
+  in_pairs x n i j g = in_join S (names V) X near x n i j g
+
+  left_part : (x n : Row) → has X x ≡ true → has near n ≡ true → agree S x n ≡ true → cut (names U) (paste x (names V) n) ≡ x
+  left_part x n i j g = cut_left U V X near fit near_fits x n i j g
+
+  pub left_part_fits : (q : Row) → has pairs q ≡ true → Fits U (restrict (names U) q)
+  unfolding cut
+  left_part_fits q i =
+      let p = from_pairs q i in
+      subst (λ r. Fits U r) (sym (ap (cut (names U)) p.5 ∙ left_part p.0 p.1 p.2 p.3 p.4)) (fit p.0 p.2)
+
+  pub right_part_fits : (q : Row) → has pairs q ≡ true → Fits V (restrict (names V) q)
+  unfolding cut
+  right_part_fits q i =
+      let p = from_pairs q i in
+      subst (λ r. Fits V r) (sym (ap (cut (names V)) p.5 ∙ cut_right U V X near fit near_fits p.0 p.1 p.2 p.3)) (near_fits p.1 p.3)
+
+  -- a pair is in the join as it was where its parts are there
+  old_is : (q : Row) → has pairs q ≡ true → has_parts (names U) (names V) M N q ≡ has J q
+  unfolding cut
+  old_is q i = both_ways _ _
+      (λ t. let w = and_parts _ _ t in in_natural U V M N fit_left fit_right q (from_natural U V X near fit near_fits q i).2 w.0 w.1)
+      (λ h. let w = from_natural U V M N fit_left fit_right q h in and_from _ _ w.0 w.1)
+
+  in_view : (q : Row) → has pairs q ≡ true → has (new_view J d) q ≡ true → has (new_view old d) q ≡ true
+  in_view q i h = elim (from_new_view J d q h) [
+    | inl y ↦ in_new_view_kept old d q (in_those _ pairs q i (old_is q i ∙ y.0)) y.1
+    | inr y ↦ in_new_view_added old d q y
+  ]
+
+  from_view : (q : Row) → has (new_view old d) q ≡ true → has (new_view J d) q ≡ true
+  from_view q h = elim (from_new_view old d q h) [
+    | inl y ↦ let w = from_those (has_parts (names U) (names V) M N) pairs q y.0 in in_new_view_kept J d q (sym (old_is q w.0) ∙ w.1) y.1
+    | inr y ↦ in_new_view_added J d q y
+  ]
+
+  -- the left parts of the pairs that the edited join lacks
+  pub over_are : project (names U) (minus pairs (new_view old d)) ≡ those (is_over S (names V) (new_view N change) (new_view J d)) X
+  over_are = same_rel _ _
+      (λ x i.
+      let w = from_project (names U) (minus pairs (new_view old d)) x i in
+      let v = from_minus pairs (new_view old d) w.0 w.1 in
+      let p = from_pairs w.0 v.0 in
+      let is : x ≡ p.0 = w.2 ∙ ap (cut (names U)) p.5 ∙ left_part p.0 p.1 p.2 p.3 p.4 in
+      let lacks : has (new_view J d) (paste p.0 (names V) p.1) ≡ false =
+      ap (has (new_view J d)) (sym p.5) ∙ false_from _ (λ h. absurd_false _ (in_view w.0 v.0 h) v.1) in
+      ap (has _) is ∙ in_those _ X p.0 p.2 (is_over_by S (names V) (new_view N change) (new_view J d) p.0 p.1 (near_new p.1 p.3) p.4 lacks))
+      (λ x i.
+      let w = from_those _ X x i in
+      let b = over_by S (names V) (new_view N change) (new_view J d) x w.1 in
+      let j = new_near x b.0 w.0 b.1 b.2 in
+      let q = paste x (names V) b.0 in
+      let extra : has (minus pairs (new_view old d)) q ≡ true =
+      in_minus pairs (new_view old d) q (in_pairs x b.0 w.0 j b.2) (false_from _ (λ h. absurd_false _ (from_view q h) b.3)) in
+      ap (has _) (sym (left_part x b.0 w.0 j b.2)) ∙ in_project (names U) _ q extra)
+
+  -- the pairs as they are made
+  pub pairs_are : pairs_on S X near ≡ pairs
+  unfolding join_get
+  pairs_are = natural_is U V X near near_fits
+
+  -- the same, from what the code makes one after the other
+  module _ (SH UN VN : Names) (found made_near made_pairs : Rows) (sh : SH ≡ S) (un : UN ≡ names U) (vn : VN ≡ names V) (is_found : found ≡ found_each SH N (set.items X))
+      (is_near : made_near ≡ new_view found change) (is_pairs : made_pairs ≡ pairs_on SH X made_near) where
+    near_is : made_near ≡ near
+    near_is = is_near ∙ ap (λ F. new_view F change) (is_found ∙ ap (λ C. found_each C N (set.items X)) sh)
+
+    pub pairs_is : made_pairs ≡ pairs
+    pairs_is = is_pairs ∙ (λ i. pairs_on (sh i) X (near_is i)) ∙ pairs_are
+
+    pub left_fits : (q : Row) → has made_pairs q ≡ true → Fits U (restrict UN q)
+    left_fits q i = subst (λ C. Fits U (restrict C q)) (sym un) (left_part_fits q (ap (λ P. has P q) (sym pairs_is) ∙ i))
+
+    pub right_fits : (q : Row) → has made_pairs q ≡ true → Fits V (restrict VN q)
+    right_fits q i = subst (λ C. Fits V (restrict C q)) (sym vn) (right_part_fits q (ap (λ P. has P q) (sym pairs_is) ∙ i))
+
+    pub over_made : (made_old view extra : Rows) → made_old ≡ those (has_parts UN VN M N) made_pairs → view ≡ new_view made_old d → extra ≡ minus made_pairs view
+        → project UN extra ≡ those (is_over S (names V) (new_view N change) (new_view J d)) X
+    over_made made_old view extra is_old is_view is_extra =
+        let old_are : made_old ≡ old = is_old ∙ (λ i. those (has_parts (un i) (vn i) M N) (pairs_is i)) in
+        let extras : extra ≡ minus pairs (new_view old d) = is_extra ∙ (λ i. minus (pairs_is i) ((is_view ∙ ap (λ R. new_view R d) old_are) i)) in
+        (λ i. project (un i) (extras i)) ∙ over_are

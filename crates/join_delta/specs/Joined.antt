@@ -1,0 +1,51 @@
+-- Joins of two sources, and edits of them.
+use Rattle.std.specs.Prelude.{◌≡◌, ◌≢◌, List, length, true}
+use Rattle.std.specs.FinMap as finmap
+use Rattle.lens_values.specs.SortedSet as set
+use Rattle.lens_values.specs.declared.row.Row.{Row}
+use Rattle.lens_specs.specs.Columns.{Columns, Fits, both_columns, names}
+use Rattle.lens_specs.specs.Delta.{Delta, new_view}
+use Rattle.lens_specs.specs.Dependencies.{Edge, MeetsTree, closure}
+use Rattle.lens_specs.specs.Names.{Name, Names, Within}
+use Rattle.lens_specs.specs.Nodes.{join_get, join_put_left, join_right}
+use Rattle.lens_specs.specs.Relation.{Relation, Rows, has}
+use Rattle.fd_laws.specs.Trees.{EdgesWithin}
+
+-- the shared columns
+abbrev pub shared_names : Columns → Columns → Names
+shared_names U V = set.intersection (names U) (names V)
+
+-- what a join asks of the columns and the trees of its sources
+pub record CanBeJoined (U V : Columns) (F G : List Edge) : Type 0 where
+  -- each tree is over its columns
+  pub within_left : EdgesWithin (names U) F
+  pub within_right : EdgesWithin (names V) G
+  -- a shared column has one kind
+  pub kinds : (c : Name) → set.contains (names U) c ≡ true → set.contains (names V) c ≡ true
+      → finmap.get U c ≡ finmap.get V c
+  -- there are shared columns, and they determine the right ones
+  pub shared : length (set.items (shared_names U V)) ≢ 0
+  pub decides : Within (names V) (closure (shared_names U V) G)
+
+-- rows over the columns of both sources, which meet both trees
+pub record AreJoined (U V : Columns) (F G : List Edge) (O : Rows) : Type 0 where
+  pub columns : (r : Row) → has O r ≡ true → Fits (both_columns U V) r
+  pub left : MeetsTree O F
+  pub right : MeetsTree O G
+
+-- the natural join of two sources
+abbrev pub joined : Relation → Relation → Rows
+joined A B = join_get (names A.columns) (names B.columns) A.rows B.rows
+
+-- their join after an edit of it
+abbrev pub edited : Relation → Relation → Delta → Rows
+edited A B d = new_view (joined A B) d
+
+-- the left source after a put of the edited join
+abbrev pub edited_left : Relation → List Edge → Relation → List Edge → Delta → Rows
+edited_left A F B G d =
+    join_put_left (names A.columns) (names B.columns) F G (edited A B d) A.rows B.rows
+
+-- the right source after the same put
+abbrev pub edited_right : Relation → Relation → List Edge → Delta → Rows
+edited_right A B G d = join_right (names B.columns) G (edited A B d) B.rows

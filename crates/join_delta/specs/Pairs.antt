@@ -1,0 +1,19 @@
+-- The two parts of a joined row.
+use Rattle.std.specs.Prelude.{◌≡◌, Bool, ◌&&◌}
+use Rattle.lens_values.specs.Part.{restrict}
+use Rattle.lens_values.specs.SortedSet as set
+use Rattle.lens_values.specs.declared.row.Row.{Row}
+use Rattle.lens_specs.specs.Columns.{Columns, names}
+use Rattle.lens_specs.specs.Names.{Names}
+use Rattle.lens_specs.specs.Relation.{Rows, has}
+use Rattle.join_delta.specs.declared.sides.Sides.{Sides}
+
+-- the names of the columns of both sources, and the shared ones
+pub record AreSides (U V : Columns) (s : Sides) : Type 0 where
+  pub left : s.left ≡ names U
+  pub right : s.right ≡ names V
+  pub shared : s.shared ≡ set.intersection (names U) (names V)
+
+-- the row's part over U is in M, and its part over V in N
+abbrev pub has_parts : Names → Names → Rows → Rows → Row → Bool
+has_parts U V M N q = has M (restrict U q) && has N (restrict V q)

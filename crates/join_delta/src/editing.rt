@@ -1,0 +1,114 @@
+//! The edit of a join, taken to both sources.
+ghost use Rattle.std.specs.Prelude.{◌≡◌, ◌≢◌, true, length, Contains, IfOk, is_some};
+ghost use Rattle.lens_values.specs.SortedSet as set;
+ghost use Rattle.lens_specs.specs.Delta.{Applies, diff};
+ghost use Rattle.lens_specs.specs.Dependencies.{AllEdges, MeetsTree};
+ghost use Rattle.lens_specs.specs.Rows.{at};
+ghost use Rattle.lens_laws.specs.KeyedDeltas.{suspects as suspects_of};
+ghost use Rattle.join_delta.specs.Joined.{AreJoined, CanBeJoined, edited, edited_left, edited_right, joined, shared_names};
+
+use crate::merging::merge_change;
+use crate::over::over_rows;
+use crate::sides::{Sides, sides_of};
+use fd_tree::Tree;
+use lens_values::NoMemory;
+use row_sets::RowSet;
+use signed_delta::{Delta, Look, find_each, rows_fit};
+use std::alloc::Global;
+use std::sync::ledger::Ledger;
+use step_counter::Steps;
+
+/// The changes that an edit of a join makes to its left and its right source, by rows found by key:
+/// the incremental `join` of Horn, Perera and Cheney (Incremental Relational Lenses, ICFP 2018),
+/// which deletes on the left.
+///
+/// Each source is merged with its part of the added rows. Then each left row goes that would still
+/// join to a row that the edited view lacks. Only the parts of removed rows, the rows that agree
+/// with a new or revised right row, and the merged rows can be such rows, so these alone are
+/// tested.
+pub fn join_delta<A: Look, B: Look, L: Ledger>(
+    alloc: Global,
+    left: &A,
+    left_tree: &Tree,
+    right: &B,
+    right_tree: &Tree,
+    delta: &Delta,
+    looked: &mut Steps<L>,
+) -> Result<(Delta, Delta), NoMemory>
+    requires can { let U = (A.relation left.now).columns in
+        CanBeJoined U (B.relation right.now).columns left_tree.now right_tree.now }
+    requires left_asked { AllEdges (λ e. Contains (A.asked left.now) e.left) left_tree.now }
+    requires left_shared { let U = (A.relation left.now).columns in
+        Contains (A.asked left.now) (shared_names U (B.relation right.now).columns) }
+    requires left_meets { MeetsTree (A.relation left.now).rows left_tree.now }
+    requires right_asked { AllEdges (λ e. Contains (B.asked right.now) e.left) right_tree.now }
+    requires right_shared { let U = (A.relation left.now).columns in
+        Contains (B.asked right.now) (shared_names U (B.relation right.now).columns) }
+    requires right_meets { MeetsTree (B.relation right.now).rows right_tree.now }
+    requires applies { Applies delta.now (joined (A.relation left.now) (B.relation right.now)) }
+    requires view { let R = A.relation left.now in let Q = B.relation right.now in
+        AreJoined R.columns Q.columns left_tree.now right_tree.now (edited R Q delta.now) }
+    ensures left { let R = A.relation left.now in let Q = B.relation right.now in
+        let after = edited_left R left_tree.now Q right_tree.now delta.now in
+        IfOk result (λ changes. changes.0 ≡ diff R.rows after) }
+    ensures right { let R = A.relation left.now in let Q = B.relation right.now in
+        let after = edited_right R Q right_tree.now delta.now in
+        IfOk result (λ changes. changes.1 ≡ diff Q.rows after) }
+{
+    rows_fit(left);
+    rows_fit(right);
+    left_tree.is_tree();
+    right_tree.is_tree();
+    let sides = sides_of(alloc, left.columns(), right.columns())?;
+    let right_rows = delta.add().project(alloc, &sides.right)?;
+    let change = merge_change(alloc, right_tree, right, &right_rows, looked)?;
+    let right_change = Delta::new(change.remove, change.add);
+    let left_rows = delta.add().project(alloc, &sides.left)?;
+    let merged = merge_change(alloc, left_tree, left, &left_rows, looked)?;
+    let suspects = suspects(alloc, &sides, left, &right_change, delta, looked)?;
+    let gone = over_rows(
+        alloc,
+        &suspects,
+        &sides,
+        left,
+        right,
+        &right_change,
+        delta,
+        looked,
+    )?;
+    let late = over_rows(
+        alloc,
+        &merged.add,
+        &sides,
+        left,
+        right,
+        &right_change,
+        delta,
+        looked,
+    )?;
+    let remove = merged.remove.union(alloc, &gone)?;
+    let add = merged.add.minus(alloc, &late)?;
+    Ok((Delta::new(remove, add), right_change))
+}
+
+// The left rows that may have to go: the parts of removed rows, and those that agree with a new
+// right row.
+fn suspects<A: Look, L: Ledger>(
+    alloc: Global,
+    sides: &Sides,
+    left: &A,
+    change: &Delta,
+    delta: &Delta,
+    looked: &mut Steps<L>,
+) -> Result<RowSet, NoMemory>
+    requires some { length (set.items sides.now.shared) ≢ 0 }
+    requires asked { Contains (A.asked left.now) sides.now.shared }
+    requires have { (row : _) → set.contains change.now.add row ≡ true
+        → (c : _) → set.contains sides.now.shared c ≡ true → is_some (at row c) ≡ true }
+    ensures suspects { let S = sides.now.shared in let M = (A.relation left.now).rows in
+        IfOk result (λ rows. rows ≡ suspects_of S sides.now.left M delta.now change.now.add) }
+{
+    let parts = delta.remove().project(alloc, &sides.left)?;
+    let near = find_each(alloc, &sides.shared, change.add(), left, looked)?;
+    parts.union(alloc, &near)
+}

@@ -1,0 +1,50 @@
+//! What a merge changes, by rows found by key.
+ghost use Rattle.std.specs.Prelude.{◌≡◌, true, Contains, IfOk};
+ghost use Rattle.lens_values.specs.SortedSet as set;
+ghost use Rattle.lens_specs.specs.Columns.{Fits, names};
+ghost use Rattle.lens_specs.specs.Dependencies.{AllEdges};
+ghost use Rattle.lens_specs.specs.Names.{Within};
+ghost use Rattle.lens_laws.specs.KeyedDeltas.{merge_delta};
+
+use fd_tree::Tree;
+use lens_values::NoMemory;
+use revision::{afters, befores, revise_touched};
+use row_sets::RowSet;
+use signed_delta::{Look, absent};
+use std::alloc::Global;
+use std::sync::ledger::Ledger;
+use step_counter::Steps;
+
+/// Rows that go, and rows that come.
+#[derive(Debug, Drop)]
+pub struct Change {
+    /// The rows that go.
+    pub remove: RowSet,
+    /// The rows that come.
+    pub add: RowSet,
+}
+
+/// What a merge with these rows changes in the relation: the rows that they revise become what
+/// they are revised to, and those of them that are new come.
+pub fn merge_change<K: Look, L: Ledger>(
+    alloc: Global,
+    tree: &Tree,
+    look: &K,
+    rows: &RowSet,
+    looked: &mut Steps<L>,
+) -> Result<Change, NoMemory>
+    requires asked { AllEdges (λ e. Contains (K.asked look.now) e.left) tree.now }
+    requires columns { let U = names (K.relation look.now).columns in
+        AllEdges (λ e. Within e.left U) tree.now }
+    requires fit { (row : _) → set.contains rows.now row ≡ true
+        → Fits (K.relation look.now).columns row }
+    ensures change { IfOk result (λ change. record { remove = change.remove; add = change.add }
+        ≡ merge_delta tree.now (K.relation look.now).rows rows.now) }
+{
+    let touched = revise_touched(alloc, tree, look, rows, looked)?;
+    let remove = befores(alloc, &touched)?;
+    let revised = afters(alloc, &touched)?;
+    let new = absent(alloc, rows, look, looked)?;
+    let add = revised.union(alloc, &new)?;
+    Ok(Change { remove, add })
+}

@@ -1,0 +1,102 @@
+//! Left rows that join a right row to a row that the view lacks.
+ghost use Rattle.std.specs.Prelude.{◌≡◌, ◌≢◌, true, length, Contains, IfOk};
+ghost use Rattle.lens_values.specs.Part.{restrict};
+ghost use Rattle.lens_values.specs.SortedSet as set;
+ghost use Rattle.lens_specs.specs.Columns.{Fits, names};
+ghost use Rattle.lens_specs.specs.Delta.{new_view};
+ghost use Rattle.lens_specs.specs.Relation.{those};
+ghost use Rattle.lens_laws.specs.KeyedDeltas.{is_over};
+ghost use Rattle.join_delta.specs.Joined.{edited, shared_names};
+ghost use Rattle.join_delta.specs.Pairs.{AreSides, has_parts};
+
+use crate::sides::Sides;
+use lens_values::{NoMemory, Row};
+use row_sets::RowSet;
+use signed_delta::{Delta, Look, find_each, rows_fit};
+use std::alloc::Global;
+use std::sync::ledger::Ledger;
+use step_counter::Steps;
+
+/// Those of the rows over the left columns that join with a row of the right source, as it is after
+/// its change, to a row that the edited view lacks.
+pub fn over_rows<A: Look, B: Look, L: Ledger>(
+    alloc: Global,
+    rows: &RowSet,
+    sides: &Sides,
+    left: &A,
+    right: &B,
+    change: &Delta,
+    delta: &Delta,
+    looked: &mut Steps<L>,
+) -> Result<RowSet, NoMemory>
+    requires sides { let U = (A.relation left.now).columns in
+        AreSides U (B.relation right.now).columns sides.now }
+    requires shared { let U = (A.relation left.now).columns in
+        length (set.items (shared_names U (B.relation right.now).columns)) ≢ 0 }
+    requires asked { let U = (A.relation left.now).columns in
+        Contains (B.asked right.now) (shared_names U (B.relation right.now).columns) }
+    requires rows { (row : _) → set.contains rows.now row ≡ true
+        → Fits (A.relation left.now).columns row }
+    requires change { (row : _) → set.contains change.now.add row ≡ true
+        → Fits (B.relation right.now).columns row }
+    ensures over { let R = A.relation left.now in let Q = B.relation right.now in
+        let new_right = new_view Q.rows change.now in
+        let S = shared_names R.columns Q.columns in
+        let view = edited R Q delta.now in
+        IfOk result (λ over. over ≡ those (is_over S (names Q.columns) new_right view) rows.now) }
+{
+    rows_fit(left);
+    rows_fit(right);
+    let found = find_each(alloc, &sides.shared, rows, right, looked)?;
+    let near = change.apply_to(alloc, &found)?;
+    let pairs = rows.join(alloc, &near, &sides.shared)?;
+    let old = joined(alloc, &pairs, sides, left, right, looked)?;
+    let view = delta.apply_to(alloc, &old)?;
+    let extra = pairs.minus(alloc, &view)?;
+    extra.project(alloc, &sides.left)
+}
+
+// Those of the rows whose parts are in the sources, as they were.
+fn joined<A: Look, B: Look, L: Ledger>(
+    alloc: Global,
+    rows: &RowSet,
+    sides: &Sides,
+    left: &A,
+    right: &B,
+    looked: &mut Steps<L>,
+) -> Result<RowSet, NoMemory>
+    requires left { (row : _) → set.contains rows.now row ≡ true
+        → Fits (A.relation left.now).columns (restrict sides.now.left row) }
+    requires right { (row : _) → set.contains rows.now row ≡ true
+        → Fits (B.relation right.now).columns (restrict sides.now.right row) }
+    ensures rows { let M = (A.relation left.now).rows in let N = (B.relation right.now).rows in
+        IfOk result (λ some. some ≡ those (has_parts sides.now.left sides.now.right M N) rows.now) }
+{
+    let mut some = Vec::new(alloc);
+    for row in rows.rows() {
+        if is_joined(alloc, row, sides, left, right, looked)? {
+            some.push(row.copy(alloc)?)?;
+        }
+    }
+    Ok(RowSet::from_rising(some))
+}
+
+// Whether the parts of the row are in the sources.
+fn is_joined<A: Look, B: Look, L: Ledger>(
+    alloc: Global,
+    row: &Row,
+    sides: &Sides,
+    left: &A,
+    right: &B,
+    looked: &mut Steps<L>,
+) -> Result<bool, NoMemory>
+    requires left { Fits (A.relation left.now).columns (restrict sides.now.left row.now) }
+    requires right { Fits (B.relation right.now).columns (restrict sides.now.right row.now) }
+    ensures there { let M = (A.relation left.now).rows in let N = (B.relation right.now).rows in
+        IfOk result (λ there. there ≡ has_parts sides.now.left sides.now.right M N row.now) }
+{
+    let left_part = row.project(alloc, &sides.left)?;
+    let right_part = row.project(alloc, &sides.right)?;
+    let there = left.has(alloc, &left_part, looked)? && right.has(alloc, &right_part, looked)?;
+    Ok(there)
+}

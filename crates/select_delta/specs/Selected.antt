@@ -1,0 +1,21 @@
+-- Selections, and edits of them.
+use Rattle.std.specs.Prelude.{List}
+use Rattle.lens_specs.specs.Columns.{Columns}
+use Rattle.lens_specs.specs.Delta.{Delta, new_view}
+use Rattle.lens_specs.specs.Dependencies.{Edge}
+use Rattle.lens_specs.specs.Nodes.{select_get, select_put}
+use Rattle.lens_specs.specs.Predicate.{Predicate, holds}
+use Rattle.lens_specs.specs.Relation.{Rows}
+use Rattle.lens_laws.specs.Shapes.{IsIn}
+
+-- the rows of M that P holds on, after an edit of them
+abbrev pub edited : Predicate → Rows → Delta → Rows
+edited P M d = new_view (select_get (holds P) M) d
+
+-- M after a put of the edited selection
+abbrev pub edited_source : List Edge → Predicate → Rows → Delta → Rows
+edited_source T P M d = select_put T (holds P) (edited P M d) M
+
+-- rows over the columns that P holds on, which meet the tree
+abbrev pub AreSelected : Columns → List Edge → Predicate → Rows → Type 0
+AreSelected U T P N = IsIn N (record { columns = U; holds = holds P; tree = T })

@@ -1,0 +1,85 @@
+//! The edit of a selection, taken to its source.
+ghost use Rattle.std.specs.Prelude.{◌≡◌, Contains, IfOk, filter, not};
+ghost use Rattle.lens_specs.specs.Columns.{names};
+ghost use Rattle.lens_specs.specs.Delta.{Applies, diff};
+ghost use Rattle.lens_specs.specs.Dependencies.{AllEdges, MeetsTree};
+ghost use Rattle.lens_specs.specs.Names.{Within};
+ghost use Rattle.lens_specs.specs.Nodes.{select_get};
+ghost use Rattle.lens_specs.specs.Predicate.{holds};
+ghost use Rattle.lens_specs.specs.Relation.{those};
+ghost use Rattle.select_delta.specs.Selected.{AreSelected, edited, edited_source};
+
+use fd_tree::Tree;
+use lens_pred::Pred;
+use lens_values::NoMemory;
+use revision::{Touched, afters, befores, revise_touched};
+use row_sets::RowSet;
+use signed_delta::{Delta, Look, rows_fit};
+use std::alloc::Global;
+use std::sync::ledger::Ledger;
+use step_counter::Steps;
+
+/// The change that an edit of a selection makes to its source, by rows found by key: the
+/// incremental `select` of Horn, Perera and Cheney (Incremental Relational Lenses, ICFP 2018).
+///
+/// The source takes the edit as it is. The added rows also revise the rows that the predicate hides
+/// from the view: each that changes is removed, and what it becomes is added where the predicate
+/// still hides it. One that would enter the view is only removed, since nobody added it there.
+pub fn select_delta<S: Look, L: Ledger>(
+    alloc: Global,
+    source: &S,
+    tree: &Tree,
+    pred: &Pred,
+    delta: &Delta,
+    looked: &mut Steps<L>,
+) -> Result<Delta, NoMemory>
+    requires asked { AllEdges (λ e. Contains (S.asked source.now) e.left) tree.now }
+    requires columns { let U = names (S.relation source.now).columns in
+        AllEdges (λ e. Within e.left U) tree.now }
+    requires meets { MeetsTree (S.relation source.now).rows tree.now }
+    requires applies { let M = (S.relation source.now).rows in
+        Applies delta.now (select_get (holds pred.now) M) }
+    requires view { let R = S.relation source.now in
+        AreSelected R.columns tree.now pred.now (edited pred.now R.rows delta.now) }
+    ensures delta { let M = (S.relation source.now).rows in
+        IfOk result (λ change. change ≡ diff M (edited_source tree.now pred.now M delta.now)) }
+{
+    rows_fit(source);
+    tree.is_tree();
+    let touched = revise_touched(alloc, tree, source, delta.add(), looked)?;
+    let hidden = hidden(alloc, touched, pred)?;
+    let gone = befores(alloc, &hidden)?;
+    let revised = afters(alloc, &hidden)?;
+    let new = refused(alloc, &revised, pred)?;
+    let remove = delta.remove().union(alloc, &gone)?;
+    let add = delta.add().union(alloc, &new)?;
+    Ok(Delta::new(remove, add))
+}
+
+// Those that the predicate refused as they were.
+fn hidden(alloc: Global, touched: Vec<Touched>, pred: &Pred) -> Result<Vec<Touched>, NoMemory>
+    ensures { IfOk result (λ hidden.
+        hidden.items ≡ filter (λ t. not (holds pred.now t.before)) touched.items) }
+{
+    let mut hidden = Vec::new(alloc);
+    for change in touched {
+        if !pred.holds(&change.before) {
+            hidden.push(change)?;
+        }
+    }
+    Ok(hidden)
+}
+
+// Those of the rows that the predicate refuses.
+fn refused(alloc: Global, rows: &RowSet, pred: &Pred) -> Result<RowSet, NoMemory>
+    ensures { IfOk result (λ refused.
+        refused ≡ those (λ row. not (holds pred.now row)) rows.now) }
+{
+    let mut refused = Vec::new(alloc);
+    for row in rows.rows() {
+        if !pred.holds(row) {
+            refused.push(row.copy(alloc)?)?;
+        }
+    }
+    Ok(RowSet::from_rising(refused))
+}
