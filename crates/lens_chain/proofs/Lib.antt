@@ -1,0 +1,4 @@
+pub mod Chain
+pub mod Entries
+pub mod Gathered
+pub mod Premises

@@ -1,0 +1,70 @@
+use Rattle.std.proofs.Common.{◌≡◌, ◌∙◌, ap, subst, sym}
+use Rattle.std.proofs.lemmas.Result.{IfOk-weaker}
+use Rattle.std.specs.List.{Contains}
+use Rattle.lens_specs.specs.Delta.{diff, new_view}
+use Rattle.lens_specs.specs.Dependencies.{AllEdges, MeetsTree}
+use Rattle.lens_specs.specs.Lens.{get, sort_of, view_names}
+use Rattle.lens_specs.specs.Names.{Within}
+use Rattle.lens_specs.specs.Nodes.{select_get, select_put}
+use Rattle.lens_specs.specs.Predicate.{holds}
+use Rattle.lens_laws.specs.KeyedDeltas as keyed
+use Rattle.lens_probe.specs.Viewed.{asked_by}
+use Rattle.select_delta.specs.Selected.{AreSelected}
+use Rattle.lens_chain.specs.Edits.{IsEdit, over}
+use Rattle.lens_chain.proofs.Premises.{edges_asked, lefts_within, meets_tree, select_applies, select_carried, select_view, tree_is}
+use Rattle.lens_chain.proofs.nodes.under_select.Goals as goal
+
+pub select_delta-requires-clause-asked : goal.select_delta-requires-clause-asked
+select_delta-requires-clause-asked g c =
+    let v = c.args.source.now in
+    let tree = tree_is v.lens c.lens.result.now c.sort.result.now c.tree-tree.result.now c.requires.typed.0 c.lens.ensures.lens c.sort.ensures.given c.tree-tree.ensures.value in
+    subst (AllEdges (λ e. Contains (asked_by v) e.left)) (sym tree) (edges_asked v.lens v.sets)
+
+pub select_delta-requires-clause-columns : goal.select_delta-requires-clause-columns
+select_delta-requires-clause-columns g c =
+    let v = c.args.source.now in
+    let tree = tree_is v.lens c.lens.result.now c.sort.result.now c.tree-tree.result.now c.requires.typed.0 c.lens.ensures.lens c.sort.ensures.given c.tree-tree.ensures.value in
+    subst (AllEdges (λ e. Within e.left (view_names v.lens))) (sym tree) (lefts_within v.lens c.requires.typed.0)
+
+pub select_delta-requires-clause-meets : goal.select_delta-requires-clause-meets
+select_delta-requires-clause-meets g c =
+    let v = c.args.source.now in
+    let tree = tree_is v.lens c.lens.result.now c.sort.result.now c.tree-tree.result.now c.requires.typed.0 c.lens.ensures.lens c.sort.ensures.given c.tree-tree.ensures.value in
+    subst (MeetsTree (get v.lens (over v))) (sym tree) (meets_tree v.lens (over v) c.requires.typed.0 c.lens.ensures.viewed.1.tables)
+
+pub select_delta-requires-clause-applies : goal.select_delta-requires-clause-applies
+select_delta-requires-clause-applies g c =
+    let v = c.args.source.now in
+    select_applies c.args.pred.now v.lens (over v) c.args.delta.now c.requires.typed c.lens.ensures.viewed.1.tables c.requires.edit
+
+pub select_delta-requires-clause-view : goal.select_delta-requires-clause-view
+select_delta-requires-clause-view g c =
+    let v = c.args.source.now in
+    let P = c.args.pred.now in
+    let N = new_view (select_get (holds P) (get v.lens (over v))) c.args.delta.now in
+    let tree = tree_is v.lens c.lens.result.now c.sort.result.now c.tree-tree.result.now c.requires.typed.0 c.lens.ensures.lens c.sort.ensures.given c.tree-tree.ensures.value in
+    subst (λ T. AreSelected (sort_of v.lens).columns T P N) (sym tree) (select_view P v.lens (over v) c.args.delta.now c.requires.typed c.lens.ensures.viewed.1.tables c.requires.edit)
+
+pub returns-clause-change : goal.returns-clause-change
+returns-clause-change g c =
+    let v = c.args.source.now in
+    let P = c.args.pred.now in
+    let M = get v.lens (over v) in
+    let N = new_view (select_get (holds P) M) c.args.delta.now in
+    let T = c.tree-tree.result.now in
+    let tree = tree_is v.lens c.lens.result.now c.sort.result.now T c.requires.typed.0 c.lens.ensures.lens c.sort.ensures.given c.tree-tree.ensures.value in
+    IfOk-weaker c.select_delta.result (λ change. change ≡ diff M (select_put T (holds P) N M)) (λ change. change ≡ keyed.select_delta (sort_of v.lens).tree (holds P) M c.args.delta.now)
+    (λ change is. (select_carried P v.lens (over v) c.args.delta.now c.requires.typed c.lens.ensures.viewed.1.tables c.requires.edit change (is ∙ ap (λ F. diff M (select_put F (holds P) N M)) tree)).0)
+    c.select_delta.ensures.delta
+
+pub returns-clause-edit : goal.returns-clause-edit
+returns-clause-edit g c =
+    let v = c.args.source.now in
+    let P = c.args.pred.now in
+    let M = get v.lens (over v) in
+    let N = new_view (select_get (holds P) M) c.args.delta.now in
+    let T = c.tree-tree.result.now in
+    let tree = tree_is v.lens c.lens.result.now c.sort.result.now T c.requires.typed.0 c.lens.ensures.lens c.sort.ensures.given c.tree-tree.ensures.value in
+    IfOk-weaker c.select_delta.result (λ change. change ≡ diff M (select_put T (holds P) N M)) (λ change. IsEdit v.lens (over v) change)
+    (λ change is. (select_carried P v.lens (over v) c.args.delta.now c.requires.typed c.lens.ensures.viewed.1.tables c.requires.edit change (is ∙ ap (λ F. diff M (select_put F (holds P) N M)) tree)).1)
+    c.select_delta.ensures.delta

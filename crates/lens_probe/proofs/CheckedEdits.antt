@@ -1,0 +1,155 @@
+-- The check of an edit is that of its new view.
+use Rattle.std.proofs.Common.{◌≡◌, ◌∙◌, ◌<◌, ◌||◌, ℕ, zero, suc, List, [], ◌∷◌, length, get_or, Option, Some, None, true, false, ap, sym, subst, refl, inl, inr, is_some, unwrap_or, arith}
+use Rattle.std.specs.List.{list_all, list_any}
+use Rattle.std.specs.Ordering.{eq_by_cmp}
+use Rattle.std.proofs.lemmas.Bool.{or_cases}
+use Rattle.lens_values.specs.Part.{restrict}
+use Rattle.lens_values.specs.Row.{row_cmp}
+use Rattle.lens_values.specs.SortedSet as set
+use Rattle.lens_values.specs.declared.row.Row.{Row}
+use Rattle.lens_specs.specs.Columns.{Columns, Fits, names}
+use Rattle.lens_specs.specs.Delta.{AppliesTo, Delta, new_view}
+use Rattle.lens_specs.specs.Dependencies.{AllEdges, Edge, Meets, MeetsTree}
+use Rattle.lens_specs.specs.Names.{Name, Names, Within}
+use Rattle.lens_specs.specs.Predicate.{Predicate}
+use Rattle.lens_specs.specs.Relation.{Relation, Rows, has, minus, union}
+use Rattle.lens_specs.specs.Rows.{agree, at, cut}
+use Rattle.lens_specs.specs.Sort as spec
+use Rattle.lens_specs.specs.Sort.{IsOf, IsOfSort, Sort, clash, clash_of, first_pair, off}
+use Rattle.fd_laws.proofs.Columns.{fits_names}
+use Rattle.fd_laws.proofs.Lists.{absurd_false, all_at, in_cons, in_head}
+use Rattle.fd_laws.proofs.Relations.{from_minus, from_union, in_those, same_rel, sets}
+use Rattle.fd_laws.proofs.Rows.{agree_back, agree_itself, at-cut, cut_column, row_itself, tied_row}
+use Rattle.fd_laws.proofs.Trees.{each_edge}
+use Rattle.lens_laws.specs.Checks.{edit_clash, near}
+use Rattle.lens_laws.specs.KeyedDeltas.{find_by, found_each}
+use Rattle.lens_laws.specs.Passes.{IsSound}
+use Rattle.lens_laws.proofs.Deltas.{from_found_each, from_new_view}
+use Rattle.lens_laws.proofs.EditChecks.{edit_checks_are}
+use Rattle.lens_laws.proofs.NodeFinds.{find_cut}
+use Rattle.lens_laws.proofs.Sorts.{clash_none, meets_none_each}
+use Rattle.fd_tree.specs.ClashView.{shown, shown_clash}
+use Rattle.fd_tree.specs.declared.clash.Clash.{Clash}
+use Rattle.signed_delta.specs.Keys.{IsKey}
+
+-- what holds of each edge holds of the one at a place
+pub edge_at : (P : Edge → Type 0) (T : List Edge) (i : ℕ) (e : Edge) → AllEdges P T → i < length T → e ≡ get_or T i e → P e
+edge_at P [] i e all below here = absurd (omega arith)
+edge_at P (k ∷ ks) zero e all below here = subst P (sym here) all.0
+edge_at P (k ∷ ks) (suc i) e all below here = edge_at P ks i e all.1 (omega arith) here
+
+-- a row over the columns has a value in each column of a side within them
+pub side_there : (U : Columns) (C : Names) (r : Row) → Within C (names U) → Fits U r → (c : Name) → set.contains C c ≡ true → is_some (at r c) ≡ true
+side_there U C r within fit c i = fits_names U r fit c ∙ within c i
+
+-- the left sides of a sort's tree are within the columns of a relation of the sort
+pub lefts_within : (s : Sort) (M : Relation) → IsSound s → IsOfSort M s → AllEdges (λ e. Within e.left (names M.columns)) s.tree
+lefts_within s M sound is =
+    let U = names s.columns in
+    each_edge (λ e. Within e.left U × Within e.right U) (λ e. Within e.left (names M.columns)) (λ e w. subst (λ V. Within e.left (names V)) (sym is.0) w.0) s.tree sound.within
+
+-- the pair of a clash on a single edge
+pair_shown : (e : Edge) (o : Option (Row × Row)) (found : Clash) → Some found ≡ shown_clash (clash_of 0 e o None) → Some (found.first, found.second) ≡ o
+pair_shown e None found is = cc
+pair_shown e (Some p) found is =
+    let same : found ≡ shown (record { place = 0; edge = e; first = p.0; second = p.1 }) = ap (λ o. unwrap_or o found) is in
+    ap (λ c. Some (c.first, c.second)) same
+
+no_pair : (e : Edge) (o : Option (Row × Row)) → None ≡ shown_clash (clash_of 0 e o None) → None ≡ o
+no_pair e None is = refl
+no_pair e (Some p) is = cc
+
+pub found_pair : (e : Edge) (M : Rows) (found : Clash) → Some found ≡ shown_clash (clash (e ∷ []) M) → Some (found.first, found.second) ≡ first_pair e (set.items M)
+unfolding clash
+found_pair e M found is = pair_shown e (first_pair e (set.items M)) found is
+
+pub found_none : (e : Edge) (M : Rows) → None ≡ shown_clash (clash (e ∷ []) M) → None ≡ first_pair e (set.items M)
+unfolding clash
+found_none e M is = no_pair e (first_pair e (set.items M)) is
+
+-- a row's part in columns that it has is a key of them
+pub key_of : (C D : Names) (r part : Row) → C ≡ D → ((c : Name) → set.contains D c ≡ true → is_some (at r c) ≡ true) → part ≡ restrict C r → IsKey C part
+unfolding cut
+key_of C D r part same have is c = ap (λ k. is_some (at k c)) is ∙ ap is_some (at-cut C r c) ∙ cut_column C c (at r c) (λ i. have c (ap (λ X. set.contains X c) (sym same) ∙ i))
+
+-- what it finds is what the row finds
+pub found_by_key : (C D : Names) (V M : Rows) (r part : Row) → C ≡ D → M ≡ find_by C part V → part ≡ restrict C r → M ≡ find_by D r V
+unfolding cut
+found_by_key C D V M r part same found is = found ∙ ap (λ k. find_by C k V) is ∙ find_cut C r V ∙ ap (λ X. find_by X r V) same
+
+-- what is found by each of the added rows
+pub found_by_each : (C D : Names) (V M A B : Rows) → C ≡ D → A ≡ B → M ≡ found_each C V (set.items A) → M ≡ found_each D V (set.items B)
+found_by_each C D V M A B same added found = found ∙ (λ i. found_each (same i) V (set.items (added i)))
+
+-- the added rows, and what was found and stays
+pub near_is : (e : Edge) (V M : Rows) (d : Delta) → M ≡ found_each e.left V (set.items d.add) → union d.add (minus M d.remove) ≡ near e V d
+unfolding near
+near_is e V M d found = ap (λ N. union d.add (minus N d.remove)) found
+
+-- the row that a set has alone is in it
+pub only_there : (M : Rows) (a : Row) → set.items M ≡ a ∷ [] → has M a ≡ true
+only_there M a only = set.contains-items M a ∙ ap (list_any (eq_by_cmp row_cmp a)) only ∙ in_head (eq_by_cmp row_cmp) tied_row row_itself a []
+
+-- the rows of a relation of a sort meet its tree
+pub meets_of : (s : Sort) (M : Relation) → IsOfSort M s → MeetsTree M.rows s.tree
+meets_of s M is = clash_none s.tree M.rows is.1.clash
+
+module _ (e : Edge) (V : Rows) (d : Delta) (a : Row) (only : set.items d.add ≡ a ∷ []) where
+  -- what is found by the rows of a set that has one
+  pub found_by_only : found_each e.left V (set.items d.add) ≡ find_by e.left a V
+  found_by_only = ap (found_each e.left V) only ∙ same_rel _ _ (λ r i. let none = set.contains-empty row_cmp r in grind (arith, sets)) (λ r i. grind (arith, sets))
+
+  is_only : (r : Row) → has d.add r ≡ true → r ≡ a
+  is_only r i = elim (in_cons (eq_by_cmp row_cmp) tied_row row_itself r a [] (ap (list_any (eq_by_cmp row_cmp r)) (sym only) ∙ sym (set.contains-items d.add r) ∙ i)) [ inl is ↦ is | inr j ↦ cc ]
+
+  -- each row that is found by the only added one and stays agrees with it on the right side: none near it clash
+  module _ (meets : Meets V e.left e.right) (M : Rows) (found : M ≡ find_by e.left a V) (alike : list_all (λ r. agree e.right a r || has d.remove r) (set.items M) ≡ true) where
+    kept_agrees : (r : Row) → has V r ≡ true → has d.remove r ≡ false → agree e.left a r ≡ true → agree e.right a r ≡ true
+    kept_agrees r i stays g =
+        let there = sym (set.contains-items M r) ∙ ap (λ N. has N r) found ∙ in_those (agree e.left a) V r i g in
+        let passes = all_at (eq_by_cmp row_cmp) tied_row row_itself (λ q. agree e.right a q || has d.remove q) (set.items M) alike r there in
+        elim (or_cases (agree e.right a r) (has d.remove r) passes) [ inl t ↦ t | inr t ↦ absurd_false _ t stays ]
+
+    near_meets : Meets (near e V d) e.left e.right
+    unfolding near
+    near_meets p q i j g = elim (from_union d.add _ p i) [
+      | inl x ↦
+          let is = is_only p x in
+          subst (λ r. agree e.right r q ≡ true) (sym is) (elim (from_union d.add _ q j) [
+            | inl y ↦ subst (λ r. agree e.right a r ≡ true) (sym (is_only q y)) (agree_itself e.right a)
+            | inr y ↦ let w = from_minus _ d.remove q y in kept_agrees q (from_found_each e.left V _ q w.0) w.1 (ap (λ r. agree e.left r q) (sym is) ∙ g)
+          ])
+      | inr x ↦
+          let w = from_minus _ d.remove p x in
+          let old = from_found_each e.left V _ p w.0 in
+          elim (from_union d.add _ q j) [
+            | inl y ↦
+                let is = is_only q y in
+                subst (λ r. agree e.right p r ≡ true) (sym is) (agree_back e.right a p (kept_agrees p old w.1 (agree_back e.left p a (ap (agree e.left p) (sym is) ∙ g))))
+            | inr y ↦ let u = from_minus _ d.remove q y in meets p q old (from_found_each e.left V _ q u.0) g
+          ]
+    ]
+
+    pub no_pair_near : None ≡ first_pair e (set.items (near e V d))
+    no_pair_near = sym (meets_none_each (near e V d) e near_meets)
+
+none_shown : (o : Option spec.Clash) → None ≡ shown_clash o → o ≡ None
+none_shown None is = refl
+none_shown (Some c) is = cc
+
+module _ (s : Sort) (M : Relation) (d : Delta) (is : IsOfSort M s) where
+  -- the least refused row of the new view is the least refused added row
+  pub new_off : (P : Predicate) (A : Rows) (o : Option Row) → P ≡ s.predicate → A ≡ d.add → o ≡ off P A → off s.predicate (new_view M.rows d) ≡ o
+  new_off P A o same added found = (edit_checks_are s M.rows d is.1).0 ∙ sym (found ∙ (λ i. off (same i) (added i)))
+
+  -- the first clash of the new view is the one near the added rows
+  pub new_clash : (T : List Edge) (o p : Option Clash) → T ≡ s.tree → p ≡ shown_clash (edit_clash T M.rows d) → p ≡ o → shown_clash (clash s.tree (new_view M.rows d)) ≡ o
+  new_clash T o p same found is_o = ap shown_clash (edit_checks_are s M.rows d is.1).1 ∙ sym (ap (λ F. shown_clash (edit_clash F M.rows d)) same) ∙ sym found ∙ is_o
+
+  -- where neither is there, the new view is of the sort
+  pub new_is_of : AppliesTo d M → off s.predicate (new_view M.rows d) ≡ None → shown_clash (clash s.tree (new_view M.rows d)) ≡ None → IsOf (new_view M.rows d) s
+  new_is_of applies none met = record {
+    columns = λ r i. elim (from_new_view M.rows d r i) [ inl old ↦ is.1.columns r old.0 | inr new ↦ subst (λ U. Fits U r) is.0 (applies.1 r new) ];
+    off = none;
+    clash = none_shown _ (sym met);
+  }

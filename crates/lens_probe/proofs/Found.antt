@@ -1,0 +1,181 @@
+-- Look-ups by key at each root of a lens.
+use Rattle.std.proofs.Common.{◌≡◌, ◌∙◌, ◌∷◌, ◌++◌, ◌+◌, ◌<◌, ℕ, Bool, List, [], Some, ap, arith, cond, filter, get_or, length, map, refl, subst, sym, take, true, false}
+use Rattle.std.specs.Prelude.{IfOk, IsTrue, None, Option, Result, flat_map, is_some, unwrap_or}
+use Rattle.std.specs.List.{Contains, list_all}
+use Rattle.std.specs.FinMap as finmap
+use Rattle.std.proofs.lemmas.Bool.{and_parts}
+use Rattle.std.proofs.lemmas.List.{flat_map_more, take_all, take_more}
+use Rattle.no_memory.specs.declared.NoMemory.{NoMemory}
+use Rattle.lens_values.specs.Part.{restrict}
+use Rattle.lens_values.specs.SortedSet as set
+use Rattle.lens_values.specs.declared.row.Row.{Row}
+use Rattle.lens_values.specs.declared.value.Value.{Value}
+use Rattle.lens_specs.specs.Columns.{names}
+use Rattle.lens_specs.specs.Lens.{Lens, Tables, base, select, drop, join, get, rows_or_none, sort_of, view_names}
+use Rattle.lens_specs.specs.Names.{Name, Names, Within, one, share}
+use Rattle.lens_specs.specs.Predicate.{Predicate, holds}
+use Rattle.lens_specs.specs.Relation.{Relation, Rows, project, those}
+use Rattle.lens_specs.specs.Nodes.{drop_get}
+use Rattle.lens_specs.specs.Rows.{agree}
+use Rattle.lens_specs.specs.Sort.{Sort}
+use Rattle.fd_laws.proofs.Columns.{names-without}
+use Rattle.fd_laws.proofs.Rows.{row_exact, row_total}
+use Rattle.lens_laws.specs.Asked.{keys_at, Reaches}
+use Rattle.lens_laws.specs.Finds.{AllFit, IsOver}
+use Rattle.lens_laws.specs.KeyedDeltas.{find_by}
+use Rattle.lens_laws.specs.Lenses.{AreOf, IsTyped}
+use Rattle.lens_laws.proofs.Asked.{contains_map, keys_reach}
+use Rattle.lens_laws.proofs.Finds.{find_project, find_select}
+use Rattle.lens_laws.proofs.Lenses.{get_sort}
+use Rattle.lens_laws.proofs.PastedFinds.{found_are_over, left_pairs_are, right_pairs_are, shared_within}
+use Rattle.signed_delta.proofs.Looks.{passed_are}
+use Rattle.base_index.specs.Held.{State, is_indexed, no_relation, relation_in}
+use Rattle.lens_probe.specs.Looking.{MayFind, both_of, pairs_of}
+use Rattle.lens_probe.proofs.Viewing.{under_drop, under_left, under_right, under_select}
+
+-- ---- a table
+
+base_there : (t : Name) (s : Sort) (db : Tables) → AreOf (base t s) db → is_some (finmap.get db t) ≡ true
+base_there t s db are = ap is_some are.1
+
+-- the table of a lens is there
+pub table_there : (L : Lens) (t : Name) (s : Sort) (db : Tables) → base t s ≡ L → AreOf L db → is_some (finmap.get db t) ≡ true
+table_there L t s db is are = base_there t s db (subst (λ M. AreOf M db) (sym is) are)
+
+base_indexed : (t : Name) (s : Sort) (st : State) (C : Names) → MayFind (base t s) st C → IsTrue (is_indexed st t C)
+base_indexed t s st C may = may.1.indexed t C (contains_map (λ D. (t, D)) (keys_at (base t s) may.0) C may.2)
+
+-- and may be asked by what the lens may be asked by
+pub table_indexed : (L : Lens) (t : Name) (s : Sort) (st : State) (C : Names) → base t s ≡ L → MayFind L st C → IsTrue (is_indexed st t C)
+table_indexed L t s st C is may = base_indexed t s st C (subst (λ M. MayFind M st C) (sym is) may)
+
+rows_found : (o : Option Relation) → (unwrap_or o no_relation).rows ≡ rows_or_none o
+rows_found None = refl
+rows_found (Some r) = refl
+
+-- the rows of the table are those that the lens shows
+pub rows_shown : (L : Lens) (t : Name) (s : Sort) (db : Tables) → base t s ≡ L → (relation_in db t).rows ≡ get L db
+unfolding get
+rows_shown L t s db is = rows_found (finmap.get db t) ∙ ap (λ M. get M db) is
+
+pub table_finds : (r : Result Rows NoMemory) (L : Lens) (t : Name) (s : Sort) (db : Tables) (C : Names) (k : Row) → base t s ≡ L → IfOk r (λ found. found ≡ those (agree C k) (relation_in db t).rows)
+    → IfOk r (λ found. found ≡ find_by C k (get L db))
+table_finds r L t s db C k is = subst (λ M. IfOk r (λ found. found ≡ find_by C k M)) (rows_shown L t s db is)
+
+-- ---- a selection
+
+select_asks : (P : Predicate) (S : Lens) (st : State) (C : Names) → IsTyped (select P S) → MayFind (select P S) st C → MayFind S st C
+select_asks P S st C typed may =
+    let K = may.0 in let can = may.1 in
+    (keys_at (select P S) K, under_select P S K st typed can, (keys_reach (select P S) K typed can.keys can.sets C may.2).0)
+
+pub source_of_select : (L S : Lens) (P : Predicate) (st : State) (C : Names) → select P S ≡ L → IsTyped L → MayFind L st C → MayFind S st C
+source_of_select L S P st C is typed may = select_asks P S st C (subst IsTyped (sym is) typed) (subst (λ M. MayFind M st C) (sym is) may)
+
+pub select_finds : (r : Result Rows NoMemory) (L S : Lens) (P : Predicate) (db : Tables) (C : Names) (k : Row) (found : Rows) → select P S ≡ L → found ≡ find_by C k (get S db)
+    → IfOk r (λ some. some ≡ those (holds P) found) → IfOk r (λ some. some ≡ find_by C k (get L db))
+unfolding get
+select_finds r L S P db C k found is of =
+    subst (λ M. IfOk r (λ some. some ≡ M)) (ap (those (holds P)) of ∙ sym (find_select (holds P) C k (get S db)) ∙ ap (λ M. find_by C k (get M db)) is)
+
+-- ---- a projection
+
+drop_asks : (A : Name) (X : Names) (v : Value) (S : Lens) (st : State) (C : Names) → IsTyped (drop A X v S) → MayFind (drop A X v S) st C
+    → MayFind S st C × Within C (set.difference (view_names S) (one A))
+drop_asks A X v S st C typed may =
+    let K = may.0 in let can = may.1 in
+    let reach = keys_reach (drop A X v S) K typed can.keys can.sets C may.2 in
+    ((X ∷ keys_at (drop A X v S) K, under_drop A X v S K st typed can, reach.0.0), reach.2)
+
+pub source_of_drop : (L S : Lens) (A : Name) (X : Names) (v : Value) (st : State) (C : Names) → drop A X v S ≡ L → IsTyped L → MayFind L st C → MayFind S st C
+source_of_drop L S A X v st C is typed may = (drop_asks A X v S st C (subst IsTyped (sym is) typed) (subst (λ M. MayFind M st C) (sym is) may)).0
+
+drop_finds_at : (A : Name) (X : Names) (v : Value) (S : Lens) (st : State) (C D : Names) (k : Row) (found : Rows) → IsTyped (drop A X v S) → MayFind (drop A X v S) st C → D ≡ view_names (drop A X v S)
+    → found ≡ find_by C k (get S st.relations) → project D found ≡ find_by C k (get (drop A X v S) st.relations)
+unfolding get drop_get
+drop_finds_at A X v S st C D k found typed may cols of =
+    let E = set.difference (view_names S) (one A) in
+    ap (λ Z. project Z found) (cols ∙ names-without (sort_of S).columns A) ∙ ap (project E) of
+    ∙ sym (find_project C E k (get S st.relations) (drop_asks A X v S st C typed may).1)
+
+pub drop_finds : (r : Result Rows NoMemory) (L S : Lens) (A : Name) (X : Names) (v : Value) (st : State) (C D : Names) (k : Row) (found : Rows) → drop A X v S ≡ L → IsTyped L → MayFind L st C → D ≡ view_names L
+    → found ≡ find_by C k (get S st.relations) → IfOk r (λ part. part ≡ project D found) → IfOk r (λ part. part ≡ find_by C k (get L st.relations))
+drop_finds r L S A X v st C D k found is typed may cols of =
+    let here = drop_finds_at A X v S st C D k found (subst IsTyped (sym is) typed) (subst (λ M. MayFind M st C) (sym is) may) (cols ∙ ap view_names (sym is)) of in
+    subst (λ M. IfOk r (λ part. part ≡ M)) (here ∙ ap (λ M. find_by C k (get M st.relations)) is)
+
+-- ---- a join
+
+module _ (A B : Lens) (st : State) (C : Names) (typed : IsTyped (join A B)) (may : MayFind (join A B) st C) where
+  reach : Reaches (join A B) may.0 C
+  reach = keys_reach (join A B) may.0 typed may.1.keys may.1.sets C may.2
+
+  -- the side that is asked first, by its part of the key
+  pub left_asked : (U P : Names) → U ≡ view_names A → P ≡ set.intersection C U → share C U ≡ true → MayFind A st P
+  left_asked U P names part meets =
+      let meets_left = ap (share C) (sym names) ∙ meets in
+      subst (MayFind A st) (sym (part ∙ ap (set.intersection C) names)) (_, under_left A B may.0 st typed may.1, (reach.0 meets_left).0)
+
+  pub right_asked : (U V P : Names) → U ≡ view_names A → V ≡ view_names B → P ≡ set.intersection C V → share C U ≡ false → MayFind B st P
+  right_asked U V P names others part meets =
+      let off_left = ap (share C) (sym names) ∙ meets in
+      subst (MayFind B st) (sym (part ∙ ap (set.intersection C) others)) (_, under_right A B may.0 st typed may.1, (reach.1 off_left).0)
+
+  shared_is : (U V S : Names) → U ≡ view_names A → V ≡ view_names B → S ≡ set.intersection U V → S ≡ set.intersection (view_names A) (view_names B)
+  shared_is U V S left right shared = shared ∙ ap (λ Z. set.intersection Z V) left ∙ ap (set.intersection (view_names A)) right
+
+  -- and the other one, by the shared columns
+  pub left_matches : (U V S : Names) → U ≡ view_names A → V ≡ view_names B → S ≡ set.intersection U V → MayFind A st S
+  left_matches U V S left right shared = subst (MayFind A st) (sym (shared_is U V S left right shared)) (_, under_left A B may.0 st typed may.1, reach.2.0)
+
+  pub right_matches : (U V S : Names) → U ≡ view_names A → V ≡ view_names B → S ≡ set.intersection U V → MayFind B st S
+  right_matches U V S left right shared = subst (MayFind B st) (sym (shared_is U V S left right shared)) (_, under_right A B may.0 st typed may.1, reach.3.0)
+
+  left_fit : AllFit (sort_of A).columns (get A st.relations)
+  left_fit = (get_sort A st.relations typed.0 may.1.tables.0).columns
+
+  right_fit : AllFit (sort_of B).columns (get B st.relations)
+  right_fit = (get_sort B st.relations typed.1 may.1.tables.1).columns
+
+  module _ (k q : Row) (U V S P : Names) (F : Rows) (rows : List Row) (left : U ≡ view_names A) (right : V ≡ view_names B) (shared : S ≡ set.intersection U V) (listed : rows ≡ set.items F) where
+    -- each row found has the shared columns
+    pub left_over : F ≡ find_by P q (get A st.relations) → (m : Row) → Contains rows m → IsOver S (restrict S m)
+    left_over found = found_are_over (sort_of A).columns S P q (get A st.relations) F rows left_fit (shared_within (sort_of A).columns (sort_of B).columns U V S left right shared).0 found listed
+
+    pub right_over : F ≡ find_by P q (get B st.relations) → (m : Row) → Contains rows m → IsOver S (restrict S m)
+    right_over found = found_are_over (sort_of B).columns S P q (get B st.relations) F rows right_fit (shared_within (sort_of A).columns (sort_of B).columns U V S left right shared).1 found listed
+
+    module _ (r : Result Rows NoMemory) (pairs : List Row) (cut : q ≡ restrict P k) (made : IfOk r (λ all. all ≡ set.from_list pairs)) where
+      -- the pairs of rows found on both sides are what the join finds
+      pub left_finds : P ≡ set.intersection C U → F ≡ find_by P q (get A st.relations) → pairs ≡ pairs_of true S C k (get B st.relations) rows → IfOk r (λ all. all ≡ find_by C k (get (join A B) st.relations))
+      unfolding get
+      left_finds part found paired =
+          subst (λ M. IfOk r (λ all. all ≡ M))
+          (left_pairs_are (sort_of A).columns (sort_of B).columns (get A st.relations) (get B st.relations) left_fit right_fit C k U V S P q F rows pairs left right shared cut listed part found paired) made
+
+      pub right_finds : P ≡ set.intersection C V → F ≡ find_by P q (get B st.relations) → pairs ≡ pairs_of false S C k (get A st.relations) rows → IfOk r (λ all. all ≡ find_by C k (get (join A B) st.relations))
+      unfolding get
+      right_finds part found paired =
+          subst (λ M. IfOk r (λ all. all ≡ M))
+          (right_pairs_are (sort_of A).columns (sort_of B).columns (get A st.relations) (get B st.relations) left_fit right_fit C k U V S P q F rows pairs left right shared cut listed part found paired) made
+
+-- one row more
+pub next_pairs : (is_left : Bool) (S C : Names) (k : Row) (N : Rows) (rows : List Row) (i : ℕ) (row key : Row) (found : Rows) (others old new : List Row) → i < length rows → row ≡ get_or rows i row → key ≡ restrict S row
+    → found ≡ find_by S key N → others ≡ set.items found → old ≡ pairs_of is_left S C k N (take i rows) → new ≡ old ++ filter (agree C k) (map (both_of is_left row) others) → new ≡ pairs_of is_left S C k N (take (i + 1) rows)
+next_pairs is_left S C k N rows i row key found others old new below here part of listed before now =
+    let pairs : Row → List Row = λ m. filter (agree C k) (map (both_of is_left m) (set.items (find_by S (restrict S m) N))) in
+    let mine = ap (λ z. filter (agree C k) (map (both_of is_left row) z)) (listed ∙ ap set.items (of ∙ ap (λ z. find_by S z N) part)) in
+    now ∙ (λ z. before z ++ mine z) ∙ flat_map_more pairs [] (take i rows) row
+    ∙ ap (flat_map pairs) (ap (λ r. take i rows ++ r ∷ []) here ∙ sym (take_more rows i row below))
+
+all_kept : (p : Row → Bool) (rows : List Row) → list_all p rows ≡ true → filter p rows ≡ rows
+all_kept p [] e = refl
+all_kept p (r ∷ rs) e =
+    let both = and_parts (p r) (list_all p rs) e in
+    ap (λ b. cond b (r ∷ filter p rs) (filter p rs)) both.0 ∙ ap (λ z. r ∷ z) (all_kept p rs both.1)
+
+-- rows that all pass are those that pass
+pub all_pass : (p : Row → Bool) (M : Rows) (rows : List Row) → rows ≡ set.items M → list_all p rows ≡ true → M ≡ those p M
+all_pass p M rows is pass =
+    let all = ap (filter p) (take_all (length rows) (set.items M) (omega (arith, ap length is)) ∙ sym is) ∙ all_kept p rows pass in
+    sym (set.from_list-items row_total row_exact M) ∙ ap set.from_list (sym is) ∙ passed_are p M rows rows (length rows) is (omega arith) (sym all)

@@ -1,0 +1,86 @@
+-- What the views of the sources of a lens may ask of the tables.
+use Rattle.std.proofs.Common.{◌≡◌, List, [], ◌∷◌, Some, ap, arith, subst, sym}
+use Rattle.std.proofs.lemmas.List.Elements.{Contains-append_left, Contains-append_right}
+use Rattle.lens_values.specs.declared.value.Value.{Value}
+use Rattle.lens_specs.specs.Lens.{Lens, base, select, drop, join}
+use Rattle.lens_specs.specs.Names.{Name, Names}
+use Rattle.lens_specs.specs.Predicate.{Predicate}
+use Rattle.lens_laws.specs.Asked.{HasKeys, asked, keys_at}
+use Rattle.lens_laws.specs.Lenses.{AreOf, IsTyped}
+use Rattle.lens_laws.proofs.Asked.{hands_down}
+use Rattle.base_index.specs.Held.{State}
+use Rattle.lens_probe.specs.Handed.{to_first, to_second}
+use Rattle.lens_probe.specs.Viewed.{AreIndexed, CanAsk, IsViewed, Viewed, both_sides, only_source}
+
+pub under_select : (P : Predicate) (C : Lens) (K : List Names) (st : State) → IsTyped (select P C) → CanAsk (select P C) K st → CanAsk C (keys_at (select P C) K) st
+under_select P C K st typed can = record {
+  keys = can.keys;
+  tables = can.tables;
+  sets = (hands_down (select P C) K typed can.keys can.sets).1;
+  indexed = can.indexed;
+}
+
+pub under_drop : (A : Name) (X : Names) (v : Value) (C : Lens) (K : List Names) (st : State) → IsTyped (drop A X v C) → CanAsk (drop A X v C) K st → CanAsk C (X ∷ keys_at (drop A X v C) K) st
+under_drop A X v C K st typed can = record {
+  keys = can.keys;
+  tables = can.tables;
+  sets = (hands_down (drop A X v C) K typed can.keys can.sets).1;
+  indexed = can.indexed;
+}
+
+pub under_left : (A B : Lens) (K : List Names) (st : State) → IsTyped (join A B) → CanAsk (join A B) K st → CanAsk A (to_first (join A B) K) st
+under_left A B K st typed can = record {
+  keys = can.keys.0;
+  tables = can.tables.0;
+  sets = (hands_down (join A B) K typed can.keys can.sets).1.0;
+  indexed = λ t C i. can.indexed t C (Contains-append_left _ _ (t, C) i);
+}
+
+pub under_right : (A B : Lens) (K : List Names) (st : State) → IsTyped (join A B) → CanAsk (join A B) K st → CanAsk B (to_second (join A B) K) st
+under_right A B K st typed can = record {
+  keys = can.keys.1;
+  tables = can.tables.1;
+  sets = (hands_down (join A B) K typed can.keys can.sets).1.1;
+  indexed = λ t C i. can.indexed t C (Contains-append_right _ _ (t, C) i);
+}
+
+same_value : {T : Type 0} (x y : T) → Some x ≡ Some y → x ≡ y
+same_value x y e = cc
+
+source_at : (L C : Lens) (K : List Names) (st : State) → only_source L ≡ Some C → IsTyped L → CanAsk L K st → IsTyped C × CanAsk C (to_first L K) st
+source_at (base t s) C K st e typed can = cc
+source_at (select P D) C K st e typed can =
+    subst (λ Z. IsTyped Z × CanAsk Z (keys_at (select P D) K) st) (same_value D C e) (typed.0, under_select P D K st typed can)
+source_at (drop A X v D) C K st e typed can =
+    subst (λ Z. IsTyped Z × CanAsk Z (X ∷ keys_at (drop A X v D) K) st) (same_value D C e) (typed.0, under_drop A X v D K st typed can)
+source_at (join A B) C K st e typed can = cc
+
+-- no set is handed down to a whole lens
+pub whole_viewed : (L : Lens) (K : List Names) (st : State) → K ≡ [] → IsTyped L → HasKeys L → AreOf L st.relations → AreIndexed (asked L []) st → IsTyped L × CanAsk L K st
+whole_viewed L K st none typed keys tables indexed =
+    subst (λ H. IsTyped L × CanAsk L H st) (sym none) (typed, record { keys = keys; tables = tables; sets = λ C i. absurd (omega (arith, i.1)); indexed = indexed })
+
+-- the view of the source is a view
+pub source_viewed : (v : Viewed) (C : Lens) (sets : List Names) → IsViewed v → only_source v.lens ≡ Some C → sets ≡ to_first v.lens v.sets → IsViewed (record v { lens = C; sets = sets })
+source_viewed v C sets is e handed = subst (λ K. IsTyped C × CanAsk C K v.tables.present) (sym handed) (source_at v.lens C v.sets v.tables.present e is.0 is.1)
+
+left_at : (L A B : Lens) (K : List Names) (st : State) → both_sides L ≡ Some (A, B) → IsTyped L → CanAsk L K st → IsTyped A × CanAsk A (to_first L K) st
+left_at (base t s) A B K st e typed can = cc
+left_at (select P D) A B K st e typed can = cc
+left_at (drop C X v D) A B K st e typed can = cc
+left_at (join C D) A B K st e typed can =
+    subst (λ Z. IsTyped Z × CanAsk Z (to_first (join C D) K) st) (ap (λ p. p.0) (same_value (C, D) (A, B) e)) (typed.0, under_left C D K st typed can)
+
+right_at : (L A B : Lens) (K : List Names) (st : State) → both_sides L ≡ Some (A, B) → IsTyped L → CanAsk L K st → IsTyped B × CanAsk B (to_second L K) st
+right_at (base t s) A B K st e typed can = cc
+right_at (select P D) A B K st e typed can = cc
+right_at (drop C X v D) A B K st e typed can = cc
+right_at (join C D) A B K st e typed can =
+    subst (λ Z. IsTyped Z × CanAsk Z (to_second (join C D) K) st) (ap (λ p. p.1) (same_value (C, D) (A, B) e)) (typed.1, under_right C D K st typed can)
+
+-- and so is the view of each side
+pub left_viewed : (v : Viewed) (A B : Lens) (sets : List Names) → IsViewed v → both_sides v.lens ≡ Some (A, B) → sets ≡ to_first v.lens v.sets → IsViewed (record v { lens = A; sets = sets })
+left_viewed v A B sets is e handed = subst (λ K. IsTyped A × CanAsk A K v.tables.present) (sym handed) (left_at v.lens A B v.sets v.tables.present e is.0 is.1)
+
+pub right_viewed : (v : Viewed) (A B : Lens) (sets : List Names) → IsViewed v → both_sides v.lens ≡ Some (A, B) → sets ≡ to_second v.lens v.sets → IsViewed (record v { lens = B; sets = sets })
+right_viewed v A B sets is e handed = subst (λ K. IsTyped B × CanAsk B K v.tables.present) (sym handed) (right_at v.lens A B v.sets v.tables.present e is.0 is.1)

@@ -1,0 +1,11 @@
+use Rattle.std.proofs.Common.{◌∙◌, ◌++◌, ap}
+use Rattle.std.proofs.lemmas.List.{take_all}
+use Rattle.lens_specs.specs.Sort.{Sort}
+use Rattle.lens_laws.specs.Asked.{left_sides}
+use Rattle.whole_put.proofs.Lenses.{given_is}
+use Rattle.lens_probe.proofs.needed.with_left_sides.Goals as goal
+
+pub returns : goal.returns
+returns c =
+    let edges = take_all c.loop-edge.edge-index c.edges-edge-items.result.now c.loop-edge-test.false ∙ c.edges-edge-items.ensures ∙ c.tree.ensures.value ∙ ap (λ (s : Sort). s.tree) (given_is c.args.lens.now c.sort.result.now c.sort.ensures.typed c.sort.ensures.given) in
+    c.loop-edge.invariant ∙ ap (λ es. c.args.sets.items ++ left_sides es) edges

@@ -1,0 +1,6 @@
+pub mod Handed
+pub mod Looking
+pub mod Needs
+pub mod Reading
+pub mod Viewed
+pub mod Checked

@@ -1,0 +1,33 @@
+-- Look-ups by key down a lens.
+use Rattle.std.specs.Prelude.{Bool, true, false, List, filter, flat_map, map}
+use Rattle.std.specs.List.{Contains}
+use Rattle.lens_values.specs.Part.{override, restrict}
+use Rattle.lens_values.specs.SortedSet as set
+use Rattle.lens_values.specs.declared.row.Row.{Row}
+use Rattle.lens_specs.specs.Lens.{Lens}
+use Rattle.lens_specs.specs.Names.{Names}
+use Rattle.lens_specs.specs.Relation.{Rows}
+use Rattle.lens_specs.specs.Rows.{agree}
+use Rattle.lens_laws.specs.Asked.{keys_at}
+use Rattle.lens_laws.specs.KeyedDeltas.{find_by}
+use Rattle.base_index.specs.Held.{State}
+use Rattle.lens_probe.specs.Viewed.{CanAsk}
+
+-- the lens can ask the tables, with some sets handed down to it
+abbrev pub MayLook : Lens → State → Type 0
+MayLook L st = (K : List Names) × CanAsk L K st
+
+-- and may itself be asked by these columns
+abbrev pub MayFind : Lens → State → Names → Type 0
+MayFind L st C = (K : List Names) × CanAsk L K st × Contains (keys_at L K) C
+
+-- a row of the left side of a join put together with one of the right, or the other way round
+abbrev pub both_of : Bool → Row → Row → Row
+both_of true m n = override n m
+both_of false n m = override n m
+
+-- each row put together with each of N that agrees with it on S, where the key agrees with both
+abbrev pub pairs_of : Bool → Names → Names → Row → Rows → List Row → List Row
+pairs_of is_left S C k N rows =
+    let others : Row → Rows = λ m. find_by S (restrict S m) N in
+    flat_map (λ m. filter (agree C k) (map (both_of is_left m) (set.items (others m)))) rows

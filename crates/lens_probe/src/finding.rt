@@ -1,0 +1,242 @@
+//! Rows of a view by key.
+ghost use Rattle.std.specs.Prelude.{◌≡◌, ◌++◌, Contains, IfOk, OnOk};
+ghost use Rattle.std.specs.Prelude.{false, filter, map, true};
+ghost use Rattle.std.specs.List.{list_all};
+ghost use Rattle.lens_values.specs.Part.{restrict};
+ghost use Rattle.lens_values.specs.SortedSet as set;
+ghost use Rattle.lens_specs.specs.Lens.{get, join, view_names};
+ghost use Rattle.lens_specs.specs.Names.{share};
+ghost use Rattle.lens_specs.specs.Predicate.{holds};
+ghost use Rattle.lens_specs.specs.Relation.{those};
+ghost use Rattle.lens_specs.specs.Rows.{agree};
+ghost use Rattle.lens_laws.specs.KeyedDeltas.{find_by};
+ghost use Rattle.lens_laws.specs.Lenses.{IsTyped};
+ghost use Rattle.signed_delta.specs.Keys.{IsKey};
+ghost use Rattle.lens_probe.specs.Looking.{MayFind, both_of, pairs_of};
+
+use crate::columns::names_of;
+use base_index::Tables;
+use lens_pred::Pred;
+use lens_types::{Lens, TypedLens};
+use lens_values::{Names, NoMemory, Row};
+use row_sets::RowSet;
+use std::alloc::Global;
+use std::sync::ledger::Ledger;
+use step_counter::Steps;
+
+/// A look-up in tables: the columns to go by, and a key over these columns.
+#[derive(Clone, Copy)]
+pub(crate) struct Query<'a> {
+    pub(crate) tables: &'a Tables,
+    pub(crate) cols: &'a Names,
+    pub(crate) key: &'a Row,
+}
+
+/// The rows that the lens shows of the tables and that agree with the key on its columns.
+#[cycle(find)]
+pub(crate) fn find_in<L: Ledger>(
+    alloc: Global,
+    lens: &TypedLens,
+    query: &Query<'_>,
+    looked: &mut Steps<L>,
+) -> Result<RowSet, NoMemory>
+    requires asked { MayFind lens.now query.now.tables.now.present query.now.cols.now }
+    requires key { IsKey query.now.cols.now query.now.key.now }
+    ensures { let shown = get lens.now query.now.tables.now.present.relations in
+        IfOk result (λ found. found ≡ find_by query.now.cols.now query.now.key.now shown) }
+{
+    match lens.lens() {
+        Lens::Base { table, .. } => query.tables.find(table, query.cols, query.key, looked),
+        Lens::Select { pred, of, .. } => {
+            let found = find_in(alloc, of, query, looked)?;
+            selected(alloc, pred, found)
+        }
+        Lens::Drop { of, .. } => {
+            let found = find_in(alloc, of, query, looked)?;
+            let kept = names_of(alloc, lens)?;
+            found.project(alloc, &kept)
+        }
+        Lens::Join { left, right, .. } => find_joined(alloc, left, right, query, looked),
+    }
+}
+
+// The same of the join of both: the left side is asked first where the key has a column of it.
+#[cycle(find)]
+fn find_joined<L: Ledger>(
+    alloc: Global,
+    left: &TypedLens,
+    right: &TypedLens,
+    query: &Query<'_>,
+    looked: &mut Steps<L>,
+) -> Result<RowSet, NoMemory>
+    requires typed { IsTyped (join left.now right.now) }
+    requires asked { let st = query.now.tables.now.present in
+        MayFind (join left.now right.now) st query.now.cols.now }
+    requires key { IsKey query.now.cols.now query.now.key.now }
+    ensures { let shown = get (join left.now right.now) query.now.tables.now.present.relations in
+        IfOk result (λ found. found ≡ find_by query.now.cols.now query.now.key.now shown) }
+{
+    let left_names = names_of(alloc, left)?;
+    if query.cols.meets(&left_names) {
+        find_from_left(alloc, left, right, &left_names, query, looked)
+    } else {
+        find_from_right(alloc, left, right, &left_names, query, looked)
+    }
+}
+
+// The left side is asked by its part of the key, and the right side for each row found.
+#[cycle(find)]
+fn find_from_left<L: Ledger>(
+    alloc: Global,
+    left: &TypedLens,
+    right: &TypedLens,
+    left_names: &Names,
+    query: &Query<'_>,
+    looked: &mut Steps<L>,
+) -> Result<RowSet, NoMemory>
+    requires typed { IsTyped (join left.now right.now) }
+    requires asked { let st = query.now.tables.now.present in
+        MayFind (join left.now right.now) st query.now.cols.now }
+    requires key { IsKey query.now.cols.now query.now.key.now }
+    requires names { left_names.now ≡ view_names left.now }
+    requires meets { share query.now.cols.now left_names.now ≡ true }
+    ensures { let shown = get (join left.now right.now) query.now.tables.now.present.relations in
+        IfOk result (λ found. found ≡ find_by query.now.cols.now query.now.key.now shown) }
+{
+    let right_names = names_of(alloc, right)?;
+    let shared = left_names.meet(alloc, &right_names)?;
+    let part = query.cols.meet(alloc, left_names)?;
+    let part_key = query.key.project(alloc, &part)?;
+    let asked = Query {
+        cols: &part,
+        key: &part_key,
+        ..*query
+    };
+    let found = find_in(alloc, left, &asked, looked)?;
+    let pairs = pair_each(alloc, found.rows(), true, right, &shared, query, looked)?;
+    RowSet::new(alloc, pairs)
+}
+
+// The right side is asked by its part of the key, and the left side for each row found.
+#[cycle(find)]
+fn find_from_right<L: Ledger>(
+    alloc: Global,
+    left: &TypedLens,
+    right: &TypedLens,
+    left_names: &Names,
+    query: &Query<'_>,
+    looked: &mut Steps<L>,
+) -> Result<RowSet, NoMemory>
+    requires typed { IsTyped (join left.now right.now) }
+    requires asked { let st = query.now.tables.now.present in
+        MayFind (join left.now right.now) st query.now.cols.now }
+    requires key { IsKey query.now.cols.now query.now.key.now }
+    requires names { left_names.now ≡ view_names left.now }
+    requires meets { share query.now.cols.now left_names.now ≡ false }
+    ensures { let shown = get (join left.now right.now) query.now.tables.now.present.relations in
+        IfOk result (λ found. found ≡ find_by query.now.cols.now query.now.key.now shown) }
+{
+    let right_names = names_of(alloc, right)?;
+    let shared = left_names.meet(alloc, &right_names)?;
+    let part = query.cols.meet(alloc, &right_names)?;
+    let part_key = query.key.project(alloc, &part)?;
+    let asked = Query {
+        cols: &part,
+        key: &part_key,
+        ..*query
+    };
+    let found = find_in(alloc, right, &asked, looked)?;
+    let pairs = pair_each(alloc, found.rows(), false, left, &shared, query, looked)?;
+    RowSet::new(alloc, pairs)
+}
+
+// Each of the rows, which are of the left side or of the right one, put together with each row of
+// the other side that agrees with it on the shared columns, where both agree with the key.
+#[cycle(find)]
+fn pair_each<L: Ledger>(
+    alloc: Global,
+    rows: &[Row],
+    are_left: bool,
+    other: &TypedLens,
+    shared: &Names,
+    query: &Query<'_>,
+    looked: &mut Steps<L>,
+) -> Result<Vec<Row>, NoMemory>
+    requires asked { MayFind other.now query.now.tables.now.present shared.now }
+    requires over { (row : _) → Contains rows.now row
+        → IsKey shared.now (restrict shared.now row) }
+    ensures { let others = get other.now query.now.tables.now.present.relations in
+        let C = query.now.cols.now in
+        IfOk result (λ pairs.
+        pairs.items ≡ pairs_of are_left shared.now C query.now.key.now others rows.now) }
+{
+    let mut pairs = Vec::new(alloc);
+    for row in rows {
+        let row_key = row.project(alloc, shared)?;
+        let asked = Query {
+            cols: shared,
+            key: &row_key,
+            ..*query
+        };
+        let found = find_in(alloc, other, &asked, looked)?;
+        add_pairs(alloc, row, are_left, found.rows(), query, &mut pairs)?;
+    }
+    Ok(pairs)
+}
+
+// Adds the row put together with each of the others, where both agree with the key.
+fn add_pairs(
+    alloc: Global,
+    row: &Row,
+    is_left: bool,
+    others: &[Row],
+    query: &Query<'_>,
+    pairs: &mut Vec<Row>,
+) -> Result<(), NoMemory>
+    ensures { let all = map (both_of is_left row.now) others.now in
+        let agreeing = filter (agree query.now.cols.now query.now.key.now) all in
+        OnOk result (pairs.new.items ≡ pairs.old.items ++ agreeing) }
+{
+    for other in others {
+        let both = put_together(alloc, row, is_left, other)?;
+        if query.key.agree_on(&both, query.cols) {
+            pairs.push(both)?;
+        }
+    }
+    Ok(())
+}
+
+// The row, which is of the left side or of the right one, put together with one of the other side.
+fn put_together(alloc: Global, row: &Row, is_left: bool, other: &Row) -> Result<Row, NoMemory>
+    ensures { IfOk result (λ both. both ≡ both_of is_left row.now other.now) }
+{
+    if is_left {
+        row.paste(alloc, other)
+    } else {
+        other.paste(alloc, row)
+    }
+}
+
+// Those of the rows that the predicate holds on.
+fn selected(alloc: Global, pred: &Pred, rows: RowSet) -> Result<RowSet, NoMemory>
+    ensures { IfOk result (λ some. some ≡ those (holds pred.now) rows) }
+{
+    // Mostly it holds on each of them, and then nothing is allocated.
+    if all_hold(pred, rows.rows()) {
+        return Ok(rows);
+    }
+    let mut some = Vec::new(alloc);
+    for row in rows.rows() {
+        if pred.holds(row) {
+            some.push(row.copy(alloc)?)?;
+        }
+    }
+    Ok(RowSet::from_rising(some))
+}
+
+// Whether the predicate holds on each of the rows.
+fn all_hold(pred: &Pred, rows: &[Row]) -> bool
+    ensures { result ≡ list_all (holds pred.now) rows.now }
+{
+    rows.iter().all(|row| pred.holds(row))
+}

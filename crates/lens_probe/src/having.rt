@@ -1,0 +1,67 @@
+//! Whether a view has a row.
+ghost use Rattle.std.specs.Prelude.{◌≡◌, IfOk};
+ghost use Rattle.std.specs.List.{list_any};
+ghost use Rattle.lens_specs.specs.Columns.{Fits};
+ghost use Rattle.lens_specs.specs.Lens.{get, sort_of};
+ghost use Rattle.lens_specs.specs.Relation.{has};
+ghost use Rattle.lens_specs.specs.Rows.{agree};
+ghost use Rattle.lens_probe.specs.Looking.{MayLook};
+
+use crate::columns::names_of;
+use crate::finding::{Query, find_in};
+use base_index::Tables;
+use lens_types::{Lens, TypedLens};
+use lens_values::{Names, NoMemory, Row};
+use std::alloc::Global;
+use std::sync::ledger::Ledger;
+use step_counter::Steps;
+
+/// Whether the row is among those that the lens shows of the tables.
+pub(crate) fn has_in<L: Ledger>(
+    alloc: Global,
+    lens: &TypedLens,
+    tables: &Tables,
+    row: &Row,
+    looked: &mut Steps<L>,
+) -> Result<bool, NoMemory>
+    requires may { MayLook lens.now tables.now.present }
+    requires fits { Fits (sort_of lens.now).columns row.now }
+    ensures { let shown = get lens.now tables.now.present.relations in
+        IfOk result (λ there. there ≡ has shown row.now) }
+{
+    match lens.lens() {
+        Lens::Base { table, .. } => Ok(tables.has(table, row, looked)),
+        Lens::Select { pred, of, .. } => {
+            if !pred.holds(row) {
+                return Ok(false);
+            }
+            has_in(alloc, of, tables, row, looked)
+        }
+        Lens::Drop { by, of, .. } => {
+            let key = row.project(alloc, by)?;
+            let query = Query {
+                tables,
+                cols: by,
+                key: &key,
+            };
+            let found = find_in(alloc, of, &query, looked)?;
+            let cols = names_of(alloc, lens)?;
+            Ok(any_agrees(found.rows(), row, &cols))
+        }
+        Lens::Join { left, right, .. } => {
+            let left_row = row.project(alloc, &names_of(alloc, left)?)?;
+            if !has_in(alloc, left, tables, &left_row, looked)? {
+                return Ok(false);
+            }
+            let right_row = row.project(alloc, &names_of(alloc, right)?)?;
+            has_in(alloc, right, tables, &right_row, looked)
+        }
+    }
+}
+
+// Whether one of the rows agrees with this one in the columns.
+fn any_agrees(rows: &[Row], row: &Row, cols: &Names) -> bool
+    ensures { result ≡ list_any (agree cols.now row.now) rows.now }
+{
+    rows.iter().any(|other| row.agree_on(other, cols))
+}

@@ -1,0 +1,18 @@
+//! A lens over tables by key: a view that answers whether it has a row, and which of its rows have
+//! given values in given columns.
+#![tactic(auto)]
+
+pub mod checking;
+mod columns;
+pub mod edit_fault;
+mod finding;
+mod handed;
+mod having;
+mod needed;
+mod reading;
+pub mod view;
+
+pub use checking::check_edit;
+pub use edit_fault::EditFault;
+pub use needed::needs;
+pub use view::View;

@@ -1,0 +1,172 @@
+//! A view of a lens over tables.
+ghost use Rattle.std.specs.Prelude.{◌≡◌, ◌+◌, ◌≤◌, [], IfOk, Some};
+ghost use Rattle.lens_specs.specs.Lens.{sort_of};
+ghost use Rattle.lens_specs.specs.Sort.{IsOfSort};
+ghost use Rattle.lens_laws.specs.Asked.{HasKeys, asked};
+ghost use Rattle.lens_laws.specs.Lenses.{AreOf};
+ghost use Rattle.lens_probe.specs.Reading.{rows_under};
+ghost use Rattle.lens_probe.specs.Viewed.{AreIndexed, IsViewed, asked_by, shown};
+ghost use Rattle.lens_probe.specs.Viewed.{both_sides, only_source, sides_of, source_of};
+
+use crate::finding::{Query, find_in};
+use crate::handed::HandedDown;
+use crate::having::has_in;
+use crate::reading::read_in;
+use base_index::Tables;
+use lens_types::{Lens, TypedLens};
+use lens_values::{Columns, Names, NoMemory, Row};
+use row_sets::{Relation, RowSet};
+use signed_delta::Look;
+use std::alloc::Global;
+use std::marker::Model;
+use std::sync::ledger::Ledger;
+use step_counter::Steps;
+
+/// What a lens shows of tables, by key. A contract sees the lens, the sets of columns that were
+/// handed down to it, and the tables.
+#[derive(Drop)]
+pub struct View<'a> {
+    lens: &'a TypedLens,
+    tables: &'a Tables,
+    handed: HandedDown,
+}
+
+impl<'a> Model for View<'a> {
+    ghost use Rattle.lens_probe.specs.Viewed as spec;
+
+    ghost Value = { spec.Viewed };
+
+    ghost coded = { spec.viewed_code };
+
+    ghost view = { λ v. spec.viewed v.lens.now v.handed.sets v.tables.now };
+
+    ghost invariant = { λ v. spec.IsViewed (spec.viewed v.lens.now v.handed.sets v.tables.now) };
+}
+
+impl<'a> View<'a> {
+    /// The view of a lens, whose tables are there, of their sorts and with the indexes that it
+    /// needs.
+    pub fn of(lens: &'a TypedLens, tables: &'a Tables) -> View<'a>
+        requires keys { HasKeys lens.now }
+        requires tables { AreOf lens.now tables.now.present.relations }
+        requires indexed { AreIndexed (asked lens.now []) tables.now.present }
+        ensures { result ≡ record { lens = lens.now; sets = []; tables = tables.now } }
+    {
+        // The lens has to be typed, which each lens is.
+        let _ = lens.sort();
+        View {
+            lens,
+            tables,
+            handed: HandedDown::none(),
+        }
+    }
+
+    /// The lens.
+    pub fn lens(&self) -> &'a TypedLens
+        ensures lens { result.now ≡ self.now.lens }
+        ensures viewed { IsViewed self.now }
+    {
+        self.lens
+    }
+
+    /// The view of the only source, at a select and at a drop.
+    pub fn source(&self) -> Option<View<'a>>
+        ensures { result ≡ source_of self.now }
+    {
+        match self.lens.lens() {
+            Lens::Select { of, .. } => Some(self.over(of)),
+            Lens::Drop { of, .. } => Some(self.over(of)),
+            Lens::Base { .. } | Lens::Join { .. } => None,
+        }
+    }
+
+    /// The views of the left and of the right side, at a join.
+    pub fn sides(&self) -> Option<(View<'a>, View<'a>)>
+        ensures { result ≡ sides_of self.now }
+    {
+        match self.lens.lens() {
+            Lens::Join { left, right, .. } => Some(self.over_sides(left, right)),
+            Lens::Base { .. } | Lens::Select { .. } | Lens::Drop { .. } => None,
+        }
+    }
+
+    /// The whole view, which is of the lens's sort. Each table under the lens is walked once.
+    pub fn read<L: Ledger>(
+        &self,
+        alloc: Global,
+        walked: &mut Steps<L>,
+    ) -> Result<Relation, NoMemory>
+        ensures value { IfOk result (λ relation. relation ≡ shown self.now) }
+        ensures sort { IfOk result (λ relation. IsOfSort relation (sort_of self.now.lens)) }
+        ensures walked { let db = self.now.tables.present.relations in
+            walked.new ≤ walked.old + rows_under self.now.lens db }
+    {
+        read_in(alloc, self.lens, self.tables, walked)
+    }
+
+    // The view of the only source.
+    fn over(&self, source: &'a TypedLens) -> View<'a>
+        requires { only_source self.now.lens ≡ Some source.now }
+        ensures { Some result ≡ source_of self.now }
+    {
+        View {
+            lens: source,
+            tables: self.tables,
+            handed: self.handed.to_first(self.lens),
+        }
+    }
+
+    // The views of both sides.
+    fn over_sides(&self, left: &'a TypedLens, right: &'a TypedLens) -> (View<'a>, View<'a>)
+        requires { both_sides self.now.lens ≡ Some (left.now, right.now) }
+        ensures { Some result ≡ sides_of self.now }
+    {
+        let over_left = View {
+            lens: left,
+            tables: self.tables,
+            handed: self.handed.to_first(self.lens),
+        };
+        let over_right = View {
+            lens: right,
+            tables: self.tables,
+            handed: self.handed.to_second(self.lens),
+        };
+        (over_left, over_right)
+    }
+}
+
+impl<'a> Look for View<'a> {
+    ghost relation = { shown };
+
+    ghost asked = { asked_by };
+
+    ghost within = { λ _ _. ⊥ };
+
+    fn columns(&self) -> &Columns {
+        self.lens.sort().cols()
+    }
+
+    fn has<L: Ledger>(
+        &self,
+        alloc: Global,
+        row: &Row,
+        looked: &mut Steps<L>,
+    ) -> Result<bool, NoMemory> {
+        has_in(alloc, self.lens, self.tables, row, looked)
+    }
+
+    fn find<L: Ledger>(
+        &self,
+        alloc: Global,
+        cols: &Names,
+        key: &Row,
+        looked: &mut Steps<L>,
+    ) -> Result<RowSet, NoMemory> {
+        let query = Query {
+            tables: self.tables,
+            cols,
+            key,
+        };
+        find_in(alloc, self.lens, &query, looked)
+    }
+}
