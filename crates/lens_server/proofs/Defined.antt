@@ -1,11 +1,18 @@
 -- What a definition that was prepared makes of the state.
+use Rattle.std.specs.Prelude.{◌^◌, Option, is_some, length}
+use Rattle.lens_specs.specs.Keeping.{CanChange}
+use Rattle.server_laws.proofs.Kept.{get-rows_of, is_some-rows}
+use Rattle.server_specs.specs.State.{kept as kept_of}
+use Rattle.table_keeper.specs.declared.keeper.Change.{Change}
+use Rattle.table_keeper.specs.declared.keeper.Change.TheVariants.{Define, Rows as RowsChange}
+use Rattle.lens_server.specs.Plans.{CanStage, IsFree, changed_tables}
 use Rattle.std.proofs.Common.{◌≡◌, ◌∙◌, ◌+◌, ◌<◌, ℕ, false, List, [], ◌∷◌, ◌++◌, ap, sym, subst, refl}
 use Rattle.std.specs.Prelude.{Some, None, Ok, if◌then◌else◌}
 use Rattle.std.specs.FinMap as finmap
 use Rattle.lens_specs.specs.Columns.{Columns}
 use Rattle.lens_specs.specs.Dependencies.{Edge}
 use Rattle.lens_specs.specs.Keeping.{define}
-use Rattle.lens_specs.specs.Lens.{Lens}
+use Rattle.lens_specs.specs.Lens.{Lens, Tables}
 use Rattle.lens_specs.specs.Names.{Name}
 use Rattle.lens_specs.specs.Predicate.{Predicate}
 use Rattle.grammar_specs.specs.Meaning.{Definition, Expr, table, view}
@@ -81,17 +88,38 @@ defined_is : (text : List ℕ) (d : Definition) (s : State)
 defined_is text (table name columns deps P) s = refl
 defined_is text (view name expr) s = refl
 
+-- what a definition makes of the tables, and that they can stage it
+define_tables : (change : Change) (o : Option Prepared) (p : Prepared) (text : List ℕ) (name : Option Name) (db : Tables) → change_view change ≡ define text name → o ≡ Some p
+    → changed_tables change o db ≡ tables_with name p.lens db
+define_tables (Define t n) o p text name db is some = let same : n ≡ name = cc in ap (λ q. changed_tables (Define t n) q db) some ∙ ap (λ m. tables_with m p.lens db) same
+define_tables (RowsChange deltas) o p text name db is some = cc
+
+define_stage : (change : Change) (o : Option Prepared) (p : Prepared) (text : List ℕ) (name : Option Name) (db : Tables) → change_view change ≡ define text name → o ≡ Some p
+    → length p.text < 2 ^ 64 → IsFree name db → CanStage change o db
+define_stage (Define t n) o p text name db is some short free =
+    let same : n ≡ name = cc in
+    subst (λ q. CanStage (Define t n) q db) (sym some) (short, subst (λ m. IsFree m db) (sym same) free)
+define_stage (RowsChange deltas) o p text name db is some short free = cc
+
+-- a table that the kept contents can take is not there yet
+free_of : (text : List ℕ) (o : Option Name) (s : State) → CanChange (define text o) (kept_of s) → IsFree o s.tables
+free_of text None s h = tt
+free_of text (Some name) s h = sym (is_some-rows (finmap.get s.tables name)) ∙ ap is_some (sym (get-rows_of s.tables name)) ∙ h
+
 -- the plan that the catalogue takes a definition
 pub definition_planned : (store : Store) (prepared : Prepared) (plan : Plan) (staged : Staged) → Valid (state_of store) → 0 < store.catalog.room → IsAdmissible store.catalog.texts prepared
     → answer_view plan.answer ≡ defined (store.version + 1) → plan.staged ≡ Some staged
     → change_view staged.change ≡ define prepared.text (table_in prepared.name prepared.lens) → staged.definition ≡ Some prepared
-    → staged.tables ≡ tables_with (table_in prepared.name prepared.lens) prepared.lens store.tables
+    → length prepared.text < 2 ^ 64
     → staged.last ≡ last_with (table_in prepared.name prepared.lens) (store.version + 1) store.last
     → IsPlan plan (define_answer prepared.text (state_of store)) store
-definition_planned store prepared plan staged v room a answer is change definition tables last =
+definition_planned store prepared plan staged v room a answer is change definition short last =
     let s = state_of store in
     let d = a.definition in
     let made = is_made s prepared d v a.taken a.named a.lens in
+    let name = table_in prepared.name prepared.lens in
+    let tables : changed_tables staged.change staged.definition s.tables ≡ tables_with name prepared.lens s.tables =
+    define_tables staged.change staged.definition prepared prepared.text name s.tables change definition in
     let next : with_defined prepared.text d s ≡ after staged s =
     defined_is prepared.text d s ∙ (λ i. record {
       texts = texts_with (sym definition i) s.texts;
@@ -103,7 +131,9 @@ definition_planned store prepared plan staged v room a answer is change definiti
     let follows : KeptFollows (change_view staged.change) s (after staged s) =
     subst (λ c. KeptFollows c s (after staged s)) changed
     (subst (λ t. KeptFollows (define prepared.text (table_made d)) s t) next (definitions_kept s v prepared.text d a.taken)) in
+    let free : IsFree name s.tables = free_of prepared.text name s (subst (λ c. CanChange c (kept_of s)) change follows.1) in
     let ready : IsStaged staged store = record {
+      tables = define_stage staged.change staged.definition prepared prepared.text name s.tables change definition short free;
       definition = subst (λ o. CanTake o store.catalog) (sym definition) (room, a);
       kept = follows;
       valid = subst Valid next (valid_taken s prepared.text d v a.taken (judged_ok (catalogue s.texts) (reading prepared.text) d a.taken).1);

@@ -1,6 +1,6 @@
 -- What becomes of a plan.
 use Rattle.std.proofs.Common.{◌≡◌, ◌∙◌, ◌+◌, ◌≤◌, ℕ, List, ap, sym, subst, refl, arith}
-use Rattle.std.specs.Prelude.{◌≢◌, Option, Some, None, Ok, Err}
+use Rattle.std.specs.Prelude.{◌≢◌, Option, Some, None, Result, Ok, Err}
 use Rattle.no_memory.specs.declared.NoMemory.{NoMemory}
 use Rattle.io_specs.specs.Faults.{Rose}
 use Rattle.lens_specs.specs.Keeping.{CanChange, CanCommit, Change, Follows, Kept, Stays, Tells, changed}
@@ -9,7 +9,9 @@ use Rattle.server_specs.specs.Session.{answered, not_stored}
 use Rattle.server_specs.specs.State.{State, kept}
 use Rattle.server_specs.specs.Validity.{Valid}
 use Rattle.table_keeper.specs.Changes.{change_view}
-use Rattle.lens_server.specs.Outcomes.{Outcome}
+use Rattle.table_keeper.specs.declared.keeper.KeepFault.{KeepFault}
+use Rattle.table_keeper.specs.declared.keeper.KeepFault.TheVariants as keep
+use Rattle.lens_server.specs.Outcomes.{NotKept, Outcome}
 use Rattle.lens_server.specs.Plans.{IsStaged, after}
 use Rattle.lens_server.specs.States.{state_of}
 use Rattle.lens_server.specs.declared.plan.Staged.{Staged}
@@ -86,3 +88,16 @@ outcome_not_stored staged store answer count count' contents contents' reply v t
   ok = not_stored r refl (raised staged (state_of store) answer.1 is) rose;
   err = tt;
 }
+
+-- the keeper failed, or lacked memory
+pub outcome_failed : (fault : KeepFault) (result : Result (List ℕ) NoMemory) (staged : Staged) (store : Store) (answer : Answer × State) (count count' : ℕ) (contents contents' : Option Kept)
+    → NotKept fault result → Valid (state_of store) → Tells contents (kept (state_of store)) → Stays contents contents' → count ≤ count' → (fault ≡ keep.Failed → Rose count count')
+    → answer.1 ≡ after staged (state_of store) → (new : State) → new ≡ state_of store → Outcome answer (state_of store) new count count' contents contents' result
+outcome_failed keep.Failed (Ok reply) staged store answer count count' contents contents' told v tells stays later rose is new same =
+    subst (λ s. Outcome answer (state_of store) s count count' contents contents' (Ok reply)) (sym same)
+    (outcome_not_stored staged store answer count count' contents contents' reply v tells stays later (rose refl) told is)
+outcome_failed keep.Failed (Err e) staged store answer count count' contents contents' told v tells stays later rose is new same = absurd told
+outcome_failed keep.NoMemory (Ok reply) staged store answer count count' contents contents' told v tells stays later rose is new same = absurd told
+outcome_failed keep.NoMemory (Err e) staged store answer count count' contents contents' told v tells stays later rose is new same =
+    subst (λ s. Outcome answer (state_of store) s count count' contents contents' (Err e)) (sym same)
+    (outcome_no_memory answer (state_of store) count count' contents contents' e v later tells stays)

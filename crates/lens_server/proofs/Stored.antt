@@ -14,7 +14,7 @@ use Rattle.lens_specs.specs.Columns.{Fits}
 use Rattle.lens_specs.specs.Keeping.{Kept, Tells}
 use Rattle.lens_specs.specs.Names.{Name, is_among}
 use Rattle.lens_specs.specs.Relation.{Rows, has}
-use Rattle.lens_specs.specs.Sort.{Sort, IsOf}
+use Rattle.lens_specs.specs.Sort.{Sort}
 use Rattle.catalog_specs.specs.Catalogue.{Catalogue, catalogue}
 use Rattle.catalog_specs.specs.Judging.{first_refused}
 use Rattle.opening_specs.specs.Opening as opening
@@ -82,14 +82,6 @@ module _ {Y : Type 0} (f : Name × Rows → Y) where
   last_made ts t db =
       ap (λ es. with_all es db) (ap (map (λ e. (e.0, f e))) (map_push rows_of ts t) ∙ map_push (λ e. (e.0, f e)) (map rows_of ts) (rows_of t))
       ∙ with_last (made_of f ts) (t.table, f (rows_of t)) db
-
-all_but_last : (P : KeptTable → Type 0) (ts : List KeptTable) (t : KeptTable) → AllByRecursion P (ts ++ t ∷ []) → AllByRecursion P ts × P t
-all_but_last P [] t all = (tt, all.0)
-all_but_last P (u ∷ ts) t all = let w = all_but_last P ts t all.1 in ((all.0, w.0), w.1)
-
--- the last of sound tables, and those before it
-pub last_sound : (known : Catalogue) (ts : List KeptTable) (t : KeptTable) → AllByRecursion (IsSound known) (ts ++ t ∷ []) → AllByRecursion (IsSound known) ts × IsSound known t
-last_sound known ts t all = all_but_last (IsSound known) ts t all
 
 -- ---- what is opened
 

@@ -1,5 +1,5 @@
 -- The line that tells a damage.
-use Rattle.std.proofs.Common.{◌≡◌, ◌∙◌, ◌||◌, Bool, false, ap, refl}
+use Rattle.std.proofs.Common.{◌≡◌, ◌∙◌, ◌||◌, false, ap, refl}
 use Rattle.serde_json.specs.Written.{has_float}
 use Rattle.lens_values.specs.declared.row.Row.{Row}
 use Rattle.server_specs.specs.Answer.{pair_data, row_data}

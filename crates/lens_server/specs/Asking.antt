@@ -1,24 +1,33 @@
--- The view that a change asks for, as the code has it.
-use Rattle.std.specs.Prelude.{◌≡◌, ℕ, Bool, false, ◌||◌, nat_lt, Option, Some, None, Result, Ok, Err}
+-- What a change asks for, as the code has it.
+use Rattle.std.specs.Prelude.{◌≡◌, ℕ, Bool, true, false, ◌||◌, nat_lt, Option, Some, None, Result, Ok, Err}
+use Rattle.lens_specs.specs.Delta.{Delta}
+use Rattle.lens_specs.specs.Lens.{Lens, Tables}
 use Rattle.lens_specs.specs.Relation.{Rows}
+use Rattle.lens_chain.specs.Edits.{IsEdit, edited}
 use Rattle.request_text.specs.Answers.{answer_view}
-use Rattle.server_specs.specs.Answer.{Answer}
-use Rattle.server_specs.specs.Changing as spec
-use Rattle.lens_server.specs.declared.new_view.Refusal.{Refusal}
-use Rattle.lens_server.specs.declared.new_view.Refusal.TheVariants as refusal
-use Rattle.lens_server.specs.declared.sent.Sent.{Sent}
-use Rattle.lens_server.specs.declared.sent.Sent.TheVariants.{Whole, Edited}
-
--- the rows that the definitions speak of
-abbrev pub sent_of : Sent → spec.Sent
-sent_of (Whole rows) = spec.whole rows
-sent_of (Edited remove add) = spec.edited remove add
+use Rattle.server_specs.specs.Answer.{Answer, stale}
+use Rattle.server_specs.specs.Changing.{changed_at, is_stale}
+use Rattle.server_specs.specs.State.{State}
+use Rattle.lens_server.specs.declared.asking.Refusal.{Refusal}
+use Rattle.lens_server.specs.declared.asking.Refusal.TheVariants as refusal
 
 -- the rows are the expected ones, or the refusal is, unless memory ran out
 abbrev pub Asks : Result Rows Refusal → Result Rows Answer → Type 0
 Asks (Ok rows) expected = expected ≡ Ok rows
 Asks (Err (refusal.Told answer)) expected = expected ≡ Err (answer_view answer)
 Asks (Err refusal.NoMemory) expected = Unit {0}
+
+-- the difference is an edit of the view to the expected rows, or the refusal is the expected one, unless memory ran out
+abbrev pub AsksBy : Lens → Tables → Result Delta Refusal → Result Rows Answer → Type 0
+AsksBy L db (Ok delta) expected = (expected ≡ Ok (edited L db delta)) × IsEdit L db delta
+AsksBy L db (Err (refusal.Told answer)) expected = expected ≡ Err (answer_view answer)
+AsksBy L db (Err refusal.NoMemory) expected = Unit {0}
+
+-- the change is not stale, or the refusal tells that it is, unless memory ran out
+abbrev pub IsFresh : State → Lens → Option ℕ → Result (Unit {0}) Refusal → Type 0
+IsFresh s L on (Ok done) = is_stale s L on ≡ false
+IsFresh s L on (Err (refusal.Told answer)) = (is_stale s L on ≡ true) × (answer_view answer ≡ stale (changed_at s L) s.version)
+IsFresh s L on (Err refusal.NoMemory) = Unit {0}
 
 -- whether the version on which a change rests, if it rests on one, is before the last change or after the present one
 abbrev pub is_outside : Option ℕ → ℕ → ℕ → Bool

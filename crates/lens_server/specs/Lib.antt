@@ -2,8 +2,10 @@ pub mod States
 pub mod Outcomes
 pub mod Plans
 pub mod Asking
+pub mod Keyed
+pub mod Staging
+pub mod Counting
 pub mod Defining
-pub mod Differing
 pub mod StateCode
 pub mod StartFaults
 pub mod Starting

@@ -1,19 +1,31 @@
 -- What a request needs, and what becomes of its answer.
-use Rattle.std.specs.Prelude.{◌≡◌, ◌≤◌, ◌<◌, ◌-◌, ◌^◌, ℕ, List, Option, Result, IfOk, OnErr}
+use Rattle.std.specs.Prelude.{◌≡◌, ◌≤◌, ◌<◌, ◌-◌, ◌^◌, ℕ, List, Option, Result, Ok, Err, IfOk, OnErr}
 use Rattle.no_memory.specs.declared.NoMemory.{NoMemory}
 use Rattle.lens_specs.specs.Keeping.{Kept, Follows, Tells}
 use Rattle.server_specs.specs.State.{State, kept}
-use Rattle.server_specs.specs.Answer.{Answer}
+use Rattle.server_specs.specs.Answer.{Answer, store_fault, text}
 use Rattle.server_specs.specs.Session.{Becomes}
 use Rattle.server_specs.specs.Validity.{Valid}
+use Rattle.table_keeper.specs.declared.keeper.KeepFault.{KeepFault}
+use Rattle.table_keeper.specs.declared.keeper.KeepFault.TheVariants as fault
+use Rattle.lens_server.specs.Keyed.{IsKeyed}
 use Rattle.lens_server.specs.States.{state_of}
 use Rattle.lens_server.specs.declared.store.Store.{Store}
 
--- The store can take a request: its state is valid, its version can rise, and the keeper, where it tells its contents, has the state's.
+-- The store can take a request: its state is valid and its lenses can ask their tables, its version can rise, and the keeper, where
+-- it tells its contents, has the state's.
 pub record IsReady (store : Store) (contents : Option Kept) : Type 0 where
   pub valid : Valid (state_of store)
+  pub keyed : IsKeyed store
   pub room : store.version < 2 ^ 64 - 1
   pub told : Tells contents (kept (state_of store))
+
+-- the reply is that of the store where the keeper failed, and memory ran out where it lacked memory
+abbrev pub NotKept : KeepFault → Result (List ℕ) NoMemory → Type 0
+NotKept fault.Failed (Ok reply) = reply ≡ text store_fault
+NotKept fault.Failed (Err e) = ⊥
+NotKept fault.NoMemory (Ok reply) = ⊥
+NotKept fault.NoMemory (Err e) = Unit {0}
 
 -- The answer is given, or memory ran out and the state is as it was. A keeper that tells its contents goes on to tell those of the
 -- new state.

@@ -1,18 +1,25 @@
 -- Plans: the answer to a request, and the change that is made before it is given.
-use Rattle.std.specs.Prelude.{◌≡◌, ◌<◌, ◌+◌, ℕ, List, [], ◌∷◌, ◌++◌, Option, Some, None}
+use Rattle.std.specs.Prelude.{◌≡◌, ◌<◌, ◌+◌, ◌^◌, ℕ, false, List, [], ◌∷◌, ◌++◌, length, map, Option, Some, None, is_some}
+use Rattle.std.specs.FinMap as finmap
 use Rattle.lens_specs.specs.Delta.{TableDelta}
 use Rattle.lens_specs.specs.Keeping.{rows}
 use Rattle.lens_specs.specs.Lens.{Tables}
+use Rattle.lens_specs.specs.Names.{Name}
+use Rattle.base_index.specs.Held.{AllApply, with_deltas}
 use Rattle.request_text.specs.Answers.{answer_view}
 use Rattle.server_specs.specs.Answer.{Answer, changed}
 use Rattle.server_specs.specs.Changing.{with_last}
 use Rattle.server_specs.specs.State.{State}
 use Rattle.server_specs.specs.Validity.{Valid}
 use Rattle.server_laws.specs.KeptLaws.{KeptFollows}
+use Rattle.signed_delta.specs.Tables.{table_delta}
 use Rattle.table_keeper.specs.Changes.{change_view}
+use Rattle.table_keeper.specs.declared.keeper.Change.{Change}
+use Rattle.table_keeper.specs.declared.keeper.Change.TheVariants.{Define, Rows}
 use Rattle.view_catalog.specs.Admissions.{IsAdmissible}
 use Rattle.view_catalog.specs.Contents.{Contents}
 use Rattle.view_catalog.specs.declared.prepared.Prepared.{Prepared}
+use Rattle.lens_server.specs.Defining.{tables_with}
 use Rattle.lens_server.specs.States.{state_of}
 use Rattle.lens_server.specs.declared.plan.Plan.{Plan}
 use Rattle.lens_server.specs.declared.plan.Staged.{Staged}
@@ -23,17 +30,41 @@ abbrev pub texts_with : Option Prepared → List (List ℕ) → List (List ℕ)
 texts_with None texts = texts
 texts_with (Some prepared) texts = texts ++ prepared.text ∷ []
 
+-- the tables after a change, which may be a definition
+abbrev pub changed_tables : Change → Option Prepared → Tables → Tables
+changed_tables (Rows deltas) definition tables = with_deltas (map table_delta deltas.items) tables
+changed_tables (Define text table) None tables = tables
+changed_tables (Define text table) (Some prepared) tables = tables_with table prepared.lens tables
+
 -- the state after a change
 abbrev pub after : Staged → State → State
-after staged s = record { texts = texts_with staged.definition s.texts; tables = staged.tables; version = s.version + 1; last = staged.last }
+after staged s = record {
+  texts = texts_with staged.definition s.texts;
+  tables = changed_tables staged.change staged.definition s.tables;
+  version = s.version + 1;
+  last = staged.last;
+}
 
 -- the catalogue can take the definition, if there is one, without memory
 abbrev pub CanTake : Option Prepared → Contents → Type 0
 CanTake None catalog = Unit {0}
 CanTake (Some prepared) catalog = (0 < catalog.room) × IsAdmissible catalog.texts prepared
 
--- The change can be made: the catalogue can take the definition, the keeper's contents follow, and the state after it is valid.
+-- there is no table of this name yet, if it is one
+abbrev pub IsFree : Option Name → Tables → Type 0
+IsFree None tables = Unit {0}
+IsFree (Some name) tables = is_some (finmap.get tables name) ≡ false
+
+-- the tables can stage the change: the differences apply, or a definition's lens has keys and its table, if it is one, is new
+abbrev pub CanStage : Change → Option Prepared → Tables → Type 0
+CanStage (Rows deltas) definition tables = AllApply (map table_delta deltas.items) tables
+CanStage (Define text table) None tables = ⊥
+CanStage (Define text table) (Some prepared) tables = (length prepared.text < 2 ^ 64) × IsFree table tables
+
+-- The change can be made: the tables can stage it, the catalogue can take the definition, the keeper's contents follow, and the
+-- state after it is valid.
 pub record IsStaged (staged : Staged) (store : Store) : Type 0 where
+  pub tables : CanStage staged.change staged.definition store.tables.present.relations
   pub definition : CanTake staged.definition store.catalog
   pub kept : KeptFollows (change_view staged.change) (state_of store) (after staged (state_of store))
   pub valid : Valid (after staged (state_of store))
@@ -52,12 +83,11 @@ pub record IsPlan (plan : Plan) (expected : Answer × State) (store : Store) : T
 abbrev pub IsPlanned : Plan → Store → Type 0
 IsPlanned plan store = (expected : Answer × State) × IsPlan plan expected store
 
--- The plan tells these differences with the next version, and its change makes the tables these, each changed one last changed then.
-pub record IsChange (deltas : List TableDelta) (new : Tables) (store : Store) (plan : Plan) : Type 0 where
+-- The plan tells these differences with the next version, and they are its change, each changed table last changed then.
+pub record IsChange (deltas : List TableDelta) (store : Store) (plan : Plan) : Type 0 where
   pub answer : answer_view plan.answer ≡ changed deltas (store.version + 1)
   pub staged : Staged
   pub is : plan.staged ≡ Some staged
   pub change : change_view staged.change ≡ rows deltas
   pub definition : staged.definition ≡ None
-  pub tables : staged.tables ≡ new
   pub last : staged.last ≡ with_last (store.version + 1) deltas store.last

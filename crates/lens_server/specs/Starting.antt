@@ -1,14 +1,20 @@
 -- What a start gives, and what its parts do.
-use Rattle.std.specs.Prelude.{◌≡◌, ◌≢◌, ℕ, false, List, Option, Some, None, option_map, Result, Ok, Err}
+use Rattle.std.specs.Prelude.{◌≡◌, ◌≢◌, ℕ, false, List, [], Option, Some, None, option_map, Result, Ok, Err}
 use Rattle.std.specs.FinMap as finmap
 use Rattle.lens_values.specs.Order.{bytes_cmp}
 use Rattle.lens_values.specs.SortedSet as set
+use Rattle.lens_specs.specs.Delta.{TableDelta}
 use Rattle.lens_specs.specs.Keeping.{Kept}
+use Rattle.lens_specs.specs.Lens.{Lens}
 use Rattle.lens_specs.specs.Names.{Name, is_among}
 use Rattle.lens_specs.specs.Relation.{Rows}
+use Rattle.lens_laws.specs.Asked.{asked}
+use Rattle.base_index.specs.Held.{IsQuiet}
+use Rattle.lens_probe.specs.Viewed.{AreIndexed}
 use Rattle.catalog_specs.specs.Catalogue.{Catalogue, catalogue}
 use Rattle.catalog_specs.specs.Judging.{first_refused}
 use Rattle.server_specs.specs.State.{State}
+use Rattle.server_laws.specs.StateLaws.{AreShort}
 use Rattle.opening_specs.specs.Opening as opening
 use Rattle.opening_specs.specs.Opening.{IsOpened, all_names, damage_among, damage_at, definition, opened, table_sort_of}
 use Rattle.table_keeper.specs.declared.keeper.KeptTable.{KeptTable}
@@ -52,10 +58,20 @@ HasTables known names = (q : Name) → is_among q names ≡ false → table_sort
 
 -- all of the texts are taken, and the names of their tables are there; or the first that is refused is told, unless memory ran out
 abbrev pub AreAdmitted : Result Admitted StartFault → List (List ℕ) → Type 0
-AreAdmitted (Ok admitted) texts = (admitted.catalog.texts ≡ texts) × (first_refused texts ≡ None) × HasTables (catalogue texts) admitted.tables.items
+AreAdmitted (Ok admitted) texts = (admitted.catalog.texts ≡ texts) × (first_refused texts ≡ None) × HasTables (catalogue texts) admitted.names.items
 AreAdmitted (Err (fault.Damaged damage)) texts = option_map definition (first_refused texts) ≡ Some (damage_view damage)
 AreAdmitted (Err fault.StoreFault) texts = ⊥
 AreAdmitted (Err fault.NoMemory) texts = Unit {0}
+
+-- Nothing is staged, the texts are taken and short, each lens has the indexes that it needs, and the tables are those of the
+-- definitions, with no row.
+pub record HasEmptyTables (admitted : Admitted) : Type 0 where
+  pub quiet : IsQuiet admitted.tables
+  pub taken : first_refused admitted.catalog.texts ≡ None
+  pub short : AreShort admitted.catalog.texts
+  pub indexed : (name : Name) (L : Lens) → finmap.get (catalogue admitted.catalog.texts) name ≡ Some L → AreIndexed (asked L []) admitted.tables.present
+  pub tables : (name : Name) → finmap.get admitted.tables.present.relations name
+      ≡ option_map (λ s. record { columns = s.columns; rows = set.empty }) (table_sort_of name (finmap.get (catalogue admitted.catalog.texts) name))
 
 -- the definition at the place is refused, or memory ran out
 abbrev pub IsRefusedAt : ℕ → CatalogFault → StartFault → Type 0
@@ -68,6 +84,10 @@ IsRefusedAt place why fault.NoMemory = Unit {0}
 -- the first damage of the tables, by rising name
 abbrev pub damage_of_tables : Catalogue → finmap.FinMap bytes_cmp Rows → Option opening.Damage
 damage_of_tables known rows = damage_among known rows (set.items (all_names known rows))
+
+-- the difference that fills an empty table with the kept rows
+abbrev pub filling : KeptTable → TableDelta
+filling kept = record { table = kept.table; delta = record { remove = set.empty; add = kept.rows } }
 
 -- the table is defined, and its kept rows are of its sort
 abbrev pub IsSound : Catalogue → KeptTable → Type 0

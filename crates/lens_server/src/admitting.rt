@@ -1,59 +1,83 @@
 //! Definitions that are taken again.
-ghost use Rattle.std.specs.Prelude.{◌≡◌, ◌++◌, ◌∷◌, [], IfErr, IsOk, OnOk};
+ghost use Rattle.std.specs.Prelude.{◌≡◌, ◌++◌, ◌∷◌, [], IfErr, IfOk, IsOk, OnOk};
 ghost use Rattle.std.specs.Option.{option_to_list};
 ghost use Rattle.catalog_specs.specs.Catalogue.{catalogue};
 ghost use Rattle.catalog_specs.specs.Judging.{judged};
 ghost use Rattle.grammar_laws.specs.Reading.{reading};
 ghost use Rattle.view_catalog.specs.Faults.{IsRefused};
-ghost use Rattle.lens_server.specs.Starting.{AreAdmitted, HasTables, IsRefusedAt};
+ghost use Rattle.lens_server.specs.Starting.{AreAdmitted, HasEmptyTables, HasTables, IsRefusedAt};
 
 use crate::damage::Damage;
+use crate::defining::is_short;
+use crate::settling::stage_definition;
 use crate::starting::StartFault;
+use base_index::Tables;
 use lens_values::{Name, NoMemory, Text};
 use std::alloc::Global;
+use std::sync::ledger::Ledger;
+use step_counter::Steps;
 use view_catalog::{Catalog, CatalogFault};
 
-/// Definitions that were taken, and the names of the tables among them.
+/// Definitions that were taken, and their tables, which have no row yet.
 #[derive(Drop)]
 pub struct Admitted {
     /// The definitions, and the lens of each name.
     pub catalog: Catalog,
     /// The names of the tables.
-    pub tables: Vec<Name>,
+    pub names: Vec<Name>,
+    /// The tables, with the indexes that the lenses need.
+    pub tables: Tables,
 }
 
 /// Takes the definitions in order, or tells the first that is refused.
-pub fn admit_all(alloc: Global, definitions: Vec<Text>) -> Result<Admitted, StartFault>
-    ensures { AreAdmitted result definitions.items }
+pub fn admit_all<L: Ledger>(
+    alloc: Global,
+    definitions: Vec<Text>,
+    walked: &mut Steps<L>,
+) -> Result<Admitted, StartFault>
+    ensures admitted { AreAdmitted result definitions.items }
+    ensures empty { IfOk result HasEmptyTables }
 {
     let mut admitted = Admitted {
         catalog: Catalog::new(alloc),
-        tables: Vec::new(alloc),
+        names: Vec::new(alloc),
+        tables: Tables::new(alloc),
     };
     for text in definitions {
         let place = admitted.catalog.definitions().len();
-        if let Err(why) = admit(alloc, &mut admitted, text) {
+        if let Err(why) = admit(alloc, &mut admitted, text, walked) {
             return Err(refused_at(place, why));
         }
     }
     Ok(admitted)
 }
 
-/// Takes one definition more.
-fn admit(alloc: Global, admitted: &mut Admitted, text: Text) -> Result<(), CatalogFault>
+/// Takes one definition more, with its table, if it is one, and the indexes that its lens needs.
+fn admit<L: Ledger>(
+    alloc: Global,
+    admitted: &mut Admitted,
+    text: Text,
+    walked: &mut Steps<L>,
+) -> Result<(), CatalogFault>
+    requires empty { HasEmptyTables admitted.old }
     ensures texts { OnOk result (admitted.new.catalog.texts
         ≡ admitted.old.catalog.texts ++ text ∷ []) }
     ensures taken { OnOk result (IsOk
         (judged (catalogue admitted.old.catalog.texts) (reading text))) }
-    ensures tables { HasTables (catalogue admitted.old.catalog.texts) admitted.old.tables.items
+    ensures names { HasTables (catalogue admitted.old.catalog.texts) admitted.old.names.items
         → OnOk result
-        (HasTables (catalogue admitted.new.catalog.texts) admitted.new.tables.items) }
+        (HasTables (catalogue admitted.new.catalog.texts) admitted.new.names.items) }
+    ensures empty { OnOk result (HasEmptyTables admitted.new) }
     ensures err { IfErr result (λ why. IsRefused why
         (judged (catalogue admitted.old.catalog.texts) (reading text))) }
 {
+    is_short(&text);
     let prepared = admitted.catalog.prepare(alloc, text)?;
-    append(&mut admitted.tables, prepared.table())?;
+    let table = prepared.table();
+    stage_definition(alloc, &mut admitted.tables, &table, prepared.lens(), walked)?;
+    append(&mut admitted.names, table)?;
     admitted.catalog.admit(prepared);
+    admitted.tables.settle();
     Ok(())
 }
 

@@ -1,53 +1,70 @@
 //! One line, one answer.
-ghost use Rattle.std.specs.Prelude.{◌≡◌, ◌<◌, ◌-◌, ◌^◌, IfOk, Ok};
+ghost use Rattle.std.specs.Prelude.{◌≡◌, ◌<◌, ◌+◌, ◌-◌, ◌^◌, ◌≤◌, IfOk, Ok};
 ghost use Rattle.io_specs.specs.Lines.{line as short};
 ghost use Rattle.request_text.specs.Requests.{request_view};
 ghost use Rattle.server_specs.specs.Answering.{answer_request};
 ghost use Rattle.server_specs.specs.Request.{request};
 ghost use Rattle.server_specs.specs.Validity.{Valid};
+ghost use Rattle.lens_server.specs.Counting.{Walks, most_walked};
+ghost use Rattle.lens_server.specs.Keyed.{IsKeyed, IsSame};
 ghost use Rattle.lens_server.specs.Outcomes.{IsReady, Outcome};
 ghost use Rattle.lens_server.specs.Plans.{IsPlan};
 ghost use Rattle.lens_server.specs.States.{state_of};
 
-use crate::changing::{plan_change, preview_answer};
+use crate::changing::{plan_edit, plan_put, preview_answer};
 use crate::defining::plan_definition;
 use crate::plan::Plan;
 use crate::questions::{list_answer, read_answer, type_answer};
-use crate::sent::Sent;
 use crate::settling::settle;
 use crate::store::Store;
 use lens_values::NoMemory;
 use request_text::{Answer, Reply, Request, RequestFault, read_request};
 use std::alloc::Global;
+use std::sync::ledger::Ledger;
+use step_counter::Steps;
 use table_keeper::Keeper;
 
-/// Answers a line that is not too long.
-pub fn answer_line<K: Keeper>(
+/// Answers a line that is not too long. An edit and a preview walk no table.
+pub fn answer_line<K: Keeper, L: Ledger, M: Ledger>(
     alloc: Global,
     store: &mut Store,
     keeper: &mut K,
     line: &[u8],
+    walked: &mut Steps<L>,
+    looked: &mut Steps<M>,
 ) -> Result<Reply, NoMemory>
     requires { IsReady store.old (K.contents keeper.old) }
     ensures outcome { Outcome (answer_request (request (short line.now)) (state_of store.old))
         (state_of store.old) (state_of store.new) (K.faults keeper.old) (K.faults keeper.new)
         (K.contents keeper.old) (K.contents keeper.new) result }
+    ensures keyed { IsKeyed store.new }
     ensures place { K.place keeper.new ≡ K.place keeper.old }
+    ensures walked { walked.new
+        ≤ walked.old + most_walked (request (short line.now)) (state_of store.old) }
 {
-    let plan = plan_line(alloc, store, line)?;
-    settle(alloc, store, keeper, plan)
+    let plan = plan_line(alloc, store, line, walked, looked)?;
+    settle(alloc, store, keeper, plan, walked)
 }
 
 /// Plans the answer to a line.
-fn plan_line(alloc: Global, store: &mut Store, line: &[u8]) -> Result<Plan, NoMemory>
+fn plan_line<L: Ledger, M: Ledger>(
+    alloc: Global,
+    store: &mut Store,
+    line: &[u8],
+    walked: &mut Steps<L>,
+    looked: &mut Steps<M>,
+) -> Result<Plan, NoMemory>
     requires valid { Valid (state_of store.old) }
+    requires keyed { IsKeyed store.old }
     requires room { store.old.version < 2 ^ 64 - 1 }
-    ensures same { state_of store.new ≡ state_of store.old }
+    ensures same { IsSame store.old store.new }
     ensures plan { IfOk result (λ plan. IsPlan plan
         (answer_request (request (short line.now)) (state_of store.old)) store.new) }
+    ensures walked { Walks result store.new walked.old walked.new
+        (most_walked (request (short line.now)) (state_of store.old)) }
 {
     match read_request(alloc, line) {
-        Ok(request) => plan_request(alloc, store, request),
+        Ok(request) => plan_request(alloc, store, request, walked, looked),
         Err(RequestFault::NotJson) => Ok(Plan::unchanged(Answer::NotJson)),
         Err(RequestFault::BadRequest { member }) => {
             Ok(Plan::unchanged(Answer::BadRequest { member }))
@@ -57,33 +74,42 @@ fn plan_line(alloc: Global, store: &mut Store, line: &[u8]) -> Result<Plan, NoMe
 }
 
 /// Plans the answer to a request.
-fn plan_request(alloc: Global, store: &mut Store, request: Request) -> Result<Plan, NoMemory>
+fn plan_request<L: Ledger, M: Ledger>(
+    alloc: Global,
+    store: &mut Store,
+    request: Request,
+    walked: &mut Steps<L>,
+    looked: &mut Steps<M>,
+) -> Result<Plan, NoMemory>
     requires valid { Valid (state_of store.old) }
+    requires keyed { IsKeyed store.old }
     requires room { store.old.version < 2 ^ 64 - 1 }
-    ensures same { state_of store.new ≡ state_of store.old }
+    ensures same { IsSame store.old store.new }
     ensures plan { IfOk result (λ plan. IsPlan plan
         (answer_request (Ok (request_view request)) (state_of store.old)) store.new) }
+    ensures walked { Walks result store.new walked.old walked.new
+        (most_walked (Ok (request_view request)) (state_of store.old)) }
 {
     match request {
         Request::Define { text } => plan_definition(alloc, store, text),
-        Request::Read { view } => Ok(Plan::unchanged(read_answer(alloc, store, &view)?)),
+        Request::Read { view } => { Ok(Plan::unchanged(read_answer(alloc, store, &view, walked)?)) }
         Request::Put { view, rows, on } => {
-            plan_change(alloc, store, &view, &Sent::Whole { rows }, on)
+            plan_put(alloc, store, &view, &rows, on, walked, looked)
         }
         Request::Edit {
             view,
             remove,
             add,
             on,
-        } => plan_change(alloc, store, &view, &Sent::Edited { remove, add }, on),
+        } => plan_edit(alloc, store, &view, &remove, &add, on, looked),
         Request::Preview {
             view,
             remove,
             add,
             on,
         } => {
-            let sent = Sent::Edited { remove, add };
-            Ok(Plan::unchanged(preview_answer(alloc, store, &view, &sent, on)?))
+            let answer = preview_answer(alloc, store, &view, &remove, &add, on, looked)?;
+            Ok(Plan::unchanged(answer))
         }
         Request::Describe { view } => Ok(Plan::unchanged(type_answer(alloc, store, &view)?)),
         Request::List => Ok(Plan::unchanged(list_answer(alloc, store)?)),

@@ -1,102 +1,153 @@
 //! Changes of views.
-ghost use Rattle.std.specs.Prelude.{◌≡◌, ◌<◌, ◌-◌, ◌^◌, IfOk, Ok, map};
+ghost use Rattle.std.specs.Prelude.{◌≡◌, ◌<◌, ◌+◌, ◌-◌, ◌^◌, ◌≤◌, IfOk, Result, map};
 ghost use Rattle.lens_specs.specs.Delta.{changes};
-ghost use Rattle.lens_specs.specs.Lens.{sort_of};
-ghost use Rattle.lens_specs.specs.Sort.{IsOf};
+ghost use Rattle.lens_specs.specs.Relation.{Rows};
 ghost use Rattle.request_text.specs.Answers.{answer_view};
+ghost use Rattle.lens_chain.specs.Edits.{IsEdit, edited, over};
+ghost use Rattle.server_specs.specs.Answer as answers;
 ghost use Rattle.server_specs.specs.Changing as spec;
-ghost use Rattle.server_specs.specs.Changing.{accept, asked_view, change_answer, foretold, settled};
+ghost use Rattle.server_specs.specs.Changing.{accept, change_answer, foretold, settled};
 ghost use Rattle.server_specs.specs.Validity.{Valid};
-ghost use Rattle.server_laws.proofs.Stored.{IsHere};
 ghost use Rattle.signed_delta.specs.Tables.{table_delta};
-ghost use Rattle.lens_server.specs.Asking.{sent_of};
+ghost use Rattle.lens_server.specs.Asking.{AsksBy};
+ghost use Rattle.lens_server.specs.Counting.{row_count};
+ghost use Rattle.lens_server.specs.Keyed.{IsKeyed, IsOpen};
 ghost use Rattle.lens_server.specs.Plans.{IsChange, IsPlan};
 ghost use Rattle.lens_server.specs.States.{state_of};
 
-use crate::differing::{Effect, effect_of};
-use crate::new_view::{Refusal, asked_view};
+use crate::asking::{Refusal, asked_by_edit, asked_by_put};
 use crate::plan::{Plan, Staged};
-use crate::sent::Sent;
 use crate::store::Store;
+use lens_chain::put_delta;
+use lens_probe::View;
 use lens_types::TypedLens;
 use lens_values::{Name, NoMemory};
-use request_text::{Answer, Changes};
-use row_sets::RowSet;
-use signed_delta::TableDelta;
+use request_text::{Answer, Changes, JsonRows};
+use signed_delta::{Delta, TableDelta};
 use std::alloc::Global;
+use std::sync::ledger::Ledger;
+use step_counter::Steps;
 use table_keeper::Change;
-use whole_put::Db;
 
-/// Plans what `put` and `edit` are answered.
-pub fn plan_change(
+/// The view of a lens over the tables of the store.
+pub fn view_of<'a>(store: &'a Store, lens: &'a TypedLens) -> View<'a>
+    requires { IsOpen store.now lens.now }
+    ensures lens { result.lens ≡ lens.now }
+    ensures tables { result.tables ≡ store.now.tables }
+{
+    View::of(lens, &store.tables)
+}
+
+/// Plans what `put` is answered.
+pub fn plan_put<L: Ledger, M: Ledger>(
     alloc: Global,
     store: &Store,
     view: &Name,
-    sent: &Sent,
+    rows: &JsonRows,
     on: Option<u64>,
+    walked: &mut Steps<L>,
+    looked: &mut Steps<M>,
 ) -> Result<Plan, NoMemory>
     requires valid { Valid (state_of store.now) }
+    requires keyed { IsKeyed store.now }
     requires room { store.now.version < 2 ^ 64 - 1 }
-    ensures { IfOk result (λ plan. IsPlan plan
-        (change_answer (sent_of sent.now) on view.now (state_of store.now)) store.now) }
+    ensures plan { IfOk result (λ plan. IsPlan plan
+        (change_answer (spec.whole rows.now) on view.now (state_of store.now)) store.now) }
+    ensures walked { walked.new ≤ walked.old + row_count store.now.tables.present.relations }
 {
     match store.catalog.lens(view) {
-        Some(lens) => plan_asked(alloc, store, lens, sent, on),
+        Some(lens) => {
+            let view = view_of(store, lens);
+            let asked = asked_by_put(alloc, store, &view, rows, on, walked, looked);
+            plan_asked(alloc, store, &view, asked, looked)
+        }
         None => Ok(Plan::unchanged(Answer::UnknownName { name: *view })),
     }
 }
 
-/// Plans a change of the view of a lens.
-fn plan_asked(
+/// Plans what `edit` is answered.
+pub fn plan_edit<M: Ledger>(
     alloc: Global,
     store: &Store,
-    lens: &TypedLens,
-    sent: &Sent,
+    view: &Name,
+    remove: &JsonRows,
+    add: &JsonRows,
     on: Option<u64>,
+    looked: &mut Steps<M>,
 ) -> Result<Plan, NoMemory>
     requires valid { Valid (state_of store.now) }
-    requires here { IsHere (state_of store.now) lens.now }
+    requires keyed { IsKeyed store.now }
     requires room { store.now.version < 2 ^ 64 - 1 }
-    ensures { IfOk result (λ plan. IsPlan plan
-        (settled (asked_view (state_of store.now) lens.now (sent_of sent.now) on) lens.now
-        (state_of store.now)) store.now) }
+    ensures { IfOk result (λ plan. IsPlan plan (change_answer (spec.edited remove.now add.now) on
+        view.now (state_of store.now)) store.now) }
 {
-    match asked_view(alloc, store, lens, sent, on) {
-        Ok(rows) => plan_view(alloc, store, lens, rows),
+    match store.catalog.lens(view) {
+        Some(lens) => {
+            let view = view_of(store, lens);
+            let asked = asked_by_edit(alloc, store, &view, remove, add, on, looked);
+            plan_asked(alloc, store, &view, asked, looked)
+        }
+        None => Ok(Plan::unchanged(Answer::UnknownName { name: *view })),
+    }
+}
+
+/// Plans a change of the view, or its refusal.
+fn plan_asked<M: Ledger>(
+    alloc: Global,
+    store: &Store,
+    view: &View<'_>,
+    asked: Result<Delta, Refusal>,
+    looked: &mut Steps<M>,
+) -> Result<Plan, NoMemory>
+    requires valid { Valid (state_of store.now) }
+    requires open { IsOpen store.now view.now.lens }
+    requires tables { view.now.tables ≡ store.now.tables }
+    requires asked { (expected : Result Rows answers.Answer)
+        × AsksBy view.now.lens (over view.now) asked expected }
+    requires room { store.now.version < 2 ^ 64 - 1 }
+    ensures { (expected : Result Rows answers.Answer)
+        → AsksBy view.now.lens (over view.now) asked expected
+        → IfOk result (λ plan.
+        IsPlan plan (settled expected view.now.lens (state_of store.now)) store.now) }
+{
+    match asked {
+        Ok(delta) => plan_delta(alloc, store, view, &delta, looked),
         Err(Refusal::Told { answer }) => Ok(Plan::unchanged(answer)),
         Err(Refusal::NoMemory) => Err(NoMemory),
     }
 }
 
-/// Plans that the rows are the view. Where no table changes, nothing does.
-fn plan_view(alloc: Global, store: &Store, lens: &TypedLens, rows: RowSet) -> Result<Plan, NoMemory>
+/// Plans an edit of the view that is accepted. Where no table changes, nothing does.
+fn plan_delta<M: Ledger>(
+    alloc: Global,
+    store: &Store,
+    view: &View<'_>,
+    delta: &Delta,
+    looked: &mut Steps<M>,
+) -> Result<Plan, NoMemory>
     requires valid { Valid (state_of store.now) }
-    requires here { IsHere (state_of store.now) lens.now }
-    requires typed { IsOf rows (sort_of lens.now) }
+    requires open { IsOpen store.now view.now.lens }
+    requires tables { view.now.tables ≡ store.now.tables }
+    requires edit { IsEdit view.now.lens (over view.now) delta.now }
     requires room { store.now.version < 2 ^ 64 - 1 }
-    ensures { IfOk result (λ plan.
-        IsPlan plan (accept lens.now rows (changes lens.now rows store.now.tables)
-        (state_of store.now)) store.now) }
+    ensures { let L = view.now.lens in let db = over view.now in
+        let rows = edited L db delta.now in IfOk result (λ plan.
+        IsPlan plan (accept L rows (changes L rows db) (state_of store.now)) store.now) }
 {
-    let Effect { tables, deltas } = effect_of(alloc, store, lens, rows)?;
+    let deltas = put_delta(alloc, view, delta, looked)?;
     if deltas.as_slice().is_empty() {
         return Ok(Plan::unchanged(Answer::Changed {
             changed: Changes::new(deltas),
             version: store.version,
         }));
     }
-    plan_tables(alloc, store, tables, deltas)
+    plan_tables(alloc, store, deltas)
 }
 
-/// Plans that the tables become these, which differ so.
-fn plan_tables(
-    alloc: Global,
-    store: &Store,
-    tables: Db,
-    deltas: Vec<TableDelta>,
-) -> Result<Plan, NoMemory>
+/// Plans that the tables differ so.
+fn plan_tables(alloc: Global, store: &Store, deltas: Vec<TableDelta>) -> Result<Plan, NoMemory>
     requires room { store.now.version < 2 ^ 64 - 1 }
-    ensures { IfOk result (IsChange (map table_delta deltas.items) tables store.now) }
+    ensures { IfOk result (IsChange (map table_delta deltas.items) store.now) }
 {
     let version = store.version + 1;
     let last = store.last.with_all(alloc, deltas.as_slice(), version)?;
@@ -109,7 +160,6 @@ fn plan_tables(
         staged: Some(Staged {
             change: Change::Rows { deltas: kept },
             definition: None,
-            tables,
             last,
         }),
     })
@@ -127,56 +177,70 @@ fn copies(alloc: Global, deltas: &[TableDelta]) -> Result<Vec<TableDelta>, NoMem
 }
 
 /// What `preview` is answered: what the edit would change.
-pub fn preview_answer(
+pub fn preview_answer<M: Ledger>(
     alloc: Global,
     store: &Store,
     view: &Name,
-    sent: &Sent,
+    remove: &JsonRows,
+    add: &JsonRows,
     on: Option<u64>,
+    looked: &mut Steps<M>,
 ) -> Result<Answer, NoMemory>
-    requires { Valid (state_of store.now) }
-    ensures { IfOk result (λ answer. answer_view answer
-        ≡ spec.preview_answer (sent_of sent.now) on view.now (state_of store.now)) }
+    requires valid { Valid (state_of store.now) }
+    requires keyed { IsKeyed store.now }
+    ensures { IfOk result (λ answer. answer_view answer ≡ spec.preview_answer
+        (spec.edited remove.now add.now) on view.now (state_of store.now)) }
 {
     match store.catalog.lens(view) {
-        Some(lens) => foretold(alloc, store, lens, sent, on),
+        Some(lens) => {
+            let view = view_of(store, lens);
+            let asked = asked_by_edit(alloc, store, &view, remove, add, on, looked);
+            foretold(alloc, store, &view, asked, looked)
+        }
         None => Ok(Answer::UnknownName { name: *view }),
     }
 }
 
-/// What a change of the view of a lens would change, or its refusal.
-fn foretold(
+/// What a change of the view would change, or its refusal.
+fn foretold<M: Ledger>(
     alloc: Global,
     store: &Store,
-    lens: &TypedLens,
-    sent: &Sent,
-    on: Option<u64>,
+    view: &View<'_>,
+    asked: Result<Delta, Refusal>,
+    looked: &mut Steps<M>,
 ) -> Result<Answer, NoMemory>
-    requires { IsHere (state_of store.now) lens.now }
-    ensures { IfOk result (λ answer. answer_view answer
-        ≡ foretold (asked_view (state_of store.now) lens.now (sent_of sent.now) on) lens.now
-        (state_of store.now)) }
+    requires open { IsOpen store.now view.now.lens }
+    requires tables { view.now.tables ≡ store.now.tables }
+    requires asked { (expected : Result Rows answers.Answer)
+        × AsksBy view.now.lens (over view.now) asked expected }
+    ensures { (expected : Result Rows answers.Answer)
+        → AsksBy view.now.lens (over view.now) asked expected
+        → IfOk result (λ answer.
+        answer_view answer ≡ foretold expected view.now.lens (state_of store.now)) }
 {
-    match asked_view(alloc, store, lens, sent, on) {
-        Ok(rows) => changes_told(alloc, store, lens, rows),
+    match asked {
+        Ok(delta) => changes_told(alloc, store, view, &delta, looked),
         Err(Refusal::Told { answer }) => Ok(answer),
         Err(Refusal::NoMemory) => Err(NoMemory),
     }
 }
 
-/// What would change were the rows the view, at the present version.
-fn changes_told(
+/// What would change by an edit of the view that is accepted, at the present version.
+fn changes_told<M: Ledger>(
     alloc: Global,
     store: &Store,
-    lens: &TypedLens,
-    rows: RowSet,
+    view: &View<'_>,
+    delta: &Delta,
+    looked: &mut Steps<M>,
 ) -> Result<Answer, NoMemory>
-    requires here { IsHere (state_of store.now) lens.now }
-    requires typed { IsOf rows (sort_of lens.now) }
-    ensures { IfOk result (λ answer. answer_view answer
-        ≡ foretold (Ok rows) lens.now (state_of store.now)) }
+    requires open { IsOpen store.now view.now.lens }
+    requires tables { view.now.tables ≡ store.now.tables }
+    requires edit { IsEdit view.now.lens (over view.now) delta.now }
+    ensures { let L = view.now.lens in let db = over view.now in IfOk result (λ answer.
+        answer_view answer
+        ≡ answers.changed (changes L (edited L db delta.now) db) store.now.version) }
 {
-    let Effect { deltas, .. } = effect_of(alloc, store, lens, rows)?;
+    let deltas = put_delta(alloc, view, delta, looked)?;
     Ok(Answer::Changed {
         changed: Changes::new(deltas),
         version: store.version,

@@ -1,10 +1,11 @@
 //! Definitions of tables and views.
-ghost use Rattle.std.specs.Prelude.{◌≡◌, ◌<◌, ◌-◌, ◌^◌, IfOk};
+ghost use Rattle.std.specs.Prelude.{◌≡◌, ◌<◌, ◌-◌, ◌^◌, IfOk, length};
 ghost use Rattle.catalog_specs.specs.Catalogue.{is_table_of};
 ghost use Rattle.server_specs.specs.Defining.{define_answer};
 ghost use Rattle.server_specs.specs.Validity.{Valid};
 ghost use Rattle.view_catalog.specs.Admissions.{IsAdmissible};
-ghost use Rattle.lens_server.specs.Defining.{last_with, tables_with};
+ghost use Rattle.lens_server.specs.Defining.{last_with};
+ghost use Rattle.lens_server.specs.Keyed.{IsSame};
 ghost use Rattle.lens_server.specs.Plans.{IsPlan};
 ghost use Rattle.lens_server.specs.States.{state_of};
 
@@ -14,17 +15,15 @@ use crate::refusals::refusal;
 use crate::store::Store;
 use lens_values::{Name, NoMemory, Text};
 use request_text::Answer;
-use row_sets::Relation;
 use std::alloc::Global;
 use table_keeper::Change;
 use view_catalog::Prepared;
-use whole_put::Db;
 
 /// Plans what `define` is answered. The catalogue reserves the memory for the definition.
 pub fn plan_definition(alloc: Global, store: &mut Store, text: Text) -> Result<Plan, NoMemory>
     requires valid { Valid (state_of store.old) }
     requires room { store.old.version < 2 ^ 64 - 1 }
-    ensures same { state_of store.new ≡ state_of store.old }
+    ensures same { IsSame store.old store.new }
     ensures plan { IfOk result (λ plan.
         IsPlan plan (define_answer text (state_of store.old)) store.new) }
 {
@@ -34,7 +33,7 @@ pub fn plan_definition(alloc: Global, store: &mut Store, text: Text) -> Result<P
     }
 }
 
-/// Plans that the catalogue takes the definition. A table is empty at first.
+/// Plans that the catalogue takes the definition.
 fn plan_prepared(alloc: Global, store: &Store, prepared: Prepared) -> Result<Plan, NoMemory>
     requires valid { Valid (state_of store.now) }
     requires room { 0 < store.now.catalog.room }
@@ -45,37 +44,24 @@ fn plan_prepared(alloc: Global, store: &Store, prepared: Prepared) -> Result<Pla
 {
     let version = store.version + 1;
     let table = prepared.table();
-    let tables = tables_with(alloc, &store.tables, &prepared, &table)?;
     let last = last_with(alloc, &store.last, &table, version)?;
     let text = prepared.text().copy(alloc)?;
+    is_short(prepared.text());
     Ok(Plan {
         answer: Answer::Defined { version },
         staged: Some(Staged {
             change: Change::Define { text, table },
             definition: Some(prepared),
-            tables,
             last,
         }),
     })
 }
 
-/// The tables with the one that is defined, if it is one.
-fn tables_with(
-    alloc: Global,
-    tables: &Db,
-    prepared: &Prepared,
-    table: &Option<Name>,
-) -> Result<Db, NoMemory>
-    ensures { IfOk result (λ after.
-        after ≡ tables_with table.now prepared.now.lens tables.now) }
+/// Does nothing, and tells a proof that the text is short.
+pub fn is_short(text: &Text)
+    ensures { length text.now < 2 ^ 64 }
 {
-    match table {
-        Some(name) => {
-            let columns = prepared.lens().sort().cols().copy(alloc)?;
-            tables.with(alloc, name, Relation::empty(alloc, columns))
-        }
-        None => tables.copy(alloc),
-    }
+    let _length = text.as_str().len();
 }
 
 /// The last changes once the version made the table, if there is one.

@@ -24,10 +24,10 @@ use view_catalog::Catalog;
 pub fn damage_of_tables(
     alloc: Global,
     catalog: &Catalog,
-    defined: Vec<Name>,
+    defined: &[Name],
     tables: &[KeptTable],
 ) -> Result<Option<Damage>, NoMemory>
-    requires defined { HasTables (catalogue catalog.now.texts) defined.items }
+    requires defined { HasTables (catalogue catalog.now.texts) defined.now }
     requires rising { Rise tables.now }
     ensures { IfOk result (λ damage. option_map damage_view damage
         ≡ damage_of_tables (catalogue catalog.now.texts) (rows_in tables.now)) }
@@ -37,11 +37,11 @@ pub fn damage_of_tables(
 }
 
 /// These names, and those of the tables that are kept.
-fn with_kept(alloc: Global, defined: Vec<Name>, tables: &[KeptTable]) -> Result<Names, NoMemory>
+fn with_kept(alloc: Global, defined: &[Name], tables: &[KeptTable]) -> Result<Names, NoMemory>
     ensures { IfOk result (λ names.
-        names ≡ set.from_list (defined.items ++ names_of tables.now)) }
+        names ≡ set.from_list (defined.now ++ names_of tables.now)) }
 {
-    let mut names = defined;
+    let mut names = Vec::from_slice(alloc, defined)?;
     for kept in tables {
         names.push(kept.table)?;
     }
@@ -90,7 +90,7 @@ fn damage_at(
 }
 
 /// The sort of the table of the name.
-pub fn table_sort<'a>(catalog: &'a Catalog, name: &Name) -> Option<&'a Sort>
+fn table_sort<'a>(catalog: &'a Catalog, name: &Name) -> Option<&'a Sort>
     ensures { option_copied result
         ≡ table_sort_of name.now (finmap.get (catalogue catalog.now.texts) name.now) }
 {

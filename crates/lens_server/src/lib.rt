@@ -3,18 +3,16 @@
 
 mod admitting;
 mod answering;
+mod asking;
 mod changing;
 pub mod damage;
 mod defining;
-mod differing;
 mod inspecting;
 mod last_changes;
-mod new_view;
 mod opening;
 mod plan;
 mod questions;
 mod refusals;
-mod sent;
 pub mod server;
 mod settling;
 pub mod starting;

@@ -1,84 +1,82 @@
 //! The store that is kept.
-ghost use Rattle.std.specs.Prelude.{◌≡◌, IfOk, None};
-ghost use Rattle.std.specs.List.{AllByRecursion};
+ghost use Rattle.std.specs.Prelude.{◌≡◌, IfOk, None, map};
 ghost use Rattle.catalog_specs.specs.Catalogue.{catalogue};
 ghost use Rattle.opening_specs.specs.Opening as opening;
-ghost use Rattle.opening_specs.specs.Opening.{as_table, mapped};
-ghost use Rattle.table_keeper.specs.Changes.{kept_view, rows_of};
+ghost use Rattle.signed_delta.specs.Tables.{table_delta};
+ghost use Rattle.table_keeper.specs.Changes.{kept_view};
 ghost use Rattle.table_keeper.specs.Places.{Rise, rows_in};
-ghost use Rattle.lens_server.specs.Starting.{IsSound, IsStoreOf, damage_of_tables};
+ghost use Rattle.lens_server.specs.Keyed.{IsKeyed};
+ghost use Rattle.lens_server.specs.Starting.{HasEmptyTables, IsStoreOf, damage_of_tables, filling};
 ghost use Rattle.lens_server.specs.States.{state_of};
 
 use crate::admitting::{Admitted, admit_all};
-use crate::inspecting::{damage_of_tables, table_sort};
+use crate::inspecting::damage_of_tables;
 use crate::last_changes::LastChanges;
 use crate::starting::StartFault;
 use crate::store::Store;
 use lens_values::NoMemory;
-use row_sets::Relation;
+use row_sets::RowSet;
+use signed_delta::{Delta, TableDelta};
 use std::alloc::Global;
+use std::sync::ledger::Ledger;
+use step_counter::Steps;
 use table_keeper::{Kept, KeptTable};
-use view_catalog::Catalog;
-use whole_put::Db;
 
 /// The store of what is kept, at version 0; or its first damage, or `NoMemory`.
-pub fn store_of(alloc: Global, kept: Kept) -> Result<Store, StartFault>
+pub fn store_of<L: Ledger>(
+    alloc: Global,
+    kept: Kept,
+    walked: &mut Steps<L>,
+) -> Result<Store, StartFault>
     requires { Rise kept.tables.items }
-    ensures { IsStoreOf result (kept_view kept) }
+    ensures store { IsStoreOf result (kept_view kept) }
+    ensures keyed { IfOk result IsKeyed }
 {
     let Kept {
         definitions,
         tables,
     } = kept;
-    let Admitted {
-        catalog,
-        tables: defined,
-    } = admit_all(alloc, definitions)?;
-    match damage_of_tables(alloc, &catalog, defined, tables.as_slice())? {
+    let admitted = admit_all(alloc, definitions, walked)?;
+    match damage_of_tables(alloc, &admitted.catalog, &admitted.names, tables.as_slice())? {
         Some(damage) => Err(StartFault::Damaged { damage }),
-        None => Ok(undamaged(alloc, catalog, tables)?),
+        None => Ok(undamaged(alloc, admitted, tables)?),
     }
 }
 
 /// The store of these definitions and tables, which have no damage.
-fn undamaged(alloc: Global, catalog: Catalog, tables: Vec<KeptTable>) -> Result<Store, NoMemory>
+fn undamaged(alloc: Global, admitted: Admitted, tables: Vec<KeptTable>) -> Result<Store, NoMemory>
     requires rising { Rise tables.items }
-    requires undamaged { damage_of_tables (catalogue catalog.texts) (rows_in tables.items) ≡ None }
-    ensures { IfOk result (λ store. state_of store
-        ≡ opening.state_of (record { texts = catalog.texts; rows = rows_in tables.items })) }
+    requires empty { HasEmptyTables admitted }
+    requires undamaged { damage_of_tables (catalogue admitted.catalog.texts)
+        (rows_in tables.items) ≡ None }
+    ensures state { IfOk result (λ store. state_of store ≡ opening.state_of
+        (record { texts = admitted.catalog.texts; rows = rows_in tables.items })) }
+    ensures keyed { IfOk result IsKeyed }
 {
     let last = LastChanges::at_start(alloc, tables.as_slice())?;
-    let tables = relations(alloc, &catalog, tables)?;
+    let deltas = fillings(alloc, tables)?;
+    let mut filled = admitted.tables;
+    filled.stage(&deltas)?;
+    filled.settle();
     Ok(Store {
-        catalog,
-        tables,
+        catalog: admitted.catalog,
+        tables: filled,
         last,
         version: 0,
     })
 }
 
-/// The tables, each with the columns that its definition gives it.
-fn relations(alloc: Global, catalog: &Catalog, tables: Vec<KeptTable>) -> Result<Db, NoMemory>
-    requires { AllByRecursion (IsSound (catalogue catalog.now.texts)) tables.items }
-    ensures { IfOk result (λ relations.
-        relations ≡ mapped (as_table (catalogue catalog.now.texts)) (rows_in tables.items)) }
+/// The differences that fill empty tables with the kept rows.
+fn fillings(alloc: Global, tables: Vec<KeptTable>) -> Result<Vec<TableDelta>, NoMemory>
+    ensures { IfOk result (λ deltas. map table_delta deltas.items ≡ map filling tables.items) }
 {
-    let mut relations = Db::new(alloc);
-    for kept in tables.into_iter().rev() {
-        let table = kept.table;
-        relations.set(alloc, table, relation_of(alloc, catalog, kept)?)?;
+    let mut deltas = Vec::with_capacity(alloc, tables.len())?;
+    for kept in tables {
+        let delta = Delta::new(RowSet::empty(alloc), kept.rows);
+        deltas.push(TableDelta {
+            table: kept.table,
+            delta,
+        })?;
     }
-    Ok(relations)
-}
-
-/// The rows of a table, with the columns that its definition gives it.
-fn relation_of(alloc: Global, catalog: &Catalog, kept: KeptTable) -> Result<Relation, NoMemory>
-    requires { IsSound (catalogue catalog.now.texts) kept }
-    ensures { IfOk result (λ relation.
-        relation ≡ as_table (catalogue catalog.now.texts) (rows_of kept)) }
-{
-    match table_sort(catalog, &kept.table) {
-        Some(sort) => Ok(Relation::with_rows(sort.cols().copy(alloc)?, kept.rows)),
-        None => unreachable!(),
-    }
+    Ok(deltas)
 }

@@ -5,17 +5,14 @@ use crate::last_changes::LastChanges;
 use request_text::Answer;
 use table_keeper::Change;
 use view_catalog::Prepared;
-use whole_put::Db;
 
-/// A change that is prepared whole. To make it takes no memory.
+/// A change that is prepared. Once the tables have staged it, to make it takes no memory.
 #[derive(Drop)]
 pub struct Staged {
-    /// What the keeper makes of its contents.
+    /// What the keeper makes of its contents, and the tables of theirs.
     pub change: Change,
     /// The definition that the catalogue takes, if any.
     pub definition: Option<Prepared>,
-    /// The tables after it.
-    pub tables: Db,
     /// The last change of each table after it.
     pub last: LastChanges,
 }

@@ -1,40 +1,56 @@
 //! Questions: requests that only look.
-ghost use Rattle.std.specs.Prelude.{◌≡◌, IfOk};
-ghost use Rattle.lens_laws.specs.Lenses.{AreOf};
+ghost use Rattle.std.specs.Prelude.{◌≡◌, ◌+◌, ◌≤◌, IfOk};
 ghost use Rattle.lens_pred.specs.View.{predicate_view};
 ghost use Rattle.request_text.specs.Answers.{answer_view, conjuncts_view};
 ghost use Rattle.server_specs.specs.Questions as spec;
 ghost use Rattle.server_specs.specs.Questions.{rows_told, sort_told};
 ghost use Rattle.server_specs.specs.Validity.{Valid};
+ghost use Rattle.lens_server.specs.Counting.{row_count};
+ghost use Rattle.lens_server.specs.Keyed.{IsKeyed, IsOpen};
 ghost use Rattle.lens_server.specs.States.{state_of};
 
+use crate::changing::view_of;
 use crate::store::Store;
 use lens_pred::{Formula, Formulas};
 use lens_types::TypedLens;
 use lens_values::{Name, NoMemory, Text, copied};
 use request_text::{Answer, Edges, Texts};
 use std::alloc::Global;
-use whole_put::get;
+use std::sync::ledger::Ledger;
+use step_counter::Steps;
 
 /// What `read` is answered.
-pub fn read_answer(alloc: Global, store: &Store, view: &Name) -> Result<Answer, NoMemory>
-    requires { Valid (state_of store.now) }
-    ensures { IfOk result (λ answer.
+pub fn read_answer<L: Ledger>(
+    alloc: Global,
+    store: &Store,
+    view: &Name,
+    walked: &mut Steps<L>,
+) -> Result<Answer, NoMemory>
+    requires valid { Valid (state_of store.now) }
+    requires keyed { IsKeyed store.now }
+    ensures answer { IfOk result (λ answer.
         answer_view answer ≡ spec.read_answer view.now (state_of store.now)) }
+    ensures walked { walked.new ≤ walked.old + row_count store.now.tables.present.relations }
 {
     match store.catalog.lens(view) {
-        Some(lens) => rows_told(alloc, store, lens),
+        Some(lens) => rows_told(alloc, store, lens, walked),
         None => Ok(Answer::UnknownName { name: *view }),
     }
 }
 
 /// The rows of the view of a lens.
-fn rows_told(alloc: Global, store: &Store, lens: &TypedLens) -> Result<Answer, NoMemory>
-    requires { AreOf lens.now store.now.tables }
-    ensures { IfOk result (λ answer.
+fn rows_told<L: Ledger>(
+    alloc: Global,
+    store: &Store,
+    lens: &TypedLens,
+    walked: &mut Steps<L>,
+) -> Result<Answer, NoMemory>
+    requires { IsOpen store.now lens.now }
+    ensures answer { IfOk result (λ answer.
         answer_view answer ≡ rows_told (state_of store.now) lens.now) }
+    ensures walked { walked.new ≤ walked.old + row_count store.now.tables.present.relations }
 {
-    let view = get(alloc, lens, &store.tables)?;
+    let view = view_of(store, lens).read(alloc, walked)?;
     Ok(Answer::Shown {
         rows: view.rows().copy(alloc)?,
         version: store.version,

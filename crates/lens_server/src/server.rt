@@ -1,12 +1,20 @@
 //! The state, and what it answers.
-ghost use Rattle.std.specs.Prelude.{◌≡◌, ◌≤◌, ◌<◌, ◌-◌, ◌^◌, Err, MatchResult};
+ghost use Rattle.std.specs.Prelude.{◌≡◌, ◌≤◌, ◌<◌, ◌+◌, ◌-◌, ◌^◌, Err, IfOk, MatchResult};
 ghost use Rattle.lens_specs.specs.Keeping.{Follows, Stays, Tells};
 ghost use Rattle.io_specs.specs.Faults.{Rose};
-ghost use Rattle.io_specs.specs.Lines.{marked};
+ghost use Rattle.io_specs.specs.Lines.{line as short, marked};
 ghost use Rattle.server_specs.specs.Answer.{memory, text};
+ghost use Rattle.server_specs.specs.Answering.{answer_request};
+ghost use Rattle.server_specs.specs.Request.{request};
 ghost use Rattle.server_specs.specs.Session.{Step};
 ghost use Rattle.server_specs.specs.State as state;
-ghost use Rattle.lens_server.specs.Starting.{Opens};
+ghost use Rattle.lens_server.specs.Counting.{most_walked};
+ghost use Rattle.lens_server.specs.Keyed.{IsKeyed};
+ghost use Rattle.lens_server.specs.Outcomes.{IsReady, Outcome};
+ghost use Rattle.lens_server.specs.Starting.{IsStoreOf, Opens};
+ghost use Rattle.table_keeper.specs.Changes.{kept_view};
+ghost use Rattle.table_keeper.specs.Places.{Rise};
+ghost use Rattle.lens_server.specs.States.{state_of};
 
 use crate::answering::answer_line;
 use crate::opening::store_of;
@@ -16,13 +24,13 @@ use io_specs::LONGEST_LINE;
 use lens_values::{NoMemory, Text};
 use request_text::{Reply, long_reply, memory_reply};
 use std::alloc::Global;
-use std::marker::Model;
-use std::sync::ledger::Ledger;
+use std::marker::{Brand, Model};
+use std::sync::ledger::{Blank, Ledger};
 use step_counter::Steps;
-use table_keeper::Keeper;
+use table_keeper::{Keeper, Kept};
 
 /// The definitions, the tables and the version. A contract sees the state.
-#[derive(Debug, Drop)]
+#[derive(Drop)]
 pub struct Server {
     store: Store,
 }
@@ -31,6 +39,7 @@ impl Model for Server {
     ghost use Rattle.server_specs.specs.State as state;
     ghost use Rattle.lens_server.specs.StateCode.{coded_state};
     ghost use Rattle.server_specs.specs.Validity.{Valid};
+    ghost use Rattle.lens_server.specs.Keyed.{IsKeyed};
     ghost use Rattle.lens_server.specs.States.{state_of};
 
     ghost Value = { state.State };
@@ -39,7 +48,7 @@ impl Model for Server {
 
     ghost view = { λ s. state_of s.store };
 
-    ghost invariant = { λ s. Valid (state_of s.store) };
+    ghost invariant = { λ s. Valid (state_of s.store) × IsKeyed s.store };
 }
 
 impl Server {
@@ -55,13 +64,14 @@ impl Server {
             → Rose (K.faults keeper.old) (K.faults keeper.new) }
     {
         let kept = keeper.load(alloc)?;
-        let store = store_of(alloc, kept)?;
+        let store = store_counted::<Brand>(alloc, kept, Blank::new(1))?;
         Ok(Server { store })
     }
 
     /// Answers one line. The reply and the state after it are those of the definition; or memory
     /// ran out, or the keeper failed at a change, and nothing changed. A keeper that tells its
-    /// contents goes on to tell them, and has what the state has.
+    /// contents goes on to tell them, and has what the state has. `walked` counts the rows of the
+    /// tables that are gone over.
     pub fn answer<K: Keeper, L: Ledger>(
         &mut self,
         alloc: Global,
@@ -77,14 +87,22 @@ impl Server {
             (K.contents keeper.new) }
         ensures place { K.place keeper.new ≡ K.place keeper.old }
 
-        // Nothing is walked.
-        ensures walked { walked.new ≡ walked.old }
+        // An edit and a preview find their rows by key, and walk none.
+        ensures walked { walked.new ≤ walked.old + most_walked (request (marked line.now)) self.old }
     {
-        let _ = walked;
         if line.len() > LONGEST_LINE {
             return long_reply();
         }
-        reply_or_memory(answer_line(alloc, &mut self.store, keeper, line))
+        let blank = Blank::new(1);
+        let outcome = answer_counted::<K, L, Brand>(
+            alloc,
+            &mut self.store,
+            keeper,
+            line,
+            walked,
+            blank,
+        );
+        reply_or_memory(outcome)
     }
 
     /// The texts of the definitions, in order.
@@ -100,6 +118,45 @@ impl Server {
     {
         self.store.version
     }
+}
+
+/// The store of what is kept, or its first damage, with a counter of its own: the tables have no
+/// rows while the definitions are taken.
+fn store_counted<L: Ledger>(alloc: Global, kept: Kept, blank: Blank) -> Result<Store, StartFault>
+    requires name { blank.name ≡ L.name }
+    requires parts { blank.parts ≡ L.parts }
+    requires one { blank.parts ≡ 1 }
+    requires rising { Rise kept.tables.items }
+    ensures store { IsStoreOf result (kept_view kept) }
+    ensures keyed { IfOk result IsKeyed }
+{
+    let mut walked = Steps::<L>::new(blank);
+    store_of(alloc, kept, &mut walked)
+}
+
+/// Answers a line that is not too long, with a counter of look-ups of its own.
+fn answer_counted<K: Keeper, L: Ledger, M: Ledger>(
+    alloc: Global,
+    store: &mut Store,
+    keeper: &mut K,
+    line: &[u8],
+    walked: &mut Steps<L>,
+    blank: Blank,
+) -> Result<Reply, NoMemory>
+    requires name { blank.name ≡ M.name }
+    requires parts { blank.parts ≡ M.parts }
+    requires one { blank.parts ≡ 1 }
+    requires ready { IsReady store.old (K.contents keeper.old) }
+    ensures outcome { Outcome (answer_request (request (short line.now)) (state_of store.old))
+        (state_of store.old) (state_of store.new) (K.faults keeper.old) (K.faults keeper.new)
+        (K.contents keeper.old) (K.contents keeper.new) result }
+    ensures keyed { IsKeyed store.new }
+    ensures place { K.place keeper.new ≡ K.place keeper.old }
+    ensures walked { walked.new
+        ≤ walked.old + most_walked (request (short line.now)) (state_of store.old) }
+{
+    let mut looked = Steps::<M>::new(blank);
+    answer_line(alloc, store, keeper, line, walked, &mut looked)
 }
 
 /// The reply, or that of memory where it ran out.

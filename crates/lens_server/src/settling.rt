@@ -1,26 +1,36 @@
-//! A plan is settled: the answer is printed, the change is committed, and then it is made.
-ghost use Rattle.std.specs.Prelude.{◌≡◌, ◌<◌, ◌-◌, ◌^◌, Some};
+//! A plan is settled: the answer is printed, the change is staged and committed, and then it is
+//! made.
+ghost use Rattle.std.specs.Prelude.{◌≡◌, ◌<◌, ◌+◌, ◌-◌, ◌^◌, ◌≤◌, IfOk, OnErr, OnOk, Some};
+ghost use Rattle.base_index.specs.Held.{IsQuiet};
 ghost use Rattle.server_specs.specs.Answer as spec;
-ghost use Rattle.server_specs.specs.State.{State};
-ghost use Rattle.lens_server.specs.Outcomes.{IsReady, Outcome};
-ghost use Rattle.lens_server.specs.Plans.{CanTake, IsPlan, IsPlanned, IsStaged, Leads, after, texts_with};
-ghost use Rattle.lens_server.specs.States.{state_of};
 ghost use Rattle.server_specs.specs.Answer.{text};
+ghost use Rattle.server_specs.specs.State.{State};
+ghost use Rattle.lens_server.specs.Keyed.{IsKeyed};
+ghost use Rattle.lens_server.specs.Outcomes.{IsReady, NotKept, Outcome};
+ghost use Rattle.lens_server.specs.Plans.{CanStage, CanTake, IsFree, IsPlan, IsPlanned, IsStaged, Leads, texts_with};
+ghost use Rattle.lens_server.specs.Staging.{defined_by, next_state, steps_in, steps_of, table_of, walked_by};
+ghost use Rattle.lens_server.specs.States.{state_of};
 
 use crate::plan::{Plan, Staged};
 use crate::store::Store;
-use lens_values::NoMemory;
+use base_index::Tables;
+use lens_probe::needs;
+use lens_types::TypedLens;
+use lens_values::{Columns, Name, NoMemory};
 use request_text::{Reply, reply_text, store_fault_reply};
 use std::alloc::Global;
-use table_keeper::{KeepFault, Keeper};
+use std::sync::ledger::Ledger;
+use step_counter::Steps;
+use table_keeper::{Change, KeepFault, Keeper};
 use view_catalog::{Catalog, Prepared};
 
 /// Prints the answer of the plan, and then makes its change.
-pub fn settle<K: Keeper>(
+pub fn settle<K: Keeper, L: Ledger>(
     alloc: Global,
     store: &mut Store,
     keeper: &mut K,
     plan: Plan,
+    walked: &mut Steps<L>,
 ) -> Result<Reply, NoMemory>
     requires ready { IsReady store.old (K.contents keeper.old) }
     requires planned { IsPlanned plan store.old }
@@ -28,23 +38,26 @@ pub fn settle<K: Keeper>(
         → Outcome answer (state_of store.old) (state_of store.new)
         (K.faults keeper.old) (K.faults keeper.new)
         (K.contents keeper.old) (K.contents keeper.new) result }
+    ensures keyed { IsKeyed store.new }
     ensures place { K.place keeper.new ≡ K.place keeper.old }
+    ensures walked { walked.new ≤ walked.old + steps_of plan.staged store.old }
 {
     let Plan { answer, staged } = plan;
     let reply = reply_text(alloc, &answer)?;
     match staged {
-        Some(staged) => commit(alloc, store, keeper, staged, reply),
+        Some(staged) => commit(alloc, store, keeper, staged, reply, walked),
         None => Ok(reply),
     }
 }
 
-/// Commits the change and makes it, and gives the reply.
-fn commit<K: Keeper>(
+/// Stages the change, commits it and makes it, and gives the reply.
+fn commit<K: Keeper, L: Ledger>(
     alloc: Global,
     store: &mut Store,
     keeper: &mut K,
     staged: Staged,
     reply: Reply,
+    walked: &mut Steps<L>,
 ) -> Result<Reply, NoMemory>
     requires ready { IsReady store.old (K.contents keeper.old) }
     requires staged { IsStaged staged store.old }
@@ -53,15 +66,92 @@ fn commit<K: Keeper>(
         → Outcome answer (state_of store.old) (state_of store.new)
         (K.faults keeper.old) (K.faults keeper.new)
         (K.contents keeper.old) (K.contents keeper.new) result }
+    ensures keyed { IsKeyed store.new }
     ensures place { K.place keeper.new ≡ K.place keeper.old }
+    ensures walked { walked.new ≤ walked.old + steps_of (Some staged) store.old }
 {
+    stage(alloc, &mut store.tables, &staged, walked)?;
     match keeper.commit(alloc, &staged.change) {
         Ok(()) => {
             make(store, staged);
             Ok(reply)
         }
-        Err(KeepFault::Failed) => Ok(store_fault_reply()),
-        Err(KeepFault::NoMemory) => Err(NoMemory),
+        Err(fault) => {
+            store.tables.unstage();
+            not_kept(fault)
+        }
+    }
+}
+
+/// The reply where the keeper failed, unless it only lacked memory.
+fn not_kept(fault: KeepFault) -> Result<Reply, NoMemory>
+    ensures { NotKept fault result }
+{
+    match fault {
+        KeepFault::Failed => Ok(store_fault_reply()),
+        KeepFault::NoMemory => Err(NoMemory),
+    }
+}
+
+/// Stages what the change makes of the tables. After `NoMemory` nothing is staged.
+fn stage<L: Ledger>(
+    alloc: Global,
+    tables: &mut Tables,
+    staged: &Staged,
+    walked: &mut Steps<L>,
+) -> Result<(), NoMemory>
+    requires quiet { IsQuiet tables.old }
+    requires can { CanStage staged.now.change staged.now.definition tables.old.present.relations }
+    ensures ok { OnOk result (tables.new ≡ record tables.old {
+      next = next_state staged.now.change staged.now.definition tables.old.present;
+    }) }
+    ensures err { OnErr result (tables.new ≡ tables.old) }
+    ensures walked { walked.new
+        ≤ walked.old + steps_in staged.now.change staged.now.definition tables.old.present }
+{
+    match (&staged.change, &staged.definition) {
+        (Change::Rows { deltas }, _) => tables.stage(deltas.as_slice()),
+        (Change::Define { table, .. }, Some(prepared)) => {
+            stage_definition(alloc, tables, table, prepared.lens(), walked)
+        }
+        (Change::Define { .. }, None) => unreachable!(),
+    }
+}
+
+/// Stages the table of a definition, if it is one, and the indexes that its lens needs.
+pub fn stage_definition<L: Ledger>(
+    alloc: Global,
+    tables: &mut Tables,
+    table: &Option<Name>,
+    lens: &TypedLens,
+    walked: &mut Steps<L>,
+) -> Result<(), NoMemory>
+    requires quiet { IsQuiet tables.old }
+    requires new { IsFree table.now tables.old.present.relations }
+    ensures ok { OnOk result (tables.new
+        ≡ record tables.old { next = defined_by table.now lens.now tables.old.present }) }
+    ensures err { OnErr result (tables.new ≡ tables.old) }
+    ensures walked { walked.new ≤ walked.old + walked_by lens.now tables.old.present }
+{
+    let needs = needs(alloc, lens)?;
+    let new = new_table(alloc, table, lens)?;
+    tables.stage_definition(new, &needs, walked)
+}
+
+/// The table that a definition makes, with the columns of its lens.
+fn new_table(
+    alloc: Global,
+    table: &Option<Name>,
+    lens: &TypedLens,
+) -> Result<Option<(Name, Columns)>, NoMemory>
+    ensures { IfOk result (λ new. new ≡ table_of table.now lens.now) }
+{
+    match table {
+        Some(name) => {
+            let columns = lens.sort().cols().copy(alloc)?;
+            Ok(Some((*name, columns)))
+        }
+        None => Ok(None),
     }
 }
 
@@ -69,16 +159,20 @@ fn commit<K: Keeper>(
 fn make(store: &mut Store, staged: Staged)
     requires definition { CanTake staged.definition store.old.catalog }
     requires room { store.old.version < 2 ^ 64 - 1 }
-    ensures { state_of store.new ≡ after staged (state_of store.old) }
+    ensures catalog { store.new.catalog.texts
+        ≡ texts_with staged.definition store.old.catalog.texts }
+    ensures tables { store.new.tables
+        ≡ record store.old.tables { present = store.old.tables.next } }
+    ensures version { store.new.version ≡ store.old.version + 1 }
+    ensures last { store.new.last ≡ staged.last }
 {
     let Staged {
         change: _change,
         definition,
-        tables,
         last,
     } = staged;
     admit(&mut store.catalog, definition);
-    store.tables = tables;
+    store.tables.settle();
     store.last = last;
     store.version += 1;
 }

@@ -3,8 +3,11 @@ use Rattle.std.proofs.Common.{◌≡◌, ◌≤◌, ◌+◌, ℕ, List, [], ◌�
 use Rattle.std.proofs.lemmas.List.{map-append, length-map}
 use Rattle.io_specs.specs.Lines.{Line}
 use Rattle.server_specs.specs.State.{State}
-use Rattle.server_specs.specs.Session.{Exchange, Chain, last_state, last_count, Session}
+use Rattle.server_specs.specs.Request.{request}
+use Rattle.server_specs.specs.Session.{Exchange, Chain, Step, last_state, last_count, Session}
 use Rattle.server_specs.proofs.Versions.{version-step}
+use Rattle.lens_server.specs.Counting.{most_walked}
+use Rattle.rehearsal.specs.Walking.{most_walked_in}
 
 Chain-append : (s : State) (count : ℕ) (es fs : List Exchange) → Chain s count es → Chain (last_state s es) (last_count count es) fs → Chain s count (es ++ fs)
 Chain-append s count [] fs p q = q
@@ -32,6 +35,40 @@ Session-append s count lines replies mid between lines' replies' last after p q 
       last_is = last_state-append s p.exchanges q.exchanges ∙ ap (λ t. last_state t q.exchanges) p.last_is ∙ q.last_is;
       count_is = last_count-append count p.exchanges q.exchanges ∙ ap (λ c. last_count c q.exchanges) p.count_is ∙ q.count_is;
     }
+
+-- one line makes a session
+pub Session-one : (s : State) (count : ℕ) (l : Line) (reply : List ℕ) (last : State) (after : ℕ) → Step s count l reply last after → Session s count (l ∷ []) (reply ∷ []) last after
+Session-one s count l reply last after step = record {
+  exchanges = record { line = l; reply = reply; state = last; count = after } ∷ [];
+  chain = (step, tt);
+  lines_are = refl;
+  replies_are = refl;
+  last_is = refl;
+  count_is = refl;
+}
+
+-- ---- rows that are walked
+
+-- exchanges after others walk what both may
+most_walked_in-append : (s : State) (es fs : List Exchange) → most_walked_in s (es ++ fs) ≡ most_walked_in s es + most_walked_in (last_state s es) fs
+most_walked_in-append s [] fs = omega arith
+most_walked_in-append s (e ∷ es) fs = omega (arith, most_walked_in-append e.state es fs)
+
+-- a session after another walks no more than both may
+pub few-append : (s : State) (count : ℕ) (lines : List Line) (replies : List (List ℕ)) (mid : State) (between : ℕ) (lines' : List Line) (replies' : List (List ℕ)) (last : State) (after : ℕ)
+    → (p : Session s count lines replies mid between) (q : Session mid between lines' replies' last after) (walked amid walked' : ℕ) → amid ≤ walked + most_walked_in s p.exchanges
+    → walked' ≤ amid + most_walked_in mid q.exchanges → walked' ≤ walked + most_walked_in s (Session-append s count lines replies mid between lines' replies' last after p q).exchanges
+unfolding Session-append
+few-append s count lines replies mid between lines' replies' last after p q walked amid walked' few few' =
+    omega (arith, few, few', most_walked_in-append s p.exchanges q.exchanges, ap (λ t. most_walked_in t q.exchanges) p.last_is)
+
+-- a line walks no more than it may
+pub few-one : (s : State) (count : ℕ) (l : Line) (reply : List ℕ) (last : State) (after : ℕ) (step : Step s count l reply last after) (walked walked' : ℕ) → walked' ≤ walked + most_walked (request l) s
+    → walked' ≤ walked + most_walked_in s (Session-one s count l reply last after step).exchanges
+unfolding Session-one
+few-one s count l reply last after step walked walked' few = omega (arith, few)
+
+-- ---- counts
 
 version-chain : (s : State) (count : ℕ) (es : List Exchange) → Chain s count es → (last_state s es).version ≤ s.version + length es
 version-chain s count [] h = omega arith

@@ -8,12 +8,14 @@ use Rattle.io_specs.specs.Lines.{Line}
 use Rattle.server_specs.specs.State.{State, kept}
 use Rattle.server_specs.specs.Answer.{memory, text}
 use Rattle.server_specs.specs.Session.{Step}
-use Rattle.server_specs.proofs.Sessions.{Session-nil, Session-push}
+use Rattle.server_specs.specs.Request.{request}
+use Rattle.server_specs.proofs.Sessions.{Session-nil}
+use Rattle.lens_server.specs.Counting.{most_walked}
 use Rattle.rehearsal.specs.Summary.{is_ok, is_refusal}
 use Rattle.rehearsal.specs.Rehearsed.{Stopped}
 use Rattle.rehearsal.specs.Stages.{Point, Passed, Halted, HasRoom, counted}
 use Rattle.rehearsal.specs.declared.tally.Tally.{Tally}
-use Rattle.rehearsal.proofs.Joined.{Session-append, version-session, later-session, length-replies}
+use Rattle.rehearsal.proofs.Joined.{Session-append, Session-one, few-append, few-one, version-session, later-session, length-replies}
 
 -- ---- what is kept
 
@@ -69,7 +71,7 @@ counted-one t t' accepts reply is same =
 
 -- nothing was answered yet
 pub Passed-nil : (p : Point) → Tells p.contents (kept p.state) → Passed p [] [] p
-Passed-nil p told = record { session = Session-nil p.state p.faults; found_memory = tt; counted_are = counted-nil p.tally; stored = stored_same p.state p.contents told }
+Passed-nil p told = record { session = Session-nil p.state p.faults; found_memory = tt; counted_are = counted-nil p.tally; stored = stored_same p.state p.contents told; few = omega arith }
 
 -- a stage after another
 pub Passed-append : (a b c : Point) (lines lines' : List Line) (replies replies' : List (List ℕ)) → Passed a lines replies b → Passed b lines' replies' c → Passed a (lines ++ lines') (replies ++ replies') c
@@ -78,16 +80,18 @@ Passed-append a b c lines lines' replies replies' p q = record {
   found_memory = AllByRecursion-append _ replies replies' p.found_memory q.found_memory;
   counted_are = q.counted_are ∙ ap (λ t. counted t replies') p.counted_are ∙ counted-append a.tally replies replies';
   stored = stored_next b.state c.state a.contents b.contents c.contents p.stored q.stored;
+  few = few-append a.state a.faults lines replies b.state b.faults lines' replies' c.state c.faults p.session q.session a.walked b.walked c.walked p.few q.few;
 }
 
 -- a line was answered, and its reply was counted
 pub Passed-step : (a b : Point) (l : Line) (reply : List ℕ) → Step a.state a.faults l reply b.state b.faults → reply ≢ text memory → b.tally ≡ counted a.tally (reply ∷ [])
-    → IsStored b.state a.contents b.contents → Passed a (l ∷ []) (reply ∷ []) b
-Passed-step a b l reply step found count stored = record {
-  session = Session-push a.state a.faults [] [] a.state a.faults (Session-nil a.state a.faults) l reply b.state b.faults step;
+    → IsStored b.state a.contents b.contents → b.walked ≤ a.walked + most_walked (request l) a.state → Passed a (l ∷ []) (reply ∷ []) b
+Passed-step a b l reply step found count stored few = record {
+  session = Session-one a.state a.faults l reply b.state b.faults step;
   found_memory = (found, tt);
   counted_are = count;
   stored = stored;
+  few = few-one a.state a.faults l reply b.state b.faults step a.walked b.walked few;
 }
 
 pub told-Passed : (a b : Point) (lines : List Line) (replies : List (List ℕ)) → Passed a lines replies b → Tells b.contents (kept b.state)
@@ -119,21 +123,23 @@ on_err (Err e) P p = p
 
 -- before the first line
 pub Halted-first : (p : Point) (lines : List Line) → Tells p.contents (kept p.state) → Halted p lines p
-Halted-first p lines told = record { taken = []; rest = lines; front = refl; replies = []; session = Session-nil p.state p.faults; stored = stored_same p.state p.contents told }
+Halted-first p lines told = record { taken = []; rest = lines; front = refl; replies = []; session = Session-nil p.state p.faults; stored = stored_same p.state p.contents told; few = omega arith }
 
 -- after the last line
 pub Halted-last : (a b : Point) (lines : List Line) (replies : List (List ℕ)) → Passed a lines replies b → Halted a lines b
-Halted-last a b lines replies p = record { taken = lines; rest = []; front = append-nil lines; replies = replies; session = p.session; stored = p.stored }
+Halted-last a b lines replies p = record { taken = lines; rest = []; front = append-nil lines; replies = replies; session = p.session; stored = p.stored; few = p.few }
 
 -- at a line that was answered
-pub Halted-step : (a b : Point) (l : Line) (reply : List ℕ) → Step a.state a.faults l reply b.state b.faults → IsStored b.state a.contents b.contents → Halted a (l ∷ []) b
-Halted-step a b l reply step stored = record {
+pub Halted-step : (a b : Point) (l : Line) (reply : List ℕ) → Step a.state a.faults l reply b.state b.faults → IsStored b.state a.contents b.contents
+    → b.walked ≤ a.walked + most_walked (request l) a.state → Halted a (l ∷ []) b
+Halted-step a b l reply step stored few = record {
   taken = l ∷ [];
   rest = [];
   front = refl;
   replies = reply ∷ [];
-  session = Session-push a.state a.faults [] [] a.state a.faults (Session-nil a.state a.faults) l reply b.state b.faults step;
+  session = Session-one a.state a.faults l reply b.state b.faults step;
   stored = stored;
+  few = few-one a.state a.faults l reply b.state b.faults step a.walked b.walked few;
 }
 
 -- before lines that were still to come
@@ -145,6 +151,7 @@ Halted-early a b lines later h = record {
   replies = h.replies;
   session = h.session;
   stored = h.stored;
+  few = h.few;
 }
 
 -- after a stage that went through
@@ -156,10 +163,11 @@ Halted-after a b c lines lines' replies p h = record {
   replies = replies ++ h.replies;
   session = Session-append a.state a.faults lines replies b.state b.faults h.taken h.replies c.state c.faults p.session h.session;
   stored = stored_next b.state c.state a.contents b.contents c.contents p.stored h.stored;
+  few = few-append a.state a.faults lines replies b.state b.faults h.taken h.replies c.state c.faults p.session h.session a.walked b.walked c.walked p.few h.few;
 }
 
-pub Stopped-Halted : (a b : Point) (lines : List Line) → Halted a lines b → Stopped a.state a.faults lines b.state b.faults
-Stopped-Halted a b lines h = record { taken = h.taken; rest = h.rest; front = h.front; replies = h.replies; session = h.session }
+pub Stopped-Halted : (a b : Point) (lines : List Line) → Halted a lines b → Stopped a.state a.faults lines b.state b.faults a.walked b.walked
+Stopped-Halted a b lines h = record { taken = h.taken; rest = h.rest; front = h.front; replies = h.replies; session = h.session; few = h.few }
 
 pub later-Passed : (a b : Point) (lines : List Line) (replies : List (List ℕ)) → Passed a lines replies b → a.faults ≤ b.faults
 later-Passed a b lines replies p = later-session a.state a.faults lines replies b.state b.faults p.session

@@ -2,3 +2,4 @@ pub mod Rehearsal
 pub mod Rehearsed
 pub mod Stages
 pub mod Summary
+pub mod Walking

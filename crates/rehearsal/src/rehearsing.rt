@@ -32,14 +32,13 @@ pub fn rehearse<K: Keeper, L: Ledger>(
     requires room { server.old.version + 3 * number + 6 < 2 ^ 64 - 1 }
     requires told { Tells (K.contents keeper.old) (state.kept server.old) }
     ensures done { IfOk result (λ line. Rehearsed server.old (K.faults keeper.old)
-        (rehearsal number) line.items server.new (K.faults keeper.new)) }
+        (rehearsal number) line.items server.new (K.faults keeper.new) walked.old walked.new) }
     ensures stopped { OnErr result (Stopped server.old (K.faults keeper.old)
-        (rehearsal number) server.new (K.faults keeper.new)) }
+        (rehearsal number) server.new (K.faults keeper.new) walked.old walked.new) }
     ensures told { Follows (λ _ now. now ≡ state.kept server.new) (K.contents keeper.old)
         (K.contents keeper.new) }
     ensures later { K.faults keeper.old ≤ K.faults keeper.new }
     ensures place { K.place keeper.new ≡ K.place keeper.old }
-    ensures walked { walked.new ≡ walked.old }
 {
     let mut tally = Tally::new();
     define(alloc, server, keeper, walked, &mut tally)?;
@@ -60,15 +59,14 @@ fn define<K: Keeper, L: Ledger>(
     requires room { HasRoom server.old.version tally.old 3 }
     requires told { Tells (K.contents keeper.old) (state.kept server.old) }
     ensures done { OnOk result (Passes
-        (at server.old (K.faults keeper.old) (K.contents keeper.old) tally.old)
+        (at server.old (K.faults keeper.old) (K.contents keeper.old) tally.old walked.old)
         definition_lines
-        (at server.new (K.faults keeper.new) (K.contents keeper.new) tally.new)) }
+        (at server.new (K.faults keeper.new) (K.contents keeper.new) tally.new walked.new)) }
     ensures halted { OnErr result (Halted
-        (at server.old (K.faults keeper.old) (K.contents keeper.old) tally.old)
+        (at server.old (K.faults keeper.old) (K.contents keeper.old) tally.old walked.old)
         definition_lines
-        (at server.new (K.faults keeper.new) (K.contents keeper.new) tally.new)) }
+        (at server.new (K.faults keeper.new) (K.contents keeper.new) tally.new walked.new)) }
     ensures place { K.place keeper.new ≡ K.place keeper.old }
-    ensures walked { walked.new ≡ walked.old }
 {
     let lines = definition_lines(alloc)?;
     ask_each(alloc, server, keeper, lines.as_slice(), walked, tally)
@@ -86,15 +84,14 @@ fn fill_tables<K: Keeper, L: Ledger>(
     requires room { HasRoom server.old.version tally.old (2 * number) }
     requires told { Tells (K.contents keeper.old) (state.kept server.old) }
     ensures done { OnOk result (Passes
-        (at server.old (K.faults keeper.old) (K.contents keeper.old) tally.old)
+        (at server.old (K.faults keeper.old) (K.contents keeper.old) tally.old walked.old)
         (flat_map (table_lines number) (below number))
-        (at server.new (K.faults keeper.new) (K.contents keeper.new) tally.new)) }
+        (at server.new (K.faults keeper.new) (K.contents keeper.new) tally.new walked.new)) }
     ensures halted { OnErr result (Halted
-        (at server.old (K.faults keeper.old) (K.contents keeper.old) tally.old)
+        (at server.old (K.faults keeper.old) (K.contents keeper.old) tally.old walked.old)
         (flat_map (table_lines number) (below number))
-        (at server.new (K.faults keeper.new) (K.contents keeper.new) tally.new)) }
+        (at server.new (K.faults keeper.new) (K.contents keeper.new) tally.new walked.new)) }
     ensures place { K.place keeper.new ≡ K.place keeper.old }
-    ensures walked { walked.new ≡ walked.old }
 {
     for i in 0..number {
         let lines = table_lines(alloc, number, i)?;
@@ -115,15 +112,14 @@ fn edit_view<K: Keeper, L: Ledger>(
     requires room { HasRoom server.old.version tally.old number }
     requires told { Tells (K.contents keeper.old) (state.kept server.old) }
     ensures done { OnOk result (Passes
-        (at server.old (K.faults keeper.old) (K.contents keeper.old) tally.old)
+        (at server.old (K.faults keeper.old) (K.contents keeper.old) tally.old walked.old)
         (flat_map view_lines (below number))
-        (at server.new (K.faults keeper.new) (K.contents keeper.new) tally.new)) }
+        (at server.new (K.faults keeper.new) (K.contents keeper.new) tally.new walked.new)) }
     ensures halted { OnErr result (Halted
-        (at server.old (K.faults keeper.old) (K.contents keeper.old) tally.old)
+        (at server.old (K.faults keeper.old) (K.contents keeper.old) tally.old walked.old)
         (flat_map view_lines (below number))
-        (at server.new (K.faults keeper.new) (K.contents keeper.new) tally.new)) }
+        (at server.new (K.faults keeper.new) (K.contents keeper.new) tally.new walked.new)) }
     ensures place { K.place keeper.new ≡ K.place keeper.old }
-    ensures walked { walked.new ≡ walked.old }
 {
     for i in 0..number {
         let lines = view_lines(alloc, i)?;
@@ -143,15 +139,14 @@ fn read_all<K: Keeper, L: Ledger>(
     requires room { HasRoom server.old.version tally.old 3 }
     requires told { Tells (K.contents keeper.old) (state.kept server.old) }
     ensures done { IfOk result (λ shown. Shows
-        (at server.old (K.faults keeper.old) (K.contents keeper.old) tally.old)
+        (at server.old (K.faults keeper.old) (K.contents keeper.old) tally.old walked.old)
         read_lines shown
-        (at server.new (K.faults keeper.new) (K.contents keeper.new) tally.new)) }
+        (at server.new (K.faults keeper.new) (K.contents keeper.new) tally.new walked.new)) }
     ensures halted { OnErr result (Halted
-        (at server.old (K.faults keeper.old) (K.contents keeper.old) tally.old)
+        (at server.old (K.faults keeper.old) (K.contents keeper.old) tally.old walked.old)
         read_lines
-        (at server.new (K.faults keeper.new) (K.contents keeper.new) tally.new)) }
+        (at server.new (K.faults keeper.new) (K.contents keeper.new) tally.new walked.new)) }
     ensures place { K.place keeper.new ≡ K.place keeper.old }
-    ensures walked { walked.new ≡ walked.old }
 {
     let albums = read(alloc, server, keeper, "albums", walked, tally)?;
     let tracks = read(alloc, server, keeper, "tracks", walked, tally)?;
@@ -176,15 +171,14 @@ fn read<K: Keeper, L: Ledger>(
     requires room { HasRoom server.old.version tally.old 1 }
     requires told { Tells (K.contents keeper.old) (state.kept server.old) }
     ensures done { IfOk result (λ rows. Answers
-        (at server.old (K.faults keeper.old) (K.contents keeper.old) tally.old)
+        (at server.old (K.faults keeper.old) (K.contents keeper.old) tally.old walked.old)
         (read_line view.now) rows
-        (at server.new (K.faults keeper.new) (K.contents keeper.new) tally.new)) }
+        (at server.new (K.faults keeper.new) (K.contents keeper.new) tally.new walked.new)) }
     ensures halted { OnErr result (Halted
-        (at server.old (K.faults keeper.old) (K.contents keeper.old) tally.old)
+        (at server.old (K.faults keeper.old) (K.contents keeper.old) tally.old walked.old)
         (read_line view.now ∷ [])
-        (at server.new (K.faults keeper.new) (K.contents keeper.new) tally.new)) }
+        (at server.new (K.faults keeper.new) (K.contents keeper.new) tally.new walked.new)) }
     ensures place { K.place keeper.new ≡ K.place keeper.old }
-    ensures walked { walked.new ≡ walked.old }
 {
     let line = read_line(alloc, view)?;
     ask(alloc, server, keeper, line.as_bytes(), walked, tally)
@@ -202,15 +196,14 @@ fn ask_each<K: Keeper, L: Ledger>(
     requires room { HasRoom server.old.version tally.old (length lines.now) }
     requires told { Tells (K.contents keeper.old) (state.kept server.old) }
     ensures done { OnOk result (Passes
-        (at server.old (K.faults keeper.old) (K.contents keeper.old) tally.old)
+        (at server.old (K.faults keeper.old) (K.contents keeper.old) tally.old walked.old)
         (map (λ line. marked (string_bytes line)) lines.now)
-        (at server.new (K.faults keeper.new) (K.contents keeper.new) tally.new)) }
+        (at server.new (K.faults keeper.new) (K.contents keeper.new) tally.new walked.new)) }
     ensures halted { OnErr result (Halted
-        (at server.old (K.faults keeper.old) (K.contents keeper.old) tally.old)
+        (at server.old (K.faults keeper.old) (K.contents keeper.old) tally.old walked.old)
         (map (λ line. marked (string_bytes line)) lines.now)
-        (at server.new (K.faults keeper.new) (K.contents keeper.new) tally.new)) }
+        (at server.new (K.faults keeper.new) (K.contents keeper.new) tally.new walked.new)) }
     ensures place { K.place keeper.new ≡ K.place keeper.old }
-    ensures walked { walked.new ≡ walked.old }
 {
     for line in lines {
         ask(alloc, server, keeper, line.as_bytes(), walked, tally)?;
@@ -230,15 +223,14 @@ fn ask<K: Keeper, L: Ledger>(
     requires room { HasRoom server.old.version tally.old 1 }
     requires told { Tells (K.contents keeper.old) (state.kept server.old) }
     ensures done { IfOk result (λ rows. Answers
-        (at server.old (K.faults keeper.old) (K.contents keeper.old) tally.old)
+        (at server.old (K.faults keeper.old) (K.contents keeper.old) tally.old walked.old)
         (marked line.now) rows
-        (at server.new (K.faults keeper.new) (K.contents keeper.new) tally.new)) }
+        (at server.new (K.faults keeper.new) (K.contents keeper.new) tally.new walked.new)) }
     ensures halted { OnErr result (Halted
-        (at server.old (K.faults keeper.old) (K.contents keeper.old) tally.old)
+        (at server.old (K.faults keeper.old) (K.contents keeper.old) tally.old walked.old)
         (marked line.now ∷ [])
-        (at server.new (K.faults keeper.new) (K.contents keeper.new) tally.new)) }
+        (at server.new (K.faults keeper.new) (K.contents keeper.new) tally.new walked.new)) }
     ensures place { K.place keeper.new ≡ K.place keeper.old }
-    ensures walked { walked.new ≡ walked.old }
 {
     let reply = server.answer(alloc, keeper, line, walked);
     if tells_no_memory(&reply) {

@@ -88,9 +88,9 @@ told_kept chosen now (Err e) w stays = tt
 
 -- ---- a run from the state that was started
 
-from_entry : (first : State) (limit status : ℕ) (left left' given given' : Option (List ℕ)) (count count' : ℕ) (contents chosen contents' : Option Kept) → is_some chosen ≡ is_some contents
-    → Serves first limit status left left' given given' count count' chosen contents' → Serves first limit status left left' given given' count count' contents contents'
-from_entry first limit status left left' given given' count count' contents chosen contents' told w = record {
+from_entry : (first : State) (limit status : ℕ) (left left' given given' : Option (List ℕ)) (count count' : ℕ) (contents chosen contents' : Option Kept) (walked walked' : ℕ) → is_some chosen ≡ is_some contents
+    → Serves first limit status left left' given given' count count' chosen contents' walked walked' → Serves first limit status left left' given given' count count' contents contents' walked walked'
+from_entry first limit status left left' given given' count count' contents chosen contents' walked walked' told w = record {
   came = w.came;
   consumed = w.consumed;
   most = w.most;
@@ -98,6 +98,7 @@ from_entry first limit status left left' given given' count count' contents chos
   replies = w.replies;
   last = w.last;
   session = w.session;
+  few = w.few;
   stored = follows_from (λ now. now ≡ kept w.last) contents chosen contents' told w.stored;
   all_lines = w.all_lines;
   failed_lines = w.failed_lines;
@@ -110,21 +111,22 @@ from_entry first limit status left left' given given' count count' contents chos
 }
 
 -- lines that were served over the chosen contents are a run
-pub runs : (s : Settings) (stays : Bool) (first : State) (limit status : ℕ) (left left' given given' : Option (List ℕ)) (count start count' : ℕ) (contents chosen contents' : Option Kept)
+pub runs : (s : Settings) (stays : Bool) (first : State) (limit status : ℕ) (left left' given given' : Option (List ℕ)) (count start count' : ℕ) (contents chosen contents' : Option Kept) (walked walked' : ℕ)
     → Loads s.store stays contents count start (Ok first) → is_some chosen ≡ is_some contents → limit ≡ s.max_input
-    → Serves first limit status left left' given given' start count' chosen contents' → Runs s stays status left left' given given' count count' contents contents'
-runs s stays first limit status left left' given given' count start count' contents chosen contents' loaded told same w = record {
+    → Serves first limit status left left' given given' start count' chosen contents' walked walked' → Runs s stays status left left' given given' count count' contents contents' walked walked'
+runs s stays first limit status left left' given given' count start count' contents chosen contents' walked walked' loaded told same w = record {
   first = first;
   start = start;
   loads = loaded;
-  serves = subst (λ n. Serves first n status left left' given given' start count' contents contents') same (from_entry first limit status left left' given given' start count' contents chosen contents' told w);
+  serves = subst (λ n. Serves first n status left left' given given' start count' contents contents' walked walked') same
+      (from_entry first limit status left left' given given' start count' contents chosen contents' walked walked' told w);
 }
 
 -- and so is a rehearsal
-pub rehearses : (s : Settings) (n : ℕ) (stays : Bool) (first last : State) (status : ℕ) (line : List ℕ) (given given' : Option (List ℕ)) (count start count' : ℕ) (contents chosen contents' : Option Kept)
-    → Loads s.store stays contents count start (Ok first) → is_some chosen ≡ is_some contents → Rehearsed first start (rehearsal n) line last count' → Follows (λ _ now. now ≡ kept last) chosen contents'
-    → (status ≡ 0 → Appends given given' line) → (status ≡ 5 → AppendsFront given given' line) → Rehearses s n stays status given given' count count' contents contents'
-rehearses s n stays first last status line given given' count start count' contents chosen contents' loaded told rehearsed stored all some = record {
+pub rehearses : (s : Settings) (n : ℕ) (stays : Bool) (first last : State) (status : ℕ) (line : List ℕ) (given given' : Option (List ℕ)) (count start count' : ℕ) (contents chosen contents' : Option Kept) (walked walked' : ℕ)
+    → Loads s.store stays contents count start (Ok first) → is_some chosen ≡ is_some contents → Rehearsed first start (rehearsal n) line last count' walked walked' → Follows (λ _ now. now ≡ kept last) chosen contents'
+    → (status ≡ 0 → Appends given given' line) → (status ≡ 5 → AppendsFront given given' line) → Rehearses s n stays status given given' count count' contents contents' walked walked'
+rehearses s n stays first last status line given given' count start count' contents chosen contents' walked walked' loaded told rehearsed stored all some = record {
   first = first;
   start = start;
   loads = loaded;
@@ -137,10 +139,10 @@ rehearses s n stays first last status line given given' count start count' conte
 }
 
 -- one that stopped for want of memory
-pub stops : (s : Settings) (n : ℕ) (stays : Bool) (first last : State) (count start count' : ℕ) (contents chosen contents' : Option Kept)
-    → Loads s.store stays contents count start (Ok first) → is_some chosen ≡ is_some contents → Stopped first start (rehearsal n) last count' → Follows (λ _ now. now ≡ kept last) chosen contents'
-    → StopsShort s n stays count count' contents contents'
-stops s n stays first last count start count' contents chosen contents' loaded told stopped stored =
+pub stops : (s : Settings) (n : ℕ) (stays : Bool) (first last : State) (count start count' : ℕ) (contents chosen contents' : Option Kept) (walked walked' : ℕ)
+    → Loads s.store stays contents count start (Ok first) → is_some chosen ≡ is_some contents → Stopped first start (rehearsal n) last count' walked walked'
+    → Follows (λ _ now. now ≡ kept last) chosen contents' → StopsShort s n stays count count' contents contents' walked walked'
+stops s n stays first last count start count' contents chosen contents' walked walked' loaded told stopped stored =
     running.amid first last start loaded stopped (follows_from (λ now. now ≡ kept last) contents chosen contents' told stored)
 
 -- ---- a start that failed

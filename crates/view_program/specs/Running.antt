@@ -9,6 +9,7 @@ use Rattle.opening_specs.specs.Opening.{Damage, opened, damage_text}
 use Rattle.command_words.specs.Settings.{Settings}
 use Rattle.rehearsal.specs.Rehearsal.{rehearsal}
 use Rattle.rehearsal.specs.Rehearsed.{Rehearsed, Stopped}
+use Rattle.rehearsal.specs.Walking.{most_walked_in}
 use Rattle.lens_io.specs.Bytes.{AppendsFront, GivesUnlessFailed}
 use Rattle.lens_io.specs.Taken.{ComesInTime}
 use Rattle.lens_io.specs.declared.cutting.Cut.{Cut}
@@ -51,8 +52,9 @@ status_of cut.Failed = 4
 status_of cut.Spent = 8
 
 -- From the first state on, some bytes came from the source, lines of them were replied to, and the replies were given.
--- `left` is what the source has left, before and after, `given` what the sink has taken and `contents` what the keeper has, where they tell it; `count` is the keeper's.
-pub record Serves (first : State) (limit status : ℕ) (left left' given given' : Option (List ℕ)) (count count' : ℕ) (contents contents' : Option Kept) : Type 0 where
+-- `left` is what the source has left, before and after, `given` what the sink has taken and `contents` what the keeper has, where they tell it; `count` is the keeper's,
+-- and `walked` counts the rows that were walked.
+pub record Serves (first : State) (limit status : ℕ) (left left' given given' : Option (List ℕ)) (count count' : ℕ) (contents contents' : Option Kept) (walked walked' : ℕ) : Type 0 where
   pub came : List ℕ
   pub consumed : Consumes left left' came
   -- at most one byte beyond the limit
@@ -61,6 +63,8 @@ pub record Serves (first : State) (limit status : ℕ) (left left' given given' 
   pub replies : List (List ℕ)
   pub last : State
   pub session : Session first count taken replies last count'
+  -- no more rows were walked than the lines may walk
+  pub few : walked' ≤ walked + most_walked_in first session.exchanges
   -- a keeper that told its contents tells them still, and they are those of the last state
   pub stored : Follows (λ _ now. now ≡ kept last) contents contents'
   -- at the end of the input all lines were taken
@@ -109,30 +113,30 @@ abbrev pub IsServed : ℕ → Type 0
 IsServed status = (status ≡ 0) ⊎ ((status ≡ 4) ⊎ ((status ≡ 5) ⊎ (status ≡ 8)))
 
 -- The lines of the source were served, from the state that was loaded on.
-pub record Runs (s : Settings) (stays : Bool) (status : ℕ) (left left' given given' : Option (List ℕ)) (count count' : ℕ) (contents contents' : Option Kept) : Type 0 where
+pub record Runs (s : Settings) (stays : Bool) (status : ℕ) (left left' given given' : Option (List ℕ)) (count count' : ℕ) (contents contents' : Option Kept) (walked walked' : ℕ) : Type 0 where
   pub first : State
   pub start : ℕ
   pub loads : Loads s.store stays contents count start (Ok first)
-  pub serves : Serves first s.max_input status left left' given given' start count' contents contents'
+  pub serves : Serves first s.max_input status left left' given given' start count' contents contents' walked walked'
 
 -- The lines of the rehearsal of n were answered, from the state that was loaded on, and their summary was given; a front of it where
 -- the sink failed.
-pub record Rehearses (s : Settings) (n : ℕ) (stays : Bool) (status : ℕ) (given given' : Option (List ℕ)) (count count' : ℕ) (contents contents' : Option Kept) : Type 0 where
+pub record Rehearses (s : Settings) (n : ℕ) (stays : Bool) (status : ℕ) (given given' : Option (List ℕ)) (count count' : ℕ) (contents contents' : Option Kept) (walked walked' : ℕ) : Type 0 where
   pub first : State
   pub start : ℕ
   pub loads : Loads s.store stays contents count start (Ok first)
   pub told : List ℕ
   pub last : State
-  pub rehearsed : Rehearsed first start (rehearsal n) told last count'
+  pub rehearsed : Rehearsed first start (rehearsal n) told last count' walked walked'
   pub stored : Follows (λ _ now. now ≡ kept last) contents contents'
   pub all : status ≡ 0 → Appends given given' told
   pub some : status ≡ 5 → AppendsFront given given' told
 
--- Memory ran out in a rehearsal of n: before it began, and the contents are as at entry; or in it, and they are those of the last state.
-pub data StopsShort (s : Settings) (n : ℕ) (stays : Bool) (count count' : ℕ) (contents contents' : Option Kept) : Type 0 where
-  before : StaysAtEntry s.store stays contents contents' → StopsShort s n stays count count' contents contents'
-  amid : (first last : State) (start : ℕ) → Loads s.store stays contents count start (Ok first) → Stopped first start (rehearsal n) last count'
-      → Follows (λ _ now. now ≡ kept last) contents contents' → StopsShort s n stays count count' contents contents'
+-- Memory ran out in a rehearsal of n: before it began, and the contents are as at entry, and nothing was walked; or in it, and they are those of the last state.
+pub data StopsShort (s : Settings) (n : ℕ) (stays : Bool) (count count' : ℕ) (contents contents' : Option Kept) (walked walked' : ℕ) : Type 0 where
+  before : StaysAtEntry s.store stays contents contents' → walked' ≡ walked → StopsShort s n stays count count' contents contents' walked walked'
+  amid : (first last : State) (start : ℕ) → Loads s.store stays contents count start (Ok first) → Stopped first start (rehearsal n) last count' walked walked'
+      → Follows (λ _ now. now ≡ kept last) contents contents' → StopsShort s n stays count count' contents contents' walked walked'
 
 -- What was loaded is damaged, and the line that tells its first damage was given; a front of it where the sink failed.
 pub record Refuses (s : Settings) (stays : Bool) (given given' : Option (List ℕ)) (failures failures' count : ℕ) (contents : Option Kept) : Type 0 where

@@ -2,8 +2,10 @@
 ghost use Rattle.std.specs.Prelude.{◌≡◌, ◌≢◌, ◌≤◌, ◌<◌, ◌↔◌, ◌⊎◌, ◌+◌, ◌-◌, ◌^◌, [], false, length, map, string_bytes, None, IfSome};
 ghost use Rattle.io_specs.specs.Faults.{Rose};
 ghost use Rattle.lens_specs.specs.Keeping.{Follows, Tells};
+ghost use Rattle.server_specs.specs.Request.{request};
 ghost use Rattle.server_specs.specs.Session.{Step};
 ghost use Rattle.server_specs.specs.State as state;
+ghost use Rattle.lens_server.specs.Counting.{most_walked};
 ghost use Rattle.lens_io.specs.Bytes.{GivesUnlessFailed};
 ghost use Rattle.command_words.specs.Settings.{settings};
 ghost use Rattle.command_words.specs.Views.{settings_view};
@@ -45,13 +47,13 @@ pub fn run<S: Source, W: Sink, K: Keeper, L: Ledger>(
     ensures serves { IfSome (settings (map string_bytes words.now)) (λ s. s.rehearse ≡ None
         → IsServed result → Runs s K.stays result (S.left source.old) (S.left source.new)
         (W.taken sink.old) (W.taken sink.new) (K.faults keeper.old) (K.faults keeper.new)
-        (K.contents keeper.old) (K.contents keeper.new)) }
+        (K.contents keeper.old) (K.contents keeper.new) walked.old walked.new) }
 
     // In a rehearsal they are those to its lines, and their summary is given.
     ensures rehearses { IfSome (settings (map string_bytes words.now)) (λ s.
         IfSome s.rehearse (λ n. (result ≡ 0) ⊎ (result ≡ 5) → Rehearses s n K.stays result
         (W.taken sink.old) (W.taken sink.new) (K.faults keeper.old) (K.faults keeper.new)
-        (K.contents keeper.old) (K.contents keeper.new))) }
+        (K.contents keeper.old) (K.contents keeper.new) walked.old walked.new)) }
     ensures rehearsal_takes_nothing { IfSome (settings (map string_bytes words.now)) (λ s.
         IfSome s.rehearse (λ _. (source.new ≡ source.old) × (result ≢ 4) × (result ≢ 8))) }
 
@@ -72,7 +74,8 @@ pub fn run<S: Source, W: Sink, K: Keeper, L: Ledger>(
         → keeper.new ≡ keeper.old }
     ensures memory_stops { result ≡ 3 → IfSome (settings (map string_bytes words.now)) (λ s.
         IfSome s.rehearse (λ n. StopsShort s n K.stays (K.faults keeper.old)
-        (K.faults keeper.new) (K.contents keeper.old) (K.contents keeper.new))) }
+        (K.faults keeper.new) (K.contents keeper.old) (K.contents keeper.new) walked.old
+        walked.new)) }
 
     // The keeper failed at the start.
     ensures store { result ≡ 6 → Rose (K.faults keeper.old) (K.faults keeper.new) }
@@ -119,7 +122,12 @@ pub fn run<S: Source, W: Sink, K: Keeper, L: Ledger>(
     ensures source_later { S.faults source.old ≤ S.faults source.new }
     ensures sink_later { W.faults sink.old ≤ W.faults sink.new }
     ensures keeper_later { K.faults keeper.old ≤ K.faults keeper.new }
-    ensures walked { walked.new ≡ walked.old }
+
+    // Edits and previews walk no table; each other line walks at most the rows of all tables. Where
+    // no line is answered nothing is walked.
+    ensures walks_nothing { (result ≡ 2) ⊎ IsUnserved result
+        → IfSome (settings (map string_bytes words.now)) (λ s. IfSome s.rehearse (λ _. result ≢ 3))
+        → walked.new ≡ walked.old }
 {
     match read_settings(alloc, words) {
         Ok(settings) => match settings.rehearse {
@@ -146,7 +154,7 @@ fn serve_input<S: Source, W: Sink, K: Keeper, L: Ledger>(
     ensures serves { IsServed result → Runs (settings_view settings.now) K.stays result
         (S.left source.old) (S.left source.new) (W.taken sink.old) (W.taken sink.new)
         (K.faults keeper.old) (K.faults keeper.new) (K.contents keeper.old)
-        (K.contents keeper.new) }
+        (K.contents keeper.new) walked.old walked.new }
     ensures damaged { result ≡ 7 → Refuses (settings_view settings.now) K.stays
         (W.taken sink.old) (W.taken sink.new) (W.faults sink.old) (W.faults sink.new)
         (K.faults keeper.old) (K.contents keeper.old) }
@@ -163,7 +171,7 @@ fn serve_input<S: Source, W: Sink, K: Keeper, L: Ledger>(
     ensures keeper_later { K.faults keeper.old ≤ K.faults keeper.new }
     ensures place { IsServed result ⊎ (result ≡ 7) → K.place keeper.new
         ≡ place_after (settings_view settings.now).store (K.place keeper.old) }
-    ensures walked { walked.new ≡ walked.old }
+    ensures walks_nothing { IsUnserved result → walked.new ≡ walked.old }
 {
     let Ok(mut cutter) = LineCutter::new(alloc, settings.max_input) else {
         return 3;
@@ -196,10 +204,10 @@ fn rehearse_over<W: Sink, K: Keeper, L: Ledger>(
     requires { number ≤ 100000 }
     ensures rehearses { (result ≡ 0) ⊎ (result ≡ 5) → Rehearses (settings_view settings.now)
         number K.stays result (W.taken sink.old) (W.taken sink.new) (K.faults keeper.old)
-        (K.faults keeper.new) (K.contents keeper.old) (K.contents keeper.new) }
+        (K.faults keeper.new) (K.contents keeper.old) (K.contents keeper.new) walked.old walked.new }
     ensures stops { result ≡ 3 → StopsShort (settings_view settings.now) number K.stays
         (K.faults keeper.old) (K.faults keeper.new) (K.contents keeper.old)
-        (K.contents keeper.new) }
+        (K.contents keeper.new) walked.old walked.new }
     ensures damaged { result ≡ 7 → Refuses (settings_view settings.now) K.stays
         (W.taken sink.old) (W.taken sink.new) (W.faults sink.old) (W.faults sink.new)
         (K.faults keeper.old) (K.contents keeper.old) }
@@ -215,7 +223,7 @@ fn rehearse_over<W: Sink, K: Keeper, L: Ledger>(
     ensures keeper_later { K.faults keeper.old ≤ K.faults keeper.new }
     ensures place { IsServed result ⊎ (result ≡ 7) → K.place keeper.new
         ≡ place_after (settings_view settings.now).store (K.place keeper.old) }
-    ensures walked { walked.new ≡ walked.old }
+    ensures walks_nothing { (result ≡ 6) ⊎ (result ≡ 7) → walked.new ≡ walked.old }
 {
     match open(alloc, settings.store, keeper) {
         Ok(mut server) => match rehearse(alloc, &mut server, keeper, number, walked) {
@@ -248,7 +256,7 @@ fn serve<S: Source, W: Sink, K: Keeper, L: Ledger>(
     requires told { Tells (K.contents keeper.old) (state.kept server.old) }
     ensures serves { Serves server.old cutter.old.limit result (S.left source.old) (S.left source.new)
         (W.taken sink.old) (W.taken sink.new) (K.faults keeper.old) (K.faults keeper.new)
-        (K.contents keeper.old) (K.contents keeper.new) }
+        (K.contents keeper.old) (K.contents keeper.new) walked.old walked.new }
     ensures ends { (result ≡ 0) ⊎ ((result ≡ 4) ⊎ ((result ≡ 5) ⊎ (result ≡ 8))) }
     ensures read { result ≡ 4 → Rose (S.faults source.old) (S.faults source.new) }
     ensures write { result ≡ 5 → Rose (W.faults sink.old) (W.faults sink.new) }
@@ -256,7 +264,6 @@ fn serve<S: Source, W: Sink, K: Keeper, L: Ledger>(
     ensures sink_later { W.faults sink.old ≤ W.faults sink.new }
     ensures keeper_later { K.faults keeper.old ≤ K.faults keeper.new }
     ensures place { K.place keeper.new ≡ K.place keeper.old }
-    ensures walked { walked.new ≡ walked.old }
 {
     'lines: loop {
         let cut = cutter.next(source);
@@ -299,7 +306,8 @@ fn reply_to<K: Keeper, L: Ledger>(
     ensures told { Follows (λ _ now. now ≡ state.kept server.new)
         (K.contents keeper.old) (K.contents keeper.new) }
     ensures place { K.place keeper.new ≡ K.place keeper.old }
-    ensures walked { walked.new ≡ walked.old }
+    ensures walked { walked.new
+        ≤ walked.old + most_walked (request (line_of cut line.now)) server.old }
 {
     match cut {
         Cut::Line => server.answer(alloc, keeper, line, walked),

@@ -1,8 +1,7 @@
-use Rattle.server_laws.proofs.Asked.{asked_typed}
-use Rattle.lens_server.specs.Asking.{sent_of}
-use Rattle.lens_server.specs.States.{state_of}
+use Rattle.std.proofs.Common.{subst}
+use Rattle.lens_chain.specs.Edits.{over}
+use Rattle.lens_server.specs.Asking.{AsksBy}
 use Rattle.lens_server.proofs.changing.plan_asked.Goals as goal
 
-pub plan_view-requires-clause-typed : goal.plan_view-requires-clause-typed
-plan_view-requires-clause-typed c =
-    asked_typed (state_of c.args.store.now) c.args.lens.now c.requires.here (sent_of c.args.sent.now) c.args.on c.in-Ok.rows c.in-Ok.ensures
+pub plan_delta-requires-clause-edit : goal.plan_delta-requires-clause-edit
+plan_delta-requires-clause-edit g c = (subst (λ r. AsksBy c.args.view.now.lens (over c.args.view.now) r c.requires.asked.0) c.in-Ok.is c.requires.asked.1).1

@@ -1,8 +1,7 @@
-use Rattle.std.proofs.Common.{◌≡◌, ◌∙◌, ◌++◌, ◌∷◌, ◌||◌, [], false, ap, codes}
-use Rattle.serde_json.specs.Data.{member, no_members, object}
+use Rattle.std.proofs.Common.{◌≡◌, ◌∙◌, ◌++◌, ◌∷◌, ◌||◌, [], false, ap}
 use Rattle.serde_json.specs.View.{view}
 use Rattle.serde_json.specs.Written.{compact_text, has_float}
-use Rattle.opening_specs.specs.Opening.{damage_data, damage_text}
+use Rattle.opening_specs.specs.Opening.{damage_text}
 use Rattle.lens_server.specs.Starting.{damage_view}
 use Rattle.lens_server.proofs.Told.{plain_damage}
 use Rattle.lens_server.proofs.damage.damage_line.Goals as goal

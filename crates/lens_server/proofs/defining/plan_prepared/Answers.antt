@@ -1,7 +1,8 @@
-use Rattle.std.proofs.Common.{◌∙◌, ap, refl}
+use Rattle.std.proofs.Common.{◌∙◌, ◌<◌, ap, length, refl, subst}
+use Rattle.std.specs.Prelude.{◌^◌}
 use Rattle.std.proofs.Common.{◌+◌}
 use Rattle.lens_specs.specs.Keeping.{define}
-use Rattle.lens_server.specs.Defining.{last_with, tables_with}
+use Rattle.lens_server.specs.Defining.{last_with}
 use Rattle.lens_server.proofs.Defined.{definition_planned}
 use Rattle.lens_server.proofs.defining.plan_prepared.Goals as goal
 
@@ -11,5 +12,5 @@ returns c =
     let p = c.args.prepared in
     definition_planned store p _ _ c.requires.valid c.requires.room c.requires.admissible refl refl
     (λ i. define ((c.in_ok-text.ensures ∙ c.text.ensures) i) (c.table-table.ensures i)) refl
-    (c.in_ok-tables.ensures ∙ ap (λ o. tables_with o p.lens store.tables) c.table-table.ensures)
+    (subst (λ t. length t < 2 ^ 64) c.text-2.ensures c.is_short.ensures)
     (c.in_ok-last.ensures ∙ ap (λ o. last_with o (store.version + 1) store.last) c.table-table.ensures)

@@ -12,5 +12,5 @@ pub returns : goal.returns
 returns c =
     let known = catalogue c.args.catalog.now.texts in
     let tables = c.args.tables.now in
-    let found = ap (damage_among known (rows_in tables)) (c.as_slice.ensures ∙ ap set.items c.in_ok-names.ensures) ∙ damage_found known c.args.defined.items tables c.requires.defined in
+    let found = ap (damage_among known (rows_in tables)) (c.as_slice.ensures ∙ ap set.items c.in_ok-names.ensures) ∙ damage_found known c.args.defined.now tables c.requires.defined in
     subst (λ d. IfOk c.first_damage.result (λ damage. option_map damage_view damage ≡ d)) found c.first_damage.ensures

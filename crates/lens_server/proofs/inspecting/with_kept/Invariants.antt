@@ -3,4 +3,4 @@ use Rattle.table_keeper.specs.Changes.{names_of}
 use Rattle.lens_server.proofs.inspecting.with_kept.Given as goal
 
 abbrev pub invariant-loop-kept : goal.invariant-loop-kept
-invariant-loop-kept l = l.names.items ≡ l.fn.defined.items ++ names_of (take l.kept-index l.tables)
+invariant-loop-kept l = l.names.items ≡ l.defined ++ names_of (take l.kept-index l.tables)

@@ -9,24 +9,24 @@ use Rattle.lens_server.specs.Starting.{damage_of_tables, damage_view}
 use Rattle.lens_server.proofs.Stored.{admission_told, opened_damaged, opened_whole}
 use Rattle.lens_server.proofs.opening.store_of.Goals as goal
 
-pub returns-in_err-catalog : goal.returns-in_err-catalog
-returns-in_err-catalog c =
+pub returns-in_err-admitted-clause-store : goal.returns-in_err-admitted-clause-store
+returns-in_err-admitted-clause-store g c =
     let p = err_from_is_err_and c.from_residual.result c.from_residual.ensures.1 in
-    rw (p.1, p.2) (admission_told c.in_err-catalog.field-0.0 (kept_view c.args.kept) c.in_err-catalog.ensures)
+    rw (p.1, p.2) (admission_told c.in_err-admitted.field-0.0 (kept_view c.args.kept) c.in_err-admitted.ensures.admitted)
 
-pub returns-in-Some : goal.returns-in-Some
-returns-in-Some c =
+pub returns-in-Some-clause-store : goal.returns-in-Some-clause-store
+returns-in-Some-clause-store g c =
     let kept = kept_view c.args.kept in
-    let texts = c.in_ok-catalog.ensures.0 in
+    let texts = c.in_ok-admitted.ensures.admitted.0 in
     let found : damage_of_tables (catalogue kept.texts) kept.rows ≡ option_map damage_view c.in_ok-damage.field-0 =
     sym (c.in_ok-damage.ensures ∙ (λ i. damage_of_tables (catalogue (texts i)) (rows_in (c.as_slice.ensures.value i)))) in
-    opened_damaged kept (damage_view c.in-Some.damage) c.in_ok-catalog.ensures.1 (found ∙ ap (option_map damage_view) c.in-Some.is)
+    opened_damaged kept (damage_view c.in-Some.damage) c.in_ok-admitted.ensures.admitted.1 (found ∙ ap (option_map damage_view) c.in-Some.is)
 
-pub returns-in_ok-undamaged-in-None : goal.returns-in_ok-undamaged-in-None
-returns-in_ok-undamaged-in-None c =
+pub returns-in_ok-undamaged-in-None-clause-store : goal.returns-in_ok-undamaged-in-None-clause-store
+returns-in_ok-undamaged-in-None-clause-store g c =
     let kept = kept_view c.args.kept in
-    let texts = c.in_ok-catalog.ensures.0 in
+    let texts = c.in_ok-admitted.ensures.admitted.0 in
     let found : damage_of_tables (catalogue kept.texts) kept.rows ≡ option_map damage_view c.in_ok-damage.field-0 =
     sym (c.in_ok-damage.ensures ∙ (λ i. damage_of_tables (catalogue (texts i)) (rows_in (c.as_slice.ensures.value i)))) in
-    opened_whole kept c.in_ok-catalog.ensures.1 (found ∙ ap (option_map damage_view) c.in-None.is)
-    ∙ ap Ok (sym (c.in_ok-undamaged-in-None.ensures ∙ ap (λ ts. opening.state_of (record { texts = ts; rows = kept.rows })) texts))
+    opened_whole kept c.in_ok-admitted.ensures.admitted.1 (found ∙ ap (option_map damage_view) c.in-None.is)
+    ∙ ap Ok (sym (c.in_ok-undamaged-in-None.ensures.state ∙ ap (λ ts. opening.state_of (record { texts = ts; rows = kept.rows })) texts))

@@ -1,8 +1,11 @@
-use Rattle.std.proofs.Common.{◌∷◌, [], ◌∙◌, ap, string_bytes}
+use Rattle.std.proofs.Common.{◌∷◌, [], ◌∙◌, ap, refl, string_bytes}
 use Rattle.io_specs.specs.Lines.{marked}
 use Rattle.rehearsal.proofs.Loops.{Halted-next, Passes-next, Room-next}
-use Rattle.rehearsal.proofs.Points.{on_err}
+use Rattle.rehearsal.proofs.Points.{Passed-nil, on_err}
 use Rattle.rehearsal.proofs.rehearsing.ask_each.Goals as goal
+
+pub loop-line-init : goal.loop-line-init
+loop-line-init g c = record { passes = ([], Passed-nil _ c.requires.told); place = refl }
 
 pub ask-requires-clause-room : goal.ask-requires-clause-room
 ask-requires-clause-room g c = Room-next _ _ (λ line. marked (string_bytes line)) c.args.lines.now c.loop-line.line-index c.loop-line-test.true c.requires.room c.loop-line.invariant.passes
@@ -20,5 +23,4 @@ loop-line-preserved g c =
       passes = Passes-next _ _ _ (λ line. marked (string_bytes line)) c.args.lines.now c.loop-line.line-index c.line-item.result _ c.loop-line-test.true c.line-item.is (ap marked c.as_bytes.ensures.value)
           c.loop-line.invariant.passes (here.0 ∷ [], here.1);
       place = c.in_ok-ask.ensures.place ∙ c.loop-line.invariant.place;
-      walked = c.in_ok-ask.ensures.walked ∙ c.loop-line.invariant.walked;
     }

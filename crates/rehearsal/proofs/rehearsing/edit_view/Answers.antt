@@ -1,9 +1,12 @@
-use Rattle.std.proofs.Common.{◌≡◌, ◌∙◌, ap, arith, map, string_bytes}
+use Rattle.std.proofs.Common.{◌≡◌, ◌∙◌, [], refl, ap, arith, map, string_bytes}
 use Rattle.io_specs.specs.Lines.{marked}
 use Rattle.rehearsal.specs.Rehearsal.{view_lines}
 use Rattle.rehearsal.proofs.Loops.{Halted-between, Halted-more, Passes-more, length-lines_of_view, length-made, length-view_lines}
-use Rattle.rehearsal.proofs.Points.{Room-Passed, Room-less, on_err}
+use Rattle.rehearsal.proofs.Points.{Passed-nil, Room-Passed, Room-less, on_err}
 use Rattle.rehearsal.proofs.rehearsing.edit_view.Goals as goal
+
+pub loop-i-init : goal.loop-i-init
+loop-i-init g c = record { passes = ([], Passed-nil _ c.requires.told); place = refl }
 
 pub returns-in_err-lines-clause-halted : goal.returns-in_err-lines-clause-halted
 returns-in_err-lines-clause-halted g c = on_err c.from_residual.result _ (Halted-between _ _ view_lines c.loop-i.i c.args.number (omega arith) c.loop-i.invariant.passes)
@@ -26,5 +29,7 @@ loop-i-preserved g c =
     record {
       passes = Passes-more _ _ _ view_lines c.loop-i.i _ made c.loop-i.invariant.passes c.in_ok-ask_each.ensures.done;
       place = c.in_ok-ask_each.ensures.place ∙ c.loop-i.invariant.place;
-      walked = c.in_ok-ask_each.ensures.walked ∙ c.loop-i.invariant.walked;
     }
+
+pub returns-clause-done : goal.returns-clause-done
+returns-clause-done g c = let all : c.loop-i.i ≡ c.args.number = omega arith in rw all at c.loop-i.invariant.passes

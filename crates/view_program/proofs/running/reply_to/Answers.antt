@@ -1,4 +1,4 @@
-use Rattle.std.proofs.Common.{refl}
+use Rattle.std.proofs.Common.{refl, arith}
 use Rattle.view_program.proofs.Served.{other_step, stored_same}
 use Rattle.view_program.proofs.running.reply_to.Goals as goal
 
@@ -7,5 +7,5 @@ returns-in_default g c = record {
   step = other_step c.args.cut _ _ _ _ c.in_default.not-Line c.long_reply.ensures;
   told = stored_same c.args.server.now _ c.requires.told;
   place = refl;
-  walked = refl;
+  walked = omega arith;
 }

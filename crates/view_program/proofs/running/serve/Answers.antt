@@ -1,5 +1,7 @@
-use Rattle.std.proofs.Common.{◌<◌, ◌+◌, ◌-◌, length, refl, arith, sym, ◌∙◌}
+use Rattle.std.proofs.Common.{◌≤◌, ◌<◌, ◌+◌, ◌-◌, length, refl, arith, sym, ◌∙◌}
+use Rattle.server_specs.specs.Request.{request}
 use Rattle.server_specs.specs.Session.{Step}
+use Rattle.lens_server.specs.Counting.{most_walked}
 use Rattle.view_program.specs.Running.{line_of}
 use Rattle.lens_io.proofs.Progress.{shorter}
 use Rattle.view_program.proofs.Served.{Served-nil, Served-more, ends_of, finished, unwritten}
@@ -7,17 +9,16 @@ use Rattle.view_program.proofs.running.serve.Goals as goal
 
 pub lines-init : goal.lines-init
 lines-init g c = record {
-  served = rw c.requires.cutter (Served-nil _ _ _ _ _ _ c.requires.told);
+  served = rw c.requires.cutter (Served-nil _ _ _ _ _ _ _ c.requires.told);
   source = omega arith;
   sink = omega arith;
   keeper = omega arith;
   place = refl;
-  walked = refl;
 }
 
 pub returns-then-done-clause-serves : goal.returns-then-done-clause-serves
 returns-then-done-clause-serves g c = rw c.status_of.ensures
-    (finished _ _ c.next-cut.result c.lines.cutter c.next-cut.new.self c.lines.server _ _ _ _ _ _ _ _ _ c.lines.invariant.served c.next-cut.ensures.step
+    (finished _ _ c.next-cut.result c.lines.cutter c.next-cut.new.self c.lines.server _ _ _ _ _ _ _ _ _ _ _ c.lines.invariant.served c.next-cut.ensures.step
     (sym c.next-cut.ensures.done ∙ sym c.done.ensures ∙ c.if-done.true))
 
 pub returns-then-done-clause-ends : goal.returns-then-done-clause-ends
@@ -27,8 +28,10 @@ pub returns-in-Err-clause-serves : goal.returns-in-Err-clause-serves
 returns-in-Err-clause-serves g c =
     let step : Step c.lines.server (g.K.Keeper.faults c.lines.keeper) (line_of c.next-cut.result c.next-cut.new.self.line) c.reply_to-reply.result c.reply_to-reply.new.server (g.K.Keeper.faults c.reply_to-reply.new.keeper) =
     rw (← c.line.ensures) c.reply_to-reply.ensures.step in
-    unwritten _ _ c.next-cut.result c.lines.cutter c.next-cut.new.self c.lines.server c.reply_to-reply.new.server _ _ _ _ _ _ _ _ _ _ _ _ c.reply_to-reply.result
-    c.lines.invariant.served c.next-cut.ensures.step (sym c.next-cut.ensures.done ∙ sym c.done.ensures ∙ c.if-done.false) step c.reply_to-reply.ensures.told c.in-Err.ensures.front
+    let few : c.reply_to-reply.new.walked ≤ c.lines.walked + most_walked (request (line_of c.next-cut.result c.next-cut.new.self.line)) c.lines.server =
+    rw (← c.line.ensures) c.reply_to-reply.ensures.walked in
+    unwritten _ _ c.next-cut.result c.lines.cutter c.next-cut.new.self c.lines.server c.reply_to-reply.new.server _ _ _ _ _ _ _ _ _ _ _ _ _ _ _ c.reply_to-reply.result
+    c.lines.invariant.served c.next-cut.ensures.step (sym c.next-cut.ensures.done ∙ sym c.done.ensures ∙ c.if-done.false) step c.reply_to-reply.ensures.told c.in-Err.ensures.front few
 
 pub lines-smaller : goal.lines-smaller
 lines-smaller g c =
@@ -41,13 +44,14 @@ pub lines-preserved : goal.lines-preserved
 lines-preserved g c =
     let step : Step c.lines.server (g.K.Keeper.faults c.lines.keeper) (line_of c.next-cut.result c.next-cut.new.self.line) c.reply_to-reply.result c.reply_to-reply.new.server (g.K.Keeper.faults c.reply_to-reply.new.keeper) =
     rw (← c.line.ensures) c.reply_to-reply.ensures.step in
+    let few : c.reply_to-reply.new.walked ≤ c.lines.walked + most_walked (request (line_of c.next-cut.result c.next-cut.new.self.line)) c.lines.server =
+    rw (← c.line.ensures) c.reply_to-reply.ensures.walked in
     record {
-      served = Served-more _ _ c.next-cut.result c.lines.cutter c.next-cut.new.self c.lines.server c.reply_to-reply.new.server _ _ _ _ _ _ _ _ _ _ _ _ c.reply_to-reply.result
+      served = Served-more _ _ c.next-cut.result c.lines.cutter c.next-cut.new.self c.lines.server c.reply_to-reply.new.server _ _ _ _ _ _ _ _ _ _ _ _ _ _ _ c.reply_to-reply.result
           c.lines.invariant.served c.next-cut.ensures.step (sym c.next-cut.ensures.done ∙ sym c.done.ensures ∙ c.if-done.false) c.next-cut.ensures.limit c.next-cut.ensures.done
-          step c.reply_to-reply.ensures.told c.in-Ok.ensures.ok;
+          step c.reply_to-reply.ensures.told c.in-Ok.ensures.ok few;
       source = omega (arith, c.next-cut.ensures.later);
       sink = omega (arith, c.in-Ok.ensures.later);
       keeper = omega (arith, step.later, c.lines.invariant.keeper);
       place = c.reply_to-reply.ensures.place ∙ c.lines.invariant.place;
-      walked = c.reply_to-reply.ensures.walked ∙ c.lines.invariant.walked;
     }

@@ -1,0 +1,173 @@
+-- How many rows the tables of a lens have, and how many are walked for a change.
+use Rattle.std.proofs.Common.{◌≡◌, ◌∙◌, ◌+◌, ◌≤◌, ◌||◌, ◌++◌, ℕ, Bool, true, false, cond, List, [], ◌∷◌, length, Option, Some, None, Result, Ok, Err, ap, sym, subst, refl, arith}
+use Rattle.std.specs.Prelude.{IfOk, sum_by}
+use Rattle.std.proofs.lemmas.Bool.{true≢false}
+use Rattle.std.proofs.lemmas.List.{length-append}
+use Rattle.std.proofs.lemmas.List.Sums.{sum_by-cons}
+use Rattle.std.specs.FinMap as finmap
+use Rattle.std.specs.Ordering.{eq_by_cmp}
+use Rattle.no_memory.specs.declared.NoMemory.{NoMemory}
+use Rattle.lens_values.specs.Order.{bytes_cmp}
+use Rattle.lens_values.specs.SortedSet as set
+use Rattle.fd_laws.proofs.Names.{name_total, one_itself, tied_name}
+use Rattle.fd_laws.proofs.Rows.{row_total}
+use Rattle.lens_laws.specs.Lenses.{IsTyped}
+use Rattle.lens_laws.specs.Work.{count_of}
+use Rattle.lens_specs.specs.Delta.{TableDelta, changes}
+use Rattle.lens_specs.specs.Lens.{Lens, Tables, base, drop, join, rows_or_none, select, tables_of}
+use Rattle.lens_specs.specs.Names.{Name, Names, one}
+use Rattle.lens_specs.specs.Relation.{Relation, Rows}
+use Rattle.catalog_specs.specs.Catalogue.{catalogue}
+use Rattle.server_specs.specs.Answer.{Answer}
+use Rattle.server_specs.specs.Changing.{Sent, accept, asked_view, change_answer, changed_by, settled}
+use Rattle.server_specs.specs.State.{State}
+use Rattle.base_index.specs.Held as held
+use Rattle.base_index.specs.Held.{indexes_in, walked_for}
+use Rattle.base_index.specs.Need.{rows_walked}
+use Rattle.base_index.specs.declared.need.Need.{Need}
+use Rattle.lens_probe.specs.Reading.{rows_under}
+use Rattle.table_keeper.specs.declared.keeper.Change.{Change}
+use Rattle.table_keeper.specs.declared.keeper.Change.TheVariants.{Define, Rows as RowsChange}
+use Rattle.view_catalog.specs.declared.prepared.Prepared.{Prepared}
+use Rattle.lens_server.specs.Counting.{Walks, row_count}
+use Rattle.lens_server.specs.Keyed.{IsOpen}
+use Rattle.lens_server.specs.Plans.{IsPlan, Leads, texts_with}
+use Rattle.lens_server.specs.Staging.{needs_of, steps_in, steps_of}
+use Rattle.lens_server.specs.declared.plan.Plan.{Plan}
+use Rattle.lens_server.specs.declared.plan.Staged.{Staged}
+use Rattle.lens_server.specs.declared.store.Store.{Store}
+
+-- ---- sums
+
+module _ {A : Type 0} where
+  -- the sum of smaller numbers is smaller
+  sum_less : (f g : A → ℕ) (xs : List A) → ((x : A) → f x ≤ g x) → sum_by f xs ≤ sum_by g xs
+  sum_less f g [] h = omega arith
+  sum_less f g (x ∷ xs) h = omega (arith, sum_by-cons f x xs, sum_by-cons g x xs, h x, sum_less f g xs h)
+
+  -- so are two sums of numbers that are together smaller
+  sums_less : (f g h : A → ℕ) (xs : List A) → ((x : A) → f x + g x ≤ h x) → sum_by f xs + sum_by g xs ≤ sum_by h xs
+  sums_less f g h [] less = omega arith
+  sums_less f g h (x ∷ xs) less = omega (arith, sum_by-cons f x xs, sum_by-cons g x xs, sum_by-cons h x xs, less x, sums_less f g h xs less)
+
+-- ---- the rows under a lens
+
+-- the number of rows of the entry, where its table is one of these
+abbrev counted : Names → Name × Relation → ℕ
+counted N e = cond (set.contains N e.0) (count_of e.1.rows) 0
+
+-- a table has no more rows than the entries of its name
+found_less : (t : Name) (es : List (Name × Relation)) → count_of (rows_or_none (finmap.find bytes_cmp t es)) ≤ sum_by (counted (one t)) es
+found_less t [] =
+    let none : count_of set.empty ≡ 0 = ap length (set.items-from_list row_total [] (set.nothing_rises row_total)) in
+    omega (arith, none)
+found_less t (e ∷ es) = elim (eq_by_cmp bytes_cmp t e.0) as (λ b. eq_by_cmp bytes_cmp t e.0 ≡ b
+    → count_of (rows_or_none (cond b (Some e.1) (finmap.find bytes_cmp t es))) ≤ sum_by (counted (one t)) (e ∷ es)) [
+      | true ↦ λ tie.
+          let here : counted (one t) e ≡ count_of e.1.rows =
+          ap (λ b. cond b (count_of e.1.rows) 0) (ap (set.contains (one t)) (sym (tied_name t e.0 tie)) ∙ one_itself t) in
+          omega (arith, here, sum_by-cons (counted (one t)) e es)
+      | false ↦ λ _. omega (arith, found_less t es, sum_by-cons (counted (one t)) e es)
+    ] refl
+
+one_of_two : (a b c : Bool) (n : ℕ) → (a ≡ true → b ≡ false) → c ≡ (a || b) → cond a n 0 + cond b n 0 ≤ cond c n 0
+one_of_two true true c n d u = absurd (true≢false (d refl))
+one_of_two true false true n d u = omega arith
+one_of_two true false false n d u = cc
+one_of_two false true true n d u = omega arith
+one_of_two false true false n d u = cc
+one_of_two false false c n d u = omega arith
+
+-- the tables of a lens have at least the rows under it
+under_less : (L : Lens) (db : Tables) → IsTyped L → rows_under L db ≤ sum_by (counted (tables_of L)) (finmap.entries db)
+unfolding tables_of
+under_less (base t s) db h = subst (λ o. count_of (rows_or_none o) ≤ sum_by (counted (one t)) (finmap.entries db)) (sym (finmap.get-entries db t)) (found_less t (finmap.entries db))
+under_less (select P L) db h = under_less L db h.0
+under_less (drop A X a L) db h = under_less L db h.0
+under_less (join A B) db h =
+    let both = sums_less (counted (tables_of A)) (counted (tables_of B)) (counted (set.union (tables_of A) (tables_of B))) (finmap.entries db)
+    (λ e. one_of_two (set.contains (tables_of A) e.0) (set.contains (tables_of B) e.0) (set.contains (set.union (tables_of A) (tables_of B)) e.0) (count_of e.1.rows)
+    (h.3 e.0) (set.contains-union name_total (tables_of A) (tables_of B) e.0)) in
+    omega (arith, under_less A db h.0, under_less B db h.1, both)
+
+some_less : (b : Bool) (n : ℕ) → cond b n 0 ≤ n
+some_less true n = omega arith
+some_less false n = omega arith
+
+other_less : (b : Bool) (n : ℕ) → cond b 0 n ≤ n
+other_less true n = omega arith
+other_less false n = omega arith
+
+-- and all tables have no fewer
+pub under_few : (L : Lens) (db : Tables) → IsTyped L → rows_under L db ≤ row_count db
+under_few L db h =
+    let few = sum_less (counted (tables_of L)) (λ e. count_of e.1.rows) (finmap.entries db) (λ e. some_less (set.contains (tables_of L) e.0) (count_of e.1.rows)) in
+    omega (arith, under_less L db h, few)
+
+-- to read a view of the store walks no more
+pub read_few : (store : Store) (L M : Lens) (tables : held.Held) (old new : ℕ) → IsOpen store L → M ≡ L → tables ≡ store.tables → new ≤ old + rows_under M tables.present.relations
+    → new ≤ old + row_count store.tables.present.relations
+read_few store L M tables old new opened same is h =
+    let few = under_few L store.tables.present.relations opened.here.typed in
+    let there : new ≤ old + rows_under L store.tables.present.relations =
+    subst (λ t. new ≤ old + rows_under L t.present.relations) is (subst (λ N. new ≤ old + rows_under N tables.present.relations) same h) in
+    omega (arith, few, there)
+
+-- ---- rows that are walked for a change
+
+-- for needs no more rows are walked than all tables have
+walked_few : (needs : List Need) (st : held.State) → walked_for needs st ≤ row_count st.relations
+walked_few needs st =
+    sum_less (λ e. rows_walked e.0 needs (indexes_in st e.0) e.1.rows) (λ e. count_of e.1.rows) (finmap.entries st.relations)
+    (λ e. other_less _ (count_of e.1.rows))
+
+steps_in_few : (change : Change) (o : Option Prepared) (st : held.State) → steps_in change o st ≤ row_count st.relations
+steps_in_few (RowsChange deltas) o st = omega arith
+steps_in_few (Define text table) None st = omega arith
+steps_in_few (Define text table) (Some p) st = walked_few (needs_of p.lens) st
+
+-- nor for what is staged
+pub steps_few : (o : Option Staged) (store : Store) → steps_of o store ≤ row_count store.tables.present.relations
+steps_few None store = omega arith
+steps_few (Some staged) store = steps_in_few staged.change staged.definition store.tables.present
+
+pub longer : (texts : List (List ℕ)) (text : List ℕ) → texts ++ text ∷ [] ≡ texts → ⊥
+longer texts text e = let n = ap length e in let m = length-append texts (text ∷ []) in absurd (omega (arith, n, m))
+
+undefined_steps : (change : Change) (o : Option Prepared) (st : held.State) (texts : List (List ℕ)) → texts_with o texts ≡ texts → steps_in change o st ≡ 0
+undefined_steps (RowsChange deltas) o st texts e = refl
+undefined_steps (Define text table) None st texts e = refl
+undefined_steps (Define text table) (Some p) st texts e = absurd (longer texts p.text e)
+
+-- none is walked where no text is added
+steps_none : (o : Option Staged) (next : State) (store : Store) → Leads o next store → next.texts ≡ store.catalog.texts → steps_of o store ≡ 0
+steps_none None next store l e = refl
+steps_none (Some staged) next store l e = undefined_steps staged.change staged.definition store.tables.present store.catalog.texts (sym (ap (λ s. s.texts) l.0) ∙ e)
+
+-- ---- changes of views add no text
+
+accept_texts : (L : Lens) (N : Rows) (cs : List TableDelta) (s : State) → (accept L N cs s).1.texts ≡ s.texts
+accept_texts L N [] s = refl
+accept_texts L N (c ∷ cs) s = refl
+
+settled_texts : (r : Result Rows Answer) (L : Lens) (s : State) → (settled r L s).1.texts ≡ s.texts
+settled_texts (Err refusal) L s = refl
+settled_texts (Ok rows) L s = accept_texts L rows (changes L rows s.tables) s
+
+by_texts : (sent : Sent) (on : Option ℕ) (name : Name) (o : Option Lens) (s : State) → (changed_by sent on name o s).1.texts ≡ s.texts
+by_texts sent on name None s = refl
+by_texts sent on name (Some L) s = settled_texts (asked_view s L sent on) L s
+
+pub change_texts : (sent : Sent) (on : Option ℕ) (name : Name) (s : State) → (change_answer sent on name s).1.texts ≡ s.texts
+change_texts sent on name s = by_texts sent on name (finmap.get (catalogue s.texts) name) s
+
+-- what was walked for the plan of such a change is all that is walked for it
+pub change_walks : (result : Result Plan NoMemory) (expected : Answer × State) (store : Store) (old new most : ℕ) → IfOk result (λ plan. IsPlan plan expected store)
+    → expected.1.texts ≡ store.catalog.texts → new ≤ old + most → Walks result store old new most
+change_walks (Ok plan) expected store old new most p e h = omega (arith, steps_none plan.staged expected.1 store p.leads e, h)
+change_walks (Err e) expected store old new most p t h = h
+
+-- a definition walks the tables once, when it is settled
+pub definition_walks : (result : Result Plan NoMemory) (store : Store) (old most : ℕ) → row_count store.tables.present.relations ≤ most → Walks result store old old most
+definition_walks (Ok plan) store old most h = omega (arith, steps_few plan.staged store, h)
+definition_walks (Err e) store old most h = omega arith

@@ -1,0 +1,37 @@
+-- Stores whose lenses ask their tables by key.
+use Rattle.std.proofs.Common.{◌≡◌, [], Some, subst, sym}
+use Rattle.std.specs.FinMap as finmap
+use Rattle.base_index.specs.Held.{IsQuiet}
+use Rattle.lens_laws.specs.Asked.{asked}
+use Rattle.lens_probe.specs.Viewed.{AreIndexed}
+use Rattle.lens_specs.specs.Lens.{Lens}
+use Rattle.lens_specs.specs.Names.{Name}
+use Rattle.catalog_specs.specs.Catalogue.{catalogue}
+use Rattle.server_laws.proofs.Keys.{all_keyed}
+use Rattle.server_laws.proofs.Stored.{lens_here}
+use Rattle.server_laws.specs.StateLaws.{AreShort}
+use Rattle.server_specs.specs.Validity.{Valid}
+use Rattle.lens_server.specs.Keyed.{IsKeyed, IsOpen, IsSame}
+use Rattle.lens_server.specs.States.{state_of}
+use Rattle.lens_server.specs.declared.store.Store.{Store}
+
+-- a lens of a keyed store, whose state is valid, may ask its tables
+pub open_lens : (store : Store) → Valid (state_of store) → IsKeyed store → (name : Name) (L : Lens) → finmap.get (catalogue store.catalog.texts) name ≡ Some L → IsOpen store L
+open_lens store v k name L e = record {
+  here = lens_here (state_of store) v name L e;
+  keys = all_keyed store.catalog.texts k.short v.definitions name L e;
+  indexed = k.indexed name L e;
+}
+
+-- a store that differs by the room of its catalogue alone
+pub same_state : (old new : Store) → IsSame old new → state_of new ≡ state_of old
+same_state old new s = (λ i. record { texts = s.texts i; tables = (s.tables i).present.relations; version = s.version i; last = s.last i })
+
+pub same_keyed : (old new : Store) → IsSame old new → IsKeyed old → IsKeyed new
+same_keyed old new s k = record {
+  quiet = subst IsQuiet (sym s.tables) k.quiet;
+  short = subst AreShort (sym s.texts) k.short;
+  indexed = λ name L e.
+      subst (λ tables. AreIndexed (asked L []) tables.present) (sym s.tables)
+      (k.indexed name L (subst (λ ts. finmap.get (catalogue ts) name ≡ Some L) s.texts e));
+}

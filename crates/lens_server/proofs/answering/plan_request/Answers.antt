@@ -1,0 +1,29 @@
+use Rattle.std.proofs.Common.{◌≤◌, Ok, arith, subst, sym}
+use Rattle.request_text.specs.Requests.{request_view}
+use Rattle.server_specs.specs.Changing.{edited, whole}
+use Rattle.lens_server.proofs.Counted.{change_texts, change_walks, definition_walks}
+use Rattle.lens_server.specs.Counting.{Walks, most_walked, row_count}
+use Rattle.lens_server.specs.States.{state_of}
+use Rattle.lens_server.proofs.answering.plan_request.Goals as goal
+
+pub returns-in-Define-clause-walked : goal.returns-in-Define-clause-walked
+returns-in-Define-clause-walked g c =
+    let store = c.args.store.now in
+    let many = row_count store.tables.present.relations in
+    let few : row_count c.plan_definition.new.store.tables.present.relations ≤ many =
+    subst (λ t. row_count t.present.relations ≤ many) (sym c.plan_definition.ensures.same.tables) (omega arith) in
+    subst (λ r. Walks c.plan_definition.result c.plan_definition.new.store c.args.walked.now c.args.walked.now (most_walked (Ok (request_view r)) (state_of store))) (sym c.in-Define.is)
+    (definition_walks c.plan_definition.result c.plan_definition.new.store c.args.walked.now many few)
+
+pub returns-in-Put-clause-walked : goal.returns-in-Put-clause-walked
+returns-in-Put-clause-walked g c =
+    let store = c.args.store.now in
+    subst (λ r. Walks c.plan_put.result store c.args.walked.now c.plan_put.new.walked (most_walked (Ok (request_view r)) (state_of store))) (sym c.in-Put.is)
+    (change_walks c.plan_put.result _ store c.args.walked.now c.plan_put.new.walked (row_count store.tables.present.relations) c.plan_put.ensures.plan (change_texts (whole c.in-Put.rows) c.in-Put.on c.in-Put.view (state_of store))
+    c.plan_put.ensures.walked)
+
+pub returns-in-Edit-clause-walked : goal.returns-in-Edit-clause-walked
+returns-in-Edit-clause-walked g c =
+    let store = c.args.store.now in
+    subst (λ r. Walks c.plan_edit.result store c.args.walked.now c.args.walked.now (most_walked (Ok (request_view r)) (state_of store))) (sym c.in-Edit.is)
+    (change_walks c.plan_edit.result _ store c.args.walked.now c.args.walked.now 0 c.plan_edit.ensures (change_texts (edited c.in-Edit.remove c.in-Edit.add) c.in-Edit.on c.in-Edit.view (state_of store)) (omega arith))

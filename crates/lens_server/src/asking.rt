@@ -1,0 +1,196 @@
+//! The difference of a view that a change asks for.
+ghost use Rattle.std.specs.Prelude.{◌≡◌, ◌<◌, ◌+◌, ◌≤◌, IfOk, length, slice_index_or};
+ghost use Rattle.lens_specs.specs.Delta.{AppliesTo, diff};
+ghost use Rattle.lens_specs.specs.Lens.{get, sort_of};
+ghost use Rattle.lens_laws.specs.Finds.{AllFit};
+ghost use Rattle.request_text.specs.Answers.{answer_view, list_view};
+ghost use Rattle.server_specs.specs.Answer as answers;
+ghost use Rattle.server_specs.specs.Changing as spec;
+ghost use Rattle.lens_chain.specs.Edits.{edited, over};
+ghost use Rattle.lens_probe.specs.Reading.{rows_under};
+ghost use Rattle.lens_probe.specs.Viewed.{shown};
+ghost use Rattle.lens_server.specs.Asking.{Asks, AsksBy, IsFresh, is_outside};
+ghost use Rattle.lens_server.specs.Keyed.{IsOpen};
+ghost use Rattle.lens_server.specs.States.{state_of};
+
+use crate::store::Store;
+use fd_tree::{Clash, Edge};
+use lens_probe::{EditFault, View, check_edit};
+use lens_types::TypedLens;
+use lens_values::NoMemory;
+use request_text::{Answer, JsonRows, RowList, RowsFault, rows_of};
+use row_sets::{Relation, RowSet};
+use signed_delta::{Delta, diff, of_touched};
+use std::alloc::Global;
+use std::sync::ledger::Ledger;
+use step_counter::Steps;
+
+/// Why there is no change to make.
+#[derive(Debug, Drop)]
+pub enum Refusal {
+    /// The change is refused.
+    Told {
+        /// What it is answered.
+        answer: Answer,
+    },
+    /// Memory ran out.
+    NoMemory,
+}
+
+impl From<NoMemory> for Refusal {
+    ghost use Rattle.std.specs.Prelude.{◌≡◌};
+    ghost use Rattle.lens_server.specs.declared.asking.Refusal.TheVariants as refusal;
+
+    ghost from_gives = { λ _ why. why ≡ refusal.NoMemory };
+
+    fn from(_: NoMemory) -> Refusal {
+        Refusal::NoMemory
+    }
+}
+
+/// What a put of all rows of the view changes in it, or its first refusal: a bad row, the version
+/// on which it rests, a row that the predicate refuses, two rows that clash. The tables are walked.
+pub fn asked_by_put<L: Ledger, M: Ledger>(
+    alloc: Global,
+    store: &Store,
+    view: &View<'_>,
+    rows: &JsonRows,
+    on: Option<u64>,
+    walked: &mut Steps<L>,
+    looked: &mut Steps<M>,
+) -> Result<Delta, Refusal>
+    requires open { IsOpen store.now view.now.lens }
+    requires same { view.now.tables ≡ store.now.tables }
+    ensures asks { AsksBy view.now.lens (over view.now) result
+        (spec.asked_view (state_of store.now) view.now.lens (spec.whole rows.now) on) }
+    ensures walked { walked.new ≤ walked.old + rows_under view.now.lens (over view.now) }
+{
+    let lens = view.lens();
+    let new = set_in(alloc, lens, RowList::Rows, rows)?;
+    not_stale(alloc, store, lens, on)?;
+    let delta = difference(alloc, view, new, walked)?;
+    checked(alloc, view, delta, looked)
+}
+
+/// The difference from the rows of the view to these.
+fn difference<L: Ledger>(
+    alloc: Global,
+    view: &View<'_>,
+    rows: RowSet,
+    walked: &mut Steps<L>,
+) -> Result<Delta, NoMemory>
+    requires { AllFit (sort_of view.now.lens).columns rows }
+    ensures delta { IfOk result (λ delta. delta ≡ diff (get view.now.lens (over view.now)) rows) }
+    ensures walked { walked.new ≤ walked.old + rows_under view.now.lens (over view.now) }
+{
+    let old = view.read(alloc, walked)?;
+    let columns = view.lens().sort().cols().copy(alloc)?;
+    let new = Relation::with_rows(columns, rows);
+    diff(alloc, &old, &new)
+}
+
+/// What an edit of the view changes in it, or its first refusal: a bad row to remove, a bad row to
+/// add, and then as for a put. Rows are found by key alone.
+pub fn asked_by_edit<M: Ledger>(
+    alloc: Global,
+    store: &Store,
+    view: &View<'_>,
+    remove: &JsonRows,
+    add: &JsonRows,
+    on: Option<u64>,
+    looked: &mut Steps<M>,
+) -> Result<Delta, Refusal>
+    requires open { IsOpen store.now view.now.lens }
+    requires same { view.now.tables ≡ store.now.tables }
+    ensures asks { AsksBy view.now.lens (over view.now) result (spec.asked_view (state_of store.now)
+        view.now.lens (spec.edited remove.now add.now) on) }
+{
+    let lens = view.lens();
+    let removed = set_in(alloc, lens, RowList::Remove, remove)?;
+    let added = set_in(alloc, lens, RowList::Add, add)?;
+    not_stale(alloc, store, lens, on)?;
+    let delta = of_touched(alloc, &removed, &added, view, looked)?;
+    checked(alloc, view, delta, looked)
+}
+
+/// The set of the rows that a list says, or its first bad row.
+fn set_in(
+    alloc: Global,
+    lens: &TypedLens,
+    list: RowList,
+    rows: &JsonRows,
+) -> Result<RowSet, Refusal>
+    ensures { Asks result (spec.set_in (list_view list) (sort_of lens.now).columns rows.now) }
+{
+    match rows_of(alloc, lens.sort().cols(), rows) {
+        Ok(rows) => Ok(rows),
+        Err(RowsFault::BadRow { index, col }) => Err(Refusal::Told {
+            answer: Answer::BadRow { list, index, col },
+        }),
+        Err(RowsFault::NoMemory) => Err(Refusal::NoMemory),
+    }
+}
+
+/// Nothing, where the version on which a change rests is not stale.
+fn not_stale(alloc: Global, store: &Store, lens: &TypedLens, on: Option<u64>) -> Result<(), Refusal>
+    ensures { IsFresh (state_of store.now) lens.now on result }
+{
+    let changed_at = store.last.latest(lens.tables(alloc)?.as_slice());
+    if is_outside(on, changed_at, store.version) {
+        return Err(Refusal::Told {
+            answer: Answer::Stale {
+                changed_at,
+                version: store.version,
+            },
+        });
+    }
+    Ok(())
+}
+
+/// Whether the version on which a change rests is before the last change or yet to come.
+fn is_outside(on: Option<u64>, changed_at: u64, version: u64) -> bool
+    ensures { result ≡ is_outside on changed_at version }
+{
+    match on {
+        Some(on) => on < changed_at || version < on,
+        None => false,
+    }
+}
+
+/// The difference, where the view is of its sort after it.
+fn checked<M: Ledger>(
+    alloc: Global,
+    view: &View<'_>,
+    delta: Delta,
+    looked: &mut Steps<M>,
+) -> Result<Delta, Refusal>
+    requires { AppliesTo delta (shown view.now) }
+    ensures { let L = view.now.lens in let db = over view.now in
+        AsksBy L db result (spec.of_sort (sort_of L) (edited L db delta)) }
+{
+    let sort = view.lens().sort();
+    match check_edit(alloc, sort, view, &delta, looked) {
+        Ok(()) => Ok(delta),
+        Err(EditFault::OffPredicate { row }) => Err(Refusal::Told {
+            answer: Answer::OffPredicate { row },
+        }),
+        Err(EditFault::Clash { clash }) => Err(Refusal::Told {
+            answer: clash_answer(alloc, sort.tree().edges(), clash)?,
+        }),
+        Err(EditFault::NoMemory) => Err(Refusal::NoMemory),
+    }
+}
+
+/// The answer that two rows clash on the edge at the place.
+fn clash_answer(alloc: Global, edges: &[Edge], found: Clash) -> Result<Answer, NoMemory>
+    requires { found.edge < length edges.now }
+    ensures { IfOk result (λ answer.
+        (edge : _) → edge ≡ slice_index_or edges.now found.edge edge
+        → answer_view answer ≡ answers.clash edge found.first found.second) }
+{
+    Ok(Answer::Clash {
+        edge: edges[found.edge].copy(alloc)?,
+        first: found.first,
+        second: found.second,
+    })
+}
