@@ -5,9 +5,13 @@ ghost use Rattle.std.specs.Prelude.{◌≡◌, ◌≢◌, ◌↔◌, None, map, 
 ghost use Rattle.command_words.specs.Settings.{settings};
 
 #[cfg(test)]
+mod device_tests;
+#[cfg(test)]
 mod file_tests;
 mod giving;
 mod opening;
+#[cfg(test)]
+mod preview_tests;
 #[cfg(test)]
 mod row_tests;
 pub mod running;

@@ -15,7 +15,7 @@ const ALBUMS: &str = "table albums (album text, quantity int) with album -> quan
 const READ_ALBUMS: &str = r#"{"do":"read","view":"albums"}"#;
 
 /// The last request of the program's own script, and its reply.
-const PUT_STOCK: &str =
+pub const PUT_STOCK: &str =
     r#"{"do":"put","view":"stock","rows":[{"album":"Show","quantity":3,"rating":4,"track":"Lullaby"},{"album":"Disintegration","quantity":7,"rating":5,"track":"Lovesong"}]}
 {"changed":[{"add":[{"album":"Disintegration","quantity":7}],"remove":[{"album":"Disintegration","quantity":6}],"table":"albums"},{"add":[{"album":"Disintegration","date":1989,"rating":5,"track":"Lovesong"},{"album":"Galore","date":1989,"rating":4,"track":"Lullaby"},{"album":"Show","date":1989,"rating":4,"track":"Lullaby"}],"remove":[{"album":"Galore","date":1989,"rating":3,"track":"Lullaby"},{"album":"Paris","date":1989,"rating":5,"track":"Lovesong"},{"album":"Show","date":1989,"rating":3,"track":"Lullaby"},{"album":"Wish","date":1992,"rating":4,"track":"Trust"}],"table":"tracks"}],"ok":true,"version":6}"#;
 

@@ -103,11 +103,14 @@ const FIFTH: &str = r#"{"ok":true,"version":5}"#;
 const CHAIN_CLASH: &str =
     r#"{"edge":{"left":["track"],"right":["album"]},"error":43,"ok":false,"rows":[{"album":"X","quantity":1,"track":"t"},{"album":"Y","quantity":3,"track":"t"}]}"#;
 
-const TOO_LONG: &str = r#"{"error":10,"ok":false}"#;
+/// The reply to a line that is too long.
+pub const TOO_LONG: &str = r#"{"error":10,"ok":false}"#;
 
-const NOT_JSON: &str = r#"{"error":11,"ok":false}"#;
+/// The reply to a line that is no JSON.
+pub const NOT_JSON: &str = r#"{"error":11,"ok":false}"#;
 
-const NOT_STORED: &str = r#"{"error":90,"ok":false}"#;
+/// The reply to a change that the keeper refused.
+pub const NOT_STORED: &str = r#"{"error":90,"ok":false}"#;
 
 fn run_counted<K: Keeper, L: Ledger>(
     alloc: Global,
@@ -136,7 +139,7 @@ pub fn words_of(alloc: Global, words: &str) -> Result<Vec<String>, Fail> {
 }
 
 /// The status of a run with these words.
-fn status_of<K: Keeper>(
+pub fn status_of<K: Keeper>(
     alloc: Global,
     words: &str,
     source: &mut MemorySource,
