@@ -82,7 +82,13 @@ def must_begin(reply, start):
         raise SystemExit(f"not what was expected: {reply[:200]!r}")
 
 
-def timed(server, steps, times=1, digits=0):
+def in_ms(seconds):
+    """A time in ms, with about two digits."""
+    ms = seconds * 1000
+    return f"{ms:,.{3 if ms < 0.1 else 2 if ms < 1 else 1 if ms < 10 else 0}f} ms"
+
+
+def timed(server, steps, times=1):
     """The lines, each with how its reply is to begin: the mean of what each takes in ms, and the peak memory after it in MB."""
     table = []
     for name, line, start in steps:
@@ -91,7 +97,7 @@ def timed(server, steps, times=1, digits=0):
             reply, seconds = server.ask(line)
             must_begin(reply, start)
             total += seconds
-        table.append((name, len(line), f"{total / times * 1000:,.{digits}f} ms", f"{server.peak():,.0f} MB"))
+        table.append((name, len(line), in_ms(total / times), f"{server.peak():,.0f} MB"))
     server.end()
     return table
 
@@ -100,9 +106,9 @@ def define(text):
     return ('{"do":"define","text":"' + text + '"}\n').encode()
 
 
-def defined(program, *texts):
-    """A server that has taken these definitions."""
-    server = Server(program)
+def defined(program, *texts, words=()):
+    """A server with these words that has taken these definitions."""
+    server = Server(program, *words)
     for text in texts:
         reply, _ = server.ask(define(text))
         must_begin(reply, b'{"ok":true')
@@ -148,9 +154,10 @@ def renamed(line):
     return line.replace('"track":"track', '"track":"other', 1)
 
 
-def edits(program):
-    """Edits and a preview of a view of 100,000 rows, and edits that are refused; ms and MB."""
-    server = defined(program, TRACKS, "view shown = select from tracks where rating > 0")
+def edits(program, folder):
+    """Edits and a preview of a view of 100,000 rows over a store in a file, and edits that are refused; ms and MB."""
+    path = os.path.join(folder, "edits.db")
+    server = defined(program, TRACKS, "view shown = select from tracks where rating > 0", words=("--store", path))
     rows = [row(number) for number in range(HIDING)]
     shown = [line for line in rows if '"rating":0' not in line]
     reply, _ = server.ask(put(rows))
@@ -158,11 +165,11 @@ def edits(program):
     first, last = [shown[0]], [shown[-1]]
     some, many = shown[ROWS // 10 : ROWS // 5], shown[ROWS // 4 : ROWS * 3 // 4]
     steps = [
-        (f"edit of a view of {len(shown):,} rows, one row replaced", edit("shown", last, map(renamed, last)), b'{"changed":[{'),
+        (f"edit of a view of {len(shown):,} rows, one row replaced, with `--store`", edit("shown", last, map(renamed, last)), b'{"changed":[{'),
         ("preview of such an edit", edit("shown", first, map(renamed, first), "preview"), b'{"changed":[{'),
-        (f"edit of that view, {len(some):,} rows replaced", edit("shown", some, map(renamed, some)), b'{"changed":[{'),
+        (f"edit of that view, {len(some):,} rows replaced, with `--store`", edit("shown", some, map(renamed, some)), b'{"changed":[{'),
         ("the same edit again, which changes nothing", edit("shown", some, map(renamed, some)), b'{"changed":[],'),
-        (f"edit of that view, {len(many):,} rows replaced", edit("shown", many, map(renamed, many)), b'{"changed":[{'),
+        (f"edit of that view, {len(many):,} rows replaced, with `--store`", edit("shown", many, map(renamed, many)), b'{"changed":[{'),
         ("an edit of one row that rests on an old version, refused", edit("shown", first, [], on=1), b'{"changed_at":'),
         ("an edit of one row that the view would not show, refused", edit("shown", [], [row(0)]), b'{"error":42,'),
     ]
@@ -182,7 +189,7 @@ def questions(program):
         ("an edit of a view that is not there", edit("nothing", [], [row(0)]), b'{"error":22,'),
         ("an edit with a row that is none", edit("good", [], ["3"]), b'{"col":'),
     ]
-    return timed(server, steps, times=PUTS, digits=3)
+    return timed(server, steps, times=PUTS)
 
 
 def without_date(line):
@@ -235,6 +242,33 @@ def joins(program):
     return table
 
 
+def streams(program):
+    """Previews over 50,000 albums, all in one stream; and the memory after 1,000 and after 100,000 edits of one row; seconds and MB."""
+    server = defined(
+        program,
+        "table albums (album text, quantity int) with album -> quantity",
+        "table tracks (track text, date int, rating int, album text) with track -> date rating",
+        "view stock = select from (drop date determined by (track, 2018) from (join_dl tracks with albums)) where quantity > 2",
+    )
+    albums = [f'{{"album":"z{number}","quantity":5}}' for number in range(50_000)]
+    server.ask(edit("albums", [], albums))
+    asked = [edit("stock", [], [f'{{"album":"z1","quantity":5,"rating":2,"track":"n{number}"}}'], "preview") for number in range(40_000)]
+    seconds = sum(server.ask(line)[1] for line in asked)
+    table = [("40,000 previews over 50,000 albums, one row each", len(asked[0]), f"{seconds:,.1f} s", f"{server.peak():,.0f} MB")]
+    rated = [f'{{"album":"z1","quantity":5,"rating":{rating},"track":"t"}}' for rating in (1, 2)]
+    server.ask(edit("stock", [], rated[:1]))
+    begin, done = 0.0, 0
+    for many in (1_000, 100_000):
+        for number in range(done, many):
+            reply, seconds = server.ask(edit("stock", [rated[number % 2]], [rated[(number + 1) % 2]]))
+            must_begin(reply, b'{"changed":[{')
+            begin += seconds
+        done = many
+        table.append((f"{many:,} edits of one row of that view", len(edit("stock", rated[:1], rated[1:])), f"{begin:,.2f} s", f"{server.peak():,.0f} MB"))
+    server.end()
+    return table
+
+
 def dependent(program):
     """The put of 100,000 rows into a table with two dependencies, and a put of as many that clash; ms and MB."""
     server = defined(program, TRACKS + DEPENDENCIES)
@@ -262,7 +296,7 @@ def chains(program):
             ("the same, the dependencies in the other order", "turned", chain[::-1]),
         ]
     ]
-    return timed(server, steps, digits=1)
+    return timed(server, steps)
 
 
 def long_texts(program):
@@ -277,7 +311,7 @@ def long_texts(program):
         "as many dependencies as it holds, taken once and then refused for its name": "table twice (a int) with a->a" + ",a->a" * 813,
     }
     steps = [(f"definition of {len(text):,} bytes, {name}", define(text), b'{"') for name, text in texts.items()]
-    return timed(server, steps, times=PUTS, digits=2)
+    return timed(server, steps, times=PUTS)
 
 
 def longest(program):
@@ -377,15 +411,17 @@ def rehearsed(program):
 def stores(program):
     """The lines of stores, in a folder beside the program."""
     with tempfile.TemporaryDirectory(dir=os.path.dirname(os.path.abspath(program))) as folder:
-        return kept(program, folder) + committed(program, folder) + rehearsed(program)
+        return edits(program, folder) + kept(program, folder) + committed(program, folder) + rehearsed(program)
 
 
 def main():
     program = sys.argv[1] if len(sys.argv) > 1 else os.path.join(TOP, "crates/view_program/out/view_program")
     print("| What | Bytes of input | Time | Peak memory |")
     print("|---|---|---|---|")
-    for name, size, taken, peak in large(program) + views(program) + edits(program) + questions(program) + drops(program) + joins(program) + dependent(program) + chains(program) + long_texts(program) + longest(program) + small(program) + stores(program):
-        print(f"| {name} | {size:,} | {taken} | {peak} |")
+    for part in (large, views, questions, drops, joins, streams, dependent, chains, long_texts, longest, small, stores):
+        for name, size, taken, peak in part(program):
+            print(f"| {name} | {size:,} | {taken} | {peak} |", flush=True)
 
 
-main()
+if __name__ == "__main__":
+    main()

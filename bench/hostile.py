@@ -1,0 +1,92 @@
+#!/usr/bin/env python3
+"""Sends the program lines of up to 16 MiB that are costly to read, and prints for each its reply, its time and the peak memory; then
+the same lines under a limit of the address space. After each line a request for the definitions must be answered.
+
+Usage: bench/hostile.py [PROGRAM]    (without the word, the program that ./serve builds)
+"""
+import os
+import resource
+import string
+import subprocess
+import sys
+
+from bench import LONGEST, TOP, Server, define, must_begin
+
+LIST = b'{"do":"list"}\n'
+LIMIT = 128 << 20
+LONGEST_TIME = 3.0
+DIGITS = string.digits + string.ascii_lowercase
+
+
+def short_names(count):
+    """So many distinct names of four letters and digits."""
+    for number in range(count):
+        letters = []
+        for _ in range(4):
+            number, digit = divmod(number, len(DIGITS))
+            letters.append(DIGITS[digit])
+        yield "".join(letters)
+
+
+def filled(front, member, between, back):
+    """A line that is filled with as many equal members as it holds."""
+    count = (LONGEST - len(front) - len(back) + len(between)) // (len(member) + len(between))
+    return (front + between.join([member] * count) + back + "\n").encode()
+
+
+def lines():
+    """What each line is, and the line."""
+    members = ",".join(f'"{name}":0' for name in short_names(1_600_000))
+    return [
+        ("an object of 1,600,000 distinct members", ("{" + members + "}\n").encode()),
+        ("an array of empty objects", filled("[", "{}", ",", "]")),
+        ("a put of rows that are empty objects", filled('{"do":"put","view":"t","rows":[', "{}", ",", "]}")),
+        ("a put of numbers for rows", filled('{"do":"put","view":"t","rows":[', "0", ",", "]}")),
+        ("a put of rows that are equal", filled('{"do":"put","view":"t","rows":[', '{"a":1}', ",", "]}")),
+        ("an array of arrays, each 126 levels deep", filled("[", "[" * 126 + "]" * 126, ",", "]")),
+        ("brackets that are never closed", ("[" * LONGEST + "\n").encode()),
+        ("one string", ('{"do":"list","on":"' + "a" * (LONGEST - 21) + '"}\n').encode()),
+        ("a string of escapes alone", filled('{"do":"list","on":"', "\\u0041", "", '"}')),
+        ("digits alone", ("1" * LONGEST + "\n").encode()),
+        ("blanks alone", (" " * LONGEST + "\n").encode()),
+    ]
+
+
+class Limited(Server):
+    """The program under a limit of its address space."""
+
+    def __init__(self, program):
+        limit = lambda: resource.setrlimit(resource.RLIMIT_AS, (LIMIT, LIMIT))
+        self.process = subprocess.Popen([program], stdin=subprocess.PIPE, stdout=subprocess.PIPE, bufsize=0, preexec_fn=limit)
+
+
+def asked(make, program, line):
+    """What a program of its own replies to the line, how long that takes, and its peak memory. The next line must be served."""
+    server = make(program)
+    reply, _ = server.ask(define("table t (a int)"))
+    must_begin(reply, b'{"ok":true')
+    reply, seconds = server.ask(line)
+    served, _ = server.ask(LIST)
+    must_begin(served, b'{"definitions":["table t (a int)"]')
+    peak = server.peak()
+    server.end()
+    return reply.decode().rstrip("\n")[:60], seconds, peak
+
+
+def main():
+    program = sys.argv[1] if len(sys.argv) > 1 else os.path.join(TOP, "crates/view_program/out/view_program")
+    slow = []
+    print(f"| Line of up to 16 MiB | Bytes | Reply | Time | Peak memory | Reply under {LIMIT >> 20} MB |")
+    print("|---|---|---|---|---|---|")
+    for name, line in lines():
+        reply, seconds, peak = asked(Server, program, line)
+        limited, _, _ = asked(Limited, program, line)
+        print(f"| {name} | {len(line):,} | `{reply}` | {seconds:.2f} s | {peak:,.0f} MB | `{limited}` |", flush=True)
+        if seconds > LONGEST_TIME:
+            slow.append(name)
+    if slow:
+        raise SystemExit(f"slower than {LONGEST_TIME} s: {', '.join(slow)}")
+
+
+if __name__ == "__main__":
+    main()
