@@ -4,17 +4,18 @@ ghost use Rattle.no_memory.specs.Gives.{Gives};
 ghost use Rattle.lens_values.specs.Text.{text_of};
 
 use no_memory::NoMemory;
-use std::alloc::{AllocError, Global};
+use std::alloc::{AllocError, AllocFailed, Global};
 use std::cmp::Ordering;
 use std::marker::Model;
+use std::rc::Rc;
 
 /// The greatest number of bytes of a text.
 pub const MAX_TEXT: usize = 4096;
 
-/// At most 4,096 bytes of UTF-8, without U+0000. A contract sees its bytes.
+/// At most 4,096 bytes of UTF-8, without U+0000. A contract sees its bytes. Copies share them.
 #[derive(Debug, Drop)]
 pub struct Text {
-    inner: String,
+    inner: Rc<String>,
 }
 
 impl Model for Text {
@@ -23,9 +24,9 @@ impl Model for Text {
 
     ghost Value = { List ℕ };
 
-    ghost view = { λ t. string_bytes t.inner };
+    ghost view = { λ t. string_bytes t.inner.value };
 
-    ghost invariant = { λ t. IsTrue (is_text (string_bytes t.inner)) };
+    ghost invariant = { λ t. IsTrue (is_text (string_bytes t.inner.value)) };
 }
 
 /// Why bytes are not a text.
@@ -50,6 +51,17 @@ impl From<AllocError> for TextFault {
     }
 }
 
+impl<T: Drop> From<AllocFailed<T>> for TextFault {
+    ghost use Rattle.std.specs.Prelude.{◌≡◌};
+    ghost use Rattle.lens_values.specs.declared.text.TextFault.TheVariants.{NoMemory};
+
+    ghost from_gives = { λ _ e. e ≡ NoMemory };
+
+    fn from(_: AllocFailed<T>) -> TextFault {
+        TextFault::NoMemory
+    }
+}
+
 impl Text {
     /// The text of these bytes. `TooLong` where there are more than 4,096, and otherwise
     /// `HasNul` where U+0000 is among them.
@@ -63,7 +75,7 @@ impl Text {
             return Err(TextFault::HasNul);
         }
         Ok(Text {
-            inner: String::from_str(alloc, s)?,
+            inner: Rc::new(alloc, String::from_str(alloc, s)?)?,
         })
     }
 
@@ -75,11 +87,11 @@ impl Text {
     }
 
     /// An equal text.
-    pub fn copy(&self, alloc: Global) -> Result<Text, NoMemory>
+    pub fn copy(&self, _alloc: Global) -> Result<Text, NoMemory>
         ensures { IfOk result (λ copy. copy ≡ self.now) }
     {
         Ok(Text {
-            inner: String::from_str(alloc, self.inner.as_str())?,
+            inner: self.inner.clone()?,
         })
     }
 }
