@@ -120,7 +120,8 @@ pub agree_at : (C : Names) (m n : Row) (c : Name) → agree C m n ≡ true → s
 unfolding agree
 agree_at C m n c h there = values_same _ _ (of_all nat_list_cmp_total exact (λ c. same_value (finmap.get m c) (finmap.get n c)) c (set.items C) h (sym (set.contains-items C c) ∙ there))
 
-parts_same : (C : Names) (m n : Row) → agree C m n ≡ true → restrict C n ≡ restrict C m
+-- and the same parts
+pub parts_same : (C : Names) (m n : Row) → agree C m n ≡ true → restrict C n ≡ restrict C m
 parts_same C m n h = finmap.same_map nat_list_cmp_total exact _ _ (λ c.
     get-part C n c ∙ elim (set.contains C c) as (λ b. set.contains C c ≡ b → cond b (finmap.get n c) None ≡ cond b (finmap.get m c) None) [
       | true ↦ λ there. sym (agree_at C m n c h there)

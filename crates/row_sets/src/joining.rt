@@ -1,5 +1,5 @@
 //! Pairs of rows that agree on some columns, found by an index.
-ghost use Rattle.std.specs.Prelude.{◌≡◌, ◌++◌, IfOk, OnOk, filter, flat_map, map};
+ghost use Rattle.std.specs.Prelude.{◌≡◌, ◌++◌, IfOk, IfSome, OnOk, filter, flat_map, map};
 ghost use Rattle.std.specs.List.{list_any};
 ghost use Rattle.std.specs.List.Sorted.{IsStrictlySortedBy};
 ghost use Rattle.std.specs.Ordering.{eq_by_cmp, is_eq};
@@ -47,11 +47,35 @@ pub fn paired(
         (filter (λ e. is_eq (row_cmp e.0 (restrict cols.now m))) index.now)) rows.now) }
 {
     let mut pairs = Vec::new(alloc);
+    let mut near = &index[..0];
+    let mut before = None;
     for row in rows {
-        let key = row.project(alloc, cols)?;
-        append_pairs(&mut pairs, alloc, row, with_part(index, &key))?;
+        near = partners(alloc, row, before, cols, index, near)?;
+        append_pairs(&mut pairs, alloc, row, near)?;
+        before = Some(row);
     }
     Ok(pairs)
+}
+
+// The entries with the row's part. They are those of the row before it, where both agree.
+fn partners<'a>(
+    alloc: Global,
+    row: &Row,
+    before: Option<&Row>,
+    cols: &Names,
+    index: &'a [(Row, Row)],
+    near: &'a [(Row, Row)],
+) -> Result<&'a [(Row, Row)], NoMemory>
+    requires order { IsStrictlySortedBy entry_cmp index.now }
+    requires near { IfSome before (λ b.
+        near.now ≡ filter (λ e. is_eq (row_cmp e.0 (restrict cols.now b.now))) index.now) }
+    ensures { IfOk result (λ some.
+        some.now ≡ filter (λ e. is_eq (row_cmp e.0 (restrict cols.now row.now))) index.now) }
+{
+    match before {
+        Some(before) if before.agree_on(row, cols) => Ok(near),
+        _ => Ok(with_part(index, &row.project(alloc, cols)?)),
+    }
 }
 
 // Adds the row pasted with each of the indexed rows.

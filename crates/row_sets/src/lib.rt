@@ -2,6 +2,7 @@
 #![tactic(auto)]
 
 mod joining;
+mod moving;
 pub mod relation;
 pub mod row_set;
 pub mod row_tree;

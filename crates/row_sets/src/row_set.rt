@@ -8,6 +8,7 @@ ghost use Rattle.lens_values.specs.SortedSet as set;
 ghost use Rattle.row_sets.specs.Joins.{pairs_on};
 
 use crate::joining::{indexed, paired};
+use crate::moving::order_nearly;
 use lens_values::{Names, NoMemory, Row, copied, difference, into_sorted, union};
 use std::alloc::Global;
 use std::marker::Model;
@@ -38,6 +39,8 @@ impl RowSet {
     pub fn new(_alloc: Global, rows: Vec<Row>) -> Result<RowSet, NoMemory>
         ensures { IfOk result (λ made. made ≡ set.from_list rows.items) }
     {
+        let mut rows = rows;
+        order_nearly(&mut rows);
         Ok(RowSet {
             rows: into_sorted(rows),
         })

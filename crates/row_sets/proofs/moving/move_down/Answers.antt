@@ -1,0 +1,6 @@
+use Rattle.std.proofs.Common.{◌∙◌}
+use Rattle.std.proofs.lemmas.List.Sorted.{IsPermutation-trans}
+use Rattle.row_sets.proofs.moving.move_down.Goals as goal
+
+pub loop-below-preserved : goal.loop-below-preserved
+loop-below-preserved c = (IsPermutation-trans _ _ _ c.loop-below.invariant.0 c.swap.ensures.permutation, c.swap.ensures.len ∙ c.loop-below.invariant.1)
