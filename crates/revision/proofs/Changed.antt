@@ -1,9 +1,6 @@
 -- Rows that revision changes, from those near the new rows.
-use Rattle.std.proofs.Common.{◌≡◌, ℕ, ◌+◌, ◌<◌, length, get_or, drop, List, [], ◌∷◌, is_some, map, refl, sym, ap, ◌∙◌, subst, Bool, true, false, cond, suc, zero, arith}
+use Rattle.std.proofs.Common.{◌≡◌, ℕ, ◌<◌, length, get_or, List, [], ◌∷◌, is_some, map, refl, sym, ap, ◌∙◌, subst, Bool, true, false, cond, suc, zero, arith}
 use Rattle.std.specs.Prelude.{filter}
-use Rattle.std.specs.Ordering.{eq_by_cmp}
-use Rattle.std.proofs.lemmas.Bool.{not-true, true≢false}
-use Rattle.std.proofs.lemmas.List.{drop_more}
 use Rattle.std.proofs.lemmas.List.Kept.{IsStrictlySortedBy-filter}
 use Rattle.lens_values.specs.Row.{row_cmp}
 use Rattle.lens_values.specs.SortedMap.{keys_rise}
@@ -12,18 +9,20 @@ use Rattle.lens_values.specs.declared.row.Row.{Row}
 use Rattle.lens_specs.specs.Columns.{Columns, Fits, names}
 use Rattle.lens_specs.specs.Names.{Name, Names, Within}
 use Rattle.lens_specs.specs.Rows.{at}
-use Rattle.lens_specs.specs.Relation.{Rows, image, those, union}
+use Rattle.lens_specs.specs.Relation.{Rows, image, those}
 use Rattle.lens_specs.specs.Dependencies.{AllEdges, Edge}
 use Rattle.lens_specs.specs.Revision.{revise, revise_row}
-use Rattle.lens_laws.specs.KeyedDeltas.{found, found_each, is_changed, touched}
+use Rattle.lens_laws.specs.KeyedDeltas.{found, is_changed, touched}
 use Rattle.fd_laws.proofs.Columns.{fits_names}
 use Rattle.lens_laws.proofs.Deltas.{from_touched, in_touched}
-use Rattle.fd_laws.proofs.Relations.{from_those, in_those, same_rel, sets}
-use Rattle.fd_laws.proofs.Rows.{row_exact, row_itself, row_total}
+use Rattle.fd_laws.proofs.Relations.{from_those, in_those, same_rel}
+use Rattle.fd_laws.proofs.Rows.{row_exact, row_total}
+use Rattle.revision.specs.Near.{HasChanged}
 use Rattle.revision.specs.Touching.{all_touched, becomes, differing}
 use Rattle.revision.specs.declared.touching.Touched.{Touched}
+use Rattle.revision.proofs.Near.{apart_from, changed_among}
 
--- ---- the rows near the new ones, edge by edge
+-- ---- edges, and the columns of a row
 
 -- what holds of each edge holds of the one at a place
 pub edge_at : (P : Edge → Type 0) (T : List Edge) (i : ℕ) (e : Edge) → AllEdges P T → i < length T → e ≡ get_or T i e → P e
@@ -35,40 +34,14 @@ edge_at P (k ∷ ks) (suc i) e all below here = edge_at P ks i e all.1 (omega ar
 pub side_there : (U : Columns) (C : Names) (r : Row) → Within C (names U) → Fits U r → (c : Name) → set.contains C c ≡ true → is_some (at r c) ≡ true
 side_there U C r within fit c i = fits_names U r fit c ∙ within c i
 
-pub nothing_first : (A M : Rows) → A ≡ set.empty → union A M ≡ M
-nothing_first A M is = ap (λ N. union N M) is ∙ same_rel _ _ (λ r i. let none = set.contains-empty row_cmp r in grind (arith, sets)) (λ r i. grind (arith, sets))
-
-grouped : (A B C : Rows) → union (union A B) C ≡ union A (union B C)
-grouped A B C = same_rel _ _ (λ r i. grind (arith, sets)) (λ r i. grind (arith, sets))
-
-nothing_last : (A : Rows) → union A set.empty ≡ A
-nothing_last A = same_rel _ _ (λ r i. let none = set.contains-empty row_cmp r in grind (arith, sets)) (λ r i. grind (arith, sets))
-
--- those of one edge more
-pub near_more : (T : List Edge) (i : ℕ) (e : Edge) (M L A some : Rows) → i < length T → e ≡ get_or T i e → some ≡ found_each e.left M (set.items L)
-    → union (union A some) (found (drop (i + 1) T) M L) ≡ union A (found (drop i T) M L)
-unfolding found
-near_more T i e M L A some below here is =
-    grouped A some (found (drop (i + 1) T) M L)
-    ∙ ap (λ S. union A (union S (found (drop (i + 1) T) M L))) is
-    ∙ ap (λ es. union A (found es M L)) (ap (λ k. k ∷ drop (i + 1) T) here ∙ sym (drop_more T i e below))
-
--- those of all edges
-pub near_all : (T rest : List Edge) (M L A : Rows) → rest ≡ [] → union A (found rest M L) ≡ found T M L → A ≡ found T M L
-unfolding found
-near_all T rest M L A none is = sym (ap (λ es. union A (found es M L)) none ∙ nothing_last A) ∙ is
-
 -- ---- those that are changed
-
-changed_apart : (T : List Edge) (L : Rows) (m : Row) → is_changed T L m ≡ true → revise_row T m L ≡ m → ⊥
-changed_apart T L m t is = true≢false (sym (row_itself m) ∙ ap (λ r. eq_by_cmp row_cmp r m) (sym is) ∙ not-true _ t)
 
 -- each changed row is near a new one
 changed_near : (T : List Edge) (M L : Rows) → those (is_changed T L) (found T M L) ≡ those (is_changed T L) M
 unfolding touched
 changed_near T M L = same_rel _ _
     (λ m i. in_those (is_changed T L) M m (from_touched T M L m i).0 (from_those (is_changed T L) (found T M L) m i).1)
-    (λ m i. let w = from_those (is_changed T L) M m i in in_touched T M L m w.0 (changed_apart T L m w.1))
+    (λ m i. let w = from_those (is_changed T L) M m i in in_touched T M L m w.0 (apart_from T L m w.1))
 
 -- the list of those that pass
 pub items_those : (p : Row → Bool) (M : Rows) → set.items (those p M) ≡ filter p (set.items M)
@@ -85,12 +58,12 @@ differing_is T L [] = refl
 differing_is T L (m ∷ ms) = either_way (becomes T L) (is_changed T L m) m _ (filter (is_changed T L) ms) (differing_is T L ms)
 
 -- the rows near the new ones that are not what they become
-pub all_are : (T : List Edge) (M L near : Rows) (rows same revised : List Row) → near ≡ found T M L → rows ≡ set.items near → same ≡ set.items near
+pub all_are : (T : List Edge) (M L near : Rows) (rows same revised : List Row) → HasChanged T M L near → rows ≡ set.items near → same ≡ set.items near
     → revised ≡ map (λ m. revise_row T m L) same → differing rows revised ≡ all_touched T M L
-all_are T M L near rows same revised is listed again made =
+all_are T M L near rows same revised enough listed again made =
     (λ i. differing (listed i) ((made ∙ ap (map (λ m. revise_row T m L)) again) i))
     ∙ differing_is T L (set.items near)
-    ∙ ap (map (becomes T L)) (sym (items_those (is_changed T L) near) ∙ ap (λ N. set.items (those (is_changed T L) N)) is ∙ ap set.items (changed_near T M L))
+    ∙ ap (map (becomes T L)) (sym (items_those (is_changed T L) near) ∙ ap set.items (changed_among T M L near enough))
 
 -- ---- what changed rows were, and what they become
 

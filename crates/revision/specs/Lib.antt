@@ -1,3 +1,4 @@
 pub mod Changes
 pub mod FirstByKey
+pub mod Near
 pub mod Touching

@@ -3,6 +3,7 @@
 #![tactic(auto)]
 
 mod first_by_key;
+mod nearing;
 mod pasting;
 pub mod revising;
 pub mod steps;

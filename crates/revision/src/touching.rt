@@ -2,16 +2,16 @@
 ghost use Rattle.std.specs.Prelude.{◌≡◌, ◌≤◌, ◌+◌, ◌*◌, ℕ, true, length, map, Contains, IfOk};
 ghost use Rattle.lens_values.specs.SortedSet as set;
 ghost use Rattle.lens_specs.specs.Columns.{Fits, names};
-ghost use Rattle.lens_specs.specs.Dependencies.{AllEdges};
+ghost use Rattle.lens_specs.specs.Dependencies.{AllEdges, MeetsTree};
 ghost use Rattle.lens_specs.specs.Names.{Within};
-ghost use Rattle.lens_laws.specs.KeyedDeltas.{found};
 ghost use Rattle.revision.specs.Touching.{all_touched, differing};
 
+use crate::nearing::near_rows;
 use crate::revising::revised_rows;
 use fd_tree::Tree;
 use lens_values::{NoMemory, Row};
 use row_sets::RowSet;
-use signed_delta::{Look, find_each};
+use signed_delta::Look;
 use std::alloc::Global;
 use std::sync::ledger::Ledger;
 use step_counter::Steps;
@@ -26,7 +26,7 @@ pub struct Touched {
 }
 
 /// The rows of the look's relation that revision by the new rows changes, in rising order, each
-/// with what it becomes. They are found by what the new rows have on the left side of each edge
+/// with what it becomes. They are found by what the new rows have on the left side of an edge
 /// (Horn, Perera, Cheney, ICFP 2018).
 pub fn revise_touched<K: Look, L: Ledger>(
     alloc: Global,
@@ -38,6 +38,7 @@ pub fn revise_touched<K: Look, L: Ledger>(
     requires asked { AllEdges (λ e. Contains (K.asked look.now) e.left) tree.now }
     requires columns { AllEdges (λ e.
         Within e.left (names (K.relation look.now).columns)) tree.now }
+    requires meets { MeetsTree (K.relation look.now).rows tree.now }
     requires fit { (row : _) → set.contains plus.now row ≡ true
         → Fits (K.relation look.now).columns row }
     ensures touched { IfOk result (λ touched. touched.items
@@ -73,34 +74,6 @@ pub fn afters(alloc: Global, touched: &[Touched]) -> Result<RowSet, NoMemory>
         rows.push(change.after.copy(alloc)?)?;
     }
     RowSet::new(alloc, rows)
-}
-
-// The rows of the look's relation that agree with a new row on the left side of an edge.
-fn near_rows<K: Look, L: Ledger>(
-    alloc: Global,
-    tree: &Tree,
-    look: &K,
-    plus: &RowSet,
-    looked: &mut Steps<L>,
-) -> Result<RowSet, NoMemory>
-    requires asked { AllEdges (λ e. Contains (K.asked look.now) e.left) tree.now }
-    requires columns { AllEdges (λ e.
-        Within e.left (names (K.relation look.now).columns)) tree.now }
-    requires fit { (row : _) → set.contains plus.now row ≡ true
-        → Fits (K.relation look.now).columns row }
-    ensures near { IfOk result (λ near. near ≡ found tree.now (K.relation look.now).rows plus.now) }
-    ensures looks { (n : ℕ) → K.within look.now n → looked.new ≤ looked.old
-        + n * length (set.items plus.now) * length tree.now }
-    ensures few { IfOk result (λ near. (n : ℕ) → K.within look.now n → length (set.items near)
-        ≤ n * length (set.items plus.now) * length tree.now) }
-{
-    tree.lefts_are_full();
-    let mut near = RowSet::empty(alloc);
-    for edge in tree.edges() {
-        let some = find_each(alloc, &edge.left, plus, look, looked)?;
-        near = near.union(alloc, &some)?;
-    }
-    Ok(near)
 }
 
 // Each of the rows that is not the one at its place in the other list, with that one.
