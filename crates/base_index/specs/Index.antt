@@ -1,18 +1,19 @@
 -- What an index holds.
 use Rattle.std.specs.Prelude.{◌≡◌, Bool, if◌then◌else◌, unwrap_or}
 use Rattle.std.specs.Ordering.{eq_by_cmp}
-use Rattle.std.specs.HashMap.{get}
+use Rattle.std.specs.BTreeMap.{get}
 use Rattle.lens_values.specs.Names.{Names}
 use Rattle.lens_values.specs.Part.{restrict}
 use Rattle.lens_values.specs.Row.{row_cmp}
 use Rattle.lens_values.specs.SortedSet as set
 use Rattle.lens_values.specs.declared.row.Row.{Row}
 use Rattle.lens_specs.specs.Relation.{Rows}
+use Rattle.base_index.specs.Key.{key_cmp}
 use Rattle.base_index.specs.declared.index.Index.{Index}
 
 -- the rows under a key
 abbrev pub group_at : Index → Row → Rows
-group_at index key = unwrap_or (get (eq_by_cmp row_cmp) index.groups key) set.empty
+group_at index key = unwrap_or (get key_cmp index.groups key) set.empty
 
 -- the row has this key
 abbrev pub has_key : Names → Row → Row → Bool

@@ -10,13 +10,13 @@ use crate::key::Key;
 use lens_values::{Names, NoMemory, Row};
 use row_sets::{RowSet, RowTree};
 use std::alloc::Global;
-use std::collections::HashMap;
+use std::collections::BTreeMap;
 
 /// The rows of each key. A key with no row is not there.
 #[derive(Drop)]
 pub struct Index {
     pub(crate) cols: Names,
-    groups: HashMap<Key, RowTree>,
+    groups: BTreeMap<Key, RowTree>,
 }
 
 impl Index {
@@ -27,7 +27,7 @@ impl Index {
     {
         Index {
             cols,
-            groups: HashMap::new(alloc),
+            groups: BTreeMap::new(alloc),
         }
     }
 

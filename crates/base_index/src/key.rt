@@ -1,29 +1,38 @@
-//! Rows as keys of a hash map.
+//! Rows as keys of a tree.
 ghost use Rattle.std.specs.Prelude.{◌≡◌, IfOk, fold};
-ghost use Rattle.base_index.specs.Key.{value_writes};
+ghost use Rattle.base_index.specs.Key.{hash_row, hash_number, hash_value};
 
 use lens_values::{NoMemory, Row, Value};
 use std::alloc::Global;
-use std::hash::{Hash, Hasher};
+use std::cmp::Ordering;
 use std::marker::Model;
 
-/// The values of a row in the columns of an index. A contract sees them as a row.
+// What a hash is multiplied by for each number that it takes in: the prime 2^40 + 435.
+const FACTOR: u64 = 1_099_511_628_211;
+
+/// The values of a row in the columns of an index, in the order of their hashes. A contract sees
+/// them as a row.
 #[derive(Drop)]
 pub struct Key {
+    hash: u64,
     row: Row,
 }
 
 impl Model for Key {
+    ghost use Rattle.std.specs.Prelude.{◌≡◌};
     ghost use Rattle.std.specs.FinMap as map;
     ghost use Rattle.lens_values.specs.Order.{bytes_cmp};
     ghost use Rattle.lens_values.specs.contracts.row.Row as contract;
     ghost use Rattle.lens_values.specs.declared.value.Value as declared;
+    ghost use Rattle.base_index.specs.Key.{hash_row};
 
     ghost Value = { map.FinMap bytes_cmp declared.Value };
 
     ghost coded = { contract.the_row.coded };
 
     ghost view = { λ k. k.row };
+
+    ghost invariant = { λ k. k.hash ≡ hash_row k.row };
 }
 
 impl Key {
@@ -31,7 +40,10 @@ impl Key {
     pub fn of(row: Row) -> Key
         ensures { result ≡ row }
     {
-        Key { row }
+        Key {
+            hash: hash_row(&row),
+            row,
+        }
     }
 
     /// An equal key.
@@ -39,6 +51,7 @@ impl Key {
         ensures { IfOk result (λ copy. copy ≡ self.now) }
     {
         Ok(Key {
+            hash: self.hash,
             row: self.row.copy(alloc)?,
         })
     }
@@ -47,46 +60,100 @@ impl Key {
 impl PartialEq for Key {
     ghost use Rattle.std.specs.Ordering.{eq_by_cmp};
     ghost use Rattle.std.specs.Cmp.{partial_equiv_from_equiv, eq_by_cmp_equiv};
-    ghost use Rattle.lens_values.specs.Row.{row_cmp};
-    ghost use Rattle.lens_values.specs.RowOrder.{row_cmp_total};
+    ghost use Rattle.base_index.specs.Key.{key_cmp};
+    ghost use Rattle.base_index.specs.KeyOrder.{key_cmp_total};
 
-    ghost eq = { eq_by_cmp row_cmp };
+    ghost eq = { eq_by_cmp key_cmp };
 
-    ghost laws = { partial_equiv_from_equiv (eq_by_cmp_equiv row_cmp_total) };
+    ghost laws = { partial_equiv_from_equiv (eq_by_cmp_equiv key_cmp_total) };
 
     fn eq(&self, other: &Key) -> bool {
-        self.row == other.row
+        self.cmp(other) == Ordering::Equal
     }
 }
 
 impl Eq for Key {
     ghost use Rattle.std.specs.Cmp.{eq_by_cmp_equiv};
-    ghost use Rattle.lens_values.specs.RowOrder.{row_cmp_total};
+    ghost use Rattle.base_index.specs.KeyOrder.{key_cmp_total};
 
-    ghost laws = { eq_by_cmp_equiv row_cmp_total };
+    ghost laws = { eq_by_cmp_equiv key_cmp_total };
 }
 
-impl Hash for Key {
-    ghost use Rattle.base_index.specs.Key.{row_writes, same_writes};
+impl PartialOrd for Key {
+    ghost use Rattle.std.specs.Prelude.{refl};
+    ghost use Rattle.std.specs.Ordering.{as_partial_cmp};
+    ghost use Rattle.std.specs.Cmp.{partial_order_from_agreeing_total};
+    ghost use Rattle.base_index.specs.Key.{key_cmp};
+    ghost use Rattle.base_index.specs.KeyOrder.{key_cmp_total};
 
-    ghost hash_input = { row_writes };
+    ghost partial_cmp = { as_partial_cmp key_cmp };
 
-    ghost respects_eq = { same_writes };
+    ghost laws = { partial_order_from_agreeing_total key_cmp key_cmp_total (λ _ _. refl) (λ _ _. refl) };
 
-    fn hash<H: Hasher>(&self, state: &mut H) {
-        for pair in self.row.pairs() {
-            hash_value(&pair.1, state);
+    fn partial_cmp(&self, other: &Key) -> Option<Ordering> {
+        Some(self.cmp(other))
+    }
+}
+
+impl Ord for Key {
+    ghost use Rattle.std.specs.Prelude.{refl};
+    ghost use Rattle.base_index.specs.Key.{key_cmp};
+    ghost use Rattle.base_index.specs.KeyOrder.{key_cmp_total};
+
+    ghost cmp = { key_cmp };
+
+    ghost total = { key_cmp_total };
+
+    ghost matches_partial_cmp = { λ _ _. refl };
+
+    ghost matches_eq = { λ _ _. refl };
+
+    fn cmp(&self, other: &Key) -> Ordering {
+        match self.hash.cmp(&other.hash) {
+            Ordering::Equal => self.row.cmp(&other.row),
+            order => order,
         }
     }
 }
 
-// Feeds a value to a hasher.
-fn hash_value<H: Hasher>(value: &Value, state: &mut H)
-    ensures { state.new ≡ fold H.write state.old (value_writes value.now) }
+// The hash of the values of a row, in the order of their columns.
+#[tactic(auto, unfolding(crate::specs::Key::hash_row))]
+fn hash_row(row: &Row) -> u64
+    ensures { result ≡ hash_row row.now }
+{
+    let mut hash = 0;
+    for pair in row.pairs() {
+        hash = hash_value(hash, &pair.1);
+    }
+    hash
+}
+
+// The hash after one more value.
+fn hash_value(hash: u64, value: &Value) -> u64
+    ensures { result ≡ hash_value hash value.now }
 {
     match value {
-        Value::Int(number) => number.hash(state),
-        Value::Text(text) => state.write(text.as_str().as_bytes()),
-        Value::Flag(flag) => flag.hash(state),
+        Value::Int(number) => hash_number(hash, number.cast_unsigned()),
+        Value::Text(text) => hash_bytes(hash, text.as_str().as_bytes()),
+        Value::Flag(flag) => hash_number(hash, u64::from(*flag)),
     }
+}
+
+// The hash after each of the bytes.
+fn hash_bytes(hash: u64, bytes: &[u8]) -> u64
+    ensures { result ≡ fold hash_number hash bytes.now }
+{
+    let mut hash = hash;
+    for byte in bytes {
+        hash = hash_number(hash, u64::from(*byte));
+    }
+    hash
+}
+
+// The hash after one more number.
+#[tactic(auto, unfolding(crate::specs::Key::hash_number))]
+fn hash_number(hash: u64, number: u64) -> u64
+    ensures { result ≡ hash_number hash number }
+{
+    hash.wrapping_mul(FACTOR).wrapping_add(number)
 }

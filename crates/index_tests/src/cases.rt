@@ -15,7 +15,7 @@ const HEROES: Track = ("Heroes", "Moss Garden", 1977);
 
 const NEUKOLN: Track = ("Heroes", "Neukoln", 1977);
 
-// Keys of album and title that feed a hasher the same bytes.
+// Keys of album and title that have the same hash.
 const FIRST: Track = ("ab", "c", 1);
 
 const SECOND: Track = ("a", "bc", 2);
