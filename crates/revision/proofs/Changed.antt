@@ -14,13 +14,12 @@ use Rattle.lens_specs.specs.Dependencies.{AllEdges, Edge}
 use Rattle.lens_specs.specs.Revision.{revise, revise_row}
 use Rattle.lens_laws.specs.KeyedDeltas.{found, is_changed, touched}
 use Rattle.fd_laws.proofs.Columns.{fits_names}
-use Rattle.lens_laws.proofs.Deltas.{from_touched, in_touched}
-use Rattle.fd_laws.proofs.Relations.{from_those, in_those, same_rel}
 use Rattle.fd_laws.proofs.Rows.{row_exact, row_total}
 use Rattle.revision.specs.Near.{HasChanged}
 use Rattle.revision.specs.Touching.{all_touched, becomes, differing}
 use Rattle.revision.specs.declared.touching.Touched.{Touched}
-use Rattle.revision.proofs.Near.{apart_from, changed_among}
+use Rattle.revision.proofs.ByEdges.{found_enough}
+use Rattle.revision.proofs.Near.{changed_among}
 
 -- ---- edges, and the columns of a row
 
@@ -35,13 +34,6 @@ pub side_there : (U : Columns) (C : Names) (r : Row) → Within C (names U) → 
 side_there U C r within fit c i = fits_names U r fit c ∙ within c i
 
 -- ---- those that are changed
-
--- each changed row is near a new one
-changed_near : (T : List Edge) (M L : Rows) → those (is_changed T L) (found T M L) ≡ those (is_changed T L) M
-unfolding touched
-changed_near T M L = same_rel _ _
-    (λ m i. in_those (is_changed T L) M m (from_touched T M L m i).0 (from_those (is_changed T L) (found T M L) m i).1)
-    (λ m i. let w = from_those (is_changed T L) M m i in in_touched T M L m w.0 (apart_from T L m w.1))
 
 -- the list of those that pass
 pub items_those : (p : Row → Bool) (M : Rows) → set.items (those p M) ≡ filter p (set.items M)
@@ -88,4 +80,4 @@ afters_are T M L changes is =
 -- what is touched is the changed rows
 pub touched_list : (T : List Edge) (M L : Rows) → all_touched T M L ≡ map (becomes T L) (set.items (touched T M L))
 unfolding touched
-touched_list T M L = ap (λ N. map (becomes T L) (set.items N)) (sym (changed_near T M L))
+touched_list T M L = ap (λ N. map (becomes T L) (set.items N)) (sym (changed_among T M L (found T M L) (found_enough T M L (found T M L) refl)))

@@ -11,13 +11,45 @@ ghost use Rattle.revision.specs.Near.{HasChanged, is_like, near_along, near_from
 use fd_tree::{Edge, Tree};
 use lens_values::{NoMemory, Row};
 use row_sets::RowSet;
-use signed_delta::Look;
+use signed_delta::{Look, find_each};
 use std::alloc::Global;
 use std::sync::ledger::Ledger;
 use step_counter::Steps;
 
+// So many new rows are looked up one by one. Many may share what they have on the left side of an
+// edge, which is then better asked for once.
+const FEW: usize = 8;
+
 /// Rows of the look's relation, among them each that revision by the new rows changes.
 pub fn near_rows<K: Look, L: Ledger>(
+    alloc: Global,
+    tree: &Tree,
+    look: &K,
+    plus: &RowSet,
+    looked: &mut Steps<L>,
+) -> Result<RowSet, NoMemory>
+    requires asked { AllEdges (λ e. Contains (K.asked look.now) e.left) tree.now }
+    requires columns { AllEdges (λ e.
+        Within e.left (names (K.relation look.now).columns)) tree.now }
+    requires meets { MeetsTree (K.relation look.now).rows tree.now }
+    requires fit { (row : _) → set.contains plus.now row ≡ true
+        → Fits (K.relation look.now).columns row }
+    ensures near { IfOk result (λ near.
+        HasChanged tree.now (K.relation look.now).rows plus.now near) }
+    ensures looks { (n : ℕ) → K.within look.now n → looked.new ≤ looked.old
+        + n * length (set.items plus.now) * length tree.now }
+    ensures few { IfOk result (λ near. (n : ℕ) → K.within look.now n → length (set.items near)
+        ≤ n * length (set.items plus.now) * length tree.now) }
+{
+    if plus.rows().len() <= FEW {
+        near_by_rows(alloc, tree, look, plus, looked)
+    } else {
+        near_by_edges(alloc, tree, look, plus, looked)
+    }
+}
+
+// The same, row by row: an edge by which a row can change nothing is not asked for it.
+fn near_by_rows<K: Look, L: Ledger>(
     alloc: Global,
     tree: &Tree,
     look: &K,
@@ -44,6 +76,35 @@ pub fn near_rows<K: Look, L: Ledger>(
     }
     let union = RowSet::new(alloc, near)?;
     Ok(union)
+}
+
+// The same, edge by edge: rows that have the same on the left side of an edge ask for it once.
+fn near_by_edges<K: Look, L: Ledger>(
+    alloc: Global,
+    tree: &Tree,
+    look: &K,
+    plus: &RowSet,
+    looked: &mut Steps<L>,
+) -> Result<RowSet, NoMemory>
+    requires asked { AllEdges (λ e. Contains (K.asked look.now) e.left) tree.now }
+    requires columns { AllEdges (λ e.
+        Within e.left (names (K.relation look.now).columns)) tree.now }
+    requires fit { (row : _) → set.contains plus.now row ≡ true
+        → Fits (K.relation look.now).columns row }
+    ensures near { IfOk result (λ near.
+        HasChanged tree.now (K.relation look.now).rows plus.now near) }
+    ensures looks { (n : ℕ) → K.within look.now n → looked.new ≤ looked.old
+        + n * length (set.items plus.now) * length tree.now }
+    ensures few { IfOk result (λ near. (n : ℕ) → K.within look.now n → length (set.items near)
+        ≤ n * length (set.items plus.now) * length tree.now) }
+{
+    tree.lefts_are_full();
+    let mut near = RowSet::empty(alloc);
+    for edge in tree.edges() {
+        let some = find_each(alloc, &edge.left, plus, look, looked)?;
+        near = near.union(alloc, &some)?;
+    }
+    Ok(near)
 }
 
 // The rows of the look's relation that agree with the new row on the left side of an edge. Most

@@ -1,7 +1,7 @@
 use Rattle.std.proofs.Common.{◌≡◌, ◌≤◌, ◌+◌, ◌*◌, ℕ, [], length, take}
 use Rattle.std.specs.Prelude.{flat_map}
 use Rattle.revision.specs.Near.{near_from}
-use Rattle.revision.proofs.nearing.near_rows.Given as goal
+use Rattle.revision.proofs.nearing.near_by_rows.Given as goal
 
 abbrev pub invariant-loop-row : goal.invariant-loop-row
 invariant-loop-row g l =

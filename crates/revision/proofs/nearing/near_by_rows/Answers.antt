@@ -7,7 +7,7 @@ use Rattle.signed_delta.proofs.Counts.{all_rows, at_end, listed_len, next, one_m
 use Rattle.signed_delta.proofs.Looks.{listed_at}
 use Rattle.revision.specs.Near.{near_from}
 use Rattle.revision.proofs.Near.{near_enough, turned}
-use Rattle.revision.proofs.nearing.near_rows.Goals as goal
+use Rattle.revision.proofs.nearing.near_by_rows.Goals as goal
 
 pub near_row-requires-clause-fit : goal.near_row-requires-clause-fit
 near_row-requires-clause-fit g c = c.requires.fit c.row-item.result
