@@ -1,5 +1,6 @@
 -- Left rows that are over, found among the pairs with the right rows near them.
-use Rattle.std.proofs.Common.{◌≡◌, is_some, sym, ap, ◌∙◌, subst, true, false, inl, inr}
+use Rattle.std.proofs.Common.{◌≡◌, List, [], ◌∷◌, Bool, is_some, length, refl, sym, ap, ◌∙◌, subst, true, false, inl, inr, arith}
+use Rattle.std.specs.List.{list_any}
 use Rattle.std.specs.Ordering.{eq_by_cmp}
 use Rattle.std.proofs.lemmas.Bool.{and_from, and_parts, not-true, not_from_false}
 use Rattle.lens_values.specs.Part.{restrict}
@@ -24,6 +25,16 @@ use Rattle.row_sets.specs.Joins.{pairs_on}
 use Rattle.row_sets.proofs.Natural.{natural_is}
 use Rattle.join_delta.specs.Joined.{shared_names}
 use Rattle.join_delta.specs.Pairs.{has_parts}
+
+no_row : (rows : List Row) (r : Row) → length rows ≡ 0 → list_any (eq_by_cmp row_cmp r) rows ≡ false
+no_row [] r none = refl
+no_row (x ∷ xs) r none = absurd (omega arith)
+
+-- where there are no rows, none of them passes a test
+pub none_pass : (p : Row → Bool) (M N : Rows) (rows : List Row) → rows ≡ set.items M → length rows ≡ 0 → N ≡ set.empty → N ≡ those p M
+none_pass p M N rows listed none is = is ∙ same_rel _ _
+    (λ r i. absurd_false _ i (set.contains-empty _ r))
+    (λ r i. absurd_false _ (from_those p M r i).0 (set.contains-items M r ∙ ap (list_any (eq_by_cmp row_cmp r)) (sym listed) ∙ no_row rows r none))
 
 -- a row over the columns of one side has a value in each shared column
 pub shared_left : (U V : Columns) (r : Row) → Fits U r → (c : Name) → set.contains (shared_names U V) c ≡ true → is_some (at r c) ≡ true

@@ -2,7 +2,7 @@
 ghost use Rattle.std.specs.Prelude.{◌≡◌, true, Contains, IfOk};
 ghost use Rattle.lens_values.specs.SortedSet as set;
 ghost use Rattle.lens_specs.specs.Columns.{Fits, names};
-ghost use Rattle.lens_specs.specs.Dependencies.{AllEdges};
+ghost use Rattle.lens_specs.specs.Dependencies.{AllEdges, MeetsTree};
 ghost use Rattle.lens_specs.specs.Names.{Within};
 ghost use Rattle.lens_laws.specs.KeyedDeltas.{merge_delta};
 
@@ -36,6 +36,7 @@ pub fn merge_change<K: Look, L: Ledger>(
     requires asked { AllEdges (λ e. Contains (K.asked look.now) e.left) tree.now }
     requires columns { let U = names (K.relation look.now).columns in
         AllEdges (λ e. Within e.left U) tree.now }
+    requires meets { MeetsTree (K.relation look.now).rows tree.now }
     requires fit { (row : _) → set.contains rows.now row ≡ true
         → Fits (K.relation look.now).columns row }
     ensures change { IfOk result (λ change. record { remove = change.remove; add = change.add }

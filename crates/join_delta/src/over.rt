@@ -45,6 +45,9 @@ pub fn over_rows<A: Look, B: Look, L: Ledger>(
         let view = edited R Q delta.now in
         IfOk result (λ over. over ≡ those (is_over S (names Q.columns) new_right view) rows.now) }
 {
+    if rows.rows().is_empty() {
+        return Ok(RowSet::empty(alloc));
+    }
     rows_fit(left);
     rows_fit(right);
     let found = find_each(alloc, &sides.shared, rows, right, looked)?;
