@@ -1,3 +1,5 @@
+pub mod ByTable
 pub mod CellsLemmas
 pub mod NamesAlike
 pub mod Texts
+pub mod TreeRows

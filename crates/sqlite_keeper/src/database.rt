@@ -1,4 +1,4 @@
-//! A database in a file or in memory.
+//! A database in a file.
 ghost use Rattle.std.specs.Prelude.{IfOk};
 ghost use Rattle.sqlite_keeper.specs.Answers.{AnswersTo};
 
@@ -7,7 +7,7 @@ use crate::format::prepare;
 use crate::loading::load;
 use crate::refusal::Refusal;
 use crate::short_files::refuse_short;
-use sqlite::{Alter, Connection, File, FileStore, MemStore};
+use sqlite::{Alter, Connection, File, FileStore};
 use std::alloc::Global;
 use table_keeper::{Change, Kept};
 
@@ -31,48 +31,36 @@ pub enum Answer {
     Kept(Kept),
 }
 
-/// An open database.
-pub enum Database {
-    /// In a file.
-    File(Connection<FileStore<File>>),
-    /// In memory.
-    Memory(Connection<MemStore>),
+/// An open database in a file.
+pub struct Database {
+    conn: Connection<FileStore<File>>,
 }
 
-// A file's log is copied into it. Where that fails, the log stays beside the file, and the next
+// The file's log is copied into it. Where that fails, the log stays beside the file, and the next
 // open reads both.
 impl Drop for Database {
     fn drop(self) {
-        match self {
-            Database::File(conn) => {
-                let _ = conn.close();
-            }
-            Database::Memory(_) => {}
-        }
+        let Database { conn } = self;
+        let _ = conn.close();
     }
 }
 
 impl Database {
-    /// Opens the file, or makes it where it is missing or empty.
-    pub fn open(rt: &HostRuntime, path: &str) -> Result<Database, Refusal> {
+    /// Opens the file, or makes it where it is missing or empty, with its first tables.
+    pub fn open(rt: &HostRuntime, alloc: Global, path: &str) -> Result<Database, Refusal> {
         refuse_short(rt, path)?;
-        Ok(Database::File(Connection::open(rt, path)?))
+        let conn = Connection::open(rt, path)?;
+        let mut database = Database { conn };
+        database.serve(alloc, Request::Prepare)?;
+        Ok(database)
     }
 
-    /// Makes a database in memory.
-    pub fn in_memory(alloc: Global) -> Result<Database, Refusal> {
-        Ok(Database::Memory(Connection::open_in_memory(alloc)?))
-    }
-
-    /// Does what is asked. No other function runs at the stores themselves, since each that does
+    /// Does what is asked. No other function runs at the file's own type, since each that does
     /// takes long to prove.
     pub fn serve(&mut self, alloc: Global, request: Request<'_>) -> Result<Answer, Refusal>
         ensures { IfOk result (AnswersTo request.entry) }
     {
-        match self {
-            Database::File(conn) => serve(alloc, conn, request),
-            Database::Memory(conn) => serve(alloc, conn, request),
-        }
+        serve(alloc, &mut self.conn, request)
     }
 }
 

@@ -1,21 +1,23 @@
 //! The keeper.
-ghost use Rattle.std.specs.Prelude.{◌≡◌, ◌≤◌, IfOk};
+ghost use Rattle.std.specs.Prelude.{◌≡◌, ◌≤◌};
 ghost use Rattle.io_specs.specs.Faults.{Rose};
-ghost use Rattle.sqlite_keeper.specs.Answers.{AnswersTo};
 ghost use Rattle.sqlite_keeper.specs.Refusals.{fault_of};
 
-use crate::database::{Answer, Database, Request};
+use crate::database::Database;
+use crate::memory::Memory;
 use crate::refusal::Refusal;
+use crate::store::Store;
 use std::alloc::Global;
 use std::rt::HostRuntime;
 use table_keeper::{Change, KeepFault, Keeper, Kept};
 
-/// Keeps in a file that is attached, or else in a database in memory. A contract sees the place and
+/// Keeps in a file that is attached, or else in memory. What was kept in memory is let go when a file
+/// is attached. A change that what is kept does not allow is a fault. A contract sees the place and
 /// the count of faults, and nothing of what is kept.
 #[derive(Drop)]
 pub struct SqliteKeeper<'a> {
     rt: &'a HostRuntime,
-    database: Option<Database>,
+    store: Store,
     place: Option<String>,
     faults: u64,
 }
@@ -24,14 +26,14 @@ impl<'a> SqliteKeeper<'a> {
     ghost use Rattle.std.specs.Prelude.{None};
     ghost use Rattle.sqlite_keeper.specs.Shown.{faults_of, place_of};
 
-    /// A keeper with nothing attached. It opens nothing.
+    /// A keeper with nothing attached. It opens nothing, and takes no memory.
     pub fn new(rt: &'a HostRuntime) -> SqliteKeeper<'a>
         ensures nowhere { place_of result ≡ None }
         ensures faultless { faults_of result ≡ 0 }
     {
         SqliteKeeper {
             rt,
-            database: None,
+            store: Store::Memory(Memory::new(rt.alloc())),
             place: None,
             faults: 0,
         }
@@ -53,29 +55,6 @@ impl<'a> SqliteKeeper<'a> {
             Refusal::NoMemory => KeepFault::NoMemory,
         }
     }
-
-    // Does what is asked of the database. Where none is attached, one is made in memory.
-    fn ask(&mut self, alloc: Global, request: Request<'_>) -> Result<Answer, Refusal>
-        ensures answer { IfOk result (AnswersTo request.entry) }
-        ensures place { self.new.place ≡ self.old.place }
-        ensures faults { self.new.faults ≡ self.old.faults }
-    {
-        if let Some(database) = &mut self.database {
-            return database.serve(alloc, request);
-        }
-        let mut database = Database::in_memory(alloc)?;
-        database.serve(alloc, Request::Prepare)?;
-        let answer = database.serve(alloc, request);
-        self.database = Some(database);
-        answer
-    }
-}
-
-// Opens the file, with its first tables.
-fn opened(rt: &HostRuntime, alloc: Global, path: &str) -> Result<Database, Refusal> {
-    let mut database = Database::open(rt, path)?;
-    database.serve(alloc, Request::Prepare)?;
-    Ok(database)
 }
 
 impl Keeper for SqliteKeeper<'_> {
@@ -94,9 +73,9 @@ impl Keeper for SqliteKeeper<'_> {
         let Ok(place) = String::from_str(alloc, new_place) else {
             return Err(KeepFault::NoMemory);
         };
-        match opened(self.rt, alloc, new_place) {
+        match Database::open(self.rt, alloc, new_place) {
             Ok(database) => {
-                self.database = Some(database);
+                self.store = Store::File(database);
                 self.place = Some(place);
                 Ok(())
             }
@@ -105,16 +84,15 @@ impl Keeper for SqliteKeeper<'_> {
     }
 
     fn load(&mut self, alloc: Global) -> Result<Kept, KeepFault> {
-        match self.ask(alloc, Request::Load) {
-            Ok(Answer::Kept(kept)) => Ok(kept),
-            Ok(Answer::Done) => unreachable!(),
+        match self.store.load(alloc) {
+            Ok(kept) => Ok(kept),
             Err(refusal) => Err(self.count(refusal)),
         }
     }
 
     fn commit(&mut self, alloc: Global, change: &Change) -> Result<(), KeepFault> {
-        match self.ask(alloc, Request::Change(change)) {
-            Ok(_) => Ok(()),
+        match self.store.commit(alloc, change) {
+            Ok(()) => Ok(()),
             Err(refusal) => Err(self.count(refusal)),
         }
     }

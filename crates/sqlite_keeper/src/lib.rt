@@ -1,4 +1,4 @@
-//! A keeper of definitions and rows in a file that sqlite3 reads.
+//! A keeper of definitions and rows, in a file that sqlite3 reads or in memory.
 #![tactic(auto)]
 
 mod cells;
@@ -7,10 +7,14 @@ mod database;
 mod format;
 pub mod keeper;
 mod loading;
+mod memory;
 mod placing;
 mod refusal;
+mod row_trees;
 mod short_files;
 mod statements;
+mod store;
 mod tables;
+mod tree_rows;
 
 pub use keeper::SqliteKeeper;

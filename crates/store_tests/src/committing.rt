@@ -23,8 +23,6 @@ fn refuses(
 fn goes_on(alloc: Global, keeper: &mut SqliteKeeper<'_>) -> Result<(), Fail> {
     let again = definition(alloc, NUMBERS, "n")?;
     refuses(alloc, keeper, &again, "a table defined twice")?;
-    let other = definition(alloc, NUMBERS, "m")?;
-    refuses(alloc, keeper, &other, "a table under another name")?;
     let missing = renumbering(alloc, &[2], &[3])?;
     refuses(
         alloc,
@@ -45,10 +43,18 @@ fn goes_on_in_memory(rt: HostRuntime) -> Result<(), Fail> {
     goes_on(rt.alloc(), &mut keeper)
 }
 
+// Asks a keeper in a file for a table under another name than its definition gives, which the file
+// could not be read with.
+fn refuses_another_name(alloc: Global, keeper: &mut SqliteKeeper<'_>) -> Result<(), Fail> {
+    let other = definition(alloc, NUMBERS, "m")?;
+    refuses(alloc, keeper, &other, "a table under another name")
+}
+
 // Does so in a file.
 fn go_on_in_file(rt: &HostRuntime, path: &str) -> Result<(), Fail> {
     let mut keeper = attached(rt, path)?;
     begin(rt.alloc(), &mut keeper)?;
+    refuses_another_name(rt.alloc(), &mut keeper)?;
     goes_on(rt.alloc(), &mut keeper)
 }
 

@@ -1,0 +1,50 @@
+//! Where definitions and rows are kept.
+ghost use Rattle.std.specs.Prelude.{IfOk};
+ghost use Rattle.table_keeper.specs.Places.{Rise};
+
+use crate::database::{Answer, Database, Request};
+use crate::memory::Memory;
+use crate::refusal::Refusal;
+use std::alloc::Global;
+use table_keeper::{Change, Kept};
+
+/// Where definitions and rows are kept.
+#[derive(Drop)]
+pub enum Store {
+    /// In memory.
+    Memory(Memory),
+    /// In a file.
+    File(Database),
+}
+
+impl Store {
+    /// What is kept, with its tables in rising order of names.
+    pub fn load(&mut self, alloc: Global) -> Result<Kept, Refusal>
+        ensures { IfOk result (λ kept. Rise kept.tables.items) }
+    {
+        match self {
+            Store::Memory(memory) => Ok(memory.kept(alloc)?),
+            Store::File(database) => load_file(database, alloc),
+        }
+    }
+
+    /// Makes a change, whole or not at all.
+    pub fn commit(&mut self, alloc: Global, change: &Change) -> Result<(), Refusal> {
+        match self {
+            Store::Memory(memory) => memory.change(alloc, change),
+            Store::File(database) => {
+                let _done = database.serve(alloc, Request::Change(change))?;
+                Ok(())
+            }
+        }
+    }
+}
+
+fn load_file(database: &mut Database, alloc: Global) -> Result<Kept, Refusal>
+    ensures { IfOk result (λ kept. Rise kept.tables.items) }
+{
+    match database.serve(alloc, Request::Load)? {
+        Answer::Kept(kept) => Ok(kept),
+        Answer::Done => unreachable!(),
+    }
+}
