@@ -1,8 +1,8 @@
 -- The check of an edit is that of its new view.
-use Rattle.std.proofs.Common.{◌≡◌, ◌∙◌, ◌<◌, ◌||◌, ℕ, zero, suc, List, [], ◌∷◌, length, get_or, Option, Some, None, true, false, ap, sym, subst, refl, inl, inr, is_some, unwrap_or, arith}
+use Rattle.std.proofs.Common.{◌≡◌, ◌∙◌, ◌<◌, ◌&&◌, ◌||◌, ℕ, zero, suc, List, [], ◌∷◌, length, get_or, Option, Some, None, true, false, ap, sym, subst, refl, inl, inr, is_some, unwrap_or, arith}
 use Rattle.std.specs.List.{list_all, list_any}
 use Rattle.std.specs.Ordering.{eq_by_cmp}
-use Rattle.std.proofs.lemmas.Bool.{or_cases}
+use Rattle.std.proofs.lemmas.Bool.{and_parts, or_cases}
 use Rattle.lens_values.specs.Part.{restrict}
 use Rattle.lens_values.specs.Row.{row_cmp}
 use Rattle.lens_values.specs.SortedSet as set
@@ -12,14 +12,15 @@ use Rattle.lens_specs.specs.Delta.{AppliesTo, Delta, new_view}
 use Rattle.lens_specs.specs.Dependencies.{AllEdges, Edge, Meets, MeetsTree}
 use Rattle.lens_specs.specs.Names.{Name, Names, Within}
 use Rattle.lens_specs.specs.Predicate.{Predicate}
-use Rattle.lens_specs.specs.Relation.{Relation, Rows, has, minus, union}
+use Rattle.lens_specs.specs.Relation.{Relation, Rows, has, minus, project, union}
 use Rattle.lens_specs.specs.Rows.{agree, at, cut}
 use Rattle.lens_specs.specs.Sort as spec
 use Rattle.lens_specs.specs.Sort.{IsOf, IsOfSort, Sort, clash, clash_of, first_pair, off}
 use Rattle.fd_laws.proofs.Columns.{fits_names}
-use Rattle.fd_laws.proofs.Lists.{absurd_false, all_at, in_cons, in_head}
-use Rattle.fd_laws.proofs.Relations.{from_minus, from_union, in_those, same_rel, sets}
-use Rattle.fd_laws.proofs.Rows.{agree_back, agree_itself, at-cut, cut_column, row_itself, tied_row}
+use Rattle.fd_laws.proofs.Lists.{absurd_false, all_at, any_from, in_cons, in_head}
+use Rattle.fd_laws.proofs.Names.{union_left, union_right}
+use Rattle.fd_laws.proofs.Relations.{from_minus, from_project, from_union, in_those, same_rel, sets}
+use Rattle.fd_laws.proofs.Rows.{agree-cut, agree_back, agree_itself, agree_on, agree_within, at-cut, cut_column, row_itself, tied_row}
 use Rattle.fd_laws.proofs.Trees.{each_edge}
 use Rattle.lens_laws.specs.Checks.{edit_clash, near}
 use Rattle.lens_laws.specs.KeyedDeltas.{find_by, found_each}
@@ -90,6 +91,10 @@ near_is e V M d found = ap (λ N. union d.add (minus N d.remove)) found
 pub only_there : (M : Rows) (a : Row) → set.items M ≡ a ∷ [] → has M a ≡ true
 only_there M a only = set.contains-items M a ∙ ap (list_any (eq_by_cmp row_cmp a)) only ∙ in_head (eq_by_cmp row_cmp) tied_row row_itself a []
 
+-- and no other is
+is_only : (M : Rows) (a : Row) → set.items M ≡ a ∷ [] → (r : Row) → has M r ≡ true → r ≡ a
+is_only M a only r i = elim (in_cons (eq_by_cmp row_cmp) tied_row row_itself r a [] (ap (list_any (eq_by_cmp row_cmp r)) (sym only) ∙ sym (set.contains-items M r) ∙ i)) [ inl is ↦ is | inr j ↦ cc ]
+
 -- the rows of a relation of a sort meet its tree
 pub meets_of : (s : Sort) (M : Relation) → IsOfSort M s → MeetsTree M.rows s.tree
 meets_of s M is = clash_none s.tree M.rows is.1.clash
@@ -98,9 +103,6 @@ module _ (e : Edge) (V : Rows) (d : Delta) (a : Row) (only : set.items d.add ≡
   -- what is found by the rows of a set that has one
   pub found_by_only : found_each e.left V (set.items d.add) ≡ find_by e.left a V
   found_by_only = ap (found_each e.left V) only ∙ same_rel _ _ (λ r i. let none = set.contains-empty row_cmp r in grind (arith, sets)) (λ r i. grind (arith, sets))
-
-  is_only : (r : Row) → has d.add r ≡ true → r ≡ a
-  is_only r i = elim (in_cons (eq_by_cmp row_cmp) tied_row row_itself r a [] (ap (list_any (eq_by_cmp row_cmp r)) (sym only) ∙ sym (set.contains-items d.add r) ∙ i)) [ inl is ↦ is | inr j ↦ cc ]
 
   -- each row that is found by the only added one and stays agrees with it on the right side: none near it clash
   module _ (meets : Meets V e.left e.right) (M : Rows) (found : M ≡ find_by e.left a V) (alike : list_all (λ r. agree e.right a r || has d.remove r) (set.items M) ≡ true) where
@@ -114,9 +116,9 @@ module _ (e : Edge) (V : Rows) (d : Delta) (a : Row) (only : set.items d.add ≡
     unfolding near
     near_meets p q i j g = elim (from_union d.add _ p i) [
       | inl x ↦
-          let is = is_only p x in
+          let is = is_only d.add a only p x in
           subst (λ r. agree e.right r q ≡ true) (sym is) (elim (from_union d.add _ q j) [
-            | inl y ↦ subst (λ r. agree e.right a r ≡ true) (sym (is_only q y)) (agree_itself e.right a)
+            | inl y ↦ subst (λ r. agree e.right a r ≡ true) (sym (is_only d.add a only q y)) (agree_itself e.right a)
             | inr y ↦ let w = from_minus _ d.remove q y in kept_agrees q (from_found_each e.left V _ q w.0) w.1 (ap (λ r. agree e.left r q) (sym is) ∙ g)
           ])
       | inr x ↦
@@ -124,7 +126,7 @@ module _ (e : Edge) (V : Rows) (d : Delta) (a : Row) (only : set.items d.add ≡
           let old = from_found_each e.left V _ p w.0 in
           elim (from_union d.add _ q j) [
             | inl y ↦
-                let is = is_only q y in
+                let is = is_only d.add a only q y in
                 subst (λ r. agree e.right p r ≡ true) (sym is) (agree_back e.right a p (kept_agrees p old w.1 (agree_back e.left p a (ap (agree e.left p) (sym is) ∙ g))))
             | inr y ↦ let u = from_minus _ d.remove q y in meets p q old (from_found_each e.left V _ q u.0) g
           ]
@@ -132,6 +134,50 @@ module _ (e : Edge) (V : Rows) (d : Delta) (a : Row) (only : set.items d.add ≡
 
     pub no_pair_near : None ≡ first_pair e (set.items (near e V d))
     no_pair_near = sym (meets_none_each (near e V d) e near_meets)
+
+-- the rows are alike on both sides of the edge
+abbrev Alike : Edge → Row → Row → Type 0
+Alike e r q = (agree e.left r q ≡ true) × (agree e.right r q ≡ true)
+
+-- each added row is alike to a removed one
+abbrev pub AreReplaced : Edge → Delta → Type 0
+AreReplaced e d = (r : Row) → has d.add r ≡ true → (q : Row) × (has d.remove q ≡ true) × Alike e r q
+
+-- then each row near them is alike to one that was there, and none of them clash
+module _ (e : Edge) (V : Rows) (d : Delta) (meets : Meets V e.left e.right) (removed : (r : Row) → has d.remove r ≡ true → has V r ≡ true) (replaced : AreReplaced e d) where
+  was_there : (r : Row) → has (near e V d) r ≡ true → (q : Row) × (has V q ≡ true) × Alike e r q
+  unfolding near
+  was_there r i = elim (from_union d.add _ r i) [
+    | inl new ↦ let w = replaced r new in (w.0, removed w.0 w.1, w.2)
+    | inr old ↦ (r, from_found_each e.left V _ r (from_minus _ d.remove r old).0, (agree_itself e.left r, agree_itself e.right r))
+  ]
+
+  alike_meet : Meets (near e V d) e.left e.right
+  alike_meet p q i j g =
+      let a = was_there p i in
+      let b = was_there q j in
+      let there = meets a.0 b.0 a.1 b.1 (agree_on e.left a.0 q b.0 (agree_on e.left a.0 p q (agree_back e.left p a.0 a.2.0) g) b.2.0) in
+      agree_on e.right p b.0 q (agree_on e.right p a.0 b.0 a.2.1 there) (agree_back e.right q b.0 b.2.1)
+
+  pub no_pair_replaced : None ≡ first_pair e (set.items (near e V d))
+  no_pair_replaced = sym (meets_none_each (near e V d) e alike_meet)
+
+-- the only added row is replaced where it agrees with a removed one on both sides
+pub one_replaced : (e : Edge) (d : Delta) (a : Row) → set.items d.add ≡ a ∷ [] → list_any (λ q. agree e.left a q && agree e.right a q) (set.items d.remove) ≡ true → AreReplaced e d
+one_replaced e d a only alike r i =
+    let w = any_from (eq_by_cmp row_cmp) tied_row row_itself (λ q. agree e.left a q && agree e.right a q) (set.items d.remove) alike in
+    let both = and_parts (agree e.left a w.0) (agree e.right a w.0) w.2 in
+    (w.0, set.contains-items d.remove w.0 ∙ w.1, subst (λ z. Alike e z w.0) (sym (is_only d.add a only r i)) both)
+
+-- each is where its part in both sides is among those of the removed ones
+pub each_replaced : (e : Edge) (d : Delta) → let C = set.union e.left e.right in list_all (λ r. has (project C d.remove) (restrict C r)) (set.items d.add) ≡ true → AreReplaced e d
+unfolding cut
+each_replaced e d all r i =
+    let C = set.union e.left e.right in
+    let part = all_at (eq_by_cmp row_cmp) tied_row row_itself (λ q. has (project C d.remove) (restrict C q)) (set.items d.add) all r (sym (set.contains-items d.add r) ∙ i) in
+    let w = from_project C d.remove (cut C r) part in
+    let same = agree_on C r (cut C r) w.0 (agree_back C (cut C r) r (agree-cut C r)) (subst (λ z. agree C z w.0 ≡ true) (sym w.2) (agree-cut C w.0)) in
+    (w.0, w.1, (agree_within e.left C r w.0 (union_left e.left e.right) same, agree_within e.right C r w.0 (union_right e.left e.right) same))
 
 none_shown : (o : Option spec.Clash) → None ≡ shown_clash o → o ≡ None
 none_shown None is = refl

@@ -3,23 +3,24 @@ use Rattle.std.proofs.Common.{◌≡◌, ◌∙◌, ◌∷◌, ◌++◌, ◌+◌
 use Rattle.std.specs.Prelude.{IfOk, IsTrue, None, Option, Result, flat_map, is_some, unwrap_or}
 use Rattle.std.specs.List.{Contains, list_all}
 use Rattle.std.specs.FinMap as finmap
-use Rattle.std.proofs.lemmas.Bool.{and_parts}
+use Rattle.std.proofs.lemmas.Bool.{and_from, and_parts}
 use Rattle.std.proofs.lemmas.List.{flat_map_more, take_all, take_more}
 use Rattle.no_memory.specs.declared.NoMemory.{NoMemory}
 use Rattle.lens_values.specs.Part.{restrict}
 use Rattle.lens_values.specs.SortedSet as set
 use Rattle.lens_values.specs.declared.row.Row.{Row}
 use Rattle.lens_values.specs.declared.value.Value.{Value}
-use Rattle.lens_specs.specs.Columns.{names}
 use Rattle.lens_specs.specs.Lens.{Lens, Tables, base, select, drop, join, get, rows_or_none, sort_of, view_names}
 use Rattle.lens_specs.specs.Names.{Name, Names, Within, one, share}
 use Rattle.lens_specs.specs.Predicate.{Predicate, holds}
 use Rattle.lens_specs.specs.Relation.{Relation, Rows, project, those}
 use Rattle.lens_specs.specs.Nodes.{drop_get}
-use Rattle.lens_specs.specs.Rows.{agree}
+use Rattle.lens_specs.specs.Rows.{agree, cut}
 use Rattle.lens_specs.specs.Sort.{Sort}
 use Rattle.fd_laws.proofs.Columns.{names-without}
-use Rattle.fd_laws.proofs.Rows.{row_exact, row_total}
+use Rattle.fd_laws.proofs.Lists.{both_ways}
+use Rattle.fd_laws.proofs.Names.{name_exact, name_total, subset_is}
+use Rattle.fd_laws.proofs.Rows.{agree_back, row_exact, row_total}
 use Rattle.lens_laws.specs.Asked.{keys_at, Reaches}
 use Rattle.lens_laws.specs.Finds.{AllFit, IsOver}
 use Rattle.lens_laws.specs.KeyedDeltas.{find_by}
@@ -27,6 +28,7 @@ use Rattle.lens_laws.specs.Lenses.{AreOf, IsTyped}
 use Rattle.lens_laws.proofs.Asked.{contains_map, keys_reach}
 use Rattle.lens_laws.proofs.Finds.{find_project, find_select}
 use Rattle.lens_laws.proofs.Lenses.{get_sort}
+use Rattle.lens_laws.proofs.NodeFinds.{find_alike, find_cut}
 use Rattle.lens_laws.proofs.PastedFinds.{found_are_over, left_pairs_are, right_pairs_are, shared_within}
 use Rattle.signed_delta.proofs.Looks.{passed_are}
 use Rattle.base_index.specs.Held.{State, is_indexed, no_relation, relation_in}
@@ -111,25 +113,18 @@ module _ (A B : Lens) (st : State) (C : Names) (typed : IsTyped (join A B)) (may
   reach = keys_reach (join A B) may.0 typed may.1.keys may.1.sets C may.2
 
   -- the side that is asked first, by its part of the key
-  pub left_asked : (U P : Names) → U ≡ view_names A → P ≡ set.intersection C U → share C U ≡ true → MayFind A st P
-  left_asked U P names part meets =
-      let meets_left = ap (share C) (sym names) ∙ meets in
-      subst (MayFind A st) (sym (part ∙ ap (set.intersection C) names)) (_, under_left A B may.0 st typed may.1, (reach.0 meets_left).0)
+  pub left_asked : share C (view_names A) ≡ true → MayFind A st (set.intersection C (view_names A))
+  left_asked meets = (_, under_left A B may.0 st typed may.1, (reach.0 meets).0)
 
-  pub right_asked : (U V P : Names) → U ≡ view_names A → V ≡ view_names B → P ≡ set.intersection C V → share C U ≡ false → MayFind B st P
-  right_asked U V P names others part meets =
-      let off_left = ap (share C) (sym names) ∙ meets in
-      subst (MayFind B st) (sym (part ∙ ap (set.intersection C) others)) (_, under_right A B may.0 st typed may.1, (reach.1 off_left).0)
-
-  shared_is : (U V S : Names) → U ≡ view_names A → V ≡ view_names B → S ≡ set.intersection U V → S ≡ set.intersection (view_names A) (view_names B)
-  shared_is U V S left right shared = shared ∙ ap (λ Z. set.intersection Z V) left ∙ ap (set.intersection (view_names A)) right
+  pub right_asked : share C (view_names A) ≡ false → MayFind B st (set.intersection C (view_names B))
+  right_asked apart = (_, under_right A B may.0 st typed may.1, (reach.1 apart).0)
 
   -- and the other one, by the shared columns
-  pub left_matches : (U V S : Names) → U ≡ view_names A → V ≡ view_names B → S ≡ set.intersection U V → MayFind A st S
-  left_matches U V S left right shared = subst (MayFind A st) (sym (shared_is U V S left right shared)) (_, under_left A B may.0 st typed may.1, reach.2.0)
+  pub left_matches : (S : Names) → S ≡ set.intersection (view_names A) (view_names B) → MayFind A st S
+  left_matches S shared = subst (MayFind A st) (sym shared) (_, under_left A B may.0 st typed may.1, reach.2.0)
 
-  pub right_matches : (U V S : Names) → U ≡ view_names A → V ≡ view_names B → S ≡ set.intersection U V → MayFind B st S
-  right_matches U V S left right shared = subst (MayFind B st) (sym (shared_is U V S left right shared)) (_, under_right A B may.0 st typed may.1, reach.3.0)
+  pub right_matches : (S : Names) → S ≡ set.intersection (view_names A) (view_names B) → MayFind B st S
+  right_matches S shared = subst (MayFind B st) (sym shared) (_, under_right A B may.0 st typed may.1, reach.3.0)
 
   left_fit : AllFit (sort_of A).columns (get A st.relations)
   left_fit = (get_sort A st.relations typed.0 may.1.tables.0).columns
@@ -137,34 +132,58 @@ module _ (A B : Lens) (st : State) (C : Names) (typed : IsTyped (join A B)) (may
   right_fit : AllFit (sort_of B).columns (get B st.relations)
   right_fit = (get_sort B st.relations typed.1 may.1.tables.1).columns
 
-  module _ (k q : Row) (U V S P : Names) (F : Rows) (rows : List Row) (left : U ≡ view_names A) (right : V ≡ view_names B) (shared : S ≡ set.intersection U V) (listed : rows ≡ set.items F) where
+  module _ (k : Row) (S : Names) (F : Rows) (rows : List Row) (shared : S ≡ set.intersection (view_names A) (view_names B)) (listed : rows ≡ set.items F) where
+    -- what a look-up by the part of the key in some columns gives
+    abbrev by_part : Names → Rows → Rows
+    by_part U M = find_by (set.intersection C U) (restrict (set.intersection C U) k) M
+
+    within : Within S (view_names A) × Within S (view_names B)
+    within = shared_within (sort_of A).columns (sort_of B).columns (view_names A) (view_names B) S refl refl shared
+
     -- each row found has the shared columns
-    pub left_over : F ≡ find_by P q (get A st.relations) → (m : Row) → Contains rows m → IsOver S (restrict S m)
-    left_over found = found_are_over (sort_of A).columns S P q (get A st.relations) F rows left_fit (shared_within (sort_of A).columns (sort_of B).columns U V S left right shared).0 found listed
+    pub left_over : F ≡ by_part (view_names A) (get A st.relations) → (m : Row) → Contains rows m → IsOver S (restrict S m)
+    left_over found = let P = set.intersection C (view_names A) in found_are_over (sort_of A).columns S P (restrict P k) (get A st.relations) F rows left_fit within.0 found listed
 
-    pub right_over : F ≡ find_by P q (get B st.relations) → (m : Row) → Contains rows m → IsOver S (restrict S m)
-    right_over found = found_are_over (sort_of B).columns S P q (get B st.relations) F rows right_fit (shared_within (sort_of A).columns (sort_of B).columns U V S left right shared).1 found listed
+    pub right_over : F ≡ by_part (view_names B) (get B st.relations) → (m : Row) → Contains rows m → IsOver S (restrict S m)
+    right_over found = let P = set.intersection C (view_names B) in found_are_over (sort_of B).columns S P (restrict P k) (get B st.relations) F rows right_fit within.1 found listed
 
-    module _ (r : Result Rows NoMemory) (pairs : List Row) (cut : q ≡ restrict P k) (made : IfOk r (λ all. all ≡ set.from_list pairs)) where
+    module _ (r : Result Rows NoMemory) (pairs : List Row) (made : IfOk r (λ all. all ≡ set.from_list pairs)) where
       -- the pairs of rows found on both sides are what the join finds
-      pub left_finds : P ≡ set.intersection C U → F ≡ find_by P q (get A st.relations) → pairs ≡ pairs_of true S C k (get B st.relations) rows → IfOk r (λ all. all ≡ find_by C k (get (join A B) st.relations))
+      pub left_finds : F ≡ by_part (view_names A) (get A st.relations) → pairs ≡ pairs_of true S C k (get B st.relations) rows → IfOk r (λ all. all ≡ find_by C k (get (join A B) st.relations))
       unfolding get
-      left_finds part found paired =
+      left_finds found paired =
+          let P = set.intersection C (view_names A) in
           subst (λ M. IfOk r (λ all. all ≡ M))
-          (left_pairs_are (sort_of A).columns (sort_of B).columns (get A st.relations) (get B st.relations) left_fit right_fit C k U V S P q F rows pairs left right shared cut listed part found paired) made
+          (left_pairs_are (sort_of A).columns (sort_of B).columns (get A st.relations) (get B st.relations) left_fit right_fit C k (view_names A) (view_names B) S P (restrict P k) F rows pairs refl refl shared refl listed refl found paired) made
 
-      pub right_finds : P ≡ set.intersection C V → F ≡ find_by P q (get B st.relations) → pairs ≡ pairs_of false S C k (get A st.relations) rows → IfOk r (λ all. all ≡ find_by C k (get (join A B) st.relations))
+      pub right_finds : F ≡ by_part (view_names B) (get B st.relations) → pairs ≡ pairs_of false S C k (get A st.relations) rows → IfOk r (λ all. all ≡ find_by C k (get (join A B) st.relations))
       unfolding get
-      right_finds part found paired =
+      right_finds found paired =
+          let P = set.intersection C (view_names B) in
           subst (λ M. IfOk r (λ all. all ≡ M))
-          (right_pairs_are (sort_of A).columns (sort_of B).columns (get A st.relations) (get B st.relations) left_fit right_fit C k U V S P q F rows pairs left right shared cut listed part found paired) made
+          (right_pairs_are (sort_of A).columns (sort_of B).columns (get A st.relations) (get B st.relations) left_fit right_fit C k (view_names A) (view_names B) S P (restrict P k) F rows pairs refl refl shared refl listed refl found paired) made
+
+-- columns that are all among others are what both have
+pub whole_part : (C U : Names) → set.is_subset C U ≡ true → set.intersection C U ≡ C
+whole_part C U within =
+    set.same_set name_total name_exact _ _ (λ c. set.contains-intersection name_total C U c ∙ both_ways _ _ (λ i. (and_parts _ _ i).0) (λ i. and_from _ _ i (subset_is C U within c i)))
+
+-- and the part of a key in them finds what the key finds
+pub found_by_whole : (C U : Names) (k : Row) (N : Rows) → set.intersection C U ≡ C → find_by C k N ≡ (let P = set.intersection C U in find_by P (restrict P k) N)
+unfolding cut
+found_by_whole C U k N whole = ap (λ P. find_by P k N) (sym whole) ∙ sym (find_cut (set.intersection C U) k N)
+
+-- the partners of a row are those of another one that agrees with it
+pub partners_again : (S : Names) (N : Rows) (row key : Row) (rows : Rows) → rows ≡ find_by S key N → agree S row key ≡ true → rows ≡ find_by S (restrict S row) N
+unfolding cut
+partners_again S N row key rows found alike = found ∙ find_alike S key row N (agree_back S row key alike) ∙ sym (find_cut S row N)
 
 -- one row more
-pub next_pairs : (is_left : Bool) (S C : Names) (k : Row) (N : Rows) (rows : List Row) (i : ℕ) (row key : Row) (found : Rows) (others old new : List Row) → i < length rows → row ≡ get_or rows i row → key ≡ restrict S row
-    → found ≡ find_by S key N → others ≡ set.items found → old ≡ pairs_of is_left S C k N (take i rows) → new ≡ old ++ filter (agree C k) (map (both_of is_left row) others) → new ≡ pairs_of is_left S C k N (take (i + 1) rows)
-next_pairs is_left S C k N rows i row key found others old new below here part of listed before now =
+pub next_pairs : (is_left : Bool) (S C : Names) (k : Row) (N : Rows) (rows : List Row) (i : ℕ) (row : Row) (found : Rows) (others old new : List Row) → i < length rows → row ≡ get_or rows i row
+    → found ≡ find_by S (restrict S row) N → others ≡ set.items found → old ≡ pairs_of is_left S C k N (take i rows) → new ≡ old ++ filter (agree C k) (map (both_of is_left row) others) → new ≡ pairs_of is_left S C k N (take (i + 1) rows)
+next_pairs is_left S C k N rows i row found others old new below here of listed before now =
     let pairs : Row → List Row = λ m. filter (agree C k) (map (both_of is_left m) (set.items (find_by S (restrict S m) N))) in
-    let mine = ap (λ z. filter (agree C k) (map (both_of is_left row) z)) (listed ∙ ap set.items (of ∙ ap (λ z. find_by S z N) part)) in
+    let mine = ap (λ z. filter (agree C k) (map (both_of is_left row) z)) (listed ∙ ap set.items of) in
     now ∙ (λ z. before z ++ mine z) ∙ flat_map_more pairs [] (take i rows) row
     ∙ ap (flat_map pairs) (ap (λ r. take i rows ++ r ∷ []) here ∙ sym (take_more rows i row below))
 

@@ -1,5 +1,6 @@
 mod Walks
 pub mod Contained
+mod SharedColumns
 pub mod Found
 pub mod Viewing
 pub mod Walked

@@ -1,5 +1,5 @@
 -- Look-ups by key down a lens.
-use Rattle.std.specs.Prelude.{Bool, true, false, List, filter, flat_map, map}
+use Rattle.std.specs.Prelude.{◌≡◌, Bool, true, false, List, filter, flat_map, map}
 use Rattle.std.specs.List.{Contains}
 use Rattle.lens_values.specs.Part.{override, restrict}
 use Rattle.lens_values.specs.SortedSet as set
@@ -11,6 +11,7 @@ use Rattle.lens_specs.specs.Rows.{agree}
 use Rattle.lens_laws.specs.Asked.{keys_at}
 use Rattle.lens_laws.specs.KeyedDeltas.{find_by}
 use Rattle.base_index.specs.Held.{State}
+use Rattle.lens_probe.specs.declared.finding.Partners.{Partners}
 use Rattle.lens_probe.specs.Viewed.{CanAsk}
 
 -- the lens can ask the tables, with some sets handed down to it
@@ -20,6 +21,10 @@ MayLook L st = (K : List Names) × CanAsk L K st
 -- and may itself be asked by these columns
 abbrev pub MayFind : Lens → State → Names → Type 0
 MayFind L st C = (K : List Names) × CanAsk L K st × Contains (keys_at L K) C
+
+-- the rows are those of N that agree with the key on S
+abbrev pub ArePartners : Names → Rows → Partners → Type 0
+ArePartners S N found = found.rows ≡ find_by S found.key N
 
 -- a row of the left side of a join put together with one of the right, or the other way round
 abbrev pub both_of : Bool → Row → Row → Row

@@ -1,14 +1,15 @@
 //! The check of an edit against the sort of its view.
-ghost use Rattle.std.specs.Prelude.{◌≡◌, ◌≢◌, ◌≤◌, ◌+◌, ◌*◌, ◌||◌, ℕ, [], ◌∷◌, find, length, not};
+ghost use Rattle.std.specs.Prelude.{◌≡◌, ◌≢◌, ◌≤◌, ◌+◌, ◌*◌, ◌&&◌, ◌||◌, ℕ, [], ◌∷◌, find, length, not};
 ghost use Rattle.std.specs.Prelude.{true, Contains, IfOk, IfSome, is_some, option_copied};
-ghost use Rattle.std.specs.List.{list_all};
+ghost use Rattle.std.specs.List.{list_all, list_any};
+ghost use Rattle.lens_values.specs.Part.{restrict};
 ghost use Rattle.lens_values.specs.SortedSet as set;
 ghost use Rattle.lens_specs.specs.Columns.{Fits, names};
 ghost use Rattle.lens_specs.specs.Delta.{AppliesTo, new_view};
 ghost use Rattle.lens_specs.specs.Dependencies.{AllEdges, Meets, MeetsTree};
 ghost use Rattle.lens_specs.specs.Names.{Within};
 ghost use Rattle.lens_specs.specs.Predicate.{holds};
-ghost use Rattle.lens_specs.specs.Relation.{minus, union};
+ghost use Rattle.lens_specs.specs.Relation.{has, minus, project, union};
 ghost use Rattle.lens_specs.specs.Rows.{agree, at};
 ghost use Rattle.lens_specs.specs.Sort.{IsOfSort, first_pair, off};
 ghost use Rattle.lens_laws.specs.Checks.{edit_clash, near};
@@ -19,7 +20,7 @@ use crate::edit_fault::EditFault;
 use fd_tree::{Clash, Edge, Tree, first_clash};
 use lens_pred::Pred;
 use lens_types::Sort;
-use lens_values::{NoMemory, Row};
+use lens_values::{Names, NoMemory, Row};
 use row_sets::RowSet;
 use signed_delta::{Delta, Look, find_each};
 use std::alloc::Global;
@@ -82,6 +83,8 @@ fn clash_of_edit<K: Look, L: Ledger>(
         tree.now }
     requires fit { (row : _) → set.contains delta.now.add row ≡ true
         → Fits (K.relation view.now).columns row }
+    requires removed { (row : _) → set.contains delta.now.remove row ≡ true
+        → has (K.relation view.now).rows row ≡ true }
     requires meets { MeetsTree (K.relation view.now).rows tree.now }
     ensures clash { IfOk result (λ found.
         found ≡ shown_clash (edit_clash tree.now (K.relation view.now).rows delta.now)) }
@@ -114,6 +117,8 @@ fn pair_of_edit<K: Look, L: Ledger>(
     requires asked { Contains (K.asked view.now) edge.now.left }
     requires have { (row : _) → set.contains delta.now.add row ≡ true
         → (c : _) → set.contains edge.now.left c ≡ true → is_some (at row c) ≡ true }
+    requires removed { (row : _) → set.contains delta.now.remove row ≡ true
+        → has (K.relation view.now).rows row ≡ true }
     requires meets { Meets (K.relation view.now).rows edge.now.left edge.now.right }
     ensures pair { IfOk result (λ pair.
         pair
@@ -137,7 +142,8 @@ fn only_row(rows: &RowSet) -> Option<&Row>
     }
 }
 
-// The same where this row alone is added. Mostly the kept rows agree with it, and no set is built.
+// The same where this row alone is added. Where it takes the place of a row with the same sides,
+// nothing is asked; and mostly the kept rows agree with it, and no set is built.
 fn pair_with<K: Look, L: Ledger>(
     alloc: Global,
     edge: &Edge,
@@ -151,18 +157,45 @@ fn pair_with<K: Look, L: Ledger>(
     requires only { set.items delta.now.add ≡ row.now ∷ [] }
     requires have { (c : _) → set.contains edge.now.left c ≡ true
         → is_some (at row.now c) ≡ true }
+    requires removed { (row : _) → set.contains delta.now.remove row ≡ true
+        → has (K.relation view.now).rows row ≡ true }
     requires meets { Meets (K.relation view.now).rows edge.now.left edge.now.right }
     ensures pair { IfOk result (λ pair.
         pair
         ≡ first_pair edge.now (set.items (near edge.now (K.relation view.now).rows delta.now))) }
     ensures looks { (n : ℕ) → K.within view.now n → looked.new ≤ looked.old + n }
 {
+    if replaces_alike(edge, row, delta.remove()) {
+        return Ok(None);
+    }
     let key = row.project(alloc, &edge.left)?;
     let found = view.find(alloc, &edge.left, &key, looked)?;
     if kept_agree(edge, row, &found, delta.remove()) {
         return Ok(None);
     }
     pair_near(alloc, edge, delta, &found)
+}
+
+// Whether one of the removed rows agrees with the row on both sides of the edge. With that one the
+// rows met the edge, so that the row brings no clash.
+fn replaces_alike(edge: &Edge, row: &Row, removed: &RowSet) -> bool
+    ensures { result
+        ≡ list_any (λ other.
+        agree edge.now.left row.now other && agree edge.now.right row.now other)
+        (set.items removed.now) }
+{
+    removed
+        .rows()
+        .iter()
+        .any(|other| are_alike(edge, row, other))
+}
+
+// Whether the rows agree on both sides of the edge.
+fn are_alike(edge: &Edge, row: &Row, other: &Row) -> bool
+    ensures { result
+        ≡ (agree edge.now.left row.now other.now && agree edge.now.right row.now other.now) }
+{
+    row.agree_on(other, &edge.left) && row.agree_on(other, &edge.right)
 }
 
 // Whether each found row that is not removed agrees with the row on the right side of the edge.
@@ -175,7 +208,8 @@ fn kept_agree(edge: &Edge, row: &Row, found: &RowSet, removed: &RowSet) -> bool
     found.rows().iter().all(|other| row.agree_on(other, &edge.right) || removed.has(other))
 }
 
-// The same for any added rows.
+// The same for any added rows. Where each takes the place of a row with the same sides, nothing is
+// asked.
 fn pair_among<K: Look, L: Ledger>(
     alloc: Global,
     edge: &Edge,
@@ -187,14 +221,46 @@ fn pair_among<K: Look, L: Ledger>(
     requires asked { Contains (K.asked view.now) edge.now.left }
     requires have { (row : _) → set.contains delta.now.add row ≡ true
         → (c : _) → set.contains edge.now.left c ≡ true → is_some (at row c) ≡ true }
+    requires removed { (row : _) → set.contains delta.now.remove row ≡ true
+        → has (K.relation view.now).rows row ≡ true }
+    requires meets { Meets (K.relation view.now).rows edge.now.left edge.now.right }
     ensures pair { IfOk result (λ pair.
         pair
         ≡ first_pair edge.now (set.items (near edge.now (K.relation view.now).rows delta.now))) }
     ensures looks { (n : ℕ) → K.within view.now n
         → looked.new ≤ looked.old + n * length (set.items delta.now.add) }
 {
+    if all_replace_alike(alloc, edge, delta)? {
+        return Ok(None);
+    }
     let found = find_each(alloc, &edge.left, delta.add(), view, looked)?;
     pair_near(alloc, edge, delta, &found)
+}
+
+// Whether each added row agrees with a removed one on both sides of the edge.
+fn all_replace_alike(alloc: Global, edge: &Edge, delta: &Delta) -> Result<bool, NoMemory>
+    ensures { let C = set.union edge.now.left edge.now.right in
+        IfOk result (λ all. all
+        ≡ list_all (λ row. has (project C delta.now.remove) (restrict C row))
+        (set.items delta.now.add)) }
+{
+    let sides = edge.left.union(alloc, &edge.right)?;
+    let removed = delta.remove().project(alloc, &sides)?;
+    all_parts_in(alloc, delta.add().rows(), &sides, &removed)
+}
+
+// Whether each row's part in the columns is among these.
+fn all_parts_in(alloc: Global, rows: &[Row], cols: &Names, parts: &RowSet) -> Result<bool, NoMemory>
+    ensures { IfOk result (λ all.
+        all ≡ list_all (λ row. has parts.now (restrict cols.now row)) rows.now) }
+{
+    for row in rows {
+        let part = row.project(alloc, cols)?;
+        if !parts.has(&part) {
+            return Ok(false);
+        }
+    }
+    Ok(true)
 }
 
 // The least two that clash on the edge, of the added rows and the found ones that are not removed.

@@ -1,5 +1,5 @@
 //! Rows of a view by key.
-ghost use Rattle.std.specs.Prelude.{◌≡◌, ◌++◌, Contains, IfOk, OnOk};
+ghost use Rattle.std.specs.Prelude.{◌≡◌, ◌++◌, Contains, IfOk, IfSome, OnOk};
 ghost use Rattle.std.specs.Prelude.{false, filter, map, true};
 ghost use Rattle.std.specs.List.{list_all};
 ghost use Rattle.lens_values.specs.Part.{restrict};
@@ -12,9 +12,9 @@ ghost use Rattle.lens_specs.specs.Rows.{agree};
 ghost use Rattle.lens_laws.specs.KeyedDeltas.{find_by};
 ghost use Rattle.lens_laws.specs.Lenses.{IsTyped};
 ghost use Rattle.signed_delta.specs.Keys.{IsKey};
-ghost use Rattle.lens_probe.specs.Looking.{MayFind, both_of, pairs_of};
+ghost use Rattle.lens_probe.specs.Looking.{ArePartners, MayFind, both_of, pairs_of};
 
-use crate::columns::names_of;
+use crate::columns::{names_of, shared_names, shows_all, shows_any};
 use base_index::Tables;
 use lens_pred::Pred;
 use lens_types::{Lens, TypedLens};
@@ -30,6 +30,14 @@ pub(crate) struct Query<'a> {
     pub(crate) tables: &'a Tables,
     pub(crate) cols: &'a Names,
     pub(crate) key: &'a Row,
+}
+
+// Rows of one side of a join that agree on the shared columns with a row of the other side, of which
+// the key is the part in these columns.
+#[derive(Drop)]
+struct Partners {
+    key: Row,
+    rows: RowSet,
 }
 
 /// The rows that the lens shows of the tables and that agree with the key on its columns.
@@ -76,11 +84,10 @@ fn find_joined<L: Ledger>(
     ensures { let shown = get (join left.now right.now) query.now.tables.now.present.relations in
         IfOk result (λ found. found ≡ find_by query.now.cols.now query.now.key.now shown) }
 {
-    let left_names = names_of(alloc, left)?;
-    if query.cols.meets(&left_names) {
-        find_from_left(alloc, left, right, &left_names, query, looked)
+    if shows_any(left, query.cols) {
+        find_from_left(alloc, left, right, query, looked)
     } else {
-        find_from_right(alloc, left, right, &left_names, query, looked)
+        find_from_right(alloc, left, right, query, looked)
     }
 }
 
@@ -90,7 +97,6 @@ fn find_from_left<L: Ledger>(
     alloc: Global,
     left: &TypedLens,
     right: &TypedLens,
-    left_names: &Names,
     query: &Query<'_>,
     looked: &mut Steps<L>,
 ) -> Result<RowSet, NoMemory>
@@ -98,21 +104,12 @@ fn find_from_left<L: Ledger>(
     requires asked { let st = query.now.tables.now.present in
         MayFind (join left.now right.now) st query.now.cols.now }
     requires key { IsKey query.now.cols.now query.now.key.now }
-    requires names { left_names.now ≡ view_names left.now }
-    requires meets { share query.now.cols.now left_names.now ≡ true }
+    requires meets { share query.now.cols.now (view_names left.now) ≡ true }
     ensures { let shown = get (join left.now right.now) query.now.tables.now.present.relations in
         IfOk result (λ found. found ≡ find_by query.now.cols.now query.now.key.now shown) }
 {
-    let right_names = names_of(alloc, right)?;
-    let shared = left_names.meet(alloc, &right_names)?;
-    let part = query.cols.meet(alloc, left_names)?;
-    let part_key = query.key.project(alloc, &part)?;
-    let asked = Query {
-        cols: &part,
-        key: &part_key,
-        ..*query
-    };
-    let found = find_in(alloc, left, &asked, looked)?;
+    let found = find_by_part(alloc, left, query, looked)?;
+    let shared = shared_names(alloc, left, right)?;
     let pairs = pair_each(alloc, found.rows(), true, right, &shared, query, looked)?;
     RowSet::new(alloc, pairs)
 }
@@ -123,7 +120,6 @@ fn find_from_right<L: Ledger>(
     alloc: Global,
     left: &TypedLens,
     right: &TypedLens,
-    left_names: &Names,
     query: &Query<'_>,
     looked: &mut Steps<L>,
 ) -> Result<RowSet, NoMemory>
@@ -131,23 +127,43 @@ fn find_from_right<L: Ledger>(
     requires asked { let st = query.now.tables.now.present in
         MayFind (join left.now right.now) st query.now.cols.now }
     requires key { IsKey query.now.cols.now query.now.key.now }
-    requires names { left_names.now ≡ view_names left.now }
-    requires meets { share query.now.cols.now left_names.now ≡ false }
+    requires meets { share query.now.cols.now (view_names left.now) ≡ false }
     ensures { let shown = get (join left.now right.now) query.now.tables.now.present.relations in
         IfOk result (λ found. found ≡ find_by query.now.cols.now query.now.key.now shown) }
 {
-    let right_names = names_of(alloc, right)?;
-    let shared = left_names.meet(alloc, &right_names)?;
-    let part = query.cols.meet(alloc, &right_names)?;
+    let found = find_by_part(alloc, right, query, looked)?;
+    let shared = shared_names(alloc, left, right)?;
+    let pairs = pair_each(alloc, found.rows(), false, left, &shared, query, looked)?;
+    RowSet::new(alloc, pairs)
+}
+
+// The rows of a side of the join that agree with its part of the key. Mostly the whole key is its
+// part, and nothing is allocated.
+#[cycle(find)]
+fn find_by_part<L: Ledger>(
+    alloc: Global,
+    side: &TypedLens,
+    query: &Query<'_>,
+    looked: &mut Steps<L>,
+) -> Result<RowSet, NoMemory>
+    requires asked { let st = query.now.tables.now.present in
+        MayFind side.now st (set.intersection query.now.cols.now (view_names side.now)) }
+    requires key { IsKey query.now.cols.now query.now.key.now }
+    ensures { let shown = get side.now query.now.tables.now.present.relations in
+        let part = set.intersection query.now.cols.now (view_names side.now) in
+        IfOk result (λ found. found ≡ find_by part (restrict part query.now.key.now) shown) }
+{
+    if shows_all(side, query.cols) {
+        return find_in(alloc, side, query, looked);
+    }
+    let part = query.cols.meet(alloc, &names_of(alloc, side)?)?;
     let part_key = query.key.project(alloc, &part)?;
     let asked = Query {
         cols: &part,
         key: &part_key,
         ..*query
     };
-    let found = find_in(alloc, right, &asked, looked)?;
-    let pairs = pair_each(alloc, found.rows(), false, left, &shared, query, looked)?;
-    RowSet::new(alloc, pairs)
+    find_in(alloc, side, &asked, looked)
 }
 
 // Each of the rows, which are of the left side or of the right one, put together with each row of
@@ -171,17 +187,57 @@ fn pair_each<L: Ledger>(
         pairs.items ≡ pairs_of are_left shared.now C query.now.key.now others rows.now) }
 {
     let mut pairs = Vec::new(alloc);
+    let mut last = None;
     for row in rows {
-        let row_key = row.project(alloc, shared)?;
-        let asked = Query {
-            cols: shared,
-            key: &row_key,
-            ..*query
-        };
-        let found = find_in(alloc, other, &asked, looked)?;
-        add_pairs(alloc, row, are_left, found.rows(), query, &mut pairs)?;
+        let partners = partners_of(alloc, row, last, other, shared, query, looked)?;
+        add_pairs(
+            alloc,
+            row,
+            are_left,
+            partners.rows.rows(),
+            query,
+            &mut pairs,
+        )?;
+        last = Some(partners);
     }
     Ok(pairs)
+}
+
+// The rows of the other side that agree with the row on the shared columns. They are asked for only
+// where the last ones are another row's: mostly the rows that a key finds have the same partners.
+#[cycle(find)]
+fn partners_of<L: Ledger>(
+    alloc: Global,
+    row: &Row,
+    last: Option<Partners>,
+    other: &TypedLens,
+    shared: &Names,
+    query: &Query<'_>,
+    looked: &mut Steps<L>,
+) -> Result<Partners, NoMemory>
+    requires asked { MayFind other.now query.now.tables.now.present shared.now }
+    requires over { IsKey shared.now (restrict shared.now row.now) }
+    requires last { let others = get other.now query.now.tables.now.present.relations in
+        IfSome last (ArePartners shared.now others) }
+    ensures partners { let others = get other.now query.now.tables.now.present.relations in
+        IfOk result (ArePartners shared.now others) }
+    ensures rows { let others = get other.now query.now.tables.now.present.relations in
+        IfOk result (λ partners.
+        partners.rows ≡ find_by shared.now (restrict shared.now row.now) others) }
+{
+    if let Some(last) = last {
+        if row.agree_on(&last.key, shared) {
+            return Ok(last);
+        }
+    }
+    let key = row.project(alloc, shared)?;
+    let asked = Query {
+        cols: shared,
+        key: &key,
+        ..*query
+    };
+    let rows = find_in(alloc, other, &asked, looked)?;
+    Ok(Partners { key, rows })
 }
 
 // Adds the row put together with each of the others, where both agree with the key.
