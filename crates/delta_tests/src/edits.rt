@@ -82,6 +82,9 @@ pub(crate) fn touched<L: Ledger>(
     if !is_over(alloc, &look.tree, &look.relation)? {
         return Err(Fail::from("an edge outside the columns"));
     }
+    if !is_met(alloc, &look.tree, &look.relation)? {
+        return Err(Fail::from("rows that clash"));
+    }
     let touched = revise_touched(alloc, &look.tree, look, plus.rows(), looked)?;
     Ok(touched)
 }
