@@ -1,0 +1,103 @@
+//! Values that tests write as texts, and whether rows are what a text says.
+ghost use Rattle.std.specs.Prelude.{◌≡◌, IfOk, OnOk};
+
+use fd_closure::Dep;
+use lens_values::{Columns, Kind, Name, Names, Row, Text, Value};
+use row_sets::{Relation, RowSet};
+use signed_delta::Delta;
+use std::alloc::Global;
+use std::test::Fail;
+
+/// The names that the text lists, as `a b`.
+pub(crate) fn names(alloc: Global, text: &str) -> Result<Names, Fail> {
+    let mut list = Vec::new(alloc);
+    for word in text.split_whitespace() {
+        list.push(Name::new(word)?)?;
+    }
+    Ok(Names::new(alloc, list)?)
+}
+
+/// The columns that the text lists, as `a:int b:text`.
+pub(crate) fn columns(alloc: Global, text: &str) -> Result<Columns, Fail> {
+    let mut pairs = Vec::new(alloc);
+    for word in text.split_whitespace() {
+        let (column, kind) = word.split_once(':').ok_or("no kind")?;
+        let kind = if kind == "int" { Kind::Int } else { Kind::Text };
+        pairs.push((Name::new(column)?, kind))?;
+    }
+    Ok(Columns::new(alloc, pairs)?)
+}
+
+/// A number, or else a text.
+pub(crate) fn value(alloc: Global, word: &str) -> Result<Value, Fail> {
+    match word.parse::<i64>() {
+        Ok(number) => Ok(Value::Int(number)),
+        Err(_) => Ok(Value::Text(Text::new(alloc, word)?)),
+    }
+}
+
+/// The row that the text lists, as `a=1 b=x`.
+pub(crate) fn row(alloc: Global, text: &str) -> Result<Row, Fail> {
+    let mut pairs = Vec::new(alloc);
+    for word in text.split_whitespace() {
+        let (column, of) = word.split_once('=').ok_or("no value")?;
+        pairs.push((Name::new(column)?, value(alloc, of)?))?;
+    }
+    Ok(Row::new(alloc, pairs)?)
+}
+
+// The rows that the text lists, as `a=1 b=x; a=2 b=y`.
+fn rows(alloc: Global, text: &str) -> Result<Vec<Row>, Fail> {
+    let mut list = Vec::new(alloc);
+    for part in text.split_terminator(';') {
+        list.push(row(alloc, part)?)?;
+    }
+    Ok(list)
+}
+
+/// The relation over the columns that has the rows of the text.
+pub(crate) fn relation(alloc: Global, columns: &Columns, text: &str) -> Result<Relation, Fail>
+    ensures columns { IfOk result (λ made. made.columns ≡ columns.now) }
+{
+    let mut made = Relation::empty(alloc, columns.copy(alloc)?);
+    for row in rows(alloc, text)? {
+        add(&mut made, row)?;
+    }
+    Ok(made)
+}
+
+// Adds the row, if it fits.
+fn add(relation: &mut Relation, row: Row) -> Result<(), Fail>
+    ensures columns { OnOk result (relation.new.columns ≡ relation.old.columns) }
+{
+    if !row.fits(relation.columns()) {
+        return Err(Fail::from("a row of other columns"));
+    }
+    let _new = relation.add(row)?;
+    Ok(())
+}
+
+/// The dependencies that the text lists, as `a -> b, b -> c`.
+pub(crate) fn deps(alloc: Global, text: &str) -> Result<Vec<Dep>, Fail> {
+    let mut list = Vec::new(alloc);
+    for part in text.split_terminator(',') {
+        let (left, right) = part.split_once("->").ok_or("no arrow")?;
+        list.push(Dep::new(names(alloc, left)?, names(alloc, right)?)?)?;
+    }
+    Ok(list)
+}
+
+/// Whether the set has the rows that the text lists, in this order, and no other.
+pub(crate) fn are_rows(alloc: Global, found: &RowSet, text: &str) -> Result<bool, Fail> {
+    Ok(found.rows() == rows(alloc, text)?.as_slice())
+}
+
+/// Whether the difference removes these rows and adds those.
+pub(crate) fn is_delta(
+    alloc: Global,
+    delta: &Delta,
+    remove: &str,
+    add: &str,
+) -> Result<bool, Fail> {
+    Ok(are_rows(alloc, delta.remove(), remove)? && are_rows(alloc, delta.add(), add)?)
+}
