@@ -4,5 +4,6 @@ pub mod Natural
 pub mod Pairs
 pub mod Parts
 pub mod Places
+pub mod Rising
 pub mod Trees
 pub mod Walks

@@ -1,5 +1,5 @@
 //! A finite set of rows.
-ghost use Rattle.std.specs.Prelude.{◌≡◌, IfOk, OnOk, OnErr, map, not};
+ghost use Rattle.std.specs.Prelude.{◌≡◌, ◌↔◌, IfOk, IsTrue, OnOk, OnErr, map, not};
 ghost use Rattle.std.specs.List.Sorted.{IsStrictlySortedBy};
 ghost use Rattle.lens_specs.specs.Relation.{project};
 ghost use Rattle.lens_values.specs.Part.{restrict};
@@ -41,6 +41,9 @@ impl RowSet {
     {
         let mut rows = rows;
         order_nearly(&mut rows);
+        if rise(&rows) {
+            return Ok(RowSet { rows });
+        }
         Ok(RowSet {
             rows: into_sorted(rows),
         })
@@ -59,6 +62,13 @@ impl RowSet {
         ensures { result.now ≡ set.items self.now }
     {
         self.rows.as_slice()
+    }
+
+    /// The rows in rising order, taken out of the set.
+    pub fn into_rows(self) -> Vec<Row>
+        ensures { result.items ≡ set.items self }
+    {
+        self.rows
     }
 
     /// Whether the row is in the set.
@@ -122,8 +132,21 @@ impl RowSet {
     pub fn join(&self, alloc: Global, other: &RowSet, cols: &Names) -> Result<RowSet, NoMemory>
         ensures { IfOk result (λ joined. joined ≡ pairs_on cols.now self.now other.now) }
     {
+        RowSet::new(alloc, self.joined_rows(alloc, other, cols)?)
+    }
+
+    /// The rows of the join on these columns, in no certain order and perhaps more than once.
+    pub fn joined_rows(
+        &self,
+        alloc: Global,
+        other: &RowSet,
+        cols: &Names,
+    ) -> Result<Vec<Row>, NoMemory>
+        ensures { IfOk result (λ rows.
+            set.from_list rows.items ≡ pairs_on cols.now self.now other.now) }
+    {
         let index = indexed(alloc, other.rows(), cols)?;
-        RowSet::new(alloc, paired(alloc, self.rows(), cols, &index)?)
+        paired(alloc, self.rows(), cols, &index)
     }
 
     /// An equal set.
@@ -134,6 +157,13 @@ impl RowSet {
             rows: copied(alloc, &self.rows)?,
         })
     }
+}
+
+// Whether each row is below the one after it.
+fn rise(rows: &[Row]) -> bool
+    ensures { IsTrue result ↔ IsStrictlySortedBy row_cmp rows.now }
+{
+    rows.is_sorted_by(|row, next| row < next)
 }
 
 // Each row's part in these columns.
