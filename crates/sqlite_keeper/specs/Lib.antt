@@ -1,6 +1,5 @@
 pub mod Answers
 pub mod Cells
-pub mod InMemory
 pub mod Making
 pub mod Placing
 pub mod Refusals

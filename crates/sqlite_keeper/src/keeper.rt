@@ -4,9 +4,9 @@ ghost use Rattle.io_specs.specs.Faults.{Rose};
 ghost use Rattle.sqlite_keeper.specs.Refusals.{fault_of};
 
 use crate::database::Database;
-use crate::memory::Memory;
 use crate::refusal::Refusal;
 use crate::store::Store;
+use memory_store::MemoryStore;
 use std::alloc::Global;
 use std::rt::HostRuntime;
 use table_keeper::{Change, KeepFault, Keeper, Kept};
@@ -33,7 +33,7 @@ impl<'a> SqliteKeeper<'a> {
     {
         SqliteKeeper {
             rt,
-            store: Store::Memory(Memory::new(rt.alloc())),
+            store: Store::Memory(MemoryStore::new(rt.alloc())),
             place: None,
             faults: 0,
         }

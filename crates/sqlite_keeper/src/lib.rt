@@ -7,14 +7,11 @@ mod database;
 mod format;
 pub mod keeper;
 mod loading;
-mod memory;
 mod placing;
 mod refusal;
-mod row_trees;
 mod short_files;
 mod statements;
 mod store;
 mod tables;
-mod tree_rows;
 
 pub use keeper::SqliteKeeper;

@@ -1,6 +1,7 @@
 //! Why a database is not read or changed.
 
 use lens_values::{NoMemory, RowFault, TextFault};
+use memory_store::ChangeFault;
 use sqlite::{Error, ErrorCode};
 use std::alloc::{AllocError, AllocFailed};
 use std::io;
@@ -117,6 +118,20 @@ impl From<LangFault> for Refusal {
         match fault {
             LangFault::NoMemory => Refusal::NoMemory,
             LangFault::Syntax { .. } | LangFault::TooLarge { .. } => Refusal::Failed,
+        }
+    }
+}
+
+impl From<ChangeFault> for Refusal {
+    ghost use Rattle.memory_store.specs.declared.store.ChangeFault.TheVariants as fault;
+    ghost use Rattle.sqlite_keeper.specs.Refusals.{KeepsWantOfMemory};
+
+    ghost from_gives = { KeepsWantOfMemory fault.NoMemory };
+
+    fn from(fault: ChangeFault) -> Refusal {
+        match fault {
+            ChangeFault::NoMemory => Refusal::NoMemory,
+            ChangeFault::NotAllowed => Refusal::Failed,
         }
     }
 }

@@ -3,8 +3,8 @@ ghost use Rattle.std.specs.Prelude.{IfOk};
 ghost use Rattle.table_keeper.specs.Places.{Rise};
 
 use crate::database::{Answer, Database, Request};
-use crate::memory::Memory;
 use crate::refusal::Refusal;
+use memory_store::MemoryStore;
 use std::alloc::Global;
 use table_keeper::{Change, Kept};
 
@@ -12,7 +12,7 @@ use table_keeper::{Change, Kept};
 #[derive(Drop)]
 pub enum Store {
     /// In memory.
-    Memory(Memory),
+    Memory(MemoryStore),
     /// In a file.
     File(Database),
 }
@@ -31,7 +31,7 @@ impl Store {
     /// Makes a change, whole or not at all.
     pub fn commit(&mut self, alloc: Global, change: &Change) -> Result<(), Refusal> {
         match self {
-            Store::Memory(memory) => memory.change(alloc, change),
+            Store::Memory(memory) => Ok(memory.change(alloc, change)?),
             Store::File(database) => {
                 let _done = database.serve(alloc, Request::Change(change))?;
                 Ok(())
