@@ -1,5 +1,6 @@
 -- An edit of a join, carried down to both sources.
-use Rattle.std.proofs.Common.{◌≡◌, List, ◌++◌, refl, sym, ap, ◌∙◌, true, inl, inr, arith, Bool}
+use Rattle.std.proofs.Common.{◌≡◌, List, ◌++◌, refl, sym, ap, ◌∙◌, true, false, inl, inr, arith, Bool}
+use Rattle.std.proofs.lemmas.Bool.{not-true}
 use Rattle.std.specs.Prelude.{not}
 use Rattle.lens_values.specs.declared.row.Row.{Row}
 use Rattle.lens_specs.specs.Columns.{Columns, Fits, names}
@@ -7,14 +8,17 @@ use Rattle.lens_specs.specs.Delta.{Applies, Delta, diff, new_view}
 use Rattle.lens_specs.specs.Dependencies.{AllEdges, Edge, Meets, MeetsTree}
 use Rattle.lens_specs.specs.Names.{Names, Within}
 use Rattle.lens_specs.specs.Relation.{IsRelation, Relation, Rows, has, minus, project, those, union}
+use Rattle.lens_specs.specs.Nodes.{join_put_left}
+use Rattle.lens_specs.specs.Rows.{cut}
 use Rattle.lens_laws.specs.KeyedDeltas.{is_over, join_delta_left, join_delta_right, merge_delta, suspects, touched}
 use Rattle.fd_laws.specs.Trees.{EdgesWithin, IsTree}
 use Rattle.lens_laws.specs.Shapes.{CanJoin, IsIn, Shape, join_shape}
 use Rattle.fd_laws.proofs.Closures.{closure_is, implies_sound}
-use Rattle.lens_laws.proofs.Deltas.{from_found_each, from_touched, in_new_view_added}
-use Rattle.lens_laws.proofs.Join.{from_natural, part_left, part_right}
-use Rattle.lens_laws.proofs.JoinDelta.{join_delta_left_is, join_delta_right_is}
-use Rattle.fd_laws.proofs.Relations.{from_minus, from_project, from_union, in_project, same_rel, sets}
+use Rattle.lens_laws.proofs.Deltas.{from_found_each, from_touched, in_new_view_added, merge_adds}
+use Rattle.lens_laws.proofs.Join.{from_natural, in_put_left, not_over, part_left, part_right, view_left}
+use Rattle.lens_laws.proofs.JoinDelta.{from_suspects, join_delta_left_is, join_delta_right_is, split_left, sub_left}
+use Rattle.fd_laws.proofs.Lists.{absurd_false, false_from}
+use Rattle.fd_laws.proofs.Relations.{from_minus, from_project, from_those, from_union, in_minus, in_project, same_rel, sets}
 use Rattle.fd_laws.proofs.TreeForms.{all_append, append_parts}
 use Rattle.fd_laws.proofs.Trees.{each_edge}
 use Rattle.signed_delta.specs.Disjoint.{AreApart}
@@ -40,9 +44,6 @@ merge_fits U T M A fit new r i = elim (from_union _ (minus A M) r i) [
   | inl j ↦ revised_fit U T (touched T M A) A new (λ m k. fit m (from_touched T M A m k).0) r j
   | inr j ↦ new r (from_minus A M r j).0
 ]
-
-minus_those : (p : Row → Bool) (M : Rows) → minus M (those p M) ≡ those (λ r. not (p r)) M
-minus_those p M = same_rel _ _ (λ r i. grind (arith, sets)) (λ r i. grind (arith, sets))
 
 module _ (A B : Relation) (F G : List Edge) (d : Delta) (can : CanBeJoined A.columns B.columns F G) (fit_left : IsRelation A) (fit_right : IsRelation B)
     (tree_left : IsTree F) (tree_right : IsTree G)
@@ -112,23 +113,76 @@ module _ (A B : Relation) (F G : List Edge) (d : Delta) (can : CanBeJoined A.col
   pub left_is : join_delta_left U V F G A.rows B.rows (edited A B d) d ≡ diff A.rows (edited_left A F B G d)
   left_is = join_delta_left_is s t (F ++ G) passes A.rows B.rows d of_left of_right applies of_view
 
--- the left change, from its parts
-module _ (A B : Relation) (F G : List Edge) (d right merged : Delta) (suspect gone late remove add : Rows) where
-  abbrev over : Delta → Row → Bool
-  over R = is_over (shared_names A.columns B.columns) (names B.columns) (new_view B.rows R) (edited A B d)
+  -- what the edit adds to the left source
+  abbrev come : Rows
+  come = (merge_delta F A.rows (project U d.add)).add
 
-  pub carried : right ≡ join_delta_right (names B.columns) G B.rows d → merged ≡ merge_delta F A.rows (project (names A.columns) d.add)
-      → suspect ≡ suspects (shared_names A.columns B.columns) (names A.columns) A.rows d right.add
-      → gone ≡ those (over right) suspect → late ≡ those (over right) merged.add → remove ≡ union merged.remove gone → add ≡ minus merged.add late
+  come_apart : (r : Row) → has come r ≡ true → has A.rows r ≡ false
+  come_apart r i =
+      (merge_adds F A.rows (project U (edited A B d)) (project U d.add) tree_left left_meets
+      (part_left s t (F ++ G) passes (edited A B d) of_view).meets
+      (split_left s t (F ++ G) passes A.rows B.rows d of_left of_right applies of_view)
+      (sub_left s t (F ++ G) passes A.rows B.rows d of_left of_right applies of_view) r i).1
+
+  -- no suspect comes
+  pub suspects_stay : (r : Row) → has (suspects S U A.rows d (join_delta_right V G B.rows d).add) r ≡ true → has come r ≡ false
+  suspects_stay r i =
+      let there = from_suspects s t (F ++ G) passes A.rows B.rows d of_left of_right applies of_view r i in
+      false_from _ (λ k. absurd_false _ there (come_apart r k))
+
+  -- an added row's part is not over
+  pub parts_stay : (r : Row) → has come r ≡ true → has (project U d.add) r ≡ true → is_over S V (new_view B.rows (join_delta_right V G B.rows d)) (edited A B d) r ≡ false
+  unfolding join_delta_left diff
+  parts_stay r i j =
+      let O = edited A B d in
+      let new = join_put_left U V F G O A.rows B.rows in
+      let w = from_project U d.add r j in
+      let there = in_new_view_added (joined A B) d w.0 w.1 in
+      let kept : has new r ≡ true = ap (has new) w.2 ∙ in_put_left s t (F ++ G) passes O A.rows B.rows (cut U w.0)
+      (view_left s t (F ++ G) passes O A.rows w.0 there) (not_over s t (F ++ G) passes O A.rows B.rows of_left of_right of_view w.0 there) in
+      let added = ap (λ (x : Delta). has x.add r) left_is ∙ in_minus new A.rows r kept (come_apart r i) in
+      not-true _ (from_those _ come r added).1
+
+-- what of the change is tested
+module _ (p : Row → Bool) (L : Delta) (suspect own : Rows) (old : (r : Row) → has suspect r ≡ true → has L.add r ≡ false) (kept : (r : Row) → has L.add r ≡ true → has own r ≡ true → p r ≡ false) where
+  abbrev pub tested : Rows
+  tested = union (minus suspect L.remove) (minus L.add own)
+
+  gone_are : union L.remove (minus (those p tested) L.add) ≡ union L.remove (those p suspect)
+  gone_are = same_rel _ _ (λ r i. grind (arith, sets, old r, kept r)) (λ r i. grind (arith, sets, old r, kept r))
+
+  come_are : minus L.add (those p tested) ≡ those (λ r. not (p r)) L.add
+  come_are = same_rel _ _ (λ r i. grind (arith, sets, old r, kept r)) (λ r i. grind (arith, sets, old r, kept r))
+
+-- the left change, from its parts
+module _ (A B : Relation) (F G : List Edge) (d right merged : Delta) (suspect own some over remove add : Rows) where
+  abbrev is_extra : Delta → Row → Bool
+  is_extra R = is_over (shared_names A.columns B.columns) (names B.columns) (new_view B.rows R) (edited A B d)
+
+  abbrev R : Delta
+  R = join_delta_right (names B.columns) G B.rows d
+
+  abbrev left : Delta
+  left = merge_delta F A.rows (project (names A.columns) d.add)
+
+  abbrev suspected : Delta → Rows
+  suspected x = suspects (shared_names A.columns B.columns) (names A.columns) A.rows d x.add
+
+  pub carried : ((r : Row) → has (suspected R) r ≡ true → has left.add r ≡ false)
+      → ((r : Row) → has left.add r ≡ true → has (project (names A.columns) d.add) r ≡ true → is_extra R r ≡ false)
+      → right ≡ R → merged ≡ left → own ≡ project (names A.columns) d.add → suspect ≡ suspected right
+      → some ≡ union (minus suspect merged.remove) (minus merged.add own) → over ≡ those (is_extra right) some
+      → remove ≡ union merged.remove (minus over merged.add) → add ≡ minus merged.add over
       → ◌≡◌ {A = Delta} (record { remove = remove; add = add }) (join_delta_left (names A.columns) (names B.columns) F G A.rows B.rows (edited A B d) d)
   unfolding join_delta_left
-  carried changes merges suspected goes lates removes adds =
-      let R = join_delta_right (names B.columns) G B.rows d in
-      let left = merge_delta F A.rows (project (names A.columns) d.add) in
-      let suspects_are : suspect ≡ suspects (shared_names A.columns B.columns) (names A.columns) A.rows d R.add =
-      suspected ∙ ap (λ (x : Delta). suspects (shared_names A.columns B.columns) (names A.columns) A.rows d x.add) changes in
-      let removed : remove ≡ union left.remove (those (over R) (suspects (shared_names A.columns B.columns) (names A.columns) A.rows d R.add)) =
-      removes ∙ (λ i. union (merges i).remove (goes i)) ∙ (λ i. union left.remove (those (over (changes i)) (suspects_are i))) in
-      let added : add ≡ those (λ r. not (over R r)) left.add =
-      adds ∙ ap (minus merged.add) lates ∙ minus_those (over right) merged.add ∙ (λ i. those (λ r. not (over (changes i) r)) (merges i).add) in
+  carried old kept changes merges owns suspects_are somes overs removes adds =
+      let C = project (names A.columns) d.add in
+      let suspects_is : suspect ≡ suspected R = suspects_are ∙ (λ i. suspected (changes i)) in
+      let some_is : some ≡ union (minus (suspected R) left.remove) (minus left.add C) =
+      somes ∙ (λ i. union (minus (suspects_is i) (merges i).remove) (minus (merges i).add (owns i))) in
+      let over_is : over ≡ those (is_extra R) (union (minus (suspected R) left.remove) (minus left.add C)) = overs ∙ (λ i. those (is_extra (changes i)) (some_is i)) in
+      let removed : remove ≡ union left.remove (those (is_extra R) (suspected R)) =
+      removes ∙ (λ i. union (merges i).remove (minus (over_is i) (merges i).add)) ∙ gone_are (is_extra R) left (suspected R) C old kept in
+      let added : add ≡ those (λ r. not (is_extra R r)) left.add =
+      adds ∙ (λ i. minus (merges i).add (over_is i)) ∙ come_are (is_extra R) left (suspected R) C old kept in
       λ i. record { remove = removed i; add = added i }

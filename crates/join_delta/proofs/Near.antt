@@ -1,6 +1,5 @@
 -- Left rows that are over, found among the pairs with the right rows near them.
-use Rattle.std.proofs.Common.{◌≡◌, List, [], ◌∷◌, Bool, is_some, length, refl, sym, ap, ◌∙◌, subst, true, false, inl, inr, arith}
-use Rattle.std.specs.List.{list_any}
+use Rattle.std.proofs.Common.{◌≡◌, List, Bool, not, is_some, length, sym, ap, ◌∙◌, subst, true, false, inl, inr, arith}
 use Rattle.std.specs.Ordering.{eq_by_cmp}
 use Rattle.std.proofs.lemmas.Bool.{and_from, and_parts, not-true, not_from_false}
 use Rattle.lens_values.specs.Part.{restrict}
@@ -19,22 +18,19 @@ use Rattle.lens_laws.proofs.Deltas.{from_found_each, from_new_view, in_found_eac
 use Rattle.lens_laws.proofs.Join.{cut_left, cut_right, from_natural, in_natural}
 use Rattle.fd_laws.proofs.Lists.{absurd_false, any_at, any_from, both_ways, false_from}
 use Rattle.fd_laws.proofs.Names.{from_shared}
-use Rattle.fd_laws.proofs.Relations.{from_join, from_minus, from_project, from_those, in_join, in_minus, in_project, in_those, same_rel}
+use Rattle.fd_laws.proofs.Relations.{from_join, from_minus, from_project, from_those, in_join, in_minus, in_project, in_those, same_rel, sets}
 use Rattle.fd_laws.proofs.Rows.{row_itself, tied_row}
 use Rattle.row_sets.specs.Joins.{pairs_on}
 use Rattle.row_sets.proofs.Natural.{natural_is}
 use Rattle.join_delta.specs.Joined.{shared_names}
-use Rattle.join_delta.specs.Pairs.{has_parts}
-
-no_row : (rows : List Row) (r : Row) → length rows ≡ 0 → list_any (eq_by_cmp row_cmp r) rows ≡ false
-no_row [] r none = refl
-no_row (x ∷ xs) r none = absurd (omega arith)
+use Rattle.join_delta.specs.Pairs.{has_parts, shows}
+use Rattle.join_delta.proofs.NoRows.{has_none}
 
 -- where there are no rows, none of them passes a test
 pub none_pass : (p : Row → Bool) (M N : Rows) (rows : List Row) → rows ≡ set.items M → length rows ≡ 0 → N ≡ set.empty → N ≡ those p M
 none_pass p M N rows listed none is = is ∙ same_rel _ _
     (λ r i. absurd_false _ i (set.contains-empty _ r))
-    (λ r i. absurd_false _ (from_those p M r i).0 (set.contains-items M r ∙ ap (list_any (eq_by_cmp row_cmp r)) (sym listed) ∙ no_row rows r none))
+    (λ r i. absurd_false _ (from_those p M r i).0 (has_none M r (ap length (sym listed) ∙ none)))
 
 -- a row over the columns of one side has a value in each shared column
 pub shared_left : (U V : Columns) (r : Row) → Fits U r → (c : Name) → set.contains (shared_names U V) c ≡ true → is_some (at r c) ≡ true
@@ -137,7 +133,12 @@ module _ (U V : Columns) (M N X : Rows) (change d : Delta) (fit_left : (m : Row)
     | inr y ↦ in_new_view_added J d q y
   ]
 
-  -- the left parts of the pairs that the edited join lacks
+  -- the pairs that the edited join lacks
+  lacking_are : those (λ q. not (shows (names U) (names V) M N d q)) pairs ≡ minus pairs (new_view old d)
+  unfolding new_view
+  lacking_are = same_rel _ _ (λ r i. grind (arith, sets)) (λ r i. grind (arith, sets))
+
+  -- their left parts
   pub over_are : project (names U) (minus pairs (new_view old d)) ≡ those (is_over S (names V) (new_view N change) (new_view J d)) X
   over_are = same_rel _ _
       (λ x i.
@@ -177,9 +178,8 @@ module _ (U V : Columns) (M N X : Rows) (change d : Delta) (fit_left : (m : Row)
     pub right_fits : (q : Row) → has made_pairs q ≡ true → Fits V (restrict VN q)
     right_fits q i = subst (λ C. Fits V (restrict C q)) (sym vn) (right_part_fits q (ap (λ P. has P q) (sym pairs_is) ∙ i))
 
-    pub over_made : (made_old view extra : Rows) → made_old ≡ those (has_parts UN VN M N) made_pairs → view ≡ new_view made_old d → extra ≡ minus made_pairs view
+    pub over_made : (extra : Rows) → extra ≡ those (λ q. not (shows UN VN M N d q)) made_pairs
         → project UN extra ≡ those (is_over S (names V) (new_view N change) (new_view J d)) X
-    over_made made_old view extra is_old is_view is_extra =
-        let old_are : made_old ≡ old = is_old ∙ (λ i. those (has_parts (un i) (vn i) M N) (pairs_is i)) in
-        let extras : extra ≡ minus pairs (new_view old d) = is_extra ∙ (λ i. minus (pairs_is i) ((is_view ∙ ap (λ R. new_view R d) old_are) i)) in
+    over_made extra is_extra =
+        let extras : extra ≡ minus pairs (new_view old d) = is_extra ∙ (λ i. those (λ q. not (shows (un i) (vn i) M N d q)) (pairs_is i)) ∙ lacking_are in
         (λ i. project (un i) (extras i)) ∙ over_are

@@ -1,9 +1,10 @@
 -- The two parts of a joined row.
-use Rattle.std.specs.Prelude.{◌≡◌, Bool, ◌&&◌}
+use Rattle.std.specs.Prelude.{◌≡◌, Bool, ◌&&◌, ◌||◌, not}
 use Rattle.lens_values.specs.Part.{restrict}
 use Rattle.lens_values.specs.SortedSet as set
 use Rattle.lens_values.specs.declared.row.Row.{Row}
 use Rattle.lens_specs.specs.Columns.{Columns, names}
+use Rattle.lens_specs.specs.Delta.{Delta}
 use Rattle.lens_specs.specs.Names.{Names}
 use Rattle.lens_specs.specs.Relation.{Rows, has}
 use Rattle.join_delta.specs.declared.sides.Sides.{Sides}
@@ -17,3 +18,7 @@ pub record AreSides (U V : Columns) (s : Sides) : Type 0 where
 -- the row's part over U is in M, and its part over V in N
 abbrev pub has_parts : Names → Names → Rows → Rows → Row → Bool
 has_parts U V M N q = has M (restrict U q) && has N (restrict V q)
+
+-- the edit adds the row, or leaves it and it has its parts in M and N
+abbrev pub shows : Names → Names → Rows → Rows → Delta → Row → Bool
+shows U V M N d q = has d.add q || (not (has d.remove q) && has_parts U V M N q)

@@ -3,11 +3,12 @@ ghost use Rattle.std.specs.Prelude.{◌≡◌, ◌≢◌, true, length, Contains
 ghost use Rattle.lens_values.specs.SortedSet as set;
 ghost use Rattle.lens_specs.specs.Delta.{Applies, diff};
 ghost use Rattle.lens_specs.specs.Dependencies.{AllEdges, MeetsTree};
+ghost use Rattle.lens_specs.specs.Relation.{minus, union};
 ghost use Rattle.lens_specs.specs.Rows.{at};
 ghost use Rattle.lens_laws.specs.KeyedDeltas.{suspects as suspects_of};
 ghost use Rattle.join_delta.specs.Joined.{AreJoined, CanBeJoined, edited, edited_left, edited_right, joined, shared_names};
 
-use crate::merging::merge_change;
+use crate::merging::{Change, merge_change};
 use crate::over::over_rows;
 use crate::sides::{Sides, sides_of};
 use fd_tree::Tree;
@@ -25,7 +26,8 @@ use step_counter::Steps;
 /// Each source is merged with its part of the added rows. Then each left row goes that would still
 /// join to a row that the edited view lacks. Only the parts of removed rows, the rows that agree
 /// with a new or revised right row, and the merged rows can be such rows, so these alone are
-/// tested.
+/// tested: not those that the merge removes, which go in any case, nor the parts of added rows,
+/// which join to the added rows alone.
 pub fn join_delta<A: Look, B: Look, L: Ledger>(
     alloc: Global,
     left: &A,
@@ -66,9 +68,10 @@ pub fn join_delta<A: Look, B: Look, L: Ledger>(
     let left_rows = delta.add().project(alloc, &sides.left)?;
     let merged = merge_change(alloc, left_tree, left, &left_rows, looked)?;
     let suspects = suspects(alloc, &sides, left, &right_change, delta, looked)?;
-    let gone = over_rows(
+    let tested = tested(alloc, &suspects, &merged, &left_rows)?;
+    let over = over_rows(
         alloc,
-        &suspects,
+        &tested,
         &sides,
         left,
         right,
@@ -76,19 +79,9 @@ pub fn join_delta<A: Look, B: Look, L: Ledger>(
         delta,
         looked,
     )?;
-    let late = over_rows(
-        alloc,
-        &merged.add,
-        &sides,
-        left,
-        right,
-        &right_change,
-        delta,
-        looked,
-    )?;
-    let remove = merged.remove.union(alloc, &gone)?;
-    let add = merged.add.minus(alloc, &late)?;
-    Ok((Delta::new(remove, add), right_change))
+    let left_change = merged.without(alloc, &over)?;
+    let left_change = Delta::new(left_change.remove, left_change.add);
+    Ok((left_change, right_change))
 }
 
 // The left rows that may have to go: the parts of removed rows, and those that agree with a new
@@ -109,6 +102,24 @@ fn suspects<A: Look, L: Ledger>(
         IfOk result (λ rows. rows ≡ suspects_of S sides.now.left M delta.now change.now.add) }
 {
     let parts = delta.remove().project(alloc, &sides.left)?;
+    if change.add().rows().is_empty() {
+        return Ok(parts);
+    }
     let near = find_each(alloc, &sides.shared, change.add(), left, looked)?;
     parts.union(alloc, &near)
+}
+
+// The suspects that the merge leaves, and the rows that it adds beside the parts of added rows.
+fn tested(
+    alloc: Global,
+    suspects: &RowSet,
+    merged: &Change,
+    parts: &RowSet,
+) -> Result<RowSet, NoMemory>
+    ensures { IfOk result (λ tested. tested
+        ≡ union (minus suspects.now merged.now.remove) (minus merged.now.add parts.now)) }
+{
+    let left = suspects.minus(alloc, &merged.remove)?;
+    let revised = merged.add.minus(alloc, parts)?;
+    left.union(alloc, &revised)
 }

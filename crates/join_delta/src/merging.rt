@@ -4,6 +4,7 @@ ghost use Rattle.lens_values.specs.SortedSet as set;
 ghost use Rattle.lens_specs.specs.Columns.{Fits, names};
 ghost use Rattle.lens_specs.specs.Dependencies.{AllEdges, MeetsTree};
 ghost use Rattle.lens_specs.specs.Names.{Within};
+ghost use Rattle.lens_specs.specs.Relation.{minus, union};
 ghost use Rattle.lens_laws.specs.KeyedDeltas.{merge_delta};
 
 use fd_tree::Tree;
@@ -24,6 +25,24 @@ pub struct Change {
     pub add: RowSet,
 }
 
+impl Change {
+    /// The change without the rows that are too many: those of them that it adds are not added, and
+    /// the others go too.
+    pub fn without(self, alloc: Global, over: &RowSet) -> Result<Change, NoMemory>
+        ensures remove { IfOk result (λ change.
+            change.remove ≡ union self.remove (minus over.now self.add)) }
+        ensures add { IfOk result (λ change. change.add ≡ minus self.add over.now) }
+    {
+        if over.rows().is_empty() {
+            return Ok(self);
+        }
+        let gone = over.minus(alloc, &self.add)?;
+        let remove = self.remove.union(alloc, &gone)?;
+        let add = self.add.minus(alloc, over)?;
+        Ok(Change { remove, add })
+    }
+}
+
 /// What a merge with these rows changes in the relation: the rows that they revise become what
 /// they are revised to, and those of them that are new come.
 pub fn merge_change<K: Look, L: Ledger>(
@@ -42,10 +61,15 @@ pub fn merge_change<K: Look, L: Ledger>(
     ensures change { IfOk result (λ change. record { remove = change.remove; add = change.add }
         ≡ merge_delta tree.now (K.relation look.now).rows rows.now) }
 {
+    let new = absent(alloc, rows, look, looked)?;
+    // Rows that are all there revise nothing.
+    if new.rows().is_empty() {
+        let remove = RowSet::empty(alloc);
+        return Ok(Change { remove, add: new });
+    }
     let touched = revise_touched(alloc, tree, look, rows, looked)?;
     let remove = befores(alloc, &touched)?;
     let revised = afters(alloc, &touched)?;
-    let new = absent(alloc, rows, look, looked)?;
     let add = revised.union(alloc, &new)?;
     Ok(Change { remove, add })
 }

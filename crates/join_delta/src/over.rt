@@ -1,5 +1,5 @@
 //! Left rows that join a right row to a row that the view lacks.
-ghost use Rattle.std.specs.Prelude.{◌≡◌, ◌≢◌, true, length, Contains, IfOk};
+ghost use Rattle.std.specs.Prelude.{◌≡◌, ◌≢◌, true, length, not, Contains, IfOk};
 ghost use Rattle.lens_values.specs.Part.{restrict};
 ghost use Rattle.lens_values.specs.SortedSet as set;
 ghost use Rattle.lens_specs.specs.Columns.{Fits, names};
@@ -7,7 +7,7 @@ ghost use Rattle.lens_specs.specs.Delta.{new_view};
 ghost use Rattle.lens_specs.specs.Relation.{those};
 ghost use Rattle.lens_laws.specs.KeyedDeltas.{is_over};
 ghost use Rattle.join_delta.specs.Joined.{edited, shared_names};
-ghost use Rattle.join_delta.specs.Pairs.{AreSides, has_parts};
+ghost use Rattle.join_delta.specs.Pairs.{AreSides, has_parts, shows};
 
 use crate::sides::Sides;
 use lens_values::{NoMemory, Row};
@@ -51,21 +51,30 @@ pub fn over_rows<A: Look, B: Look, L: Ledger>(
     rows_fit(left);
     rows_fit(right);
     let found = find_each(alloc, &sides.shared, rows, right, looked)?;
-    let near = change.apply_to(alloc, &found)?;
+    let near = changed(alloc, found, change)?;
     let pairs = rows.join(alloc, &near, &sides.shared)?;
-    let old = joined(alloc, &pairs, sides, left, right, looked)?;
-    let view = delta.apply_to(alloc, &old)?;
-    let extra = pairs.minus(alloc, &view)?;
+    let extra = lacking(alloc, &pairs, sides, left, right, delta, looked)?;
     extra.project(alloc, &sides.left)
 }
 
-// Those of the rows whose parts are in the sources, as they were.
-fn joined<A: Look, B: Look, L: Ledger>(
+// The rows after the change. Mostly nothing is changed, and then nothing is copied.
+fn changed(alloc: Global, rows: RowSet, change: &Delta) -> Result<RowSet, NoMemory>
+    ensures { IfOk result (λ after. after ≡ new_view rows change.now) }
+{
+    if change.is_empty() {
+        return Ok(rows);
+    }
+    change.apply_to(alloc, &rows)
+}
+
+// Those of the rows that the edited view lacks.
+fn lacking<A: Look, B: Look, L: Ledger>(
     alloc: Global,
     rows: &RowSet,
     sides: &Sides,
     left: &A,
     right: &B,
+    delta: &Delta,
     looked: &mut Steps<L>,
 ) -> Result<RowSet, NoMemory>
     requires left { (row : _) → set.contains rows.now row ≡ true
@@ -73,15 +82,41 @@ fn joined<A: Look, B: Look, L: Ledger>(
     requires right { (row : _) → set.contains rows.now row ≡ true
         → Fits (B.relation right.now).columns (restrict sides.now.right row) }
     ensures rows { let M = (A.relation left.now).rows in let N = (B.relation right.now).rows in
-        IfOk result (λ some. some ≡ those (has_parts sides.now.left sides.now.right M N) rows.now) }
+        let shown = shows sides.now.left sides.now.right M N delta.now in
+        IfOk result (λ some. some ≡ those (λ row. not (shown row)) rows.now) }
 {
     let mut some = Vec::new(alloc);
     for row in rows.rows() {
-        if is_joined(alloc, row, sides, left, right, looked)? {
+        if !is_shown(alloc, row, sides, left, right, delta, looked)? {
             some.push(row.copy(alloc)?)?;
         }
     }
     Ok(RowSet::from_rising(some))
+}
+
+// Whether the edited view has the row. The sources are asked only where the edit does not say.
+fn is_shown<A: Look, B: Look, L: Ledger>(
+    alloc: Global,
+    row: &Row,
+    sides: &Sides,
+    left: &A,
+    right: &B,
+    delta: &Delta,
+    looked: &mut Steps<L>,
+) -> Result<bool, NoMemory>
+    requires left { Fits (A.relation left.now).columns (restrict sides.now.left row.now) }
+    requires right { Fits (B.relation right.now).columns (restrict sides.now.right row.now) }
+    ensures shown { let M = (A.relation left.now).rows in let N = (B.relation right.now).rows in
+        let S = sides.now in
+        IfOk result (λ shown. shown ≡ shows S.left S.right M N delta.now row.now) }
+{
+    if delta.add().has(row) {
+        return Ok(true);
+    }
+    if delta.remove().has(row) {
+        return Ok(false);
+    }
+    is_joined(alloc, row, sides, left, right, looked)
 }
 
 // Whether the parts of the row are in the sources.
@@ -99,7 +134,10 @@ fn is_joined<A: Look, B: Look, L: Ledger>(
         IfOk result (λ there. there ≡ has_parts sides.now.left sides.now.right M N row.now) }
 {
     let left_part = row.project(alloc, &sides.left)?;
+    if !left.has(alloc, &left_part, looked)? {
+        return Ok(false);
+    }
     let right_part = row.project(alloc, &sides.right)?;
-    let there = left.has(alloc, &left_part, looked)? && right.has(alloc, &right_part, looked)?;
+    let there = right.has(alloc, &right_part, looked)?;
     Ok(there)
 }

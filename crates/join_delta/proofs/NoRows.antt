@@ -1,0 +1,73 @@
+-- What sets without rows leave as it was.
+use Rattle.std.proofs.Common.{◌≡◌, List, [], ◌∷◌, length, refl, sym, ap, ◌∙◌, false, true, inl, inr, arith}
+use Rattle.std.specs.List.{list_any}
+use Rattle.std.specs.Ordering.{eq_by_cmp}
+use Rattle.std.proofs.lemmas.Bool.{and_parts, cases_Bool, eqb-true}
+use Rattle.lens_values.specs.Row.{row_cmp}
+use Rattle.lens_values.specs.SortedSet as set
+use Rattle.lens_values.specs.declared.row.Row.{Row}
+use Rattle.lens_specs.specs.Delta.{Delta, is_empty, new_view}
+use Rattle.lens_specs.specs.Dependencies.{Edge, MeetsTree}
+use Rattle.lens_specs.specs.Names.{Names}
+use Rattle.lens_specs.specs.Relation.{Rows, has, minus, union}
+use Rattle.lens_specs.specs.Revision.{revise}
+use Rattle.lens_laws.specs.KeyedDeltas.{found_each, merge_delta, touched}
+use Rattle.lens_laws.proofs.Deltas.{from_touched}
+use Rattle.fd_laws.proofs.Lists.{absurd_false}
+use Rattle.fd_laws.proofs.Relations.{from_minus, from_union, in_minus, in_union_left, in_union_right, same_rel}
+use Rattle.fd_laws.proofs.Trees.{from_revise, revise_own}
+
+none_listed : (rows : List Row) (r : Row) → length rows ≡ 0 → list_any (eq_by_cmp row_cmp r) rows ≡ false
+none_listed [] r none = refl
+none_listed (x ∷ xs) r none = absurd (omega arith)
+
+pub has_none : (M : Rows) (r : Row) → length (set.items M) ≡ 0 → has M r ≡ false
+has_none M r none = set.contains-items M r ∙ none_listed (set.items M) r none
+
+pub minus_none : (M N : Rows) → length (set.items N) ≡ 0 → minus M N ≡ M
+minus_none M N none = same_rel _ M (λ r i. (from_minus M N r i).0) (λ r i. in_minus M N r i (has_none N r none))
+
+pub union_none : (M N : Rows) → length (set.items N) ≡ 0 → union M N ≡ M
+union_none M N none = same_rel _ M
+    (λ r i. elim (from_union M N r i) [ inl j ↦ j | inr j ↦ absurd_false _ j (has_none N r none) ])
+    (λ r i. in_union_left M N r i)
+
+-- none of none goes
+pub none_gone : (M N K : Rows) → length (set.items N) ≡ 0 → union M (minus N K) ≡ M
+none_gone M N K none = same_rel _ M
+    (λ r i. elim (from_union M (minus N K) r i) [ inl j ↦ j | inr j ↦ absurd_false _ (from_minus N K r j).0 (has_none N r none) ])
+    (λ r i. in_union_left M (minus N K) r i)
+
+-- a change without rows leaves each row
+pub unchanged : (M : Rows) (d : Delta) → is_empty d ≡ true → new_view M d ≡ M
+unfolding new_view
+unchanged M d none =
+    let w = and_parts _ _ none in
+    union_none (minus M d.remove) d.add (eqb-true _ _ w.1) ∙ minus_none M d.remove (eqb-true _ _ w.0)
+
+-- a merge with rows that are all there changes nothing
+pub nothing_new : (F : List Edge) (M A gone new : Rows) → MeetsTree M F → new ≡ minus A M → length (set.items new) ≡ 0 → gone ≡ set.empty
+    → ◌≡◌ {A = Delta} (record { remove = gone; add = new }) (merge_delta F M A)
+unfolding merge_delta
+nothing_new F M A gone new meets rest none is =
+    let lacks : (a : Row) → has (minus A M) a ≡ false = λ a. ap (λ N. has N a) (sym rest) ∙ has_none new a none in
+    let there : (a : Row) → has A a ≡ true → has M a ≡ true = λ a i. elim (cases_Bool (has M a)) [
+      | inl t ↦ t
+      | inr f ↦ absurd_false _ (in_minus A M a i f) (lacks a)
+    ] in
+    let same : (m : Row) → has (touched F M A) m ≡ true → ⊥ = λ m i. let w = from_touched F M A m i in w.1 (revise_own F M A m meets there w.0) in
+    let removed : gone ≡ touched F M A = is ∙ same_rel _ _ (λ r i. absurd_false _ i (set.contains-empty _ r)) (λ r i. absurd (same r i)) in
+    let added : new ≡ union (revise F (touched F M A) A) (minus A M) = rest ∙ same_rel _ _
+    (λ r i. in_union_right _ (minus A M) r i)
+    (λ r i. elim (from_union _ (minus A M) r i) [
+      | inl j ↦ let w = from_revise F (touched F M A) A r j in absurd (same w.0 w.1)
+      | inr j ↦ j
+    ]) in
+    λ i. record { remove = removed i; add = added i }
+
+-- no rows, nothing found by them
+pub union_found : (C : Names) (M P : Rows) (ls : List Row) → length ls ≡ 0 → union P (found_each C M ls) ≡ P
+union_found C M P [] none = same_rel _ P
+    (λ r i. elim (from_union P set.empty r i) [ inl j ↦ j | inr j ↦ absurd_false _ j (set.contains-empty _ r) ])
+    (λ r i. in_union_left P set.empty r i)
+union_found C M P (l ∷ ls) none = absurd (omega arith)
