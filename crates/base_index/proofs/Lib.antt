@@ -5,6 +5,7 @@ pub mod Fields
 pub mod Groups
 pub mod Known
 pub mod Listed
+pub mod Members
 pub mod Mixed
 pub mod Put
 pub mod Sets

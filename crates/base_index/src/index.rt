@@ -6,9 +6,10 @@ ghost use Rattle.base_index.specs.Index.{IsPut, IsTaken, group_at, has_key};
 ghost use Rattle.base_index.specs.Lists.{IsTableOf, cols_of};
 ghost use Rattle.base_index.specs.Need.{has_cols, same_names};
 
+use crate::group::Group;
 use crate::key::Key;
 use lens_values::{Names, NoMemory, Row};
-use row_sets::{RowSet, RowTree};
+use row_sets::RowSet;
 use std::alloc::Global;
 use std::collections::BTreeMap;
 
@@ -16,7 +17,7 @@ use std::collections::BTreeMap;
 #[derive(Drop)]
 pub struct Index {
     pub(crate) cols: Names,
-    groups: BTreeMap<Key, RowTree>,
+    groups: BTreeMap<Key, Group>,
 }
 
 impl Index {
@@ -62,11 +63,9 @@ impl Index {
         ensures cols { self.new.cols ≡ self.old.cols }
     {
         match self.groups.get_mut(key) {
-            Some(group) => group.insert(row),
+            Some(group) => group.insert(alloc, row),
             None => {
-                let mut group = RowTree::new(alloc);
-                group.insert(row)?;
-                let _old = self.groups.insert(key.copy(alloc)?, group)?;
+                let _old = self.groups.insert(key.copy(alloc)?, Group::of(row))?;
                 Ok(())
             }
         }
@@ -79,7 +78,7 @@ impl Index {
     {
         if let Some(group) = self.groups.get_mut(key) {
             group.remove(row);
-            if group.count() == 0 {
+            if group.is_empty() {
                 let _empty = self.groups.remove(key);
             }
         }

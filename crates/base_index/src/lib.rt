@@ -2,6 +2,7 @@
 #![tactic(auto)]
 
 mod filling;
+mod group;
 mod index;
 mod key;
 mod keyed;
