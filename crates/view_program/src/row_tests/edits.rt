@@ -1,5 +1,6 @@
 //! Edits: rows to remove and rows to add are sent, and the other rows of the view stay.
 use crate::row_tests::{BASE, follow, follow_failing};
+use crate::store_tests::PUT_STOCK;
 use std::test::Fail;
 
 /// Edits that leave the view as it is: a row in both lists, one that is not there, one that is there
@@ -132,7 +133,16 @@ fn edits(rt: HostRuntime) -> Result<(), Fail> {
     follow(rt.alloc(), &[JOINS])
 }
 
+/// The put of the program's own script, which this keeper refuses: the view shows what it showed.
+const REFUSED_PUT: &str =
+    r#"{"do":"put","view":"stock","rows":[{"album":"Show","quantity":3,"rating":4,"track":"Lullaby"},{"album":"Disintegration","quantity":7,"rating":5,"track":"Lovesong"}]}
+{"error":90,"ok":false}
+{"do":"read","view":"stock"}
+{"ok":true,"rows":[{"album":"Paris","quantity":4,"rating":5,"track":"Lovesong"},{"album":"Show","quantity":3,"rating":3,"track":"Lullaby"},{"album":"Wish","quantity":5,"rating":4,"track":"Trust"}],"version":5}"#;
+
 #[test]
 fn keeper_that_fails(rt: HostRuntime) -> Result<(), Fail> {
-    follow_failing(rt.alloc(), 7, &[BASE, NOT_STORED])
+    follow_failing(rt.alloc(), 7, &[BASE, NOT_STORED])?;
+    // The same put is accepted when it is sent again.
+    follow_failing(rt.alloc(), 7, &[BASE, REFUSED_PUT, PUT_STOCK])
 }
