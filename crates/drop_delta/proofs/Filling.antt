@@ -1,6 +1,6 @@
 -- Rows that are filled in, and the edit that they make.
 use Rattle.std.proofs.Common.{◌≡◌, ℕ, length, List, [], ◌∷◌, is_some, map, refl, sym, ap, ◌∙◌, subst, Bool, true, false, cond, Option, Some, None, inl, inr, ◌≤◌, take, arith}
-use Rattle.std.specs.Prelude.{filter}
+use Rattle.std.specs.Prelude.{filter, slice_get}
 use Rattle.std.specs.List.{find}
 use Rattle.std.specs.FinMap as finmap
 use Rattle.std.specs.Cmp.Lexicographic.{nat_list_cmp_total}
@@ -24,19 +24,20 @@ use Rattle.lens_specs.specs.Rows.{agree, at, cut, with_at}
 use Rattle.lens_laws.specs.KeyedDeltas.{drop_delta, find_by}
 use Rattle.lens_laws.specs.Shapes.{CanDrop, IsIn, Shape, drop_shape}
 use Rattle.fd_laws.specs.Trees.{IsTree}
-use Rattle.fd_laws.proofs.Columns.{fits_cut, fits_names, get-without_other, names-without, no_kind}
+use Rattle.fd_laws.proofs.Columns.{fits_cut, fits_names, fits_none, get-without_other, names-without, no_kind}
+use Rattle.fd_laws.proofs.Lists.{false_from}
 use Rattle.lens_laws.proofs.Deltas.{from_new_view}
 use Rattle.lens_laws.proofs.DropDelta.{drop_delta_is}
 use Rattle.fd_laws.proofs.Names.{from_rest, in_rest, one_is, one_itself}
 use Rattle.fd_laws.proofs.Relations.{from_image, from_project, in_image, same_rel}
-use Rattle.fd_laws.proofs.Rows.{agree_alike, agree_from, agree-cut, at-cut, at-with_at, cut_column, same_row}
+use Rattle.fd_laws.proofs.Rows.{agree_alike, agree_back, agree_from, agree-cut, at-cut, at-cut_in, at-cut_out, at-paste_in, at-paste_out, at-with_at, at-with_other, cut_column, same_row}
 use Rattle.fd_laws.proofs.Trees.{to_tree_without}
 use Rattle.row_sets.proofs.Natural.{first_of, get-both}
 use Rattle.signed_delta.specs.Disjoint.{AreApart}
 use Rattle.signed_delta.specs.Keys.{IsKey}
 use Rattle.signed_delta.proofs.Differences.{sides_apart}
 use Rattle.revision.proofs.Changed.{items_those}
-use Rattle.drop_delta.specs.Dropped.{edited, edited_source, filled_in}
+use Rattle.drop_delta.specs.Dropped.{edited, edited_source, filled_in, filling_for, right_of}
 
 -- ---- one row
 
@@ -45,33 +46,47 @@ pub one_rises : (n : Name) → IsStrictlySortedBy bytes_cmp (n ∷ [])
 unfolding IsStrictlySortedBy
 one_rises n = (tt, tt)
 
-either_there : (o p : Option Value) → is_some p ≡ true → is_some (first_of o p) ≡ true
-either_there None p h = h
-either_there (Some v) p h = refl
-
--- the part of a row with a default is a key
-pub default_key : (C : Names) (default n m part : Row) → ((c : Name) → set.contains C c ≡ true → is_some (at n c) ≡ true) → m ≡ override default n → part ≡ restrict C m → IsKey C part
+-- a row's part is a key
+pub part_key : (C : Names) (row key : Row) → ((c : Name) → set.contains C c ≡ true → is_some (at row c) ≡ true) → key ≡ restrict C row → IsKey C key
 unfolding cut
-default_key C default n m part have is made c =
-    ap (λ r. is_some (at r c)) (made ∙ ap (restrict C) is) ∙ ap is_some (at-cut C (override default n) c)
-    ∙ cut_column C c (at (override default n) c) (λ i. ap is_some (get-both default n c) ∙ either_there (at default c) (at n c) (have c i))
+part_key C row key have is c = ap (λ r. is_some (at r c)) is ∙ ap is_some (at-cut C row c) ∙ cut_column C c (at row c) (have c)
 
-find_filtered : {X : Type 0} (p : X → Bool) (xs : List X) → find p (filter p xs) ≡ find p xs
-find_filtered p [] = refl
-find_filtered p (x ∷ xs) =
-    elim (p x) as (λ b. p x ≡ b → find p (cond b (x ∷ filter p xs) (filter p xs)) ≡ cond b (Some x) (find p xs)) [
-      | true ↦ λ t. ap (λ b. cond b (Some x) (find p (filter p xs))) t
-      | false ↦ λ _. find_filtered p xs
-    ] refl
+-- rows that agree on the left side are filled in alike
+pub filling_alike : (e : Edge) (default : Row) (M : Rows) (k row : Row) → agree e.left row k ≡ true → filling_for e default M k ≡ filling_for e default M row
+filling_alike e default M k row g =
+    let alike : (r : Row) → agree e.left k r ≡ agree e.left row r = λ r. agree_alike e.left k row r (agree_back e.left row k g) in
+    λ i. right_of e default (first_row (λ r. alike r i) M)
 
--- a row goes along an edge by the rows that it finds by its part as it does by all
-pub along_found : (e : Edge) (m part : Row) (M found : Rows) → part ≡ restrict e.left m → found ≡ find_by e.left part M → along e m found ≡ along e m M
-unfolding along first_row cut
-along_found e m part M found made is =
-    let alike : (r : Row) → agree e.left part r ≡ agree e.left m r = λ r. ap (λ k. agree e.left k r) made ∙ agree_alike e.left (cut e.left m) m r (agree-cut e.left m) in
-    let list : set.items found ≡ filter (agree e.left m) (set.items M) =
-    ap set.items is ∙ items_those (agree e.left part) M ∙ (λ i. filter (λ r. alike r i) (set.items M)) in
-    ap (λ o. moved o m e.right) (ap (find (agree e.left m)) list ∙ find_filtered (agree e.left m) (set.items M))
+-- what filled in the key fills in a row that agrees with it
+pub filled_again : (e : Edge) (C : Names) (default row key part : Row) (M : Rows) (b : Bool) → part ≡ filling_for e default M key → C ≡ e.left → b ≡ agree C row key → b ≡ true → part ≡ filling_for e default M row
+filled_again e C default row key part M b fills is alike holds =
+    fills ∙ filling_alike e default M key row (ap (λ D. agree D row key) (sym is) ∙ sym alike ∙ holds)
+
+first_filtered : (p : Row → Bool) (xs : List Row) → slice_get (filter p xs) 0 ≡ find p xs
+first_filtered p [] = refl
+first_filtered p (x ∷ xs) =
+    elim (p x) as (λ b. slice_get (cond b (x ∷ filter p xs) (filter p xs)) 0 ≡ cond b (Some x) (find p xs)) [
+      | true ↦ refl
+      | false ↦ first_filtered p xs
+    ]
+
+-- the first of the rows found by the part of a row fills in the part, and the row
+module _ (e : Edge) (C : Names) (default row key part : Row) (M found : Rows) (side : C ≡ e.left) (made : key ≡ restrict C row) (is : found ≡ find_by C key M)
+    (first : part ≡ right_of e default (slice_get (set.items found) 0)) where
+  first_is : slice_get (set.items found) 0 ≡ first_row (agree e.left key) M
+  unfolding first_row
+  first_is = ap (λ F. slice_get (set.items F) 0) (is ∙ ap (λ D. find_by D key M) side)
+      ∙ ap (λ rows. slice_get rows 0) (items_those (agree e.left key) M) ∙ first_filtered (agree e.left key) (set.items M)
+
+  pub key_filled : part ≡ filling_for e default M key
+  key_filled = first ∙ ap (right_of e default) first_is
+
+  alike : agree e.left row key ≡ true
+  unfolding cut
+  alike = ap (agree e.left row) (made ∙ ap (λ D. cut D row) side) ∙ agree_back e.left _ row (agree-cut e.left row)
+
+  pub row_filled : part ≡ filling_for e default M row
+  row_filled = key_filled ∙ filling_alike e default M key row alike
 
 -- ---- the rows
 
@@ -90,20 +105,45 @@ default_is A a default n is = same_row _ _ (λ c.
     ∙ chosen (eq_by_cmp bytes_cmp c A) a (at n c)
     ∙ sym (at-with_at n A (Some a) c))
 
+first_none : (o : Option Value) → first_of o None ≡ o
+first_none None = refl
+first_none (Some v) = refl
+
+-- a row without the column, filled in, is the row with the default taken along the edge
+module _ (A : Name) (X : Names) (a : Value) (default n : Row) (M : Rows) (is : default ≡ finmap.from_entries ((A, a) ∷ [])) (x_out : (c : Name) → set.contains X c ≡ true → set.contains (one A) c ≡ false)
+    (lacks : (c : Name) → set.contains (one A) c ≡ true → at n c ≡ None) where
+  moved_by : (o : Option Row) → override (right_of (edge X (one A)) default o) n ≡ moved o (with_at n A (Some a)) (one A)
+  unfolding cut
+  moved_by None = default_is A a default n is
+  moved_by (Some f) =
+      let m = with_at n A (Some a) in
+      same_row _ _ (λ c. get-both (cut (one A) f) n c ∙ elim (cases_Bool (set.contains (one A) c)) [
+        | inl t ↦ (λ i. first_of (at-cut_in (one A) f c t i) (lacks c t i)) ∙ first_none (at f c) ∙ sym (at-paste_in m (one A) f c t)
+        | inr o ↦ ap (λ v. first_of v (at n c)) (at-cut_out (one A) f c o) ∙ sym (at-paste_out m (one A) f c o ∙ at-with_other n A (Some a) c o)
+      ])
+
+  filled_along : filled_in (edge X (one A)) default M n ≡ along (edge X (one A)) (with_at n A (Some a)) M
+  unfolding along
+  filled_along =
+      let m = with_at n A (Some a) in
+      let alike : (r : Row) → agree X n r ≡ agree X m r = λ r. agree_alike X n m r (agree_from X n m (λ c i. sym (at-with_other n A (Some a) c (x_out c i)))) in
+      (λ i. override (right_of (edge X (one A)) default (first_row (λ r. alike r i) M)) n) ∙ moved_by (first_row (agree X m) M)
+
 -- the rows that are filled in, as the put of a drop makes them
 pub filled_are : (A : Name) (X : Names) (a : Value) (default : Row) (N M : Rows) → default ≡ finmap.from_entries ((A, a) ∷ [])
+    → ((c : Name) → set.contains X c ≡ true → set.contains (one A) c ≡ false) → ((n : Row) → has N n ≡ true → (c : Name) → set.contains (one A) c ≡ true → at n c ≡ None)
     → image (filled_in (edge X (one A)) default M) N ≡ drop_put A X a N M
 unfolding drop_put revise revise_row
-filled_are A X a default N M is =
+filled_are A X a default N M is x_out lacks =
     let e = edge X (one A) in
     let f = λ (n : Row). with_at n A (Some a) in
-    let one_step = λ (n : Row). ap (λ m. along e m M) (default_is A a default n is) in
+    let one_step = λ (n : Row) (i : has N n ≡ true). filled_along A X a default n M is x_out (lacks n i) in
     same_rel _ _
     (λ r i. let w = from_image (filled_in e default M) N r i in
-    ap (has _) (w.2 ∙ one_step w.0) ∙ in_image (λ m. revise_row (e ∷ []) m M) (image f N) (f w.0) (in_image f N w.0 w.1))
+    ap (has _) (w.2 ∙ one_step w.0 w.1) ∙ in_image (λ m. revise_row (e ∷ []) m M) (image f N) (f w.0) (in_image f N w.0 w.1))
     (λ r i. let w = from_image (λ m. revise_row (e ∷ []) m M) (image f N) r i in
     let v = from_image f N w.0 w.1 in
-    ap (has _) (w.2 ∙ ap (λ m. along e m M) v.2 ∙ sym (one_step v.0)) ∙ in_image (filled_in e default M) N v.0 v.1)
+    ap (has _) (w.2 ∙ ap (λ m. along e m M) v.2 ∙ sym (one_step v.0 v.1)) ∙ in_image (filled_in e default M) N v.0 v.1)
 
 -- what is made of each row, up to the end of the list
 pub made_all : (f : Row → Row) (M : Rows) (rows list : List Row) (i : ℕ) → rows ≡ set.items M → length rows ≤ i → list ≡ map f (take i (set.items M)) → set.from_list list ≡ image f M
@@ -174,16 +214,23 @@ module _ (U : Columns) (A : Name) (X : Names) (a : Value) (M : Rows) (d : Delta)
     );
   }
 
-  pub is_difference : drop_delta A X a M d ≡ diff M (edited_source U A X a M d)
+  is_difference : drop_delta A X a M d ≡ diff M (edited_source U A X a M d)
   is_difference = drop_delta_is s A X a (λ _. true) (λ _. true) tree can M d of_source applies of_view
 
--- the rows to remove and to add, filled in
-pub carried : (A : Name) (X : Names) (a : Value) (default : Row) (M : Rows) (d : Delta) (e : Edge) (remove add : Rows)
-    → default ≡ finmap.from_entries ((A, a) ∷ []) → e ≡ edge X (one A)
-    → remove ≡ image (filled_in e default M) d.remove → add ≡ image (filled_in e default M) d.add
-    → ◌≡◌ {A = Delta} (record { remove = remove; add = add }) (drop_delta A X a M d)
-unfolding drop_delta
-carried A X a default M d e remove add is made removes adds =
-    let removed : remove ≡ drop_put A X a d.remove M = removes ∙ ap (λ k. image (filled_in k default M) d.remove) made ∙ filled_are A X a default d.remove M is in
-    let added : add ≡ drop_put A X a d.add M = adds ∙ ap (λ k. image (filled_in k default M) d.add) made ∙ filled_are A X a default d.add M is in
-    λ i. record { remove = removed i; add = added i }
+  -- no row of the edit has a value in A
+  lacks : (r : Row) → Fits (without_column U A) r → (c : Name) → set.contains (one A) c ≡ true → at r c ≡ None
+  lacks r h c i = fits_none (without_column U A) r h c
+      (ap (λ C. set.contains C c) (names-without U A) ∙ false_from _ (λ j. let w = from_rest (names U) (one A) c j in true≢false (sym i ∙ w.1)))
+
+  -- the rows to remove and to add, filled in
+  pub carried : (default : Row) (e : Edge) (remove add : Rows)
+      → default ≡ finmap.from_entries ((A, a) ∷ []) → e ≡ edge X (one A)
+      → remove ≡ image (filled_in e default M) d.remove → add ≡ image (filled_in e default M) d.add
+      → ◌≡◌ {A = Delta} (record { remove = remove; add = add }) (diff M (edited_source U A X a M d))
+  unfolding drop_delta
+  carried default e remove add is made removes adds =
+      let removed : remove ≡ drop_put A X a d.remove M = removes ∙ ap (λ k. image (filled_in k default M) d.remove) made
+      ∙ filled_are A X a default d.remove M is not_one (λ n i. lacks n (removed_fit n i)) in
+      let came : add ≡ drop_put A X a d.add M = adds ∙ ap (λ k. image (filled_in k default M) d.add) made
+      ∙ filled_are A X a default d.add M is not_one (λ n i. lacks n (added n i)) in
+      (λ i. record { remove = removed i; add = came i }) ∙ is_difference

@@ -4,7 +4,7 @@ use Rattle.lens_specs.specs.Delta.{Delta, diff}
 use Rattle.lens_specs.specs.Dependencies.{edge}
 use Rattle.lens_specs.specs.Relation.{has, image}
 use Rattle.drop_delta.specs.Dropped.{edited_source, filled_in}
-use Rattle.drop_delta.proofs.Filling.{apart, carried, have, is_difference, removed_fit}
+use Rattle.drop_delta.proofs.Filling.{apart, carried, have, removed_fit}
 use Rattle.drop_delta.proofs.editing.drop_delta.Goals as goal
 
 pub filled_rows-requires-clause-have : goal.filled_rows-requires-clause-have
@@ -34,13 +34,14 @@ new-requires g c =
     let q = c.requires in
     let default = c.in_ok-default.default in
     let e = edge c.in_ok-left.left c.in_ok-right.right in
-    let is : ◌≡◌ {A = Delta} (record { remove = c.in_ok-remove.remove; add = c.in_ok-add.add }) (diff R.rows (edited_source R.columns A X a R.rows d)) =
-    carried A X a default R.rows d e c.in_ok-remove.remove c.in_ok-add.add c.in_ok-default.ensures
+    let remove = c.in_ok-removed.removed.rows in
+    let add = c.in_ok-added.added.rows in
+    let is : ◌≡◌ {A = Delta} (record { remove = remove; add = add }) (diff R.rows (edited_source R.columns A X a R.rows d)) =
+    carried R.columns A X a R.rows d q.column q.within q.apart c.rows_fit.ensures q.decides q.applies q.fit default e remove add c.in_ok-default.ensures
     (λ i. edge (c.in_ok-left.ensures i) (c.in_ok-right.ensures i))
-    (c.in_ok-remove.ensures.rows ∙ ap (image (filled_in e default R.rows)) c.remove.ensures)
-    (c.in_ok-add.ensures.rows ∙ ap (image (filled_in e default R.rows)) c.add.ensures)
-    ∙ is_difference R.columns A X a R.rows d q.column q.within q.apart c.rows_fit.ensures q.decides q.applies q.fit in
-    apart R.rows (edited_source R.columns A X a R.rows d) c.in_ok-remove.remove c.in_ok-add.add is
+    (c.in_ok-removed.ensures.rows ∙ ap (image (filled_in e default R.rows)) c.remove.ensures)
+    (c.in_ok-added.ensures.rows ∙ ap (image (filled_in e default R.rows)) c.add.ensures) in
+    apart R.rows (edited_source R.columns A X a R.rows d) remove add is
 
 pub returns : goal.returns
 returns g c =
@@ -52,10 +53,11 @@ returns g c =
     let q = c.requires in
     let default = c.in_ok-default.default in
     let e = edge c.in_ok-left.left c.in_ok-right.right in
-    let is : ◌≡◌ {A = Delta} (record { remove = c.in_ok-remove.remove; add = c.in_ok-add.add }) (diff R.rows (edited_source R.columns A X a R.rows d)) =
-    carried A X a default R.rows d e c.in_ok-remove.remove c.in_ok-add.add c.in_ok-default.ensures
+    let remove = c.in_ok-removed.removed.rows in
+    let add = c.in_ok-added.added.rows in
+    let is : ◌≡◌ {A = Delta} (record { remove = remove; add = add }) (diff R.rows (edited_source R.columns A X a R.rows d)) =
+    carried R.columns A X a R.rows d q.column q.within q.apart c.rows_fit.ensures q.decides q.applies q.fit default e remove add c.in_ok-default.ensures
     (λ i. edge (c.in_ok-left.ensures i) (c.in_ok-right.ensures i))
-    (c.in_ok-remove.ensures.rows ∙ ap (image (filled_in e default R.rows)) c.remove.ensures)
-    (c.in_ok-add.ensures.rows ∙ ap (image (filled_in e default R.rows)) c.add.ensures)
-    ∙ is_difference R.columns A X a R.rows d q.column q.within q.apart c.rows_fit.ensures q.decides q.applies q.fit in
+    (c.in_ok-removed.ensures.rows ∙ ap (image (filled_in e default R.rows)) c.remove.ensures)
+    (c.in_ok-added.ensures.rows ∙ ap (image (filled_in e default R.rows)) c.add.ensures) in
     record { delta = c.new.ensures ∙ is }
