@@ -1,13 +1,17 @@
 //! A database in a file.
 ghost use Rattle.std.specs.Prelude.{IfOk};
+ghost use Rattle.sqlite.specs.Closing.{IsCopied};
+ghost use Rattle.sqlite_wal.specs.Reads.{AreClean};
 ghost use Rattle.sqlite_keeper.specs.Answers.{AnswersTo};
 
 use crate::changing::change;
 use crate::format::prepare;
 use crate::loading::load;
+use crate::logs::Log;
 use crate::refusal::Refusal;
 use crate::short_files::refuse_short;
-use sqlite::{Alter, Connection, File, FileStore};
+use sqlite::{Alter, Connection, Error, File, FileStore, Files};
+use sqlite_disk::Disk;
 use std::alloc::Global;
 use table_keeper::{Change, Kept};
 
@@ -32,25 +36,31 @@ pub enum Answer {
 }
 
 /// An open database in a file.
-pub struct Database {
+pub struct Database<'a> {
+    rt: &'a HostRuntime,
     conn: Connection<FileStore<File>>,
+    // None where it is not known, and then it stays at the end.
+    log: Option<Log>,
 }
 
-// The file's log is copied into it. Where that fails, the log stays beside the file, and the next
-// open reads both.
-impl Drop for Database {
+// The file's log is copied into it, and removed before the file is unlocked. Where that fails, the
+// log stays beside the file, and the next open reads both.
+impl Drop for Database<'_> {
     fn drop(self) {
-        let Database { conn } = self;
-        let _ = conn.close();
+        let Database { rt, conn, log } = self;
+        if let Ok(locked) = close(conn) {
+            remove(rt, log, &locked);
+        }
     }
 }
 
-impl Database {
+impl<'a> Database<'a> {
     /// Opens the file, or makes it where it is missing or empty, with its first tables.
-    pub fn open(rt: &HostRuntime, alloc: Global, path: &str) -> Result<Database, Refusal> {
+    pub fn open(rt: &'a HostRuntime, alloc: Global, path: &str) -> Result<Database<'a>, Refusal> {
         refuse_short(rt, path)?;
         let conn = Connection::open(rt, path)?;
-        let mut database = Database { conn };
+        let log = Log::of(rt, path).ok();
+        let mut database = Database { rt, conn, log };
         database.serve(alloc, Request::Prepare)?;
         Ok(database)
     }
@@ -81,5 +91,26 @@ fn serve<S: Alter>(
             change(alloc, conn, made)?;
             Ok(Answer::Done)
         }
+    }
+}
+
+// Copies the log into the file, and gives both, which are locked until they are dropped. The file
+// alone has all commits then, whatever a crash leaves.
+fn close<D: Disk + Drop>(conn: Connection<FileStore<D>>) -> Result<Files<D>, Error>
+    ensures { IfOk result (λ files. AreClean D.Disk files.log files.db → IsCopied conn files) }
+{
+    match conn.close_files() {
+        Ok(files) => Ok(files),
+        Err((error, store)) => {
+            drop(store.close());
+            Err(error)
+        }
+    }
+}
+
+// Removes the log, where it is known. One that cannot be removed stays, and does no harm.
+fn remove<D: Disk>(rt: &HostRuntime, log: Option<Log>, locked: &Files<D>) {
+    if let Some(log) = log {
+        let _ = log.remove_if_empty(rt, locked);
     }
 }

@@ -17,7 +17,7 @@ use table_keeper::{Change, KeepFault, Keeper, Kept};
 #[derive(Drop)]
 pub struct SqliteKeeper<'a> {
     rt: &'a HostRuntime,
-    store: Store,
+    store: Store<'a>,
     place: Option<String>,
     faults: u64,
 }

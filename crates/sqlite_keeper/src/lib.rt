@@ -7,6 +7,7 @@ mod database;
 mod format;
 pub mod keeper;
 mod loading;
+mod logs;
 mod placing;
 mod refusal;
 mod short_files;

@@ -1,6 +1,7 @@
 //! Files that are too short to be databases.
 ghost use Rattle.std.specs.Prelude.{◌≡◌, ◌<◌, ◌↔◌, [], ◌∷◌, IsTrue, drop};
 
+use crate::logs::log_path;
 use crate::refusal::Refusal;
 use std::io::Read;
 use std::{fs, io};
@@ -36,9 +37,7 @@ fn refuse_unless_half_made(rt: &HostRuntime, path: &str) -> Result<(), Refusal> 
 
 // Whether the log beside the file is that of a store that is being made.
 fn is_half_made(rt: &HostRuntime, path: &str) -> io::Result<bool> {
-    let real = fs::canonicalize(rt, path)?;
-    let name = format!(in rt.alloc(); "{}-wal", real.as_str())?;
-    let mut log = fs::open(rt, name.as_str())?;
+    let mut log = fs::open(rt, log_path(rt, path)?.as_str())?;
     let mut head = [0; 16];
     log.read_exact(&mut head)?;
     Ok(is_begun(&head))

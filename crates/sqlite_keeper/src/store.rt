@@ -10,14 +10,14 @@ use table_keeper::{Change, Kept};
 
 /// Where definitions and rows are kept.
 #[derive(Drop)]
-pub enum Store {
+pub enum Store<'a> {
     /// In memory.
     Memory(MemoryStore),
     /// In a file.
-    File(Database),
+    File(Database<'a>),
 }
 
-impl Store {
+impl Store<'_> {
     /// What is kept, with its tables in rising order of names.
     pub fn load(&mut self, alloc: Global) -> Result<Kept, Refusal>
         ensures { IfOk result (λ kept. Rise kept.tables.items) }
@@ -40,7 +40,7 @@ impl Store {
     }
 }
 
-fn load_file(database: &mut Database, alloc: Global) -> Result<Kept, Refusal>
+fn load_file(database: &mut Database<'_>, alloc: Global) -> Result<Kept, Refusal>
     ensures { IfOk result (λ kept. Rise kept.tables.items) }
 {
     match database.serve(alloc, Request::Load)? {
