@@ -2,6 +2,6 @@ mod Walks
 pub mod Contained
 mod SharedColumns
 pub mod Found
+pub mod Listed
 pub mod Viewing
-pub mod Walked
 mod CheckedEdits

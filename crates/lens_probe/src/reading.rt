@@ -1,19 +1,23 @@
 //! Whole views.
-ghost use Rattle.std.specs.Prelude.{◌≡◌, ◌+◌, ◌≤◌, IfOk, length};
+ghost use Rattle.std.specs.Prelude.{◌≡◌, ◌+◌, ◌≤◌, IfOk, filter, map};
+ghost use Rattle.lens_values.specs.Part.{restrict};
 ghost use Rattle.lens_values.specs.SortedSet as set;
 ghost use Rattle.lens_specs.specs.Lens as spec;
-ghost use Rattle.lens_laws.specs.Lenses.{AreOf};
-ghost use Rattle.base_index.specs.Held.{IsThere, relation_in};
+ghost use Rattle.lens_specs.specs.Lens.{get, select, view_names};
+ghost use Rattle.lens_specs.specs.Predicate.{holds};
+ghost use Rattle.lens_laws.specs.Lenses.{AreOf, IsTyped};
+ghost use Rattle.row_sets.specs.Joins.{pairs_on};
 ghost use Rattle.lens_probe.specs.Reading.{rows_under};
 
+use crate::columns::{names_of, shared_names};
 use base_index::Tables;
+use lens_pred::Pred;
 use lens_types::{Lens, TypedLens};
-use lens_values::{Name, NoMemory};
-use row_sets::Relation;
+use lens_values::{Names, NoMemory, Row};
+use row_sets::{Relation, RowSet};
 use std::alloc::Global;
 use std::sync::ledger::Ledger;
 use step_counter::Steps;
-use whole_put::{get_drop, get_join, get_select};
 
 /// The view that the lens shows of the tables, each of which is walked once.
 pub(crate) fn read_in<L: Ledger>(
@@ -27,38 +31,129 @@ pub(crate) fn read_in<L: Ledger>(
         IfOk result (λ shown. shown ≡ spec.view lens.now db) }
     ensures walked { walked.new ≤ walked.old + rows_under lens.now tables.now.present.relations }
 {
+    let rows = row_set_in(alloc, lens, tables, walked)?;
+    let columns = lens.sort().cols().copy(alloc)?;
+    Ok(Relation::with_rows(columns, rows))
+}
+
+// The rows that the lens shows, as a set.
+#[cycle(rows)]
+fn row_set_in<L: Ledger>(
+    alloc: Global,
+    lens: &TypedLens,
+    tables: &Tables,
+    walked: &mut Steps<L>,
+) -> Result<RowSet, NoMemory>
+    requires { AreOf lens.now tables.now.present.relations }
+    ensures value { let shown = get lens.now tables.now.present.relations in
+        IfOk result (λ rows. rows ≡ shown) }
+    ensures walked { walked.new ≤ walked.old + rows_under lens.now tables.now.present.relations }
+{
     match lens.lens() {
-        Lens::Base { table, .. } => read_table(alloc, table, tables, walked),
-        Lens::Select { pred, of, .. } => {
-            let source = read_in(alloc, of, tables, walked)?;
-            get_select(alloc, pred, &source)
-        }
-        Lens::Drop { col, of, .. } => {
-            let source = read_in(alloc, of, tables, walked)?;
-            get_drop(alloc, col, &source)
-        }
-        Lens::Join { left, right, .. } => {
-            let left_source = read_in(alloc, left, tables, walked)?;
-            let right_source = read_in(alloc, right, tables, walked)?;
-            get_join(alloc, &left_source, &right_source)
+        Lens::Base { table, .. } => tables.walk(table, walked),
+        Lens::Select { .. } | Lens::Drop { .. } | Lens::Join { .. } => {
+            RowSet::new(alloc, rows_in(alloc, lens, tables, walked)?)
         }
     }
 }
 
-// A whole table.
-fn read_table<L: Ledger>(
+// The rows that the lens shows, in no certain order and perhaps more than once, so that only the
+// view itself and the sides of joins are put in order.
+#[cycle(rows)]
+fn rows_in<L: Ledger>(
     alloc: Global,
-    table: &Name,
+    lens: &TypedLens,
     tables: &Tables,
     walked: &mut Steps<L>,
-) -> Result<Relation, NoMemory>
-    requires { IsThere tables.now.present table.now }
-    ensures value { let there = relation_in tables.now.present.relations table.now in
-        IfOk result (λ relation. relation ≡ there) }
-    ensures walked { let there = relation_in tables.now.present.relations table.now in
-        walked.new ≤ walked.old + length (set.items there.rows) }
+) -> Result<Vec<Row>, NoMemory>
+    requires { AreOf lens.now tables.now.present.relations }
+    ensures value { let shown = get lens.now tables.now.present.relations in
+        IfOk result (λ rows. set.from_list rows.items ≡ shown) }
+    ensures walked { walked.new ≤ walked.old + rows_under lens.now tables.now.present.relations }
 {
-    let rows = tables.walk(table, walked)?;
-    tables.rows_fit(table);
-    Ok(Relation::with_rows(tables.columns(table).copy(alloc)?, rows))
+    match lens.lens() {
+        Lens::Base { table, .. } => Ok(tables.walk(table, walked)?.into_rows()),
+        Lens::Select { pred, of, .. } => selected_in(alloc, pred, of, tables, walked),
+        Lens::Drop { of, .. } => {
+            let rows = rows_in(alloc, of, tables, walked)?;
+            shown_parts(alloc, lens, &rows)
+        }
+        Lens::Join { left, right, .. } => {
+            let left_rows = row_set_in(alloc, left, tables, walked)?;
+            let right_rows = row_set_in(alloc, right, tables, walked)?;
+            joined(alloc, left, right, &left_rows, &right_rows)
+        }
+    }
+}
+
+// The rows of the lens on which the predicate holds. At a projection the whole rows are asked, so
+// that no part of a refused row is made.
+#[cycle(rows)]
+fn selected_in<L: Ledger>(
+    alloc: Global,
+    pred: &Pred,
+    of: &TypedLens,
+    tables: &Tables,
+    walked: &mut Steps<L>,
+) -> Result<Vec<Row>, NoMemory>
+    requires typed { IsTyped (select pred.now of.now) }
+    requires tables { AreOf of.now tables.now.present.relations }
+    ensures value { let shown = get (select pred.now of.now) tables.now.present.relations in
+        IfOk result (λ rows. set.from_list rows.items ≡ shown) }
+    ensures walked { walked.new ≤ walked.old + rows_under of.now tables.now.present.relations }
+{
+    match of.lens() {
+        Lens::Drop { of: source, .. } => {
+            let rows = rows_in(alloc, source, tables, walked)?;
+            shown_parts(alloc, of, &selected(pred, rows))
+        }
+        Lens::Base { .. } | Lens::Select { .. } | Lens::Join { .. } => {
+            Ok(selected(pred, rows_in(alloc, of, tables, walked)?))
+        }
+    }
+}
+
+// Those of the rows on which the predicate holds.
+fn selected(pred: &Pred, rows: Vec<Row>) -> Vec<Row>
+    ensures { result.items ≡ filter (holds pred.now) rows.items }
+{
+    let mut rows = rows;
+    rows.retain(|row| pred.holds(row));
+    rows
+}
+
+// Each row's part in the columns that the lens shows.
+fn shown_parts(alloc: Global, lens: &TypedLens, rows: &[Row]) -> Result<Vec<Row>, NoMemory>
+    ensures { IfOk result (λ parts.
+        parts.items ≡ map (restrict (view_names lens.now)) rows.now) }
+{
+    let cols = names_of(alloc, lens)?;
+    parts(alloc, &cols, rows)
+}
+
+// Each row's part in these columns.
+fn parts(alloc: Global, cols: &Names, rows: &[Row]) -> Result<Vec<Row>, NoMemory>
+    ensures { IfOk result (λ parts. parts.items ≡ map (restrict cols.now) rows.now) }
+{
+    let mut parts = Vec::with_capacity(alloc, rows.len())?;
+    for row in rows {
+        parts.push(row.project(alloc, cols)?)?;
+    }
+    Ok(parts)
+}
+
+// All pairs of a row of each side that agree on the columns that both lenses show, pasted.
+fn joined(
+    alloc: Global,
+    left: &TypedLens,
+    right: &TypedLens,
+    left_rows: &RowSet,
+    right_rows: &RowSet,
+) -> Result<Vec<Row>, NoMemory>
+    ensures { let shared = set.intersection (view_names left.now) (view_names right.now) in
+        IfOk result (λ rows.
+        set.from_list rows.items ≡ pairs_on shared left_rows.now right_rows.now) }
+{
+    let shared = shared_names(alloc, left, right)?;
+    left_rows.joined_rows(alloc, right_rows, &shared)
 }

@@ -1,0 +1,100 @@
+-- Lists whose rows, taken as a set, are those that a lens shows.
+use Rattle.std.proofs.Common.{◌≡◌, ◌∙◌, Bool, List, ap, filter, map, sym, true}
+use Rattle.std.specs.Prelude.{◌&&◌}
+use Rattle.std.specs.List.{list_any}
+use Rattle.std.specs.Ordering.{eq_by_cmp}
+use Rattle.lens_values.specs.Part.{restrict}
+use Rattle.lens_values.specs.Row.{row_cmp}
+use Rattle.lens_values.specs.SortedSet as set
+use Rattle.lens_values.specs.declared.row.Row.{Row}
+use Rattle.lens_values.specs.declared.value.Value.{Value}
+use Rattle.lens_specs.specs.Lens.{Lens, Tables, drop, get, join, select, sort_of, view_names}
+use Rattle.lens_specs.specs.Names.{Name, Names, one}
+use Rattle.lens_specs.specs.Nodes.{drop_get, join_get, select_get}
+use Rattle.lens_specs.specs.Predicate.{Predicate, holds}
+use Rattle.lens_specs.specs.Relation.{Rows, has, project, those}
+use Rattle.lens_specs.specs.Rows.{cut}
+use Rattle.fd_laws.proofs.Columns.{names-without}
+use Rattle.fd_laws.proofs.Lists.{from_map, in_map}
+use Rattle.fd_laws.proofs.Relations.{from_project, from_those, in_project, in_those, same_rel}
+use Rattle.fd_laws.proofs.Rows.{agree-cut, row_exact, row_itself, row_total, tied_row}
+use Rattle.lens_laws.specs.Lenses.{AreOf, IsTyped}
+use Rattle.lens_laws.proofs.Lenses.{get_sort}
+use Rattle.lens_laws.proofs.Predicates.{sees_from}
+use Rattle.row_sets.specs.Joins.{pairs_on}
+use Rattle.row_sets.proofs.Natural.{natural_is}
+
+-- ---- lists and sets
+
+-- the list's rows are those of the set
+abbrev AreListed : List Row → Rows → Type 0
+AreListed rows M = set.from_list rows ≡ M
+
+-- whether the list has the row
+abbrev stands : List Row → Row → Type 0
+stands rows r = list_any (eq_by_cmp row_cmp r) rows ≡ true
+
+in_list : (rows : List Row) (M : Rows) → AreListed rows M → (r : Row) → has M r ≡ true → stands rows r
+in_list rows M is r there = sym (set.contains-from_list row_total rows r) ∙ ap (λ N. has N r) is ∙ there
+
+from_list : (rows : List Row) (M : Rows) → AreListed rows M → (r : Row) → stands rows r → has M r ≡ true
+from_list rows M is r there = ap (λ N. has N r) (sym is) ∙ set.contains-from_list row_total rows r ∙ there
+
+chosen : (p : Row → Bool) (rows : List Row) (M : Rows) → AreListed rows M → AreListed (filter p rows) (those p M)
+chosen p rows M is = set.same_set row_total row_exact _ _ (λ q.
+    set.contains-from_list row_total (filter p rows) q ∙ set.list_any-filter row_total row_exact p rows q
+    ∙ ap (λ b. b && p q) (sym (set.contains-from_list row_total rows q) ∙ ap (λ N. has N q) is)
+    ∙ sym (set.contains-filter row_total row_exact p M q))
+
+parts : (C : Names) (rows : List Row) (M : Rows) → AreListed rows M → AreListed (map (restrict C) rows) (project C M)
+unfolding cut
+parts C rows M is = same_rel _ _
+    (λ q i.
+    let w = from_map (eq_by_cmp row_cmp) tied_row row_itself (eq_by_cmp row_cmp) tied_row row_itself (restrict C) rows q (sym (set.contains-from_list row_total (map (restrict C) rows) q) ∙ i) in
+    ap (has (project C M)) w.2 ∙ in_project C M w.0 (from_list rows M is w.0 w.1))
+    (λ q i.
+    let w = from_project C M q i in
+    set.contains-from_list row_total (map (restrict C) rows) q ∙ ap (λ r. list_any (eq_by_cmp row_cmp r) (map (restrict C) rows)) w.2
+    ∙ in_map (eq_by_cmp row_cmp) tied_row row_itself (eq_by_cmp row_cmp) tied_row row_itself (restrict C) rows w.0 (in_list rows M is w.0 w.1))
+
+-- a test that sees only C holds on a row where it holds on its part
+parts_of_chosen : (p : Row → Bool) (C : Names) (M : Rows) → ((r : Row) → p (cut C r) ≡ p r) → project C (those p M) ≡ those p (project C M)
+parts_of_chosen p C M sees = same_rel _ _
+    (λ q i. let w = from_project C (those p M) q i in
+    let v = from_those p M w.0 w.1 in
+    in_those p (project C M) q (ap (has (project C M)) w.2 ∙ in_project C M w.0 v.0) (ap p w.2 ∙ sees w.0 ∙ v.1))
+    (λ q i. let w = from_those p (project C M) q i in
+    let v = from_project C M q w.0 in
+    ap (has (project C (those p M))) v.2 ∙ in_project C (those p M) v.0 (in_those p M v.0 v.1 (sym (sees v.0) ∙ ap p (sym v.2) ∙ w.1)))
+
+-- ---- what a lens shows
+
+pub selected_listed : (P : Predicate) (C : Lens) (db : Tables) (rows : List Row) → set.from_list rows ≡ get C db → set.from_list (filter (holds P) rows) ≡ get (select P C) db
+unfolding get select_get
+selected_listed P C db rows shown = chosen (holds P) rows (get C db) shown
+
+pub dropped_listed : (L C : Lens) (A : Name) (X : Names) (a : Value) (db : Tables) (rows : List Row) → drop A X a C ≡ L → set.from_list rows ≡ get C db
+    → set.from_list (map (restrict (view_names L)) rows) ≡ get L db
+unfolding get drop_get
+dropped_listed L C A X a db rows is shown =
+    ap (λ D. set.from_list (map (restrict D) rows)) (ap view_names (sym is) ∙ names-without (sort_of C).columns A)
+    ∙ parts (set.difference (view_names C) (one A)) rows (get C db) shown
+    ∙ ap (λ K. get K db) is
+
+-- the predicate is asked before the column is dropped
+pub selected_before : (P : Predicate) (L C : Lens) (A : Name) (X : Names) (a : Value) (db : Tables) (rows : List Row) → drop A X a C ≡ L → IsTyped (select P L) → set.from_list rows ≡ get C db
+    → set.from_list (map (restrict (view_names L)) (filter (holds P) rows)) ≡ get (select P L) db
+unfolding get select_get
+selected_before P L C A X a db rows is typed shown =
+    let D = view_names L in
+    parts D (filter (holds P) rows) (those (holds P) (get C db)) (chosen (holds P) rows (get C db) shown)
+    ∙ parts_of_chosen (holds P) D (get C db) (λ r. sees_from P D typed.1.columns (cut D r) r (agree-cut D r))
+    ∙ ap (those (holds P)) (sym (parts D rows (get C db) shown) ∙ dropped_listed L C A X a db rows is shown)
+
+pub joined_listed : (L A B : Lens) (db : Tables) (rows : List Row) (M N : Rows) → join A B ≡ L → IsTyped (join A B) → AreOf (join A B) db → M ≡ get A db → N ≡ get B db
+    → set.from_list rows ≡ pairs_on (set.intersection (view_names A) (view_names B)) M N → set.from_list rows ≡ get L db
+unfolding get join_get
+joined_listed L A B db rows M N is typed are left right paired =
+    paired ∙ (λ i. pairs_on (set.intersection (view_names A) (view_names B)) (left i) (right i))
+    ∙ natural_is (sort_of A).columns (sort_of B).columns (get A db) (get B db) (get_sort B db typed.1 are.1).columns
+    ∙ ap (λ K. get K db) is

@@ -1,0 +1,13 @@
+use Rattle.std.proofs.Common.{◌+◌, ◌*◌}
+use Rattle.lens_specs.specs.Lens.{nodes_of}
+use Rattle.lens_probe.proofs.reading.+rows.Given as goal
+
+-- the nodes of the lens, and how far the call is from one for the rows of the lens itself
+abbrev pub decreases-rows_in : goal.decreases-rows_in
+decreases-rows_in g l = 2 * nodes_of l.lens.now
+
+abbrev pub decreases-row_set_in : goal.decreases-row_set_in
+decreases-row_set_in g l = 2 * nodes_of l.lens.now + 1
+
+abbrev pub decreases-selected_in : goal.decreases-selected_in
+decreases-selected_in g l = 2 * nodes_of l.of.now + 1
