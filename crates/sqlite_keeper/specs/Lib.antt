@@ -4,5 +4,4 @@ pub mod Making
 pub mod Placing
 pub mod Refusals
 pub mod Shown
-pub mod Statements
 pub mod TableNames

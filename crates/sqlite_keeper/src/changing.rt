@@ -7,11 +7,11 @@ ghost use Rattle.sqlite_keeper.specs.Making.{MakesTable};
 
 use crate::cells::cells_of;
 use crate::refusal::Refusal;
-use crate::statements::{create_text, delete_text, insert_text};
 use lens_values::{Name, Row, Text, Value};
 use signed_delta::TableDelta;
 use sqlite::{Alter, Connection, Statement, Transaction, params};
 use std::alloc::Global;
+use store_statements::{create_text, delete_text, insert_text};
 use table_keeper::Change;
 use view_lang::{Definition, parse};
 

@@ -11,7 +11,6 @@ mod logs;
 mod placing;
 mod refusal;
 mod short_files;
-mod statements;
 mod store;
 mod tables;
 

@@ -1,8 +1,8 @@
 //! The texts of the statements over a table.
 ghost use Rattle.std.specs.Prelude.{◌≡◌, ◌++◌, IfOk, OnOk, codes, flat_map, string_bytes};
-ghost use Rattle.sqlite_keeper.specs.Statements.{create_text, delete_text, insert_text, select_text};
-ghost use Rattle.sqlite_keeper.specs.Statements.{column_text, listed, marks_text, names_text};
-ghost use Rattle.sqlite_keeper.specs.Statements.{piece, type_text};
+ghost use Rattle.store_statements.specs.Statements.{create_text, delete_text, insert_text, select_text};
+ghost use Rattle.store_statements.specs.Statements.{column_text, listed, marks_text, names_text};
+ghost use Rattle.store_statements.specs.Statements.{piece, type_text};
 
 use lens_values::{Kind, Name, Value};
 use std::alloc::{AllocError, Global};
