@@ -8,6 +8,8 @@ mod changes;
 #[cfg(test)]
 mod committing;
 #[cfg(test)]
+mod ending;
+#[cfg(test)]
 mod folders;
 #[cfg(test)]
 mod keeping;
