@@ -1,14 +1,18 @@
--- The columns that two lenses share.
+-- The columns that two lenses share, and rows that agree on the columns of one.
 use Rattle.std.proofs.Common.{◌≡◌, ◌∙◌, ◌&&◌, ◌||◌, ◌∷◌, ◌≤◌, ℕ, Bool, List, [], ap, cond, filter, length, map, refl, sym, take, true, false}
-use Rattle.std.specs.List.{list_any}
+use Rattle.std.specs.List.{list_all, list_any}
 use Rattle.std.specs.FinMap as finmap
 use Rattle.std.specs.Ordering.{eq_by_cmp}
 use Rattle.std.proofs.lemmas.List.{take_all}
+use Rattle.std.proofs.lemmas.List.Folds.{list_all-map}
 use Rattle.lens_values.specs.Order.{bytes_cmp}
+use Rattle.lens_values.specs.SortedMap.{keys_rise}
 use Rattle.lens_values.specs.SortedSet as set
+use Rattle.lens_values.specs.declared.row.Row.{Row}
 use Rattle.lens_values.specs.declared.value.Kind.{Kind}
 use Rattle.lens_specs.specs.Columns.{Columns, names}
 use Rattle.lens_specs.specs.Names.{Name, Names}
+use Rattle.lens_specs.specs.Rows.{agree, same_value}
 use Rattle.fd_laws.proofs.Names.{name_exact, name_total, tied_name}
 
 and_false : (b : Bool) → (b && false) ≡ false
@@ -49,3 +53,12 @@ shared_are U L R es list n listed all named kept =
     ∙ ap (λ b. b && set.contains R c) (sym (set.contains-from_list name_total (finmap.keys U) c))
     ∙ sym (set.contains-intersection name_total (names U) R c))
     ∙ ap (λ C. set.intersection C R) named
+
+-- rows agree on the columns of U where they have the same in each
+pub agree_listed : (U : Columns) (N : Names) (a b : Row) → names U ≡ N → list_all (λ e. same_value (finmap.get a e.0) (finmap.get b e.0)) (finmap.entries U) ≡ agree N a b
+unfolding agree names
+agree_listed U N a b named =
+    let same : Name → Bool = λ c. same_value (finmap.get a c) (finmap.get b c) in
+    sym (list_all-map same (λ e. e.0) (finmap.entries U))
+    ∙ ap (list_all same) (sym (set.items-from_list name_total (finmap.keys U) (keys_rise bytes_cmp U)))
+    ∙ ap (λ C. agree C a b) named

@@ -1,12 +1,15 @@
 //! The columns of a view.
 ghost use Rattle.std.specs.Prelude.{◌≡◌, IfOk};
+ghost use Rattle.std.specs.FinMap as finmap;
+ghost use Rattle.std.specs.List.{list_all};
 ghost use Rattle.lens_values.specs.SortedSet as set;
 ghost use Rattle.lens_specs.specs.Columns.{names};
 ghost use Rattle.lens_specs.specs.Lens.{view_names};
 ghost use Rattle.lens_specs.specs.Names.{share};
+ghost use Rattle.lens_specs.specs.Rows.{agree, same_value};
 
 use lens_types::TypedLens;
-use lens_values::{Columns, Name, Names, NoMemory};
+use lens_values::{Columns, Kind, Name, Names, NoMemory, Row};
 use std::alloc::Global;
 
 /// The names of the columns that the lens shows.
@@ -47,6 +50,33 @@ pub(crate) fn shows_all(lens: &TypedLens, cols: &Names) -> bool
     ensures { result ≡ set.is_subset cols.now (view_names lens.now) }
 {
     cols.as_slice().iter().all(|name| shows(lens, name))
+}
+
+/// Whether both rows have the same value, or none, in each column that the lens shows.
+pub(crate) fn agree_on_shown(lens: &TypedLens, row: &Row, other: &Row) -> bool
+    ensures { result ≡ agree (view_names lens.now) row.now other.now }
+{
+    same_at_each(columns_of(lens).pairs(), row, other)
+}
+
+// Whether both rows have the same value, or none, in each of these columns.
+fn same_at_each(columns: &[(Name, Kind)], row: &Row, other: &Row) -> bool
+    ensures { result ≡ list_all
+        (λ c. same_value (finmap.get row.now c.0) (finmap.get other.now c.0)) columns.now }
+{
+    columns.iter().all(|column| same_at(&column.0, row, other))
+}
+
+// Whether both rows have the same value, or none, in this column.
+fn same_at(name: &Name, row: &Row, other: &Row) -> bool
+    ensures { result
+        ≡ same_value (finmap.get row.now name.now) (finmap.get other.now name.now) }
+{
+    match (row.value(name), other.value(name)) {
+        (Some(value), Some(another)) => value == another,
+        (None, None) => true,
+        _ => false,
+    }
 }
 
 // Whether the lens shows a column of the name.

@@ -2,16 +2,16 @@
 ghost use Rattle.std.specs.Prelude.{◌≡◌, IfOk};
 ghost use Rattle.std.specs.List.{list_any};
 ghost use Rattle.lens_specs.specs.Columns.{Fits};
-ghost use Rattle.lens_specs.specs.Lens.{get, sort_of};
+ghost use Rattle.lens_specs.specs.Lens.{get, sort_of, view_names};
 ghost use Rattle.lens_specs.specs.Relation.{has};
 ghost use Rattle.lens_specs.specs.Rows.{agree};
 ghost use Rattle.lens_probe.specs.Looking.{MayLook};
 
-use crate::columns::names_of;
+use crate::columns::{agree_on_shown, names_of};
 use crate::finding::{Query, find_in};
 use base_index::Tables;
 use lens_types::{Lens, TypedLens};
-use lens_values::{Names, NoMemory, Row};
+use lens_values::{NoMemory, Row};
 use std::alloc::Global;
 use std::sync::ledger::Ledger;
 use step_counter::Steps;
@@ -45,8 +45,7 @@ pub(crate) fn has_in<L: Ledger>(
                 key: &key,
             };
             let found = find_in(alloc, of, &query, looked)?;
-            let cols = names_of(alloc, lens)?;
-            Ok(any_agrees(found.rows(), row, &cols))
+            Ok(any_agrees(lens, found.rows(), row))
         }
         Lens::Join { left, right, .. } => {
             let left_row = row.project(alloc, &names_of(alloc, left)?)?;
@@ -59,9 +58,9 @@ pub(crate) fn has_in<L: Ledger>(
     }
 }
 
-// Whether one of the rows agrees with this one in the columns.
-fn any_agrees(rows: &[Row], row: &Row, cols: &Names) -> bool
-    ensures { result ≡ list_any (agree cols.now row.now) rows.now }
+// Whether one of the rows agrees with this one in the columns that the lens shows.
+fn any_agrees(lens: &TypedLens, rows: &[Row], row: &Row) -> bool
+    ensures { result ≡ list_any (agree (view_names lens.now) row.now) rows.now }
 {
-    rows.iter().any(|other| row.agree_on(other, cols))
+    rows.iter().any(|other| agree_on_shown(lens, row, other))
 }

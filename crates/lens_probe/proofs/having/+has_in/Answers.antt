@@ -49,12 +49,12 @@ find_in-requires-clause-key g t c =
     let is = (λ i. drop c.in-Drop.col c.in-Drop.by c.in-Drop.fill (c.deref-in-Drop.ensures i)) ∙ sym (ap lens_view c.in-Drop.is) ∙ c.lens.ensures.view in
     drop_over c.args.lens.now c.deref-in-Drop.result.now c.in-Drop.col c.in-Drop.by c.in-Drop.fill c.args.row.now c.in_ok-key-in-Drop.key is c.lens.ensures.typed c.requires.fits c.in_ok-key-in-Drop.ensures
 
-pub returns-in_ok-cols-in-Drop : goal.returns-in_ok-cols-in-Drop
-returns-in_ok-cols-in-Drop g t c =
+pub returns-in_ok-found-in-Drop : goal.returns-in_ok-found-in-Drop
+returns-in_ok-found-in-Drop g t c =
     let is = (λ i. drop c.in-Drop.col c.in-Drop.by c.in-Drop.fill (c.deref-in-Drop.ensures i)) ∙ sym (ap lens_view c.in-Drop.is) ∙ c.lens.ensures.view in
     c.any_agrees.ensures
-    ∙ drop_has c.args.lens.now c.deref-in-Drop.result.now c.in-Drop.col c.in-Drop.by c.in-Drop.fill c.args.tables.now.present.relations c.args.row.now c.in_ok-key-in-Drop.key c.in_ok-cols-in-Drop.cols c.in_ok-found-in-Drop.found c.rows.result.now is
-    c.lens.ensures.typed c.requires.fits c.in_ok-cols-in-Drop.ensures c.in_ok-key-in-Drop.ensures c.in_ok-found-in-Drop.ensures c.rows.ensures
+    ∙ drop_has c.args.lens.now c.deref-in-Drop.result.now c.in-Drop.col c.in-Drop.by c.in-Drop.fill c.args.tables.now.present.relations c.args.row.now c.in_ok-key-in-Drop.key (view_names c.args.lens.now) c.in_ok-found-in-Drop.found c.rows.result.now is
+    c.lens.ensures.typed c.requires.fits refl c.in_ok-key-in-Drop.ensures c.in_ok-found-in-Drop.ensures c.rows.ensures
 
 -- ---- a join
 
