@@ -20,6 +20,8 @@ ROUNDS = 8
 COMMITS = 250
 HUGE = 300_000
 LONGEST = 16_777_216
+# The program is started as ./serve starts it, with large pages.
+AS_SERVED = {"GLIBC_TUNABLES": "glibc.malloc.hugetlb=1", **os.environ}
 
 
 TRACKS = "table tracks (album text, date int, rating int, track text)"
@@ -30,7 +32,7 @@ class Server:
     """The program, asked a line at a time."""
 
     def __init__(self, program, *words):
-        self.process = subprocess.Popen([program, *words], stdin=subprocess.PIPE, stdout=subprocess.PIPE, bufsize=0)
+        self.process = subprocess.Popen([program, *words], stdin=subprocess.PIPE, stdout=subprocess.PIPE, bufsize=0, env=AS_SERVED)
 
     def ask(self, line):
         """The reply to a line, and how long it took, in seconds."""
@@ -215,13 +217,22 @@ def drops(program):
     return table
 
 
+def quantity(album):
+    """How many there are of an album: of four in seven more than two."""
+    return album % 7
+
+
 def joins(program):
     """A join of tracks and a tenth as many albums, with a drop and a selection over it: a read, and a put with one row changed; ms and MB."""
     table = []
     for count in (ROWS // 10, ROWS):
-        albums = [f'{{"album":"album{number}","quantity":{3 + number % 5}}}' for number in range(count // 10)]
+        albums = [f'{{"album":"album{number}","quantity":{quantity(number)}}}' for number in range(count // 10)]
         tracks = [row(number) for number in range(count)]
-        stock = [without_date(line).replace(',"rating"', f',"quantity":{3 + number // 10 % 5},"rating"', 1) for number, line in enumerate(tracks)]
+        stock = [
+            without_date(line).replace(',"rating"', f',"quantity":{quantity(number // 10)},"rating"', 1)
+            for number, line in enumerate(tracks)
+            if quantity(number // 10) > 2
+        ]
         changed = stock[:-1] + [re.sub(r'"rating":[0-9]+', '"rating":9', stock[-1])]
         server = defined(
             program,
@@ -233,7 +244,7 @@ def joins(program):
             reply, _ = server.ask(line)
             must_begin(reply, b'{"changed":[{')
         steps = [
-            (f"read of a join of {count:,} rows with {count // 10:,}, a drop and a selection over it", b'{"do":"read","view":"stock"}\n', b'{"ok":true,"rows":[{'),
+            (f"read of a join of {count:,} rows with {count // 10:,}, a drop and a selection over it, {len(stock):,} rows shown", b'{"do":"read","view":"stock"}\n', b'{"ok":true,"rows":[{'),
             ("put of that view with one row changed", put(changed, "stock"), b'{"changed":[{'),
             ("edit of that view, one row replaced", edit("stock", stock[:1], [re.sub(r'"rating":[0-9]+', '"rating":9', stock[0])]), b'{"changed":[{'),
             ("preview of such an edit", edit("stock", stock[1:2], [re.sub(r'"rating":[0-9]+', '"rating":9', stock[1])], "preview"), b'{"changed":[{'),

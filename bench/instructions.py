@@ -2,8 +2,9 @@
 """Counts the instructions that edits and previews of a view over a join cost, at tables of several sizes.
 
 The tables are those of the stored run: albums, tracks (ten on each album) and stock. Each line of the table is the
-number of instructions of one edit or preview of one row, by valgrind's callgrind: those of a run with many of them
-less those of a run with few, by the difference of the numbers. Where a line has more rows, it is one edit of so many.
+number of instructions of one edit or preview of one row, by valgrind's callgrind, which counts from the filled tables
+on: those of a run with many of them less those of a run with few, by the difference of the numbers. Where a line has
+more rows, it is one edit of so many.
 
 Usage: bench/instructions.py [PROGRAM [ROWS..]]    (ROWS: tracks; without these words 1,000, 100,000 and 1,000,000)
 """
@@ -12,7 +13,6 @@ import os
 import re
 import subprocess
 import sys
-import tempfile
 
 TOP = os.path.dirname(os.path.dirname(os.path.abspath(__file__)))
 DEFINITIONS = [
@@ -56,31 +56,38 @@ def rated(numbers, rows, do="edit"):
     return edit("stock", [shown(i, rows, 3) for i in numbers], [shown(i, rows, 4) for i in numbers], do)
 
 
-def instructions(program, lines):
-    """The instructions of a run over these lines, each of which has to be accepted."""
-    with tempfile.TemporaryFile("w+") as requests, tempfile.TemporaryFile("w+") as replies:
-        requests.writelines(lines)
-        requests.seek(0)
-        words = ["valgrind", "--tool=callgrind", "--callgrind-out-file=/dev/null", program]
-        run = subprocess.run(words, stdin=requests, stdout=replies, stderr=subprocess.PIPE, text=True, check=True)
-        replies.seek(0)
-        for reply in replies:
-            if '"ok":true' not in reply:
-                raise SystemExit(f"not accepted: {reply[:200]}")
-        return int(re.search(r"Collected : (\d+)", run.stderr).group(1))
+def instructions(program, begin, lines):
+    """The instructions of these lines, after others that are not counted. Each line has to be accepted."""
+    words = ["valgrind", "--tool=callgrind", "--instr-atstart=no", "--callgrind-out-file=/dev/null", program]
+    run = subprocess.Popen(words, stdin=subprocess.PIPE, stdout=subprocess.PIPE, stderr=subprocess.PIPE, text=True)
+    for line in begin:
+        ask(run, line)
+    subprocess.run(["callgrind_control", "--instr=on", str(run.pid)], stdout=subprocess.DEVNULL, check=True)
+    for line in lines:
+        ask(run, line)
+    _, said = run.communicate()
+    return int(re.search(r"Collected : (\d+)", said).group(1))
+
+
+def ask(run, line):
+    run.stdin.write(line)
+    run.stdin.flush()
+    reply = run.stdout.readline()
+    if '"ok":true' not in reply:
+        raise SystemExit(f"not accepted: {reply[:200]}")
 
 
 def each(program, rows, do):
     """The instructions of one edit or preview of one row."""
     begin = filled(rows)
-    runs = [instructions(program, begin + [rated([i], rows, do) for i in range(number)]) for number in (FEW, MANY)]
+    runs = [instructions(program, begin, [rated([i], rows, do) for i in range(number)]) for number in (FEW, MANY)]
     return (runs[1] - runs[0]) // (MANY - FEW)
 
 
 def at_once(program, rows, number):
     """The instructions of one edit of so many rows."""
     begin = filled(rows)
-    return instructions(program, begin + [rated(range(number), rows)]) - instructions(program, begin)
+    return instructions(program, begin, [rated(range(number), rows)]) - instructions(program, begin, [])
 
 
 def main():

@@ -18,6 +18,8 @@ DEFINE = '{"do":"define","text":"table goods (name text, quantity int)"}\n'
 ADD = '{"do":"edit","view":"goods","remove":[],"add":[{"name":"axe","quantity":7}]}\n'
 READ = '{"do":"read","view":"goods"}\n'
 ROWS = '{"ok":true,"rows":[{"name":"axe","quantity":7}],"version":0}\n'
+# The bytes of a log's header and of the header of a change.
+WITH_A_CHANGE = 32 + 24
 NOBODY = ["setpriv", "--reuid=65534", "--regid=65534", "--clear-groups"]
 
 
@@ -28,14 +30,14 @@ def run(program, path, lines=READ, before=()):
 
 
 def files_beside(path):
-    """The bytes of the file and of its log, by name. A log of no bytes is as good as none."""
+    """The bytes of the file and of its log, by name. A log that is too short to hold a change is as good as none."""
     folder, name = os.path.split(path)
     found = {}
     for other in sorted(os.listdir(folder)):
         if other.startswith(name) and os.path.isfile(os.path.join(folder, other)):
             with open(os.path.join(folder, other), "rb") as it:
                 found[other] = it.read()
-    return found
+    return {other: data for other, data in found.items() if len(data) >= WITH_A_CHANGE or other == name}
 
 
 def new_store(program, path):
@@ -104,16 +106,41 @@ def is_missing(program, path):
     return status == 6 and not output and not os.path.exists(os.path.dirname(path))
 
 
+# A process of its own holds the lock: a process loses its locks of a file when it closes the file once.
+HOLDER = """
+import sqlite3, sys
+database = sqlite3.connect(sys.argv[1], isolation_level=None)
+database.execute("SELECT * FROM lens_format").fetchall()
+if sys.argv[2]:
+    database.execute(sys.argv[2])
+print("held", flush=True)
+sys.stdin.read()
+"""
+
+
 def locked(program, folder):
-    path = os.path.join(folder, "locked.db")
-    new_store(program, path)
-    database = sqlite3.connect(path, isolation_level=None)
-    database.execute("PRAGMA journal_mode=WAL")
-    database.execute("BEGIN EXCLUSIVE")
-    is_good = is_refused(program, path, "a store that sqlite3 has locked")
-    database.execute("ROLLBACK")
-    database.close()
+    is_good = True
+    for number, statement in enumerate(("", "BEGIN EXCLUSIVE")):
+        path = os.path.join(folder, f"locked{number}.db")
+        new_store(program, path)
+        holder = subprocess.Popen([sys.executable, "-c", HOLDER, path, statement], stdin=subprocess.PIPE, stdout=subprocess.PIPE, text=True)
+        holder.stdout.readline()
+        is_good &= is_refused(program, path, f"a store that sqlite3 has {'locked' if statement else 'open'}")
+        holder.communicate()
     return is_good
+
+
+def held(program, folder):
+    """A second program over a store is refused, and the first goes on."""
+    path = os.path.join(folder, "held.db")
+    first = subprocess.Popen([program, "--store", path], stdin=subprocess.PIPE, stdout=subprocess.PIPE, text=True)
+    for line in (DEFINE, ADD):
+        first.stdin.write(line)
+        first.stdin.flush()
+        first.stdout.readline()
+    is_good = is_refused(program, path, "a store that another program has open")
+    output, _ = first.communicate(READ)
+    return is_good and output == ROWS.replace('"version":0', '"version":2')
 
 
 def read_only(program, folder):
@@ -147,7 +174,7 @@ def after_a_kill(program, folder):
 def main():
     program = os.path.abspath(sys.argv[1] if len(sys.argv) > 1 else os.path.join(TOP, "crates/view_program/out/view_program"))
     with tempfile.TemporaryDirectory() as folder:
-        results = [refusals(program, folder), locked(program, folder), read_only(program, folder), after_a_kill(program, folder)]
+        results = [refusals(program, folder), locked(program, folder), held(program, folder), read_only(program, folder), after_a_kill(program, folder)]
     if not all(results):
         raise SystemExit("not all as they should be")
 
