@@ -63,6 +63,13 @@ impl Relation {
         &self.rows
     }
 
+    /// The rows of the relation, taken out of it.
+    pub fn into_rows(self) -> RowSet
+        ensures { result ≡ self.rows }
+    {
+        self.rows
+    }
+
     /// Does nothing; its contract says that each row of the relation fits its columns.
     pub fn rows_fit(&self)
         ensures { (row : _) → set.contains self.now.rows row ≡ true → Fits self.now.columns row }

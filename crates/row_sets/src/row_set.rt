@@ -1,6 +1,8 @@
 //! A finite set of rows.
 ghost use Rattle.std.specs.Prelude.{◌≡◌, ◌↔◌, IfOk, IsTrue, OnOk, OnErr, map, not};
+ghost use Rattle.std.specs.List.{list_any};
 ghost use Rattle.std.specs.List.Sorted.{IsStrictlySortedBy};
+ghost use Rattle.std.specs.Ordering.{eq_by_cmp};
 ghost use Rattle.lens_specs.specs.Relation.{project};
 ghost use Rattle.lens_values.specs.Part.{restrict};
 ghost use Rattle.lens_values.specs.Row.{row_cmp};
@@ -39,13 +41,11 @@ impl RowSet {
     pub fn new(_alloc: Global, rows: Vec<Row>) -> Result<RowSet, NoMemory>
         ensures { IfOk result (λ made. made ≡ set.from_list rows.items) }
     {
-        let mut rows = rows;
-        order_nearly(&mut rows);
         if rise(&rows) {
             return Ok(RowSet { rows });
         }
         Ok(RowSet {
-            rows: into_sorted(rows),
+            rows: put_in_order(rows),
         })
     }
 
@@ -157,6 +157,20 @@ impl RowSet {
             rows: copied(alloc, &self.rows)?,
         })
     }
+}
+
+// The rows in rising order, each once. Mostly short moves put them in order.
+fn put_in_order(rows: Vec<Row>) -> Vec<Row>
+    ensures order { IsStrictlySortedBy row_cmp result.items }
+    ensures members { (row : _) → list_any (eq_by_cmp row_cmp row) result.items
+        ≡ list_any (eq_by_cmp row_cmp row) rows.items }
+{
+    let mut rows = rows;
+    order_nearly(&mut rows);
+    if rise(&rows) {
+        return rows;
+    }
+    into_sorted(rows)
 }
 
 // Whether each row is below the one after it.
