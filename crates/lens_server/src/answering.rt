@@ -94,21 +94,21 @@ fn plan_request<L: Ledger, M: Ledger>(
         Request::Define { text } => plan_definition(alloc, store, text),
         Request::Read { view } => { Ok(Plan::unchanged(read_answer(alloc, store, &view, walked)?)) }
         Request::Put { view, rows, on } => {
-            plan_put(alloc, store, &view, &rows, on, walked, looked)
+            plan_put(alloc, store, &view, rows, on, walked, looked)
         }
         Request::Edit {
             view,
             remove,
             add,
             on,
-        } => plan_edit(alloc, store, &view, &remove, &add, on, looked),
+        } => plan_edit(alloc, store, &view, remove, add, on, looked),
         Request::Preview {
             view,
             remove,
             add,
             on,
         } => {
-            let answer = preview_answer(alloc, store, &view, &remove, &add, on, looked)?;
+            let answer = preview_answer(alloc, store, &view, remove, add, on, looked)?;
             Ok(Plan::unchanged(answer))
         }
         Request::Describe { view } => Ok(Plan::unchanged(type_answer(alloc, store, &view)?)),

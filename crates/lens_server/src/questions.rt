@@ -52,7 +52,7 @@ fn rows_told<L: Ledger>(
 {
     let view = view_of(store, lens).read(alloc, walked)?;
     Ok(Answer::Shown {
-        rows: view.rows().copy(alloc)?,
+        rows: view.into_rows(),
         version: store.version,
     })
 }

@@ -10,7 +10,7 @@ use Rattle.lens_values.specs.declared.value.Kind.{Kind}
 use Rattle.lens_values.specs.declared.value.Value.{Value}
 use Rattle.lens_values.specs.declared.row.Row.{Row}
 use Rattle.lens_specs.specs.Relation.{Name, Columns}
-use Rattle.server_specs.specs.Sending.{BadRow, later, value_at, with_pair, pairs_in, with_row, row_in, rows_in}
+use Rattle.server_specs.specs.Sending.{BadRow, value_at, with_pair, pairs_in, with_row, row_in, rows_in}
 
 -- ---- the values of the columns
 
@@ -70,7 +70,7 @@ row_more (Ok r) (Ok rs) more row h all e =
     let same : all ≡ r ∷ rs = cc in
     ap (with_row (Ok r)) (h rs refl) ∙ ap (λ qs. Ok (qs ++ row ∷ [])) (sym same)
 
-rows_push : (columns : Columns) (xs : List Json) (x : Json) (row : Row) → row_in columns (view x) ≡ Ok row
+pub rows_push : (columns : Columns) (xs : List Json) (x : Json) (row : Row) → row_in columns (view x) ≡ Ok row
     → (rows : List Row) → rows_in columns (items_view xs) ≡ Ok rows → rows_in columns (items_view (xs ++ x ∷ [])) ≡ Ok (rows ++ row ∷ [])
 rows_push columns [] x row is rows e =
     let same : rows ≡ [] = cc in
@@ -78,26 +78,22 @@ rows_push columns [] x row is rows e =
 rows_push columns (y ∷ xs) x row is rows e =
     row_more (row_in columns (view y)) (rows_in columns (items_view xs)) (rows_in columns (items_view (xs ++ x ∷ []))) row (rows_push columns xs x row is) rows e
 
-pub rows_more : (columns : Columns) (xs : List Json) (i : ℕ) (x : Json) → i < length xs → x ≡ get_or xs i x
-    → (row : Row) → row_in columns (view x) ≡ Ok row → (rows : List Row) → rows_in columns (items_view (take i xs)) ≡ Ok rows
-    → (all : List Row) → all ≡ rows ++ row ∷ [] → rows_in columns (items_view (take (i + 1) xs)) ≡ Ok all
-rows_more columns xs i x h e row is rows so_far all last =
-    ap (λ ys. rows_in columns (items_view ys)) (take_more xs i x h ∙ ap (λ y. take i xs ++ y ∷ []) (sym e))
-    ∙ rows_push columns (take i xs) x row is rows so_far ∙ ap Ok (sym last)
+row_bad : (first : Result Row (List ℕ)) (others whole : Sent) (name : List ℕ) → ((rs : List Row) → others ≡ Ok rs → whole ≡ Err (length rs, name))
+    → (all : List Row) → with_row first others ≡ Ok all → with_row first whole ≡ Err (length all, name)
+row_bad (Err wrong) others whole name h all e = cc
+row_bad (Ok r) (Err b) whole name h all e = cc
+row_bad (Ok r) (Ok rs) whole name h all e =
+    let same : all ≡ r ∷ rs = cc in
+    ap (with_row (Ok r)) (h rs refl) ∙ ap (λ (l : List Row). Err (length l, name)) (sym same)
 
-row_bad : (first : Result Row (List ℕ)) (others whole : Sent) (bad : BadRow) → ((rs : List Row) → others ≡ Ok rs → whole ≡ Err bad)
-    → (all : List Row) → with_row first others ≡ Ok all → with_row first whole ≡ Err (later bad)
-row_bad (Err name) others whole bad h all e = cc
-row_bad (Ok r) (Err b) whole bad h all e = cc
-row_bad (Ok r) (Ok rs) whole bad h all e = ap (with_row (Ok r)) (h rs refl)
-
--- the first element that is no row is the bad one
-pub rows_bad : (columns : Columns) (xs : List Json) (i : ℕ) (x : Json) → i < length xs → x ≡ get_or xs i x
-    → (name : List ℕ) → row_in columns (view x) ≡ Err name → (rows : List Row) → rows_in columns (items_view (take i xs)) ≡ Ok rows → rows_in columns (items_view xs) ≡ Err (i, name)
-rows_bad columns [] i x h e name is rows so_far = absurd (omega arith)
-rows_bad columns (y ∷ xs) zero x h e name is rows so_far = ap (λ r. with_row r (rows_in columns (items_view xs))) (sym (ap (λ z. row_in columns (view z)) e) ∙ is)
-rows_bad columns (y ∷ xs) (suc i) x h e name is rows so_far =
-    row_bad (row_in columns (view y)) (rows_in columns (items_view (take i xs))) (rows_in columns (items_view xs)) (i, name) (rows_bad columns xs i x (omega arith) e name is) rows so_far
+-- the first element that is no row is the bad one, and there are as many before it as rows
+pub rows_bad : (columns : Columns) (xs : List Json) (x : Json) (ys : List Json) (name : List ℕ) → row_in columns (view x) ≡ Err name
+    → (rows : List Row) → rows_in columns (items_view xs) ≡ Ok rows → rows_in columns (items_view (xs ++ x ∷ ys)) ≡ Err (length rows, name)
+rows_bad columns [] x ys name is rows so_far =
+    let same : rows ≡ [] = cc in
+    ap (λ r. with_row r (rows_in columns (items_view ys))) is ∙ ap (λ (l : List Row). Err (length l, name)) (sym same)
+rows_bad columns (y ∷ xs) x ys name is rows so_far =
+    row_bad (row_in columns (view y)) (rows_in columns (items_view xs)) (rows_in columns (items_view (xs ++ x ∷ ys))) name (rows_bad columns xs x ys name is) rows so_far
 
 -- ---- the names
 

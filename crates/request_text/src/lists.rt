@@ -114,10 +114,10 @@ impl JsonRows {
     }
 
     /// The elements in the order in which they were sent.
-    pub fn as_slice(&self) -> &[Json]
-        ensures { items_view result.now ≡ self.now }
+    pub fn into_list(self) -> Vec<Json>
+        ensures { items_view result.items ≡ self }
     {
-        self.list.as_slice()
+        self.list
     }
 }
 

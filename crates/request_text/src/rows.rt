@@ -82,32 +82,34 @@ impl RowsFault {
 
 /// Reads a set of rows. `BadRow` for the first element that is no row of the columns, or
 /// `NoMemory`.
-pub fn rows_of(alloc: Global, columns: &Columns, rows: &JsonRows) -> Result<RowSet, RowsFault>
-    ensures { GivesRows (λ rows. rows) result (set_of (spec.rows_in columns.now rows.now)) }
+pub fn rows_of(alloc: Global, columns: &Columns, rows: JsonRows) -> Result<RowSet, RowsFault>
+    ensures { GivesRows (λ rows. rows) result (set_of (spec.rows_in columns.now rows)) }
 {
-    let list = rows_in(alloc, columns, rows.as_slice())?;
+    let list = rows_in(alloc, columns, rows.into_list())?;
     Ok(RowSet::new(alloc, list)?)
 }
 
-fn rows_in(alloc: Global, columns: &Columns, items: &[Json]) -> Result<Vec<Row>, RowsFault>
+// The rows, in the order of the elements. Each element is freed as soon as it is read, and the next
+// row takes its memory.
+fn rows_in(alloc: Global, columns: &Columns, items: Vec<Json>) -> Result<Vec<Row>, RowsFault>
     ensures { GivesRows (λ list. list.items) result
-        (spec.rows_in columns.now (items_view items.now)) }
+        (spec.rows_in columns.now (items_view items.items)) }
 {
     let mut rows = Vec::with_capacity(alloc, items.len())?;
-    for (index, item) in items.iter().enumerate() {
+    for item in items {
         match row_in(alloc, columns, item) {
             Ok(row) => rows.push(row)?,
-            Err(fault) => return Err(RowsFault::at(index, fault)),
+            Err(fault) => return Err(RowsFault::at(rows.len(), fault)),
         }
     }
     Ok(rows)
 }
 
-fn row_in(alloc: Global, columns: &Columns, json: &Json) -> Result<Row, MemberFault>
-    ensures { Finds (λ row. row) result (spec.row_in columns.now (view json.now)) }
+fn row_in(alloc: Global, columns: &Columns, json: Json) -> Result<Row, MemberFault>
+    ensures { Finds (λ row. row) result (spec.row_in columns.now (view json)) }
 {
     match json {
-        Json::Object(members) => row_of_members(alloc, columns, members),
+        Json::Object(members) => row_of_members(alloc, columns, &members),
         _ => Err(MemberFault::wrong(alloc, first_column(columns.pairs()))),
     }
 }

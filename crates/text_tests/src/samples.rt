@@ -83,7 +83,7 @@ fn sent(alloc: Global, rows: &str) -> Result<JsonRows, Fail> {
 
 /// The rows of JSON with these columns, at version 0, or why they are refused.
 pub(crate) fn answered(alloc: Global, cols: &str, json: &str) -> Result<Answer, Fail> {
-    match rows_of(alloc, &columns(alloc, cols)?, &sent(alloc, json)?) {
+    match rows_of(alloc, &columns(alloc, cols)?, sent(alloc, json)?) {
         Ok(rows) => Ok(Answer::Shown { rows, version: 0 }),
         Err(RowsFault::BadRow { index, col }) => Ok(Answer::BadRow {
             list: RowList::Rows,

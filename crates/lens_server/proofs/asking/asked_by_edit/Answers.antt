@@ -13,23 +13,23 @@ use Rattle.lens_server.proofs.asking.asked_by_edit.Goals as goal
 pub of_touched-requires-clause-remove : goal.of_touched-requires-clause-remove
 of_touched-requires-clause-remove g c =
     let s = state_of c.args.store.now in let L = c.args.view.now.lens in
-    list_fits s L c.requires.open.here in_remove c.args.remove.now c.in_ok-removed.removed
-    (ap (λ l. set_in in_remove (sort_of l).columns c.args.remove.now) (sym c.lens-lens.ensures.lens) ∙ c.in_ok-removed.ensures)
+    list_fits s L c.requires.open.here in_remove c.args.remove c.in_ok-removed.removed
+    (ap (λ l. set_in in_remove (sort_of l).columns c.args.remove) (sym c.lens-lens.ensures.lens) ∙ c.in_ok-removed.ensures)
 
 pub of_touched-requires-clause-add : goal.of_touched-requires-clause-add
 of_touched-requires-clause-add g c =
     let s = state_of c.args.store.now in let L = c.args.view.now.lens in
-    list_fits s L c.requires.open.here in_add c.args.add.now c.in_ok-added.added
-    (ap (λ l. set_in in_add (sort_of l).columns c.args.add.now) (sym c.lens-lens.ensures.lens) ∙ c.in_ok-added.ensures)
+    list_fits s L c.requires.open.here in_add c.args.add c.in_ok-added.added
+    (ap (λ l. set_in in_add (sort_of l).columns c.args.add) (sym c.lens-lens.ensures.lens) ∙ c.in_ok-added.ensures)
 
 pub checked-requires : goal.checked-requires
 checked-requires g c =
     let s = state_of c.args.store.now in let L = c.args.view.now.lens in let R = c.in_ok-removed.removed in let A = c.in_ok-added.added in
     let N = new_view (get L s.tables) (record { remove = R; add = A }) in
-    let removed : set_in in_remove (sort_of L).columns c.args.remove.now ≡ Ok R = ap (λ l. set_in in_remove (sort_of l).columns c.args.remove.now) (sym c.lens-lens.ensures.lens) ∙ c.in_ok-removed.ensures in
-    let added : set_in in_add (sort_of L).columns c.args.add.now ≡ Ok A = ap (λ l. set_in in_add (sort_of l).columns c.args.add.now) (sym c.lens-lens.ensures.lens) ∙ c.in_ok-added.ensures in
-    let sent : sent_view (edited c.args.remove.now c.args.add.now) L s ≡ Ok N = (λ i. edit_of (get L s.tables) (removed i) (added i)) in
-    let fit : AllFit (sort_of L).columns N = sent_fits s L c.requires.open.here (edited c.args.remove.now c.args.add.now) N sent in
+    let removed : set_in in_remove (sort_of L).columns c.args.remove ≡ Ok R = ap (λ l. set_in in_remove (sort_of l).columns c.args.remove) (sym c.lens-lens.ensures.lens) ∙ c.in_ok-removed.ensures in
+    let added : set_in in_add (sort_of L).columns c.args.add ≡ Ok A = ap (λ l. set_in in_add (sort_of l).columns c.args.add) (sym c.lens-lens.ensures.lens) ∙ c.in_ok-added.ensures in
+    let sent : sent_view (edited c.args.remove c.args.add) L s ≡ Ok N = (λ i. edit_of (get L s.tables) (removed i) (added i)) in
+    let fit : AllFit (sort_of L).columns N = sent_fits s L c.requires.open.here (edited c.args.remove c.args.add) N sent in
     let same = ap (λ t. new_view (get L t.present.relations) (record { remove = R; add = A })) c.requires.same in
     let fit_there : AllFit (sort_of L).columns (new_view (get L (over c.args.view.now)) (record { remove = R; add = A })) = subst (AllFit (sort_of L).columns) (sym same) fit in
     (diff_edits L (over c.args.view.now) c.in_ok-delta.delta _ c.in_ok-delta.ensures.delta fit_there).0
@@ -38,14 +38,14 @@ pub returns : goal.returns
 returns g c =
     let s = state_of c.args.store.now in let L = c.args.view.now.lens in let R = c.in_ok-removed.removed in let A = c.in_ok-added.added in
     let N = new_view (get L s.tables) (record { remove = R; add = A }) in
-    let removed : set_in in_remove (sort_of L).columns c.args.remove.now ≡ Ok R = ap (λ l. set_in in_remove (sort_of l).columns c.args.remove.now) (sym c.lens-lens.ensures.lens) ∙ c.in_ok-removed.ensures in
-    let added : set_in in_add (sort_of L).columns c.args.add.now ≡ Ok A = ap (λ l. set_in in_add (sort_of l).columns c.args.add.now) (sym c.lens-lens.ensures.lens) ∙ c.in_ok-added.ensures in
-    let sent : sent_view (edited c.args.remove.now c.args.add.now) L s ≡ Ok N = (λ i. edit_of (get L s.tables) (removed i) (added i)) in
-    let fit : AllFit (sort_of L).columns N = sent_fits s L c.requires.open.here (edited c.args.remove.now c.args.add.now) N sent in
+    let removed : set_in in_remove (sort_of L).columns c.args.remove ≡ Ok R = ap (λ l. set_in in_remove (sort_of l).columns c.args.remove) (sym c.lens-lens.ensures.lens) ∙ c.in_ok-removed.ensures in
+    let added : set_in in_add (sort_of L).columns c.args.add ≡ Ok A = ap (λ l. set_in in_add (sort_of l).columns c.args.add) (sym c.lens-lens.ensures.lens) ∙ c.in_ok-added.ensures in
+    let sent : sent_view (edited c.args.remove c.args.add) L s ≡ Ok N = (λ i. edit_of (get L s.tables) (removed i) (added i)) in
+    let fit : AllFit (sort_of L).columns N = sent_fits s L c.requires.open.here (edited c.args.remove c.args.add) N sent in
     let same = ap (λ t. new_view (get L t.present.relations) (record { remove = R; add = A })) c.requires.same in
     let fit_there : AllFit (sort_of L).columns (new_view (get L (over c.args.view.now)) (record { remove = R; add = A })) = subst (AllFit (sort_of L).columns) (sym same) fit in
     let fresh : is_stale s L c.args.on ≡ false = ap (λ l. is_stale s l c.args.on) (sym c.lens-lens.ensures.lens) ∙ c.in_ok-not_stale.ensures in
     record {
-      asks = difference_asked s L (over c.args.view.now) (edited c.args.remove.now c.args.add.now) c.args.on c.in_ok-delta.delta N c.checked.result sent fresh
+      asks = difference_asked s L (over c.args.view.now) (edited c.args.remove c.args.add) c.args.on c.in_ok-delta.delta N c.checked.result sent fresh
           ((diff_edits L (over c.args.view.now) c.in_ok-delta.delta _ c.in_ok-delta.ensures.delta fit_there).1 ∙ same) c.checked.ensures;
     }

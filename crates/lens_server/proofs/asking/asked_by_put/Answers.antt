@@ -11,21 +11,21 @@ use Rattle.lens_server.proofs.asking.asked_by_put.Goals as goal
 pub difference-requires : goal.difference-requires
 difference-requires g c =
     let s = state_of c.args.store.now in let L = c.args.view.now.lens in
-    list_fits s L c.requires.open.here in_rows c.args.rows.now c.in_ok-new.new
-    (ap (λ l. set_in in_rows (sort_of l).columns c.args.rows.now) (sym c.lens-lens.ensures.lens) ∙ c.in_ok-new.ensures)
+    list_fits s L c.requires.open.here in_rows c.args.rows c.in_ok-new.new
+    (ap (λ l. set_in in_rows (sort_of l).columns c.args.rows) (sym c.lens-lens.ensures.lens) ∙ c.in_ok-new.ensures)
 
 pub checked-requires : goal.checked-requires
 checked-requires g c =
     let s = state_of c.args.store.now in let L = c.args.view.now.lens in
-    let sent : set_in in_rows (sort_of L).columns c.args.rows.now ≡ Ok c.in_ok-new.new = ap (λ l. set_in in_rows (sort_of l).columns c.args.rows.now) (sym c.lens-lens.ensures.lens) ∙ c.in_ok-new.ensures in
-    let fit : AllFit (sort_of L).columns c.in_ok-new.new = list_fits s L c.requires.open.here in_rows c.args.rows.now c.in_ok-new.new sent in
+    let sent : set_in in_rows (sort_of L).columns c.args.rows ≡ Ok c.in_ok-new.new = ap (λ l. set_in in_rows (sort_of l).columns c.args.rows) (sym c.lens-lens.ensures.lens) ∙ c.in_ok-new.ensures in
+    let fit : AllFit (sort_of L).columns c.in_ok-new.new = list_fits s L c.requires.open.here in_rows c.args.rows c.in_ok-new.new sent in
     (diff_edits L (over c.args.view.now) c.in_ok-delta.delta c.in_ok-new.new c.in_ok-delta.ensures.delta fit).0
 
 pub returns-clause-asks : goal.returns-clause-asks
 returns-clause-asks g c =
     let s = state_of c.args.store.now in let L = c.args.view.now.lens in
-    let sent : set_in in_rows (sort_of L).columns c.args.rows.now ≡ Ok c.in_ok-new.new = ap (λ l. set_in in_rows (sort_of l).columns c.args.rows.now) (sym c.lens-lens.ensures.lens) ∙ c.in_ok-new.ensures in
-    let fit : AllFit (sort_of L).columns c.in_ok-new.new = list_fits s L c.requires.open.here in_rows c.args.rows.now c.in_ok-new.new sent in
+    let sent : set_in in_rows (sort_of L).columns c.args.rows ≡ Ok c.in_ok-new.new = ap (λ l. set_in in_rows (sort_of l).columns c.args.rows) (sym c.lens-lens.ensures.lens) ∙ c.in_ok-new.ensures in
+    let fit : AllFit (sort_of L).columns c.in_ok-new.new = list_fits s L c.requires.open.here in_rows c.args.rows c.in_ok-new.new sent in
     let fresh : is_stale s L c.args.on ≡ false = ap (λ l. is_stale s l c.args.on) (sym c.lens-lens.ensures.lens) ∙ c.in_ok-not_stale.ensures in
-    difference_asked s L (over c.args.view.now) (whole c.args.rows.now) c.args.on c.in_ok-delta.delta c.in_ok-new.new c.checked.result sent fresh
+    difference_asked s L (over c.args.view.now) (whole c.args.rows) c.args.on c.in_ok-delta.delta c.in_ok-new.new c.checked.result sent fresh
     (diff_edits L (over c.args.view.now) c.in_ok-delta.delta c.in_ok-new.new c.in_ok-delta.ensures.delta fit).1 c.checked.ensures

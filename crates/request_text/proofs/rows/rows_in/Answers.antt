@@ -1,19 +1,30 @@
-use Rattle.std.proofs.Common.{sym, subst, rules}
+use Rattle.std.proofs.Common.{◌≡◌, ◌++◌, ◌∙◌, ◌∷◌, [], Ok, Err, ap, sym, subst, length, append_assoc, rules}
+use Rattle.std.specs.Vec.Iter.{into_iter_items}
 use Rattle.serde_json.specs.View.{view, items_view}
 use Rattle.server_specs.specs.Sending as spec
 use Rattle.request_text.specs.RowFaults.{TellsRow}
 use Rattle.request_text.proofs.Faults.{told_at}
-use Rattle.request_text.proofs.Sending.{rows_more, rows_bad}
+use Rattle.request_text.proofs.Sending.{rows_push, rows_bad}
 use Rattle.request_text.proofs.rows.rows_in.Goals as goal
+
+pub loop-item-preserved : goal.loop-item-preserved
+loop-item-preserved c = record {
+  seam =
+      c.loop-item.invariant.seam ∙ ap (λ l. c.loop-item.yielded ++ l) c.in-Some.ensures.steps.0
+      ∙ sym (append_assoc c.loop-item.yielded (c.in-Some.item ∷ []) (into_iter_items c.next.new.self));
+  so_far =
+      rows_push c.args.columns.now c.loop-item.yielded c.in-Some.item c.in-Ok.row c.in-Ok.ensures c.loop-item.rows.items c.loop-item.invariant.so_far
+      ∙ ap Ok (sym c.in_ok-push-in-Ok.ensures.items);
+}
 
 pub returns-in-Err : goal.returns-in-Err
 returns-in-Err c =
-    subst (λ f. TellsRow f (spec.rows_in c.args.columns.now (items_view c.args.items.now))) (sym c.at.ensures)
-    (told_at c.loop-index.index c.in-Err.fault (spec.row_in c.args.columns.now (view c.index-items-index.result)) (spec.rows_in c.args.columns.now (items_view c.args.items.now)) c.in-Err.ensures
-    (λ name bad. rows_bad c.args.columns.now c.args.items.now c.loop-index.index c.index-items-index.result c.loop-index-test.true c.index-items-index.is
-    name bad c.loop-index.rows.items c.loop-index.invariant))
-
-pub loop-index-preserved : goal.loop-index-preserved
-loop-index-preserved c =
-    rows_more c.args.columns.now c.args.items.now c.loop-index.index c.index-items-index.result c.loop-index-test.true c.index-items-index.is
-    c.in-Ok.row c.in-Ok.ensures c.loop-index.rows.items c.loop-index.invariant c.push.new.self.items (search rules)
+    let rest = into_iter_items c.next.new.self in
+    let items : c.args.items.items ≡ c.loop-item.yielded ++ c.in-Some.item ∷ rest =
+    c.loop-item.invariant.seam ∙ ap (λ l. c.loop-item.yielded ++ l) c.in-Some.ensures.steps.0 in
+    let place : length c.loop-item.rows.items ≡ c.len-in-Err.result = search rules in
+    subst (λ f. TellsRow f (spec.rows_in c.args.columns.now (items_view c.args.items.items))) (sym c.at.ensures)
+    (told_at c.len-in-Err.result c.in-Err.fault (spec.row_in c.args.columns.now (view c.in-Some.item)) (spec.rows_in c.args.columns.now (items_view c.args.items.items)) c.in-Err.ensures
+    (λ name bad. ap (λ l. spec.rows_in c.args.columns.now (items_view l)) items
+    ∙ rows_bad c.args.columns.now c.loop-item.yielded c.in-Some.item rest name bad c.loop-item.rows.items c.loop-item.invariant.so_far
+    ∙ ap (λ n. Err (n, name)) place))
