@@ -1,5 +1,5 @@
 -- Rows that are filled in, and the edit that they make.
-use Rattle.std.proofs.Common.{◌≡◌, ℕ, length, List, [], ◌∷◌, is_some, map, refl, sym, ap, ◌∙◌, subst, Bool, true, false, cond, Option, Some, None, inl, inr, ◌≤◌, take, arith}
+use Rattle.std.proofs.Common.{◌≡◌, ℕ, length, List, [], ◌∷◌, is_some, map, refl, sym, ap, ◌∙◌, subst, Bool, true, false, cond, Option, Some, None, inl, inr, ◌<◌, ◌≤◌, ◌+◌, ◌++◌, get_or, take, arith}
 use Rattle.std.specs.Prelude.{filter, slice_get}
 use Rattle.std.specs.List.{find}
 use Rattle.std.specs.FinMap as finmap
@@ -7,7 +7,7 @@ use Rattle.std.specs.Cmp.Lexicographic.{nat_list_cmp_total}
 use Rattle.std.specs.List.Sorted.{IsStrictlySortedBy}
 use Rattle.std.specs.Ordering.{eq_by_cmp}
 use Rattle.std.proofs.lemmas.Bool.{cases_Bool, true≢false}
-use Rattle.std.proofs.lemmas.List.{take_all}
+use Rattle.std.proofs.lemmas.List.{map_more, take_all}
 use Rattle.lens_values.specs.Order.{bytes_cmp}
 use Rattle.lens_values.specs.Part.{override, restrict}
 use Rattle.lens_values.specs.SortedSet as set
@@ -144,6 +144,20 @@ filled_are A X a default N M is x_out lacks =
     (λ r i. let w = from_image (λ m. revise_row (e ∷ []) m M) (image f N) r i in
     let v = from_image f N w.0 w.1 in
     ap (has _) (w.2 ∙ ap (λ m. along e m M) v.2 ∙ sym (one_step v.0 v.1)) ∙ in_image (filled_in e default M) N v.0 v.1)
+
+-- what is made of each row, one row further
+pub made_more : (f : Row → Row) (M : Rows) (rows made after : List Row) (i : ℕ) (row : Row) → rows ≡ set.items M → i < length rows → row ≡ get_or rows i row
+    → made ≡ map f (take i (set.items M)) → after ≡ made ++ f row ∷ [] → after ≡ map f (take (i + 1) (set.items M))
+made_more f M rows made after i row is below here so_far pushed =
+    pushed ∙ ap (λ list. list ++ f row ∷ []) (so_far ∙ ap (λ list. map f (take i list)) (sym is))
+    ∙ ap (λ r. map f (take i rows) ++ f r ∷ []) here ∙ sym (map_more f rows i row below) ∙ ap (λ list. map f (take (i + 1) list)) is
+
+-- past the end of the list there is no row to make anything of
+pub made_no_more : (f : Row → Row) (M : Rows) (rows made : List Row) (i : ℕ) → rows ≡ set.items M → length rows ≤ i
+    → made ≡ map f (take i (set.items M)) → made ≡ map f (take (i + 1) (set.items M))
+made_no_more f M rows made i is past so_far =
+    let n : length (set.items M) ≤ i = omega (arith, past, ap length is) in
+    so_far ∙ ap (map f) (take_all i (set.items M) n ∙ sym (take_all (i + 1) (set.items M) (omega (arith, n))))
 
 -- what is made of each row, up to the end of the list
 pub made_all : (f : Row → Row) (M : Rows) (rows list : List Row) (i : ℕ) → rows ≡ set.items M → length rows ≤ i → list ≡ map f (take i (set.items M)) → set.from_list list ≡ image f M

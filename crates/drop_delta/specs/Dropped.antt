@@ -1,5 +1,5 @@
 -- Relations without one of their columns, and edits of them.
-use Rattle.std.specs.Prelude.{◌≡◌, None, Option, Some}
+use Rattle.std.specs.Prelude.{◌≡◌, IfSome, None, Option, Some}
 use Rattle.lens_values.specs.Part.{override, restrict}
 use Rattle.lens_values.specs.declared.row.Row.{Row}
 use Rattle.lens_values.specs.declared.value.Value.{Value}
@@ -11,6 +11,7 @@ use Rattle.lens_specs.specs.Nodes.{drop_get, drop_put}
 use Rattle.lens_specs.specs.Relation.{Rows, first_row}
 use Rattle.lens_specs.specs.Rows.{agree}
 use Rattle.drop_delta.specs.declared.editing.Filling.{Filling}
+use Rattle.drop_delta.specs.declared.editing.Fillings.{Fillings}
 
 -- the rows of M, which is over U, without the column A, after an edit of them
 abbrev pub edited : Columns → Name → Rows → Delta → Rows
@@ -36,3 +37,7 @@ filled_in e default M row = override (filling_for e default M row) row
 -- the filling's part is what fills in its key
 abbrev pub Fills : Edge → Row → Rows → Filling → Type 0
 Fills e default M filling = filling.part ≡ filling_for e default M filling.key
+
+-- each of the two fillings, where there is one, fills in its key
+abbrev pub BothFill : Edge → Row → Rows → Fillings → Type 0
+BothFill e default M fillings = IfSome fillings.last (Fills e default M) × IfSome fillings.earlier (Fills e default M)

@@ -9,7 +9,7 @@ ghost use Rattle.lens_specs.specs.Names.{Within, one};
 ghost use Rattle.lens_specs.specs.Nodes.{drop_get};
 ghost use Rattle.lens_specs.specs.Relation.{image};
 ghost use Rattle.lens_specs.specs.Rows.{at};
-ghost use Rattle.drop_delta.specs.Dropped.{Fills, edited_source, filled_in, filling_for, right_of};
+ghost use Rattle.drop_delta.specs.Dropped.{BothFill, Fills, edited_source, filled_in, filling_for, right_of};
 
 use fd_tree::Edge;
 use lens_values::{Name, Names, NoMemory, Row, Value};
@@ -55,10 +55,8 @@ pub fn drop_delta<S: Look, L: Ledger>(
     let right = Names::single(alloc, col)?;
     let edge = Edge { left, right };
     let default = default_row(alloc, col, fill)?;
-    let removed = filled_rows(alloc, source, &edge, &default, delta.remove(), None, looked)?;
-    let last = removed.last;
-    let added = filled_rows(alloc, source, &edge, &default, delta.add(), last, looked)?;
-    Ok(Delta::new(removed.rows, added.rows))
+    let filled = filled_sides(alloc, source, &edge, &default, delta, looked)?;
+    Ok(Delta::new(filled.remove, filled.add))
 }
 
 // The row with this value in one column.
@@ -70,6 +68,56 @@ fn default_row(alloc: Global, name: &Name, value: &Value) -> Result<Row, NoMemor
     Row::from_rising(alloc, pairs)
 }
 
+// The two sides of an edit, with each row filled in.
+#[derive(Debug, Drop)]
+struct FilledSides {
+    remove: RowSet,
+    add: RowSet,
+}
+
+// The rows to remove and those to add, each with the edge's right side filled in. They are walked
+// turn by turn: mostly a removed row and the added row at its place have the same key, and the
+// source is then asked for it once.
+fn filled_sides<S: Look, L: Ledger>(
+    alloc: Global,
+    source: &S,
+    edge: &Edge,
+    default: &Row,
+    delta: &Delta,
+    looked: &mut Steps<L>,
+) -> Result<FilledSides, NoMemory>
+    requires some { length (set.items edge.now.left) ≢ 0 }
+    requires asked { Contains (S.asked source.now) edge.now.left }
+    requires removed { (row : _) → set.contains delta.now.remove row ≡ true
+        → (c : _) → set.contains edge.now.left c ≡ true → is_some (at row c) ≡ true }
+    requires added { (row : _) → set.contains delta.now.add row ≡ true
+        → (c : _) → set.contains edge.now.left c ≡ true → is_some (at row c) ≡ true }
+    ensures remove { let M = (S.relation source.now).rows in IfOk result (λ filled.
+        filled.remove ≡ image (filled_in edge.now default.now M) delta.now.remove) }
+    ensures add { let M = (S.relation source.now).rows in IfOk result (λ filled.
+        filled.add ≡ image (filled_in edge.now default.now M) delta.now.add) }
+{
+    let removed = delta.remove().rows();
+    let added = delta.add().rows();
+    let mut remove = Vec::with_capacity(alloc, removed.len())?;
+    let mut add = Vec::with_capacity(alloc, added.len())?;
+    let mut fillings = Fillings {
+        last: None,
+        earlier: None,
+    };
+    for place in 0..removed.len().max(added.len()) {
+        if let Some(row) = removed.get(place) {
+            remove.push(filled_row(alloc, source, edge, default, row, &mut fillings, looked)?)?;
+        }
+        if let Some(row) = added.get(place) {
+            add.push(filled_row(alloc, source, edge, default, row, &mut fillings, looked)?)?;
+        }
+    }
+    let remove = RowSet::new(alloc, remove)?;
+    let add = RowSet::new(alloc, add)?;
+    Ok(FilledSides { remove, add })
+}
+
 // What fills in the rows that have the key on the edge's left side.
 #[derive(Debug, Drop)]
 struct Filling {
@@ -77,69 +125,69 @@ struct Filling {
     part: Row,
 }
 
-// Rows that are filled in, and what filled in the last of them.
+// What filled in the last rows, for up to two keys: where rows are moved from one key to another,
+// the removed rows have the one, and the added rows that come between them the other.
 #[derive(Debug, Drop)]
-struct Filled {
-    rows: RowSet,
+struct Fillings {
     last: Option<Filling>,
+    earlier: Option<Filling>,
 }
 
-// Each of the rows, with the edge's right side filled in.
-fn filled_rows<S: Look, L: Ledger>(
+// The row with the edge's right side filled in. What fills it in becomes the last filling.
+fn filled_row<S: Look, L: Ledger>(
     alloc: Global,
     source: &S,
     edge: &Edge,
     default: &Row,
-    rows: &RowSet,
-    last: Option<Filling>,
+    row: &Row,
+    fillings: &mut Fillings,
     looked: &mut Steps<L>,
-) -> Result<Filled, NoMemory>
+) -> Result<Row, NoMemory>
     requires some { length (set.items edge.now.left) ≢ 0 }
     requires asked { Contains (S.asked source.now) edge.now.left }
-    requires have { (row : _) → set.contains rows.now row ≡ true
-        → (c : _) → set.contains edge.now.left c ≡ true → is_some (at row c) ≡ true }
-    requires last { let M = (S.relation source.now).rows in
-        IfSome last (Fills edge.now default.now M) }
-    ensures rows { let M = (S.relation source.now).rows in
-        IfOk result (λ filled. filled.rows ≡ image (filled_in edge.now default.now M) rows.now) }
-    ensures last { let M = (S.relation source.now).rows in
-        IfOk result (λ filled. IfSome filled.last (Fills edge.now default.now M)) }
+    requires have { (c : _) → set.contains edge.now.left c ≡ true → is_some (at row.now c) ≡ true }
+    requires fillings { let M = (S.relation source.now).rows in
+        BothFill edge.now default.now M fillings.old }
+    ensures row { let M = (S.relation source.now).rows in
+        IfOk result (λ filled. filled ≡ filled_in edge.now default.now M row.now) }
+    ensures fillings { let M = (S.relation source.now).rows in
+        BothFill edge.now default.now M fillings.new }
 {
-    let mut filled = Vec::with_capacity(alloc, rows.rows().len())?;
-    let mut last = last;
-    for row in rows.rows() {
-        let filling = filling_of(alloc, source, edge, default, row, last, looked)?;
-        filled.push(row.paste(alloc, &filling.part)?)?;
-        last = Some(filling);
+    let known = match &fillings.last {
+        Some(last) if row.agree_on(&last.key, &edge.left) => fillings.last.take(),
+        _ => fillings.earlier.take(),
+    };
+    let filling = filling_of(alloc, source, edge, default, row, known, looked)?;
+    let filled = row.paste(alloc, &filling.part)?;
+    if let Some(before) = fillings.last.replace(filling) {
+        fillings.earlier = Some(before);
     }
-    let rows = RowSet::new(alloc, filled)?;
-    Ok(Filled { rows, last })
+    Ok(filled)
 }
 
-// What fills in the row. The source is asked only where the last filling is for another key: mostly
-// a row is removed and added again with another value elsewhere.
+// What fills in the row. The source is asked only where the known filling is for another key.
 fn filling_of<S: Look, L: Ledger>(
     alloc: Global,
     source: &S,
     edge: &Edge,
     default: &Row,
     row: &Row,
-    last: Option<Filling>,
+    known: Option<Filling>,
     looked: &mut Steps<L>,
 ) -> Result<Filling, NoMemory>
     requires some { length (set.items edge.now.left) ≢ 0 }
     requires asked { Contains (S.asked source.now) edge.now.left }
     requires have { (c : _) → set.contains edge.now.left c ≡ true → is_some (at row.now c) ≡ true }
-    requires last { let M = (S.relation source.now).rows in
-        IfSome last (Fills edge.now default.now M) }
+    requires known { let M = (S.relation source.now).rows in
+        IfSome known (Fills edge.now default.now M) }
     ensures fills { let M = (S.relation source.now).rows in
         IfOk result (Fills edge.now default.now M) }
     ensures part { let M = (S.relation source.now).rows in
         IfOk result (λ filling. filling.part ≡ filling_for edge.now default.now M row.now) }
 {
-    if let Some(last) = last {
-        if row.agree_on(&last.key, &edge.left) {
-            return Ok(last);
+    if let Some(known) = known {
+        if row.agree_on(&known.key, &edge.left) {
+            return Ok(known);
         }
     }
     let key = row.project(alloc, &edge.left)?;

@@ -2,26 +2,24 @@ use Rattle.std.proofs.Common.{◌≡◌, ◌∙◌, ap, sym}
 use Rattle.lens_values.specs.SortedSet as set
 use Rattle.lens_specs.specs.Delta.{Delta, diff}
 use Rattle.lens_specs.specs.Dependencies.{edge}
-use Rattle.lens_specs.specs.Relation.{has, image}
-use Rattle.drop_delta.specs.Dropped.{edited_source, filled_in}
+use Rattle.drop_delta.specs.Dropped.{edited_source}
 use Rattle.drop_delta.proofs.Filling.{apart, carried, have, removed_fit}
 use Rattle.drop_delta.proofs.editing.drop_delta.Goals as goal
 
-pub filled_rows-requires-clause-have : goal.filled_rows-requires-clause-have
-filled_rows-requires-clause-have g c = λ row there k i.
+pub filled_sides-requires-clause-removed : goal.filled_sides-requires-clause-removed
+filled_sides-requires-clause-removed g c = λ row there k i.
     let R = g.S.Look.relation c.args.source.now in
     let q = c.requires in
     have R.columns c.args.col.now c.args.by.now c.args.fill.now R.rows c.args.delta.now q.column q.within q.apart c.rows_fit.ensures q.decides q.applies q.fit row
-    (removed_fit R.columns c.args.col.now c.args.by.now c.args.fill.now R.rows c.args.delta.now q.column q.within q.apart c.rows_fit.ensures q.decides q.applies q.fit row
-    (ap (λ N. has N row) (sym c.remove.ensures) ∙ there))
+    (removed_fit R.columns c.args.col.now c.args.by.now c.args.fill.now R.rows c.args.delta.now q.column q.within q.apart c.rows_fit.ensures q.decides q.applies q.fit row there)
     k (ap (λ C. set.contains C k) (sym c.in_ok-left.ensures) ∙ i)
 
-pub filled_rows-requires-2-clause-have : goal.filled_rows-requires-2-clause-have
-filled_rows-requires-2-clause-have g c = λ row there k i.
+pub filled_sides-requires-clause-added : goal.filled_sides-requires-clause-added
+filled_sides-requires-clause-added g c = λ row there k i.
     let R = g.S.Look.relation c.args.source.now in
     let q = c.requires in
     have R.columns c.args.col.now c.args.by.now c.args.fill.now R.rows c.args.delta.now q.column q.within q.apart c.rows_fit.ensures q.decides q.applies q.fit row
-    (q.fit row (ap (λ N. has N row) (sym c.add.ensures) ∙ there))
+    (q.fit row there)
     k (ap (λ C. set.contains C k) (sym c.in_ok-left.ensures) ∙ i)
 
 pub new-requires : goal.new-requires
@@ -34,13 +32,12 @@ new-requires g c =
     let q = c.requires in
     let default = c.in_ok-default.default in
     let e = edge c.in_ok-left.left c.in_ok-right.right in
-    let remove = c.in_ok-removed.removed.rows in
-    let add = c.in_ok-added.added.rows in
+    let remove = c.in_ok-filled.filled.remove in
+    let add = c.in_ok-filled.filled.add in
     let is : ◌≡◌ {A = Delta} (record { remove = remove; add = add }) (diff R.rows (edited_source R.columns A X a R.rows d)) =
     carried R.columns A X a R.rows d q.column q.within q.apart c.rows_fit.ensures q.decides q.applies q.fit default e remove add c.in_ok-default.ensures
     (λ i. edge (c.in_ok-left.ensures i) (c.in_ok-right.ensures i))
-    (c.in_ok-removed.ensures.rows ∙ ap (image (filled_in e default R.rows)) c.remove.ensures)
-    (c.in_ok-added.ensures.rows ∙ ap (image (filled_in e default R.rows)) c.add.ensures) in
+    c.in_ok-filled.ensures.remove c.in_ok-filled.ensures.add in
     apart R.rows (edited_source R.columns A X a R.rows d) remove add is
 
 pub returns : goal.returns
@@ -53,11 +50,10 @@ returns g c =
     let q = c.requires in
     let default = c.in_ok-default.default in
     let e = edge c.in_ok-left.left c.in_ok-right.right in
-    let remove = c.in_ok-removed.removed.rows in
-    let add = c.in_ok-added.added.rows in
+    let remove = c.in_ok-filled.filled.remove in
+    let add = c.in_ok-filled.filled.add in
     let is : ◌≡◌ {A = Delta} (record { remove = remove; add = add }) (diff R.rows (edited_source R.columns A X a R.rows d)) =
     carried R.columns A X a R.rows d q.column q.within q.apart c.rows_fit.ensures q.decides q.applies q.fit default e remove add c.in_ok-default.ensures
     (λ i. edge (c.in_ok-left.ensures i) (c.in_ok-right.ensures i))
-    (c.in_ok-removed.ensures.rows ∙ ap (image (filled_in e default R.rows)) c.remove.ensures)
-    (c.in_ok-added.ensures.rows ∙ ap (image (filled_in e default R.rows)) c.add.ensures) in
+    c.in_ok-filled.ensures.remove c.in_ok-filled.ensures.add in
     record { delta = c.new.ensures ∙ is }

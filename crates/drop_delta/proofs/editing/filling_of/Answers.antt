@@ -14,10 +14,10 @@ returns-then-agree_on g c =
     let e = c.args.edge.now in
     let default = c.args.default.now in
     let M = (g.S.Look.relation c.args.source.now).rows in
-    let fills : Fills e default M c.in-Some.last = subst (λ o. IfSome o (Fills e default M)) c.in-Some.is c.requires.last in
+    let fills : Fills e default M c.in-Some.known = subst (λ o. IfSome o (Fills e default M)) c.in-Some.is c.requires.known in
     record {
       fills = fills;
-      part = filled_again e c.edge.inside.left default c.args.row.now c.in-Some.last.key c.in-Some.last.part M c.agree_on.result fills (ap (λ k. k.left) c.edge.view_is) c.agree_on.ensures c.if-agree_on.true;
+      part = filled_again e c.edge.inside.left default c.args.row.now c.in-Some.known.key c.in-Some.known.part M c.agree_on.result fills (ap (λ k. k.left) c.edge.view_is) c.agree_on.ensures c.if-agree_on.true;
     }
 
 pub returns : goal.returns

@@ -1,0 +1,13 @@
+use Rattle.std.proofs.Common.{◌≡◌, take}
+use Rattle.std.specs.Prelude.{map}
+use Rattle.lens_values.specs.SortedSet as set
+use Rattle.drop_delta.specs.Dropped.{BothFill, filled_in}
+use Rattle.drop_delta.proofs.editing.filled_sides.Given as goal
+
+abbrev pub invariant-loop-place : goal.invariant-loop-place
+invariant-loop-place g l =
+    let M = (g.S.Look.relation l.source).rows in
+    let f = filled_in l.edge l.default M in
+    (l.remove.items ≡ map f (take l.place (set.items l.delta.remove)))
+    × (l.add.items ≡ map f (take l.place (set.items l.delta.add)))
+    × BothFill l.edge l.default M l.fillings
