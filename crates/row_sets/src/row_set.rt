@@ -11,7 +11,7 @@ ghost use Rattle.row_sets.specs.Joins.{pairs_on};
 
 use crate::joining::{indexed, paired};
 use crate::moving::order_nearly;
-use lens_values::{Names, NoMemory, Row, copied, difference, into_sorted, union};
+use lens_values::{Names, NoMemory, Row, copied, difference, union};
 use std::alloc::Global;
 use std::marker::Model;
 
@@ -45,7 +45,7 @@ impl RowSet {
             return Ok(RowSet { rows });
         }
         Ok(RowSet {
-            rows: put_in_order(rows),
+            rows: put_in_order(rows)?,
         })
     }
 
@@ -160,17 +160,32 @@ impl RowSet {
 }
 
 // The rows in rising order, each once. Mostly short moves put them in order.
-fn put_in_order(rows: Vec<Row>) -> Vec<Row>
-    ensures order { IsStrictlySortedBy row_cmp result.items }
-    ensures members { (row : _) → list_any (eq_by_cmp row_cmp row) result.items
-        ≡ list_any (eq_by_cmp row_cmp row) rows.items }
+fn put_in_order(rows: Vec<Row>) -> Result<Vec<Row>, NoMemory>
+    ensures order { IfOk result (λ sorted. IsStrictlySortedBy row_cmp sorted.items) }
+    ensures members { IfOk result (λ sorted. (row : _)
+        → list_any (eq_by_cmp row_cmp row) sorted.items
+        ≡ list_any (eq_by_cmp row_cmp row) rows.items) }
 {
     let mut rows = rows;
     order_nearly(&mut rows);
     if rise(&rows) {
-        return rows;
+        return Ok(rows);
     }
-    into_sorted(rows)
+    sorted(rows)
+}
+
+// The rows in rising order, each once. Rows that are sent are mostly a few lists that rise, one after
+// another, which a stable sort merges.
+fn sorted(rows: Vec<Row>) -> Result<Vec<Row>, NoMemory>
+    ensures order { IfOk result (λ sorted. IsStrictlySortedBy row_cmp sorted.items) }
+    ensures members { IfOk result (λ sorted. (row : _)
+        → list_any (eq_by_cmp row_cmp row) sorted.items
+        ≡ list_any (eq_by_cmp row_cmp row) rows.items) }
+{
+    let mut rows = rows;
+    rows.sort()?;
+    rows.dedup();
+    Ok(rows)
 }
 
 // Whether each row is below the one after it.

@@ -1,5 +1,6 @@
 use Rattle.std.proofs.Common.{◌∙◌}
 use Rattle.std.proofs.lemmas.List.{take_at}
+use Rattle.std.proofs.lemmas.Result.{IfOk-weaker}
 use Rattle.lens_values.specs.RowOrder.{row_cmp_total}
 use Rattle.row_sets.proofs.Rising.{moved_alike}
 use Rattle.row_sets.proofs.row_set.put_in_order.Goals as goal
@@ -9,6 +10,8 @@ returns-then-rise-clause-members c row =
     moved_alike row_cmp_total c.args.rows.items _ c.order_nearly.new.rows _ c.deref_mut.ensures.value c.order_nearly.ensures.rows (take_at c.order_nearly.new.rows _ c.args.rows.len (c.order_nearly.ensures.len ∙ c.deref_mut.ensures.len)) row
 
 pub returns-clause-members : goal.returns-clause-members
-returns-clause-members c row =
-    c.into_sorted.ensures.members row
-    ∙ moved_alike row_cmp_total c.args.rows.items _ c.order_nearly.new.rows _ c.deref_mut.ensures.value c.order_nearly.ensures.rows (take_at c.order_nearly.new.rows _ c.args.rows.len (c.order_nearly.ensures.len ∙ c.deref_mut.ensures.len)) row
+returns-clause-members c =
+    IfOk-weaker c.sorted.result _ _ (λ rows members row.
+    members row
+    ∙ moved_alike row_cmp_total c.args.rows.items _ c.order_nearly.new.rows _ c.deref_mut.ensures.value c.order_nearly.ensures.rows (take_at c.order_nearly.new.rows _ c.args.rows.len (c.order_nearly.ensures.len ∙ c.deref_mut.ensures.len)) row)
+    c.sorted.ensures.members
