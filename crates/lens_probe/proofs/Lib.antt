@@ -2,6 +2,7 @@ mod Walks
 pub mod Contained
 mod SharedColumns
 pub mod Found
+mod Sides
 pub mod Listed
 pub mod Viewing
 mod CheckedEdits

@@ -1,5 +1,5 @@
 -- Lists whose rows, taken as a set, are those that a lens shows.
-use Rattle.std.proofs.Common.{◌≡◌, ◌∙◌, Bool, List, ap, filter, map, sym, true}
+use Rattle.std.proofs.Common.{◌≡◌, ◌∙◌, Bool, List, ap, cond, filter, map, sym, true}
 use Rattle.std.specs.Prelude.{◌&&◌}
 use Rattle.std.specs.List.{list_any}
 use Rattle.std.specs.Ordering.{eq_by_cmp}
@@ -11,18 +11,22 @@ use Rattle.lens_values.specs.declared.value.Value.{Value}
 use Rattle.lens_specs.specs.Lens.{Lens, Tables, drop, get, join, select, sort_of, view_names}
 use Rattle.lens_specs.specs.Names.{Name, Names, one}
 use Rattle.lens_specs.specs.Nodes.{drop_get, join_get, select_get}
-use Rattle.lens_specs.specs.Predicate.{Predicate, holds}
+use Rattle.lens_specs.specs.Predicate.{Predicate, holds, mentioned}
 use Rattle.lens_specs.specs.Relation.{Rows, has, project, those}
 use Rattle.lens_specs.specs.Rows.{cut}
 use Rattle.fd_laws.proofs.Columns.{names-without}
 use Rattle.fd_laws.proofs.Lists.{from_map, in_map}
+use Rattle.fd_laws.proofs.Names.{from_rest, subset_is}
 use Rattle.fd_laws.proofs.Relations.{from_project, from_those, in_project, in_those, same_rel}
 use Rattle.fd_laws.proofs.Rows.{agree-cut, row_exact, row_itself, row_total, tied_row}
 use Rattle.lens_laws.specs.Lenses.{AreOf, IsTyped}
+use Rattle.lens_laws.specs.Passes.{PredWithin}
 use Rattle.lens_laws.proofs.Lenses.{get_sort}
-use Rattle.lens_laws.proofs.Predicates.{sees_from}
+use Rattle.lens_laws.proofs.Predicates.{mentioned_is, sees_from}
 use Rattle.row_sets.specs.Joins.{pairs_on}
 use Rattle.row_sets.proofs.Natural.{natural_is}
+use Rattle.lens_probe.specs.Reading.{rows_for}
+use Rattle.lens_probe.proofs.Sides.{tested_first, was_there}
 
 -- ---- lists and sets
 
@@ -81,15 +85,30 @@ dropped_listed L C A X a db rows is shown =
     ∙ parts (set.difference (view_names C) (one A)) rows (get C db) shown
     ∙ ap (λ K. get K db) is
 
--- the predicate is asked before the column is dropped
-pub selected_before : (P : Predicate) (L C : Lens) (A : Name) (X : Names) (a : Value) (db : Tables) (rows : List Row) → drop A X a C ≡ L → IsTyped (select P L) → set.from_list rows ≡ get C db
-    → set.from_list (map (restrict (view_names L)) (filter (holds P) rows)) ≡ get (select P L) db
+-- the columns that a predicate mentions are all shown
+pub mentions_shown : (P : Predicate) (L : Lens) → set.is_subset (mentioned P) (view_names L) ≡ true → PredWithin P (view_names L)
+mentions_shown P L all c there = subset_is (mentioned P) (view_names L) all c (mentioned_is P c ∙ there)
+
+-- and are shown by the source of a projection too
+pub shown_before : (P : Predicate) (L C : Lens) (A : Name) (X : Names) (a : Value) → drop A X a C ≡ L → PredWithin P (view_names L) → PredWithin P (view_names C)
+shown_before P L C A X a is within c there =
+    (from_rest (view_names C) (one A) c (ap (λ D. set.contains D c) (sym (names-without (sort_of C).columns A) ∙ ap view_names is) ∙ within c there)).0
+
+-- a side that shows all of them is asked for the rows of the selection
+pub rows_for_shown : (P : Predicate) (L : Lens) (db : Tables) → set.is_subset (mentioned P) (view_names L) ≡ true → get (select P L) db ≡ rows_for P L db
 unfolding get select_get
-selected_before P L C A X a db rows is typed shown =
+rows_for_shown P L db all = ap (λ b. cond b (those (holds P) (get L db)) (get L db)) (sym all)
+
+-- the predicate is tested before the column is dropped
+pub selected_before : (P : Predicate) (L C : Lens) (A : Name) (X : Names) (a : Value) (db : Tables) (rows : List Row) → drop A X a C ≡ L → PredWithin P (view_names L) → set.from_list rows ≡ get (select P C) db
+    → set.from_list (map (restrict (view_names L)) rows) ≡ get (select P L) db
+unfolding get select_get drop_get
+selected_before P L C A X a db rows is within shown =
     let D = view_names L in
-    parts D (filter (holds P) rows) (those (holds P) (get C db)) (chosen (holds P) rows (get C db) shown)
-    ∙ parts_of_chosen (holds P) D (get C db) (λ r. sees_from P D typed.1.columns (cut D r) r (agree-cut D r))
-    ∙ ap (those (holds P)) (sym (parts D rows (get C db) shown) ∙ dropped_listed L C A X a db rows is shown)
+    parts D rows (those (holds P) (get C db)) shown
+    ∙ parts_of_chosen (holds P) D (get C db) (λ r. sees_from P D within (cut D r) r (agree-cut D r))
+    ∙ ap (λ E. those (holds P) (project E (get C db))) (ap view_names (sym is) ∙ names-without (sort_of C).columns A)
+    ∙ ap (λ K. those (holds P) (get K db)) is
 
 pub joined_listed : (L A B : Lens) (db : Tables) (rows : List Row) (M N : Rows) → join A B ≡ L → IsTyped (join A B) → AreOf (join A B) db → M ≡ get A db → N ≡ get B db
     → set.from_list rows ≡ pairs_on (set.intersection (view_names A) (view_names B)) M N → set.from_list rows ≡ get L db
@@ -98,3 +117,18 @@ joined_listed L A B db rows M N is typed are left right paired =
     paired ∙ (λ i. pairs_on (set.intersection (view_names A) (view_names B)) (left i) (right i))
     ∙ natural_is (sort_of A).columns (sort_of B).columns (get A db) (get B db) (get_sort B db typed.1 are.1).columns
     ∙ ap (λ K. get K db) is
+
+-- the predicate is tested on the sides that show all of its columns, and then on the pairs
+pub selected_join : (P : Predicate) (L A B : Lens) (db : Tables) (rows : List Row) (M N : Rows) → join A B ≡ L → IsTyped (join A B) → AreOf (join A B) db → M ≡ rows_for P A db → N ≡ rows_for P B db
+    → set.from_list rows ≡ pairs_on (set.intersection (view_names A) (view_names B)) M N → set.from_list (filter (holds P) rows) ≡ get (select P L) db
+unfolding get select_get join_get
+selected_join P L A B db rows M N is typed are left right paired =
+    let U = view_names A in
+    let V = view_names B in
+    let asks_left = set.is_subset (mentioned P) U in
+    let asks_right = set.is_subset (mentioned P) V in
+    chosen (holds P) rows _ (paired ∙ (λ i. pairs_on (set.intersection U V) (left i) (right i)))
+    ∙ ap (those (holds P)) (natural_is (sort_of A).columns (sort_of B).columns (rows_for P A db) (rows_for P B db)
+    (λ n there. (get_sort B db typed.1 are.1).columns n (was_there (holds P) asks_right (get B db) n there)))
+    ∙ tested_first (holds P) U V (get A db) (get B db) asks_left asks_right (λ all. sees_from P U (mentions_shown P A all)) (λ all. sees_from P V (mentions_shown P B all))
+    ∙ ap (λ K. those (holds P) (get K db)) is

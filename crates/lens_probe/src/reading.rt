@@ -5,11 +5,12 @@ ghost use Rattle.lens_values.specs.SortedSet as set;
 ghost use Rattle.lens_specs.specs.Lens as spec;
 ghost use Rattle.lens_specs.specs.Lens.{get, select, view_names};
 ghost use Rattle.lens_specs.specs.Predicate.{holds};
-ghost use Rattle.lens_laws.specs.Lenses.{AreOf, IsTyped};
+ghost use Rattle.lens_laws.specs.Lenses.{AreOf};
+ghost use Rattle.lens_laws.specs.Passes.{PredWithin};
 ghost use Rattle.row_sets.specs.Joins.{pairs_on};
-ghost use Rattle.lens_probe.specs.Reading.{rows_under};
+ghost use Rattle.lens_probe.specs.Reading.{rows_for, rows_under};
 
-use crate::columns::{names_of, shared_names};
+use crate::columns::{names_of, shared_names, shows_all};
 use base_index::Tables;
 use lens_pred::Pred;
 use lens_types::{Lens, TypedLens};
@@ -76,7 +77,7 @@ fn rows_in<L: Ledger>(
         Lens::Select { pred, of, .. } => selected_in(alloc, pred, of, tables, walked),
         Lens::Drop { of, .. } => {
             let rows = rows_in(alloc, of, tables, walked)?;
-            shown_parts(alloc, lens, &rows)
+            shown_parts(alloc, lens, rows)
         }
         Lens::Join { left, right, .. } => {
             let left_rows = row_set_in(alloc, left, tables, walked)?;
@@ -86,8 +87,9 @@ fn rows_in<L: Ledger>(
     }
 }
 
-// The rows of the lens on which the predicate holds. At a projection the whole rows are asked, so
-// that no part of a refused row is made.
+// The rows of the lens on which the predicate holds, in no certain order and perhaps more than
+// once. It is tested before a column is dropped and before rows are joined, so that few are made
+// only to be left out, and on the pairs, since perhaps neither side shows all of its columns.
 #[cycle(rows)]
 fn selected_in<L: Ledger>(
     alloc: Global,
@@ -96,7 +98,7 @@ fn selected_in<L: Ledger>(
     tables: &Tables,
     walked: &mut Steps<L>,
 ) -> Result<Vec<Row>, NoMemory>
-    requires typed { IsTyped (select pred.now of.now) }
+    requires columns { PredWithin pred.now (view_names of.now) }
     requires tables { AreOf of.now tables.now.present.relations }
     ensures value { let shown = get (select pred.now of.now) tables.now.present.relations in
         IfOk result (λ rows. set.from_list rows.items ≡ shown) }
@@ -104,12 +106,41 @@ fn selected_in<L: Ledger>(
 {
     match of.lens() {
         Lens::Drop { of: source, .. } => {
-            let rows = rows_in(alloc, source, tables, walked)?;
-            shown_parts(alloc, of, &selected(pred, rows))
+            let rows = selected_in(alloc, pred, source, tables, walked)?;
+            shown_parts(alloc, of, rows)
         }
-        Lens::Base { .. } | Lens::Select { .. } | Lens::Join { .. } => {
+        Lens::Join { left, right, .. } => {
+            let left_rows = side_in(alloc, pred, left, tables, walked)?;
+            let right_rows = side_in(alloc, pred, right, tables, walked)?;
+            let pairs = joined(alloc, left, right, &left_rows, &right_rows)?;
+            Ok(selected(pred, pairs))
+        }
+        Lens::Base { .. } | Lens::Select { .. } => {
             Ok(selected(pred, rows_in(alloc, of, tables, walked)?))
         }
+    }
+}
+
+// The rows of one side of a join: where it shows each column that the predicate mentions, only
+// those on which the predicate holds, since no pair of another row is kept.
+#[cycle(rows)]
+fn side_in<L: Ledger>(
+    alloc: Global,
+    pred: &Pred,
+    side: &TypedLens,
+    tables: &Tables,
+    walked: &mut Steps<L>,
+) -> Result<RowSet, NoMemory>
+    requires { AreOf side.now tables.now.present.relations }
+    ensures value { let needed = rows_for pred.now side.now tables.now.present.relations in
+        IfOk result (λ rows. rows ≡ needed) }
+    ensures walked { walked.new ≤ walked.old + rows_under side.now tables.now.present.relations }
+{
+    let mentioned = pred.mentions(alloc)?;
+    if shows_all(side, &mentioned) {
+        RowSet::new(alloc, selected_in(alloc, pred, side, tables, walked)?)
+    } else {
+        row_set_in(alloc, side, tables, walked)
     }
 }
 
@@ -123,17 +154,18 @@ fn selected(pred: &Pred, rows: Vec<Row>) -> Vec<Row>
 }
 
 // Each row's part in the columns that the lens shows.
-fn shown_parts(alloc: Global, lens: &TypedLens, rows: &[Row]) -> Result<Vec<Row>, NoMemory>
+fn shown_parts(alloc: Global, lens: &TypedLens, rows: Vec<Row>) -> Result<Vec<Row>, NoMemory>
     ensures { IfOk result (λ parts.
-        parts.items ≡ map (restrict (view_names lens.now)) rows.now) }
+        parts.items ≡ map (restrict (view_names lens.now)) rows.items) }
 {
     let cols = names_of(alloc, lens)?;
     parts(alloc, &cols, rows)
 }
 
-// Each row's part in these columns.
-fn parts(alloc: Global, cols: &Names, rows: &[Row]) -> Result<Vec<Row>, NoMemory>
-    ensures { IfOk result (λ parts. parts.items ≡ map (restrict cols.now) rows.now) }
+// Each row's part in these columns. A row is freed as soon as its part is made, and the next part
+// takes its memory.
+fn parts(alloc: Global, cols: &Names, rows: Vec<Row>) -> Result<Vec<Row>, NoMemory>
+    ensures { IfOk result (λ parts. parts.items ≡ map (restrict cols.now) rows.items) }
 {
     let mut parts = Vec::with_capacity(alloc, rows.len())?;
     for row in rows {

@@ -1,15 +1,16 @@
-use Rattle.std.proofs.Common.{◌≡◌, ◌∙◌, ap, map, subst, sym}
+use Rattle.std.proofs.Common.{◌≡◌, ◌∙◌, ap, arith, rules, subst, sym, true}
 use Rattle.std.specs.Prelude.{IfOk}
 use Rattle.std.proofs.lemmas.Result.{IfOk-weaker}
-use Rattle.lens_values.specs.Part.{restrict}
 use Rattle.lens_values.specs.SortedSet as set
-use Rattle.lens_specs.specs.Lens.{base, drop, get, join, view_names}
+use Rattle.lens_specs.specs.Lens.{base, drop, get, join, nodes_of, select, view_names}
+use Rattle.lens_specs.specs.Predicate.{mentioned}
 use Rattle.fd_laws.proofs.Rows.{row_exact, row_total}
 use Rattle.lens_laws.specs.Lenses.{AreOf, IsTyped}
 use Rattle.lens_types.specs.Lenses.{lens_view}
 use Rattle.row_sets.specs.Joins.{pairs_on}
+use Rattle.lens_probe.specs.Reading.{rows_for}
 use Rattle.lens_probe.proofs.Found.{rows_shown}
-use Rattle.lens_probe.proofs.Listed.{dropped_listed, joined_listed, selected_before, selected_listed}
+use Rattle.lens_probe.proofs.Listed.{dropped_listed, joined_listed, mentions_shown, rows_for_shown, selected_before, selected_join, selected_listed, shown_before}
 use Rattle.lens_probe.proofs.reading.+rows.Goals as goal
 
 -- ---- a table
@@ -37,7 +38,7 @@ rows_in-returns-in_ok-rows-in-Drop-clause-value g t c =
     let source = c.in_ok-rows-in-Drop.ensures.value ∙ ap (λ K. get K db) c.deref-in-Drop.ensures in
     IfOk-weaker c.shown_parts.result _ _
     (λ parts made.
-    ap set.from_list (made ∙ ap (map (restrict (view_names L))) c.deref-in-Drop-2.ensures.value)
+    ap set.from_list made
     ∙ dropped_listed L c.in-Drop.of.value c.in-Drop.col c.in-Drop.by c.in-Drop.fill db c.in_ok-rows-in-Drop.rows.items is source)
     c.shown_parts.ensures
 
@@ -62,19 +63,61 @@ rows_in-returns-in_ok-right_rows-in-Join-clause-value g t c =
 
 -- ---- a selection
 
+pub selected_in-selected_in-requires : goal.selected_in-selected_in-requires
+selected_in-selected_in-requires g t c κs within =
+    let P = c.args.pred.now in
+    let L = c.args.of.now in
+    let C = c.deref.result.now in
+    let is : drop c.in-Drop.col c.in-Drop.by c.in-Drop.fill C ≡ L = (λ i. drop c.in-Drop.col c.in-Drop.by c.in-Drop.fill (c.deref.ensures i)) ∙ sym (ap lens_view c.in-Drop.is) ∙ c.lens.ensures.view in
+    let columns = shown_before P L C c.in-Drop.col c.in-Drop.by c.in-Drop.fill is c.requires.columns in
+    (omega (arith, c.decreases, ap nodes_of is), (within, (columns, subst (λ K. AreOf K c.args.tables.now.present.relations) (sym is) c.requires.tables)))
+
 pub selected_in-returns-in_ok-rows-in-Drop-clause-value : goal.selected_in-returns-in_ok-rows-in-Drop-clause-value
 selected_in-returns-in_ok-rows-in-Drop-clause-value g t c =
+    let P = c.args.pred.now in
     let L = c.args.of.now in
     let db = c.args.tables.now.present.relations in
     let is : drop c.in-Drop.col c.in-Drop.by c.in-Drop.fill c.in-Drop.source.value ≡ L = sym (ap lens_view c.in-Drop.is) ∙ c.lens.ensures.view in
-    let source = c.in_ok-rows-in-Drop.ensures.value ∙ ap (λ K. get K db) c.deref.ensures in
+    let source = c.in_ok-rows-in-Drop.ensures.value ∙ ap (λ K. get (select P K) db) c.deref.ensures in
     IfOk-weaker c.shown_parts.result _ _
     (λ parts made.
-    ap set.from_list (made ∙ ap (map (restrict (view_names L))) (c.deref-in-Drop.ensures.value ∙ c.selected.ensures))
-    ∙ selected_before c.args.pred.now L c.in-Drop.source.value c.in-Drop.col c.in-Drop.by c.in-Drop.fill db c.in_ok-rows-in-Drop.rows.items is c.requires.typed source)
+    ap set.from_list made
+    ∙ selected_before P L c.in-Drop.source.value c.in-Drop.col c.in-Drop.by c.in-Drop.fill db c.in_ok-rows-in-Drop.rows.items is c.requires.columns source)
     c.shown_parts.ensures
+
+pub selected_in-returns-in_ok-pairs-in-Join-clause-value : goal.selected_in-returns-in_ok-pairs-in-Join-clause-value
+selected_in-returns-in_ok-pairs-in-Join-clause-value g t c =
+    let P = c.args.pred.now in
+    let L = c.args.of.now in
+    let db = c.args.tables.now.present.relations in
+    let A = c.in-Join.left.value in
+    let B = c.in-Join.right.value in
+    let M = c.in_ok-left_rows-in-Join.left_rows in
+    let N = c.in_ok-right_rows-in-Join.right_rows in
+    let is : join A B ≡ L = sym (ap lens_view c.in-Join.is) ∙ c.lens.ensures.view in
+    let left = c.in_ok-left_rows-in-Join.ensures.value ∙ ap (λ K. rows_for P K db) c.deref-in-Join.ensures in
+    let right = c.in_ok-right_rows-in-Join.ensures.value ∙ ap (λ K. rows_for P K db) c.deref-in-Join-2.ensures in
+    let paired = c.in_ok-pairs-in-Join.ensures ∙ (λ i. pairs_on (set.intersection (view_names (c.deref-in-Join-3.ensures i)) (view_names (c.deref-in-Join-4.ensures i))) M N) in
+    ap set.from_list c.selected.ensures
+    ∙ selected_join P L A B db c.in_ok-pairs-in-Join.pairs.items M N is (subst IsTyped (sym is) c.lens.ensures.typed) (subst (λ K. AreOf K db) (sym is) c.requires.tables) left right paired
 
 pub selected_in-returns-in_ok-rows_in-in-Base-clause-value : goal.selected_in-returns-in_ok-rows_in-in-Base-clause-value
 selected_in-returns-in_ok-rows_in-in-Base-clause-value g t c =
     ap set.from_list c.selected-in-Base.ensures
     ∙ selected_listed c.args.pred.now c.args.of.now c.args.tables.now.present.relations c.in_ok-rows_in-in-Base.field-0.items c.in_ok-rows_in-in-Base.ensures.value
+
+-- ---- a side of a join
+
+pub side_in-selected_in-requires : goal.side_in-selected_in-requires
+side_in-selected_in-requires g t c κs within =
+    let P = c.args.pred.now in
+    let L = c.args.side.now in
+    let all : set.is_subset (mentioned P) (view_names L) ≡ true = search rules in
+    (omega (arith, c.decreases), (within, (mentions_shown P L all, c.requires)))
+
+pub side_in-returns-then-shows_all-clause-value : goal.side_in-returns-then-shows_all-clause-value
+side_in-returns-then-shows_all-clause-value g t c =
+    let P = c.args.pred.now in
+    let L = c.args.side.now in
+    let all : set.is_subset (mentioned P) (view_names L) ≡ true = search rules in
+    IfOk-weaker c.new.result _ _ (λ rows made. made ∙ c.in_ok-selected_in.ensures.value ∙ rows_for_shown P L c.args.tables.now.present.relations all) c.new.ensures

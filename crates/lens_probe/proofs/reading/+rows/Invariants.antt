@@ -11,3 +11,6 @@ decreases-row_set_in g l = 2 * nodes_of l.lens.now + 1
 
 abbrev pub decreases-selected_in : goal.decreases-selected_in
 decreases-selected_in g l = 2 * nodes_of l.of.now + 1
+
+abbrev pub decreases-side_in : goal.decreases-side_in
+decreases-side_in g l = 2 * nodes_of l.side.now + 2
