@@ -22,14 +22,14 @@ fn change(
 }
 
 // What is asked for, in words.
-fn asked(alloc: Global, request: &Request) -> Result<String, Fail> {
+fn asked(alloc: Global, request: Request) -> Result<String, Fail> {
     match request {
         Request::Define { text } => two(alloc, "define", text.as_str()),
         Request::Read { view } => two(alloc, "read", view.as_str()),
         Request::Describe { view } => two(alloc, "type", view.as_str()),
         Request::List => two(alloc, "list", "all"),
         Request::Put { view, rows, on } => {
-            change(alloc, "put", view, [0, rows.as_slice().len()], *on)
+            change(alloc, "put", &view, [0, rows.into_list().len()], on)
         }
         Request::Edit {
             view,
@@ -37,8 +37,8 @@ fn asked(alloc: Global, request: &Request) -> Result<String, Fail> {
             add,
             on,
         } => {
-            let counts = [remove.as_slice().len(), add.as_slice().len()];
-            change(alloc, "edit", view, counts, *on)
+            let counts = [remove.into_list().len(), add.into_list().len()];
+            change(alloc, "edit", &view, counts, on)
         }
         Request::Preview {
             view,
@@ -46,8 +46,8 @@ fn asked(alloc: Global, request: &Request) -> Result<String, Fail> {
             add,
             on,
         } => {
-            let counts = [remove.as_slice().len(), add.as_slice().len()];
-            change(alloc, "preview", view, counts, *on)
+            let counts = [remove.into_list().len(), add.into_list().len()];
+            change(alloc, "preview", &view, counts, on)
         }
     }
 }
@@ -55,7 +55,7 @@ fn asked(alloc: Global, request: &Request) -> Result<String, Fail> {
 // What the line asks for, or why it asks for nothing.
 fn told(alloc: Global, line: &[u8]) -> Result<String, Fail> {
     match read_request(alloc, line) {
-        Ok(request) => asked(alloc, &request),
+        Ok(request) => asked(alloc, request),
         Err(RequestFault::NotJson) => two(alloc, "no", "JSON"),
         Err(RequestFault::BadRequest { member }) => two(alloc, "bad", member.as_str()),
         Err(RequestFault::NoMemory) => two(alloc, "no", "memory"),
