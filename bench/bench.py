@@ -20,8 +20,8 @@ ROUNDS = 8
 COMMITS = 250
 HUGE = 300_000
 LONGEST = 16_777_216
-# The program is started as ./serve starts it, with large pages.
-AS_SERVED = {"GLIBC_TUNABLES": "glibc.malloc.hugetlb=1", **os.environ}
+# The program is started as ./serve starts it.
+AS_SERVED = {"GLIBC_TUNABLES": "glibc.malloc.hugetlb=1:glibc.malloc.tcache_count=1000", **os.environ}
 
 
 TRACKS = "table tracks (album text, date int, rating int, track text)"
@@ -49,6 +49,17 @@ class Server:
                 raise SystemExit("the program ended")
             pieces.append(piece)
         return b"".join(pieces), time.perf_counter() - begin
+
+    def stream(self, lines):
+        """The replies to lines that are sent at once. They have to fit the pipe, as some hundred short ones do."""
+        os.write(self.process.stdin.fileno(), b"".join(lines))
+        replies = b""
+        while replies.count(b"\n") < len(lines):
+            piece = os.read(self.process.stdout.fileno(), 1 << 20)
+            if not piece:
+                raise SystemExit("the program ended")
+            replies += piece
+        return replies.splitlines()
 
     def peak(self):
         """The most memory that the program held so far, in MB."""
@@ -358,10 +369,6 @@ def small(program):
     return [(f"{PUTS:,} puts of one row to a small table", sum(map(len, lines)), f"{PUTS / seconds:,.0f} lines a second", f"{peak:,.0f} MB")]
 
 
-def one_row(number):
-    return f'{{"key":{number},"value":{number}}}'
-
-
 def kept(program, folder):
     """A put of 100,000 rows to a new store, and the opening of that store; ms and MB."""
     path = os.path.join(folder, "large.db")
@@ -382,32 +389,64 @@ def kept(program, folder):
     return table
 
 
+def counted(number):
+    """The edit that adds the row of this number."""
+    return edit("counts", [], [f'{{"key":{number},"value":{number}}}'])
+
+
+def ask_each(server, numbers):
+    """Sends each line when the reply to the one before it is there."""
+    for number in numbers:
+        reply, _ = server.ask(counted(number))
+        must_begin(reply, b'{"changed":[{')
+
+
+def stream(server, numbers):
+    """Sends all lines, and then reads all replies."""
+    for reply in server.stream([counted(number) for number in numbers]):
+        must_begin(reply, b'{"changed":[{')
+
+
+def insert(database, numbers):
+    """The same by SQLite alone."""
+    for number in numbers:
+        database.execute("BEGIN")
+        database.execute("INSERT INTO t_counts (c_key, c_value) VALUES (?, ?)", (number, number))
+        database.execute("COMMIT")
+
+
+def counting(program, folder, name):
+    """A server with a store of this name that has an empty table."""
+    server = Server(program, "--store", os.path.join(folder, name))
+    server.ask(define("table counts (key int, value int)"))
+    return server
+
+
 def committed(program, folder):
     """Changes of one row, each one transaction in a file, in turn with SQLite itself: a write-ahead log, full synchronous writes; a second."""
-    server = Server(program, "--store", os.path.join(folder, "small.db"))
-    server.ask(define("table counts (key int, value int)"))
+    waiting = counting(program, folder, "waiting.db")
+    streaming = counting(program, folder, "streaming.db")
     other = sqlite3.connect(os.path.join(folder, "other.db"), isolation_level=None)
     other.execute("PRAGMA journal_mode=WAL")
     other.execute("PRAGMA synchronous=FULL")
     other.execute("CREATE TABLE t_counts (c_key INTEGER NOT NULL, c_value INTEGER NOT NULL, UNIQUE (c_key, c_value)) STRICT")
-    ours = theirs = 0.0
+    ways = [(ask_each, waiting), (stream, streaming), (insert, other)]
+    seconds = [0.0] * len(ways)
     for first in range(0, ROUNDS * COMMITS, COMMITS):
-        for number in range(first, first + COMMITS):
-            reply, seconds = server.ask(edit("counts", [], [one_row(number)]))
-            must_begin(reply, b'{"changed":[{')
-            ours += seconds
-        begin = time.perf_counter()
-        for number in range(first, first + COMMITS):
-            other.execute("BEGIN")
-            other.execute("INSERT INTO t_counts (c_key, c_value) VALUES (?, ?)", (number, number))
-            other.execute("COMMIT")
-        theirs += time.perf_counter() - begin
-    peak = server.peak()
-    server.end()
+        for place, (change, database) in enumerate(ways):
+            begin = time.perf_counter()
+            change(database, range(first, first + COMMITS))
+            seconds[place] += time.perf_counter() - begin
+    asked, streamed, alone = (f"{ROUNDS * COMMITS / taken:,.0f}" for taken in seconds)
+    size = len(counted(0))
+    table = [
+        (f"edits of one row, each one transaction in a file, sent in a stream; SQLite alone made {alone} a second in the same minute", size, f"{streamed} lines a second", f"{streaming.peak():,.0f} MB"),
+        ("the same, each sent when the reply to the one before it is read", size, f"{asked} lines a second", f"{waiting.peak():,.0f} MB"),
+    ]
+    waiting.end()
+    streaming.end()
     other.close()
-    size = len(edit("counts", [], [one_row(0)]))
-    count = ROUNDS * COMMITS
-    return [(f"edits of one row, each one transaction in a file; SQLite alone made {count / theirs:,.0f} a second in the same minute", size, f"{count / ours:,.0f} lines a second", f"{peak:,.0f} MB")]
+    return table
 
 
 def rehearsed(program):

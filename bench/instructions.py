@@ -9,12 +9,12 @@ more rows, it is one edit of so many.
 Usage: bench/instructions.py [PROGRAM [ROWS..]]    (ROWS: tracks; without these words 1,000, 100,000 and 1,000,000)
 """
 import json
-import os
 import re
 import subprocess
 import sys
 
-TOP = os.path.dirname(os.path.dirname(os.path.abspath(__file__)))
+from bench import AS_SERVED, TOP
+
 DEFINITIONS = [
     "table albums (album text, quantity int) with album -> quantity",
     "table tracks (track text, date int, rating int, album text) with track -> date rating",
@@ -59,7 +59,7 @@ def rated(numbers, rows, do="edit"):
 def instructions(program, begin, lines):
     """The instructions of these lines, after others that are not counted. Each line has to be accepted."""
     words = ["valgrind", "--tool=callgrind", "--instr-atstart=no", "--callgrind-out-file=/dev/null", program]
-    run = subprocess.Popen(words, stdin=subprocess.PIPE, stdout=subprocess.PIPE, stderr=subprocess.PIPE, text=True)
+    run = subprocess.Popen(words, stdin=subprocess.PIPE, stdout=subprocess.PIPE, stderr=subprocess.PIPE, text=True, env=AS_SERVED)
     for line in begin:
         ask(run, line)
     subprocess.run(["callgrind_control", "--instr=on", str(run.pid)], stdout=subprocess.DEVNULL, check=True)

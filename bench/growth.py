@@ -1,0 +1,101 @@
+#!/usr/bin/env python3
+"""Measures how the time of reads and puts of whole views grows with the tables: ten times the rows, from 10,000 and from
+25,000 on. Each line of the table is the median of several runs, each by a program of its own, and the quotient of two.
+
+Usage: bench/growth.py [PROGRAM [RUNS]]    (without the words, the program that ./serve builds, and 6 runs)
+"""
+import os
+import statistics
+import sys
+
+from bench import TOP, TRACKS, defined, edit, must_begin, put, quantity, row, without_date
+
+SIZES = (10_000, 25_000)
+TIMES = 10
+# How many rows one line of the filling adds.
+FILLING = 100_000
+CHANGED = b'{"changed":[{'
+READ = b'{"do":"read","view":"stock"}\n'
+
+
+def fill(server, view, rows):
+    for first in range(0, len(rows), FILLING):
+        reply, _ = server.ask(edit(view, [], rows[first:first + FILLING]))
+        must_begin(reply, CHANGED)
+
+
+def seconds(server, line, start=CHANGED):
+    reply, taken = server.ask(line)
+    must_begin(reply, start)
+    return taken
+
+
+def with_last_changed(rows, old, new):
+    last = rows[-1].replace(old, new, 1)
+    if last == rows[-1]:
+        raise SystemExit("the last row has nothing to change")
+    return rows[:-1] + [last]
+
+
+def drop(program, count):
+    """A put through a drop over a selection that shows so many rows, one of them changed."""
+    rows = [row(number) for number in range(count * 5 // 4)]
+    shown = [without_date(line) for line in rows if '"rating":0' not in line]
+    server = defined(
+        program,
+        TRACKS + " with track -> album date rating",
+        "view undated = drop date determined by (track, 2018) from (select from tracks where rating > 0)",
+    )
+    fill(server, "tracks", rows)
+    taken = seconds(server, put(with_last_changed(shown, '"album":"album', '"album":"other'), "undated"))
+    server.end()
+    return [("put through a drop over a selection", taken)]
+
+
+def join(program, count):
+    """A read of a join of so many tracks with a tenth as many albums, and a put with one row changed."""
+    albums = [f'{{"album":"album{number}","quantity":{quantity(number)}}}' for number in range(count // 10)]
+    tracks = [row(number, 3) for number in range(count)]
+    stock = [
+        without_date(line).replace(',"rating"', f',"quantity":{quantity(number // 10)},"rating"', 1)
+        for number, line in enumerate(tracks)
+        if quantity(number // 10) > 2
+    ]
+    server = defined(
+        program,
+        TRACKS + " with track -> date rating",
+        "table albums (album text, quantity int) with album -> quantity",
+        "view stock = select from (drop date determined by (track, 2018) from (join_dl tracks with albums)) where quantity > 2",
+    )
+    fill(server, "tracks", tracks)
+    fill(server, "albums", albums)
+    read = seconds(server, READ, b'{"ok":true,"rows":[{')
+    changed = seconds(server, put(with_last_changed(stock, '"rating":3', '"rating":9'), "stock"))
+    server.end()
+    return [("read of a selection over a drop over a join", read), ("put of that view", changed)]
+
+
+def medians(program, count, runs):
+    """The median of what each line takes in ms, by its name."""
+    taken = {}
+    for _ in range(runs):
+        for name, time in drop(program, count) + join(program, count):
+            taken.setdefault(name, []).append(time * 1000)
+    return {name: statistics.median(times) for name, times in taken.items()}
+
+
+def main():
+    default = os.path.join(TOP, "crates", "view_program", "out", "view_program")
+    program = sys.argv[1] if len(sys.argv) > 1 else default
+    runs = int(sys.argv[2]) if len(sys.argv) > 2 else 6
+    print("| What, one row changed | Rows | Time | Ten times the rows | Time | Times |")
+    print("|---|---|---|---|---|---|")
+    for count in SIZES:
+        few = medians(program, count, runs)
+        many = medians(program, count * TIMES, runs)
+        for name in few:
+            print(f"| {name} | {count:,} | {few[name]:,.1f} ms | {count * TIMES:,} | {many[name]:,.0f} ms | {many[name] / few[name]:.1f} |", flush=True)
+
+
+if __name__ == "__main__":
+    main()
