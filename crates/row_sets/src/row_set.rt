@@ -174,8 +174,8 @@ fn put_in_order(rows: Vec<Row>) -> Result<Vec<Row>, NoMemory>
     sorted(rows)
 }
 
-// The rows in rising order, each once. Rows that are sent are mostly a few lists that rise, one after
-// another, which a stable sort merges.
+// The rows in rising order, each once. Where they are a few lists that rise, one after another, a
+// stable sort merges these.
 fn sorted(rows: Vec<Row>) -> Result<Vec<Row>, NoMemory>
     ensures order { IfOk result (λ sorted. IsStrictlySortedBy row_cmp sorted.items) }
     ensures members { IfOk result (λ sorted. (row : _)
