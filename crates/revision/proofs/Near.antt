@@ -70,7 +70,7 @@ pub record ChangesAt (T : List Edge) (L : Rows) (m : Row) : Type 0 where
 behind : (e : Edge) (es : List Edge) (L : Rows) (m : Row) → ChangesAt es L m → ChangesAt (e ∷ es) L m
 behind e es L m w = record { edge = w.edge; among = inr w.among; row = w.row; there = w.there; left = w.left; right = w.right }
 
-changes_at : (T : List Edge) (L : Rows) (m : Row) → (revise_row T m L ≡ m → ⊥) → ChangesAt T L m
+pub changes_at : (T : List Edge) (L : Rows) (m : Row) → (revise_row T m L ≡ m → ⊥) → ChangesAt T L m
 unfolding revise_row
 changes_at [] L m apart = absurd (apart refl)
 changes_at (e ∷ es) L m apart =

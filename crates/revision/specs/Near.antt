@@ -1,12 +1,13 @@
 -- The rows near new ones: those that revision by them may change.
-use Rattle.std.specs.Prelude.{◌≡◌, Bool, true, cond, ◌&&◌, List, [], ◌∷◌, ◌++◌}
+use Rattle.std.specs.Prelude.{◌≡◌, Bool, true, false, not, cond, ◌&&◌, List, [], ◌∷◌, ◌++◌, Option, Some, None}
 use Rattle.std.specs.List.{list_any}
 use Rattle.lens_values.specs.SortedSet as set
 use Rattle.lens_values.specs.declared.row.Row.{Row}
 use Rattle.lens_specs.specs.Dependencies.{Edge}
-use Rattle.lens_specs.specs.Relation.{Rows, has}
+use Rattle.lens_specs.specs.Names.{Names}
+use Rattle.lens_specs.specs.Relation.{Rows, first_row, has, those, union}
 use Rattle.lens_specs.specs.Rows.{agree}
-use Rattle.lens_laws.specs.KeyedDeltas.{find_by, is_changed}
+use Rattle.lens_laws.specs.KeyedDeltas.{find_by, found_each, is_changed}
 
 -- whether q agrees with p on both sides of the edge
 abbrev pub is_like : Edge → Row → Row → Bool
@@ -20,6 +21,24 @@ near_along e M p rows = cond (list_any (is_like e p) rows) rows (rows ++ set.ite
 unfoldable pub near_from : List Edge → Rows → Row → List Row → List Row
 near_from [] M p rows = rows
 near_from (e ∷ es) M p rows = near_from es M p (near_along e M p rows)
+
+-- whether there is such a row, and p agrees with it on C
+abbrev pub agrees_with : Names → Row → Option Row → Bool
+agrees_with C p None = false
+agrees_with C p (Some q) = agree C q p
+
+-- whether the first row of N that agrees with p on the left side of the edge agrees with it on the right side too
+abbrev pub is_like_first : Edge → Rows → Row → Bool
+is_like_first e N p = agrees_with e.right p (first_row (agree e.left p) N)
+
+-- the rows of L of which that does not hold
+abbrev pub unlike : Edge → Rows → Rows → Rows
+unlike e N L = those (λ p. not (is_like_first e N p)) L
+
+-- the rows N, and along each edge in turn those of M that agree on its left side with a row of L that is unlike those before
+unfoldable pub near_through : List Edge → Rows → Rows → Rows → Rows
+near_through [] M L N = N
+near_through (e ∷ es) M L N = near_through es M L (union N (found_each e.left M (set.items (unlike e N L))))
 
 -- N are rows of M, among them each that revision by L changes
 pub record HasChanged (T : List Edge) (M L N : Rows) : Type 0 where

@@ -8,6 +8,7 @@ mod pasting;
 pub mod revising;
 pub mod steps;
 pub mod touching;
+mod unlike;
 
 pub use revising::{merge, revise, revise_row};
 pub use steps::{all_along, one_along};

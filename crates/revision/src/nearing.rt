@@ -8,6 +8,7 @@ ghost use Rattle.lens_specs.specs.Names.{Within};
 ghost use Rattle.lens_specs.specs.Rows.{at};
 ghost use Rattle.revision.specs.Near.{HasChanged, is_like, near_along, near_from};
 
+use crate::unlike::unlike_rows;
 use fd_tree::{Edge, Tree};
 use lens_values::{NoMemory, Row};
 use row_sets::RowSet;
@@ -78,7 +79,8 @@ fn near_by_rows<K: Look, L: Ledger>(
     Ok(union)
 }
 
-// The same, edge by edge: rows that have the same on the left side of an edge ask for it once.
+// The same, edge by edge: rows that have the same on the left side of an edge ask for it once, and
+// rows by which it can change nothing do not ask.
 fn near_by_edges<K: Look, L: Ledger>(
     alloc: Global,
     tree: &Tree,
@@ -89,6 +91,7 @@ fn near_by_edges<K: Look, L: Ledger>(
     requires asked { AllEdges (λ e. Contains (K.asked look.now) e.left) tree.now }
     requires columns { AllEdges (λ e.
         Within e.left (names (K.relation look.now).columns)) tree.now }
+    requires meets { MeetsTree (K.relation look.now).rows tree.now }
     requires fit { (row : _) → set.contains plus.now row ≡ true
         → Fits (K.relation look.now).columns row }
     ensures near { IfOk result (λ near.
@@ -101,7 +104,8 @@ fn near_by_edges<K: Look, L: Ledger>(
     tree.lefts_are_full();
     let mut near = RowSet::empty(alloc);
     for edge in tree.edges() {
-        let some = find_each(alloc, &edge.left, plus, look, looked)?;
+        let unlike = unlike_rows(alloc, edge, &near, plus)?;
+        let some = find_each(alloc, &edge.left, &unlike, look, looked)?;
         near = near.union(alloc, &some)?;
     }
     Ok(near)
