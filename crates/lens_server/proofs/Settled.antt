@@ -1,6 +1,7 @@
 -- What becomes of a plan.
 use Rattle.std.proofs.Common.{◌≡◌, ◌∙◌, ◌+◌, ◌≤◌, ℕ, List, ap, sym, subst, refl, arith}
-use Rattle.std.specs.Prelude.{◌≢◌, Option, Some, None, Result, Ok, Err}
+use Rattle.std.specs.Prelude.{◌≢◌, Option, Some, None, Result, Ok, Err, IsErr}
+use Rattle.std.proofs.lemmas.Bool.{true≢false}
 use Rattle.no_memory.specs.declared.NoMemory.{NoMemory}
 use Rattle.io_specs.specs.Faults.{Rose}
 use Rattle.lens_specs.specs.Keeping.{CanChange, CanCommit, Change, Follows, Kept, Stays, Tells, changed}
@@ -60,6 +61,12 @@ pub outcome_no_memory : (answer : Answer × State) (s : State) (count count' : �
     → Stays contents contents' → Outcome answer s s count count' contents contents' (Err e)
 outcome_no_memory answer s count count' contents contents' e v later told stays =
     record { valid = v; later = later; told = told_still contents contents' (kept s) stays told; ok = tt; err = refl }
+
+-- memory ran out before the keeper was called
+pub outcome_given_up : (answer : Answer × State) (s : State) (count : ℕ) (contents : Option Kept) (result : Result (List ℕ) NoMemory) → IsErr result → Valid s → Tells contents (kept s)
+    → Outcome answer s s count count contents contents result
+outcome_given_up answer s count contents (Ok reply) is v told = absurd (true≢false (sym is))
+outcome_given_up answer s count contents (Err e) is v told = record { valid = v; later = omega arith; told = told_untouched contents (kept s) told; ok = tt; err = refl }
 
 -- the change is made
 pub outcome_made : (staged : Staged) (store : Store) (answer : Answer × State) (count count' : ℕ) (contents contents' : Option Kept) (reply : List ℕ) → IsStaged staged store

@@ -1,10 +1,11 @@
 //! A text value.
-ghost use Rattle.std.specs.Prelude.{◌≡◌, List, ℕ, IfOk, Ok, string_bytes};
+ghost use Rattle.std.specs.Prelude.{◌≡◌, IfOk};
 ghost use Rattle.no_memory.specs.Gives.{Gives};
 ghost use Rattle.lens_values.specs.Text.{text_of};
 
+use arrayvec::ArrayString;
 use no_memory::NoMemory;
-use std::alloc::{AllocError, AllocFailed, Global};
+use std::alloc::Global;
 use std::cmp::Ordering;
 use std::marker::Model;
 use std::rc::Rc;
@@ -12,21 +13,74 @@ use std::rc::Rc;
 /// The greatest number of bytes of a text.
 pub const MAX_TEXT: usize = 4096;
 
-/// At most 4,096 bytes of UTF-8, without U+0000. A contract sees its bytes. Copies share them.
+// The greatest number of bytes of a short text.
+const SHORT: usize = 24;
+
+/// At most 4,096 bytes of UTF-8, without U+0000. A contract sees its bytes.
 #[derive(Debug, Drop)]
 pub struct Text {
-    inner: Rc<String>,
+    kept: Kept,
+}
+
+// Most texts are short. They lie where their value lies, so that a comparison goes to no other
+// place in memory. Copies of a long text share its bytes.
+#[derive(Debug)]
+enum Kept {
+    Short(ArrayString<SHORT>),
+    Long(Rc<String>),
 }
 
 impl Model for Text {
-    ghost use Rattle.std.specs.Prelude.{List, ℕ, string_bytes, IsTrue};
+    ghost use Rattle.std.specs.Prelude.{List, ℕ, IsTrue};
     ghost use Rattle.lens_values.specs.Bytes.{is_text};
+    ghost use Rattle.lens_values.specs.Kept.{bytes_of};
 
     ghost Value = { List ℕ };
 
-    ghost view = { λ t. string_bytes t.inner.value };
+    ghost view = { λ t. bytes_of t.kept };
 
-    ghost invariant = { λ t. IsTrue (is_text (string_bytes t.inner.value)) };
+    ghost invariant = { λ t. IsTrue (is_text (bytes_of t.kept)) };
+}
+
+// By hand, so that to let a text go is one call, and no proof above has a case for each kind.
+impl Drop for Kept {
+    fn drop(self) {
+        match self {
+            Kept::Short(_) => (),
+            Kept::Long(long) => drop(long),
+        }
+    }
+}
+
+impl Kept {
+    ghost use Rattle.lens_values.specs.Kept.{bytes_of};
+
+    fn of(alloc: Global, s: &str) -> Result<Kept, NoMemory>
+        ensures { IfOk result (λ kept. bytes_of kept ≡ s.now) }
+    {
+        match ArrayString::from(s) {
+            Ok(short) => Ok(Kept::Short(short)),
+            Err(_) => Ok(Kept::Long(Rc::new(alloc, String::from_str(alloc, s)?)?)),
+        }
+    }
+
+    fn as_str(&self) -> &str
+        ensures { result.now ≡ bytes_of self.now }
+    {
+        match self {
+            Kept::Short(short) => short.as_str(),
+            Kept::Long(long) => long.as_str(),
+        }
+    }
+
+    fn copy(&self) -> Result<Kept, NoMemory>
+        ensures { IfOk result (λ copy. bytes_of copy ≡ bytes_of self.now) }
+    {
+        match self {
+            Kept::Short(short) => Ok(Kept::Short(*short)),
+            Kept::Long(long) => Ok(Kept::Long(long.clone()?)),
+        }
+    }
 }
 
 /// Why bytes are not a text.
@@ -40,24 +94,13 @@ pub enum TextFault {
     NoMemory,
 }
 
-impl From<AllocError> for TextFault {
+impl From<NoMemory> for TextFault {
     ghost use Rattle.std.specs.Prelude.{◌≡◌};
     ghost use Rattle.lens_values.specs.declared.text.TextFault.TheVariants.{NoMemory};
 
     ghost from_gives = { λ _ e. e ≡ NoMemory };
 
-    fn from(_: AllocError) -> TextFault {
-        TextFault::NoMemory
-    }
-}
-
-impl<T: Drop> From<AllocFailed<T>> for TextFault {
-    ghost use Rattle.std.specs.Prelude.{◌≡◌};
-    ghost use Rattle.lens_values.specs.declared.text.TextFault.TheVariants.{NoMemory};
-
-    ghost from_gives = { λ _ e. e ≡ NoMemory };
-
-    fn from(_: AllocFailed<T>) -> TextFault {
+    fn from(_: NoMemory) -> TextFault {
         TextFault::NoMemory
     }
 }
@@ -75,7 +118,7 @@ impl Text {
             return Err(TextFault::HasNul);
         }
         Ok(Text {
-            inner: Rc::new(alloc, String::from_str(alloc, s)?)?,
+            kept: Kept::of(alloc, s)?,
         })
     }
 
@@ -83,7 +126,7 @@ impl Text {
     pub fn as_str(&self) -> &str
         ensures { result.now ≡ self.now }
     {
-        self.inner.as_str()
+        self.kept.as_str()
     }
 
     /// An equal text.
@@ -91,7 +134,7 @@ impl Text {
         ensures { IfOk result (λ copy. copy ≡ self.now) }
     {
         Ok(Text {
-            inner: self.inner.clone()?,
+            kept: self.kept.copy()?,
         })
     }
 }

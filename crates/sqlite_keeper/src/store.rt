@@ -9,12 +9,21 @@ use std::alloc::Global;
 use table_keeper::{Change, Kept};
 
 /// Where definitions and rows are kept.
-#[derive(Drop)]
 pub enum Store<'a> {
     /// In memory.
     Memory(MemoryStore),
     /// In a file.
     File(Database<'a>),
+}
+
+// By hand, so that to let a store go is one call, and no proof above has a case for each kind.
+impl Drop for Store<'_> {
+    fn drop(self) {
+        match self {
+            Store::Memory(memory) => drop(memory),
+            Store::File(database) => drop(database),
+        }
+    }
 }
 
 impl Store<'_> {

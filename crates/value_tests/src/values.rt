@@ -46,6 +46,8 @@ fn text_fault(alloc: Global, text: &str) -> Option<TextFault> {
 fn texts_are_short_and_have_no_nul(rt: HostRuntime) {
     let alloc = rt.alloc();
     assert!(rt; is_text(&rt, alloc, "ab"));
+    assert!(rt; is_text(&rt, alloc, &letters(&rt, alloc, 24)));
+    assert!(rt; is_text(&rt, alloc, &letters(&rt, alloc, 25)));
     assert!(rt; is_text(&rt, alloc, &letters(&rt, alloc, 4096)));
     assert!(rt; text_fault(alloc, &letters(&rt, alloc, 4097)) == Some(TextFault::TooLong));
     assert!(rt; text_fault(alloc, "a\0b") == Some(TextFault::HasNul));
