@@ -1,16 +1,20 @@
 #!/usr/bin/env python3
-"""Measures how the time of reads and puts of whole views grows with the tables: ten times the rows, from 10,000 and from
+"""Measures how the time of reads and puts of whole views grows with the tables: ten times the rows, from 1,000, 10,000 and
 25,000 on. Each line of the table is the median of several runs, each by a program of its own, and the quotient of two.
+Where rustc is installed, one line of each size is of bench/by_hand.rs, as a mark to compare with.
 
 Usage: bench/growth.py [PROGRAM [RUNS]]    (without the words, the program that ./serve builds, and 6 runs)
 """
 import os
+import shutil
 import statistics
+import subprocess
 import sys
+import tempfile
 
 from bench import TOP, TRACKS, defined, edit, must_begin, put, quantity, row, without_date
 
-SIZES = (10_000, 25_000)
+SIZES = (1_000, 10_000, 25_000)
 TIMES = 10
 # How many rows one line of the filling adds.
 FILLING = 100_000
@@ -75,26 +79,48 @@ def join(program, count):
     return [("read of a selection over a drop over a join", read), ("put of that view", changed)]
 
 
-def medians(program, count, runs):
+def once(program, by_hand, count):
+    """What each line takes in seconds, with its name."""
+    lines = drop(program, count) + join(program, count)
+    if by_hand:
+        lines += [(f"{name}, by hand", taken) for name, taken in drop(by_hand, count)]
+    return lines
+
+
+def medians(program, by_hand, count, runs):
     """The median of what each line takes in ms, by its name."""
     taken = {}
     for _ in range(runs):
-        for name, time in drop(program, count) + join(program, count):
+        for name, time in once(program, by_hand, count):
             taken.setdefault(name, []).append(time * 1000)
     return {name: statistics.median(times) for name, times in taken.items()}
+
+
+def built_by_hand(folder):
+    """The program of bench/by_hand.rs, or nothing where there is no rustc."""
+    if not shutil.which("rustc"):
+        return None
+    program = os.path.join(folder, "by_hand")
+    subprocess.run(["rustc", "-O", "-o", program, os.path.join(TOP, "bench", "by_hand.rs")], check=True)
+    return program
+
+
+def measure(program, by_hand, runs):
+    print("| What, one row changed | Rows | Time | Ten times the rows | Time | Times |")
+    print("|---|---|---|---|---|---|")
+    for count in SIZES:
+        few = medians(program, by_hand, count, runs)
+        many = medians(program, by_hand, count * TIMES, runs)
+        for name in few:
+            print(f"| {name} | {count:,} | {few[name]:,.1f} ms | {count * TIMES:,} | {many[name]:,.0f} ms | {many[name] / few[name]:.1f} |", flush=True)
 
 
 def main():
     default = os.path.join(TOP, "crates", "view_program", "out", "view_program")
     program = sys.argv[1] if len(sys.argv) > 1 else default
     runs = int(sys.argv[2]) if len(sys.argv) > 2 else 6
-    print("| What, one row changed | Rows | Time | Ten times the rows | Time | Times |")
-    print("|---|---|---|---|---|---|")
-    for count in SIZES:
-        few = medians(program, count, runs)
-        many = medians(program, count * TIMES, runs)
-        for name in few:
-            print(f"| {name} | {count:,} | {few[name]:,.1f} ms | {count * TIMES:,} | {many[name]:,.0f} ms | {many[name] / few[name]:.1f} |", flush=True)
+    with tempfile.TemporaryDirectory() as folder:
+        measure(program, built_by_hand(folder), runs)
 
 
 if __name__ == "__main__":
