@@ -4,6 +4,7 @@ pub mod Natural
 pub mod Pairs
 pub mod Parts
 pub mod Places
+pub mod Ranks
 pub mod Rising
 pub mod Trees
 pub mod Walks

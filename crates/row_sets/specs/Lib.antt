@@ -1,3 +1,4 @@
 pub mod Codes
 pub mod Joins
 pub mod Members
+pub mod Ranks

@@ -3,6 +3,7 @@
 
 mod joining;
 mod moving;
+mod ranking;
 pub mod relation;
 pub mod row_set;
 pub mod row_tree;

@@ -11,6 +11,7 @@ ghost use Rattle.row_sets.specs.Joins.{pairs_on};
 
 use crate::joining::{indexed, paired};
 use crate::moving::order_nearly;
+use crate::ranking::by_rank;
 use lens_values::{Names, NoMemory, Row, copied, difference, union};
 use std::alloc::Global;
 use std::marker::Model;
@@ -38,14 +39,14 @@ impl Model for RowSet {
 
 impl RowSet {
     /// The set of these rows, which may be in any order and repeat.
-    pub fn new(_alloc: Global, rows: Vec<Row>) -> Result<RowSet, NoMemory>
+    pub fn new(alloc: Global, rows: Vec<Row>) -> Result<RowSet, NoMemory>
         ensures { IfOk result (λ made. made ≡ set.from_list rows.items) }
     {
         if rise(&rows) {
             return Ok(RowSet { rows });
         }
         Ok(RowSet {
-            rows: put_in_order(rows)?,
+            rows: put_in_order(alloc, rows)?,
         })
     }
 
@@ -159,8 +160,9 @@ impl RowSet {
     }
 }
 
-// The rows in rising order, each once. Mostly short moves put them in order.
-fn put_in_order(rows: Vec<Row>) -> Result<Vec<Row>, NoMemory>
+// The rows in rising order, each once. Mostly short moves put them in order, and otherwise mostly
+// their ranks.
+fn put_in_order(alloc: Global, rows: Vec<Row>) -> Result<Vec<Row>, NoMemory>
     ensures order { IfOk result (λ sorted. IsStrictlySortedBy row_cmp sorted.items) }
     ensures members { IfOk result (λ sorted. (row : _)
         → list_any (eq_by_cmp row_cmp row) sorted.items
@@ -171,7 +173,7 @@ fn put_in_order(rows: Vec<Row>) -> Result<Vec<Row>, NoMemory>
     if rise(&rows) {
         return Ok(rows);
     }
-    sorted(rows)
+    sorted(by_rank(alloc, rows)?)
 }
 
 // The rows in rising order, each once. Where they are a few lists that rise, one after another, a

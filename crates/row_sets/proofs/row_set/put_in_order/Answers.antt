@@ -12,6 +12,6 @@ returns-then-rise-clause-members c row =
 pub returns-clause-members : goal.returns-clause-members
 returns-clause-members c =
     IfOk-weaker c.sorted.result _ _ (λ rows members row.
-    members row
+    members row ∙ c.in_ok-by_rank.ensures row
     ∙ moved_alike row_cmp_total c.args.rows.items _ c.order_nearly.new.rows _ c.deref_mut.ensures.value c.order_nearly.ensures.rows (take_at c.order_nearly.new.rows _ c.args.rows.len (c.order_nearly.ensures.len ∙ c.deref_mut.ensures.len)) row)
     c.sorted.ensures.members

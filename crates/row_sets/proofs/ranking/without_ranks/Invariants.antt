@@ -1,0 +1,11 @@
+use Rattle.std.proofs.Common.{◌≡◌, ◌++◌}
+use Rattle.std.specs.Prelude.{map}
+use Rattle.std.specs.Vec.Iter.{into_iter_items}
+use Rattle.row_sets.specs.Ranks.{row_of}
+use Rattle.row_sets.proofs.ranking.without_ranks.Given as goal
+
+abbrev pub invariant-loop-one : goal.invariant-loop-one
+invariant-loop-one l = record {
+  seam : l.fn.ranked.items ≡ l.yielded ++ into_iter_items l.one-iterator;
+  so_far : l.rows.items ≡ map row_of l.yielded;
+}
