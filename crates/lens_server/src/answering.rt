@@ -17,6 +17,7 @@ use crate::plan::Plan;
 use crate::questions::{list_answer, read_answer, type_answer};
 use crate::settling::settle;
 use crate::store::Store;
+use json::Scratch;
 use lens_values::NoMemory;
 use request_text::{Answer, Reply, Request, RequestFault, read_request};
 use std::alloc::Global;
@@ -24,10 +25,12 @@ use std::sync::ledger::Ledger;
 use step_counter::Steps;
 use table_keeper::Keeper;
 
-/// Answers a line that is not too long. An edit and a preview walk no table.
+/// Answers a line that is not too long. An edit and a preview walk no table. The scratch is what
+/// reading the line needs.
 pub fn answer_line<K: Keeper, L: Ledger, M: Ledger>(
     alloc: Global,
     store: &mut Store,
+    scratch: &mut Scratch,
     keeper: &mut K,
     line: &[u8],
     walked: &mut Steps<L>,
@@ -42,7 +45,7 @@ pub fn answer_line<K: Keeper, L: Ledger, M: Ledger>(
     ensures walked { walked.new
         ≤ walked.old + most_walked (request (short line.now)) (state_of store.old) }
 {
-    let plan = plan_line(alloc, store, line, walked, looked)?;
+    let plan = plan_line(alloc, store, scratch, line, walked, looked)?;
     settle(alloc, store, keeper, plan, walked)
 }
 
@@ -50,6 +53,7 @@ pub fn answer_line<K: Keeper, L: Ledger, M: Ledger>(
 fn plan_line<L: Ledger, M: Ledger>(
     alloc: Global,
     store: &mut Store,
+    scratch: &mut Scratch,
     line: &[u8],
     walked: &mut Steps<L>,
     looked: &mut Steps<M>,
@@ -63,7 +67,7 @@ fn plan_line<L: Ledger, M: Ledger>(
     ensures walked { Walks result store.new walked.old walked.new
         (most_walked (request (short line.now)) (state_of store.old)) }
 {
-    match read_request(alloc, line) {
+    match read_request(alloc, line, scratch) {
         Ok(request) => plan_request(alloc, store, request, walked, looked),
         Err(RequestFault::NotJson) => Ok(Plan::unchanged(Answer::NotJson)),
         Err(RequestFault::BadRequest { member }) => {
@@ -77,7 +81,7 @@ fn plan_line<L: Ledger, M: Ledger>(
 fn plan_request<L: Ledger, M: Ledger>(
     alloc: Global,
     store: &mut Store,
-    request: Request,
+    request: Request<'_>,
     walked: &mut Steps<L>,
     looked: &mut Steps<M>,
 ) -> Result<Plan, NoMemory>
@@ -86,9 +90,9 @@ fn plan_request<L: Ledger, M: Ledger>(
     requires room { store.old.version < 2 ^ 64 - 1 }
     ensures same { IsSame store.old store.new }
     ensures plan { IfOk result (λ plan. IsPlan plan
-        (answer_request (Ok (request_view request)) (state_of store.old)) store.new) }
+        (answer_request (Ok (request_view request.entry)) (state_of store.old)) store.new) }
     ensures walked { Walks result store.new walked.old walked.new
-        (most_walked (Ok (request_view request)) (state_of store.old)) }
+        (most_walked (Ok (request_view request.entry)) (state_of store.old)) }
 {
     match request {
         Request::Define { text } => plan_definition(alloc, store, text),

@@ -54,7 +54,7 @@ pub fn asked_by_put<L: Ledger, M: Ledger>(
     alloc: Global,
     store: &Store,
     view: &View<'_>,
-    rows: JsonRows,
+    rows: JsonRows<'_>,
     on: Option<u64>,
     walked: &mut Steps<L>,
     looked: &mut Steps<M>,
@@ -62,7 +62,7 @@ pub fn asked_by_put<L: Ledger, M: Ledger>(
     requires open { IsOpen store.now view.now.lens }
     requires same { view.now.tables ≡ store.now.tables }
     ensures asks { AsksBy view.now.lens (over view.now) result
-        (spec.asked_view (state_of store.now) view.now.lens (spec.whole rows) on) }
+        (spec.asked_view (state_of store.now) view.now.lens (spec.whole rows.entry) on) }
     ensures walked { walked.new ≤ walked.old + rows_under view.now.lens (over view.now) }
 {
     let lens = view.lens();
@@ -95,15 +95,15 @@ pub fn asked_by_edit<M: Ledger>(
     alloc: Global,
     store: &Store,
     view: &View<'_>,
-    remove: JsonRows,
-    add: JsonRows,
+    remove: JsonRows<'_>,
+    add: JsonRows<'_>,
     on: Option<u64>,
     looked: &mut Steps<M>,
 ) -> Result<Delta, Refusal>
     requires open { IsOpen store.now view.now.lens }
     requires same { view.now.tables ≡ store.now.tables }
     ensures asks { AsksBy view.now.lens (over view.now) result (spec.asked_view (state_of store.now)
-        view.now.lens (spec.edited remove add) on) }
+        view.now.lens (spec.edited remove.entry add.entry) on) }
 {
     let lens = view.lens();
     let removed = set_in(alloc, lens, RowList::Remove, remove)?;
@@ -114,8 +114,13 @@ pub fn asked_by_edit<M: Ledger>(
 }
 
 /// The set of the rows that a list says, or its first bad row.
-fn set_in(alloc: Global, lens: &TypedLens, list: RowList, rows: JsonRows) -> Result<RowSet, Refusal>
-    ensures { Asks result (spec.set_in (list_view list) (sort_of lens.now).columns rows) }
+fn set_in(
+    alloc: Global,
+    lens: &TypedLens,
+    list: RowList,
+    rows: JsonRows<'_>,
+) -> Result<RowSet, Refusal>
+    ensures { Asks result (spec.set_in (list_view list) (sort_of lens.now).columns rows.entry) }
 {
     match rows_of(alloc, lens.sort().cols(), rows) {
         Ok(rows) => Ok(rows),

@@ -43,7 +43,7 @@ pub fn plan_put<L: Ledger, M: Ledger>(
     alloc: Global,
     store: &Store,
     view: &Name,
-    rows: JsonRows,
+    rows: JsonRows<'_>,
     on: Option<u64>,
     walked: &mut Steps<L>,
     looked: &mut Steps<M>,
@@ -52,7 +52,7 @@ pub fn plan_put<L: Ledger, M: Ledger>(
     requires keyed { IsKeyed store.now }
     requires room { store.now.version < 2 ^ 64 - 1 }
     ensures plan { IfOk result (λ plan. IsPlan plan
-        (change_answer (spec.whole rows) on view.now (state_of store.now)) store.now) }
+        (change_answer (spec.whole rows.entry) on view.now (state_of store.now)) store.now) }
     ensures walked { walked.new ≤ walked.old + row_count store.now.tables.present.relations }
 {
     match store.catalog.lens(view) {
@@ -70,15 +70,15 @@ pub fn plan_edit<M: Ledger>(
     alloc: Global,
     store: &Store,
     view: &Name,
-    remove: JsonRows,
-    add: JsonRows,
+    remove: JsonRows<'_>,
+    add: JsonRows<'_>,
     on: Option<u64>,
     looked: &mut Steps<M>,
 ) -> Result<Plan, NoMemory>
     requires valid { Valid (state_of store.now) }
     requires keyed { IsKeyed store.now }
     requires room { store.now.version < 2 ^ 64 - 1 }
-    ensures { IfOk result (λ plan. IsPlan plan (change_answer (spec.edited remove add) on
+    ensures { IfOk result (λ plan. IsPlan plan (change_answer (spec.edited remove.entry add.entry) on
         view.now (state_of store.now)) store.now) }
 {
     match store.catalog.lens(view) {
@@ -181,15 +181,15 @@ pub fn preview_answer<M: Ledger>(
     alloc: Global,
     store: &Store,
     view: &Name,
-    remove: JsonRows,
-    add: JsonRows,
+    remove: JsonRows<'_>,
+    add: JsonRows<'_>,
     on: Option<u64>,
     looked: &mut Steps<M>,
 ) -> Result<Answer, NoMemory>
     requires valid { Valid (state_of store.now) }
     requires keyed { IsKeyed store.now }
     ensures { IfOk result (λ answer. answer_view answer ≡ spec.preview_answer
-        (spec.edited remove add) on view.now (state_of store.now)) }
+        (spec.edited remove.entry add.entry) on view.now (state_of store.now)) }
 {
     match store.catalog.lens(view) {
         Some(lens) => {

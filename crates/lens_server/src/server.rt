@@ -21,6 +21,7 @@ use crate::opening::store_of;
 use crate::starting::StartFault;
 use crate::store::Store;
 use io_specs::LONGEST_LINE;
+use json::Scratch;
 use lens_values::{NoMemory, Text};
 use request_text::{Reply, long_reply, memory_reply};
 use std::alloc::Global;
@@ -33,6 +34,8 @@ use table_keeper::{Keeper, Kept};
 #[derive(Drop)]
 pub struct Server {
     store: Store,
+    // What reading a line needs, kept from line to line.
+    scratch: Scratch,
 }
 
 impl Model for Server {
@@ -65,7 +68,10 @@ impl Server {
     {
         let kept = keeper.load(alloc)?;
         let store = store_counted::<Brand>(alloc, kept, Blank::new(1))?;
-        Ok(Server { store })
+        Ok(Server {
+            store,
+            scratch: Scratch::new(alloc),
+        })
     }
 
     /// Answers one line. The reply and the state after it are those of the definition; or memory
@@ -97,6 +103,7 @@ impl Server {
         let outcome = answer_counted::<K, L, Brand>(
             alloc,
             &mut self.store,
+            &mut self.scratch,
             keeper,
             line,
             walked,
@@ -138,6 +145,7 @@ fn store_counted<L: Ledger>(alloc: Global, kept: Kept, blank: Blank) -> Result<S
 fn answer_counted<K: Keeper, L: Ledger, M: Ledger>(
     alloc: Global,
     store: &mut Store,
+    scratch: &mut Scratch,
     keeper: &mut K,
     line: &[u8],
     walked: &mut Steps<L>,
@@ -156,7 +164,7 @@ fn answer_counted<K: Keeper, L: Ledger, M: Ledger>(
         ≤ walked.old + most_walked (request (short line.now)) (state_of store.old) }
 {
     let mut looked = Steps::<M>::new(blank);
-    answer_line(alloc, store, keeper, line, walked, &mut looked)
+    answer_line(alloc, store, scratch, keeper, line, walked, &mut looked)
 }
 
 /// The reply, or that of memory where it ran out.

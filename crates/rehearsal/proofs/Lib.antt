@@ -5,3 +5,4 @@ pub mod Short
 pub mod Texts
 pub mod Last
 pub mod Whole
+pub mod Read

@@ -1,17 +1,13 @@
 -- Members beside columns.
-use Rattle.std.proofs.Common.{◌≡◌, ◌∙◌, List, [], ◌∷◌, length, ap, sym, refl, arith, Bool, true, false, String, Global, string_bytes, string_cmp}
+use Rattle.std.proofs.Common.{◌≡◌, ◌≤◌, ◌∙◌, ℕ, List, [], ◌∷◌, length, ap, sym, refl, arith, Bool, true, false, Bor, Global}
 use Rattle.std.specs.Prelude.{◌||◌, Option, Some, None, option_and_then, Result, Ok, Err, IsOk}
 use Rattle.std.specs.FinMap as finmap
-use Rattle.std.specs.declared.cmp.Ordering.TheVariants.{Less}
 use Rattle.std.specs.Ordering.{eq_by_cmp}
 use Rattle.std.specs.Cmp.Lexicographic.{texts_ties}
 use Rattle.std.specs.List.{AllByRecursion, list_any}
-use Rattle.std.specs.List.Sorted.{IsStrictlySortedBy}
-use Rattle.std.specs.Map.{keys_of}
-use Rattle.serde_json.specs.Data.{Data}
+use Rattle.json.specs.declared.value.Value.{Value as Json}
+use Rattle.serde_json.specs.Data.{Data, Members}
 use Rattle.serde_json.specs.Find.{get_member}
-use Rattle.serde_json.specs.View.{members_view}
-use Rattle.serde_json.specs.declared.value.Value.{Value as Json}
 use Rattle.lens_values.specs.Order.{bytes_cmp}
 use Rattle.lens_values.specs.SortedMap.{keys_rise}
 use Rattle.lens_values.specs.SortedMap as sorted
@@ -20,7 +16,8 @@ use Rattle.lens_values.specs.declared.value.Value.{Value}
 use Rattle.lens_specs.specs.Relation.{Name, Columns}
 use Rattle.server_specs.specs.Request.{first_other, is_key}
 use Rattle.server_specs.specs.Sending.{is_column_of, pairs_in, value_at, value_in, with_pair}
-use Rattle.request_text.proofs.Objects.{names_of, found_name, none_first}
+use Rattle.borrowed_json.specs.Meaning.{members_data}
+use Rattle.request_text.proofs.Objects.{names_of, found_name, none_first, data_rises, data_counted}
 use Rattle.request_text.proofs.Rising.{is_in, AllIn, all_in_self, same_names}
 
 tied_any : (k : Name) (ks : List Name) → list_any (is_key k) ks ≡ list_any (eq_by_cmp bytes_cmp k) ks
@@ -52,28 +49,15 @@ rest_found name None r pairs h e = absurd (cc)
 rest_found name (Some v) (Ok ps) pairs h e = h ps refl
 rest_found name (Some v) (Err wrong) pairs h e = absurd (cc)
 
-columns_found : (columns : List (Name × Kind)) (es : List (String Global × Json)) (pairs : List (Name × Value)) → pairs_in columns (members_view es) ≡ Ok pairs → AllIn (sorted.keys_of columns) (names_of es)
-columns_found [] es pairs e = tt
-columns_found (column ∷ columns) es pairs e = (
-  first_found column.0 (value_at (members_view es) column) (pairs_in columns (members_view es)) pairs (is_in (names_of es) column.0)
-      (λ v. found_there (value_in column.1) (get_member column.0 (members_view es)) v (is_in (names_of es) column.0) (λ d. found_name column.0 es d)) e,
-  rest_found column.0 (value_at (members_view es) column) (pairs_in columns (members_view es)) pairs (λ ps. columns_found columns es ps) e,
+columns_found : (columns : List (Name × Kind)) (ms : Members) (pairs : List (Name × Value)) → pairs_in columns ms ≡ Ok pairs → AllIn (sorted.keys_of columns) (names_of ms)
+columns_found [] ms pairs e = tt
+columns_found (column ∷ columns) ms pairs e = (
+  first_found column.0 (value_at ms column) (pairs_in columns ms) pairs (is_in (names_of ms) column.0)
+      (λ v. found_there (value_in column.1) (get_member column.0 ms) v (is_in (names_of ms) column.0) (λ d. found_name column.0 ms d)) e,
+  rest_found column.0 (value_at ms column) (pairs_in columns ms) pairs (λ ps. columns_found columns ms ps) e,
 )
 
 -- ---- none is strange
-
-above_names : (k : String Global) (es : List (String Global × Json)) → AllByRecursion (λ q. string_cmp k q ≡ Less) (keys_of es) → AllByRecursion (λ q. bytes_cmp (string_bytes k) q ≡ Less) (names_of es)
-above_names k [] h = tt
-above_names k (e ∷ es) h = (h.0, above_names k es h.1)
-
-names_rise : (es : List (String Global × Json)) → IsStrictlySortedBy string_cmp (keys_of es) → IsStrictlySortedBy bytes_cmp (names_of es)
-unfolding IsStrictlySortedBy
-names_rise [] h = tt
-names_rise (e ∷ es) h = (above_names e.0 es h.0, names_rise es h.1)
-
-names_counted : (es : List (String Global × Json)) → length (names_of es) ≡ length es
-names_counted [] = refl
-names_counted (e ∷ es) = omega (arith, names_counted es)
 
 keys_counted : (es : List (Name × Kind)) → length (sorted.keys_of es) ≡ length es
 keys_counted [] = refl
@@ -83,14 +67,15 @@ all_columns : (columns : Columns) (ks names : List Name) → finmap.keys columns
 all_columns columns [] names e h = tt
 all_columns columns (k ∷ ks) names e h = (sym (column_named columns k) ∙ ap (λ ns. is_in ns k) e ∙ h.0, all_columns columns ks names e h.1)
 
--- beside all columns and as many members, no member is strange
-pub none_strange : (columns : Columns) (es : List (String Global × Json)) (pairs : List (Name × Value)) → IsStrictlySortedBy string_cmp (keys_of es)
-    → length es ≡ length (finmap.entries columns) → pairs_in (finmap.entries columns) (members_view es) ≡ Ok pairs → first_other (is_column_of columns) (members_view es) ≡ None
-none_strange columns es pairs up count found =
-    let counted : length (names_of es) ≡ length (finmap.keys columns) = names_counted es ∙ count ∙ sym (keys_counted (finmap.entries columns)) in
-    let same : finmap.keys columns ≡ names_of es =
-    same_names (names_of es) (finmap.keys columns) (keys_rise bytes_cmp columns) (names_rise es up) (columns_found (finmap.entries columns) es pairs found) (omega (arith, counted)) in
-    none_first (is_column_of columns) es (all_columns columns (names_of es) (names_of es) same (all_in_self (names_of es)))
+-- beside all columns, and no more members than they are, no member is strange
+pub none_strange : (columns : Columns) (ms : List (Bor (List ℕ) × Json Global)) (pairs : List (Name × Value))
+    → length ms ≡ length (finmap.entries columns) → pairs_in (finmap.entries columns) (members_data ms) ≡ Ok pairs → first_other (is_column_of columns) (members_data ms) ≡ None
+none_strange columns ms pairs count found =
+    let names = names_of (members_data ms) in
+    let few : length names ≤ length (finmap.keys columns) = omega (arith, data_counted ms, count, keys_counted (finmap.entries columns)) in
+    let same : finmap.keys columns ≡ names =
+    same_names names (finmap.keys columns) (keys_rise bytes_cmp columns) (data_rises ms) (columns_found (finmap.entries columns) (members_data ms) pairs found) few in
+    none_first (is_column_of columns) (members_data ms) (all_columns columns names names same (all_in_self names))
 
 -- what a look among the pairs says of a column
 pub column_told : (columns : Columns) (pairs : List (Name × Kind)) (k s : Name) (r b : Bool) → pairs ≡ finmap.entries columns → s ≡ k → r ≡ list_any (is_key s) (sorted.keys_of pairs) → r ≡ b → is_column_of columns k ≡ b
@@ -98,11 +83,11 @@ column_told columns pairs k s r b are is told same =
     sym (column_named columns k) ∙ (λ i. list_any (is_key (sym is i)) (sorted.keys_of (sym are i))) ∙ sym told ∙ same
 
 -- the same, where the columns are known to be found
-pub none_beside : (columns : Columns) (es : List (String Global × Json)) → IsStrictlySortedBy string_cmp (keys_of es) → length es ≡ length (finmap.entries columns)
-    → IsOk (pairs_in (finmap.entries columns) (members_view es)) → first_other (is_column_of columns) (members_view es) ≡ None
-none_beside columns es up count found =
-    elim (pairs_in (finmap.entries columns) (members_view es)) as (λ r. pairs_in (finmap.entries columns) (members_view es) ≡ r → IsOk r → first_other (is_column_of columns) (members_view es) ≡ None) [
-      | Ok pairs ↦ λ e ok. none_strange columns es pairs up count e
+pub none_beside : (columns : Columns) (ms : List (Bor (List ℕ) × Json Global)) → length ms ≡ length (finmap.entries columns)
+    → IsOk (pairs_in (finmap.entries columns) (members_data ms)) → first_other (is_column_of columns) (members_data ms) ≡ None
+none_beside columns ms count found =
+    elim (pairs_in (finmap.entries columns) (members_data ms)) as (λ r. pairs_in (finmap.entries columns) (members_data ms) ≡ r → IsOk r → first_other (is_column_of columns) (members_data ms) ≡ None) [
+      | Ok pairs ↦ λ e ok. none_strange columns ms pairs count e
       | Err wrong ↦ λ e ok.
           let no : false ≡ true = ok in
           cc

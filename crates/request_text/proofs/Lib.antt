@@ -4,7 +4,7 @@ pub mod FirstWrong
 pub mod Lines
 pub mod Members
 pub mod Objects
-pub mod Read
+pub mod Others
 pub mod Rising
 pub mod Said
 pub mod Sending

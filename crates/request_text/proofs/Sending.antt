@@ -1,10 +1,10 @@
 -- Elements that are read one after another, until one is not right.
-use Rattle.std.proofs.Common.{◌≡◌, ◌∙◌, ◌<◌, ◌+◌, ℕ, zero, suc, List, [], ◌∷◌, ◌++◌, take, length, get_or, ap, sym, refl, arith}
+use Rattle.std.proofs.Common.{◌≡◌, ◌∙◌, ◌<◌, ◌+◌, ℕ, zero, suc, List, [], ◌∷◌, ◌++◌, take, length, get_or, ap, sym, refl, arith, Global}
 use Rattle.std.specs.Prelude.{Option, Some, None, Result, Ok, Err}
 use Rattle.std.proofs.lemmas.List.{take_more}
 use Rattle.serde_json.specs.Data.{Members}
-use Rattle.serde_json.specs.View.{view, items_view}
-use Rattle.serde_json.specs.declared.value.Value.{Value as Json}
+use Rattle.borrowed_json.specs.Meaning.{value_data, items_data}
+use Rattle.json.specs.declared.value.Value.{Value as JsonOver}
 use Rattle.lens_values.specs.SortedMap.{keys_of}
 use Rattle.lens_values.specs.declared.value.Kind.{Kind}
 use Rattle.lens_values.specs.declared.value.Value.{Value}
@@ -62,6 +62,9 @@ pairs_wrong ms (c ∷ columns) (suc i) column h e is pairs so_far =
 abbrev Sent : Type 0
 Sent = Result (List Row) BadRow
 
+abbrev Json : Type 0
+Json = JsonOver Global
+
 row_more : (first : Result Row (List ℕ)) (others more : Sent) (row : Row)
     → ((rs : List Row) → others ≡ Ok rs → more ≡ Ok (rs ++ row ∷ [])) → (all : List Row) → with_row first others ≡ Ok all → with_row first more ≡ Ok (all ++ row ∷ [])
 row_more (Err name) others more row h all e = cc
@@ -70,13 +73,13 @@ row_more (Ok r) (Ok rs) more row h all e =
     let same : all ≡ r ∷ rs = cc in
     ap (with_row (Ok r)) (h rs refl) ∙ ap (λ qs. Ok (qs ++ row ∷ [])) (sym same)
 
-pub rows_push : (columns : Columns) (xs : List Json) (x : Json) (row : Row) → row_in columns (view x) ≡ Ok row
-    → (rows : List Row) → rows_in columns (items_view xs) ≡ Ok rows → rows_in columns (items_view (xs ++ x ∷ [])) ≡ Ok (rows ++ row ∷ [])
+pub rows_push : (columns : Columns) (xs : List Json) (x : Json) (row : Row) → row_in columns (value_data x) ≡ Ok row
+    → (rows : List Row) → rows_in columns (items_data xs) ≡ Ok rows → rows_in columns (items_data (xs ++ x ∷ [])) ≡ Ok (rows ++ row ∷ [])
 rows_push columns [] x row is rows e =
     let same : rows ≡ [] = cc in
     ap (λ r. with_row r (Ok [])) is ∙ ap (λ rs. Ok (rs ++ row ∷ [])) (sym same)
 rows_push columns (y ∷ xs) x row is rows e =
-    row_more (row_in columns (view y)) (rows_in columns (items_view xs)) (rows_in columns (items_view (xs ++ x ∷ []))) row (rows_push columns xs x row is) rows e
+    row_more (row_in columns (value_data y)) (rows_in columns (items_data xs)) (rows_in columns (items_data (xs ++ x ∷ []))) row (rows_push columns xs x row is) rows e
 
 row_bad : (first : Result Row (List ℕ)) (others whole : Sent) (name : List ℕ) → ((rs : List Row) → others ≡ Ok rs → whole ≡ Err (length rs, name))
     → (all : List Row) → with_row first others ≡ Ok all → with_row first whole ≡ Err (length all, name)
@@ -87,13 +90,13 @@ row_bad (Ok r) (Ok rs) whole name h all e =
     ap (with_row (Ok r)) (h rs refl) ∙ ap (λ (l : List Row). Err (length l, name)) (sym same)
 
 -- the first element that is no row is the bad one, and there are as many before it as rows
-pub rows_bad : (columns : Columns) (xs : List Json) (x : Json) (ys : List Json) (name : List ℕ) → row_in columns (view x) ≡ Err name
-    → (rows : List Row) → rows_in columns (items_view xs) ≡ Ok rows → rows_in columns (items_view (xs ++ x ∷ ys)) ≡ Err (length rows, name)
+pub rows_bad : (columns : Columns) (xs : List Json) (x : Json) (ys : List Json) (name : List ℕ) → row_in columns (value_data x) ≡ Err name
+    → (rows : List Row) → rows_in columns (items_data xs) ≡ Ok rows → rows_in columns (items_data (xs ++ x ∷ ys)) ≡ Err (length rows, name)
 rows_bad columns [] x ys name is rows so_far =
     let same : rows ≡ [] = cc in
-    ap (λ r. with_row r (rows_in columns (items_view ys))) is ∙ ap (λ (l : List Row). Err (length l, name)) (sym same)
+    ap (λ r. with_row r (rows_in columns (items_data ys))) is ∙ ap (λ (l : List Row). Err (length l, name)) (sym same)
 rows_bad columns (y ∷ xs) x ys name is rows so_far =
-    row_bad (row_in columns (view y)) (rows_in columns (items_view xs)) (rows_in columns (items_view (xs ++ x ∷ ys))) name (rows_bad columns xs x ys name is) rows so_far
+    row_bad (row_in columns (value_data y)) (rows_in columns (items_data xs)) (rows_in columns (items_data (xs ++ x ∷ ys))) name (rows_bad columns xs x ys name is) rows so_far
 
 -- ---- the names
 

@@ -1,8 +1,8 @@
 //! Changes of a view's rows: the members of their requests, and the line of what changed.
 ghost use Rattle.std.specs.Prelude.{◌≡◌, IfOk, map, option_map};
-ghost use Rattle.serde_json.specs.View.{members_view};
 ghost use Rattle.server_specs.specs.Answer as spec;
 ghost use Rattle.signed_delta.specs.Tables.{table_delta};
+ghost use Rattle.borrowed_json.specs.Meaning.{members_data};
 ghost use Rattle.request_text.specs.Requests.{both_in, edit_in, preview_in, put_in, request_view};
 
 use crate::fields::{ADD, DO, Field, ON, REMOVE, ROWS, VIEW};
@@ -11,8 +11,8 @@ use crate::printing::{begun, ended, print_changes, print_flag, print_number};
 use crate::reply::Reply;
 use crate::request::Request;
 use crate::request_members::{on_in, take_rows, view_in};
+use borrowed_json::Entry;
 use lens_values::NoMemory;
-use serde_json::{Map, Value as Json};
 use signed_delta::TableDelta;
 use std::alloc::Global;
 
@@ -23,8 +23,8 @@ pub(crate) const TO_PUT: [Field; 4] = [DO, ON, ROWS, VIEW];
 pub(crate) const TO_EDIT: [Field; 5] = [ADD, DO, ON, REMOVE, VIEW];
 
 /// A put, if its view and its rows are there.
-pub(crate) fn put_in(mut members: Map<String, Json>) -> Option<Request>
-    ensures { option_map request_view result ≡ put_in (members_view members.entries) }
+pub(crate) fn put_in<'a>(mut members: Vec<Entry<'a>>) -> Option<Request<'a>>
+    ensures { option_map request_view result ≡ put_in (members_data members.entry.items) }
 {
     let view = view_in(&members)?;
     let on = on_in(&members);
@@ -33,8 +33,8 @@ pub(crate) fn put_in(mut members: Map<String, Json>) -> Option<Request>
 }
 
 /// An edit, if its view and both lists of rows are there.
-pub(crate) fn edit_in(members: Map<String, Json>) -> Option<Request>
-    ensures { option_map request_view result ≡ edit_in (members_view members.entries) }
+pub(crate) fn edit_in<'a>(members: Vec<Entry<'a>>) -> Option<Request<'a>>
+    ensures { option_map request_view result ≡ edit_in (members_data members.entry.items) }
 {
     let view = view_in(&members)?;
     let on = on_in(&members);
@@ -48,8 +48,8 @@ pub(crate) fn edit_in(members: Map<String, Json>) -> Option<Request>
 }
 
 /// The preview of an edit, if its view and both lists of rows are there.
-pub(crate) fn preview_in(members: Map<String, Json>) -> Option<Request>
-    ensures { option_map request_view result ≡ preview_in (members_view members.entries) }
+pub(crate) fn preview_in<'a>(members: Vec<Entry<'a>>) -> Option<Request<'a>>
+    ensures { option_map request_view result ≡ preview_in (members_data members.entry.items) }
 {
     let view = view_in(&members)?;
     let on = on_in(&members);
@@ -63,8 +63,8 @@ pub(crate) fn preview_in(members: Map<String, Json>) -> Option<Request>
 }
 
 // The rows to remove and the rows to add.
-fn both_in(mut members: Map<String, Json>) -> Option<(JsonRows, JsonRows)>
-    ensures { result ≡ both_in (members_view members.entries) }
+fn both_in<'a>(mut members: Vec<Entry<'a>>) -> Option<(JsonRows<'a>, JsonRows<'a>)>
+    ensures { result ≡ both_in (members_data members.entry.items) }
 {
     let remove = take_rows(&mut members, "remove")?;
     let add = take_rows(&mut members, "add")?;

@@ -1,15 +1,16 @@
 //! The kinds of requests, and which member of one is wrong.
 ghost use Rattle.std.specs.Prelude.{◌≡◌, map, not, option_map};
-ghost use Rattle.serde_json.specs.Data.{Members};
-ghost use Rattle.serde_json.specs.View.{view, members_view};
+ghost use Rattle.borrowed_json.specs.Meaning.{value_data, members_data};
 ghost use Rattle.server_specs.specs.Request as spec;
 ghost use Rattle.request_text.specs.RequestFields.{kind_view, shape_view, fields_of, field_view};
 
 use crate::changes::{TO_EDIT, TO_PUT};
 use crate::definitions::TO_DEFINE;
-use crate::json_values::{is_text, member, name_member};
+use crate::member::lesser;
+use crate::member_values::{is_text, name_member};
 use crate::questions::{TO_LIST, TO_SHOW};
-use serde_json::{Map, Value as Json};
+use borrowed_json::{Entry, as_str, as_u64, member};
+use json::Value as Json;
 
 /// The kind of a request.
 #[derive(Clone, Copy, Debug, Drop)]
@@ -114,29 +115,17 @@ impl RequestKind {
 }
 
 /// The least member that is missing, unknown or of the wrong shape.
-pub(crate) fn least_wrong(kind: RequestKind, members: &Map<String, Json>) -> Option<&str>
+pub(crate) fn least_wrong<'a>(kind: RequestKind, members: &[Entry<'a>]) -> Option<&'a str>
     ensures { option_map (λ name. name.now) result
-        ≡ spec.least_wrong (kind_view kind) (members_view members.now.entries) }
+        ≡ spec.least_wrong (kind_view kind) (members_data members.now) }
 {
     let fields = kind.fields();
     lesser(first_wrong(fields, members), first_unknown(fields, members))
 }
 
-fn lesser<'a>(name: Option<&'a str>, other: Option<&'a str>) -> Option<&'a str>
-    ensures { option_map (λ text. text.now) result
-        ≡ spec.lesser (option_map (λ text. text.now) name.entry)
-        (option_map (λ text. text.now) other.entry) }
-{
-    match (name, other) {
-        (Some(name), Some(other)) if other < name => Some(other),
-        (Some(name), _) => Some(name),
-        (None, other) => other,
-    }
-}
-
-fn first_wrong(fields: &[Field], members: &Map<String, Json>) -> Option<&'static str>
+fn first_wrong(fields: &[Field], members: &[Entry<'_>]) -> Option<&'static str>
     ensures { option_map (λ name. name.now) result
-        ≡ spec.first_wrong (map field_view fields.now) (members_view members.now.entries) }
+        ≡ spec.first_wrong (map field_view fields.now) (members_data members.now) }
 {
     for member in fields {
         if is_wrong(members, member) {
@@ -146,8 +135,8 @@ fn first_wrong(fields: &[Field], members: &Map<String, Json>) -> Option<&'static
     None
 }
 
-fn is_wrong(members: &Map<String, Json>, field: &Field) -> bool
-    ensures { result ≡ spec.is_wrong (members_view members.now.entries) (field_view field.now) }
+fn is_wrong(members: &[Entry<'_>], field: &Field) -> bool
+    ensures { result ≡ spec.is_wrong (members_data members.now) (field_view field.now) }
 {
     match member(members, field.name) {
         Some(json) => !has_shape(field.shape, json),
@@ -155,29 +144,30 @@ fn is_wrong(members: &Map<String, Json>, field: &Field) -> bool
     }
 }
 
-fn has_shape(shape: Shape, json: &Json) -> bool
-    ensures { result ≡ spec.has_shape (shape_view shape) (view json.now) }
+fn has_shape(shape: Shape, json: &Json<'_>) -> bool
+    ensures { result ≡ spec.has_shape (shape_view shape) (value_data json.now) }
 {
     match shape {
-        Shape::Word => json.is_string(),
+        Shape::Word => as_str(json).is_some(),
         Shape::Text => is_text(json),
         Shape::Name => name_member(json).is_some(),
-        Shape::Rows => json.is_array(),
-        Shape::Version => json.as_u64().is_some(),
+        Shape::Rows => matches!(json, Json::Array(_)),
+        Shape::Version => as_u64(json).is_some(),
     }
 }
 
-fn first_unknown<'a>(fields: &[Field], members: &'a Map<String, Json>) -> Option<&'a str>
+fn first_unknown<'a>(fields: &[Field], members: &[Entry<'a>]) -> Option<&'a str>
     ensures { option_map (λ name. name.now) result
         ≡ spec.first_other (spec.is_wanted (map field_view fields.now))
-        (members_view members.now.entries) }
+        (members_data members.now) }
 {
-    for name in members.keys() {
-        if !is_wanted(fields, name.as_str()) {
-            return Some(name.as_str());
+    let mut first = None;
+    for member in members {
+        if !is_wanted(fields, member.0) {
+            first = lesser(Some(member.0), first);
         }
     }
-    None
+    first
 }
 
 fn is_wanted(fields: &[Field], name: &str) -> bool

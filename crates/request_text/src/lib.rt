@@ -10,6 +10,7 @@ mod fields;
 pub mod json_values;
 pub mod lists;
 pub mod member;
+mod member_values;
 mod printing;
 mod questions;
 pub mod reply;

@@ -1,11 +1,11 @@
 //! Lists that requests and answers hold, each seen by contracts as the list of its members.
 ghost use Rattle.std.specs.Prelude.{◌≡◌, map};
 ghost use Rattle.signed_delta.specs.Tables.{table_delta};
-ghost use Rattle.serde_json.specs.View.{items_view};
+ghost use Rattle.borrowed_json.specs.Meaning.{items_data};
 
 use fd_tree::Edge;
+use json::Value as Json;
 use lens_values::Text;
-use serde_json::Value as Json;
 use signed_delta::TableDelta;
 use std::marker::Model;
 
@@ -87,35 +87,36 @@ impl Edges {
     }
 }
 
-/// The elements of a request's list, as they were sent. A contract sees them as JSON items.
+/// The elements of a request's list, as they were sent. They borrow the texts of its line. A
+/// contract sees them as JSON items.
 #[derive(Debug, Drop)]
-pub struct JsonRows {
-    list: Vec<Json>,
+pub struct JsonRows<'a> {
+    list: Vec<Json<'a>>,
 }
 
-impl Model for JsonRows {
+impl<'a> Model for JsonRows<'a> {
     ghost use Rattle.serde_json.specs.Data.{Items};
-    ghost use Rattle.serde_json.specs.View.{items_view};
+    ghost use Rattle.borrowed_json.specs.Meaning.{items_data};
     ghost use Rattle.request_text.specs.ItemsCode.{coded_items};
 
     ghost Value = { Items };
 
     ghost coded = { coded_items };
 
-    ghost view = { λ r. items_view r.list.items };
+    ghost view = { λ r. items_data r.list.items };
 }
 
-impl JsonRows {
+impl<'a> JsonRows<'a> {
     /// These elements.
-    pub fn new(list: Vec<Json>) -> JsonRows
-        ensures { result ≡ items_view list.items }
+    pub fn new(list: Vec<Json<'a>>) -> JsonRows<'a>
+        ensures { result ≡ items_data list.entry.items }
     {
         JsonRows { list }
     }
 
     /// The elements in the order in which they were sent.
-    pub fn into_list(self) -> Vec<Json>
-        ensures { items_view result.items ≡ self }
+    pub fn into_list(self) -> Vec<Json<'a>>
+        ensures { items_data result.items ≡ self.entry }
     {
         self.list
     }

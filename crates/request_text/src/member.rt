@@ -1,6 +1,6 @@
 //! Names of members that are wrong.
 ghost use Rattle.std.specs.Prelude.{◌≡◌, IfOk, string_bytes, option_map};
-ghost use Rattle.server_specs.specs.Request.{least_of};
+ghost use Rattle.server_specs.specs.Request.{least_of, lesser as lesser_of};
 ghost use Rattle.request_text.specs.Blames.{Blames};
 
 use lens_values::NoMemory;
@@ -103,5 +103,18 @@ impl MemberFault {
             Some(name) if name < member.as_str() => MemberFault::wrong(alloc, name),
             _ => MemberFault::Wrong { member },
         }
+    }
+}
+
+/// The lesser of two names, where both are there.
+pub(crate) fn lesser<'a>(name: Option<&'a str>, other: Option<&'a str>) -> Option<&'a str>
+    ensures { option_map (λ text. text.now) result
+        ≡ lesser_of (option_map (λ text. text.now) name.entry)
+        (option_map (λ text. text.now) other.entry) }
+{
+    match (name, other) {
+        (Some(name), Some(other)) if other < name => Some(other),
+        (Some(name), _) => Some(name),
+        (None, other) => other,
     }
 }

@@ -1,9 +1,9 @@
 //! Questions: the members of requests that change nothing, and the lines of what was asked for.
 ghost use Rattle.std.specs.Prelude.{◌≡◌, IfOk, option_map};
-ghost use Rattle.serde_json.specs.View.{members_view};
 ghost use Rattle.server_specs.specs.Answer as spec;
 ghost use Rattle.server_specs.specs.Request.{to_describe, to_read};
 ghost use Rattle.lens_pred.specs.View.{predicate_view};
+ghost use Rattle.borrowed_json.specs.Meaning.{members_data};
 ghost use Rattle.request_text.specs.Requests.{request_view, said_in};
 
 use crate::describing::{print_columns, print_conjuncts, print_edges, print_texts};
@@ -12,11 +12,11 @@ use crate::printing::{begun, ended, print_flag, print_names, print_number, print
 use crate::reply::Reply;
 use crate::request::Request;
 use crate::request_members::view_in;
+use borrowed_json::Entry;
 use fd_tree::Edge;
 use lens_pred::Formula;
 use lens_values::{Columns, Names, NoMemory, Text};
 use row_sets::RowSet;
-use serde_json::{Map, Value as Json};
 use std::alloc::Global;
 
 /// The members of a question about one view, in byte order of their names.
@@ -26,18 +26,18 @@ pub(crate) const TO_SHOW: [Field; 2] = [DO, VIEW];
 pub(crate) const TO_LIST: [Field; 1] = [DO];
 
 /// A request to read, if its view is there.
-pub(crate) fn read_in(members: &Map<String, Json>) -> Option<Request>
+pub(crate) fn read_in<'a>(members: &[Entry<'a>]) -> Option<Request<'a>>
     ensures { option_map request_view result
-        ≡ said_in to_read (members_view members.now.entries) }
+        ≡ said_in to_read (members_data members.now) }
 {
     let view = view_in(members)?;
     Some(Request::Read { view })
 }
 
 /// A request to describe, if its view is there.
-pub(crate) fn describe_in(members: &Map<String, Json>) -> Option<Request>
+pub(crate) fn describe_in<'a>(members: &[Entry<'a>]) -> Option<Request<'a>>
     ensures { option_map request_view result
-        ≡ said_in to_describe (members_view members.now.entries) }
+        ≡ said_in to_describe (members_data members.now) }
 {
     let view = view_in(members)?;
     Some(Request::Describe { view })

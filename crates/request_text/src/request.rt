@@ -1,6 +1,6 @@
 //! Requests, and how a line is read as one.
 ghost use Rattle.std.specs.Prelude.{◌≡◌, Err, None, IfOk, option_map};
-ghost use Rattle.serde_json.specs.View.{view, members_view};
+ghost use Rattle.borrowed_json.specs.Meaning.{value_data, members_data};
 ghost use Rattle.io_specs.specs.Lines as lines;
 ghost use Rattle.server_specs.specs.Answer.{Answer as AnswerOf, bad_request};
 ghost use Rattle.server_specs.specs.Request as spec;
@@ -10,17 +10,17 @@ ghost use Rattle.request_text.specs.RequestFields.{kind_view};
 use crate::changes::{edit_in, preview_in, put_in};
 use crate::definitions::define_in;
 use crate::fields::{RequestKind, least_wrong};
-use crate::json_values::{json_in, member};
 use crate::lists::JsonRows;
 use crate::member::Member;
 use crate::questions::{describe_in, read_in};
+use borrowed_json::{Entry, as_str, member, read_line};
+use json::{Scratch, Value as Json};
 use lens_values::{Name, NoMemory, Text};
-use serde_json::{Map, Value as Json};
 use std::alloc::{AllocError, AllocFailed, Global};
 
-/// One of the seven requests.
+/// One of the seven requests. Its rows borrow the texts of its line.
 #[derive(Debug, Drop)]
-pub enum Request {
+pub enum Request<'a> {
     /// To make the table or the view that the text defines.
     Define {
         text: Text,
@@ -32,21 +32,21 @@ pub enum Request {
     /// To make these rows the rows of a view. The change may rest on a version.
     Put {
         view: Name,
-        rows: JsonRows,
+        rows: JsonRows<'a>,
         on: Option<u64>,
     },
     /// To remove rows of a view and to add others. The change may rest on a version.
     Edit {
         view: Name,
-        remove: JsonRows,
-        add: JsonRows,
+        remove: JsonRows<'a>,
+        add: JsonRows<'a>,
         on: Option<u64>,
     },
     /// To show what an edit would change.
     Preview {
         view: Name,
-        remove: JsonRows,
-        add: JsonRows,
+        remove: JsonRows<'a>,
+        add: JsonRows<'a>,
         on: Option<u64>,
     },
     /// To show the columns of a view and what holds of its rows.
@@ -115,18 +115,22 @@ impl RequestFault {
     }
 }
 
-/// What a line asks for.
-pub fn read_request(alloc: Global, line: &[u8]) -> Result<Request, RequestFault>
+/// What a line asks for. The scratch holds texts that are sent with escapes.
+pub fn read_request<'a>(
+    alloc: Global,
+    line: &'a [u8],
+    scratch: &'a mut Scratch,
+) -> Result<Request<'a>, RequestFault>
     ensures { Reads result (spec.request (lines.line line.now)) }
 {
-    match json_in(alloc, line)? {
+    match read_line(alloc, line, scratch)? {
         Some(json) => request_of(alloc, json),
         None => Err(RequestFault::NotJson),
     }
 }
 
-fn request_of(alloc: Global, json: Json) -> Result<Request, RequestFault>
-    ensures { Reads result (spec.request_of (view json)) }
+fn request_of<'a>(alloc: Global, json: Json<'a>) -> Result<Request<'a>, RequestFault>
+    ensures { Reads result (spec.request_of (value_data json.entry)) }
 {
     match json {
         Json::Object(members) => request_in(alloc, members),
@@ -134,10 +138,10 @@ fn request_of(alloc: Global, json: Json) -> Result<Request, RequestFault>
     }
 }
 
-fn request_in(alloc: Global, members: Map<String, Json>) -> Result<Request, RequestFault>
+fn request_in<'a>(alloc: Global, members: Vec<Entry<'a>>) -> Result<Request<'a>, RequestFault>
     ensures { Reads result
-        (spec.request_in (spec.asked_in (members_view members.entries))
-        (members_view members.entries)) }
+        (spec.request_in (spec.asked_in (members_data members.entry.items))
+        (members_data members.entry.items)) }
 {
     match kind_in(&members) {
         Some(kind) => request_for(alloc, kind, members),
@@ -145,20 +149,20 @@ fn request_in(alloc: Global, members: Map<String, Json>) -> Result<Request, Requ
     }
 }
 
-fn kind_in(members: &Map<String, Json>) -> Option<RequestKind>
-    ensures { option_map kind_view result ≡ spec.asked_in (members_view members.now.entries) }
+fn kind_in(members: &[Entry<'_>]) -> Option<RequestKind>
+    ensures { option_map kind_view result ≡ spec.asked_in (members_data members.now) }
 {
-    RequestKind::by_word(member(members, "do")?.as_str()?)
+    RequestKind::by_word(as_str(member(members, "do")?)?)
 }
 
-fn request_for(
+fn request_for<'a>(
     alloc: Global,
     kind: RequestKind,
-    members: Map<String, Json>,
-) -> Result<Request, RequestFault>
+    members: Vec<Entry<'a>>,
+) -> Result<Request<'a>, RequestFault>
     ensures { Reads result
-        (spec.unless_wrong (spec.least_wrong (kind_view kind) (members_view members.entries))
-        (kind_view kind) (members_view members.entries)) }
+        (spec.unless_wrong (spec.least_wrong (kind_view kind) (members_data members.entry.items))
+        (kind_view kind) (members_data members.entry.items)) }
 {
     match least_wrong(kind, &members) {
         Some(name) => Err(RequestFault::bad_request(alloc, name)),
@@ -167,14 +171,14 @@ fn request_for(
 }
 
 // Makes the request, where no member is wrong.
-fn right_request(
+fn right_request<'a>(
     alloc: Global,
     kind: RequestKind,
-    members: Map<String, Json>,
-) -> Result<Request, NoMemory>
-    requires { spec.least_wrong (kind_view kind) (members_view members.entries) ≡ None }
+    members: Vec<Entry<'a>>,
+) -> Result<Request<'a>, NoMemory>
+    requires { spec.least_wrong (kind_view kind) (members_data members.items) ≡ None }
     ensures { IfOk result (λ request.
-        request_view request ≡ spec.said (kind_view kind) (members_view members.entries)) }
+        request_view request ≡ spec.said (kind_view kind) (members_data members.entry.items)) }
 {
     match said(alloc, kind, members)? {
         Some(request) => Ok(request),
@@ -183,13 +187,13 @@ fn right_request(
 }
 
 // Makes the request, if its members are there.
-fn said(
+fn said<'a>(
     alloc: Global,
     kind: RequestKind,
-    members: Map<String, Json>,
-) -> Result<Option<Request>, NoMemory>
+    members: Vec<Entry<'a>>,
+) -> Result<Option<Request<'a>>, NoMemory>
     ensures { IfOk result (λ found.
-        option_map request_view found ≡ said_in (kind_view kind) (members_view members.entries)) }
+        option_map request_view found ≡ said_in (kind_view kind) (members_data members.entry.items)) }
 {
     match kind {
         RequestKind::Define => define_in(alloc, &members),

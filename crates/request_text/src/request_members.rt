@@ -1,54 +1,43 @@
 //! Members that several requests have.
-ghost use Rattle.std.specs.Prelude.{◌≡◌, ℕ, List, false, option_map};
+ghost use Rattle.std.specs.Prelude.{◌≡◌, ℕ, List, option_map};
 ghost use Rattle.serde_json.specs.Find.{as_array, get_member};
-ghost use Rattle.serde_json.specs.View.{view, items_view, members_view};
-ghost use Rattle.server_specs.specs.Request as spec;
+ghost use Rattle.borrowed_json.specs.Meaning.{value_data, items_data, members_data};
 ghost use Rattle.request_text.specs.Requests.{on_in, rows_in, view_in};
 
-use crate::json_values::{member, name_member};
 use crate::lists::JsonRows;
+use crate::member_values::name_member;
+use borrowed_json::{Entry, as_u64, member, take_member};
+use json::Value as Json;
 use lens_values::Name;
-use serde_json::{Map, Value as Json};
 
 /// The name of the view.
-pub(crate) fn view_in(members: &Map<String, Json>) -> Option<Name>
-    ensures { result ≡ view_in (members_view members.now.entries) }
+pub(crate) fn view_in(members: &[Entry<'_>]) -> Option<Name>
+    ensures { result ≡ view_in (members_data members.now) }
 {
     name_member(member(members, "view")?)
 }
 
 /// The version on which a change rests, if one is sent.
-pub(crate) fn on_in(members: &Map<String, Json>) -> Option<u64>
-    ensures { result ≡ on_in (members_view members.now.entries) }
+pub(crate) fn on_in(members: &[Entry<'_>]) -> Option<u64>
+    ensures { result ≡ on_in (members_data members.now) }
 {
-    member(members, "on")?.as_u64()
+    as_u64(member(members, "on")?)
 }
 
 /// The rows of a member, moved out of its object.
-pub(crate) fn take_rows(members: &mut Map<String, Json>, name: &str) -> Option<JsonRows>
-    ensures rows { result ≡ rows_in name.now (members_view members.old.entries) }
-    ensures others { (k : List ℕ) → spec.is_key k name.now ≡ false
-        → get_member k (members_view members.new.entries)
-        ≡ get_member k (members_view members.old.entries) }
+pub(crate) fn take_rows<'a>(members: &mut Vec<Entry<'a>>, name: &str) -> Option<JsonRows<'a>>
+    ensures rows { result ≡ rows_in name.now (members_data members.old.items) }
+    ensures others { (other : List ℕ) → (other ≡ name.now → ⊥)
+        → get_member other (members_data members.new.items)
+        ≡ get_member other (members_data members.old.items) }
 {
     let json = take_member(members, name)?;
     Some(JsonRows::new(into_array(json)?))
 }
 
-// A member moved out of its object.
-fn take_member(members: &mut Map<String, Json>, name: &str) -> Option<Json>
-    ensures taken { option_map view result
-        ≡ get_member name.now (members_view members.old.entries) }
-    ensures others { (k : List ℕ) → spec.is_key k name.now ≡ false
-        → get_member k (members_view members.new.entries)
-        ≡ get_member k (members_view members.old.entries) }
-{
-    members.remove(name)
-}
-
 // The elements of an array, moved out of it.
-fn into_array(json: Json) -> Option<Vec<Json>>
-    ensures { option_map (λ list. items_view list.items) result ≡ as_array (view json) }
+fn into_array<'a>(json: Json<'a>) -> Option<Vec<Json<'a>>>
+    ensures { option_map (λ list. items_data list.items) result ≡ as_array (value_data json.entry) }
 {
     match json {
         Json::Array(list) => Some(list),

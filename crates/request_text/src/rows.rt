@@ -3,7 +3,7 @@ ghost use Rattle.std.specs.Prelude.{◌≡◌, List, Ok, Err, IfOk, IsOk, map, o
 ghost use Rattle.std.specs.FinMap as finmap;
 ghost use Rattle.std.specs.List.{list_any};
 ghost use Rattle.std.specs.List.Sorted.{IsStrictlySortedBy};
-ghost use Rattle.serde_json.specs.View.{view, items_view, members_view};
+ghost use Rattle.borrowed_json.specs.Meaning.{value_data, items_data, members_data};
 ghost use Rattle.lens_values.specs.Order.{bytes_cmp};
 ghost use Rattle.lens_values.specs.SortedMap.{keys_of};
 ghost use Rattle.lens_values.specs.declared.row.Row.{Row as RowOf};
@@ -12,12 +12,13 @@ ghost use Rattle.server_specs.specs.Sending as spec;
 ghost use Rattle.request_text.specs.Blames.{Blames, Finds};
 ghost use Rattle.request_text.specs.RowFaults.{GivesRows, TellsRow, fault_at, set_of};
 
-use crate::json_values::{member, text_member};
 use crate::lists::JsonRows;
-use crate::member::{Member, MemberFault};
+use crate::member::{Member, MemberFault, lesser};
+use crate::member_values::text_member;
+use borrowed_json::{Entry, as_i64, member};
+use json::Value as Json;
 use lens_values::{Columns, Kind, Name, NoMemory, Row, Value};
 use row_sets::RowSet;
-use serde_json::{Map, Value as Json};
 use std::alloc::{AllocError, AllocFailed, Global};
 
 /// Why the JSON is not a list of rows.
@@ -82,8 +83,8 @@ impl RowsFault {
 
 /// Reads a set of rows. `BadRow` for the first element that is no row of the columns, or
 /// `NoMemory`.
-pub fn rows_of(alloc: Global, columns: &Columns, rows: JsonRows) -> Result<RowSet, RowsFault>
-    ensures { GivesRows (λ rows. rows) result (set_of (spec.rows_in columns.now rows)) }
+pub fn rows_of(alloc: Global, columns: &Columns, rows: JsonRows<'_>) -> Result<RowSet, RowsFault>
+    ensures { GivesRows (λ rows. rows) result (set_of (spec.rows_in columns.now rows.entry)) }
 {
     let list = rows_in(alloc, columns, rows.into_list())?;
     Ok(RowSet::new(alloc, list)?)
@@ -91,9 +92,9 @@ pub fn rows_of(alloc: Global, columns: &Columns, rows: JsonRows) -> Result<RowSe
 
 // The rows, in the order of the elements. Each element is freed as soon as it is read, and the next
 // row takes its memory.
-fn rows_in(alloc: Global, columns: &Columns, items: Vec<Json>) -> Result<Vec<Row>, RowsFault>
+fn rows_in(alloc: Global, columns: &Columns, items: Vec<Json<'_>>) -> Result<Vec<Row>, RowsFault>
     ensures { GivesRows (λ list. list.items) result
-        (spec.rows_in columns.now (items_view items.items)) }
+        (spec.rows_in columns.now (items_data items.entry.items)) }
 {
     let mut rows = Vec::with_capacity(alloc, items.len())?;
     for item in items {
@@ -105,8 +106,8 @@ fn rows_in(alloc: Global, columns: &Columns, items: Vec<Json>) -> Result<Vec<Row
     Ok(rows)
 }
 
-fn row_in(alloc: Global, columns: &Columns, json: Json) -> Result<Row, MemberFault>
-    ensures { Finds (λ row. row) result (spec.row_in columns.now (view json)) }
+fn row_in(alloc: Global, columns: &Columns, json: Json<'_>) -> Result<Row, MemberFault>
+    ensures { Finds (λ row. row) result (spec.row_in columns.now (value_data json.entry)) }
 {
     match json {
         Json::Object(members) => row_of_members(alloc, columns, &members),
@@ -126,10 +127,10 @@ fn first_column(columns: &[(Name, Kind)]) -> &str
 fn row_of_members(
     alloc: Global,
     columns: &Columns,
-    members: &Map<String, Json>,
+    members: &[Entry<'_>],
 ) -> Result<Row, MemberFault>
     ensures { Finds (λ row. row) result
-        (spec.row_of_members columns.now (members_view members.now.entries)) }
+        (spec.row_of_members columns.now (members_data members.now)) }
 {
     match pairs_in(alloc, columns.pairs(), members) {
         Ok(pairs) => row_of_pairs(alloc, columns, members, pairs),
@@ -145,13 +146,13 @@ fn row_of_members(
 fn row_of_pairs(
     alloc: Global,
     columns: &Columns,
-    members: &Map<String, Json>,
+    members: &[Entry<'_>],
     pairs: Vec<(Name, Value)>,
 ) -> Result<Row, MemberFault>
-    requires { spec.pairs_in (finmap.entries columns.now) (members_view members.now.entries)
+    requires { spec.pairs_in (finmap.entries columns.now) (members_data members.now)
         ≡ Ok pairs.items }
     ensures { Finds (λ row. row) result
-        (spec.row_of_members columns.now (members_view members.now.entries)) }
+        (spec.row_of_members columns.now (members_data members.now)) }
 {
     match strange_beside(columns, members) {
         Some(name) => Err(MemberFault::wrong(alloc, name)),
@@ -161,11 +162,11 @@ fn row_of_pairs(
 
 // The first member that is not a column, where each column has a member. If the counts are equal,
 // there is none.
-fn strange_beside<'a>(columns: &Columns, members: &'a Map<String, Json>) -> Option<&'a str>
+fn strange_beside<'a>(columns: &Columns, members: &[Entry<'a>]) -> Option<&'a str>
     requires { IsOk (spec.pairs_in (finmap.entries columns.now)
-        (members_view members.now.entries)) }
+        (members_data members.now)) }
     ensures { option_map (λ name. name.now) result
-        ≡ first_other (spec.is_column_of columns.now) (members_view members.now.entries) }
+        ≡ first_other (spec.is_column_of columns.now) (members_data members.now) }
 {
     if members.len() == columns.pairs().len() {
         return None;
@@ -173,16 +174,17 @@ fn strange_beside<'a>(columns: &Columns, members: &'a Map<String, Json>) -> Opti
     first_strange(columns, members)
 }
 
-fn first_strange<'a>(columns: &Columns, members: &'a Map<String, Json>) -> Option<&'a str>
+fn first_strange<'a>(columns: &Columns, members: &[Entry<'a>]) -> Option<&'a str>
     ensures { option_map (λ name. name.now) result
-        ≡ first_other (spec.is_column_of columns.now) (members_view members.now.entries) }
+        ≡ first_other (spec.is_column_of columns.now) (members_data members.now) }
 {
-    for name in members.keys() {
-        if !is_column(columns.pairs(), name.as_str()) {
-            return Some(name.as_str());
+    let mut first = None;
+    for member in members {
+        if !is_column(columns.pairs(), member.0) {
+            first = lesser(Some(member.0), first);
         }
     }
-    None
+    first
 }
 
 fn is_column(columns: &[(Name, Kind)], name: &str) -> bool
@@ -195,10 +197,10 @@ fn is_column(columns: &[(Name, Kind)], name: &str) -> bool
 fn pairs_in(
     alloc: Global,
     columns: &[(Name, Kind)],
-    members: &Map<String, Json>,
+    members: &[Entry<'_>],
 ) -> Result<Vec<(Name, Value)>, MemberFault>
     ensures { Finds (λ pairs. pairs.items) result
-        (spec.pairs_in columns.now (members_view members.now.entries)) }
+        (spec.pairs_in columns.now (members_data members.now)) }
 {
     let mut pairs = Vec::with_capacity(alloc, columns.len())?;
     for column in columns {
@@ -212,11 +214,11 @@ fn pairs_in(
 
 fn value_at(
     alloc: Global,
-    members: &Map<String, Json>,
+    members: &[Entry<'_>],
     column: &(Name, Kind),
 ) -> Result<Option<Value>, NoMemory>
     ensures { IfOk result (λ found.
-        found ≡ spec.value_at (members_view members.now.entries) column.now) }
+        found ≡ spec.value_at (members_data members.now) column.now) }
 {
     match member(members, column.0.as_str()) {
         Some(json) => value_in(alloc, column.1, json),
@@ -224,8 +226,8 @@ fn value_at(
     }
 }
 
-fn value_in(alloc: Global, kind: Kind, json: &Json) -> Result<Option<Value>, NoMemory>
-    ensures { IfOk result (λ found. found ≡ spec.value_in kind (view json.now)) }
+fn value_in(alloc: Global, kind: Kind, json: &Json<'_>) -> Result<Option<Value>, NoMemory>
+    ensures { IfOk result (λ found. found ≡ spec.value_in kind (value_data json.now)) }
 {
     match value_of(alloc, json)? {
         Some(value) if value.fits(kind) => Ok(Some(value)),
@@ -234,12 +236,12 @@ fn value_in(alloc: Global, kind: Kind, json: &Json) -> Result<Option<Value>, NoM
 }
 
 // The value that the JSON says: a number of 64 bits, a text or a truth value.
-fn value_of(alloc: Global, json: &Json) -> Result<Option<Value>, NoMemory>
-    ensures { IfOk result (λ found. found ≡ spec.value_of (view json.now)) }
+fn value_of(alloc: Global, json: &Json<'_>) -> Result<Option<Value>, NoMemory>
+    ensures { IfOk result (λ found. found ≡ spec.value_of (value_data json.now)) }
 {
     match json {
         Json::Bool(flag) => Ok(Some(Value::Flag(*flag))),
-        Json::Number(number) => Ok(number.as_i64().map(Value::Int)),
+        Json::Number(_) => Ok(as_i64(json).map(Value::Int)),
         Json::String(_) => Ok(text_member(alloc, json)?.map(Value::Text)),
         Json::Null | Json::Array(_) | Json::Object(_) => Ok(None),
     }

@@ -12,6 +12,8 @@ mod definitions;
 #[cfg(test)]
 mod devices;
 #[cfg(test)]
+mod json_lines;
+#[cfg(test)]
 mod keepers;
 #[cfg(test)]
 mod limits;

@@ -1,5 +1,6 @@
 //! Requests and rows as other programs write them.
 use crate::samples::{GOODS, answered, around, expect, prints, rows};
+use json::Scratch;
 use lens_values::Name;
 use request_text::{Request, RequestFault, read_request, row_value};
 use std::alloc::Global;
@@ -22,7 +23,7 @@ fn change(
 }
 
 // What is asked for, in words.
-fn asked(alloc: Global, request: Request) -> Result<String, Fail> {
+fn asked(alloc: Global, request: Request<'_>) -> Result<String, Fail> {
     match request {
         Request::Define { text } => two(alloc, "define", text.as_str()),
         Request::Read { view } => two(alloc, "read", view.as_str()),
@@ -54,7 +55,8 @@ fn asked(alloc: Global, request: Request) -> Result<String, Fail> {
 
 // What the line asks for, or why it asks for nothing.
 fn told(alloc: Global, line: &[u8]) -> Result<String, Fail> {
-    match read_request(alloc, line) {
+    let mut scratch = Scratch::new(alloc);
+    match read_request(alloc, line, &mut scratch) {
         Ok(request) => asked(alloc, request),
         Err(RequestFault::NotJson) => two(alloc, "no", "JSON"),
         Err(RequestFault::BadRequest { member }) => two(alloc, "bad", member.as_str()),

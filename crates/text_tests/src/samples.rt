@@ -1,5 +1,6 @@
 //! Values that tests write as texts, and comparisons that name the case that fails.
 use fd_tree::Edge;
+use json::Scratch;
 use lens_values::{Columns, Kind, Name, Names, NoMemory, Row};
 use request_text::{
     Answer, JsonRows, Reply, Request, RowList, RowsFault, read_request, reply_text, rows_of,
@@ -68,22 +69,28 @@ pub(crate) fn edge(alloc: Global, left: &str, right: &str) -> Result<Edge, Fail>
 }
 
 // The rows that the line puts.
-fn put_rows(alloc: Global, line: &str) -> Result<JsonRows, Fail> {
-    match read_request(alloc, line.as_bytes()) {
+fn put_rows<'a>(
+    alloc: Global,
+    line: &'a str,
+    scratch: &'a mut Scratch,
+) -> Result<JsonRows<'a>, Fail> {
+    match read_request(alloc, line.as_bytes(), scratch) {
         Ok(Request::Put { rows, .. }) => Ok(rows),
         _ => Err(Fail::from("no put")),
     }
 }
 
-// The rows of JSON, as a put sends them.
-fn sent(alloc: Global, rows: &str) -> Result<JsonRows, Fail> {
-    let line = format!(in alloc; "{{\"do\":\"put\",\"view\":\"goods\",\"rows\":{rows}}}")?;
-    put_rows(alloc, &line)
+// The line that puts rows of JSON.
+fn put_line(alloc: Global, rows: &str) -> Result<String, Fail> {
+    Ok(format!(in alloc; "{{\"do\":\"put\",\"view\":\"goods\",\"rows\":{rows}}}")?)
 }
 
 /// The rows of JSON with these columns, at version 0, or why they are refused.
 pub(crate) fn answered(alloc: Global, cols: &str, json: &str) -> Result<Answer, Fail> {
-    match rows_of(alloc, &columns(alloc, cols)?, sent(alloc, json)?) {
+    let line = put_line(alloc, json)?;
+    let mut scratch = Scratch::new(alloc);
+    let sent = put_rows(alloc, &line, &mut scratch)?;
+    match rows_of(alloc, &columns(alloc, cols)?, sent) {
         Ok(rows) => Ok(Answer::Shown { rows, version: 0 }),
         Err(RowsFault::BadRow { index, col }) => Ok(Answer::BadRow {
             list: RowList::Rows,

@@ -1,5 +1,5 @@
 use Rattle.std.proofs.Common.{◌≡◌, ◌∙◌, sym, ap, true, false}
-use Rattle.request_text.proofs.Read.{some_json, no_json}
+use Rattle.rehearsal.proofs.Read.{some_json, no_json}
 use Rattle.serde_json.specs.View.{view}
 use Rattle.rehearsal.specs.Summary.{is_ok, rows_shown, is_ok_of, rows_of}
 use Rattle.rehearsal.proofs.replies.read_reply.Goals as goal

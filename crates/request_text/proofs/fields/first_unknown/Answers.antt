@@ -1,32 +1,26 @@
-use Rattle.std.proofs.Common.{◌∙◌, ap, sym, map, Some}
-use Rattle.std.specs.Map.Iter.{deref}
-use Rattle.std.proofs.lemmas.Map.Iter.{rest_more, rest_all}
-use Rattle.server_specs.specs.Request as spec
+use Rattle.std.proofs.Common.{◌≡◌, ◌∙◌, ap, sym, cond, map, option_map, take, Some, true, false}
+use Rattle.server_specs.specs.Request.{first_other, is_wanted, lesser}
+use Rattle.borrowed_json.specs.Meaning.{members_data}
 use Rattle.request_text.specs.RequestFields.{field_view}
-use Rattle.request_text.proofs.Objects.{first_key, first_of_keys, key_passed, key_stopped}
+use Rattle.request_text.proofs.Others.{other_more}
 use Rattle.request_text.proofs.fields.first_unknown.Goals as goal
+use Rattle.request_text.proofs.fields.first_unknown.Goals.{then-not-is_wanted, else-not-is_wanted}
 
-pub loop-name-init : goal.loop-name-init
-loop-name-init c =
-    first_of_keys (spec.is_wanted (map field_view c.args.fields.now)) c.args.members.now.entries
-    ∙ ap (first_key (spec.is_wanted (map field_view c.args.fields.now))) (sym (c.into_iter-name-iterator.ensures.into_iter_gives ∙ c.keys-name-items.ensures.rest))
-
-pub returns-then-not-is_wanted : goal.returns-then-not-is_wanted
-returns-then-not-is_wanted c =
-    ap Some c.as_str-then-not-is_wanted.ensures.value
-    ∙ sym (c.loop-name.invariant
-    ∙ ap (first_key (spec.is_wanted (map field_view c.args.fields.now))) (rest_more deref c.loop-name.name-iterator c.next.new.self c.next.result c.in-Some.name c.in-Some.is c.next.ensures.steps)
-    ∙ key_stopped (spec.is_wanted (map field_view c.args.fields.now)) c.in-Some.name.now c.next.new.self
-    (ap (spec.is_wanted (map field_view c.args.fields.now)) (sym c.as_str.ensures.value) ∙ sym c.is_wanted.ensures ∙ c.if-not-is_wanted.true))
-
-pub loop-name-preserved : goal.loop-name-preserved
-loop-name-preserved c =
-    c.loop-name.invariant
-    ∙ ap (first_key (spec.is_wanted (map field_view c.args.fields.now))) (rest_more deref c.loop-name.name-iterator c.next.new.self c.next.result c.in-Some.name c.in-Some.is c.next.ensures.steps)
-    ∙ key_passed (spec.is_wanted (map field_view c.args.fields.now)) c.in-Some.name.now c.next.new.self
-    (ap (spec.is_wanted (map field_view c.args.fields.now)) (sym c.as_str.ensures.value) ∙ sym c.is_wanted.ensures ∙ c.if-not-is_wanted.false)
-
-pub returns : goal.returns
-returns c =
-    sym (c.loop-name.invariant
-    ∙ ap (first_key (spec.is_wanted (map field_view c.args.fields.now))) (rest_all deref c.loop-name.name-iterator c.next.new.self c.next.result c.in-None.is c.next.ensures.steps))
+pub loop-member-preserved : goal.loop-member-preserved
+loop-member-preserved c =
+    let passes = is_wanted (map field_view c.args.fields.now) in
+    let sent = c.args.members.now in
+    let i = c.loop-member.member-index in
+    let here = c.member-item.result in
+    let before = first_other passes (members_data (take i sent)) in
+    let more = other_more passes sent i here c.loop-member-test.true c.member-item.is in
+    elim c.if-not-is_wanted.branch [
+      | then-not-is_wanted w ↦
+          let unwanted : passes here.0.now ≡ false = sym c.is_wanted.ensures ∙ w.if-not-is_wanted.true in
+          ap (option_map (λ name. name.now)) w.first-is ∙ w.lesser-first.ensures ∙ ap (lesser (Some here.0.now)) c.loop-member.invariant
+          ∙ sym (more ∙ ap (λ b. cond b before (lesser (Some here.0.now) before)) unwanted)
+      | else-not-is_wanted w ↦
+          let wanted : passes here.0.now ≡ true = sym c.is_wanted.ensures ∙ w.if-not-is_wanted.false in
+          ap (option_map (λ name. name.now)) w.first-is ∙ c.loop-member.invariant
+          ∙ sym (more ∙ ap (λ b. cond b before (lesser (Some here.0.now) before)) wanted)
+    ]

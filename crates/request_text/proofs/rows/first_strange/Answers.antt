@@ -1,33 +1,27 @@
-use Rattle.std.proofs.Common.{◌∙◌, ap, sym, Some}
-use Rattle.std.specs.Map.Iter.{deref}
-use Rattle.std.proofs.lemmas.Map.Iter.{rest_more, rest_all}
-use Rattle.server_specs.specs.Sending as spec
-use Rattle.std.proofs.Common.{string_bytes, true, false}
+use Rattle.std.proofs.Common.{◌≡◌, ◌∙◌, ap, sym, cond, option_map, take, Some, Bool, true, false, refl}
+use Rattle.server_specs.specs.Request.{first_other, lesser}
+use Rattle.server_specs.specs.Sending.{is_column_of}
+use Rattle.borrowed_json.specs.Meaning.{members_data}
 use Rattle.request_text.proofs.Columns.{column_told}
-use Rattle.request_text.proofs.Objects.{first_key, first_of_keys, key_passed, key_stopped}
+use Rattle.request_text.proofs.Others.{other_more}
 use Rattle.request_text.proofs.rows.first_strange.Goals as goal
+use Rattle.request_text.proofs.rows.first_strange.Goals.{then-not-is_column, else-not-is_column}
 
-pub loop-name-init : goal.loop-name-init
-loop-name-init c =
-    first_of_keys (spec.is_column_of c.args.columns.now) c.args.members.now.entries
-    ∙ ap (first_key (spec.is_column_of c.args.columns.now)) (sym (c.into_iter-name-iterator.ensures.into_iter_gives ∙ c.keys-name-items.ensures.rest))
-
-pub returns-then-not-is_column : goal.returns-then-not-is_column
-returns-then-not-is_column c =
-    ap Some c.as_str-then-not-is_column.ensures.value
-    ∙ sym (c.loop-name.invariant
-    ∙ ap (first_key (spec.is_column_of c.args.columns.now)) (rest_more deref c.loop-name.name-iterator c.next.new.self c.next.result c.in-Some.name c.in-Some.is c.next.ensures.steps)
-    ∙ key_stopped (spec.is_column_of c.args.columns.now) c.in-Some.name.now c.next.new.self
-    (column_told c.args.columns.now c.pairs.result.now (string_bytes c.in-Some.name.now) c.as_str.result.now c.is_column.result false c.pairs.ensures c.as_str.ensures.value c.is_column.ensures c.if-not-is_column.true))
-
-pub loop-name-preserved : goal.loop-name-preserved
-loop-name-preserved c =
-    c.loop-name.invariant
-    ∙ ap (first_key (spec.is_column_of c.args.columns.now)) (rest_more deref c.loop-name.name-iterator c.next.new.self c.next.result c.in-Some.name c.in-Some.is c.next.ensures.steps)
-    ∙ key_passed (spec.is_column_of c.args.columns.now) c.in-Some.name.now c.next.new.self
-    (column_told c.args.columns.now c.pairs.result.now (string_bytes c.in-Some.name.now) c.as_str.result.now c.is_column.result true c.pairs.ensures c.as_str.ensures.value c.is_column.ensures c.if-not-is_column.false)
-
-pub returns : goal.returns
-returns c =
-    sym (c.loop-name.invariant
-    ∙ ap (first_key (spec.is_column_of c.args.columns.now)) (rest_all deref c.loop-name.name-iterator c.next.new.self c.next.result c.in-None.is c.next.ensures.steps))
+pub loop-member-preserved : goal.loop-member-preserved
+loop-member-preserved c =
+    let passes = is_column_of c.args.columns.now in
+    let sent = c.args.members.now in
+    let i = c.loop-member.member-index in
+    let here = c.member-item.result in
+    let before = first_other passes (members_data (take i sent)) in
+    let more = other_more passes sent i here c.loop-member-test.true c.member-item.is in
+    let told : (b : Bool) → c.is_column.result ≡ b → passes here.0.now ≡ b =
+    λ b is. column_told c.args.columns.now c.pairs.result.now here.0.now here.0.now c.is_column.result b c.pairs.ensures refl c.is_column.ensures is in
+    elim c.if-not-is_column.branch [
+      | then-not-is_column w ↦
+          ap (option_map (λ name. name.now)) w.first-is ∙ w.lesser-first.ensures ∙ ap (lesser (Some here.0.now)) c.loop-member.invariant
+          ∙ sym (more ∙ ap (λ b. cond b before (lesser (Some here.0.now) before)) (told false w.if-not-is_column.true))
+      | else-not-is_column w ↦
+          ap (option_map (λ name. name.now)) w.first-is ∙ c.loop-member.invariant
+          ∙ sym (more ∙ ap (λ b. cond b before (lesser (Some here.0.now) before)) (told true w.if-not-is_column.false))
+    ]
