@@ -41,8 +41,8 @@ def with_last_changed(rows, old, new):
     return rows[:-1] + [last]
 
 
-def drop(program, count):
-    """A put through a drop over a selection that shows so many rows, one of them changed."""
+def undated(program, count):
+    """A server with a drop over a selection that shows so many rows, and these rows, by the numbers of the tracks."""
     rows = [row(number) for number in range(count * 5 // 4)]
     shown = [without_date(line) for line in rows if '"rating":0' not in line]
     server = defined(
@@ -51,9 +51,28 @@ def drop(program, count):
         "view undated = drop date determined by (track, 2018) from (select from tracks where rating > 0)",
     )
     fill(server, "tracks", rows)
-    taken = seconds(server, put(with_last_changed(shown, '"album":"album', '"album":"other'), "undated"))
+    return server, shown
+
+
+def put_to_undated(server, rows):
+    """How long a put of these rows takes, one of them changed."""
+    return seconds(server, put(with_last_changed(rows, '"album":"album', '"album":"other'), "undated"))
+
+
+def drop(program, count):
+    """A put through a drop over a selection, in the order of the numbers of the tracks."""
+    server, shown = undated(program, count)
+    taken = put_to_undated(server, shown)
     server.end()
     return [("put through a drop over a selection", taken)]
+
+
+def drop_as_read(program, count):
+    """The same put, in the order in which a read shows the rows."""
+    server, shown = undated(program, count)
+    taken = put_to_undated(server, sorted(shown))
+    server.end()
+    return [("the same, in the order of a read", taken)]
 
 
 def join(program, count):
@@ -81,7 +100,7 @@ def join(program, count):
 
 def once(program, by_hand, count):
     """What each line takes in seconds, with its name."""
-    lines = drop(program, count) + join(program, count)
+    lines = drop(program, count) + drop_as_read(program, count) + join(program, count)
     if by_hand:
         lines += [(f"{name}, by hand", taken) for name, taken in drop(by_hand, count)]
     return lines

@@ -65,6 +65,8 @@ def instructions(program, begin, lines):
     subprocess.run(["callgrind_control", "--instr=on", str(run.pid)], stdout=subprocess.DEVNULL, check=True)
     for line in lines:
         ask(run, line)
+    # Before the end, where the program lets the tables go.
+    subprocess.run(["callgrind_control", "--instr=off", str(run.pid)], stdout=subprocess.DEVNULL, check=True)
     _, said = run.communicate()
     return int(re.search(r"Collected : (\d+)", said).group(1))
 
