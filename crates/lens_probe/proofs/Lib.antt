@@ -4,5 +4,7 @@ mod SharedColumns
 pub mod Found
 mod Sides
 pub mod Listed
+pub mod KnownParts
+pub mod PartLists
 pub mod Viewing
 mod CheckedEdits

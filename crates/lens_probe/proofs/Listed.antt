@@ -1,6 +1,6 @@
 -- Lists whose rows, taken as a set, are those that a lens shows.
-use Rattle.std.proofs.Common.{◌≡◌, ◌∙◌, Bool, List, ap, cond, filter, map, sym, true}
-use Rattle.std.specs.Prelude.{◌&&◌}
+use Rattle.std.proofs.Common.{◌≡◌, ◌∙◌, ◌∷◌, Bool, List, [], ap, cond, filter, map, refl, sym, true}
+use Rattle.std.specs.Prelude.{◌&&◌, None}
 use Rattle.std.specs.List.{list_any}
 use Rattle.std.specs.Ordering.{eq_by_cmp}
 use Rattle.lens_values.specs.Part.{restrict}
@@ -19,13 +19,17 @@ use Rattle.fd_laws.proofs.Lists.{from_map, in_map}
 use Rattle.fd_laws.proofs.Names.{from_rest, subset_is}
 use Rattle.fd_laws.proofs.Relations.{from_project, from_those, in_project, in_those, same_rel}
 use Rattle.fd_laws.proofs.Rows.{agree-cut, row_exact, row_itself, row_total, tied_row}
+use Rattle.lens_laws.specs.Finds.{IsOver}
 use Rattle.lens_laws.specs.Lenses.{AreOf, IsTyped}
 use Rattle.lens_laws.specs.Passes.{PredWithin}
 use Rattle.lens_laws.proofs.Lenses.{get_sort}
+use Rattle.lens_laws.proofs.NodeFinds.{fits_is_over}
 use Rattle.lens_laws.proofs.Predicates.{mentioned_is, sees_from}
 use Rattle.row_sets.specs.Joins.{pairs_on}
 use Rattle.row_sets.proofs.Natural.{natural_is}
 use Rattle.lens_probe.specs.Reading.{rows_for}
+use Rattle.lens_probe.specs.Untested.{passes}
+use Rattle.lens_probe.proofs.KnownParts.{cut_whole}
 use Rattle.lens_probe.proofs.Sides.{tested_first, was_there}
 
 -- ---- lists and sets
@@ -71,6 +75,11 @@ parts_of_chosen p C M sees = same_rel _ _
     let v = from_project C M q w.0 in
     ap (has (project C (those p M))) v.2 ∙ in_project C (those p M) v.0 (in_those p M v.0 v.1 (sym (sees v.0) ∙ ap p (sym v.2) ∙ w.1)))
 
+-- without a test all pass
+pub all_pass : (rows : List Row) → filter (passes None) rows ≡ rows
+all_pass [] = refl
+all_pass (r ∷ rows) = ap (λ l. r ∷ l) (all_pass rows)
+
 -- ---- what a lens shows
 
 pub selected_listed : (P : Predicate) (C : Lens) (db : Tables) (rows : List Row) → set.from_list rows ≡ get C db → set.from_list (filter (holds P) rows) ≡ get (select P C) db
@@ -109,6 +118,29 @@ selected_before P L C A X a db rows is within shown =
     ∙ parts_of_chosen (holds P) D (get C db) (λ r. sees_from P D within (cut D r) r (agree-cut D r))
     ∙ ap (λ E. those (holds P) (project E (get C db))) (ap view_names (sym is) ∙ names-without (sort_of C).columns A)
     ∙ ap (λ K. those (holds P) (get K db)) is
+
+-- rows over the columns are their own parts
+own_parts : (C : Names) (M : Rows) → ((r : Row) → has M r ≡ true → IsOver C r) → project C M ≡ M
+own_parts C M over = same_rel _ _
+    (λ q i.
+    let w = from_project C M q i in
+    ap (has M) (w.2 ∙ sym (cut_whole C w.0 (over w.0 w.1))) ∙ w.1)
+    (λ q i. ap (has (project C M)) (cut_whole C q (over q i)) ∙ in_project C M q i)
+
+-- what a lens shows are its own parts
+pub whole_listed : (L : Lens) (db : Tables) (rows : List Row) → IsTyped L → AreOf L db → set.from_list rows ≡ get L db → set.from_list (map (restrict (view_names L)) rows) ≡ get L db
+whole_listed L db rows typed are shown =
+    parts (view_names L) rows (get L db) shown
+    ∙ own_parts (view_names L) (get L db) (λ r i. fits_is_over (sort_of L).columns r ((get_sort L db typed are).columns r i))
+
+-- and so is what a selection shows of it
+pub whole_selected : (P : Predicate) (L : Lens) (db : Tables) (rows : List Row) → IsTyped L → AreOf L db → set.from_list rows ≡ get (select P L) db
+    → set.from_list (map (restrict (view_names L)) rows) ≡ get (select P L) db
+unfolding get select_get
+whole_selected P L db rows typed are shown =
+    parts (view_names L) rows (those (holds P) (get L db)) shown
+    ∙ own_parts (view_names L) (those (holds P) (get L db))
+    (λ r i. fits_is_over (sort_of L).columns r ((get_sort L db typed are).columns r (from_those (holds P) (get L db) r i).0))
 
 pub joined_listed : (L A B : Lens) (db : Tables) (rows : List Row) (M N : Rows) → join A B ≡ L → IsTyped (join A B) → AreOf (join A B) db → M ≡ get A db → N ≡ get B db
     → set.from_list rows ≡ pairs_on (set.intersection (view_names A) (view_names B)) M N → set.from_list rows ≡ get L db

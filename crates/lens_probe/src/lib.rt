@@ -4,12 +4,15 @@
 
 pub mod checking;
 mod columns;
+mod differing;
 pub mod edit_fault;
 mod finding;
 mod handed;
 mod having;
+mod known;
 mod needed;
 mod reading;
+mod untested;
 pub mod view;
 
 pub use checking::check_edit;

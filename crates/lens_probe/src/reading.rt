@@ -58,10 +58,10 @@ fn row_set_in<L: Ledger>(
     }
 }
 
-// The rows that the lens shows, in no certain order and perhaps more than once, so that only the
-// view itself and the sides of joins are put in order.
+/// The rows that the lens shows, in no certain order and perhaps more than once, so that only the
+/// view itself and the sides of joins are put in order.
 #[cycle(rows)]
-fn rows_in<L: Ledger>(
+pub(crate) fn rows_in<L: Ledger>(
     alloc: Global,
     lens: &TypedLens,
     tables: &Tables,
@@ -87,11 +87,11 @@ fn rows_in<L: Ledger>(
     }
 }
 
-// The rows of the lens on which the predicate holds, in no certain order and perhaps more than
-// once. It is tested before a column is dropped and before rows are joined, so that few are made
-// only to be left out, and on the pairs, since perhaps neither side shows all of its columns.
+/// The rows of the lens on which the predicate holds, in no certain order and perhaps more than
+/// once. It is tested before a column is dropped and before rows are joined, so that few are made
+/// only to be left out, and on the pairs, since perhaps neither side shows all of its columns.
 #[cycle(rows)]
-fn selected_in<L: Ledger>(
+pub(crate) fn selected_in<L: Ledger>(
     alloc: Global,
     pred: &Pred,
     of: &TypedLens,

@@ -1,13 +1,16 @@
 //! A view of a lens over tables.
 ghost use Rattle.std.specs.Prelude.{◌≡◌, ◌+◌, ◌≤◌, [], IfOk, Some};
+ghost use Rattle.lens_specs.specs.Delta.{diff};
 ghost use Rattle.lens_specs.specs.Lens.{sort_of};
 ghost use Rattle.lens_specs.specs.Sort.{IsOfSort};
 ghost use Rattle.lens_laws.specs.Asked.{HasKeys, asked};
+ghost use Rattle.lens_laws.specs.Finds.{AllFit};
 ghost use Rattle.lens_laws.specs.Lenses.{AreOf};
 ghost use Rattle.lens_probe.specs.Reading.{rows_under};
 ghost use Rattle.lens_probe.specs.Viewed.{AreIndexed, IsViewed, asked_by, shown};
 ghost use Rattle.lens_probe.specs.Viewed.{both_sides, only_source, sides_of, source_of};
 
+use crate::differing::difference_in;
 use crate::finding::{Query, find_in};
 use crate::handed::HandedDown;
 use crate::having::has_in;
@@ -16,7 +19,7 @@ use base_index::Tables;
 use lens_types::{Lens, TypedLens};
 use lens_values::{Columns, Names, NoMemory, Row};
 use row_sets::{Relation, RowSet};
-use signed_delta::Look;
+use signed_delta::{Delta, Look};
 use std::alloc::Global;
 use std::marker::Model;
 use std::sync::ledger::Ledger;
@@ -102,6 +105,22 @@ impl<'a> View<'a> {
             walked.new ≤ walked.old + rows_under self.now.lens db }
     {
         read_in(alloc, self.lens, self.tables, walked)
+    }
+
+    /// The difference from the whole view to these rows, which have its columns. Each table under
+    /// the lens is walked once.
+    pub fn difference<L: Ledger>(
+        &self,
+        alloc: Global,
+        rows: &RowSet,
+        walked: &mut Steps<L>,
+    ) -> Result<Delta, NoMemory>
+        requires { AllFit (sort_of self.now.lens).columns rows.now }
+        ensures delta { IfOk result (λ delta. delta ≡ diff (shown self.now).rows rows.now) }
+        ensures walked { let db = self.now.tables.present.relations in
+            walked.new ≤ walked.old + rows_under self.now.lens db }
+    {
+        difference_in(alloc, self.lens, self.tables, rows, walked)
     }
 
     // The view of the only source.

@@ -1,8 +1,7 @@
 //! The difference of a view that a change asks for.
 ghost use Rattle.std.specs.Prelude.{◌≡◌, ◌<◌, ◌+◌, ◌≤◌, IfOk, length, slice_index_or};
-ghost use Rattle.lens_specs.specs.Delta.{AppliesTo, diff};
-ghost use Rattle.lens_specs.specs.Lens.{get, sort_of};
-ghost use Rattle.lens_laws.specs.Finds.{AllFit};
+ghost use Rattle.lens_specs.specs.Delta.{AppliesTo};
+ghost use Rattle.lens_specs.specs.Lens.{sort_of};
 ghost use Rattle.request_text.specs.Answers.{answer_view, list_view};
 ghost use Rattle.server_specs.specs.Answer as answers;
 ghost use Rattle.server_specs.specs.Changing as spec;
@@ -19,8 +18,8 @@ use lens_probe::{EditFault, View, check_edit};
 use lens_types::TypedLens;
 use lens_values::NoMemory;
 use request_text::{Answer, JsonRows, RowList, RowsFault, rows_of};
-use row_sets::{Relation, RowSet};
-use signed_delta::{Delta, diff, of_touched};
+use row_sets::RowSet;
+use signed_delta::{Delta, of_touched};
 use std::alloc::Global;
 use std::sync::ledger::Ledger;
 use step_counter::Steps;
@@ -68,25 +67,8 @@ pub fn asked_by_put<L: Ledger, M: Ledger>(
     let lens = view.lens();
     let new = set_in(alloc, lens, RowList::Rows, rows)?;
     not_stale(alloc, store, lens, on)?;
-    let delta = difference(alloc, view, new, walked)?;
+    let delta = view.difference(alloc, &new, walked)?;
     checked(alloc, view, delta, looked)
-}
-
-/// The difference from the rows of the view to these.
-fn difference<L: Ledger>(
-    alloc: Global,
-    view: &View<'_>,
-    rows: RowSet,
-    walked: &mut Steps<L>,
-) -> Result<Delta, NoMemory>
-    requires { AllFit (sort_of view.now.lens).columns rows }
-    ensures delta { IfOk result (λ delta. delta ≡ diff (get view.now.lens (over view.now)) rows) }
-    ensures walked { walked.new ≤ walked.old + rows_under view.now.lens (over view.now) }
-{
-    let old = view.read(alloc, walked)?;
-    let columns = view.lens().sort().cols().copy(alloc)?;
-    let new = Relation::with_rows(columns, rows);
-    diff(alloc, &old, &new)
 }
 
 /// What an edit of the view changes in it, or its first refusal: a bad row to remove, a bad row to

@@ -11,7 +11,7 @@ use crate::samples::relation;
 use lens_chain::put_delta;
 use lens_probe::{EditFault, View, check_edit};
 use row_sets::Relation;
-use signed_delta::{Delta, Look, TableDelta, diff};
+use signed_delta::{Delta, Look, TableDelta};
 use std::alloc::Global;
 use std::sync::ledger::Ledger;
 use std::test::Fail;
@@ -80,6 +80,5 @@ fn difference<L: Ledger>(
     ensures applies { IfOk result (λ delta. AppliesTo delta (shown view.now)) }
 {
     rows.rows_fit();
-    let old = view.read(alloc, looked)?;
-    Ok(diff(alloc, &old, rows)?)
+    Ok(view.difference(alloc, rows.rows(), looked)?)
 }

@@ -1,0 +1,13 @@
+use Rattle.std.proofs.Common.{◌-◌, ◌≤◌, length, take}
+use Rattle.lens_probe.specs.KnownRows.{AreAmong}
+use Rattle.lens_probe.proofs.known.pairs_cmp.Given as goal
+
+abbrev pub invariant-loop-i : goal.invariant-loop-i
+invariant-loop-i l = record {
+  known : l.i ≤ length l.known;
+  others : l.j ≤ length l.others;
+  so_far : AreAmong (take l.i l.known) l.others;
+}
+
+abbrev pub decreases-loop-i : goal.decreases-loop-i
+decreases-loop-i l = length l.others - l.j

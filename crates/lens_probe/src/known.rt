@@ -1,0 +1,103 @@
+//! The parts of rows that are among known rows.
+ghost use Rattle.std.specs.Prelude.{◌≡◌, ◌<◌, MatchOption, length, slice_index_or};
+ghost use Rattle.std.specs.declared.cmp.Ordering.TheVariants.{Equal};
+ghost use Rattle.lens_values.specs.Part.{restrict};
+ghost use Rattle.lens_specs.specs.Names.{Names as NameSet};
+ghost use Rattle.lens_laws.specs.Finds.{IsOver};
+ghost use Rattle.lens_probe.specs.KnownRows.{AreAmong, AreOver};
+
+use lens_values::{Name, Row, Value};
+use std::cmp::Ordering;
+
+// How many comparisons a row may take, and how many all rows may take beside that.
+const STEPS_A_ROW: usize = 8;
+
+const STEPS_BESIDE: usize = 1 << 20;
+
+/// A place in a rising list of known rows, near which the part of the next row may be.
+#[derive(Drop)]
+pub(crate) struct Cursor {
+    next: usize,
+    // How many comparisons are left. Where there are none, nothing is looked for any more.
+    steps: usize,
+}
+
+impl Cursor {
+    /// The first place.
+    pub(crate) fn new() -> Cursor {
+        Cursor {
+            next: 0,
+            steps: STEPS_BESIDE,
+        }
+    }
+
+    /// The place of the known row that is the row's part in the columns of the known rows, if it is
+    /// found, and then the cursor stands behind it. Rows mostly come in the order of their parts,
+    /// and then all are found. Where they do not, each search goes to rows that lie anywhere in
+    /// memory, which costs more than to sort many parts, so after a million steps it is given up.
+    pub(crate) fn find(&mut self, row: &Row, known: &[Row]) -> Option<usize>
+        ensures { (C : NameSet) → AreOver C known.now → MatchOption result (Unit {0})
+            (λ place. (place < length known.now)
+            × (slice_index_or known.now place (restrict C row.now) ≡ restrict C row.now)) }
+    {
+        if self.steps == 0 {
+            return None;
+        }
+        self.steps = self.steps.saturating_add(STEPS_A_ROW);
+        let mut low = 0;
+        let mut high = known.len();
+        let mut place = self.next.min(high.saturating_sub(1));
+        let mut step: usize = 1;
+        'search: while low <= place && place < high && self.steps > 0 {
+            self.steps -= 1;
+            match part_cmp(&known[place], row) {
+                Ordering::Equal => {
+                    self.next = place + 1;
+                    return Some(place);
+                }
+                Ordering::Less => {
+                    low = place + 1;
+                    place = low + step.min((high - low) / 2);
+                }
+                Ordering::Greater => {
+                    high = place;
+                    place = high.saturating_sub(1 + step.min((high - low) / 2));
+                }
+            }
+            step = step.saturating_mul(2);
+        }
+        self.next = place;
+        None
+    }
+}
+
+// How the known row stands to the row's part in its columns. Equal only where it is that part.
+fn part_cmp(known: &Row, row: &Row) -> Ordering
+    ensures { result ≡ Equal → (C : NameSet) → IsOver C known.now
+        → known.now ≡ restrict C row.now }
+{
+    pairs_cmp(known.pairs(), row.pairs())
+}
+
+// How the known pairs stand to the others with their names, by the first values that differ. Equal
+// only where each is among the others.
+fn pairs_cmp(known: &[(Name, Value)], others: &[(Name, Value)]) -> Ordering
+    ensures { result ≡ Equal → AreAmong known.now others.now }
+{
+    let mut i = 0;
+    let mut j = 0;
+    while i < known.len() && j < others.len() {
+        if known[i].0 == others[j].0 {
+            match known[i].1.cmp(&others[j].1) {
+                Ordering::Equal => i += 1,
+                order => return order,
+            }
+        }
+        j += 1;
+    }
+    if i < known.len() {
+        Ordering::Less
+    } else {
+        Ordering::Equal
+    }
+}
