@@ -1,11 +1,13 @@
 #!/usr/bin/env python3
 """Measures how the time of reads and puts of whole views grows with the tables: ten times the rows, from 1,000, 10,000 and
-25,000 on. Each line of the table is the median of several runs, each by a program of its own, and the quotient of two.
-Where rustc is installed, one line of each size is of bench/by_hand.rs, as a mark to compare with.
+25,000 on. Each line of the table has the medians of several runs, each by a program of its own, those with the small and
+those with the large tables in turn, and the quotient of the two, with that of the least times in brackets. Where rustc is
+installed, two lines of each size are of bench/by_hand.rs, as a mark to compare with.
 
 Usage: bench/growth.py [PROGRAM [RUNS]]    (without the words, the program that ./serve builds, and 6 runs)
 """
 import os
+import re
 import shutil
 import statistics
 import subprocess
@@ -75,6 +77,21 @@ def drop_as_read(program, count):
     return [("the same, in the order of a read", taken)]
 
 
+def drop_first(program, count):
+    """A put through a drop of the first column, so that the rows of the table come in another order than those of the view."""
+    rows = [row(number) for number in range(count)]
+    server = defined(
+        program,
+        TRACKS + " with track -> album date rating",
+        "view bare = drop album determined by (track, 'none') from tracks",
+    )
+    fill(server, "tracks", rows)
+    shown = sorted(re.sub('"album":"[^"]*",', "", line) for line in rows)
+    taken = seconds(server, put(with_last_changed(shown, '"rating":', '"rating":1'), "bare"))
+    server.end()
+    return [("put through a drop of the first column, in the order of a read", taken)]
+
+
 def join(program, count):
     """A read of a join of so many tracks with a tenth as many albums, and a put with one row changed."""
     albums = [f'{{"album":"album{number}","quantity":{quantity(number)}}}' for number in range(count // 10)]
@@ -100,19 +117,20 @@ def join(program, count):
 
 def once(program, by_hand, count):
     """What each line takes in seconds, with its name."""
-    lines = drop(program, count) + drop_as_read(program, count) + join(program, count)
+    lines = drop(program, count) + drop_as_read(program, count) + drop_first(program, count) + join(program, count)
     if by_hand:
-        lines += [(f"{name}, by hand", taken) for name, taken in drop(by_hand, count)]
+        lines += [(f"{name}, by hand", taken) for name, taken in drop(by_hand, count) + drop_as_read(by_hand, count)]
     return lines
 
 
-def medians(program, by_hand, count, runs):
-    """The median of what each line takes in ms, by its name."""
+def times(program, by_hand, count, runs):
+    """What each line takes in ms, by its name: the times with so many rows, and those with ten times as many."""
     taken = {}
     for _ in range(runs):
-        for name, time in once(program, by_hand, count):
-            taken.setdefault(name, []).append(time * 1000)
-    return {name: statistics.median(times) for name, times in taken.items()}
+        for place, rows in enumerate((count, count * TIMES)):
+            for name, time in once(program, by_hand, rows):
+                taken.setdefault(name, ([], []))[place].append(time * 1000)
+    return taken
 
 
 def built_by_hand(folder):
@@ -128,10 +146,10 @@ def measure(program, by_hand, runs):
     print("| What, one row changed | Rows | Time | Ten times the rows | Time | Times |")
     print("|---|---|---|---|---|---|")
     for count in SIZES:
-        few = medians(program, by_hand, count, runs)
-        many = medians(program, by_hand, count * TIMES, runs)
-        for name in few:
-            print(f"| {name} | {count:,} | {few[name]:,.1f} ms | {count * TIMES:,} | {many[name]:,.0f} ms | {many[name] / few[name]:.1f} |", flush=True)
+        for name, (few, many) in times(program, by_hand, count, runs).items():
+            usual, usual_many = statistics.median(few), statistics.median(many)
+            quotients = f"{usual_many / usual:.1f} ({min(many) / min(few):.1f})"
+            print(f"| {name} | {count:,} | {usual:,.1f} ms | {count * TIMES:,} | {usual_many:,.0f} ms | {quotients} |", flush=True)
 
 
 def main():
