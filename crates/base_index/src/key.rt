@@ -122,8 +122,8 @@ fn hash_row(row: &Row) -> u64
     ensures { result ≡ hash_row row.now }
 {
     let mut hash = 0;
-    for pair in row.pairs() {
-        hash = hash_value(hash, &pair.1);
+    for value in row.values() {
+        hash = hash_value(hash, value);
     }
     hash
 }

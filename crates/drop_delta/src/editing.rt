@@ -104,6 +104,7 @@ fn filled_sides<S: Look, L: Ledger>(
     let mut fillings = Fillings {
         last: None,
         earlier: None,
+        names: None,
     };
     for place in 0..removed.len().max(added.len()) {
         if let Some(row) = removed.get(place) {
@@ -131,6 +132,8 @@ struct Filling {
 struct Fillings {
     last: Option<Filling>,
     earlier: Option<Filling>,
+    // The names of the last row that was filled in, which the next one shares.
+    names: Option<Names>,
 }
 
 // The row with the edge's right side filled in. What fills it in becomes the last filling.
@@ -158,7 +161,11 @@ fn filled_row<S: Look, L: Ledger>(
         _ => fillings.earlier.take(),
     };
     let filling = filling_of(alloc, source, edge, default, row, known, looked)?;
-    let filled = row.paste(alloc, &filling.part)?;
+    let filled = match &fillings.names {
+        Some(names) => row.paste_like(alloc, &filling.part, names)?,
+        None => row.paste(alloc, &filling.part)?,
+    };
+    fillings.names = Some(filled.names().copy(alloc)?);
     if let Some(before) = fillings.last.replace(filling) {
         fillings.earlier = Some(before);
     }

@@ -11,16 +11,19 @@ use Rattle.std.specs.FinMap as map
 use Rattle.std.specs.FinMap.{find}
 use Rattle.std.specs.FinMap.Entries.{below_all, is_sorted}
 use Rattle.std.proofs.lemmas.Bool.{true≢false}
-use Rattle.std.proofs.lemmas.List.{get_or_default, take_more}
+use Rattle.std.proofs.lemmas.List.{take_more}
 use Rattle.std.proofs.lemmas.List.Elements.{Contains-append_cases, Contains-append_left, Contains-append_right, Contains-get_or, Contains-push, Contains-push_cases}
 use Rattle.std.proofs.lemmas.Map.Views.{list_any-from_Contains}
 use Rattle.lens_values.specs.Order.{bytes_cmp}
+use Rattle.lens_values.specs.Names.{same_names}
 use Rattle.lens_values.specs.Part.{restrict}
 use Rattle.lens_values.specs.SortedSet as set
 use Rattle.lens_values.specs.Value.{value_cmp}
 use Rattle.lens_values.specs.ValueOrder.{value_cmp-IsAntisymmetric}
 use Rattle.lens_values.specs.declared.row.Row.{Row}
 use Rattle.lens_values.specs.declared.value.Value.{Value}
+use Rattle.lens_values.proofs.Cells.{own_names}
+use Rattle.lens_values.proofs.NamesLemmas.{same_is}
 use Rattle.lens_specs.specs.Columns.{Columns, names}
 use Rattle.lens_specs.specs.Names.{Name, Names}
 use Rattle.lens_specs.specs.Relation.{Rows}
@@ -30,10 +33,6 @@ use Rattle.fd_laws.proofs.Rows.{at-cut, no_value, row_total, same_row}
 use Rattle.lens_laws.specs.Finds.{AllFit, IsOver}
 use Rattle.lens_laws.proofs.NodeFinds.{fits_is_over}
 use Rattle.lens_probe.specs.KnownRows.{AreAmong, AreOver}
-
--- no row is known
-pub none_over : (C : Names) → AreOver C []
-none_over C r there = let lt = there.1 in absurd (omega arith)
 
 -- the rows of a set that all fit have its columns
 pub all_over : (U : Columns) (M : Rows) (rows : List Row) → AllFit U M → rows ≡ set.items M → AreOver (names U) rows
@@ -48,15 +47,12 @@ abbrev Pairs : Type 0
 Pairs = List (Name × Value)
 
 -- one pair more is among the others where it is equal to one of them
-pub one_more : (xs ys : Pairs) (i j : ℕ) (a b x y : Name × Value) → i < length xs → j < length ys → AreAmong (take i xs) ys
-    → true ≡ pointwise nat_eq (get_or xs i a).0 (get_or ys j b).0 → value_cmp (get_or xs i x).1 (get_or ys j y).1 ≡ Equal → AreAmong (take (i + 1) xs) ys
-one_more xs ys i j a b x y lt there so_far names values p within = elim (Contains-push_cases (take i xs) (get_or xs i a) p (subst (λ l. Contains l p) (take_more xs i a lt) within)) [
-  | inl before ↦ so_far p before
-  | inr last ↦ subst (Contains ys) (sym same ∙ last) (Contains-get_or ys j b there)
+pub one_more : (xs ys : Pairs) (i j : ℕ) (p q : Name × Value) → i < length xs → j < length ys → p ≡ get_or xs i p → q ≡ get_or ys j q → AreAmong (take i xs) ys
+    → true ≡ pointwise nat_eq p.0 q.0 → value_cmp p.1 q.1 ≡ Equal → AreAmong (take (i + 1) xs) ys
+one_more xs ys i j p q lt there at by so_far names values r within = elim (Contains-push_cases (take i xs) (get_or xs i p) r (subst (λ l. Contains l r) (take_more xs i p lt) within)) [
+  | inl before ↦ so_far r before
+  | inr last ↦ subst (Contains ys) (sym by ∙ sym (same_pair p q names values) ∙ at ∙ last) (Contains-get_or ys j q there)
 ]
-  where
-    same : get_or xs i a ≡ get_or ys j b
-    same = same_pair (get_or xs i a) (get_or ys j b) names (rw (get_or_default xs i a x lt, get_or_default ys j b y there) values)
 
 -- the value under a name is in a pair with it
 found_listed : (c : Name) (es : Pairs) (v : Value) → find bytes_cmp c es ≡ Some v → Contains es (c, v)
@@ -126,7 +122,14 @@ part_is C k r over among = same_row k (cut C r) (λ c. column c (set.contains C 
     column c true i = value c (at k c) refl (over c ∙ i) ∙ sym (ap (λ b. cond b (at r c) None) i)
     column c false o = no_value (at k c) (over c ∙ o) ∙ sym (ap (λ b. cond b (at r c) None) o)
 
+-- a row with just the names has the columns
+pub same_over : (C D : Names) (r : Row) → set.items D ≡ map.keys r → same_names D C ≡ true → IsOver C r
+same_over C D r own same c = sym (own_names D r own c) ∙ ap (λ X. set.contains X c) (same_is D C same)
+
 -- a row over the columns is its own part
+pub own_part : (C : Names) (r : Row) → IsOver C r → r ≡ restrict C r
+own_part C r over = part_is C r r over (λ p there. there)
+
 pub cut_whole : (C : Names) (r : Row) → IsOver C r → r ≡ cut C r
 unfolding cut
-cut_whole C r over = part_is C r r over (λ p there. there)
+cut_whole C r over = own_part C r over

@@ -6,6 +6,7 @@ use Rattle.std.proofs.lemmas.List.Folds.{list_any-append}
 use Rattle.std.specs.List.{AllByRecursion}
 use Rattle.std.specs.List.Sorted.{IsStrictlySortedBy}
 use Rattle.std.specs.Ordering.{eq_by_cmp, is_eq}
+use Rattle.std.specs.declared.cmp.Ordering.{Ordering}
 use Rattle.std.specs.declared.cmp.Ordering.TheVariants.{Less}
 use Rattle.lens_values.specs.Row.{row_cmp}
 use Rattle.lens_values.specs.SortedSet as set
@@ -17,6 +18,21 @@ use Rattle.row_sets.specs.Members.{is_in}
 use Rattle.signed_delta.proofs.Differences.{items_rise}
 use Rattle.lens_probe.specs.KnownRows.{AreParts, marked, parts_in, unmarked}
 use Rattle.lens_probe.specs.declared.differing.Parts.{Parts}
+
+-- ---- the unmarked rows rise as all do
+
+unmarked_below : (P : Row → Type 0) (bs : List Bool) (rows : List Row) → AllByRecursion P rows → AllByRecursion P (unmarked bs rows)
+unmarked_below P [] rows a = tt
+unmarked_below P (b ∷ bs) [] a = tt
+unmarked_below P (true ∷ bs) (r ∷ rows) a = unmarked_below P bs rows a.1
+unmarked_below P (false ∷ bs) (r ∷ rows) a = (a.0, unmarked_below P bs rows a.1)
+
+pub unmarked_rises : (R : Row → Row → Ordering) (bs : List Bool) (rows : List Row) → IsStrictlySortedBy R rows → IsStrictlySortedBy R (unmarked bs rows)
+unfolding IsStrictlySortedBy
+unmarked_rises R [] rows s = tt
+unmarked_rises R (b ∷ bs) [] s = tt
+unmarked_rises R (true ∷ bs) (r ∷ rows) s = unmarked_rises R bs rows s.1
+unmarked_rises R (false ∷ bs) (r ∷ rows) s = (unmarked_below (λ x. R r x ≡ Less) bs rows s.0, unmarked_rises R bs rows s.1)
 
 -- ---- tests
 

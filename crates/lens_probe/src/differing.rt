@@ -12,6 +12,7 @@ ghost use Rattle.lens_probe.specs.Untested.{passing};
 
 use crate::columns::names_of;
 use crate::known::Cursor;
+use crate::reading::into_part;
 use crate::untested::{Untested, passes, untested_rows};
 use base_index::Tables;
 use lens_types::TypedLens;
@@ -72,7 +73,7 @@ impl Parts {
         let mut cursor = Cursor::new();
         for row in rows {
             if passes(pred, &row) {
-                parts.add(alloc, cols, &row, known, &mut cursor)?;
+                parts.add(alloc, cols, row, known, &mut cursor)?;
             }
         }
         Ok(parts)
@@ -83,17 +84,17 @@ impl Parts {
         &mut self,
         alloc: Global,
         cols: &Names,
-        row: &Row,
+        row: Row,
         known: &[Row],
         cursor: &mut Cursor,
     ) -> Result<(), NoMemory>
         requires over { AreOver cols.now known.now }
         requires places { length self.old.are_parts.items ≡ length known.now }
-        ensures { OnOk result (IsPartToo known.now self.old self.new (restrict cols.now row.now)) }
+        ensures { OnOk result (IsPartToo known.now self.old self.new (restrict cols.now row)) }
     {
-        match cursor.find(row, known) {
+        match cursor.find(&row, known) {
             Some(place) => self.are_parts[place] = true,
-            None => self.others.push(row.project(alloc, cols)?)?,
+            None => self.others.push(into_part(alloc, cols, row)?)?,
         }
         Ok(())
     }
@@ -104,7 +105,8 @@ impl Parts {
         ensures { IfOk result (λ delta.
             delta ≡ diff (set.from_list (parts_in self (set.items known.now))) known.now) }
     {
-        let rest = RowSet::new(alloc, rest(alloc, known.rows(), &self.are_parts)?)?;
+        let list = rest(alloc, known.rows(), &self.are_parts)?;
+        let rest = RowSet::from_rising(list);
         let others = RowSet::new(alloc, self.others)?;
         let add = rest.minus(alloc, &others)?;
         let remove = without(alloc, others, known)?;

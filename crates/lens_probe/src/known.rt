@@ -1,5 +1,6 @@
 //! The parts of rows that are among known rows.
 ghost use Rattle.std.specs.Prelude.{◌≡◌, ◌<◌, MatchOption, length, slice_index_or};
+ghost use Rattle.std.specs.List.{zip};
 ghost use Rattle.std.specs.declared.cmp.Ordering.TheVariants.{Equal};
 ghost use Rattle.lens_values.specs.Part.{restrict};
 ghost use Rattle.lens_specs.specs.Names.{Names as NameSet};
@@ -76,19 +77,27 @@ fn part_cmp(known: &Row, row: &Row) -> Ordering
     ensures { result ≡ Equal → (C : NameSet) → IsOver C known.now
         → known.now ≡ restrict C row.now }
 {
-    pairs_cmp(known.pairs(), row.pairs())
+    pairs_cmp(
+        known.names().as_slice(),
+        known.values(),
+        row.names().as_slice(),
+        row.values(),
+    )
 }
 
-// How the known pairs stand to the others with their names, by the first values that differ. Equal
-// only where each is among the others.
-fn pairs_cmp(known: &[(Name, Value)], others: &[(Name, Value)]) -> Ordering
-    ensures { result ≡ Equal → AreAmong known.now others.now }
+// How the known names with their values stand to the others with these names, by the first values
+// that differ. Equal only where each is among the others.
+fn pairs_cmp(known: &[Name], values: &[Value], others: &[Name], their: &[Value]) -> Ordering
+    requires known { length known.now ≡ length values.now }
+    requires others { length others.now ≡ length their.now }
+    ensures { result ≡ Equal
+        → AreAmong (zip known.now values.now) (zip others.now their.now) }
 {
     let mut i = 0;
     let mut j = 0;
     while i < known.len() && j < others.len() {
-        if known[i].0 == others[j].0 {
-            match known[i].1.cmp(&others[j].1) {
+        if known[i] == others[j] {
+            match values[i].cmp(&their[j]) {
                 Ordering::Equal => i += 1,
                 order => return order,
             }

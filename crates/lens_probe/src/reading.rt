@@ -169,9 +169,19 @@ fn parts(alloc: Global, cols: &Names, rows: Vec<Row>) -> Result<Vec<Row>, NoMemo
 {
     let mut parts = Vec::with_capacity(alloc, rows.len())?;
     for row in rows {
-        parts.push(row.project(alloc, cols)?)?;
+        parts.push(into_part(alloc, cols, row)?)?;
     }
     Ok(parts)
+}
+
+/// The row's part in these columns, which is the row itself where it has no others.
+pub(crate) fn into_part(alloc: Global, cols: &Names, row: Row) -> Result<Row, NoMemory>
+    ensures { IfOk result (λ part. part ≡ restrict cols.now row) }
+{
+    if row.names().same(cols) {
+        return Ok(row);
+    }
+    row.project(alloc, cols)
 }
 
 // All pairs of a row of each side that agree on the columns that both lenses show, pasted.

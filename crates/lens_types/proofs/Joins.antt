@@ -83,6 +83,10 @@ module _ (n : ℕ) (s t : Sort) (twice : Option Name) where
       formed : natural_join n s t twice ≡ unless_refused (or_else (sides_fault s t twice) excess) (join_sort s t)
       formed = alike ∙ ap (λ o. unless_refused (or_else o (or_else (sides_fault s t twice) excess)) (join_sort s t)) same_tree.0
 
+      -- the sides are not joined
+      pub sides_refused : (fault : TypeFault) → Some (fault_view fault) ≡ sides_fault s t twice → IsRefused (of_fault fault) tt (natural_join n s t twice)
+      sides_refused fault wrong = (formed ∙ ap (λ o. unless_refused (or_else o excess) (join_sort s t)) (sym wrong), refl)
+
       module _ (P : Predicate) (none : None ≡ sides_fault s t twice) (both : P ≡ s.predicate ++ t.predicate) where
         made : sort_from C P T ≡ join_sort s t
         made = λ i. sort_from (same_columns.1 i) (both i) (same_tree.1 i)

@@ -1,7 +1,8 @@
 -- What fits where.
-use Rattle.std.proofs.Common.{◌≡◌, ℕ, List, [], ◌∷◌, sym, ap, ◌∙◌, subst, refl, Bool, true, false, cond, inl, inr, length, arith}
+use Rattle.std.proofs.Common.{◌≡◌, ℕ, List, [], ◌∷◌, sym, ap, ◌∙◌, subst, refl, Bool, true, false, cond, inl, inr, length, arith, suc, nat_eq}
 use Rattle.std.specs.Prelude.{◌↔◌, ◌&&◌, IsTrue, is_some, Option, Some, None}
 use Rattle.std.proofs.lemmas.Bool.{cases_Bool, and_parts, and_from}
+use Rattle.std.proofs.lemmas.Bool.Decides.{eqb_tells}
 use Rattle.std.specs.List.{list_all, zip}
 use Rattle.std.specs.List.Sorted.{IsStrictlySortedBy}
 use Rattle.std.specs.Ordering.{eq_by_cmp, is_eq}
@@ -69,6 +70,23 @@ pointwise_zip R [] [] e = refl
 pointwise_zip R [] (y ∷ ys) e = absurd (omega (arith, e))
 pointwise_zip R (x ∷ xs) [] e = absurd (omega (arith, e))
 pointwise_zip R (x ∷ xs) (y ∷ ys) e = ap (λ b. R x y && b) (pointwise_zip R xs ys (omega (arith, e)))
+
+pub eqb_other : (m n : ℕ) → (m ≡ n → ⊥) → nat_eq m n ≡ false
+eqb_other m n h = elim (eqb_tells m n) [
+  | inl same ↦ absurd (h same.1)
+  | inr other ↦ other.0
+]
+
+no_both : (b : Bool) → (b && false) ≡ false
+no_both true = refl
+no_both false = refl
+
+-- lists of two lengths are not alike
+pub pointwise_apart : {A B : Type 0} (R : A → B → Bool) (xs : List A) (ys : List B) → (length xs ≡ length ys → ⊥) → pointwise R xs ys ≡ false
+pointwise_apart R [] [] h = absurd (h refl)
+pointwise_apart R [] (y ∷ ys) h = refl
+pointwise_apart R (x ∷ xs) [] h = refl
+pointwise_apart R (x ∷ xs) (y ∷ ys) h = ap (λ b. R x y && b) (pointwise_apart R xs ys (λ e. h (ap suc e))) ∙ no_both (R x y)
 
 walked_fits : (ps : List (List ℕ × Value)) (cs : List (List ℕ × Kind)) → pointwise pair_fits ps cs ≡ true
     → (q : List ℕ) → fits_at (finmap.find bytes_cmp q ps) (finmap.find bytes_cmp q cs) ≡ true

@@ -1,7 +1,8 @@
+pub mod Cells
 pub mod ColumnsLemmas
+pub mod Comparing
 pub mod Dedup
 pub mod FitsLemmas
-pub mod Found
 pub mod Maps
 pub mod NameLemmas
 pub mod NamesLemmas

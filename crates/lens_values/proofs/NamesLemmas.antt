@@ -6,7 +6,7 @@ use Rattle.lens_values.specs.Names.{Names, same_names}
 use Rattle.lens_values.specs.SortedSet as set
 use Rattle.lens_values.proofs.Maps.{exact}
 
-both_ways : (a b : Bool) → (a ≡ true → b ≡ true) → (b ≡ true → a ≡ true) → a ≡ b
+pub both_ways : (a b : Bool) → (a ≡ true → b ≡ true) → (b ≡ true → a ≡ true) → a ≡ b
 both_ways true b f g = sym (f refl)
 both_ways false true f g = g refl
 both_ways false false f g = refl

@@ -1,6 +1,6 @@
 -- The place that a binary search finds in a strictly rising list, and a member put there.
 use Rattle.std.proofs.lemmas.Bool.{cases_lt}
-use Rattle.std.proofs.Common.{inl, inr, ◌≡◌, ℕ, ◌+◌, ◌<◌, ◌≤◌, List, [], ◌∷◌, length, get_or, ap, sym, ◌∙◌, refl, Bool, true, false, zero, suc, arith, Result, Ok, Err}
+use Rattle.std.proofs.Common.{inl, inr, ◌≡◌, ℕ, ◌+◌, ◌<◌, ◌≤◌, List, [], ◌∷◌, length, get_or, ap, sym, subst, ◌∙◌, refl, Bool, true, false, zero, suc, arith, Result, Ok, Err}
 use Rattle.std.specs.Prelude.{◌||◌, is_ok, Some, None, map, position, cond}
 use Rattle.std.specs.declared.cmp.Ordering.{Ordering}
 use Rattle.std.specs.declared.cmp.Ordering.TheVariants.{Less, Equal, Greater}
@@ -8,7 +8,7 @@ use Rattle.std.specs.Ordering.{eq_by_cmp, is_eq, is_lt, on, ordering_reverse, or
 use Rattle.std.specs.List.{AllByRecursion, AllWithin, HoldsAt, list_any, insert, position_from}
 use Rattle.std.specs.List.Sorted.{IsStrictlySortedBy, IsSearchInRange, IsBinarySearchResult, IsNonDecreasingBy, IsPartitionPoint}
 use Rattle.std.specs.Result.{result_ok}
-use Rattle.std.specs.Cmp.{IsTotalOrder, alike_right, tied_back}
+use Rattle.std.specs.Cmp.{IsTotalOrder, alike_right, tied_back, tied_itself}
 use Rattle.std.specs.FinMap.{IsAntisymmetric, find}
 use Rattle.std.proofs.lemmas.Iterator.Adapters.{position_from-zero}
 use Rattle.std.proofs.lemmas.List.Sorted.{searchable_from_sorted}
@@ -16,6 +16,7 @@ use Rattle.std.proofs.lemmas.Map.Keys.{Less-from_sorted}
 use Rattle.lens_values.specs.SortedSet as set
 use Rattle.lens_values.specs.Keys.{KeysRise, is_among}
 use Rattle.lens_values.specs.SortedMap.{keys_of}
+use Rattle.lens_values.proofs.Sets.{map-id}
 use Rattle.lens_values.proofs.Walks.{any_none, under, apart, below_all}
 
 or-true : (a : Bool) → (a || true) ≡ true
@@ -142,6 +143,13 @@ module _ {K X : Type 0} {R : K → K → Ordering} (o : IsTotalOrder R) (key : X
   pub searched_place : (xs : List X) (q : K) (r : Result ℕ ℕ) → KeysRise R key xs → IsSearchInRange r (length xs) → IsBinarySearchResult (λ y. R (key y) q) xs r → result_ok r ≡ position (eq_by_cmp R q) (map key xs)
   searched_place xs q (Ok i) s l h = sym (position_from-zero (eq_by_cmp R q) (map key xs) ∙ position_at xs q 0 i s l h ∙ ap Some (omega arith))
   searched_place xs q (Err i) s l h = sym (position_from-zero (eq_by_cmp R q) (map key xs) ∙ no_position xs q 0 (none_tie xs q i (h (searchable_keys xs q s))))
+
+-- a member of a strictly rising list is at its place
+pub own_place : {K : Type 0} {R : K → K → Ordering} (o : IsTotalOrder R) (xs : List K) (q : K) (i : ℕ) → IsStrictlySortedBy R xs → i < length xs → HoldsAt (λ y. q ≡ y) xs i → Some i ≡ position (eq_by_cmp R q) xs
+own_place {R = R} o xs q i s l h =
+    ap Some (omega arith)
+    ∙ sym (position_at o (λ x. x) xs q 0 i (subst (IsStrictlySortedBy R) (sym (map-id xs)) s) l (λ d. ap (λ y. R y q) (sym (h d)) ∙ tied_itself o q))
+    ∙ sym (position_from-zero (eq_by_cmp R q) (map (λ x. x) xs)) ∙ ap (position (eq_by_cmp R q)) (map-id xs)
 
 module _ {K V : Type 0} {R : K → K → Ordering} (o : IsTotalOrder R) where
   abbrev first : K × V → K

@@ -16,7 +16,7 @@ list_any-find : {K : Type 0} (p : K → Bool) (xs : List K) → list_any p xs �
 list_any-find p [] = refl
 list_any-find p (x ∷ xs) = elim (p x) as (λ b. (b || list_any p xs) ≡ is_some (cond b (Some x) (find p xs))) [ true ↦ refl | false ↦ list_any-find p xs ]
 
-map-id : {K : Type 0} (xs : List K) → map (λ x. x) xs ≡ xs
+pub map-id : {K : Type 0} (xs : List K) → map (λ x. x) xs ≡ xs
 map-id [] = refl
 map-id (x ∷ xs) = ap (λ l. x ∷ l) (map-id xs)
 

@@ -7,6 +7,7 @@ pub mod NameBytes
 pub mod NameFields
 pub mod Names
 pub mod Order
+pub mod Paired
 pub mod Part
 pub mod Row
 pub mod Repeats

@@ -19,19 +19,29 @@ use crate::value::Kind;
 use no_memory::NoMemory;
 use std::alloc::{AllocError, Global};
 use std::marker::Model;
+use std::rc::Rc;
 
-/// The kind of each column, kept as pairs in rising order of names.
+/// The kind of each column, kept as pairs in rising order of names. Copies share them.
 #[derive(Debug, Drop)]
 pub struct Columns {
+    listed: Rc<Listed>,
+}
+
+// The pairs, and their names as a set, which rows of these columns share.
+#[derive(Debug, Drop)]
+struct Listed {
+    names: Names,
     pairs: Vec<(Name, Kind)>,
 }
 
 impl Model for Columns {
+    ghost use Rattle.std.specs.Prelude.{◌≡◌};
     ghost use Rattle.std.specs.Coded.{coded_list, coded_ℕ};
     ghost use Rattle.std.specs.FinMap as map;
     ghost use Rattle.std.specs.List.Sorted.{IsStrictlySortedBy};
     ghost use Rattle.lens_values.specs.Order.{bytes_cmp};
     ghost use Rattle.lens_values.specs.SortedMap.{keys_of};
+    ghost use Rattle.lens_values.specs.SortedSet as set;
     ghost use Rattle.lens_values.specs.contracts.value.Kind as contract;
     ghost use Rattle.lens_values.specs.declared.value.Kind as declared;
 
@@ -39,9 +49,10 @@ impl Model for Columns {
 
     ghost coded = { map.code (coded_list coded_ℕ) contract.the_row.coded };
 
-    ghost view = { λ c. map.from_entries c.pairs.items };
+    ghost view = { λ c. map.from_entries c.listed.value.pairs.items };
 
-    ghost invariant = { λ c. IsStrictlySortedBy bytes_cmp (keys_of c.pairs.items) };
+    ghost invariant = { λ c. IsStrictlySortedBy bytes_cmp (keys_of c.listed.value.pairs.items)
+        × (c.listed.value.names ≡ set.from_list (keys_of c.listed.value.pairs.items)) };
 }
 
 /// Why pairs are not columns, or why there is no union.
@@ -79,7 +90,7 @@ impl From<NoMemory> for ColumnsFault {
 
 impl Columns {
     /// The columns of these pairs. `Twice` with the least name that two of them have.
-    pub fn new(_alloc: Global, pairs: Vec<(Name, Kind)>) -> Result<Columns, ColumnsFault>
+    pub fn new(alloc: Global, pairs: Vec<(Name, Kind)>) -> Result<Columns, ColumnsFault>
         ensures ok { IfOk result (λ columns. columns ≡ map.from_entries pairs.items) }
         ensures distinct { OnOk result (AreDistinct (keys_of pairs.items)) }
         ensures twice { (name : _) → result ≡ Err (ColumnsFault.Twice name)
@@ -89,7 +100,7 @@ impl Columns {
         let pairs = sorted_by_name(pairs)?;
         match first_repeated(&pairs) {
             Some(name) => Err(ColumnsFault::Twice { name }),
-            None => Ok(Columns { pairs }),
+            None => Ok(Columns::of_rising(alloc, pairs)?),
         }
     }
 
@@ -97,7 +108,7 @@ impl Columns {
     pub fn pairs(&self) -> &[(Name, Kind)]
         ensures { result.now ≡ map.entries self.now }
     {
-        self.pairs.as_slice()
+        self.listed.pairs.as_slice()
     }
 
     /// The place of the column among the pairs, from 0, or `None` where it is not there.
@@ -118,7 +129,7 @@ impl Columns {
     pub fn names(&self, alloc: Global) -> Result<Names, NoMemory>
         ensures { IfOk result (λ all. all ≡ names self.now) }
     {
-        Ok(Names::from_rising(names_in(alloc, self.pairs())?))
+        self.listed.names.copy(alloc)
     }
 
     /// Whether each of these columns is among the others, with the same kind.
@@ -143,26 +154,34 @@ impl Columns {
     pub fn minus(&self, alloc: Global, cols: &Names) -> Result<Columns, NoMemory>
         ensures { IfOk result (λ rest. rest ≡ exclude cols.now self.now) }
     {
-        Ok(Columns {
-            pairs: difference(alloc, self.pairs(), cols.as_slice())?,
-        })
+        Columns::of_rising(alloc, difference(alloc, self.pairs(), cols.as_slice())?)
     }
 
     /// The columns that are among the names.
     pub fn meet(&self, alloc: Global, cols: &Names) -> Result<Columns, NoMemory>
         ensures { IfOk result (λ part. part ≡ restrict cols.now self.now) }
     {
-        Ok(Columns {
-            pairs: intersection(alloc, self.pairs(), cols.as_slice())?,
-        })
+        Columns::of_rising(alloc, intersection(alloc, self.pairs(), cols.as_slice())?)
     }
 
     /// Equal columns.
-    pub fn copy(&self, alloc: Global) -> Result<Columns, NoMemory>
+    pub fn copy(&self, _alloc: Global) -> Result<Columns, NoMemory>
         ensures { IfOk result (λ copy. copy ≡ self.now) }
     {
         Ok(Columns {
-            pairs: Vec::from_slice(alloc, &self.pairs)?,
+            listed: self.listed.clone()?,
+        })
+    }
+
+    // The columns of these pairs, whose names rise strictly.
+    fn of_rising(alloc: Global, pairs: Vec<(Name, Kind)>) -> Result<Columns, NoMemory>
+        requires { IsStrictlySortedBy bytes_cmp (keys_of pairs.items) }
+        ensures { IfOk result (λ columns. columns ≡ map.from_entries pairs.items) }
+    {
+        let names = Names::from_rising(alloc, names_in(alloc, pairs.as_slice())?)?;
+        let listed = Listed { names, pairs };
+        Ok(Columns {
+            listed: Rc::new(alloc, listed)?,
         })
     }
 
@@ -190,9 +209,7 @@ impl Columns {
     fn put_over(&self, alloc: Global, other: &Columns) -> Result<Columns, NoMemory>
         ensures { IfOk result (λ both. both ≡ override self.now other.now) }
     {
-        Ok(Columns {
-            pairs: union(alloc, self.pairs(), other.pairs())?,
-        })
+        Columns::of_rising(alloc, union(alloc, self.pairs(), other.pairs())?)
     }
 }
 

@@ -1,6 +1,7 @@
 //! A finite set of names.
-ghost use Rattle.std.specs.Prelude.{◌≡◌, IfOk};
+ghost use Rattle.std.specs.Prelude.{◌≡◌, IfOk, length, position};
 ghost use Rattle.std.specs.List.Sorted.{IsStrictlySortedBy};
+ghost use Rattle.std.specs.Ordering.{eq_by_cmp};
 ghost use Rattle.lens_values.specs.Names.{one, same_names, share};
 ghost use Rattle.lens_values.specs.Order.{bytes_cmp};
 ghost use Rattle.lens_values.specs.SortedSet as set;
@@ -11,11 +12,12 @@ use crate::sorting::into_sorted;
 use no_memory::NoMemory;
 use std::alloc::Global;
 use std::marker::Model;
+use std::rc::Rc;
 
-/// A finite set of names, kept as their rising list.
+/// A finite set of names, kept as their rising list. Copies share it.
 #[derive(Debug, Drop)]
 pub struct Names {
-    names: Vec<Name>,
+    names: Rc<Vec<Name>>,
 }
 
 impl Model for Names {
@@ -28,27 +30,29 @@ impl Model for Names {
 
     ghost coded = { set.code (coded_list coded_ℕ) };
 
-    ghost view = { λ s. set.from_list s.names.items };
+    ghost view = { λ s. set.from_list s.names.value.items };
 
-    ghost invariant = { λ s. IsStrictlySortedBy bytes_cmp s.names.items };
+    ghost invariant = { λ s. IsStrictlySortedBy bytes_cmp s.names.value.items };
 }
 
 impl Names {
     /// The set of these names, which may be in any order and repeat.
-    pub fn new(_alloc: Global, list: Vec<Name>) -> Result<Names, NoMemory>
+    pub fn new(alloc: Global, list: Vec<Name>) -> Result<Names, NoMemory>
         ensures { IfOk result (λ names. names ≡ set.from_list list.items) }
     {
         Ok(Names {
-            names: into_sorted(list),
+            names: Rc::new(alloc, into_sorted(list))?,
         })
     }
 
     /// The set of these names, which rise strictly.
-    pub fn from_rising(list: Vec<Name>) -> Names
+    pub fn from_rising(alloc: Global, list: Vec<Name>) -> Result<Names, NoMemory>
         requires { IsStrictlySortedBy bytes_cmp list.items }
-        ensures { result ≡ set.from_list list.items }
+        ensures { IfOk result (λ names. names ≡ set.from_list list.items) }
     {
-        Names { names: list }
+        Ok(Names {
+            names: Rc::new(alloc, list)?,
+        })
     }
 
     /// The set of one name.
@@ -67,11 +71,35 @@ impl Names {
         self.names.as_slice()
     }
 
+    /// How many names there are.
+    pub fn len(&self) -> usize
+        ensures { result ≡ length (set.items self.now) }
+    {
+        self.as_slice().len()
+    }
+
     /// Whether the name is in the set.
     pub fn has(&self, name: &Name) -> bool
         ensures { result ≡ set.contains self.now name.now }
     {
-        self.names.binary_search(name).is_ok()
+        self.as_slice().binary_search(name).is_ok()
+    }
+
+    /// The place of the name among the names, from 0, or `None` where it is not there.
+    pub fn place_of(&self, name: &Name) -> Option<usize>
+        ensures { result ≡ position (eq_by_cmp bytes_cmp name.now) (set.items self.now) }
+    {
+        place_in(self.as_slice(), name)
+    }
+
+    // The same, where the name may stand at the place `near`.
+    pub(crate) fn place_near(&self, name: &Name, near: usize) -> Option<usize>
+        ensures { result ≡ position (eq_by_cmp bytes_cmp name.now) (set.items self.now) }
+    {
+        match self.as_slice().get(near) {
+            Some(own) if own == name => Some(near),
+            _ => self.place_of(name),
+        }
     }
 
     /// Whether both sets have the same names.
@@ -100,35 +128,40 @@ impl Names {
     pub fn union(&self, alloc: Global, other: &Names) -> Result<Names, NoMemory>
         ensures { IfOk result (λ union. union ≡ set.union self.now other.now) }
     {
-        Ok(Names {
-            names: union(alloc, self.as_slice(), other.as_slice())?,
-        })
+        Names::from_rising(alloc, union(alloc, self.as_slice(), other.as_slice())?)
     }
 
     /// The names of this set that are not in the other.
     pub fn minus(&self, alloc: Global, other: &Names) -> Result<Names, NoMemory>
         ensures { IfOk result (λ rest. rest ≡ set.difference self.now other.now) }
     {
-        Ok(Names {
-            names: difference(alloc, self.as_slice(), other.as_slice())?,
-        })
+        Names::from_rising(alloc, difference(alloc, self.as_slice(), other.as_slice())?)
     }
 
     /// The names of both sets.
     pub fn meet(&self, alloc: Global, other: &Names) -> Result<Names, NoMemory>
         ensures { IfOk result (λ shared. shared ≡ set.intersection self.now other.now) }
     {
-        Ok(Names {
-            names: intersection(alloc, self.as_slice(), other.as_slice())?,
-        })
+        Names::from_rising(
+            alloc,
+            intersection(alloc, self.as_slice(), other.as_slice())?,
+        )
     }
 
     /// An equal set.
-    pub fn copy(&self, alloc: Global) -> Result<Names, NoMemory>
+    pub fn copy(&self, _alloc: Global) -> Result<Names, NoMemory>
         ensures { IfOk result (λ copy. copy ≡ self.now) }
     {
         Ok(Names {
-            names: Vec::from_slice(alloc, &self.names)?,
+            names: self.names.clone()?,
         })
     }
+}
+
+// The place of the name in the list.
+fn place_in(list: &[Name], name: &Name) -> Option<usize>
+    requires { IsStrictlySortedBy bytes_cmp list.now }
+    ensures { result ≡ position (eq_by_cmp bytes_cmp name.now) list.now }
+{
+    list.binary_search(name).ok()
 }

@@ -1,43 +1,51 @@
 //! A row: a finite map from names to values.
-ghost use Rattle.std.specs.Prelude.{◌≡◌, ◌↔◌, IsTrue, IfOk, OnOk, option_copied};
+ghost use Rattle.std.specs.Prelude.{◌≡◌, ◌↔◌, IsTrue, IfOk, OnOk, length, option_copied};
 ghost use Rattle.std.specs.FinMap as map;
 ghost use Rattle.std.specs.List.Sorted.{IsStrictlySortedBy};
-ghost use Rattle.std.specs.Cmp.Lexicographic.{pointwise};
-ghost use Rattle.std.specs.List.{list_all, zip};
+ghost use Rattle.std.specs.Cmp.Lexicographic.{pointwise, slice_cmp};
+ghost use Rattle.std.specs.List.{filter_map, list_all, zip};
 ghost use Rattle.lens_values.specs.Columns.{Fits};
 ghost use Rattle.lens_values.specs.Order.{bytes_cmp};
+ghost use Rattle.lens_values.specs.Paired.{AreAsMany, paired};
 ghost use Rattle.lens_values.specs.Part.{override, restrict};
 ghost use Rattle.lens_values.specs.Repeats.{AreDistinct, IsLeastRepeated};
-ghost use Rattle.lens_values.specs.Row.{agree, pair_fits};
-ghost use Rattle.lens_values.specs.SortedMap.{keys_of};
+ghost use Rattle.lens_values.specs.Row.{agree, pair_cmp, pair_fits};
+ghost use Rattle.lens_values.specs.SortedMap.{keys_of, values_of};
+ghost use Rattle.lens_values.specs.SortedSet as set;
 ghost use Rattle.lens_values.specs.Value.{same_value};
 
 use crate::columns::Columns;
 use crate::copying::TryClone;
-use crate::merging::{Keyed, intersection, union};
+use crate::merging::Keyed;
 use crate::name::Name;
 use crate::names::Names;
 use crate::sorting::{first_repeated, sorted_by_name};
 use crate::value::{Kind, Value};
 use no_memory::NoMemory;
-use std::alloc::{AllocError, AllocFailed, Global};
+use std::alloc::{AllocError, Global};
 use std::cmp::Ordering;
 use std::marker::Model;
 use std::rc::Rc;
 
-/// A finite map from names to values, kept as its pairs in rising order of names. Copies share
-/// them.
+/// A finite map from names to values, kept as the values in rising order of names. Copies share
+/// them, and rows that are made with the same set of names share that.
 #[derive(Debug, Drop)]
 pub struct Row {
-    pairs: Rc<Vec<(Name, Value)>>,
+    cells: Rc<Cells>,
+}
+
+// Names, and a value for each of them in their order.
+#[derive(Debug, Drop)]
+struct Cells {
+    names: Names,
+    values: Vec<Value>,
 }
 
 impl Model for Row {
     ghost use Rattle.std.specs.Coded.{coded_list, coded_ℕ};
     ghost use Rattle.std.specs.FinMap as map;
-    ghost use Rattle.std.specs.List.Sorted.{IsStrictlySortedBy};
     ghost use Rattle.lens_values.specs.Order.{bytes_cmp};
-    ghost use Rattle.lens_values.specs.SortedMap.{keys_of};
+    ghost use Rattle.lens_values.specs.Paired.{AreAsMany, paired};
     ghost use Rattle.lens_values.specs.contracts.value.Value as contract;
     ghost use Rattle.lens_values.specs.declared.value.Value as declared;
 
@@ -45,9 +53,9 @@ impl Model for Row {
 
     ghost coded = { map.code (coded_list coded_ℕ) contract.the_row.coded };
 
-    ghost view = { λ r. map.from_entries r.pairs.value.items };
+    ghost view = { λ r. map.from_entries (paired r.cells.value.names r.cells.value.values.items) };
 
-    ghost invariant = { λ r. IsStrictlySortedBy bytes_cmp (keys_of r.pairs.value.items) };
+    ghost invariant = { λ r. AreAsMany r.cells.value.names r.cells.value.values.items };
 }
 
 /// Why pairs are not a row.
@@ -70,13 +78,13 @@ impl From<AllocError> for RowFault {
     }
 }
 
-impl<T: Drop> From<AllocFailed<T>> for RowFault {
+impl From<NoMemory> for RowFault {
     ghost use Rattle.std.specs.Prelude.{◌≡◌};
     ghost use Rattle.lens_values.specs.declared.row.RowFault.TheVariants.{NoMemory};
 
     ghost from_gives = { λ _ e. e ≡ NoMemory };
 
-    fn from(_: AllocFailed<T>) -> RowFault {
+    fn from(_: NoMemory) -> RowFault {
         RowFault::NoMemory
     }
 }
@@ -92,9 +100,7 @@ impl Row {
         let pairs = sorted_by_name(pairs)?;
         match first_repeated(&pairs) {
             Some(name) => Err(RowFault::Twice { name }),
-            None => Ok(Row {
-                pairs: Rc::new(alloc, pairs)?,
-            }),
+            None => Ok(Row::from_rising(alloc, pairs)?),
         }
     }
 
@@ -103,37 +109,91 @@ impl Row {
         requires { IsStrictlySortedBy bytes_cmp (keys_of pairs.items) }
         ensures { IfOk result (λ row. row ≡ map.from_entries pairs.items) }
     {
+        let (names, values) = names_and_values(alloc, pairs)?;
+        Row::from_values(alloc, Names::from_rising(alloc, names)?, values)
+    }
+
+    /// The row of these names with a value for each, in rising order of names.
+    pub fn from_values(alloc: Global, names: Names, values: Vec<Value>) -> Result<Row, NoMemory>
+        requires { AreAsMany names values.items }
+        ensures { IfOk result (λ row. row ≡ map.from_entries (paired names values.items)) }
+    {
+        let cells = Cells { names, values };
         Ok(Row {
-            pairs: Rc::new(alloc, pairs)?,
+            cells: Rc::new(alloc, cells)?,
         })
+    }
+
+    /// The names of the columns.
+    pub fn names(&self) -> &Names
+        ensures { set.items result.now ≡ map.keys self.now }
+    {
+        &self.cells.names
+    }
+
+    /// The values in rising order of names.
+    pub fn values(&self) -> &[Value]
+        ensures { result.now ≡ values_of (map.entries self.now) }
+    {
+        self.cells.values.as_slice()
     }
 
     /// The value under a name, or `None` where the row has none.
     pub fn value(&self, name: &Name) -> Option<&Value>
         ensures { option_copied result ≡ map.get self.now name.now }
     {
-        value_in(self.pairs.as_slice(), name)
-    }
-
-    /// The pairs in rising order of names.
-    pub fn pairs(&self) -> &[(Name, Value)]
-        ensures { result.now ≡ map.entries self.now }
-    {
-        self.pairs.as_slice()
+        match self.names().place_of(name) {
+            Some(place) => self.values().get(place),
+            None => None,
+        }
     }
 
     /// The part of the row in these columns.
     pub fn project(&self, alloc: Global, cols: &Names) -> Result<Row, NoMemory>
         ensures { IfOk result (λ part. part ≡ restrict cols.now self.now) }
     {
-        Row::from_rising(alloc, intersection(alloc, self.pairs(), cols.as_slice())?)
+        let values = self.values_at(alloc, cols)?;
+        if values.len() == cols.len() {
+            return Row::from_values(alloc, cols.copy(alloc)?, values);
+        }
+        Row::from_values(alloc, cols.meet(alloc, self.names())?, values)
     }
 
     /// The row with the columns of both, and with the other's value where both have one.
     pub fn paste(&self, alloc: Global, over: &Row) -> Result<Row, NoMemory>
         ensures { IfOk result (λ both. both ≡ override over.now self.now) }
     {
-        Row::from_rising(alloc, union(alloc, over.pairs(), self.pairs())?)
+        let own = self.names();
+        let all = if over.names().within(own) {
+            own.copy(alloc)?
+        } else {
+            over.names().union(alloc, own)?
+        };
+        let values = self.values_with(alloc, over, &all)?;
+        Row::from_values(alloc, all, values)
+    }
+
+    /// As `paste`. The row shares the names `like`, where they are its own.
+    pub fn paste_like(&self, alloc: Global, over: &Row, like: &Names) -> Result<Row, NoMemory>
+        ensures { IfOk result (λ both. both ≡ override over.now self.now) }
+    {
+        let values = self.values_with(alloc, over, like)?;
+        if values.len() == like.len() && over.names().within(like) && self.names().within(like) {
+            return Row::from_values(alloc, like.copy(alloc)?, values);
+        }
+        self.paste(alloc, over)
+    }
+
+    /// The part in these columns of this row with the other pasted over it.
+    pub fn paste_part(&self, alloc: Global, over: &Row, cols: &Names) -> Result<Row, NoMemory>
+        ensures { IfOk result (λ part. part ≡ restrict cols.now (override over.now self.now)) }
+    {
+        let values = self.values_with(alloc, over, cols)?;
+        if values.len() == cols.len() {
+            return Row::from_values(alloc, cols.copy(alloc)?, values);
+        }
+        let all = over.names().union(alloc, self.names())?;
+        Row::from_values(alloc, cols.meet(alloc, &all)?, values)
     }
 
     /// Whether both rows have the same value, or none, in each of these columns.
@@ -150,7 +210,7 @@ impl Row {
     pub fn fits(&self, columns: &Columns) -> bool
         ensures { IsTrue result ↔ Fits columns.now self.now }
     {
-        all_fit(self.pairs(), columns.pairs())
+        all_fit(self.names().as_slice(), self.values(), columns.pairs())
     }
 
     /// An equal row.
@@ -158,7 +218,7 @@ impl Row {
         ensures { IfOk result (λ copy. copy ≡ self.now) }
     {
         Ok(Row {
-            pairs: self.pairs.clone()?,
+            cells: self.cells.clone()?,
         })
     }
 
@@ -172,42 +232,124 @@ impl Row {
             _ => false,
         }
     }
-}
 
-// Whether the pairs are in these columns, each with a value that fits.
-fn all_fit(pairs: &[(Name, Value)], columns: &[(Name, Kind)]) -> bool
-    ensures { result ≡ pointwise pair_fits pairs.now columns.now }
-{
-    pairs.len() == columns.len() && each_fits(pairs, columns)
-}
-
-// Whether each pair is in the column at its place, with a value that fits.
-fn each_fits(pairs: &[(Name, Value)], columns: &[(Name, Kind)]) -> bool
-    ensures { result ≡ list_all (λ e. pair_fits e.0 e.1) (zip pairs.now columns.now) }
-{
-    pairs
-        .iter()
-        .zip(columns)
-        .all(|(pair, column)| pair_fits(pair, column))
-}
-
-// Whether the value is in this column, and fits its kind.
-fn pair_fits(pair: &(Name, Value), column: &(Name, Kind)) -> bool
-    ensures { result ≡ pair_fits pair.now column.now }
-{
-    pair.0 == column.0 && pair.1.fits(column.1)
-}
-
-// The value of the first pair with this name.
-fn value_in<'a>(pairs: &'a [(Name, Value)], name: &Name) -> Option<&'a Value>
-    ensures { option_copied result ≡ map.find bytes_cmp name.now pairs.now }
-{
-    for pair in pairs {
-        if *name == pair.0 {
-            return Some(&pair.1);
+    // The value under a name, which may stand at the place `near`. Then `near` is the next place.
+    fn value_near(&self, name: &Name, near: &mut usize) -> Option<&Value>
+        ensures { option_copied result ≡ map.get self.now name.now }
+    {
+        match self.names().place_near(name, *near) {
+            Some(place) => {
+                *near = place.saturating_add(1);
+                self.values().get(place)
+            }
+            None => None,
         }
     }
-    None
+
+    // The values that the row has under the names, in the order of the names.
+    fn values_at(&self, alloc: Global, names: &Names) -> Result<Vec<Value>, NoMemory>
+        ensures { IfOk result (λ found.
+            found.items ≡ filter_map (map.get self.now) (set.items names.now)) }
+    {
+        let mut found = Vec::with_capacity(alloc, names.len())?;
+        let mut near = 0;
+        for name in names.as_slice() {
+            if let Some(value) = self.value_near(name, &mut near) {
+                found.push(value.copy(alloc)?)?;
+            }
+        }
+        Ok(found)
+    }
+
+    // The values that the row with the other pasted over it has under the names.
+    fn values_with(&self, alloc: Global, over: &Row, names: &Names) -> Result<Vec<Value>, NoMemory>
+        ensures { IfOk result (λ found.
+            found.items ≡ filter_map (map.get (override over.now self.now)) (set.items names.now)) }
+    {
+        let mut found = Vec::with_capacity(alloc, names.len())?;
+        let mut near = 0;
+        let mut over_near = 0;
+        for name in names.as_slice() {
+            let value = match over.value_near(name, &mut over_near) {
+                Some(value) => Some(value),
+                None => self.value_near(name, &mut near),
+            };
+            if let Some(value) = value {
+                found.push(value.copy(alloc)?)?;
+            }
+        }
+        Ok(found)
+    }
+}
+
+// The names of the pairs, and their values.
+fn names_and_values(
+    alloc: Global,
+    pairs: Vec<(Name, Value)>,
+) -> Result<(Vec<Name>, Vec<Value>), NoMemory>
+    ensures names { IfOk result (λ lists. lists.0.items ≡ keys_of pairs.items) }
+    ensures values { IfOk result (λ lists. lists.1.items ≡ values_of pairs.items) }
+{
+    let mut names = Vec::with_capacity(alloc, pairs.len())?;
+    let mut values = Vec::with_capacity(alloc, pairs.len())?;
+    for (name, value) in pairs {
+        names.push(name)?;
+        values.push(value)?;
+    }
+    Ok((names, values))
+}
+
+// Whether the names with their values are in these columns, each with a value that fits.
+fn all_fit(names: &[Name], values: &[Value], columns: &[(Name, Kind)]) -> bool
+    requires { length names.now ≡ length values.now }
+    ensures { result ≡ pointwise pair_fits (zip names.now values.now) columns.now }
+{
+    values.len() == columns.len() && each_fits(names, values, columns)
+}
+
+// Whether each name with its value is in the column at its place, and the value fits.
+fn each_fits(names: &[Name], values: &[Value], columns: &[(Name, Kind)]) -> bool
+    ensures { result
+        ≡ list_all (λ e. pair_fits e.0 e.1) (zip (zip names.now values.now) columns.now) }
+{
+    names
+        .iter()
+        .zip(values)
+        .zip(columns)
+        .all(|((name, value), column)| value_fits(name, value, column))
+}
+
+// Whether the name is that of the column, and the value fits its kind.
+fn value_fits(name: &Name, value: &Value, column: &(Name, Kind)) -> bool
+    ensures { result ≡ pair_fits (name.now, value.now) column.now }
+{
+    *name == column.0 && value.fits(column.1)
+}
+
+// How names with their values stand to others, by the first that differ.
+fn pairs_cmp(names: &[Name], values: &[Value], others: &[Name], their: &[Value]) -> Ordering
+    requires names { length names.now ≡ length values.now }
+    requires others { length others.now ≡ length their.now }
+    ensures { result
+        ≡ slice_cmp pair_cmp (zip names.now values.now) (zip others.now their.now) }
+{
+    for place in 0..values.len().min(their.len()) {
+        match pair_cmp(&names[place], &values[place], &others[place], &their[place]) {
+            Ordering::Equal => (),
+            order => return order,
+        }
+    }
+    values.len().cmp(&their.len())
+}
+
+// How a name with its value stands to another.
+fn pair_cmp(name: &Name, value: &Value, other: &Name, its: &Value) -> Ordering
+    ensures { result ≡ pair_cmp (name.now, value.now) (other.now, its.now) }
+{
+    match name.cmp(other) {
+        Ordering::Equal => value.cmp(its),
+        order => order,
+    }
 }
 
 impl PartialEq for Row {
@@ -262,7 +404,12 @@ impl Ord for Row {
     ghost matches_eq = { λ _ _. refl };
 
     fn cmp(&self, other: &Row) -> Ordering {
-        self.pairs().cmp(other.pairs())
+        pairs_cmp(
+            self.names().as_slice(),
+            self.values(),
+            other.names().as_slice(),
+            other.values(),
+        )
     }
 }
 

@@ -1,4 +1,5 @@
 pub mod Columns
+pub mod Entries
 pub mod Faults
 pub mod FirstWrong
 pub mod Lines

@@ -1,7 +1,8 @@
 -- Elements that are read one after another, until one is not right.
-use Rattle.std.proofs.Common.{◌≡◌, ◌∙◌, ◌<◌, ◌+◌, ℕ, zero, suc, List, [], ◌∷◌, ◌++◌, take, length, get_or, ap, sym, refl, arith, Global}
+use Rattle.std.proofs.Common.{◌≡◌, ◌∙◌, ◌<◌, ◌+◌, ◌≤◌, ℕ, zero, suc, List, [], ◌∷◌, ◌++◌, take, length, get_or, ap, sym, refl, arith, Global}
 use Rattle.std.specs.Prelude.{Option, Some, None, Result, Ok, Err}
-use Rattle.std.proofs.lemmas.List.{take_more}
+use Rattle.std.specs.List.{zip}
+use Rattle.std.proofs.lemmas.List.{length-map, length-take-le, take_more}
 use Rattle.serde_json.specs.Data.{Members}
 use Rattle.borrowed_json.specs.Meaning.{value_data, items_data}
 use Rattle.json.specs.declared.value.Value.{Value as JsonOver}
@@ -40,6 +41,30 @@ pub pairs_more : (ms : Members) (columns : List (Name × Kind)) (i : ℕ) (colum
 pairs_more ms columns i column h e value is pairs so_far all last =
     ap (λ cs. pairs_in cs ms) (take_more columns i column h ∙ ap (λ c. take i columns ++ c ∷ []) (sym e))
     ∙ pairs_push ms (take i columns) column value is pairs so_far ∙ ap Ok (sym last)
+
+keys_push : (columns : List (Name × Kind)) (column : Name × Kind) → keys_of (columns ++ column ∷ []) ≡ keys_of columns ++ column.0 ∷ []
+keys_push [] column = refl
+keys_push (c ∷ columns) column = ap (λ ks. c.0 ∷ ks) (keys_push columns column)
+
+zip_push : (names : List Name) (values : List Value) (name : Name) (value : Value) → length names ≡ length values
+    → zip (names ++ name ∷ []) (values ++ value ∷ []) ≡ zip names values ++ (name, value) ∷ []
+zip_push [] [] name value e = refl
+zip_push [] (v ∷ values) name value e = absurd (omega arith)
+zip_push (n ∷ names) [] name value e = absurd (omega arith)
+zip_push (n ∷ names) (v ∷ values) name value e = ap (λ ps. (n, v) ∷ ps) (zip_push names values name value (omega (arith, e)))
+
+keys_counted : (columns : List (Name × Kind)) (i : ℕ) → i ≤ length columns → length (keys_of (take i columns)) ≡ i
+keys_counted columns i h = length-map (take i columns) (λ c. c.0) ∙ length-take-le i columns h
+
+-- one value more at the end, in its column
+pub values_more : (ms : Members) (columns : List (Name × Kind)) (i : ℕ) (column : Name × Kind) → i < length columns → column ≡ get_or columns i column
+    → (value : Value) → value_at ms column ≡ Some value → (values : List Value) → i ≡ length values → pairs_in (take i columns) ms ≡ Ok (zip (keys_of (take i columns)) values)
+    → (all : List Value) → all ≡ values ++ value ∷ [] → pairs_in (take (i + 1) columns) ms ≡ Ok (zip (keys_of (take (i + 1) columns)) all)
+values_more ms columns i column h e value is values many so_far all last =
+    let front : take (i + 1) columns ≡ take i columns ++ column ∷ [] = take_more columns i column h ∙ ap (λ c. take i columns ++ c ∷ []) (sym e) in
+    pairs_more ms columns i column h e value is (zip (keys_of (take i columns)) values) so_far (zip (keys_of (take (i + 1) columns)) all)
+    ((λ j. zip ((ap keys_of front ∙ keys_push (take i columns) column) j) (last j))
+    ∙ zip_push (keys_of (take i columns)) values column.0 value (keys_counted columns i (omega (arith, h)) ∙ many))
 
 -- the fault of the others, where the first is right
 pair_wrong : (name : Name) (first : Option Value) (others whole : Pairs) (wrong : Name) → ((ps : List (Name × Value)) → others ≡ Ok ps → whole ≡ Err wrong)
@@ -97,20 +122,3 @@ rows_bad columns [] x ys name is rows so_far =
     ap (λ r. with_row r (rows_in columns (items_data ys))) is ∙ ap (λ (l : List Row). Err (length l, name)) (sym same)
 rows_bad columns (y ∷ xs) x ys name is rows so_far =
     row_bad (row_in columns (value_data y)) (rows_in columns (items_data xs)) (rows_in columns (items_data (xs ++ x ∷ ys))) name (rows_bad columns xs x ys name is) rows so_far
-
--- ---- the names
-
-keys_joined : (k : Name) (first : Option Value) (others : Pairs) (names : List Name) → ((ps : List (Name × Value)) → others ≡ Ok ps → keys_of ps ≡ names)
-    → (pairs : List (Name × Value)) → with_pair k first others ≡ Ok pairs → keys_of pairs ≡ k ∷ names
-keys_joined k None others names h pairs e = cc
-keys_joined k (Some v) (Err wrong) names h pairs e = cc
-keys_joined k (Some v) (Ok ps) names h pairs e =
-    let same : pairs ≡ (k, v) ∷ ps = cc in
-    ap (λ (qs : List (Name × Value)). keys_of qs) same ∙ ap (λ ns. k ∷ ns) (h ps refl)
-
--- the pairs have the names of the columns
-pub pairs_keys : (ms : Members) (columns : List (Name × Kind)) (pairs : List (Name × Value)) → pairs_in columns ms ≡ Ok pairs → keys_of pairs ≡ keys_of columns
-pairs_keys ms [] pairs e =
-    let same : pairs ≡ [] = cc in
-    ap (λ (ps : List (Name × Value)). keys_of ps) same
-pairs_keys ms (c ∷ columns) pairs e = keys_joined c.0 (value_at ms c) (pairs_in columns ms) (keys_of columns) (pairs_keys ms columns) pairs e

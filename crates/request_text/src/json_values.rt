@@ -1,12 +1,10 @@
 //! Rows as JSON.
 ghost use Rattle.std.specs.Prelude.{◌≡◌, IfOk};
-ghost use Rattle.std.specs.List.Sorted.{IsStrictlySortedBy};
-ghost use Rattle.lens_values.specs.Order.{bytes_cmp};
-ghost use Rattle.lens_values.specs.SortedMap.{keys_of};
+ghost use Rattle.std.specs.FinMap as finmap;
 ghost use Rattle.serde_json.specs.View.{view, members_view};
 ghost use Rattle.server_specs.specs.Answer.{value_data, row_data, pairs_data};
 
-use lens_values::{Name, NoMemory, Row, Value};
+use lens_values::{NoMemory, Row, Value};
 use serde_json::{Map, Value as Json};
 use std::alloc::Global;
 
@@ -14,17 +12,17 @@ use std::alloc::Global;
 pub fn row_value(alloc: Global, row: &Row) -> Result<Json, NoMemory>
     ensures { IfOk result (λ json. view json ≡ row_data row.now) }
 {
-    Ok(Json::Object(members_json(alloc, row.pairs())?))
+    Ok(Json::Object(members_json(alloc, row)?))
 }
 
-fn members_json(alloc: Global, pairs: &[(Name, Value)]) -> Result<Map<String, Json>, NoMemory>
-    requires { IsStrictlySortedBy bytes_cmp (keys_of pairs.now) }
-    ensures { IfOk result (λ members. members_view members.entries ≡ pairs_data pairs.now) }
+fn members_json(alloc: Global, row: &Row) -> Result<Map<String, Json>, NoMemory>
+    ensures { IfOk result (λ members.
+        members_view members.entries ≡ pairs_data (finmap.entries row.now)) }
 {
     let mut members = Map::new(alloc);
-    for pair in pairs {
-        let value = value_json(alloc, &pair.1)?;
-        serde_json::put(&mut members, alloc, pair.0.as_str(), value)?;
+    for (name, value) in row.names().as_slice().iter().zip(row.values()) {
+        let value = value_json(alloc, value)?;
+        serde_json::put(&mut members, alloc, name.as_str(), value)?;
     }
     Ok(members)
 }

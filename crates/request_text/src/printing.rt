@@ -203,9 +203,9 @@ fn print_object(out: &mut Writer, row: &Row) -> Result<(), NoMemory>
     ensures { OnOk result (Adds out.old out.new (data_tokens (row_data row.now))) }
 {
     out.begin_object()?;
-    for pair in row.pairs() {
-        out.key(pair.0.as_str())?;
-        print_value(out, &pair.1)?;
+    for (name, value) in row.names().as_slice().iter().zip(row.values()) {
+        out.key(name.as_str())?;
+        print_value(out, value)?;
     }
     out.end_object()?;
     Ok(())

@@ -1,11 +1,11 @@
 //! The rows of a request, read from JSON.
-ghost use Rattle.std.specs.Prelude.{◌≡◌, List, Ok, Err, IfOk, IsOk, map, option_map};
+ghost use Rattle.std.specs.Prelude.{◌≡◌, List, Ok, Err, IfOk, IsOk, length, map, option_map};
 ghost use Rattle.std.specs.FinMap as finmap;
-ghost use Rattle.std.specs.List.{list_any};
-ghost use Rattle.std.specs.List.Sorted.{IsStrictlySortedBy};
+ghost use Rattle.std.specs.List.{list_any, zip};
 ghost use Rattle.borrowed_json.specs.Meaning.{value_data, items_data, members_data};
-ghost use Rattle.lens_values.specs.Order.{bytes_cmp};
+ghost use Rattle.lens_values.specs.Paired.{AreAsMany, paired};
 ghost use Rattle.lens_values.specs.SortedMap.{keys_of};
+ghost use Rattle.lens_values.specs.SortedSet as set;
 ghost use Rattle.lens_values.specs.declared.row.Row.{Row as RowOf};
 ghost use Rattle.server_specs.specs.Request.{first_other, is_key};
 ghost use Rattle.server_specs.specs.Sending as spec;
@@ -17,7 +17,7 @@ use crate::member::{Member, MemberFault, lesser};
 use crate::member_values::text_member;
 use borrowed_json::{Entry, as_i64, member};
 use json::Value as Json;
-use lens_values::{Columns, Kind, Name, NoMemory, Row, Value};
+use lens_values::{Columns, Kind, Name, Names, NoMemory, Row, Value};
 use row_sets::RowSet;
 use std::alloc::{AllocError, AllocFailed, Global};
 
@@ -81,24 +81,31 @@ impl RowsFault {
     }
 }
 
-/// Reads a set of rows. `BadRow` for the first element that is no row of the columns, or
-/// `NoMemory`.
+/// Reads a set of rows, which share the names of the columns. `BadRow` for the first element that
+/// is no row of the columns, or `NoMemory`.
 pub fn rows_of(alloc: Global, columns: &Columns, rows: JsonRows<'_>) -> Result<RowSet, RowsFault>
     ensures { GivesRows (λ rows. rows) result (set_of (spec.rows_in columns.now rows.entry)) }
 {
-    let list = rows_in(alloc, columns, rows.into_list())?;
+    let names = columns.names(alloc)?;
+    let list = rows_in(alloc, columns, &names, rows.into_list())?;
     Ok(RowSet::new(alloc, list)?)
 }
 
 // The rows, in the order of the elements. Each element is freed as soon as it is read, and the next
 // row takes its memory.
-fn rows_in(alloc: Global, columns: &Columns, items: Vec<Json<'_>>) -> Result<Vec<Row>, RowsFault>
+fn rows_in(
+    alloc: Global,
+    columns: &Columns,
+    names: &Names,
+    items: Vec<Json<'_>>,
+) -> Result<Vec<Row>, RowsFault>
+    requires { set.items names.now ≡ finmap.keys columns.now }
     ensures { GivesRows (λ list. list.items) result
         (spec.rows_in columns.now (items_data items.entry.items)) }
 {
     let mut rows = Vec::with_capacity(alloc, items.len())?;
     for item in items {
-        match row_in(alloc, columns, item) {
+        match row_in(alloc, columns, names, item) {
             Ok(row) => rows.push(row)?,
             Err(fault) => return Err(RowsFault::at(rows.len(), fault)),
         }
@@ -106,11 +113,17 @@ fn rows_in(alloc: Global, columns: &Columns, items: Vec<Json<'_>>) -> Result<Vec
     Ok(rows)
 }
 
-fn row_in(alloc: Global, columns: &Columns, json: Json<'_>) -> Result<Row, MemberFault>
+fn row_in(
+    alloc: Global,
+    columns: &Columns,
+    names: &Names,
+    json: Json<'_>,
+) -> Result<Row, MemberFault>
+    requires { set.items names.now ≡ finmap.keys columns.now }
     ensures { Finds (λ row. row) result (spec.row_in columns.now (value_data json.entry)) }
 {
     match json {
-        Json::Object(members) => row_of_members(alloc, columns, &members),
+        Json::Object(members) => row_of_members(alloc, columns, names, &members),
         _ => Err(MemberFault::wrong(alloc, first_column(columns.pairs()))),
     }
 }
@@ -127,13 +140,15 @@ fn first_column(columns: &[(Name, Kind)]) -> &str
 fn row_of_members(
     alloc: Global,
     columns: &Columns,
+    names: &Names,
     members: &[Entry<'_>],
 ) -> Result<Row, MemberFault>
+    requires { set.items names.now ≡ finmap.keys columns.now }
     ensures { Finds (λ row. row) result
         (spec.row_of_members columns.now (members_data members.now)) }
 {
-    match pairs_in(alloc, columns.pairs(), members) {
-        Ok(pairs) => row_of_pairs(alloc, columns, members, pairs),
+    match values_in(alloc, columns.pairs(), members) {
+        Ok(values) => row_of_values(alloc, columns, names, members, values),
         Err(MemberFault::Wrong { member }) => {
             let strange = first_strange(columns, members);
             Err(MemberFault::lesser(alloc, member, strange))
@@ -143,20 +158,22 @@ fn row_of_members(
 }
 
 // Makes the row, unless a member is no column.
-fn row_of_pairs(
+fn row_of_values(
     alloc: Global,
     columns: &Columns,
+    names: &Names,
     members: &[Entry<'_>],
-    pairs: Vec<(Name, Value)>,
+    values: Vec<Value>,
 ) -> Result<Row, MemberFault>
-    requires { spec.pairs_in (finmap.entries columns.now) (members_data members.now)
-        ≡ Ok pairs.items }
+    requires as_many { AreAsMany names.now values.items }
+    requires pairs { spec.pairs_in (finmap.entries columns.now) (members_data members.now)
+        ≡ Ok (paired names.now values.items) }
     ensures { Finds (λ row. row) result
         (spec.row_of_members columns.now (members_data members.now)) }
 {
     match strange_beside(columns, members) {
         Some(name) => Err(MemberFault::wrong(alloc, name)),
-        None => Ok(Row::from_rising(alloc, pairs)?),
+        None => Ok(Row::from_values(alloc, names.copy(alloc)?, values)?),
     }
 }
 
@@ -193,23 +210,24 @@ fn is_column(columns: &[(Name, Kind)], name: &str) -> bool
     columns.iter().any(|column| name == column.0.as_str())
 }
 
-// Each of the columns with its value, in the order of the columns.
-fn pairs_in(
+// The values of the columns, in the order of the columns.
+fn values_in(
     alloc: Global,
     columns: &[(Name, Kind)],
     members: &[Entry<'_>],
-) -> Result<Vec<(Name, Value)>, MemberFault>
-    ensures { Finds (λ pairs. pairs.items) result
+) -> Result<Vec<Value>, MemberFault>
+    ensures as_many { IfOk result (λ values. length (keys_of columns.now) ≡ length values.items) }
+    ensures finds { Finds (λ values. zip (keys_of columns.now) values.items) result
         (spec.pairs_in columns.now (members_data members.now)) }
 {
-    let mut pairs = Vec::with_capacity(alloc, columns.len())?;
+    let mut values = Vec::with_capacity(alloc, columns.len())?;
     for column in columns {
         match value_at(alloc, members, column)? {
-            Some(value) => pairs.push((column.0, value))?,
+            Some(value) => values.push(value)?,
             None => return Err(MemberFault::wrong(alloc, column.0.as_str())),
         }
     }
-    Ok(pairs)
+    Ok(values)
 }
 
 fn value_at(

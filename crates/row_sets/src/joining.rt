@@ -78,7 +78,8 @@ fn partners<'a>(
     }
 }
 
-// Adds the row pasted with each of the indexed rows.
+// Adds the row pasted with each of the indexed rows. The pairs of two relations all have the same
+// columns, so each shares the names of the one before it.
 fn append_pairs(
     pairs: &mut Vec<Row>,
     alloc: Global,
@@ -89,7 +90,11 @@ fn append_pairs(
         ≡ pairs.old.items ++ map (λ e. override e.1 row.now) index.now) }
 {
     for entry in index {
-        pairs.push(row.paste(alloc, &entry.1)?)?;
+        let pair = match pairs.last() {
+            Some(before) => row.paste_like(alloc, &entry.1, before.names())?,
+            None => row.paste(alloc, &entry.1)?,
+        };
+        pairs.push(pair)?;
     }
     Ok(())
 }

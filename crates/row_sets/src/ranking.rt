@@ -54,10 +54,10 @@ fn without_ranks(alloc: Global, ranked: Vec<Ranked>) -> Result<Vec<Row>, NoMemor
 // What the row begins with, as a number that rises with it: the value of its first column, or the
 // front of a text.
 fn rank_of(row: &Row) -> u128 {
-    match row.pairs() {
-        [(_, Value::Int(number)), ..] => (i128::from(*number) - i128::from(i64::MIN)) as u128,
-        [(_, Value::Text(text)), ..] => front_of(text.as_str().as_bytes()),
-        [(_, Value::Flag(flag)), ..] => u128::from(*flag),
+    match row.values() {
+        [Value::Int(number), ..] => (i128::from(*number) - i128::from(i64::MIN)) as u128,
+        [Value::Text(text), ..] => front_of(text.as_str().as_bytes()),
+        [Value::Flag(flag), ..] => u128::from(*flag),
         [] => 0,
     }
 }

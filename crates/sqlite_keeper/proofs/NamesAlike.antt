@@ -1,19 +1,25 @@
--- Pairs that have the same names in the same order.
-use Rattle.std.proofs.Common.{◌≡◌, ℕ, List, [], ◌∷◌, length, arith, ap, refl, subst, sym}
-use Rattle.std.specs.Prelude.{◌&&◌, ◌↔◌, IsTrue, nat_eq}
-use Rattle.std.specs.Cmp.Lexicographic.{pointwise, pointwise_decides, bytes_decides}
-use Rattle.std.specs.List.{list_all, zip}
-use Rattle.lens_values.specs.SortedMap.{keys_of}
-use Rattle.lens_values.specs.declared.value.Value.{Value}
+-- Names as a set has them, and as columns and rows do.
+use Rattle.std.proofs.Common.{◌≡◌, ◌∙◌, ℕ, List, ap, refl, sym}
+use Rattle.std.specs.Prelude.{◌↔◌, IsTrue}
+use Rattle.std.specs.Cmp.Lexicographic.{nat_list_cmp_total, pointwise_decides, bytes_decides}
+use Rattle.std.specs.FinMap.{entries, keys}
+use Rattle.lens_values.specs.Columns.{Columns, names}
+use Rattle.lens_values.specs.Names.{Names, same_names}
+use Rattle.lens_values.specs.Order.{bytes_cmp}
+use Rattle.lens_values.specs.SortedMap.{keys_of, keys_rise}
+use Rattle.lens_values.specs.SortedSet.{items, items-from_list}
+use Rattle.lens_values.specs.declared.value.Kind.{Kind}
+use Rattle.lens_values.proofs.NamesLemmas.{same_is, same_lists}
 
-by_place : (xs ys : List (List ℕ × Value)) → length xs ≡ length ys
-    → list_all (λ e. pointwise nat_eq e.0.0 e.1.0) (zip xs ys) ≡ pointwise (pointwise nat_eq) (keys_of xs) (keys_of ys)
-by_place [] [] e = refl
-by_place [] (y ∷ ys) e = absurd (omega (arith, e))
-by_place (x ∷ xs) [] e = absurd (omega (arith, e))
-by_place (x ∷ xs) (y ∷ ys) e = ap (λ b. pointwise nat_eq x.0 y.0 && b) (by_place xs ys (omega (arith, e)))
+-- sets have the same names where their lists are the same
+pub names_alike : (X Y : Names) (xs : List (List ℕ)) → items X ≡ xs → IsTrue (same_names X Y) ↔ (xs ≡ items Y)
+names_alike X Y xs list = (
+  λ t. sym list ∙ ap items (same_is X Y t),
+  λ e. sym (same_lists X Y (items X) (items Y) refl refl) ∙ (pointwise_decides bytes_decides (items X) (items Y)).1 (list ∙ e),
+)
 
--- lists of one length that agree at each place have the same names
-pub names_alike : (xs ys : List (List ℕ × Value)) → length xs ≡ length ys
-    → IsTrue (list_all (λ e. pointwise nat_eq e.0.0 e.1.0) (zip xs ys)) ↔ (keys_of xs ≡ keys_of ys)
-names_alike xs ys e = subst (λ b. IsTrue b ↔ (keys_of xs ≡ keys_of ys)) (sym (by_place xs ys e)) (pointwise_decides bytes_decides (keys_of xs) (keys_of ys))
+-- the set of the columns' names has those of their pairs, in the same order
+pub names_listed : (U : Columns) (X : Names) (es : List (List ℕ × Kind)) → X ≡ names U → es ≡ entries U → items X ≡ keys_of es
+unfolding names
+names_listed U X es made pairs =
+    ap items made ∙ items-from_list nat_list_cmp_total (keys U) (keys_rise bytes_cmp U) ∙ ap keys_of (sym pairs)

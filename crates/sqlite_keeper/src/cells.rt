@@ -7,7 +7,7 @@ ghost use Rattle.sqlite_keeper.specs.Cells.{ReadsBack, cell_of};
 ghost use Rattle.sqlite_keeper.specs.Cells.{flag_of, number_in, text_in, value_in};
 
 use crate::refusal::Refusal;
-use lens_values::{Kind, Name, Text, Value};
+use lens_values::{Kind, Text, Value};
 use sqlite::types::ValueRef;
 use std::alloc::{AllocError, Global};
 
@@ -23,17 +23,13 @@ pub fn cell_of<'a>(value: &'a Value) -> ValueRef<'a>
     }
 }
 
-/// What stands for the values of the pairs, in their order.
-pub fn cells_of<'a>(
-    alloc: Global,
-    pairs: &'a [(Name, Value)],
-) -> Result<Vec<ValueRef<'a>>, AllocError>
-    ensures { IfOk result (λ cells. map owned cells.items
-        ≡ map (λ pair. cell_of pair.1) pairs.now) }
+/// What stands for the values, in their order.
+pub fn cells_of<'a>(alloc: Global, values: &'a [Value]) -> Result<Vec<ValueRef<'a>>, AllocError>
+    ensures { IfOk result (λ cells. map owned cells.items ≡ map cell_of values.now) }
 {
-    let mut cells = Vec::with_capacity(alloc, pairs.len())?;
-    for pair in pairs {
-        cells.push(cell_of(&pair.1))?;
+    let mut cells = Vec::with_capacity(alloc, values.len())?;
+    for value in values {
+        cells.push(cell_of(value))?;
     }
     Ok(cells)
 }

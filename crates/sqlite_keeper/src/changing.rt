@@ -1,13 +1,12 @@
 //! One change, made in one transaction.
-ghost use Rattle.std.specs.Prelude.{◌≡◌, ◌↔◌, IsTrue, IfOk, nat_eq, string_bytes};
-ghost use Rattle.std.specs.Cmp.Lexicographic.{pointwise};
-ghost use Rattle.std.specs.List.{list_all, zip};
-ghost use Rattle.lens_values.specs.SortedMap.{keys_of};
+ghost use Rattle.std.specs.Prelude.{◌≡◌, ◌↔◌, IsTrue, IfOk, string_bytes};
+ghost use Rattle.std.specs.FinMap as map;
+ghost use Rattle.lens_values.specs.SortedSet as set;
 ghost use Rattle.sqlite_keeper.specs.Making.{MakesTable};
 
 use crate::cells::cells_of;
 use crate::refusal::Refusal;
-use lens_values::{Name, Row, Text, Value};
+use lens_values::{Name, Names, Row, Text};
 use signed_delta::TableDelta;
 use sqlite::{Alter, Connection, Statement, Transaction, params};
 use std::alloc::Global;
@@ -119,8 +118,8 @@ fn remove_rows<S: Alter>(
     match rows.first() {
         None => Ok(()),
         Some(first) => {
-            let text = delete_text(alloc, table, first.pairs())?;
-            run_for_each(alloc, transaction, text.as_str(), first.pairs(), rows)
+            let text = delete_text(alloc, table, first.names().as_slice())?;
+            run_for_each(alloc, transaction, text.as_str(), first.names(), rows)
         }
     }
 }
@@ -134,24 +133,24 @@ fn add_rows<S: Alter>(
     match rows.first() {
         None => Ok(()),
         Some(first) => {
-            let text = insert_text(alloc, table, first.pairs())?;
-            run_for_each(alloc, transaction, text.as_str(), first.pairs(), rows)
+            let text = insert_text(alloc, table, first.names().as_slice())?;
+            run_for_each(alloc, transaction, text.as_str(), first.names(), rows)
         }
     }
 }
 
-// Runs the statement for each of the rows, which have these columns. Each time it is to change one
-// row.
+// Runs the statement for each of the rows, which have columns of these names. Each time it is to
+// change one row.
 fn run_for_each<S: Alter>(
     alloc: Global,
     transaction: &mut Transaction<'_, S>,
     text: &str,
-    columns: &[(Name, Value)],
+    names: &Names,
     rows: &[Row],
 ) -> Result<(), Refusal> {
     let statement = transaction.prepare(text)?;
     for row in rows {
-        if !have_same_names(row.pairs(), columns) {
+        if !has_names(row, names) {
             return Err(Refusal::Failed);
         }
         run_once(alloc, transaction, &statement, row)?;
@@ -166,7 +165,7 @@ fn run_once<S: Alter>(
     statement: &Statement,
     row: &Row,
 ) -> Result<(), Refusal> {
-    let cells = cells_of(alloc, row.pairs())?;
+    let cells = cells_of(alloc, row.values())?;
     if transaction.execute_prepared(statement, &cells)? == 1 {
         Ok(())
     } else {
@@ -174,16 +173,9 @@ fn run_once<S: Alter>(
     }
 }
 
-// Whether the names of both are the same, in the same order.
-fn have_same_names(left: &[(Name, Value)], right: &[(Name, Value)]) -> bool
-    ensures { IsTrue result ↔ (keys_of left.now ≡ keys_of right.now) }
+// Whether the row has columns of exactly these names.
+fn has_names(row: &Row, names: &Names) -> bool
+    ensures { IsTrue result ↔ (map.keys row.now ≡ set.items names.now) }
 {
-    left.len() == right.len() && agree_by_place(left, right)
-}
-
-// Whether both have the same name at each place that both have.
-fn agree_by_place(left: &[(Name, Value)], right: &[(Name, Value)]) -> bool
-    ensures { result ≡ list_all (λ e. pointwise nat_eq e.0.0 e.1.0) (zip left.now right.now) }
-{
-    left.iter().zip(right).all(|(a, b)| a.0 == b.0)
+    row.names().same(names)
 }

@@ -1,6 +1,6 @@
 //! Why a database is not read or changed.
 
-use lens_values::{NoMemory, RowFault, TextFault};
+use lens_values::{NoMemory, TextFault};
 use memory_store::ChangeFault;
 use sqlite::{Error, ErrorCode};
 use std::alloc::{AllocError, AllocFailed};
@@ -90,20 +90,6 @@ impl From<TextFault> for Refusal {
         match fault {
             TextFault::NoMemory => Refusal::NoMemory,
             TextFault::TooLong | TextFault::HasNul => Refusal::Failed,
-        }
-    }
-}
-
-impl From<RowFault> for Refusal {
-    ghost use Rattle.lens_values.specs.declared.row.RowFault.TheVariants as fault;
-    ghost use Rattle.sqlite_keeper.specs.Refusals.{KeepsWantOfMemory};
-
-    ghost from_gives = { KeepsWantOfMemory fault.NoMemory };
-
-    fn from(fault: RowFault) -> Refusal {
-        match fault {
-            RowFault::NoMemory => Refusal::NoMemory,
-            RowFault::Twice { .. } => Refusal::Failed,
         }
     }
 }

@@ -119,6 +119,11 @@ fn has(rt: &impl Abort, alloc: Global, text: &str, word: &str) -> bool {
     names(rt, alloc, text).has(&name(rt, word))
 }
 
+// The place of the name among the names.
+fn place_of(rt: &impl Abort, alloc: Global, text: &str, sought: &str) -> Option<usize> {
+    names(rt, alloc, text).place_of(&name(rt, sought))
+}
+
 #[test]
 fn names_are_sets(rt: HostRuntime) {
     let alloc = rt.alloc();
@@ -132,6 +137,8 @@ fn names_are_sets(rt: HostRuntime) {
     assert!(rt; !share(&rt, alloc, "a b", "c"));
     assert!(rt; has(&rt, alloc, "a b", "b"));
     assert!(rt; !has(&rt, alloc, "a b", "c"));
+    assert!(rt; place_of(&rt, alloc, "b a", "b") == Some(1));
+    assert!(rt; place_of(&rt, alloc, "b a", "c") == None);
 }
 
 // Whether the columns are these pairs, in this order, and so are their copy.
@@ -244,7 +251,7 @@ fn is_mixed(rt: &impl Abort, row: &Row) -> bool {
         _ => false,
     };
     let b = row.value(&name(rt, "b")) == Some(&Value::Int(1));
-    a && b && row.pairs().len() == 2
+    a && b && row.names().len() == 2 && row.values().len() == 2
 }
 
 // Why a row has not two values at one column.
@@ -283,11 +290,23 @@ fn is_projected(rt: &impl Abort, alloc: Global, text: &str, cols: &str, part: &s
 
 // Whether the second row over the first is the third.
 fn is_pasted(rt: &impl Abort, alloc: Global, first: &str, second: &str, both: &str) -> bool {
+    let first = row(rt, alloc, first);
     let second = row(rt, alloc, second);
-    let pasted = row(rt, alloc, first)
-        .paste(alloc, &second)
+    let both = row(rt, alloc, both);
+    let pasted = first.paste(alloc, &second).expect(rt, "memory");
+    let like = first
+        .paste_like(alloc, &second, both.names())
         .expect(rt, "memory");
-    pasted == row(rt, alloc, both)
+    pasted == both && like == both
+}
+
+// Whether the part at these columns of the second row over the first is that one.
+fn is_pasted_part(rt: &impl Abort, alloc: Global, rows: [&str; 2], cols: &str, part: &str) -> bool {
+    let second = row(rt, alloc, rows[1]);
+    let pasted = row(rt, alloc, rows[0])
+        .paste_part(alloc, &second, &names(rt, alloc, cols))
+        .expect(rt, "memory");
+    pasted == row(rt, alloc, part)
 }
 
 // Whether the rows have the same values at the columns.
@@ -305,7 +324,9 @@ fn is_before(rt: &impl Abort, alloc: Global, first: &str, second: &str) -> bool 
 fn rows_are_cut_and_pasted(rt: HostRuntime) {
     let alloc = rt.alloc();
     assert!(rt; is_projected(&rt, alloc, "a=1 b=2", "a", "a=1"));
+    assert!(rt; is_projected(&rt, alloc, "a=1 b=2", "b c", "b=2"));
     assert!(rt; is_pasted(&rt, alloc, "a=1 b=2", "b=3 c=4", "a=1 b=3 c=4"));
+    assert!(rt; is_pasted_part(&rt, alloc, ["a=1 b=2", "b=3 c=4"], "b c d", "b=3 c=4"));
     assert!(rt; agree(&rt, alloc, "a=1 b=2", "a=1 b=3", "a"));
     assert!(rt; !agree(&rt, alloc, "a=1 b=2", "a=1 b=3", "a b"));
     assert!(rt; is_before(&rt, alloc, "a=1 b=2", "b=3 c=4"));

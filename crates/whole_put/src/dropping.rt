@@ -69,13 +69,18 @@ fn default_row(alloc: Global, name: &Name, value: &Value) -> Result<Row, NoMemor
     Row::from_rising(alloc, pairs)
 }
 
-// Each of the rows, with the value of the default in its column.
+// Each of the rows, with the value of the default in its column. All get the same columns, so each
+// shares the names of the one before it.
 fn with_default(alloc: Global, default: &Row, rows: &[Row]) -> Result<Vec<Row>, NoMemory>
     ensures { IfOk result (λ filled. filled.items ≡ map (override default.now) rows.now) }
 {
-    let mut filled = Vec::with_capacity(alloc, rows.len())?;
+    let mut filled: Vec<Row> = Vec::with_capacity(alloc, rows.len())?;
     for row in rows {
-        filled.push(row.paste(alloc, default)?)?;
+        let whole = match filled.last() {
+            Some(before) => row.paste_like(alloc, default, before.names())?,
+            None => row.paste(alloc, default)?,
+        };
+        filled.push(whole)?;
     }
     Ok(filled)
 }

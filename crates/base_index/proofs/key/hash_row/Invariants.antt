@@ -3,5 +3,5 @@ use Rattle.base_index.specs.Key.{hash_value}
 use Rattle.base_index.proofs.key.hash_row.Given as goal
 
 -- the hash is that of the values so far
-abbrev pub invariant-loop-pair : goal.invariant-loop-pair
-invariant-loop-pair l = l.hash ≡ fold (λ hash e. hash_value hash e.1) 0 (take l.pair-index l.pair-items)
+abbrev pub invariant-loop-value : goal.invariant-loop-value
+invariant-loop-value l = l.hash ≡ fold hash_value 0 (take l.value-index l.value-items)

@@ -1,4 +1,5 @@
 use Rattle.std.proofs.Common.{◌-◌, ◌≤◌, length, take}
+use Rattle.std.specs.List.{zip}
 use Rattle.lens_probe.specs.KnownRows.{AreAmong}
 use Rattle.lens_probe.proofs.known.pairs_cmp.Given as goal
 
@@ -6,7 +7,7 @@ abbrev pub invariant-loop-i : goal.invariant-loop-i
 invariant-loop-i l = record {
   known : l.i ≤ length l.known;
   others : l.j ≤ length l.others;
-  so_far : AreAmong (take l.i l.known) l.others;
+  so_far : AreAmong (take l.i (zip l.known l.values)) (zip l.others l.their);
 }
 
 abbrev pub decreases-loop-i : goal.decreases-loop-i

@@ -6,7 +6,7 @@ use Rattle.fd_tree.specs.Form.{form_of}
 use Rattle.lens_types.specs.Faults.{fault_view}
 use Rattle.lens_types.specs.Joins.{joined_columns, sides_fault}
 use Rattle.lens_types.specs.Sorts.{natural_join, sort_from}
-use Rattle.lens_types.proofs.Joins.{join_is_sound, join_taken, size_refused}
+use Rattle.lens_types.proofs.Joins.{join_is_sound, join_taken, sides_refused, size_refused}
 use Rattle.lens_types.proofs.joining.joined_parts.Goals as goal
 use Rattle.lens_types.proofs.joining.joined_parts.Goals.{After-size_fault}
 
@@ -21,6 +21,14 @@ unfaulted c = ap (option_map fault_view) (sym c.in_default.is) ∙ c.in_ok-fault
 
 both : (c : After-size_fault) → c.in_ok-pred.pred ≡ c.args.left.now.predicate ++ c.args.right.now.predicate
 both c = c.in_ok-pred.ensures ∙ (λ i. c.pred.ensures.value i ++ c.pred-2.ensures.value i)
+
+pub returns-in-Some-clause-sort : goal.returns-in-Some-clause-sort
+returns-in-Some-clause-sort c =
+    let columns = (λ i. joined_columns (sym c.cols.ensures.value i) (sym c.cols-2.ensures.value i)) ∙ c.in_ok-cols.ensures in
+    let tree = (λ i. form_of (tree_of (sym c.tree.ensures.value i ++ sym c.tree-2.ensures.value i))) ∙ c.in_ok-tree.ensures in
+    rw c.from.ensures
+    (sides_refused c.args.nodes c.args.left.now c.args.right.now c.args.twice c.in_ok-cols.cols columns c.in_ok-tree.tree tree
+    c.in-Some.fault (ap (option_map fault_view) (sym c.in-Some.is) ∙ c.in_ok-fault.ensures))
 
 pub returns-in-Some-size_fault-clause-sort : goal.returns-in-Some-size_fault-clause-sort
 returns-in-Some-size_fault-clause-sort c =

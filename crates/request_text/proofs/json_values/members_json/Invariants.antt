@@ -1,7 +1,8 @@
-use Rattle.std.proofs.Common.{◌≡◌, take}
+use Rattle.std.proofs.Common.{◌≡◌, length, take}
+use Rattle.std.specs.FinMap as finmap
 use Rattle.serde_json.specs.View.{members_view}
 use Rattle.server_specs.specs.Answer.{pairs_data}
 use Rattle.request_text.proofs.json_values.members_json.Given as goal
 
-abbrev pub invariant-loop-pair : goal.invariant-loop-pair
-invariant-loop-pair l = members_view l.members.entries ≡ pairs_data (take l.pair-index l.pairs)
+abbrev pub invariant-loop-name : goal.invariant-loop-name
+invariant-loop-name l = members_view l.members.entries ≡ pairs_data (take (length l.yielded) (finmap.entries l.row))

@@ -17,5 +17,5 @@ returns-in-Some c =
     let within : c.in-Some.place < length c.args.known.now = found.0 in
     let same : length c.args.self.now.are_parts.items ≡ length c.args.known.now = c.requires.places in (
       length-set c.args.self.now.are_parts.items c.in-Some.place _ ∙ c.requires.places,
-      λ q. part_too c.args.self.now.are_parts.items c.args.known.now c.args.self.now.others.items c.in-Some.place (restrict c.args.cols.now c.args.row.now) q c.requires.places (omega arith) found.1,
+      λ q. part_too c.args.self.now.are_parts.items c.args.known.now c.args.self.now.others.items c.in-Some.place (restrict c.args.cols.now c.args.row) q c.requires.places (omega arith) found.1,
     )

@@ -8,12 +8,10 @@ use Rattle.lens_values.specs.Part.{restrict}
 use Rattle.lens_values.specs.Row.{row_cmp}
 use Rattle.lens_values.specs.declared.row.Row.{Row}
 use Rattle.row_sets.specs.Members.{is_in}
-use Rattle.lens_probe.specs.KnownRows.{marked, parts_in}
+use Rattle.lens_probe.specs.KnownRows.{marked}
 use Rattle.lens_probe.specs.Untested.{passes}
-use Rattle.lens_probe.specs.declared.differing.Parts.{Parts}
 use Rattle.lens_probe.proofs.PartLists.{image_more, none_marked, passing_more, passing_same}
 use Rattle.lens_probe.proofs.differing.Parts.of.Goals as goal
-use Rattle.lens_probe.proofs.differing.Parts.of.Goals.{then-passes+in_ok-add, else-passes}
 
 pub loop-row-init : goal.loop-row-init
 loop-row-init c =
@@ -27,8 +25,8 @@ loop-row-init c =
       );
     }
 
-pub loop-row-preserved : goal.loop-row-preserved
-loop-row-preserved c =
+pub loop-row-preserved-in_ok-add : goal.loop-row-preserved-in_ok-add
+loop-row-preserved-in_ok-add c =
     let known = c.args.known.now in
     let part : Row → Row = restrict c.args.cols.now in
     let test : Row → Bool = passes (option_map (λ p. p.now) c.args.untested.pred) in
@@ -36,17 +34,24 @@ loop-row-preserved c =
     let r = c.in-Some.row in
     record {
       seam = grind (arith, common_steps);
-      parts = elim c.if-passes.branch [
-        | then-passes+in_ok-add w ↦ (
-          ap (λ (p : Parts). length p.are_parts.items) w.parts-is ∙ w.in_ok-add.ensures.0,
-          λ q. ap (λ (p : Parts). is_in (parts_in p known) q) w.parts-is ∙ w.in_ok-add.ensures.1 q
-              ∙ ap (λ b. b || eq_by_cmp row_cmp q (part r)) (c.loop-row.invariant.parts.1 q) ∙ sym (image_more part (filter test before) r q)
-              ∙ ap (λ l. is_in (map part l) q) (sym (passing_more test before r (sym c.passes.ensures ∙ w.if-passes.true))),
-        )
-        | else-passes w ↦ (
-          ap (λ (p : Parts). length p.are_parts.items) w.parts-is ∙ c.loop-row.invariant.parts.0,
-          λ q. ap (λ (p : Parts). is_in (parts_in p known) q) w.parts-is ∙ c.loop-row.invariant.parts.1 q
-              ∙ ap (λ l. is_in (map part l) q) (sym (passing_same test before r (sym c.passes.ensures ∙ w.if-passes.false))),
-        )
-      ];
+      parts = (
+        c.in_ok-add.ensures.0,
+        λ q. c.in_ok-add.ensures.1 q
+            ∙ ap (λ b. b || eq_by_cmp row_cmp q (part r)) (c.loop-row.invariant.parts.1 q) ∙ sym (image_more part (filter test before) r q)
+            ∙ ap (λ l. is_in (map part l) q) (sym (passing_more test before r (sym c.passes.ensures ∙ c.if-passes.true))),
+      );
+    }
+
+pub loop-row-preserved : goal.loop-row-preserved
+loop-row-preserved c =
+    let part : Row → Row = restrict c.args.cols.now in
+    let test : Row → Bool = passes (option_map (λ p. p.now) c.args.untested.pred) in
+    let before = c.loop-row.yielded in
+    let r = c.in-Some.row in
+    record {
+      seam = grind (arith, common_steps);
+      parts = (
+        c.loop-row.invariant.parts.0,
+        λ q. c.loop-row.invariant.parts.1 q ∙ ap (λ l. is_in (map part l) q) (sym (passing_same test before r (sym c.passes.ensures ∙ c.if-passes.false))),
+      );
     }

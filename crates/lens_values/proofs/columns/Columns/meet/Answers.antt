@@ -1,3 +1,5 @@
+use Rattle.std.proofs.Common.{◌≡◌, subst}
+use Rattle.std.specs.Prelude.{IfOk}
 use Rattle.std.specs.Cmp.Lexicographic.{nat_list_cmp_total}
 use Rattle.lens_values.specs.Keys.{is_among}
 use Rattle.lens_values.specs.Order.{bytes_cmp}
@@ -11,8 +13,9 @@ intersection-requires-clause-list c = entries_rise c.args.self.now _ c.pairs.ens
 pub intersection-requires-clause-keys : goal.intersection-requires-clause-keys
 intersection-requires-clause-keys c = items_rise nat_list_cmp_total exact c.args.cols.now _ c.as_slice.ensures
 
-pub invariant_of-result : goal.invariant_of-result
-invariant_of-result c = part_rises c.args.self.now (is_among bytes_cmp c.as_slice.result.now) _ _ c.pairs.ensures c.in_ok-intersection.ensures
+pub of_rising-requires : goal.of_rising-requires
+of_rising-requires c = part_rises c.args.self.now (is_among bytes_cmp c.as_slice.result.now) _ _ c.pairs.ensures c.in_ok-intersection.ensures
 
 pub returns : goal.returns
-returns c = part_made c.args.cols.now c.args.self.now _ _ _ c.as_slice.ensures c.pairs.ensures c.in_ok-intersection.ensures
+returns c =
+    subst (λ u. IfOk c.of_rising.result (λ made. made ≡ u)) (part_made c.args.cols.now c.args.self.now _ _ _ c.as_slice.ensures c.pairs.ensures c.in_ok-intersection.ensures) c.of_rising.ensures

@@ -1,3 +1,5 @@
+use Rattle.std.proofs.Common.{◌≡◌, subst}
+use Rattle.std.specs.Prelude.{IfOk}
 use Rattle.std.specs.Prelude.{not}
 use Rattle.std.specs.Cmp.Lexicographic.{nat_list_cmp_total}
 use Rattle.lens_values.specs.Keys.{is_among}
@@ -12,8 +14,9 @@ difference-requires-clause-list c = entries_rise c.args.self.now _ c.pairs.ensur
 pub difference-requires-clause-keys : goal.difference-requires-clause-keys
 difference-requires-clause-keys c = items_rise nat_list_cmp_total exact c.args.cols.now _ c.as_slice.ensures
 
-pub invariant_of-result : goal.invariant_of-result
-invariant_of-result c = part_rises c.args.self.now (λ k. not (is_among bytes_cmp c.as_slice.result.now k)) _ _ c.pairs.ensures c.in_ok-difference.ensures
+pub of_rising-requires : goal.of_rising-requires
+of_rising-requires c = part_rises c.args.self.now (λ k. not (is_among bytes_cmp c.as_slice.result.now k)) _ _ c.pairs.ensures c.in_ok-difference.ensures
 
 pub returns : goal.returns
-returns c = outside_made c.args.cols.now c.args.self.now _ _ _ c.as_slice.ensures c.pairs.ensures c.in_ok-difference.ensures
+returns c =
+    subst (λ u. IfOk c.of_rising.result (λ made. made ≡ u)) (outside_made c.args.cols.now c.args.self.now _ _ _ c.as_slice.ensures c.pairs.ensures c.in_ok-difference.ensures) c.of_rising.ensures

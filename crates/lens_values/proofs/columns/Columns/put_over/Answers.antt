@@ -1,3 +1,5 @@
+use Rattle.std.proofs.Common.{◌≡◌, subst}
+use Rattle.std.specs.Prelude.{IfOk}
 use Rattle.lens_values.proofs.Maps.{entries_rise, both_made}
 use Rattle.lens_values.proofs.columns.Columns.put_over.Goals as goal
 
@@ -7,5 +9,9 @@ union-requires-clause-left c = entries_rise c.args.self.now _ c.pairs.ensures
 pub union-requires-clause-right : goal.union-requires-clause-right
 union-requires-clause-right c = entries_rise c.args.other.now _ c.pairs-2.ensures
 
+pub of_rising-requires : goal.of_rising-requires
+of_rising-requires c = c.in_ok-union.ensures.order
+
 pub returns : goal.returns
-returns c = both_made c.args.self.now c.args.other.now _ _ _ c.pairs.ensures c.pairs-2.ensures c.in_ok-union.ensures.members
+returns c =
+    subst (λ u. IfOk c.of_rising.result (λ made. made ≡ u)) (both_made c.args.self.now c.args.other.now _ _ _ c.pairs.ensures c.pairs-2.ensures c.in_ok-union.ensures.members) c.of_rising.ensures

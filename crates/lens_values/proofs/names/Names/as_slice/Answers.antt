@@ -4,4 +4,4 @@ use Rattle.lens_values.specs.SortedSet.{items, items-from_list}
 use Rattle.lens_values.proofs.names.Names.as_slice.Goals as goal
 
 pub returns : goal.returns
-returns c = c.as_slice.ensures.value ∙ sym (items-from_list nat_list_cmp_total _ c.self.invariant) ∙ ap items c.self.view_is
+returns c = c.as_slice.ensures.value ∙ ap (λ v. v.items) c.deref.ensures ∙ sym (items-from_list nat_list_cmp_total _ c.self.invariant) ∙ ap items c.self.view_is

@@ -1,9 +1,9 @@
-use Rattle.std.proofs.Common.{sym, ◌∙◌}
+use Rattle.std.proofs.Common.{sym, ap, ◌∙◌}
 use Rattle.std.specs.Cmp.Lexicographic.{nat_list_cmp_total}
-use Rattle.lens_values.specs.SortedSet.{same_set, contains-from_list}
+use Rattle.lens_values.specs.SortedSet.{from_list, same_set, contains-from_list}
 use Rattle.lens_values.proofs.Maps.{exact}
 use Rattle.lens_values.proofs.names.Names.new.Goals as goal
 
 pub returns : goal.returns
-returns c = same_set nat_list_cmp_total exact _ _ (λ name.
+returns c = ap (λ v. from_list v.items) c.in_ok-new.ensures.ok ∙ same_set nat_list_cmp_total exact _ _ (λ name.
     contains-from_list nat_list_cmp_total _ name ∙ c.into_sorted.ensures.members name ∙ sym (contains-from_list nat_list_cmp_total _ name))

@@ -1,6 +1,10 @@
+use Rattle.std.proofs.Common.{◌≡◌, subst}
+use Rattle.std.specs.Prelude.{IfOk}
+use Rattle.std.specs.List.Sorted.{IsStrictlySortedBy}
+use Rattle.lens_values.specs.Order.{bytes_cmp}
 use Rattle.std.specs.Cmp.Lexicographic.{nat_list_cmp_total}
 use Rattle.lens_values.proofs.Maps.{exact}
-use Rattle.lens_values.proofs.Sets.{own_keys_rise, union_made}
+use Rattle.lens_values.proofs.Sets.{map-id, own_keys_rise, union_made}
 use Rattle.lens_values.proofs.names.Names.union.Goals as goal
 
 pub union-requires-clause-left : goal.union-requires-clause-left
@@ -9,5 +13,9 @@ union-requires-clause-left c = own_keys_rise nat_list_cmp_total exact c.args.sel
 pub union-requires-clause-right : goal.union-requires-clause-right
 union-requires-clause-right c = own_keys_rise nat_list_cmp_total exact c.args.other.now _ c.as_slice-2.ensures
 
+pub from_rising-requires : goal.from_rising-requires
+from_rising-requires c = subst (IsStrictlySortedBy bytes_cmp) (map-id _) c.in_ok-union.ensures.order
+
 pub returns : goal.returns
-returns c = union_made nat_list_cmp_total exact c.args.self.now c.args.other.now _ _ _ c.as_slice.ensures c.as_slice-2.ensures c.in_ok-union.ensures.members
+returns c =
+    subst (λ u. IfOk c.from_rising.result (λ made. made ≡ u)) (union_made nat_list_cmp_total exact c.args.self.now c.args.other.now _ _ _ c.as_slice.ensures c.as_slice-2.ensures c.in_ok-union.ensures.members) c.from_rising.ensures

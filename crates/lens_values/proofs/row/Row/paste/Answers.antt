@@ -1,15 +1,34 @@
-use Rattle.std.proofs.Common.{◌≡◌, subst}
+use Rattle.std.proofs.Common.{◌≡◌, sym, subst, ◌∙◌}
 use Rattle.std.specs.Prelude.{IfOk}
-use Rattle.lens_values.proofs.Maps.{entries_rise, both_made}
+use Rattle.lens_values.specs.Part.{override}
+use Rattle.lens_values.proofs.Cells.{Knows, own_names, all_many, all_made, union_knows, below_knows}
 use Rattle.lens_values.proofs.row.Row.paste.Goals as goal
+use Rattle.lens_values.proofs.row.Row.paste.Goals.{then-within+in_ok-all, else-within+in_ok-all-2}
 
-pub union-requires-clause-left : goal.union-requires-clause-left
-union-requires-clause-left c = entries_rise c.args.over.now _ c.pairs.ensures
-
-pub union-requires-clause-right : goal.union-requires-clause-right
-union-requires-clause-right c = entries_rise c.args.self.now _ c.pairs-2.ensures
+pub from_values-requires : goal.from_values-requires
+from_values-requires c =
+    let over = c.args.over.now in
+    let row = c.args.self.now in
+    let known : Knows c.if-within.all (override over row) = elim c.if-within.branch [
+      | then-within+in_ok-all w ↦
+          subst (λ C. Knows C (override over row)) (sym (w.all-is ∙ w.in_ok-all.ensures))
+          (below_knows c.names.result.now c.names-own.result.now over row (own_names _ over c.names.ensures) (own_names _ row c.names-own.ensures) (sym c.within.ensures ∙ w.if-within.true))
+      | else-within+in_ok-all-2 w ↦
+          subst (λ C. Knows C (override over row)) (sym (w.all-is ∙ w.in_ok-all-2.ensures))
+          (union_knows w.names-else-within.result.now c.names-own.result.now over row (own_names _ over w.names-else-within.ensures) (own_names _ row c.names-own.ensures))
+    ] in
+    all_many c.if-within.all (override over row) c.in_ok-values.values.items known c.in_ok-values.ensures
 
 pub returns : goal.returns
 returns c =
-    subst (λ u. IfOk c.from_rising.result (λ both. both ≡ u))
-    (both_made c.args.over.now c.args.self.now _ _ _ c.pairs.ensures c.pairs-2.ensures c.in_ok-union.ensures.members) c.from_rising.ensures
+    let over = c.args.over.now in
+    let row = c.args.self.now in
+    let known : Knows c.if-within.all (override over row) = elim c.if-within.branch [
+      | then-within+in_ok-all w ↦
+          subst (λ C. Knows C (override over row)) (sym (w.all-is ∙ w.in_ok-all.ensures))
+          (below_knows c.names.result.now c.names-own.result.now over row (own_names _ over c.names.ensures) (own_names _ row c.names-own.ensures) (sym c.within.ensures ∙ w.if-within.true))
+      | else-within+in_ok-all-2 w ↦
+          subst (λ C. Knows C (override over row)) (sym (w.all-is ∙ w.in_ok-all-2.ensures))
+          (union_knows w.names-else-within.result.now c.names-own.result.now over row (own_names _ over w.names-else-within.ensures) (own_names _ row c.names-own.ensures))
+    ] in
+    subst (λ u. IfOk c.from_values.result (λ both. both ≡ u)) (all_made c.if-within.all (override over row) c.in_ok-values.values.items known c.in_ok-values.ensures) c.from_values.ensures

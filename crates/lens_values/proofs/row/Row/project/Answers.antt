@@ -1,22 +1,28 @@
-use Rattle.std.proofs.Common.{◌≡◌, subst}
+use Rattle.std.proofs.Common.{◌≡◌, sym, ap, subst, ◌∙◌, length, arith}
 use Rattle.std.specs.Prelude.{IfOk}
-use Rattle.std.specs.Cmp.Lexicographic.{nat_list_cmp_total}
-use Rattle.lens_values.specs.Keys.{is_among}
-use Rattle.lens_values.specs.Order.{bytes_cmp}
-use Rattle.lens_values.proofs.Maps.{exact, entries_rise, part_rises, part_made}
-use Rattle.lens_values.proofs.Sets.{items_rise}
+use Rattle.std.specs.FinMap.{from_entries}
+use Rattle.lens_values.specs.Paired.{AreAsMany, paired}
+use Rattle.lens_values.specs.SortedSet.{items}
+use Rattle.lens_values.proofs.Cells.{own_names, some_many, some_part, whole_part}
 use Rattle.lens_values.proofs.row.Row.project.Goals as goal
 
-pub intersection-requires-clause-list : goal.intersection-requires-clause-list
-intersection-requires-clause-list c = entries_rise c.args.self.now _ c.pairs.ensures
+pub from_values-requires : goal.from_values-requires
+from_values-requires c = ap (λ C. length (items C)) c.in_ok-copy.ensures ∙ omega (arith, c.len.ensures, c.len-2.ensures, c.if-len.true, c.in_ok-values.values.ok)
 
-pub intersection-requires-clause-keys : goal.intersection-requires-clause-keys
-intersection-requires-clause-keys c = items_rise nat_list_cmp_total exact c.args.cols.now _ c.as_slice.ensures
+pub returns-then-len : goal.returns-then-len
+returns-then-len c =
+    subst (λ u. IfOk c.from_values.result (λ part. part ≡ u))
+    (ap (λ C. from_entries (paired C c.in_ok-values.values.items)) c.in_ok-copy.ensures
+    ∙ whole_part c.args.cols.now c.args.self.now c.in_ok-values.values.items c.in_ok-values.ensures (omega (arith, c.len.ensures, c.len-2.ensures, c.if-len.true, c.in_ok-values.values.ok)))
+    c.from_values.ensures
 
-pub from_rising-requires : goal.from_rising-requires
-from_rising-requires c = part_rises c.args.self.now (is_among bytes_cmp c.as_slice.result.now) _ _ c.pairs.ensures c.in_ok-intersection.ensures
+pub from_values-requires-2 : goal.from_values-requires-2
+from_values-requires-2 c = subst (λ C. AreAsMany C c.in_ok-values.values.items) (sym c.in_ok-meet.ensures)
+    (some_many c.args.cols.now c.names.result.now c.args.self.now c.in_ok-values.values.items (own_names c.names.result.now c.args.self.now c.names.ensures) c.in_ok-values.ensures)
 
 pub returns : goal.returns
 returns c =
-    subst (λ u. IfOk c.from_rising.result (λ part. part ≡ u))
-    (part_made c.args.cols.now c.args.self.now _ _ _ c.as_slice.ensures c.pairs.ensures c.in_ok-intersection.ensures) c.from_rising.ensures
+    subst (λ u. IfOk c.from_values-2.result (λ part. part ≡ u))
+    (ap (λ C. from_entries (paired C c.in_ok-values.values.items)) c.in_ok-meet.ensures
+    ∙ some_part c.args.cols.now c.names.result.now c.args.self.now c.in_ok-values.values.items (own_names c.names.result.now c.args.self.now c.names.ensures) c.in_ok-values.ensures)
+    c.from_values-2.ensures

@@ -1,0 +1,7 @@
+use Rattle.std.proofs.Common.{◌≡◌, take}
+use Rattle.std.specs.FinMap.{get}
+use Rattle.std.specs.List.{filter_map}
+use Rattle.lens_values.proofs.row.Row.values_at.Given as goal
+
+abbrev pub invariant-loop-name : goal.invariant-loop-name
+invariant-loop-name l = l.found.items ≡ filter_map (get l.self) (take l.name-index l.name-items)

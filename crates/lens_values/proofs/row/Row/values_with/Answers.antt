@@ -1,0 +1,33 @@
+use Rattle.std.proofs.Common.{◌≡◌, ◌∙◌, ap, sym, [], ◌∷◌, ◌++◌, cond}
+use Rattle.std.specs.Prelude.{option_copied, is_some}
+use Rattle.std.specs.FinMap.{get}
+use Rattle.std.specs.List.{cons_option}
+use Rattle.lens_values.specs.Part.{override}
+use Rattle.lens_values.proofs.Cells.{get-override, one_more}
+use Rattle.lens_values.proofs.Walks.{append-nil}
+use Rattle.lens_values.proofs.row.Row.values_with.Goals as goal
+use Rattle.lens_values.proofs.row.Row.values_with.Goals.{in-Some, in-None, in-Some-value+in_ok-copy+in_ok-push, in_default}
+
+pub loop-name-preserved : goal.loop-name-preserved
+loop-name-preserved c =
+    let over = c.args.over.now in
+    let row = c.args.self.now in
+    let name = c.name-item.result in
+    let above : get over name ≡ option_copied c.value_near.result = sym c.value_near.ensures in
+    let found : get (override over row) name ≡ option_copied c.match-value_near.value = get-override over row name ∙
+    elim c.match-value_near.branch [
+      | in-Some w ↦
+          (λ i. cond (is_some (above i)) (above i) (get row name))
+          ∙ (λ i. cond (is_some (option_copied (w.in-Some.is i))) (option_copied (w.in-Some.is i)) (get row name)) ∙ ap option_copied (sym w.value-is)
+      | in-None w ↦
+          (λ i. cond (is_some (above i)) (above i) (get row name))
+          ∙ (λ i. cond (is_some (option_copied (w.in-None.is i))) (option_copied (w.in-None.is i)) (get row name)) ∙ sym w.value_near-value.ensures ∙ ap option_copied (sym w.value-is)
+    ] in
+    one_more (get (override over row)) c.as_slice-name-items.result.now c.loop-name.name-index name c.loop-name.found.items c.match-value.found.items (option_copied c.match-value_near.value)
+    c.loop-name-test.true c.name-item.is found c.loop-name.invariant
+    (elim c.match-value.branch [
+      | in-Some-value+in_ok-copy+in_ok-push w ↦
+          ap (λ v. v.items) w.found-is ∙ w.in_ok-push.ensures.items
+          ∙ ap (λ x. c.loop-name.found.items ++ x ∷ []) w.in_ok-copy.ensures ∙ ap (λ o. c.loop-name.found.items ++ cons_option (option_copied o) []) (sym w.in-Some-value.is)
+      | in_default w ↦ ap (λ v. v.items) w.found-is ∙ sym (append-nil c.loop-name.found.items) ∙ ap (λ o. c.loop-name.found.items ++ cons_option (option_copied o) []) (sym w.in_default.is)
+    ])
