@@ -6,6 +6,7 @@ pub mod copying;
 pub mod merging;
 pub mod name;
 pub mod names;
+mod pairs;
 pub mod row;
 pub mod sorting;
 pub mod text;

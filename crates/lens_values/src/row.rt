@@ -1,15 +1,14 @@
 //! A row: a finite map from names to values.
-ghost use Rattle.std.specs.Prelude.{◌≡◌, ◌↔◌, IsTrue, IfOk, OnOk, length, option_copied};
+ghost use Rattle.std.specs.Prelude.{◌≡◌, ◌↔◌, IsTrue, IfOk, OnOk, option_copied};
 ghost use Rattle.std.specs.FinMap as map;
 ghost use Rattle.std.specs.List.Sorted.{IsStrictlySortedBy};
-ghost use Rattle.std.specs.Cmp.Lexicographic.{pointwise, slice_cmp};
-ghost use Rattle.std.specs.List.{filter_map, list_all, zip};
+ghost use Rattle.std.specs.List.{filter_map};
 ghost use Rattle.lens_values.specs.Columns.{Fits};
 ghost use Rattle.lens_values.specs.Order.{bytes_cmp};
 ghost use Rattle.lens_values.specs.Paired.{AreAsMany, paired};
 ghost use Rattle.lens_values.specs.Part.{override, restrict};
 ghost use Rattle.lens_values.specs.Repeats.{AreDistinct, IsLeastRepeated};
-ghost use Rattle.lens_values.specs.Row.{agree, pair_cmp, pair_fits};
+ghost use Rattle.lens_values.specs.Row.{agree};
 ghost use Rattle.lens_values.specs.SortedMap.{keys_of, values_of};
 ghost use Rattle.lens_values.specs.SortedSet as set;
 ghost use Rattle.lens_values.specs.Value.{same_value};
@@ -19,8 +18,9 @@ use crate::copying::TryClone;
 use crate::merging::Keyed;
 use crate::name::Name;
 use crate::names::Names;
+use crate::pairs::{all_fit, pairs_cmp};
 use crate::sorting::{first_repeated, sorted_by_name};
-use crate::value::{Kind, Value};
+use crate::value::Value;
 use no_memory::NoMemory;
 use std::alloc::{AllocError, Global};
 use std::cmp::Ordering;
@@ -184,18 +184,6 @@ impl Row {
         self.paste(alloc, over)
     }
 
-    /// The part in these columns of this row with the other pasted over it.
-    pub fn paste_part(&self, alloc: Global, over: &Row, cols: &Names) -> Result<Row, NoMemory>
-        ensures { IfOk result (λ part. part ≡ restrict cols.now (override over.now self.now)) }
-    {
-        let values = self.values_with(alloc, over, cols)?;
-        if values.len() == cols.len() {
-            return Row::from_values(alloc, cols.copy(alloc)?, values);
-        }
-        let all = over.names().union(alloc, self.names())?;
-        Row::from_values(alloc, cols.meet(alloc, &all)?, values)
-    }
-
     /// Whether both rows have the same value, or none, in each of these columns.
     #[tactic(auto, unfolding(crate::specs::Row::agree))]
     pub fn agree_on(&self, other: &Row, cols: &Names) -> bool
@@ -297,59 +285,6 @@ fn names_and_values(
         values.push(value)?;
     }
     Ok((names, values))
-}
-
-// Whether the names with their values are in these columns, each with a value that fits.
-fn all_fit(names: &[Name], values: &[Value], columns: &[(Name, Kind)]) -> bool
-    requires { length names.now ≡ length values.now }
-    ensures { result ≡ pointwise pair_fits (zip names.now values.now) columns.now }
-{
-    values.len() == columns.len() && each_fits(names, values, columns)
-}
-
-// Whether each name with its value is in the column at its place, and the value fits.
-fn each_fits(names: &[Name], values: &[Value], columns: &[(Name, Kind)]) -> bool
-    ensures { result
-        ≡ list_all (λ e. pair_fits e.0 e.1) (zip (zip names.now values.now) columns.now) }
-{
-    names
-        .iter()
-        .zip(values)
-        .zip(columns)
-        .all(|((name, value), column)| value_fits(name, value, column))
-}
-
-// Whether the name is that of the column, and the value fits its kind.
-fn value_fits(name: &Name, value: &Value, column: &(Name, Kind)) -> bool
-    ensures { result ≡ pair_fits (name.now, value.now) column.now }
-{
-    *name == column.0 && value.fits(column.1)
-}
-
-// How names with their values stand to others, by the first that differ.
-fn pairs_cmp(names: &[Name], values: &[Value], others: &[Name], their: &[Value]) -> Ordering
-    requires names { length names.now ≡ length values.now }
-    requires others { length others.now ≡ length their.now }
-    ensures { result
-        ≡ slice_cmp pair_cmp (zip names.now values.now) (zip others.now their.now) }
-{
-    for place in 0..values.len().min(their.len()) {
-        match pair_cmp(&names[place], &values[place], &others[place], &their[place]) {
-            Ordering::Equal => (),
-            order => return order,
-        }
-    }
-    values.len().cmp(&their.len())
-}
-
-// How a name with its value stands to another.
-fn pair_cmp(name: &Name, value: &Value, other: &Name, its: &Value) -> Ordering
-    ensures { result ≡ pair_cmp (name.now, value.now) (other.now, its.now) }
-{
-    match name.cmp(other) {
-        Ordering::Equal => value.cmp(its),
-        order => order,
-    }
 }
 
 impl PartialEq for Row {

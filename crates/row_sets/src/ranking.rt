@@ -8,7 +8,7 @@ ghost use Rattle.row_sets.specs.Ranks.{row_of};
 use lens_values::{NoMemory, Row, Value};
 use std::alloc::Global;
 
-// How many bytes of a text a rank holds.
+// How many bytes a rank holds.
 const FRONT: usize = 16;
 
 /// A row behind its rank. Ranks tell most rows apart and lie beside one another, so a sort of them
@@ -19,8 +19,8 @@ pub(crate) struct Ranked {
     row: Row,
 }
 
-/// The rows, in the order of their ranks. Where all have their first column in common, that is
-/// rising order.
+/// The rows, in the order of their ranks. Where all have the same columns and no text has a zero
+/// byte, that is rising order.
 pub(crate) fn by_rank(alloc: Global, rows: Vec<Row>) -> Result<Vec<Row>, NoMemory>
     ensures { IfOk result (λ ordered. (row : _) → list_any (eq_by_cmp row_cmp row) ordered.items
         ≡ list_any (eq_by_cmp row_cmp row) rows.items) }
@@ -51,22 +51,63 @@ fn without_ranks(alloc: Global, ranked: Vec<Ranked>) -> Result<Vec<Row>, NoMemor
     Ok(rows)
 }
 
-// What the row begins with, as a number that rises with it: the value of its first column, or the
-// front of a text.
+// The first bytes of the row's values, as a number.
 fn rank_of(row: &Row) -> u128 {
-    match row.values() {
-        [Value::Int(number), ..] => (i128::from(*number) - i128::from(i64::MIN)) as u128,
-        [Value::Text(text), ..] => front_of(text.as_str().as_bytes()),
-        [Value::Flag(flag), ..] => u128::from(*flag),
-        [] => 0,
+    let mut front = Front::new();
+    for value in row.values() {
+        match value {
+            Value::Int(number) => front.push_number(*number),
+            Value::Text(text) => front.push_text(text.as_str().as_bytes()),
+            Value::Flag(flag) => front.push(u8::from(*flag)),
+        }
     }
+    u128::from_be_bytes(front.bytes)
 }
 
-// The first bytes of a text as a number, the first byte the highest.
-fn front_of(bytes: &[u8]) -> u128 {
-    let mut front = [0; FRONT];
-    for (place, byte) in bytes.iter().take(FRONT).enumerate() {
-        front[place] = *byte;
+// The first bytes of a row, as many as a rank holds. They rise with the row.
+#[derive(Drop)]
+struct Front {
+    bytes: [u8; FRONT],
+    filled: usize,
+}
+
+impl Front {
+    fn new() -> Front {
+        Front {
+            bytes: [0; FRONT],
+            filled: 0,
+        }
     }
-    u128::from_be_bytes(front)
+
+    fn push(&mut self, byte: u8) {
+        if self.filled < FRONT {
+            self.bytes[self.filled] = byte;
+            self.filled += 1;
+        }
+    }
+
+    // The count of the bytes that the number needs, above the middle for a number from 0 on and
+    // below it for others, and then these bytes. So small numbers leave room for the next values.
+    fn push_number(&mut self, number: i64) {
+        let bytes = number.to_be_bytes();
+        let size = if number < 0 { !number } else { number };
+        let spare = (size.leading_zeros() / 8) as usize;
+        let needed = (8 - spare) as u8;
+        self.push(if number < 0 {
+            127 - needed
+        } else {
+            128 + needed
+        });
+        for byte in bytes.iter().skip(spare) {
+            self.push(*byte);
+        }
+    }
+
+    // The bytes of the text, and a zero, so that a text comes before those that it begins.
+    fn push_text(&mut self, bytes: &[u8]) {
+        for byte in bytes.iter().take(FRONT.saturating_sub(self.filled)) {
+            self.push(*byte);
+        }
+        self.push(0);
+    }
 }

@@ -300,15 +300,6 @@ fn is_pasted(rt: &impl Abort, alloc: Global, first: &str, second: &str, both: &s
     pasted == both && like == both
 }
 
-// Whether the part at these columns of the second row over the first is that one.
-fn is_pasted_part(rt: &impl Abort, alloc: Global, rows: [&str; 2], cols: &str, part: &str) -> bool {
-    let second = row(rt, alloc, rows[1]);
-    let pasted = row(rt, alloc, rows[0])
-        .paste_part(alloc, &second, &names(rt, alloc, cols))
-        .expect(rt, "memory");
-    pasted == row(rt, alloc, part)
-}
-
 // Whether the rows have the same values at the columns.
 fn agree(rt: &impl Abort, alloc: Global, first: &str, second: &str, cols: &str) -> bool {
     let cols = names(rt, alloc, cols);
@@ -326,7 +317,6 @@ fn rows_are_cut_and_pasted(rt: HostRuntime) {
     assert!(rt; is_projected(&rt, alloc, "a=1 b=2", "a", "a=1"));
     assert!(rt; is_projected(&rt, alloc, "a=1 b=2", "b c", "b=2"));
     assert!(rt; is_pasted(&rt, alloc, "a=1 b=2", "b=3 c=4", "a=1 b=3 c=4"));
-    assert!(rt; is_pasted_part(&rt, alloc, ["a=1 b=2", "b=3 c=4"], "b c d", "b=3 c=4"));
     assert!(rt; agree(&rt, alloc, "a=1 b=2", "a=1 b=3", "a"));
     assert!(rt; !agree(&rt, alloc, "a=1 b=2", "a=1 b=3", "a b"));
     assert!(rt; is_before(&rt, alloc, "a=1 b=2", "b=3 c=4"));

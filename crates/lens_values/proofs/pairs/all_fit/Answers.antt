@@ -3,7 +3,7 @@ use Rattle.std.specs.List.{zip}
 use Rattle.std.proofs.lemmas.Slice.Zip.{length-zip}
 use Rattle.lens_values.specs.Row.{pair_fits}
 use Rattle.lens_values.proofs.FitsLemmas.{pointwise_zip, pointwise_apart, eqb_other}
-use Rattle.lens_values.proofs.row.all_fit.Goals as goal
+use Rattle.lens_values.proofs.pairs.all_fit.Goals as goal
 
 pub returns-then-values-columns : goal.returns-then-values-columns
 returns-then-values-columns c =

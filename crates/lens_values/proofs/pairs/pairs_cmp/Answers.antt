@@ -6,7 +6,7 @@ use Rattle.std.proofs.lemmas.Slice.Zip.{length-zip, get_or-zip}
 use Rattle.lens_values.specs.Row.{pair_cmp}
 use Rattle.lens_values.specs.declared.value.Value.{Value}
 use Rattle.lens_values.proofs.Comparing.{cmp_at, cmp_ends, then_other}
-use Rattle.lens_values.proofs.row.pairs_cmp.Goals as goal
+use Rattle.lens_values.proofs.pairs.pairs_cmp.Goals as goal
 
 pub loop-place-preserved : goal.loop-place-preserved
 loop-place-preserved c =
