@@ -1,10 +1,14 @@
 #!/usr/bin/env python3
-"""Measures how the time of reads and puts of whole views grows with the tables: ten times the rows, from 1,000, 10,000 and
-25,000 on. Each line of the table has the medians of several runs, each by a program of its own, those with the small and
-those with the large tables in turn, and the quotient of the two, with that of the least times in brackets. Where rustc is
-installed, two lines of each size are of bench/by_hand.rs, as a mark to compare with.
+"""Measures how reads and puts of whole views grow with the tables, by ten times the rows.
 
-Usage: bench/growth.py [PROGRAM [RUNS]]    (without the words, the program that ./serve builds, and 6 runs)
+In time: from 1,000, 10,000 and 25,000 rows on. Each line of the table has the medians of several runs, each by a program of
+its own, those with the small and those with the large tables in turn, and the quotient of the two, with that of the least
+times in brackets. Where rustc is installed, two lines of each size are of bench/by_hand.rs, as a mark to compare with.
+
+In instructions: from 10,000 rows on, by valgrind's callgrind, which counts the line alone.
+
+Usage: bench/growth.py [PROGRAM [RUNS]]            (without the words, the program that ./serve builds, and 6 runs)
+       bench/growth.py --instructions [PROGRAM]
 """
 import os
 import re
@@ -13,27 +17,43 @@ import statistics
 import subprocess
 import sys
 import tempfile
+from typing import NamedTuple
 
-from bench import TOP, TRACKS, defined, edit, must_begin, put, quantity, row, without_date
+from bench import TOP, TRACKS, Server, define, edit, must_begin, put, quantity, row, without_date
+from instructions import instructions
 
 SIZES = (1_000, 10_000, 25_000)
+COUNTED = 10_000
 TIMES = 10
 # How many rows one line of the filling adds.
 FILLING = 100_000
+TAKEN = b'{"ok":true'
 CHANGED = b'{"changed":[{'
+SHOWN = b'{"ok":true,"rows":[{'
 READ = b'{"do":"read","view":"stock"}\n'
 
 
-def fill(server, view, rows):
-    for first in range(0, len(rows), FILLING):
-        reply, _ = server.ask(edit(view, [], rows[first:first + FILLING]))
-        must_begin(reply, CHANGED)
+class Measured(NamedTuple):
+    """A line that is measured, and how its reply begins."""
+
+    name: str
+    line: bytes
+    start: bytes = CHANGED
 
 
-def seconds(server, line, start=CHANGED):
-    reply, taken = server.ask(line)
-    must_begin(reply, start)
-    return taken
+class Case(NamedTuple):
+    """The lines that make tables and a view, each with how its reply begins, and those that are measured after them."""
+
+    begin: list
+    measured: list
+
+
+def defining(*texts):
+    return [(define(text), TAKEN) for text in texts]
+
+
+def filling(view, rows):
+    return [(edit(view, [], rows[first:first + FILLING]), CHANGED) for first in range(0, len(rows), FILLING)]
 
 
 def with_last_changed(rows, old, new):
@@ -43,56 +63,42 @@ def with_last_changed(rows, old, new):
     return rows[:-1] + [last]
 
 
-def undated(program, count):
-    """A server with a drop over a selection that shows so many rows, and these rows, by the numbers of the tracks."""
+def undated(count, name, order):
+    """A put through a drop over a selection that shows so many rows, in an order of them."""
     rows = [row(number) for number in range(count * 5 // 4)]
-    shown = [without_date(line) for line in rows if '"rating":0' not in line]
-    server = defined(
-        program,
+    shown = order(without_date(line) for line in rows if '"rating":0' not in line)
+    begin = defining(
         TRACKS + " with track -> album date rating",
         "view undated = drop date determined by (track, 2018) from (select from tracks where rating > 0)",
     )
-    fill(server, "tracks", rows)
-    return server, shown
+    line = put(with_last_changed(shown, '"album":"album', '"album":"other'), "undated")
+    return Case(begin + filling("tracks", rows), [Measured(name, line)])
 
 
-def put_to_undated(server, rows):
-    """How long a put of these rows takes, one of them changed."""
-    return seconds(server, put(with_last_changed(rows, '"album":"album', '"album":"other'), "undated"))
+def drop(count):
+    """The put in the order of the numbers of the tracks."""
+    return undated(count, "put through a drop over a selection", list)
 
 
-def drop(program, count):
-    """A put through a drop over a selection, in the order of the numbers of the tracks."""
-    server, shown = undated(program, count)
-    taken = put_to_undated(server, shown)
-    server.end()
-    return [("put through a drop over a selection", taken)]
-
-
-def drop_as_read(program, count):
+def drop_as_read(count):
     """The same put, in the order in which a read shows the rows."""
-    server, shown = undated(program, count)
-    taken = put_to_undated(server, sorted(shown))
-    server.end()
-    return [("the same, in the order of a read", taken)]
+    return undated(count, "the same, in the order of a read", sorted)
 
 
-def drop_first(program, count):
+def drop_first(count):
     """A put through a drop of the first column, so that the rows of the table come in another order than those of the view."""
     rows = [row(number) for number in range(count)]
-    server = defined(
-        program,
+    shown = sorted(re.sub('"album":"[^"]*",', "", line) for line in rows)
+    begin = defining(
         TRACKS + " with track -> album date rating",
         "view bare = drop album determined by (track, 'none') from tracks",
     )
-    fill(server, "tracks", rows)
-    shown = sorted(re.sub('"album":"[^"]*",', "", line) for line in rows)
-    taken = seconds(server, put(with_last_changed(shown, '"rating":', '"rating":1'), "bare"))
-    server.end()
-    return [("put through a drop of the first column, in the order of a read", taken)]
+    line = put(with_last_changed(shown, '"rating":', '"rating":1'), "bare")
+    name = "put through a drop of the first column, in the order of a read"
+    return Case(begin + filling("tracks", rows), [Measured(name, line)])
 
 
-def join(program, count):
+def join(count):
     """A read of a join of so many tracks with a tenth as many albums, and a put with one row changed."""
     albums = [f'{{"album":"album{number}","quantity":{quantity(number)}}}' for number in range(count // 10)]
     tracks = [row(number, 3) for number in range(count)]
@@ -101,25 +107,37 @@ def join(program, count):
         for number, line in enumerate(tracks)
         if quantity(number // 10) > 2
     ]
-    server = defined(
-        program,
+    begin = defining(
         TRACKS + " with track -> date rating",
         "table albums (album text, quantity int) with album -> quantity",
         "view stock = select from (drop date determined by (track, 2018) from (join_dl tracks with albums)) where quantity > 2",
     )
-    fill(server, "tracks", tracks)
-    fill(server, "albums", albums)
-    read = seconds(server, READ, b'{"ok":true,"rows":[{')
-    changed = seconds(server, put(with_last_changed(stock, '"rating":3', '"rating":9'), "stock"))
+    changed = put(with_last_changed(stock, '"rating":3', '"rating":9'), "stock")
+    return Case(
+        begin + filling("tracks", tracks) + filling("albums", albums),
+        [Measured("read of a selection over a drop over a join", READ, SHOWN), Measured("put of that view", changed)],
+    )
+
+
+def seconds(program, case):
+    """What each measured line takes in seconds, with its name."""
+    server = Server(program)
+    for line, start in case.begin:
+        must_begin(server.ask(line)[0], start)
+    taken = []
+    for measured in case.measured:
+        reply, time = server.ask(measured.line)
+        must_begin(reply, measured.start)
+        taken.append((measured.name, time))
     server.end()
-    return [("read of a selection over a drop over a join", read), ("put of that view", changed)]
+    return taken
 
 
 def once(program, by_hand, count):
     """What each line takes in seconds, with its name."""
-    lines = drop(program, count) + drop_as_read(program, count) + drop_first(program, count) + join(program, count)
+    lines = [line for make in (drop, drop_as_read, drop_first, join) for line in seconds(program, make(count))]
     if by_hand:
-        lines += [(f"{name}, by hand", taken) for name, taken in drop(by_hand, count) + drop_as_read(by_hand, count)]
+        lines += [(f"{name}, by hand", time) for make in (drop, drop_as_read) for name, time in seconds(by_hand, make(count))]
     return lines
 
 
@@ -152,10 +170,31 @@ def measure(program, by_hand, runs):
             print(f"| {name} | {count:,} | {usual:,.1f} ms | {count * TIMES:,} | {usual_many:,.0f} ms | {quotients} |", flush=True)
 
 
+def counts(program, case):
+    """The instructions that each measured line takes, alone after the lines that make its tables."""
+    begin = [line.decode() for line, _ in case.begin]
+    return [instructions(program, begin, [measured.line.decode()]) for measured in case.measured]
+
+
+def count_instructions(program):
+    print(f"| What, one row changed | Instructions at {COUNTED:,} rows | At {COUNTED * TIMES:,} | Times |")
+    print("|---|---|---|---|")
+    for make in (drop, drop_as_read, drop_first, join):
+        small, large = make(COUNTED), make(COUNTED * TIMES)
+        for measured, few, many in zip(small.measured, counts(program, small), counts(program, large)):
+            print(f"| {measured.name} | {few / 1e6:,.1f} M | {many / 1e6:,.1f} M | {many / few:.1f} |", flush=True)
+
+
 def main():
-    default = os.path.join(TOP, "crates", "view_program", "out", "view_program")
-    program = sys.argv[1] if len(sys.argv) > 1 else default
-    runs = int(sys.argv[2]) if len(sys.argv) > 2 else 6
+    words = sys.argv[1:]
+    counted = words[:1] == ["--instructions"]
+    if counted:
+        words = words[1:]
+    program = words[0] if words else os.path.join(TOP, "crates", "view_program", "out", "view_program")
+    if counted:
+        count_instructions(program)
+        return
+    runs = int(words[1]) if len(words) > 1 else 6
     with tempfile.TemporaryDirectory() as folder:
         measure(program, built_by_hand(folder), runs)
 

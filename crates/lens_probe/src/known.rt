@@ -13,7 +13,7 @@ use std::cmp::Ordering;
 // How many comparisons a row may take, and how many all rows may take beside that.
 const STEPS_A_ROW: usize = 8;
 
-const STEPS_BESIDE: usize = 1 << 20;
+const STEPS_BESIDE: usize = 1 << 16;
 
 /// A place in a rising list of known rows, near which the part of the next row may be.
 #[derive(Drop)]
@@ -35,7 +35,8 @@ impl Cursor {
     /// The place of the known row that is the row's part in the columns of the known rows, if it is
     /// found, and then the cursor stands behind it. Rows mostly come in the order of their parts,
     /// and then all are found. Where they do not, each search goes to rows that lie anywhere in
-    /// memory, which costs more than to sort many parts, so after a million steps it is given up.
+    /// memory, which costs more than to sort many parts, so after some thousands of them it is given
+    /// up.
     pub(crate) fn find(&mut self, row: &Row, known: &[Row]) -> Option<usize>
         ensures { (C : NameSet) → AreOver C known.now → MatchOption result (Unit {0})
             (λ place. (place < length known.now)
