@@ -26,7 +26,6 @@ use Rattle.lens_laws.specs.Asked.{HasKeys, IsFilled, keys_at, left_sides}
 use Rattle.lens_laws.specs.KeyedDeltas.{drop_delta, join_delta_left, join_delta_right, select_delta}
 use Rattle.lens_laws.specs.Lenses.{AreOf, IsTyped}
 use Rattle.lens_laws.specs.Passes.{alone_at}
-use Rattle.lens_laws.specs.Rules.{BasesAreSound}
 use Rattle.lens_laws.specs.Shapes.{IsIn, join_shape, select_shape, shape_of}
 use Rattle.lens_laws.proofs.Asked.{contains_head, contains_map, contains_tail, keyed}
 use Rattle.lens_laws.proofs.Deltas.{diff_applies, diff_leads, in_new_view_added}
@@ -35,7 +34,7 @@ use Rattle.lens_laws.proofs.JoinDelta.{join_delta_left_is, join_delta_right_is}
 use Rattle.lens_laws.proofs.Lenses.{get_sort}
 use Rattle.lens_laws.proofs.NodeLaws.{both_can, drop_can, drop_law, join_law, select_law, sound}
 use Rattle.lens_laws.proofs.Passes.{join_sort_is, select_sort_is}
-use Rattle.lens_laws.proofs.Rules.{sort_is_typed}
+use Rattle.lens_laws.proofs.Rules.{given_is}
 use Rattle.lens_laws.proofs.SelectDelta.{select_delta_is}
 use Rattle.lens_laws.proofs.Sorts.{clash_none, to_in}
 use Rattle.lens_chain.specs.Edits.{IsEdit, edited}
@@ -57,15 +56,9 @@ edges_asked L K =
     let T = (sort_of L).tree in
     each_left T (keys_at L K) (λ e i. Contains-append_right K (left_sides T) e.left (contains_map (λ e. e.left) T e i))
 
-bases_are_sound : (L : Lens) → IsTyped L → BasesAreSound L
-bases_are_sound (base t s) h = h
-bases_are_sound (select P C) h = bases_are_sound C h.0
-bases_are_sound (drop A X a C) h = bases_are_sound C h.0
-bases_are_sound (join A B) h = (bases_are_sound A h.0, bases_are_sound B h.1)
-
 -- the tree of the sort that the rules give it is its own
 pub tree_is : (L M : Lens) (s : Sort) (T : List Edge) → IsTyped L → M ≡ L → typing.sort M ≡ Ok s → T ≡ s.tree → T ≡ (sort_of L).tree
-tree_is L M s T typed same given is = is ∙ ap (λ (k : Sort). k.tree) (sort_is_typed L s (bases_are_sound L typed) (ap typing.sort (sym same) ∙ given)).0
+tree_is L M s T typed same given is = is ∙ ap (λ (k : Sort). k.tree) (given_is L s typed (ap typing.sort (sym same) ∙ given))
 
 pub edges_within : (L : Lens) → IsTyped L → EdgesWithin (view_names L) (sort_of L).tree
 edges_within L typed = (sound L typed).within

@@ -7,4 +7,3 @@ pub mod Listed
 pub mod KnownParts
 pub mod PartLists
 pub mod Viewing
-mod CheckedEdits

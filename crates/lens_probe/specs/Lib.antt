@@ -5,4 +5,3 @@ pub mod Reading
 pub mod Untested
 pub mod KnownRows
 pub mod Viewed
-pub mod Checked

@@ -2,10 +2,8 @@
 //! given values in given columns.
 #![tactic(auto)]
 
-pub mod checking;
 mod columns;
 mod differing;
-pub mod edit_fault;
 mod finding;
 mod handed;
 mod having;
@@ -15,7 +13,5 @@ mod reading;
 mod untested;
 pub mod view;
 
-pub use checking::check_edit;
-pub use edit_fault::EditFault;
 pub use needed::needs;
 pub use view::View;

@@ -20,7 +20,7 @@ use Rattle.catalog_specs.specs.Judging.{first_refused}
 use Rattle.opening_specs.specs.Opening as opening
 use Rattle.opening_specs.specs.Opening.{all_names, damage_at, damage_of_rows, definition, first_damage, mapped, opened, or_damage, table_sort_of, unless_damaged}
 use Rattle.opening_laws.proofs.Opened.{find-mapped, get-mapped, rows_whole, whole_among}
-use Rattle.whole_put.proofs.Tables.{with_all, with_all_in_none, with_last}
+use Rattle.lens_laws.proofs.Entries.{with_all, with_all_in_none, with_last}
 use Rattle.table_keeper.specs.Changes.{names_of, rows_of}
 use Rattle.table_keeper.specs.Places.{Rise, rows_in}
 use Rattle.table_keeper.specs.declared.keeper.KeptTable.{KeptTable}

@@ -13,8 +13,9 @@ ghost use Rattle.lens_server.specs.Keyed.{IsOpen};
 ghost use Rattle.lens_server.specs.States.{state_of};
 
 use crate::store::Store;
+use edit_check::{EditFault, check_edit};
 use fd_tree::{Clash, Edge};
-use lens_probe::{EditFault, View, check_edit};
+use lens_probe::View;
 use lens_types::TypedLens;
 use lens_values::NoMemory;
 use request_text::{Answer, JsonRows, RowList, RowsFault, rows_of};

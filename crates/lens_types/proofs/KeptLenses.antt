@@ -15,8 +15,7 @@ use Rattle.lens_specs.specs.TreeForm.{outputs, tree_of}
 use Rattle.lens_specs.specs.Typing.{sort, and_then, select_fault, drop_fault, join_fault, form_fault, is_determined, default_holds, shared_table, undetermined}
 use Rattle.lens_laws.specs.Lenses.{IsTyped}
 use Rattle.lens_laws.specs.Passes.{IsSound}
-use Rattle.lens_laws.specs.Rules.{BasesAreSound}
-use Rattle.lens_laws.proofs.Rules.{sort_is_typed}
+use Rattle.lens_laws.proofs.Rules.{bases_are_sound, sort_is_typed}
 use Rattle.lens_types.specs.Faults.{Decides, IsRefused, with_inputs}
 use Rattle.lens_types.specs.Kept.{IsKept}
 use Rattle.lens_types.specs.Sorts.{natural_join, selection, projection}
@@ -36,12 +35,6 @@ base_kept t s h = record {
   size = refl;
   few = omega arith;
 }
-
-bases_are_sound : (L : Lens) → IsTyped L → BasesAreSound L
-bases_are_sound (base t s) h = h
-bases_are_sound (select P C) h = bases_are_sound C h.0
-bases_are_sound (drop A X a C) h = bases_are_sound C h.0
-bases_are_sound (join A B) h = (bases_are_sound A h.0, bases_are_sound B h.1)
 
 -- what is told of a lens is what is kept of it
 pub kept_from : (L : Lens) (s : Sort) (n : ℕ) → sort L ≡ Ok s → IsTyped L → n ≡ nodes_of L → n ≤ 64 → IsKept L s n

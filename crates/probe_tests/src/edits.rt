@@ -8,8 +8,9 @@ ghost use Rattle.lens_chain.specs.Edits.{over};
 
 use crate::premises::is_of;
 use crate::samples::relation;
+use edit_check::{EditFault, check_edit};
 use lens_chain::put_delta;
-use lens_probe::{EditFault, View, check_edit};
+use lens_probe::View;
 use row_sets::Relation;
 use signed_delta::{Delta, Look, TableDelta};
 use std::alloc::Global;

@@ -1,4 +1,5 @@
-//! Tests of the keeper in a file: what it keeps, and the files and changes that it refuses.
+//! Tests of the keeper in a file, and of runs over it: what it keeps, and the files and changes that
+//! it refuses.
 #![tactic(auto)]
 
 #[cfg(test)]
@@ -17,5 +18,7 @@ mod keeping;
 mod loading;
 #[cfg(test)]
 mod other_writers;
+#[cfg(test)]
+mod runs;
 #[cfg(test)]
 mod stores;

@@ -1,4 +1,4 @@
-//! Formulas and predicates that tests are made of.
+//! Formulas and predicates that tests write as texts in postfix order, as `a > 1, b < .c, or`.
 use crate::samples::{name, value};
 use lens_pred::{Formula, Formulas, Op, Pred, Values};
 use std::alloc::Global;
@@ -17,83 +17,88 @@ fn op(rt: &impl Abort, sign: &str) -> Op {
     }
 }
 
-/// The column against the value that the word says.
-pub(crate) fn compare(
-    rt: &impl Abort,
-    alloc: Global,
-    col: &str,
-    sign: &str,
-    word: &str,
-) -> Formula {
-    Formula::Compare {
-        col: name(rt, col),
-        op: op(rt, sign),
-        value: value(rt, alloc, word),
-    }
-}
-
-/// The column against another.
-pub(crate) fn compare_columns(rt: &impl Abort, col: &str, sign: &str, other: &str) -> Formula {
-    Formula::CompareCols {
-        col: name(rt, col),
-        op: op(rt, sign),
-        other: name(rt, other),
-    }
-}
-
-/// The column is one of the values that the text lists.
-pub(crate) fn one_of(rt: &impl Abort, alloc: Global, col: &str, text: &str) -> Formula {
+// The values that the text lists.
+fn values(rt: &impl Abort, alloc: Global, text: &str) -> Values {
     let mut list = Vec::new(alloc);
     for word in text.split_whitespace() {
         list.push(value(rt, alloc, word)).expect(rt, "memory");
     }
-    Formula::OneOf {
-        col: name(rt, col),
-        values: Values::new(list),
+    Values::new(list)
+}
+
+// A column against a value, as `a > 1`, against another column, as `a > .b`, or against a list of
+// values, as `a in 1 2`.
+fn comparison(rt: &impl Abort, alloc: Global, text: &str) -> Formula {
+    let (col, rest) = text.split_once(' ').expect(rt, text);
+    let (sign, right) = rest.split_once(' ').unwrap_or((rest, ""));
+    let col = name(rt, col);
+    if sign == "in" {
+        let values = values(rt, alloc, right);
+        return Formula::OneOf { col, values };
+    }
+    let op = op(rt, sign);
+    match right.split_once('.') {
+        Some((_, other)) => Formula::CompareCols {
+            col,
+            op,
+            other: name(rt, other),
+        },
+        None => Formula::Compare {
+            col,
+            op,
+            value: value(rt, alloc, right),
+        },
     }
 }
 
-/// The condition does not hold.
-pub(crate) fn not(rt: &impl Abort, alloc: Global, part: Formula) -> Formula {
-    Formula::Not(Box::new(alloc, part).expect(rt, "memory"))
+// The last two formulas, taken out of the list.
+fn last_two(rt: &impl Abort, alloc: Global, list: &mut Vec<Formula>) -> Formulas {
+    let second = list.pop().expect(rt, "a formula");
+    let first = list.pop().expect(rt, "a formula");
+    Formulas::new(vec![in alloc; first, second].expect(rt, "memory"))
 }
 
-// The list of the two.
-fn two(rt: &impl Abort, alloc: Global, first: Formula, second: Formula) -> Vec<Formula> {
+// The formula that the part says; `not`, `and` and `or` take those before it.
+fn formula(rt: &impl Abort, alloc: Global, list: &mut Vec<Formula>, part: &str) -> Formula {
+    match part {
+        "true" => Formula::True,
+        "false" => Formula::False,
+        "not" => {
+            let last = list.pop().expect(rt, "a formula");
+            Formula::Not(Box::new(alloc, last).expect(rt, "memory"))
+        }
+        "and" => Formula::And(last_two(rt, alloc, list)),
+        "or" => Formula::Or(last_two(rt, alloc, list)),
+        _ => comparison(rt, alloc, part),
+    }
+}
+
+/// The formulas that the text leaves, in order.
+pub(crate) fn formulas(rt: &impl Abort, alloc: Global, text: &str) -> Vec<Formula> {
     let mut list = Vec::new(alloc);
-    list.push(first).expect(rt, "memory");
-    list.push(second).expect(rt, "memory");
+    for part in text.split_terminator(',') {
+        let next = formula(rt, alloc, &mut list, part.trim());
+        list.push(next).expect(rt, "memory");
+    }
     list
 }
 
-/// Both hold.
-pub(crate) fn both(rt: &impl Abort, alloc: Global, first: Formula, second: Formula) -> Formula {
-    Formula::And(Formulas::new(two(rt, alloc, first, second)))
+/// The predicate whose conjuncts the text leaves.
+pub(crate) fn pred(rt: &impl Abort, alloc: Global, text: &str) -> Pred {
+    Pred::new(formulas(rt, alloc, text)).expect(rt, text)
 }
 
-/// One of the two holds.
-pub(crate) fn either(rt: &impl Abort, alloc: Global, first: Formula, second: Formula) -> Formula {
-    Formula::Or(Formulas::new(two(rt, alloc, first, second)))
+// How the predicate is written.
+fn written(rt: &impl Abort, alloc: Global, pred: &Pred) -> String {
+    format!(in alloc; "{pred:?}").expect(rt, "memory")
 }
 
-/// The predicate of no conjunct.
-pub(crate) fn nothing(rt: &impl Abort, alloc: Global) -> Pred {
-    Pred::new(Vec::new(alloc)).expect(rt, "a normal form")
-}
-
-/// The predicate of one conjunct.
-pub(crate) fn only(rt: &impl Abort, alloc: Global, conjunct: Formula) -> Pred {
-    let mut list = Vec::new(alloc);
-    list.push(conjunct).expect(rt, "memory");
-    Pred::new(list).expect(rt, "a normal form")
-}
-
-/// The predicate of two conjuncts.
-pub(crate) fn pair(rt: &impl Abort, alloc: Global, first: Formula, second: Formula) -> Pred {
-    Pred::new(two(rt, alloc, first, second)).expect(rt, "a normal form")
-}
-
-/// The predicate of one comparison.
-pub(crate) fn where_is(rt: &impl Abort, alloc: Global, col: &str, sign: &str, word: &str) -> Pred {
-    only(rt, alloc, compare(rt, alloc, col, sign, word))
+/// Checks that this is the predicate of the text.
+pub(crate) fn is_pred(rt: &impl Abort, alloc: Global, found: Option<Pred>, text: &str) {
+    let found = found.expect(rt, text);
+    let expected = pred(rt, alloc, text);
+    assert!(rt;
+        written(rt, alloc, &found) == written(rt, alloc, &expected),
+        "{text}"
+    );
 }

@@ -1,170 +1,88 @@
 //! Rows revised by other rows along a tree of dependencies.
-use crate::samples::{are_rows, columns, relation, row, row_list, rows, tree};
-use revision::steps::one_along;
-use revision::{all_along, merge, revise, revise_row};
+ghost use Rattle.std.specs.Prelude.{◌≡◌};
+
+use crate::samples::{columns, is_relation, is_row, relation, row, rows, tree};
+use revision::{merge, revise, revise_row};
 use std::alloc::Global;
 use std::process::Abort;
-use std::test::Fail;
 
-// Whether the row becomes the other by the rows, along the tree.
-fn becomes(
-    rt: &impl Abort,
-    alloc: Global,
-    under: &str,
-    by: &str,
-    before: &str,
-    after: &str,
-) -> bool {
-    let tree = tree(rt, alloc, under);
-    let by = rows(rt, alloc, by);
-    let old = row(rt, alloc, before);
-    let revised = revise_row(alloc, &tree, &old, &by).expect(rt, "memory");
-    revised == row(rt, alloc, after)
-}
+// Dependencies, rows, a row, and the same row revised by the rows: along each edge in turn, by the
+// first row that agrees with it.
+const REVISED: &str = "\
+a -> b, b -> c | a=1 b=2 c=5 | a=1 b=1 c=1 | a=1 b=2 c=5
+a -> b, b -> c | a=1 b=2 c=5 | a=9 b=2 c=1 | a=9 b=2 c=5
+a -> b, b -> c | a=1 b=2 c=5 | a=9 b=8 c=1 | a=9 b=8 c=1
+a -> b | a=1 b=7; a=1 b=8 | a=1 b=3 | a=1 b=7
+track -> album, album -> quantity | album=X quantity=9 track=a | album=X quantity=1 track=b | album=X quantity=9 track=b";
 
 #[test]
-fn rows_are_revised_along_a_chain(rt: HostRuntime) {
+fn rows_are_revised_along_each_edge(rt: HostRuntime) {
     let alloc = rt.alloc();
-    let chain = "a -> b, b -> c";
-    assert!(rt;
-        becomes(
+    for line in REVISED.lines() {
+        let (under, rest) = line.split_once('|').expect(&rt, line);
+        let (by, rest) = rest.split_once('|').expect(&rt, line);
+        let (old, new) = rest.split_once('|').expect(&rt, line);
+        let by = rows(&rt, alloc, by);
+        let old = row(&rt, alloc, old);
+        is_row(
             &rt,
             alloc,
-            chain,
-            "a=1 b=2 c=5",
-            "a=1 b=1 c=1",
-            "a=1 b=2 c=5"
-        )
-    );
-    assert!(rt;
-        becomes(
-            &rt,
-            alloc,
-            chain,
-            "a=1 b=2 c=5",
-            "a=9 b=2 c=1",
-            "a=9 b=2 c=5"
-        )
-    );
-    assert!(rt;
-        becomes(
-            &rt,
-            alloc,
-            chain,
-            "a=1 b=2 c=5",
-            "a=9 b=8 c=1",
-            "a=9 b=8 c=1"
-        )
-    );
+            revise_row(alloc, &tree(&rt, alloc, under), &old, &by).ok(),
+            new,
+        );
+    }
 }
 
-// Whether the rows become the others by the rows, along the one edge.
-fn are_moved(
-    rt: &impl Abort,
-    alloc: Global,
-    under: &str,
-    by: &str,
-    before: &str,
-    after: &str,
-) -> bool {
+const SALES: &str = "album:text quantity:int track:text";
+
+// Checks that the sales are revised to the first rows by the other sales, and merged with them to
+// the second.
+fn follow(rt: &impl Abort, alloc: Global, under: &str, old: &str, by: &str, new: [&str; 2]) {
     let tree = tree(rt, alloc, under);
-    let edge = tree.edges().first().expect(rt, "an edge");
-    let by = rows(rt, alloc, by);
-    let old = row_list(rt, alloc, before);
-    let moved = all_along(alloc, edge, &old, &by).expect(rt, "memory");
-    moved.as_slice() == row_list(rt, alloc, after).as_slice()
-}
-
-#[test]
-fn rows_are_moved_along_an_edge(rt: HostRuntime) {
-    let alloc = rt.alloc();
-    let before = "a=2 b=1; a=1 b=1; a=1 b=3";
-    let after = "a=2 b=1; a=1 b=7; a=1 b=7";
-    assert!(rt; are_moved(&rt, alloc, "a -> b", "a=1 b=7; a=1 b=8", before, after));
-}
-
-// Whether the row alone becomes the other by the rows, along the one edge.
-fn is_moved(
-    rt: &impl Abort,
-    alloc: Global,
-    under: &str,
-    by: &str,
-    before: &str,
-    after: &str,
-) -> Result<bool, Fail> {
-    let tree = tree(rt, alloc, under);
-    let edge = tree.edges().first().ok_or("no edge")?;
-    let moved = one_along(alloc, edge, &row(rt, alloc, before), &rows(rt, alloc, by))?;
-    Ok(moved == row(rt, alloc, after))
-}
-
-#[test]
-fn row_is_moved_along_an_edge(rt: HostRuntime) -> Result<(), Fail> {
-    let alloc = rt.alloc();
-    assert!(rt;
-        is_moved(
-            &rt,
-            alloc,
-            "a -> b",
-            "a=1 b=7; a=1 b=8",
-            "a=1 b=3",
-            "a=1 b=7"
-        )?
-    );
-    assert!(rt;
-        is_moved(
-            &rt,
-            alloc,
-            "a -> b",
-            "a=1 b=7; a=1 b=8",
-            "a=2 b=1",
-            "a=2 b=1"
-        )?
-    );
-    Ok(())
-}
-
-// Whether the relation, with the columns of a track, is revised to the first rows by the other, and
-// merged with it to the second.
-fn follow(
-    rt: &impl Abort,
-    alloc: Global,
-    under: &str,
-    old: &str,
-    by: &str,
-    all: [&str; 2],
-) -> bool {
-    let tree = tree(rt, alloc, under);
-    let cols = columns(rt, alloc, "album:text quantity:int track:text");
+    let cols = columns(rt, alloc, SALES);
     let old = relation(rt, alloc, &cols, old);
     let by = relation(rt, alloc, &cols, by);
     by.rows_fit();
-    let revised = revise(alloc, &tree, &old, by.rows()).expect(rt, "memory");
-    let merged = merge(alloc, &tree, &old, &by).expect(rt, "memory");
-    are_rows(rt, alloc, revised.rows(), all[0]) && are_rows(rt, alloc, merged.rows(), all[1])
+    is_relation(
+        rt,
+        alloc,
+        revise(alloc, &tree, &old, by.rows()).ok(),
+        SALES,
+        new[0],
+    );
+    is_relation(
+        rt,
+        alloc,
+        merge(alloc, &tree, &old, &by).ok(),
+        SALES,
+        new[1],
+    );
 }
 
-// The row of an album that is the second edge's alone is revised.
 #[test]
-fn edges_behind_the_first_revise(rt: HostRuntime) {
-    let alloc = rt.alloc();
-    let chain = "track -> album, album -> quantity";
+fn relations_are_revised_and_merged(rt: HostRuntime) {
     let old = "album=X quantity=1 track=b";
     let by = "album=X quantity=9 track=a";
     let revised = "album=X quantity=9 track=b";
     let merged = "album=X quantity=9 track=a; album=X quantity=9 track=b";
-    assert!(rt; becomes(&rt, alloc, chain, by, old, revised));
-    assert!(rt; follow(&rt, alloc, chain, old, by, [revised, merged]));
+    let chain = "track -> album, album -> quantity";
+    follow(&rt, rt.alloc(), chain, old, by, [revised, merged]);
 }
 
-// Two rows that become one, and a row that nothing revises.
+// Two rows become one, and a row is left that nothing revises.
 #[test]
 fn revised_rows_are_a_set(rt: HostRuntime) {
-    let alloc = rt.alloc();
     let old = "album=X quantity=1 track=b; album=X quantity=2 track=b; album=Y quantity=1 track=b";
     let by = "album=X quantity=9 track=a";
     let revised = "album=X quantity=9 track=b; album=Y quantity=1 track=b";
     let merged =
         "album=X quantity=9 track=a; album=X quantity=9 track=b; album=Y quantity=1 track=b";
-    assert!(rt; follow(&rt, alloc, "album -> quantity", old, by, [revised, merged]));
+    follow(
+        &rt,
+        rt.alloc(),
+        "album -> quantity",
+        old,
+        by,
+        [revised, merged],
+    );
 }

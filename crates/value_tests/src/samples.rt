@@ -1,4 +1,5 @@
-//! Values that tests write as texts, and whether a value is what a text says.
+//! Values that tests write as texts, and checks of values against texts. A check that fails stops
+//! the test with the text.
 ghost use Rattle.std.specs.Prelude.{◌≡◌};
 
 use fd_closure::Dep;
@@ -10,21 +11,30 @@ use std::process::Abort;
 
 /// The name that the word is.
 pub(crate) fn name(rt: &impl Abort, word: &str) -> Name {
-    Name::new(word).expect(rt, "a name")
+    Name::new(word).expect(rt, word)
 }
 
-/// The names that the text lists, as `a b`.
-pub(crate) fn names(rt: &impl Abort, alloc: Global, text: &str) -> Names {
+// The names in the order of the text, as `b a b`.
+fn listed(rt: &impl Abort, alloc: Global, text: &str) -> Vec<Name> {
     let mut list = Vec::new(alloc);
     for word in text.split_whitespace() {
         list.push(name(rt, word)).expect(rt, "memory");
     }
-    Names::new(alloc, list).expect(rt, "memory")
+    list
 }
 
-/// Whether these are the names that the text lists.
-pub(crate) fn are_names(rt: &impl Abort, alloc: Global, found: &Names, text: &str) -> bool {
-    found.as_slice() == names(rt, alloc, text).as_slice()
+/// The set of the names that the text lists.
+pub(crate) fn names(rt: &impl Abort, alloc: Global, text: &str) -> Names {
+    Names::new(alloc, listed(rt, alloc, text)).expect(rt, "memory")
+}
+
+/// Checks that these are the names of the text, in its order.
+pub(crate) fn are_names(rt: &impl Abort, alloc: Global, found: Option<Names>, text: &str) {
+    let found = found.expect(rt, text);
+    assert!(rt;
+        found.as_slice() == listed(rt, alloc, text).as_slice(),
+        "{text}"
+    );
 }
 
 // The kind that the word names.
@@ -37,52 +47,60 @@ fn kind(rt: &impl Abort, word: &str) -> Kind {
     }
 }
 
-/// The columns that the text lists, as `a:int b:text`.
-pub(crate) fn columns(rt: &impl Abort, alloc: Global, text: &str) -> Columns {
-    let mut pairs = Vec::new(alloc);
+// The columns in the order of the text, as `b:int a:text`.
+fn pairs(rt: &impl Abort, alloc: Global, text: &str) -> Vec<(Name, Kind)> {
+    let mut list = Vec::new(alloc);
     for word in text.split_whitespace() {
-        let (column, of) = word.split_once(':').expect(rt, "a column");
-        pairs
-            .push((name(rt, column), kind(rt, of)))
+        let (column, of) = word.split_once(':').expect(rt, word);
+        list.push((name(rt, column), kind(rt, of)))
             .expect(rt, "memory");
     }
-    Columns::new(alloc, pairs).expect(rt, "columns")
+    list
 }
 
-/// Whether these are the columns that the text lists.
-pub(crate) fn are_columns(rt: &impl Abort, alloc: Global, found: &Columns, text: &str) -> bool {
-    found.pairs() == columns(rt, alloc, text).pairs()
+/// The columns that the text lists.
+pub(crate) fn columns(rt: &impl Abort, alloc: Global, text: &str) -> Columns {
+    Columns::new(alloc, pairs(rt, alloc, text)).expect(rt, text)
 }
 
-/// A truth value, a number, or else a text.
+/// Checks that these are the columns of the text, in its order.
+pub(crate) fn are_columns(rt: &impl Abort, alloc: Global, found: Option<Columns>, text: &str) {
+    let found = found.expect(rt, text);
+    assert!(rt;
+        found.pairs() == pairs(rt, alloc, text).as_slice(),
+        "{text}"
+    );
+}
+
+/// A number, a truth value, or else a text.
 pub(crate) fn value(rt: &impl Abort, alloc: Global, word: &str) -> Value {
-    match word {
-        "true" => Value::Flag(true),
-        "false" => Value::Flag(false),
-        _ => number_or_text(rt, alloc, word),
+    if let Ok(number) = word.parse::<i64>() {
+        return Value::Int(number);
     }
-}
-
-fn number_or_text(rt: &impl Abort, alloc: Global, word: &str) -> Value {
-    match word.parse::<i64>() {
-        Ok(number) => Value::Int(number),
-        Err(_) => Value::Text(Text::new(alloc, word).expect(rt, "a text")),
+    match word.parse::<bool>() {
+        Ok(flag) => Value::Flag(flag),
+        Err(_) => Value::Text(Text::new(alloc, word).expect(rt, word)),
     }
 }
 
 /// The row that the text lists, as `a=1 b=x`.
 pub(crate) fn row(rt: &impl Abort, alloc: Global, text: &str) -> Row {
-    let mut pairs = Vec::new(alloc);
+    let mut list = Vec::new(alloc);
     for word in text.split_whitespace() {
-        let (column, of) = word.split_once('=').expect(rt, "a value");
-        pairs
-            .push((name(rt, column), value(rt, alloc, of)))
+        let (column, of) = word.split_once('=').expect(rt, word);
+        list.push((name(rt, column), value(rt, alloc, of)))
             .expect(rt, "memory");
     }
-    Row::new(alloc, pairs).expect(rt, "a row")
+    Row::new(alloc, list).expect(rt, text)
 }
 
-/// The rows that the text lists, as `a=1 b=x; a=2 b=y`.
+/// Checks that this is the row of the text.
+pub(crate) fn is_row(rt: &impl Abort, alloc: Global, found: Option<Row>, text: &str) {
+    let found = found.expect(rt, text);
+    assert!(rt; found == row(rt, alloc, text), "{text}");
+}
+
+/// The rows in the order of the text, as `a=2 b=y; a=1 b=x`.
 pub(crate) fn row_list(rt: &impl Abort, alloc: Global, text: &str) -> Vec<Row> {
     let mut list = Vec::new(alloc);
     for part in text.split_terminator(';') {
@@ -96,9 +114,13 @@ pub(crate) fn rows(rt: &impl Abort, alloc: Global, text: &str) -> RowSet {
     RowSet::new(alloc, row_list(rt, alloc, text)).expect(rt, "memory")
 }
 
-/// Whether the set has the rows that the text lists, in this order, and no other.
-pub(crate) fn are_rows(rt: &impl Abort, alloc: Global, found: &RowSet, text: &str) -> bool {
-    found.rows() == row_list(rt, alloc, text).as_slice()
+/// Checks that these are the rows of the text, in its order.
+pub(crate) fn are_rows(rt: &impl Abort, alloc: Global, found: Option<RowSet>, text: &str) {
+    let found = found.expect(rt, text);
+    assert!(rt;
+        found.rows() == row_list(rt, alloc, text).as_slice(),
+        "{text}"
+    );
 }
 
 /// The relation over the columns that has the rows of the text.
@@ -107,16 +129,29 @@ pub(crate) fn relation(rt: &impl Abort, alloc: Global, columns: &Columns, text: 
 {
     let mut made = Relation::empty(alloc, columns.copy(alloc).expect(rt, "memory"));
     for row in row_list(rt, alloc, text) {
-        assert!(rt; row.fits(columns));
+        assert!(rt; row.fits(columns), "{text}");
         made.add(row).expect(rt, "memory");
     }
     made
 }
 
+/// Checks that the relation has these columns and rows.
+pub(crate) fn is_relation(
+    rt: &impl Abort,
+    alloc: Global,
+    found: Option<Relation>,
+    cols: &str,
+    text: &str,
+) {
+    let found = found.expect(rt, text);
+    are_columns(rt, alloc, found.columns().copy(alloc).ok(), cols);
+    are_rows(rt, alloc, Some(found.into_rows()), text);
+}
+
 /// The dependency, as `a b -> c`.
 pub(crate) fn dep(rt: &impl Abort, alloc: Global, text: &str) -> Dep {
-    let (left, right) = text.split_once("->").expect(rt, "an arrow");
-    Dep::new(names(rt, alloc, left), names(rt, alloc, right)).expect(rt, "two sides")
+    let (left, right) = text.split_once("->").expect(rt, text);
+    Dep::new(names(rt, alloc, left), names(rt, alloc, right)).expect(rt, text)
 }
 
 /// The dependencies that the text lists, as `a -> b, b -> c`.
@@ -130,7 +165,7 @@ pub(crate) fn deps(rt: &impl Abort, alloc: Global, text: &str) -> Vec<Dep> {
 
 /// The tree form of the dependencies that the text lists.
 pub(crate) fn tree(rt: &impl Abort, alloc: Global, text: &str) -> Tree {
-    Tree::of(alloc, &deps(rt, alloc, text)).expect(rt, "a tree")
+    Tree::of(alloc, &deps(rt, alloc, text)).expect(rt, text)
 }
 
 // Whether the edge has the sides of the dependency.
@@ -138,12 +173,11 @@ fn is_edge(edge: &Edge, dep: &Dep) -> bool {
     edge.left.as_slice() == dep.left().as_slice() && edge.right.as_slice() == dep.right().as_slice()
 }
 
-/// Whether the edges are those that the text lists, in this order.
-pub(crate) fn are_edges(rt: &impl Abort, alloc: Global, edges: &[Edge], text: &str) -> bool {
+/// Checks that the edges of the tree are those that the text lists, in its order.
+pub(crate) fn are_edges(rt: &impl Abort, alloc: Global, found: Option<Tree>, text: &str) {
+    let found = found.expect(rt, text);
     let expected = deps(rt, alloc, text);
-    let alike = edges
-        .iter()
-        .zip(&expected)
-        .all(|(edge, dep)| is_edge(edge, dep));
-    alike && edges.len() == expected.len()
+    let mut pairs = found.edges().iter().zip(&expected);
+    assert!(rt; found.edges().len() == expected.len(), "{text}");
+    assert!(rt; pairs.all(|(edge, dep)| is_edge(edge, dep)), "{text}");
 }

@@ -4,27 +4,10 @@
 ghost use Rattle.std.specs.Prelude.{◌≡◌, ◌≢◌, ◌↔◌, None, map, string_bytes};
 ghost use Rattle.command_words.specs.Settings.{settings};
 
-#[cfg(test)]
-mod device_tests;
-#[cfg(test)]
-mod file_tests;
-mod giving;
-mod opening;
-#[cfg(test)]
-mod preview_tests;
-#[cfg(test)]
-mod row_tests;
-pub mod running;
-#[cfg(test)]
-mod store_tests;
-#[cfg(test)]
-mod tests;
-#[cfg(test)]
-mod word_tests;
 mod words;
 
 use lens_io::{StreamSink, StreamSource};
-use running::run;
+pub use serving::run;
 use sqlite_keeper::SqliteKeeper;
 use std::io;
 use std::marker::Brand;

@@ -1,50 +1,15 @@
--- Columns of a projection and of a join, and shared columns with one kind.
-use Rattle.std.proofs.Common.{◌≡◌, Bool, true, false, not, cond, Option, Some, None, refl, sym, ap, ◌∙◌, inl, inr}
-use Rattle.std.proofs.lemmas.Bool.{cases_Bool, true≢false}
+-- Columns of a projection and of a join.
+use Rattle.std.proofs.Common.{◌≡◌, Bool, true, cond, None, refl, sym, ap, ◌∙◌, inl, inr}
+use Rattle.std.proofs.lemmas.Bool.{cases_Bool}
 use Rattle.std.specs.FinMap as map
 use Rattle.std.specs.Ordering.{eq_by_cmp}
 use Rattle.lens_values.specs.Order.{bytes_cmp}
 use Rattle.lens_values.specs.SortedSet as set
-use Rattle.lens_values.specs.Value.{same_kind}
-use Rattle.lens_values.specs.declared.value.Kind.{Kind}
-use Rattle.lens_values.specs.declared.value.Kind.TheVariants.{Int, Text, Flag}
 use Rattle.lens_specs.specs.Names.{Name, Names, one}
-use Rattle.lens_specs.specs.Columns.{Columns, both_columns, columns_in, is_kind, kinds_differ, like_kinds, names, without_column}
+use Rattle.lens_specs.specs.Columns.{Columns, both_columns, columns_in, kinds_differ, names, without_column}
 use Rattle.fd_laws.proofs.Columns.{get-both_left, get-both_right, get-without_other, get-without_same, no_kind}
-use Rattle.fd_laws.proofs.Lists.{find_none}
-use Rattle.fd_laws.proofs.Names.{in_shared, name_exact, name_itself, name_total, one_is, rest_out, rest_same, tied_name}
-
--- ---- shared columns
-
-kind_is : (j k : Kind) → same_kind j k ≡ true → j ≡ k
-kind_is Int Int e = refl
-kind_is Int Text e = absurd (true≢false (sym e))
-kind_is Int Flag e = absurd (true≢false (sym e))
-kind_is Text Int e = absurd (true≢false (sym e))
-kind_is Text Text e = refl
-kind_is Text Flag e = absurd (true≢false (sym e))
-kind_is Flag Int e = absurd (true≢false (sym e))
-kind_is Flag Text e = absurd (true≢false (sym e))
-kind_is Flag Flag e = refl
-
-has_kind : (o : Option Kind) (k : Kind) → is_kind o k ≡ true → o ≡ Some k
-has_kind None k e = absurd (true≢false (sym e))
-has_kind (Some j) k e = ap Some (kind_is j k e)
-
-alike_kinds : (o p : Option Kind) → like_kinds o p ≡ true → o ≡ p
-alike_kinds o None e = absurd (true≢false (sym e))
-alike_kinds o (Some k) e = has_kind o k e
-
-not_out : (b : Bool) → not b ≡ false → b ≡ true
-not_out true e = refl
-not_out false e = absurd (true≢false e)
-
--- where no shared column has two kinds, each has one
-pub one_kind : (U V : Columns) → kinds_differ U V ≡ None → (c : Name) → set.contains (names U) c ≡ true → set.contains (names V) c ≡ true → map.get U c ≡ map.get V c
-one_kind U V none c i j =
-    alike_kinds (map.get U c) (map.get V c) (not_out _
-    (find_none (eq_by_cmp bytes_cmp) tied_name name_itself (λ c. not (like_kinds (map.get U c) (map.get V c))) (set.items (set.intersection (names U) (names V))) none c
-    (sym (set.contains-items (set.intersection (names U) (names V)) c) ∙ in_shared (names U) (names V) c i j)))
+use Rattle.lens_laws.proofs.Rules.{one_kind}
+use Rattle.fd_laws.proofs.Names.{name_exact, name_total, one_is, rest_out, rest_same}
 
 -- ---- columns cut down
 

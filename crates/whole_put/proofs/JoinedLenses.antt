@@ -30,7 +30,8 @@ use Rattle.lens_laws.proofs.Sorts.{clash_none, to_in}
 use Rattle.whole_put.specs.Joinable.{CanBePut}
 use Rattle.whole_put.specs.Sources.{AreShown}
 use Rattle.whole_put.specs.declared.sources.Sources.{Sources}
-use Rattle.whole_put.proofs.Lenses.{given_is, over}
+use Rattle.lens_laws.proofs.Rules.{given_is}
+use Rattle.whole_put.proofs.Lenses.{over}
 use Rattle.whole_put.proofs.Shown.{shown_alike_after}
 
 -- ---- shared columns

@@ -17,7 +17,7 @@ use Rattle.fd_laws.proofs.Rows.{agree_back, agree_on, agree_within, agree-cut}
 use Rattle.fd_laws.proofs.Trees.{both_edges}
 use Rattle.fd_laws.proofs.TreeForms.{all_append, append_parts}
 use Rattle.whole_put.specs.Joinable.{CanBePut, shared_names}
-use Rattle.whole_put.proofs.Cuts.{one_kind}
+use Rattle.lens_laws.proofs.Rules.{one_kind}
 
 -- ---- the values that the body computes in turn
 

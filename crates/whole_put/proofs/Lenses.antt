@@ -1,14 +1,12 @@
 -- What a lens shows and a put to it, by its root.
 use Rattle.std.proofs.Common.{◌≡◌, ◌∙◌, true, false, List, ap, refl, subst, sym, Some}
-use Rattle.std.specs.Prelude.{Result, Ok, IfOk}
+use Rattle.std.specs.Prelude.{Ok}
 use Rattle.std.specs.FinMap as finmap
-use Rattle.std.proofs.lemmas.Result.{IfOk-weaker}
-use Rattle.no_memory.specs.declared.NoMemory.{NoMemory}
 use Rattle.lens_values.specs.SortedSet as set
 use Rattle.lens_values.specs.declared.value.Value.{Value}
 use Rattle.lens_specs.specs.Columns.{fits_at, names, without_column}
 use Rattle.lens_specs.specs.Dependencies.{Edge, Meets}
-use Rattle.lens_specs.specs.Lens.{Lens, Tables, base, select, drop, join, get, put, sort_of, view, rows_or_none}
+use Rattle.lens_specs.specs.Lens.{Lens, Tables, base, select, drop, get, put, sort_of, view, rows_or_none}
 use Rattle.lens_specs.specs.Names.{Name, Names, one}
 use Rattle.lens_specs.specs.Nodes.{drop_get, drop_put, select_get, select_put}
 use Rattle.lens_specs.specs.Predicate.{Predicate, holds}
@@ -20,10 +18,9 @@ use Rattle.fd_laws.proofs.Names.{one_is}
 use Rattle.fd_laws.proofs.Rows.{agree_at, agree_from}
 use Rattle.fd_laws.proofs.Trees.{at_edge}
 use Rattle.lens_laws.specs.Lenses.{AreOf, IsTyped}
-use Rattle.lens_laws.specs.Rules.{BasesAreSound}
-use Rattle.lens_laws.proofs.Lenses.{get_after, get_sort, put_back}
+use Rattle.lens_laws.proofs.Lenses.{get_after, put_back}
 use Rattle.lens_laws.proofs.NodeLaws.{drop_law, select_law}
-use Rattle.lens_laws.proofs.Rules.{sort_is_typed}
+use Rattle.lens_laws.proofs.Rules.{given_is}
 use Rattle.lens_laws.proofs.Sorts.{clash_none}
 
 -- ---- what is shown
@@ -53,33 +50,11 @@ unfolding get
 shown_dropped L C A X a db M is shown =
     ap (λ (N : Relation). record { columns = without_column N.columns A; rows = drop_get (names N.columns) A N.rows }) shown ∙ ap (λ K. view K db) is
 
--- what is shown is of the lens's sort
-pub shown_is_of_sort : (r : Result Relation NoMemory) (L : Lens) (db : Tables) → IsTyped L → AreOf L db → IfOk r (λ shown. shown ≡ view L db) → IfOk r (λ shown. IsOfSort shown (sort_of L))
-shown_is_of_sort r L db typed are =
-    let here : IsOfSort (view L db) (sort_of L) = (refl, get_sort L db typed are) in
-    IfOk-weaker r (λ shown. shown ≡ view L db) (λ shown. IsOfSort shown (sort_of L)) (λ shown is. subst (λ M. IsOfSort M (sort_of L)) (sym is) here)
-
 -- ---- the source of a node after a put
-
-bases_are_sound : (L : Lens) → IsTyped L → BasesAreSound L
-bases_are_sound (base t s) h = h
-bases_are_sound (select P C) h = bases_are_sound C h.0
-bases_are_sound (drop A X a C) h = bases_are_sound C h.0
-bases_are_sound (join A B) h = (bases_are_sound A h.0, bases_are_sound B h.1)
-
--- the sort that the rules give
-pub given_is : (L : Lens) (s : Sort) → IsTyped L → typing.sort L ≡ Ok s → s ≡ sort_of L
-given_is L s typed given = (sort_is_typed L s (bases_are_sound L typed) given).0
 
 -- these rows over the columns of the lens
 abbrev pub over : Lens → Rows → Relation
 over L rows = record { columns = (sort_of L).columns; rows = rows }
-
--- what is shown is of its sort
-pub view_is_of_sort : (L : Lens) (db : Tables) (M : Relation) → IsTyped L → AreOf L db → M ≡ view L db → IsOfSort M (sort_of L)
-view_is_of_sort L db M typed are shown =
-    let here : IsOfSort (view L db) (sort_of L) = (refl, get_sort L db typed are) in
-    subst (λ N. IsOfSort N (sort_of L)) (sym shown) here
 
 -- the rows of its source after a put of a selection
 abbrev pub under_selected : Predicate → Lens → Rows → Rows → Rows

@@ -4,7 +4,7 @@ use Rattle.lens_values.specs.SortedSet as set
 use Rattle.lens_specs.specs.Columns.{names}
 use Rattle.lens_specs.specs.Dependencies.{closure}
 use Rattle.join_delta.specs.Joined.{shared_names}
-use Rattle.whole_put.proofs.Cuts.{one_kind}
+use Rattle.lens_laws.proofs.Rules.{one_kind}
 use Rattle.delta_tests.proofs.premises.can_be_joined.Goals as goal
 
 pub returns : goal.returns

@@ -1,7 +1,7 @@
 use Rattle.std.proofs.Common.{◌∙◌, ap}
 use Rattle.lens_specs.specs.Columns.{names}
 use Rattle.lens_specs.specs.Sort.{Sort}
-use Rattle.whole_put.proofs.Lenses.{given_is}
+use Rattle.lens_laws.proofs.Rules.{given_is}
 use Rattle.lens_probe.proofs.columns.columns_of.Goals as goal
 
 pub returns : goal.returns

@@ -4,7 +4,7 @@ use Rattle.lens_specs.specs.Lens.{sort_of}
 use Rattle.lens_specs.specs.Relation.{has}
 use Rattle.lens_specs.specs.Sort.{Sort}
 use Rattle.lens_laws.proofs.Lenses.{get_sort}
-use Rattle.whole_put.proofs.Lenses.{given_is}
+use Rattle.lens_laws.proofs.Rules.{given_is}
 use Rattle.lens_probe.proofs.reading.read_in.Goals as goal
 
 pub with_rows-requires : goal.with_rows-requires

@@ -4,14 +4,14 @@ use Rattle.fd_tree.specs.ClashView.{shown_clash}
 use Rattle.lens_chain.proofs.Premises.{edges_asked}
 use Rattle.lens_chain.specs.Edits.{edited, over}
 use Rattle.lens_laws.proofs.Lenses.{get_sort}
-use Rattle.lens_probe.specs.Checked.{IsChecked}
+use Rattle.edit_check.specs.Checked.{IsChecked}
 use Rattle.lens_probe.specs.Viewed.{asked_by, shown}
 use Rattle.lens_specs.specs.Dependencies.{AllEdges}
 use Rattle.lens_specs.specs.Lens.{sort_of}
 use Rattle.lens_specs.specs.Sort.{Sort, IsOf, IsOfSort, clash, off}
 use Rattle.server_specs.specs.Answer.{clash as clash_answer}
 use Rattle.server_specs.specs.Changing.{unless_clash, unless_off}
-use Rattle.whole_put.proofs.Lenses.{given_is}
+use Rattle.lens_laws.proofs.Rules.{given_is}
 use Rattle.lens_server.proofs.Clashes.{IsFoundClash, clash_asked, found_clash}
 use Rattle.lens_server.proofs.asking.checked.Goals as goal
 

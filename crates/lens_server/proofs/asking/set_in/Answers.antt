@@ -3,7 +3,7 @@ use Rattle.lens_specs.specs.Lens.{sort_of}
 use Rattle.request_text.specs.Answers.{list_view}
 use Rattle.request_text.specs.RowFaults.{set_of}
 use Rattle.server_specs.specs.Sending.{rows_in}
-use Rattle.whole_put.proofs.Lenses.{given_is}
+use Rattle.lens_laws.proofs.Rules.{given_is}
 use Rattle.lens_server.proofs.Asked.{fault_told, set_asked, set_refused}
 use Rattle.lens_server.proofs.asking.set_in.Goals as goal
 

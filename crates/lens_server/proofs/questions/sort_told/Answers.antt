@@ -2,7 +2,7 @@ use Rattle.std.proofs.Common.{◌≡◌, ◌∙◌, ap}
 use Rattle.lens_specs.specs.Lens.{sort_of}
 use Rattle.server_specs.specs.Answer.{described}
 use Rattle.request_text.specs.Answers.{conjuncts_view}
-use Rattle.whole_put.proofs.Lenses.{given_is}
+use Rattle.lens_laws.proofs.Rules.{given_is}
 use Rattle.lens_server.proofs.questions.sort_told.Goals as goal
 
 pub returns : goal.returns

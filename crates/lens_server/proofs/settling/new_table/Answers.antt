@@ -1,6 +1,6 @@
 use Rattle.std.proofs.Common.{◌≡◌, ◌∙◌, Some, ap, sym}
 use Rattle.lens_specs.specs.Lens.{sort_of}
-use Rattle.whole_put.proofs.Lenses.{given_is}
+use Rattle.lens_laws.proofs.Rules.{given_is}
 use Rattle.lens_server.specs.Staging.{table_of}
 use Rattle.lens_server.proofs.settling.new_table.Goals as goal
 

@@ -1,6 +1,6 @@
 use Rattle.std.proofs.Common.{◌≡◌, ◌∙◌, ap}
 use Rattle.lens_specs.specs.Lens.{sort_of}
-use Rattle.whole_put.proofs.Lenses.{given_is}
+use Rattle.lens_laws.proofs.Rules.{given_is}
 use Rattle.probe_tests.proofs.Tested.{lefts_asked, shown_of_sort}
 use Rattle.probe_tests.proofs.edits.fault_of.Goals as goal
 

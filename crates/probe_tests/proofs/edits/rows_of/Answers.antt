@@ -1,7 +1,7 @@
 use Rattle.std.proofs.Common.{◌≡◌, ◌∙◌, ap, subst}
 use Rattle.lens_specs.specs.Lens.{sort_of}
 use Rattle.lens_specs.specs.Sort.{IsOfSort}
-use Rattle.whole_put.proofs.Lenses.{given_is}
+use Rattle.lens_laws.proofs.Rules.{given_is}
 use Rattle.probe_tests.proofs.edits.rows_of.Goals as goal
 
 pub returns : goal.returns

@@ -8,7 +8,7 @@ use Rattle.lens_specs.specs.Names.{Names, Within}
 use Rattle.lens_specs.specs.Sort.{Sort}
 use Rattle.fd_laws.proofs.Columns.{fits_names}
 use Rattle.lens_probe.specs.Viewed.{asked_by}
-use Rattle.whole_put.proofs.Lenses.{given_is}
+use Rattle.lens_laws.proofs.Rules.{given_is}
 use Rattle.probe_tests.proofs.Tested.{lefts_asked}
 use Rattle.probe_tests.proofs.looks.find.Goals as goal
 

@@ -4,7 +4,8 @@ use Rattle.lens_specs.specs.Lens.{base, select, drop, join, view}
 use Rattle.lens_laws.specs.Lenses.{IsTyped}
 use Rattle.lens_types.specs.Lenses.{lens_view}
 use Rattle.whole_put.proofs.JoinedLenses.{shown_alike, shown_joined}
-use Rattle.whole_put.proofs.Lenses.{shown_dropped, shown_is_of_sort, shown_selected, shown_table}
+use Rattle.lens_laws.proofs.Lenses.{shown_is_of_sort}
+use Rattle.whole_put.proofs.Lenses.{shown_dropped, shown_selected, shown_table}
 use Rattle.whole_put.proofs.getting.+get.Goals as goal
 use Rattle.whole_put.proofs.getting.+get.Goals.{After-drop-branch-in-Drop-2, After-drop-branch-in-Select, In_ok-right_source-in-Join, After-get_join}
 

@@ -8,7 +8,8 @@ use Rattle.lens_laws.specs.Lenses.{AreOf, IsTyped}
 use Rattle.lens_types.specs.Lenses.{lens_view}
 use Rattle.whole_put.specs.Sources.{AreShown}
 use Rattle.whole_put.proofs.JoinedLenses.{left_after, put_joined, right_after, right_sources, right_tables}
-use Rattle.whole_put.proofs.Lenses.{put_dropped, put_selected, put_table, view_is_of_sort}
+use Rattle.lens_laws.proofs.Lenses.{view_is_of_sort}
+use Rattle.whole_put.proofs.Lenses.{put_dropped, put_selected, put_table}
 use Rattle.whole_put.proofs.Shown.{left_shown, only_shown, right_shown, right_under}
 use Rattle.whole_put.proofs.putting.+write.Goals as goal
 use Rattle.whole_put.proofs.putting.+write.Goals.{After-deref, After-deref-in-Drop, After-deref-in-Join-2, In_ok-write-in-Join}

@@ -2,7 +2,7 @@ use Rattle.std.proofs.Common.{◌≡◌, ◌∙◌, ap, subst}
 use Rattle.lens_specs.specs.Lens.{sort_of}
 use Rattle.lens_specs.specs.Sort.{Sort}
 use Rattle.lens_laws.proofs.Lenses.{get_sort}
-use Rattle.whole_put.proofs.Lenses.{given_is}
+use Rattle.lens_laws.proofs.Rules.{given_is}
 use Rattle.lens_probe.specs.Viewed.{IsViewed, Viewed}
 use Rattle.lens_probe.proofs.view.ViewLook.columns.Goals as goal
 

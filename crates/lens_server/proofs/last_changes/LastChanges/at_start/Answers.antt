@@ -1,6 +1,6 @@
 use Rattle.std.proofs.Common.{◌≡◌, ◌∙◌, ℕ, ap, sym}
 use Rattle.std.specs.Slice.Iter.{iter_rest}
-use Rattle.whole_put.proofs.Tables.{with_all}
+use Rattle.lens_laws.proofs.Entries.{with_all}
 use Rattle.lens_server.proofs.Stored.{all_made, last_made, made_of}
 use Rattle.lens_server.proofs.last_changes.LastChanges.at_start.Goals as goal
 

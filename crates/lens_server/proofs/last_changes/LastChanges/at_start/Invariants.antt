@@ -2,7 +2,7 @@ use Rattle.std.proofs.Common.{◌≡◌}
 use Rattle.std.specs.Slice.Iter.{iter_rest}
 use Rattle.opening_specs.specs.Opening.{mapped}
 use Rattle.table_keeper.specs.Places.{rows_in}
-use Rattle.whole_put.proofs.Tables.{with_all}
+use Rattle.lens_laws.proofs.Entries.{with_all}
 use Rattle.lens_server.proofs.Stored.{made_of}
 use Rattle.lens_server.proofs.last_changes.LastChanges.at_start.Given as goal
 

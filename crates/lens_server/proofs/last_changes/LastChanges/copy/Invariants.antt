@@ -1,5 +1,5 @@
 use Rattle.std.proofs.Common.{◌≡◌}
-use Rattle.whole_put.proofs.Tables.{with_all}
+use Rattle.lens_laws.proofs.Entries.{with_all}
 use Rattle.lens_server.proofs.last_changes.LastChanges.copy.Given as goal
 
 abbrev pub invariant-loop-table : goal.invariant-loop-table

@@ -1,7 +1,7 @@
 use Rattle.std.proofs.Common.{◌∙◌, ap}
 use Rattle.std.specs.FinMap as finmap
 use Rattle.std.specs.Prelude.{unwrap_or}
-use Rattle.whole_put.proofs.Tables.{looked_up}
+use Rattle.lens_laws.proofs.Entries.{looked_up}
 use Rattle.lens_server.proofs.last_changes.LastChanges.last_change.Goals as goal
 
 pub returns-in-Some : goal.returns-in-Some

@@ -1,0 +1,8 @@
+use Rattle.std.proofs.Common.{◌≡◌, take, true}
+use Rattle.std.specs.List.{list_all}
+use Rattle.lens_values.specs.Part.{restrict}
+use Rattle.lens_specs.specs.Relation.{has}
+use Rattle.edit_check.proofs.checking.all_parts_in.Given as goal
+
+abbrev pub invariant-loop-row : goal.invariant-loop-row
+invariant-loop-row l = list_all (λ row. has l.parts (restrict l.cols row)) (take l.row-index l.rows) ≡ true

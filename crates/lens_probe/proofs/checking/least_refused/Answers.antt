@@ -1,9 +1,0 @@
-use Rattle.std.proofs.Common.{◌∙◌, ap}
-use Rattle.std.specs.Prelude.{find, not}
-use Rattle.lens_specs.specs.Predicate.{holds}
-use Rattle.lens_specs.specs.Sort.{off}
-use Rattle.lens_probe.proofs.checking.least_refused.Goals as goal
-
-pub returns : goal.returns
-unfolding off
-returns c = c.first_refused.ensures ∙ ap (find (λ row. not (holds c.args.pred.now row))) c.rows.ensures

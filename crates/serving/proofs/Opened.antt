@@ -1,0 +1,156 @@
+-- What follows from the opening of a store.
+use Rattle.std.proofs.Common.{◌≡◌, ◌≤◌, ℕ, Bool, true, false, List, Option, Some, None, is_some, Result, Ok, Err, refl, sym, ap, subst, ◌∙◌}
+use Rattle.std.specs.Prelude.{IfOk}
+use Rattle.lens_specs.specs.Keeping.{Kept, Follows, Stays, Tells}
+use Rattle.server_specs.specs.State.{State, kept}
+use Rattle.opening_specs.specs.Opening.{Damage, IsOpened, damage_text}
+use Rattle.opening_laws.proofs.Opened.{opened_is_kept, opened_at_start}
+use Rattle.std.specs.Io.KnownBytes.{Appends}
+use Rattle.lens_io.specs.Bytes.{AppendsFront, GivesUnlessFailed}
+use Rattle.command_words.specs.Settings.{Settings}
+use Rattle.lens_server.specs.Starting.{Opens}
+use Rattle.lens_server.specs.declared.starting.StartFault.{StartFault}
+use Rattle.lens_server.specs.declared.starting.StartFault.TheVariants as fault
+use Rattle.rehearsal.specs.Rehearsal.{rehearsal}
+use Rattle.rehearsal.specs.Rehearsed.{Rehearsed, Stopped}
+use Rattle.serving.specs.Running.{Loads, Refuses, Rehearses, Runs, Serves, StaysAtEntry, StopsShort}
+use Rattle.serving.specs.Running as running
+use Rattle.serving.specs.Opening.{OpensTo, IsDamage}
+
+-- ---- contents that stay
+
+pub stays_same : (contents : Option Kept) → Stays contents contents
+stays_same None = tt
+stays_same (Some now) = refl
+
+pub stays_on : (a b c : Option Kept) → Stays a b → Stays b c → Stays a c
+stays_on None None c p q = q
+stays_on None (Some m) c p q = absurd p
+stays_on (Some old) None c p q = absurd p
+stays_on (Some old) (Some m) None p q = absurd q
+stays_on (Some old) (Some m) (Some now) p q = q ∙ p
+
+told_before : (a b : Option Kept) (k : Kept) → Stays a b → Tells b k → Tells a k
+told_before None None k p t = tt
+told_before None (Some m) k p t = absurd p
+told_before (Some old) None k p t = absurd p
+told_before (Some old) (Some now) k p t = sym p ∙ t
+
+told_after : (a b : Option Kept) (k : Kept) → Stays a b → Tells a k → Tells b k
+told_after None None k p t = tt
+told_after None (Some m) k p t = absurd p
+told_after (Some old) None k p t = absurd p
+told_after (Some old) (Some now) k p t = p ∙ t
+
+-- contents that follow others are told where those are
+pub as_told : (P : Kept → Kept → Type 0) (a b : Option Kept) → Follows P a b → is_some b ≡ is_some a
+as_told P None None h = refl
+as_told P None (Some m) h = absurd h
+as_told P (Some old) None h = absurd h
+as_told P (Some old) (Some now) h = refl
+
+-- what holds of the last contents does not speak of the first ones
+pub follows_from : (P : Kept → Type 0) (a b c : Option Kept) → is_some b ≡ is_some a → Follows (λ _ now. P now) b c → Follows (λ _ now. P now) a c
+follows_from P None None c e h = h
+follows_from P None (Some m) c e h = absurd (let no : true ≡ false = e in cc)
+follows_from P (Some old) None c e h = absurd (let no : false ≡ true = e in cc)
+follows_from P (Some old) (Some m) None e h = absurd h
+follows_from P (Some old) (Some m) (Some now) e h = h
+
+-- ---- the start
+
+loads : (store : Option (List ℕ)) (stays : Bool) (contents chosen : Option Kept) (count start : ℕ) (result : Result State Damage)
+    → StaysAtEntry store stays contents chosen → count ≤ start → IsOpened chosen result → Loads store stays contents count start result
+loads store stays contents chosen count start result at_entry later w = record {
+  loaded = w.0;
+  at_entry = λ e. told_before contents chosen w.0 (at_entry e) w.1;
+  opens = w.2;
+  later = later;
+}
+
+-- what the chosen contents open to is opened
+pub starts : (store : Option (List ℕ)) (stays : Bool) (contents chosen : Option Kept) (count start : ℕ) (result : Result State StartFault)
+    → StaysAtEntry store stays contents chosen → count ≤ start → Opens chosen result → OpensTo store stays contents count start result
+starts store stays contents chosen count start (Ok s) at_entry later w = loads store stays contents chosen count start (Ok s) at_entry later w
+starts store stays contents chosen count start (Err (fault.Damaged damage)) at_entry later w = loads store stays contents chosen count start _ at_entry later w
+starts store stays contents chosen count start (Err fault.StoreFault) at_entry later w = tt
+starts store stays contents chosen count start (Err fault.NoMemory) at_entry later w = tt
+
+-- a state that was started is at version 0
+pub at_first : (chosen : Option Kept) (result : Result State StartFault) → Opens chosen result → IfOk result (λ s. s.version ≡ 0)
+at_first chosen (Ok s) w = ap (λ (t : State). t.version) (opened_at_start w.0 s w.2)
+at_first chosen (Err e) w = tt
+
+-- and the contents are those that are kept of it
+pub told_kept : (chosen now : Option Kept) (result : Result State StartFault) → Opens chosen result → Stays chosen now → IfOk result (λ s. Tells now (kept s))
+told_kept chosen now (Ok s) w stays = subst (Tells now) (sym (opened_is_kept w.0 s w.2)) (told_after chosen now w.0 stays w.1)
+told_kept chosen now (Err e) w stays = tt
+
+-- ---- a run from the state that was started
+
+from_entry : (first : State) (limit status : ℕ) (left left' given given' : Option (List ℕ)) (count count' : ℕ) (contents chosen contents' : Option Kept) (walked walked' : ℕ) → is_some chosen ≡ is_some contents
+    → Serves first limit status left left' given given' count count' chosen contents' walked walked' → Serves first limit status left left' given given' count count' contents contents' walked walked'
+from_entry first limit status left left' given given' count count' contents chosen contents' walked walked' told w = record {
+  came = w.came;
+  consumed = w.consumed;
+  most = w.most;
+  taken = w.taken;
+  replies = w.replies;
+  last = w.last;
+  session = w.session;
+  few = w.few;
+  stored = follows_from (λ now. now ≡ kept w.last) contents chosen contents' told w.stored;
+  all_lines = w.all_lines;
+  failed_lines = w.failed_lines;
+  spent_lines = w.spent_lines;
+  some_lines = w.some_lines;
+  no_lines = w.no_lines;
+  all_replies = w.all_replies;
+  some_replies = w.some_replies;
+  in_time = w.in_time;
+}
+
+-- lines that were served over the chosen contents are a run
+pub runs : (s : Settings) (stays : Bool) (first : State) (limit status : ℕ) (left left' given given' : Option (List ℕ)) (count start count' : ℕ) (contents chosen contents' : Option Kept) (walked walked' : ℕ)
+    → Loads s.store stays contents count start (Ok first) → is_some chosen ≡ is_some contents → limit ≡ s.max_input
+    → Serves first limit status left left' given given' start count' chosen contents' walked walked' → Runs s stays status left left' given given' count count' contents contents' walked walked'
+runs s stays first limit status left left' given given' count start count' contents chosen contents' walked walked' loaded told same w = record {
+  first = first;
+  start = start;
+  loads = loaded;
+  serves = subst (λ n. Serves first n status left left' given given' start count' contents contents' walked walked') same
+      (from_entry first limit status left left' given given' start count' contents chosen contents' walked walked' told w);
+}
+
+-- and so is a rehearsal
+pub rehearses : (s : Settings) (n : ℕ) (stays : Bool) (first last : State) (status : ℕ) (line : List ℕ) (given given' : Option (List ℕ)) (count start count' : ℕ) (contents chosen contents' : Option Kept) (walked walked' : ℕ)
+    → Loads s.store stays contents count start (Ok first) → is_some chosen ≡ is_some contents → Rehearsed first start (rehearsal n) line last count' walked walked' → Follows (λ _ now. now ≡ kept last) chosen contents'
+    → (status ≡ 0 → Appends given given' line) → (status ≡ 5 → AppendsFront given given' line) → Rehearses s n stays status given given' count count' contents contents' walked walked'
+rehearses s n stays first last status line given given' count start count' contents chosen contents' walked walked' loaded told rehearsed stored all some = record {
+  first = first;
+  start = start;
+  loads = loaded;
+  told = line;
+  last = last;
+  rehearsed = rehearsed;
+  stored = follows_from (λ now. now ≡ kept last) contents chosen contents' told stored;
+  all = all;
+  some = some;
+}
+
+-- one that stopped for want of memory
+pub stops : (s : Settings) (n : ℕ) (stays : Bool) (first last : State) (count start count' : ℕ) (contents chosen contents' : Option Kept) (walked walked' : ℕ)
+    → Loads s.store stays contents count start (Ok first) → is_some chosen ≡ is_some contents → Stopped first start (rehearsal n) last count' walked walked'
+    → Follows (λ _ now. now ≡ kept last) chosen contents' → StopsShort s n stays count count' contents contents' walked walked'
+stops s n stays first last count start count' contents chosen contents' walked walked' loaded told stopped stored =
+    running.amid first last start loaded stopped (follows_from (λ now. now ≡ kept last) contents chosen contents' told stored)
+
+-- ---- a start that failed
+
+-- a damage whose line was given is refused
+pub refused : (s : Settings) (stays : Bool) (contents : Option Kept) (count start : ℕ) (e : StartFault) (given given' : Option (List ℕ)) (failures failures' : ℕ)
+    → OpensTo s.store stays contents count start (Err e) → IsDamage e (λ damage. GivesUnlessFailed given given' failures failures' (damage_text damage))
+    → Refuses s stays given given' failures failures' count contents
+refused s stays contents count start (fault.Damaged damage) given given' failures failures' opens told = record { damage = _; start = start; loads = opens; told = told }
+refused s stays contents count start fault.StoreFault given given' failures failures' opens told = absurd told
+refused s stays contents count start fault.NoMemory given given' failures failures' opens told = absurd told

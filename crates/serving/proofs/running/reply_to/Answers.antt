@@ -1,0 +1,11 @@
+use Rattle.std.proofs.Common.{refl, arith}
+use Rattle.serving.proofs.Served.{other_step, stored_same}
+use Rattle.serving.proofs.running.reply_to.Goals as goal
+
+pub returns-in_default : goal.returns-in_default
+returns-in_default g c = record {
+  step = other_step c.args.cut _ _ _ _ c.in_default.not-Line c.long_reply.ensures;
+  told = stored_same c.args.server.now _ c.requires.told;
+  place = refl;
+  walked = omega arith;
+}

@@ -1,0 +1,8 @@
+//! The whole program but for its devices.
+#![tactic(auto)]
+
+mod giving;
+mod opening;
+pub mod running;
+
+pub use running::run;
