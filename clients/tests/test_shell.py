@@ -1,0 +1,121 @@
+"""The shell, and the program that makes a store with other definitions."""
+import os
+import stat
+import subprocess
+import sys
+import tempfile
+import unittest
+
+HERE = os.path.dirname(os.path.abspath(__file__))
+CLIENTS = os.path.dirname(HERE)
+sys.path.insert(0, CLIENTS)
+from cigrelk import Server
+
+FAULTS = """track,rating,album,quantity
+New,5,Paris,9
+New,4,Show,1
+Old,3,Show,2
+Old,many,Show,3
+Old,3,Show
+,-9223372036854775809,Show,3
+Lullaby,1,Galore,"9"
+"""
+
+
+def run(program, *words, text=""):
+    """The finished run of a client, with what it printed."""
+    return subprocess.run([f"{CLIENTS}/{program}", *words], input=text, capture_output=True, text=True)
+
+
+class Room(unittest.TestCase):
+    """A test with a folder of its own."""
+
+    def setUp(self):
+        room = tempfile.TemporaryDirectory()
+        self.addCleanup(room.cleanup)
+        self.room = room.name
+
+    def file(self, name, text):
+        path = f"{self.room}/{name}"
+        with open(path, "wb") as file:
+            file.write(text if isinstance(text, bytes) else text.encode())
+        return path
+
+
+class Shell(Room):
+    def test_a_session(self):
+        faults = self.file("faults.csv", FAULTS)
+        with open(f"{HERE}/shell.commands") as commands, open(f"{HERE}/shell.printed") as printed:
+            text = commands.read().replace("PROPOSAL", f"{self.room}/proposal").replace("FAULTS", faults)
+            done = run("shell", text=text)
+            self.assertEqual((done.stdout, done.returncode), (printed.read(), 1), done.stderr)
+
+    def test_lines_that_are_wrong_change_nothing(self):
+        files = {
+            "other.csv": "name,number\na,1\n", "short.csv": "name,quantity\na,1\nb\n", "long.csv": "name,quantity\na,1,2\n", "word.csv": "name,quantity\na,one\n",
+            "empty.csv": "", "open.csv": 'name,quantity\n"a,1\n', "bytes.csv": b"name,quantity\n\xff,1\n", "zero.csv": b"name,quantity\n\0,1\n", "twice": '{"do":"edit"}\n',
+        }
+        paths = {name: self.file(name, text) for name, text in files.items()}
+        loads = [(f"load goods {path}", told) for path, told in (
+            (paths["other.csv"], "columns name, number"), (paths["short.csv"], "line 3: it has 1 cell,"), (paths["long.csv"], "line 2: it has 3 cells,"), (paths["word.csv"], "line 2: quantity wants"),
+            (paths["empty.csv"], "columns of no name"), (paths["open.csv"], "Error"), (paths["bytes.csv"], "UnicodeDecodeError"), (paths["zero.csv"], "NUL" if sys.version_info < (3, 11) else "no U+0000"), ("/nowhere.csv", "No such file"))]
+        lines = loads + [
+            ('{"do":', "JSONDecodeError"), ('add goods name="open', "No closing quotation"), ("load goods", "one file is wanted"), ("read goods where", "where COLUMN=VALUE"),
+            ("read goods were name=a", "where COLUMN=VALUE"), ("delete goods", "so that a slip"), ("change goods name=a", "the word set is missing"), ("preview list", "add, change or delete"),
+            ("add goods name=a quantity=x", "a whole number"), ("add goods name=a quantity=1.5", "a whole number"), ("add goods name=a quantity=99999999999999999999", "a whole number"),
+            ("add goods name=a quantity=9999999999999999999", "not of its kind"), ("add goods name=a number=1", "which has name, quantity"), ("shows goods2", "is no table"),
+            (f"review {paths['twice']}", "line 1 is no edit"), ("propose", "the name of a file"), ("undo", "has changed nothing"), ("save goods /nowhere/goods.csv", "No such file"),
+        ]
+        done = run("shell", text="table goods (name text, quantity int)\n" + "".join(f"{line}\n" for line, _ in lines) + "read goods\n")
+        self.assertEqual((done.returncode, done.stderr), (1, ""))
+        *printed, head, bar, end = done.stdout.splitlines()
+        self.assertEqual(end, "(0 rows, version 1)")
+        self.assertEqual(len(printed), len(lines), done.stdout)
+        for text, (line, told) in zip(printed, lines):
+            self.assertIn(told, text, line)
+
+    def test_a_file_of_rows(self):
+        store, path = f"{self.room}/shop.db", self.file("goods.csv", 'quantity,name\r\n7,"an ""axe"",\nsharp"\n1,nail\n')
+        done = run("shell", store, text=f"table goods (name text, quantity int)\ncheck goods {path}\nload goods {path}\nsave goods {path}\n")
+        self.assertEqual(done.returncode, 0, done.stdout)
+        with open(path, newline="") as file:
+            self.assertEqual(file.read(), 'name,quantity\r\n"an ""axe"",\nsharp",7\r\nnail,1\r\n')
+        self.assertEqual(stat.S_IMODE(os.stat(store).st_mode), 0o600)
+
+    def test_how_it_ends(self):
+        for store, told in (("/nowhere/shop.db", "its folder is not there"), (self.room, "it is a folder"), (self.file("text.db", "a text and no store"), "the file is no store")):
+            done = run("shell", store)
+            self.assertEqual((done.returncode, told in done.stderr, "Traceback" in done.stderr), (6, True, False), done.stderr)
+
+
+class Rebuild(Room):
+    def test_other_definitions(self):
+        old, new = f"{self.room}/old.db", f"{self.room}/new.db"
+        with Server(old) as server:
+            server.define("table albums (album text, quantity int)").put([{"album": "Show", "quantity": 3}, {"album": "Paris", "quantity": 4}])
+            server.define("view few = select from albums where quantity < 4")
+            # (the log of a store that is open is beside it)
+            self.assertIn("is open in another program", run("rebuild", old, new, os.devnull).stderr)
+        with open(old, "rb") as file:
+            before = file.read()
+        file = self.file("definitions", "# with a price\ntable stock (title text, quantity int, price int) with title -> quantity price\n\nview few = select from stock where quantity < 4\n")
+        self.assertEqual(run("rebuild", f"{self.room}/olt.db", new, file).returncode, 1)
+        self.assertFalse(os.path.exists(f"{self.room}/olt.db"))
+        words = (old, new, file, "stock=albums", "stock.title=.album")
+        for more, told in (((), "new column price"), (("stock.price=x",), "stock.price=x"), (("stock.price=1", "stock.prize=1"), "stock.prize=1"),
+                           (("stock.price=1", "stok=albums"), "stok=albums"), (("stock.price=100", "stock.quantity=5x"), "stock.quantity=5x")):
+            done = run("rebuild", *words, *more)
+            self.assertEqual((done.returncode, told in done.stderr, "Traceback" in done.stderr), (1, True, False), done.stderr)
+            self.assertEqual(sorted(os.listdir(self.room)), ["definitions", "old.db"])
+        done = run("rebuild", *words, "stock.price=100")
+        self.assertEqual((done.returncode, done.stdout), (0, "stock: 2 rows of 2\n"), done.stderr)
+        with Server(new) as server:
+            self.assertEqual(list(server["few"].read()), [{"title": "Show", "quantity": 3, "price": 100}])
+        with open(old, "rb") as file:
+            self.assertEqual(file.read(), before)
+        self.assertEqual(stat.S_IMODE(os.stat(new).st_mode), 0o600)
+        self.assertEqual(run("rebuild", old, new, f"{self.room}/definitions").returncode, 1)
+
+
+if __name__ == "__main__":
+    unittest.main()

@@ -1,0 +1,246 @@
+"""The bridge to SQL, over PostgreSQL servers that are started for it: after each step both sides hold the same rows."""
+import glob
+import json
+import os
+import pwd
+import random
+import shutil
+import subprocess
+import sys
+import tempfile
+import threading
+import unittest
+
+HERE = os.path.dirname(os.path.abspath(__file__))
+CLIENTS = os.path.dirname(HERE)
+sys.path.insert(0, CLIENTS)
+from cigrelk import TOP, Server
+
+BIN = next(iter(sorted(glob.glob("/usr/lib/postgresql/*/bin"), reverse=True)), None) or os.path.dirname(shutil.which("initdb") or "")
+# The coordinator, which is also the one server of the tests that want one, and three servers below it.
+SERVERS = ("base", "s0", "s1", "s2")
+
+
+def other_user():
+    """Who runs PostgreSQL, which does not run as root: a user and a group, or None for oneself."""
+    if os.geteuid():
+        return None
+    names = {one.pw_name for one in pwd.getpwall()}
+    found = pwd.getpwnam("postgres" if "postgres" in names else "nobody")
+    return found.pw_uid, found.pw_gid
+
+
+class Servers:
+    """Four PostgreSQL servers in a folder, each on a socket of its own."""
+
+    def __init__(self):
+        self.room, self.user = tempfile.mkdtemp(prefix="cigrelk-sql-"), other_user()
+        os.chmod(self.room, 0o755)
+        for name in SERVERS:
+            os.mkdir(f"{self.room}/{name}")
+            if self.user:
+                os.chown(f"{self.room}/{name}", *self.user)
+        self.run("initdb", "base", "-A", "trust", "-U", "shop", "-N", "-E", "UTF8", "--locale=C")
+        with open(f"{self.room}/base/data/postgresql.conf", "a") as settings:
+            settings.write("fsync = off\nlisten_addresses = ''\nmax_connections = 20\nshared_buffers = 16MB\nlog_statement = all\n")
+        for name in SERVERS[1:]:
+            subprocess.run(["cp", "-a", f"{self.room}/base/data", f"{self.room}/{name}"], check=True)
+        for name in SERVERS:
+            self.start(name, "-W")
+        for name in SERVERS:
+            self.wait(name)
+
+    def run(self, program, name, *words):
+        as_user = ["setpriv", f"--reuid={self.user[0]}", f"--regid={self.user[1]}", "--clear-groups", "env", "HOME=/tmp"] if self.user else []
+        subprocess.run([*as_user, f"{BIN}/{program}", "-D", f"{self.room}/{name}/data", *words], check=True, stdout=subprocess.DEVNULL, cwd="/")
+
+    def start(self, name, waits="-w"):
+        self.run("pg_ctl", name, waits, "-o", f"-k {self.room}/{name}", "-l", f"{self.room}/{name}/log", "start")
+
+    def stop(self, name, mode="fast"):
+        self.run("pg_ctl", name, "-w", "-m", mode, "stop")
+
+    def wait(self, name):
+        for _ in range(600):
+            if subprocess.run([f"{BIN}/pg_isready", "-q", "-h", f"{self.room}/{name}"]).returncode == 0:
+                return
+        raise SystemExit(f"the PostgreSQL {name} does not start")
+
+    def address(self, name, database="postgres"):
+        return f"postgresql:///{database}?host={self.room}/{name}&user=shop"
+
+    def sql(self, address, text):
+        """The lines that statements give."""
+        settings = {**os.environ, "PGCLIENTENCODING": "UTF8"}
+        done = subprocess.run(["psql", "-X", "-q", "-t", "-A", "-v", "ON_ERROR_STOP=1", "-d", address, "-c", text], check=True, stdout=subprocess.PIPE, env=settings)
+        return done.stdout.decode().replace("\\\\", "\\").split("\n")[:-1]
+
+    def close(self):
+        for name in SERVERS:
+            self.stop(name, "immediate")
+        shutil.rmtree(self.room)
+
+
+@unittest.skipUnless(BIN and shutil.which("psql"), "there is no PostgreSQL")
+class ToSql(unittest.TestCase):
+    @classmethod
+    def setUpClass(cls):
+        cls.servers = Servers()
+        cls.addClassCleanup(cls.servers.close)
+
+    def setUp(self):
+        room = tempfile.TemporaryDirectory()
+        self.addCleanup(room.cleanup)
+        self.store, database = f"{room.name}/shop.db", self.id().rpartition(".")[2]
+        self.sql(f"CREATE DATABASE {database}", self.servers.address("base"))
+        self.address = self.servers.address("base", database)
+
+    def sql(self, text, address=None):
+        return self.servers.sql(address or self.address, text)
+
+    def bridge(self, requests):
+        lines = "".join(f"{one if isinstance(one, str) else json.dumps(one)}\n" for one in requests)
+        done = subprocess.run([f"{CLIENTS}/to_sql", self.store, self.address], input=lines, capture_output=True, text=True)
+        self.assertEqual(done.returncode, 0, done.stderr)
+        return done.stdout
+
+    def are_same(self):
+        with Server(self.store) as server:
+            for name in server.names():
+                there = [json.loads(line) for line in self.sql(f'COPY (SELECT row_to_json("IT") FROM public."{name}" AS "IT") TO STDOUT')]
+                here = [json.dumps(row, sort_keys=True) for row in server[name].read()]
+                self.assertCountEqual(here, [json.dumps(row, sort_keys=True) for row in there], name)
+
+    def runs_the_guide(self):
+        with open(f"{TOP}/examples/lessons.requests") as requests, open(f"{TOP}/examples/lessons.replies") as replies:
+            self.assertEqual(self.bridge(requests.read().splitlines()), replies.read())
+        self.are_same()
+
+    def spread(self, table, columns, key=""):
+        """Makes a table whose rows are spread by a hash of its first column over the three servers."""
+        first = columns.split()[0]
+        self.sql(f"CREATE TABLE {table} ({columns}) PARTITION BY HASH ({first})")
+        for number, name in enumerate(SERVERS[1:]):
+            self.sql(f"CREATE TABLE {table} ({columns}{key})", self.servers.address(name))
+            self.sql(f"CREATE FOREIGN TABLE {table}_{number} PARTITION OF {table} FOR VALUES WITH (MODULUS 3, REMAINDER {number}) SERVER {name} OPTIONS (table_name '{table}')")
+
+    def links(self):
+        self.sql("CREATE EXTENSION postgres_fdw")
+        for name in SERVERS[1:]:
+            self.sql(f"CREATE SERVER {name} FOREIGN DATA WRAPPER postgres_fdw OPTIONS (host '{self.servers.room}/{name}', dbname 'postgres', batch_size '500', fetch_size '10000')")
+            self.sql(f"CREATE USER MAPPING FOR shop SERVER {name} OPTIONS (user 'shop')")
+
+    def test_guide_over_one_server(self):
+        self.runs_the_guide()
+
+    def test_guide_over_three_servers(self):
+        self.links()
+        self.spread("tracks", 'track text COLLATE "C" NOT NULL, date bigint NOT NULL, rating bigint NOT NULL, album text COLLATE "C" NOT NULL')
+        self.spread("albums", 'album text COLLATE "C" NOT NULL, quantity bigint NOT NULL', ", PRIMARY KEY (album)")
+        self.runs_the_guide()
+        chance = random.Random(1)
+        self.bridge({"do": chance.choice(["edit", "edit", "preview"]), "view": "stock", "remove": [], "add": [
+            {"album": f"a{one % 20}", "quantity": 3 + one % 20, "rating": one % 5, "track": f"t{one}"}]} for one in range(60))
+        self.are_same()
+        # rows lie on each server, and what changes there behind the bridge is undone
+        for number, name in enumerate(SERVERS[1:]):
+            self.assertNotEqual(self.sql("SELECT count(*) FROM albums", self.servers.address(name)), ["0"])
+        self.sql("DELETE FROM albums", self.servers.address("s1"))
+        self.bridge([])
+        self.are_same()
+        # a server restarts under an edit
+        with Running(self.store, self.address) as bridge:
+            bridge.ask({"do": "list"})
+            for name in ("s1", "base"):
+                added = [{"album": f"{name} {one}", "quantity": 1} for one in range(30)]
+                self.restarts_under(name, bridge, {"do": "edit", "view": "albums", "remove": [], "add": added})
+        self.are_same()
+
+    def restarts_under(self, name, bridge, request):
+        """A server of the database is away while the bridge is asked for a change, and the reply waits for it."""
+        self.servers.stop(name, "immediate")
+        timer = threading.Timer(0.5, self.servers.start, [name])
+        timer.start()
+        self.assertTrue(bridge.ask(request)["ok"])
+        timer.join()
+
+    def test_odd_texts_and_names(self):
+        # words of SQL, odd texts, the ends of the numbers, and a predicate with all its parts
+        odd = [{"user": "it's \\ :x \"q\"\n\t ü", "order": -(2**63), "flag": True}, {"user": "b", "order": 2**63 - 1, "flag": False}]
+        self.bridge([
+            {"do": "define", "text": "table group (user text, order int, flag bool) with user -> order flag"},
+            {"do": "define", "text": "view where_ = select from group where (order > -9223372036854775808 or flag = true) and not user in ('it''s', 'c')"},
+            {"do": "edit", "view": "group", "remove": [], "add": odd},
+            {"do": "edit", "view": "group", "remove": [odd[1]], "add": [{**odd[1], "order": 5}]},
+        ])
+        self.are_same()
+        # names that the bridge or the catalogue uses, and characters that psql does not print
+        texts = ["\U0010ffff", "\U000f0000", "\u2028", "\r\n", "\\", "\\'; --", "\ufeff"]
+        self.bridge([
+            {"do": "define", "text": "table it1 (it text, number int) with it -> number"},
+            {"do": "define", "text": "table pg_class (it text)"},
+            {"do": "define", "text": "view it2 = join_dl it1 with (select from pg_class where it != '')"},
+            {"do": "edit", "view": "it1", "remove": [], "add": [{"it": text, "number": 1} for text in texts]},
+            {"do": "edit", "view": "pg_class", "remove": [], "add": [{"it": text} for text in texts]},
+        ])
+        self.are_same()
+        # where nothing differs no row is read
+        self.sql("SELECT 'from here'")
+        self.bridge([])
+        with open(f"{self.servers.room}/base/log", encoding="utf-8", errors="replace") as log:
+            said = log.read().rpartition("from here")[2]
+        self.assertEqual((said.count("sha256"), said.count('FROM (SELECT "')), (3, 0))
+        self.are_same()
+        # what else changed the database is undone: rows that went, came, changed, or stand twice
+        self.sql("DELETE FROM it1; INSERT INTO public.pg_class SELECT * FROM public.pg_class; INSERT INTO public.pg_class VALUES ('zz'), ('\\'); UPDATE \"group\" SET \"order\" = 1")
+        self.bridge([])
+        self.are_same()
+
+    def test_how_it_ends(self):
+        self.bridge([{"do": "define", "text": "table k (a text, b int) with a -> b"}])
+
+        def run(address, lines="", store=self.store):
+            return subprocess.run([f"{CLIENTS}/to_sql", store, address, "--wait", "0"], input=lines, capture_output=True, text=True)
+
+        self.assertEqual(run("postgresql://shop:secret@/postgres").returncode, 2)
+        for done, status in ((run("postgresql:///nothing?host=/nowhere"), 1), (run(self.address, store="/nowhere/shop.db"), 6)):
+            self.assertEqual((done.returncode, done.stdout, "Traceback" in done.stderr), (status, "", False), done.stderr)
+        # a key that is too long for the database's index: the store has it, and a table without that index takes it
+        chance = random.Random(2)
+        row = {"a": "".join(chr(chance.randrange(33, 127)) for _ in range(4096)), "b": 1}
+        done = run(self.address, json.dumps({"do": "edit", "view": "k", "remove": [], "add": [row]}))
+        self.assertEqual((done.returncode, done.stdout), (1, ""))
+        self.sql("ALTER TABLE k DROP CONSTRAINT k_pkey; CREATE INDEX ON k USING hash (a)")
+        self.bridge([])
+        self.are_same()
+        # the database restarts under it: the reply waits
+        with Running(self.store, self.address) as bridge:
+            bridge.ask({"do": "list"})
+            self.restarts_under("base", bridge, {"do": "edit", "view": "k", "remove": [row], "add": []})
+            self.assertTrue(bridge.ask({"do": "edit", "view": "k", "remove": [], "add": [{"a": "", "b": 2}]})["ok"])
+            bridge.process.kill()
+        self.bridge([])
+        self.are_same()
+
+
+class Running:
+    """A bridge that is asked line by line."""
+
+    def __init__(self, store, address):
+        words = [f"{CLIENTS}/to_sql", store, address]
+        self.process = subprocess.Popen(words, stdin=subprocess.PIPE, stdout=subprocess.PIPE, stderr=subprocess.DEVNULL, text=True)
+
+    def ask(self, request):
+        self.process.stdin.write(json.dumps(request) + "\n")
+        self.process.stdin.flush()
+        return json.loads(self.process.stdout.readline())
+
+    def __enter__(self):
+        return self
+
+    def __exit__(self, *_):
+        self.process.communicate()
+
+
+if __name__ == "__main__":
+    unittest.main()
