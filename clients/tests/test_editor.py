@@ -180,7 +180,7 @@ class Protection(unittest.TestCase):
 
     @unittest.skipUnless(os.geteuid() == 0, "another user is wanted")
     def test_other_users_are_not_answered(self):
-        script = f"import urllib.request; urllib.request.urlopen({self.editor.address!r})"
+        script = f"import urllib.request as it; it.build_opener(it.ProxyHandler({{}})).open({self.editor.address!r})"
         as_other = ["setpriv", "--reuid=65534", "--regid=65534", "--clear-groups"]
         run = lambda *words: subprocess.run([*words, sys.executable, "-c", script], stderr=subprocess.DEVNULL).returncode
         self.assertEqual(run(), 0)

@@ -9,6 +9,7 @@ import subprocess
 import sys
 import tempfile
 import threading
+import time
 import unittest
 
 HERE = os.path.dirname(os.path.abspath(__file__))
@@ -64,6 +65,7 @@ class Servers:
         for _ in range(600):
             if subprocess.run([f"{BIN}/pg_isready", "-q", "-h", f"{self.room}/{name}"]).returncode == 0:
                 return
+            time.sleep(0.05)
         raise SystemExit(f"the PostgreSQL {name} does not start")
 
     def address(self, name, database="postgres"):
