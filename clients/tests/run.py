@@ -40,7 +40,15 @@ def main(files):
     sys.path.insert(0, HERE)
     names = [os.path.basename(path)[:-3] for path in files or sorted(glob.glob(f"{HERE}/test_*.py"))]
     result, began = Lines(), time.monotonic()
-    unittest.TestSuite(unittest.defaultTestLoader.loadTestsFromName(name) for name in names).run(result)
+    load = unittest.defaultTestLoader.loadTestsFromName
+    unittest.TestSuite(load(name) for name in names).run(result)
+    # A busy machine may be too slow for a test that waits: what is wrong is tried once more, and both are told.
+    wrong = [test for test, _ in result.failures + result.errors]
+    if 0 < len(wrong) <= 3 and all(isinstance(test, unittest.TestCase) for test in wrong):
+        for test, text in result.failures + result.errors:
+            print(f"\n{test}\n{text}\ntried once more:")
+        result.failures, result.errors = [], []
+        unittest.TestSuite(load(test.id()) for test in wrong).run(result)
     for test, text in result.failures + result.errors:
         print(f"\n{test}\n{text}")
     print(f"{result.testsRun} tests in {time.monotonic() - began:.0f} s: {len(result.failures) + len(result.errors)} wrong, {len(result.skipped)} left out")
