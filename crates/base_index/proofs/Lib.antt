@@ -1,5 +1,6 @@
 pub mod Adding
 pub mod Agreeing
+pub mod Bodies
 pub mod Defining
 pub mod Fields
 pub mod Groups
@@ -8,6 +9,7 @@ pub mod Listed
 pub mod Members
 pub mod Mixed
 pub mod Put
+pub mod RowSets
 pub mod Sets
 pub mod Tabled
 pub mod Taken

@@ -97,32 +97,15 @@ pushed_keyed indexes [] k all has (suc i) d within = absurd (omega arith)
 pushed_keyed indexes (j ∷ js) k all has zero d within = all 0 d (omega arith)
 pushed_keyed indexes (j ∷ js) k all has (suc i) d within = pushed_keyed indexes js k (λ n e inside. all (suc n) e (omega arith)) has i d (omega arith)
 
-gone_unseen : (e a r : Bool) → (e ≡ true → (a && not r) ≡ false) → ((not e && a) && not r) ≡ (a && not r)
-gone_unseen true a r h = sym (h refl)
-gone_unseen false a r h = refl
+not_that : (e a : Bool) → (e ≡ true → a ≡ false) → (not e && a) ≡ a
+not_that true a h = sym (h refl)
+not_that false a h = refl
 
--- a row that is not seen goes
-pub unseen_removed : (rows seen_not : Rows) (row : Row) → set.contains (set.difference rows seen_not) row ≡ false → set.difference (set.remove rows row) seen_not ≡ set.difference rows seen_not
-unseen_removed rows less row unseen = set.same_set row_cmp_total row_cmp-IsAntisymmetric _ _ (λ x.
-    set.contains-difference row_cmp_total (set.remove rows row) less x
-    ∙ ap (λ b. b && not (set.contains less x)) (set.contains-remove row_cmp_total rows row x)
-    ∙ gone_unseen (eq_by_cmp row_cmp x row) (set.contains rows x) (set.contains less x)
-    (λ tie. sym (set.contains-difference row_cmp_total rows less x) ∙ ap (set.contains (set.difference rows less)) (tied x row tie) ∙ unseen)
-    ∙ sym (set.contains-difference row_cmp_total rows less x))
-
-come_unseen : (e a r : Bool) → (e ≡ true → (a && not r) ≡ false) → ((e || a) && not (e || r)) ≡ (a && not r)
-come_unseen true a r h = sym (h refl)
-come_unseen false a r h = refl
-
--- a row that is not seen comes, and is listed
-pub unseen_added : (rows : Rows) (list : List Keyed) (k : Keyed) → set.contains (set.difference rows (rows_of list)) k.row ≡ false
-    → set.difference (set.insert rows k.row) (rows_of (list ++ k ∷ [])) ≡ set.difference rows (rows_of list)
-unseen_added rows list k unseen = set.same_set row_cmp_total row_cmp-IsAntisymmetric _ _ (λ x.
-    set.contains-difference row_cmp_total (set.insert rows k.row) (rows_of (list ++ k ∷ [])) x
-    ∙ (λ i. set.contains-insert row_cmp_total rows k.row x i && not (in_pushed list k x i))
-    ∙ come_unseen (eq_by_cmp row_cmp x k.row) (set.contains rows x) (set.contains (rows_of list) x)
-    (λ tie. sym (set.contains-difference row_cmp_total rows (rows_of list) x) ∙ ap (set.contains (set.difference rows (rows_of list))) (tied x k.row tie) ∙ unseen)
-    ∙ sym (set.contains-difference row_cmp_total rows (rows_of list) x))
+-- to remove what is not there changes nothing
+pub none_removed : (rows : Rows) (row : Row) → set.contains rows row ≡ false → set.remove rows row ≡ rows
+none_removed rows row absent = set.same_set row_cmp_total row_cmp-IsAntisymmetric _ _ (λ x.
+    set.contains-remove row_cmp_total rows row x
+    ∙ not_that (eq_by_cmp row_cmp x row) (set.contains rows x) (λ tie. ap (set.contains rows) (tied x row tie) ∙ absent))
 
 pub when_err : {T E P : Type 0} (r : Result T E) → OnErr r P → is_err r ≡ true → P
 when_err (Ok x) p e = absurd (never e)

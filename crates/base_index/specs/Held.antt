@@ -1,17 +1,17 @@
 -- All tables with what each may be asked by: as readers see them, and as `settle` makes them.
-use Rattle.std.specs.Prelude.{◌≡◌, refl, ℕ, Bool, true, false, List, [], ◌∷◌, map}
+use Rattle.std.specs.Prelude.{◌≡◌, refl, ℕ, Bool, true, false, List, [], map}
 use Rattle.std.specs.Prelude.{Option, Some, None, is_some, unwrap_or}
-use Rattle.std.specs.List.{list_any, sum_by}
-use Rattle.std.specs.Coded.{Coded, code_by, coded×, coded_list, coded_ℕ}
+use Rattle.std.specs.List.{sum_by}
+use Rattle.std.specs.Coded.{Coded, code_by, coded×, coded_list, coded_option, coded_ℕ}
 use Rattle.std.specs.FinMap as finmap
 use Rattle.lens_values.specs.Order.{bytes_cmp}
 use Rattle.lens_values.specs.SortedSet as set
-use Rattle.lens_specs.specs.Delta.{AppliesTo, Delta, TableDelta, new_view}
+pub use Rattle.lens_specs.specs.TableDeltas.{no_relation, relation_in, after, with_deltas, AllApply}
 use Rattle.lens_specs.specs.Lens.{Tables}
 use Rattle.lens_specs.specs.Names.{Name, Names}
-use Rattle.lens_specs.specs.Relation.{Columns, Relation}
+use Rattle.lens_specs.specs.Relation.{Columns}
 use Rattle.row_sets.specs.Codes.{coded_relation}
-use Rattle.base_index.specs.Need.{has_cols, rows_walked, same_name, with_needs}
+use Rattle.base_index.specs.Need.{has_cols, rows_walked, with_needs}
 use Rattle.base_index.specs.declared.need.Need.{Need}
 
 -- by table, the column sets that it may be asked by
@@ -23,10 +23,11 @@ pub record State : Type 0 where
   pub relations : Tables
   pub indexes : Indexes
 
--- what readers see, and what `settle` makes of it
+-- what readers see, what `settle` makes of it, and the tables as they were at `hold`, where they are held
 pub record Held : Type 0 where
   pub present : State
   pub next : State
+  pub held : Option State
 
 -- there is no table
 abbrev pub no_tables : State
@@ -42,14 +43,6 @@ IsQuiet h = h.next ≡ h.present
 abbrev pub IsThere : State → Name → Type 0
 IsThere st t = is_some (finmap.get st.relations t) ≡ true
 
--- the relation of no column and no row
-abbrev pub no_relation : Relation
-no_relation = record { columns = finmap.empty; rows = set.empty }
-
--- the relation of a table, an empty one where there is no such table
-abbrev pub relation_in : Tables → Name → Relation
-relation_in tables t = unwrap_or (finmap.get tables t) no_relation
-
 -- the column sets of a table's indexes
 abbrev pub indexes_in : State → Name → List Names
 indexes_in st t = unwrap_or (finmap.get st.indexes t) []
@@ -57,25 +50,6 @@ indexes_in st t = unwrap_or (finmap.get st.indexes t) []
 -- whether a table may be asked by these columns
 abbrev pub is_indexed : State → Name → Names → Bool
 is_indexed st t C = has_cols (indexes_in st t) C
-
--- ---- differences
-
--- the relation after a difference
-abbrev pub after : Relation → Delta → Relation
-after r d = record r { rows = new_view r.rows d }
-
--- the tables after the differences
-abbrev pub with_deltas : List TableDelta → Tables → Tables
-with_deltas [] tables = tables
-with_deltas (c ∷ cs) tables =
-    with_deltas cs (finmap.insert tables c.table (after (relation_in tables c.table) c.delta))
-
--- each difference applies to a table that is there, and no later one is of the same table
-abbrev pub AllApply : List TableDelta → Tables → Type 0
-AllApply [] tables = Unit {0}
-AllApply (c ∷ cs) tables =
-    (is_some (finmap.get tables c.table) ≡ true) × AppliesTo c.delta (relation_in tables c.table)
-    × (list_any (λ later. same_name later.table c.table) cs ≡ false) × AllApply cs tables
 
 -- ---- definitions
 
@@ -121,7 +95,7 @@ coded_state =
 
 abbrev pub coded_held : Coded Held
 coded_held =
-    code_by _ (coded× coded_state coded_state)
-    (λ h. (h.present, h.next))
-    (λ p. record { present = p.0; next = p.1 })
+    code_by _ (coded× coded_state (coded× coded_state (coded_option coded_state)))
+    (λ h. (h.present, (h.next, h.held)))
+    (λ p. record { present = p.0; next = p.1.0; held = p.1.1 })
     (λ _. refl)

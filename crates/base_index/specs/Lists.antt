@@ -1,5 +1,5 @@
 -- Rows with their keys in each index of a table, and what the indexes hold.
-use Rattle.std.specs.Prelude.{◌≡◌, ◌<◌, ℕ, List, map, length, slice_index_or}
+use Rattle.std.specs.Prelude.{◌≡◌, ◌<◌, ℕ, List, [], ◌∷◌, ◌++◌, map, length, slice_index_or}
 use Rattle.std.proofs.Common.{◌⊎◌}
 use Rattle.lens_values.specs.Names.{Names}
 use Rattle.lens_values.specs.Part.{restrict}
@@ -49,3 +49,10 @@ pub record SameCols (old new : List Index) : Type 0 where
   pub many : length new ≡ length old
   pub each : (i : ℕ) (d e : Index) → i < length old
       → (slice_index_or new i d).cols ≡ (slice_index_or old i e).cols
+
+-- the row was listed at the end, with its keys
+pub record IsListed (indexes : List Index) (row : Row) (old new : List Keyed) : Type 0 where
+  pub keyed : Keyed
+  pub same : keyed.row ≡ row
+  pub keys : HasKeys indexes keyed
+  pub list : new ≡ old ++ keyed ∷ []

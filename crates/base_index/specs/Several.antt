@@ -1,10 +1,10 @@
 -- Several tables, one after another. Where two have one name, the first is meant.
-use Rattle.std.specs.Prelude.{◌≡◌, ℕ, false, if◌then◌else◌, List, [], ◌∷◌, ◌++◌, map}
-use Rattle.std.specs.Prelude.{Option, Some, None}
+use Rattle.std.specs.Prelude.{◌≡◌, ℕ, Bool, false, if◌then◌else◌, List, [], ◌∷◌, ◌++◌, map}
+use Rattle.std.specs.Prelude.{Option, Some, None, is_some, unwrap_or}
 use Rattle.std.specs.List.{list_any}
 use Rattle.lens_specs.specs.Delta.{AppliesTo, Delta, new_view}
 use Rattle.lens_specs.specs.Names.{Name}
-use Rattle.lens_specs.specs.Relation.{Columns}
+use Rattle.lens_specs.specs.Relation.{Columns, Rows}
 use Rattle.signed_delta.specs.declared.delta.TableDelta.{TableDelta}
 use Rattle.base_index.specs.Need.{rows_walked, same_name, with_needs}
 use Rattle.base_index.specs.Stored.{IsQuiet, Stored, new_table, shown_of}
@@ -64,6 +64,32 @@ walked_of needs s = rows_walked s.name needs s.indexes s.rows
 abbrev pub AreQuiet : List Stored → Type 0
 AreQuiet [] = Unit {0}
 AreQuiet (s ∷ ss) = IsQuiet s × AreQuiet ss
+
+-- each of them is held, or none is
+abbrev pub AreHeld : Bool → List Stored → Type 0
+AreHeld b [] = Unit {0}
+AreHeld b (s ∷ ss) = (is_some s.held ≡ b) × AreHeld b ss
+
+-- the rows stand as they are
+abbrev pub kept : Stored → Stored
+kept s = record s { held = None }
+
+-- the rows are held as they are
+abbrev pub holding : Stored → Stored
+holding s = record s { held = Some s.rows }
+
+-- the rows at `hold`, or those that readers see where they are not held
+abbrev pub first_rows : Stored → Rows
+first_rows s = unwrap_or s.held s.rows
+
+-- the rows are what they were
+abbrev pub taken_back : Stored → Stored
+taken_back s = record s { rows = first_rows s; next_rows = first_rows s; held = None }
+
+-- no index is staged
+abbrev pub AreIndexed : List Stored → Type 0
+AreIndexed [] = Unit {0}
+AreIndexed (s ∷ ss) = (s.next_indexes ≡ s.indexes) × AreIndexed ss
 
 -- with the new table, if any, at the end
 abbrev pub with_new : Option (Name × Columns) → List Stored → List Stored

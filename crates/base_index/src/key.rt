@@ -10,6 +10,9 @@ use std::marker::Model;
 // What a hash is multiplied by for each number that it takes in: the prime 2^40 + 435.
 const FACTOR: u64 = 1_099_511_628_211;
 
+// What null adds to a hash: the number of the least `i64`, which few columns have.
+const NULL: u64 = 1 << 63;
+
 /// The values of a row in the columns of an index, in the order of their hashes. A contract sees
 /// them as a row.
 #[derive(Drop)]
@@ -133,6 +136,7 @@ fn hash_value(hash: u64, value: &Value) -> u64
     ensures { result ≡ hash_value hash value.now }
 {
     match value {
+        Value::Null => hash_number(hash, NULL),
         Value::Int(number) => hash_number(hash, number.cast_unsigned()),
         Value::Text(text) => hash_bytes(hash, text.as_str().as_bytes()),
         Value::Flag(flag) => hash_number(hash, u64::from(*flag)),

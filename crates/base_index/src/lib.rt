@@ -1,6 +1,7 @@
 //! Tables by key: their rows, and indexes by columns.
 #![tactic(auto)]
 
+mod body;
 mod filling;
 mod group;
 mod index;

@@ -1,7 +1,8 @@
 //! Several tables, one after another.
 ghost use Rattle.std.specs.Prelude.{◌≡◌, ◌+◌, ◌≤◌, length, map, sum_by, take, option_copied};
-ghost use Rattle.std.specs.Prelude.{OnOk, OnErr};
-ghost use Rattle.base_index.specs.Several.{AreQuiet, CanStage, CanStageAll, first, needed};
+ghost use Rattle.std.specs.Prelude.{OnOk, OnErr, true, false};
+ghost use Rattle.base_index.specs.Several.{AreHeld, AreQuiet, CanStage, CanStageAll, first};
+ghost use Rattle.base_index.specs.Several.{holding, kept, needed, taken_back};
 ghost use Rattle.base_index.specs.Several.{staged_all, staged_in, walked_of, with_new};
 ghost use Rattle.base_index.specs.Stored.{Stored, settled, unstaged};
 
@@ -44,6 +45,37 @@ pub fn unstage_each(tables: &mut Vec<Table>, shown: usize)
     }
 }
 
+/// Remembers the rows of each as they are. It takes no memory.
+pub fn hold_each(tables: &mut Vec<Table>)
+    requires quiet { AreQuiet tables.old.items }
+    requires free { AreHeld false tables.old.items }
+    ensures { tables.new.items ≡ map holding tables.old.items }
+{
+    for i in 0..tables.len() {
+        tables[i].hold();
+    }
+}
+
+/// Lets the rows of each stand as they are. It takes no memory.
+pub fn keep_each(tables: &mut Vec<Table>)
+    requires { AreQuiet tables.old.items }
+    ensures { tables.new.items ≡ map kept tables.old.items }
+{
+    for i in 0..tables.len() {
+        tables[i].keep();
+    }
+}
+
+/// Makes the rows of each what they were. It takes no memory.
+pub fn back_each(alloc: Global, tables: &mut Vec<Table>)
+    requires { AreHeld true tables.old.items }
+    ensures { tables.new.items ≡ map taken_back tables.old.items }
+{
+    for i in 0..tables.len() {
+        tables[i].back(alloc);
+    }
+}
+
 // Stages a difference of one of the tables.
 fn stage_in(alloc: Global, tables: &mut Vec<Table>, change: &TableDelta) -> Result<(), NoMemory>
     requires { (s : Stored) × CanStage change.now tables.old.items s }
@@ -83,7 +115,8 @@ pub fn define_each<L: Ledger>(
     needs: &[Need],
     walked: &mut Steps<L>,
 ) -> Result<(), NoMemory>
-    requires { AreQuiet tables.old.items }
+    requires quiet { AreQuiet tables.old.items }
+    requires free { AreHeld false tables.old.items }
     ensures ok { OnOk result (
         tables.new.items ≡ map (needed needs.now) (with_new table tables.old.items)) }
     ensures front { take (length tables.old.items) (map unstaged tables.new.items)
@@ -120,7 +153,8 @@ fn need_each<L: Ledger>(
     needs: &[Need],
     walked: &mut Steps<L>,
 ) -> Result<(), NoMemory>
-    requires { AreQuiet tables.old.items }
+    requires quiet { AreQuiet tables.old.items }
+    requires free { AreHeld false tables.old.items }
     ensures ok { OnOk result (tables.new.items ≡ map (needed needs.now) tables.old.items) }
     ensures rest { map unstaged tables.new.items ≡ map unstaged tables.old.items }
     ensures walked { OnOk result (

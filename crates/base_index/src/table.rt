@@ -1,5 +1,5 @@
 //! A table, and the change of it that is staged.
-ghost use Rattle.std.specs.Prelude.{◌≡◌, ◌+◌, ◌≤◌, length, true, IfOk, OnOk, OnErr, IsTrue};
+ghost use Rattle.std.specs.Prelude.{◌≡◌, ◌+◌, ◌≤◌, length, true, IfOk, OnOk, OnErr, IsTrue, None, Some};
 ghost use Rattle.lens_values.specs.SortedSet as set;
 ghost use Rattle.lens_specs.specs.Delta.{AppliesTo, new_view};
 ghost use Rattle.lens_specs.specs.Relation.{Fits};
@@ -8,32 +8,26 @@ ghost use Rattle.signed_delta.specs.Keys.{IsKey};
 ghost use Rattle.base_index.specs.Need.{has_cols, rows_walked, with_needs};
 ghost use Rattle.base_index.specs.Stored.{IsQuiet, new_table, settled, shown_of, unstaged};
 
-use crate::filling::add_indexes;
-use crate::index::{Index, find_by, has_index};
-use crate::keyed::{Keyed, finish, is_listed, listed, stage_rows};
+use crate::body::Body;
+use crate::index::{find_by, has_index};
 use crate::need::Need;
 use lens_values::{Columns, Name, Names, NoMemory, Row};
-use row_sets::{RowSet, RowTree};
+use row_sets::RowSet;
 use signed_delta::Delta;
 use std::alloc::Global;
 use std::marker::Model;
 use std::sync::ledger::Ledger;
 use step_counter::Steps;
 
-/// A table: what readers see, and what `settle` makes of it.
+/// A table: what readers see, what `settle` makes of it, and what it was at `hold`.
 #[derive(Drop)]
 pub struct Table {
     name: Name,
-    columns: Columns,
-    // The rows that readers see, and those to be added.
-    rows: RowTree,
+    body: Body,
     // How many rows readers see.
     count: usize,
-    indexes: Vec<Index>,
     // How many indexes readers see.
     shown: usize,
-    add: Vec<Keyed>,
-    remove: Vec<Keyed>,
 }
 
 impl Model for Table {
@@ -57,13 +51,9 @@ impl Table {
     {
         Table {
             name,
-            columns,
-            rows: RowTree::new(alloc),
+            body: Body::new(alloc, columns),
             count: 0,
-            indexes: Vec::new(alloc),
             shown: 0,
-            add: Vec::new(alloc),
-            remove: Vec::new(alloc),
         }
     }
 
@@ -78,7 +68,7 @@ impl Table {
     pub fn columns(&self) -> &Columns
         ensures { result.now ≡ self.now.columns }
     {
-        &self.columns
+        &self.body.columns
     }
 
     /// How many rows readers see.
@@ -92,21 +82,21 @@ impl Table {
     pub fn rows_fit(&self)
         ensures { (row : _) → set.contains self.now.rows row ≡ true → Fits self.now.columns row }
     {
-        let _ = &self.rows;
+        let _ = &self.body;
     }
 
     /// Whether readers see the row.
     pub fn has(&self, row: &Row) -> bool
         ensures { result ≡ set.contains self.now.rows row.now }
     {
-        self.rows.has(row) && !is_listed(&self.add, row)
+        self.body.has(row)
     }
 
     /// Whether readers see an index by these columns.
     pub fn has_index(&self, cols: &Names) -> bool
         ensures { result ≡ has_cols self.now.indexes cols.now }
     {
-        has_index(&self.indexes[..self.shown], cols)
+        has_index(&self.body.indexes[..self.shown], cols)
     }
 
     /// The rows that agree with the key, which has exactly the columns of one of the indexes.
@@ -116,49 +106,33 @@ impl Table {
         ensures { IfOk result (λ found.
             found ≡ set.filter (agree cols.now key.now) self.now.rows) }
     {
-        let found = find_by(alloc, &self.indexes, cols, key)?;
-        if self.add.is_empty() {
-            return Ok(found);
-        }
-        found.minus(alloc, &listed(alloc, &self.add)?)
+        let found = find_by(alloc, &self.body.indexes, cols, key)?;
+        self.body.seen_of(alloc, found)
     }
 
     /// All rows that readers see.
     pub fn all_rows(&self, alloc: Global) -> Result<RowSet, NoMemory>
         ensures { IfOk result (λ rows. rows ≡ self.now.rows) }
     {
-        let rows = self.rows.rows(alloc)?;
-        if self.add.is_empty() {
-            return Ok(rows);
-        }
-        rows.minus(alloc, &listed(alloc, &self.add)?)
+        let rows = self.body.rows.rows(alloc)?;
+        self.body.seen_of(alloc, rows)
     }
 
     /// Makes what is staged present. It takes no memory.
     pub fn settle(&mut self)
         ensures { self.new ≡ settled self.old }
     {
-        finish(
-            &mut self.rows,
-            &mut self.indexes,
-            &mut self.remove,
-            &mut self.add,
-        );
-        self.count = self.rows.count();
-        self.shown = self.indexes.len();
+        self.body.settle();
+        self.count = self.body.count();
+        self.shown = self.body.indexes.len();
     }
 
     /// Drops what is staged. It takes no memory.
     pub fn unstage(&mut self)
         ensures { self.new ≡ unstaged self.old }
     {
-        finish(
-            &mut self.rows,
-            &mut self.indexes,
-            &mut self.add,
-            &mut self.remove,
-        );
-        self.indexes.truncate(self.shown);
+        self.body.unstage();
+        self.body.truncate(self.shown);
     }
 
     /// Stages a difference, and takes all the memory that `settle` and `unstage` need. After
@@ -170,16 +144,7 @@ impl Table {
             self.new ≡ record self.old { next_rows = new_view self.old.rows delta.now }) }
         ensures err { OnErr result (self.new ≡ self.old) }
     {
-        finish(
-            &mut self.rows,
-            &mut self.indexes,
-            &mut self.add,
-            &mut self.remove,
-        );
-        let lists = stage_rows(alloc, &mut self.rows, &mut self.indexes, delta)?;
-        self.add = lists.add;
-        self.remove = lists.remove;
-        Ok(())
+        self.body.stage(alloc, delta)
     }
 
     /// Stages the indexes that the needs ask of this table and that it lacks. Where there are any,
@@ -191,6 +156,7 @@ impl Table {
         walked: &mut Steps<L>,
     ) -> Result<(), NoMemory>
         requires quiet { IsQuiet self.old }
+        requires free { self.old.held ≡ None }
         ensures ok { OnOk result (self.new ≡ record self.old {
           next_indexes = with_needs self.old.name needs.now self.old.indexes;
         }) }
@@ -200,19 +166,33 @@ impl Table {
         ensures walked_at_most { walked.new ≤ walked.old
             + rows_walked self.old.name needs.now self.old.indexes self.old.rows }
     {
-        finish(
-            &mut self.rows,
-            &mut self.indexes,
-            &mut self.add,
-            &mut self.remove,
-        );
-        add_indexes(
-            alloc,
-            &self.name,
-            &self.rows,
-            &mut self.indexes,
-            needs,
-            walked,
-        )
+        self.body.unstage();
+        self.body.add_indexes(alloc, &self.name, needs, walked)
+    }
+
+    /// Remembers the rows as they are, until `keep` or `back`. It takes no memory.
+    pub fn hold(&mut self)
+        requires quiet { IsQuiet self.old }
+        requires free { self.old.held ≡ None }
+        ensures { self.new ≡ record self.old { held = Some self.old.rows } }
+    {
+        self.body.hold();
+    }
+
+    /// Lets the rows stand as they are. It takes no memory.
+    pub fn keep(&mut self)
+        requires { IsQuiet self.old }
+        ensures { self.new ≡ record self.old { held = None } }
+    {
+        self.body.keep();
+    }
+
+    /// Makes the rows what they were at `hold`. It takes no memory.
+    pub fn back(&mut self, alloc: Global)
+        ensures { (rows : _) → self.old.held ≡ Some rows
+            → self.new ≡ record self.old { rows = rows; next_rows = rows; held = None } }
+    {
+        self.body.back(alloc);
+        self.count = self.body.count();
     }
 }

@@ -1,5 +1,6 @@
 //! Tables by name, with a change that is staged, and then settled or dropped.
-ghost use Rattle.std.specs.Prelude.{◌≡◌, ◌+◌, ◌≤◌, map, length, IfOk, OnOk, OnErr, IsTrue, Some};
+ghost use Rattle.std.specs.Prelude.{◌≡◌, ◌+◌, ◌≤◌, map, length, IfOk, OnOk, OnErr, IsTrue, IsSome};
+ghost use Rattle.std.specs.Prelude.{Some, None};
 ghost use Rattle.std.specs.FinMap as finmap;
 ghost use Rattle.lens_values.specs.SortedSet as set;
 ghost use Rattle.lens_specs.specs.Relation.{IsRelation, has, those};
@@ -11,7 +12,9 @@ ghost use Rattle.base_index.specs.Held.{no_tables, relation_in, walked_for, with
 ghost use Rattle.base_index.specs.Stored.{shown_of};
 
 use crate::need::Need;
-use crate::several::{define_each, named, settle_each, stage_each, unstage_each};
+use crate::several::{
+    back_each, define_each, hold_each, keep_each, named, settle_each, stage_each, unstage_each,
+};
 use crate::table::Table;
 use lens_values::{Columns, Name, Names, NoMemory, Row};
 use row_sets::RowSet;
@@ -21,13 +24,16 @@ use std::marker::Model;
 use std::sync::ledger::Ledger;
 use step_counter::Steps;
 
-/// All tables. A contract sees them as readers do, and as `settle` makes them.
+/// All tables. A contract sees them as readers do, as `settle` makes them, and as they were at
+/// `hold`.
 #[derive(Drop)]
 pub struct Tables {
     alloc: Global,
     tables: Vec<Table>,
     // How many tables readers see.
     shown: usize,
+    // Whether the tables are held.
+    held: bool,
 }
 
 impl Model for Tables {
@@ -47,12 +53,13 @@ impl Model for Tables {
 impl Tables {
     /// No table.
     pub fn new(alloc: Global) -> Tables
-        ensures { result ≡ record { present = no_tables; next = no_tables } }
+        ensures { result ≡ record { present = no_tables; next = no_tables; held = None } }
     {
         Tables {
             alloc,
             tables: Vec::new(alloc),
             shown: 0,
+            held: false,
         }
     }
 
@@ -65,6 +72,7 @@ impl Tables {
         walked: &mut Steps<L>,
     ) -> Result<(), NoMemory>
         requires quiet { IsQuiet self.old }
+        requires held { self.old.held ≡ None }
         requires new { IsNew table self.old.present }
         ensures ok { OnOk result (
             self.new ≡ record self.old { next = defined table needs.now self.old.present }) }
@@ -114,6 +122,39 @@ impl Tables {
         ensures { self.new ≡ record self.old { next = self.old.present } }
     {
         unstage_each(&mut self.tables, self.shown);
+    }
+
+    /// Remembers the tables as they are, until `keep` or `back`. It takes no memory.
+    pub fn hold(&mut self)
+        requires quiet { IsQuiet self.old }
+        requires free { self.old.held ≡ None }
+        ensures { self.new ≡ record self.old { held = Some self.old.present } }
+    {
+        unstage_each(&mut self.tables, self.shown);
+        hold_each(&mut self.tables);
+        self.held = true;
+    }
+
+    /// Lets the tables stand as they are. It takes no memory.
+    pub fn keep(&mut self)
+        requires quiet { IsQuiet self.old }
+        requires held { IsSome self.old.held }
+        ensures { self.new ≡ record self.old { held = None } }
+    {
+        unstage_each(&mut self.tables, self.shown);
+        keep_each(&mut self.tables);
+        self.held = false;
+    }
+
+    /// Makes the tables what they were at `hold`. It takes no memory.
+    pub fn back(&mut self)
+        requires { IsSome self.old.held }
+        ensures { (st : _) → self.old.held ≡ Some st
+            → self.new ≡ record { present = st; next = st; held = None } }
+    {
+        unstage_each(&mut self.tables, self.shown);
+        back_each(self.alloc, &mut self.tables);
+        self.held = false;
     }
 
     /// Whether the table has the row, in one step.

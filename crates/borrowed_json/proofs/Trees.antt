@@ -8,13 +8,14 @@ use Rattle.json.specs.Reads.{token_of}
 use Rattle.json.specs.Value.{members_view}
 use Rattle.json.specs.declared.token.Token.{Token as Read}
 use Rattle.json.specs.declared.value.Value.{Value}
-use Rattle.serde_json.specs.Data.{Num, Data, null, number, array, object, item, Members, no_members, put}
+use Rattle.std.specs.Float.{inf}
+use Rattle.serde_json.specs.Data.{Num, float, Data, null, number, array, object, item, Members, no_members, put}
 use Rattle.serde_json.specs.Read.{of_json, of_items as items_from, of_members, number_of}
 use Rattle.borrowed_json.specs.Meaning.{data_of, items_of, members_onto, is_right, are_right, members_right, value_data, members_data}
 
 -- ---- what serde_json reads is the data, where each number is right
 
-number_given : (o : Option Num) → option_map number o ≡ cond (is_some o) (Some (elim o [ None ↦ null | Some n ↦ number n ])) None
+number_given : (o : Option Num) → option_map number o ≡ cond (is_some o) (Some (elim o [ None ↦ number (float (inf false)) | Some n ↦ number n ])) None
 number_given None = refl
 number_given (Some n) = refl
 

@@ -1,15 +1,16 @@
 -- The data that a tree over borrowed text stands for: what serde_json reads of the same text.
-use Rattle.std.specs.Prelude.{ℕ, List, Some, None, Bool, true, ◌&&◌, is_some}
+use Rattle.std.specs.Prelude.{ℕ, List, Some, None, Bool, true, false, ◌&&◌, is_some}
 use Rattle.std.specs.Borrow.{Bor}
+use Rattle.std.specs.Float.{inf}
 use Rattle.json.specs.Json as json
 use Rattle.json.specs.Value.{value_view, items_view, members_view}
 use Rattle.json.specs.declared.value.Value.{Value}
-use Rattle.serde_json.specs.Data.{Data, null, boolean, number, string, array, object, Items, no_items, item, Members, no_members, put}
+use Rattle.serde_json.specs.Data.{Data, float, null, boolean, number, string, array, object, Items, no_items, item, Members, no_members, put}
 use Rattle.serde_json.specs.Read.{number_of}
 
--- the data of a number's text; a number that is refused is null
+-- the data of a number's text; a number that is refused, since it is too large, is infinity
 abbrev pub number_data : List ℕ → Data
-number_data text = elim (number_of text) [ None ↦ null | Some n ↦ number n ]
+number_data text = elim (number_of text) [ None ↦ number (float (inf false)) | Some n ↦ number n ]
 
 -- the data of a tree; the members of an object go in one after another, so that the last value of a name stays
 abbrev mutual

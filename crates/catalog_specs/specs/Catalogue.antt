@@ -3,13 +3,14 @@ use Rattle.std.specs.Prelude.{ℕ, Bool, false, List, [], ◌∷◌, nat_eq, Opt
 use Rattle.std.specs.Cmp.Lexicographic.{pointwise}
 use Rattle.std.specs.FinMap as finmap
 use Rattle.lens_values.specs.Order.{bytes_cmp}
+use Rattle.lens_values.specs.declared.join_kind.JoinKind.{JoinKind}
 use Rattle.lens_specs.specs.Names.{Name}
 use Rattle.lens_specs.specs.Columns.{Columns}
 use Rattle.lens_specs.specs.Dependencies.{Edge}
 use Rattle.lens_specs.specs.TreeForm.{tree_of}
 use Rattle.lens_specs.specs.Predicate.{Predicate}
 use Rattle.lens_specs.specs.Sort.{Sort}
-use Rattle.lens_specs.specs.Lens.{Lens, base, select, drop, join, tree_or_none}
+use Rattle.lens_specs.specs.Lens.{Lens, base, select, drop, rename, join, tree_or_none}
 use Rattle.grammar_specs.specs.Meaning as meaning
 use Rattle.grammar_specs.specs.Meaning.{Expr, named, Definition, table, view}
 use Rattle.grammar_specs.specs.Faults.{Fault}
@@ -22,17 +23,18 @@ Catalogue = finmap.FinMap bytes_cmp Lens
 -- ---- the lens of an expression
 
 -- the join of two lenses that are there
-abbrev pub join_of : Option Lens → Option Lens → Option Lens
-join_of None right = None
-join_of (Some left) None = None
-join_of (Some left) (Some right) = Some (join left right)
+abbrev pub join_of : JoinKind → Option Lens → Option Lens → Option Lens
+join_of kind None right = None
+join_of kind (Some left) None = None
+join_of kind (Some left) (Some right) = Some (join kind left right)
 
 -- the lens of an expression, where the names in it are known; a view's name stands for its lens
 abbrev pub lens_of : Expr → Catalogue → Option Lens
 lens_of (named name) known = finmap.get known name
 lens_of (meaning.select predicate of) known = option_map (select predicate) (lens_of of known)
 lens_of (meaning.drop column by value of) known = option_map (drop column by value) (lens_of of known)
-lens_of (meaning.join left right) known = join_of (lens_of left known) (lens_of right known)
+lens_of (meaning.rename column new of) known = option_map (rename column new) (lens_of of known)
+lens_of (meaning.join kind left right) known = join_of kind (lens_of left known) (lens_of right known)
 
 -- ---- the lens of a table
 
@@ -49,7 +51,8 @@ abbrev pub is_table_of : Name → Lens → Bool
 is_table_of name (base of sort) = pointwise nat_eq of name
 is_table_of name (select predicate lens) = false
 is_table_of name (drop column by value lens) = false
-is_table_of name (join left right) = false
+is_table_of name (rename column new lens) = false
+is_table_of name (join kind left right) = false
 
 -- ---- the lenses of definitions
 

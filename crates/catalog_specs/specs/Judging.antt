@@ -1,12 +1,13 @@
 -- Which definitions are taken.
 use Rattle.std.specs.Prelude.{ℕ, suc, Bool, true, false, not, List, [], ◌∷◌, nat_le, is_some, is_err, Option, Some, None, option_map, Result, Ok, Err, if◌then◌else◌}
 use Rattle.std.specs.FinMap as finmap
+use Rattle.lens_values.specs.declared.join_kind.JoinKind.{JoinKind}
 use Rattle.lens_specs.specs.Names.{Name}
 use Rattle.lens_specs.specs.Columns.{Columns}
 use Rattle.lens_specs.specs.Dependencies.{Edge}
 use Rattle.lens_specs.specs.Predicate.{Predicate}
 use Rattle.lens_specs.specs.Sort.{Sort}
-use Rattle.lens_specs.specs.Lens.{Lens, select, drop, join}
+use Rattle.lens_specs.specs.Lens.{Lens, select, drop, rename, join}
 use Rattle.lens_specs.specs.Typing.{sort, table_sort}
 use Rattle.lens_specs.specs.Refusal.{Refusal, too_large, Limit, tables_limit, views_limit}
 use Rattle.grammar_specs.specs.Meaning as meaning
@@ -76,9 +77,9 @@ over node (Err first) = Err first
 over node (Ok lens) = where_typed (node lens) (sort (node lens))
 
 -- with the lenses of both operands; the left one is refused first
-abbrev pub over_both : Result Lens CatalogFault → Result Lens CatalogFault → Result Lens CatalogFault
-over_both (Err first) right = Err first
-over_both (Ok lens) right = over (join lens) right
+abbrev pub over_both : JoinKind → Result Lens CatalogFault → Result Lens CatalogFault → Result Lens CatalogFault
+over_both kind (Err first) right = Err first
+over_both kind (Ok lens) right = over (join kind lens) right
 
 -- The lens of an expression, or its first refusal: operands come before their node, the left one first. A view's name stands for its
 -- lens, as a table's does.
@@ -86,7 +87,8 @@ abbrev pub lens_in : Catalogue → Expr → Result Lens CatalogFault
 lens_in known (named name) = lens_named name (finmap.get known name)
 lens_in known (meaning.select predicate of) = over (select predicate) (lens_in known of)
 lens_in known (meaning.drop column by value of) = over (drop column by value) (lens_in known of)
-lens_in known (meaning.join left right) = over_both (lens_in known left) (lens_in known right)
+lens_in known (meaning.rename column new of) = over (rename column new) (lens_in known of)
+lens_in known (meaning.join kind left right) = over_both kind (lens_in known left) (lens_in known right)
 
 -- the definition of a view whose expression has a lens, where there are fewer than 256 views, or else its first refusal
 abbrev pub where_lensed : Result Lens CatalogFault → Catalogue → Definition → Result Definition CatalogFault

@@ -1,17 +1,22 @@
 //! Edits whose premises are tested first.
-ghost use Rattle.std.specs.Prelude.{◌≡◌, None};
-ghost use Rattle.lens_specs.specs.Columns.{both_columns, kinds_differ, without_column};
+ghost use Rattle.std.specs.Prelude.{◌≡◌, IfOk, None};
+ghost use Rattle.lens_specs.specs.Columns.{both_columns, kinds_differ, names, without_column};
+ghost use Rattle.lens_specs.specs.Delta as spec;
+ghost use Rattle.lens_specs.specs.Nodes.{drop_get, select_get};
+ghost use Rattle.lens_specs.specs.Predicate.{holds};
+ghost use Rattle.join_delta.specs.Joined as join;
 
 use crate::held::Held;
+use crate::kinds::join_change;
 use crate::premises::{
     all_hold, can_be_joined, has_key, is_determined, is_met, is_over, share_key,
 };
+use crate::samples::{are_rows, is_delta};
 use drop_delta::drop_delta;
-use join_delta::join_delta;
 use lens_pred::Pred;
-use lens_values::{Name, Value};
-use revision::{Touched, revise_touched};
-use row_sets::{Relation, RowSet};
+use lens_values::{JoinKind, Name, Value};
+use revision::{Touched, afters, befores, revise_touched};
+use row_sets::Relation;
 use select_delta::select_delta;
 use signed_delta::{Delta, absent, diff, find_each, of_touched, present};
 use std::alloc::Global;
@@ -20,45 +25,48 @@ use std::test::Fail;
 use step_counter::Steps;
 use whole_put::{get_drop, get_join, get_select};
 
-/// What rows to remove and rows to add change in the relation.
-pub(crate) fn difference<L: Ledger>(
+/// Whether rows to remove and rows to add change this in the relation.
+pub(crate) fn changed<L: Ledger>(
     alloc: Global,
     look: &Held,
     remove: &Relation,
     add: &Relation,
+    answer: [&str; 2],
     looked: &mut Steps<L>,
-) -> Result<Delta, Fail>
+) -> Result<bool, Fail>
     requires remove { remove.now.columns ≡ look.now.relation.columns }
     requires add { add.now.columns ≡ look.now.relation.columns }
 {
     remove.rows_fit();
     add.rows_fit();
     let delta = of_touched(alloc, remove.rows(), add.rows(), look, looked)?;
-    Ok(delta)
+    is_delta(alloc, &delta, answer)
 }
 
-/// Those of the rows that the relation has, and those that it has not.
+/// Whether the relation has the first of the rows, and has not the second.
 pub(crate) fn told_apart<L: Ledger>(
     alloc: Global,
     look: &Held,
     rows: &Relation,
+    answer: [&str; 2],
     looked: &mut Steps<L>,
-) -> Result<(RowSet, RowSet), Fail>
+) -> Result<bool, Fail>
     requires { rows.now.columns ≡ look.now.relation.columns }
 {
     rows.rows_fit();
     let some = present(alloc, rows.rows(), look, looked)?;
     let others = absent(alloc, rows.rows(), look, looked)?;
-    Ok((some, others))
+    Ok(are_rows(alloc, &some, answer[0])? && are_rows(alloc, &others, answer[1])?)
 }
 
-/// The rows of the relation that agree with one of these on its further key.
-pub(crate) fn found<L: Ledger>(
+/// Whether the rows of the relation that agree with one of these on its further key are the answer.
+pub(crate) fn agreeing<L: Ledger>(
     alloc: Global,
     look: &Held,
     rows: &Relation,
+    answer: &str,
     looked: &mut Steps<L>,
-) -> Result<RowSet, Fail>
+) -> Result<bool, Fail>
     requires { rows.now.columns ≡ look.now.relation.columns }
 {
     rows.rows_fit();
@@ -66,16 +74,17 @@ pub(crate) fn found<L: Ledger>(
         return Err(Fail::from("no key"));
     }
     let found = find_each(alloc, &look.key, rows.rows(), look, looked)?;
-    Ok(found)
+    are_rows(alloc, &found, answer)
 }
 
-/// The rows that revision by these rows changes.
+/// Whether revision by these rows changes the first rows of the answer, to the second.
 pub(crate) fn touched<L: Ledger>(
     alloc: Global,
     look: &Held,
     plus: &Relation,
+    answer: [&str; 2],
     looked: &mut Steps<L>,
-) -> Result<Vec<Touched>, Fail>
+) -> Result<bool, Fail>
     requires { plus.now.columns ≡ look.now.relation.columns }
 {
     plus.rows_fit();
@@ -86,17 +95,24 @@ pub(crate) fn touched<L: Ledger>(
         return Err(Fail::from("rows that clash"));
     }
     let touched = revise_touched(alloc, &look.tree, look, plus.rows(), looked)?;
-    Ok(touched)
+    are_touched(alloc, &touched, answer)
 }
 
-/// What putting these rows to the selection changes in the relation.
+// Whether the touched rows were the old ones, and are the new ones.
+fn are_touched(alloc: Global, touched: &[Touched], [old, new]: [&str; 2]) -> Result<bool, Fail> {
+    let before = are_rows(alloc, &befores(alloc, touched)?, old)?;
+    Ok(before && are_rows(alloc, &afters(alloc, touched)?, new)?)
+}
+
+/// Whether putting these rows to the selection changes this in the relation.
 pub(crate) fn selected<L: Ledger>(
     alloc: Global,
     look: &Held,
     pred: &Pred,
     view: &Relation,
+    answer: [&str; 2],
     looked: &mut Steps<L>,
-) -> Result<Delta, Fail>
+) -> Result<bool, Fail>
     requires { view.now.columns ≡ look.now.relation.columns }
 {
     view.rows_fit();
@@ -106,22 +122,37 @@ pub(crate) fn selected<L: Ledger>(
     if !is_met(alloc, &look.tree, &look.relation)? || !is_met(alloc, &look.tree, view)? {
         return Err(Fail::from("rows that clash"));
     }
-    let old = get_select(alloc, pred, &look.relation)?;
-    let delta = diff(alloc, &old, view)?;
+    let delta = edit_of_selection(alloc, pred, &look.relation, view)?;
     let change = select_delta(alloc, look, &look.tree, pred, &delta, looked)?;
-    Ok(change)
+    is_delta(alloc, &change, answer)
 }
 
-/// What putting these rows changes in the relation, where they lack the column that its further key
-/// determines.
+// The edit that leads from the rows on which the predicate holds to these.
+fn edit_of_selection(
+    alloc: Global,
+    pred: &Pred,
+    relation: &Relation,
+    view: &Relation,
+) -> Result<Delta, Fail>
+    requires { view.now.columns ≡ relation.now.columns }
+    ensures { IfOk result (λ delta.
+        delta ≡ spec.diff (select_get (holds pred.now) relation.now.rows) view.now.rows) }
+{
+    let old = get_select(alloc, pred, relation)?;
+    Ok(diff(alloc, &old, view)?)
+}
+
+/// Whether putting these rows changes this in the relation, where they lack the column that its
+/// further key determines.
 pub(crate) fn dropped<L: Ledger>(
     alloc: Global,
     look: &Held,
     col: &Name,
     fill: &Value,
     view: &Relation,
+    answer: [&str; 2],
     looked: &mut Steps<L>,
-) -> Result<Delta, Fail>
+) -> Result<bool, Fail>
     requires { view.now.columns ≡ without_column look.now.relation.columns col.now }
 {
     view.rows_fit();
@@ -134,15 +165,30 @@ pub(crate) fn dropped<L: Ledger>(
     if !is_determined(alloc, &look.key, col, &look.relation)? {
         return Err(Fail::from("rows that clash"));
     }
-    let old = get_drop(alloc, col, &look.relation)?;
-    let delta = diff(alloc, &old, view)?;
+    let delta = edit_of_projection(alloc, col, &look.relation, view)?;
     let change = drop_delta(alloc, look, col, &look.key, fill, &delta, looked)?;
-    Ok(change)
+    is_delta(alloc, &change, answer)
 }
 
-/// What putting these rows to the join changes in both relations.
+// The edit that leads from the rows without the column to these.
+fn edit_of_projection(
+    alloc: Global,
+    col: &Name,
+    relation: &Relation,
+    view: &Relation,
+) -> Result<Delta, Fail>
+    requires { view.now.columns ≡ without_column relation.now.columns col.now }
+    ensures { let U = names relation.now.columns in IfOk result (λ delta.
+        delta ≡ spec.diff (drop_get U col.now relation.now.rows) view.now.rows) }
+{
+    let old = get_drop(alloc, col, relation)?;
+    Ok(diff(alloc, &old, view)?)
+}
+
+/// What putting these rows to the join of this kind changes in both relations.
 pub(crate) fn joined<L: Ledger>(
     alloc: Global,
+    kind: JoinKind,
     left: &Held,
     right: &Held,
     view: &Relation,
@@ -164,8 +210,32 @@ pub(crate) fn joined<L: Ledger>(
     if !is_met(alloc, &left.tree, view)? || !is_met(alloc, &right.tree, view)? {
         return Err(Fail::from("joined rows that clash"));
     }
-    let old = get_join(alloc, &left.relation, &right.relation)?;
-    let delta = diff(alloc, &old, view)?;
-    let changes = join_delta(alloc, left, &left.tree, right, &right.tree, &delta, looked)?;
+    let delta = edit_of_join(alloc, &left.relation, &right.relation, view)?;
+    let changes = join_change(
+        alloc,
+        kind,
+        left,
+        &left.tree,
+        right,
+        &right.tree,
+        &delta,
+        looked,
+    )?;
     Ok(changes)
+}
+
+// The edit that leads from the joined rows to these.
+fn edit_of_join(
+    alloc: Global,
+    left: &Relation,
+    right: &Relation,
+    view: &Relation,
+) -> Result<Delta, Fail>
+    requires kinds { kinds_differ left.now.columns right.now.columns ≡ None }
+    requires columns { view.now.columns ≡ both_columns left.now.columns right.now.columns }
+    ensures { IfOk result (λ delta.
+        delta ≡ spec.diff (join.joined left.now right.now) view.now.rows) }
+{
+    let old = get_join(alloc, left, right)?;
+    Ok(diff(alloc, &old, view)?)
 }

@@ -1,8 +1,8 @@
 //! A relation in memory that is asked by key.
-ghost use Rattle.std.specs.Prelude.{◌≡◌, ◌≤◌, ◌+◌, ◌∷◌, length, map, IfOk};
+ghost use Rattle.std.specs.Prelude.{◌≡◌, ◌≤◌, ◌+◌, ◌∷◌, length, map};
 ghost use Rattle.lens_values.specs.SortedSet as set;
 
-use crate::samples;
+use crate::samples::{columns, names, relation, tree};
 use fd_tree::Tree;
 use lens_values::{Columns, Names, NoMemory, Row};
 use row_sets::{Relation, RowSet};
@@ -23,24 +23,35 @@ pub(crate) struct Held {
     pub(crate) key: Names,
 }
 
-/// The rows of the text over the columns, along the tree form of the dependencies.
-pub(crate) fn hold(
-    alloc: Global,
-    columns: &Columns,
-    rows: &str,
-    tree: &str,
-    key: &str,
-) -> Result<Held, Fail>
-    ensures columns { IfOk result (λ held. held.relation.columns ≡ columns.now) }
-{
-    let relation = samples::relation(alloc, columns, rows)?;
-    let tree = samples::tree(alloc, tree)?;
-    let key = samples::names(alloc, key)?;
+/// A relation as texts, as `a:int b:int`, `a -> b`, `a b` and `a=1 b=2; a=2 b=2`.
+#[derive(Clone, Copy)]
+pub(crate) struct Source<'a> {
+    /// Its columns.
+    pub(crate) columns: &'a str,
+    /// Its dependencies.
+    pub(crate) tree: &'a str,
+    /// The other columns by which it may be asked.
+    pub(crate) key: &'a str,
+    /// Its rows.
+    pub(crate) rows: &'a str,
+}
+
+/// The relation of these texts.
+pub(crate) fn hold(alloc: Global, source: &Source<'_>) -> Result<Held, Fail> {
+    let relation = rows_over(alloc, source.columns, source.rows)?;
+    let tree = tree(alloc, source.tree)?;
+    let key = names(alloc, source.key)?;
     Ok(Held {
         relation,
         tree,
         key,
     })
+}
+
+// The relation of these columns and rows.
+fn rows_over(alloc: Global, listed: &str, rows: &str) -> Result<Relation, Fail> {
+    let columns = columns(alloc, listed)?;
+    relation(alloc, &columns, rows)
 }
 
 impl Look for Held {

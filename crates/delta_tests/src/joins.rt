@@ -1,36 +1,156 @@
-//! Edits of a join.
+//! Two relations, a put to their join, and what it changes in both.
 ghost use Rattle.std.specs.Prelude.{◌≡◌, IfOk, None, OnOk};
 ghost use Rattle.lens_specs.specs.Columns.{both_columns, kinds_differ};
 
 use crate::edits::joined;
-use crate::held::{Held, hold};
-use crate::samples::{columns, is_delta, relation};
+use crate::held::{Held, Source, hold};
+use crate::samples::{is_delta, parts, relation};
+use lens_values::JoinKind;
 use row_sets::Relation;
+use signed_delta::Delta;
 use std::alloc::Global;
-use std::marker::Brand;
-use std::sync::ledger::{Blank, Ledger};
+use std::sync::ledger::Ledger;
 use std::test::Fail;
 use step_counter::Steps;
 
-// A left source of these rows.
-fn left_source(alloc: Global, rows: &str) -> Result<Held, Fail> {
-    hold(
-        alloc,
-        &columns(alloc, "a:int b:int x:int")?,
-        rows,
-        "",
-        "a b",
-    )
+/// Puts to the join of two relations, which share the columns a and b. On the right a determines b.
+/// Each has the side where the join deletes, the rule that it shows, the rows on the left and on the
+/// right, and those that are put; which rows go and which come on the left, and on the right.
+pub(crate) const JOINS: &str = "
+left | the left part of a removed row goes, and both parts of an added row come
+| a=1 b=7 x=1; a=2 b=8 x=2 | a=1 b=7; a=2 b=8
+| a=1 b=7 x=1; a=3 b=9 x=3
+| a=2 b=8 x=2 | a=3 b=9 x=3
+| | a=3 b=9
+
+left | a left row that joins with nothing stays, and one that would join anew goes
+| a=1 b=1 x=1; a=1 b=2 x=2 | a=1 b=1
+| a=1 b=2 x=3
+| a=1 b=2 x=2 | a=1 b=2 x=3
+| a=1 b=1 | a=1 b=2
+
+left | the left part of a removed row goes
+| a=1 b=1 x=1; a=1 b=2 x=3 | a=1 b=2
+|
+| a=1 b=2 x=3 |
+| |
+
+right | its right part goes
+| a=1 b=1 x=1; a=1 b=2 x=3 | a=1 b=2
+|
+| |
+| a=1 b=2 |
+
+both | both parts go
+| a=1 b=1 x=1; a=1 b=2 x=3 | a=1 b=2
+|
+| a=1 b=2 x=3 |
+| a=1 b=2 |
+
+right | its left part goes where another row shows its right part
+| a=1 b=2 x=3; a=1 b=2 x=4 | a=1 b=2
+| a=1 b=2 x=4
+| a=1 b=2 x=3 |
+| |";
+
+// A put in its parts.
+#[derive(Clone, Copy)]
+struct Join<'a> {
+    side: &'a str,
+    left: Source<'a>,
+    right: Source<'a>,
+    rows: &'a str,
+    left_change: [&'a str; 2],
+    right_change: [&'a str; 2],
 }
 
-// A right source of these rows, which shares a and b. There a determines b.
-fn right_source(alloc: Global, rows: &str) -> Result<Held, Fail> {
-    hold(
-        alloc,
-        &columns(alloc, "a:int b:int")?,
-        rows,
-        "a -> b",
-        "a b",
+// The put of the text.
+fn join_of(alloc: Global, text: &str) -> Result<Join<'_>, Fail> {
+    let parts = parts(alloc, text)?;
+    match parts.as_slice() {
+        [
+            side,
+            _,
+            left,
+            right,
+            rows,
+            left_gone,
+            left_new,
+            right_gone,
+            right_new,
+        ] => Ok(Join {
+            side,
+            left: Source {
+                columns: "a:int b:int x:int",
+                tree: "",
+                key: "a b",
+                rows: left,
+            },
+            right: Source {
+                columns: "a:int b:int",
+                tree: "a -> b",
+                key: "a b",
+                rows: right,
+            },
+            rows,
+            left_change: [left_gone, left_new],
+            right_change: [right_gone, right_new],
+        }),
+        _ => Err(Fail::from(text)),
+    }
+}
+
+// The kind of the join that deletes on this side.
+fn kind_of(side: &str) -> Result<JoinKind, Fail> {
+    match side {
+        "left" => Ok(JoinKind::DeleteLeft),
+        "right" => Ok(JoinKind::DeleteRight),
+        "both" => Ok(JoinKind::DeleteBoth),
+        _ => Err(Fail::from("no such side")),
+    }
+}
+
+/// Whether the put changes this in both.
+pub(crate) fn join_is<L: Ledger>(
+    alloc: Global,
+    text: &str,
+    looked: &mut Steps<L>,
+) -> Result<bool, Fail> {
+    let join = join_of(alloc, text)?;
+    let left = hold(alloc, &join.left)?;
+    left_join_is(alloc, &join, &left, looked)
+}
+
+// The same with this left side.
+fn left_join_is<L: Ledger>(
+    alloc: Global,
+    join: &Join<'_>,
+    left: &Held,
+    looked: &mut Steps<L>,
+) -> Result<bool, Fail> {
+    let right = hold(alloc, &join.right)?;
+    both_join_is(alloc, join, left, &right, looked)
+}
+
+// The same with both sides.
+fn both_join_is<L: Ledger>(
+    alloc: Global,
+    join: &Join<'_>,
+    left: &Held,
+    right: &Held,
+    looked: &mut Steps<L>,
+) -> Result<bool, Fail> {
+    let kind = kind_of(join.side)?;
+    let view = view_of(alloc, left, right, join.rows)?;
+    let changes = joined(alloc, kind, left, right, &view, looked)?;
+    are_changes(alloc, &changes, join)
+}
+
+// Whether the changes on the left and on the right are those of the put.
+fn are_changes(alloc: Global, changes: &(Delta, Delta), join: &Join<'_>) -> Result<bool, Fail> {
+    Ok(
+        is_delta(alloc, &changes.0, join.left_change)?
+            && is_delta(alloc, &changes.1, join.right_change)?,
     )
 }
 
@@ -46,63 +166,4 @@ fn view_of(alloc: Global, left: &Held, right: &Held, rows: &str) -> Result<Relat
         .columns()
         .union(alloc, right.relation.columns())?;
     relation(alloc, &columns, rows)
-}
-
-// Whether putting the rows to the join of the sources removes these of the left and the right one,
-// and adds those.
-fn changes<L: Ledger>(
-    alloc: Global,
-    looked: &mut Steps<L>,
-    sources: [&str; 2],
-    rows: &str,
-    left_change: [&str; 2],
-    right_change: [&str; 2],
-) -> Result<bool, Fail> {
-    let left = left_source(alloc, sources[0])?;
-    let right = right_source(alloc, sources[1])?;
-    let view = view_of(alloc, &left, &right, rows)?;
-    let change = joined(alloc, &left, &right, &view, looked)?;
-    let as_left = is_delta(alloc, &change.0, left_change[0], left_change[1])?;
-    let as_right = is_delta(alloc, &change.1, right_change[0], right_change[1])?;
-    Ok(as_left && as_right)
-}
-
-// The left part of the removed row is deleted, and both parts of the added row come.
-fn are_deleted<L: Ledger>(alloc: Global, blank: Blank) -> Result<bool, Fail>
-    requires name { blank.name ≡ L.name }
-    requires parts { blank.parts ≡ L.parts }
-    requires one { blank.parts ≡ 1 }
-{
-    let mut looked = Steps::<L>::new(blank);
-    let sources = ["a=1 b=7 x=1; a=2 b=8 x=2", "a=1 b=7; a=2 b=8"];
-    let view = "a=1 b=7 x=1; a=3 b=9 x=3";
-    let left = ["a=2 b=8 x=2", "a=3 b=9 x=3"];
-    let right = ["", "a=3 b=9"];
-    changes(alloc, &mut looked, sources, view, left, right)
-}
-
-// The first left row joins with nothing and stays; the second would join anew and is deleted.
-fn are_deleted_anew<L: Ledger>(alloc: Global, blank: Blank) -> Result<bool, Fail>
-    requires name { blank.name ≡ L.name }
-    requires parts { blank.parts ≡ L.parts }
-    requires one { blank.parts ≡ 1 }
-{
-    let mut looked = Steps::<L>::new(blank);
-    let sources = ["a=1 b=1 x=1; a=1 b=2 x=2", "a=1 b=1"];
-    let view = "a=1 b=2 x=3";
-    let left = ["a=1 b=2 x=2", "a=1 b=2 x=3"];
-    let right = ["a=1 b=1", "a=1 b=2"];
-    changes(alloc, &mut looked, sources, view, left, right)
-}
-
-#[test]
-fn left_rows_are_deleted(rt: HostRuntime) -> Result<(), Fail> {
-    assert!(rt; are_deleted::<Brand>(rt.alloc(), Blank::new(1))?);
-    Ok(())
-}
-
-#[test]
-fn left_rows_that_would_join_anew_are_deleted(rt: HostRuntime) -> Result<(), Fail> {
-    assert!(rt; are_deleted_anew::<Brand>(rt.alloc(), Blank::new(1))?);
-    Ok(())
 }

@@ -2,9 +2,7 @@
 #![tactic(auto)]
 
 #[cfg(test)]
-mod asking;
-#[cfg(test)]
-mod drops;
+mod cases;
 #[cfg(test)]
 mod edits;
 #[cfg(test)]
@@ -12,10 +10,8 @@ mod held;
 #[cfg(test)]
 mod joins;
 #[cfg(test)]
+mod kinds;
+#[cfg(test)]
 mod premises;
 #[cfg(test)]
 mod samples;
-#[cfg(test)]
-mod selections;
-#[cfg(test)]
-mod touching;

@@ -9,6 +9,20 @@ use signed_delta::Delta;
 use std::alloc::Global;
 use std::test::Fail;
 
+/// Fails, with the case, where something does not hold of it.
+pub(crate) fn expect(holds: bool, case: &str) -> Result<(), Fail> {
+    if holds { Ok(()) } else { Err(Fail::from(case)) }
+}
+
+/// What stands between the bars of the text.
+pub(crate) fn parts(alloc: Global, text: &str) -> Result<Vec<&str>, Fail> {
+    let mut list = Vec::new(alloc);
+    for part in text.split('|') {
+        list.push(part.trim())?;
+    }
+    Ok(list)
+}
+
 /// The names that the text lists, as `a b`.
 pub(crate) fn names(alloc: Global, text: &str) -> Result<Names, Fail> {
     let mut list = Vec::new(alloc);
@@ -18,37 +32,59 @@ pub(crate) fn names(alloc: Global, text: &str) -> Result<Names, Fail> {
     Ok(Names::new(alloc, list)?)
 }
 
-/// The columns that the text lists, as `a:int b:text`.
+// The kind that the word names.
+fn kind(word: &str) -> Result<Kind, Fail> {
+    match word {
+        "int" => Ok(Kind::Int),
+        "int?" => Ok(Kind::IntOrNull),
+        "text" => Ok(Kind::Text),
+        _ => Err(Fail::from("no kind")),
+    }
+}
+
+// The name and the kind of a column, as `a:int`.
+fn column(word: &str) -> Result<(Name, Kind), Fail> {
+    let (name, of) = word.split_once(':').ok_or("no kind")?;
+    Ok((Name::new(name)?, kind(of)?))
+}
+
+/// The columns that the text lists, as `a:int b:int? c:text`.
 pub(crate) fn columns(alloc: Global, text: &str) -> Result<Columns, Fail> {
     let mut pairs = Vec::new(alloc);
     for word in text.split_whitespace() {
-        let (column, kind) = word.split_once(':').ok_or("no kind")?;
-        let kind = if kind == "int" { Kind::Int } else { Kind::Text };
-        pairs.push((Name::new(column)?, kind))?;
+        pairs.push(column(word)?)?;
     }
     Ok(Columns::new(alloc, pairs)?)
 }
 
-/// A number, or else a text.
+/// Null, a number, or else a text.
 pub(crate) fn value(alloc: Global, word: &str) -> Result<Value, Fail> {
+    if word == "null" {
+        return Ok(Value::Null);
+    }
     match word.parse::<i64>() {
         Ok(number) => Ok(Value::Int(number)),
         Err(_) => Ok(Value::Text(Text::new(alloc, word)?)),
     }
 }
 
-/// The row that the text lists, as `a=1 b=x`.
-pub(crate) fn row(alloc: Global, text: &str) -> Result<Row, Fail> {
+// The name and the value of a column, as `a=1`.
+fn cell(alloc: Global, word: &str) -> Result<(Name, Value), Fail> {
+    let (name, of) = word.split_once('=').ok_or("no value")?;
+    Ok((Name::new(name)?, value(alloc, of)?))
+}
+
+// The row that the text lists, as `a=1 b=x`.
+fn row(alloc: Global, text: &str) -> Result<Row, Fail> {
     let mut pairs = Vec::new(alloc);
     for word in text.split_whitespace() {
-        let (column, of) = word.split_once('=').ok_or("no value")?;
-        pairs.push((Name::new(column)?, value(alloc, of)?))?;
+        pairs.push(cell(alloc, word)?)?;
     }
     Ok(Row::new(alloc, pairs)?)
 }
 
-/// The rows that the text lists, as `a=1 b=x; a=2 b=y`.
-pub(crate) fn rows(alloc: Global, text: &str) -> Result<Vec<Row>, Fail> {
+// The rows that the text lists, as `a=1 b=x; a=2 b=y`.
+fn rows(alloc: Global, text: &str) -> Result<Vec<Row>, Fail> {
     let mut list = Vec::new(alloc);
     for part in text.split_terminator(';') {
         list.push(row(alloc, part)?)?;
@@ -82,10 +118,15 @@ fn add(relation: &mut Relation, row: Row) -> Result<(), Fail>
 pub(crate) fn tree(alloc: Global, text: &str) -> Result<Tree, Fail> {
     let mut deps = Vec::new(alloc);
     for part in text.split_terminator(',') {
-        let (left, right) = part.split_once("->").ok_or("no arrow")?;
-        deps.push(Dep::new(names(alloc, left)?, names(alloc, right)?)?)?;
+        deps.push(dep(alloc, part)?)?;
     }
     Ok(Tree::of(alloc, &deps)?)
+}
+
+// The dependency of the text, as `a -> b`.
+fn dep(alloc: Global, text: &str) -> Result<Dep, Fail> {
+    let (left, right) = text.split_once("->").ok_or("no arrow")?;
+    Ok(Dep::new(names(alloc, left)?, names(alloc, right)?)?)
 }
 
 /// Whether the set has the rows that the text lists, in this order, and no other.
@@ -93,12 +134,11 @@ pub(crate) fn are_rows(alloc: Global, found: &RowSet, text: &str) -> Result<bool
     Ok(found.rows() == rows(alloc, text)?.as_slice())
 }
 
-/// Whether the difference removes these rows and adds those.
+/// Whether the difference removes the first rows and adds the second.
 pub(crate) fn is_delta(
     alloc: Global,
     delta: &Delta,
-    remove: &str,
-    add: &str,
+    [remove, add]: [&str; 2],
 ) -> Result<bool, Fail> {
     Ok(are_rows(alloc, delta.remove(), remove)? && are_rows(alloc, delta.add(), add)?)
 }

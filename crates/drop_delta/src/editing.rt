@@ -1,5 +1,5 @@
 //! The edit of a relation without one of its columns, taken to the relation.
-ghost use Rattle.std.specs.Prelude.{◌≡◌, ◌≢◌, ◌∷◌, [], true, false, length, slice_get, Contains, IfOk, IfSome, Some, is_some};
+ghost use Rattle.std.specs.Prelude.{◌≡◌, ◌≢◌, ◌≤◌, ◌+◌, ◌*◌, ℕ, ◌∷◌, [], true, false, length, slice_get, Contains, IfOk, IfSome, Some, is_some};
 ghost use Rattle.std.specs.FinMap as finmap;
 ghost use Rattle.lens_values.specs.SortedSet as set;
 ghost use Rattle.lens_specs.specs.Columns.{Fits, fits_at, names, without_column};
@@ -9,12 +9,13 @@ ghost use Rattle.lens_specs.specs.Names.{Within, one};
 ghost use Rattle.lens_specs.specs.Nodes.{drop_get};
 ghost use Rattle.lens_specs.specs.Relation.{image};
 ghost use Rattle.lens_specs.specs.Rows.{at};
+ghost use Rattle.lens_laws.specs.Work.{node_work, rows_down, rows_of};
 ghost use Rattle.drop_delta.specs.Dropped.{BothFill, Fills, edited_source, filled_in, filling_for, right_of};
 
 use fd_tree::Edge;
 use lens_values::{Name, Names, NoMemory, Row, Value};
 use row_sets::RowSet;
-use signed_delta::{Delta, Look, rows_fit};
+use signed_delta::{Delta, Look, finds_are_few, rows_fit};
 use std::alloc::Global;
 use std::sync::ledger::Ledger;
 use step_counter::Steps;
@@ -49,8 +50,13 @@ pub fn drop_delta<S: Look, L: Ledger>(
     ensures delta { let R = S.relation source.now in
         let after = edited_source R.columns col.now by.now fill.now R.rows delta.now in
         IfOk result (λ change. change ≡ diff R.rows after) }
+    ensures looks { (n : ℕ) → S.within source.now n
+        → looked.new ≤ looked.old + node_work (rows_of delta.now) n }
+    ensures few { IfOk result (λ change. (n : ℕ) → S.within source.now n
+        → rows_of change ≤ rows_down (rows_of delta.now) n) }
 {
     rows_fit(source);
+    finds_are_few(source);
     let left = by.copy(alloc)?;
     let right = Names::single(alloc, col)?;
     let edge = Edge { left, right };
@@ -96,6 +102,8 @@ fn filled_sides<S: Look, L: Ledger>(
         filled.remove ≡ image (filled_in edge.now default.now M) delta.now.remove) }
     ensures add { let M = (S.relation source.now).rows in IfOk result (λ filled.
         filled.add ≡ image (filled_in edge.now default.now M) delta.now.add) }
+    ensures looks { (n : ℕ) → S.within source.now n
+        → looked.new ≤ looked.old + n * rows_of delta.now }
 {
     let removed = delta.remove().rows();
     let added = delta.add().rows();
@@ -155,6 +163,7 @@ fn filled_row<S: Look, L: Ledger>(
         IfOk result (λ filled. filled ≡ filled_in edge.now default.now M row.now) }
     ensures fillings { let M = (S.relation source.now).rows in
         BothFill edge.now default.now M fillings.new }
+    ensures looks { (n : ℕ) → S.within source.now n → looked.new ≤ looked.old + n }
 {
     let known = match &fillings.last {
         Some(last) if row.agree_on(&last.key, &edge.left) => fillings.last.take(),
@@ -191,6 +200,7 @@ fn filling_of<S: Look, L: Ledger>(
         IfOk result (Fills edge.now default.now M) }
     ensures part { let M = (S.relation source.now).rows in
         IfOk result (λ filling. filling.part ≡ filling_for edge.now default.now M row.now) }
+    ensures looks { (n : ℕ) → S.within source.now n → looked.new ≤ looked.old + n }
 {
     if let Some(known) = known {
         if row.agree_on(&known.key, &edge.left) {

@@ -10,10 +10,10 @@ use Rattle.fd_laws.proofs.Names.{name_total, name_exact, tied_name, apart_back, 
 use Rattle.fd_laws.proofs.Rows.{row_total, tied_row, row_itself, agree_itself, agree_back, same_value-is, same_value-refl, agree_at, agree_from}
 use Rattle.fd_laws.proofs.Trees.{at_edge, each_edge, both_edges}
 use Rattle.lens_values.specs.declared.value.Kind.{Kind}
-use Rattle.lens_values.specs.declared.value.Kind.TheVariants.{Int, Text, Flag}
+use Rattle.lens_values.specs.declared.value.Kind.TheVariants.{Int, Text, Flag, IntOrNull, TextOrNull, FlagOrNull}
 use Rattle.fd_laws.specs.Witness.{low, high, row_of}
 use Rattle.lens_values.specs.Value.{fits}
-use Rattle.lens_values.proofs.ValueLemmas.{int_fits, text_fits, flag_fits}
+use Rattle.lens_values.proofs.ValueLemmas.{int_fits, text_fits, flag_fits, int_fits_null, text_fits_null, flag_fits_null}
 use Rattle.lens_values.proofs.FitsLemmas.{fits_same}
 use Rattle.lens_specs.specs.Columns.{Columns, names, Fits, fits_at}
 use Rattle.lens_specs.specs.Names.{Name, Names, Within}
@@ -129,6 +129,9 @@ low_high None e = cc
 low_high (Some Int) e = cc
 low_high (Some Text) e = cc
 low_high (Some Flag) e = cc
+low_high (Some IntOrNull) e = cc
+low_high (Some TextOrNull) e = cc
+low_high (Some FlagOrNull) e = cc
 
 pub at-row_of : (f : Name → Value) (cs : List Name) (c : Name) → at (row_of f cs) c ≡ cond (list_any (eq_by_cmp bytes_cmp c) cs) (Some (f c)) None
 unfolding row_of
@@ -208,11 +211,17 @@ low_is : (k : Kind) → fits (low (Some k)) k ≡ true
 low_is Int = int_fits (pos 0)
 low_is Text = text_fits []
 low_is Flag = flag_fits false
+low_is IntOrNull = int_fits_null (pos 0)
+low_is TextOrNull = text_fits_null []
+low_is FlagOrNull = flag_fits_null false
 
 high_is : (k : Kind) → fits (high (Some k)) k ≡ true
 high_is Int = int_fits (pos 1)
 high_is Text = text_fits (97 ∷ [])
 high_is Flag = flag_fits true
+high_is IntOrNull = int_fits_null (pos 1)
+high_is TextOrNull = text_fits_null (97 ∷ [])
+high_is FlagOrNull = flag_fits_null true
 
 low_fits : (k : Option Kind) (b : Bool) → is_some k ≡ b → fits_at (cond b (Some (low k)) None) k ≡ true
 low_fits None true e = cc

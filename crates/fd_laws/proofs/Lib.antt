@@ -8,3 +8,4 @@ pub mod TreeForms
 pub mod Columns
 pub mod Implied
 pub mod Outputs
+pub mod Renames

@@ -5,7 +5,7 @@ use Rattle.std.specs.List.{fold}
 use Rattle.lens_values.specs.SortedSet as set
 use Rattle.lens_values.specs.declared.row.Row.{Row}
 use Rattle.lens_values.specs.declared.value.Value.{Value}
-use Rattle.lens_values.specs.declared.value.Value.TheVariants.{Int, Text, Flag}
+use Rattle.lens_values.specs.declared.value.Value.TheVariants.{Null, Int, Text, Flag}
 use Rattle.lens_specs.specs.Names.{Names}
 use Rattle.lens_specs.specs.Rows.{at}
 
@@ -13,9 +13,10 @@ use Rattle.lens_specs.specs.Rows.{at}
 abbrev pub hash_number : ℕ → ℕ → ℕ
 hash_number hash n = ((hash * 65599) % (2 ^ 64) + n) % (2 ^ 64)
 
--- the hash with a value added, or with the mark of a missing one
+-- the hash with a value added, or with the mark of a missing one; null counts as the least number
 abbrev pub hash_value : ℕ → Option Value → ℕ
 hash_value hash None = hash_number hash 0
+hash_value hash (Some Null) = hash_number hash (2 ^ 63)
 hash_value hash (Some (Int n)) = hash_number hash (cast_unsigned w64 n)
 hash_value hash (Some (Text t)) = fold hash_number (hash_number hash (length t)) t
 hash_value hash (Some (Flag b)) = hash_number hash (if b then 1 else 0)

@@ -6,6 +6,9 @@ ghost use Rattle.fd_tree.specs.RowHash.{hash_number, hash_row, hash_value};
 
 use lens_values::{Names, Row, Value};
 
+// What null adds to a hash: the number of the least `i64`, which few columns have.
+const NULL: u64 = 1 << 63;
+
 /// The hash of the values that the row has in the columns.
 #[tactic(auto, unfolding(crate::specs::RowHash::hash_row))]
 pub fn hash_row(row: &Row, cols: &Names) -> u64
@@ -26,6 +29,7 @@ fn hash_value(hash: u64, value: &Value) -> u64
     ensures { result ≡ hash_value hash (Some value.now) }
 {
     match value {
+        Value::Null => hash_number(hash, NULL),
         Value::Int(number) => hash_number(hash, number.cast_unsigned()),
         Value::Text(text) => hash_bytes(hash, text.as_str().as_bytes()),
         Value::Flag(flag) => hash_number(hash, u64::from(*flag)),

@@ -1,10 +1,11 @@
 //! Trees of functional dependencies.
-ghost use Rattle.std.specs.Prelude.{◌≡◌, ◌≢◌, ◌++◌, IfOk, OnOk, false};
+ghost use Rattle.std.specs.Prelude.{◌≡◌, ◌≢◌, ◌++◌, IfOk, false};
 ghost use Rattle.no_memory.specs.Gives.{Gives};
 ghost use Rattle.lens_values.specs.SortedSet as set;
 ghost use Rattle.lens_specs.specs.Names.{one};
 ghost use Rattle.lens_specs.specs.Dependencies as dependencies;
 ghost use Rattle.lens_specs.specs.Dependencies.{AllEdges};
+ghost use Rattle.lens_specs.specs.Rename.{renamed_tree};
 ghost use Rattle.lens_specs.specs.TreeForm as spec;
 ghost use Rattle.lens_specs.specs.TreeForm.{tree_of, tree_without};
 ghost use Rattle.lens_specs.specs.Sort.{clash};
@@ -21,7 +22,7 @@ use crate::edge::{Edge, edges_of};
 use crate::ordering::ordered;
 use crate::reducing::{full, reduced};
 use fd_closure::{Dep, closure};
-use lens_values::{Name, Names, NoMemory, copied};
+use lens_values::{Name, Names, NoMemory, append, copied};
 use row_sets::Relation;
 use std::alloc::{AllocError, AllocFailed, Global};
 use std::marker::Model;
@@ -183,6 +184,17 @@ impl Tree {
         Ok(Tree { edges, outputs })
     }
 
+    /// The tree with `to` for `col`. No edge may have `to`.
+    pub fn rename(&self, alloc: Global, col: &Name, to: &Name) -> Result<Tree, NoMemory>
+        requires { AllEdges (λ e. (set.contains e.left to.now ≡ false)
+            × (set.contains e.right to.now ≡ false)) self.now }
+        ensures { IfOk result (λ tree. tree ≡ renamed_tree col.now to.now self.now) }
+    {
+        let edges = edges_renamed(alloc, &self.edges, col, to)?;
+        let outputs = outputs(alloc, &edges)?;
+        Ok(Tree { edges, outputs })
+    }
+
     /// The tree form of the edges of both, those of this tree first. `NotTree` where they have
     /// none.
     pub fn join(&self, alloc: Global, other: &Tree) -> Result<Tree, TreeFault>
@@ -242,12 +254,18 @@ fn edges_without(alloc: Global, edges: &[Edge], cols: &Names) -> Result<Vec<Edge
     Ok(rest)
 }
 
-// Adds copies of the edges at the end.
-fn append(list: &mut Vec<Edge>, alloc: Global, edges: &[Edge]) -> Result<(), NoMemory>
-    ensures { OnOk result (list.new.items ≡ list.old.items ++ edges.now) }
+// The edges with `to` for `col` on both sides.
+fn edges_renamed(
+    alloc: Global,
+    edges: &[Edge],
+    col: &Name,
+    to: &Name,
+) -> Result<Vec<Edge>, NoMemory>
+    ensures { IfOk result (λ list. list.items ≡ renamed_tree col.now to.now edges.now) }
 {
+    let mut list = Vec::with_capacity(alloc, edges.len())?;
     for edge in edges {
-        list.push(edge.copy(alloc)?)?;
+        list.push(edge.rename(alloc, col, to)?)?;
     }
-    Ok(())
+    Ok(list)
 }

@@ -8,7 +8,7 @@ use Rattle.grammar_laws.proofs.WrittenExprs as expr
 use Rattle.grammar_laws.proofs.WrittenExprs.{Hole, Spot, Exprs, exprs}
 use Rattle.grammar_laws.proofs.ExprLevels as expr_level
 use Rattle.grammar_laws.proofs.ExprMeaning.{hole_meaning, spot_meaning, exprs_meaning}
-use Rattle.grammar_laws.proofs.WrittenDefs.{Parse, at_start, at_table, at_open, at_column, at_kind, behind_column, behind_columns, in_left, in_right, in_condition, at_view, at_equals, in_view}
+use Rattle.grammar_laws.proofs.WrittenDefs.{Parse, at_start, at_table, at_open, at_column, at_kind, behind_kind, behind_column, behind_columns, in_left, in_right, in_condition, at_view, at_equals, in_view}
 use Rattle.grammar_laws.proofs.DefLevels.{count}
 use Rattle.grammar_laws.proofs.DefMeaning.{parse_meaning}
 use Rattle.grammar_laws.specs.PredParse as meant_pred
@@ -29,7 +29,7 @@ spot_count (expr.at_operand h) = refl
 spot_count (expr.behind_expr e) = refl
 spot_count expr.at_from = refl
 spot_count (expr.at_where o) = refl
-spot_count (expr.at_with o) = refl
+spot_count (expr.at_with k o) = refl
 spot_count expr.at_dropped = refl
 spot_count (expr.at_determined c) = refl
 spot_count (expr.at_by c) = refl
@@ -38,6 +38,10 @@ spot_count (expr.in_keys c ks) = refl
 spot_count (expr.at_fill c ks) = refl
 spot_count (expr.at_keys_end c ks v) = refl
 spot_count (expr.at_drop_from c ks v) = refl
+spot_count expr.at_renamed = refl
+spot_count (expr.at_to c) = refl
+spot_count (expr.at_new_name c) = refl
+spot_count (expr.at_rename_from c d) = refl
 spot_count (expr.in_where o s) = pred_count s
 
 as_many : (qs : List Hole) → length (map hole_meaning qs) ≡ length qs
@@ -54,6 +58,7 @@ parse_count at_table = refl
 parse_count (at_open n) = refl
 parse_count (at_column n cs) = refl
 parse_count (at_kind n cs c) = refl
+parse_count (behind_kind n cs c k) = refl
 parse_count (behind_column n cs) = refl
 parse_count (behind_columns n cs) = refl
 parse_count (in_left n cs ds l) = refl

@@ -3,11 +3,12 @@ use Rattle.std.proofs.Common.{◌≡◌, ◌^◌, ◌<◌, ◌≤◌, suc, Bool,
 use Rattle.std.specs.Prelude.{◌&&◌, ◌||◌, not, codes, Option, Some, None, map, flat_map}
 use Rattle.std.specs.List.{list_any, list_all}
 use Rattle.std.proofs.lemmas.List.{map-append}
+use Rattle.lens_values.specs.Value.{is_nullable}
 use Rattle.lens_values.specs.declared.value.Kind.TheVariants as kind
 use Rattle.lens_specs.specs.Names.{Name}
 use Rattle.lens_specs.specs.Predicate.{eq}
 use Rattle.grammar_specs.specs.Tokens.{Token, word, open_paren, close_paren, comma, arrow, operator, is_free_name}
-use Rattle.grammar_specs.specs.Written.{Pred, named, Dep, Written, table, view, column_tokens, columns_tokens, dep_tokens, deps_tokens, where_tokens, written_tokens, is_some_list, are_free_names, is_column_of, are_columns, is_dep, is_expr, is_condition, is_definition}
+use Rattle.grammar_specs.specs.Written.{Pred, named, Dep, Written, table, view, null_tokens, column_tokens, columns_tokens, dep_tokens, deps_tokens, where_tokens, written_tokens, is_some_list, are_free_names, is_column_of, are_columns, is_dep, is_expr, is_condition, is_definition}
 use Rattle.grammar_specs.specs.Faults.{Begins}
 use Rattle.grammar_laws.specs.Tests.{is_word}
 use Rattle.grammar_laws.proofs.Options.{first_holds, second_holds}
@@ -17,8 +18,8 @@ use Rattle.grammar_laws.proofs.PredSteps.{both}
 use Rattle.grammar_laws.proofs.PredReads.{reading_ends}
 use Rattle.grammar_laws.proofs.WrittenExprs.{Exprs, is_exprs}
 use Rattle.grammar_laws.proofs.ExprReads.{exprs_end}
-use Rattle.grammar_laws.proofs.WrittenDefs.{Cols, Parse, at_start, at_table, at_open, at_column, at_kind, behind_column, behind_columns, in_left, in_right, in_condition, at_view, at_equals, in_view, table_before, columns_before, deps_before, before, is_table, is_parse}
-use Rattle.grammar_laws.proofs.DefSteps.{head, head_then, columns_more, columns_good, some_more, deps_more, all_deps}
+use Rattle.grammar_laws.proofs.WrittenDefs.{Cols, Parse, at_start, at_table, at_open, at_column, at_kind, behind_kind, behind_column, behind_columns, in_left, in_right, in_condition, at_view, at_equals, in_view, table_before, columns_before, deps_before, before, is_table, is_parse}
+use Rattle.grammar_laws.proofs.DefSteps.{head, head_then, columns_more, column_good, columns_good, some_more, deps_more, all_deps}
 use Rattle.grammar_laws.proofs.ExprSteps.{all_more}
 use Rattle.grammar_laws.proofs.FreshNames.{new_name, new_name_free, new_name_new}
 
@@ -60,11 +61,13 @@ new_column_free cs = new_name_free (map (λ c. c.0) cs)
 
 three_each : (cs : Cols) → length cs ≤ length (flat_map (λ c. comma ∷ column_tokens c) cs)
 three_each [] = omega arith
-three_each (c ∷ cs) = omega (arith, three_each cs)
+three_each (c ∷ cs) = omega (arith, three_each cs, length-append (null_tokens c.1) (flat_map (λ c. comma ∷ column_tokens c) cs))
 
 columns_count : (cs : Cols) → length cs ≤ length (columns_before cs)
 columns_count [] = omega arith
-columns_count (c ∷ cs) = omega (arith, three_each cs, length-append (flat_map (λ c. comma ∷ column_tokens c) cs) (comma ∷ []))
+columns_count (c ∷ cs) =
+    let more = flat_map (λ c. comma ∷ column_tokens c) cs in
+    omega (arith, three_each cs, length-append (null_tokens c.1 ++ more) (comma ∷ []), length-append (null_tokens c.1) more)
 
 few : (n : Name) (cs : Cols) → length (before (at_column n cs)) < 2 ^ 64 → length cs < 2 ^ 64
 few n cs h = omega (arith, columns_count cs)
@@ -158,6 +161,8 @@ parse_begins (at_kind n cs c) h len =
     let two = first_holds (is_free_name n && are_columns [] cs) (is_free_name c && not (is_column_of cs c)) h in
     let new = second_holds (is_free_name n && are_columns [] cs) (is_free_name c && not (is_column_of cs c)) h in
     kind_begins n cs c (first_holds (is_free_name n) (are_columns [] cs) two) (second_holds (is_free_name n) (are_columns [] cs) two) (first_holds (is_free_name c) (not (is_column_of cs c)) new) (second_holds (is_free_name c) (not (is_column_of cs c)) new)
+parse_begins (behind_kind n cs c k) h len =
+    column_begins n (cs ++ (c, k) ∷ []) (column_good n cs c k (first_holds (is_free_name n && are_columns [] cs && (is_free_name c && not (is_column_of cs c))) (not (is_nullable k)) h))
 parse_begins (behind_column n cs) h len = column_begins n cs h
 parse_begins (behind_columns n cs) h len = table_begins n cs [] None h refl refl
 parse_begins (in_left n cs ds l) h len = let k = table_known n cs ds (list_all is_free_name l) h in left_begins n cs ds l k.0 k.1 k.2

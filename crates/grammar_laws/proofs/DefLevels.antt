@@ -14,7 +14,7 @@ use Rattle.grammar_laws.proofs.WrittenExprs as expr
 use Rattle.grammar_laws.proofs.WrittenExprs.{Exprs}
 use Rattle.grammar_laws.proofs.ExprReads as read_expr
 use Rattle.grammar_laws.proofs.ExprLevels as expr_level
-use Rattle.grammar_laws.proofs.WrittenDefs.{Cols, Parse, at_start, at_table, at_open, at_column, at_kind, behind_column, behind_columns, in_left, in_right, in_condition, at_view, at_equals, in_view, step}
+use Rattle.grammar_laws.proofs.WrittenDefs.{Cols, Parse, at_start, at_table, at_open, at_column, at_kind, behind_kind, behind_column, behind_columns, in_left, in_right, in_condition, at_view, at_equals, in_view, step}
 use Rattle.grammar_laws.proofs.DefReads.{run}
 
 -- how many stand open
@@ -24,6 +24,7 @@ count at_table = 0
 count (at_open n) = 0
 count (at_column n cs) = 0
 count (at_kind n cs c) = 0
+count (behind_kind n cs c k) = 0
 count (behind_column n cs) = 0
 count (behind_columns n cs) = 0
 count (in_left n cs ds l) = 0
@@ -40,6 +41,7 @@ is_flat at_table = true
 is_flat (at_open n) = true
 is_flat (at_column n cs) = true
 is_flat (at_kind n cs c) = true
+is_flat (behind_kind n cs c k) = true
 is_flat (behind_column n cs) = true
 is_flat (behind_columns n cs) = true
 is_flat (in_left n cs ds l) = true
@@ -67,6 +69,7 @@ flat_count at_table e = refl
 flat_count (at_open n) e = refl
 flat_count (at_column n cs) e = refl
 flat_count (at_kind n cs c) e = refl
+flat_count (behind_kind n cs c k) e = refl
 flat_count (behind_column n cs) e = refl
 flat_count (behind_columns n cs) e = refl
 flat_count (in_left n cs ds l) e = refl
@@ -82,6 +85,7 @@ flat_before at_table t r e f = refl
 flat_before (at_open n) t r e f = refl
 flat_before (at_column n cs) t r e f = refl
 flat_before (at_kind n cs c) t r e f = refl
+flat_before (behind_kind n cs c k) t r e f = refl
 flat_before (behind_column n cs) t r e f = refl
 flat_before (behind_columns n cs) t r e f = refl
 flat_before (in_left n cs ds l) t r e f = refl

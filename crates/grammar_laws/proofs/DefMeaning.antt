@@ -15,7 +15,7 @@ use Rattle.grammar_laws.proofs.WrittenExprs as expr
 use Rattle.grammar_laws.proofs.WrittenExprs.{Exprs}
 use Rattle.grammar_laws.proofs.ExprMeaning.{exprs_meaning, exprs_step, exprs_ended}
 use Rattle.grammar_laws.proofs.WrittenDefs as written
-use Rattle.grammar_laws.proofs.WrittenDefs.{Cols, Parse, at_start, at_table, at_open, at_column, at_kind, behind_column, behind_columns, in_left, in_right, in_condition, at_view, at_equals, in_view, ended_pred, ended_expr}
+use Rattle.grammar_laws.proofs.WrittenDefs.{Cols, Parse, at_start, at_table, at_open, at_column, at_kind, behind_kind, behind_column, behind_columns, in_left, in_right, in_condition, at_view, at_equals, in_view, ended_pred, ended_expr}
 use Rattle.grammar_laws.specs.DefParse as meant
 
 abbrev pub parse_meaning : Parse → meant.Parse
@@ -24,6 +24,7 @@ parse_meaning at_table = meant.at_table
 parse_meaning (at_open n) = meant.at_open n
 parse_meaning (at_column n cs) = meant.at_column n cs
 parse_meaning (at_kind n cs c) = meant.at_kind n cs c
+parse_meaning (behind_kind n cs c k) = meant.behind_kind n cs c k
 parse_meaning (behind_column n cs) = meant.behind_column n cs
 parse_meaning (behind_columns n cs) = meant.behind_columns n cs
 parse_meaning (in_left n cs ds l) = meant.in_left n cs (map dep_meaning ds) l
@@ -60,6 +61,8 @@ parse_step at_table t = mapped (name_in t) _ _ (λ n. refl)
 parse_step (at_open n) t = both_ways parse_meaning (is_open t) _ _ _ _ refl refl
 parse_step (at_column n cs) t = column_meaning n cs (name_in t)
 parse_step (at_kind n cs c) t = mapped (kind_in t) _ _ (λ k. refl)
+parse_step (behind_kind n cs c k) t =
+    both_ways parse_meaning (is_keyword (codes "null") t) _ _ _ _ refl (both_ways parse_meaning (is_comma t) _ _ _ _ refl (both_ways parse_meaning (is_close t) _ _ _ _ refl refl))
 parse_step (behind_column n cs) t = both_ways parse_meaning (is_comma t) _ _ _ _ refl (both_ways parse_meaning (is_close t) _ _ _ _ refl refl)
 parse_step (behind_columns n cs) t = both_ways parse_meaning (is_keyword (codes "with") t) _ _ _ _ refl (both_ways parse_meaning (is_keyword (codes "where") t) _ _ _ _ refl refl)
 parse_step (in_left n cs ds l) t =
@@ -81,6 +84,7 @@ parse_ended at_table = refl
 parse_ended (at_open n) = refl
 parse_ended (at_column n cs) = refl
 parse_ended (at_kind n cs c) = refl
+parse_ended (behind_kind n cs c k) = refl
 parse_ended (behind_column n cs) = refl
 parse_ended (behind_columns n cs) = refl
 parse_ended (in_left n cs ds l) = refl

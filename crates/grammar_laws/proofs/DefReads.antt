@@ -1,16 +1,16 @@
 -- What spells a definition is read as it.
-use Rattle.std.proofs.Common.{◌≡◌, Bool, true, false, cond, List, [], ◌∷◌, ◌++◌, refl, sym, ap, ◌∙◌, append_assoc, append-nil}
+use Rattle.std.proofs.Common.{◌≡◌, true, cond, List, [], ◌∷◌, ◌++◌, refl, sym, ap, subst, ◌∙◌, append_assoc, append-nil}
 use Rattle.std.specs.Prelude.{◌&&◌, not, codes, Option, Some, None, option_map, option_and_then, map, flat_map}
 use Rattle.std.specs.List.{list_all}
+use Rattle.lens_values.specs.Value.{is_nullable}
 use Rattle.lens_values.specs.declared.value.Kind.{Kind}
 use Rattle.lens_values.specs.declared.value.Kind.TheVariants as kind
 use Rattle.lens_specs.specs.Names.{Name}
 use Rattle.lens_specs.specs.Predicate.{eq}
 use Rattle.grammar_specs.specs.Tokens.{Token, word, open_paren, close_paren, comma, arrow, operator, is_free_name}
-use Rattle.grammar_specs.specs.Written.{Pred, Expr, named, select, drop, join, Dep, Written, table, view, kind_word, column_tokens, columns_tokens, dep_tokens, deps_tokens, where_tokens, pred_tokens, expr_tokens, written_tokens, is_some_list, are_free_names, is_column_of, are_columns, is_dep, is_pred, is_expr, is_condition, is_definition}
-use Rattle.grammar_laws.specs.Tests.{kind_in}
+use Rattle.grammar_specs.specs.Written.{Pred, Expr, named, select, drop, rename, join, Dep, Written, table, view, kind_tokens, column_tokens, columns_tokens, dep_tokens, deps_tokens, where_tokens, pred_tokens, expr_tokens, written_tokens, is_some_list, are_free_names, is_column_of, are_columns, is_dep, is_pred, is_expr, is_condition, is_definition}
 use Rattle.grammar_laws.proofs.Options.{first_holds, second_holds}
-use Rattle.grammar_laws.proofs.TokenTests.{free_in}
+use Rattle.grammar_laws.proofs.TokenTests.{free_in, not_true}
 use Rattle.grammar_laws.proofs.WrittenPreds as pred
 use Rattle.grammar_laws.proofs.WrittenPreds.{Reading, behind}
 use Rattle.grammar_laws.proofs.PredReads as read
@@ -19,7 +19,7 @@ use Rattle.grammar_laws.proofs.WrittenExprs as expr
 use Rattle.grammar_laws.proofs.WrittenExprs.{Exprs, exprs, at_expr}
 use Rattle.grammar_laws.proofs.ExprReads as read_expr
 use Rattle.grammar_laws.proofs.ExprReads.{spot_of, expr_read}
-use Rattle.grammar_laws.proofs.WrittenDefs.{Cols, Parse, at_start, at_table, at_open, at_column, at_kind, behind_column, behind_columns, in_left, in_right, in_condition, at_view, at_equals, in_view, begun, end_dep, step, ended, ended_expr}
+use Rattle.grammar_laws.proofs.WrittenDefs.{Cols, Parse, at_start, at_table, at_open, at_column, at_kind, behind_kind, behind_column, behind_columns, in_left, in_right, in_condition, at_view, at_equals, in_view, begun, end_dep, step, ended, ended_expr}
 
 -- the tokens, one after another
 abbrev pub run : Parse → List Token → Option Parse
@@ -41,41 +41,65 @@ go s r t ts o e f = ap (option_and_then (λ q. run q ts)) e ∙ f
 
 -- ---- columns
 
-kind_found : (k : Kind) → kind_in (word (kind_word k)) ≡ Some k
-kind_found kind.Int = refl
-kind_found kind.Text = refl
-kind_found kind.Flag = refl
+-- the place behind a column: a "null" may follow a kind that has none
+abbrev behind_next : Name → Cols → Name × Kind → Parse
+behind_next n cs c = cond (is_nullable c.1) (behind_column n (cs ++ c ∷ [])) (behind_kind n cs c.0 c.1)
 
-not_true : (b : Bool) → not b ≡ true → b ≡ false
-not_true true e = cc
-not_true false e = refl
+kind_read : (n : Name) (cs : Cols) (c : Name) (k : Kind) → run (at_kind n cs c) (kind_tokens k) ≡ Some (behind_next n cs (c, k))
+kind_read n cs c kind.Int = refl
+kind_read n cs c kind.Text = refl
+kind_read n cs c kind.Flag = refl
+kind_read n cs c kind.IntOrNull = refl
+kind_read n cs c kind.TextOrNull = refl
+kind_read n cs c kind.FlagOrNull = refl
+
+comma_next : (n : Name) (cs : Cols) (c : Name) (k : Kind) → step (behind_next n cs (c, k)) comma ≡ Some (at_column n (cs ++ (c, k) ∷ []))
+comma_next n cs c kind.Int = refl
+comma_next n cs c kind.Text = refl
+comma_next n cs c kind.Flag = refl
+comma_next n cs c kind.IntOrNull = refl
+comma_next n cs c kind.TextOrNull = refl
+comma_next n cs c kind.FlagOrNull = refl
+
+close_next : (n : Name) (cs : Cols) (c : Name) (k : Kind) → step (behind_next n cs (c, k)) close_paren ≡ Some (behind_columns n (cs ++ (c, k) ∷ []))
+close_next n cs c kind.Int = refl
+close_next n cs c kind.Text = refl
+close_next n cs c kind.Flag = refl
+close_next n cs c kind.IntOrNull = refl
+close_next n cs c kind.TextOrNull = refl
+close_next n cs c kind.FlagOrNull = refl
 
 column_step : (n : Name) (cs : Cols) (c : Name) → is_free_name c ≡ true → not (is_column_of cs c) ≡ true → step (at_column n cs) (word c) ≡ Some (at_kind n cs c)
 column_step n cs c free new =
     ap (option_and_then (λ d. cond (is_column_of cs d) None (Some (at_kind n cs d)))) (free_in c free) ∙ ap (λ b. cond b None (Some (at_kind n cs c))) (not_true (is_column_of cs c) new)
 
-kind_step : (n : Name) (cs : Cols) (c : Name) (k : Kind) → step (at_kind n cs c) (word (kind_word k)) ≡ Some (behind_column n (cs ++ (c, k) ∷ []))
-kind_step n cs c k = ap (option_map (λ k. behind_column n (cs ++ (c, k) ∷ []))) (kind_found k)
+column_read : (n : Name) (cs : Cols) (c : Name × Kind) → is_free_name c.0 ≡ true → not (is_column_of cs c.0) ≡ true → run (at_column n cs) (column_tokens c) ≡ Some (behind_next n cs c)
+column_read n cs c free new = go (at_column n cs) (at_kind n cs c.0) (word c.0) (kind_tokens c.1) _ (column_step n cs c.0 free new) (kind_read n cs c.0 c.1)
 
-column_read : (n : Name) (cs : Cols) (c : Name × Kind) → is_free_name c.0 ≡ true → not (is_column_of cs c.0) ≡ true → run (at_column n cs) (column_tokens c) ≡ Some (behind_column n (cs ++ c ∷ []))
-column_read n cs c free new =
-    go (at_column n cs) (at_kind n cs c.0) (word c.0) (word (kind_word c.1) ∷ []) _ (column_step n cs c.0 free new)
-    (go (at_kind n cs c.0) (behind_column n (cs ++ c ∷ [])) (word (kind_word c.1)) [] _ (kind_step n cs c.0 c.1) refl)
+-- the columns that follow, and the parenthesis behind them
+columns_read : (n : Name) (cs : Cols) (c : Name × Kind) (ds : Cols) → are_columns (cs ++ c ∷ []) ds ≡ true
+    → run (behind_next n cs c) (flat_map (λ c. comma ∷ column_tokens c) ds ++ close_paren ∷ []) ≡ Some (behind_columns n (cs ++ c ∷ ds))
+columns_read n cs c [] h = go (behind_next n cs c) (behind_columns n (cs ++ c ∷ [])) close_paren [] _ (close_next n cs c.0 c.1) refl
+columns_read n cs c (d ∷ ds) h =
+    let front : Cols = cs ++ c ∷ [] in
+    let more = flat_map (λ c. comma ∷ column_tokens c) ds in
+    let here = first_holds (is_free_name d.0 && not (is_column_of front d.0)) (are_columns (front ++ d ∷ []) ds) h in
+    let rest = second_holds (is_free_name d.0 && not (is_column_of front d.0)) (are_columns (front ++ d ∷ []) ds) h in
+    go (behind_next n cs c) (at_column n front) comma ((column_tokens d ++ more) ++ close_paren ∷ []) _ (comma_next n cs c.0 c.1)
+    (ap (run (at_column n front)) (append_assoc (column_tokens d) more (close_paren ∷ []))
+    ∙ then_run (at_column n front) (behind_next n front d) (Some (behind_columns n (cs ++ c ∷ d ∷ ds))) (column_tokens d) (more ++ close_paren ∷ [])
+    (column_read n front d (first_holds (is_free_name d.0) (not (is_column_of front d.0)) here) (second_holds (is_free_name d.0) (not (is_column_of front d.0)) here))
+    (columns_read n front d ds rest ∙ ap (λ x. Some (behind_columns n x)) (append_assoc cs (c ∷ []) (d ∷ ds))))
 
-columns_read : (n : Name) (cs ds : Cols) → are_columns cs ds ≡ true → run (behind_column n cs) (flat_map (λ c. comma ∷ column_tokens c) ds) ≡ Some (behind_column n (cs ++ ds))
-columns_read n cs [] h = ap (λ x. Some (behind_column n x)) (sym (append-nil cs))
-columns_read n cs (d ∷ ds) h =
-    let here = first_holds (is_free_name d.0 && not (is_column_of cs d.0)) (are_columns (cs ++ d ∷ []) ds) h in
-    then_run (at_column n cs) (behind_column n (cs ++ d ∷ [])) (Some (behind_column n (cs ++ d ∷ ds))) (column_tokens d) (flat_map (λ c. comma ∷ column_tokens c) ds)
-    (column_read n cs d (first_holds (is_free_name d.0) (not (is_column_of cs d.0)) here) (second_holds (is_free_name d.0) (not (is_column_of cs d.0)) here))
-    (columns_read n (cs ++ d ∷ []) ds (second_holds (is_free_name d.0 && not (is_column_of cs d.0)) (are_columns (cs ++ d ∷ []) ds) h) ∙ ap (λ x. Some (behind_column n x)) (append_assoc cs (d ∷ []) ds))
-
-pub all_columns_read : (n : Name) (cs : Cols) → is_some_list cs ≡ true → are_columns [] cs ≡ true → run (at_column n []) (columns_tokens cs) ≡ Some (behind_column n cs)
+-- all columns, and the parenthesis behind them
+pub all_columns_read : (n : Name) (cs : Cols) → is_some_list cs ≡ true → are_columns [] cs ≡ true → run (at_column n []) (columns_tokens cs ++ close_paren ∷ []) ≡ Some (behind_columns n cs)
 all_columns_read n [] some h = cc
 all_columns_read n (c ∷ cs) some h =
+    let more = flat_map (λ c. comma ∷ column_tokens c) cs in
     let here = first_holds (is_free_name c.0 && true) (are_columns (c ∷ []) cs) h in
-    then_run (at_column n []) (behind_column n (c ∷ [])) (Some (behind_column n (c ∷ cs))) (column_tokens c) (flat_map (λ c. comma ∷ column_tokens c) cs)
-    (column_read n [] c (first_holds (is_free_name c.0) true here) refl) (columns_read n (c ∷ []) cs (second_holds (is_free_name c.0 && true) (are_columns (c ∷ []) cs) h))
+    ap (run (at_column n [])) (append_assoc (column_tokens c) more (close_paren ∷ []))
+    ∙ then_run (at_column n []) (behind_next n [] c) (Some (behind_columns n (c ∷ cs))) (column_tokens c) (more ++ close_paren ∷ [])
+    (column_read n [] c (first_holds (is_free_name c.0) true here) refl) (columns_read n [] c cs (second_holds (is_free_name c.0 && true) (are_columns (c ∷ []) cs) h))
 
 -- ---- dependencies
 
@@ -217,7 +241,8 @@ expr_ended : (e : Expr) → ended_expr (exprs [] (spot_of e)) ≡ Some e
 expr_ended (named n) = refl
 expr_ended (select o p) = ap (λ x. Some (select o x)) (whole_again p)
 expr_ended (drop c ks v o) = refl
-expr_ended (join o q) = refl
+expr_ended (rename c d o) = refl
+expr_ended (join k o q) = refl
 
 -- what spells a definition is read as it
 pub written_read : (w : Written) → is_definition w ≡ true → Reads at_start (written_tokens w) w
@@ -230,9 +255,10 @@ written_read (table n cs ds p) h =
     step_reads at_start at_table (word (codes "table")) (word n ∷ open_paren ∷ (columns_tokens cs ++ close_paren ∷ (deps_tokens ds ++ where_tokens p))) (table n cs ds p) refl
     (step_reads at_table (at_open n) (word n) (open_paren ∷ (columns_tokens cs ++ close_paren ∷ (deps_tokens ds ++ where_tokens p))) (table n cs ds p) (table_name n (first_holds (is_free_name n) (is_some_list cs && are_columns [] cs) two))
     (step_reads (at_open n) (at_column n []) open_paren (columns_tokens cs ++ close_paren ∷ (deps_tokens ds ++ where_tokens p)) (table n cs ds p) refl
-    (run_reads (at_column n []) (behind_column n cs) (columns_tokens cs) (close_paren ∷ (deps_tokens ds ++ where_tokens p)) (table n cs ds p)
+    (let P : List Token → Type 0 = λ x. Reads (at_column n []) x (table n cs ds p) in
+    subst P (append_assoc (columns_tokens cs) (close_paren ∷ []) (deps_tokens ds ++ where_tokens p))
+    (run_reads (at_column n []) (behind_columns n cs) (columns_tokens cs ++ close_paren ∷ []) (deps_tokens ds ++ where_tokens p) (table n cs ds p)
     (all_columns_read n cs (first_holds (is_some_list cs) (are_columns [] cs) columns) (second_holds (is_some_list cs) (are_columns [] cs) columns))
-    (step_reads (behind_column n cs) (behind_columns n cs) close_paren (deps_tokens ds ++ where_tokens p) (table n cs ds p) refl
     (tail_reads n cs ds p deps condition)))))
 written_read (view n e) h =
     step_reads at_start at_view (word (codes "view")) (word n ∷ operator eq ∷ expr_tokens e) (view n e) refl

@@ -1,23 +1,25 @@
 -- What a step of reading a definition does to the tokens that were read.
-use Rattle.std.proofs.Common.{◌≡◌, true, cond, List, [], ◌∷◌, ◌++◌, refl, sym, ap, subst, ◌∙◌, append_assoc, append-nil}
+use Rattle.std.proofs.Common.{◌≡◌, true, false, cond, List, [], ◌∷◌, ◌++◌, refl, sym, ap, subst, ◌∙◌, append_assoc, append-nil}
 use Rattle.std.specs.Prelude.{◌&&◌, not, codes, Some, None, option_map, map, flat_map}
 use Rattle.std.specs.List.{list_all}
 use Rattle.std.proofs.lemmas.List.{map-append}
+use Rattle.lens_values.specs.Value.{is_nullable}
 use Rattle.lens_values.specs.declared.value.Kind.{Kind}
+use Rattle.lens_values.specs.declared.value.Kind.TheVariants as kind
 use Rattle.lens_specs.specs.Names.{Name}
 use Rattle.lens_specs.specs.Predicate.{eq}
 use Rattle.grammar_specs.specs.Tokens.{Token, word, close_paren, comma, arrow, operator, is_free_name}
-use Rattle.grammar_specs.specs.Written.{Pred, Expr, Dep, Written, table, view, column_tokens, columns_tokens, dep_tokens, deps_tokens, pred_tokens, expr_tokens, written_tokens, is_some_list, are_free_names, is_column_of, are_columns, is_dep, is_pred, is_expr, is_definition}
-use Rattle.grammar_laws.specs.Tests.{is_keyword, name_in, kind_in, is_open, is_close, is_comma, is_arrow, is_equals}
+use Rattle.grammar_specs.specs.Written.{Pred, Expr, Dep, Written, table, view, kind_word, column_tokens, columns_tokens, dep_tokens, deps_tokens, pred_tokens, expr_tokens, written_tokens, is_some_list, are_free_names, is_column_of, are_columns, is_dep, is_pred, is_expr, is_definition}
+use Rattle.grammar_laws.specs.Tests.{is_keyword, name_in, kind_in, with_null, is_open, is_close, is_comma, is_arrow, is_equals}
 use Rattle.grammar_laws.proofs.Options.{bind_then, map_then, cond_then, cond_some, cond_none, opt_then, same_inside, first_holds, second_holds}
-use Rattle.grammar_laws.proofs.TokenTests.{is_proper, keyword_is, name_is, name_free, kind_is, open_is, close_is, comma_is, arrow_is, equals_is}
+use Rattle.grammar_laws.proofs.TokenTests.{is_proper, keyword_is, name_is, name_free, kind_is, kind_base, not_true, open_is, close_is, comma_is, arrow_is, equals_is}
 use Rattle.grammar_laws.proofs.WrittenPreds as pred
 use Rattle.grammar_laws.proofs.WrittenPreds.{fresh, at_part, Reading, inside, behind, whole, whole_tokens, is_reading}
 use Rattle.grammar_laws.proofs.PredSteps.{both, flat_map-append, step_follows}
 use Rattle.grammar_laws.proofs.WrittenExprs as expr
 use Rattle.grammar_laws.proofs.WrittenExprs.{Exprs, exprs, behind_expr, at_expr, in_where, is_exprs}
 use Rattle.grammar_laws.proofs.ExprSteps.{exprs_follow, all_more, selected_spot}
-use Rattle.grammar_laws.proofs.WrittenDefs.{Cols, Parse, at_start, at_table, at_open, at_column, at_kind, behind_column, behind_columns, in_left, in_right, in_condition, at_view, at_equals, in_view, begun, next_column, end_column, end_columns, next_left, end_dep, next_right, step, ended_pred, ended_spot, ended_expr, ended, table_before, columns_before, deps_before, before, is_table, is_parse}
+use Rattle.grammar_laws.proofs.WrittenDefs.{Cols, Parse, at_start, at_table, at_open, at_column, at_kind, behind_kind, behind_column, behind_columns, in_left, in_right, in_condition, at_view, at_equals, in_view, begun, next_column, end_column, end_kind, end_columns, next_left, end_dep, next_right, step, ended_pred, ended_spot, ended_expr, ended, table_before, columns_before, deps_before, before, is_table, is_parse}
 
 -- the token was read, and what was read stays part of a definition
 pub record Follows (s : Parse) (t : Token) (r : Parse) : Type 0 where
@@ -32,7 +34,9 @@ follows s t r e g = record { tokens = e; good = g }
 pub columns_more : (cs : Cols) (c : Name × Kind) → columns_tokens (cs ++ c ∷ []) ≡ columns_before cs ++ column_tokens c
 columns_more [] c = append-nil (column_tokens c)
 columns_more (d ∷ cs) c =
-    ap (λ x. column_tokens d ++ x) (flat_map-append (λ c. comma ∷ column_tokens c) cs (c ∷ []) ∙ sym (append_assoc (flat_map (λ c. comma ∷ column_tokens c) cs) (comma ∷ []) (column_tokens c)))
+    let more = flat_map (λ c. comma ∷ column_tokens c) cs in
+    ap (λ x. column_tokens d ++ x) (flat_map-append (λ c. comma ∷ column_tokens c) cs (c ∷ []) ∙ ap (λ x. more ++ comma ∷ x) (append-nil (column_tokens c)) ∙ sym (append_assoc more (comma ∷ []) (column_tokens c)))
+    ∙ sym (append_assoc (column_tokens d) (more ++ comma ∷ []) (column_tokens c)) ∙ ap (λ x. x ++ column_tokens c) (sym (append_assoc (column_tokens d) more (comma ∷ [])))
 
 columns_comma : (cs : Cols) → is_some_list cs ≡ true → columns_before cs ≡ columns_tokens cs ++ comma ∷ []
 columns_comma [] e = cc
@@ -62,19 +66,27 @@ column_follows n cs t r e =
     (ap (λ x. table_before n ++ (columns_before cs ++ x ∷ [])) (sym (name_is t c name)) ∙ sym (append_assoc (table_before n) (columns_before cs) (t ∷ [])))
     (λ g p. both (is_free_name n && are_columns [] cs) (is_free_name c && not (is_column_of cs c)) g (both (is_free_name c) (not (is_column_of cs c)) (name_free t c p name) (ap not new.0)))))
 
-kind_follows : (n : Name) (cs : Cols) (c : Name) (t : Token) (r : Parse) → option_map (λ k. behind_column n (cs ++ (c, k) ∷ [])) (kind_in t) ≡ Some r → Follows (at_kind n cs c) t r
-kind_follows n cs c t r e =
-    let P : Parse → Type 0 = λ x. Follows (at_kind n cs c) t x in
-    map_then (λ k. behind_column n (cs ++ (c, k) ∷ [])) (kind_in t) r e (λ k kind same.
-    subst P same (follows (at_kind n cs c) t (behind_column n (cs ++ (c, k) ∷ []))
-    (ap (λ x. table_before n ++ x) (columns_more cs (c, k) ∙ ap (λ x. columns_before cs ++ word c ∷ x ∷ []) (sym (kind_is t k kind)))
-    ∙ ap (λ x. table_before n ++ x) (sym (append_assoc (columns_before cs) (word c ∷ []) (t ∷ []))) ∙ sym (append_assoc (table_before n) (columns_before cs ++ word c ∷ []) (t ∷ [])))
-    (λ g p.
+-- the columns with one more, whose name is new
+pub column_good : (n : Name) (cs : Cols) (c : Name) (k : Kind) → is_parse (at_kind n cs c) ≡ true → is_table n (cs ++ (c, k) ∷ []) ≡ true
+column_good n cs c k g =
     let names = first_holds (is_free_name n && are_columns [] cs) (is_free_name c && not (is_column_of cs c)) g in
     let column = second_holds (is_free_name n && are_columns [] cs) (is_free_name c && not (is_column_of cs c)) g in
     both (is_free_name n) (is_some_list (cs ++ (c, k) ∷ []) && are_columns [] (cs ++ (c, k) ∷ [])) (first_holds (is_free_name n) (are_columns [] cs) names)
     (both (is_some_list (cs ++ (c, k) ∷ [])) (are_columns [] (cs ++ (c, k) ∷ [])) (some_more cs (c, k))
-    (columns_good [] cs (c, k) (second_holds (is_free_name n) (are_columns [] cs) names) (first_holds (is_free_name c) (not (is_column_of cs c)) column) (second_holds (is_free_name c) (not (is_column_of cs c)) column))))))
+    (columns_good [] cs (c, k) (second_holds (is_free_name n) (are_columns [] cs) names) (first_holds (is_free_name c) (not (is_column_of cs c)) column) (second_holds (is_free_name c) (not (is_column_of cs c)) column)))
+
+-- no "null" stands behind a kind that takes none
+no_null : (c : Name) (k : Kind) → is_nullable k ≡ false → column_tokens (c, k) ≡ word c ∷ word (kind_word k) ∷ []
+no_null c k base = ap (λ b. word c ∷ word (kind_word k) ∷ cond b (word (codes "null") ∷ []) []) base
+
+kind_follows : (n : Name) (cs : Cols) (c : Name) (t : Token) (r : Parse) → option_map (behind_kind n cs c) (kind_in t) ≡ Some r → Follows (at_kind n cs c) t r
+kind_follows n cs c t r e =
+    let P : Parse → Type 0 = λ x. Follows (at_kind n cs c) t x in
+    map_then (behind_kind n cs c) (kind_in t) r e (λ k kind same.
+    subst P same (follows (at_kind n cs c) t (behind_kind n cs c k)
+    (ap (λ x. table_before n ++ x) (columns_more cs (c, k) ∙ ap (λ x. columns_before cs ++ x) (no_null c k (kind_base t k kind)) ∙ ap (λ x. columns_before cs ++ word c ∷ x ∷ []) (sym (kind_is t k kind)))
+    ∙ ap (λ x. table_before n ++ x) (sym (append_assoc (columns_before cs) (word c ∷ []) (t ∷ []))) ∙ sym (append_assoc (table_before n) (columns_before cs ++ word c ∷ []) (t ∷ [])))
+    (λ g p. both (is_free_name n && are_columns [] cs && (is_free_name c && not (is_column_of cs c))) (not (is_nullable k)) g (ap not (kind_base t k kind)))))
 
 end_column_follows : (n : Name) (cs : Cols) (t : Token) (r : Parse) → is_some_list cs ≡ true → end_column n cs t ≡ Some r → Follows (behind_column n cs) t r
 end_column_follows n cs t r some e =
@@ -87,6 +99,29 @@ end_column_follows n cs t r some e =
     subst P (same_inside _ r is.1) (follows (behind_column n cs) t (behind_columns n cs)
     (ap (λ x. table_before n ++ (columns_tokens cs ++ x ∷ [])) (sym (close_is t is.0)) ∙ sym (append_assoc (table_before n) (columns_tokens cs) (t ∷ [])))
     (λ g p. g)))
+
+null_more : (c : Name) (k : Kind) → is_nullable k ≡ false → column_tokens (c, with_null k) ≡ column_tokens (c, k) ++ word (codes "null") ∷ []
+null_more c kind.Int base = refl
+null_more c kind.Text base = refl
+null_more c kind.Flag base = refl
+null_more c kind.IntOrNull base = cc
+null_more c kind.TextOrNull base = cc
+null_more c kind.FlagOrNull base = cc
+
+end_kind_follows : (n : Name) (cs : Cols) (c : Name) (k : Kind) (t : Token) (r : Parse) → is_nullable k ≡ false → end_kind n cs c k t ≡ Some r → Follows (behind_kind n cs c k) t r
+end_kind_follows n cs c k t r base e =
+    let P : Parse → Type 0 = λ x. Follows (behind_kind n cs c k) t x in
+    let Q = is_free_name n && are_columns [] cs && (is_free_name c && not (is_column_of cs c)) in
+    cond_then (is_keyword (codes "null") t) (Some (behind_column n (cs ++ (c, with_null k) ∷ []))) (end_column n (cs ++ (c, k) ∷ []) t) r e
+    (λ is h. subst P (same_inside _ r h) (follows (behind_kind n cs c k) t (behind_column n (cs ++ (c, with_null k) ∷ []))
+    (ap (λ x. table_before n ++ x)
+    (columns_more cs (c, with_null k) ∙ ap (λ x. columns_before cs ++ x) (null_more c k base ∙ ap (λ x. column_tokens (c, k) ++ x ∷ []) (sym (keyword_is (codes "null") t is)))
+    ∙ sym (append_assoc (columns_before cs) (column_tokens (c, k)) (t ∷ [])) ∙ ap (λ x. x ++ t ∷ []) (sym (columns_more cs (c, k))))
+    ∙ sym (append_assoc (table_before n) (columns_tokens (cs ++ (c, k) ∷ [])) (t ∷ [])))
+    (λ g p. column_good n cs c (with_null k) (first_holds Q (not (is_nullable k)) g))))
+    (λ _ e.
+    let ends = end_column_follows n (cs ++ (c, k) ∷ []) t r (some_more cs (c, k)) e in
+    follows (behind_kind n cs c k) t r ends.tokens (λ g p. ends.good (column_good n cs c k (first_holds Q (not (is_nullable k)) g)) p))
 
 -- ---- dependencies
 
@@ -225,6 +260,7 @@ parse_follows (at_open n) t r h e =
     subst P (same_inside _ r is.1) (follows (at_open n) t (at_column n []) (ap (λ x. word (codes "table") ∷ word n ∷ x ∷ []) (sym (open_is t is.0))) (λ g _. both (is_free_name n) true g refl))
 parse_follows (at_column n cs) t r h e = column_follows n cs t r e
 parse_follows (at_kind n cs c) t r h e = kind_follows n cs c t r e
+parse_follows (behind_kind n cs c k) t r h e = end_kind_follows n cs c k t r (not_true (is_nullable k) (second_holds (is_free_name n && are_columns [] cs && (is_free_name c && not (is_column_of cs c))) (not (is_nullable k)) h)) e
 parse_follows (behind_column n cs) t r h e = end_column_follows n cs t r (first_holds (is_some_list cs) (are_columns [] cs) (second_holds (is_free_name n) (is_some_list cs && are_columns [] cs) h)) e
 parse_follows (behind_columns n cs) t r h e = end_columns_follows n cs t r e
 parse_follows (in_left n cs ds l) t r h e = left_follows n cs ds l t r e
@@ -261,7 +297,7 @@ spot_end (expr.behind_expr y) x e =
     subst P (same_inside y x e) (refl, λ g. g)
 spot_end expr.at_from x e = cc
 spot_end (expr.at_where o) x e = cc
-spot_end (expr.at_with o) x e = cc
+spot_end (expr.at_with k o) x e = cc
 spot_end expr.at_dropped x e = cc
 spot_end (expr.at_determined c) x e = cc
 spot_end (expr.at_by c) x e = cc
@@ -270,6 +306,10 @@ spot_end (expr.in_keys c ks) x e = cc
 spot_end (expr.at_fill c ks) x e = cc
 spot_end (expr.at_keys_end c ks v) x e = cc
 spot_end (expr.at_drop_from c ks v) x e = cc
+spot_end expr.at_renamed x e = cc
+spot_end (expr.at_to c) x e = cc
+spot_end (expr.at_new_name c) x e = cc
+spot_end (expr.at_rename_from c d) x e = cc
 spot_end (expr.in_where o s) x e = let h = selected_spot o s x e in (sym h.0, h.1)
 
 expr_end : (s : Exprs) (x : Expr) → ended_expr s ≡ Some x → (expr_tokens x ≡ expr.before s) × (is_exprs s ≡ true → is_expr x ≡ true)
@@ -283,6 +323,7 @@ parse_ends at_table w e = cc
 parse_ends (at_open n) w e = cc
 parse_ends (at_column n cs) w e = cc
 parse_ends (at_kind n cs c) w e = cc
+parse_ends (behind_kind n cs c k) w e = cc
 parse_ends (behind_column n cs) w e = cc
 parse_ends (behind_columns n cs) w e =
     let P : Written → Type 0 = λ x. Ends (behind_columns n cs) x in

@@ -4,7 +4,7 @@ use Rattle.std.specs.Prelude.{◌&&◌, max, codes, Option, Some, None, option_a
 use Rattle.std.specs.List.{list_all}
 use Rattle.lens_specs.specs.Names.{Name}
 use Rattle.grammar_specs.specs.Tokens.{Token, word, open_paren, close_paren, comma, is_free_name}
-use Rattle.grammar_specs.specs.Written.{Operand, bare, enclosed, Expr, named, select, drop, join, literal, pred_tokens, operand_tokens, expr_tokens, is_some_list, are_free_names, is_pred, is_operand, is_expr}
+use Rattle.grammar_specs.specs.Written.{Operand, bare, enclosed, Expr, named, select, drop, rename, join, literal, join_word, pred_tokens, operand_tokens, expr_tokens, is_some_list, are_free_names, is_pred, is_operand, is_expr}
 use Rattle.grammar_specs.specs.Nesting.{operand_nesting, expr_nesting, pred_nesting}
 use Rattle.grammar_laws.proofs.Options.{first_holds, second_holds}
 use Rattle.grammar_laws.proofs.WrittenPreds as pred
@@ -13,8 +13,8 @@ use Rattle.grammar_laws.proofs.PredReads as read
 use Rattle.grammar_laws.proofs.PredReads.{ors_of, last_of, pred_read}
 use Rattle.grammar_laws.proofs.PredLevels as pred_level
 use Rattle.grammar_laws.proofs.PredLevels.{pred_levels}
-use Rattle.grammar_laws.proofs.WrittenExprs.{Hole, of_select, of_drop, left_of_join, right_of_join, Spot, at_expr, at_operand, behind_expr, at_from, at_where, at_with, at_dropped, at_determined, at_by, at_keys, in_keys, at_fill, at_keys_end, at_drop_from, in_where, Exprs, exprs, fill, step}
-use Rattle.grammar_laws.proofs.ExprReads.{run, spot_of, close_step, name_step, bare_step, column_step, key_step, comma_step, value_step, keys_read, operand_read, expr_read, where_step}
+use Rattle.grammar_laws.proofs.WrittenExprs.{Hole, of_select, of_drop, of_rename, left_of_join, right_of_join, Spot, at_expr, at_operand, behind_expr, at_from, at_where, at_with, at_dropped, at_determined, at_by, at_keys, in_keys, at_fill, at_keys_end, at_drop_from, at_renamed, at_to, at_new_name, at_rename_from, in_where, Exprs, exprs, fill, step}
+use Rattle.grammar_laws.proofs.ExprReads.{run, spot_of, close_step, name_step, bare_step, column_step, old_name_step, new_name_step, join_step, key_step, comma_step, value_step, keys_read, operand_read, expr_read, where_step}
 
 abbrev pub spot_count : Spot → ℕ
 spot_count at_expr = 0
@@ -22,7 +22,7 @@ spot_count (at_operand h) = 0
 spot_count (behind_expr e) = 0
 spot_count at_from = 0
 spot_count (at_where o) = 0
-spot_count (at_with o) = 0
+spot_count (at_with k o) = 0
 spot_count at_dropped = 0
 spot_count (at_determined c) = 0
 spot_count (at_by c) = 0
@@ -31,6 +31,10 @@ spot_count (in_keys c ks) = 0
 spot_count (at_fill c ks) = 0
 spot_count (at_keys_end c ks v) = 0
 spot_count (at_drop_from c ks v) = 0
+spot_count at_renamed = 0
+spot_count (at_to c) = 0
+spot_count (at_new_name c) = 0
+spot_count (at_rename_from c d) = 0
 spot_count (in_where o s) = pred_level.count s
 
 -- how many stand open
@@ -69,14 +73,16 @@ where_levels qs o s r (t ∷ ts) e =
 fill_count : (h : Hole) (o : Operand) (qs : List Hole) → count (fill h o qs) ≡ length qs
 fill_count of_select o qs = omega arith
 fill_count (of_drop c ks v) o qs = omega arith
-fill_count left_of_join o qs = omega arith
-fill_count (right_of_join l) o qs = omega arith
+fill_count (of_rename c d) o qs = omega arith
+fill_count (left_of_join k) o qs = omega arith
+fill_count (right_of_join k l) o qs = omega arith
 
 spot_small : (e : Expr) → spot_count (spot_of e) ≡ 0
 spot_small (named n) = refl
 spot_small (select o p) = refl
 spot_small (drop c ks v o) = refl
-spot_small (join o q) = refl
+spot_small (rename c d o) = refl
+spot_small (join k o q) = refl
 
 keys_levels : (qs : List Hole) (c : Name) (js ks : List Name) (n : ℕ) → list_all is_free_name ks ≡ true → length qs ≡ n → levels (exprs qs (in_keys c js)) (map word ks) ≡ map (λ _. n) ks
 keys_levels qs c js [] n all e = refl
@@ -121,9 +127,17 @@ mutual
       (level_go (exprs qs (at_keys_end c ks v)) (exprs qs (at_drop_from c ks v)) close_paren (word (codes "from") ∷ operand_tokens o) n (n ∷ operand_nesting n o) refl (omega arith)
       (level_go (exprs qs (at_drop_from c ks v)) (exprs qs (at_operand (of_drop c ks v))) (word (codes "from")) (operand_tokens o) n (operand_nesting n o) refl (omega arith)
       (operand_levels qs (of_drop c ks v) o n (second_holds (is_free_name c && are_free_names ks) (is_operand o) g) e)))) i))))))
-  expr_levels qs (join o q) n g e =
-      level_go (exprs qs at_expr) (exprs qs (at_operand left_of_join)) (word (codes "join_dl")) (operand_tokens o ++ word (codes "with") ∷ operand_tokens q) n _ refl (omega arith)
-      (levels-append (exprs qs (at_operand left_of_join)) (exprs qs (at_with o)) (operand_tokens o) (word (codes "with") ∷ operand_tokens q) (operand_read qs left_of_join o (first_holds (is_operand o) (is_operand q) g))
-      ∙ (λ i. operand_levels qs left_of_join o n (first_holds (is_operand o) (is_operand q) g) e i
-      ++ level_go (exprs qs (at_with o)) (exprs qs (at_operand (right_of_join o))) (word (codes "with")) (operand_tokens q) n (operand_nesting n q) refl (omega arith)
-      (operand_levels qs (right_of_join o) q n (second_holds (is_operand o) (is_operand q) g) e) i))
+  expr_levels qs (rename c d o) n g e =
+      let names = first_holds (is_free_name c && is_free_name d) (is_operand o) g in
+      level_go (exprs qs at_expr) (exprs qs at_renamed) (word (codes "rename")) (word c ∷ word (codes "to") ∷ word d ∷ word (codes "from") ∷ operand_tokens o) n _ refl (omega arith)
+      (level_go (exprs qs at_renamed) (exprs qs (at_to c)) (word c) (word (codes "to") ∷ word d ∷ word (codes "from") ∷ operand_tokens o) n _ (old_name_step qs c (first_holds (is_free_name c) (is_free_name d) names)) (omega arith)
+      (level_go (exprs qs (at_to c)) (exprs qs (at_new_name c)) (word (codes "to")) (word d ∷ word (codes "from") ∷ operand_tokens o) n _ refl (omega arith)
+      (level_go (exprs qs (at_new_name c)) (exprs qs (at_rename_from c d)) (word d) (word (codes "from") ∷ operand_tokens o) n _ (new_name_step qs c d (second_holds (is_free_name c) (is_free_name d) names)) (omega arith)
+      (level_go (exprs qs (at_rename_from c d)) (exprs qs (at_operand (of_rename c d))) (word (codes "from")) (operand_tokens o) n (operand_nesting n o) refl (omega arith)
+      (operand_levels qs (of_rename c d) o n (second_holds (is_free_name c && is_free_name d) (is_operand o) g) e)))))
+  expr_levels qs (join k o q) n g e =
+      level_go (exprs qs at_expr) (exprs qs (at_operand (left_of_join k))) (word (join_word k)) (operand_tokens o ++ word (codes "with") ∷ operand_tokens q) n _ (join_step qs k) (omega arith)
+      (levels-append (exprs qs (at_operand (left_of_join k))) (exprs qs (at_with k o)) (operand_tokens o) (word (codes "with") ∷ operand_tokens q) (operand_read qs (left_of_join k) o (first_holds (is_operand o) (is_operand q) g))
+      ∙ (λ i. operand_levels qs (left_of_join k) o n (first_holds (is_operand o) (is_operand q) g) e i
+      ++ level_go (exprs qs (at_with k o)) (exprs qs (at_operand (right_of_join k o))) (word (codes "with")) (operand_tokens q) n (operand_nesting n q) refl (omega arith)
+      (operand_levels qs (right_of_join k o) q n (second_holds (is_operand o) (is_operand q) g) e) i))

@@ -1,22 +1,24 @@
 -- What spells an expression is read as it, and what was read of one can be read to its end.
-use Rattle.std.proofs.Common.{◌≡◌, true, false, cond, List, [], ◌∷◌, ◌++◌, refl, sym, ap, subst, ◌∙◌, append_assoc, append-nil}
+use Rattle.std.proofs.Common.{◌≡◌, true, cond, List, [], ◌∷◌, ◌++◌, refl, sym, ap, subst, ◌∙◌, append_assoc, append-nil}
 use Rattle.std.specs.Prelude.{◌&&◌, codes, Option, Some, None, option_map, option_and_then, map}
 use Rattle.std.specs.List.{list_all}
 use Rattle.std.proofs.lemmas.List.{map-append}
+use Rattle.lens_values.specs.declared.join_kind.JoinKind.{JoinKind}
+use Rattle.lens_values.specs.declared.join_kind.JoinKind.TheVariants.{DeleteLeft, DeleteRight, DeleteBoth}
 use Rattle.lens_values.specs.declared.value.Value.{Value}
-use Rattle.lens_values.specs.declared.value.Value.TheVariants.{Int, Text, Flag}
+use Rattle.lens_values.specs.declared.value.Value.TheVariants.{Flag}
 use Rattle.lens_specs.specs.Names.{Name}
 use Rattle.grammar_specs.specs.Tokens.{Token, word, open_paren, close_paren, comma, is_free_name}
-use Rattle.grammar_specs.specs.Written.{literally, only, Pred, alone, Operand, bare, enclosed, Expr, named, select, drop, join, literal, pred_tokens, operand_tokens, expr_tokens, is_some_list, are_free_names, is_pred, is_operand, is_expr}
+use Rattle.grammar_specs.specs.Written.{literally, only, Pred, alone, Operand, bare, enclosed, Expr, named, select, drop, rename, join, literal, join_word, pred_tokens, operand_tokens, expr_tokens, is_some_list, are_free_names, is_pred, is_operand, is_expr}
 use Rattle.grammar_laws.specs.Tests.{is_close}
 use Rattle.grammar_laws.proofs.Options.{first_holds, second_holds}
-use Rattle.grammar_laws.proofs.TokenTests.{free_in}
+use Rattle.grammar_laws.proofs.TokenTests.{fill_found, free_in}
 use Rattle.grammar_laws.proofs.WrittenPreds as pred
 use Rattle.grammar_laws.proofs.WrittenPreds.{fresh, at_part, Reading, inside, behind, whole, is_reading}
 use Rattle.grammar_laws.proofs.PredSteps.{both}
 use Rattle.grammar_laws.proofs.PredReads as read
 use Rattle.grammar_laws.proofs.PredReads.{ors_of, last_of, whole_again, pred_read, reading_ends}
-use Rattle.grammar_laws.proofs.WrittenExprs.{Hole, of_select, of_drop, left_of_join, right_of_join, Spot, at_expr, at_operand, behind_expr, at_from, at_where, at_with, at_dropped, at_determined, at_by, at_keys, in_keys, at_fill, at_keys_end, at_drop_from, in_where, Exprs, exprs, fill, close, selected, step, keys_before, hole_before, outer_before, spot_before, before, is_hole, are_holes, is_spot, is_exprs}
+use Rattle.grammar_laws.proofs.WrittenExprs.{Hole, of_select, of_drop, of_rename, left_of_join, right_of_join, Spot, at_expr, at_operand, behind_expr, at_from, at_where, at_with, at_dropped, at_determined, at_by, at_keys, in_keys, at_fill, at_keys_end, at_drop_from, at_renamed, at_to, at_new_name, at_rename_from, in_where, Exprs, exprs, fill, close, selected, step, keys_before, hole_before, outer_before, spot_before, before, is_hole, are_holes, is_spot, is_exprs}
 
 -- the tokens, one after another
 abbrev pub run : Exprs → List Token → Option Exprs
@@ -55,13 +57,15 @@ abbrev pub spot_of : Expr → Spot
 spot_of (named n) = behind_expr (named n)
 spot_of (select o p) = in_where o (behind [] (ors_of p) (last_of p))
 spot_of (drop c ks v o) = behind_expr (drop c ks v o)
-spot_of (join o q) = behind_expr (join o q)
+spot_of (rename c d o) = behind_expr (rename c d o)
+spot_of (join k o q) = behind_expr (join k o q)
 
 pub close_step : (qs : List Hole) (h : Hole) (e : Expr) → step (exprs (h ∷ qs) (spot_of e)) close_paren ≡ Some (fill h (enclosed e) qs)
 close_step qs h (named n) = refl
 close_step qs h (select o p) = ap (λ x. Some (fill h (enclosed (select o x)) qs)) (whole_again p)
 close_step qs h (drop c ks v o) = refl
-close_step qs h (join o q) = refl
+close_step qs h (rename c d o) = refl
+close_step qs h (join k o q) = refl
 
 pub name_step : (qs : List Hole) (n : Name) → is_free_name n ≡ true → step (exprs qs at_expr) (word n) ≡ Some (exprs qs (behind_expr (named n)))
 name_step qs n free = rw (free_in n free) refl
@@ -72,6 +76,17 @@ bare_step qs h n free = rw (free_in n free) refl
 pub column_step : (qs : List Hole) (c : Name) → is_free_name c ≡ true → step (exprs qs at_dropped) (word c) ≡ Some (exprs qs (at_determined c))
 column_step qs c free = rw (free_in c free) refl
 
+pub old_name_step : (qs : List Hole) (c : Name) → is_free_name c ≡ true → step (exprs qs at_renamed) (word c) ≡ Some (exprs qs (at_to c))
+old_name_step qs c free = rw (free_in c free) refl
+
+pub new_name_step : (qs : List Hole) (c d : Name) → is_free_name d ≡ true → step (exprs qs (at_new_name c)) (word d) ≡ Some (exprs qs (at_rename_from c d))
+new_name_step qs c d free = rw (free_in d free) refl
+
+pub join_step : (qs : List Hole) (k : JoinKind) → step (exprs qs at_expr) (word (join_word k)) ≡ Some (exprs qs (at_operand (left_of_join k)))
+join_step qs DeleteLeft = refl
+join_step qs DeleteRight = refl
+join_step qs DeleteBoth = refl
+
 pub key_step : (qs : List Hole) (c : Name) (ks : List Name) (k : Name) → is_free_name k ≡ true → step (exprs qs (in_keys c ks)) (word k) ≡ Some (exprs qs (in_keys c (ks ++ k ∷ [])))
 key_step qs c ks k free = rw (free_in k free) refl
 
@@ -79,10 +94,7 @@ pub comma_step : (qs : List Hole) (c : Name) (ks : List Name) → is_some_list k
 comma_step qs c ks some = rw some refl
 
 pub value_step : (qs : List Hole) (c : Name) (ks : List Name) (v : Value) → step (exprs qs (at_fill c ks)) (literal v) ≡ Some (exprs qs (at_keys_end c ks v))
-value_step qs c ks (Int z) = refl
-value_step qs c ks (Text b) = refl
-value_step qs c ks (Flag true) = refl
-value_step qs c ks (Flag false) = refl
+value_step qs c ks v = ap (option_map (λ w. exprs qs (at_keys_end c ks w))) (fill_found v)
 
 pub keys_read : (qs : List Hole) (c : Name) (js ks : List Name) → list_all is_free_name ks ≡ true → run (exprs qs (in_keys c js)) (map word ks) ≡ Some (exprs qs (in_keys c (js ++ ks)))
 keys_read qs c js [] all = ap (λ x. Some (exprs qs (in_keys c x))) (sym (append-nil js))
@@ -113,10 +125,16 @@ mutual
       (go (exprs qs (in_keys c ks)) (exprs qs (at_fill c ks)) comma (literal v ∷ close_paren ∷ word (codes "from") ∷ operand_tokens o) _ (comma_step qs c ks (first_holds (is_some_list ks) (list_all is_free_name ks) keys))
       (go (exprs qs (at_fill c ks)) (exprs qs (at_keys_end c ks v)) (literal v) (close_paren ∷ word (codes "from") ∷ operand_tokens o) _ (value_step qs c ks v)
       (operand_read qs (of_drop c ks v) o (second_holds (is_free_name c && are_free_names ks) (is_operand o) g)))))
-  expr_read qs (join o q) g =
-      then_run (exprs qs (at_operand left_of_join)) (exprs qs (at_with o)) (Some (exprs qs (behind_expr (join o q)))) (operand_tokens o) (word (codes "with") ∷ operand_tokens q)
-      (operand_read qs left_of_join o (first_holds (is_operand o) (is_operand q) g))
-      (operand_read qs (right_of_join o) q (second_holds (is_operand o) (is_operand q) g))
+  expr_read qs (rename c d o) g =
+      let names = first_holds (is_free_name c && is_free_name d) (is_operand o) g in
+      go (exprs qs at_renamed) (exprs qs (at_to c)) (word c) (word (codes "to") ∷ word d ∷ word (codes "from") ∷ operand_tokens o) _ (old_name_step qs c (first_holds (is_free_name c) (is_free_name d) names))
+      (go (exprs qs (at_new_name c)) (exprs qs (at_rename_from c d)) (word d) (word (codes "from") ∷ operand_tokens o) _ (new_name_step qs c d (second_holds (is_free_name c) (is_free_name d) names))
+      (operand_read qs (of_rename c d) o (second_holds (is_free_name c && is_free_name d) (is_operand o) g)))
+  expr_read qs (join k o q) g =
+      go (exprs qs at_expr) (exprs qs (at_operand (left_of_join k))) (word (join_word k)) (operand_tokens o ++ word (codes "with") ∷ operand_tokens q) _ (join_step qs k)
+      (then_run (exprs qs (at_operand (left_of_join k))) (exprs qs (at_with k o)) (Some (exprs qs (behind_expr (join k o q)))) (operand_tokens o) (word (codes "with") ∷ operand_tokens q)
+      (operand_read qs (left_of_join k) o (first_holds (is_operand o) (is_operand q) g))
+      (operand_read qs (right_of_join k o) q (second_holds (is_operand o) (is_operand q) g)))
 
 -- ---- what was read can be ended
 
@@ -146,14 +164,16 @@ yes = alone (only (literally true))
 hole_expr : Hole → Operand → Expr
 hole_expr of_select o = select o yes
 hole_expr (of_drop c ks v) o = drop c ks v o
-hole_expr left_of_join o = join o (bare some_name)
-hole_expr (right_of_join l) o = join l o
+hole_expr (of_rename c d) o = rename c d o
+hole_expr (left_of_join k) o = join k o (bare some_name)
+hole_expr (right_of_join k l) o = join k l o
 
 hole_more : Hole → List Token
 hole_more of_select = word (codes "where") ∷ word (codes "true") ∷ []
 hole_more (of_drop c ks v) = []
-hole_more left_of_join = word (codes "with") ∷ word some_name ∷ []
-hole_more (right_of_join l) = []
+hole_more (of_rename c d) = []
+hole_more (left_of_join k) = word (codes "with") ∷ word some_name ∷ []
+hole_more (right_of_join k l) = []
 
 hole_spelled : (h : Hole) (o : Operand) → expr_tokens (hole_expr h o) ≡ (hole_before h ++ operand_tokens o) ++ hole_more h
 unfolding hole_expr hole_more yes
@@ -161,15 +181,17 @@ hole_spelled of_select o = refl
 hole_spelled (of_drop c ks v) o =
     ap (λ x. word (codes "drop") ∷ word c ∷ word (codes "determined") ∷ word (codes "by") ∷ open_paren ∷ x) (sym (append_assoc (map word ks) (comma ∷ literal v ∷ close_paren ∷ word (codes "from") ∷ []) (operand_tokens o)))
     ∙ sym (append-nil (hole_before (of_drop c ks v) ++ operand_tokens o))
-hole_spelled left_of_join o = refl
-hole_spelled (right_of_join l) o = simp (append_assoc, append-nil)
+hole_spelled (of_rename c d) o = sym (append-nil (hole_before (of_rename c d) ++ operand_tokens o))
+hole_spelled (left_of_join k) o = refl
+hole_spelled (right_of_join k l) o = simp (append_assoc, append-nil)
 
 hole_good : (h : Hole) (o : Operand) → is_hole h ≡ true → is_operand o ≡ true → is_expr (hole_expr h o) ≡ true
 unfolding hole_expr yes
 hole_good of_select o h g = both (is_operand o) true g refl
 hole_good (of_drop c ks v) o h g = both (is_free_name c && are_free_names ks) (is_operand o) h g
-hole_good left_of_join o h g = both (is_operand o) (is_free_name some_name) g some_name_free
-hole_good (right_of_join l) o h g = both (is_operand l) (is_operand o) h g
+hole_good (of_rename c d) o h g = both (is_free_name c && is_free_name d) (is_operand o) h g
+hole_good (left_of_join k) o h g = both (is_operand o) (is_free_name some_name) g some_name_free
+hole_good (right_of_join k l) o h g = both (is_operand l) (is_operand o) h g
 
 expr_ends : (qs : List Hole) (e : Expr) → are_holes qs ≡ true → is_expr e ≡ true → Opens (outer_before qs ++ expr_tokens e)
 expr_ends [] e outer good = record { expr = e; more = []; good = good; spelled = sym (append-nil (expr_tokens e)) }
@@ -231,8 +253,8 @@ exprs_end (exprs qs spot) h = ends qs spot (second_holds (are_holes qs) (is_spot
     ends qs at_from g outer = hole_ends qs at_from of_select (word (codes "from") ∷ word some_name ∷ []) refl refl outer
     ends qs (at_where o) g outer =
         spot_ends qs (at_where o) (hole_expr of_select o) (hole_more of_select) (hole_spelled of_select o) (hole_good of_select o refl g) outer
-    ends qs (at_with o) g outer =
-        spot_ends qs (at_with o) (hole_expr left_of_join o) (hole_more left_of_join) (hole_spelled left_of_join o) (hole_good left_of_join o refl g) outer
+    ends qs (at_with k o) g outer =
+        spot_ends qs (at_with k o) (hole_expr (left_of_join k) o) (hole_more (left_of_join k)) (hole_spelled (left_of_join k) o) (hole_good (left_of_join k) o refl g) outer
     ends qs at_dropped g outer = drop_ends qs at_dropped some_name (word some_name ∷ word (codes "determined") ∷ word (codes "by") ∷ open_paren ∷ word some_name ∷ comma ∷ literal zero_is ∷ close_paren ∷ word (codes "from") ∷ word some_name ∷ []) refl some_name_free outer
     ends qs (at_determined c) g outer = drop_ends qs (at_determined c) c (word (codes "determined") ∷ word (codes "by") ∷ open_paren ∷ word some_name ∷ comma ∷ literal zero_is ∷ close_paren ∷ word (codes "from") ∷ word some_name ∷ []) refl g outer
     ends qs (at_by c) g outer = drop_ends qs (at_by c) c (word (codes "by") ∷ open_paren ∷ word some_name ∷ comma ∷ literal zero_is ∷ close_paren ∷ word (codes "from") ∷ word some_name ∷ []) refl g outer
@@ -246,4 +268,12 @@ exprs_end (exprs qs spot) h = ends qs spot (second_holds (are_holes qs) (is_spot
         hole_ends qs (at_keys_end c ks v) (of_drop c ks v) (close_paren ∷ word (codes "from") ∷ word some_name ∷ []) (simp append_assoc) g outer
     ends qs (at_drop_from c ks v) g outer =
         hole_ends qs (at_drop_from c ks v) (of_drop c ks v) (word (codes "from") ∷ word some_name ∷ []) (simp append_assoc) g outer
+    ends qs at_renamed g outer =
+        hole_ends qs at_renamed (of_rename some_name some_name) (word some_name ∷ word (codes "to") ∷ word some_name ∷ word (codes "from") ∷ word some_name ∷ []) refl
+        (both (is_free_name some_name) (is_free_name some_name) some_name_free some_name_free) outer
+    ends qs (at_to c) g outer =
+        hole_ends qs (at_to c) (of_rename c some_name) (word (codes "to") ∷ word some_name ∷ word (codes "from") ∷ word some_name ∷ []) refl (both (is_free_name c) (is_free_name some_name) g some_name_free) outer
+    ends qs (at_new_name c) g outer =
+        hole_ends qs (at_new_name c) (of_rename c some_name) (word some_name ∷ word (codes "from") ∷ word some_name ∷ []) refl (both (is_free_name c) (is_free_name some_name) g some_name_free) outer
+    ends qs (at_rename_from c d) g outer = hole_ends qs (at_rename_from c d) (of_rename c d) (word (codes "from") ∷ word some_name ∷ []) refl g outer
     ends qs (in_where o s) g outer = where_ends qs o s (first_holds (is_operand o) (is_reading s) g) (second_holds (is_operand o) (is_reading s) g) outer

@@ -1,18 +1,18 @@
 -- What a step of reading an expression does to the tokens that were read.
 use Rattle.std.proofs.Common.{◌≡◌, ℕ, true, cond, List, [], ◌∷◌, ◌++◌, refl, sym, ap, subst, ◌∙◌, append_assoc, append-nil}
-use Rattle.std.specs.Prelude.{codes, Some, None, option_and_then, map}
+use Rattle.std.specs.Prelude.{◌&&◌, codes, Option, Some, None, option_and_then, map}
 use Rattle.std.specs.List.{list_all}
 use Rattle.std.proofs.lemmas.List.{map-append}
 use Rattle.lens_specs.specs.Names.{Name}
 use Rattle.grammar_specs.specs.Tokens.{Token, word, open_paren, close_paren, comma, is_free_name}
-use Rattle.grammar_specs.specs.Written.{Operand, bare, enclosed, Expr, named, literal, operand_tokens, expr_tokens, is_some_list, are_free_names, is_operand, is_expr}
-use Rattle.grammar_laws.specs.Tests.{is_keyword, name_in, literal_in, is_open, is_close, is_comma}
+use Rattle.grammar_specs.specs.Written.{Operand, bare, enclosed, Expr, named, literal, join_word, operand_tokens, expr_tokens, is_some_list, are_free_names, is_operand, is_expr}
+use Rattle.grammar_laws.specs.Tests.{is_keyword, name_in, fill_in, join_kind_in, is_open, is_close, is_comma}
 use Rattle.grammar_laws.proofs.Options.{bind_then, map_then, cond_then, cond_some, opt_then, same_inside, first_holds, second_holds}
-use Rattle.grammar_laws.proofs.TokenTests.{is_proper, keyword_is, name_is, name_free, literal_is, open_is, close_is, comma_is}
+use Rattle.grammar_laws.proofs.TokenTests.{is_proper, keyword_is, name_is, name_free, fill_is, join_kind_is, open_is, close_is, comma_is}
 use Rattle.grammar_laws.proofs.WrittenPreds as pred
 use Rattle.grammar_laws.proofs.WrittenPreds.{Open, fresh, Place, at_part, Reading, inside, behind, whole, is_reading, whole_tokens}
 use Rattle.grammar_laws.proofs.PredSteps.{both, step_follows}
-use Rattle.grammar_laws.proofs.WrittenExprs.{Hole, of_select, of_drop, left_of_join, right_of_join, Spot, at_expr, at_operand, behind_expr, at_from, at_where, at_with, at_dropped, at_determined, at_by, at_keys, in_keys, at_fill, at_keys_end, at_drop_from, in_where, Exprs, exprs, fill, close, selected, on_word, begin_expr, begin_operand, next_key, next_where, step_spot, step, keys_before, hole_before, outer_before, spot_before, before, is_hole, are_holes, is_spot, is_exprs}
+use Rattle.grammar_laws.proofs.WrittenExprs.{Hole, of_select, of_drop, of_rename, left_of_join, right_of_join, Spot, at_expr, at_operand, behind_expr, at_from, at_where, at_with, at_dropped, at_determined, at_by, at_keys, in_keys, at_fill, at_keys_end, at_drop_from, at_renamed, at_to, at_new_name, at_rename_from, in_where, Exprs, exprs, fill, close, selected, on_word, begin_expr, begin_operand, next_key, next_where, step_spot, step, keys_before, hole_before, outer_before, spot_before, before, is_hole, are_holes, is_spot, is_exprs}
 
 -- the token was read, and names stay free
 pub record Follows (s : Exprs) (t : Token) (r : Exprs) : Type 0 where
@@ -24,14 +24,16 @@ pub record Follows (s : Exprs) (t : Token) (r : Exprs) : Type 0 where
 pub fill_before : (h : Hole) (o : Operand) (qs : List Hole) → before (fill h o qs) ≡ outer_before qs ++ (hole_before h ++ operand_tokens o)
 fill_before of_select o qs = refl
 fill_before (of_drop c ks v) o qs = ap (λ x. outer_before qs ++ (word (codes "drop") ∷ word c ∷ word (codes "determined") ∷ word (codes "by") ∷ open_paren ∷ x)) (sym (append_assoc (map word ks) (comma ∷ literal v ∷ close_paren ∷ word (codes "from") ∷ []) (operand_tokens o)))
-fill_before left_of_join o qs = refl
-fill_before (right_of_join l) o qs = ap (λ x. outer_before qs ++ word (codes "join_dl") ∷ x) (sym (append_assoc (operand_tokens l) (word (codes "with") ∷ []) (operand_tokens o)))
+fill_before (of_rename c d) o qs = refl
+fill_before (left_of_join k) o qs = refl
+fill_before (right_of_join k l) o qs = ap (λ x. outer_before qs ++ word (join_word k) ∷ x) (sym (append_assoc (operand_tokens l) (word (codes "with") ∷ []) (operand_tokens o)))
 
 pub fill_good : (h : Hole) (o : Operand) (qs : List Hole) → is_hole h ≡ true → are_holes qs ≡ true → is_operand o ≡ true → is_exprs (fill h o qs) ≡ true
 fill_good of_select o qs hole outer good = both (are_holes qs) (is_operand o) outer good
 fill_good (of_drop c ks v) o qs hole outer good = rw (outer, first_holds (is_free_name c) (are_free_names ks) hole, second_holds (is_free_name c) (are_free_names ks) hole, good) refl
-fill_good left_of_join o qs hole outer good = both (are_holes qs) (is_operand o) outer good
-fill_good (right_of_join l) o qs hole outer good = rw (outer, hole, good) refl
+fill_good (of_rename c d) o qs hole outer good = both (are_holes qs) (is_free_name c && is_free_name d && is_operand o) outer (both (is_free_name c && is_free_name d) (is_operand o) hole good)
+fill_good (left_of_join k) o qs hole outer good = both (are_holes qs) (is_operand o) outer good
+fill_good (right_of_join k l) o qs hole outer good = rw (outer, hole, good) refl
 
 -- ---- one step
 
@@ -51,16 +53,24 @@ by_word k qs spot next t r e same keeps =
     let P : Exprs → Type 0 = λ x. Follows (exprs qs spot) t x in
     subst P (same_inside _ r is.1) (moved qs spot next t (same ∙ ap (λ x. spot_before spot ++ x ∷ []) (sym (keyword_is k t is.0))) (λ h _. keeps h))
 
+-- by the first word of an expression, or as what is tried behind it
+by_first : (k : List ℕ) (qs : List Hole) (next : Spot) (t : Token) (others : Option Exprs) (r : Exprs) → cond (is_keyword k t) (Some (exprs qs next)) others ≡ Some r → spot_before next ≡ word k ∷ [] → is_spot next ≡ true
+    → (others ≡ Some r → Follows (exprs qs at_expr) t r) → Follows (exprs qs at_expr) t r
+by_first k qs next t others r e same good rest =
+    let P : Exprs → Type 0 = λ x. Follows (exprs qs at_expr) t x in
+    cond_then (is_keyword k t) (Some (exprs qs next)) others r e
+    (λ is h. subst P (same_inside _ r h) (moved qs at_expr next t (same ∙ ap (λ x. x ∷ []) (sym (keyword_is k t is))) (λ _ _. good))) (λ _ h. rest h)
+
 begin_follows : (qs : List Hole) (t : Token) (r : Exprs) → begin_expr qs t ≡ Some r → Follows (exprs qs at_expr) t r
 begin_follows qs t r e =
     let P : Exprs → Type 0 = λ x. Follows (exprs qs at_expr) t x in
     opt_then (name_in t) (λ n. Some (exprs qs (behind_expr (named n)))) _ r e (λ n name h.
     subst P (same_inside _ r h) (moved qs at_expr (behind_expr (named n)) t (ap (λ x. x ∷ []) (sym (name_is t n name))) (λ _ p. name_free t n p name))) (λ e.
-    cond_then (is_keyword (codes "select") t) (Some (exprs qs at_from)) (cond (is_keyword (codes "drop") t) (Some (exprs qs at_dropped)) (cond (is_keyword (codes "join_dl") t) (Some (exprs qs (at_operand left_of_join))) None)) r e
-    (λ is h. subst P (same_inside _ r h) (moved qs at_expr at_from t (ap (λ x. x ∷ []) (sym (keyword_is (codes "select") t is))) (λ _ _. refl)))
-    (λ _ e. cond_then (is_keyword (codes "drop") t) (Some (exprs qs at_dropped)) (cond (is_keyword (codes "join_dl") t) (Some (exprs qs (at_operand left_of_join))) None) r e
-    (λ is h. subst P (same_inside _ r h) (moved qs at_expr at_dropped t (ap (λ x. x ∷ []) (sym (keyword_is (codes "drop") t is))) (λ _ _. refl)))
-    (λ _ e. by_word (codes "join_dl") qs at_expr (at_operand left_of_join) t r e refl (λ _. refl))))
+    by_first (codes "select") qs at_from t _ r e refl refl (λ e.
+    by_first (codes "drop") qs at_dropped t _ r e refl refl (λ e.
+    by_first (codes "rename") qs at_renamed t _ r e refl refl (λ e.
+    map_then (λ k. exprs qs (at_operand (left_of_join k))) (join_kind_in t) r e (λ k is same.
+    subst P same (moved qs at_expr (at_operand (left_of_join k)) t (ap (λ x. x ∷ []) (sym (join_kind_is t k is))) (λ _ _. refl)))))))
 
 -- the operand was read with the token
 filled : (qs : List Hole) (spot : Spot) (h : Hole) (o : Operand) (t : Token) → hole_before h ++ operand_tokens o ≡ spot_before spot ++ t ∷ []
@@ -147,7 +157,7 @@ spot_follows qs (behind_expr x) t r h e = let is = cond_some (is_close t) (close
 spot_follows qs at_from t r h e = by_word (codes "from") qs at_from (at_operand of_select) t r e refl (λ _. refl)
 spot_follows qs (at_where o) t r h e =
     by_word (codes "where") qs (at_where o) (in_where o (inside [] fresh at_part)) t r e refl (λ g. both (is_operand o) true g refl)
-spot_follows qs (at_with o) t r h e = by_word (codes "with") qs (at_with o) (at_operand (right_of_join o)) t r e refl (λ g. g)
+spot_follows qs (at_with k o) t r h e = by_word (codes "with") qs (at_with k o) (at_operand (right_of_join k o)) t r e refl (λ g. g)
 spot_follows qs at_dropped t r h e =
     let P : Exprs → Type 0 = λ x. Follows (exprs qs at_dropped) t x in
     map_then (λ n. exprs qs (at_determined n)) (name_in t) r e (λ n name same.
@@ -162,9 +172,9 @@ spot_follows qs (at_keys c) t r h e =
 spot_follows qs (in_keys c ks) t r h e = key_follows qs c ks t r e
 spot_follows qs (at_fill c ks) t r h e =
     let P : Exprs → Type 0 = λ x. Follows (exprs qs (at_fill c ks)) t x in
-    map_then (λ v. exprs qs (at_keys_end c ks v)) (literal_in t) r e (λ v is same.
+    map_then (λ v. exprs qs (at_keys_end c ks v)) (fill_in t) r e (λ v is same.
     subst P same (moved qs (at_fill c ks) (at_keys_end c ks v) t
-    (ap (λ x. keys_before c ks ++ comma ∷ x ∷ []) (sym (literal_is t v is)) ∙ sym (append_assoc (keys_before c ks) (comma ∷ []) (t ∷ []))) (λ g _. g)))
+    (ap (λ x. keys_before c ks ++ comma ∷ x ∷ []) (sym (fill_is t v is)) ∙ sym (append_assoc (keys_before c ks) (comma ∷ []) (t ∷ []))) (λ g _. g)))
 spot_follows qs (at_keys_end c ks v) t r h e =
     let is = cond_some (is_close t) (Some (exprs qs (at_drop_from c ks v))) r e in
     let P : Exprs → Type 0 = λ x. Follows (exprs qs (at_keys_end c ks v)) t x in
@@ -172,6 +182,17 @@ spot_follows qs (at_keys_end c ks v) t r h e =
     (ap (λ x. keys_before c ks ++ comma ∷ literal v ∷ x ∷ []) (sym (close_is t is.0)) ∙ sym (append_assoc (keys_before c ks) (comma ∷ literal v ∷ []) (t ∷ []))) (λ g _. g))
 spot_follows qs (at_drop_from c ks v) t r h e =
     by_word (codes "from") qs (at_drop_from c ks v) (at_operand (of_drop c ks v)) t r e (sym (append_assoc (keys_before c ks) (comma ∷ literal v ∷ close_paren ∷ []) (word (codes "from") ∷ []))) (λ g. g)
+spot_follows qs at_renamed t r h e =
+    let P : Exprs → Type 0 = λ x. Follows (exprs qs at_renamed) t x in
+    map_then (λ n. exprs qs (at_to n)) (name_in t) r e (λ n name same.
+    subst P same (moved qs at_renamed (at_to n) t (ap (λ x. word (codes "rename") ∷ x ∷ []) (sym (name_is t n name))) (λ _ p. name_free t n p name)))
+spot_follows qs (at_to c) t r h e = by_word (codes "to") qs (at_to c) (at_new_name c) t r e refl (λ g. g)
+spot_follows qs (at_new_name c) t r h e =
+    let P : Exprs → Type 0 = λ x. Follows (exprs qs (at_new_name c)) t x in
+    map_then (λ n. exprs qs (at_rename_from c n)) (name_in t) r e (λ n name same.
+    subst P same (moved qs (at_new_name c) (at_rename_from c n) t
+    (ap (λ x. word (codes "rename") ∷ word c ∷ word (codes "to") ∷ x ∷ []) (sym (name_is t n name))) (λ g p. both (is_free_name c) (is_free_name n) g (name_free t n p name))))
+spot_follows qs (at_rename_from c d) t r h e = by_word (codes "from") qs (at_rename_from c d) (at_operand (of_rename c d)) t r e refl (λ g. g)
 spot_follows qs (in_where o s) t r h e = where_follows qs o s t r (second_holds (is_operand o) (is_reading s) h) e
 
 -- a step reads its token, and names stay free

@@ -1,16 +1,18 @@
 -- How many parentheses and "not"s stand open along a predicate.
 use Rattle.std.proofs.Common.{◌≡◌, ℕ, suc, ◌+◌, true, List, [], ◌∷◌, ◌++◌, refl, sym, ap, ◌∙◌, arith}
-use Rattle.std.specs.Prelude.{max, codes, Option, Some, None, option_and_then, flat_map}
+use Rattle.std.specs.Prelude.{max, not, codes, Option, Some, None, option_and_then, flat_map}
+use Rattle.std.specs.List.{list_all}
+use Rattle.lens_values.specs.Value.{is_null}
 use Rattle.lens_values.specs.declared.value.Value.{Value}
 use Rattle.lens_values.specs.declared.value.Value.TheVariants.{Flag}
 use Rattle.lens_specs.specs.Predicate.{Op}
 use Rattle.lens_specs.specs.Names.{Name}
 use Rattle.grammar_specs.specs.Tokens.{Token, word, open_paren, close_paren, comma, operator, is_free_name}
-use Rattle.grammar_specs.specs.Written.{Part, literally, compares, compares_columns, is_in, negated, grouped, All, only, joined, Pred, alone, either, literal, literals, part_tokens, all_tokens, pred_tokens, is_some_list, is_part, is_all, is_pred}
+use Rattle.grammar_specs.specs.Written.{Part, literally, compares, compares_columns, is_in, tests_null, negated, grouped, All, only, joined, Pred, alone, either, literal, literals, part_tokens, all_tokens, pred_tokens, are_constants, is_part, is_all, is_pred}
 use Rattle.grammar_specs.specs.Nesting.{at_each, part_nesting, all_nesting, pred_nesting}
 use Rattle.grammar_laws.proofs.Options.{first_holds, second_holds}
 use Rattle.grammar_laws.proofs.TokenTests.{free_in}
-use Rattle.grammar_laws.proofs.WrittenPreds.{Open, fresh, at_part, compared, against, in_open, in_value, in_next, Reading, inside, behind, whole, add, with_not, step}
+use Rattle.grammar_laws.proofs.WrittenPreds.{Open, fresh, at_part, compared, against, in_open, in_value, in_next, at_null, Reading, inside, behind, whole, add, with_not, step}
 use Rattle.grammar_laws.proofs.PredReads.{run, value_step, flag_step, op_step, name_step, pred_read, all_read, ors_of, last_of}
 
 -- how many stand open
@@ -43,23 +45,23 @@ levels-append b s r (x ∷ xs) ys e =
           ∙ ap (λ l. l ++ levels b r ys) (sym (level_go b s q x xs (max (b + count s) (b + count q)) (levels b q xs) f refl refl))
     ] refl e
 
-values_levels : (b : ℕ) (qs : List Open) (o : Open) (c : Name) (vs ws : List Value) (n : ℕ) → b + (o.nots + outer_count qs) ≡ n
+values_levels : (b : ℕ) (qs : List Open) (o : Open) (c : Name) (vs ws : List Value) (n : ℕ) → list_all (λ v. not (is_null v)) ws ≡ true → b + (o.nots + outer_count qs) ≡ n
     → levels b (inside qs o (in_next c vs)) (flat_map (λ w. comma ∷ literal w ∷ []) ws ++ close_paren ∷ []) ≡ at_each n (flat_map (λ w. comma ∷ literal w ∷ []) ws ++ close_paren ∷ [])
-values_levels b qs o c vs [] n e = level_go b (inside qs o (in_next c vs)) (add qs o (is_in c vs)) close_paren [] n [] refl (omega arith) refl
-values_levels b qs o c vs (w ∷ ws) n e =
+values_levels b qs o c vs [] n h e = level_go b (inside qs o (in_next c vs)) (add qs o (is_in c vs)) close_paren [] n [] refl (omega arith) refl
+values_levels b qs o c vs (w ∷ ws) n h e =
     level_go b (inside qs o (in_next c vs)) (inside qs o (in_value c vs)) comma (literal w ∷ (flat_map (λ w. comma ∷ literal w ∷ []) ws ++ close_paren ∷ [])) n _ refl (omega arith)
-    (level_go b (inside qs o (in_value c vs)) (inside qs o (in_next c (vs ++ w ∷ []))) (literal w) (flat_map (λ w. comma ∷ literal w ∷ []) ws ++ close_paren ∷ []) n _ (value_step qs o c vs w) (omega arith)
-    (values_levels b qs o c (vs ++ w ∷ []) ws n e))
+    (level_go b (inside qs o (in_value c vs)) (inside qs o (in_next c (vs ++ w ∷ []))) (literal w) (flat_map (λ w. comma ∷ literal w ∷ []) ws ++ close_paren ∷ []) n _ (value_step qs o c vs w (first_holds (not (is_null w)) (list_all (λ v. not (is_null v)) ws) h)) (omega arith)
+    (values_levels b qs o c (vs ++ w ∷ []) ws n (second_holds (not (is_null w)) (list_all (λ v. not (is_null v)) ws) h) e))
 
-in_levels : (b : ℕ) (qs : List Open) (o : Open) (c : Name) (vs : List Value) (n : ℕ) → is_free_name c ≡ true → is_some_list vs ≡ true → b + (o.nots + outer_count qs) ≡ n
+in_levels : (b : ℕ) (qs : List Open) (o : Open) (c : Name) (vs : List Value) (n : ℕ) → is_free_name c ≡ true → are_constants vs ≡ true → b + (o.nots + outer_count qs) ≡ n
     → levels b (inside qs o at_part) (part_tokens (is_in c vs)) ≡ at_each n (part_tokens (is_in c vs))
 in_levels b qs o c [] n free some e = cc
 in_levels b qs o c (v ∷ vs) n free some e =
     level_go b (inside qs o at_part) (inside qs o (compared c)) (word c) (word (codes "in") ∷ open_paren ∷ (literals (v ∷ vs) ++ close_paren ∷ [])) n _ (name_step qs o c free) (omega arith)
     (level_go b (inside qs o (compared c)) (inside qs o (in_open c)) (word (codes "in")) (open_paren ∷ (literals (v ∷ vs) ++ close_paren ∷ [])) n _ refl (omega arith)
     (level_go b (inside qs o (in_open c)) (inside qs o (in_value c [])) open_paren (literals (v ∷ vs) ++ close_paren ∷ []) n _ refl (omega arith)
-    (level_go b (inside qs o (in_value c [])) (inside qs o (in_next c (v ∷ []))) (literal v) (flat_map (λ w. comma ∷ literal w ∷ []) vs ++ close_paren ∷ []) n _ (value_step qs o c [] v) (omega arith)
-    (values_levels b qs o c (v ∷ []) vs n e))))
+    (level_go b (inside qs o (in_value c [])) (inside qs o (in_next c (v ∷ []))) (literal v) (flat_map (λ w. comma ∷ literal w ∷ []) vs ++ close_paren ∷ []) n _ (value_step qs o c [] v (first_holds (not (is_null v)) (list_all (λ v. not (is_null v)) vs) some)) (omega arith)
+    (values_levels b qs o c (v ∷ []) vs n (second_holds (not (is_null v)) (list_all (λ v. not (is_null v)) vs) some) e))))
 
 second_name : (qs : List Open) (o : Open) (c d : Name) (op : Op) → is_free_name d ≡ true → step (inside qs o (against c op)) (word d) ≡ Some (add qs o (compares_columns c op d))
 second_name qs o c d op free = rw (free_in d free) refl
@@ -68,14 +70,18 @@ mutual
   part_levels : (b : ℕ) (qs : List Open) (o : Open) (p : Part) (n : ℕ) → is_part p ≡ true → b + (o.nots + outer_count qs) ≡ n → levels b (inside qs o at_part) (part_tokens p) ≡ part_nesting n p
   part_levels b qs o (literally v) n h e = level_go b (inside qs o at_part) (add qs o (literally v)) (literal (Flag v)) [] n [] (flag_step qs o v) (omega arith) refl
   part_levels b qs o (compares c op v) n h e =
-      level_go b (inside qs o at_part) (inside qs o (compared c)) (word c) (operator op ∷ literal v ∷ []) n _ (name_step qs o c h) (omega arith)
+      level_go b (inside qs o at_part) (inside qs o (compared c)) (word c) (operator op ∷ literal v ∷ []) n _ (name_step qs o c (first_holds (is_free_name c) (not (is_null v)) h)) (omega arith)
       (level_go b (inside qs o (compared c)) (inside qs o (against c op)) (operator op) (literal v ∷ []) n _ refl (omega arith)
-      (level_go b (inside qs o (against c op)) (add qs o (compares c op v)) (literal v) [] n [] (op_step qs o c op v) (omega arith) refl))
+      (level_go b (inside qs o (against c op)) (add qs o (compares c op v)) (literal v) [] n [] (op_step qs o c op v (second_holds (is_free_name c) (not (is_null v)) h)) (omega arith) refl))
   part_levels b qs o (compares_columns c op d) n h e =
       level_go b (inside qs o at_part) (inside qs o (compared c)) (word c) (operator op ∷ word d ∷ []) n _ (name_step qs o c (first_holds (is_free_name c) (is_free_name d) h)) (omega arith)
       (level_go b (inside qs o (compared c)) (inside qs o (against c op)) (operator op) (word d ∷ []) n _ refl (omega arith)
       (level_go b (inside qs o (against c op)) (add qs o (compares_columns c op d)) (word d) [] n [] (second_name qs o c d op (second_holds (is_free_name c) (is_free_name d) h)) (omega arith) refl))
-  part_levels b qs o (is_in c vs) n h e = in_levels b qs o c vs n (first_holds (is_free_name c) (is_some_list vs) h) (second_holds (is_free_name c) (is_some_list vs) h) e
+  part_levels b qs o (is_in c vs) n h e = in_levels b qs o c vs n (first_holds (is_free_name c) (are_constants vs) h) (second_holds (is_free_name c) (are_constants vs) h) e
+  part_levels b qs o (tests_null c) n h e =
+      level_go b (inside qs o at_part) (inside qs o (compared c)) (word c) (word (codes "is") ∷ word (codes "null") ∷ []) n _ (name_step qs o c h) (omega arith)
+      (level_go b (inside qs o (compared c)) (inside qs o (at_null c)) (word (codes "is")) (word (codes "null") ∷ []) n _ refl (omega arith)
+      (level_go b (inside qs o (at_null c)) (add qs o (tests_null c)) (word (codes "null")) [] n [] refl (omega arith) refl))
   part_levels b qs o (negated p) n h e =
       level_go b (inside qs o at_part) (inside qs (with_not o) at_part) (word (codes "not")) (part_tokens p) (suc n) (part_nesting (suc n) p) refl (omega arith)
       (part_levels b qs (with_not o) p (suc n) h (omega arith))

@@ -4,11 +4,11 @@ use Rattle.std.specs.Prelude.{codes, Option, Some, None, option_map}
 use Rattle.lens_specs.specs.Names.{Name}
 use Rattle.lens_specs.specs.Predicate.{Op, Formula}
 use Rattle.grammar_specs.specs.Tokens.{Token}
-use Rattle.grammar_specs.specs.Written.{Part, literally, compares, compares_columns, is_in, negated, grouped, All, Pred}
+use Rattle.grammar_specs.specs.Written.{Part, literally, compares, compares_columns, is_in, tests_null, negated, grouped, All, Pred}
 use Rattle.grammar_specs.specs.Meaning.{part_meaning, all_conjuncts, pred_disjuncts, pred_meaning, conjuncts, disjunction}
 use Rattle.grammar_laws.specs.Tests.{is_keyword, name_in, op_in, flag_in, literal_in, is_open, is_close, is_comma}
 use Rattle.grammar_laws.proofs.WrittenPreds as written
-use Rattle.grammar_laws.proofs.WrittenPreds.{Open, Place, at_part, compared, against, in_open, in_value, in_next, Reading, inside, behind, join, whole}
+use Rattle.grammar_laws.proofs.WrittenPreds.{Open, Place, at_part, compared, against, in_open, in_value, in_next, at_null, Reading, inside, behind, join, whole}
 use Rattle.grammar_laws.specs.PredParse as meant
 use Rattle.grammar_laws.proofs.WrittenDefs.{ended_pred}
 
@@ -30,6 +30,7 @@ place_meaning (against c op) = meant.against c op
 place_meaning (in_open c) = meant.in_open c
 place_meaning (in_value c vs) = meant.in_value c vs
 place_meaning (in_next c vs) = meant.in_next c vs
+place_meaning (at_null c) = meant.at_null c
 
 abbrev pub reading_meaning : Reading → meant.Preds
 reading_meaning (inside qs o place) = meant.inside (map open_meaning qs) (open_meaning o) (place_meaning place)
@@ -78,7 +79,7 @@ begin_meaning qs o t =
     flag_added qs o b = added qs o (literally b)
 
 name_meaning : (qs : List Open) (o : Open) (c : Name) (t : Token) → meant.behind_name (map open_meaning qs) (open_meaning o) c t ≡ option_map reading_meaning (written.behind_name qs o c t)
-name_meaning qs o c t = each_way reading_meaning (op_in t) _ _ _ _ (λ op. refl) (both_ways reading_meaning (is_keyword (codes "in") t) _ _ _ _ refl refl)
+name_meaning qs o c t = each_way reading_meaning (op_in t) _ _ _ _ (λ op. refl) (both_ways reading_meaning (is_keyword (codes "in") t) _ _ _ _ refl (both_ways reading_meaning (is_keyword (codes "is") t) _ _ _ _ refl refl))
 
 op_meaning : (qs : List Open) (o : Open) (c : Name) (op : Op) (t : Token) → meant.behind_op (map open_meaning qs) (open_meaning o) c op t ≡ option_map reading_meaning (written.behind_op qs o c op t)
 op_meaning qs o c op t =
@@ -92,6 +93,7 @@ inside_meaning qs o (against c op) t = op_meaning qs o c op t
 inside_meaning qs o (in_open c) t = both_ways reading_meaning (is_open t) _ _ _ _ refl refl
 inside_meaning qs o (in_value c vs) t = each_way reading_meaning (literal_in t) _ _ _ _ (λ v. refl) refl
 inside_meaning qs o (in_next c vs) t = both_ways reading_meaning (is_comma t) _ _ _ _ refl (both_ways reading_meaning (is_close t) _ _ _ _ (added qs o (is_in c vs)) refl)
+inside_meaning qs o (at_null c) t = both_ways reading_meaning (is_keyword (codes "null") t) _ _ _ _ (added qs o (tests_null c)) refl
 
 close_meaning : (qs : List Open) (ors : Option Pred) (a : All)
     → meant.close (map open_meaning qs) (disjunction (meant.alternatives (ors_meaning ors) (all_conjuncts a))) ≡ option_map reading_meaning (written.close qs (whole ors a))

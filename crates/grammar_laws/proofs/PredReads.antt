@@ -1,16 +1,18 @@
 -- What spells a predicate is read as it, and what was read of one can be read to its end.
 use Rattle.std.proofs.Common.{◌≡◌, Bool, true, false, List, [], ◌∷◌, ◌++◌, refl, sym, ap, subst, ◌∙◌, append_assoc, append-nil}
-use Rattle.std.specs.Prelude.{◌&&◌, codes, Option, Some, None, option_and_then, flat_map}
+use Rattle.std.specs.Prelude.{◌&&◌, not, codes, Option, Some, None, option_and_then, flat_map}
+use Rattle.std.specs.List.{list_all}
+use Rattle.lens_values.specs.Value.{is_null}
 use Rattle.lens_values.specs.declared.value.Value.{Value}
-use Rattle.lens_values.specs.declared.value.Value.TheVariants.{Int, Text, Flag}
+use Rattle.lens_values.specs.declared.value.Value.TheVariants.{Null, Int, Text, Flag}
 use Rattle.lens_specs.specs.Names.{Name}
 use Rattle.lens_specs.specs.Predicate.{Op, eq}
 use Rattle.grammar_specs.specs.Tokens.{Token, word, open_paren, close_paren, comma, operator, is_free_name}
-use Rattle.grammar_specs.specs.Written.{Part, literally, compares, compares_columns, is_in, negated, grouped, All, only, joined, Pred, alone, either, literal, literals, part_tokens, all_tokens, pred_tokens, is_some_list, is_part, is_all, is_pred}
+use Rattle.grammar_specs.specs.Written.{Part, literally, compares, compares_columns, is_in, tests_null, negated, grouped, All, only, joined, Pred, alone, either, literal, literals, part_tokens, all_tokens, pred_tokens, is_some_list, are_constants, is_part, is_all, is_pred}
 use Rattle.grammar_laws.proofs.Options.{first_holds, second_holds}
 use Rattle.grammar_laws.proofs.TokenTests.{free_in}
-use Rattle.grammar_laws.proofs.WrittenPreds.{Open, fresh, Place, at_part, compared, against, in_open, in_value, in_next, Reading, inside, behind, with_nots, join, whole, add, with_not, step, open_before, outer_before, literals_before, place_before, before, is_open_pred, are_open, is_place, is_reading, add_before}
-use Rattle.grammar_laws.proofs.PredSteps.{both, add_good, behind_tokens}
+use Rattle.grammar_laws.proofs.WrittenPreds.{Open, fresh, Place, at_part, compared, against, in_open, in_value, in_next, at_null, Reading, inside, behind, with_nots, join, whole, add, with_not, step, open_before, outer_before, literals_before, place_before, before, is_open_pred, are_open, is_place, is_reading, add_before}
+use Rattle.grammar_laws.proofs.PredSteps.{both, add_good, constants_more, behind_tokens}
 
 -- the tokens, one after another
 abbrev pub run : Reading → List Token → Option Reading
@@ -32,21 +34,23 @@ then_run s r o xs ys e f = run-append s xs ys ∙ ap (option_and_then (λ q. run
 
 -- ---- what is spelled is read
 
-pub value_step : (qs : List Open) (o : Open) (c : Name) (vs : List Value) (w : Value) → step (inside qs o (in_value c vs)) (literal w) ≡ Some (inside qs o (in_next c (vs ++ w ∷ [])))
-value_step qs o c vs (Int z) = refl
-value_step qs o c vs (Text b) = refl
-value_step qs o c vs (Flag true) = refl
-value_step qs o c vs (Flag false) = refl
+pub value_step : (qs : List Open) (o : Open) (c : Name) (vs : List Value) (w : Value) → not (is_null w) ≡ true → step (inside qs o (in_value c vs)) (literal w) ≡ Some (inside qs o (in_next c (vs ++ w ∷ [])))
+value_step qs o c vs Null h = cc
+value_step qs o c vs (Int z) h = refl
+value_step qs o c vs (Text b) h = refl
+value_step qs o c vs (Flag true) h = refl
+value_step qs o c vs (Flag false) h = refl
 
 pub flag_step : (qs : List Open) (o : Open) (b : Bool) → step (inside qs o at_part) (literal (Flag b)) ≡ Some (add qs o (literally b))
 flag_step qs o true = refl
 flag_step qs o false = refl
 
-pub op_step : (qs : List Open) (o : Open) (c : Name) (op : Op) (w : Value) → step (inside qs o (against c op)) (literal w) ≡ Some (add qs o (compares c op w))
-op_step qs o c op (Int z) = refl
-op_step qs o c op (Text b) = refl
-op_step qs o c op (Flag true) = refl
-op_step qs o c op (Flag false) = refl
+pub op_step : (qs : List Open) (o : Open) (c : Name) (op : Op) (w : Value) → not (is_null w) ≡ true → step (inside qs o (against c op)) (literal w) ≡ Some (add qs o (compares c op w))
+op_step qs o c op Null h = cc
+op_step qs o c op (Int z) h = refl
+op_step qs o c op (Text b) h = refl
+op_step qs o c op (Flag true) h = refl
+op_step qs o c op (Flag false) h = refl
 
 pub name_step : (qs : List Open) (o : Open) (c : Name) → is_free_name c ≡ true → step (inside qs o at_part) (word c) ≡ Some (inside qs o (compared c))
 name_step qs o c free = rw (free_in c free) refl
@@ -55,19 +59,19 @@ name_step qs o c free = rw (free_in c free) refl
 go : (s r : Reading) (t : Token) (ts : List Token) (o : Option Reading) → step s t ≡ Some r → run r ts ≡ o → run s (t ∷ ts) ≡ o
 go s r t ts o e f = ap (option_and_then (λ q. run q ts)) e ∙ f
 
-values_read : (qs : List Open) (o : Open) (c : Name) (vs ws : List Value)
+values_read : (qs : List Open) (o : Open) (c : Name) (vs ws : List Value) → list_all (λ v. not (is_null v)) ws ≡ true
     → run (inside qs o (in_next c vs)) (flat_map (λ w. comma ∷ literal w ∷ []) ws ++ close_paren ∷ []) ≡ Some (add qs o (is_in c (vs ++ ws)))
-values_read qs o c vs [] = ap (λ x. Some (add qs o (is_in c x))) (sym (append-nil vs))
-values_read qs o c vs (w ∷ ws) =
-    go (inside qs o (in_value c vs)) (inside qs o (in_next c (vs ++ w ∷ []))) (literal w) (flat_map (λ w. comma ∷ literal w ∷ []) ws ++ close_paren ∷ []) _ (value_step qs o c vs w)
-    (values_read qs o c (vs ++ w ∷ []) ws ∙ ap (λ x. Some (add qs o (is_in c x))) (append_assoc vs (w ∷ []) ws))
+values_read qs o c vs [] h = ap (λ x. Some (add qs o (is_in c x))) (sym (append-nil vs))
+values_read qs o c vs (w ∷ ws) h =
+    go (inside qs o (in_value c vs)) (inside qs o (in_next c (vs ++ w ∷ []))) (literal w) (flat_map (λ w. comma ∷ literal w ∷ []) ws ++ close_paren ∷ []) _ (value_step qs o c vs w (first_holds (not (is_null w)) (list_all (λ v. not (is_null v)) ws) h))
+    (values_read qs o c (vs ++ w ∷ []) ws (second_holds (not (is_null w)) (list_all (λ v. not (is_null v)) ws) h) ∙ ap (λ x. Some (add qs o (is_in c x))) (append_assoc vs (w ∷ []) ws))
 
-in_read : (qs : List Open) (o : Open) (c : Name) (vs : List Value) → is_free_name c ≡ true → is_some_list vs ≡ true → run (inside qs o at_part) (part_tokens (is_in c vs)) ≡ Some (add qs o (is_in c vs))
+in_read : (qs : List Open) (o : Open) (c : Name) (vs : List Value) → is_free_name c ≡ true → are_constants vs ≡ true → run (inside qs o at_part) (part_tokens (is_in c vs)) ≡ Some (add qs o (is_in c vs))
 in_read qs o c [] free some = cc
 in_read qs o c (v ∷ vs) free some =
     go (inside qs o at_part) (inside qs o (compared c)) (word c) (word (codes "in") ∷ open_paren ∷ (literals (v ∷ vs) ++ close_paren ∷ [])) _ (name_step qs o c free)
-    (go (inside qs o (in_value c [])) (inside qs o (in_next c (v ∷ []))) (literal v) (flat_map (λ w. comma ∷ literal w ∷ []) vs ++ close_paren ∷ []) _ (value_step qs o c [] v)
-    (values_read qs o c (v ∷ []) vs))
+    (go (inside qs o (in_value c [])) (inside qs o (in_next c (v ∷ []))) (literal v) (flat_map (λ w. comma ∷ literal w ∷ []) vs ++ close_paren ∷ []) _ (value_step qs o c [] v (first_holds (not (is_null v)) (list_all (λ v. not (is_null v)) vs) some))
+    (values_read qs o c (v ∷ []) vs (second_holds (not (is_null v)) (list_all (λ v. not (is_null v)) vs) some)))
 
 -- what stands before the last "or", and behind it
 abbrev pub ors_of : Pred → Option Pred
@@ -86,11 +90,12 @@ mutual
   part_read : (qs : List Open) (o : Open) (p : Part) → is_part p ≡ true → run (inside qs o at_part) (part_tokens p) ≡ Some (add qs o p)
   part_read qs o (literally b) h = go (inside qs o at_part) (add qs o (literally b)) (literal (Flag b)) [] _ (flag_step qs o b) refl
   part_read qs o (compares c op v) h =
-      go (inside qs o at_part) (inside qs o (compared c)) (word c) (operator op ∷ literal v ∷ []) _ (name_step qs o c h)
-      (go (inside qs o (against c op)) (add qs o (compares c op v)) (literal v) [] _ (op_step qs o c op v) refl)
+      go (inside qs o at_part) (inside qs o (compared c)) (word c) (operator op ∷ literal v ∷ []) _ (name_step qs o c (first_holds (is_free_name c) (not (is_null v)) h))
+      (go (inside qs o (against c op)) (add qs o (compares c op v)) (literal v) [] _ (op_step qs o c op v (second_holds (is_free_name c) (not (is_null v)) h)) refl)
   part_read qs o (compares_columns c op d) h =
       rw (free_in c (first_holds (is_free_name c) (is_free_name d) h), free_in d (second_holds (is_free_name c) (is_free_name d) h)) refl
-  part_read qs o (is_in c vs) h = in_read qs o c vs (first_holds (is_free_name c) (is_some_list vs) h) (second_holds (is_free_name c) (is_some_list vs) h)
+  part_read qs o (is_in c vs) h = in_read qs o c vs (first_holds (is_free_name c) (are_constants vs) h) (second_holds (is_free_name c) (are_constants vs) h)
+  part_read qs o (tests_null c) h = go (inside qs o at_part) (inside qs o (compared c)) (word c) (word (codes "is") ∷ word (codes "null") ∷ []) _ (name_step qs o c h) refl
   part_read qs o (negated p) h = part_read qs (with_not o) p h
   part_read qs o (grouped g) h =
       then_run (inside (o ∷ qs) fresh at_part) (behind (o ∷ qs) (ors_of g) (last_of g)) (Some (add qs o (grouped g))) (pred_tokens g) (close_paren ∷ [])
@@ -166,13 +171,16 @@ some_end (u ∷ vs) v = refl
 place_ends : (qs : List Open) (o : Open) (place : Place) → is_place place ≡ true → are_open qs ≡ true → is_open_pred o ≡ true → Opens (before (inside qs o place))
 unfolding yes
 place_ends qs o at_part h outer here = part_ends qs o at_part (literally true) (literal (Flag true) ∷ []) refl refl outer here
-place_ends qs o (compared c) h outer here = part_ends qs o (compared c) (compares c eq yes) (operator eq ∷ literal yes ∷ []) refl h outer here
-place_ends qs o (against c op) h outer here = part_ends qs o (against c op) (compares c op yes) (literal yes ∷ []) refl h outer here
+place_ends qs o (compared c) h outer here = part_ends qs o (compared c) (compares c eq yes) (operator eq ∷ literal yes ∷ []) refl (both (is_free_name c) true h refl) outer here
+place_ends qs o (against c op) h outer here = part_ends qs o (against c op) (compares c op yes) (literal yes ∷ []) refl (both (is_free_name c) true h refl) outer here
 place_ends qs o (in_open c) h outer here = part_ends qs o (in_open c) (is_in c (yes ∷ [])) (open_paren ∷ literal yes ∷ close_paren ∷ []) refl (both (is_free_name c) true h refl) outer here
 place_ends qs o (in_value c vs) h outer here =
     part_ends qs o (in_value c vs) (is_in c (vs ++ yes ∷ [])) (literal yes ∷ close_paren ∷ [])
-    (ap (λ x. word c ∷ word (codes "in") ∷ open_paren ∷ x) (more_values vs)) (both (is_free_name c) (is_some_list (vs ++ yes ∷ [])) h (some_end vs yes)) outer here
+    (ap (λ x. word c ∷ word (codes "in") ∷ open_paren ∷ x) (more_values vs))
+    (both (is_free_name c) (are_constants (vs ++ yes ∷ [])) (first_holds (is_free_name c) (list_all (λ v. not (is_null v)) vs) h)
+    (both (is_some_list (vs ++ yes ∷ [])) (list_all (λ v. not (is_null v)) (vs ++ yes ∷ [])) (some_end vs yes) (constants_more vs yes (second_holds (is_free_name c) (list_all (λ v. not (is_null v)) vs) h) refl))) outer here
 place_ends qs o (in_next c vs) h outer here = part_ends qs o (in_next c vs) (is_in c vs) (close_paren ∷ []) refl h outer here
+place_ends qs o (at_null c) h outer here = part_ends qs o (at_null c) (tests_null c) (word (codes "null") ∷ []) refl h outer here
 
 -- what was read begins a predicate
 pub reading_ends : (s : Reading) → is_reading s ≡ true → Opens (before s)

@@ -1,15 +1,17 @@
 -- What a step of reading a predicate does to the tokens that were read.
 use Rattle.std.proofs.Common.{◌≡◌, ℕ, zero, suc, Bool, true, cond, List, [], ◌∷◌, ◌++◌, refl, sym, ap, subst, ◌∙◌, append_assoc, append-nil}
-use Rattle.std.specs.Prelude.{◌&&◌, codes, Option, Some, None, flat_map}
+use Rattle.std.specs.Prelude.{◌&&◌, not, codes, Option, Some, None, flat_map}
+use Rattle.std.specs.List.{list_all}
+use Rattle.lens_values.specs.Value.{is_null}
 use Rattle.lens_values.specs.declared.value.Value.{Value}
 use Rattle.lens_specs.specs.Names.{Name}
 use Rattle.lens_specs.specs.Predicate.{Op}
 use Rattle.grammar_specs.specs.Tokens.{Token, word, open_paren, close_paren, comma, operator, is_free_name}
-use Rattle.grammar_specs.specs.Written.{Part, literally, compares, compares_columns, is_in, grouped, All, Pred, literal, literals, part_tokens, pred_tokens, is_some_list, is_part, is_all, is_pred}
+use Rattle.grammar_specs.specs.Written.{Part, literally, compares, compares_columns, is_in, tests_null, grouped, All, Pred, literal, literals, part_tokens, pred_tokens, is_some_list, are_constants, is_part, is_all, is_pred}
 use Rattle.grammar_laws.specs.Tests.{is_keyword, name_in, op_in, flag_in, literal_in, is_open, is_close, is_comma}
 use Rattle.grammar_laws.proofs.Options.{cond_then, cond_some, opt_then, same_inside, first_holds, second_holds}
-use Rattle.grammar_laws.proofs.TokenTests.{is_proper, keyword_is, name_is, name_free, op_is, flag_is, literal_is, open_is, close_is, comma_is}
-use Rattle.grammar_laws.proofs.WrittenPreds.{Open, fresh, Place, at_part, compared, against, in_open, in_value, in_next, Reading, inside, behind, with_nots, join, whole, add, with_not, close, begin_part, behind_name, behind_op, step_behind, step, nots_before, ors_before, ands_before, open_before, outer_before, literals_before, place_before, before, is_open_pred, are_open, is_place, is_reading, add_before, with_nots_part, whole_tokens}
+use Rattle.grammar_laws.proofs.TokenTests.{is_proper, keyword_is, name_is, name_free, op_is, flag_is, literal_is, literal_constant, open_is, close_is, comma_is}
+use Rattle.grammar_laws.proofs.WrittenPreds.{Open, fresh, Place, at_part, compared, against, in_open, in_value, in_next, at_null, Reading, inside, behind, with_nots, join, whole, add, with_not, close, begin_part, behind_name, behind_op, step_behind, step, nots_before, ors_before, ands_before, open_before, outer_before, literals_before, place_before, before, is_open_pred, are_open, is_place, is_reading, add_before, with_nots_part, whole_tokens}
 
 pub flat_map-append : {X A : Type 0} (f : X → List A) (xs ys : List X) → flat_map f (xs ++ ys) ≡ flat_map f xs ++ flat_map f ys
 flat_map-append f [] ys = refl
@@ -110,8 +112,16 @@ name_follows qs o c t r e =
     let P : Reading → Type 0 = λ x. Follows (inside qs o (compared c)) t x in
     opt_then (op_in t) (λ op. Some (inside qs o (against c op))) _ r e (λ op is h.
     subst P (same_inside _ r h) (moved qs o (compared c) (against c op) t (ap (λ x. word c ∷ x ∷ []) (sym (op_is t op is))) (λ free _. free))) (λ e.
-    let is = cond_some (is_keyword (codes "in") t) (Some (inside qs o (in_open c))) r e in
-    subst P (same_inside _ r is.1) (moved qs o (compared c) (in_open c) t (ap (λ x. word c ∷ x ∷ []) (sym (keyword_is (codes "in") t is.0))) (λ free _. free)))
+    cond_then (is_keyword (codes "in") t) (Some (inside qs o (in_open c))) (cond (is_keyword (codes "is") t) (Some (inside qs o (at_null c))) None) r e
+    (λ is h. subst P (same_inside _ r h) (moved qs o (compared c) (in_open c) t (ap (λ x. word c ∷ x ∷ []) (sym (keyword_is (codes "in") t is))) (λ free _. free)))
+    (λ _ e. let is = cond_some (is_keyword (codes "is") t) (Some (inside qs o (at_null c))) r e in
+    subst P (same_inside _ r is.1) (moved qs o (compared c) (at_null c) t (ap (λ x. word c ∷ x ∷ []) (sym (keyword_is (codes "is") t is.0))) (λ free _. free))))
+
+null_follows : (qs : List Open) (o : Open) (c : Name) (t : Token) (r : Reading) → cond (is_keyword (codes "null") t) (Some (add qs o (tests_null c))) None ≡ Some r → Follows (inside qs o (at_null c)) t r
+null_follows qs o c t r e =
+    let P : Reading → Type 0 = λ x. Follows (inside qs o (at_null c)) t x in
+    let is = cond_some (is_keyword (codes "null") t) (Some (add qs o (tests_null c))) r e in
+    subst P (same_inside _ r is.1) (ended qs o (at_null c) (tests_null c) t (ap (λ x. word c ∷ word (codes "is") ∷ x ∷ []) (sym (keyword_is (codes "null") t is.0))) (λ free _. free))
 
 op_follows : (qs : List Open) (o : Open) (c : Name) (op : Op) (t : Token) (r : Reading) → behind_op qs o c op t ≡ Some r → Follows (inside qs o (against c op)) t r
 op_follows qs o c op t r e =
@@ -119,18 +129,24 @@ op_follows qs o c op t r e =
     opt_then (name_in t) (λ d. Some (add qs o (compares_columns c op d))) _ r e (λ d name h.
     subst P (same_inside _ r h) (ended qs o (against c op) (compares_columns c op d) t (ap (λ x. word c ∷ operator op ∷ x ∷ []) (sym (name_is t d name))) (λ free p. both (is_free_name c) (is_free_name d) free (name_free t d p name)))) (λ e.
     opt_then (literal_in t) (λ v. Some (add qs o (compares c op v))) None r e (λ v is h.
-    subst P (same_inside _ r h) (ended qs o (against c op) (compares c op v) t (ap (λ x. word c ∷ operator op ∷ x ∷ []) (sym (literal_is t v is))) (λ free _. free))) (λ e. cc))
+    subst P (same_inside _ r h) (ended qs o (against c op) (compares c op v) t (ap (λ x. word c ∷ operator op ∷ x ∷ []) (sym (literal_is t v is))) (λ free _. both (is_free_name c) (not (is_null v)) free (literal_constant t v is)))) (λ e. cc))
 
 open_values : (qs : List Open) (o : Open) (c : Name) (t : Token) (r : Reading) → cond (is_open t) (Some (inside qs o (in_value c []))) None ≡ Some r → Follows (inside qs o (in_open c)) t r
 open_values qs o c t r e =
     let P : Reading → Type 0 = λ x. Follows (inside qs o (in_open c)) t x in
     let is = cond_some (is_open t) (Some (inside qs o (in_value c []))) r e in
-    subst P (same_inside _ r is.1) (moved qs o (in_open c) (in_value c []) t (ap (λ x. word c ∷ word (codes "in") ∷ x ∷ []) (sym (open_is t is.0))) (λ free _. free))
+    subst P (same_inside _ r is.1) (moved qs o (in_open c) (in_value c []) t (ap (λ x. word c ∷ word (codes "in") ∷ x ∷ []) (sym (open_is t is.0))) (λ free _. both (is_free_name c) true free refl))
 
 literals_more : (vs : List Value) (v : Value) → literals (vs ++ v ∷ []) ≡ literals_before vs ++ literal v ∷ []
 literals_more [] v = refl
 literals_more (u ∷ vs) v =
     ap (λ x. literal u ∷ x) (flat_map-append (λ w. comma ∷ literal w ∷ []) vs (v ∷ []) ∙ sym (append_assoc (flat_map (λ w. comma ∷ literal w ∷ []) vs) (comma ∷ []) (literal v ∷ [])))
+
+pub constants_more : (vs : List Value) (v : Value) → list_all (λ v. not (is_null v)) vs ≡ true → not (is_null v) ≡ true → list_all (λ v. not (is_null v)) (vs ++ v ∷ []) ≡ true
+constants_more [] v h f = rw f refl
+constants_more (u ∷ vs) v h f =
+    both (not (is_null u)) (list_all (λ v. not (is_null v)) (vs ++ v ∷ [])) (first_holds (not (is_null u)) (list_all (λ v. not (is_null v)) vs) h)
+    (constants_more vs v (second_holds (not (is_null u)) (list_all (λ v. not (is_null v)) vs) h) f)
 
 some_more : (vs : List Value) (v : Value) → is_some_list (vs ++ v ∷ []) ≡ true
 some_more [] v = refl
@@ -142,7 +158,9 @@ value_follows qs o c vs t r e =
     opt_then (literal_in t) (λ v. Some (inside qs o (in_next c (vs ++ v ∷ [])))) None r e (λ v is h.
     subst P (same_inside _ r h) (moved qs o (in_value c vs) (in_next c (vs ++ v ∷ [])) t
     (ap (λ x. word c ∷ word (codes "in") ∷ open_paren ∷ x) (literals_more vs v ∙ ap (λ x. literals_before vs ++ x ∷ []) (sym (literal_is t v is))))
-    (λ free _. both (is_free_name c) (is_some_list (vs ++ v ∷ [])) free (some_more vs v)))) (λ e. cc)
+    (λ good _. both (is_free_name c) (are_constants (vs ++ v ∷ [])) (first_holds (is_free_name c) (list_all (λ v. not (is_null v)) vs) good)
+    (both (is_some_list (vs ++ v ∷ [])) (list_all (λ v. not (is_null v)) (vs ++ v ∷ [])) (some_more vs v)
+    (constants_more vs v (second_holds (is_free_name c) (list_all (λ v. not (is_null v)) vs) good) (literal_constant t v is)))))) (λ e. cc)
 
 before_comma : (vs : List Value) → is_some_list vs ≡ true → literals_before vs ≡ literals vs ++ comma ∷ []
 before_comma [] e = cc
@@ -155,14 +173,15 @@ next_follows qs o c vs t r e some =
     cond_then (is_comma t) (Some (inside qs o (in_value c vs))) (cond (is_close t) (Some (add qs o (is_in c vs))) None) r e
     (λ is h. subst P (same_inside _ r h) (moved qs o (in_next c vs) (in_value c vs) t
     (ap (λ x. word c ∷ word (codes "in") ∷ open_paren ∷ x) (before_comma vs some ∙ ap (λ x. literals vs ++ x ∷ []) (sym (comma_is t is))))
-    (λ free _. first_holds (is_free_name c) (is_some_list vs) free)))
+    (λ good _. both (is_free_name c) (list_all (λ v. not (is_null v)) vs) (first_holds (is_free_name c) (are_constants vs) good)
+    (second_holds (is_some_list vs) (list_all (λ v. not (is_null v)) vs) (second_holds (is_free_name c) (are_constants vs) good)))))
     (λ _ e. let is = cond_some (is_close t) (Some (add qs o (is_in c vs))) r e in
     subst P (same_inside _ r is.1) (ended qs o (in_next c vs) (is_in c vs) t
     (ap (λ x. word c ∷ word (codes "in") ∷ open_paren ∷ (literals vs ++ x ∷ [])) (sym (close_is t is.0)))
     (λ free _. free)))
 
 some_values : (qs : List Open) (o : Open) (c : Name) (vs : List Value) → is_reading (inside qs o (in_next c vs)) ≡ true → is_some_list vs ≡ true
-some_values qs o c vs h = second_holds (is_free_name c) (is_some_list vs) (place_of qs o (in_next c vs) h)
+some_values qs o c vs h = first_holds (is_some_list vs) (list_all (λ v. not (is_null v)) vs) (second_holds (is_free_name c) (are_constants vs) (place_of qs o (in_next c vs) h))
 
 -- ---- behind a part
 
@@ -228,4 +247,5 @@ step_follows (inside qs o (against c op)) t r h e = op_follows qs o c op t r e
 step_follows (inside qs o (in_open c)) t r h e = open_values qs o c t r e
 step_follows (inside qs o (in_value c vs)) t r h e = value_follows qs o c vs t r e
 step_follows (inside qs o (in_next c vs)) t r h e = next_follows qs o c vs t r e (some_values qs o c vs h)
+step_follows (inside qs o (at_null c)) t r h e = null_follows qs o c t r e
 step_follows (behind qs ors a) t r h e = behind_follows qs ors a t r e

@@ -10,7 +10,7 @@ use Rattle.lens_specs.specs.Names.{Names}
 use Rattle.lens_specs.specs.Dependencies.{Edge, edge}
 use Rattle.lens_specs.specs.Predicate.{Predicate}
 use Rattle.grammar_specs.specs.Written.{is_some_list}
-use Rattle.grammar_specs.specs.Meaning.{Expr, named, select, drop, join, Definition, table, view, predicate_of, operand_meaning, expr_meaning, dep_meaning, meaning}
+use Rattle.grammar_specs.specs.Meaning.{Expr, named, select, drop, rename, join, Definition, table, view, predicate_of, operand_meaning, expr_meaning, dep_meaning, meaning}
 use Rattle.grammar_specs.specs.Printing.{predicate_written, operand_of, expr_written, dep_written, definition_written}
 use Rattle.grammar_specs.specs.Writable.{is_written_predicate, is_written_expr, is_writable}
 use Rattle.grammar_laws.proofs.PrintPreds.{some_said, condition_said}
@@ -36,16 +36,18 @@ operand_said (select P e) h =
 operand_said (drop A by v e) h =
     let both = and_parts _ _ h in
     λ i. drop A (names_again by i) v (operand_said e both.1 i)
-operand_said (join e f) h =
+operand_said (rename A B e) h = ap (rename A B) (operand_said e (and_parts _ _ h).1)
+operand_said (join k e f) h =
     let both = and_parts _ _ h in
-    λ i. join (operand_said e both.0 i) (operand_said f both.1 i)
+    λ i. join k (operand_said e both.0 i) (operand_said f both.1 i)
 
 -- with parentheses around it or without
 expr_said : (e : Expr) → is_written_expr e ≡ true → expr_meaning (expr_written e) ≡ e
 expr_said (named n) h = refl
 expr_said (select P e) h = operand_said (select P e) h
 expr_said (drop A by v e) h = operand_said (drop A by v e) h
-expr_said (join e f) h = operand_said (join e f) h
+expr_said (rename A B e) h = operand_said (rename A B e) h
+expr_said (join k e f) h = operand_said (join k e f) h
 
 pub definition_said : (d : Definition) → is_writable d ≡ true → meaning (definition_written d) ≡ d
 definition_said (table name U F P) h =

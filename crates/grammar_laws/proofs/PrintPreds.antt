@@ -2,7 +2,7 @@
 use Rattle.std.proofs.Common.{◌≡◌, true, List, [], ◌∷◌, ◌++◌, refl, sym, ap, ◌∙◌, append_assoc, append-nil}
 use Rattle.std.specs.Prelude.{not, ◌&&◌}
 use Rattle.std.proofs.lemmas.Bool.{and_parts, true≢false}
-use Rattle.lens_specs.specs.Predicate.{Formula, truth, falsity, compare, compare_columns, one_of, negation, all_of, any_of, Formulas, no_formulas, formulas, Predicate}
+use Rattle.lens_specs.specs.Predicate.{Formula, truth, falsity, compare, compare_columns, one_of, null_at, negation, all_of, any_of, Formulas, no_formulas, formulas, Predicate}
 use Rattle.grammar_specs.specs.Written.{All, only, joined, Pred, alone, either}
 use Rattle.grammar_specs.specs.Meaning.{part_meaning, all_conjuncts, pred_disjuncts, pred_meaning, predicate_of, condition_meaning, conjuncts, disjuncts, conjunction, disjunction, formulas_of, list_of}
 use Rattle.grammar_specs.specs.Printing.{part_of, all_parts, more_parts, all_of_formula, any_alls, more_alls, pred_of, joined_parts, predicate_written, condition_written}
@@ -17,6 +17,7 @@ one_conjunct falsity h = refl
 one_conjunct (compare c op v) h = refl
 one_conjunct (compare_columns c op d) h = refl
 one_conjunct (one_of c vs) h = refl
+one_conjunct (null_at c) h = refl
 one_conjunct (negation f) h = refl
 one_conjunct (all_of fs) h = absurd (true≢false (sym h))
 one_conjunct (any_of fs) h = refl
@@ -28,6 +29,7 @@ one_disjunct falsity h = refl
 one_disjunct (compare c op v) h = refl
 one_disjunct (compare_columns c op d) h = refl
 one_disjunct (one_of c vs) h = refl
+one_disjunct (null_at c) h = refl
 one_disjunct (negation f) h = refl
 one_disjunct (all_of fs) h = refl
 one_disjunct (any_of fs) h = absurd (true≢false (sym h))
@@ -64,6 +66,7 @@ mutual
   part_said (compare c op v) h = refl
   part_said (compare_columns c op d) h = refl
   part_said (one_of c vs) h = refl
+  part_said (null_at c) h = refl
   part_said (negation f) h = ap negation (part_said f h)
   part_said (all_of fs) h =
       let parts = and_parts _ _ h in
@@ -92,6 +95,7 @@ mutual
   member_said (compare c op v) h = refl
   member_said (compare_columns c op d) h = refl
   member_said (one_of c vs) h = refl
+  member_said (null_at c) h = refl
   member_said (negation f) h = ap negation (part_said f h)
   member_said (all_of fs) h =
       let parts = and_parts _ _ h in
@@ -124,6 +128,7 @@ pred_said falsity h = refl
 pred_said (compare c op v) h = refl
 pred_said (compare_columns c op d) h = refl
 pred_said (one_of c vs) h = refl
+pred_said (null_at c) h = refl
 pred_said (negation f) h = ap negation (part_said f h)
 pred_said (all_of fs) h = part_said (all_of fs) h
 pred_said (any_of fs) h = part_said (any_of fs) h

@@ -6,7 +6,7 @@ use Rattle.std.proofs.lemmas.Bool.{and_parts, and_from}
 use Rattle.std.proofs.lemmas.List.Folds.{list_all-append}
 use Rattle.lens_values.specs.Bytes.{is_name, is_text}
 use Rattle.lens_values.specs.declared.value.Value.{Value}
-use Rattle.lens_values.specs.declared.value.Value.TheVariants.{Int, Text, Flag}
+use Rattle.lens_values.specs.declared.value.Value.TheVariants.{Null, Int, Text, Flag}
 use Rattle.lens_specs.specs.Names.{Name}
 use Rattle.grammar_specs.specs.Tokens.{Token, word, integer, text, open_paren, close_paren, comma, arrow, operator, Spells, is_free_name}
 use Rattle.grammar_specs.specs.Written.{literal, literals}
@@ -59,6 +59,7 @@ each_printable xs ys h = and_parts _ _ (sym (list_all-append is_printable xs ys)
 
 -- a literal can be printed where it can be written
 pub literal_printable : (v : Value) → is_printable (literal v) ≡ is_literal v
+literal_printable Null = refl
 literal_printable (Int (pos n)) = refl
 literal_printable (Int (negsuc n)) = refl
 literal_printable (Text bytes) = refl

@@ -11,7 +11,7 @@ use Rattle.lens_values.specs.SortedSet as set
 use Rattle.lens_values.specs.SortedMap.{keys_of, entries-from_entries}
 use Rattle.lens_specs.specs.Names.{Name, Names}
 use Rattle.grammar_specs.specs.Tokens.{word, comma, close_paren, is_free_name}
-use Rattle.grammar_specs.specs.Written.{Operand, bare, enclosed, Expr, named, select, drop, join, Dep, Written, table, view, literal, pred_tokens, operand_tokens, expr_tokens, columns_tokens, deps_tokens, where_tokens, written_tokens, is_some_list, are_free_names, is_operand, is_expr, are_columns, is_dep, is_definition}
+use Rattle.grammar_specs.specs.Written.{Operand, bare, enclosed, Expr, named, select, drop, rename, join, Dep, Written, table, view, literal, pred_tokens, operand_tokens, expr_tokens, columns_tokens, deps_tokens, where_tokens, written_tokens, is_some_list, are_free_names, is_operand, is_expr, are_columns, is_dep, is_definition}
 use Rattle.grammar_specs.specs.Meaning.{operand_meaning, expr_meaning, dep_meaning, meaning}
 use Rattle.grammar_specs.specs.Writable.{are_free, is_written_expr, is_written_dep, is_writable}
 use Rattle.grammar_laws.proofs.PrintTokens.{are_printable, each_printable, literal_printable}
@@ -95,9 +95,13 @@ mutual
       let behind = each_printable (map word by) (comma ∷ literal v ∷ close_paren ∷ word (codes "from") ∷ operand_tokens o) rest.1 in
       let fill = and_parts _ _ behind.1 in
       and_from _ _ (and_from _ _ (and_from _ _ names.0 (names_free by names.1)) (sym (literal_printable v) ∙ fill.0)) (operand_writable o good.1 fill.1)
-  expr_writable (join o q) h k =
+  expr_writable (rename c d o) h k =
       let good = and_parts _ _ h in
-      let spelled = each_printable (operand_tokens o) (word (codes "with") ∷ operand_tokens q) k in
+      let from_new = and_parts _ _ (and_parts _ _ k).1 in
+      and_from _ _ good.0 (operand_writable o good.1 from_new.1)
+  expr_writable (join kind o q) h k =
+      let good = and_parts _ _ h in
+      let spelled = each_printable (operand_tokens o) (word (codes "with") ∷ operand_tokens q) (and_parts _ _ k).1 in
       and_from _ _ (operand_writable o good.0 spelled.0) (operand_writable q good.1 spelled.1)
 
 -- ---- definitions

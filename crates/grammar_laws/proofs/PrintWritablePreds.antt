@@ -4,9 +4,9 @@ use Rattle.std.specs.Prelude.{◌&&◌, codes, not, Option, Some, None}
 use Rattle.std.specs.List.{list_all}
 use Rattle.std.proofs.lemmas.Bool.{and_parts, and_from, false≢true}
 use Rattle.std.proofs.lemmas.List.Folds.{list_all-append}
-use Rattle.lens_specs.specs.Predicate.{Formula, truth, falsity, compare, compare_columns, one_of, negation, all_of, any_of, Formulas, no_formulas, formulas}
+use Rattle.lens_specs.specs.Predicate.{Formula, truth, falsity, compare, compare_columns, one_of, null_at, negation, all_of, any_of, Formulas, no_formulas, formulas}
 use Rattle.grammar_specs.specs.Tokens.{word, close_paren}
-use Rattle.grammar_specs.specs.Written.{Part, literally, compares, compares_columns, is_in, negated, grouped, All, only, joined, Pred, alone, either, literals, part_tokens, all_tokens, pred_tokens, where_tokens, is_some_list, is_part, is_all, is_pred, is_condition}
+use Rattle.grammar_specs.specs.Written.{Part, literally, compares, compares_columns, is_in, tests_null, negated, grouped, All, only, joined, Pred, alone, either, literals, part_tokens, all_tokens, pred_tokens, where_tokens, is_some_list, is_part, is_all, is_pred, is_condition}
 use Rattle.grammar_specs.specs.Meaning.{part_meaning, all_conjuncts, pred_disjuncts, pred_meaning, predicate_of, condition_meaning, conjuncts, disjuncts, conjunction, disjunction, formulas_of, list_of}
 use Rattle.grammar_specs.specs.Writable.{is_conjunction, is_disjunction, is_written_formula, are_in_all, are_in_any, is_written_predicate}
 use Rattle.grammar_laws.proofs.PrintTokens.{are_printable, each_printable, literal_printable, literals_printable}
@@ -44,6 +44,7 @@ conjuncts_writable falsity h = refl
 conjuncts_writable (compare c op v) h = and_from _ true h refl
 conjuncts_writable (compare_columns c op d) h = and_from _ true h refl
 conjuncts_writable (one_of c vs) h = and_from _ true h refl
+conjuncts_writable (null_at c) h = and_from _ true h refl
 conjuncts_writable (negation f) h = and_from _ true h refl
 conjuncts_writable (all_of fs) h = sym (in_all_again fs) ∙ (and_parts _ _ h).1
 conjuncts_writable (any_of fs) h = and_from _ true h refl
@@ -54,6 +55,7 @@ disjuncts_writable falsity h = refl
 disjuncts_writable (compare c op v) h = and_from _ true h refl
 disjuncts_writable (compare_columns c op d) h = and_from _ true h refl
 disjuncts_writable (one_of c vs) h = and_from _ true h refl
+disjuncts_writable (null_at c) h = and_from _ true h refl
 disjuncts_writable (negation f) h = and_from _ true h refl
 disjuncts_writable (all_of fs) h = and_from _ true h refl
 disjuncts_writable (any_of fs) h = sym (in_any_again fs) ∙ (and_parts _ _ h).1
@@ -82,6 +84,7 @@ mutual
   part_writable (compares_columns c op d) h k = h
   part_writable (is_in c vs) h k =
       and_from _ _ h (sym (literals_printable vs) ∙ (each_printable (literals vs) (close_paren ∷ []) (and_parts _ _ k).1).0)
+  part_writable (tests_null c) h k = h
   part_writable (negated p) h k = part_writable p h k
   part_writable (grouped o) h k = disjunction_writable (pred_disjuncts o) (pred_writable o h (each_printable (pred_tokens o) (close_paren ∷ []) k).0)
 
@@ -108,6 +111,7 @@ some_conjuncts falsity h = refl
 some_conjuncts (compare c op v) h = refl
 some_conjuncts (compare_columns c op d) h = refl
 some_conjuncts (one_of c vs) h = refl
+some_conjuncts (null_at c) h = refl
 some_conjuncts (negation f) h = refl
 some_conjuncts (all_of no_formulas) h = absurd (false≢true h)
 some_conjuncts (all_of (formulas f fs)) h = refl

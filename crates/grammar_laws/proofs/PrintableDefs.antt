@@ -5,9 +5,10 @@ use Rattle.std.specs.FinMap as map_of
 use Rattle.std.specs.List.{list_all}
 use Rattle.std.proofs.lemmas.Bool.{and_parts, and_from}
 use Rattle.std.proofs.lemmas.List.Folds.{list_all-append}
-use Rattle.lens_values.specs.Bytes.{is_name}
 use Rattle.lens_values.specs.SortedSet as set
 use Rattle.lens_values.specs.SortedMap.{keys_of}
+use Rattle.lens_values.specs.declared.join_kind.JoinKind.{JoinKind}
+use Rattle.lens_values.specs.declared.join_kind.JoinKind.TheVariants.{DeleteLeft, DeleteRight, DeleteBoth}
 use Rattle.lens_values.specs.declared.value.Kind.{Kind}
 use Rattle.lens_values.specs.declared.value.Kind.TheVariants as kind
 use Rattle.lens_values.specs.declared.value.Value.{Value}
@@ -17,8 +18,8 @@ use Rattle.lens_specs.specs.Dependencies.{Edge}
 use Rattle.lens_specs.specs.Predicate.{Predicate}
 use Rattle.grammar_specs.specs.Tokens.{Token, word, comma, arrow, close_paren, is_free_name}
 use Rattle.grammar_specs.specs.Written as written
-use Rattle.grammar_specs.specs.Written.{Operand, bare, enclosed, Dep, literal, kind_word, pred_tokens, operand_tokens, expr_tokens, column_tokens, columns_tokens, dep_tokens, deps_tokens, where_tokens, written_tokens, is_some_list, is_operand, is_expr, is_dep, is_condition, is_definition}
-use Rattle.grammar_specs.specs.Meaning.{Expr, named, select, drop, join, Definition, table, view}
+use Rattle.grammar_specs.specs.Written.{Operand, bare, enclosed, Dep, literal, join_word, kind_tokens, pred_tokens, operand_tokens, expr_tokens, column_tokens, columns_tokens, dep_tokens, deps_tokens, where_tokens, written_tokens, is_some_list, is_operand, is_expr, is_dep, is_condition, is_definition}
+use Rattle.grammar_specs.specs.Meaning.{Expr, named, select, drop, rename, join, Definition, table, view}
 use Rattle.grammar_specs.specs.Printing.{predicate_written, operand_of, expr_written, dep_written, condition_written, definition_written}
 use Rattle.grammar_specs.specs.Writable.{is_literal, are_free, is_written_predicate, is_written_expr, is_written_dep, is_writable}
 use Rattle.grammar_laws.proofs.PrintTokens.{is_printable, are_printable, both_printable, literal_printable, free_name, names_printable}
@@ -36,8 +37,22 @@ GoodExpr e = Good (is_expr e) (expr_tokens e)
 good_select : (o : Operand) (p : written.Pred) → GoodOperand o → GoodPred p → GoodExpr (written.select o p)
 good_select o p g h = record { named = and_from _ _ g.named h.named; spelled = both_printable (operand_tokens o) (word (codes "where") ∷ pred_tokens p) g.spelled h.spelled }
 
-good_join : (o q : Operand) → GoodOperand o → GoodOperand q → GoodExpr (written.join o q)
-good_join o q g h = record { named = and_from _ _ g.named h.named; spelled = both_printable (operand_tokens o) (word (codes "with") ∷ operand_tokens q) g.spelled h.spelled }
+join_word_printable : (k : JoinKind) → is_printable (word (join_word k)) ≡ true
+join_word_printable DeleteLeft = refl
+join_word_printable DeleteRight = refl
+join_word_printable DeleteBoth = refl
+
+good_join : (k : JoinKind) (o q : Operand) → GoodOperand o → GoodOperand q → GoodExpr (written.join k o q)
+good_join k o q g h = record {
+  named = and_from _ _ g.named h.named;
+  spelled = and_from _ _ (join_word_printable k) (both_printable (operand_tokens o) (word (codes "with") ∷ operand_tokens q) g.spelled h.spelled);
+}
+
+good_rename : (c d : Name) (o : Operand) → is_free_name c ≡ true → is_free_name d ≡ true → GoodOperand o → GoodExpr (written.rename c d o)
+good_rename c d o free_c free_d g = record {
+  named = and_from _ _ (and_from _ _ free_c free_d) g.named;
+  spelled = and_from _ _ (free_name c free_c) (and_from _ _ (free_name d free_d) g.spelled);
+}
 
 good_drop : (c : Name) (by : Names) (v : Value) (o : Operand) → is_free_name c ≡ true → are_free by ≡ true → is_literal v ≡ true → GoodOperand o → GoodExpr (written.drop c (set.items by) v o)
 good_drop c by v o free_c free_by good_v g = record {
@@ -67,10 +82,16 @@ drop_good A by v e operand h =
     let two = and_parts _ _ three.0 in
     good_drop A by v (operand_of e) two.0 two.1 three.1 (operand all.1)
 
-join_good : (e f : Expr) → GoodWithin e → GoodWithin f → is_written_expr (join e f) ≡ true → GoodExpr (expr_written (join e f))
-join_good e f left right h =
+rename_good : (A B : Name) (e : Expr) → GoodWithin e → is_written_expr (rename A B e) ≡ true → GoodExpr (expr_written (rename A B e))
+rename_good A B e operand h =
+    let all = and_parts _ _ h in
+    let names = and_parts _ _ all.0 in
+    good_rename A B (operand_of e) names.0 names.1 (operand all.1)
+
+join_good : (k : JoinKind) (e f : Expr) → GoodWithin e → GoodWithin f → is_written_expr (join k e f) ≡ true → GoodExpr (expr_written (join k e f))
+join_good k e f left right h =
     let both = and_parts _ _ h in
-    good_join (operand_of e) (operand_of f) (left both.0) (right both.1)
+    good_join k (operand_of e) (operand_of f) (left both.0) (right both.1)
 
 good_name : (n : Name) → is_free_name n ≡ true → Good (is_free_name n) (word n ∷ [])
 good_name n h = record { named = h; spelled = and_from _ true (free_name n h) refl }
@@ -79,13 +100,15 @@ operand_good : (e : Expr) → is_written_expr e ≡ true → GoodOperand (operan
 operand_good (named n) h = good_name n h
 operand_good (select P e) h = good_enclosed (expr_written (select P e)) (select_good P e (operand_good e) h)
 operand_good (drop A by v e) h = good_enclosed (expr_written (drop A by v e)) (drop_good A by v e (operand_good e) h)
-operand_good (join e f) h = good_enclosed (expr_written (join e f)) (join_good e f (operand_good e) (operand_good f) h)
+operand_good (rename A B e) h = good_enclosed (expr_written (rename A B e)) (rename_good A B e (operand_good e) h)
+operand_good (join k e f) h = good_enclosed (expr_written (join k e f)) (join_good k e f (operand_good e) (operand_good f) h)
 
 expr_good : (e : Expr) → is_written_expr e ≡ true → GoodExpr (expr_written e)
 expr_good (named n) h = good_name n h
 expr_good (select P e) h = select_good P e (operand_good e) h
 expr_good (drop A by v e) h = drop_good A by v e (operand_good e) h
-expr_good (join e f) h = join_good e f (operand_good e) (operand_good f) h
+expr_good (rename A B e) h = rename_good A B e (operand_good e) h
+expr_good (join k e f) h = join_good k e f (operand_good e) (operand_good f) h
 
 -- ---- definitions
 
@@ -95,12 +118,15 @@ separated_printable f [] = refl
 separated_printable f (x ∷ xs) = list_all-append is_printable (f x) (flat_map (λ y. comma ∷ f y) xs) ∙ ap (λ b. are_printable (f x) && b) (separated_printable f xs)
 
 kind_printable : (c : Name × Kind) → is_free_name c.0 ≡ true → are_printable (column_tokens c) ≡ true
-kind_printable c h = and_from _ _ (free_name c.0 h) (and_from _ true (kind_name c.1) refl)
+kind_printable c h = and_from _ _ (free_name c.0 h) (kind_spelled c.1)
   where
-    kind_name : (k : Kind) → is_name (kind_word k) ≡ true
-    kind_name kind.Int = refl
-    kind_name kind.Text = refl
-    kind_name kind.Flag = refl
+    kind_spelled : (k : Kind) → are_printable (kind_tokens k) ≡ true
+    kind_spelled kind.Int = refl
+    kind_spelled kind.Text = refl
+    kind_spelled kind.Flag = refl
+    kind_spelled kind.IntOrNull = refl
+    kind_spelled kind.TextOrNull = refl
+    kind_spelled kind.FlagOrNull = refl
 
 each_column : (columns : Cols) → list_all is_free_name (keys_of columns) ≡ true → list_all (λ c. are_printable (column_tokens c)) columns ≡ true
 each_column [] h = refl

@@ -1,14 +1,15 @@
 -- The predicate that is written for a formula is one, and its tokens can be printed.
 use Rattle.std.proofs.Common.{◌≡◌, Bool, true, false, List, [], ◌∷◌, refl, ◌∙◌}
-use Rattle.std.specs.Prelude.{◌&&◌, codes}
+use Rattle.std.specs.Prelude.{◌&&◌, not, codes}
 use Rattle.std.specs.List.{list_all}
 use Rattle.std.proofs.lemmas.Bool.{and_parts, and_from}
+use Rattle.lens_values.specs.Value.{is_null}
 use Rattle.lens_values.specs.declared.value.Value.{Value}
 use Rattle.lens_values.specs.declared.value.Value.TheVariants.{Flag}
 use Rattle.lens_specs.specs.Names.{Name}
-use Rattle.lens_specs.specs.Predicate.{Op, Formula, truth, falsity, compare, compare_columns, one_of, negation, all_of, any_of, Formulas, no_formulas, formulas, Predicate}
+use Rattle.lens_specs.specs.Predicate.{Op, Formula, truth, falsity, compare, compare_columns, one_of, null_at, negation, all_of, any_of, Formulas, no_formulas, formulas, Predicate}
 use Rattle.grammar_specs.specs.Tokens.{Token, word, close_paren, is_free_name}
-use Rattle.grammar_specs.specs.Written.{Part, literally, compares, compares_columns, is_in, negated, grouped, All, only, joined, Pred, alone, either, literals, part_tokens, all_tokens, pred_tokens, is_some_list, is_part, is_all, is_pred}
+use Rattle.grammar_specs.specs.Written.{Part, literally, compares, compares_columns, is_in, tests_null, negated, grouped, All, only, joined, Pred, alone, either, literals, part_tokens, all_tokens, pred_tokens, are_constants, is_part, is_all, is_pred}
 use Rattle.grammar_specs.specs.Printing.{part_of, all_parts, more_parts, all_of_formula, any_alls, more_alls, pred_of, joined_parts, predicate_written}
 use Rattle.grammar_specs.specs.Writable.{is_literal, is_written_formula, are_in_all, are_in_any, is_written_predicate}
 use Rattle.grammar_laws.proofs.PrintTokens.{are_printable, both_printable, literal_printable, literals_printable, free_name}
@@ -32,23 +33,26 @@ GoodPred o = Good (is_pred o) (pred_tokens o)
 good_flag : (b : Bool) → GoodPart (literally b)
 good_flag b = record { named = refl; spelled = and_from _ true (literal_printable (Flag b)) refl }
 
-good_compares : (c : Name) (op : Op) (v : Value) → (is_free_name c && is_literal v) ≡ true → GoodPart (compares c op v)
+good_compares : (c : Name) (op : Op) (v : Value) → (is_free_name c && not (is_null v) && is_literal v) ≡ true → GoodPart (compares c op v)
 good_compares c op v h =
     let both = and_parts _ _ h in
-    record { named = both.0; spelled = and_from _ _ (free_name c both.0) (and_from _ true (literal_printable v ∙ both.1) refl) }
+    record { named = both.0; spelled = and_from _ _ (free_name c (and_parts _ _ both.0).0) (and_from _ true (literal_printable v ∙ both.1) refl) }
 
 good_columns : (c : Name) (op : Op) (d : Name) → (is_free_name c && is_free_name d) ≡ true → GoodPart (compares_columns c op d)
 good_columns c op d h =
     let both = and_parts _ _ h in
     record { named = h; spelled = and_from _ _ (free_name c both.0) (and_from _ true (free_name d both.1) refl) }
 
-good_one_of : (c : Name) (vs : List Value) → (is_free_name c && is_some_list vs && list_all is_literal vs) ≡ true → GoodPart (is_in c vs)
+good_one_of : (c : Name) (vs : List Value) → (is_free_name c && are_constants vs && list_all is_literal vs) ≡ true → GoodPart (is_in c vs)
 good_one_of c vs h =
     let both = and_parts _ _ h in
     record {
       named = both.0;
       spelled = and_from _ _ (free_name c (and_parts _ _ both.0).0) (both_printable (literals vs) (close_paren ∷ []) (literals_printable vs ∙ both.1) refl);
     }
+
+good_tests_null : (c : Name) → is_free_name c ≡ true → GoodPart (tests_null c)
+good_tests_null c h = record { named = h; spelled = and_from _ true (free_name c h) refl }
 
 good_negated : (p : Part) → GoodPart p → GoodPart (negated p)
 good_negated p g = record { named = g.named; spelled = g.spelled }
@@ -77,6 +81,7 @@ mutual
   part_good (compare c op v) h = good_compares c op v h
   part_good (compare_columns c op d) h = good_columns c op d h
   part_good (one_of c vs) h = good_one_of c vs h
+  part_good (null_at c) h = good_tests_null c h
   part_good (negation f) h = good_negated (part_of f) (part_good f h)
   part_good (all_of fs) h = good_grouped (alone (all_parts fs)) (good_alone (all_parts fs) (all_good fs (and_parts _ _ h).1))
   part_good (any_of fs) h = good_grouped (any_alls fs) (any_good fs (and_parts _ _ h).1)
@@ -99,6 +104,7 @@ mutual
   member_good (compare c op v) h = good_only (compares c op v) (good_compares c op v h)
   member_good (compare_columns c op d) h = good_only (compares_columns c op d) (good_columns c op d h)
   member_good (one_of c vs) h = good_only (is_in c vs) (good_one_of c vs h)
+  member_good (null_at c) h = good_only (tests_null c) (good_tests_null c h)
   member_good (negation f) h = good_only (negated (part_of f)) (good_negated (part_of f) (part_good f h))
   member_good (all_of fs) h = all_good fs (and_parts _ _ h).1
   member_good (any_of fs) h = good_only (grouped (any_alls fs)) (good_grouped (any_alls fs) (any_good fs (and_parts _ _ h).1))
@@ -121,6 +127,7 @@ pred_good falsity h = good_alone (only (literally false)) (member_good falsity h
 pred_good (compare c op v) h = good_alone (only (compares c op v)) (member_good (compare c op v) h)
 pred_good (compare_columns c op d) h = good_alone (only (compares_columns c op d)) (member_good (compare_columns c op d) h)
 pred_good (one_of c vs) h = good_alone (only (is_in c vs)) (member_good (one_of c vs) h)
+pred_good (null_at c) h = good_alone (only (tests_null c)) (member_good (null_at c) h)
 pred_good (negation f) h = good_alone (only (negated (part_of f))) (member_good (negation f) h)
 pred_good (all_of fs) h = good_alone (all_parts fs) (member_good (all_of fs) h)
 pred_good (any_of fs) h = any_good fs (and_parts _ _ h).1

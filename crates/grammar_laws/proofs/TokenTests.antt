@@ -2,15 +2,18 @@
 use Rattle.std.proofs.Common.{◌≡◌, ℕ, Bool, true, false, List, refl, ap, subst, ◌∙◌}
 use Rattle.std.specs.Prelude.{not, ◌&&◌, codes, Some, None}
 use Rattle.lens_values.specs.Bytes.{is_name}
+use Rattle.lens_values.specs.Value.{is_null, is_nullable}
+use Rattle.lens_values.specs.declared.join_kind.JoinKind.{JoinKind}
+use Rattle.lens_values.specs.declared.join_kind.JoinKind.TheVariants.{DeleteLeft, DeleteRight, DeleteBoth}
 use Rattle.lens_values.specs.declared.value.Kind.{Kind}
 use Rattle.lens_values.specs.declared.value.Kind.TheVariants as kind
 use Rattle.lens_values.specs.declared.value.Value.{Value}
-use Rattle.lens_values.specs.declared.value.Value.TheVariants.{Int, Text, Flag}
+use Rattle.lens_values.specs.declared.value.Value.TheVariants.{Null, Int, Text, Flag}
 use Rattle.lens_specs.specs.Names.{Name}
 use Rattle.lens_specs.specs.Predicate.{Op, eq, ne, lt, le, gt, ge}
 use Rattle.grammar_specs.specs.Tokens.{Token, word, integer, text, open_paren, close_paren, comma, arrow, operator, is_reserved, is_free_name}
-use Rattle.grammar_specs.specs.Written.{literal, kind_word}
-use Rattle.grammar_laws.specs.Tests.{is_word, is_keyword, name_in, op_in, flag_in, literal_in, kind_in, is_open, is_close, is_comma, is_arrow, is_op, is_equals}
+use Rattle.grammar_specs.specs.Written.{literal, join_word, kind_word}
+use Rattle.grammar_laws.specs.Tests.{is_word, is_keyword, name_in, op_in, flag_in, literal_in, fill_in, kind_in, join_kind_in, is_open, is_close, is_comma, is_arrow, is_op, is_equals}
 use Rattle.grammar_laws.proofs.Options.{same_inside, cond_then, cond_none}
 use Rattle.grammar_laws.proofs.Words.{same_word}
 
@@ -86,6 +89,38 @@ literal_is comma v e = cc
 literal_is arrow v e = cc
 literal_is (operator op) v e = cc
 
+-- a literal is not null
+pub literal_constant : (t : Token) (v : Value) → literal_in t ≡ Some v → not (is_null v) ≡ true
+literal_constant (word w) v e =
+    let P : Value → Type 0 = λ x. not (is_null x) ≡ true in
+    cond_then (is_word w (codes "true")) _ _ v e (λ _ h. subst P (same_inside (Flag true) v h) refl) (λ _ e.
+    cond_then (is_word w (codes "false")) _ _ v e (λ _ h. subst P (same_inside (Flag false) v h) refl) (λ _ h. cc))
+literal_constant (integer z) v e = let P : Value → Type 0 = λ x. not (is_null x) ≡ true in subst P (same_inside (Int z) v e) refl
+literal_constant (text b) v e = let P : Value → Type 0 = λ x. not (is_null x) ≡ true in subst P (same_inside (Text b) v e) refl
+literal_constant open_paren v e = cc
+literal_constant close_paren v e = cc
+literal_constant comma v e = cc
+literal_constant arrow v e = cc
+literal_constant (operator op) v e = cc
+
+pub fill_is : (t : Token) (v : Value) → fill_in t ≡ Some v → t ≡ literal v
+fill_is t v e = cond_then (is_keyword (codes "null") t) (Some Null) (literal_in t) v e (λ is h. keyword_is (codes "null") t is ∙ ap literal (same_inside Null v h)) (λ _ h. literal_is t v h)
+
+-- the word of a kind gives the kind without null
+pub kind_base : (t : Token) (k : Kind) → kind_in t ≡ Some k → is_nullable k ≡ false
+kind_base (word w) k e =
+    let P : Kind → Type 0 = λ x. is_nullable x ≡ false in
+    cond_then (is_word w (codes "int")) _ _ k e (λ _ h. subst P (same_inside kind.Int k h) refl) (λ _ e.
+    cond_then (is_word w (codes "text")) _ _ k e (λ _ h. subst P (same_inside kind.Text k h) refl) (λ _ e.
+    cond_then (is_word w (codes "bool")) _ _ k e (λ _ h. subst P (same_inside kind.Flag k h) refl) (λ _ h. cc)))
+kind_base (integer z) k e = cc
+kind_base (text b) k e = cc
+kind_base open_paren k e = cc
+kind_base close_paren k e = cc
+kind_base comma k e = cc
+kind_base arrow k e = cc
+kind_base (operator op) k e = cc
+
 pub kind_is : (t : Token) (k : Kind) → kind_in t ≡ Some k → t ≡ word (kind_word k)
 kind_is (word w) k e =
     cond_then (is_word w (codes "int")) _ _ k e (λ is h. ap word (same_word w (codes "int") is) ∙ ap (λ x. word (kind_word x)) (same_inside kind.Int k h)) (λ _ e.
@@ -98,6 +133,19 @@ kind_is close_paren k e = cc
 kind_is comma k e = cc
 kind_is arrow k e = cc
 kind_is (operator op) k e = cc
+
+pub join_kind_is : (t : Token) (k : JoinKind) → join_kind_in t ≡ Some k → t ≡ word (join_word k)
+join_kind_is (word w) k e =
+    cond_then (is_word w (codes "join_dl")) _ _ k e (λ is h. ap word (same_word w (codes "join_dl") is) ∙ ap (λ x. word (join_word x)) (same_inside DeleteLeft k h)) (λ _ e.
+    cond_then (is_word w (codes "join_dr")) _ _ k e (λ is h. ap word (same_word w (codes "join_dr") is) ∙ ap (λ x. word (join_word x)) (same_inside DeleteRight k h)) (λ _ e.
+    cond_then (is_word w (codes "join_both")) _ _ k e (λ is h. ap word (same_word w (codes "join_both") is) ∙ ap (λ x. word (join_word x)) (same_inside DeleteBoth k h)) (λ _ h. cc)))
+join_kind_is (integer z) k e = cc
+join_kind_is (text b) k e = cc
+join_kind_is open_paren k e = cc
+join_kind_is close_paren k e = cc
+join_kind_is comma k e = cc
+join_kind_is arrow k e = cc
+join_kind_is (operator op) k e = cc
 
 pub open_is : (t : Token) → is_open t ≡ true → t ≡ open_paren
 open_is (word w) e = cc
@@ -159,7 +207,7 @@ equals_is (operator op) e = ap operator (equal_op op e)
 
 -- ---- the tests of a token that is known
 
-not_true : (b : Bool) → not b ≡ true → b ≡ false
+pub not_true : (b : Bool) → not b ≡ true → b ≡ false
 not_true true e = cc
 not_true false e = refl
 
@@ -170,14 +218,16 @@ second_of false b h = cc
 pub free_in : (n : Name) → is_free_name n ≡ true → name_in (word n) ≡ Some n
 free_in n e = rw (not_true (is_reserved n) (second_of (is_name n) (not (is_reserved n)) e)) refl
 
-pub literal_found : (v : Value) → literal_in (literal v) ≡ Some v
-literal_found (Int z) = refl
-literal_found (Text b) = refl
-literal_found (Flag true) = refl
-literal_found (Flag false) = refl
+pub fill_found : (v : Value) → fill_in (literal v) ≡ Some v
+fill_found Null = refl
+fill_found (Int z) = refl
+fill_found (Text b) = refl
+fill_found (Flag true) = refl
+fill_found (Flag false) = refl
 
 -- a literal is no name
 pub literal_no_name : (v : Value) → name_in (literal v) ≡ None
+literal_no_name Null = refl
 literal_no_name (Int z) = refl
 literal_no_name (Text b) = refl
 literal_no_name (Flag true) = refl

@@ -2,12 +2,13 @@
 use Rattle.std.proofs.Common.{Bool, true, cond, List, [], ◌∷◌, ◌++◌}
 use Rattle.std.specs.Prelude.{◌&&◌, not, codes, Option, Some, None, option_map, option_and_then, map}
 use Rattle.std.specs.List.{list_all}
+use Rattle.lens_values.specs.Value.{is_nullable}
 use Rattle.lens_values.specs.declared.value.Kind.{Kind}
 use Rattle.lens_specs.specs.Names.{Name}
 use Rattle.lens_specs.specs.Predicate.{eq}
 use Rattle.grammar_specs.specs.Tokens.{Token, word, open_paren, close_paren, comma, operator, is_free_name}
 use Rattle.grammar_specs.specs.Written.{Pred, Expr, Dep, Written, table, view, columns_tokens, dep_tokens, deps_tokens, is_some_list, are_free_names, is_column_of, are_columns, is_dep}
-use Rattle.grammar_laws.specs.Tests.{is_keyword, name_in, kind_in, is_open, is_close, is_comma, is_arrow, is_equals}
+use Rattle.grammar_laws.specs.Tests.{is_keyword, name_in, kind_in, with_null, is_open, is_close, is_comma, is_arrow, is_equals}
 use Rattle.grammar_laws.proofs.WrittenPreds as pred
 use Rattle.grammar_laws.proofs.WrittenPreds.{fresh, at_part, Reading, inside, behind, whole, is_reading}
 use Rattle.grammar_laws.proofs.WrittenExprs as expr
@@ -24,6 +25,7 @@ pub data Parse : Type 0 where
   at_open : Name → Parse
   at_column : Name → Cols → Parse
   at_kind : Name → Cols → Name → Parse
+  behind_kind : Name → Cols → Name → Kind → Parse
   behind_column : Name → Cols → Parse
   behind_columns : Name → Cols → Parse
   in_left : Name → Cols → List Dep → List Name → Parse
@@ -49,6 +51,10 @@ next_column n cs t = option_and_then (λ c. cond (is_column_of cs c) None (Some 
 abbrev pub end_column : Name → Cols → Token → Option Parse
 end_column n cs t = cond (is_comma t) (Some (at_column n cs)) (cond (is_close t) (Some (behind_columns n cs)) None)
 
+-- a "null", or what follows the column
+abbrev pub end_kind : Name → Cols → Name → Kind → Token → Option Parse
+end_kind n cs c k t = cond (is_keyword (codes "null") t) (Some (behind_column n (cs ++ (c, with_null k) ∷ []))) (end_column n (cs ++ (c, k) ∷ []) t)
+
 abbrev pub end_columns : Name → Cols → Token → Option Parse
 end_columns n cs t = cond (is_keyword (codes "with") t) (Some (in_left n cs [] [])) (cond (is_keyword (codes "where") t) (Some (in_condition n cs [] begun)) None)
 
@@ -68,7 +74,8 @@ step at_start t = begin t
 step at_table t = option_map at_open (name_in t)
 step (at_open n) t = cond (is_open t) (Some (at_column n [])) None
 step (at_column n cs) t = next_column n cs t
-step (at_kind n cs c) t = option_map (λ k. behind_column n (cs ++ (c, k) ∷ [])) (kind_in t)
+step (at_kind n cs c) t = option_map (behind_kind n cs c) (kind_in t)
+step (behind_kind n cs c k) t = end_kind n cs c k t
 step (behind_column n cs) t = end_column n cs t
 step (behind_columns n cs) t = end_columns n cs t
 step (in_left n cs ds l) t = next_left n cs ds l t
@@ -93,7 +100,7 @@ ended_spot (expr.at_operand h) = None
 ended_spot (expr.behind_expr e) = Some e
 ended_spot expr.at_from = None
 ended_spot (expr.at_where o) = None
-ended_spot (expr.at_with o) = None
+ended_spot (expr.at_with k o) = None
 ended_spot expr.at_dropped = None
 ended_spot (expr.at_determined c) = None
 ended_spot (expr.at_by c) = None
@@ -102,6 +109,10 @@ ended_spot (expr.in_keys c ks) = None
 ended_spot (expr.at_fill c ks) = None
 ended_spot (expr.at_keys_end c ks v) = None
 ended_spot (expr.at_drop_from c ks v) = None
+ended_spot expr.at_renamed = None
+ended_spot (expr.at_to c) = None
+ended_spot (expr.at_new_name c) = None
+ended_spot (expr.at_rename_from c d) = None
 ended_spot (expr.in_where o s) = expr.selected o s
 
 abbrev pub ended_expr : Exprs → Option Expr
@@ -115,6 +126,7 @@ ended at_table = None
 ended (at_open n) = None
 ended (at_column n cs) = None
 ended (at_kind n cs c) = None
+ended (behind_kind n cs c k) = None
 ended (behind_column n cs) = None
 ended (behind_columns n cs) = Some (table n cs [] None)
 ended (in_left n cs ds l) = None
@@ -146,6 +158,7 @@ before at_table = word (codes "table") ∷ []
 before (at_open n) = word (codes "table") ∷ word n ∷ []
 before (at_column n cs) = table_before n ++ columns_before cs
 before (at_kind n cs c) = table_before n ++ (columns_before cs ++ word c ∷ [])
+before (behind_kind n cs c k) = table_before n ++ columns_tokens (cs ++ (c, k) ∷ [])
 before (behind_column n cs) = table_before n ++ columns_tokens cs
 before (behind_columns n cs) = table_before n ++ (columns_tokens cs ++ close_paren ∷ [])
 before (in_left n cs ds l) = table_before n ++ (columns_tokens cs ++ close_paren ∷ (deps_before ds ++ map word l))
@@ -167,6 +180,7 @@ is_parse at_table = true
 is_parse (at_open n) = is_free_name n
 is_parse (at_column n cs) = is_free_name n && are_columns [] cs
 is_parse (at_kind n cs c) = is_free_name n && are_columns [] cs && (is_free_name c && not (is_column_of cs c))
+is_parse (behind_kind n cs c k) = is_free_name n && are_columns [] cs && (is_free_name c && not (is_column_of cs c)) && not (is_nullable k)
 is_parse (behind_column n cs) = is_table n cs
 is_parse (behind_columns n cs) = is_table n cs
 is_parse (in_left n cs ds l) = is_table n cs && list_all is_dep ds && list_all is_free_name l

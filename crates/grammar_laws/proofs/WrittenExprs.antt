@@ -2,11 +2,12 @@
 use Rattle.std.proofs.Common.{ℕ, Bool, true, cond, List, [], ◌∷◌, ◌++◌}
 use Rattle.std.specs.Prelude.{◌&&◌, codes, Option, Some, None, option_map, option_and_then, map}
 use Rattle.std.specs.List.{list_all}
+use Rattle.lens_values.specs.declared.join_kind.JoinKind.{JoinKind}
 use Rattle.lens_values.specs.declared.value.Value.{Value}
 use Rattle.lens_specs.specs.Names.{Name}
 use Rattle.grammar_specs.specs.Tokens.{Token, word, open_paren, close_paren, comma, is_free_name}
-use Rattle.grammar_specs.specs.Written.{Operand, bare, enclosed, Expr, named, select, drop, join, literal, operand_tokens, expr_tokens, is_some_list, are_free_names, is_operand, is_expr}
-use Rattle.grammar_laws.specs.Tests.{is_keyword, name_in, literal_in, is_open, is_close, is_comma}
+use Rattle.grammar_specs.specs.Written.{Operand, bare, enclosed, Expr, named, select, drop, rename, join, literal, join_word, operand_tokens, expr_tokens, is_some_list, are_free_names, is_operand, is_expr}
+use Rattle.grammar_laws.specs.Tests.{is_keyword, name_in, fill_in, join_kind_in, is_open, is_close, is_comma}
 use Rattle.grammar_laws.proofs.WrittenPreds as pred
 use Rattle.grammar_laws.proofs.WrittenPreds.{fresh, at_part, Reading, inside, behind, whole, is_reading}
 
@@ -14,8 +15,9 @@ use Rattle.grammar_laws.proofs.WrittenPreds.{fresh, at_part, Reading, inside, be
 pub data Hole : Type 0 where
   of_select : Hole
   of_drop : Name → List Name → Value → Hole
-  left_of_join : Hole
-  right_of_join : Operand → Hole
+  of_rename : Name → Name → Hole
+  left_of_join : JoinKind → Hole
+  right_of_join : JoinKind → Operand → Hole
 
 -- what was read of the innermost expression
 pub data Spot : Type 0 where
@@ -24,7 +26,7 @@ pub data Spot : Type 0 where
   behind_expr : Expr → Spot
   at_from : Spot
   at_where : Operand → Spot
-  at_with : Operand → Spot
+  at_with : JoinKind → Operand → Spot
   at_dropped : Spot
   at_determined : Name → Spot
   at_by : Name → Spot
@@ -33,6 +35,10 @@ pub data Spot : Type 0 where
   at_fill : Name → List Name → Spot
   at_keys_end : Name → List Name → Value → Spot
   at_drop_from : Name → List Name → Value → Spot
+  at_renamed : Spot
+  at_to : Name → Spot
+  at_new_name : Name → Spot
+  at_rename_from : Name → Name → Spot
   in_where : Operand → Reading → Spot
 
 -- it, and what the operands belong to whose parentheses are open, the innermost first
@@ -45,8 +51,9 @@ pub data Exprs : Type 0 where
 abbrev pub fill : Hole → Operand → List Hole → Exprs
 fill of_select o qs = exprs qs (at_where o)
 fill (of_drop c ks v) o qs = exprs qs (behind_expr (drop c ks v o))
-fill left_of_join o qs = exprs qs (at_with o)
-fill (right_of_join l) o qs = exprs qs (behind_expr (join l o))
+fill (of_rename c d) o qs = exprs qs (behind_expr (rename c d o))
+fill (left_of_join k) o qs = exprs qs (at_with k o)
+fill (right_of_join k l) o qs = exprs qs (behind_expr (join k l o))
 
 -- the innermost parenthesis ends
 abbrev pub close : List Hole → Expr → Option Exprs
@@ -73,7 +80,8 @@ begin_expr qs t =
       | Some n ↦ Some (exprs qs (behind_expr (named n)))
       | None ↦ cond (is_keyword (codes "select") t) (Some (exprs qs at_from))
           (cond (is_keyword (codes "drop") t) (Some (exprs qs at_dropped))
-          (cond (is_keyword (codes "join_dl") t) (Some (exprs qs (at_operand left_of_join))) None))
+          (cond (is_keyword (codes "rename") t) (Some (exprs qs at_renamed))
+          (option_map (λ k. exprs qs (at_operand (left_of_join k))) (join_kind_in t))))
     ]
 
 abbrev pub begin_operand : List Hole → Hole → Token → Option Exprs
@@ -93,15 +101,19 @@ step_spot qs (at_operand h) t = begin_operand qs h t
 step_spot qs (behind_expr e) t = cond (is_close t) (close qs e) None
 step_spot qs at_from t = on_word (codes "from") qs (at_operand of_select) t
 step_spot qs (at_where o) t = on_word (codes "where") qs (in_where o (inside [] fresh at_part)) t
-step_spot qs (at_with o) t = on_word (codes "with") qs (at_operand (right_of_join o)) t
+step_spot qs (at_with k o) t = on_word (codes "with") qs (at_operand (right_of_join k o)) t
 step_spot qs at_dropped t = on_name qs at_determined t
 step_spot qs (at_determined c) t = on_word (codes "determined") qs (at_by c) t
 step_spot qs (at_by c) t = on_word (codes "by") qs (at_keys c) t
 step_spot qs (at_keys c) t = cond (is_open t) (Some (exprs qs (in_keys c []))) None
 step_spot qs (in_keys c ks) t = next_key qs c ks t
-step_spot qs (at_fill c ks) t = option_map (λ v. exprs qs (at_keys_end c ks v)) (literal_in t)
+step_spot qs (at_fill c ks) t = option_map (λ v. exprs qs (at_keys_end c ks v)) (fill_in t)
 step_spot qs (at_keys_end c ks v) t = cond (is_close t) (Some (exprs qs (at_drop_from c ks v))) None
 step_spot qs (at_drop_from c ks v) t = on_word (codes "from") qs (at_operand (of_drop c ks v)) t
+step_spot qs at_renamed t = on_name qs at_to t
+step_spot qs (at_to c) t = on_word (codes "to") qs (at_new_name c) t
+step_spot qs (at_new_name c) t = on_name qs (at_rename_from c) t
+step_spot qs (at_rename_from c d) t = on_word (codes "from") qs (at_operand (of_rename c d)) t
 step_spot qs (in_where o s) t = next_where qs o s t
 
 -- with the next token
@@ -117,8 +129,9 @@ keys_before c ks = word (codes "drop") ∷ word c ∷ word (codes "determined") 
 abbrev pub hole_before : Hole → List Token
 hole_before of_select = word (codes "select") ∷ word (codes "from") ∷ []
 hole_before (of_drop c ks v) = keys_before c ks ++ comma ∷ literal v ∷ close_paren ∷ word (codes "from") ∷ []
-hole_before left_of_join = word (codes "join_dl") ∷ []
-hole_before (right_of_join o) = word (codes "join_dl") ∷ (operand_tokens o ++ word (codes "with") ∷ [])
+hole_before (of_rename c d) = word (codes "rename") ∷ word c ∷ word (codes "to") ∷ word d ∷ word (codes "from") ∷ []
+hole_before (left_of_join k) = word (join_word k) ∷ []
+hole_before (right_of_join k o) = word (join_word k) ∷ (operand_tokens o ++ word (codes "with") ∷ [])
 
 abbrev pub outer_before : List Hole → List Token
 outer_before [] = []
@@ -130,7 +143,7 @@ spot_before (at_operand h) = hole_before h
 spot_before (behind_expr e) = expr_tokens e
 spot_before at_from = word (codes "select") ∷ []
 spot_before (at_where o) = word (codes "select") ∷ word (codes "from") ∷ operand_tokens o
-spot_before (at_with o) = word (codes "join_dl") ∷ operand_tokens o
+spot_before (at_with k o) = word (join_word k) ∷ operand_tokens o
 spot_before at_dropped = word (codes "drop") ∷ []
 spot_before (at_determined c) = word (codes "drop") ∷ word c ∷ []
 spot_before (at_by c) = word (codes "drop") ∷ word c ∷ word (codes "determined") ∷ []
@@ -139,6 +152,10 @@ spot_before (in_keys c ks) = keys_before c ks
 spot_before (at_fill c ks) = keys_before c ks ++ comma ∷ []
 spot_before (at_keys_end c ks v) = keys_before c ks ++ comma ∷ literal v ∷ []
 spot_before (at_drop_from c ks v) = keys_before c ks ++ comma ∷ literal v ∷ close_paren ∷ []
+spot_before at_renamed = word (codes "rename") ∷ []
+spot_before (at_to c) = word (codes "rename") ∷ word c ∷ []
+spot_before (at_new_name c) = word (codes "rename") ∷ word c ∷ word (codes "to") ∷ []
+spot_before (at_rename_from c d) = word (codes "rename") ∷ word c ∷ word (codes "to") ∷ word d ∷ []
 spot_before (in_where o s) = word (codes "select") ∷ word (codes "from") ∷ (operand_tokens o ++ word (codes "where") ∷ pred.before s)
 
 -- the tokens that were read
@@ -150,8 +167,9 @@ before (exprs qs spot) = outer_before qs ++ spot_before spot
 abbrev pub is_hole : Hole → Bool
 is_hole of_select = true
 is_hole (of_drop c ks v) = is_free_name c && are_free_names ks
-is_hole left_of_join = true
-is_hole (right_of_join o) = is_operand o
+is_hole (of_rename c d) = is_free_name c && is_free_name d
+is_hole (left_of_join k) = true
+is_hole (right_of_join k o) = is_operand o
 
 abbrev pub are_holes : List Hole → Bool
 are_holes [] = true
@@ -163,7 +181,7 @@ is_spot (at_operand h) = is_hole h
 is_spot (behind_expr e) = is_expr e
 is_spot at_from = true
 is_spot (at_where o) = is_operand o
-is_spot (at_with o) = is_operand o
+is_spot (at_with k o) = is_operand o
 is_spot at_dropped = true
 is_spot (at_determined c) = is_free_name c
 is_spot (at_by c) = is_free_name c
@@ -172,6 +190,10 @@ is_spot (in_keys c ks) = is_free_name c && list_all is_free_name ks
 is_spot (at_fill c ks) = is_free_name c && are_free_names ks
 is_spot (at_keys_end c ks v) = is_free_name c && are_free_names ks
 is_spot (at_drop_from c ks v) = is_free_name c && are_free_names ks
+is_spot at_renamed = true
+is_spot (at_to c) = is_free_name c
+is_spot (at_new_name c) = is_free_name c
+is_spot (at_rename_from c d) = is_free_name c && is_free_name d
 is_spot (in_where o s) = is_operand o && is_reading s
 
 -- all names that were read are free

@@ -1,7 +1,8 @@
 -- Along a definition as many parentheses and "not"s stand open as its nesting says.
-use Rattle.std.proofs.Common.{◌≡◌, ℕ, true, List, [], ◌∷◌, ◌++◌, refl, sym, ap, ◌∙◌, arith}
+use Rattle.std.proofs.Common.{◌≡◌, ℕ, true, List, [], ◌∷◌, ◌++◌, refl, sym, ap, ◌∙◌, append_assoc, arith}
 use Rattle.std.specs.Prelude.{◌&&◌, max, codes, Option, Some, None, option_and_then, flat_map}
 use Rattle.std.specs.List.{list_all}
+use Rattle.std.proofs.lemmas.List.{map-append}
 use Rattle.lens_specs.specs.Names.{Name}
 use Rattle.lens_specs.specs.Predicate.{eq}
 use Rattle.grammar_specs.specs.Tokens.{Token, word, open_paren, close_paren, comma, operator, is_free_name}
@@ -14,7 +15,7 @@ use Rattle.grammar_laws.proofs.PredLevels.{pred_levels}
 use Rattle.grammar_laws.proofs.WrittenExprs.{exprs, at_expr}
 use Rattle.grammar_laws.proofs.ExprReads.{spot_of, expr_read}
 use Rattle.grammar_laws.proofs.ExprLevels.{expr_levels}
-use Rattle.grammar_laws.proofs.WrittenDefs.{Cols, Parse, at_start, at_table, at_open, at_column, behind_column, behind_columns, in_left, in_right, in_condition, at_view, at_equals, in_view, begun, step}
+use Rattle.grammar_laws.proofs.WrittenDefs.{Cols, Parse, at_start, at_table, at_open, at_column, behind_columns, in_left, in_right, in_condition, at_view, at_equals, in_view, begun, step}
 use Rattle.grammar_laws.proofs.DefReads.{run, go, then_run, all_columns_read, deps_at, dep_read, deps_read, deps_where, table_name, view_name}
 use Rattle.grammar_laws.proofs.DefLevels.{count, is_flat, levels, level_go, flat_levels, condition_levels, view_levels}
 
@@ -66,10 +67,12 @@ written_levels (table n cs ds p) h =
     level_go at_start at_table (word (codes "table")) (word n ∷ open_paren ∷ (columns_tokens cs ++ rest)) 0 _ refl (omega arith)
     (level_go at_table (at_open n) (word n) (open_paren ∷ (columns_tokens cs ++ rest)) 0 _ (table_name n (first_holds (is_free_name n) (is_some_list cs && are_columns [] cs) two)) (omega arith)
     (level_go (at_open n) (at_column n []) open_paren (columns_tokens cs ++ rest) 0 _ refl (omega arith)
-    (flat_then (at_column n []) (behind_column n cs) (columns_tokens cs) rest (0 ∷ (at_each 0 (deps_tokens ds) ++ where_nesting p))
+    (ap (levels (at_column n [])) (sym (append_assoc (columns_tokens cs) (close_paren ∷ []) (deps_tokens ds ++ where_tokens p)))
+    ∙ flat_then (at_column n []) (behind_columns n cs) (columns_tokens cs ++ close_paren ∷ []) (deps_tokens ds ++ where_tokens p) (at_each 0 (deps_tokens ds) ++ where_nesting p)
     (all_columns_read n cs (first_holds (is_some_list cs) (are_columns [] cs) columns) (second_holds (is_some_list cs) (are_columns [] cs) columns)) refl
-    (level_go (behind_column n cs) (behind_columns n cs) close_paren (deps_tokens ds ++ where_tokens p) 0 (at_each 0 (deps_tokens ds) ++ where_nesting p) refl (omega arith)
-    (tail_levels n cs ds p deps condition)))))
+    (tail_levels n cs ds p deps condition)
+    ∙ ap (λ x. x ++ (at_each 0 (deps_tokens ds) ++ where_nesting p)) (map-append (λ _. 0) (columns_tokens cs) (close_paren ∷ []))
+    ∙ append_assoc (at_each 0 (columns_tokens cs)) (0 ∷ []) (at_each 0 (deps_tokens ds) ++ where_nesting p))))
 written_levels (view n e) h =
     level_go at_start at_view (word (codes "view")) (word n ∷ operator eq ∷ expr_tokens e) 0 _ refl (omega arith)
     (level_go at_view (at_equals n) (word n) (operator eq ∷ expr_tokens e) 0 _ (view_name n (first_holds (is_free_name n) (is_expr e) h)) (omega arith)

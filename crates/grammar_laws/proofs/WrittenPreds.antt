@@ -1,11 +1,13 @@
 -- A predicate that is being read, as it is written: what was read of it, and what comes next.
 use Rattle.std.proofs.Common.{◌≡◌, ℕ, zero, suc, Bool, true, cond, List, [], ◌∷◌, ◌++◌, refl, sym, ap, ◌∙◌, append_assoc}
-use Rattle.std.specs.Prelude.{◌&&◌, codes, Option, Some, None}
+use Rattle.std.specs.Prelude.{◌&&◌, not, codes, Option, Some, None}
+use Rattle.std.specs.List.{list_all}
+use Rattle.lens_values.specs.Value.{is_null}
 use Rattle.lens_values.specs.declared.value.Value.{Value}
 use Rattle.lens_specs.specs.Names.{Name}
 use Rattle.lens_specs.specs.Predicate.{Op}
 use Rattle.grammar_specs.specs.Tokens.{Token, word, open_paren, comma, operator, is_free_name}
-use Rattle.grammar_specs.specs.Written.{Part, literally, compares, compares_columns, is_in, negated, grouped, All, only, joined, Pred, alone, either, literals, part_tokens, all_tokens, pred_tokens, is_some_list, is_part, is_all, is_pred}
+use Rattle.grammar_specs.specs.Written.{Part, literally, compares, compares_columns, is_in, tests_null, negated, grouped, All, only, joined, Pred, alone, either, literals, part_tokens, all_tokens, pred_tokens, are_constants, is_part, is_all, is_pred}
 use Rattle.grammar_laws.specs.Tests.{is_keyword, name_in, op_in, flag_in, literal_in, is_open, is_close, is_comma}
 
 -- ---- what is open
@@ -28,6 +30,7 @@ pub data Place : Type 0 where
   in_open : Name → Place
   in_value : Name → List Value → Place
   in_next : Name → List Value → Place
+  at_null : Name → Place
 
 -- within a part, or behind one; with the predicates whose parentheses are open, the innermost first
 pub data Reading : Type 0 where
@@ -77,7 +80,7 @@ begin_part qs o t =
 
 -- behind the name
 abbrev pub behind_name : List Open → Open → Name → Token → Option Reading
-behind_name qs o c t = elim (op_in t) [ Some op ↦ Some (inside qs o (against c op)) | None ↦ cond (is_keyword (codes "in") t) (Some (inside qs o (in_open c))) None ]
+behind_name qs o c t = elim (op_in t) [ Some op ↦ Some (inside qs o (against c op)) | None ↦ cond (is_keyword (codes "in") t) (Some (inside qs o (in_open c))) (cond (is_keyword (codes "is") t) (Some (inside qs o (at_null c))) None) ]
 
 -- behind the sign
 abbrev pub behind_op : List Open → Open → Name → Op → Token → Option Reading
@@ -91,6 +94,7 @@ step_inside qs o (against c op) t = behind_op qs o c op t
 step_inside qs o (in_open c) t = cond (is_open t) (Some (inside qs o (in_value c []))) None
 step_inside qs o (in_value c vs) t = elim (literal_in t) [ Some v ↦ Some (inside qs o (in_next c (vs ++ v ∷ []))) | None ↦ None ]
 step_inside qs o (in_next c vs) t = cond (is_comma t) (Some (inside qs o (in_value c vs))) (cond (is_close t) (Some (add qs o (is_in c vs))) None)
+step_inside qs o (at_null c) t = cond (is_keyword (codes "null") t) (Some (add qs o (tests_null c))) None
 
 -- behind a part
 abbrev pub step_behind : List Open → Option Pred → All → Token → Option Reading
@@ -139,6 +143,7 @@ place_before (against c op) = word c ∷ operator op ∷ []
 place_before (in_open c) = word c ∷ word (codes "in") ∷ []
 place_before (in_value c vs) = word c ∷ word (codes "in") ∷ open_paren ∷ literals_before vs
 place_before (in_next c vs) = word c ∷ word (codes "in") ∷ open_paren ∷ literals vs
+place_before (at_null c) = word c ∷ word (codes "is") ∷ []
 
 -- the tokens that were read
 abbrev pub before : Reading → List Token
@@ -159,10 +164,11 @@ is_place at_part = true
 is_place (compared c) = is_free_name c
 is_place (against c op) = is_free_name c
 is_place (in_open c) = is_free_name c
-is_place (in_value c vs) = is_free_name c
-is_place (in_next c vs) = is_free_name c && is_some_list vs
+is_place (in_value c vs) = is_free_name c && list_all (λ v. not (is_null v)) vs
+is_place (in_next c vs) = is_free_name c && are_constants vs
+is_place (at_null c) = is_free_name c
 
--- all names that were read are free
+-- all names that were read are free, and no value is null
 abbrev pub is_reading : Reading → Bool
 is_reading (inside qs o place) = are_open qs && is_open_pred o && is_place place
 is_reading (behind qs ors a) = are_open qs && is_pred (whole ors a)

@@ -7,7 +7,7 @@ use Rattle.lens_specs.specs.Dependencies.{Edge}
 use Rattle.grammar_specs.specs.Tokens.{Token}
 use Rattle.grammar_specs.specs.Written.{is_some_list, is_column_of}
 use Rattle.grammar_specs.specs.Meaning.{Definition, table, view, conjuncts, dep_meaning}
-use Rattle.grammar_laws.specs.Tests.{is_keyword, name_in, kind_in, is_open, is_close, is_comma, is_arrow, is_equals}
+use Rattle.grammar_laws.specs.Tests.{is_keyword, name_in, kind_in, with_null, is_open, is_close, is_comma, is_arrow, is_equals}
 use Rattle.grammar_laws.specs.PredParse as pred
 use Rattle.grammar_laws.specs.PredParse.{Preds, inside, fresh, at_part}
 use Rattle.grammar_laws.specs.ExprParse as expr
@@ -24,6 +24,7 @@ pub data Parse : Type 0 where
   at_open : Name → Parse
   at_column : Name → Cols → Parse
   at_kind : Name → Cols → Name → Parse
+  behind_kind : Name → Cols → Name → Kind → Parse
   behind_column : Name → Cols → Parse
   behind_columns : Name → Cols → Parse
   in_left : Name → Cols → List Edge → List Name → Parse
@@ -49,6 +50,10 @@ next_column n cs t = option_and_then (λ c. cond (is_column_of cs c) None (Some 
 abbrev pub end_column : Name → Cols → Token → Option Parse
 end_column n cs t = cond (is_comma t) (Some (at_column n cs)) (cond (is_close t) (Some (behind_columns n cs)) None)
 
+-- a "null", or what follows the column
+abbrev pub end_kind : Name → Cols → Name → Kind → Token → Option Parse
+end_kind n cs c k t = cond (is_keyword (codes "null") t) (Some (behind_column n (cs ++ (c, with_null k) ∷ []))) (end_column n (cs ++ (c, k) ∷ []) t)
+
 abbrev pub end_columns : Name → Cols → Token → Option Parse
 end_columns n cs t = cond (is_keyword (codes "with") t) (Some (in_left n cs [] [])) (cond (is_keyword (codes "where") t) (Some (in_condition n cs [] begun)) None)
 
@@ -68,7 +73,8 @@ step at_start t = begin t
 step at_table t = option_map at_open (name_in t)
 step (at_open n) t = cond (is_open t) (Some (at_column n [])) None
 step (at_column n cs) t = next_column n cs t
-step (at_kind n cs c) t = option_map (λ k. behind_column n (cs ++ (c, k) ∷ [])) (kind_in t)
+step (at_kind n cs c) t = option_map (behind_kind n cs c) (kind_in t)
+step (behind_kind n cs c k) t = end_kind n cs c k t
 step (behind_column n cs) t = end_column n cs t
 step (behind_columns n cs) t = end_columns n cs t
 step (in_left n cs ds l) t = next_left n cs ds l t
@@ -87,6 +93,7 @@ ended at_table = None
 ended (at_open n) = None
 ended (at_column n cs) = None
 ended (at_kind n cs c) = None
+ended (behind_kind n cs c k) = None
 ended (behind_column n cs) = None
 ended (behind_columns n cs) = Some (table n (map_of.from_entries cs) [] [])
 ended (in_left n cs ds l) = None
@@ -103,6 +110,7 @@ count at_table = 0
 count (at_open n) = 0
 count (at_column n cs) = 0
 count (at_kind n cs c) = 0
+count (behind_kind n cs c k) = 0
 count (behind_column n cs) = 0
 count (behind_columns n cs) = 0
 count (in_left n cs ds l) = 0

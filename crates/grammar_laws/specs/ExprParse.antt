@@ -1,12 +1,13 @@
 -- The parser of expressions, by meaning: its states, and the step that each token makes.
 use Rattle.std.specs.Prelude.{codes, List, [], ◌∷◌, ◌++◌, Option, Some, None, option_map, option_and_then, length, ℕ, ◌+◌, if◌then◌else◌, cond}
 use Rattle.lens_values.specs.SortedSet as set
+use Rattle.lens_values.specs.declared.join_kind.JoinKind.{JoinKind}
 use Rattle.lens_values.specs.declared.value.Value.{Value}
 use Rattle.lens_specs.specs.Names.{Name}
 use Rattle.grammar_specs.specs.Tokens.{Token}
 use Rattle.grammar_specs.specs.Written.{is_some_list}
-use Rattle.grammar_specs.specs.Meaning.{Expr, named, select, drop, join, conjuncts}
-use Rattle.grammar_laws.specs.Tests.{is_keyword, name_in, literal_in, is_open, is_close, is_comma}
+use Rattle.grammar_specs.specs.Meaning.{Expr, named, select, drop, rename, join, conjuncts}
+use Rattle.grammar_laws.specs.Tests.{is_keyword, name_in, fill_in, join_kind_in, is_open, is_close, is_comma}
 use Rattle.grammar_laws.specs.PredParse as pred
 use Rattle.grammar_laws.specs.PredParse.{Preds, inside, behind, fresh, at_part}
 
@@ -14,8 +15,9 @@ use Rattle.grammar_laws.specs.PredParse.{Preds, inside, behind, fresh, at_part}
 pub data Hole : Type 0 where
   of_select : Hole
   of_drop : Name → List Name → Value → Hole
-  left_of_join : Hole
-  right_of_join : Expr → Hole
+  of_rename : Name → Name → Hole
+  left_of_join : JoinKind → Hole
+  right_of_join : JoinKind → Expr → Hole
 
 -- what was read of the innermost expression
 pub data Spot : Type 0 where
@@ -24,7 +26,7 @@ pub data Spot : Type 0 where
   behind_expr : Expr → Spot
   at_from : Spot
   at_where : Expr → Spot
-  at_with : Expr → Spot
+  at_with : JoinKind → Expr → Spot
   at_dropped : Spot
   at_determined : Name → Spot
   at_by : Name → Spot
@@ -33,6 +35,10 @@ pub data Spot : Type 0 where
   at_fill : Name → List Name → Spot
   at_keys_end : Name → List Name → Value → Spot
   at_drop_from : Name → List Name → Value → Spot
+  at_renamed : Spot
+  at_to : Name → Spot
+  at_new_name : Name → Spot
+  at_rename_from : Name → Name → Spot
   in_where : Expr → Preds → Spot
 
 -- it, and what the operands belong to whose parentheses are open, the innermost first
@@ -45,8 +51,9 @@ pub data Exprs : Type 0 where
 abbrev pub fill : Hole → Expr → List Hole → Exprs
 fill of_select o qs = exprs qs (at_where o)
 fill (of_drop c ks v) o qs = exprs qs (behind_expr (drop c (set.from_list ks) v o))
-fill left_of_join o qs = exprs qs (at_with o)
-fill (right_of_join l) o qs = exprs qs (behind_expr (join l o))
+fill (of_rename c d) o qs = exprs qs (behind_expr (rename c d o))
+fill (left_of_join k) o qs = exprs qs (at_with k o)
+fill (right_of_join k l) o qs = exprs qs (behind_expr (join k l o))
 
 -- the innermost parenthesis ends
 abbrev pub close : List Hole → Expr → Option Exprs
@@ -71,7 +78,8 @@ begin_expr qs t =
       | Some n ↦ Some (exprs qs (behind_expr (named n)))
       | None ↦ cond (is_keyword (codes "select") t) (Some (exprs qs at_from))
           (cond (is_keyword (codes "drop") t) (Some (exprs qs at_dropped))
-          (cond (is_keyword (codes "join_dl") t) (Some (exprs qs (at_operand left_of_join))) None))
+          (cond (is_keyword (codes "rename") t) (Some (exprs qs at_renamed))
+          (option_map (λ k. exprs qs (at_operand (left_of_join k))) (join_kind_in t))))
     ]
 
 abbrev pub begin_operand : List Hole → Hole → Token → Option Exprs
@@ -91,15 +99,19 @@ step_spot qs (at_operand h) t = begin_operand qs h t
 step_spot qs (behind_expr e) t = cond (is_close t) (close qs e) None
 step_spot qs at_from t = on_word (codes "from") qs (at_operand of_select) t
 step_spot qs (at_where o) t = on_word (codes "where") qs (in_where o (inside [] fresh at_part)) t
-step_spot qs (at_with o) t = on_word (codes "with") qs (at_operand (right_of_join o)) t
+step_spot qs (at_with k o) t = on_word (codes "with") qs (at_operand (right_of_join k o)) t
 step_spot qs at_dropped t = on_name qs at_determined t
 step_spot qs (at_determined c) t = on_word (codes "determined") qs (at_by c) t
 step_spot qs (at_by c) t = on_word (codes "by") qs (at_keys c) t
 step_spot qs (at_keys c) t = cond (is_open t) (Some (exprs qs (in_keys c []))) None
 step_spot qs (in_keys c ks) t = next_key qs c ks t
-step_spot qs (at_fill c ks) t = option_map (λ v. exprs qs (at_keys_end c ks v)) (literal_in t)
+step_spot qs (at_fill c ks) t = option_map (λ v. exprs qs (at_keys_end c ks v)) (fill_in t)
 step_spot qs (at_keys_end c ks v) t = cond (is_close t) (Some (exprs qs (at_drop_from c ks v))) None
 step_spot qs (at_drop_from c ks v) t = on_word (codes "from") qs (at_operand (of_drop c ks v)) t
+step_spot qs at_renamed t = on_name qs at_to t
+step_spot qs (at_to c) t = on_word (codes "to") qs (at_new_name c) t
+step_spot qs (at_new_name c) t = on_name qs (at_rename_from c) t
+step_spot qs (at_rename_from c d) t = on_word (codes "from") qs (at_operand (of_rename c d)) t
 step_spot qs (in_where o s) t = next_where qs o s t
 
 -- with the next token
@@ -115,7 +127,7 @@ ended_spot (at_operand h) = None
 ended_spot (behind_expr e) = Some e
 ended_spot at_from = None
 ended_spot (at_where o) = None
-ended_spot (at_with o) = None
+ended_spot (at_with k o) = None
 ended_spot at_dropped = None
 ended_spot (at_determined c) = None
 ended_spot (at_by c) = None
@@ -124,6 +136,10 @@ ended_spot (in_keys c ks) = None
 ended_spot (at_fill c ks) = None
 ended_spot (at_keys_end c ks v) = None
 ended_spot (at_drop_from c ks v) = None
+ended_spot at_renamed = None
+ended_spot (at_to c) = None
+ended_spot (at_new_name c) = None
+ended_spot (at_rename_from c d) = None
 ended_spot (in_where o s) = selected o s
 
 abbrev pub ended : Exprs → Option Expr
@@ -137,7 +153,7 @@ spot_count (at_operand h) = 0
 spot_count (behind_expr e) = 0
 spot_count at_from = 0
 spot_count (at_where o) = 0
-spot_count (at_with o) = 0
+spot_count (at_with k o) = 0
 spot_count at_dropped = 0
 spot_count (at_determined c) = 0
 spot_count (at_by c) = 0
@@ -146,6 +162,10 @@ spot_count (in_keys c ks) = 0
 spot_count (at_fill c ks) = 0
 spot_count (at_keys_end c ks v) = 0
 spot_count (at_drop_from c ks v) = 0
+spot_count at_renamed = 0
+spot_count (at_to c) = 0
+spot_count (at_new_name c) = 0
+spot_count (at_rename_from c d) = 0
 spot_count (in_where o s) = pred.count s
 
 abbrev pub count : Exprs → ℕ

@@ -2,7 +2,7 @@
 use Rattle.std.specs.Prelude.{ℕ, zero, suc, ◌+◌, List, [], ◌∷◌, ◌++◌, codes, Option, Some, None, if◌then◌else◌}
 use Rattle.lens_values.specs.declared.value.Value.{Value}
 use Rattle.lens_specs.specs.Names.{Name}
-use Rattle.lens_specs.specs.Predicate.{Op, Formula, compare, compare_columns, one_of, negation}
+use Rattle.lens_specs.specs.Predicate.{Op, Formula, compare, compare_columns, one_of, null_at, negation}
 use Rattle.grammar_specs.specs.Tokens.{Token}
 use Rattle.grammar_specs.specs.Meaning.{conjuncts, disjuncts, conjunction, disjunction, constant}
 use Rattle.grammar_laws.specs.Tests.{is_keyword, name_in, op_in, flag_in, literal_in, is_open, is_close, is_comma}
@@ -25,6 +25,7 @@ pub data Place : Type 0 where
   in_open : Name → Place
   in_value : Name → List Value → Place
   in_next : Name → List Value → Place
+  at_null : Name → Place
 
 -- within a part, or behind one; with the predicates whose parentheses are open, the innermost first
 pub data Preds : Type 0 where
@@ -68,7 +69,7 @@ begin_part qs o t =
 
 -- behind the name
 abbrev pub behind_name : List Open → Open → Name → Token → Option Preds
-behind_name qs o c t = elim (op_in t) [ Some op ↦ Some (inside qs o (against c op)) | None ↦ if is_keyword (codes "in") t then Some (inside qs o (in_open c)) else None ]
+behind_name qs o c t = elim (op_in t) [ Some op ↦ Some (inside qs o (against c op)) | None ↦ if is_keyword (codes "in") t then Some (inside qs o (in_open c)) else (if is_keyword (codes "is") t then Some (inside qs o (at_null c)) else None) ]
 
 -- behind the operator
 abbrev pub behind_op : List Open → Open → Name → Op → Token → Option Preds
@@ -82,6 +83,7 @@ step_inside qs o (against c op) t = behind_op qs o c op t
 step_inside qs o (in_open c) t = if is_open t then Some (inside qs o (in_value c [])) else None
 step_inside qs o (in_value c vs) t = elim (literal_in t) [ Some v ↦ Some (inside qs o (in_next c (vs ++ v ∷ []))) | None ↦ None ]
 step_inside qs o (in_next c vs) t = if is_comma t then Some (inside qs o (in_value c vs)) else (if is_close t then Some (add qs o (one_of c vs)) else None)
+step_inside qs o (at_null c) t = if is_keyword (codes "null") t then Some (add qs o (null_at c)) else None
 
 -- behind a part
 abbrev pub step_behind : List Open → List Formula → List Formula → Token → Option Preds

@@ -1,10 +1,12 @@
 -- What a token is, as a parser asks.
 use Rattle.std.specs.Prelude.{ℕ, Bool, true, false, List, codes, nat_eq, Option, Some, None, if◌then◌else◌}
 use Rattle.std.specs.Cmp.Lexicographic.{pointwise}
+use Rattle.lens_values.specs.declared.join_kind.JoinKind.{JoinKind}
+use Rattle.lens_values.specs.declared.join_kind.JoinKind.TheVariants.{DeleteLeft, DeleteRight, DeleteBoth}
 use Rattle.lens_values.specs.declared.value.Kind.{Kind}
 use Rattle.lens_values.specs.declared.value.Kind.TheVariants as kind
 use Rattle.lens_values.specs.declared.value.Value.{Value}
-use Rattle.lens_values.specs.declared.value.Value.TheVariants.{Int, Text, Flag}
+use Rattle.lens_values.specs.declared.value.Value.TheVariants.{Null, Int, Text, Flag}
 use Rattle.lens_specs.specs.Names.{Name}
 use Rattle.lens_specs.specs.Predicate.{Op, eq}
 use Rattle.grammar_specs.specs.Tokens.{Token, word, integer, text, open_paren, close_paren, comma, arrow, operator, is_reserved}
@@ -54,6 +56,10 @@ flag_named w = if is_word w (codes "true") then Some true else if is_word w (cod
 abbrev pub kind_named : List ℕ → Option Kind
 kind_named w = if is_word w (codes "int") then Some kind.Int else if is_word w (codes "text") then Some kind.Text else if is_word w (codes "bool") then Some kind.Flag else None
 
+-- the kind of joins of the word
+abbrev pub join_kind_named : List ℕ → Option JoinKind
+join_kind_named w = if is_word w (codes "join_dl") then Some DeleteLeft else if is_word w (codes "join_dr") then Some DeleteRight else if is_word w (codes "join_both") then Some DeleteBoth else None
+
 -- the truth value that it is
 abbrev pub flag_in : Token → Option Bool
 flag_in (word w) = flag_named w
@@ -76,6 +82,10 @@ literal_in comma = None
 literal_in arrow = None
 literal_in (operator op) = None
 
+-- the default that it is: a literal, or null
+abbrev pub fill_in : Token → Option Value
+fill_in t = if is_keyword (codes "null") t then Some Null else literal_in t
+
 -- the kind that it is
 abbrev pub kind_in : Token → Option Kind
 kind_in (word w) = kind_named w
@@ -86,6 +96,26 @@ kind_in close_paren = None
 kind_in comma = None
 kind_in arrow = None
 kind_in (operator op) = None
+
+-- the kind of joins that it begins
+abbrev pub join_kind_in : Token → Option JoinKind
+join_kind_in (word w) = join_kind_named w
+join_kind_in (integer z) = None
+join_kind_in (text b) = None
+join_kind_in open_paren = None
+join_kind_in close_paren = None
+join_kind_in comma = None
+join_kind_in arrow = None
+join_kind_in (operator op) = None
+
+-- the kind that takes null too
+abbrev pub with_null : Kind → Kind
+with_null kind.Int = kind.IntOrNull
+with_null kind.Text = kind.TextOrNull
+with_null kind.Flag = kind.FlagOrNull
+with_null kind.IntOrNull = kind.IntOrNull
+with_null kind.TextOrNull = kind.TextOrNull
+with_null kind.FlagOrNull = kind.FlagOrNull
 
 abbrev pub is_open : Token → Bool
 is_open open_paren = true

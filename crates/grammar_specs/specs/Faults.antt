@@ -5,7 +5,7 @@ use Rattle.lens_specs.specs.Predicate.{predicate_nodes, Predicate}
 use Rattle.grammar_specs.specs.Tokens.{Token}
 use Rattle.grammar_specs.specs.Texts.{Placed, tokens_in, Stand, IsText, GoesWrong}
 use Rattle.grammar_specs.specs.Written.{Written, written_tokens, is_definition}
-use Rattle.grammar_specs.specs.Meaning.{Expr, named, select, drop, join, Definition, table, view, Says}
+use Rattle.grammar_specs.specs.Meaning.{Expr, named, select, drop, rename, join, Definition, table, view, Says}
 use Rattle.grammar_specs.specs.Nesting.{nesting, is_too_deep}
 
 -- what is too large
@@ -64,7 +64,8 @@ abbrev pub has_small_predicates : Expr → Bool
 has_small_predicates (named n) = true
 has_small_predicates (select P e) = is_small P && has_small_predicates e
 has_small_predicates (drop A by v e) = has_small_predicates e
-has_small_predicates (join e f) = has_small_predicates e && has_small_predicates f
+has_small_predicates (rename A B e) = has_small_predicates e
+has_small_predicates (join k e f) = has_small_predicates e && has_small_predicates f
 
 -- a table has 64 columns at most
 abbrev pub has_few_columns : Definition → Bool

@@ -2,21 +2,23 @@
 use Rattle.std.specs.Prelude.{◌≡◌, ℕ, Bool, true, false, List, [], ◌∷◌, ◌++◌, map, Option, Some, None}
 use Rattle.std.specs.FinMap as map_of
 use Rattle.lens_values.specs.SortedSet as set
+use Rattle.lens_values.specs.declared.join_kind.JoinKind.{JoinKind}
 use Rattle.lens_values.specs.declared.value.Value.{Value}
 use Rattle.lens_specs.specs.Names.{Name, Names}
 use Rattle.lens_specs.specs.Columns.{Columns}
 use Rattle.lens_specs.specs.Dependencies.{Edge, edge}
-use Rattle.lens_specs.specs.Predicate.{Formula, truth, falsity, compare, compare_columns, one_of, negation, all_of, any_of, Formulas, no_formulas, formulas, Predicate}
+use Rattle.lens_specs.specs.Predicate.{Formula, truth, falsity, compare, compare_columns, one_of, null_at, negation, all_of, any_of, Formulas, no_formulas, formulas, Predicate}
 use Rattle.grammar_specs.specs.Texts.{Placed, tokens_in, IsText}
 use Rattle.grammar_specs.specs.Written as written
-use Rattle.grammar_specs.specs.Written.{Part, literally, compares, compares_columns, is_in, negated, grouped, All, only, joined, Pred, alone, either, Operand, bare, enclosed, Dep, Written, written_tokens, is_definition}
+use Rattle.grammar_specs.specs.Written.{Part, literally, compares, compares_columns, is_in, tests_null, negated, grouped, All, only, joined, Pred, alone, either, Operand, bare, enclosed, Dep, Written, written_tokens, is_definition}
 
--- a table or a view by its name, the rows of it that a predicate holds on, a column dropped, a join
+-- a table or a view by its name, the rows of it that a predicate holds on, a column dropped, a column under another name, a join
 pub data Expr : Type 0 where
   named : Name → Expr
   select : Predicate → Expr → Expr
   drop : Name → Names → Value → Expr → Expr
-  join : Expr → Expr → Expr
+  rename : Name → Name → Expr → Expr
+  join : JoinKind → Expr → Expr → Expr
 
 -- a table with its columns, dependencies and predicate, or a view
 pub data Definition : Type 0 where
@@ -42,6 +44,7 @@ conjuncts falsity = falsity ∷ []
 conjuncts (compare c op v) = compare c op v ∷ []
 conjuncts (compare_columns c op d) = compare_columns c op d ∷ []
 conjuncts (one_of c vs) = one_of c vs ∷ []
+conjuncts (null_at c) = null_at c ∷ []
 conjuncts (negation f) = negation f ∷ []
 conjuncts (all_of fs) = list_of fs
 conjuncts (any_of fs) = any_of fs ∷ []
@@ -53,6 +56,7 @@ disjuncts falsity = falsity ∷ []
 disjuncts (compare c op v) = compare c op v ∷ []
 disjuncts (compare_columns c op d) = compare_columns c op d ∷ []
 disjuncts (one_of c vs) = one_of c vs ∷ []
+disjuncts (null_at c) = null_at c ∷ []
 disjuncts (negation f) = negation f ∷ []
 disjuncts (all_of fs) = all_of fs ∷ []
 disjuncts (any_of fs) = list_of fs
@@ -81,6 +85,7 @@ abbrev mutual
   part_meaning (compares c op v) = compare c op v
   part_meaning (compares_columns c op d) = compare_columns c op d
   part_meaning (is_in c vs) = one_of c vs
+  part_meaning (tests_null c) = null_at c
   part_meaning (negated p) = negation (part_meaning p)
   part_meaning (grouped o) = disjunction (pred_disjuncts o)
 
@@ -117,7 +122,8 @@ abbrev mutual
   expr_meaning (written.named n) = named n
   expr_meaning (written.select o p) = select (predicate_of p) (operand_meaning o)
   expr_meaning (written.drop c by v o) = drop c (set.from_list by) v (operand_meaning o)
-  expr_meaning (written.join o q) = join (operand_meaning o) (operand_meaning q)
+  expr_meaning (written.rename c d o) = rename c d (operand_meaning o)
+  expr_meaning (written.join k o q) = join k (operand_meaning o) (operand_meaning q)
 
 -- the names of a side are a set
 abbrev pub dep_meaning : Dep → Edge

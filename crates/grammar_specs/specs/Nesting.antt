@@ -2,7 +2,7 @@
 use Rattle.std.specs.Prelude.{ℕ, suc, List, [], ◌∷◌, ◌++◌, map, nat_lt, Bool, Option, Some, None}
 use Rattle.std.specs.List.{list_any}
 use Rattle.grammar_specs.specs.Tokens.{Token}
-use Rattle.grammar_specs.specs.Written.{Part, literally, compares, compares_columns, is_in, negated, grouped, All, only, joined, Pred, alone, either, Operand, bare, enclosed, Expr, named, select, drop, join, Written, table, view, part_tokens, columns_tokens, deps_tokens}
+use Rattle.grammar_specs.specs.Written.{Part, literally, compares, compares_columns, is_in, tests_null, negated, grouped, All, only, joined, Pred, alone, either, Operand, bare, enclosed, Expr, named, select, drop, rename, join, Written, table, view, part_tokens, columns_tokens, deps_tokens}
 
 -- the same number at each of the tokens
 abbrev pub at_each : ℕ → List Token → List ℕ
@@ -15,6 +15,7 @@ abbrev mutual
   part_nesting n (compares c op v) = n ∷ n ∷ n ∷ []
   part_nesting n (compares_columns c op d) = n ∷ n ∷ n ∷ []
   part_nesting n (is_in c vs) = at_each n (part_tokens (is_in c vs))
+  part_nesting n (tests_null c) = n ∷ n ∷ n ∷ []
   part_nesting n (negated p) = suc n ∷ part_nesting (suc n) p
   part_nesting n (grouped o) = suc n ∷ (pred_nesting (suc n) o ++ suc n ∷ [])
 
@@ -36,7 +37,8 @@ abbrev mutual
   expr_nesting n (named c) = n ∷ []
   expr_nesting n (select o p) = n ∷ n ∷ (operand_nesting n o ++ n ∷ pred_nesting n p)
   expr_nesting n (drop c by v o) = n ∷ n ∷ n ∷ n ∷ n ∷ (map (λ _. n) by ++ n ∷ n ∷ n ∷ n ∷ operand_nesting n o)
-  expr_nesting n (join o q) = n ∷ (operand_nesting n o ++ n ∷ operand_nesting n q)
+  expr_nesting n (rename c d o) = n ∷ n ∷ n ∷ n ∷ n ∷ operand_nesting n o
+  expr_nesting n (join k o q) = n ∷ (operand_nesting n o ++ n ∷ operand_nesting n q)
 
 -- in the predicate behind "where"
 abbrev pub where_nesting : Option Pred → List ℕ

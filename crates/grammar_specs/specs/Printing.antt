@@ -4,11 +4,11 @@ use Rattle.std.specs.FinMap as map_of
 use Rattle.std.specs.Fmt.{signed_decimal}
 use Rattle.lens_values.specs.SortedSet as set
 use Rattle.lens_specs.specs.Dependencies.{Edge}
-use Rattle.lens_specs.specs.Predicate.{Formula, truth, falsity, compare, compare_columns, one_of, negation, all_of, any_of, Formulas, no_formulas, formulas, Predicate}
+use Rattle.lens_specs.specs.Predicate.{Formula, truth, falsity, compare, compare_columns, one_of, null_at, negation, all_of, any_of, Formulas, no_formulas, formulas, Predicate}
 use Rattle.grammar_specs.specs.Tokens.{Token, word, integer, text, open_paren, close_paren, comma, arrow, operator, op_bytes, quotes_doubled}
 use Rattle.grammar_specs.specs.Written as written
-use Rattle.grammar_specs.specs.Written.{Part, literally, compares, compares_columns, is_in, negated, grouped, All, only, joined, Pred, alone, either, Operand, bare, enclosed, Dep, Written, written_tokens, pred_tokens}
-use Rattle.grammar_specs.specs.Meaning.{Expr, named, select, drop, join, Definition, table, view}
+use Rattle.grammar_specs.specs.Written.{Part, literally, compares, compares_columns, is_in, tests_null, negated, grouped, All, only, joined, Pred, alone, either, Operand, bare, enclosed, Dep, Written, written_tokens, pred_tokens}
+use Rattle.grammar_specs.specs.Meaning.{Expr, named, select, drop, rename, join, Definition, table, view}
 
 -- ---- the tree of a predicate
 
@@ -20,6 +20,7 @@ abbrev mutual
   part_of (compare c op v) = compares c op v
   part_of (compare_columns c op d) = compares_columns c op d
   part_of (one_of c vs) = is_in c vs
+  part_of (null_at c) = tests_null c
   part_of (negation f) = negated (part_of f)
   part_of (all_of fs) = grouped (alone (all_parts fs))
   part_of (any_of fs) = grouped (any_alls fs)
@@ -40,6 +41,7 @@ abbrev mutual
   all_of_formula (compare c op v) = only (compares c op v)
   all_of_formula (compare_columns c op d) = only (compares_columns c op d)
   all_of_formula (one_of c vs) = only (is_in c vs)
+  all_of_formula (null_at c) = only (tests_null c)
   all_of_formula (negation f) = only (negated (part_of f))
   all_of_formula (all_of fs) = all_parts fs
   all_of_formula (any_of fs) = only (grouped (any_alls fs))
@@ -60,6 +62,7 @@ pred_of falsity = alone (only (literally false))
 pred_of (compare c op v) = alone (only (compares c op v))
 pred_of (compare_columns c op d) = alone (only (compares_columns c op d))
 pred_of (one_of c vs) = alone (only (is_in c vs))
+pred_of (null_at c) = alone (only (tests_null c))
 pred_of (negation f) = alone (only (negated (part_of f)))
 pred_of (all_of fs) = alone (all_parts fs)
 pred_of (any_of fs) = any_alls fs
@@ -82,14 +85,16 @@ abbrev pub operand_of : Expr → Operand
 operand_of (named n) = bare n
 operand_of (select P e) = enclosed (written.select (operand_of e) (predicate_written P))
 operand_of (drop A by v e) = enclosed (written.drop A (set.items by) v (operand_of e))
-operand_of (join e f) = enclosed (written.join (operand_of e) (operand_of f))
+operand_of (rename A B e) = enclosed (written.rename A B (operand_of e))
+operand_of (join k e f) = enclosed (written.join k (operand_of e) (operand_of f))
 
 -- an expression by itself
 abbrev pub expr_written : Expr → written.Expr
 expr_written (named n) = written.named n
 expr_written (select P e) = written.select (operand_of e) (predicate_written P)
 expr_written (drop A by v e) = written.drop A (set.items by) v (operand_of e)
-expr_written (join e f) = written.join (operand_of e) (operand_of f)
+expr_written (rename A B e) = written.rename A B (operand_of e)
+expr_written (join k e f) = written.join k (operand_of e) (operand_of f)
 
 -- the names of a side in rising order
 abbrev pub dep_written : Edge → Dep

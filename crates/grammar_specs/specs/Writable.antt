@@ -5,17 +5,19 @@ use Rattle.std.specs.FinMap as map_of
 use Rattle.lens_values.specs.Bytes.{is_text}
 use Rattle.lens_values.specs.SortedSet as set
 use Rattle.lens_values.specs.SortedMap.{keys_of}
+use Rattle.lens_values.specs.Value.{is_null}
 use Rattle.lens_values.specs.declared.value.Value.{Value}
-use Rattle.lens_values.specs.declared.value.Value.TheVariants.{Int, Text, Flag}
+use Rattle.lens_values.specs.declared.value.Value.TheVariants.{Null, Int, Text, Flag}
 use Rattle.lens_specs.specs.Dependencies.{Edge}
 use Rattle.lens_specs.specs.Names.{Names}
-use Rattle.lens_specs.specs.Predicate.{Formula, truth, falsity, compare, compare_columns, one_of, negation, all_of, any_of, Formulas, no_formulas, formulas, Predicate}
+use Rattle.lens_specs.specs.Predicate.{Formula, truth, falsity, compare, compare_columns, one_of, null_at, negation, all_of, any_of, Formulas, no_formulas, formulas, Predicate}
 use Rattle.grammar_specs.specs.Tokens.{is_free_name}
-use Rattle.grammar_specs.specs.Written.{is_some_list}
-use Rattle.grammar_specs.specs.Meaning.{Expr, named, select, drop, join, Definition, table, view}
+use Rattle.grammar_specs.specs.Written.{is_some_list, are_constants}
+use Rattle.grammar_specs.specs.Meaning.{Expr, named, select, drop, rename, join, Definition, table, view}
 
--- a number of 64 bits, a text, or a truth value
+-- null, a number of 64 bits, a text, or a truth value
 abbrev pub is_literal : Value → Bool
+is_literal Null = true
 is_literal (Int (pos n)) = nat_lt n (2 ^ 63)
 is_literal (Int (negsuc n)) = nat_lt n (2 ^ 63)
 is_literal (Text bytes) = is_text bytes
@@ -41,14 +43,15 @@ are_several no_formulas = false
 are_several (formulas f no_formulas) = false
 are_several (formulas f (formulas g fs)) = true
 
--- Names are free, literals can be written, and conjunctions and disjunctions have two members or more, none of its own kind.
+-- Names are free, literals can be written and are compared where they are not null, and conjunctions and disjunctions have two members or more, none of its own kind.
 abbrev mutual
   pub is_written_formula : Formula → Bool
   is_written_formula truth = true
   is_written_formula falsity = true
-  is_written_formula (compare c op v) = is_free_name c && is_literal v
+  is_written_formula (compare c op v) = is_free_name c && not (is_null v) && is_literal v
   is_written_formula (compare_columns c op d) = is_free_name c && is_free_name d
-  is_written_formula (one_of c vs) = is_free_name c && is_some_list vs && list_all is_literal vs
+  is_written_formula (one_of c vs) = is_free_name c && are_constants vs && list_all is_literal vs
+  is_written_formula (null_at c) = is_free_name c
   is_written_formula (negation f) = is_written_formula f
   is_written_formula (all_of fs) = are_several fs && are_in_all fs
   is_written_formula (any_of fs) = are_several fs && are_in_any fs
@@ -72,7 +75,8 @@ abbrev pub is_written_expr : Expr → Bool
 is_written_expr (named n) = is_free_name n
 is_written_expr (select P e) = is_some_list P && is_written_predicate P && is_written_expr e
 is_written_expr (drop A by v e) = is_free_name A && are_free by && is_literal v && is_written_expr e
-is_written_expr (join e f) = is_written_expr e && is_written_expr f
+is_written_expr (rename A B e) = is_free_name A && is_free_name B && is_written_expr e
+is_written_expr (join k e f) = is_written_expr e && is_written_expr f
 
 -- both sides have free names
 abbrev pub is_written_dep : Edge → Bool

@@ -1,11 +1,14 @@
 -- Definitions as they are written, with their parentheses, and the tokens that spell them.
-use Rattle.std.specs.Prelude.{ℕ, Bool, true, false, not, ◌&&◌, List, [], ◌∷◌, ◌++◌, map, flat_map, codes, nat_eq, Option, Some, None}
+use Rattle.std.specs.Prelude.{ℕ, Bool, true, false, not, ◌&&◌, List, [], ◌∷◌, ◌++◌, map, flat_map, codes, nat_eq, Option, Some, None, if◌then◌else◌}
 use Rattle.std.specs.List.{list_any, list_all}
 use Rattle.std.specs.Cmp.Lexicographic.{pointwise}
+use Rattle.lens_values.specs.Value.{is_null, is_nullable}
+use Rattle.lens_values.specs.declared.join_kind.JoinKind.{JoinKind}
+use Rattle.lens_values.specs.declared.join_kind.JoinKind.TheVariants.{DeleteLeft, DeleteRight, DeleteBoth}
 use Rattle.lens_values.specs.declared.value.Kind.{Kind}
 use Rattle.lens_values.specs.declared.value.Kind.TheVariants as kind
 use Rattle.lens_values.specs.declared.value.Value.{Value}
-use Rattle.lens_values.specs.declared.value.Value.TheVariants.{Int, Text, Flag}
+use Rattle.lens_values.specs.declared.value.Value.TheVariants.{Null, Int, Text, Flag}
 use Rattle.lens_specs.specs.Names.{Name}
 use Rattle.lens_specs.specs.Predicate.{Op, eq}
 use Rattle.grammar_specs.specs.Tokens.{Token, word, integer, text, open_paren, close_paren, comma, arrow, operator, is_free_name}
@@ -19,6 +22,7 @@ mutual
     compares : Name → Op → Value → Part
     compares_columns : Name → Op → Name → Part
     is_in : Name → List Value → Part
+    tests_null : Name → Part
     negated : Part → Part
     grouped : Pred → Part
 
@@ -40,7 +44,8 @@ mutual
     named : Name → Expr
     select : Operand → Pred → Expr
     drop : Name → List Name → Value → Operand → Expr
-    join : Operand → Operand → Expr
+    rename : Name → Name → Operand → Expr
+    join : JoinKind → Operand → Operand → Expr
 
 -- the names of both sides of a dependency
 abbrev pub Dep : Type 0
@@ -57,8 +62,9 @@ pub data Written : Type 0 where
 abbrev pub keyword : List ℕ → Token
 keyword w = word w
 
--- INTEGER | TEXT | "true" | "false"
+-- INTEGER | TEXT | "true" | "false", and "null" where it may stand
 abbrev pub literal : Value → Token
+literal Null = word (codes "null")
 literal (Int z) = integer z
 literal (Text bytes) = text bytes
 literal (Flag true) = word (codes "true")
@@ -76,6 +82,7 @@ abbrev mutual
   part_tokens (compares c op v) = word c ∷ operator op ∷ literal v ∷ []
   part_tokens (compares_columns c op d) = word c ∷ operator op ∷ word d ∷ []
   part_tokens (is_in c vs) = word c ∷ word (codes "in") ∷ open_paren ∷ (literals vs ++ close_paren ∷ [])
+  part_tokens (tests_null c) = word c ∷ word (codes "is") ∷ word (codes "null") ∷ []
   part_tokens (negated p) = word (codes "not") ∷ part_tokens p
   part_tokens (grouped o) = open_paren ∷ (pred_tokens o ++ close_paren ∷ [])
 
@@ -86,6 +93,12 @@ abbrev mutual
   pub pred_tokens : Pred → List Token
   pred_tokens (alone a) = all_tokens a
   pred_tokens (either o a) = pred_tokens o ++ word (codes "or") ∷ all_tokens a
+
+-- the word of a join that deletes there
+abbrev pub join_word : JoinKind → List ℕ
+join_word DeleteLeft = codes "join_dl"
+join_word DeleteRight = codes "join_dr"
+join_word DeleteBoth = codes "join_both"
 
 -- operand and expr
 abbrev mutual
@@ -99,17 +112,29 @@ abbrev mutual
   expr_tokens (drop c by v o) =
       word (codes "drop") ∷ word c ∷ word (codes "determined") ∷ word (codes "by") ∷ open_paren
       ∷ (map word by ++ comma ∷ literal v ∷ close_paren ∷ word (codes "from") ∷ operand_tokens o)
-  expr_tokens (join o q) = word (codes "join_dl") ∷ (operand_tokens o ++ word (codes "with") ∷ operand_tokens q)
+  expr_tokens (rename c d o) = word (codes "rename") ∷ word c ∷ word (codes "to") ∷ word d ∷ word (codes "from") ∷ operand_tokens o
+  expr_tokens (join k o q) = word (join_word k) ∷ (operand_tokens o ++ word (codes "with") ∷ operand_tokens q)
 
--- the word of a kind
+-- the word of a kind, the same with null and without
 abbrev pub kind_word : Kind → List ℕ
 kind_word kind.Int = codes "int"
 kind_word kind.Text = codes "text"
 kind_word kind.Flag = codes "bool"
+kind_word kind.IntOrNull = codes "int"
+kind_word kind.TextOrNull = codes "text"
+kind_word kind.FlagOrNull = codes "bool"
 
--- NAME ( "int" | "text" | "bool" )
+-- "null" behind a kind that takes it
+abbrev pub null_tokens : Kind → List Token
+null_tokens k = if is_nullable k then word (codes "null") ∷ [] else []
+
+-- ( "int" | "text" | "bool" ) [ "null" ]
+abbrev pub kind_tokens : Kind → List Token
+kind_tokens k = word (kind_word k) ∷ null_tokens k
+
+-- NAME kind
 abbrev pub column_tokens : Name × Kind → List Token
-column_tokens column = word column.0 ∷ word (kind_word column.1) ∷ []
+column_tokens column = word column.0 ∷ kind_tokens column.1
 
 -- column { "," column }
 abbrev pub columns_tokens : List (Name × Kind) → List Token
@@ -147,13 +172,18 @@ is_some_list (x ∷ xs) = true
 abbrev pub are_free_names : List Name → Bool
 are_free_names names = is_some_list names && list_all is_free_name names
 
--- every name is free, and every list of literals has one
+-- one value or more, and none of them null
+abbrev pub are_constants : List Value → Bool
+are_constants vs = is_some_list vs && list_all (λ v. not (is_null v)) vs
+
+-- every name is free, every list of literals has one, and null is compared with nothing
 abbrev mutual
   pub is_part : Part → Bool
   is_part (literally b) = true
-  is_part (compares c op v) = is_free_name c
+  is_part (compares c op v) = is_free_name c && not (is_null v)
   is_part (compares_columns c op d) = is_free_name c && is_free_name d
-  is_part (is_in c vs) = is_free_name c && is_some_list vs
+  is_part (is_in c vs) = is_free_name c && are_constants vs
+  is_part (tests_null c) = is_free_name c
   is_part (negated p) = is_part p
   is_part (grouped o) = is_pred o
 
@@ -175,7 +205,8 @@ abbrev mutual
   is_expr (named n) = is_free_name n
   is_expr (select o p) = is_operand o && is_pred p
   is_expr (drop c by v o) = is_free_name c && are_free_names by && is_operand o
-  is_expr (join o q) = is_operand o && is_operand q
+  is_expr (rename c d o) = is_free_name c && is_free_name d && is_operand o
+  is_expr (join k o q) = is_operand o && is_operand q
 
 -- whether the name is that of a column
 abbrev pub is_column_of : List (Name × Kind) → Name → Bool

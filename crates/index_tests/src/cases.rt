@@ -1,105 +1,163 @@
-//! What is seen of a change, of an index, and of keys that collide.
+//! What is seen of a change, of an index, of tables that are held, and of keys that collide.
 ghost use Rattle.std.specs.Prelude.{◌≡◌};
 
-use crate::samples::{Track, album_key, title_key};
+use crate::samples::{columns, row};
 use crate::trial::Trial;
+use lens_values::Columns;
 use std::alloc::Global;
 use std::marker::Brand;
-use std::process::Abort;
 use std::sync::ledger::{Blank, Ledger};
 use std::test::Fail;
 
-const LOW: Track = ("Low", "Subterraneans", 1977);
+const TRACKS: &str = "album:text title:text year:int?";
 
-const HEROES: Track = ("Heroes", "Moss Garden", 1977);
+// Changes of a table of tracks are staged and settled, and it is asked in between: an index, rows
+// that are staged and settled, rows that are dropped, a row that takes the place of others; a change
+// that is kept, and one that is taken back; keys of one hash, of which the last are null and the
+// least number.
+const STEPS: &str = "
+    index album:text
+    settle
+    stage album=Heroes title=Moss year=1977; album=Low title=Warszawa year=1977
+    shows
+    lacks album=Heroes title=Moss year=1977
+    finds album:text | album=Heroes |
+    settle
+    shows album=Heroes title=Moss year=1977; album=Low title=Warszawa year=1977
+    has album=Heroes title=Moss year=1977
+    finds album:text | album=Heroes | album=Heroes title=Moss year=1977
 
-const NEUKOLN: Track = ("Heroes", "Neukoln", 1977);
+    stage album=Heroes title=Neukoln year=1977; album=Low title=Warszawa year=1977
+    drop
+    settle
+    shows album=Heroes title=Moss year=1977; album=Low title=Warszawa year=1977
+    finds album:text | album=Heroes | album=Heroes title=Moss year=1977
 
-// Keys of album and title that have the same hash.
-const FIRST: Track = ("ab", "c", 1);
+    stage album=Heroes title=Neukoln year=1977
+    finds album:text | album=Low | album=Low title=Warszawa year=1977
+    settle
+    finds album:text | album=Heroes | album=Heroes title=Neukoln year=1977
+    finds album:text | album=Low |
+    lacks album=Low title=Warszawa year=1977
+    shows album=Heroes title=Neukoln year=1977
 
-const SECOND: Track = ("a", "bc", 2);
+    hold
+    stage album=Heroes title=Moss year=1977; album=Heroes title=Neukoln year=1977
+    settle
+    keep
+    shows album=Heroes title=Moss year=1977; album=Heroes title=Neukoln year=1977
 
-// Whether staged tracks are seen once they are settled, and not before.
-fn are_settled<L: Ledger>(
-    rt: &impl Abort,
-    alloc: Global,
-    trial: &mut Trial<L>,
-) -> Result<bool, Fail> {
-    let key = album_key(alloc, "Heroes")?;
-    trial.stage_index(&key)?;
-    trial.settle();
-    trial.stage_tracks(rt, &[LOW, HEROES])?;
-    let unseen = trial.is(&[])? && !trial.has(&HEROES)? && trial.finds(rt, &key, &[])?;
-    trial.settle();
-    let seen = trial.is(&[LOW, HEROES])? && trial.has(&HEROES)?;
-    Ok(unseen && seen && trial.finds(rt, &key, &[HEROES])?)
-}
+    hold
+    stage album=Heroes title=Neukoln year=1977; album=Low title=Warszawa year=1977
+    settle
+    finds album:text | album=Low | album=Low title=Warszawa year=1977
+    stage album=Low title=Warszawa year=1977
+    back
+    shows album=Heroes title=Moss year=1977; album=Heroes title=Neukoln year=1977
+    finds album:text | album=Low |
+    settle
+    shows album=Heroes title=Moss year=1977; album=Heroes title=Neukoln year=1977
 
-// Whether staged tracks are gone once they are dropped.
-fn are_dropped<L: Ledger>(
-    rt: &impl Abort,
-    alloc: Global,
-    trial: &mut Trial<L>,
-) -> Result<bool, Fail> {
-    let key = album_key(alloc, "Heroes")?;
-    trial.stage_tracks(rt, &[LOW, NEUKOLN])?;
-    trial.unstage();
-    trial.settle();
-    Ok(trial.is(&[LOW, HEROES])? && trial.finds(rt, &key, &[HEROES])?)
-}
+    stage album=a title=bc year=2; album=ab title=c year=1
+    settle
+    index album:text title:text
+    unindexed album:text title:text
+    settle
+    finds album:text title:text | album=ab title=c | album=ab title=c year=1
+    finds album:text title:text | album=a title=bc | album=a title=bc year=2
+    stage album=a title=bc year=2
+    settle
+    finds album:text title:text | album=ab title=c |
+    finds album:text title:text | album=a title=bc | album=a title=bc year=2
 
-// Whether tracks that are removed and added leave the index and come into it.
-fn are_indexed<L: Ledger>(
-    rt: &impl Abort,
-    alloc: Global,
-    trial: &mut Trial<L>,
-) -> Result<bool, Fail> {
-    let heroes = album_key(alloc, "Heroes")?;
-    let low = album_key(alloc, "Low")?;
-    trial.stage_tracks(rt, &[NEUKOLN])?;
-    let stay = trial.is(&[LOW, HEROES])? && trial.finds(rt, &low, &[LOW])?;
-    trial.settle();
-    let found = trial.finds(rt, &heroes, &[NEUKOLN])? && trial.finds(rt, &low, &[])?;
-    Ok(stay && found && !trial.has(&LOW)? && trial.is(&[NEUKOLN])?)
-}
+    index year:int?
+    settle
+    stage album=a title=x year=null; album=a title=y year=-9223372036854775808
+    settle
+    finds year:int? | year=null | album=a title=x year=null
+    finds year:int? | year=-9223372036854775808 | album=a title=y year=-9223372036854775808";
 
-// Whether a table with rows may be asked by a new index once it is settled, and finds apart what
-// has colliding keys.
-fn are_apart<L: Ledger>(
-    rt: &impl Abort,
-    alloc: Global,
-    trial: &mut Trial<L>,
-) -> Result<bool, Fail> {
-    let first = title_key(alloc, FIRST.0, FIRST.1)?;
-    let second = title_key(alloc, SECOND.0, SECOND.1)?;
-    trial.stage_tracks(rt, &[FIRST, SECOND])?;
-    trial.settle();
-    trial.stage_index(&first)?;
-    let early = trial.may_be_asked(&first)?;
-    trial.settle();
-    let both = trial.finds(rt, &first, &[FIRST])? && trial.finds(rt, &second, &[SECOND])?;
-    trial.stage_tracks(rt, &[SECOND])?;
-    trial.settle();
-    let one = trial.finds(rt, &first, &[])? && trial.finds(rt, &second, &[SECOND])?;
-    Ok(!early && both && one)
-}
-
-// Each case in turn, of one table.
-fn all<L: Ledger>(rt: &impl Abort, alloc: Global, blank: Blank) -> Result<(), Fail>
+// Fails, with the step, where the table is not as a step says.
+fn all<L: Ledger>(alloc: Global, blank: Blank) -> Result<(), Fail>
     requires name { blank.name ≡ L.name }
     requires parts { blank.parts ≡ L.parts }
     requires one { blank.parts ≡ 1 }
 {
-    let mut trial = Trial::<L>::new(alloc, blank)?;
-    assert!(rt; are_settled(rt, alloc, &mut trial)?);
-    assert!(rt; are_dropped(rt, alloc, &mut trial)?);
-    assert!(rt; are_indexed(rt, alloc, &mut trial)?);
-    assert!(rt; are_apart(rt, alloc, &mut trial)?);
+    let mut trial = Trial::<L>::new(alloc, blank, TRACKS)?;
+    for step in STEPS.lines() {
+        if !is_so(alloc, &mut trial, step.trim())? {
+            return Err(Fail::from(step));
+        }
+    }
     Ok(())
 }
 
 #[test]
-fn tables_are_asked(rt: HostRuntime) -> Result<(), Fail> {
-    all::<Brand>(&rt, rt.alloc(), Blank::new(1))
+fn tables_are_changed_held_and_asked(rt: HostRuntime) -> Result<(), Fail> {
+    all::<Brand>(rt.alloc(), Blank::new(1))
+}
+
+// Takes the step, and says whether it is as it says.
+fn is_so<L: Ledger>(alloc: Global, trial: &mut Trial<L>, step: &str) -> Result<bool, Fail> {
+    let (word, rest) = step.split_once(' ').unwrap_or((step, ""));
+    match word {
+        "" => Ok(true),
+        "index" => indexes(alloc, trial, rest),
+        "unindexed" => is_unindexed(alloc, trial, rest),
+        "stage" => trial.stages(rest),
+        "shows" => trial.shows(rest),
+        "has" => has(alloc, trial, rest),
+        "lacks" => Ok(!has(alloc, trial, rest)?),
+        "finds" => finds(alloc, trial, rest),
+        _ => Ok(is_done(trial, word)),
+    }
+}
+
+// Takes the step that is this word alone, if the table allows it.
+fn is_done<L: Ledger>(trial: &mut Trial<L>, word: &str) -> bool {
+    match word {
+        "settle" => trial.settles(),
+        "drop" => trial.drops(),
+        "hold" => trial.holds(),
+        "keep" => trial.keeps(),
+        "back" => trial.goes_back(),
+        _ => false,
+    }
+}
+
+// Stages an index by the columns.
+fn indexes<L: Ledger>(alloc: Global, trial: &mut Trial<L>, listed: &str) -> Result<bool, Fail> {
+    let columns = columns(alloc, listed)?;
+    trial.stages_index(&columns)
+}
+
+// Whether the table cannot be asked by the columns.
+fn is_unindexed<L: Ledger>(alloc: Global, trial: &Trial<L>, listed: &str) -> Result<bool, Fail> {
+    let columns = columns(alloc, listed)?;
+    Ok(!trial.may_be_asked(&columns)?)
+}
+
+// Whether the table has the row.
+fn has<L: Ledger>(alloc: Global, trial: &mut Trial<L>, text: &str) -> Result<bool, Fail> {
+    let row = row(alloc, text)?;
+    Ok(trial.has(&row))
+}
+
+// Whether just the rows are found by the key, as `a:int | a=1 | a=1 b=1; a=1 b=2`.
+fn finds<L: Ledger>(alloc: Global, trial: &mut Trial<L>, text: &str) -> Result<bool, Fail> {
+    let (listed, rest) = text.split_once('|').ok_or("no key")?;
+    let columns = columns(alloc, listed)?;
+    finds_by(alloc, trial, &columns, rest)
+}
+
+// The same by a key of these columns, as `a=1 | a=1 b=1; a=1 b=2`.
+fn finds_by<L: Ledger>(
+    alloc: Global,
+    trial: &mut Trial<L>,
+    columns: &Columns,
+    text: &str,
+) -> Result<bool, Fail> {
+    let (key, rows) = text.split_once('|').ok_or("no rows")?;
+    let key = row(alloc, key)?;
+    trial.finds(columns, &key, rows)
 }

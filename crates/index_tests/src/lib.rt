@@ -1,4 +1,5 @@
-//! Tests of the tables by key: what is seen of a change before and after it is settled.
+//! Tests of the tables by key: what is seen of a change before and after it is settled, what is
+//! taken back, and keys that collide.
 #![tactic(auto)]
 
 #[cfg(test)]

@@ -1,87 +1,93 @@
-//! Tracks of albums as rows, and the keys by which they are asked.
-ghost use Rattle.std.specs.Prelude.{◌≡◌, IfOk};
+//! Values that tests write as texts.
+ghost use Rattle.std.specs.Prelude.{◌≡◌, IfOk, OnOk};
 
 use lens_values::{Columns, Kind, Name, Row, Text, Value};
 use row_sets::{Relation, RowSet};
 use std::alloc::Global;
-use std::process::Abort;
 use std::test::Fail;
 
-/// A track: its album, its title and its year.
-pub(crate) type Track<'a> = (&'a str, &'a str, i64);
-
-/// The columns of tracks.
-pub(crate) fn track_columns(alloc: Global) -> Result<Columns, Fail> {
-    let album = (Name::new("album")?, Kind::Text);
-    let title = (Name::new("title")?, Kind::Text);
-    let year = (Name::new("year")?, Kind::Int);
-    Ok(Columns::new(alloc, vec![in alloc; album, title, year]?)?)
-}
-
-// The text as a value.
-fn text(alloc: Global, word: &str) -> Result<Value, Fail> {
-    Ok(Value::Text(Text::new(alloc, word)?))
-}
-
-/// The row of a track.
-pub(crate) fn track_row(alloc: Global, track: &Track) -> Result<Row, Fail> {
-    let album = (Name::new("album")?, text(alloc, track.0)?);
-    let title = (Name::new("title")?, text(alloc, track.1)?);
-    let year = (Name::new("year")?, Value::Int(track.2));
-    Ok(Row::new(alloc, vec![in alloc; album, title, year]?)?)
-}
-
-/// The rows of the tracks.
-pub(crate) fn track_rows(alloc: Global, tracks: &[Track]) -> Result<RowSet, Fail> {
-    let mut rows = Vec::new(alloc);
-    for track in tracks {
-        rows.push(track_row(alloc, track)?)?;
+// The kind that the word names.
+fn kind(word: &str) -> Result<Kind, Fail> {
+    match word {
+        "int?" => Ok(Kind::IntOrNull),
+        "text" => Ok(Kind::Text),
+        _ => Err(Fail::from("no kind")),
     }
-    Ok(RowSet::new(alloc, rows)?)
 }
 
-/// The relation over the columns that has the rows of the tracks.
-pub(crate) fn track_relation(
-    rt: &impl Abort,
-    alloc: Global,
-    columns: &Columns,
-    tracks: &[Track],
-) -> Result<Relation, Fail>
+// The name and the kind of a column, as `a:text`.
+fn column(word: &str) -> Result<(Name, Kind), Fail> {
+    let (name, of) = word.split_once(':').ok_or("no kind")?;
+    Ok((Name::new(name)?, kind(of)?))
+}
+
+/// The columns that the text lists, as `a:int? b:text`.
+pub(crate) fn columns(alloc: Global, text: &str) -> Result<Columns, Fail> {
+    let mut pairs = Vec::new(alloc);
+    for word in text.split_whitespace() {
+        pairs.push(column(word)?)?;
+    }
+    Ok(Columns::new(alloc, pairs)?)
+}
+
+// Null, a number, or else a text.
+fn value(alloc: Global, word: &str) -> Result<Value, Fail> {
+    if word == "null" {
+        return Ok(Value::Null);
+    }
+    match word.parse::<i64>() {
+        Ok(number) => Ok(Value::Int(number)),
+        Err(_) => Ok(Value::Text(Text::new(alloc, word)?)),
+    }
+}
+
+// The name and the value of a column, as `a=1`.
+fn cell(alloc: Global, word: &str) -> Result<(Name, Value), Fail> {
+    let (name, of) = word.split_once('=').ok_or("no value")?;
+    Ok((Name::new(name)?, value(alloc, of)?))
+}
+
+/// The row that the text lists, as `a=1 b=x`.
+pub(crate) fn row(alloc: Global, text: &str) -> Result<Row, Fail> {
+    let mut pairs = Vec::new(alloc);
+    for word in text.split_whitespace() {
+        pairs.push(cell(alloc, word)?)?;
+    }
+    Ok(Row::new(alloc, pairs)?)
+}
+
+// The rows that the text lists, as `a=1 b=x; a=2 b=y`.
+fn rows(alloc: Global, text: &str) -> Result<Vec<Row>, Fail> {
+    let mut list = Vec::new(alloc);
+    for part in text.split_terminator(';') {
+        list.push(row(alloc, part)?)?;
+    }
+    Ok(list)
+}
+
+/// The relation over the columns that has the rows of the text.
+pub(crate) fn relation(alloc: Global, columns: &Columns, text: &str) -> Result<Relation, Fail>
     ensures { IfOk result (λ made. made.columns ≡ columns.now) }
 {
     let mut made = Relation::empty(alloc, columns.copy(alloc)?);
-    for track in tracks {
-        let row = track_row(alloc, track)?;
-        assert!(rt; row.fits(columns));
-        made.add(row)?;
+    for row in rows(alloc, text)? {
+        add(&mut made, row)?;
     }
     Ok(made)
 }
 
-/// Columns, and a row that is to have them.
-#[derive(Drop)]
-pub(crate) struct Key {
-    pub(crate) columns: Columns,
-    pub(crate) row: Row,
+// Adds the row, if it fits.
+fn add(relation: &mut Relation, row: Row) -> Result<(), Fail>
+    ensures { OnOk result (relation.new.columns ≡ relation.old.columns) }
+{
+    if !row.fits(relation.columns()) {
+        return Err(Fail::from("a row of other columns"));
+    }
+    let _new = relation.add(row)?;
+    Ok(())
 }
 
-/// The key of an album.
-pub(crate) fn album_key(alloc: Global, album: &str) -> Result<Key, Fail> {
-    let name = Name::new("album")?;
-    Ok(Key {
-        columns: Columns::new(alloc, vec![in alloc; (name, Kind::Text)]?)?,
-        row: Row::new(alloc, vec![in alloc; (name, text(alloc, album)?)]?)?,
-    })
-}
-
-/// The key of an album and a title.
-pub(crate) fn title_key(alloc: Global, album: &str, title: &str) -> Result<Key, Fail> {
-    let first = Name::new("album")?;
-    let second = Name::new("title")?;
-    let kinds = vec![in alloc; (first, Kind::Text), (second, Kind::Text)]?;
-    let values = vec![in alloc; (first, text(alloc, album)?), (second, text(alloc, title)?)]?;
-    Ok(Key {
-        columns: Columns::new(alloc, kinds)?,
-        row: Row::new(alloc, values)?,
-    })
+/// Whether the set has the rows that the text lists, in this order, and no other.
+pub(crate) fn are_rows(alloc: Global, found: &RowSet, text: &str) -> Result<bool, Fail> {
+    Ok(found.rows() == rows(alloc, text)?.as_slice())
 }

@@ -1,26 +1,26 @@
-//! A table of tracks, changed and asked.
+//! A table, changed and asked.
 ghost use Rattle.std.specs.Prelude.{◌≡◌, IfOk};
 ghost use Rattle.lens_specs.specs.Columns.{names};
 ghost use Rattle.base_index.specs.Held.{IsThere, relation_in};
 
-use crate::samples::{Key, Track, track_columns, track_relation, track_row, track_rows};
+use crate::samples::{are_rows, columns, relation};
 use base_index::{Need, Tables};
-use lens_values::Name;
+use lens_values::{Columns, Name, Row};
 use row_sets::Relation;
 use signed_delta::{TableDelta, diff};
 use std::alloc::Global;
 use std::marker::Model;
-use std::process::Abort;
 use std::sync::ledger::{Blank, Ledger};
 use std::test::Fail;
 use step_counter::Steps;
 
-/// A table that is there, and the steps that it took to ask it.
+/// A table that is there, whether it is held, and the steps that it took to ask it.
 #[derive(Drop)]
 pub(crate) struct Trial<L: Ledger> {
     alloc: Global,
     tables: Tables,
     name: Name,
+    held: bool,
     steps: Steps<L>,
 }
 
@@ -35,19 +35,19 @@ impl<L: Ledger> Model for Trial<L> {
 
     ghost use Rattle.index_tests.specs.Trials.{Stays};
 
-    ghost invariant = { λ t. Stays t.tables t.name };
+    ghost invariant = { λ t. Stays t.tables t.name t.held };
 }
 
 impl<L: Ledger> Trial<L> {
-    /// A table of tracks with no row and no index.
-    pub(crate) fn new(alloc: Global, blank: Blank) -> Result<Trial<L>, Fail>
+    /// A table of these columns with no row and no index.
+    pub(crate) fn new(alloc: Global, blank: Blank, listed: &str) -> Result<Trial<L>, Fail>
         requires name { blank.name ≡ L.name }
         requires parts { blank.parts ≡ L.parts }
         requires one { blank.parts ≡ 1 }
     {
         let mut steps = Steps::<L>::new(blank);
         let name = Name::new("tracks")?;
-        let columns = track_columns(alloc)?;
+        let columns = columns(alloc, listed)?;
         let mut tables = Tables::new(alloc);
         tables.stage_definition(Some((name, columns)), &[], &mut steps)?;
         tables.settle();
@@ -55,22 +55,26 @@ impl<L: Ledger> Trial<L> {
             alloc,
             tables,
             name,
+            held: false,
             steps,
         })
     }
 
-    /// Stages nothing but an index by the columns of the key.
-    pub(crate) fn stage_index(&mut self, key: &Key) -> Result<(), Fail> {
-        let needs = [need(self.alloc, self.name, key)?];
+    /// Stages nothing but an index by the columns, unless the table is held.
+    pub(crate) fn stages_index(&mut self, columns: &Columns) -> Result<bool, Fail> {
+        if self.held {
+            return Ok(false);
+        }
+        let needs = [need(self.alloc, self.name, columns)?];
         self.tables.unstage();
         self.tables.stage_definition(None, &needs, &mut self.steps)?;
-        Ok(())
+        Ok(true)
     }
 
-    /// Stages nothing but the change that makes these tracks all rows of the table.
-    pub(crate) fn stage_tracks(&mut self, rt: &impl Abort, tracks: &[Track]) -> Result<(), Fail> {
-        let old = relation(self.alloc, &self.tables, &self.name, &mut self.steps)?;
-        let new = track_relation(rt, self.alloc, old.columns(), tracks)?;
+    /// Stages nothing but the change that makes these all rows of the table.
+    pub(crate) fn stages(&mut self, rows: &str) -> Result<bool, Fail> {
+        let old = shown(self.alloc, &self.tables, &self.name, &mut self.steps)?;
+        let new = relation(self.alloc, old.columns(), rows)?;
         new.rows_fit();
         let delta = diff(self.alloc, &old, &new)?;
         self.tables.unstage();
@@ -78,69 +82,99 @@ impl<L: Ledger> Trial<L> {
             table: self.name,
             delta,
         }])?;
-        Ok(())
+        Ok(true)
     }
 
     /// Makes what is staged present.
-    pub(crate) fn settle(&mut self) {
+    pub(crate) fn settles(&mut self) -> bool {
         self.tables.settle();
+        true
     }
 
     /// Drops what is staged.
-    pub(crate) fn unstage(&mut self) {
+    pub(crate) fn drops(&mut self) -> bool {
         self.tables.unstage();
+        true
     }
 
-    /// Whether a walk finds just these tracks, and they are counted.
-    pub(crate) fn is(&mut self, tracks: &[Track]) -> Result<bool, Fail> {
+    /// Remembers the table as it is, unless it is held.
+    pub(crate) fn holds(&mut self) -> bool {
+        if self.held {
+            return false;
+        }
+        self.tables.unstage();
+        self.tables.hold();
+        self.held = true;
+        true
+    }
+
+    /// Lets the table stand as it is, if it is held.
+    pub(crate) fn keeps(&mut self) -> bool {
+        if !self.held {
+            return false;
+        }
+        self.tables.unstage();
+        self.tables.keep();
+        self.held = false;
+        true
+    }
+
+    /// Makes the table what it was when it was held, if it is.
+    pub(crate) fn goes_back(&mut self) -> bool {
+        if !self.held {
+            return false;
+        }
+        self.tables.back();
+        self.held = false;
+        true
+    }
+
+    /// Whether a walk finds just these rows, and they are counted.
+    pub(crate) fn shows(&mut self, rows: &str) -> Result<bool, Fail> {
         let walked = self.tables.walk(&self.name, &mut self.steps)?;
-        let expected = track_rows(self.alloc, tracks)?;
-        let count = self.tables.count(&self.name);
-        Ok(walked.rows() == expected.rows() && count == tracks.len())
+        let counted = self.tables.count(&self.name) == walked.rows().len();
+        Ok(counted && are_rows(self.alloc, &walked, rows)?)
     }
 
-    /// Whether the table has the row of the track.
-    pub(crate) fn has(&mut self, track: &Track) -> Result<bool, Fail> {
-        let row = track_row(self.alloc, track)?;
-        Ok(self.tables.has(&self.name, &row, &mut self.steps))
+    /// Whether the table has the row.
+    pub(crate) fn has(&mut self, row: &Row) -> bool {
+        self.tables.has(&self.name, row, &mut self.steps)
     }
 
-    /// Whether the table may be asked by the columns of the key.
-    pub(crate) fn may_be_asked(&self, key: &Key) -> Result<bool, Fail> {
-        Ok(self.tables.has_index(&need(self.alloc, self.name, key)?))
+    /// Whether the table may be asked by the columns.
+    pub(crate) fn may_be_asked(&self, columns: &Columns) -> Result<bool, Fail> {
+        Ok(
+            self.tables
+                .has_index(&need(self.alloc, self.name, columns)?),
+        )
     }
 
-    /// Whether just these tracks are found by the key.
-    pub(crate) fn finds(
-        &mut self,
-        rt: &impl Abort,
-        key: &Key,
-        tracks: &[Track],
-    ) -> Result<bool, Fail> {
-        let need = need(self.alloc, self.name, key)?;
-        assert!(rt; self.tables.has_index(&need));
-        assert!(rt; key.row.fits(&key.columns));
+    /// Whether just these rows are found by a key of the columns.
+    pub(crate) fn finds(&mut self, columns: &Columns, key: &Row, rows: &str) -> Result<bool, Fail> {
+        let need = need(self.alloc, self.name, columns)?;
+        if !self.tables.has_index(&need) || !key.fits(columns) {
+            return Err(Fail::from("a key by which no index goes"));
+        }
         let found = self
             .tables
-            .find(&self.name, &need.cols, &key.row, &mut self.steps)?;
-        let expected = track_rows(self.alloc, tracks)?;
-        Ok(found.rows() == expected.rows())
+            .find(&self.name, &need.cols, key, &mut self.steps)?;
+        are_rows(self.alloc, &found, rows)
     }
 }
 
-// The need to ask the table by the columns of the key.
-fn need(alloc: Global, table: Name, key: &Key) -> Result<Need, Fail>
+// The need to ask the table by the columns.
+fn need(alloc: Global, table: Name, columns: &Columns) -> Result<Need, Fail>
     ensures { IfOk result (λ need.
-        need ≡ record { table = table; cols = names key.now.columns }) }
+        need ≡ record { table = table; cols = names columns.now }) }
 {
     Ok(Need {
         table,
-        cols: key.columns.names(alloc)?,
+        cols: columns.names(alloc)?,
     })
 }
 
 // The columns and the rows of the table.
-fn relation<L: Ledger>(
+fn shown<L: Ledger>(
     alloc: Global,
     tables: &Tables,
     table: &Name,

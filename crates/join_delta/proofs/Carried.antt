@@ -1,36 +1,45 @@
 -- An edit of a join, carried down to both sources.
-use Rattle.std.proofs.Common.{◌≡◌, List, ◌++◌, refl, sym, ap, ◌∙◌, true, false, inl, inr, arith, Bool}
-use Rattle.std.proofs.lemmas.Bool.{not-true}
-use Rattle.std.specs.Prelude.{not}
+use Rattle.std.proofs.Common.{◌≡◌, List, ◌++◌, length, refl, sym, ap, ◌∙◌, subst, true, false, inl, inr, arith}
+use Rattle.std.proofs.lemmas.Bool.{cases_Bool, not-true, not_from_false}
+use Rattle.std.specs.Ordering.{eq_by_cmp}
+use Rattle.lens_values.specs.Row.{row_cmp}
+use Rattle.lens_values.specs.SortedSet as set
 use Rattle.lens_values.specs.declared.row.Row.{Row}
 use Rattle.lens_specs.specs.Columns.{Columns, Fits, names}
 use Rattle.lens_specs.specs.Delta.{Applies, Delta, diff, new_view}
 use Rattle.lens_specs.specs.Dependencies.{AllEdges, Edge, Meets, MeetsTree}
 use Rattle.lens_specs.specs.Names.{Names, Within}
+use Rattle.lens_specs.specs.Nodes.{join_get, join_left, join_over, join_put_left, join_right}
 use Rattle.lens_specs.specs.Relation.{IsRelation, Relation, Rows, has, minus, project, those, union}
-use Rattle.lens_specs.specs.Nodes.{join_put_left}
-use Rattle.lens_specs.specs.Rows.{cut}
+use Rattle.lens_specs.specs.Rows.{agree, cut, paste}
 use Rattle.lens_laws.specs.KeyedDeltas.{is_over, join_delta_left, join_delta_right, merge_delta, suspects, touched}
 use Rattle.fd_laws.specs.Trees.{EdgesWithin, IsTree}
 use Rattle.lens_laws.specs.Shapes.{CanJoin, IsIn, Shape, join_shape}
 use Rattle.fd_laws.proofs.Closures.{closure_is, implies_sound}
-use Rattle.lens_laws.proofs.Deltas.{from_found_each, from_touched, in_new_view_added, merge_adds}
-use Rattle.lens_laws.proofs.Join.{from_natural, in_put_left, not_over, part_left, part_right, view_left}
-use Rattle.lens_laws.proofs.JoinDelta.{from_suspects, join_delta_left_is, join_delta_right_is, split_left, sub_left}
-use Rattle.fd_laws.proofs.Lists.{absurd_false, false_from}
-use Rattle.fd_laws.proofs.Relations.{from_minus, from_project, from_those, from_union, in_minus, in_project, same_rel, sets}
+use Rattle.lens_laws.proofs.Deltas.{diff_leads, from_found_each, from_touched, in_new_view_added, merge_adds, merge_delta_is}
+use Rattle.lens_laws.proofs.Join.{from_natural, from_over, in_over, in_put_left, left_sort, natural_paste, not_over, part_left, part_right, right_sort, view_left}
+use Rattle.lens_laws.proofs.JoinDelta.{from_suspects, in_suspects, join_delta_left_is, join_delta_right_is, split_left, sub_left}
+use Rattle.lens_laws.proofs.JoinKindDeltas.{over_pair}
+use Rattle.fd_laws.proofs.Lists.{absurd_false, any_at, false_from}
+use Rattle.fd_laws.proofs.Relations.{from_join, from_minus, from_project, from_those, from_union, in_join, in_minus, in_project, in_those, in_union_left, in_union_right, same_rel, sets}
+use Rattle.fd_laws.proofs.Rows.{row_itself, tied_row}
 use Rattle.fd_laws.proofs.TreeForms.{all_append, append_parts}
 use Rattle.fd_laws.proofs.Trees.{each_edge}
 use Rattle.signed_delta.specs.Disjoint.{AreApart}
 use Rattle.signed_delta.proofs.Differences.{sides_apart}
 use Rattle.revision.proofs.Runs.{revised_fit}
-use Rattle.join_delta.specs.Joined.{AreJoined, CanBeJoined, edited, edited_left, edited_right, joined, shared_names}
+use Rattle.join_delta.proofs.Keyed.{decided_keyed}
+use Rattle.join_delta.proofs.NoRows.{minus_none}
+use Rattle.join_delta.specs.Joined.{AreJoined, AreKeyed, CanBeJoined, edited, edited_left, edited_right, joined, shared_names}
 
 -- the sides of a difference have no row in common
 pub apart : (M N remove add : Rows) → ◌≡◌ {A = Delta} (record { remove = remove; add = add }) (diff M N) → AreApart remove add
 unfolding diff
 apart M N remove add is r i =
     ap (λ d. has d.add r) is ∙ sides_apart M N r (ap (λ d. has d.remove r) (sym is) ∙ i)
+
+pub diff_apart : (M N : Rows) (d : Delta) → d ≡ diff M N → AreApart d.remove d.add
+diff_apart M N d is = apart M N d.remove d.add is
 
 -- the left sides of edges within the columns
 pub lefts_within : (U : Names) (T : List Edge) → EdgesWithin U T → AllEdges (λ e. Within e.left U) T
@@ -44,6 +53,16 @@ merge_fits U T M A fit new r i = elim (from_union _ (minus A M) r i) [
   | inl j ↦ revised_fit U T (touched T M A) A new (λ m k. fit m (from_touched T M A m k).0) r j
   | inr j ↦ new r (from_minus A M r j).0
 ]
+
+is_over_by : (S V : Names) (N O : Rows) (r n : Row) → has N n ≡ true → agree S r n ≡ true → has O (paste r V n) ≡ false → is_over S V N O r ≡ true
+unfolding is_over
+is_over_by S V N O r n i g z = any_at (eq_by_cmp row_cmp) tied_row row_itself _ (set.items (those (agree S r) N)) n (sym (set.contains-items _ n) ∙ in_those (agree S r) N n i g) (not_from_false _ z)
+
+-- the left rows that are tested: the suspects that the merge leaves, and what it adds beside the parts of added rows
+abbrev pub tested : Relation → Relation → List Edge → List Edge → Delta → Rows
+tested A B F G d = union
+    (minus (suspects (shared_names A.columns B.columns) (names A.columns) A.rows d (join_delta_right (names B.columns) G B.rows d).add) (merge_delta F A.rows (project (names A.columns) d.add)).remove)
+    (minus (merge_delta F A.rows (project (names A.columns) d.add)).add (project (names A.columns) d.add))
 
 module _ (A B : Relation) (F G : List Edge) (d : Delta) (can : CanBeJoined A.columns B.columns F G) (fit_left : IsRelation A) (fit_right : IsRelation B)
     (tree_left : IsTree F) (tree_right : IsTree G)
@@ -63,7 +82,7 @@ module _ (A B : Relation) (F G : List Edge) (d : Delta) (can : CanBeJoined A.col
   abbrev t : Shape
   t = record { columns = B.columns; holds = λ _. true; tree = G }
 
-  passes : CanJoin s t (F ++ G)
+  pub passes : CanJoin s t (F ++ G)
   passes = record {
     kinds = can.kinds;
     tree_left = tree_left;
@@ -79,13 +98,13 @@ module _ (A B : Relation) (F G : List Edge) (d : Delta) (can : CanBeJoined A.col
     decides = λ N m. implies_sound S V _ G N (closure_is S G) can.decides m;
   }
 
-  of_left : IsIn A.rows s
+  pub of_left : IsIn A.rows s
   of_left = record { columns = fit_left; holds = λ r i. refl; meets = left_meets }
 
-  of_right : IsIn B.rows t
+  pub of_right : IsIn B.rows t
   of_right = record { columns = fit_right; holds = λ r i. refl; meets = right_meets }
 
-  of_view : IsIn (edited A B d) (join_shape s t (F ++ G))
+  pub of_view : IsIn (edited A B d) (join_shape s t (F ++ G))
   of_view = record { columns = view.columns; holds = λ r i. refl; meets = all_append (λ e. Meets (edited A B d) e.left e.right) F G view.left view.right }
 
   -- the parts of added rows have the columns
@@ -110,6 +129,13 @@ module _ (A B : Relation) (F G : List Edge) (d : Delta) (can : CanBeJoined A.col
   pub right_is : join_delta_right V G B.rows d ≡ diff B.rows (edited_right A B G d)
   right_is = join_delta_right_is s t (F ++ G) passes A.rows B.rows d of_left of_right applies of_view
 
+  -- the shared columns tell apart the rows of the new right source
+  pub right_keyed : AreKeyed S (new_view B.rows (join_delta_right V G B.rows d))
+  right_keyed =
+      let made = ap (new_view B.rows) right_is ∙ diff_leads B.rows (edited_right A B G d) in
+      let sort = right_sort s t (F ++ G) passes (edited A B d) B.rows of_right of_view in
+      subst (AreKeyed S) (sym made) (decided_keyed S B.columns (edited_right A B G d) sort.columns (passes.decides (edited_right A B G d) sort.meets))
+
   pub left_is : join_delta_left U V F G A.rows B.rows (edited A B d) d ≡ diff A.rows (edited_left A F B G d)
   left_is = join_delta_left_is s t (F ++ G) passes A.rows B.rows d of_left of_right applies of_view
 
@@ -124,14 +150,8 @@ module _ (A B : Relation) (F G : List Edge) (d : Delta) (can : CanBeJoined A.col
       (split_left s t (F ++ G) passes A.rows B.rows d of_left of_right applies of_view)
       (sub_left s t (F ++ G) passes A.rows B.rows d of_left of_right applies of_view) r i).1
 
-  -- no suspect comes
-  pub suspects_stay : (r : Row) → has (suspects S U A.rows d (join_delta_right V G B.rows d).add) r ≡ true → has come r ≡ false
-  suspects_stay r i =
-      let there = from_suspects s t (F ++ G) passes A.rows B.rows d of_left of_right applies of_view r i in
-      false_from _ (λ k. absurd_false _ there (come_apart r k))
-
   -- an added row's part is not over
-  pub parts_stay : (r : Row) → has come r ≡ true → has (project U d.add) r ≡ true → is_over S V (new_view B.rows (join_delta_right V G B.rows d)) (edited A B d) r ≡ false
+  parts_stay : (r : Row) → has come r ≡ true → has (project U d.add) r ≡ true → is_over S V (new_view B.rows (join_delta_right V G B.rows d)) (edited A B d) r ≡ false
   unfolding join_delta_left diff
   parts_stay r i j =
       let O = edited A B d in
@@ -143,46 +163,127 @@ module _ (A B : Relation) (F G : List Edge) (d : Delta) (can : CanBeJoined A.col
       let added = ap (λ (x : Delta). has x.add r) left_is ∙ in_minus new A.rows r kept (come_apart r i) in
       not-true _ (from_those _ come r added).1
 
--- what of the change is tested
-module _ (p : Row → Bool) (L : Delta) (suspect own : Rows) (old : (r : Row) → has suspect r ≡ true → has L.add r ≡ false) (kept : (r : Row) → has L.add r ≡ true → has own r ≡ true → p r ≡ false) where
-  abbrev pub tested : Rows
-  tested = union (minus suspect L.remove) (minus L.add own)
+  -- both sources after the merge
+  abbrev pub merged_left : Rows
+  merged_left = join_left (names A.columns) F (edited A B d) A.rows
 
-  gone_are : union L.remove (minus (those p tested) L.add) ≡ union L.remove (those p suspect)
-  gone_are = same_rel _ _ (λ r i. grind (arith, sets, old r, kept r)) (λ r i. grind (arith, sets, old r, kept r))
+  abbrev pub merged_right : Rows
+  merged_right = join_right (names B.columns) G (edited A B d) B.rows
 
-  come_are : minus L.add (those p tested) ≡ those (λ r. not (p r)) L.add
-  come_are = same_rel _ _ (λ r i. grind (arith, sets, old r, kept r)) (λ r i. grind (arith, sets, old r, kept r))
+  pub left_merges : merge_delta F A.rows (project U d.add) ≡ diff A.rows merged_left
+  unfolding join_left
+  left_merges =
+      merge_delta_is F A.rows (project U (edited A B d)) (project U d.add) tree_left left_meets
+      (part_left s t (F ++ G) passes (edited A B d) of_view).meets
+      (split_left s t (F ++ G) passes A.rows B.rows d of_left of_right applies of_view)
+      (sub_left s t (F ++ G) passes A.rows B.rows d of_left of_right applies of_view)
 
--- the left change, from its parts
-module _ (A B : Relation) (F G : List Edge) (d right merged : Delta) (suspect own some over remove add : Rows) where
-  abbrev is_extra : Delta → Row → Bool
-  is_extra R = is_over (shared_names A.columns B.columns) (names B.columns) (new_view B.rows R) (edited A B d)
+  abbrev new_right : Rows
+  new_right = new_view B.rows (join_delta_right (names B.columns) G B.rows d)
 
-  abbrev R : Delta
-  R = join_delta_right (names B.columns) G B.rows d
+  right_merges : new_right ≡ merged_right
+  right_merges = ap (new_view B.rows) right_is ∙ diff_leads B.rows merged_right
 
-  abbrev left : Delta
-  left = merge_delta F A.rows (project (names A.columns) d.add)
+  abbrev gone : Rows
+  gone = (merge_delta F A.rows (project U d.add)).remove
 
-  abbrev suspected : Delta → Rows
-  suspected x = suspects (shared_names A.columns B.columns) (names A.columns) A.rows d x.add
+  -- what is tested is merged
+  from_tested : (r : Row) → has (tested A B F G d) r ≡ true → has merged_left r ≡ true
+  unfolding diff
+  from_tested r i = elim (from_union (minus (suspects S U A.rows d (join_delta_right V G B.rows d).add) gone) (minus come (project U d.add)) r i) [
+    | inl j ↦
+        let w = from_minus (suspects S U A.rows d (join_delta_right V G B.rows d).add) gone r j in
+        let there = from_suspects s t (F ++ G) passes A.rows B.rows d of_left of_right applies of_view r w.0 in
+        elim (cases_Bool (has merged_left r)) [
+          | inl y ↦ y
+          | inr z ↦ absurd_false _ (ap (λ (x : Delta). has x.remove r) left_merges ∙ in_minus A.rows merged_left r there z) w.1
+        ]
+    | inr j ↦
+        let w = from_minus come (project U d.add) r j in
+        (from_minus merged_left A.rows r (ap (λ (x : Delta). has x.add r) (sym left_merges) ∙ w.0)).0
+  ]
 
-  pub carried : ((r : Row) → has (suspected R) r ≡ true → has left.add r ≡ false)
-      → ((r : Row) → has left.add r ≡ true → has (project (names A.columns) d.add) r ≡ true → is_extra R r ≡ false)
-      → right ≡ R → merged ≡ left → own ≡ project (names A.columns) d.add → suspect ≡ suspected right
-      → some ≡ union (minus suspect merged.remove) (minus merged.add own) → over ≡ those (is_extra right) some
-      → remove ≡ union merged.remove (minus over merged.add) → add ≡ minus merged.add over
-      → ◌≡◌ {A = Delta} (record { remove = remove; add = add }) (join_delta_left (names A.columns) (names B.columns) F G A.rows B.rows (edited A B d) d)
-  unfolding join_delta_left
-  carried old kept changes merges owns suspects_are somes overs removes adds =
-      let C = project (names A.columns) d.add in
-      let suspects_is : suspect ≡ suspected R = suspects_are ∙ (λ i. suspected (changes i)) in
-      let some_is : some ≡ union (minus (suspected R) left.remove) (minus left.add C) =
-      somes ∙ (λ i. union (minus (suspects_is i) (merges i).remove) (minus (merges i).add (owns i))) in
-      let over_is : over ≡ those (is_extra R) (union (minus (suspected R) left.remove) (minus left.add C)) = overs ∙ (λ i. those (is_extra (changes i)) (some_is i)) in
-      let removed : remove ≡ union left.remove (those (is_extra R) (suspected R)) =
-      removes ∙ (λ i. union (merges i).remove (minus (over_is i) (merges i).add)) ∙ gone_are (is_extra R) left (suspected R) C old kept in
-      let added : add ≡ those (λ r. not (is_extra R r)) left.add =
-      adds ∙ (λ i. minus (merges i).add (over_is i)) ∙ come_are (is_extra R) left (suspected R) C old kept in
-      λ i. record { remove = removed i; add = added i }
+  -- a merged row that is over is tested
+  in_tested : (r : Row) → has merged_left r ≡ true → is_over S V new_right (edited A B d) r ≡ true → has (tested A B F G d) r ≡ true
+  unfolding diff
+  in_tested r i h = elim (cases_Bool (has A.rows r)) [
+    | inl y ↦ in_union_left (minus (suspects S U A.rows d (join_delta_right V G B.rows d).add) gone) (minus come (project U d.add)) r
+        (in_minus (suspects S U A.rows d (join_delta_right V G B.rows d).add) gone r
+        (in_suspects s t (F ++ G) passes A.rows B.rows d of_left of_right applies of_view r y h)
+        (false_from _ (λ k. absurd_false _ i (from_minus A.rows merged_left r (ap (λ (x : Delta). has x.remove r) (sym left_merges) ∙ k)).1)))
+    | inr z ↦
+        let new : has come r ≡ true = ap (λ (x : Delta). has x.add r) left_merges ∙ in_minus merged_left A.rows r i z in
+        in_union_right (minus (suspects S U A.rows d (join_delta_right V G B.rows d).add) gone) (minus come (project U d.add)) r
+        (in_minus come (project U d.add) r new (false_from _ (λ k. absurd_false _ h (parts_stay r new k))))
+  ]
+
+  -- the rows that are joined too much are those of the tested rows
+  pub surplus_is : minus (join_get U V (tested A B F G d) new_right) (edited A B d) ≡ join_over U V F G (edited A B d) A.rows B.rows
+  unfolding join_get
+  surplus_is =
+      let O = edited A B d in
+      same_rel _ _
+      (λ w i.
+      let v = from_minus (join_get U V (tested A B F G d) new_right) O w i in
+      let p = from_join S V (tested A B F G d) new_right w v.0 in
+      in_over s t (F ++ G) passes O A.rows B.rows w
+      (ap (has (join_get U V merged_left merged_right)) p.5 ∙ in_join S V merged_left merged_right p.0 p.1 (from_tested p.0 p.2) (ap (λ M. has M p.1) (sym right_merges) ∙ p.3) p.4) v.1)
+      (λ w i.
+      let v = from_over s t (F ++ G) passes O A.rows B.rows w i in
+      let hM = (left_sort s t (F ++ G) passes O A.rows of_left of_view).columns in
+      let hN = (right_sort s t (F ++ G) passes O B.rows of_right of_view).columns in
+      let nat = from_natural A.columns B.columns merged_left merged_right hM hN w v.0 in
+      let p = natural_paste A.columns B.columns merged_left merged_right hM hN w v.0 in
+      let new : has new_right (cut V w) ≡ true = ap (λ M. has M (cut V w)) right_merges ∙ nat.1 in
+      let over : is_over S V new_right O (cut U w) ≡ true = is_over_by S V new_right O (cut U w) (cut V w) new p.1 (ap (has O) p.0 ∙ v.1) in
+      in_minus (join_get U V (tested A B F G d) new_right) O w
+      (ap (has (join_get U V (tested A B F G d) new_right)) (sym p.0) ∙ in_join S V (tested A B F G d) new_right (cut U w) (cut V w) (in_tested (cut U w) nat.0 over) new p.1) v.1)
+
+  -- their left parts are merged rows
+  pub over_left : (r : Row) → has (project U (join_over U V F G (edited A B d) A.rows B.rows)) r ≡ true → has merged_left r ≡ true
+  over_left r i =
+      let w = from_project U (join_over U V F G (edited A B d) A.rows B.rows) r i in
+      ap (has merged_left) w.2 ∙ (over_pair s t (F ++ G) passes A.rows B.rows d of_left of_right applies of_view w.0 w.1).0
+
+  -- and so are their right parts
+  pub over_right : (w : Row) → has (join_over U V F G (edited A B d) A.rows B.rows) w ≡ true → has merged_right (cut V w) ≡ true
+  over_right w i = (over_pair s t (F ++ G) passes A.rows B.rows d of_left of_right applies of_view w i).1
+
+-- the surplus, from what the code makes one after the other
+module _ (A B : Relation) (F G : List Edge) (d right merged : Delta) (suspect own some over : Rows) where
+  pub surplus_made : right ≡ join_delta_right (names B.columns) G B.rows d → merged ≡ merge_delta F A.rows (project (names A.columns) d.add)
+      → own ≡ project (names A.columns) d.add → suspect ≡ suspects (shared_names A.columns B.columns) (names A.columns) A.rows d right.add
+      → some ≡ union (minus suspect merged.remove) (minus merged.add own)
+      → over ≡ minus (join_get (names A.columns) (names B.columns) some (new_view B.rows right)) (edited A B d)
+      → over ≡ minus (join_get (names A.columns) (names B.columns) (tested A B F G d) (new_view B.rows (join_delta_right (names B.columns) G B.rows d))) (edited A B d)
+  surplus_made changes merges owns suspects_are somes overs =
+      let suspects_is : suspect ≡ suspects (shared_names A.columns B.columns) (names A.columns) A.rows d (join_delta_right (names B.columns) G B.rows d).add =
+      suspects_are ∙ (λ i. suspects (shared_names A.columns B.columns) (names A.columns) A.rows d (changes i).add) in
+      let some_is : some ≡ tested A B F G d = somes ∙ (λ i. union (minus (suspects_is i) (merges i).remove) (minus (merges i).add (owns i))) in
+      overs ∙ (λ i. minus (join_get (names A.columns) (names B.columns) (some_is i) (new_view B.rows (changes i))) (edited A B d))
+
+-- ---- fewer rows than a change leads to
+
+-- the change to fewer rows, from its parts
+pub fewer : (M N X : Rows) (c : Delta) (remove add : Rows) → c ≡ diff M N → ((r : Row) → has X r ≡ true → has N r ≡ true)
+    → remove ≡ union c.remove (minus X c.add) → add ≡ minus c.add X → ◌≡◌ {A = Delta} (record { remove = remove; add = add }) (diff M (minus N X))
+unfolding diff
+fewer M N X c remove add is sub removes adds =
+    let gone : union (minus M N) (minus X (minus N M)) ≡ minus M (minus N X) = same_rel _ _ (λ r i. grind (arith, sets, sub r)) (λ r i. grind (arith, sets, sub r)) in
+    let come : minus (minus N M) X ≡ minus (minus N X) M = same_rel _ _ (λ r i. grind (arith, sets)) (λ r i. grind (arith, sets)) in
+    let removed : remove ≡ minus M (minus N X) = removes ∙ (λ i. union (is i).remove (minus X (is i).add)) ∙ gone in
+    let added : add ≡ minus (minus N X) M = adds ∙ (λ i. minus (is i).add X) ∙ come in
+    λ i. record { remove = removed i; add = added i }
+
+-- no row is on both of its sides
+pub fewer_apart : (X : Rows) (c : Delta) (remove add : Rows) → AreApart c.remove c.add → remove ≡ union c.remove (minus X c.add) → add ≡ minus c.add X → AreApart remove add
+fewer_apart X c remove add both removes adds r i = ap (λ M. has M r) adds ∙ false_from _ (λ k.
+    let v = from_minus c.add X r k in
+    elim (from_union c.remove (minus X c.add) r (ap (λ M. has M r) (sym removes) ∙ i)) [
+      | inl j ↦ absurd_false _ v.0 (both r j)
+      | inr j ↦ absurd_false _ (from_minus X c.add r j).0 v.1
+    ])
+
+-- fewer by no rows
+pub not_fewer : (M N X : Rows) (c : Delta) → length (set.items X) ≡ 0 → c ≡ diff M N → c ≡ diff M (minus N X)
+not_fewer M N X c none is = is ∙ ap (diff M) (sym (minus_none N X none))

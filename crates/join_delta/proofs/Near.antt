@@ -1,36 +1,36 @@
--- Left rows that are over, found among the pairs with the right rows near them.
-use Rattle.std.proofs.Common.{◌≡◌, List, Bool, not, is_some, length, sym, ap, ◌∙◌, subst, true, false, inl, inr, arith}
-use Rattle.std.specs.Ordering.{eq_by_cmp}
-use Rattle.std.proofs.lemmas.Bool.{and_from, and_parts, not-true, not_from_false}
+-- Pairs of left rows that the view lacks, found among those with the right rows near them.
+use Rattle.std.proofs.Common.{◌≡◌, List, not, is_some, length, sym, ap, ◌∙◌, subst, true, inl, inr, arith}
+use Rattle.std.proofs.lemmas.Bool.{and_from, and_parts}
 use Rattle.lens_values.specs.Part.{restrict}
-use Rattle.lens_values.specs.Row.{row_cmp}
 use Rattle.lens_values.specs.SortedSet as set
 use Rattle.lens_values.specs.declared.row.Row.{Row}
 use Rattle.lens_specs.specs.Columns.{Columns, Fits, names}
 use Rattle.lens_specs.specs.Delta.{Delta, new_view}
 use Rattle.lens_specs.specs.Names.{Name, Names}
 use Rattle.lens_specs.specs.Nodes.{join_get}
-use Rattle.lens_specs.specs.Relation.{Rows, has, minus, project, those}
+use Rattle.lens_specs.specs.Relation.{Rows, has, minus, those}
 use Rattle.lens_specs.specs.Rows.{agree, at, cut, paste}
-use Rattle.lens_laws.specs.KeyedDeltas.{found_each, is_over}
+use Rattle.lens_laws.specs.KeyedDeltas.{found_each}
 use Rattle.fd_laws.proofs.Columns.{fits_names}
 use Rattle.lens_laws.proofs.Deltas.{from_found_each, from_new_view, in_found_each, in_new_view_added, in_new_view_kept}
 use Rattle.lens_laws.proofs.Join.{cut_left, cut_right, from_natural, in_natural}
-use Rattle.fd_laws.proofs.Lists.{absurd_false, any_at, any_from, both_ways, false_from}
+use Rattle.fd_laws.proofs.Lists.{absurd_false, both_ways, false_from}
 use Rattle.fd_laws.proofs.Names.{from_shared}
-use Rattle.fd_laws.proofs.Relations.{from_join, from_minus, from_project, from_those, in_join, in_minus, in_project, in_those, same_rel, sets}
-use Rattle.fd_laws.proofs.Rows.{row_itself, tied_row}
+use Rattle.fd_laws.proofs.Relations.{from_join, from_minus, from_those, in_join, in_minus, in_those, same_rel, sets}
 use Rattle.row_sets.specs.Joins.{pairs_on}
 use Rattle.row_sets.proofs.Natural.{natural_is}
 use Rattle.join_delta.specs.Joined.{shared_names}
 use Rattle.join_delta.specs.Pairs.{has_parts, shows}
 use Rattle.join_delta.proofs.NoRows.{has_none}
 
--- where there are no rows, none of them passes a test
-pub none_pass : (p : Row → Bool) (M N : Rows) (rows : List Row) → rows ≡ set.items M → length rows ≡ 0 → N ≡ set.empty → N ≡ those p M
-none_pass p M N rows listed none is = is ∙ same_rel _ _
+-- no rows join to none
+pub none_left : (U V : Names) (X N O over : Rows) (rows : List Row) → rows ≡ set.items X → length rows ≡ 0 → over ≡ set.empty → over ≡ minus (join_get U V X N) O
+unfolding join_get
+none_left U V X N O over rows listed none is = is ∙ same_rel _ _
     (λ r i. absurd_false _ i (set.contains-empty _ r))
-    (λ r i. absurd_false _ (from_those p M r i).0 (has_none M r (ap length (sym listed) ∙ none)))
+    (λ r i.
+    let p = from_join (set.intersection U V) V X N r (from_minus (join_get U V X N) O r i).0 in
+    absurd_false _ p.2 (has_none X p.0 (ap length (sym listed) ∙ none)))
 
 -- a row over the columns of one side has a value in each shared column
 pub shared_left : (U V : Columns) (r : Row) → Fits U r → (c : Name) → set.contains (shared_names U V) c ≡ true → is_some (at r c) ≡ true
@@ -38,18 +38,6 @@ shared_left U V r fit c i = fits_names U r fit c ∙ (from_shared (names U) (nam
 
 pub shared_right : (U V : Columns) (r : Row) → Fits V r → (c : Name) → set.contains (shared_names U V) c ≡ true → is_some (at r c) ≡ true
 shared_right U V r fit c i = fits_names V r fit c ∙ (from_shared (names U) (names V) c i).1
-
--- what a left row is over by
-over_by : (S V : Names) (N O : Rows) (r : Row) → is_over S V N O r ≡ true → (n : Row) × (has N n ≡ true) × (agree S r n ≡ true) × (has O (paste r V n) ≡ false)
-unfolding is_over
-over_by S V N O r h =
-    let w = any_from (eq_by_cmp row_cmp) tied_row row_itself _ (set.items (those (agree S r) N)) h in
-    let v = from_those (agree S r) N w.0 (set.contains-items _ w.0 ∙ w.1) in
-    (w.0, v.0, v.1, not-true _ w.2)
-
-is_over_by : (S V : Names) (N O : Rows) (r n : Row) → has N n ≡ true → agree S r n ≡ true → has O (paste r V n) ≡ false → is_over S V N O r ≡ true
-unfolding is_over
-is_over_by S V N O r n i g z = any_at (eq_by_cmp row_cmp) tied_row row_itself _ (set.items (those (agree S r) N)) n (sym (set.contains-items _ n) ∙ in_those (agree S r) N n i g) (not_from_false _ z)
 
 -- X are left rows; the right source is changed, and the join edited
 module _ (U V : Columns) (M N X : Rows) (change d : Delta) (fit_left : (m : Row) → has M m ≡ true → Fits U m) (fit_right : (n : Row) → has N n ≡ true → Fits V n)
@@ -138,25 +126,22 @@ module _ (U V : Columns) (M N X : Rows) (change d : Delta) (fit_left : (m : Row)
   unfolding new_view
   lacking_are = same_rel _ _ (λ r i. grind (arith, sets)) (λ r i. grind (arith, sets))
 
-  -- their left parts
-  pub over_are : project (names U) (minus pairs (new_view old d)) ≡ those (is_over S (names V) (new_view N change) (new_view J d)) X
+  -- all of them, whether near or not
+  pairs_new : pairs ≡ join_get (names U) (names V) X (new_view N change)
+  unfolding join_get
+  pairs_new = same_rel _ _
+      (λ q i.
+      let p = from_join S (names V) X near q i in
+      ap (has (join_get (names U) (names V) X (new_view N change))) p.5 ∙ in_join S (names V) X (new_view N change) p.0 p.1 p.2 (near_new p.1 p.3) p.4)
+      (λ q i.
+      let p = from_join S (names V) X (new_view N change) q i in
+      ap (has pairs) p.5 ∙ in_join S (names V) X near p.0 p.1 p.2 (new_near p.0 p.1 p.2 p.3 p.4) p.4)
+
+  -- those that the edited join lacks
+  over_are : minus pairs (new_view old d) ≡ minus pairs (new_view J d)
   over_are = same_rel _ _
-      (λ x i.
-      let w = from_project (names U) (minus pairs (new_view old d)) x i in
-      let v = from_minus pairs (new_view old d) w.0 w.1 in
-      let p = from_pairs w.0 v.0 in
-      let is : x ≡ p.0 = w.2 ∙ ap (cut (names U)) p.5 ∙ left_part p.0 p.1 p.2 p.3 p.4 in
-      let lacks : has (new_view J d) (paste p.0 (names V) p.1) ≡ false =
-      ap (has (new_view J d)) (sym p.5) ∙ false_from _ (λ h. absurd_false _ (in_view w.0 v.0 h) v.1) in
-      ap (has _) is ∙ in_those _ X p.0 p.2 (is_over_by S (names V) (new_view N change) (new_view J d) p.0 p.1 (near_new p.1 p.3) p.4 lacks))
-      (λ x i.
-      let w = from_those _ X x i in
-      let b = over_by S (names V) (new_view N change) (new_view J d) x w.1 in
-      let j = new_near x b.0 w.0 b.1 b.2 in
-      let q = paste x (names V) b.0 in
-      let extra : has (minus pairs (new_view old d)) q ≡ true =
-      in_minus pairs (new_view old d) q (in_pairs x b.0 w.0 j b.2) (false_from _ (λ h. absurd_false _ (from_view q h) b.3)) in
-      ap (has _) (sym (left_part x b.0 w.0 j b.2)) ∙ in_project (names U) _ q extra)
+      (λ q i. let v = from_minus pairs (new_view old d) q i in in_minus pairs (new_view J d) q v.0 (false_from _ (λ h. absurd_false _ (in_view q v.0 h) v.1)))
+      (λ q i. let v = from_minus pairs (new_view J d) q i in in_minus pairs (new_view old d) q v.0 (false_from _ (λ h. absurd_false _ (from_view q h) v.1)))
 
   -- the pairs as they are made
   pub pairs_are : pairs_on S X near ≡ pairs
@@ -178,8 +163,5 @@ module _ (U V : Columns) (M N X : Rows) (change d : Delta) (fit_left : (m : Row)
     pub right_fits : (q : Row) → has made_pairs q ≡ true → Fits V (restrict VN q)
     right_fits q i = subst (λ C. Fits V (restrict C q)) (sym vn) (right_part_fits q (ap (λ P. has P q) (sym pairs_is) ∙ i))
 
-    pub over_made : (extra : Rows) → extra ≡ those (λ q. not (shows UN VN M N d q)) made_pairs
-        → project UN extra ≡ those (is_over S (names V) (new_view N change) (new_view J d)) X
-    over_made extra is_extra =
-        let extras : extra ≡ minus pairs (new_view old d) = is_extra ∙ (λ i. those (λ q. not (shows (un i) (vn i) M N d q)) (pairs_is i)) ∙ lacking_are in
-        (λ i. project (un i) (extras i)) ∙ over_are
+    pub over_made : those (λ q. not (shows UN VN M N d q)) made_pairs ≡ minus (join_get (names U) (names V) X (new_view N change)) (new_view J d)
+    over_made = (λ i. those (λ q. not (shows (un i) (vn i) M N d q)) (pairs_is i)) ∙ lacking_are ∙ over_are ∙ ap (λ P. minus P (new_view J d)) pairs_new

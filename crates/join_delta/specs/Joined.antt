@@ -9,6 +9,7 @@ use Rattle.lens_specs.specs.Dependencies.{Edge, MeetsTree, closure}
 use Rattle.lens_specs.specs.Names.{Name, Names, Within}
 use Rattle.lens_specs.specs.Nodes.{join_get, join_put_left, join_right}
 use Rattle.lens_specs.specs.Relation.{Relation, Rows, has}
+use Rattle.lens_specs.specs.Rows.{agree}
 use Rattle.fd_laws.specs.Trees.{EdgesWithin}
 
 -- the shared columns
@@ -49,3 +50,7 @@ edited_left A F B G d =
 -- the right source after the same put
 abbrev pub edited_right : Relation → Relation → List Edge → Delta → Rows
 edited_right A B G d = join_right (names B.columns) G (edited A B d) B.rows
+
+-- two of the rows that agree on S are one
+abbrev pub AreKeyed : Names → Rows → Type 0
+AreKeyed S N = (m n : Row) → has N m ≡ true → has N n ≡ true → agree S m n ≡ true → m ≡ n

@@ -1,20 +1,15 @@
 //! The edit of a join, taken to both sources.
-ghost use Rattle.std.specs.Prelude.{◌≡◌, ◌≢◌, true, length, Contains, IfOk, is_some};
-ghost use Rattle.lens_values.specs.SortedSet as set;
+ghost use Rattle.std.specs.Prelude.{◌≡◌, ◌≤◌, ◌+◌, ◌*◌, ℕ, length, Contains, IfOk};
 ghost use Rattle.lens_specs.specs.Delta.{Applies, diff};
 ghost use Rattle.lens_specs.specs.Dependencies.{AllEdges, MeetsTree};
-ghost use Rattle.lens_specs.specs.Relation.{minus, union};
-ghost use Rattle.lens_specs.specs.Rows.{at};
-ghost use Rattle.lens_laws.specs.KeyedDeltas.{suspects as suspects_of};
+ghost use Rattle.lens_laws.specs.Work.{node_work, rows_down, rows_of};
 ghost use Rattle.join_delta.specs.Joined.{AreJoined, CanBeJoined, edited, edited_left, edited_right, joined, shared_names};
 
-use crate::merging::{Change, merge_change};
-use crate::over::over_rows;
-use crate::sides::{Sides, sides_of};
+use crate::merging::without;
+use crate::sources::merge_sources;
 use fd_tree::Tree;
 use lens_values::NoMemory;
-use row_sets::RowSet;
-use signed_delta::{Delta, Look, find_each, rows_fit};
+use signed_delta::{Delta, Look, finds_are_few, rows_fit};
 use std::alloc::Global;
 use std::sync::ledger::Ledger;
 use step_counter::Steps;
@@ -24,10 +19,7 @@ use step_counter::Steps;
 /// which deletes on the left.
 ///
 /// Each source is merged with its part of the added rows. Then each left row goes that would still
-/// join to a row that the edited view lacks. Only the parts of removed rows, the rows that agree
-/// with a new or revised right row, and the merged rows can be such rows, so these alone are
-/// tested: not those that the merge removes, which go in any case, nor the parts of added rows,
-/// which join to the added rows alone.
+/// join to a row that the edited view lacks.
 pub fn join_delta<A: Look, B: Look, L: Ledger>(
     alloc: Global,
     left: &A,
@@ -56,70 +48,26 @@ pub fn join_delta<A: Look, B: Look, L: Ledger>(
     ensures right { let R = A.relation left.now in let Q = B.relation right.now in
         let after = edited_right R Q right_tree.now delta.now in
         IfOk result (λ changes. changes.1 ≡ diff Q.rows after) }
+    ensures looks { (a b : ℕ) → A.within left.now a → B.within right.now b
+        → length left_tree.now ≤ 64 → length right_tree.now ≤ 64
+        → looked.new ≤ looked.old + node_work (rows_of delta.now) (2 * a * b) }
+    ensures left_few { IfOk result (λ changes.
+        (a b : ℕ) → A.within left.now a → B.within right.now b
+        → length left_tree.now ≤ 64 → length right_tree.now ≤ 64
+        → rows_of changes.0 ≤ rows_down (rows_of delta.now) (2 * a * b)) }
+    ensures right_few { IfOk result (λ changes.
+        (a b : ℕ) → A.within left.now a → B.within right.now b
+        → length left_tree.now ≤ 64 → length right_tree.now ≤ 64
+        → rows_of changes.1 ≤ rows_down (rows_of delta.now) (2 * a * b)) }
 {
+    finds_are_few(left);
+    finds_are_few(right);
     rows_fit(left);
     rows_fit(right);
     left_tree.is_tree();
     right_tree.is_tree();
-    let sides = sides_of(alloc, left.columns(), right.columns())?;
-    let right_rows = delta.add().project(alloc, &sides.right)?;
-    let change = merge_change(alloc, right_tree, right, &right_rows, looked)?;
-    let right_change = Delta::new(change.remove, change.add);
-    let left_rows = delta.add().project(alloc, &sides.left)?;
-    let merged = merge_change(alloc, left_tree, left, &left_rows, looked)?;
-    let suspects = suspects(alloc, &sides, left, &right_change, delta, looked)?;
-    let tested = tested(alloc, &suspects, &merged, &left_rows)?;
-    let over = over_rows(
-        alloc,
-        &tested,
-        &sides,
-        left,
-        right,
-        &right_change,
-        delta,
-        looked,
-    )?;
-    let left_change = merged.without(alloc, &over)?;
-    let left_change = Delta::new(left_change.remove, left_change.add);
-    Ok((left_change, right_change))
-}
-
-// The left rows that may have to go: the parts of removed rows, and those that agree with a new
-// right row.
-fn suspects<A: Look, L: Ledger>(
-    alloc: Global,
-    sides: &Sides,
-    left: &A,
-    change: &Delta,
-    delta: &Delta,
-    looked: &mut Steps<L>,
-) -> Result<RowSet, NoMemory>
-    requires some { length (set.items sides.now.shared) ≢ 0 }
-    requires asked { Contains (A.asked left.now) sides.now.shared }
-    requires have { (row : _) → set.contains change.now.add row ≡ true
-        → (c : _) → set.contains sides.now.shared c ≡ true → is_some (at row c) ≡ true }
-    ensures suspects { let S = sides.now.shared in let M = (A.relation left.now).rows in
-        IfOk result (λ rows. rows ≡ suspects_of S sides.now.left M delta.now change.now.add) }
-{
-    let parts = delta.remove().project(alloc, &sides.left)?;
-    if change.add().rows().is_empty() {
-        return Ok(parts);
-    }
-    let near = find_each(alloc, &sides.shared, change.add(), left, looked)?;
-    parts.union(alloc, &near)
-}
-
-// The suspects that the merge leaves, and the rows that it adds beside the parts of added rows.
-fn tested(
-    alloc: Global,
-    suspects: &RowSet,
-    merged: &Change,
-    parts: &RowSet,
-) -> Result<RowSet, NoMemory>
-    ensures { IfOk result (λ tested. tested
-        ≡ union (minus suspects.now merged.now.remove) (minus merged.now.add parts.now)) }
-{
-    let left = suspects.minus(alloc, &merged.remove)?;
-    let revised = merged.add.minus(alloc, parts)?;
-    left.union(alloc, &revised)
+    let merged = merge_sources(alloc, left, left_tree, right, right_tree, delta, looked)?;
+    let over = merged.over.project(alloc, &merged.sides.left)?;
+    let left_change = without(alloc, merged.left, &over)?;
+    Ok((left_change, merged.right))
 }

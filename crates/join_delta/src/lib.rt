@@ -5,5 +5,8 @@ pub mod editing;
 mod merging;
 mod over;
 pub mod sides;
+pub mod sources;
 
 pub use editing::join_delta;
+pub use merging::without;
+pub use sources::{Merged, merge_sources};

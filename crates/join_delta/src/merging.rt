@@ -1,17 +1,19 @@
 //! What a merge changes, by rows found by key.
-ghost use Rattle.std.specs.Prelude.{◌≡◌, true, Contains, IfOk};
+ghost use Rattle.std.specs.Prelude.{◌≡◌, ◌≤◌, ◌+◌, ◌*◌, ℕ, true, length, Contains, IfOk};
 ghost use Rattle.lens_values.specs.SortedSet as set;
 ghost use Rattle.lens_specs.specs.Columns.{Fits, names};
+ghost use Rattle.lens_specs.specs.Delta.{diff};
 ghost use Rattle.lens_specs.specs.Dependencies.{AllEdges, MeetsTree};
 ghost use Rattle.lens_specs.specs.Names.{Within};
-ghost use Rattle.lens_specs.specs.Relation.{minus, union};
+ghost use Rattle.lens_specs.specs.Relation.{Rows, has, minus};
 ghost use Rattle.lens_laws.specs.KeyedDeltas.{merge_delta};
+ghost use Rattle.signed_delta.specs.Disjoint.{AreApart};
 
 use fd_tree::Tree;
 use lens_values::NoMemory;
 use revision::{afters, befores, revise_touched};
 use row_sets::RowSet;
-use signed_delta::{Look, absent};
+use signed_delta::{Delta, Look, absent};
 use std::alloc::Global;
 use std::sync::ledger::Ledger;
 use step_counter::Steps;
@@ -23,24 +25,6 @@ pub struct Change {
     pub remove: RowSet,
     /// The rows that come.
     pub add: RowSet,
-}
-
-impl Change {
-    /// The change without the rows that are too many: those of them that it adds are not added, and
-    /// the others go too.
-    pub fn without(self, alloc: Global, over: &RowSet) -> Result<Change, NoMemory>
-        ensures remove { IfOk result (λ change.
-            change.remove ≡ union self.remove (minus over.now self.add)) }
-        ensures add { IfOk result (λ change. change.add ≡ minus self.add over.now) }
-    {
-        if over.rows().is_empty() {
-            return Ok(self);
-        }
-        let gone = over.minus(alloc, &self.add)?;
-        let remove = self.remove.union(alloc, &gone)?;
-        let add = self.add.minus(alloc, over)?;
-        Ok(Change { remove, add })
-    }
 }
 
 /// What a merge with these rows changes in the relation: the rows that they revise become what
@@ -60,6 +44,8 @@ pub fn merge_change<K: Look, L: Ledger>(
         → Fits (K.relation look.now).columns row }
     ensures change { IfOk result (λ change. record { remove = change.remove; add = change.add }
         ≡ merge_delta tree.now (K.relation look.now).rows rows.now) }
+    ensures looks { (n : ℕ) → K.within look.now n → looked.new ≤ looked.old
+        + n * length (set.items rows.now) * (length tree.now + 1) }
 {
     let new = absent(alloc, rows, look, looked)?;
     // Rows that are all there revise nothing.
@@ -72,4 +58,21 @@ pub fn merge_change<K: Look, L: Ledger>(
     let revised = afters(alloc, &touched)?;
     let add = revised.union(alloc, &new)?;
     Ok(Change { remove, add })
+}
+
+/// The change that leads to the rows without these: those of them that it adds are not added, and
+/// the others go too.
+pub fn without(alloc: Global, change: Delta, rows: &RowSet) -> Result<Delta, NoMemory>
+    requires { AreApart change.remove change.add }
+    ensures { IfOk result (λ less. (M N : Rows) → change ≡ diff M N
+        → ((row : _) → has rows.now row ≡ true → has N row ≡ true)
+        → less ≡ diff M (minus N rows.now)) }
+{
+    if rows.rows().is_empty() {
+        return Ok(change);
+    }
+    let gone = rows.minus(alloc, change.add())?;
+    let remove = change.remove().union(alloc, &gone)?;
+    let add = change.add().minus(alloc, rows)?;
+    Ok(Delta::new(remove, add))
 }

@@ -1,12 +1,12 @@
-//! Left rows that join a right row to a row that the view lacks.
-ghost use Rattle.std.specs.Prelude.{◌≡◌, ◌≢◌, true, length, not, Contains, IfOk};
+//! Rows that are joined and that the view lacks.
+ghost use Rattle.std.specs.Prelude.{◌≡◌, ◌≢◌, ◌≤◌, ◌+◌, ◌*◌, ℕ, true, length, not, Contains, IfOk};
 ghost use Rattle.lens_values.specs.Part.{restrict};
 ghost use Rattle.lens_values.specs.SortedSet as set;
 ghost use Rattle.lens_specs.specs.Columns.{Fits, names};
 ghost use Rattle.lens_specs.specs.Delta.{new_view};
-ghost use Rattle.lens_specs.specs.Relation.{those};
-ghost use Rattle.lens_laws.specs.KeyedDeltas.{is_over};
-ghost use Rattle.join_delta.specs.Joined.{edited, shared_names};
+ghost use Rattle.lens_specs.specs.Nodes.{join_get};
+ghost use Rattle.lens_specs.specs.Relation.{minus, those};
+ghost use Rattle.join_delta.specs.Joined.{AreKeyed, edited, shared_names};
 ghost use Rattle.join_delta.specs.Pairs.{AreSides, has_parts, shows};
 
 use crate::sides::Sides;
@@ -17,9 +17,9 @@ use std::alloc::Global;
 use std::sync::ledger::Ledger;
 use step_counter::Steps;
 
-/// Those of the rows over the left columns that join with a row of the right source, as it is after
-/// its change, to a row that the edited view lacks.
-pub fn over_rows<A: Look, B: Look, L: Ledger>(
+/// The rows that these, which are over the left columns, join with the right source, as it is after
+/// its change, and that the edited view lacks.
+pub fn over_pairs<A: Look, B: Look, L: Ledger>(
     alloc: Global,
     rows: &RowSet,
     sides: &Sides,
@@ -41,9 +41,14 @@ pub fn over_rows<A: Look, B: Look, L: Ledger>(
         → Fits (B.relation right.now).columns row }
     ensures over { let R = A.relation left.now in let Q = B.relation right.now in
         let new_right = new_view Q.rows change.now in
-        let S = shared_names R.columns Q.columns in
-        let view = edited R Q delta.now in
-        IfOk result (λ over. over ≡ those (is_over S (names Q.columns) new_right view) rows.now) }
+        let pairs = join_get (names R.columns) (names Q.columns) rows.now new_right in
+        IfOk result (λ over. over ≡ minus pairs (edited R Q delta.now)) }
+    ensures looks { (a b : ℕ) → A.within left.now a → B.within right.now b
+        → let N = (B.relation right.now).rows in AreKeyed sides.now.shared (new_view N change.now)
+        → looked.new ≤ looked.old + (a + 2 * b) * length (set.items rows.now) }
+    ensures few { let N = (B.relation right.now).rows in
+        IfOk result (λ over. AreKeyed sides.now.shared (new_view N change.now)
+        → length (set.items over) ≤ length (set.items rows.now)) }
 {
     if rows.rows().is_empty() {
         return Ok(RowSet::empty(alloc));
@@ -53,8 +58,7 @@ pub fn over_rows<A: Look, B: Look, L: Ledger>(
     let found = find_each(alloc, &sides.shared, rows, right, looked)?;
     let near = changed(alloc, found, change)?;
     let pairs = rows.join(alloc, &near, &sides.shared)?;
-    let extra = lacking(alloc, &pairs, sides, left, right, delta, looked)?;
-    extra.project(alloc, &sides.left)
+    lacking(alloc, &pairs, sides, left, right, delta, looked)
 }
 
 // The rows after the change. Mostly nothing is changed, and then nothing is copied.
@@ -84,6 +88,8 @@ fn lacking<A: Look, B: Look, L: Ledger>(
     ensures rows { let M = (A.relation left.now).rows in let N = (B.relation right.now).rows in
         let shown = shows sides.now.left sides.now.right M N delta.now in
         IfOk result (λ some. some ≡ those (λ row. not (shown row)) rows.now) }
+    ensures looks { (a b : ℕ) → A.within left.now a → B.within right.now b
+        → looked.new ≤ looked.old + (a + b) * length (set.items rows.now) }
 {
     let mut some = Vec::new(alloc);
     for row in rows.rows() {
@@ -109,6 +115,8 @@ fn is_shown<A: Look, B: Look, L: Ledger>(
     ensures shown { let M = (A.relation left.now).rows in let N = (B.relation right.now).rows in
         let S = sides.now in
         IfOk result (λ shown. shown ≡ shows S.left S.right M N delta.now row.now) }
+    ensures looks { (a b : ℕ) → A.within left.now a → B.within right.now b
+        → looked.new ≤ looked.old + (a + b) }
 {
     if delta.add().has(row) {
         return Ok(true);
@@ -132,6 +140,8 @@ fn is_joined<A: Look, B: Look, L: Ledger>(
     requires right { Fits (B.relation right.now).columns (restrict sides.now.right row.now) }
     ensures there { let M = (A.relation left.now).rows in let N = (B.relation right.now).rows in
         IfOk result (λ there. there ≡ has_parts sides.now.left sides.now.right M N row.now) }
+    ensures looks { (a b : ℕ) → A.within left.now a → B.within right.now b
+        → looked.new ≤ looked.old + (a + b) }
 {
     let left_part = row.project(alloc, &sides.left)?;
     if !left.has(alloc, &left_part, looked)? {

@@ -2,12 +2,15 @@
 use Rattle.std.proofs.Common.{◌≡◌, ◌∙◌, ap, sym, Option, Some}
 use Rattle.lens_values.specs.declared.value.Value.{Value}
 use Rattle.lens_specs.specs.Delta.{Delta}
-use Rattle.lens_specs.specs.Lens.{Lens, Tables, base, select, drop, join, get, sort_of, view_names}
+use Rattle.lens_values.specs.declared.join_kind.JoinKind.{JoinKind}
+use Rattle.lens_specs.specs.Lens.{Lens, Tables, base, select, drop, rename, join, get, sort_of, view_names}
 use Rattle.lens_specs.specs.Names.{Name, Names}
 use Rattle.lens_specs.specs.Predicate.{Predicate, holds}
 use Rattle.lens_specs.specs.Sort.{Sort}
 use Rattle.lens_laws.specs.Edits.{table_deltas}
-use Rattle.lens_laws.specs.KeyedDeltas.{drop_delta, join_delta_left, join_delta_right, select_delta}
+use Rattle.lens_laws.specs.JoinKinds.{left_delta, right_delta}
+use Rattle.lens_laws.specs.KeyedDeltas.{drop_delta, select_delta}
+use Rattle.lens_laws.specs.Rename.{rename_delta}
 use Rattle.lens_probe.specs.Handed.{to_first, to_second}
 use Rattle.lens_probe.specs.Viewed.{Viewed, sides_of, source_of}
 use Rattle.lens_chain.specs.Changed.{Changed, with_change, with_changes}
@@ -37,7 +40,7 @@ module _ (v : Viewed) (P : Predicate) (C : Lens) (is : select P C ≡ v.lens) (o
   select_there = told ∙ ap (λ L. source_of (record v { lens = L })) (sym is) ∙ ap (λ L. Some (record v { lens = C; sets = to_first L v.sets })) is
 
   module _ (s : Viewed) (at : o ≡ Some s) where
-    select_is : s ≡ first_of v C
+    pub select_is : s ≡ first_of v C
     select_is = found o s (first_of v C) at select_there
 
     pub select_chain : (d change : Delta) (m : Changed) → change ≡ select_delta (sort_of s.lens).tree (holds P) (get s.lens (over s)) d
@@ -55,7 +58,7 @@ module _ (v : Viewed) (A : Name) (X : Names) (a : Value) (C : Lens) (is : drop A
   drop_there = told ∙ ap (λ L. source_of (record v { lens = L })) (sym is) ∙ ap (λ L. Some (record v { lens = C; sets = to_first L v.sets })) is
 
   module _ (s : Viewed) (at : o ≡ Some s) where
-    drop_is : s ≡ first_of v C
+    pub drop_is : s ≡ first_of v C
     drop_is = found o s (first_of v C) at drop_there
 
     pub drop_chain : (d change : Delta) (m : Changed) → change ≡ drop_delta A X a (get s.lens (over s)) d
@@ -66,15 +69,33 @@ module _ (v : Viewed) (A : Name) (X : Names) (a : Value) (C : Lens) (is : drop A
         ∙ ap (λ (w : Viewed). with_changes (table_deltas (drop A X a w.lens) d (over w)) m) drop_is
         ∙ ap (λ L. with_changes (table_deltas L d (over v)) m) is
 
+-- ---- a relation with a new name for a column
+
+module _ (v : Viewed) (A B : Name) (C : Lens) (is : rename A B C ≡ v.lens) (o : Option Viewed) (told : o ≡ source_of v) where
+  rename_there : o ≡ Some (first_of v C)
+  rename_there = told ∙ ap (λ L. source_of (record v { lens = L })) (sym is) ∙ ap (λ L. Some (record v { lens = C; sets = to_first L v.sets })) is
+
+  module _ (s : Viewed) (at : o ≡ Some s) where
+    pub rename_is : s ≡ first_of v C
+    rename_is = found o s (first_of v C) at rename_there
+
+    pub rename_chain : (d change : Delta) (m : Changed) → change ≡ rename_delta A B d
+        → with_changes (table_deltas s.lens change (over s)) m ≡ with_changes (table_deltas v.lens d (over v)) m
+    unfolding table_deltas
+    rename_chain d change m made =
+        ap (λ e. with_changes (table_deltas s.lens e (over s)) m) made
+        ∙ ap (λ (w : Viewed). with_changes (table_deltas (rename A B w.lens) d (over w)) m) rename_is
+        ∙ ap (λ L. with_changes (table_deltas L d (over v)) m) is
+
 -- ---- a join
 
-module _ (v : Viewed) (A B : Lens) (is : join A B ≡ v.lens) (o : Option (Viewed × Viewed)) (told : o ≡ sides_of v) where
+module _ (v : Viewed) (kind : JoinKind) (A B : Lens) (is : join kind A B ≡ v.lens) (o : Option (Viewed × Viewed)) (told : o ≡ sides_of v) where
   join_there : o ≡ Some (first_of v A, second_of v B)
   join_there = told ∙ ap (λ L. sides_of (record v { lens = L })) (sym is)
       ∙ ap (λ L. Some (record v { lens = A; sets = to_first L v.sets }, record v { lens = B; sets = to_second L v.sets })) is
 
   module _ (s : Viewed × Viewed) (at : o ≡ Some s) where
-    join_is : s ≡ (first_of v A, second_of v B)
+    pub join_is : s ≡ (first_of v A, second_of v B)
     join_is = found o s (first_of v A, second_of v B) at join_there
 
     join_over : over s.1 ≡ over s.0
@@ -84,10 +105,12 @@ module _ (v : Viewed) (A B : Lens) (is : join A B ≡ v.lens) (o : Option (Viewe
     abbrev to_left : Delta → Delta
     to_left d =
         let A = s.0.lens in let B = s.1.lens in let db = over s.0 in
-        join_delta_left (view_names A) (view_names B) (sort_of A).tree (sort_of B).tree (get A db) (get B db) (edited (join A B) db d) d
+        left_delta kind (view_names A) (view_names B) (sort_of A).tree (sort_of B).tree (get A db) (get B db) (edited (join kind A B) db d) d
 
     abbrev to_right : Delta → Delta
-    to_right d = join_delta_right (view_names s.1.lens) (sort_of s.1.lens).tree (get s.1.lens (over s.0)) d
+    to_right d =
+        let A = s.0.lens in let B = s.1.lens in let db = over s.0 in
+        right_delta kind (view_names A) (view_names B) (sort_of A).tree (sort_of B).tree (get A db) (get B db) (edited (join kind A B) db d) d
 
     pub join_chain : (d left right : Delta) (m n : Changed) → left ≡ to_left d → right ≡ to_right d → n ≡ with_changes (table_deltas s.0.lens left (over s.0)) m
         → with_changes (table_deltas s.1.lens right (over s.1)) n ≡ with_changes (table_deltas v.lens d (over v)) m
@@ -96,5 +119,5 @@ module _ (v : Viewed) (A B : Lens) (is : join A B ≡ v.lens) (o : Option (Viewe
         (λ i. with_changes (table_deltas s.1.lens (made' i) (join_over i)) (first i))
         ∙ ap (λ e. with_changes (table_deltas s.1.lens (to_right d) (over s.0)) (with_changes (table_deltas s.0.lens e (over s.0)) m)) made
         ∙ sym (with_both (table_deltas s.0.lens (to_left d) (over s.0)) (table_deltas s.1.lens (to_right d) (over s.0)) m)
-        ∙ ap (λ (w : Viewed × Viewed). with_changes (table_deltas (join w.0.lens w.1.lens) d (over w.0)) m) join_is
+        ∙ ap (λ (w : Viewed × Viewed). with_changes (table_deltas (join kind w.0.lens w.1.lens) d (over w.0)) m) join_is
         ∙ ap (λ L. with_changes (table_deltas L d (over v)) m) is

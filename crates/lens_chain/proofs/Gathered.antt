@@ -11,11 +11,11 @@ use Rattle.lens_values.specs.Order.{bytes_cmp}
 use Rattle.lens_values.specs.SortedMap.{entries-from_entries, keys_of, keys_rise}
 use Rattle.lens_values.specs.SortedSet as set
 use Rattle.lens_specs.specs.Delta.{Delta, TableDelta, changes, diff, differences, is_empty}
-use Rattle.lens_specs.specs.Lens.{Lens, Tables, base, select, drop, join, get, put, sort_of, table, tables_of, view_names}
+use Rattle.lens_specs.specs.Lens.{Lens, Tables, base, select, drop, rename, join, get, put, sort_of, table, tables_of, view_names}
 use Rattle.lens_specs.specs.Names.{Name, Names}
 use Rattle.fd_laws.proofs.Names.{name_exact, name_total, tied_name}
 use Rattle.lens_laws.specs.Edits.{AreDiffs, table_deltas}
-use Rattle.lens_laws.specs.KeyedDeltas.{join_delta_left, join_delta_right}
+use Rattle.lens_laws.specs.JoinKinds.{left_delta, right_delta}
 use Rattle.lens_laws.specs.Lenses.{AreOf, IsTyped}
 use Rattle.lens_laws.proofs.Edits.{table_deltas_are}
 use Rattle.lens_chain.specs.Changed.{Changed, in_order, of_entry, with_change, with_changes}
@@ -140,11 +140,12 @@ unfolding tables_of table_deltas
 stands (base u s) d db t = sym (set.contains-insert name_total set.empty u t ∙ ap (λ b. eq_by_cmp bytes_cmp t u || b) (set.contains-empty bytes_cmp t))
 stands (select P C) d db t = stands C _ db t
 stands (drop A X a C) d db t = stands C _ db t
-stands (join A B) d db t =
+stands (rename A B C) d db t = stands C _ db t
+stands (join kind A B) d db t =
     let U = view_names A in let V = view_names B in
     let F = (sort_of A).tree in let G = (sort_of B).tree in
-    let left = join_delta_left U V F G (get A db) (get B db) (edited (join A B) db d) d in
-    let right = join_delta_right V G (get B db) d in
+    let left = left_delta kind U V F G (get A db) (get B db) (edited (join kind A B) db d) d in
+    let right = right_delta kind U V F G (get A db) (get B db) (edited (join kind A B) db d) d in
     list_any-append (λ x. eq_by_cmp bytes_cmp t x.table) (table_deltas A left db) (table_deltas B right db)
     ∙ (λ i. stands A left db t i || stands B right db t i)
     ∙ sym (set.contains-union name_total (tables_of A) (tables_of B) t)

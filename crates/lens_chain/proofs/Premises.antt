@@ -10,33 +10,44 @@ use Rattle.lens_values.specs.declared.value.Value.{Value}
 use Rattle.lens_specs.specs.Columns.{Fits, both_columns, without_column}
 use Rattle.lens_specs.specs.Delta.{Applies, Delta, diff, new_view}
 use Rattle.lens_specs.specs.Dependencies.{AllEdges, Edge, Meets, MeetsTree}
-use Rattle.lens_specs.specs.Lens.{Lens, Tables, base, select, drop, join, get, select_sort, drop_sort, join_sort, sort_of, view_names}
+use Rattle.lens_values.specs.declared.join_kind.JoinKind.{JoinKind}
+use Rattle.lens_specs.specs.Lens.{Lens, Tables, select, drop, rename, join, get, select_sort, drop_sort, rename_sort, join_sort, sort_of, view_names}
 use Rattle.lens_specs.specs.Names.{Name, Names, Within, one}
-use Rattle.lens_specs.specs.Nodes.{drop_get, drop_put, join_get, join_put_left, join_right, select_get, select_put}
+use Rattle.lens_specs.specs.Nodes.{drop_get, drop_put, join_get, join_left_after, join_right_after, rename_get, rename_put, select_get, select_put}
 use Rattle.lens_specs.specs.Predicate.{Predicate, holds, without_name}
-use Rattle.lens_specs.specs.Relation.{Rows, has}
+use Rattle.lens_specs.specs.Relation.{Rows, has, image}
+use Rattle.lens_specs.specs.Rename.{renamed_names, renamed_row}
 use Rattle.lens_specs.specs.Rows.{agree}
 use Rattle.lens_specs.specs.Sort.{IsOf, Sort}
 use Rattle.lens_specs.specs.Typing as typing
 use Rattle.fd_laws.specs.Trees.{EdgesWithin}
-use Rattle.fd_laws.proofs.Names.{one_is}
+use Rattle.fd_laws.proofs.Lists.{absurd_false, false_from}
+use Rattle.fd_laws.proofs.Names.{name_itself, one_is}
 use Rattle.fd_laws.proofs.Rows.{agree_at, agree_from}
 use Rattle.fd_laws.proofs.Trees.{at_edge, each_edge}
 use Rattle.lens_laws.specs.Asked.{HasKeys, IsFilled, keys_at, left_sides}
-use Rattle.lens_laws.specs.KeyedDeltas.{drop_delta, join_delta_left, join_delta_right, select_delta}
+use Rattle.lens_laws.specs.Finds.{IsOver}
+use Rattle.lens_laws.specs.JoinKinds.{left_delta, right_delta}
+use Rattle.lens_laws.specs.KeyedDeltas.{drop_delta, select_delta}
 use Rattle.lens_laws.specs.Lenses.{AreOf, IsTyped}
 use Rattle.lens_laws.specs.Passes.{alone_at}
+use Rattle.lens_laws.specs.Rename.{rename_delta}
 use Rattle.lens_laws.specs.Shapes.{IsIn, join_shape, select_shape, shape_of}
 use Rattle.lens_laws.proofs.Asked.{contains_head, contains_map, contains_tail, keyed}
 use Rattle.lens_laws.proofs.Deltas.{diff_applies, diff_leads, in_new_view_added}
 use Rattle.lens_laws.proofs.DropDelta.{drop_delta_is}
-use Rattle.lens_laws.proofs.JoinDelta.{join_delta_left_is, join_delta_right_is}
+use Rattle.lens_laws.proofs.JoinKindDeltas.{left_delta_is, right_delta_is}
 use Rattle.lens_laws.proofs.Lenses.{get_sort}
-use Rattle.lens_laws.proofs.NodeLaws.{both_can, drop_can, drop_law, join_law, select_law, sound}
+use Rattle.lens_laws.proofs.NodeFinds.{fits_is_over}
+use Rattle.lens_laws.proofs.NodeLaws.{both_can, drop_can, drop_law, join_law, rename_can, rename_node_law, select_law, sound}
 use Rattle.lens_laws.proofs.Passes.{join_sort_is, select_sort_is}
+use Rattle.lens_laws.proofs.Rename.{not_old, rename_delta_is}
+use Rattle.lens_laws.proofs.RenameSorts.{names-renamed, rename_sort_is}
 use Rattle.lens_laws.proofs.Rules.{given_is}
 use Rattle.lens_laws.proofs.SelectDelta.{select_delta_is}
 use Rattle.lens_laws.proofs.Sorts.{clash_none, to_in}
+use Rattle.signed_delta.specs.Disjoint.{AreApart}
+use Rattle.signed_delta.proofs.Differences.{sides_apart}
 use Rattle.lens_chain.specs.Edits.{IsEdit, edited}
 
 -- ---- any view
@@ -56,9 +67,13 @@ edges_asked L K =
     let T = (sort_of L).tree in
     each_left T (keys_at L K) (λ e i. Contains-append_right K (left_sides T) e.left (contains_map (λ e. e.left) T e i))
 
--- the tree of the sort that the rules give it is its own
+-- the sort that the rules give it is its own
+pub sort_is : (L M : Lens) (s : Sort) → IsTyped L → M ≡ L → typing.sort M ≡ Ok s → s ≡ sort_of L
+sort_is L M s typed same given = given_is L s typed (ap typing.sort (sym same) ∙ given)
+
+-- and so is its tree
 pub tree_is : (L M : Lens) (s : Sort) (T : List Edge) → IsTyped L → M ≡ L → typing.sort M ≡ Ok s → T ≡ s.tree → T ≡ (sort_of L).tree
-tree_is L M s T typed same given is = is ∙ ap (λ (k : Sort). k.tree) (given_is L s typed (ap typing.sort (sym same) ∙ given))
+tree_is L M s T typed same given is = is ∙ ap (λ (k : Sort). k.tree) (sort_is L M s typed same given)
 
 pub edges_within : (L : Lens) → IsTyped L → EdgesWithin (view_names L) (sort_of L).tree
 edges_within L typed = (sound L typed).within
@@ -147,18 +162,72 @@ module _ (A : Name) (X : Names) (a : Value) (C : Lens) (typed : IsTyped (drop A 
           edit_of C db change undropped is ((drop_law A X a C typed).put_sort rest M m edit.1),
         )
 
+-- ---- a relation with a new name for a column
+
+module _ (A B : Name) (C : Lens) (typed : IsTyped (rename A B C)) where
+  -- the columns of the view
+  shown_names : view_names (rename A B C) ≡ renamed_names A B (view_names C)
+  shown_names = names-renamed A B (sort_of C).columns typed.1.column typed.1.free
+
+  -- none of which has the old name
+  pub old_is_free : (D : Names) → D ≡ renamed_names A B (view_names C) → set.contains D A ≡ false
+  old_is_free D is = false_from _ (λ i.
+      absurd_false _ (name_itself A) (not_old (shape_of (sort_of C)) A B (rename_can A B C typed) A (subst (λ Z. set.contains Z A ≡ true) is i)))
+
+  module _ (db : Tables) (d : Delta) (are : AreOf C db) (edit : IsEdit (rename A B C) db d) where
+    fits_over : (D : Names) (r : Row) → D ≡ renamed_names A B (view_names C) → Fits (sort_of (rename A B C)).columns r → IsOver D r
+    fits_over D r is fits = subst (λ Z. IsOver Z r) (shown_names ∙ sym is) (fits_is_over (sort_of (rename A B C)).columns r fits)
+
+    -- the rows of the edit have just these columns
+    pub removed_over : (D : Names) → D ≡ renamed_names A B (view_names C) → (r : Row) → has d.remove r ≡ true → IsOver D r
+    removed_over D is r i = fits_over D r is ((get_sort (rename A B C) db typed are).columns r (edit.0.removes r i))
+
+    pub added_over : (D : Names) → D ≡ renamed_names A B (view_names C) → (r : Row) → has d.add r ≡ true → IsOver D r
+    added_over D is r i = fits_over D r is (edit.1.columns r (in_new_view_added (get (rename A B C) db) d r i))
+
+    -- the view after the edit, and the source after the put
+    abbrev named_new : Rows
+    named_new = new_view (rename_get A B (get C db)) d
+
+    abbrev named_old : Rows
+    named_old = rename_put A B named_new
+
+    rename_is : rename_delta A B d ≡ diff (get C db) named_old
+    unfolding get
+    rename_is =
+        let s = sort_of C in
+        rename_delta_is (shape_of s) A B (rename_can A B C typed) (get C db) d (to_in (get C db) s (get_sort C db typed.0 are)) edit.0
+        (subst (IsIn named_new) (rename_sort_is s A B (sound C typed.0) typed.1.column typed.1.free) (to_in named_new (rename_sort s A B) edit.1))
+
+    -- its renamed sides have no row in common
+    pub renamed_apart : (remove add : Rows) → remove ≡ image (renamed_row B A) d.remove → add ≡ image (renamed_row B A) d.add → AreApart remove add
+    unfolding rename_delta rename_put diff
+    renamed_apart remove add gone come =
+        let sides : AreApart (rename_put A B d.remove) (rename_put A B d.add) = subst (λ (e : Delta). AreApart e.remove e.add) (sym rename_is) (sides_apart (get C db) named_old) in
+        subst (λ M. AreApart M add) (sym gone) (subst (λ N. AreApart (image (renamed_row B A) d.remove) N) (sym come) sides)
+
+    -- and are what an edit of the source does
+    pub rename_carried : (remove add : Rows) (change : Delta) → remove ≡ image (renamed_row B A) d.remove → add ≡ image (renamed_row B A) d.add → change ≡ record { remove = remove; add = add }
+        → (change ≡ rename_delta A B d) × IsEdit C db change
+    unfolding rename_delta rename_put get
+    rename_carried remove add change gone come is =
+        let made : change ≡ rename_delta A B d = is ∙ (λ i. record { remove = gone i; add = come i }) in (
+          made,
+          edit_of C db change named_old (made ∙ rename_is) ((rename_node_law A B C typed).put_sort named_new (get C db) (get_sort C db typed.0 are) edit.1),
+        )
+
 -- ---- a join
 
-module _ (A B : Lens) (typed : IsTyped (join A B)) (db : Tables) (d : Delta) (are : AreOf A db × AreOf B db) (edit : IsEdit (join A B) db d) where
+module _ (kind : JoinKind) (A B : Lens) (typed : IsTyped (join kind A B)) (db : Tables) (d : Delta) (are : AreOf A db × AreOf B db) (edit : IsEdit (join kind A B) db d) where
   -- the view after the edit, and the sources after the put
   abbrev both : Rows
   both = new_view (join_get (view_names A) (view_names B) (get A db) (get B db)) d
 
   abbrev left_put : Rows
-  left_put = join_put_left (view_names A) (view_names B) (sort_of A).tree (sort_of B).tree both (get A db) (get B db)
+  left_put = join_left_after kind (view_names A) (view_names B) (sort_of A).tree (sort_of B).tree both (get A db) (get B db)
 
   abbrev right_put : Rows
-  right_put = join_right (view_names B) (sort_of B).tree both (get B db)
+  right_put = join_right_after kind (view_names A) (view_names B) (sort_of A).tree (sort_of B).tree both (get A db) (get B db)
 
   pub join_applies : Applies d (join_get (view_names A) (view_names B) (get A db) (get B db))
   unfolding get
@@ -170,30 +239,30 @@ module _ (A B : Lens) (typed : IsTyped (join A B)) (db : Tables) (d : Delta) (ar
 
   pub join_meets : MeetsTree both (sort_of A).tree × MeetsTree both (sort_of B).tree
   unfolding get
-  join_meets = (both_can A B typed).splits both (clash_none (sort_of (join A B)).tree both edit.1.clash)
+  join_meets = (both_can kind A B typed).splits both (clash_none (sort_of (join kind A B)).tree both edit.1.clash)
 
-  in_joined : IsIn both (join_shape (shape_of (sort_of A)) (shape_of (sort_of B)) (sort_of (join A B)).tree)
+  in_joined : IsIn both (join_shape (shape_of (sort_of A)) (shape_of (sort_of B)) (sort_of (join kind A B)).tree)
   unfolding get
   in_joined = subst (IsIn both) (join_sort_is (sort_of A) (sort_of B)) (to_in both (join_sort (sort_of A) (sort_of B)) edit.1)
 
   pub join_carried_left : (change : Delta) → change ≡ diff (get A db) left_put
-      → (change ≡ join_delta_left (view_names A) (view_names B) (sort_of A).tree (sort_of B).tree (get A db) (get B db) (edited (join A B) db d) d) × IsEdit A db change
+      → (change ≡ left_delta kind (view_names A) (view_names B) (sort_of A).tree (sort_of B).tree (get A db) (get B db) (edited (join kind A B) db d) d) × IsEdit A db change
   unfolding get
   join_carried_left change is =
       let s = sort_of A in let t = sort_of B in
       let m = get_sort A db typed.0 are.0 in
       let n = get_sort B db typed.1 are.1 in (
-        is ∙ sym (join_delta_left_is (shape_of s) (shape_of t) (join_sort s t).tree (both_can A B typed) (get A db) (get B db) d (to_in (get A db) s m) (to_in (get B db) t n) edit.0 in_joined),
-        edit_of A db change left_put is ((join_law A B typed).put_sort_left both (get A db) (get B db) m n edit.1),
+        is ∙ sym (left_delta_is kind (shape_of s) (shape_of t) (join_sort s t).tree (both_can kind A B typed) (get A db) (get B db) d (to_in (get A db) s m) (to_in (get B db) t n) edit.0 in_joined),
+        edit_of A db change left_put is ((join_law kind A B typed).put_sort_left both (get A db) (get B db) m n edit.1),
       )
 
   pub join_carried_right : (change : Delta) → change ≡ diff (get B db) right_put
-      → (change ≡ join_delta_right (view_names B) (sort_of B).tree (get B db) d) × IsEdit B db change
+      → (change ≡ right_delta kind (view_names A) (view_names B) (sort_of A).tree (sort_of B).tree (get A db) (get B db) (edited (join kind A B) db d) d) × IsEdit B db change
   unfolding get
   join_carried_right change is =
       let s = sort_of A in let t = sort_of B in
       let m = get_sort A db typed.0 are.0 in
       let n = get_sort B db typed.1 are.1 in (
-        is ∙ sym (join_delta_right_is (shape_of s) (shape_of t) (join_sort s t).tree (both_can A B typed) (get A db) (get B db) d (to_in (get A db) s m) (to_in (get B db) t n) edit.0 in_joined),
-        edit_of B db change right_put is ((join_law A B typed).put_sort_right both (get A db) (get B db) m n edit.1),
+        is ∙ sym (right_delta_is kind (shape_of s) (shape_of t) (join_sort s t).tree (both_can kind A B typed) (get A db) (get B db) d (to_in (get A db) s m) (to_in (get B db) t n) edit.0 in_joined),
+        edit_of B db change right_put is ((join_law kind A B typed).put_sort_right both (get A db) (get B db) m n edit.1),
       )

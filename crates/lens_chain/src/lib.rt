@@ -2,6 +2,7 @@
 #![tactic(auto)]
 
 mod changes;
+mod kinds;
 mod nodes;
 mod putting;
 

@@ -1,13 +1,15 @@
 //! An edit of a view, carried down to its tables.
-ghost use Rattle.std.specs.Prelude.{◌≡◌, IfOk, OnOk, map};
+ghost use Rattle.std.specs.Prelude.{◌≡◌, ◌≤◌, ◌+◌, ℕ, IfOk, OnOk, map};
 ghost use Rattle.lens_specs.specs.Delta.{changes};
 ghost use Rattle.lens_laws.specs.Edits.{table_deltas};
+ghost use Rattle.lens_laws.specs.Work.{rows_of, work};
 ghost use Rattle.signed_delta.specs.Tables.{table_delta};
+ghost use Rattle.lens_probe.specs.Viewed.{FindsAtMost};
 ghost use Rattle.lens_chain.specs.Changed.{with_changes};
 ghost use Rattle.lens_chain.specs.Edits.{IsEdit, edited, over};
 
 use crate::changes::Changes;
-use crate::nodes::{under_drop, under_join, under_select};
+use crate::nodes::{under_drop, under_join, under_rename, under_select};
 use lens_probe::View;
 use lens_types::Lens;
 use lens_values::NoMemory;
@@ -27,6 +29,8 @@ pub fn put_delta<L: Ledger>(
     requires edit { IsEdit view.now.lens (over view.now) delta.now }
     ensures changes { let db = over view.now in let rows = edited view.now.lens db delta.now in
         IfOk result (λ found. map table_delta found.items ≡ changes view.now.lens rows db) }
+    ensures looks { (w : ℕ) → FindsAtMost view.now w
+        → looked.new ≤ looked.old + work view.now.lens (rows_of delta.now) w }
 {
     // The lens has to be typed and the tables of their sorts, as they are for each view.
     let _ = view.lens();
@@ -44,8 +48,10 @@ fn carry_down<L: Ledger>(
     looked: &mut Steps<L>,
 ) -> Result<(), NoMemory>
     requires { IsEdit view.now.lens (over view.now) delta }
-    ensures { OnOk result (changes.new
+    ensures changes { OnOk result (changes.new
         ≡ with_changes (table_deltas view.now.lens delta (over view.now)) changes.old) }
+    ensures looks { (w : ℕ) → FindsAtMost view.now w
+        → looked.new ≤ looked.old + work view.now.lens (rows_of delta) w }
 {
     match view.lens().lens() {
         Lens::Base { table, .. } => changes.add(*table, delta),
@@ -63,11 +69,18 @@ fn carry_down<L: Ledger>(
             let filled = under_drop(alloc, col, by, fill, &source, &delta, looked)?;
             carry_down(alloc, &source, filled, changes, looked)
         }
-        Lens::Join { .. } => {
+        Lens::Rename { col, to, .. } => {
+            let Some(source) = view.source() else {
+                unreachable!()
+            };
+            let renamed = under_rename(alloc, col, to, &source, &delta)?;
+            carry_down(alloc, &source, renamed, changes, looked)
+        }
+        Lens::Join { kind, .. } => {
             let Some((left, right)) = view.sides() else {
                 unreachable!()
             };
-            let (to_left, to_right) = under_join(alloc, &left, &right, &delta, looked)?;
+            let (to_left, to_right) = under_join(alloc, *kind, &left, &right, &delta, looked)?;
             carry_down(alloc, &left, to_left, changes, looked)?;
             carry_down(alloc, &right, to_right, changes, looked)
         }

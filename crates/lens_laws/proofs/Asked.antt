@@ -7,11 +7,15 @@ use Rattle.std.specs.Ordering.{eq_by_cmp}
 use Rattle.lens_values.specs.SortedSet as set
 use Rattle.lens_values.specs.Order.{bytes_cmp}
 use Rattle.lens_values.specs.declared.value.Value.{Value}
+use Rattle.lens_values.specs.declared.join_kind.JoinKind.{JoinKind}
 use Rattle.fd_laws.proofs.Closures.{closure_is}
 use Rattle.fd_laws.proofs.Columns.{names-without, names-both}
 use Rattle.fd_laws.proofs.Lists.{in_head, any_at, any_from, false_from, absurd_false}
 use Rattle.fd_laws.proofs.Names.{name_total, name_itself, tied_name, in_shared, from_shared, in_rest, from_rest, one_is, union_right}
-use Rattle.lens_laws.proofs.NodeLaws.{sound}
+use Rattle.lens_laws.proofs.NodeLaws.{sound, rename_can}
+use Rattle.fd_laws.proofs.Renames.{in_renamed}
+use Rattle.lens_laws.proofs.Rename.{old_within}
+use Rattle.lens_laws.proofs.RenameSorts.{names-renamed}
 use Rattle.fd_laws.proofs.TreeForms.{all_append, tree_of_lefts, tree_of_rights}
 use Rattle.fd_laws.proofs.Trees.{at_edge, all_without, both_edges, each_edge}
 use Rattle.lens_specs.specs.Columns.{names}
@@ -19,10 +23,12 @@ use Rattle.lens_specs.specs.Dependencies.{Edge, AllEdges, IsClosed, closure}
 use Rattle.lens_specs.specs.TreeForm.{is_tree, kept_edge, narrowed, tree_of, tree_without}
 use Rattle.std.proofs.lemmas.List.{length-map}
 use Rattle.std.specs.FinMap as finmap
-use Rattle.lens_specs.specs.Lens.{Lens, base, select, drop, join, sort_of, view_names}
+use Rattle.lens_specs.specs.Lens.{Lens, base, select, drop, rename, join, sort_of, view_names}
 use Rattle.lens_specs.specs.Names.{Name, Names, Within, share, one}
+use Rattle.lens_specs.specs.Rename.{renamed, renamed_names, renamed_tree}
 use Rattle.lens_laws.specs.Asked.{IsFilled, left_sides, parts, keys_at, side_keys, AreKeys, HasKeys, HandsDown, MayBeAsked, Reaches}
 use Rattle.lens_laws.specs.Lenses.{IsTyped}
+use Rattle.lens_laws.specs.Shapes.{shape_of}
 
 -- ---- membership in lists
 module _ {T : Type 0} where
@@ -139,6 +145,19 @@ decided_filled S V F h v w e =
     let no : IsFilled S → ⊥ = λ f. f e in
     no (filled_more V S (λ c i. (closure_is S F).least S (λ c i. i) (closed_by_none F S h no) c (w c i)) v)
 
+-- ---- under a rename
+filled_renamed : (A B : Name) (C : Names) → IsFilled C → IsFilled (renamed_names A B C)
+filled_renamed A B C h = let w = filled_has C h in filled_from _ (renamed A B w.0) (in_renamed A B C w.0 w.1)
+
+lefts_renamed : (A B : Name) (T : List Edge) → AllEdges (λ e. IsFilled e.left) T → AllEdges (λ e. IsFilled e.left) (renamed_tree A B T)
+lefts_renamed A B [] h = tt
+lefts_renamed A B (e ∷ es) h = (filled_renamed A B e.left h.0, lefts_renamed A B es h.1)
+
+rights_renamed : (A B : Name) (T : List Edge) → AllEdges (λ e. IsFilled e.right) T → AllEdges (λ e. IsFilled e.right) (renamed_tree A B T)
+rights_renamed A B [] h = tt
+rights_renamed A B (e ∷ es) h = (filled_renamed A B e.right h.0, rights_renamed A B es h.1)
+
+-- ---- the columns and the edges of a view
 pub keyed : (L : Lens) → IsTyped L → HasKeys L → IsFilled (view_names L) × AllEdges (λ e. IsFilled e.left) (sort_of L).tree
 keyed (base t s) h k = (k.0, each_edge (λ e. IsFilled e.left × IsFilled e.right) (λ e. IsFilled e.left) (λ e w. w.0) s.tree k.1)
 keyed (select P L) h k = keyed L h.0 k
@@ -151,10 +170,16 @@ keyed (drop A X a L) h k =
       filled_more X _ (λ c i. ap (λ U. set.contains U c) (names-without s.columns A) ∙ in_rest (names s.columns) (one A) c (left c i) (false_from _ (λ j. absurd_false _ (ap (set.contains X) (sym (one_is A c j)) ∙ i) out))) full,
       all_without (λ e. IsFilled e.left) (one A) s.tree w.1,
     )
-keyed (join A B) h k =
+keyed (rename A B L) h k =
+    let w = keyed L h.0 k in
+    let s = sort_of L in (
+      subst IsFilled (sym (names-renamed A B s.columns h.1.column h.1.free)) (filled_renamed A B (names s.columns) w.0),
+      lefts_renamed A B s.tree w.1,
+    )
+keyed (join kind A B) h k =
     let a = keyed A h.0 k.0 in let b = keyed B h.1 k.1 in (
       subst IsFilled (sym (names-both (sort_of A).columns (sort_of B).columns)) (filled_more (view_names B) _ (union_right (view_names A) (view_names B)) b.0),
-      tree_of_lefts IsFilled ((sort_of A).tree ++ (sort_of B).tree) (sort_of (join A B)).tree h.2.form (all_append (λ e. IsFilled e.left) (sort_of A).tree (sort_of B).tree a.1 b.1),
+      tree_of_lefts IsFilled ((sort_of A).tree ++ (sort_of B).tree) (sort_of (join kind A B)).tree h.2.form (all_append (λ e. IsFilled e.left) (sort_of A).tree (sort_of B).tree a.1 b.1),
     )
 
 -- ---- right sides
@@ -180,7 +205,8 @@ pub rights_keyed : (L : Lens) → IsTyped L → HasKeys L → AllEdges (λ e. Is
 rights_keyed (base t s) h k = each_edge (λ e. IsFilled e.left × IsFilled e.right) (λ e. IsFilled e.right) (λ e w. w.1) s.tree k.1
 rights_keyed (select P L) h k = rights_keyed L h.0 k
 rights_keyed (drop A X a L) h k = rights_filled _ (rights_without (one A) (sort_of L).tree)
-rights_keyed (join A B) h k = rights_filled _ (tree_of_rights ((sort_of A).tree ++ (sort_of B).tree) (sort_of (join A B)).tree h.2.form)
+rights_keyed (rename A B L) h k = rights_renamed A B (sort_of L).tree (rights_keyed L h.0 k)
+rights_keyed (join kind A B) h k = rights_filled _ (tree_of_rights ((sort_of A).tree ++ (sort_of B).tree) (sort_of (join kind A B)).tree h.2.form)
 
 pub edges_keyed : (L : Lens) → IsTyped L → HasKeys L → IsFilled (view_names L) × AllEdges (λ e. IsFilled e.left × IsFilled e.right) (sort_of L).tree
 edges_keyed L h k =
@@ -193,8 +219,8 @@ form_keyed F T is h = both_edges (λ e. IsFilled e.left) (λ e. IsFilled e.right
     (tree_of_lefts IsFilled F T is h) (rights_filled T (tree_of_rights F T is))
 
 -- the sides of a join share a column
-pub shared_keyed : (A B : Lens) → IsTyped (join A B) → HasKeys (join A B) → IsFilled (set.intersection (view_names A) (view_names B))
-shared_keyed A B h k = let b = keyed B h.1 k.1 in decided_filled _ (view_names B) (sort_of B).tree b.1 b.0 h.2.decides
+pub shared_keyed : (kind : JoinKind) (A B : Lens) → IsTyped (join kind A B) → HasKeys (join kind A B) → IsFilled (set.intersection (view_names A) (view_names B))
+shared_keyed kind A B h k = let b = keyed B h.1 k.1 in decided_filled _ (view_names B) (sort_of B).tree b.1 b.0 h.2.decides
 
 -- the key of a drop, against its source's columns and its own
 pub drop_key : (A : Name) (X : Names) (a : Value) (L : Lens) → IsTyped (drop A X a L) → Within X (set.difference (view_names L) (one A))
@@ -224,6 +250,17 @@ drop_keys_are A X a L K h k keys C i =
       | inr j ↦ let u = keys C j in (u.0, λ c l. within c (ap (λ S. set.contains S c) (sym (names-without (sort_of L).columns A)) ∙ u.1 c l))
     ]
 
+-- sets of the view are sets of the source under the old name
+pub renamed_keys_are : (A B : Name) (L : Lens) (K : List Names) → IsTyped (rename A B L) → AreKeys (view_names (rename A B L)) K → AreKeys (view_names L) (map (renamed_names B A) K)
+renamed_keys_are A B L K h keys C i =
+    let s = sort_of L in
+    let w = from_map_contains (renamed_names B A) K C i in
+    let u = keys w.0 w.1 in
+    subst (λ Z. IsFilled Z × Within Z (view_names L)) (sym w.2) (
+      filled_renamed B A w.0 u.0,
+      old_within (shape_of s) A B (rename_can A B L h) w.0 (subst (Within w.0) (names-renamed A B s.columns h.1.column h.1.free) u.1),
+    )
+
 pub part_goes_down : (S U : Names) (K : List Names) (C : Names) → Contains K C → share C U ≡ true → Contains (side_keys S U K) (set.intersection C U)
 part_goes_down S U K C i s = contains_tail _ S (parts U K) (in_parts U K C i s)
 
@@ -231,11 +268,12 @@ handed : (L : Lens) (K : List Names) → IsTyped L → HasKeys L → AreKeys (vi
 handed (base t s) K h k keys = tt
 handed (select P L) K h k keys = keys
 handed (drop A X a L) K h k keys = drop_keys_are A X a L (keys_at (drop A X a L) K) h k keys
-handed (join A B) K h k keys =
+handed (rename A B L) K h k keys = renamed_keys_are A B L (keys_at (rename A B L) K) h keys
+handed (join kind A B) K h k keys =
     let U = view_names A in let V = view_names B in let S = set.intersection U V in
-    let s = shared_keyed A B h k in (
-      side_keys_are S U (keys_at (join A B) K) s (λ c i. (from_shared U V c i).0),
-      side_keys_are S V (keys_at (join A B) K) s (λ c i. (from_shared U V c i).1),
+    let s = shared_keyed kind A B h k in (
+      side_keys_are S U (keys_at (join kind A B) K) s (λ c i. (from_shared U V c i).0),
+      side_keys_are S V (keys_at (join kind A B) K) s (λ c i. (from_shared U V c i).1),
     )
 
 pub hands_down : (L : Lens) (K : List Names) → IsTyped L → HasKeys L → AreKeys (view_names L) K → AreKeys (view_names L) (keys_at L K) × HandsDown L K
@@ -256,10 +294,13 @@ reaches (drop A X a L) K h k keys C i =
       subst (Within C) (names-without (sort_of L).columns A) (keys C i).1,
       drop_key A X a L h,
     )
-reaches (join A B) K h k keys C i =
+reaches (rename A B L) K h k keys C i =
+    let K1 = keys_at (rename A B L) K in
+    may_be_asked L (map (renamed_names B A) K1) (renamed_names B A C) (renamed_keys_are A B L K1 h keys) (contains_map (renamed_names B A) K1 C i)
+reaches (join kind A B) K h k keys C i =
     let U = view_names A in let V = view_names B in let S = set.intersection U V in
-    let K1 = keys_at (join A B) K in
-    let s = shared_keyed A B h k in
+    let K1 = keys_at (join kind A B) K in
+    let s = shared_keyed kind A B h k in
     let KA = side_keys S U K1 in let KB = side_keys S V K1 in
     let a = side_keys_are S U K1 s (λ c i. (from_shared U V c i).0) in
     let b = side_keys_are S V K1 s (λ c i. (from_shared U V c i).1) in

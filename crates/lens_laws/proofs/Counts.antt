@@ -56,6 +56,10 @@ count-within M N sub = subst (λ Z. count_of Z ≤ count_of N)
     (same_rel (those (has M) N) M (λ r i. (from_those (has M) N r i).1) (λ r i. in_those (has M) N r (sub r i) i))
     (count-those (has M) N)
 
+pub count-image : (f : Row → Row) (M : Rows) → count_of (image f M) ≤ count_of M
+unfolding image
+count-image f M = let h = count-from_list (map f (set.items M)) in let e = length-map (set.items M) f in omega arith
+
 pub count-project : (D : Names) (M : Rows) → count_of (project D M) ≤ count_of M
 unfolding project image
 count-project D M = let h = count-from_list (map (cut D) (set.items M)) in let e = length-map (set.items M) (cut D) in omega arith

@@ -1,21 +1,23 @@
 -- How many rows the differences at the nodes have.
-use Rattle.std.proofs.Common.{◌≡◌, ℕ, suc, ◌+◌, ◌*◌, ◌≤◌, Bool, not, List, [], ◌∷◌, ◌++◌, length, map, arith, Some}
-use Rattle.std.proofs.lemmas.List.{length-append, length-map}
+use Rattle.std.proofs.Common.{◌≡◌, ℕ, suc, ◌+◌, ◌*◌, ◌≤◌, Bool, not, List, [], ◌∷◌, ◌++◌, length, arith, Some}
+use Rattle.std.proofs.lemmas.List.{length-append}
 use Rattle.std.proofs.lemmas.Nat.{mul-le}
 use Rattle.lens_values.specs.SortedSet as set
 use Rattle.lens_values.specs.declared.value.Value.{Value}
 use Rattle.lens_values.specs.declared.row.Row.{Row}
 use Rattle.lens_laws.proofs.Asked.{contains_head, contains_tail}
-use Rattle.lens_laws.proofs.Counts.{count-from_list, count-none, count-those, count-within, count-project}
+use Rattle.lens_laws.proofs.Counts.{count-from_list, count-none, count-those, count-within, count-image, count-project}
 use Rattle.fd_laws.proofs.Relations.{from_minus}
 use Rattle.lens_specs.specs.Delta.{Delta, new_view}
 use Rattle.lens_specs.specs.Dependencies.{Edge, edge}
 use Rattle.lens_specs.specs.Names.{Name, Names, one}
-use Rattle.lens_specs.specs.Nodes.{drop_put}
+use Rattle.lens_specs.specs.Rename.{renamed_row}
+use Rattle.lens_specs.specs.Nodes.{drop_put, rename_put}
 use Rattle.lens_specs.specs.Relation.{Rows, those, union, minus, image, project}
 use Rattle.lens_specs.specs.Revision.{revise, revise_row}
 use Rattle.lens_specs.specs.Rows.{with_at}
 use Rattle.lens_laws.specs.Asked.{left_sides}
+use Rattle.lens_laws.specs.Rename.{rename_delta}
 use Rattle.lens_laws.specs.JoinKinds.{is_kept, is_free, less_delta, join_delta_left_kept, join_delta_right_free}
 use Rattle.lens_laws.specs.KeyedDeltas.{find_by, found_each, found, is_changed, touched, select_touched, select_delta, drop_delta, merge_delta, join_delta_right, suspects, is_over, join_delta_left}
 use Rattle.lens_laws.specs.Work.{count_of, rows_of, rows_down, GivesAtMost}
@@ -29,10 +31,6 @@ count-union M N =
 
 count-minus : (M N : Rows) → count_of (minus M N) ≤ count_of M
 count-minus M N = count-within (minus M N) M (λ r i. (from_minus M N r i).0)
-
-count-image : (f : Row → Row) (M : Rows) → count_of (image f M) ≤ count_of M
-unfolding image
-count-image f M = let h = count-from_list (map f (set.items M)) in let e = length-map (set.items M) f in omega arith
 
 count-revise : (T : List Edge) (M L : Rows) → count_of (revise T M L) ≤ count_of M
 unfolding revise
@@ -98,6 +96,10 @@ drop_put_small A X a N M =
 pub drop_delta_small : (A : Name) (X : Names) (a : Value) (M : Rows) (d : Delta) → rows_of (drop_delta A X a M d) ≤ rows_of d
 unfolding drop_delta
 drop_delta_small A X a M d = let h = drop_put_small A X a d.remove M in let i = drop_put_small A X a d.add M in omega arith
+
+pub rename_delta_small : (A B : Name) (d : Delta) → rows_of (rename_delta A B d) ≤ rows_of d
+unfolding rename_delta rename_put
+rename_delta_small A B d = let h = count-image (renamed_row B A) d.remove in let i = count-image (renamed_row B A) d.add in omega arith
 
 merge_removes_few : (F : List Edge) (M A : Rows) (n : ℕ) → length F ≤ 64 → GivesAtMost n (left_sides F) M → count_of (merge_delta F M A).remove ≤ 64 * (count_of A * n)
 unfolding merge_delta

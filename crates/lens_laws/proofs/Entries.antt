@@ -1,5 +1,5 @@
 -- Values by names, and the entries of a map that has them.
-use Rattle.std.proofs.Common.{◌≡◌, ◌∙◌, Bool, true, false, List, [], ◌∷◌, ◌++◌, ap, cond, refl, sym, Option, Some}
+use Rattle.std.proofs.Common.{◌≡◌, ◌∙◌, true, List, [], ◌∷◌, ◌++◌, ap, cond, refl, sym, Some}
 use Rattle.std.specs.BTreeMap.{is_at}
 use Rattle.std.specs.Cmp.{both_ways}
 use Rattle.std.specs.FinMap as finmap

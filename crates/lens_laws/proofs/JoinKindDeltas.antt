@@ -5,9 +5,11 @@ use Rattle.std.specs.Ordering.{eq_by_cmp}
 use Rattle.lens_values.specs.SortedSet as set
 use Rattle.lens_values.specs.Row.{row_cmp}
 use Rattle.lens_values.specs.declared.row.Row.{Row}
+use Rattle.lens_values.specs.declared.join_kind.JoinKind.{JoinKind}
+use Rattle.lens_values.specs.declared.join_kind.JoinKind.TheVariants.{DeleteLeft, DeleteRight, DeleteBoth}
 use Rattle.lens_laws.proofs.Deltas.{from_new_view, in_new_view_kept, in_found_each, from_found_each, merge_delta_is, diff_leads}
 use Rattle.lens_laws.proofs.Join.{cut_left, cut_right, from_natural, natural_paste, left_sort, right_sort, part_left, from_over, in_over}
-use Rattle.lens_laws.proofs.JoinDelta.{join_delta_right_is, split_left, sub_left, from_suspects, in_suspects}
+use Rattle.lens_laws.proofs.JoinDelta.{join_delta_right_is, join_delta_left_is, split_left, sub_left, from_suspects, in_suspects}
 use Rattle.fd_laws.proofs.Lists.{any_at, any_from, false_from, absurd_false}
 use Rattle.fd_laws.proofs.Relations.{same_rel, in_those, from_those, in_union_left, in_union_right, from_union, in_minus, from_minus, in_project, from_project, in_join}
 use Rattle.fd_laws.proofs.Rows.{tied_row, row_itself, agree_back}
@@ -15,10 +17,10 @@ use Rattle.lens_specs.specs.Columns.{names}
 use Rattle.lens_specs.specs.Delta.{Delta, diff, new_view, Applies}
 use Rattle.lens_specs.specs.Dependencies.{Edge}
 use Rattle.lens_specs.specs.Names.{Names}
-use Rattle.lens_specs.specs.Nodes.{join_get, join_left, join_right, join_over}
+use Rattle.lens_specs.specs.Nodes.{join_get, join_left, join_right, join_over, join_kept, join_free, join_put_left_kept, join_put_right, join_left_after, join_right_after}
 use Rattle.lens_specs.specs.Relation.{Rows, has, those, union, minus, project}
 use Rattle.lens_specs.specs.Rows.{agree, paste, cut}
-use Rattle.lens_laws.specs.JoinKinds.{join_kept, join_free, join_put_left_kept, join_put_right, is_kept, is_free, less_delta, join_delta_left_kept, join_delta_right_free}
+use Rattle.lens_laws.specs.JoinKinds.{is_kept, is_free, less_delta, join_delta_left_kept, join_delta_right_free, left_delta, right_delta}
 use Rattle.lens_laws.specs.KeyedDeltas.{merge_delta, join_delta_right, suspects, is_over}
 use Rattle.lens_laws.specs.Shapes.{Shape, IsIn, CanJoin, join_shape}
 
@@ -94,7 +96,7 @@ module _ (s t : Shape) (H : List Edge) (can : CanJoin s t H) (M N : Rows) (d : D
   abbrev over : Rows
   over = join_over (names s.columns) (names t.columns) s.tree t.tree (new_view (join_get (names s.columns) (names t.columns) M N) d) M N
 
-  pair_over : (r q : Row) → has M0 r ≡ true → has N1 q ≡ true → agree S r q ≡ true → has O (paste r V q) ≡ false
+  pub pair_over : (r q : Row) → has M0 r ≡ true → has N1 q ≡ true → agree S r q ≡ true → has O (paste r V q) ≡ false
       → (has over (paste r V q) ≡ true) × (cut U (paste r V q) ≡ r) × (cut V (paste r V q) ≡ q)
   unfolding join_get
   pair_over r q i j g z =
@@ -104,7 +106,7 @@ module _ (s t : Shape) (H : List Edge) (can : CanJoin s t H) (M N : Rows) (d : D
         cut_right s.columns t.columns M0 N1 hM hN r q i j,
       )
 
-  over_pair : (w : Row) → has over w ≡ true → (has M0 (cut U w) ≡ true) × (has N1 (cut V w) ≡ true) × (agree S (cut U w) (cut V w) ≡ true) × (has O (paste (cut U w) V (cut V w)) ≡ false)
+  pub over_pair : (w : Row) → has over w ≡ true → (has M0 (cut U w) ≡ true) × (has N1 (cut V w) ≡ true) × (agree S (cut U w) (cut V w) ≡ true) × (has O (paste (cut U w) V (cut V w)) ≡ false)
   over_pair w i =
       let hM = (left_sort s t H can O M m o).columns in let hN = (right_sort s t H can O N n o).columns in
       let v = from_over s t H can O M N w i in
@@ -212,3 +214,20 @@ module _ (s t : Shape) (H : List Edge) (can : CanJoin s t H) (M N : Rows) (d : D
   unfolding join_delta_right_free join_put_right
   right_free_is = ap (less_delta free (suspects S V N d left.add)) right_is
       ∙ less_delta_is N N1 (project V (join_free U V s.tree t.tree O M N)) (suspects S V N d left.add) free free_to free_from from_right_suspects in_right_suspects
+
+-- ---- for each kind
+pub left_delta_is : (kind : JoinKind) (s t : Shape) (H : List Edge) → CanJoin s t H → (M N : Rows) (d : Delta) → IsIn M s → IsIn N t
+    → Applies d (join_get (names s.columns) (names t.columns) M N) → IsIn (new_view (join_get (names s.columns) (names t.columns) M N) d) (join_shape s t H)
+    → left_delta kind (names s.columns) (names t.columns) s.tree t.tree M N (new_view (join_get (names s.columns) (names t.columns) M N) d) d
+    ≡ diff M (join_left_after kind (names s.columns) (names t.columns) s.tree t.tree (new_view (join_get (names s.columns) (names t.columns) M N) d) M N)
+left_delta_is DeleteLeft s t H can M N d m n applies o = join_delta_left_is s t H can M N d m n applies o
+left_delta_is DeleteRight s t H can M N d m n applies o = left_kept_is s t H can M N d m n applies o
+left_delta_is DeleteBoth s t H can M N d m n applies o = join_delta_left_is s t H can M N d m n applies o
+
+pub right_delta_is : (kind : JoinKind) (s t : Shape) (H : List Edge) → CanJoin s t H → (M N : Rows) (d : Delta) → IsIn M s → IsIn N t
+    → Applies d (join_get (names s.columns) (names t.columns) M N) → IsIn (new_view (join_get (names s.columns) (names t.columns) M N) d) (join_shape s t H)
+    → right_delta kind (names s.columns) (names t.columns) s.tree t.tree M N (new_view (join_get (names s.columns) (names t.columns) M N) d) d
+    ≡ diff N (join_right_after kind (names s.columns) (names t.columns) s.tree t.tree (new_view (join_get (names s.columns) (names t.columns) M N) d) M N)
+right_delta_is DeleteLeft s t H can M N d m n applies o = join_delta_right_is s t H can M N d m n applies o
+right_delta_is DeleteRight s t H can M N d m n applies o = right_free_is s t H can M N d m n applies o
+right_delta_is DeleteBoth s t H can M N d m n applies o = right_free_is s t H can M N d m n applies o

@@ -6,13 +6,14 @@ use Rattle.fd_laws.proofs.Lists.{false_from, absurd_false}
 use Rattle.fd_laws.proofs.Relations.{same_rel, in_those, from_those, in_minus, from_minus, in_project, from_project}
 use Rattle.fd_laws.proofs.Trees.{meets_fewer}
 use Rattle.lens_values.specs.declared.row.Row.{Row}
+use Rattle.lens_values.specs.declared.join_kind.JoinKind.{JoinKind}
+use Rattle.lens_values.specs.declared.join_kind.JoinKind.TheVariants.{DeleteLeft, DeleteRight, DeleteBoth}
 use Rattle.lens_specs.specs.Columns.{Fits, names}
 use Rattle.lens_specs.specs.Dependencies.{Edge}
 use Rattle.lens_specs.specs.Names.{Names}
-use Rattle.lens_specs.specs.Nodes.{join_get, join_left, join_right, join_over, join_put_left}
+use Rattle.lens_specs.specs.Nodes.{join_get, join_left, join_right, join_over, join_kept, join_free, join_put_left, join_put_left_kept, join_put_right, join_left_after, join_right_after}
 use Rattle.lens_specs.specs.Relation.{Rows, has, project}
 use Rattle.lens_specs.specs.Rows.{cut}
-use Rattle.lens_laws.specs.JoinKinds.{join_kept, join_free, join_put_left_kept, join_put_right}
 use Rattle.lens_laws.specs.Shapes.{Shape, IsIn, IsLawful2, CanJoin, join_shape}
 
 module _ (s t : Shape) (H : List Edge) (can : CanJoin s t H) where
@@ -163,3 +164,10 @@ module _ (s t : Shape) (H : List Edge) (can : CanJoin s t H) where
     get_put_left = (join_lawful s t H can).get_put_left;
     get_put_right = get_put_free;
   }
+
+-- for each kind
+pub kind_lawful : (kind : JoinKind) (s t : Shape) (H : List Edge) → CanJoin s t H
+    → IsLawful2 s t (join_shape s t H) (join_get (names s.columns) (names t.columns)) (λ O M N. join_left_after kind (names s.columns) (names t.columns) s.tree t.tree O M N) (λ O M N. join_right_after kind (names s.columns) (names t.columns) s.tree t.tree O M N)
+kind_lawful DeleteLeft s t H can = join_lawful s t H can
+kind_lawful DeleteRight s t H can = join_right_lawful s t H can
+kind_lawful DeleteBoth s t H can = join_both_lawful s t H can

@@ -1,27 +1,35 @@
 -- What the nodes find by look-ups in their sources is what a look-up in the whole gives.
-use Rattle.std.proofs.Common.{◌≡◌, Bool, true, false, List, map, refl, sym, ap, ◌∙◌, is_some, inl, inr, [], ◌∷◌, arith}
+use Rattle.std.proofs.Common.{◌≡◌, Bool, true, false, cond, List, map, refl, sym, ap, ◌∙◌, is_some, Option, None, inl, inr, [], ◌∷◌, arith}
+use Rattle.std.proofs.lemmas.Bool.{cases_Bool}
 use Rattle.std.specs.List.{Contains, list_any, filter, flat_map}
 use Rattle.std.specs.Prelude.{if◌then◌else◌}
 use Rattle.std.specs.Ordering.{eq_by_cmp}
 use Rattle.lens_values.specs.SortedSet as set
 use Rattle.lens_values.specs.Row.{row_cmp}
 use Rattle.lens_values.specs.declared.row.Row.{Row}
-use Rattle.lens_laws.proofs.Asked.{contains_head, contains_cases, part_goes_down, shares_other}
+use Rattle.lens_values.specs.Order.{bytes_cmp}
+use Rattle.lens_values.specs.declared.value.Value.{Value}
+use Rattle.lens_laws.proofs.Asked.{contains_head, contains_cases, contains_map, part_goes_down, shares_other}
+use Rattle.fd_laws.proofs.Renames.{in_renamed, from_renamed}
+use Rattle.lens_laws.proofs.Rename.{at-renamed, not_old, find_rename}
 use Rattle.fd_laws.proofs.Columns.{fits_names}
 use Rattle.lens_laws.proofs.Finds.{find_select, find_project}
 use Rattle.lens_laws.proofs.Join.{from_natural, natural_paste}
-use Rattle.fd_laws.proofs.Lists.{left_true, right_true, in_filter, from_filter, in_map, from_map, in_flat_map, from_flat_map, any_at, any_from, both_ways}
-use Rattle.fd_laws.proofs.Names.{from_shared}
+use Rattle.fd_laws.proofs.Lists.{left_true, right_true, in_filter, from_filter, in_map, from_map, in_flat_map, from_flat_map, any_at, any_from, both_ways, false_from, absurd_false}
+use Rattle.fd_laws.proofs.Names.{name_itself, tied_name, from_shared}
 use Rattle.fd_laws.proofs.Relations.{same_rel, in_those, from_those, in_project, from_project, in_join}
 use Rattle.fd_laws.proofs.Rows.{row_total, tied_row, row_itself, agree_at, agree_from, agree_back, agree_on, agree_within, agree_alike, agree-cut, at-cut, cut_column}
 use Rattle.lens_specs.specs.Columns.{Columns, Fits, names}
-use Rattle.lens_specs.specs.Names.{Names, Within, share}
-use Rattle.lens_specs.specs.Nodes.{join_get, select_get}
+use Rattle.lens_specs.specs.Names.{Name, Names, Within, share}
+use Rattle.lens_specs.specs.Rename.{renamed_names, renamed_row}
+use Rattle.lens_specs.specs.Nodes.{join_get, select_get, rename_get}
 use Rattle.lens_specs.specs.Relation.{Rows, has, those, project}
-use Rattle.lens_specs.specs.Rows.{agree, paste, cut}
+use Rattle.lens_specs.specs.Rows.{at, agree, paste, cut}
 use Rattle.lens_laws.specs.Asked.{parts, side_keys, AreKeys}
-use Rattle.lens_laws.specs.Finds.{Look, IsOver, Answers, find_selected, find_projected, matched, find_left_first, find_right_first, find_joined, has_projected}
+use Rattle.lens_laws.specs.Finds.{Look, IsOver, Answers, find_selected, find_projected, find_renamed, matched, find_left_first, find_right_first, find_joined, has_projected}
 use Rattle.lens_laws.specs.KeyedDeltas.{find_by}
+use Rattle.lens_laws.specs.Rename.{CanRename}
+use Rattle.lens_laws.specs.Shapes.{Shape, IsIn}
 
 -- ---- keys
 
@@ -115,6 +123,64 @@ select_answers P look K M h C k i o = ap (those P) (h C k i o) ∙ sym (find_sel
 pub project_answers : (D : Names) (look : Look) (K : List Names) (M : Rows) → ((C : Names) → Contains K C → Within C D) → Answers look K M → Answers (find_projected D look) K (project D M)
 unfolding find_projected
 project_answers D look K M w h C k i o = ap (project D) (h C k i o) ∙ sym (find_project C D k M (w C i))
+
+-- the set under the old name has what the set has: A where it has B, and no B
+contains-old : (A B : Name) (C : Names) → ((c : Name) → set.contains C c ≡ true → eq_by_cmp bytes_cmp c A ≡ false) → (c : Name)
+    → set.contains (renamed_names B A C) c ≡ cond (eq_by_cmp bytes_cmp c A) (set.contains C B) (cond (eq_by_cmp bytes_cmp c B) false (set.contains C c))
+contains-old A B C apart c = elim (cases_Bool (eq_by_cmp bytes_cmp c A)) [
+  | inl t ↦
+      both_ways _ _
+      (λ i.
+      let w = from_renamed B A C c i in
+      elim (cases_Bool (eq_by_cmp bytes_cmp w.0 B)) [
+        | inl x ↦ ap (set.contains C) (sym (tied_name w.0 B x)) ∙ w.1
+        | inr x ↦ absurd_false _ (ap (λ z. eq_by_cmp bytes_cmp z A) (sym (w.2 ∙ ap (λ y. cond y A w.0) x)) ∙ t) (apart w.0 w.1)
+      ])
+      (λ i. ap (set.contains (renamed_names B A C)) (tied_name c A t ∙ sym (ap (λ y. cond y A B) (name_itself B))) ∙ in_renamed B A C B i)
+      ∙ sym (ap (λ b. cond b (set.contains C B) (cond (eq_by_cmp bytes_cmp c B) false (set.contains C c))) t)
+  | inr f ↦
+      elim (cases_Bool (eq_by_cmp bytes_cmp c B)) [
+        | inl t ↦
+            false_from _ (λ i.
+            let w = from_renamed B A C c i in
+            elim (cases_Bool (eq_by_cmp bytes_cmp w.0 B)) [
+              | inl x ↦ absurd_false _ (ap (λ z. eq_by_cmp bytes_cmp z A) (w.2 ∙ ap (λ y. cond y A w.0) x) ∙ name_itself A) f
+              | inr x ↦ absurd_false _ (ap (λ z. eq_by_cmp bytes_cmp z B) (sym (w.2 ∙ ap (λ y. cond y A w.0) x)) ∙ t) x
+            ])
+            ∙ sym (ap (λ b. cond b false (set.contains C c)) t)
+        | inr g ↦
+            both_ways _ _
+            (λ i.
+            let w = from_renamed B A C c i in
+            elim (cases_Bool (eq_by_cmp bytes_cmp w.0 B)) [
+              | inl x ↦ absurd_false _ (ap (λ z. eq_by_cmp bytes_cmp z A) (w.2 ∙ ap (λ y. cond y A w.0) x) ∙ name_itself A) f
+              | inr x ↦ ap (set.contains C) (w.2 ∙ ap (λ y. cond y A w.0) x) ∙ w.1
+            ])
+            (λ i. ap (set.contains (renamed_names B A C)) (sym (ap (λ y. cond y A c) g)) ∙ in_renamed B A C c i)
+            ∙ sym (ap (λ b. cond b false (set.contains C c)) g)
+      ]
+      ∙ sym (ap (λ b. cond b (set.contains C B) (cond (eq_by_cmp bytes_cmp c B) false (set.contains C c))) f)
+]
+
+some_cond : (b d : Bool) (x y : Option Value) → is_some (cond b x (cond d None y)) ≡ cond b (is_some x) (cond d false (is_some y))
+some_cond true d x y = refl
+some_cond false true x y = refl
+some_cond false false x y = refl
+
+-- a key over new names is one over the old ones
+pub over_renamed : (A B : Name) (C : Names) (k : Row) → ((c : Name) → set.contains C c ≡ true → eq_by_cmp bytes_cmp c A ≡ false) → IsOver C k → IsOver (renamed_names B A C) (renamed_row B A k)
+over_renamed A B C k apart o c =
+    let a = eq_by_cmp bytes_cmp c A in let b = eq_by_cmp bytes_cmp c B in
+    ap is_some (at-renamed B A k c) ∙ some_cond a b (at k B) (at k c)
+    ∙ ap (λ x. cond a x (cond b false (is_some (at k c)))) (o B) ∙ ap (λ x. cond a (set.contains C B) (cond b false x)) (o c)
+    ∙ sym (contains-old A B C apart c)
+
+pub rename_answers : (s : Shape) (A B : Name) → CanRename s A B → (M : Rows) → IsIn M s → (look : Look) (K : List Names) → ((C : Names) → Contains K C → Within C (renamed_names A B (names s.columns)))
+    → Answers look (map (renamed_names B A) K) M → Answers (find_renamed A B look) K (rename_get A B M)
+unfolding find_renamed
+rename_answers s A B can M m look K w h C k i o =
+    ap (rename_get A B) (h (renamed_names B A C) (renamed_row B A k) (contains_map (renamed_names B A) K C i) (over_renamed A B C k (λ c j. not_old s A B can c (w C i c j)) o))
+    ∙ sym (find_rename s A B can M m C (w C i) k)
 
 -- a row of the source by a key within the part is one whose part is the row
 pub has_part : (D X : Names) (M : Rows) (r : Row) → Within X D → list_any (λ m. eq_by_cmp row_cmp r (cut D m)) (set.items (find_by X (cut X r) M)) ≡ has (project D M) r

@@ -1,5 +1,5 @@
 -- The laws of rename.
-use Rattle.std.proofs.Common.{◌≡◌, Bool, true, false, cond, List, [], ◌∷◌, map, Option, Some, None, refl, sym, ap, ◌∙◌, subst, inl, inr}
+use Rattle.std.proofs.Common.{◌≡◌, Bool, true, false, cond, List, [], ◌∷◌, Option, Some, None, refl, sym, ap, ◌∙◌, subst, inl, inr}
 use Rattle.std.proofs.lemmas.Bool.{cases_Bool}
 use Rattle.std.specs.Prelude.{if◌then◌else◌}
 use Rattle.std.specs.Ordering.{eq_by_cmp}
@@ -9,8 +9,9 @@ use Rattle.lens_values.specs.SortedSet as set
 use Rattle.lens_values.specs.declared.value.Kind.{Kind}
 use Rattle.lens_values.specs.declared.row.Row.{Row}
 use Rattle.fd_laws.proofs.Columns.{fits_none, no_kind}
-use Rattle.fd_laws.proofs.Lists.{in_map, from_map, both_ways, false_from, absurd_false}
+use Rattle.fd_laws.proofs.Lists.{both_ways, false_from, absurd_false}
 use Rattle.fd_laws.proofs.Names.{name_total, name_exact, name_itself, tied_name}
+use Rattle.fd_laws.proofs.Renames.{other_name, in_renamed, from_renamed}
 use Rattle.lens_laws.proofs.Deltas.{applies_is}
 use Rattle.fd_laws.proofs.Relations.{same_rel, in_those, from_those, in_minus, from_minus, in_image, from_image}
 use Rattle.lens_specs.specs.Delta.{Delta, diff, new_view, Applies}
@@ -22,24 +23,11 @@ use Rattle.lens_specs.specs.Dependencies.{Edge, MeetsTree}
 use Rattle.lens_specs.specs.Names.{Name, Names, Within}
 use Rattle.lens_specs.specs.Relation.{Rows, has, minus}
 use Rattle.lens_specs.specs.Rows.{at, agree}
-use Rattle.lens_laws.specs.Rename.{renamed, renamed_names, renamed_row, with_kind, renamed_columns, renamed_tree, rename_get, rename_put, rename_delta, CanRename, rename_shape}
+use Rattle.lens_specs.specs.Rename.{renamed, renamed_names, renamed_row, with_kind, renamed_columns, renamed_tree}
+use Rattle.lens_specs.specs.Nodes.{rename_get, rename_put}
+use Rattle.lens_laws.specs.Rename.{rename_delta, CanRename, rename_shape}
 use Rattle.lens_laws.specs.Shapes.{Shape, IsIn, IsLawful}
 use Rattle.fd_laws.specs.Trees.{EdgesWithin}
-
--- ---- names
-pub other_name : (c A : Name) (C : Names) → set.contains C c ≡ true → set.contains C A ≡ false → eq_by_cmp bytes_cmp c A ≡ false
-other_name c A C i o = false_from _ (λ t. absurd_false _ (ap (set.contains C) (sym (tied_name c A t)) ∙ i) o)
-
-pub in_renamed : (A B : Name) (C : Names) (c : Name) → set.contains C c ≡ true → set.contains (renamed_names A B C) (renamed A B c) ≡ true
-unfolding renamed_names
-in_renamed A B C c i = set.contains-from_list name_total (map (renamed A B) (set.items C)) (renamed A B c)
-    ∙ in_map (eq_by_cmp bytes_cmp) tied_name name_itself (eq_by_cmp bytes_cmp) tied_name name_itself (renamed A B) (set.items C) c (sym (set.contains-items C c) ∙ i)
-
-pub from_renamed : (A B : Name) (C : Names) (q : Name) → set.contains (renamed_names A B C) q ≡ true → (c : Name) × (set.contains C c ≡ true) × (q ≡ renamed A B c)
-unfolding renamed_names
-from_renamed A B C q i =
-    let w = from_map (eq_by_cmp bytes_cmp) tied_name name_itself (eq_by_cmp bytes_cmp) tied_name name_itself (renamed A B) (set.items C) q (sym (set.contains-from_list name_total (map (renamed A B) (set.items C)) q) ∙ i) in
-    (w.0, set.contains-items C w.0 ∙ w.1, w.2)
 
 -- ---- what is at a name
 pub at-renamed : (A B : Name) (r : Row) (c : Name) → at (renamed_row A B r) c ≡ cond (eq_by_cmp bytes_cmp c B) (at r A) (cond (eq_by_cmp bytes_cmp c A) None (at r c))
@@ -221,8 +209,17 @@ module _ (s : Shape) (A B : Name) (can : CanRename s A B) where
   unfolding rename_get
   has_get M m q h = both_ways _ _ (λ i. (from_get M m q i).0) (λ i. ap (has _) (sym (back q h)) ∙ in_image (renamed_row A B) M (renamed_row B A q) i)
 
+  -- a new name is not A
+  pub not_old : (c : Name) → set.contains (renamed_names A B U) c ≡ true → eq_by_cmp bytes_cmp c A ≡ false
+  not_old c i = false_from _ (λ t.
+      let v = from_renamed A B U c i in
+      elim (cases_Bool (eq_by_cmp bytes_cmp v.0 A)) [
+        | inl x ↦ absurd_false _ (ap (λ z. eq_by_cmp bytes_cmp z B) (sym (tied_name c A t) ∙ v.2 ∙ ap (λ y. cond y B v.0) x) ∙ name_itself B) apart_names
+        | inr x ↦ absurd_false _ (ap (λ z. eq_by_cmp bytes_cmp z A) (sym (v.2 ∙ ap (λ y. cond y B v.0) x)) ∙ t) x
+      ])
+
   -- the columns asked for, under their old names, are columns
-  old_within : (C : Names) → Within C (renamed_names A B U) → Within (renamed_names B A C) U
+  pub old_within : (C : Names) → Within C (renamed_names A B U) → Within (renamed_names B A C) U
   old_within C w d i =
       let u = from_renamed B A C d i in let v = from_renamed A B U u.0 (w u.0 u.1) in
       ap (set.contains U) (u.2 ∙ ap (renamed B A) v.2 ∙ renamed_twice B A v.0 (not_new v.0 v.1)) ∙ v.1
@@ -232,15 +229,6 @@ module _ (s : Shape) (A B : Name) (can : CanRename s A B) where
       (λ i. let u = from_renamed A B (renamed_names B A C) c i in let v = from_renamed B A C u.0 u.1 in
       ap (set.contains C) (u.2 ∙ ap (renamed A B) v.2 ∙ renamed_twice A B v.0 (not_old v.0 (w v.0 v.1))) ∙ v.1)
       (λ i. ap (set.contains _) (sym (renamed_twice A B c (not_old c (w c i)))) ∙ in_renamed A B (renamed_names B A C) (renamed B A c) (in_renamed B A C c i)))
-    where
-      -- a new name is not A
-      not_old : (c : Name) → set.contains (renamed_names A B U) c ≡ true → eq_by_cmp bytes_cmp c A ≡ false
-      not_old c i = false_from _ (λ t.
-          let v = from_renamed A B U c i in
-          elim (cases_Bool (eq_by_cmp bytes_cmp v.0 A)) [
-            | inl x ↦ absurd_false _ (ap (λ z. eq_by_cmp bytes_cmp z B) (sym (tied_name c A t) ∙ v.2 ∙ ap (λ y. cond y B v.0) x) ∙ name_itself B) apart_names
-            | inr x ↦ absurd_false _ (ap (λ z. eq_by_cmp bytes_cmp z A) (sym (v.2 ∙ ap (λ y. cond y B v.0) x)) ∙ t) x
-          ])
 
   agree_old : (C : Names) → Within C (renamed_names A B U) → (k q : Row) → agree (renamed_names B A C) (renamed_row B A k) (renamed_row B A q) ≡ agree C k q
   agree_old C w k q = agree-back (renamed_names B A C) (old_within C w) k q ∙ ap (λ D. agree D k q) (old_new C w)

@@ -9,18 +9,21 @@ use Rattle.lens_values.specs.declared.row.Row.{Row}
 use Rattle.fd_laws.proofs.Columns.{names-get}
 use Rattle.fd_laws.proofs.Lists.{left_true, right_true, both_ways, false_from, absurd_false, in_append_left, in_append_right, from_append}
 use Rattle.fd_laws.proofs.Names.{name_total, name_exact, name_itself, tied_name}
-use Rattle.lens_laws.proofs.Rename.{other_name, in_renamed, from_renamed, get-renamed, at-back, rename_lawful}
+use Rattle.fd_laws.proofs.Renames.{other_name, in_renamed, from_renamed, renamed_is_tree, renamed_edges_within}
+use Rattle.lens_laws.proofs.Rename.{get-renamed, at-back, rename_lawful}
 use Rattle.lens_laws.proofs.Sorts.{lawful_of}
 use Rattle.lens_specs.specs.Columns.{Columns, names}
-use Rattle.lens_specs.specs.Dependencies.{Edge, AllEdges}
-use Rattle.lens_specs.specs.Names.{Name, Names, Within, Disjoint, is_among}
-use Rattle.lens_specs.specs.Predicate.{Formula, truth, falsity, compare, compare_columns, one_of, negation, all_of, any_of, Formulas, no_formulas, formulas, compared, is_one_of, formula_holds, all_hold, any_holds, holds, names_in, names_of_all, Predicate, mentions, formula_mentions}
+use Rattle.lens_specs.specs.Names.{Name, is_among}
+use Rattle.lens_specs.specs.Predicate.{Formula, truth, falsity, compare, compare_columns, one_of, null_at, negation, all_of, any_of, Formulas, no_formulas, formulas, compared, has_null, is_one_of, formula_holds, all_hold, any_holds, holds, names_in, names_of_all, Predicate, mentions, formula_mentions}
 use Rattle.lens_specs.specs.Rows.{at}
 use Rattle.lens_specs.specs.Sort.{Sort, IsOf}
 use Rattle.lens_laws.specs.Passes.{IsSound}
-use Rattle.lens_laws.specs.Rename.{renamed, renamed_names, renamed_row, renamed_columns, renamed_edge, renamed_tree, renamed_formula, renamed_formulas, renamed_predicate, rename_sort, rename_get, rename_put, CanRename, rename_shape}
+use Rattle.lens_specs.specs.Rename.{renamed, renamed_names, renamed_row, renamed_columns, renamed_tree, renamed_formula, renamed_formulas, renamed_predicate}
+use Rattle.lens_specs.specs.Nodes.{rename_get, rename_put}
+use Rattle.lens_specs.specs.Lens.{rename_sort}
+use Rattle.lens_laws.specs.Rename.{CanRename, rename_shape}
 use Rattle.lens_laws.specs.Shapes.{shape_of, IsLawfulNode}
-use Rattle.fd_laws.specs.Trees.{IsBefore, IsTree, EdgesWithin}
+use Rattle.fd_laws.specs.Trees.{EdgesWithin}
 
 -- ---- predicates
 abbrev Lacks : List Name → Name → Type 0
@@ -41,6 +44,7 @@ mutual
       ap (λ o. compared op o (at r (renamed A B d))) (sym (at-back A B r c (h c (left_true _ _ (name_itself c)))))
       ∙ ap (compared op (at (renamed_row B A r) c)) (sym (at-back A B r d (h d (right_true (eq_by_cmp bytes_cmp d c) _ (left_true _ _ (name_itself d))))))
   formula_renamed (one_of c vs) A B r h = ap (is_one_of vs) (sym (at-back A B r c (h c (left_true _ _ (name_itself c)))))
+  formula_renamed (null_at c) A B r h = ap has_null (sym (at-back A B r c (h c (left_true _ _ (name_itself c)))))
   formula_renamed (negation f) A B r h = ap not (formula_renamed f A B r h)
   formula_renamed (all_of fs) A B r h = all_renamed fs A B r h
   formula_renamed (any_of fs) A B r h = any_renamed fs A B r h
@@ -90,6 +94,7 @@ mutual
     | inr e ↦ from_second A B (c ∷ []) (d ∷ []) q (from_one A B d q (alone _ e))
   ]
   names_renamed (one_of c vs) A B q i = from_one A B c q (alone _ i)
+  names_renamed (null_at c) A B q i = from_one A B c q (alone _ i)
   names_renamed (negation f) A B q i = names_renamed f A B q i
   names_renamed (all_of fs) A B q i = all_names_renamed fs A B q i
   names_renamed (any_of fs) A B q i = all_names_renamed fs A B q i
@@ -139,58 +144,12 @@ names-renamed A B U a b = set.same_set name_total name_exact _ _ (λ c. names-ge
       | inr u ↦ ap (set.contains (names U)) (is ∙ ap (λ x. cond x B d) u) ∙ i
     ]
 
-pub renamed_within : (A B : Name) (X Y : Names) → Within X Y → Within (renamed_names A B X) (renamed_names A B Y)
-renamed_within A B X Y w q i = let v = from_renamed A B X q i in ap (set.contains (renamed_names A B Y)) v.2 ∙ in_renamed A B Y v.0 (w v.0 v.1)
-
--- ---- trees: columns other than B keep apart
-same_renamed : (A B c d : Name) → eq_by_cmp bytes_cmp c B ≡ false → eq_by_cmp bytes_cmp d B ≡ false → renamed A B c ≡ renamed A B d → c ≡ d
-same_renamed A B c d oc od is = elim (cases_Bool (eq_by_cmp bytes_cmp c A)) [
-  | inl t ↦ elim (cases_Bool (eq_by_cmp bytes_cmp d A)) [
-    | inl u ↦ tied_name c A t ∙ sym (tied_name d A u)
-    | inr u ↦ absurd_false _ (ap (λ z. eq_by_cmp bytes_cmp z B) (sym (ap (λ x. cond x B d) u) ∙ sym is ∙ ap (λ x. cond x B c) t) ∙ name_itself B) od
-  ]
-  | inr t ↦ elim (cases_Bool (eq_by_cmp bytes_cmp d A)) [
-    | inl u ↦ absurd_false _ (ap (λ z. eq_by_cmp bytes_cmp z B) (sym (ap (λ x. cond x B c) t) ∙ is ∙ ap (λ x. cond x B d) u) ∙ name_itself B) oc
-    | inr u ↦ sym (ap (λ x. cond x B c) t) ∙ is ∙ ap (λ x. cond x B d) u
-  ]
-]
-
-module _ (A B : Name) (U : Names) (free : set.contains U B ≡ false) where
-  renamed_apart : (X Y : Names) → Within X U → Within Y U → Disjoint X Y → Disjoint (renamed_names A B X) (renamed_names A B Y)
-  renamed_apart X Y wx wy h q i = false_from _ (λ j.
-      let x = from_renamed A B X q i in let y = from_renamed A B Y q j in
-      let is = same_renamed A B x.0 y.0 (other_name x.0 B U (wx x.0 x.1) free) (other_name y.0 B U (wy y.0 y.1) free) (sym x.2 ∙ y.2) in
-      absurd_false _ (ap (set.contains Y) is ∙ y.1) (h x.0 x.1))
-
-  abbrev In : Edge → Type 0
-  In e = Within e.left U × Within e.right U
-
-  renamed_before : (e k : Edge) → In e → In k → IsBefore e k → IsBefore (renamed_edge A B e) (renamed_edge A B k)
-  renamed_before e k we wk b = record {
-    lefts = renamed_apart e.left k.left we.0 wk.0 b.lefts;
-    rights = renamed_apart e.right k.right we.1 wk.1 b.rights;
-    reads = renamed_apart e.left k.right we.0 wk.1 b.reads;
-    fits = elim b.fits [ inl p ↦ inl (renamed_apart k.left e.right wk.0 we.1 p) | inr w ↦ inr (renamed_within A B k.left e.right w) ];
-  }
-
-  all_before : (e : Edge) (T : List Edge) → In e → AllEdges In T → AllEdges (IsBefore e) T → AllEdges (IsBefore (renamed_edge A B e)) (renamed_tree A B T)
-  all_before e [] we w h = tt
-  all_before e (k ∷ ks) we w h = (renamed_before e k we w.0 h.0, all_before e ks we w.1 h.1)
-
-  pub renamed_is_tree : (T : List Edge) → AllEdges In T → IsTree T → IsTree (renamed_tree A B T)
-  renamed_is_tree [] w h = tt
-  renamed_is_tree (e ∷ es) w h = (renamed_apart e.left e.right w.0.0 w.0.1 h.0, all_before e es w.0 w.1 h.1, renamed_is_tree es w.1 h.2)
-
-  pub renamed_edges_within : (T : List Edge) → AllEdges In T → EdgesWithin (renamed_names A B U) (renamed_tree A B T)
-  renamed_edges_within [] w = tt
-  renamed_edges_within (e ∷ es) w = ((renamed_within A B e.left U w.0.0, renamed_within A B e.right U w.0.1), renamed_edges_within es w.1)
-
 -- ---- sorts
 module _ (s : Sort) (A B : Name) (sound : IsSound s) (column : set.contains (names s.columns) A ≡ true) (free : set.contains (names s.columns) B ≡ false) where
   pub can_rename : CanRename (shape_of s) A B
   can_rename = record { column = column; free = free; within = sound.within }
 
-  rename_sort_is : shape_of (rename_sort s A B) ≡ rename_shape (shape_of s) A B
+  pub rename_sort_is : shape_of (rename_sort s A B) ≡ rename_shape (shape_of s) A B
   rename_sort_is = λ i. record {
     columns = renamed_columns A B s.columns;
     holds = λ r. predicate_renamed s.predicate A B r (λ c h. other_name c B (names s.columns) (sound.pred c h) free) i;

@@ -1,6 +1,6 @@
 -- The sorts that the rule gives have at most 64 columns, and a table's sort has keys.
-use Rattle.std.proofs.Common.{◌≡◌, length, ap, sym, ◌∙◌, arith, ℕ, ◌≤◌, not, List, ◌++◌, refl, subst, Option, Some, None, option_map, Result, Ok, Err}
-use Rattle.std.proofs.lemmas.Bool.{leb-true}
+use Rattle.std.proofs.Common.{◌≡◌, true, cond, is_some, inl, inr, length, ap, sym, ◌∙◌, arith, ℕ, ◌+◌, ◌-◌, ◌≤◌, not, List, ◌++◌, refl, subst, Option, Some, None, option_map, Result, Ok, Err}
+use Rattle.std.proofs.lemmas.Bool.{cases_Bool, leb-true}
 use Rattle.std.proofs.lemmas.List.{length-map}
 use Rattle.std.specs.Prelude.{nat_le}
 use Rattle.std.specs.FinMap as finmap
@@ -8,6 +8,7 @@ use Rattle.std.specs.Cmp.Lexicographic.{nat_list_cmp_total}
 use Rattle.lens_values.specs.SortedSet as set
 use Rattle.lens_values.specs.Order.{bytes_cmp}
 use Rattle.lens_values.specs.SortedMap.{keys_rise}
+use Rattle.fd_laws.proofs.Names.{name_total}
 use Rattle.lens_laws.proofs.Asked.{form_keyed}
 use Rattle.lens_laws.proofs.Work.{view_edges_few}
 use Rattle.lens_laws.specs.Rules.{BasesAreSound}
@@ -15,14 +16,15 @@ use Rattle.lens_laws.proofs.Rules.{sort_is_typed, got, unrefused, neither, never
 use Rattle.lens_specs.specs.Columns.{Columns, names, fits_at, least_outside, kinds_differ}
 use Rattle.lens_values.specs.declared.value.Value.{Value}
 use Rattle.lens_specs.specs.Dependencies.{Edge, AllEdges}
-use Rattle.lens_specs.specs.Lens.{sort_of, view_names, Lens, base, select, drop, join, nodes_of, select_sort, drop_sort, join_sort, tables_of}
+use Rattle.lens_specs.specs.Lens.{sort_of, view_names, Lens, base, select, drop, rename, join, nodes_of, select_sort, drop_sort, rename_sort, join_sort, tables_of}
 use Rattle.lens_specs.specs.Names.{Name, Names}
 use Rattle.lens_specs.specs.Predicate.{Predicate}
-use Rattle.lens_specs.specs.Refusal.{Refusal, left_side, right_side, unknown_column, kind_clash, predicate_kind, source_mentions_output, no_such_dependency, mixed_conjunct, default_refused, not_determined, side_mentions_output, table_twice, when, is_column, unknown_name, unlike_kinds, least_mentioned, first_mixed, too_much}
+use Rattle.lens_specs.specs.Rename.{renamed_columns, with_kind}
+use Rattle.lens_specs.specs.Refusal.{Refusal, left_side, right_side, unknown_column, kind_clash, predicate_kind, source_mentions_output, no_such_dependency, mixed_conjunct, default_refused, not_determined, side_mentions_output, table_twice, when, is_column, unknown_name, unlike_kinds, unsteady, first_mixed, too_much}
 use Rattle.lens_specs.specs.Sort.{Sort}
 use Rattle.lens_specs.specs.TreeForm as form
-use Rattle.lens_specs.specs.TreeForm.{TreeForm, tree_of, outputs}
-use Rattle.lens_specs.specs.Typing.{form_fault, is_determined, default_holds, undetermined, select_fault, drop_fault, join_fault, shared_table, sort, table_sort, table_sort_with}
+use Rattle.lens_specs.specs.TreeForm.{TreeForm, tree_of}
+use Rattle.lens_specs.specs.Typing.{form_fault, is_determined, default_holds, undetermined, select_fault, drop_fault, rename_fault, join_fault, shared_table, sort, table_sort, table_sort_with}
 use Rattle.lens_laws.specs.Asked.{IsFilled, HasKeys}
 use Rattle.lens_laws.specs.Work.{BasesAreSmall}
 
@@ -33,7 +35,7 @@ select_small : (n : ℕ) (s : Sort) (P : Predicate) → select_fault n s P ≡ N
 select_small n s P e =
     let a = neither (option_map unknown_column (unknown_name s.columns P)) _ e in
     let b = neither (option_map predicate_kind (unlike_kinds s.columns P)) _ a.1 in
-    let c = neither (option_map source_mentions_output (least_mentioned s.predicate (outputs s.tree))) _ b.1 in
+    let c = neither (option_map source_mentions_output (unsteady s.predicate s.tree)) _ b.1 in
     few_columns n (select_sort s P) c.1
 
 drop_small : (n : ℕ) (s : Sort) (A : Name) (X : Names) (v : Value) → drop_fault n s A X v ≡ None → finmap.len (drop_sort s A).columns ≤ 64
@@ -46,13 +48,39 @@ drop_small n s A X v e =
     let g = neither (when (not (default_holds A v s.predicate)) default_refused) _ f.1 in
     few_columns n (drop_sort s A) g.1
 
+-- a column goes, and one comes
+len-renamed : (A B : Name) (U : Columns) → is_some (finmap.get U A) ≡ true → finmap.len U ≤ 64 → finmap.len (renamed_columns A B U) ≤ 64
+unfolding renamed_columns with_kind
+len-renamed A B U there few =
+    let e : finmap.len (finmap.remove U A) ≡ finmap.len U - 1 = finmap.len-remove name_total U A ∙ ap (λ b. cond b (finmap.len U - 1) (finmap.len U)) there in
+    elim (finmap.get U A) as (λ o. finmap.len (with_kind (finmap.remove U A) B o) ≤ 64) [
+      | None ↦
+          let f = finmap.len-remove name_total (finmap.remove U A) B in
+          elim (cases_Bool (finmap.contains_key (finmap.remove U A) B)) [
+            | inl t ↦ let g = f ∙ ap (λ b. cond b (finmap.len (finmap.remove U A) - 1) (finmap.len (finmap.remove U A))) t in omega arith
+            | inr t ↦ let g = f ∙ ap (λ b. cond b (finmap.len (finmap.remove U A) - 1) (finmap.len (finmap.remove U A))) t in omega arith
+          ]
+      | Some k ↦
+          let f = finmap.len-insert name_total (finmap.remove U A) B k in
+          elim (cases_Bool (finmap.contains_key (finmap.remove U A) B)) [
+            | inl t ↦ let g = f ∙ ap (λ b. cond b (finmap.len (finmap.remove U A)) (finmap.len (finmap.remove U A) + 1)) t in omega arith
+            | inr t ↦ let g = f ∙ ap (λ b. cond b (finmap.len (finmap.remove U A)) (finmap.len (finmap.remove U A) + 1)) t in omega arith
+          ]
+    ]
+
+rename_small : (n : ℕ) (s : Sort) (A B : Name) → rename_fault n s A B ≡ None → finmap.len (rename_sort s A B).columns ≤ 64
+rename_small n s A B e =
+    let a = neither (when (not (is_column s.columns A)) (unknown_column A)) _ e in
+    let b = neither (too_much n s) _ a.1 in
+    len-renamed A B s.columns (never (is_column s.columns A) _ a.0) (few_columns n s b.0)
+
 join_small : (n : ℕ) (s t : Sort) (twice : Option Name) → join_fault n s t twice ≡ None → finmap.len (join_sort s t).columns ≤ 64
 join_small n s t twice e =
     let a = neither (option_map kind_clash (kinds_differ s.columns t.columns)) _ e in
     let b = neither (form_fault (tree_of (s.tree ++ t.tree))) _ a.1 in
     let c = neither (option_map not_determined (undetermined s t)) _ b.1 in
-    let d = neither (option_map (side_mentions_output left_side) (least_mentioned s.predicate (outputs s.tree))) _ c.1 in
-    let f = neither (option_map (side_mentions_output right_side) (least_mentioned t.predicate (outputs t.tree))) _ d.1 in
+    let d = neither (option_map (side_mentions_output left_side) (unsteady s.predicate s.tree)) _ c.1 in
+    let f = neither (option_map (side_mentions_output right_side) (unsteady t.predicate t.tree)) _ d.1 in
     let g = neither (option_map table_twice twice) _ f.1 in
     few_columns n (join_sort s t) g.1
 
@@ -67,11 +95,15 @@ sort_is_small (drop A X v C) s h e =
     let w = got (sort C) _ s e in
     let u = unrefused _ _ s w.2 in
     subst (λ z. finmap.len z.columns ≤ 64) u.1 (drop_small (nodes_of (drop A X v C)) w.0 A X v u.0)
-sort_is_small (join A B) s h e =
+sort_is_small (rename A B C) s h e =
+    let w = got (sort C) _ s e in
+    let u = unrefused _ _ s w.2 in
+    subst (λ z. finmap.len z.columns ≤ 64) u.1 (rename_small (nodes_of (rename A B C)) w.0 A B u.0)
+sort_is_small (join kind A B) s h e =
     let w = got (sort A) _ s e in
     let v = got (sort B) _ s w.2 in
     let u = unrefused _ _ s v.2 in
-    subst (λ z. finmap.len z.columns ≤ 64) u.1 (join_small (nodes_of (join A B)) w.0 v.0 (shared_table (tables_of A) (tables_of B)) u.0)
+    subst (λ z. finmap.len z.columns ≤ 64) u.1 (join_small (nodes_of (join kind A B)) w.0 v.0 (shared_table (tables_of A) (tables_of B)) u.0)
 
 -- ---- tables
 formed : (U : Columns) (F : List Edge) (P : Predicate) (s : Sort) (t : TreeForm) → tree_of F ≡ t → IsFilled (names U) → AllEdges (λ e. IsFilled e.left) F → table_sort_with U F P t ≡ Ok s

@@ -9,9 +9,13 @@ use Rattle.std.specs.Ordering.{eq_by_cmp}
 use Rattle.lens_values.specs.SortedSet as set
 use Rattle.lens_values.specs.Row.{row_cmp}
 use Rattle.lens_values.specs.declared.row.Row.{Row}
-use Rattle.lens_laws.proofs.Asked.{names_len, rights_keyed, filled_from, filled_has, contains_head, contains_tail, contains_cases, contains_map, part_goes_down, shares_other, side_keys_are, shared_keyed, keys_are, drop_keys_are}
+use Rattle.lens_values.specs.declared.join_kind.JoinKind.{JoinKind}
+use Rattle.lens_laws.proofs.Asked.{names_len, rights_keyed, filled_from, filled_has, contains_head, contains_tail, contains_cases, contains_map, part_goes_down, shares_other, side_keys_are, shared_keyed, keys_are, drop_keys_are, renamed_keys_are}
+use Rattle.lens_laws.proofs.Rename.{find_rename}
+use Rattle.lens_laws.proofs.RenameSorts.{names-renamed}
+use Rattle.lens_laws.proofs.Sorts.{to_in}
 use Rattle.fd_laws.proofs.Columns.{names-without, names-both}
-use Rattle.lens_laws.proofs.Counts.{count-those, count-project, count-matched}
+use Rattle.lens_laws.proofs.Counts.{count-those, count-image, count-project, count-matched}
 use Rattle.lens_laws.proofs.Finds.{find_select, find_project}
 use Rattle.lens_laws.proofs.Lenses.{get_sort}
 use Rattle.fd_laws.proofs.Lists.{in_cons, left_true, false_from, absurd_false}
@@ -20,14 +24,15 @@ use Rattle.lens_laws.proofs.NodeFinds.{find_alike, left_first_is, right_first_is
 use Rattle.fd_laws.proofs.Relations.{from_those}
 use Rattle.fd_laws.proofs.Rows.{tied_row, row_itself}
 use Rattle.lens_specs.specs.Columns.{Columns, Fits, names}
-use Rattle.lens_specs.specs.Lens.{Tables, Lens, base, select, drop, join, sort_of, get, table, view_names}
+use Rattle.lens_specs.specs.Lens.{Tables, Lens, base, select, drop, rename, join, sort_of, get, table, view_names}
 use Rattle.lens_specs.specs.Names.{Name, Names, Within, share, one}
-use Rattle.lens_specs.specs.Nodes.{join_get, drop_get, select_get}
+use Rattle.lens_specs.specs.Rename.{renamed_names, renamed_row}
+use Rattle.lens_specs.specs.Nodes.{join_get, drop_get, select_get, rename_get}
 use Rattle.lens_specs.specs.Predicate.{Predicate, holds}
 use Rattle.lens_specs.specs.Dependencies.{Edge, AllEdges}
 use Rattle.lens_values.specs.declared.value.Value.{Value}
 use Rattle.fd_laws.specs.Trees.{IsBefore, IsTree}
-use Rattle.lens_laws.proofs.NodeLaws.{sound}
+use Rattle.lens_laws.proofs.NodeLaws.{sound, rename_can}
 use Rattle.fd_laws.proofs.Trees.{both_edges, each_edge}
 use Rattle.lens_specs.specs.Relation.{Rows, has, those, project}
 use Rattle.lens_specs.specs.Rows.{agree, paste, cut}
@@ -35,6 +40,8 @@ use Rattle.lens_laws.specs.Asked.{IsFilled, keys_at, side_keys, asked, AreKeys, 
 use Rattle.lens_laws.specs.Finds.{find_left_first, find_right_first, matched}
 use Rattle.lens_laws.specs.KeyedDeltas.{find_by}
 use Rattle.lens_laws.specs.Lenses.{IsTyped, AreOf}
+use Rattle.lens_laws.specs.Rename.{CanRename}
+use Rattle.lens_laws.specs.Shapes.{Shape, IsIn, shape_of}
 use Rattle.lens_laws.specs.Work.{count_of, greatest, largest_group, fan, size, node_work, rows_down, work, GivesAtMost, TablesGiveAtMost}
 
 -- ---- the greatest of a list
@@ -88,14 +95,16 @@ unfolding size
 size_some (base t s) w = omega arith
 size_some (select P L) w = size_some L w
 size_some (drop A X a L) w = size_some L w
-size_some (join A B) w = both_some (2 * size A w) (size B w) (let h = size_some A w in omega arith) (size_some B w)
+size_some (rename A B L) w = size_some L w
+size_some (join kind A B) w = both_some (2 * size A w) (size B w) (let h = size_some A w in omega arith) (size_some B w)
 
 pub size_grows : (L : Lens) (v w : ℕ) → v ≤ w → size L v ≤ size L w
 unfolding size
 size_grows (base t s) v w h = omega arith
 size_grows (select P L) v w h = size_grows L v w h
 size_grows (drop A X a L) v w h = size_grows L v w h
-size_grows (join A B) v w h = mul-le (2 * size A v) (size B v) (2 * size A w) (size B w) (let g = size_grows A v w h in omega arith) (size_grows B v w h)
+size_grows (rename A B L) v w h = size_grows L v w h
+size_grows (join kind A B) v w h = mul-le (2 * size A v) (size B v) (2 * size A w) (size B w) (let g = size_grows A v w h in omega arith) (size_grows B v w h)
 
 -- the looks of a look-up in a join: one on a side, and one on the other for each row found
 pub join_looks : (a b : ℕ) → 1 ≤ a → 1 ≤ b → (a + a * b ≤ 2 * a * b) × (b + b * a ≤ 2 * a * b) × (a + b ≤ 2 * a * b)
@@ -146,6 +155,16 @@ finds_in_project D M K n w h C k i =
     let d = h C k i in
     omega arith
 
+pub finds_in_rename : (s : Shape) (A B : Name) → CanRename s A B → (M : Rows) → IsIn M s → (K : List Names) (n : ℕ) → ((C : Names) → Contains K C → Within C (renamed_names A B (names s.columns)))
+    → GivesAtMost n (map (renamed_names B A) K) M → GivesAtMost n K (rename_get A B M)
+unfolding rename_get
+finds_in_rename s A B can M m K n w h C k i =
+    let found = find_by (renamed_names B A C) (renamed_row B A k) M in
+    let e : count_of (find_by C k (rename_get A B M)) ≡ count_of (rename_get A B found) = ap count_of (find_rename s A B can M m C (w C i) k) in
+    let c = count-image (renamed_row A B) found in
+    let d = h (renamed_names B A C) (renamed_row B A k) (contains_map (renamed_names B A) K C i) in
+    omega arith
+
 pub view_gives : (L : Lens) (K : List Names) (db : Tables) (w : ℕ) → IsTyped L → HasKeys L → AreOf L db → AreKeys (view_names L) K → TablesGiveAtMost w (asked L K) db → GivesAtMost (size L w) (keys_at L K) (get L db)
 unfolding get drop_get size
 view_gives (base t s) K db w h f a keys few = λ C k i. let g = few t C k (contains_map (λ C. (t, C)) (keys_at (base t s) K) C i) in omega arith
@@ -160,11 +179,19 @@ view_gives (drop A X v L) K db w h f a keys few =
     finds_in_project (set.difference (view_names L) (one A)) (get L db) K1 (size L w)
     (λ C i. subst (Within C) (names-without (sort_of L).columns A) (k1 C i).1)
     (λ C k i. r C k (Contains-append_left (X ∷ K1) _ C (contains_tail C X K1 i)))
-view_gives (join A B) K db w h f a keys few =
+view_gives (rename A B L) K db w h f a keys few =
+    let K1 = keys_at (rename A B L) K in
+    let k1 = keys_are (rename A B L) K h f keys in
+    let K2 = map (renamed_names B A) K1 in
+    let r = view_gives L K2 db w h.0 f a (renamed_keys_are A B L K1 h k1) few in
+    finds_in_rename (shape_of (sort_of L)) A B (rename_can A B L h) (get L db) (to_in (get L db) (sort_of L) (get_sort L db h.0 a)) K1 (size L w)
+    (λ C i. subst (Within C) (names-renamed A B (sort_of L).columns h.1.column h.1.free) (k1 C i).1)
+    (λ C k i. r C k (Contains-append_left K2 _ C i))
+view_gives (join kind A B) K db w h f a keys few =
     let U = view_names A in let V = view_names B in let S = set.intersection U V in
-    let K1 = keys_at (join A B) K in
-    let k1 = keys_are (join A B) K h f keys in
-    let s = shared_keyed A B h f in
+    let K1 = keys_at (join kind A B) K in
+    let k1 = keys_are (join kind A B) K h f keys in
+    let s = shared_keyed kind A B h f in
     let KA = side_keys S U K1 in let KB = side_keys S V K1 in
     let l = view_gives A KA db w h.0 f.0 a.0 (side_keys_are S U K1 s (λ c i. (from_shared U V c i).0)) (λ t C k i. few t C k (Contains-append_left (asked A KA) (asked B KB) (t, C) i)) in
     let r = view_gives B KB db w h.1 f.1 a.1 (side_keys_are S V K1 s (λ c i. (from_shared U V c i).1)) (λ t C k i. few t C k (Contains-append_right (asked A KA) (asked B KB) (t, C) i)) in
@@ -179,7 +206,8 @@ abbrev pub per_row : Lens → ℕ → ℕ
 per_row (base t s) w = 8192 * size (base t s) w * size (base t s) w
 per_row (select P L) w = 8192 * size (select P L) w * size (select P L) w + 512 * size (select P L) w * per_row L w
 per_row (drop A X a L) w = 8192 * size (drop A X a L) w * size (drop A X a L) w + 512 * size (drop A X a L) w * per_row L w
-per_row (join A B) w = let n = size (join A B) w in 8192 * n * n + 512 * n * per_row A w + 512 * n * per_row B w
+per_row (rename A B L) w = 8192 * size (rename A B L) w * size (rename A B L) w + 512 * size (rename A B L) w * per_row L w
+per_row (join kind A B) w = let n = size (join kind A B) w in 8192 * n * n + 512 * n * per_row A w + 512 * n * per_row B w
 
 one_row : (d n : ℕ) → 8192 * d * n * n ≡ d * (8192 * n * n)
 one_row d n = grind arith
@@ -195,7 +223,8 @@ unfolding work
 work_is (base t s) d w = one_row d (size (base t s) w)
 work_is (select P L) d w = let n = size (select P L) w in ap (λ z. 8192 * d * n * n + z) (work_is L (512 * d * n) w) ∙ with_child d n (per_row L w)
 work_is (drop A X a L) d w = let n = size (drop A X a L) w in ap (λ z. 8192 * d * n * n + z) (work_is L (512 * d * n) w) ∙ with_child d n (per_row L w)
-work_is (join A B) d w = let n = size (join A B) w in
+work_is (rename A B L) d w = let n = size (rename A B L) w in ap (λ z. 8192 * d * n * n + z) (work_is L (512 * d * n) w) ∙ with_child d n (per_row L w)
+work_is (join kind A B) d w = let n = size (join kind A B) w in
     ap (λ z. 8192 * d * n * n + z + work B (512 * d * n) w) (work_is A (512 * d * n) w)
     ∙ ap (λ z. 8192 * d * n * n + 512 * d * n * per_row A w + z) (work_is B (512 * d * n) w)
     ∙ with_children d n (per_row A w) (per_row B w)
@@ -226,9 +255,15 @@ per_row_grows (drop A X a L) v w h =
     let x = mul-le_3 8192 m m n n g g in
     let y = mul-le_3 512 m (per_row L v) n (per_row L w) g (per_row_grows L v w h) in
     omega arith
-per_row_grows (join A B) v w h =
-    let m = size (join A B) v in let n = size (join A B) w in
-    let g = size_grows (join A B) v w h in
+per_row_grows (rename A B L) v w h =
+    let m = size (rename A B L) v in let n = size (rename A B L) w in
+    let g = size_grows (rename A B L) v w h in
+    let x = mul-le_3 8192 m m n n g g in
+    let y = mul-le_3 512 m (per_row L v) n (per_row L w) g (per_row_grows L v w h) in
+    omega arith
+per_row_grows (join kind A B) v w h =
+    let m = size (join kind A B) v in let n = size (join kind A B) w in
+    let g = size_grows (join kind A B) v w h in
     let x = mul-le_3 8192 m m n n g g in
     let y = mul-le_3 512 m (per_row A v) n (per_row A w) g (per_row_grows A v w h) in
     let z = mul-le_3 512 m (per_row B v) n (per_row B w) g (per_row_grows B v w h) in
@@ -246,7 +281,8 @@ unfolding work
 node_within (base t s) d w = omega arith
 node_within (select P L) d w = omega arith
 node_within (drop A X a L) d w = omega arith
-node_within (join A B) d w = omega arith
+node_within (rename A B L) d w = omega arith
+node_within (join kind A B) d w = omega arith
 
 pub keyed_work : (L : Lens) (d e w : ℕ) → e ≤ 8192 → e * d * size L w ≤ work L d w
 keyed_work L d e w h =
@@ -265,11 +301,15 @@ pub drop_work : (A : Name) (X : Names) (a : Value) (L : Lens) (d e w x : ℕ) �
 unfolding work
 drop_work A X a L d e w x h k = let g = work_grows L e (rows_down d (size (drop A X a L) w)) w w k (omega arith) in omega arith
 
-pub join_work : (A B : Lens) (d e f w x : ℕ) → let n = size (join A B) w in x ≤ node_work d n → e ≤ rows_down d n → f ≤ rows_down d n → x + work A e w + work B f w ≤ work (join A B) d w
+pub rename_work : (A B : Name) (L : Lens) (d e w x : ℕ) → let n = size (rename A B L) w in x ≤ node_work d n → e ≤ rows_down d n → x + work L e w ≤ work (rename A B L) d w
 unfolding work
-join_work A B d e f w x h k l =
-    let g = work_grows A e (rows_down d (size (join A B) w)) w w k (omega arith) in
-    let i = work_grows B f (rows_down d (size (join A B) w)) w w l (omega arith) in
+rename_work A B L d e w x h k = let g = work_grows L e (rows_down d (size (rename A B L) w)) w w k (omega arith) in omega arith
+
+pub join_work : (kind : JoinKind) (A B : Lens) (d e f w x : ℕ) → let n = size (join kind A B) w in x ≤ node_work d n → e ≤ rows_down d n → f ≤ rows_down d n → x + work A e w + work B f w ≤ work (join kind A B) d w
+unfolding work
+join_work kind A B d e f w x h k l =
+    let g = work_grows A e (rows_down d (size (join kind A B) w)) w w k (omega arith) in
+    let i = work_grows B f (rows_down d (size (join kind A B) w)) w w l (omega arith) in
     omega arith
 
 -- ---- edges with right sides apart are no more than the columns

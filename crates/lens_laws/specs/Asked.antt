@@ -5,7 +5,8 @@ use Rattle.lens_values.specs.SortedSet as set
 use Rattle.lens_specs.specs.Names.{Name, Names, Within, share, one}
 use Rattle.lens_specs.specs.Columns.{names}
 use Rattle.lens_specs.specs.Dependencies.{Edge, AllEdges}
-use Rattle.lens_specs.specs.Lens.{Lens, base, select, drop, join, sort_of, view_names}
+use Rattle.lens_specs.specs.Rename.{renamed_names}
+use Rattle.lens_specs.specs.Lens.{Lens, base, select, drop, rename, join, sort_of, view_names}
 
 -- it has a column
 abbrev pub IsFilled : Names → Type 0
@@ -27,14 +28,15 @@ keys_at L K = K ++ left_sides (sort_of L).tree
 abbrev pub side_keys : Names → Names → List Names → List Names
 side_keys S U K = S ∷ parts U K
 
--- the tables and the sets by which they may be asked, where K was handed down to the view
+-- the tables and the sets by which they may be asked, where K was handed down to the view: a rename hands down the sets under the old name
 abbrev pub asked : Lens → List Names → List (Name × Names)
 asked (base t s) K = map (λ C. (t, C)) (keys_at (base t s) K)
 asked (select P L) K = asked L (keys_at (select P L) K)
 asked (drop A X a L) K = asked L (X ∷ keys_at (drop A X a L) K)
-asked (join A B) K =
+asked (rename A B L) K = asked L (map (renamed_names B A) (keys_at (rename A B L) K))
+asked (join k A B) K =
     let S = set.intersection (view_names A) (view_names B) in
-    asked A (side_keys S (view_names A) (keys_at (join A B) K)) ++ asked B (side_keys S (view_names B) (keys_at (join A B) K))
+    asked A (side_keys S (view_names A) (keys_at (join k A B) K)) ++ asked B (side_keys S (view_names B) (keys_at (join k A B) K))
 
 -- each has a column, and columns of U alone
 abbrev pub AreKeys : Names → List Names → Type 0
@@ -45,16 +47,18 @@ abbrev pub HasKeys : Lens → Type 0
 HasKeys (base t s) = IsFilled (names s.columns) × AllEdges (λ e. IsFilled e.left × IsFilled e.right) s.tree
 HasKeys (select P L) = HasKeys L
 HasKeys (drop A X a L) = HasKeys L
-HasKeys (join A B) = HasKeys A × HasKeys B
+HasKeys (rename A B L) = HasKeys L
+HasKeys (join k A B) = HasKeys A × HasKeys B
 
 -- what a view hands down are such sets of each child
 abbrev pub HandsDown : Lens → List Names → Type 0
 HandsDown (base t s) K = Unit {0}
 HandsDown (select P L) K = AreKeys (view_names L) (keys_at (select P L) K)
 HandsDown (drop A X a L) K = AreKeys (view_names L) (X ∷ keys_at (drop A X a L) K)
-HandsDown (join A B) K =
+HandsDown (rename A B L) K = AreKeys (view_names L) (map (renamed_names B A) (keys_at (rename A B L) K))
+HandsDown (join k A B) K =
     let S = set.intersection (view_names A) (view_names B) in
-    AreKeys (view_names A) (side_keys S (view_names A) (keys_at (join A B) K)) × AreKeys (view_names B) (side_keys S (view_names B) (keys_at (join A B) K))
+    AreKeys (view_names A) (side_keys S (view_names A) (keys_at (join k A B) K)) × AreKeys (view_names B) (side_keys S (view_names B) (keys_at (join k A B) K))
 
 -- the view may be asked by the set, which has a column, and columns of the view alone
 abbrev pub MayBeAsked : Lens → List Names → Names → Type 0
@@ -68,8 +72,9 @@ Reaches (drop A X a L) K C =
     let K1 = X ∷ keys_at (drop A X a L) K in
     let D = set.difference (view_names L) (one A) in
     MayBeAsked L K1 C × MayBeAsked L K1 X × Within C D × Within X D
-Reaches (join A B) K C =
+Reaches (rename A B L) K C = MayBeAsked L (map (renamed_names B A) (keys_at (rename A B L) K)) (renamed_names B A C)
+Reaches (join k A B) K C =
     let U = view_names A in let V = view_names B in
     let S = set.intersection U V in
-    let KA = side_keys S U (keys_at (join A B) K) in let KB = side_keys S V (keys_at (join A B) K) in
+    let KA = side_keys S U (keys_at (join k A B) K) in let KB = side_keys S V (keys_at (join k A B) K) in
     (share C U ≡ true → MayBeAsked A KA (set.intersection C U)) × (share C U ≡ false → MayBeAsked B KB (set.intersection C V)) × MayBeAsked A KA S × MayBeAsked B KB S

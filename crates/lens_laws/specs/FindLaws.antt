@@ -5,19 +5,21 @@ use Rattle.std.specs.FinMap as map
 use Rattle.lens_values.specs.Part.{override}
 use Rattle.lens_values.specs.SortedSet as set
 use Rattle.lens_values.specs.declared.row.Row.{Row}
+use Rattle.lens_values.specs.declared.join_kind.JoinKind.{JoinKind}
 use Rattle.lens_specs.specs.Names.{Name, Names, Within, share}
 use Rattle.lens_specs.specs.Rows.{agree, cut}
 use Rattle.lens_specs.specs.Columns.{Columns, Fits, names, both_columns}
 use Rattle.lens_specs.specs.Relation.{Rows, has, those, project}
 use Rattle.lens_specs.specs.Dependencies.{AllEdges}
-use Rattle.lens_specs.specs.Nodes.{select_get, join_get}
+use Rattle.lens_specs.specs.Nodes.{select_get, rename_get, join_get}
 use Rattle.lens_specs.specs.Lens.{Tables, Lens, join, sort_of, get, table, view_names}
 use Rattle.lens_laws.specs.Shapes.{Shape, IsIn}
 use Rattle.lens_laws.specs.KeyedDeltas.{find_by}
 use Rattle.lens_laws.specs.Lenses.{IsTyped, AreOf}
-use Rattle.lens_laws.specs.Rename.{renamed_names, renamed_row, renamed_columns, rename_get, CanRename}
+use Rattle.lens_specs.specs.Rename.{renamed_names, renamed_row, renamed_columns}
+use Rattle.lens_laws.specs.Rename.{CanRename}
 use Rattle.lens_laws.specs.Asked.{IsFilled, side_keys, keys_at, asked, AreKeys, HasKeys, HandsDown, MayBeAsked, Reaches}
-use Rattle.lens_laws.specs.Finds.{Look, looks_of, AllFit, IsOver, Answers, find_selected, find_projected, matched, find_left_first, find_right_first, find_joined, has_projected}
+use Rattle.lens_laws.specs.Finds.{Look, looks_of, AllFit, IsOver, Answers, find_selected, find_projected, find_renamed, matched, find_left_first, find_right_first, find_joined, has_projected}
 use Rattle.lens_laws.specs.Views.{find_in, has_in, AnswerFor}
 
 -- ---- look-ups by key, down a lens
@@ -97,6 +99,11 @@ SelectAnswers = (P : Row → Bool) (source : Look) (K : List Names) (M : Rows) �
 abbrev pub ProjectionAnswers : Type 0
 ProjectionAnswers = (D : Names) (source : Look) (K : List Names) (M : Rows) → ((C : Names) → Contains K C → Within C D) → Answers source K M → Answers (find_projected D source) K (project D M)
 
+-- a rename, whose source is asked by the old names
+abbrev pub RenameAnswers : Type 0
+RenameAnswers = (s : Shape) (A B : Name) → CanRename s A B → (M : Rows) → IsIn M s → (source : Look) (K : List Names) → ((C : Names) → Contains K C → Within C (renamed_names A B (names s.columns)))
+    → Answers source (list_map (renamed_names B A) K) M → Answers (find_renamed A B source) K (rename_get A B M)
+
 -- a join
 abbrev pub JoinAnswers : Type 0
 JoinAnswers = (U V : Columns) (M N : Rows) → AllFit U M → AllFit V N → (left right : Look) (K : List Names)
@@ -146,4 +153,4 @@ EdgesMayBeAsked = (L : Lens) (K : List Names) → IsTyped L → HasKeys L → Ar
 
 -- the sides of a join share a column
 abbrev pub SidesShare : Type 0
-SidesShare = (A B : Lens) → IsTyped (join A B) → HasKeys (join A B) → IsFilled (set.intersection (view_names A) (view_names B))
+SidesShare = (k : JoinKind) (A B : Lens) → IsTyped (join k A B) → HasKeys (join k A B) → IsFilled (set.intersection (view_names A) (view_names B))

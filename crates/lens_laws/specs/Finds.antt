@@ -9,6 +9,8 @@ use Rattle.lens_specs.specs.Names.{Name, Names, share}
 use Rattle.lens_specs.specs.Rows.{at, agree, paste, cut}
 use Rattle.lens_specs.specs.Columns.{Columns, Fits}
 use Rattle.lens_specs.specs.Relation.{Rows, has, those, project}
+use Rattle.lens_specs.specs.Rename.{renamed_names, renamed_row}
+use Rattle.lens_specs.specs.Nodes.{rename_get}
 use Rattle.lens_laws.specs.KeyedDeltas.{find_by}
 
 -- what look-ups give, by the columns and the key
@@ -40,6 +42,10 @@ find_selected P source C k = those P (source C k)
 -- the rows found in the source, cut down to D
 unfoldable pub find_projected : Names → Look → Look
 find_projected D source C k = project D (source C k)
+
+-- the rows found by the old names, renamed
+unfoldable pub find_renamed : Name → Name → Look → Look
+find_renamed A B source C k = rename_get A B (source (renamed_names B A C) (renamed_row B A k))
 
 -- each row put together, by f, with every row that a look-up gives for it
 unfoldable pub matched : (Row → Row → Row) → (Row → Rows) → Rows → Rows

@@ -1,39 +1,22 @@
--- Joins that delete on the right, or on both sides: what they write to their sources.
+-- What an edit does to the sources of a join, by the side on which it deletes.
 use Rattle.std.specs.Prelude.{Bool, not, ◌&&◌, List}
 use Rattle.std.specs.List.{list_any}
 use Rattle.lens_values.specs.SortedSet as set
 use Rattle.lens_values.specs.declared.row.Row.{Row}
+use Rattle.lens_values.specs.declared.join_kind.JoinKind.{JoinKind}
+use Rattle.lens_values.specs.declared.join_kind.JoinKind.TheVariants.{DeleteLeft, DeleteRight, DeleteBoth}
 use Rattle.lens_specs.specs.Names.{Names}
-use Rattle.lens_specs.specs.Rows.{agree, paste, cut}
-use Rattle.lens_specs.specs.Relation.{Rows, has, those, union, minus, project}
+use Rattle.lens_specs.specs.Rows.{agree, paste}
+use Rattle.lens_specs.specs.Relation.{Rows, has, those, union, project}
 use Rattle.lens_specs.specs.Dependencies.{Edge}
-use Rattle.lens_specs.specs.Nodes.{join_left, join_right, join_over}
 use Rattle.lens_specs.specs.Delta.{Delta, new_view}
-use Rattle.lens_laws.specs.KeyedDeltas.{merge_delta, join_delta_right, suspects}
+use Rattle.lens_laws.specs.KeyedDeltas.{merge_delta, join_delta_right, join_delta_left, suspects}
 
--- the rows joined too much whose right part the view has
-unfoldable pub join_kept : Names → Names → List Edge → List Edge → Rows → Rows → Rows → Rows
-join_kept U V F G O M N = those (λ w. has (project V O) (cut V w)) (join_over U V F G O M N)
-
--- the other rows joined too much
-unfoldable pub join_free : Names → Names → List Edge → List Edge → Rows → Rows → Rows → Rows
-join_free U V F G O M N = those (λ w. not (has (project V O) (cut V w))) (join_over U V F G O M N)
-
--- the left source, where only what the right side cannot lose is deleted there
-unfoldable pub join_put_left_kept : Names → Names → List Edge → List Edge → Rows → Rows → Rows → Rows
-join_put_left_kept U V F G O M N = minus (join_left U F O M) (project U (join_kept U V F G O M N))
-
--- the right source, where what it can lose is deleted there
-unfoldable pub join_put_right : Names → Names → List Edge → List Edge → Rows → Rows → Rows → Rows
-join_put_right U V F G O M N = minus (join_right V G O N) (project V (join_free U V F G O M N))
-
--- ---- an edit of the view, by rows found by key
-
--- a left row joins, too much, a right row that the view has
+-- whether a left row, with a right row that the view has, makes a row that the view lacks
 unfoldable pub is_kept : Names → Names → Rows → Rows → Row → Bool
 is_kept S V N1 O r = list_any (λ n. not (has O (paste r V n)) && has (project V O) n) (set.items (those (agree S r) N1))
 
--- a right row joins too much, and the view lacks it
+-- whether a right row makes a row that the view lacks, and the view lacks the right row too
 unfoldable pub is_free : Names → Names → Rows → Rows → Row → Bool
 is_free S V M0 O n = list_any (λ m. not (has O (paste m V n))) (set.items (those (agree S n) M0)) && not (has (project V O) n)
 
@@ -54,3 +37,15 @@ join_delta_right_free U V F G M N O d =
     let S = set.intersection U V in
     let left = merge_delta F M (project U d.add) in
     less_delta (is_free S V (new_view M left) O) (suspects S V N d left.add) (join_delta_right V G N d)
+
+-- what an edit of a join does to its left source
+abbrev pub left_delta : JoinKind → Names → Names → List Edge → List Edge → Rows → Rows → Rows → Delta → Delta
+left_delta DeleteLeft U V F G M N O d = join_delta_left U V F G M N O d
+left_delta DeleteRight U V F G M N O d = join_delta_left_kept U V F G M N O d
+left_delta DeleteBoth U V F G M N O d = join_delta_left U V F G M N O d
+
+-- what an edit of a join does to its right source
+abbrev pub right_delta : JoinKind → Names → Names → List Edge → List Edge → Rows → Rows → Rows → Delta → Delta
+right_delta DeleteLeft U V F G M N O d = join_delta_right V G N d
+right_delta DeleteRight U V F G M N O d = join_delta_right_free U V F G M N O d
+right_delta DeleteBoth U V F G M N O d = join_delta_right_free U V F G M N O d

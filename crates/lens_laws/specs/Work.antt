@@ -6,7 +6,7 @@ use Rattle.lens_values.specs.SortedSet as set
 use Rattle.lens_values.specs.declared.row.Row.{Row}
 use Rattle.lens_specs.specs.Names.{Name, Names}
 use Rattle.lens_specs.specs.Relation.{Rows}
-use Rattle.lens_specs.specs.Lens.{Tables, Lens, base, select, drop, join, table}
+use Rattle.lens_specs.specs.Lens.{Tables, Lens, base, select, drop, rename, join, table}
 use Rattle.lens_specs.specs.Delta.{Delta}
 use Rattle.lens_laws.specs.Asked.{asked}
 use Rattle.lens_laws.specs.KeyedDeltas.{find_by}
@@ -37,7 +37,8 @@ unfoldable pub size : Lens → ℕ → ℕ
 size (base t s) w = 1 + w
 size (select P L) w = size L w
 size (drop A X a L) w = size L w
-size (join A B) w = 2 * size A w * size B w
+size (rename A B L) w = size L w
+size (join k A B) w = 2 * size A w * size B w
 
 -- what bounds the looks at one node of this size, for d rows
 abbrev pub node_work : ℕ → ℕ → ℕ
@@ -52,7 +53,8 @@ unfoldable pub work : Lens → ℕ → ℕ → ℕ
 work (base t s) d w = node_work d (size (base t s) w)
 work (select P L) d w = node_work d (size (select P L) w) + work L (rows_down d (size (select P L) w)) w
 work (drop A X a L) d w = node_work d (size (drop A X a L) w) + work L (rows_down d (size (drop A X a L) w)) w
-work (join A B) d w = node_work d (size (join A B) w) + work A (rows_down d (size (join A B) w)) w + work B (rows_down d (size (join A B) w)) w
+work (rename A B L) d w = node_work d (size (rename A B L) w) + work L (rows_down d (size (rename A B L) w)) w
+work (join k A B) d w = node_work d (size (join k A B) w) + work A (rows_down d (size (join k A B) w)) w + work B (rows_down d (size (join k A B) w)) w
 
 -- no look-up by one of these sets gives more than n rows
 abbrev pub GivesAtMost : ℕ → List Names → Rows → Type 0
@@ -67,4 +69,5 @@ abbrev pub BasesAreSmall : Lens → Type 0
 BasesAreSmall (base t s) = finmap.len s.columns ≤ 64
 BasesAreSmall (select P L) = BasesAreSmall L
 BasesAreSmall (drop A X a L) = BasesAreSmall L
-BasesAreSmall (join A B) = BasesAreSmall A × BasesAreSmall B
+BasesAreSmall (rename A B L) = BasesAreSmall L
+BasesAreSmall (join k A B) = BasesAreSmall A × BasesAreSmall B

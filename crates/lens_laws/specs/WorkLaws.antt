@@ -1,24 +1,28 @@
 -- The laws of the bounds on looks: a look-up in a view gives few rows, and the work of the nodes adds up.
-use Rattle.std.specs.Prelude.{Ok, ◌≡◌, ℕ, ◌+◌, ◌*◌, ◌≤◌, Bool, List, [], ◌∷◌, length}
+use Rattle.std.specs.Prelude.{Ok, ◌≡◌, ℕ, ◌+◌, ◌*◌, ◌≤◌, Bool, List, [], ◌∷◌, map, length}
 use Rattle.std.specs.List.{Contains}
 use Rattle.lens_values.specs.SortedSet as set
 use Rattle.lens_values.specs.declared.value.Value.{Value}
 use Rattle.lens_values.specs.declared.row.Row.{Row}
+use Rattle.lens_values.specs.declared.join_kind.JoinKind.{JoinKind}
 use Rattle.lens_specs.specs.Names.{Name, Names, Within}
 use Rattle.lens_specs.specs.Columns.{Columns, names}
 use Rattle.lens_specs.specs.Relation.{Rows, project}
 use Rattle.lens_specs.specs.Dependencies.{Edge, AllEdges}
-use Rattle.lens_specs.specs.Nodes.{select_get, join_get}
+use Rattle.lens_specs.specs.Rename.{renamed_names}
+use Rattle.lens_specs.specs.Nodes.{select_get, rename_get, join_get}
 use Rattle.lens_specs.specs.Predicate.{Predicate}
 use Rattle.lens_specs.specs.Sort.{Sort}
 use Rattle.lens_specs.specs.Typing.{sort, table_sort}
 use Rattle.std.specs.FinMap as finmap
-use Rattle.lens_specs.specs.Lens.{Tables, Lens, base, select, drop, join, sort_of, get, view_names}
+use Rattle.lens_specs.specs.Lens.{Tables, Lens, base, select, drop, rename, join, sort_of, get, view_names}
 use Rattle.lens_laws.specs.Asked.{IsFilled, left_sides, side_keys, keys_at, asked, AreKeys, HasKeys}
 use Rattle.lens_laws.specs.Finds.{AllFit}
 use Rattle.lens_laws.specs.Lenses.{IsTyped, AreOf}
 use Rattle.fd_laws.specs.Trees.{IsTree}
 use Rattle.lens_specs.specs.Delta.{Delta}
+use Rattle.lens_laws.specs.Rename.{rename_delta, CanRename}
+use Rattle.lens_laws.specs.Shapes.{Shape, IsIn}
 use Rattle.lens_laws.specs.JoinKinds.{join_delta_left_kept, join_delta_right_free}
 use Rattle.lens_laws.specs.KeyedDeltas.{touched, select_delta, drop_delta, join_delta_right, join_delta_left}
 use Rattle.lens_laws.specs.Rules.{BasesAreSound}
@@ -37,6 +41,11 @@ SelectGives = (P : Row → Bool) (M : Rows) (K : List Names) (n : ℕ) → Gives
 -- nor does a projection
 abbrev pub ProjectionGives : Type 0
 ProjectionGives = (D : Names) (M : Rows) (K : List Names) (n : ℕ) → ((C : Names) → Contains K C → Within C D) → GivesAtMost n K M → GivesAtMost n K (project D M)
+
+-- nor does a rename
+abbrev pub RenameGives : Type 0
+RenameGives = (s : Shape) (A B : Name) → CanRename s A B → (M : Rows) → IsIn M s → (K : List Names) (n : ℕ) → ((C : Names) → Contains K C → Within C (renamed_names A B (names s.columns)))
+    → GivesAtMost n (map (renamed_names B A) K) M → GivesAtMost n K (rename_get A B M)
 
 -- a join gives no more than the product of what its sides give
 abbrev pub JoinGives : Type 0
@@ -83,9 +92,13 @@ SelectWork = (P : Predicate) (L : Lens) (d e w x : ℕ) → let n = size (select
 abbrev pub DropWork : Type 0
 DropWork = (A : Name) (X : Names) (a : Value) (L : Lens) (d e w x : ℕ) → let n = size (drop A X a L) w in x ≤ node_work d n → e ≤ rows_down d n → x + work L e w ≤ work (drop A X a L) d w
 
+-- and of a rename
+abbrev pub RenameWork : Type 0
+RenameWork = (A B : Name) (L : Lens) (d e w x : ℕ) → let n = size (rename A B L) w in x ≤ node_work d n → e ≤ rows_down d n → x + work L e w ≤ work (rename A B L) d w
+
 -- and of a join, with both sides
 abbrev pub JoinWork : Type 0
-JoinWork = (A B : Lens) (d e f w x : ℕ) → let n = size (join A B) w in x ≤ node_work d n → e ≤ rows_down d n → f ≤ rows_down d n → x + work A e w + work B f w ≤ work (join A B) d w
+JoinWork = (k : JoinKind) (A B : Lens) (d e f w x : ℕ) → let n = size (join k A B) w in x ≤ node_work d n → e ≤ rows_down d n → f ≤ rows_down d n → x + work A e w + work B f w ≤ work (join k A B) d w
 
 -- a tree has at most as many edges as there are columns, where each has a right side
 abbrev pub EdgesAreFew : Type 0
@@ -126,6 +139,10 @@ SelectDeltaIsSmall = (F : List Edge) (P : Row → Bool) (M : Rows) (d : Delta) (
 -- a drop hands down no more rows than it is given
 abbrev pub DropDeltaIsSmall : Type 0
 DropDeltaIsSmall = (A : Name) (X : Names) (a : Value) (M : Rows) (d : Delta) → rows_of (drop_delta A X a M d) ≤ rows_of d
+
+-- nor does a rename
+abbrev pub RenameDeltaIsSmall : Type 0
+RenameDeltaIsSmall = (A B : Name) (d : Delta) → rows_of (rename_delta A B d) ≤ rows_of d
 
 -- the right side of a join
 abbrev pub JoinRightIsSmall : Type 0

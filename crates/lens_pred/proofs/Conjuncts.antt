@@ -45,6 +45,24 @@ pub is_some-find : {X : Type 0} (p : X → Bool) (xs : List X) → is_some (find
 is_some-find p [] = refl
 is_some-find p (x ∷ xs) = is_some-cond (p x) x (find p xs) ∙ ap (λ b. p x || b) (is_some-find p xs)
 
+either_fails : (a b : Bool) → (not a || not b) ≡ not (a && b)
+either_fails true b = refl
+either_fails false b = refl
+
+some_fails : {X : Type 0} (p : X → Bool) (xs : List X) → is_some (find (λ x. not (p x)) xs) ≡ not (list_all p xs)
+some_fails p [] = refl
+some_fails p (x ∷ xs) = is_some-cond (not (p x)) x (find (λ x. not (p x)) xs) ∙ ap (λ b. not (p x) || b) (some_fails p xs) ∙ either_fails (p x) (list_all p xs)
+
+same_not : (a b : Bool) → not a ≡ not b → b ≡ a
+same_not true true e = refl
+same_not true false e = cc
+same_not false true e = cc
+same_not false false e = refl
+
+-- nothing that fails is found exactly where all pass
+pub none_fails : {X : Type 0} (p : X → Bool) (xs : List X) (b : Bool) → is_some (find (λ x. not (p x)) xs) ≡ not b → b ≡ list_all p xs
+none_fails p xs b e = same_not (list_all p xs) b (sym (some_fails p xs) ∙ e)
+
 -- ---- the same of a predicate as of the list of its formulas
 
 pub holds-list_view : (P : Predicate) (r : Row) → all_hold (list_view P) r ≡ holds P r

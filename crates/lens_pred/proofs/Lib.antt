@@ -1,3 +1,4 @@
 pub mod Conjuncts
 pub mod Views
 pub mod Walks
+pub mod Renamed

@@ -3,7 +3,7 @@ use Rattle.std.specs.Prelude.{◌≡◌, ℕ, List, [], ◌∷◌, ◌++◌, ◌
 use Rattle.std.proofs.Common.{sym, ap, ◌∙◌, append_assoc, append-nil}
 use Rattle.std.specs.Coded.{Coded, code_by, coded_ℕ, coded_list, coded×}
 use Rattle.lens_specs.specs.Names.{Name}
-use Rattle.lens_specs.specs.Predicate.{Op, eq, ne, lt, le, gt, ge, Formula, truth, falsity, compare, compare_columns, one_of, negation, all_of, any_of, Formulas, no_formulas, formulas}
+use Rattle.lens_specs.specs.Predicate.{Op, eq, ne, lt, le, gt, ge, Formula, truth, falsity, compare, compare_columns, one_of, null_at, negation, all_of, any_of, Formulas, no_formulas, formulas}
 use Rattle.lens_values.specs.contracts.value.Value as contract
 use Rattle.lens_values.specs.declared.value.Value.{Value}
 
@@ -36,6 +36,7 @@ abbrev mutual
   symbols (compare c op v) = (2, (op_number op, (c, ([], v ∷ [])))) ∷ []
   symbols (compare_columns c op d) = (3, (op_number op, (c, (d, [])))) ∷ []
   symbols (one_of c vs) = (4, (0, (c, ([], vs)))) ∷ []
+  symbols (null_at c) = (9, (0, (c, ([], [])))) ∷ []
   symbols (negation f) = bare 5 ∷ symbols f
   symbols (all_of fs) = symbols_of fs
   symbols (any_of fs) = bare 6 ∷ symbols_of fs
@@ -63,6 +64,7 @@ any_of_all falsity = falsity
 any_of_all (compare c op v) = truth
 any_of_all (compare_columns c op d) = truth
 any_of_all (one_of c vs) = truth
+any_of_all (null_at c) = truth
 any_of_all (negation f) = truth
 any_of_all (all_of fs) = any_of fs
 any_of_all (any_of fs) = truth
@@ -79,6 +81,7 @@ all_with f falsity = truth
 all_with f (compare c op v) = truth
 all_with f (compare_columns c op d) = truth
 all_with f (one_of c vs) = truth
+all_with f (null_at c) = truth
 all_with f (negation g) = truth
 all_with f (all_of fs) = all_of (formulas f fs)
 all_with f (any_of fs) = truth
@@ -100,7 +103,8 @@ with_symbol s fs =
     else if s.0 == 5 then negated fs
     else if s.0 == 6 then any_first fs
     else if s.0 == 7 then all_of no_formulas ∷ fs
-    else put_in fs
+    else if s.0 == 8 then put_in fs
+    else null_at s.1.1.0 ∷ fs
 
 -- the formulas of the symbols
 abbrev pub formulas_read : List Symbol → List Formula
@@ -129,6 +133,7 @@ mutual
   read-symbols (compare c op v) ss = ap (λ o. compare c o v ∷ formulas_read ss) (op_of-op_number op)
   read-symbols (compare_columns c op d) ss = ap (λ o. compare_columns c o d ∷ formulas_read ss) (op_of-op_number op)
   read-symbols (one_of c vs) ss = refl
+  read-symbols (null_at c) ss = refl
   read-symbols (negation f) ss = ap negated (read-symbols f ss)
   read-symbols (all_of fs) ss = read-symbols_of fs ss
   read-symbols (any_of fs) ss = ap any_first (read-symbols_of fs ss)

@@ -1,6 +1,6 @@
 -- The normal form of formulas and of predicates.
 use Rattle.std.specs.Prelude.{ℕ, Bool, true, false, not, ◌&&◌, List, [], ◌∷◌, Option, position}
-use Rattle.lens_specs.specs.Predicate.{Formula, truth, falsity, compare, compare_columns, one_of, negation, all_of, any_of, Formulas, no_formulas, formulas, Predicate}
+use Rattle.lens_specs.specs.Predicate.{Formula, truth, falsity, compare, compare_columns, one_of, null_at, negation, all_of, any_of, Formulas, no_formulas, formulas, Predicate}
 
 -- whether it is a conjunction
 abbrev pub is_all_of : Formula → Bool
@@ -9,6 +9,7 @@ is_all_of falsity = false
 is_all_of (compare c op v) = false
 is_all_of (compare_columns c op d) = false
 is_all_of (one_of c vs) = false
+is_all_of (null_at c) = false
 is_all_of (negation f) = false
 is_all_of (all_of fs) = true
 is_all_of (any_of fs) = false
@@ -20,6 +21,7 @@ is_any_of falsity = false
 is_any_of (compare c op v) = false
 is_any_of (compare_columns c op d) = false
 is_any_of (one_of c vs) = false
+is_any_of (null_at c) = false
 is_any_of (negation f) = false
 is_any_of (all_of fs) = false
 is_any_of (any_of fs) = true
@@ -48,6 +50,7 @@ abbrev mutual
   is_normal (compare c op v) = true
   is_normal (compare_columns c op d) = true
   is_normal (one_of c vs) = has_one vs
+  is_normal (null_at c) = true
   is_normal (negation f) = is_normal f
   is_normal (all_of fs) = has_two fs && (none_is is_all_of fs && are_normal fs)
   is_normal (any_of fs) = has_two fs && (none_is is_any_of fs && are_normal fs)

@@ -18,6 +18,7 @@ view_step Formula-F.False = spec.falsity
 view_step (Formula-F.Compare c op v) = spec.compare c (op_view op) v
 view_step (Formula-F.CompareCols c op d) = spec.compare_columns c (op_view op) d
 view_step (Formula-F.OneOf c vs) = spec.one_of c vs
+view_step (Formula-F.IsNull c) = spec.null_at c
 view_step (Formula-F.Not f) = spec.negation f.value
 view_step (Formula-F.And fs) = spec.all_of fs
 view_step (Formula-F.Or fs) = spec.any_of fs

@@ -1,8 +1,7 @@
 //! Whether a predicate suits columns.
-ghost use Rattle.std.specs.Prelude.{◌≡◌, Some};
+ghost use Rattle.std.specs.Prelude.{◌≡◌};
 ghost use Rattle.std.specs.List.{list_all};
-ghost use Rattle.lens_specs.specs.Columns as spec;
-ghost use Rattle.lens_specs.specs.Refusal.{unless as unless_of, unlike, unlike_all};
+ghost use Rattle.lens_specs.specs.Refusal.{is_like, like_bases, unless as unless_of, unlike, unlike_all};
 ghost use Rattle.lens_pred.specs.Checked.{checked};
 ghost use Rattle.lens_pred.specs.View.{formula_view, list_view, predicate_view};
 
@@ -16,13 +15,13 @@ use lens_values::{Columns, Kind, Name, Value};
 pub enum PredFault {
     /// The first name in text order that is no column.
     UnknownColumn { name: Name },
-    /// The (left) column of the first comparison with a value that does not fit, or of two kinds.
+    /// The (left) column of the first comparison with a value of another base, or of two bases.
     PredKind { name: Name },
 }
 
 impl Pred {
-    /// Whether each name is a column, and each comparison is with a value that fits or of two
-    /// columns of one kind. `UnknownColumn` comes before `PredKind`.
+    /// Whether each name is a column, and each comparison is with a value of the column's base or
+    /// null, or of two columns of one base. `UnknownColumn` comes before `PredKind`.
     pub fn check(&self, columns: &Columns) -> Result<(), PredFault>
         ensures { result ≡ checked columns.now self.now }
     {
@@ -37,19 +36,19 @@ impl Pred {
 }
 
 impl Formula {
-    // The (left) column of the first comparison of two kinds.
+    // The (left) column of the first comparison of two bases.
     #[cycle(first_unlike)]
     fn first_unlike(&self, columns: &Columns) -> Option<Name>
         ensures { result ≡ unlike columns.now (formula_view self.now) }
     {
         match self {
-            Formula::True | Formula::False => None,
-            Formula::Compare { col, value, .. } => unless(value.fits_at(columns.kind(col)), col),
+            Formula::True | Formula::False | Formula::IsNull { .. } => None,
+            Formula::Compare { col, value, .. } => unless(is_like(value, columns.kind(col)), col),
             Formula::CompareCols { col, other, .. } => {
                 unless(are_like(columns.kind(col), columns.kind(other)), col)
             }
             Formula::OneOf { col, values } => {
-                unless(all_fit(columns.kind(col), values.as_slice()), col)
+                unless(all_like(columns.kind(col), values.as_slice()), col)
             }
             Formula::Not(inner) => inner.first_unlike(columns),
             Formula::And(members) | Formula::Or(members) => {
@@ -79,19 +78,29 @@ fn unless(holds: bool, name: &Name) -> Option<Name>
     if holds { None } else { Some(*name) }
 }
 
-// Whether both kinds are there and the same.
+// Whether both kinds are there, with one base.
 fn are_like(left: Option<Kind>, right: Option<Kind>) -> bool
-    ensures { result ≡ spec.like_kinds left right }
+    ensures { result ≡ like_bases left right }
 {
     match (left, right) {
-        (Some(left), Some(right)) => left == right,
+        (Some(left), Some(right)) => left.base().same(right.base()),
         _ => false,
     }
 }
 
-// Whether the column of this kind is there, and each of the values fits it.
-fn all_fit(kind: Option<Kind>, values: &[Value]) -> bool
-    ensures { result ≡ list_all (λ v. spec.fits_at (Some v) kind) values.now }
+// Whether the column of this kind is there, and the value is null or of its base.
+fn is_like(value: &Value, kind: Option<Kind>) -> bool
+    ensures { result ≡ is_like value.now kind }
 {
-    values.iter().all(|value| value.fits_at(kind))
+    match kind {
+        Some(kind) => value.is_null() || value.fits(kind),
+        None => false,
+    }
+}
+
+// Whether the column of this kind is there, and each of the values is null or of its base.
+fn all_like(kind: Option<Kind>, values: &[Value]) -> bool
+    ensures { result ≡ list_all (λ v. is_like v kind) values.now }
+{
+    values.iter().all(|value| is_like(value, kind))
 }

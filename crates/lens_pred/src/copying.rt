@@ -38,6 +38,7 @@ impl Formula {
                 col: *col,
                 values: values.copy(alloc)?,
             }),
+            Formula::IsNull { col } => Ok(Formula::IsNull { col: *col }),
             Formula::Not(inner) => Ok(Formula::Not(Box::new(alloc, inner.copy(alloc)?)?)),
             Formula::And(members) => Ok(Formula::And(members.copy(alloc)?)),
             Formula::Or(members) => Ok(Formula::Or(members.copy(alloc)?)),

@@ -36,6 +36,8 @@ pub enum Formula {
     CompareCols { col: Name, op: Op, other: Name },
     /// The value of a column is one of these.
     OneOf { col: Name, values: Values },
+    /// The value of a column is null.
+    IsNull { col: Name },
     /// The condition does not hold.
     Not(Box<Formula>),
     /// Each of the conditions holds.

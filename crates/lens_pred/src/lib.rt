@@ -12,6 +12,7 @@ pub mod nodes;
 pub mod normal_form;
 pub mod op;
 pub mod pred;
+pub mod renaming;
 pub mod splitting;
 
 pub use checking::PredFault;

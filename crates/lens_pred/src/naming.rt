@@ -1,12 +1,14 @@
 //! The names in a formula.
 ghost use Rattle.std.specs.Prelude.{◌≡◌, [], ◌∷◌, ◌++◌, OnOk, find};
+ghost use Rattle.std.specs.List.{list_all, list_any};
+ghost use Rattle.lens_values.specs.SortedSet as set;
 ghost use Rattle.lens_specs.specs.Predicate.{formula_mentions, names_in, names_of_all};
 ghost use Rattle.lens_specs.specs.Refusal.{is_mixed};
 ghost use Rattle.lens_pred.specs.Sought.{passes};
 ghost use Rattle.lens_pred.specs.View.{formula_view, list_view, predicate_view};
 
 use crate::formula::Formula;
-use lens_values::{Columns, Name, NoMemory};
+use lens_values::{Columns, Name, Names, NoMemory};
 
 /// The names that are sought in a formula.
 #[derive(Clone, Copy)]
@@ -17,6 +19,10 @@ pub(crate) enum Sought<'a> {
     IsNot(&'a Name),
     /// Each name that none of these columns has.
     IsOutside(&'a Columns),
+    /// Each of these names.
+    IsIn(&'a Names),
+    /// Each name but these.
+    IsNotIn(&'a Names),
 }
 
 impl Sought<'_> {
@@ -28,6 +34,8 @@ impl Sought<'_> {
             Sought::Is(sought) => *sought == name,
             Sought::IsNot(other) => name != *other,
             Sought::IsOutside(columns) => columns.kind(name).is_none(),
+            Sought::IsIn(names) => names.has(name),
+            Sought::IsNotIn(names) => !names.has(name),
         }
     }
 
@@ -47,7 +55,8 @@ impl Formula {
     {
         match self {
             Formula::True | Formula::False => None,
-            Formula::Compare { col, .. } | Formula::OneOf { col, .. } => sought.found(col),
+            Formula::Compare { col, .. } | Formula::OneOf { col, .. } | Formula::IsNull { col } =>
+                sought.found(col),
             Formula::CompareCols { col, other, .. } => match sought.found(col) {
                 Some(name) => Some(name),
                 None => sought.found(other),
@@ -73,15 +82,30 @@ impl Formula {
         self.mentions(col) && self.first_name(Sought::IsNot(col)).is_some()
     }
 
+    /// Whether one of these columns occurs in the formula.
+    pub fn mentions_one_of(&self, cols: &Names) -> bool
+        ensures { result ≡ list_any (set.contains cols.now) (names_in (formula_view self.now)) }
+    {
+        self.first_name(Sought::IsIn(cols)).is_some()
+    }
+
+    /// Whether each column in the formula is one of these.
+    pub fn mentions_only(&self, cols: &Names) -> bool
+        ensures { result ≡ list_all (set.contains cols.now) (names_in (formula_view self.now)) }
+    {
+        self.first_name(Sought::IsNotIn(cols)).is_none()
+    }
+
     /// Adds the names at the end, in text order. After an `Err` some of them may be there.
     #[cycle(append_names)]
-    pub(crate) fn append_names(&self, list: &mut Vec<Name>) -> Result<(), NoMemory>
+    pub fn append_names(&self, list: &mut Vec<Name>) -> Result<(), NoMemory>
         ensures { OnOk result (list.new.items
             ≡ list.old.items ++ names_in (formula_view self.now)) }
     {
         match self {
             Formula::True | Formula::False => Ok(()),
-            Formula::Compare { col, .. } | Formula::OneOf { col, .. } => Ok(list.push(*col)?),
+            Formula::Compare { col, .. } | Formula::OneOf { col, .. } | Formula::IsNull { col } =>
+                Ok(list.push(*col)?),
             Formula::CompareCols { col, other, .. } => {
                 list.push(*col)?;
                 Ok(list.push(*other)?)

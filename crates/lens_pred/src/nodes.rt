@@ -13,7 +13,7 @@ impl Formula {
     {
         match self {
             Formula::True | Formula::False => 1,
-            Formula::Compare { .. } | Formula::CompareCols { .. } => 1,
+            Formula::Compare { .. } | Formula::CompareCols { .. } | Formula::IsNull { .. } => 1,
             Formula::OneOf { values, .. } => values.as_slice().len().saturating_add(1),
             Formula::Not(inner) => inner.nodes().saturating_add(1),
             Formula::And(members) | Formula::Or(members) => {

@@ -15,7 +15,7 @@ impl Formula {
     {
         match self {
             Formula::True | Formula::False => true,
-            Formula::Compare { .. } | Formula::CompareCols { .. } => true,
+            Formula::Compare { .. } | Formula::CompareCols { .. } | Formula::IsNull { .. } => true,
             Formula::OneOf { values, .. } => !values.as_slice().is_empty(),
             Formula::Not(inner) => inner.is_normal(),
             Formula::And(members) => {

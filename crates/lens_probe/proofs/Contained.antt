@@ -10,6 +10,7 @@ use Rattle.lens_values.specs.SortedSet as set
 use Rattle.lens_values.specs.declared.row.Row.{Row}
 use Rattle.lens_values.specs.declared.value.Value.{Value}
 use Rattle.lens_specs.specs.Columns.{Fits}
+use Rattle.lens_values.specs.declared.join_kind.JoinKind.{JoinKind}
 use Rattle.lens_specs.specs.Lens.{Lens, Tables, base, select, drop, join, get, sort_of, view_names}
 use Rattle.lens_specs.specs.Names.{Name, Names, Within, one}
 use Rattle.lens_specs.specs.Nodes.{drop_get, select_get}
@@ -128,51 +129,51 @@ drop_has L S A X v db r q D F rows is typed fits cols part found listed =
 
 -- ---- a join
 
-join_looks_left : (A B : Lens) (st : State) → IsTyped (join A B) → MayLook (join A B) st → MayLook A st
-join_looks_left A B st typed may = (_, under_left A B may.0 st typed may.1)
+join_looks_left : (kind : JoinKind) (A B : Lens) (st : State) → IsTyped (join kind A B) → MayLook (join kind A B) st → MayLook A st
+join_looks_left kind A B st typed may = (_, under_left kind A B may.0 st typed may.1)
 
-join_looks_right : (A B : Lens) (st : State) → IsTyped (join A B) → MayLook (join A B) st → MayLook B st
-join_looks_right A B st typed may = (_, under_right A B may.0 st typed may.1)
+join_looks_right : (kind : JoinKind) (A B : Lens) (st : State) → IsTyped (join kind A B) → MayLook (join kind A B) st → MayLook B st
+join_looks_right kind A B st typed may = (_, under_right kind A B may.0 st typed may.1)
 
-pub left_of_join : (L A B : Lens) (st : State) → join A B ≡ L → IsTyped L → MayLook L st → MayLook A st
-left_of_join L A B st is typed may = join_looks_left A B st (subst IsTyped (sym is) typed) (subst (λ M. MayLook M st) (sym is) may)
+pub left_of_join : (kind : JoinKind) (L A B : Lens) (st : State) → join kind A B ≡ L → IsTyped L → MayLook L st → MayLook A st
+left_of_join kind L A B st is typed may = join_looks_left kind A B st (subst IsTyped (sym is) typed) (subst (λ M. MayLook M st) (sym is) may)
 
-pub right_of_join : (L A B : Lens) (st : State) → join A B ≡ L → IsTyped L → MayLook L st → MayLook B st
-right_of_join L A B st is typed may = join_looks_right A B st (subst IsTyped (sym is) typed) (subst (λ M. MayLook M st) (sym is) may)
+pub right_of_join : (kind : JoinKind) (L A B : Lens) (st : State) → join kind A B ≡ L → IsTyped L → MayLook L st → MayLook B st
+right_of_join kind L A B st is typed may = join_looks_right kind A B st (subst IsTyped (sym is) typed) (subst (λ M. MayLook M st) (sym is) may)
 
-join_parts_fit : (A B : Lens) (r : Row) → IsTyped (join A B) → Fits (sort_of (join A B)).columns r → Fits (sort_of A).columns (restrict (view_names A) r) × Fits (sort_of B).columns (restrict (view_names B) r)
+join_parts_fit : (kind : JoinKind) (A B : Lens) (r : Row) → IsTyped (join kind A B) → Fits (sort_of (join kind A B)).columns r → Fits (sort_of A).columns (restrict (view_names A) r) × Fits (sort_of B).columns (restrict (view_names B) r)
 unfolding cut
-join_parts_fit A B r typed fits = parts_fit (sort_of A).columns (sort_of B).columns typed.2.kinds r fits
+join_parts_fit kind A B r typed fits = parts_fit (sort_of A).columns (sort_of B).columns typed.2.kinds r fits
 
 -- the parts of a row fit the sides
-pub left_part_fits : (L A B : Lens) (r q : Row) (U : Names) → join A B ≡ L → IsTyped L → Fits (sort_of L).columns r → U ≡ view_names A → q ≡ restrict U r → Fits (sort_of A).columns q
-left_part_fits L A B r q U is typed fits cols part =
-    subst (Fits (sort_of A).columns) (sym (part ∙ ap (λ C. restrict C r) cols)) (join_parts_fit A B r (subst IsTyped (sym is) typed) (subst (λ M. Fits (sort_of M).columns r) (sym is) fits)).0
+pub left_part_fits : (kind : JoinKind) (L A B : Lens) (r q : Row) (U : Names) → join kind A B ≡ L → IsTyped L → Fits (sort_of L).columns r → U ≡ view_names A → q ≡ restrict U r → Fits (sort_of A).columns q
+left_part_fits kind L A B r q U is typed fits cols part =
+    subst (Fits (sort_of A).columns) (sym (part ∙ ap (λ C. restrict C r) cols)) (join_parts_fit kind A B r (subst IsTyped (sym is) typed) (subst (λ M. Fits (sort_of M).columns r) (sym is) fits)).0
 
-pub right_part_fits : (L A B : Lens) (r q : Row) (V : Names) → join A B ≡ L → IsTyped L → Fits (sort_of L).columns r → V ≡ view_names B → q ≡ restrict V r → Fits (sort_of B).columns q
-right_part_fits L A B r q V is typed fits cols part =
-    subst (Fits (sort_of B).columns) (sym (part ∙ ap (λ C. restrict C r) cols)) (join_parts_fit A B r (subst IsTyped (sym is) typed) (subst (λ M. Fits (sort_of M).columns r) (sym is) fits)).1
+pub right_part_fits : (kind : JoinKind) (L A B : Lens) (r q : Row) (V : Names) → join kind A B ≡ L → IsTyped L → Fits (sort_of L).columns r → V ≡ view_names B → q ≡ restrict V r → Fits (sort_of B).columns q
+right_part_fits kind L A B r q V is typed fits cols part =
+    subst (Fits (sort_of B).columns) (sym (part ∙ ap (λ C. restrict C r) cols)) (join_parts_fit kind A B r (subst IsTyped (sym is) typed) (subst (λ M. Fits (sort_of M).columns r) (sym is) fits)).1
 
-join_has_parts : (A B : Lens) (st : State) (r : Row) → IsTyped (join A B) → MayLook (join A B) st → Fits (sort_of (join A B)).columns r
-    → (has (get A st.relations) (restrict (view_names A) r) && has (get B st.relations) (restrict (view_names B) r)) ≡ has (get (join A B) st.relations) r
+join_has_parts : (kind : JoinKind) (A B : Lens) (st : State) (r : Row) → IsTyped (join kind A B) → MayLook (join kind A B) st → Fits (sort_of (join kind A B)).columns r
+    → (has (get A st.relations) (restrict (view_names A) r) && has (get B st.relations) (restrict (view_names B) r)) ≡ has (get (join kind A B) st.relations) r
 unfolding cut get
-join_has_parts A B st r typed may fits =
+join_has_parts kind A B st r typed may fits =
     has_in_join (sort_of A).columns (sort_of B).columns (get A st.relations) (get B st.relations) (get_sort A st.relations typed.0 may.1.tables.0).columns
     (get_sort B st.relations typed.1 may.1.tables.1).columns r fits
 
 -- a row is there where both sides have its part
-pub join_has : (L A B : Lens) (st : State) (r p q : Row) (U V : Names) (b : Bool) → join A B ≡ L → IsTyped L → MayLook L st → Fits (sort_of L).columns r → U ≡ view_names A → V ≡ view_names B
+pub join_has : (kind : JoinKind) (L A B : Lens) (st : State) (r p q : Row) (U V : Names) (b : Bool) → join kind A B ≡ L → IsTyped L → MayLook L st → Fits (sort_of L).columns r → U ≡ view_names A → V ≡ view_names B
     → p ≡ restrict U r → q ≡ restrict V r → true ≡ has (get A st.relations) p → b ≡ has (get B st.relations) q → b ≡ has (get L st.relations) r
-join_has L A B st r p q U V b is typed may fits left right left_part right_part left_has right_has =
+join_has kind L A B st r p q U V b is typed may fits left right left_part right_part left_has right_has =
     right_has ∙ ap (λ z. has (get B st.relations) z) (right_part ∙ ap (λ C. restrict C r) right)
     ∙ ap (λ c. c && has (get B st.relations) (restrict (view_names B) r)) (left_has ∙ ap (λ z. has (get A st.relations) z) (left_part ∙ ap (λ C. restrict C r) left))
-    ∙ join_has_parts A B st r (subst IsTyped (sym is) typed) (subst (λ M. MayLook M st) (sym is) may) (subst (λ M. Fits (sort_of M).columns r) (sym is) fits)
+    ∙ join_has_parts kind A B st r (subst IsTyped (sym is) typed) (subst (λ M. MayLook M st) (sym is) may) (subst (λ M. Fits (sort_of M).columns r) (sym is) fits)
     ∙ ap (λ M. has (get M st.relations) r) is
 
 -- and is not there where the left side lacks it
-pub join_lacks : (L A B : Lens) (st : State) (r p : Row) (U : Names) → join A B ≡ L → IsTyped L → MayLook L st → Fits (sort_of L).columns r → U ≡ view_names A → p ≡ restrict U r
+pub join_lacks : (kind : JoinKind) (L A B : Lens) (st : State) (r p : Row) (U : Names) → join kind A B ≡ L → IsTyped L → MayLook L st → Fits (sort_of L).columns r → U ≡ view_names A → p ≡ restrict U r
     → false ≡ has (get A st.relations) p → false ≡ has (get L st.relations) r
-join_lacks L A B st r p U is typed may fits left left_part left_has =
+join_lacks kind L A B st r p U is typed may fits left left_part left_has =
     ap (λ c. c && has (get B st.relations) (restrict (view_names B) r)) (left_has ∙ ap (λ z. has (get A st.relations) z) (left_part ∙ ap (λ C. restrict C r) left))
-    ∙ join_has_parts A B st r (subst IsTyped (sym is) typed) (subst (λ M. MayLook M st) (sym is) may) (subst (λ M. Fits (sort_of M).columns r) (sym is) fits)
+    ∙ join_has_parts kind A B st r (subst IsTyped (sym is) typed) (subst (λ M. MayLook M st) (sym is) may) (subst (λ M. Fits (sort_of M).columns r) (sym is) fits)
     ∙ ap (λ M. has (get M st.relations) r) is

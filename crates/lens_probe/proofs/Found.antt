@@ -10,6 +10,7 @@ use Rattle.lens_values.specs.Part.{restrict}
 use Rattle.lens_values.specs.SortedSet as set
 use Rattle.lens_values.specs.declared.row.Row.{Row}
 use Rattle.lens_values.specs.declared.value.Value.{Value}
+use Rattle.lens_values.specs.declared.join_kind.JoinKind.{JoinKind}
 use Rattle.lens_specs.specs.Lens.{Lens, Tables, base, select, drop, join, get, rows_or_none, sort_of, view_names}
 use Rattle.lens_specs.specs.Names.{Name, Names, Within, one, share}
 use Rattle.lens_specs.specs.Predicate.{Predicate, holds}
@@ -108,23 +109,23 @@ drop_finds r L S A X v st C D k found is typed may cols of =
 
 -- ---- a join
 
-module _ (A B : Lens) (st : State) (C : Names) (typed : IsTyped (join A B)) (may : MayFind (join A B) st C) where
-  reach : Reaches (join A B) may.0 C
-  reach = keys_reach (join A B) may.0 typed may.1.keys may.1.sets C may.2
+module _ (kind : JoinKind) (A B : Lens) (st : State) (C : Names) (typed : IsTyped (join kind A B)) (may : MayFind (join kind A B) st C) where
+  reach : Reaches (join kind A B) may.0 C
+  reach = keys_reach (join kind A B) may.0 typed may.1.keys may.1.sets C may.2
 
   -- the side that is asked first, by its part of the key
   pub left_asked : share C (view_names A) ≡ true → MayFind A st (set.intersection C (view_names A))
-  left_asked meets = (_, under_left A B may.0 st typed may.1, (reach.0 meets).0)
+  left_asked meets = (_, under_left kind A B may.0 st typed may.1, (reach.0 meets).0)
 
   pub right_asked : share C (view_names A) ≡ false → MayFind B st (set.intersection C (view_names B))
-  right_asked apart = (_, under_right A B may.0 st typed may.1, (reach.1 apart).0)
+  right_asked apart = (_, under_right kind A B may.0 st typed may.1, (reach.1 apart).0)
 
   -- and the other one, by the shared columns
   pub left_matches : (S : Names) → S ≡ set.intersection (view_names A) (view_names B) → MayFind A st S
-  left_matches S shared = subst (MayFind A st) (sym shared) (_, under_left A B may.0 st typed may.1, reach.2.0)
+  left_matches S shared = subst (MayFind A st) (sym shared) (_, under_left kind A B may.0 st typed may.1, reach.2.0)
 
   pub right_matches : (S : Names) → S ≡ set.intersection (view_names A) (view_names B) → MayFind B st S
-  right_matches S shared = subst (MayFind B st) (sym shared) (_, under_right A B may.0 st typed may.1, reach.3.0)
+  right_matches S shared = subst (MayFind B st) (sym shared) (_, under_right kind A B may.0 st typed may.1, reach.3.0)
 
   left_fit : AllFit (sort_of A).columns (get A st.relations)
   left_fit = (get_sort A st.relations typed.0 may.1.tables.0).columns
@@ -149,14 +150,14 @@ module _ (A B : Lens) (st : State) (C : Names) (typed : IsTyped (join A B)) (may
 
     module _ (r : Result Rows NoMemory) (pairs : List Row) (made : IfOk r (λ all. all ≡ set.from_list pairs)) where
       -- the pairs of rows found on both sides are what the join finds
-      pub left_finds : F ≡ by_part (view_names A) (get A st.relations) → pairs ≡ pairs_of true S C k (get B st.relations) rows → IfOk r (λ all. all ≡ find_by C k (get (join A B) st.relations))
+      pub left_finds : F ≡ by_part (view_names A) (get A st.relations) → pairs ≡ pairs_of true S C k (get B st.relations) rows → IfOk r (λ all. all ≡ find_by C k (get (join kind A B) st.relations))
       unfolding get
       left_finds found paired =
           let P = set.intersection C (view_names A) in
           subst (λ M. IfOk r (λ all. all ≡ M))
           (left_pairs_are (sort_of A).columns (sort_of B).columns (get A st.relations) (get B st.relations) left_fit right_fit C k (view_names A) (view_names B) S P (restrict P k) F rows pairs refl refl shared refl listed refl found paired) made
 
-      pub right_finds : F ≡ by_part (view_names B) (get B st.relations) → pairs ≡ pairs_of false S C k (get A st.relations) rows → IfOk r (λ all. all ≡ find_by C k (get (join A B) st.relations))
+      pub right_finds : F ≡ by_part (view_names B) (get B st.relations) → pairs ≡ pairs_of false S C k (get A st.relations) rows → IfOk r (λ all. all ≡ find_by C k (get (join kind A B) st.relations))
       unfolding get
       right_finds found paired =
           let P = set.intersection C (view_names B) in

@@ -7,3 +7,5 @@ pub mod Listed
 pub mod KnownParts
 pub mod PartLists
 pub mod Viewing
+pub mod RenamedViews
+pub mod Sizes

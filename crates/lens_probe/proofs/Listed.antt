@@ -8,6 +8,7 @@ use Rattle.lens_values.specs.Row.{row_cmp}
 use Rattle.lens_values.specs.SortedSet as set
 use Rattle.lens_values.specs.declared.row.Row.{Row}
 use Rattle.lens_values.specs.declared.value.Value.{Value}
+use Rattle.lens_values.specs.declared.join_kind.JoinKind.{JoinKind}
 use Rattle.lens_specs.specs.Lens.{Lens, Tables, drop, get, join, select, sort_of, view_names}
 use Rattle.lens_specs.specs.Names.{Name, Names, one}
 use Rattle.lens_specs.specs.Nodes.{drop_get, join_get, select_get}
@@ -142,19 +143,19 @@ whole_selected P L db rows typed are shown =
     ∙ own_parts (view_names L) (those (holds P) (get L db))
     (λ r i. fits_is_over (sort_of L).columns r ((get_sort L db typed are).columns r (from_those (holds P) (get L db) r i).0))
 
-pub joined_listed : (L A B : Lens) (db : Tables) (rows : List Row) (M N : Rows) → join A B ≡ L → IsTyped (join A B) → AreOf (join A B) db → M ≡ get A db → N ≡ get B db
+pub joined_listed : (kind : JoinKind) (L A B : Lens) (db : Tables) (rows : List Row) (M N : Rows) → join kind A B ≡ L → IsTyped (join kind A B) → AreOf (join kind A B) db → M ≡ get A db → N ≡ get B db
     → set.from_list rows ≡ pairs_on (set.intersection (view_names A) (view_names B)) M N → set.from_list rows ≡ get L db
 unfolding get join_get
-joined_listed L A B db rows M N is typed are left right paired =
+joined_listed kind L A B db rows M N is typed are left right paired =
     paired ∙ (λ i. pairs_on (set.intersection (view_names A) (view_names B)) (left i) (right i))
     ∙ natural_is (sort_of A).columns (sort_of B).columns (get A db) (get B db) (get_sort B db typed.1 are.1).columns
     ∙ ap (λ K. get K db) is
 
 -- the predicate is tested on the sides that show all of its columns, and then on the pairs
-pub selected_join : (P : Predicate) (L A B : Lens) (db : Tables) (rows : List Row) (M N : Rows) → join A B ≡ L → IsTyped (join A B) → AreOf (join A B) db → M ≡ rows_for P A db → N ≡ rows_for P B db
+pub selected_join : (kind : JoinKind) (P : Predicate) (L A B : Lens) (db : Tables) (rows : List Row) (M N : Rows) → join kind A B ≡ L → IsTyped (join kind A B) → AreOf (join kind A B) db → M ≡ rows_for P A db → N ≡ rows_for P B db
     → set.from_list rows ≡ pairs_on (set.intersection (view_names A) (view_names B)) M N → set.from_list (filter (holds P) rows) ≡ get (select P L) db
 unfolding get select_get join_get
-selected_join P L A B db rows M N is typed are left right paired =
+selected_join kind P L A B db rows M N is typed are left right paired =
     let U = view_names A in
     let V = view_names B in
     let asks_left = set.is_subset (mentioned P) U in

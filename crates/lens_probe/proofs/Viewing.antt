@@ -2,7 +2,8 @@
 use Rattle.std.proofs.Common.{◌≡◌, List, [], ◌∷◌, Some, ap, arith, subst, sym}
 use Rattle.std.proofs.lemmas.List.Elements.{Contains-append_left, Contains-append_right}
 use Rattle.lens_values.specs.declared.value.Value.{Value}
-use Rattle.lens_specs.specs.Lens.{Lens, base, select, drop, join}
+use Rattle.lens_values.specs.declared.join_kind.JoinKind.{JoinKind}
+use Rattle.lens_specs.specs.Lens.{Lens, base, select, drop, rename, join}
 use Rattle.lens_specs.specs.Names.{Name, Names}
 use Rattle.lens_specs.specs.Predicate.{Predicate}
 use Rattle.lens_laws.specs.Asked.{HasKeys, asked, keys_at}
@@ -28,19 +29,27 @@ under_drop A X v C K st typed can = record {
   indexed = can.indexed;
 }
 
-pub under_left : (A B : Lens) (K : List Names) (st : State) → IsTyped (join A B) → CanAsk (join A B) K st → CanAsk A (to_first (join A B) K) st
-under_left A B K st typed can = record {
+pub under_rename : (A B : Name) (C : Lens) (K : List Names) (st : State) → IsTyped (rename A B C) → CanAsk (rename A B C) K st → CanAsk C (to_first (rename A B C) K) st
+under_rename A B C K st typed can = record {
+  keys = can.keys;
+  tables = can.tables;
+  sets = (hands_down (rename A B C) K typed can.keys can.sets).1;
+  indexed = can.indexed;
+}
+
+pub under_left : (kind : JoinKind) (A B : Lens) (K : List Names) (st : State) → IsTyped (join kind A B) → CanAsk (join kind A B) K st → CanAsk A (to_first (join kind A B) K) st
+under_left kind A B K st typed can = record {
   keys = can.keys.0;
   tables = can.tables.0;
-  sets = (hands_down (join A B) K typed can.keys can.sets).1.0;
+  sets = (hands_down (join kind A B) K typed can.keys can.sets).1.0;
   indexed = λ t C i. can.indexed t C (Contains-append_left _ _ (t, C) i);
 }
 
-pub under_right : (A B : Lens) (K : List Names) (st : State) → IsTyped (join A B) → CanAsk (join A B) K st → CanAsk B (to_second (join A B) K) st
-under_right A B K st typed can = record {
+pub under_right : (kind : JoinKind) (A B : Lens) (K : List Names) (st : State) → IsTyped (join kind A B) → CanAsk (join kind A B) K st → CanAsk B (to_second (join kind A B) K) st
+under_right kind A B K st typed can = record {
   keys = can.keys.1;
   tables = can.tables.1;
-  sets = (hands_down (join A B) K typed can.keys can.sets).1.1;
+  sets = (hands_down (join kind A B) K typed can.keys can.sets).1.1;
   indexed = λ t C i. can.indexed t C (Contains-append_right _ _ (t, C) i);
 }
 
@@ -53,7 +62,9 @@ source_at (select P D) C K st e typed can =
     subst (λ Z. IsTyped Z × CanAsk Z (keys_at (select P D) K) st) (same_value D C e) (typed.0, under_select P D K st typed can)
 source_at (drop A X v D) C K st e typed can =
     subst (λ Z. IsTyped Z × CanAsk Z (X ∷ keys_at (drop A X v D) K) st) (same_value D C e) (typed.0, under_drop A X v D K st typed can)
-source_at (join A B) C K st e typed can = cc
+source_at (rename A B D) C K st e typed can =
+    subst (λ Z. IsTyped Z × CanAsk Z (to_first (rename A B D) K) st) (same_value D C e) (typed.0, under_rename A B D K st typed can)
+source_at (join kind A B) C K st e typed can = cc
 
 -- no set is handed down to a whole lens
 pub whole_viewed : (L : Lens) (K : List Names) (st : State) → K ≡ [] → IsTyped L → HasKeys L → AreOf L st.relations → AreIndexed (asked L []) st → IsTyped L × CanAsk L K st
@@ -68,15 +79,17 @@ left_at : (L A B : Lens) (K : List Names) (st : State) → both_sides L ≡ Some
 left_at (base t s) A B K st e typed can = cc
 left_at (select P D) A B K st e typed can = cc
 left_at (drop C X v D) A B K st e typed can = cc
-left_at (join C D) A B K st e typed can =
-    subst (λ Z. IsTyped Z × CanAsk Z (to_first (join C D) K) st) (ap (λ p. p.0) (same_value (C, D) (A, B) e)) (typed.0, under_left C D K st typed can)
+left_at (rename C X D) A B K st e typed can = cc
+left_at (join kind C D) A B K st e typed can =
+    subst (λ Z. IsTyped Z × CanAsk Z (to_first (join kind C D) K) st) (ap (λ p. p.0) (same_value (C, D) (A, B) e)) (typed.0, under_left kind C D K st typed can)
 
 right_at : (L A B : Lens) (K : List Names) (st : State) → both_sides L ≡ Some (A, B) → IsTyped L → CanAsk L K st → IsTyped B × CanAsk B (to_second L K) st
 right_at (base t s) A B K st e typed can = cc
 right_at (select P D) A B K st e typed can = cc
 right_at (drop C X v D) A B K st e typed can = cc
-right_at (join C D) A B K st e typed can =
-    subst (λ Z. IsTyped Z × CanAsk Z (to_second (join C D) K) st) (ap (λ p. p.1) (same_value (C, D) (A, B) e)) (typed.1, under_right C D K st typed can)
+right_at (rename C X D) A B K st e typed can = cc
+right_at (join kind C D) A B K st e typed can =
+    subst (λ Z. IsTyped Z × CanAsk Z (to_second (join kind C D) K) st) (ap (λ p. p.1) (same_value (C, D) (A, B) e)) (typed.1, under_right kind C D K st typed can)
 
 -- and so is the view of each side
 pub left_viewed : (v : Viewed) (A B : Lens) (sets : List Names) → IsViewed v → both_sides v.lens ≡ Some (A, B) → sets ≡ to_first v.lens v.sets → IsViewed (record v { lens = A; sets = sets })

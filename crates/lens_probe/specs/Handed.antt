@@ -1,8 +1,9 @@
 -- The sets of columns that a view hands down to its sources.
-use Rattle.std.specs.Prelude.{List, [], ◌∷◌}
+use Rattle.std.specs.Prelude.{List, [], ◌∷◌, map}
 use Rattle.lens_values.specs.SortedSet as set
 use Rattle.lens_specs.specs.Names.{Names}
-use Rattle.lens_specs.specs.Lens.{Lens, base, select, drop, join, view_names}
+use Rattle.lens_specs.specs.Lens.{Lens, base, select, drop, rename, join, view_names}
+use Rattle.lens_specs.specs.Rename.{renamed_names}
 use Rattle.lens_laws.specs.Asked.{keys_at, side_keys}
 
 -- what a view of the lens, to which K was handed down, hands down to its first source
@@ -10,15 +11,17 @@ abbrev pub to_first : Lens → List Names → List Names
 to_first (base t s) K = []
 to_first (select P L) K = keys_at (select P L) K
 to_first (drop A X a L) K = X ∷ keys_at (drop A X a L) K
-to_first (join A B) K =
+to_first (rename A B L) K = map (renamed_names B A) (keys_at (rename A B L) K)
+to_first (join k A B) K =
     let U = view_names A in let V = view_names B in
-    side_keys (set.intersection U V) U (keys_at (join A B) K)
+    side_keys (set.intersection U V) U (keys_at (join k A B) K)
 
 -- and to its second one
 abbrev pub to_second : Lens → List Names → List Names
 to_second (base t s) K = []
 to_second (select P L) K = []
 to_second (drop A X a L) K = []
-to_second (join A B) K =
+to_second (rename A B L) K = []
+to_second (join k A B) K =
     let U = view_names A in let V = view_names B in
-    side_keys (set.intersection U V) V (keys_at (join A B) K)
+    side_keys (set.intersection U V) V (keys_at (join k A B) K)

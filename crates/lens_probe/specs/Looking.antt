@@ -1,5 +1,5 @@
 -- Look-ups by key down a lens.
-use Rattle.std.specs.Prelude.{◌≡◌, Bool, true, false, List, filter, flat_map, map}
+use Rattle.std.specs.Prelude.{◌≡◌, ℕ, Bool, true, false, List, filter, flat_map, map}
 use Rattle.std.specs.List.{Contains}
 use Rattle.lens_values.specs.Part.{override, restrict}
 use Rattle.lens_values.specs.SortedSet as set
@@ -8,8 +8,9 @@ use Rattle.lens_specs.specs.Lens.{Lens}
 use Rattle.lens_specs.specs.Names.{Names}
 use Rattle.lens_specs.specs.Relation.{Rows}
 use Rattle.lens_specs.specs.Rows.{agree}
-use Rattle.lens_laws.specs.Asked.{keys_at}
+use Rattle.lens_laws.specs.Asked.{asked, keys_at}
 use Rattle.lens_laws.specs.KeyedDeltas.{find_by}
+use Rattle.lens_laws.specs.Work.{TablesGiveAtMost}
 use Rattle.base_index.specs.Held.{State}
 use Rattle.lens_probe.specs.declared.finding.Partners.{Partners}
 use Rattle.lens_probe.specs.Viewed.{CanAsk}
@@ -21,6 +22,15 @@ MayLook L st = (K : List Names) × CanAsk L K st
 -- and may itself be asked by these columns
 abbrev pub MayFind : Lens → State → Names → Type 0
 MayFind L st C = (K : List Names) × CanAsk L K st × Contains (keys_at L K) C
+
+-- the lens can ask the tables, no look-up in which gives more than w rows
+abbrev pub LooksWithin : Lens → State → ℕ → Type 0
+LooksWithin L st w = (K : List Names) × CanAsk L K st × TablesGiveAtMost w (asked L K) st.relations
+
+-- and may itself be asked by these columns
+abbrev pub FindsWithin : Lens → State → Names → ℕ → Type 0
+FindsWithin L st C w =
+    (K : List Names) × CanAsk L K st × Contains (keys_at L K) C × TablesGiveAtMost w (asked L K) st.relations
 
 -- the rows are those of N that agree with the key on S
 abbrev pub ArePartners : Names → Rows → Partners → Type 0

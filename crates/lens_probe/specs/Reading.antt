@@ -1,7 +1,7 @@
 -- Reading a whole view: which rows a selection needs of a side of a join, and what it takes.
 use Rattle.std.specs.Prelude.{ℕ, ◌+◌, cond}
 use Rattle.lens_values.specs.SortedSet as set
-use Rattle.lens_specs.specs.Lens.{Lens, Tables, base, select, drop, join, get, table, view_names}
+use Rattle.lens_specs.specs.Lens.{Lens, Tables, base, select, drop, rename, join, get, table, view_names}
 use Rattle.lens_specs.specs.Predicate.{Predicate, holds, mentioned}
 use Rattle.lens_specs.specs.Relation.{Rows, those}
 use Rattle.lens_laws.specs.Work.{count_of}
@@ -11,7 +11,8 @@ abbrev pub rows_under : Lens → Tables → ℕ
 rows_under (base t s) db = count_of (table db t)
 rows_under (select P L) db = rows_under L db
 rows_under (drop A X a L) db = rows_under L db
-rows_under (join A B) db = rows_under A db + rows_under B db
+rows_under (rename A B L) db = rows_under L db
+rows_under (join k A B) db = rows_under A db + rows_under B db
 
 -- the rows that a selection above a join needs of a side: where the side shows each column that the predicate mentions, those on which it holds, and else all
 abbrev pub rows_for : Predicate → Lens → Tables → Rows

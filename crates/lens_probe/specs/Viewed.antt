@@ -1,12 +1,14 @@
 -- A view of a lens over tables, and what the tables have to have for it.
-use Rattle.std.specs.Prelude.{List, Option, None, Some, option_map, refl, IsTrue}
-use Rattle.std.specs.List.{Contains}
+use Rattle.std.specs.Prelude.{ℕ, ◌≤◌, Bool, List, Option, None, Some, option_map, refl, IsTrue}
+use Rattle.std.specs.List.{Contains, list_any}
 use Rattle.std.specs.Coded.{Coded, code_by, coded×, coded_list}
-use Rattle.lens_specs.specs.Names.{Name, Names}
+use Rattle.lens_specs.specs.Dependencies.{Edge}
+use Rattle.lens_specs.specs.Names.{Name, Names, same_names}
 use Rattle.lens_specs.specs.Relation.{Relation}
-use Rattle.lens_specs.specs.Lens.{Lens, base, select, drop, join, view, view_names}
+use Rattle.lens_specs.specs.Lens.{Lens, base, select, drop, rename, join, view, view_names}
 use Rattle.lens_laws.specs.Asked.{AreKeys, HasKeys, asked, keys_at}
 use Rattle.lens_laws.specs.Lenses.{AreOf, IsTyped}
+use Rattle.lens_laws.specs.Work.{TablesGiveAtMost, size}
 use Rattle.fd_closure.specs.Sides.{coded_names}
 use Rattle.lens_types.specs.LensCode.{lens_code}
 use Rattle.base_index.specs.Held.{Held, State, coded_held, is_indexed}
@@ -45,6 +47,18 @@ pub record CanAsk (L : Lens) (K : List Names) (st : State) : Type 0 where
 abbrev pub IsViewed : Viewed → Type 0
 IsViewed v = IsTyped v.lens × CanAsk v.lens v.sets v.tables.present
 
+-- no look-up in the tables, by the pairs by which the view asks them, gives more than w rows
+abbrev pub FindsAtMost : Viewed → ℕ → Type 0
+FindsAtMost v w = TablesGiveAtMost w (asked v.lens v.sets) v.tables.present.relations
+
+-- for such a number, n is no less than the size of the view
+abbrev pub IsWithin : Viewed → ℕ → Type 0
+IsWithin v n = (w : ℕ) × FindsAtMost v w × (size v.lens w ≤ n)
+
+-- whether the columns are the left side of one of the edges
+abbrev pub is_left_side : Names → List Edge → Bool
+is_left_side C T = list_any (λ e. same_names e.left C) T
+
 -- ---- what it is made of
 
 -- the only source of the lens, if it has one
@@ -52,14 +66,16 @@ abbrev pub only_source : Lens → Option Lens
 only_source (base t s) = None
 only_source (select P L) = Some L
 only_source (drop A X a L) = Some L
-only_source (join A B) = None
+only_source (rename A B L) = Some L
+only_source (join k A B) = None
 
 -- both sides of the lens, if it has two
 abbrev pub both_sides : Lens → Option (Lens × Lens)
 both_sides (base t s) = None
 both_sides (select P L) = None
 both_sides (drop A X a L) = None
-both_sides (join A B) = Some (A, B)
+both_sides (rename A B L) = None
+both_sides (join k A B) = Some (A, B)
 
 -- the view of its only source, over the same tables
 abbrev pub source_of : Viewed → Option Viewed

@@ -1,24 +1,25 @@
 //! Rows of a view by key.
-ghost use Rattle.std.specs.Prelude.{◌≡◌, ◌++◌, Contains, IfOk, IfSome, OnOk};
+ghost use Rattle.std.specs.Prelude.{◌≡◌, ◌≤◌, ◌+◌, ◌*◌, ◌++◌, ℕ, Contains, IfOk, IfSome, OnOk, length};
 ghost use Rattle.std.specs.Prelude.{false, filter, map, true};
 ghost use Rattle.std.specs.List.{list_all};
 ghost use Rattle.lens_values.specs.Part.{restrict};
 ghost use Rattle.lens_values.specs.SortedSet as set;
-ghost use Rattle.lens_specs.specs.Lens.{get, join, view_names};
+ghost use Rattle.lens_specs.specs.Lens.{get, join, rename, view_names};
 ghost use Rattle.lens_specs.specs.Names.{share};
 ghost use Rattle.lens_specs.specs.Predicate.{holds};
 ghost use Rattle.lens_specs.specs.Relation.{those};
 ghost use Rattle.lens_specs.specs.Rows.{agree};
 ghost use Rattle.lens_laws.specs.KeyedDeltas.{find_by};
 ghost use Rattle.lens_laws.specs.Lenses.{IsTyped};
+ghost use Rattle.lens_laws.specs.Work.{size};
 ghost use Rattle.signed_delta.specs.Keys.{IsKey};
-ghost use Rattle.lens_probe.specs.Looking.{ArePartners, MayFind, both_of, pairs_of};
+ghost use Rattle.lens_probe.specs.Looking.{ArePartners, FindsWithin, MayFind, both_of, pairs_of};
 
 use crate::columns::{names_of, shared_names, shows_all, shows_any};
 use base_index::Tables;
 use lens_pred::Pred;
-use lens_types::{Lens, TypedLens};
-use lens_values::{Names, NoMemory, Row};
+use lens_types::{JoinKind, Lens, TypedLens, rename_row, rename_set};
+use lens_values::{Name, Names, NoMemory, Row};
 use row_sets::RowSet;
 use std::alloc::Global;
 use std::sync::ledger::Ledger;
@@ -50,8 +51,11 @@ pub(crate) fn find_in<L: Ledger>(
 ) -> Result<RowSet, NoMemory>
     requires asked { MayFind lens.now query.now.tables.now.present query.now.cols.now }
     requires key { IsKey query.now.cols.now query.now.key.now }
-    ensures { let shown = get lens.now query.now.tables.now.present.relations in
+    ensures found { let shown = get lens.now query.now.tables.now.present.relations in
         IfOk result (λ found. found ≡ find_by query.now.cols.now query.now.key.now shown) }
+    ensures looks { (w : ℕ)
+        → FindsWithin lens.now query.now.tables.now.present query.now.cols.now w
+        → looked.new ≤ looked.old + size lens.now w }
 {
     match lens.lens() {
         Lens::Base { table, .. } => query.tables.find(table, query.cols, query.key, looked),
@@ -64,30 +68,72 @@ pub(crate) fn find_in<L: Ledger>(
             let kept = names_of(alloc, lens)?;
             found.project(alloc, &kept)
         }
-        Lens::Join { left, right, .. } => find_joined(alloc, left, right, query, looked),
+        Lens::Rename { col, to, of, .. } => find_renamed(alloc, col, to, of, query, looked),
+        Lens::Join {
+            kind,
+            left,
+            right,
+            ..
+        } => find_joined(alloc, *kind, left, right, query, looked),
     }
+}
+
+// The same of the rename, whose source is asked by the old name.
+#[cycle(find)]
+fn find_renamed<L: Ledger>(
+    alloc: Global,
+    col: &Name,
+    to: &Name,
+    of: &TypedLens,
+    query: &Query<'_>,
+    looked: &mut Steps<L>,
+) -> Result<RowSet, NoMemory>
+    requires typed { IsTyped (rename col.now to.now of.now) }
+    requires asked { let st = query.now.tables.now.present in
+        MayFind (rename col.now to.now of.now) st query.now.cols.now }
+    requires key { IsKey query.now.cols.now query.now.key.now }
+    ensures found { let L = rename col.now to.now of.now in
+        let shown = get L query.now.tables.now.present.relations in
+        IfOk result (λ found. found ≡ find_by query.now.cols.now query.now.key.now shown) }
+    ensures looks { (w : ℕ) → let L = rename col.now to.now of.now in
+        FindsWithin L query.now.tables.now.present query.now.cols.now w
+        → looked.new ≤ looked.old + size L w }
+{
+    let cols = query.cols.rename(alloc, to, col)?;
+    let key = rename_row(alloc, query.key, to, col)?;
+    let asked = Query {
+        cols: &cols,
+        key: &key,
+        ..*query
+    };
+    let found = find_in(alloc, of, &asked, looked)?;
+    rename_set(alloc, &found, &names_of(alloc, of)?, col, to)
 }
 
 // The same of the join of both: the left side is asked first where the key has a column of it.
 #[cycle(find)]
 fn find_joined<L: Ledger>(
     alloc: Global,
+    kind: JoinKind,
     left: &TypedLens,
     right: &TypedLens,
     query: &Query<'_>,
     looked: &mut Steps<L>,
 ) -> Result<RowSet, NoMemory>
-    requires typed { IsTyped (join left.now right.now) }
+    requires typed { IsTyped (join kind left.now right.now) }
     requires asked { let st = query.now.tables.now.present in
-        MayFind (join left.now right.now) st query.now.cols.now }
+        MayFind (join kind left.now right.now) st query.now.cols.now }
     requires key { IsKey query.now.cols.now query.now.key.now }
-    ensures { let shown = get (join left.now right.now) query.now.tables.now.present.relations in
+    ensures found { let shown = get (join kind left.now right.now) query.now.tables.now.present.relations in
         IfOk result (λ found. found ≡ find_by query.now.cols.now query.now.key.now shown) }
+    ensures looks { (w : ℕ) → let L = join kind left.now right.now in
+        FindsWithin L query.now.tables.now.present query.now.cols.now w
+        → looked.new ≤ looked.old + size L w }
 {
     if shows_any(left, query.cols) {
-        find_from_left(alloc, left, right, query, looked)
+        find_from_left(alloc, kind, left, right, query, looked)
     } else {
-        find_from_right(alloc, left, right, query, looked)
+        find_from_right(alloc, kind, left, right, query, looked)
     }
 }
 
@@ -95,18 +141,22 @@ fn find_joined<L: Ledger>(
 #[cycle(find)]
 fn find_from_left<L: Ledger>(
     alloc: Global,
+    _kind: JoinKind,
     left: &TypedLens,
     right: &TypedLens,
     query: &Query<'_>,
     looked: &mut Steps<L>,
 ) -> Result<RowSet, NoMemory>
-    requires typed { IsTyped (join left.now right.now) }
+    requires typed { IsTyped (join _kind left.now right.now) }
     requires asked { let st = query.now.tables.now.present in
-        MayFind (join left.now right.now) st query.now.cols.now }
+        MayFind (join _kind left.now right.now) st query.now.cols.now }
     requires key { IsKey query.now.cols.now query.now.key.now }
     requires meets { share query.now.cols.now (view_names left.now) ≡ true }
-    ensures { let shown = get (join left.now right.now) query.now.tables.now.present.relations in
+    ensures found { let shown = get (join _kind left.now right.now) query.now.tables.now.present.relations in
         IfOk result (λ found. found ≡ find_by query.now.cols.now query.now.key.now shown) }
+    ensures looks { (w : ℕ) → let L = join _kind left.now right.now in
+        FindsWithin L query.now.tables.now.present query.now.cols.now w
+        → looked.new ≤ looked.old + size L w }
 {
     let found = find_by_part(alloc, left, query, looked)?;
     let shared = shared_names(alloc, left, right)?;
@@ -118,18 +168,22 @@ fn find_from_left<L: Ledger>(
 #[cycle(find)]
 fn find_from_right<L: Ledger>(
     alloc: Global,
+    _kind: JoinKind,
     left: &TypedLens,
     right: &TypedLens,
     query: &Query<'_>,
     looked: &mut Steps<L>,
 ) -> Result<RowSet, NoMemory>
-    requires typed { IsTyped (join left.now right.now) }
+    requires typed { IsTyped (join _kind left.now right.now) }
     requires asked { let st = query.now.tables.now.present in
-        MayFind (join left.now right.now) st query.now.cols.now }
+        MayFind (join _kind left.now right.now) st query.now.cols.now }
     requires key { IsKey query.now.cols.now query.now.key.now }
     requires meets { share query.now.cols.now (view_names left.now) ≡ false }
-    ensures { let shown = get (join left.now right.now) query.now.tables.now.present.relations in
+    ensures found { let shown = get (join _kind left.now right.now) query.now.tables.now.present.relations in
         IfOk result (λ found. found ≡ find_by query.now.cols.now query.now.key.now shown) }
+    ensures looks { (w : ℕ) → let L = join _kind left.now right.now in
+        FindsWithin L query.now.tables.now.present query.now.cols.now w
+        → looked.new ≤ looked.old + size L w }
 {
     let found = find_by_part(alloc, right, query, looked)?;
     let shared = shared_names(alloc, left, right)?;
@@ -149,9 +203,13 @@ fn find_by_part<L: Ledger>(
     requires asked { let st = query.now.tables.now.present in
         MayFind side.now st (set.intersection query.now.cols.now (view_names side.now)) }
     requires key { IsKey query.now.cols.now query.now.key.now }
-    ensures { let shown = get side.now query.now.tables.now.present.relations in
+    ensures found { let shown = get side.now query.now.tables.now.present.relations in
         let part = set.intersection query.now.cols.now (view_names side.now) in
         IfOk result (λ found. found ≡ find_by part (restrict part query.now.key.now) shown) }
+    ensures looks { (w : ℕ)
+        → let part = set.intersection query.now.cols.now (view_names side.now) in
+        FindsWithin side.now query.now.tables.now.present part w
+        → looked.new ≤ looked.old + size side.now w }
 {
     if shows_all(side, query.cols) {
         return find_in(alloc, side, query, looked);
@@ -181,10 +239,12 @@ fn pair_each<L: Ledger>(
     requires asked { MayFind other.now query.now.tables.now.present shared.now }
     requires over { (row : _) → Contains rows.now row
         → IsKey shared.now (restrict shared.now row) }
-    ensures { let others = get other.now query.now.tables.now.present.relations in
+    ensures pairs { let others = get other.now query.now.tables.now.present.relations in
         let C = query.now.cols.now in
         IfOk result (λ pairs.
         pairs.items ≡ pairs_of are_left shared.now C query.now.key.now others rows.now) }
+    ensures looks { (w : ℕ) → FindsWithin other.now query.now.tables.now.present shared.now w
+        → looked.new ≤ looked.old + size other.now w * length rows.now }
 {
     let mut pairs = Vec::new(alloc);
     let mut last = None;
@@ -224,6 +284,8 @@ fn partners_of<L: Ledger>(
     ensures rows { let others = get other.now query.now.tables.now.present.relations in
         IfOk result (λ partners.
         partners.rows ≡ find_by shared.now (restrict shared.now row.now) others) }
+    ensures looks { (w : ℕ) → FindsWithin other.now query.now.tables.now.present shared.now w
+        → looked.new ≤ looked.old + size other.now w }
 {
     if let Some(last) = last {
         if row.agree_on(&last.key, shared) {

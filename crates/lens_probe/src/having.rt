@@ -1,16 +1,17 @@
 //! Whether a view has a row.
-ghost use Rattle.std.specs.Prelude.{◌≡◌, IfOk};
+ghost use Rattle.std.specs.Prelude.{◌≡◌, ◌≤◌, ◌+◌, ℕ, IfOk};
 ghost use Rattle.std.specs.List.{list_any};
 ghost use Rattle.lens_specs.specs.Columns.{Fits};
 ghost use Rattle.lens_specs.specs.Lens.{get, sort_of, view_names};
 ghost use Rattle.lens_specs.specs.Relation.{has};
 ghost use Rattle.lens_specs.specs.Rows.{agree};
-ghost use Rattle.lens_probe.specs.Looking.{MayLook};
+ghost use Rattle.lens_laws.specs.Work.{size};
+ghost use Rattle.lens_probe.specs.Looking.{LooksWithin, MayLook};
 
 use crate::columns::{agree_on_shown, names_of};
 use crate::finding::{Query, find_in};
 use base_index::Tables;
-use lens_types::{Lens, TypedLens};
+use lens_types::{Lens, TypedLens, rename_row};
 use lens_values::{NoMemory, Row};
 use std::alloc::Global;
 use std::sync::ledger::Ledger;
@@ -26,8 +27,10 @@ pub(crate) fn has_in<L: Ledger>(
 ) -> Result<bool, NoMemory>
     requires may { MayLook lens.now tables.now.present }
     requires fits { Fits (sort_of lens.now).columns row.now }
-    ensures { let shown = get lens.now tables.now.present.relations in
+    ensures there { let shown = get lens.now tables.now.present.relations in
         IfOk result (λ there. there ≡ has shown row.now) }
+    ensures looks { (w : ℕ) → LooksWithin lens.now tables.now.present w
+        → looked.new ≤ looked.old + size lens.now w }
 {
     match lens.lens() {
         Lens::Base { table, .. } => Ok(tables.has(table, row, looked)),
@@ -46,6 +49,10 @@ pub(crate) fn has_in<L: Ledger>(
             };
             let found = find_in(alloc, of, &query, looked)?;
             Ok(any_agrees(lens, found.rows(), row))
+        }
+        Lens::Rename { col, to, of, .. } => {
+            let old_row = rename_row(alloc, row, to, col)?;
+            has_in(alloc, of, tables, &old_row, looked)
         }
         Lens::Join { left, right, .. } => {
             let left_row = row.project(alloc, &names_of(alloc, left)?)?;

@@ -2,6 +2,7 @@
 ghost use Rattle.std.specs.Prelude.{◌≡◌, ◌++◌, ◌∷◌, [], map, IfOk, OnOk};
 ghost use Rattle.lens_values.specs.SortedSet as set;
 ghost use Rattle.lens_specs.specs.Lens.{view_names};
+ghost use Rattle.lens_specs.specs.Rename.{renamed_names};
 ghost use Rattle.lens_laws.specs.Asked.{asked, keys_at, side_keys};
 ghost use Rattle.lens_probe.specs.Needs.{pair_of};
 
@@ -39,6 +40,10 @@ fn add_needs(
             let under = before(alloc, by.copy(alloc)?, &keys)?;
             add_needs(alloc, of, under, all)
         }
+        Lens::Rename { col, to, of, .. } => {
+            let under = renamed_each(alloc, &keys, to, col)?;
+            add_needs(alloc, of, under, all)
+        }
         Lens::Join { left, right, .. } => {
             let (under_left, under_right) = handed_to_sides(alloc, left, right, &keys)?;
             add_needs(alloc, left, under_left, all)?;
@@ -71,6 +76,23 @@ fn before(alloc: Global, set: Names, others: &[Names]) -> Result<Vec<Names>, NoM
         all.push(other.copy(alloc)?)?;
     }
     Ok(all)
+}
+
+// Each of the sets with the name `to` for `from`.
+fn renamed_each(
+    alloc: Global,
+    sets: &[Names],
+    from: &Name,
+    to: &Name,
+) -> Result<Vec<Names>, NoMemory>
+    ensures { IfOk result (λ renamed.
+        renamed.items ≡ map (renamed_names from.now to.now) sets.now) }
+{
+    let mut renamed = Vec::with_capacity(alloc, sets.len())?;
+    for set in sets {
+        renamed.push(set.rename(alloc, from, to)?)?;
+    }
+    Ok(renamed)
 }
 
 // What the join hands down to its left and to its right side.

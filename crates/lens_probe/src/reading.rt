@@ -13,7 +13,7 @@ ghost use Rattle.lens_probe.specs.Reading.{rows_for, rows_under};
 use crate::columns::{names_of, shared_names, shows_all};
 use base_index::Tables;
 use lens_pred::Pred;
-use lens_types::{Lens, TypedLens};
+use lens_types::{Lens, TypedLens, rename_rows};
 use lens_values::{Names, NoMemory, Row};
 use row_sets::{Relation, RowSet};
 use std::alloc::Global;
@@ -52,7 +52,7 @@ fn row_set_in<L: Ledger>(
 {
     match lens.lens() {
         Lens::Base { table, .. } => tables.walk(table, walked),
-        Lens::Select { .. } | Lens::Drop { .. } | Lens::Join { .. } => {
+        Lens::Select { .. } | Lens::Drop { .. } | Lens::Rename { .. } | Lens::Join { .. } => {
             RowSet::new(alloc, rows_in(alloc, lens, tables, walked)?)
         }
     }
@@ -78,6 +78,10 @@ pub(crate) fn rows_in<L: Ledger>(
         Lens::Drop { of, .. } => {
             let rows = rows_in(alloc, of, tables, walked)?;
             shown_parts(alloc, lens, rows)
+        }
+        Lens::Rename { col, to, of, .. } => {
+            let rows = rows_in(alloc, of, tables, walked)?;
+            rename_rows(alloc, &rows, &names_of(alloc, of)?, col, to)
         }
         Lens::Join { left, right, .. } => {
             let left_rows = row_set_in(alloc, left, tables, walked)?;
@@ -115,7 +119,7 @@ pub(crate) fn selected_in<L: Ledger>(
             let pairs = joined(alloc, left, right, &left_rows, &right_rows)?;
             Ok(selected(pred, pairs))
         }
-        Lens::Base { .. } | Lens::Select { .. } => {
+        Lens::Base { .. } | Lens::Select { .. } | Lens::Rename { .. } => {
             Ok(selected(pred, rows_in(alloc, of, tables, walked)?))
         }
     }

@@ -44,7 +44,7 @@ pub(crate) fn untested_rows<'a, L: Ledger>(
     match lens.lens() {
         Lens::Select { pred, of, .. } => untested_selection(alloc, pred, of, tables, walked),
         Lens::Drop { of, .. } => untested_source(alloc, of, tables, walked),
-        Lens::Base { .. } | Lens::Join { .. } => Ok(Untested {
+        Lens::Base { .. } | Lens::Rename { .. } | Lens::Join { .. } => Ok(Untested {
             rows: rows_in(alloc, lens, tables, walked)?,
             pred: None,
         }),
@@ -68,7 +68,7 @@ fn untested_selection<'a, L: Ledger>(
 {
     match of.lens() {
         Lens::Drop { of: source, .. } => untested_in(alloc, pred, source, tables, walked),
-        Lens::Base { .. } | Lens::Select { .. } | Lens::Join { .. } => {
+        Lens::Base { .. } | Lens::Select { .. } | Lens::Rename { .. } | Lens::Join { .. } => {
             untested_in(alloc, pred, of, tables, walked)
         }
     }
@@ -88,10 +88,12 @@ fn untested_source<'a, L: Ledger>(
 {
     match lens.lens() {
         Lens::Select { pred, of, .. } => untested_in(alloc, pred, of, tables, walked),
-        Lens::Base { .. } | Lens::Drop { .. } | Lens::Join { .. } => Ok(Untested {
-            rows: rows_in(alloc, lens, tables, walked)?,
-            pred: None,
-        }),
+        Lens::Base { .. } | Lens::Drop { .. } | Lens::Rename { .. } | Lens::Join { .. } => {
+            Ok(Untested {
+                rows: rows_in(alloc, lens, tables, walked)?,
+                pred: None,
+            })
+        }
     }
 }
 
@@ -115,10 +117,12 @@ fn untested_in<'a, L: Ledger>(
             rows: rows_in(alloc, of, tables, walked)?,
             pred: Some(pred),
         }),
-        Lens::Select { .. } | Lens::Drop { .. } | Lens::Join { .. } => Ok(Untested {
-            rows: selected_in(alloc, pred, of, tables, walked)?,
-            pred: None,
-        }),
+        Lens::Select { .. } | Lens::Drop { .. } | Lens::Rename { .. } | Lens::Join { .. } => {
+            Ok(Untested {
+                rows: selected_in(alloc, pred, of, tables, walked)?,
+                pred: None,
+            })
+        }
     }
 }
 

@@ -1,5 +1,6 @@
 //! A view of a lens over tables.
-ghost use Rattle.std.specs.Prelude.{◌≡◌, ◌+◌, ◌≤◌, [], IfOk, Some};
+ghost use Rattle.std.specs.Prelude.{◌≡◌, ◌≢◌, ◌+◌, ◌≤◌, [], Contains, IfOk, Some, length, true};
+ghost use Rattle.lens_values.specs.SortedSet as set;
 ghost use Rattle.lens_specs.specs.Delta.{diff};
 ghost use Rattle.lens_specs.specs.Lens.{sort_of};
 ghost use Rattle.lens_specs.specs.Sort.{IsOfSort};
@@ -7,7 +8,7 @@ ghost use Rattle.lens_laws.specs.Asked.{HasKeys, asked};
 ghost use Rattle.lens_laws.specs.Finds.{AllFit};
 ghost use Rattle.lens_laws.specs.Lenses.{AreOf};
 ghost use Rattle.lens_probe.specs.Reading.{rows_under};
-ghost use Rattle.lens_probe.specs.Viewed.{AreIndexed, IsViewed, asked_by, shown};
+ghost use Rattle.lens_probe.specs.Viewed.{AreIndexed, IsViewed, IsWithin, asked_by, is_left_side, shown};
 ghost use Rattle.lens_probe.specs.Viewed.{both_sides, only_source, sides_of, source_of};
 
 use crate::differing::difference_in;
@@ -16,6 +17,7 @@ use crate::handed::HandedDown;
 use crate::having::has_in;
 use crate::reading::read_in;
 use base_index::Tables;
+use fd_tree::Tree;
 use lens_types::{Lens, TypedLens};
 use lens_values::{Columns, Names, NoMemory, Row};
 use row_sets::{Relation, RowSet};
@@ -72,13 +74,26 @@ impl<'a> View<'a> {
         self.lens
     }
 
-    /// The view of the only source, at a select and at a drop.
+    /// Whether the columns are the left side of one of the edges of the view's sort, so that the
+    /// view may be asked by them.
+    pub fn asked_by(&self, cols: &Names) -> bool
+        ensures left { result ≡ is_left_side cols.now (sort_of self.now.lens).tree }
+        ensures asked { result ≡ true → Contains (asked_by self.now) cols.now }
+        ensures some { result ≡ true → length (set.items cols.now) ≢ 0 }
+    {
+        let tree = self.lens.sort().tree();
+        tree.lefts_are_full();
+        is_left_side(tree, cols)
+    }
+
+    /// The view of the only source, at a select, at a drop and at a rename.
     pub fn source(&self) -> Option<View<'a>>
         ensures { result ≡ source_of self.now }
     {
         match self.lens.lens() {
             Lens::Select { of, .. } => Some(self.over(of)),
             Lens::Drop { of, .. } => Some(self.over(of)),
+            Lens::Rename { of, .. } => Some(self.over(of)),
             Lens::Base { .. } | Lens::Join { .. } => None,
         }
     }
@@ -89,7 +104,8 @@ impl<'a> View<'a> {
     {
         match self.lens.lens() {
             Lens::Join { left, right, .. } => Some(self.over_sides(left, right)),
-            Lens::Base { .. } | Lens::Select { .. } | Lens::Drop { .. } => None,
+            Lens::Base { .. } | Lens::Select { .. } | Lens::Drop { .. } | Lens::Rename { .. } =>
+                None,
         }
     }
 
@@ -159,7 +175,7 @@ impl<'a> Look for View<'a> {
 
     ghost asked = { asked_by };
 
-    ghost within = { λ _ _. ⊥ };
+    ghost within = { IsWithin };
 
     fn columns(&self) -> &Columns {
         self.lens.sort().cols()
@@ -188,4 +204,11 @@ impl<'a> Look for View<'a> {
         };
         find_in(alloc, self.lens, &query, looked)
     }
+}
+
+// Whether the columns are the left side of one of the edges.
+fn is_left_side(tree: &Tree, cols: &Names) -> bool
+    ensures { result ≡ is_left_side cols.now tree.now }
+{
+    tree.edges().iter().any(|edge| edge.left.same(cols))
 }

@@ -179,9 +179,9 @@ short_more (first ∷ texts) text all short = (all.0, short_more texts text all.
 
 -- a definition more is taken, with the tables and indexes after it
 pub empty_after : (old new : Admitted) (p : Prepared) → HasEmptyTables old → IsAdmissible old.catalog.texts p → length p.text < 2 ^ 64
-    → new.catalog.texts ≡ old.catalog.texts ++ p.text ∷ [] → new.tables.present ≡ defined_by (table_in p.name p.lens) p.lens old.tables.present → IsQuiet new.tables
+    → new.catalog.texts ≡ old.catalog.texts ++ p.text ∷ [] → new.tables.present ≡ defined_by (table_in p.name p.lens) p.lens old.tables.present → IsQuiet new.tables → new.tables.held ≡ old.tables.held
     → HasEmptyTables new
-empty_after old new p h a short texts tables quiet =
+empty_after old new p h a short texts tables quiet held =
     let known = catalogue old.catalog.texts in
     let st = old.tables.present in
     let more = old.catalog.texts ++ p.text ∷ [] in
@@ -192,6 +192,7 @@ empty_after old new p h a short texts tables quiet =
     indexed_after old.catalog.texts p st h.taken a (empty_bases known st h.tables) (new_table (table_in p.name p.lens) p.lens st (table_is_free old p h a)) h.indexed in
     record {
       quiet = quiet;
+      free = held ∙ h.free;
       taken = subst (λ ts. first_refused ts ≡ None) (sym texts) (first_refused-push old.catalog.texts p.text a.definition h.taken a.taken);
       short = subst AreShort (sym texts) (short_more old.catalog.texts p.text h.short short);
       indexed = subst (λ ts. AllIndexed (catalogue ts) new.tables.present) (sym texts) (subst (AllIndexed (catalogue more)) (sym tables) indexed);
@@ -199,9 +200,10 @@ empty_after old new p h a short texts tables quiet =
     }
 
 -- where nothing is defined, there is no table
-pub empty_at_first : (admitted : Admitted) → admitted.catalog.texts ≡ [] → admitted.tables ≡ record { present = no_tables; next = no_tables } → HasEmptyTables admitted
+pub empty_at_first : (admitted : Admitted) → admitted.catalog.texts ≡ [] → admitted.tables ≡ record { present = no_tables; next = no_tables; held = None } → HasEmptyTables admitted
 empty_at_first admitted texts tables = record {
   quiet = subst IsQuiet (sym tables) refl;
+  free = ap (λ t. t.held) tables;
   taken = subst (λ ts. first_refused ts ≡ None) (sym texts) refl;
   short = subst AreShort (sym texts) tt;
   indexed = subst (λ ts. AllIndexed (catalogue ts) admitted.tables.present) (sym texts) (λ name L e. let f : None ≡ Some L = sym (finmap.get-empty bytes_cmp name) ∙ e in cc);

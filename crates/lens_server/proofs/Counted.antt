@@ -14,7 +14,7 @@ use Rattle.fd_laws.proofs.Rows.{row_total}
 use Rattle.lens_laws.specs.Lenses.{IsTyped}
 use Rattle.lens_laws.specs.Work.{count_of}
 use Rattle.lens_specs.specs.Delta.{TableDelta, changes}
-use Rattle.lens_specs.specs.Lens.{Lens, Tables, base, drop, join, rows_or_none, select, tables_of}
+use Rattle.lens_specs.specs.Lens.{Lens, Tables, base, drop, join, rename, rows_or_none, select, tables_of}
 use Rattle.lens_specs.specs.Names.{Name, Names, one}
 use Rattle.lens_specs.specs.Relation.{Relation, Rows}
 use Rattle.catalog_specs.specs.Catalogue.{catalogue}
@@ -84,7 +84,8 @@ unfolding tables_of
 under_less (base t s) db h = subst (λ o. count_of (rows_or_none o) ≤ sum_by (counted (one t)) (finmap.entries db)) (sym (finmap.get-entries db t)) (found_less t (finmap.entries db))
 under_less (select P L) db h = under_less L db h.0
 under_less (drop A X a L) db h = under_less L db h.0
-under_less (join A B) db h =
+under_less (rename A B L) db h = under_less L db h.0
+under_less (join kind A B) db h =
     let both = sums_less (counted (tables_of A)) (counted (tables_of B)) (counted (set.union (tables_of A) (tables_of B))) (finmap.entries db)
     (λ e. one_of_two (set.contains (tables_of A) e.0) (set.contains (tables_of B) e.0) (set.contains (set.union (tables_of A) (tables_of B)) e.0) (count_of e.1.rows)
     (h.3 e.0) (set.contains-union name_total (tables_of A) (tables_of B) e.0)) in

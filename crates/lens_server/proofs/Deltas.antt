@@ -15,7 +15,7 @@ use Rattle.lens_laws.proofs.Lenses.{put_leaves}
 use Rattle.lens_laws.specs.Lenses.{AreOf}
 use Rattle.lens_specs.specs.Columns.{Fits}
 use Rattle.lens_specs.specs.Delta.{AppliesTo, Delta, changes, diff, differences, is_empty}
-use Rattle.lens_specs.specs.Lens.{Lens, Tables, base, drop, join, put, rows_or_none, select, table, tables_of}
+use Rattle.lens_specs.specs.Lens.{Lens, Tables, base, drop, join, rename, put, rows_or_none, select, table, tables_of}
 use Rattle.lens_specs.specs.Names.{Name, is_among}
 use Rattle.lens_specs.specs.Relation.{Relation, Rows, has}
 use Rattle.base_index.specs.Held.{AllApply, after as moved_by, no_relation, relation_in, with_deltas}
@@ -43,7 +43,8 @@ alike (base u s) old new a b t i =
     })
 alike (select P C) old new a b t i = alike C old new a b t i
 alike (drop A X v C) old new a b t i = alike C old new a b t i
-alike (join A B) old new a b t i = elim (or_cases _ _ (sym (set.contains-union name_total (tables_of A) (tables_of B) t) ∙ i)) [
+alike (rename A B C) old new a b t i = alike C old new a b t i
+alike (join kind A B) old new a b t i = elim (or_cases _ _ (sym (set.contains-union name_total (tables_of A) (tables_of B) t) ∙ i)) [
   | inl j ↦ alike A old new a.0 b.0 t j
   | inr j ↦ alike B old new a.1 b.1 t j
 ]

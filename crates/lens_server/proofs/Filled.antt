@@ -154,9 +154,9 @@ filled_tables texts ts db whole empty all = finmap.same_map name_total name_exac
 
 -- ---- the store
 
--- the tables with other relations, and nothing staged
+-- the tables with other relations, and nothing staged or held
 abbrev pub settled_with : Tables → State → Held
-settled_with db st = record { present = record st { relations = db }; next = record st { relations = db } }
+settled_with db st = record { present = record st { relations = db }; next = record st { relations = db }; held = None }
 
 -- a store of filled tables has the state of what is kept
 pub filled_state : (admitted : Admitted) (ts : List KeptTable) (store : Store) → HasEmptyTables admitted → Rise ts → damage_of_tables (catalogue admitted.catalog.texts) (rows_in ts) ≡ None
@@ -175,6 +175,7 @@ filled_state admitted ts store h rise none catalog tables version last =
 pub filled_keyed : (admitted : Admitted) (db : Tables) (store : Store) → HasEmptyTables admitted → store.catalog ≡ admitted.catalog → store.tables ≡ settled_with db admitted.tables.present → IsKeyed store
 filled_keyed admitted db store h catalog tables = record {
   quiet = subst IsQuiet (sym tables) refl;
+  free = ap (λ t. t.held) tables;
   short = subst (λ c. AreShort c.texts) (sym catalog) h.short;
   indexed = λ name L e.
       subst (λ t. AreIndexed (asked L []) t.present) (sym tables)

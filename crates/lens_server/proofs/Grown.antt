@@ -1,5 +1,5 @@
 -- The catalogue with one definition more, and the indexes that its lenses have then.
-use Rattle.std.proofs.Common.{◌≡◌, ◌∙◌, ◌++◌, ◌∷◌, ℕ, List, [], Option, None, Some, ap, inl, inr, is_some, refl, subst, sym, true}
+use Rattle.std.proofs.Common.{◌≡◌, ◌∙◌, ◌++◌, ◌∷◌, ℕ, List, [], Option, None, Some, ap, inl, inr, is_some, map, refl, subst, sym, true}
 use Rattle.std.specs.Prelude.{if◌then◌else◌}
 use Rattle.std.proofs.lemmas.Bool.{cases_Bool}
 use Rattle.std.proofs.lemmas.List.Elements.{Contains-append_cases}
@@ -11,7 +11,8 @@ use Rattle.lens_values.specs.Order.{bytes_cmp}
 use Rattle.lens_values.specs.SortedSet as set
 use Rattle.fd_laws.proofs.Names.{tied_name}
 use Rattle.lens_specs.specs.Columns.{Columns}
-use Rattle.lens_specs.specs.Lens.{Lens, base, drop, join, select, sort_of, view_names}
+use Rattle.lens_specs.specs.Rename.{renamed_names}
+use Rattle.lens_specs.specs.Lens.{Lens, base, drop, join, rename, select, sort_of, view_names}
 use Rattle.lens_specs.specs.Names.{Name, Names}
 use Rattle.lens_specs.specs.Relation.{Relation}
 use Rattle.lens_specs.specs.Sort.{Sort}
@@ -50,10 +51,11 @@ asked_base known (base u s) K t C b i =
     (s, subst (λ n. finmap.get known n ≡ Some (base n s)) (sym same) b)
 asked_base known (select P L) K t C b i = asked_base known L (keys_at (select P L) K) t C b i
 asked_base known (drop A X a L) K t C b i = asked_base known L (X ∷ keys_at (drop A X a L) K) t C b i
-asked_base known (join A B) K t C b i =
+asked_base known (rename A B L) K t C b i = asked_base known L (map (renamed_names B A) (keys_at (rename A B L) K)) t C b i
+asked_base known (join kind A B) K t C b i =
     let S = set.intersection (view_names A) (view_names B) in
-    let left = side_keys S (view_names A) (keys_at (join A B) K) in
-    let right = side_keys S (view_names B) (keys_at (join A B) K) in
+    let left = side_keys S (view_names A) (keys_at (join kind A B) K) in
+    let right = side_keys S (view_names B) (keys_at (join kind A B) K) in
     elim (Contains-append_cases (asked A left) (asked B right) (t, C) i) [
       | inl j ↦ asked_base known A left t C b.0 j
       | inr j ↦ asked_base known B right t C b.1 j

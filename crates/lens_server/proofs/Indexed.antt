@@ -104,8 +104,8 @@ change_indexed (Define text table) (Some p) catalog st k is can take told there 
 -- a change that was staged and settled leaves the lenses able to ask their tables
 pub keyed_after : (staged : Staged) (old new : Store) → Valid (state_of old) → IsKeyed old → IsStaged staged old
     → new.catalog.texts ≡ texts_with staged.definition old.catalog.texts
-    → IsQuiet new.tables → new.tables.present ≡ next_state staged.change staged.definition old.tables.present → IsKeyed new
-keyed_after staged old new v keyed h texts quiet present =
+    → IsQuiet new.tables → new.tables.held ≡ old.tables.held → new.tables.present ≡ next_state staged.change staged.definition old.tables.present → IsKeyed new
+keyed_after staged old new v keyed h texts quiet held present =
     let s = state_of old in
     let told : texts_with staged.definition old.catalog.texts ≡ (changed (change_view staged.change) (kept s)).texts = ap (λ k. k.texts) h.kept.0 in
     let next = next_state staged.change staged.definition old.tables.present in
@@ -115,6 +115,7 @@ keyed_after staged old new v keyed h texts quiet present =
     (asked_there old.catalog.texts old.tables.present v.definitions v.tables) (asked_there (texts_with staged.definition old.catalog.texts) next h.valid.definitions stored) keyed.indexed in
     record {
       quiet = quiet;
+      free = held ∙ keyed.free;
       short = subst AreShort (sym texts) (change_short staged.change staged.definition old.catalog.texts old.tables.present.relations (kept s) refl h.tables told keyed.short);
       indexed = subst (AllIndexed (catalogue new.catalog.texts)) (sym present) (subst (λ ts. AllIndexed (catalogue ts) next) (sym texts) all);
     }
@@ -132,4 +133,4 @@ state_after staged old new texts present version last =
 
 -- tables that are staged and unstaged are as they were
 pub unstaged_same : (tables : Held) (next : held.State) → IsQuiet tables → record (record tables { next = next }) { next = tables.present } ≡ tables
-unstaged_same tables next quiet = (λ i. record { present = tables.present; next = sym quiet i })
+unstaged_same tables next quiet = (λ i. record { present = tables.present; next = sym quiet i; held = tables.held })

@@ -1,5 +1,5 @@
 -- Stores whose lenses ask their tables by key.
-use Rattle.std.proofs.Common.{◌≡◌, [], Some, subst, sym}
+use Rattle.std.proofs.Common.{◌≡◌, ◌∙◌, [], Some, ap, subst, sym}
 use Rattle.std.specs.FinMap as finmap
 use Rattle.base_index.specs.Held.{IsQuiet}
 use Rattle.lens_laws.specs.Asked.{asked}
@@ -30,6 +30,7 @@ same_state old new s = (λ i. record { texts = s.texts i; tables = (s.tables i).
 pub same_keyed : (old new : Store) → IsSame old new → IsKeyed old → IsKeyed new
 same_keyed old new s k = record {
   quiet = subst IsQuiet (sym s.tables) k.quiet;
+  free = ap (λ t. t.held) s.tables ∙ k.free;
   short = subst AreShort (sym s.texts) k.short;
   indexed = λ name L e.
       subst (λ tables. AreIndexed (asked L []) tables.present) (sym s.tables)

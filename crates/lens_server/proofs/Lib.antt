@@ -17,3 +17,4 @@ pub mod Stepping
 pub mod Stored
 pub mod Told
 pub mod Staged
+pub mod Looked

@@ -1,6 +1,6 @@
 -- What becomes of a plan.
-use Rattle.std.proofs.Common.{◌≡◌, ◌∙◌, ◌+◌, ◌≤◌, ℕ, List, ap, sym, subst, refl, arith}
-use Rattle.std.specs.Prelude.{◌≢◌, Option, Some, None, Result, Ok, Err, IsErr}
+use Rattle.std.proofs.Common.{◌≡◌, ◌∙◌, ◌+◌, ◌<◌, ◌≤◌, ℕ, List, ap, sym, subst, refl, arith}
+use Rattle.std.specs.Prelude.{◌≢◌, ◌-◌, ◌^◌, Option, Some, None, Result, Ok, Err, IsErr}
 use Rattle.std.proofs.lemmas.Bool.{true≢false}
 use Rattle.no_memory.specs.declared.NoMemory.{NoMemory}
 use Rattle.io_specs.specs.Faults.{Rose}
@@ -12,7 +12,9 @@ use Rattle.server_specs.specs.Validity.{Valid}
 use Rattle.table_keeper.specs.Changes.{change_view}
 use Rattle.table_keeper.specs.declared.keeper.KeepFault.{KeepFault}
 use Rattle.table_keeper.specs.declared.keeper.KeepFault.TheVariants as keep
-use Rattle.lens_server.specs.Outcomes.{NotKept, Outcome}
+use Rattle.lens_server.proofs.Keyed.{same_keyed, same_state}
+use Rattle.lens_server.specs.Keyed.{IsSame}
+use Rattle.lens_server.specs.Outcomes.{IsReady, NotKept, Outcome}
 use Rattle.lens_server.specs.Plans.{IsStaged, after}
 use Rattle.lens_server.specs.States.{state_of}
 use Rattle.lens_server.specs.declared.plan.Staged.{Staged}
@@ -47,6 +49,19 @@ told_still (Some a) (Some b) k s told = s ∙ told
 pub told_untouched : (contents : Option Kept) (k : Kept) → Tells contents k → Follows (λ _ now. now ≡ k) contents contents
 told_untouched None k told = tt
 told_untouched (Some a) k told = told
+
+-- ---- stores that are ready
+
+-- a store that differs by the room of its catalogue alone is ready too
+pub still_ready : (old new : Store) (contents : Option Kept) → IsSame old new → IsReady old contents → IsReady new contents
+still_ready old new contents s r =
+    let same = sym (same_state old new s) in
+    record {
+      valid = subst Valid same r.valid;
+      keyed = same_keyed old new s r.keyed;
+      room = subst (λ version. version < 2 ^ 64 - 1) (sym s.version) r.room;
+      told = subst (λ state. Tells contents (kept state)) same r.told;
+    }
 
 -- ---- outcomes
 

@@ -1,12 +1,18 @@
--- How many rows a line may walk.
-use Rattle.std.specs.Prelude.{ℕ, ◌+◌, ◌≤◌, Bool, true, false, if◌then◌else◌, Result, Ok, Err}
+-- How many rows a line may walk, and how many it may look at by key.
+use Rattle.std.specs.Prelude.{ℕ, ◌+◌, ◌*◌, ◌≤◌, Bool, true, false, Option, None, Some, if◌then◌else◌, Result, Ok, Err}
 use Rattle.std.specs.List.{sum_by}
 use Rattle.std.specs.FinMap as finmap
 use Rattle.no_memory.specs.declared.NoMemory.{NoMemory}
-use Rattle.lens_specs.specs.Lens.{Tables}
-use Rattle.lens_laws.specs.Work.{count_of}
-use Rattle.server_specs.specs.Answer.{Answer}
-use Rattle.server_specs.specs.Request.{Request, define, read, put, edit, preview, describe, list}
+use Rattle.serde_json.specs.Data.{Items}
+use Rattle.lens_specs.specs.Delta.{diff}
+use Rattle.lens_specs.specs.Lens.{Lens, Tables, get, sort_of}
+use Rattle.lens_specs.specs.Names.{Name, one}
+use Rattle.catalog_specs.specs.Catalogue.{catalogue}
+use Rattle.lens_probe.specs.Viewed.{is_left_side}
+use Rattle.lens_laws.specs.Work.{count_of, fan, rows_of, size, work}
+use Rattle.server_specs.specs.Answer.{Answer, Listed, in_add, in_remove, in_rows}
+use Rattle.server_specs.specs.Changing.{set_in}
+use Rattle.server_specs.specs.Request.{Request, define, read, find_at, put, edit, preview, describe, list}
 use Rattle.server_specs.specs.State.{State}
 use Rattle.lens_server.specs.Staging.{steps_of}
 use Rattle.lens_server.specs.declared.plan.Plan.{Plan}
@@ -16,22 +22,69 @@ use Rattle.lens_server.specs.declared.store.Store.{Store}
 abbrev pub row_count : Tables → ℕ
 row_count db = sum_by (λ e. count_of e.1.rows) (finmap.entries db)
 
--- whether it is an edit or a preview, which find their rows by key alone
-abbrev pub is_by_key : Result Request Answer → Bool
-is_by_key (Err refusal) = false
-is_by_key (Ok (define text)) = false
-is_by_key (Ok (read name)) = false
-is_by_key (Ok (put name rows on)) = false
-is_by_key (Ok (edit name remove add on)) = true
-is_by_key (Ok (preview name remove add on)) = true
-is_by_key (Ok (describe name)) = false
-is_by_key (Ok list) = false
+-- whether the lens of the name, if it has one, is asked by the column alone
+abbrev pub is_asked_by : Name → Option Lens → Bool
+is_asked_by column None = true
+is_asked_by column (Some L) = is_left_side (one column) (sort_of L).tree
+
+-- whether rows are found by key alone: by an edit, a preview, and a find by the left side of a dependency
+abbrev pub is_by_key : Result Request Answer → State → Bool
+is_by_key (Err refusal) s = false
+is_by_key (Ok (define text)) s = false
+is_by_key (Ok (read name)) s = false
+is_by_key (Ok (find_at name column json)) s = is_asked_by column (finmap.get (catalogue s.texts) name)
+is_by_key (Ok (put name rows on)) s = false
+is_by_key (Ok (edit name remove add on)) s = true
+is_by_key (Ok (preview name remove add on)) s = true
+is_by_key (Ok (describe name)) s = false
+is_by_key (Ok list) s = false
 
 -- the most rows that it may walk: none by key, and else as many as there are
 abbrev pub most_walked : Result Request Answer → State → ℕ
-most_walked request s = if is_by_key request then 0 else row_count s.tables
+most_walked request s = if is_by_key request s then 0 else row_count s.tables
 
 -- what was walked for the plan, and will be when it is settled, is so many rows at most
 abbrev pub Walks : Result Plan NoMemory → Store → ℕ → ℕ → ℕ → Type 0
 Walks (Ok plan) store old new most = new + steps_of plan.staged store ≤ old + most
 Walks (Err e) store old new most = new ≤ old + most
+
+-- ---- rows that are looked at by key
+
+-- how many rows a list sends, each once; none where one of them is bad
+abbrev pub sent_of : Listed → Lens → Items → ℕ
+sent_of which L items = elim (set_in which (sort_of L).columns items) [ Ok rows ↦ count_of rows | Err bad ↦ 0 ]
+
+-- the rows of an edit, to remove and to add
+abbrev pub sent_by : Lens → Items → Items → ℕ
+sent_by L remove add = sent_of in_remove L remove + sent_of in_add L add
+
+-- the rows by which a put differs from what the view shows
+abbrev pub changed_by : Tables → Lens → Items → ℕ
+changed_by db L items = elim (set_in in_rows (sort_of L).columns items) [ Ok rows ↦ rows_of (diff (get L db) rows) | Err bad ↦ 0 ]
+
+-- a number for the lens, if there is one
+abbrev pub of_lens : (Lens → ℕ) → Option Lens → ℕ
+of_lens f None = 0
+of_lens f (Some L) = f L
+
+-- the most looks of a put, of an edit and of a find, where fan bounds the groups of the tables
+abbrev pub put_looks : Tables → Items → Lens → ℕ
+put_looks db rows L = 2 * work L (changed_by db L rows) (fan L db)
+
+abbrev pub edit_looks : Tables → Items → Items → Lens → ℕ
+edit_looks db remove add L = 3 * work L (sent_by L remove add) (fan L db)
+
+abbrev pub find_looks : Tables → Name → Lens → ℕ
+find_looks db column L = if is_left_side (one column) (sort_of L).tree then size L (fan L db) else 0
+
+-- the most rows that a line may look at: by the rows that it changes, and not by the sizes of tables
+abbrev pub most_looked : Result Request Answer → State → ℕ
+most_looked (Err refusal) s = 0
+most_looked (Ok (define text)) s = 0
+most_looked (Ok (read name)) s = 0
+most_looked (Ok (find_at name column json)) s = of_lens (find_looks s.tables column) (finmap.get (catalogue s.texts) name)
+most_looked (Ok (put name rows on)) s = of_lens (put_looks s.tables rows) (finmap.get (catalogue s.texts) name)
+most_looked (Ok (edit name remove add on)) s = of_lens (edit_looks s.tables remove add) (finmap.get (catalogue s.texts) name)
+most_looked (Ok (preview name remove add on)) s = of_lens (edit_looks s.tables remove add) (finmap.get (catalogue s.texts) name)
+most_looked (Ok (describe name)) s = 0
+most_looked (Ok list) s = 0

@@ -1,5 +1,5 @@
 -- Stores whose lenses ask their tables by key.
-use Rattle.std.specs.Prelude.{◌≡◌, [], Some}
+use Rattle.std.specs.Prelude.{◌≡◌, [], None, Some}
 use Rattle.std.specs.FinMap as finmap
 use Rattle.lens_specs.specs.Lens.{Lens}
 use Rattle.lens_specs.specs.Names.{Name}
@@ -12,9 +12,10 @@ use Rattle.server_laws.proofs.Stored.{IsHere}
 use Rattle.lens_server.specs.States.{state_of}
 use Rattle.lens_server.specs.declared.store.Store.{Store}
 
--- nothing is staged, the texts are short, and each lens has the indexes that it needs
+-- nothing is staged or held, the texts are short, and each lens has the indexes that it needs
 pub record IsKeyed (store : Store) : Type 0 where
   pub quiet : IsQuiet store.tables
+  pub free : store.tables.held ≡ None
   pub short : AreShort store.catalog.texts
   pub indexed : (name : Name) (L : Lens) → finmap.get (catalogue store.catalog.texts) name ≡ Some L → AreIndexed (asked L []) store.tables.present
 

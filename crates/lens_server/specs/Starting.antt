@@ -63,10 +63,11 @@ AreAdmitted (Err (fault.Damaged damage)) texts = option_map definition (first_re
 AreAdmitted (Err fault.StoreFault) texts = ⊥
 AreAdmitted (Err fault.NoMemory) texts = Unit {0}
 
--- Nothing is staged, the texts are taken and short, each lens has the indexes that it needs, and the tables are those of the
+-- Nothing is staged or held, the texts are taken and short, each lens has the indexes that it needs, and the tables are those of the
 -- definitions, with no row.
 pub record HasEmptyTables (admitted : Admitted) : Type 0 where
   pub quiet : IsQuiet admitted.tables
+  pub free : admitted.tables.held ≡ None
   pub taken : first_refused admitted.catalog.texts ≡ None
   pub short : AreShort admitted.catalog.texts
   pub indexed : (name : Name) (L : Lens) → finmap.get (catalogue admitted.catalog.texts) name ≡ Some L → AreIndexed (asked L []) admitted.tables.present

@@ -5,7 +5,7 @@ ghost use Rattle.request_text.specs.Requests.{request_view};
 ghost use Rattle.server_specs.specs.Answering.{answer_request};
 ghost use Rattle.server_specs.specs.Request.{request};
 ghost use Rattle.server_specs.specs.Validity.{Valid};
-ghost use Rattle.lens_server.specs.Counting.{Walks, most_walked};
+ghost use Rattle.lens_server.specs.Counting.{Walks, most_looked, most_walked};
 ghost use Rattle.lens_server.specs.Keyed.{IsKeyed, IsSame};
 ghost use Rattle.lens_server.specs.Outcomes.{IsReady, Outcome};
 ghost use Rattle.lens_server.specs.Plans.{IsPlan};
@@ -14,7 +14,7 @@ ghost use Rattle.lens_server.specs.States.{state_of};
 use crate::changing::{plan_edit, plan_put, preview_answer};
 use crate::defining::plan_definition;
 use crate::plan::Plan;
-use crate::questions::{list_answer, read_answer, type_answer};
+use crate::questions::{find_answer, list_answer, read_answer, type_answer};
 use crate::settling::settle;
 use crate::store::Store;
 use json::Scratch;
@@ -25,8 +25,8 @@ use std::sync::ledger::Ledger;
 use step_counter::Steps;
 use table_keeper::Keeper;
 
-/// Answers a line that is not too long. An edit and a preview walk no table. The scratch is what
-/// reading the line needs.
+/// Answers a line that is not too long. An edit, a preview and a find by the left side of a
+/// dependency walk no table. The scratch is what reading the line needs.
 pub fn answer_line<K: Keeper, L: Ledger, M: Ledger>(
     alloc: Global,
     store: &mut Store,
@@ -44,6 +44,8 @@ pub fn answer_line<K: Keeper, L: Ledger, M: Ledger>(
     ensures place { K.place keeper.new ≡ K.place keeper.old }
     ensures walked { walked.new
         ≤ walked.old + most_walked (request (short line.now)) (state_of store.old) }
+    ensures looked { looked.new
+        ≤ looked.old + most_looked (request (short line.now)) (state_of store.old) }
 {
     let plan = plan_line(alloc, store, scratch, line, walked, looked)?;
     settle(alloc, store, keeper, plan, walked)
@@ -66,6 +68,8 @@ fn plan_line<L: Ledger, M: Ledger>(
         (answer_request (request (short line.now)) (state_of store.old)) store.new) }
     ensures walked { Walks result store.new walked.old walked.new
         (most_walked (request (short line.now)) (state_of store.old)) }
+    ensures looked { looked.new
+        ≤ looked.old + most_looked (request (short line.now)) (state_of store.old) }
 {
     match read_request(alloc, line, scratch) {
         Ok(request) => plan_request(alloc, store, request, walked, looked),
@@ -93,10 +97,20 @@ fn plan_request<L: Ledger, M: Ledger>(
         (answer_request (Ok (request_view request.entry)) (state_of store.old)) store.new) }
     ensures walked { Walks result store.new walked.old walked.new
         (most_walked (Ok (request_view request.entry)) (state_of store.old)) }
+    ensures looked { looked.new
+        ≤ looked.old + most_looked (Ok (request_view request.entry)) (state_of store.old) }
 {
     match request {
         Request::Define { text } => plan_definition(alloc, store, text),
         Request::Read { view } => { Ok(Plan::unchanged(read_answer(alloc, store, &view, walked)?)) }
+        Request::Find {
+            view,
+            column,
+            value,
+        } => {
+            let found = find_answer(alloc, store, &view, &column, &value, walked, looked)?;
+            Ok(Plan::unchanged(found))
+        }
         Request::Put { view, rows, on } => {
             plan_put(alloc, store, &view, rows, on, walked, looked)
         }

@@ -1,14 +1,16 @@
 //! The difference of a view that a change asks for.
-ghost use Rattle.std.specs.Prelude.{◌≡◌, ◌<◌, ◌+◌, ◌≤◌, IfOk, length, slice_index_or};
+ghost use Rattle.std.specs.Prelude.{◌≡◌, ◌<◌, ◌+◌, ◌*◌, ◌≤◌, ℕ, IfOk, length, slice_index_or};
 ghost use Rattle.lens_specs.specs.Delta.{AppliesTo};
 ghost use Rattle.lens_specs.specs.Lens.{sort_of};
+ghost use Rattle.lens_laws.specs.Work.{rows_of, work};
 ghost use Rattle.request_text.specs.Answers.{answer_view, list_view};
 ghost use Rattle.server_specs.specs.Answer as answers;
 ghost use Rattle.server_specs.specs.Changing as spec;
 ghost use Rattle.lens_chain.specs.Edits.{edited, over};
 ghost use Rattle.lens_probe.specs.Reading.{rows_under};
-ghost use Rattle.lens_probe.specs.Viewed.{shown};
+ghost use Rattle.lens_probe.specs.Viewed.{FindsAtMost, shown};
 ghost use Rattle.lens_server.specs.Asking.{Asks, AsksBy, IsFresh, is_outside};
+ghost use Rattle.lens_server.specs.Counting.{changed_by, sent_by};
 ghost use Rattle.lens_server.specs.Keyed.{IsOpen};
 ghost use Rattle.lens_server.specs.States.{state_of};
 
@@ -64,6 +66,10 @@ pub fn asked_by_put<L: Ledger, M: Ledger>(
     ensures asks { AsksBy view.now.lens (over view.now) result
         (spec.asked_view (state_of store.now) view.now.lens (spec.whole rows.entry) on) }
     ensures walked { walked.new ≤ walked.old + rows_under view.now.lens (over view.now) }
+    ensures few { IfOk result (λ delta.
+        rows_of delta ≤ changed_by (over view.now) view.now.lens rows.entry) }
+    ensures looks { (w : ℕ) → FindsAtMost view.now w → looked.new ≤ looked.old
+        + work view.now.lens (changed_by (over view.now) view.now.lens rows.entry) w }
 {
     let lens = view.lens();
     let new = set_in(alloc, lens, RowList::Rows, rows)?;
@@ -87,6 +93,10 @@ pub fn asked_by_edit<M: Ledger>(
     requires same { view.now.tables ≡ store.now.tables }
     ensures asks { AsksBy view.now.lens (over view.now) result (spec.asked_view (state_of store.now)
         view.now.lens (spec.edited remove.entry add.entry) on) }
+    ensures few { IfOk result (λ delta.
+        rows_of delta ≤ sent_by view.now.lens remove.entry add.entry) }
+    ensures looks { (w : ℕ) → FindsAtMost view.now w → looked.new ≤ looked.old
+        + 2 * work view.now.lens (sent_by view.now.lens remove.entry add.entry) w }
 {
     let lens = view.lens();
     let removed = set_in(alloc, lens, RowList::Remove, remove)?;
@@ -148,17 +158,21 @@ fn checked<M: Ledger>(
     looked: &mut Steps<M>,
 ) -> Result<Delta, Refusal>
     requires { AppliesTo delta (shown view.now) }
-    ensures { let L = view.now.lens in let db = over view.now in
+    ensures asks { let L = view.now.lens in let db = over view.now in
         AsksBy L db result (spec.of_sort (sort_of L) (edited L db delta)) }
+    ensures same { IfOk result (λ kept. kept ≡ delta) }
+    ensures looks { (w : ℕ) → FindsAtMost view.now w
+        → looked.new ≤ looked.old + work view.now.lens (rows_of delta) w }
 {
     let sort = view.lens().sort();
+    let edges = sort.tree().edges();
     match check_edit(alloc, sort, view, &delta, looked) {
         Ok(()) => Ok(delta),
         Err(EditFault::OffPredicate { row }) => Err(Refusal::Told {
             answer: Answer::OffPredicate { row },
         }),
         Err(EditFault::Clash { clash }) => Err(Refusal::Told {
-            answer: clash_answer(alloc, sort.tree().edges(), clash)?,
+            answer: clash_answer(alloc, edges, clash)?,
         }),
         Err(EditFault::NoMemory) => Err(Refusal::NoMemory),
     }

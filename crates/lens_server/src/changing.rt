@@ -1,7 +1,11 @@
 //! Changes of views.
-ghost use Rattle.std.specs.Prelude.{◌≡◌, ◌<◌, ◌+◌, ◌-◌, ◌^◌, ◌≤◌, IfOk, Result, map};
+ghost use Rattle.std.specs.Prelude.{◌≡◌, ◌<◌, ◌+◌, ◌-◌, ◌^◌, ◌≤◌, ℕ, IfOk, Result, map};
+ghost use Rattle.std.specs.FinMap as finmap;
 ghost use Rattle.lens_specs.specs.Delta.{changes};
 ghost use Rattle.lens_specs.specs.Relation.{Rows};
+ghost use Rattle.lens_laws.specs.Work.{fan, rows_of, work};
+ghost use Rattle.lens_probe.specs.Viewed.{FindsAtMost};
+ghost use Rattle.catalog_specs.specs.Catalogue.{catalogue};
 ghost use Rattle.request_text.specs.Answers.{answer_view};
 ghost use Rattle.lens_chain.specs.Edits.{IsEdit, edited, over};
 ghost use Rattle.server_specs.specs.Answer as answers;
@@ -10,7 +14,7 @@ ghost use Rattle.server_specs.specs.Changing.{accept, change_answer, foretold, s
 ghost use Rattle.server_specs.specs.Validity.{Valid};
 ghost use Rattle.signed_delta.specs.Tables.{table_delta};
 ghost use Rattle.lens_server.specs.Asking.{AsksBy};
-ghost use Rattle.lens_server.specs.Counting.{row_count};
+ghost use Rattle.lens_server.specs.Counting.{edit_looks, of_lens, put_looks, row_count};
 ghost use Rattle.lens_server.specs.Keyed.{IsKeyed, IsOpen};
 ghost use Rattle.lens_server.specs.Plans.{IsChange, IsPlan};
 ghost use Rattle.lens_server.specs.States.{state_of};
@@ -34,6 +38,7 @@ pub fn view_of<'a>(store: &'a Store, lens: &'a TypedLens) -> View<'a>
     requires { IsOpen store.now lens.now }
     ensures lens { result.lens ≡ lens.now }
     ensures tables { result.tables ≡ store.now.tables }
+    ensures finds { FindsAtMost result (fan lens.now store.now.tables.present.relations) }
 {
     View::of(lens, &store.tables)
 }
@@ -54,6 +59,8 @@ pub fn plan_put<L: Ledger, M: Ledger>(
     ensures plan { IfOk result (λ plan. IsPlan plan
         (change_answer (spec.whole rows.entry) on view.now (state_of store.now)) store.now) }
     ensures walked { walked.new ≤ walked.old + row_count store.now.tables.present.relations }
+    ensures looked { let s = state_of store.now in looked.new ≤ looked.old
+        + of_lens (put_looks s.tables rows.entry) (finmap.get (catalogue s.texts) view.now) }
 {
     match store.catalog.lens(view) {
         Some(lens) => {
@@ -78,8 +85,12 @@ pub fn plan_edit<M: Ledger>(
     requires valid { Valid (state_of store.now) }
     requires keyed { IsKeyed store.now }
     requires room { store.now.version < 2 ^ 64 - 1 }
-    ensures { IfOk result (λ plan. IsPlan plan (change_answer (spec.edited remove.entry add.entry) on
-        view.now (state_of store.now)) store.now) }
+    ensures plan { IfOk result (λ plan. IsPlan plan
+        (change_answer (spec.edited remove.entry add.entry) on view.now (state_of store.now))
+        store.now) }
+    ensures looked { let s = state_of store.now in looked.new ≤ looked.old
+        + of_lens (edit_looks s.tables remove.entry add.entry)
+        (finmap.get (catalogue s.texts) view.now) }
 {
     match store.catalog.lens(view) {
         Some(lens) => {
@@ -105,10 +116,12 @@ fn plan_asked<M: Ledger>(
     requires asked { (expected : Result Rows answers.Answer)
         × AsksBy view.now.lens (over view.now) asked expected }
     requires room { store.now.version < 2 ^ 64 - 1 }
-    ensures { (expected : Result Rows answers.Answer)
+    ensures plan { (expected : Result Rows answers.Answer)
         → AsksBy view.now.lens (over view.now) asked expected
         → IfOk result (λ plan.
         IsPlan plan (settled expected view.now.lens (state_of store.now)) store.now) }
+    ensures looks { (w d : ℕ) → FindsAtMost view.now w → IfOk asked (λ delta. rows_of delta ≤ d)
+        → looked.new ≤ looked.old + work view.now.lens d w }
 {
     match asked {
         Ok(delta) => plan_delta(alloc, store, view, &delta, looked),
@@ -130,9 +143,11 @@ fn plan_delta<M: Ledger>(
     requires tables { view.now.tables ≡ store.now.tables }
     requires edit { IsEdit view.now.lens (over view.now) delta.now }
     requires room { store.now.version < 2 ^ 64 - 1 }
-    ensures { let L = view.now.lens in let db = over view.now in
+    ensures plan { let L = view.now.lens in let db = over view.now in
         let rows = edited L db delta.now in IfOk result (λ plan.
         IsPlan plan (accept L rows (changes L rows db) (state_of store.now)) store.now) }
+    ensures looks { (w : ℕ) → FindsAtMost view.now w
+        → looked.new ≤ looked.old + work view.now.lens (rows_of delta.now) w }
 {
     let deltas = put_delta(alloc, view, delta, looked)?;
     if deltas.as_slice().is_empty() {
@@ -188,8 +203,11 @@ pub fn preview_answer<M: Ledger>(
 ) -> Result<Answer, NoMemory>
     requires valid { Valid (state_of store.now) }
     requires keyed { IsKeyed store.now }
-    ensures { IfOk result (λ answer. answer_view answer ≡ spec.preview_answer
+    ensures answer { IfOk result (λ answer. answer_view answer ≡ spec.preview_answer
         (spec.edited remove.entry add.entry) on view.now (state_of store.now)) }
+    ensures looked { let s = state_of store.now in looked.new ≤ looked.old
+        + of_lens (edit_looks s.tables remove.entry add.entry)
+        (finmap.get (catalogue s.texts) view.now) }
 {
     match store.catalog.lens(view) {
         Some(lens) => {
@@ -213,10 +231,12 @@ fn foretold<M: Ledger>(
     requires tables { view.now.tables ≡ store.now.tables }
     requires asked { (expected : Result Rows answers.Answer)
         × AsksBy view.now.lens (over view.now) asked expected }
-    ensures { (expected : Result Rows answers.Answer)
+    ensures answer { (expected : Result Rows answers.Answer)
         → AsksBy view.now.lens (over view.now) asked expected
         → IfOk result (λ answer.
         answer_view answer ≡ foretold expected view.now.lens (state_of store.now)) }
+    ensures looks { (w d : ℕ) → FindsAtMost view.now w → IfOk asked (λ delta. rows_of delta ≤ d)
+        → looked.new ≤ looked.old + work view.now.lens d w }
 {
     match asked {
         Ok(delta) => changes_told(alloc, store, view, &delta, looked),
@@ -236,9 +256,11 @@ fn changes_told<M: Ledger>(
     requires open { IsOpen store.now view.now.lens }
     requires tables { view.now.tables ≡ store.now.tables }
     requires edit { IsEdit view.now.lens (over view.now) delta.now }
-    ensures { let L = view.now.lens in let db = over view.now in IfOk result (λ answer.
+    ensures answer { let L = view.now.lens in let db = over view.now in IfOk result (λ answer.
         answer_view answer
         ≡ answers.changed (changes L (edited L db delta.now) db) store.now.version) }
+    ensures looks { (w : ℕ) → FindsAtMost view.now w
+        → looked.new ≤ looked.old + work view.now.lens (rows_of delta.now) w }
 {
     let deltas = put_delta(alloc, view, delta, looked)?;
     Ok(Answer::Changed {

@@ -1,20 +1,26 @@
 //! Questions: requests that only look.
-ghost use Rattle.std.specs.Prelude.{◌≡◌, ◌+◌, ◌≤◌, IfOk};
+ghost use Rattle.std.specs.Prelude.{◌≡◌, ◌+◌, ◌≤◌, true, IfOk, Some};
+ghost use Rattle.std.specs.FinMap as finmap;
+ghost use Rattle.lens_specs.specs.Lens.{sort_of};
+ghost use Rattle.lens_specs.specs.Names.{one};
+ghost use Rattle.catalog_specs.specs.Catalogue.{catalogue};
+ghost use Rattle.lens_probe.specs.Viewed.{is_left_side};
 ghost use Rattle.lens_pred.specs.View.{predicate_view};
 ghost use Rattle.request_text.specs.Answers.{answer_view, conjuncts_view};
 ghost use Rattle.server_specs.specs.Questions as spec;
-ghost use Rattle.server_specs.specs.Questions.{rows_told, sort_told};
+ghost use Rattle.server_specs.specs.Questions.{finding_told, found_told, rows_told, sort_told};
 ghost use Rattle.server_specs.specs.Validity.{Valid};
-ghost use Rattle.lens_server.specs.Counting.{row_count};
+ghost use Rattle.lens_server.specs.Counting.{find_looks, is_asked_by, of_lens, row_count};
 ghost use Rattle.lens_server.specs.Keyed.{IsKeyed, IsOpen};
 ghost use Rattle.lens_server.specs.States.{state_of};
 
 use crate::changing::view_of;
 use crate::store::Store;
+use find_rows::find_rows;
 use lens_pred::{Formula, Formulas};
 use lens_types::TypedLens;
-use lens_values::{Name, NoMemory, Text, copied};
-use request_text::{Answer, Edges, Texts};
+use lens_values::{Name, NoMemory, Text, Value, copied};
+use request_text::{Answer, Edges, JsonValue, Texts};
 use std::alloc::Global;
 use std::sync::ledger::Ledger;
 use step_counter::Steps;
@@ -53,6 +59,88 @@ fn rows_told<L: Ledger>(
     let view = view_of(store, lens).read(alloc, walked)?;
     Ok(Answer::Shown {
         rows: view.into_rows(),
+        version: store.version,
+    })
+}
+
+/// What `find` is answered.
+pub fn find_answer<L: Ledger, M: Ledger>(
+    alloc: Global,
+    store: &Store,
+    view: &Name,
+    column: &Name,
+    value: &JsonValue<'_>,
+    walked: &mut Steps<L>,
+    looked: &mut Steps<M>,
+) -> Result<Answer, NoMemory>
+    requires valid { Valid (state_of store.now) }
+    requires keyed { IsKeyed store.now }
+    ensures answer { IfOk result (λ answer. answer_view answer
+        ≡ spec.find_answer view.now column.now value.now (state_of store.now)) }
+    ensures walked { walked.new ≤ walked.old + row_count store.now.tables.present.relations }
+    ensures by_key { let s = state_of store.now in
+        is_asked_by column.now (finmap.get (catalogue s.texts) view.now) ≡ true
+        → walked.new ≡ walked.old }
+    ensures looked { let s = state_of store.now in looked.new ≤ looked.old
+        + of_lens (find_looks s.tables column.now) (finmap.get (catalogue s.texts) view.now) }
+{
+    match store.catalog.lens(view) {
+        Some(lens) => finding_told(alloc, store, lens, column, value, walked, looked),
+        None => Ok(Answer::UnknownName { name: *view }),
+    }
+}
+
+/// The rows of the view of a lens that have the value in the column, if it is there and fits.
+fn finding_told<L: Ledger, M: Ledger>(
+    alloc: Global,
+    store: &Store,
+    lens: &TypedLens,
+    column: &Name,
+    value: &JsonValue<'_>,
+    walked: &mut Steps<L>,
+    looked: &mut Steps<M>,
+) -> Result<Answer, NoMemory>
+    requires { IsOpen store.now lens.now }
+    ensures answer { IfOk result (λ answer. answer_view answer
+        ≡ finding_told (state_of store.now) column.now value.now lens.now) }
+    ensures walked { walked.new ≤ walked.old + row_count store.now.tables.present.relations }
+    ensures by_key { is_left_side (one column.now) (sort_of lens.now).tree ≡ true
+        → walked.new ≡ walked.old }
+    ensures looked { let db = store.now.tables.present.relations in
+        looked.new ≤ looked.old + find_looks db column.now lens.now }
+{
+    let Some(kind) = lens.sort().cols().kind(column) else {
+        return Ok(Answer::UnknownColumn { name: *column });
+    };
+    match value.fitting(alloc, kind)? {
+        Some(value) => found_told(alloc, store, lens, column, &value, walked, looked),
+        None => Ok(Answer::KindClash { name: *column }),
+    }
+}
+
+/// The rows of the view of a lens that have the value in the column.
+fn found_told<L: Ledger, M: Ledger>(
+    alloc: Global,
+    store: &Store,
+    lens: &TypedLens,
+    column: &Name,
+    value: &Value,
+    walked: &mut Steps<L>,
+    looked: &mut Steps<M>,
+) -> Result<Answer, NoMemory>
+    requires { IsOpen store.now lens.now }
+    ensures answer { IfOk result (λ answer. answer_view answer
+        ≡ found_told (state_of store.now) lens.now column.now (Some value.now)) }
+    ensures walked { walked.new ≤ walked.old + row_count store.now.tables.present.relations }
+    ensures by_key { is_left_side (one column.now) (sort_of lens.now).tree ≡ true
+        → walked.new ≡ walked.old }
+    ensures looked { let db = store.now.tables.present.relations in
+        looked.new ≤ looked.old + find_looks db column.now lens.now }
+{
+    let view = view_of(store, lens);
+    let found = find_rows(alloc, &view, column, value, looked, walked)?;
+    Ok(Answer::Shown {
+        rows: found.into_rows(),
         version: store.version,
     })
 }

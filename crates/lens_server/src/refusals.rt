@@ -62,6 +62,7 @@ fn rule_refusal(fault: TypeFault) -> Answer
         TypeFault::TooLarge { what } => Answer::TooLarge {
             what: limit_of(what),
         },
+        TypeFault::ColumnTaken { name } => Answer::ColumnTaken { name },
     }
 }
 

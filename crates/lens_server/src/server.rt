@@ -8,7 +8,7 @@ ghost use Rattle.server_specs.specs.Answering.{answer_request};
 ghost use Rattle.server_specs.specs.Request.{request};
 ghost use Rattle.server_specs.specs.Session.{Step};
 ghost use Rattle.server_specs.specs.State as state;
-ghost use Rattle.lens_server.specs.Counting.{most_walked};
+ghost use Rattle.lens_server.specs.Counting.{most_looked, most_walked};
 ghost use Rattle.lens_server.specs.Keyed.{IsKeyed};
 ghost use Rattle.lens_server.specs.Outcomes.{IsReady, Outcome};
 ghost use Rattle.lens_server.specs.Starting.{IsStoreOf, Opens};
@@ -77,13 +77,14 @@ impl Server {
     /// Answers one line. The reply and the state after it are those of the definition; or memory
     /// ran out, or the keeper failed at a change, and nothing changed. A keeper that tells its
     /// contents goes on to tell them, and has what the state has. `walked` counts the rows of the
-    /// tables that are gone over.
-    pub fn answer<K: Keeper, L: Ledger>(
+    /// tables that are gone over, and `looked` the rows that are looked at by key.
+    pub fn answer<K: Keeper, L: Ledger, M: Ledger>(
         &mut self,
         alloc: Global,
         keeper: &mut K,
         line: &[u8],
         walked: &mut Steps<L>,
+        looked: &mut Steps<M>,
     ) -> Reply
         requires room { self.old.version < 2 ^ 64 - 1 }
         requires told { Tells (K.contents keeper.old) (state.kept self.old) }
@@ -93,21 +94,24 @@ impl Server {
             (K.contents keeper.new) }
         ensures place { K.place keeper.new ≡ K.place keeper.old }
 
-        // An edit and a preview find their rows by key, and walk none.
+        // An edit, a preview and a find by the left side of a dependency look by key, and walk none.
         ensures walked { walked.new ≤ walked.old + most_walked (request (marked line.now)) self.old }
+
+        // How many rows are looked at follows from the rows that an edit sends, or in which a put
+        // differs from what its view shows, and from the largest group of rows with one key.
+        ensures looked { looked.new ≤ looked.old + most_looked (request (marked line.now)) self.old }
     {
         if line.len() > LONGEST_LINE {
             return long_reply();
         }
-        let blank = Blank::new(1);
-        let outcome = answer_counted::<K, L, Brand>(
+        let outcome = answer_line(
             alloc,
             &mut self.store,
             &mut self.scratch,
             keeper,
             line,
             walked,
-            blank,
+            looked,
         );
         reply_or_memory(outcome)
     }
@@ -139,32 +143,6 @@ fn store_counted<L: Ledger>(alloc: Global, kept: Kept, blank: Blank) -> Result<S
 {
     let mut walked = Steps::<L>::new(blank);
     store_of(alloc, kept, &mut walked)
-}
-
-/// Answers a line that is not too long, with a counter of look-ups of its own.
-fn answer_counted<K: Keeper, L: Ledger, M: Ledger>(
-    alloc: Global,
-    store: &mut Store,
-    scratch: &mut Scratch,
-    keeper: &mut K,
-    line: &[u8],
-    walked: &mut Steps<L>,
-    blank: Blank,
-) -> Result<Reply, NoMemory>
-    requires name { blank.name ≡ M.name }
-    requires parts { blank.parts ≡ M.parts }
-    requires one { blank.parts ≡ 1 }
-    requires ready { IsReady store.old (K.contents keeper.old) }
-    ensures outcome { Outcome (answer_request (request (short line.now)) (state_of store.old))
-        (state_of store.old) (state_of store.new) (K.faults keeper.old) (K.faults keeper.new)
-        (K.contents keeper.old) (K.contents keeper.new) result }
-    ensures keyed { IsKeyed store.new }
-    ensures place { K.place keeper.new ≡ K.place keeper.old }
-    ensures walked { walked.new
-        ≤ walked.old + most_walked (request (short line.now)) (state_of store.old) }
-{
-    let mut looked = Steps::<M>::new(blank);
-    answer_line(alloc, store, scratch, keeper, line, walked, &mut looked)
 }
 
 /// The reply, or that of memory where it ran out.

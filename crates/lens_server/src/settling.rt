@@ -1,6 +1,6 @@
 //! A plan is settled: the answer is printed, the change is staged and committed, and then it is
 //! made.
-ghost use Rattle.std.specs.Prelude.{◌≡◌, ◌<◌, ◌+◌, ◌-◌, ◌^◌, ◌≤◌, IfOk, OnErr, OnOk, Some};
+ghost use Rattle.std.specs.Prelude.{◌≡◌, ◌<◌, ◌+◌, ◌-◌, ◌^◌, ◌≤◌, IfOk, None, OnErr, OnOk, Some};
 ghost use Rattle.base_index.specs.Held.{IsQuiet};
 ghost use Rattle.server_specs.specs.Answer as spec;
 ghost use Rattle.server_specs.specs.Answer.{text};
@@ -101,6 +101,7 @@ fn stage<L: Ledger>(
     walked: &mut Steps<L>,
 ) -> Result<(), NoMemory>
     requires quiet { IsQuiet tables.old }
+    requires free { tables.old.held ≡ None }
     requires can { CanStage staged.now.change staged.now.definition tables.old.present.relations }
     ensures ok { OnOk result (tables.new ≡ record tables.old {
       next = next_state staged.now.change staged.now.definition tables.old.present;
@@ -127,6 +128,7 @@ pub fn stage_definition<L: Ledger>(
     walked: &mut Steps<L>,
 ) -> Result<(), NoMemory>
     requires quiet { IsQuiet tables.old }
+    requires free { tables.old.held ≡ None }
     requires new { IsFree table.now tables.old.present.relations }
     ensures ok { OnOk result (tables.new
         ≡ record tables.old { next = defined_by table.now lens.now tables.old.present }) }

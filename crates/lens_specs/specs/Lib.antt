@@ -6,10 +6,12 @@ pub mod Dependencies
 pub mod TreeForm
 pub mod Revision
 pub mod Predicate
+pub mod Rename
 pub mod Sort
 pub mod Nodes
 pub mod Lens
 pub mod Refusal
 pub mod Typing
 pub mod Delta
+pub mod TableDeltas
 pub mod Keeping

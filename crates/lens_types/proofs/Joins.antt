@@ -3,6 +3,7 @@ use Rattle.std.proofs.Common.{List, ◌≡◌, ◌∙◌, ◌++◌, ℕ, Bool, t
 use Rattle.std.specs.Prelude.{Option, Some, None, option_map, Ok}
 use Rattle.std.specs.List.Sorted.{IsStrictlySortedBy}
 use Rattle.lens_values.specs.Columns as values
+use Rattle.lens_values.specs.declared.join_kind.JoinKind.TheVariants.{DeleteLeft}
 use Rattle.lens_values.specs.SortedSet as set
 use Rattle.fd_laws.proofs.Names.{name_total, one_is}
 use Rattle.lens_specs.specs.Columns.{Columns, both_columns, kinds_differ}
@@ -10,7 +11,7 @@ use Rattle.lens_specs.specs.Dependencies.{Edge}
 use Rattle.lens_specs.specs.Lens.{base, join, join_sort, tables_of, tree_or_none}
 use Rattle.lens_specs.specs.Names.{Name, one}
 use Rattle.lens_specs.specs.Predicate.{Predicate}
-use Rattle.lens_specs.specs.Refusal.{Refusal, left_side, right_side, kind_clash, not_determined, side_mentions_output, table_twice, or_else, too_much}
+use Rattle.lens_specs.specs.Refusal.{Refusal, left_side, right_side, kind_clash, not_determined, side_mentions_output, table_twice, or_else, too_much, unsteady}
 use Rattle.lens_specs.specs.Sort.{Sort}
 use Rattle.lens_specs.specs.TreeForm as form
 use Rattle.lens_specs.specs.TreeForm.{TreeForm, tree_of}
@@ -20,7 +21,7 @@ use Rattle.lens_laws.proofs.NodeLaws.{sound}
 use Rattle.lens_laws.proofs.Rules.{sort_is_typed}
 use Rattle.fd_tree.specs.Form.{form_of}
 use Rattle.lens_types.specs.Faults.{IsRefused, fault_view, of_fault}
-use Rattle.lens_types.specs.Joins.{columns_from, joined_columns, mentioned_output, sides_fault}
+use Rattle.lens_types.specs.Joins.{columns_from, joined_columns, sides_fault}
 use Rattle.lens_types.specs.Sorts.{sort_from, natural_join}
 use Rattle.lens_types.specs.declared.fault.TypeFault.{TypeFault}
 use Rattle.lens_types.proofs.Parts.{neither, unrefused, or_last, few_in_three}
@@ -67,7 +68,7 @@ module _ (n : ℕ) (s t : Sort) (twice : Option Name) where
   -- first by the columns, then by the tree, the sides and the size
   parted : natural_join n s t twice ≡ unless_refused (or_else clash (or_else unformed (or_else (sides_fault s t twice) excess))) (join_sort s t)
   parted = ap (λ o. unless_refused (or_else clash (or_else unformed o)) (join_sort s t))
-      (regrouped (option_map not_determined (undetermined s t)) (option_map (side_mentions_output left_side) (mentioned_output s)) (option_map (side_mentions_output right_side) (mentioned_output t)) (option_map table_twice twice) excess)
+      (regrouped (option_map not_determined (undetermined s t)) (option_map (side_mentions_output left_side) (unsteady s.predicate s.tree)) (option_map (side_mentions_output right_side) (unsteady t.predicate t.tree)) (option_map table_twice twice) excess)
 
   module _ (C : Columns) (columns : joined_columns s.columns t.columns ≡ Ok C) where
     same_columns : (option_map kind_clash (kinds_differ s.columns t.columns) ≡ None) × (C ≡ both_columns s.columns t.columns)
@@ -127,17 +128,17 @@ of_tables n s t twice e =
     or_last (option_map kind_clash (kinds_differ s.columns t.columns)) _ _
     (or_last (form_fault (tree_of (s.tree ++ t.tree))) _ _
     (or_last (option_map not_determined (undetermined s t)) _ _
-    (or_last (option_map (side_mentions_output left_side) (mentioned_output s)) _ _
-    (or_last (option_map (side_mentions_output right_side) (mentioned_output t)) _ _
+    (or_last (option_map (side_mentions_output left_side) (unsteady s.predicate s.tree)) _ _
+    (or_last (option_map (side_mentions_output right_side) (unsteady t.predicate t.tree)) _ _
     (λ w. ap (λ o. or_else (option_map table_twice o) (too_much 3 (join_sort s t))) two_tables ∙ few_in_three n (join_sort s t) (neither (option_map table_twice twice) _ w).1))))) e
 
-joined_once : (s t : Sort) → join_fault 3 s t (shared_table (one first_table) (one second_table)) ≡ None → sort (join (base first_table s) (base second_table t)) ≡ Ok (join_sort s t)
+joined_once : (s t : Sort) → join_fault 3 s t (shared_table (one first_table) (one second_table)) ≡ None → sort (join DeleteLeft (base first_table s) (base second_table t)) ≡ Ok (join_sort s t)
 unfolding sort tables_of
 joined_once s t e = ap (λ o. unless_refused o (join_sort s t)) e
 
 pub join_is_sound : (n : ℕ) (s t x : Sort) (twice : Option Name) → IsSound s → IsSound t → natural_join n s t twice ≡ Ok x → IsSound x
 join_is_sound n s t x twice h k e =
     let w = unrefused (join_fault n s t twice) (join_sort s t) x e in
-    let L = join (base first_table s) (base second_table t) in
+    let L = join DeleteLeft (base first_table s) (base second_table t) in
     let typed = sort_is_typed L (join_sort s t) (h, k) (joined_once s t (of_tables n s t twice w.0)) in
     subst IsSound w.1 (sound L typed.1)

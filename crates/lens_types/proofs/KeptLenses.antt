@@ -4,21 +4,22 @@ use Rattle.std.specs.Prelude.{None, Option, option_map, Result, Ok, Err, IfOk, I
 use Rattle.std.specs.FinMap as finmap
 use Rattle.std.proofs.lemmas.Bool.Decides.{nat_tests}
 use Rattle.lens_values.specs.declared.value.Value.{Value}
+use Rattle.lens_values.specs.declared.join_kind.JoinKind.{JoinKind}
 use Rattle.lens_specs.specs.Columns.{names, fits_at, kinds_differ, least_outside}
-use Rattle.lens_specs.specs.Lens.{Lens, base, select, drop, join, join_sort, nodes_of, select_sort, drop_sort, tables_of}
+use Rattle.lens_specs.specs.Lens.{Lens, base, select, drop, rename, join, join_sort, nodes_of, select_sort, drop_sort, rename_sort, tables_of}
 use Rattle.lens_specs.specs.Names.{Name, Names}
 use Rattle.lens_specs.specs.Predicate.{Predicate}
 use Rattle.lens_specs.specs.Refusal as refusal
-use Rattle.lens_specs.specs.Refusal.{Refusal, or_else, when, is_column, first_mixed, least_mentioned, unknown_name, unlike_kinds, too_much}
+use Rattle.lens_specs.specs.Refusal.{Refusal, or_else, when, is_column, first_mixed, unsteady, unknown_name, unlike_kinds, too_much}
 use Rattle.lens_specs.specs.Sort.{Sort}
-use Rattle.lens_specs.specs.TreeForm.{outputs, tree_of}
-use Rattle.lens_specs.specs.Typing.{sort, and_then, select_fault, drop_fault, join_fault, form_fault, is_determined, default_holds, shared_table, undetermined}
+use Rattle.lens_specs.specs.TreeForm.{tree_of}
+use Rattle.lens_specs.specs.Typing.{sort, and_then, select_fault, drop_fault, rename_fault, join_fault, form_fault, is_determined, default_holds, shared_table, undetermined}
 use Rattle.lens_laws.specs.Lenses.{IsTyped}
 use Rattle.lens_laws.specs.Passes.{IsSound}
 use Rattle.lens_laws.proofs.Rules.{bases_are_sound, sort_is_typed}
 use Rattle.lens_types.specs.Faults.{Decides, IsRefused, with_inputs}
 use Rattle.lens_types.specs.Kept.{IsKept}
-use Rattle.lens_types.specs.Sorts.{natural_join, selection, projection}
+use Rattle.lens_types.specs.Sorts.{natural_join, selection, projection, renaming}
 use Rattle.lens_types.specs.declared.fault.Refused.{Refused}
 use Rattle.lens_types.specs.declared.fault.Refused.TheVariants as refused
 use Rattle.lens_types.proofs.Parts.{neither, unrefused}
@@ -65,13 +66,17 @@ pub sort-drop : (C : Lens) (t : Sort) (n : ℕ) (A : Name) (X : Names) (a : Valu
 unfolding sort
 sort-drop C t n A X a k = ap (λ r. and_then r (λ s. projection (suc (nodes_of C)) s A X a)) k.sort ∙ ap (λ m. projection m t A X a) (next n (nodes_of C) k.size)
 
--- that of two lenses joined
-pub sort-join : (A B : Lens) (s t : Sort) (n : ℕ) → sort A ≡ Ok s → sort B ≡ Ok t → n ≡ nodes_of (join A B) → sort (join A B) ≡ natural_join n s t (shared_table (tables_of A) (tables_of B))
+pub sort-rename : (C : Lens) (t : Sort) (n : ℕ) (A B : Name) → IsKept C t n → sort (rename A B C) ≡ renaming (n + 1) t A B
 unfolding sort
-sort-join A B s t n a b size =
+sort-rename C t n A B k = ap (λ r. and_then r (λ s. renaming (suc (nodes_of C)) s A B)) k.sort ∙ ap (λ m. renaming m t A B) (next n (nodes_of C) k.size)
+
+-- that of two lenses joined
+pub sort-join : (kind : JoinKind) (A B : Lens) (s t : Sort) (n : ℕ) → sort A ≡ Ok s → sort B ≡ Ok t → n ≡ nodes_of (join kind A B) → sort (join kind A B) ≡ natural_join n s t (shared_table (tables_of A) (tables_of B))
+unfolding sort
+sort-join kind A B s t n a b size =
     let twice = shared_table (tables_of A) (tables_of B) in
-    ap (λ r. and_then r (λ x. and_then (sort B) (λ y. natural_join (nodes_of (join A B)) x y twice))) a
-    ∙ ap (λ r. and_then r (λ y. natural_join (nodes_of (join A B)) s y twice)) b
+    ap (λ r. and_then r (λ x. and_then (sort B) (λ y. natural_join (nodes_of (join kind A B)) x y twice))) a
+    ∙ ap (λ r. and_then r (λ y. natural_join (nodes_of (join kind A B)) s y twice)) b
     ∙ ap (λ m. natural_join m s t twice) (sym size)
 
 unless : (n : ℕ) (r : Refusal) → when (not (nat_le n 64)) r ≡ None → n ≤ 64
@@ -88,7 +93,7 @@ few_selected : (n : ℕ) (s x : Sort) (P : Predicate) → selection n s P ≡ Ok
 few_selected n s x P e =
     let a = neither (option_map refusal.unknown_column (unknown_name s.columns P)) _ (unrefused (select_fault n s P) (select_sort s P) x e).0 in
     let b = neither (option_map refusal.predicate_kind (unlike_kinds s.columns P)) _ a.1 in
-    let c = neither (option_map refusal.source_mentions_output (least_mentioned s.predicate (outputs s.tree))) _ b.1 in
+    let c = neither (option_map refusal.source_mentions_output (unsteady s.predicate s.tree)) _ b.1 in
     few n (select_sort s P) c.1
 
 few_projected : (n : ℕ) (s x : Sort) (A : Name) (X : Names) (a : Value) → projection n s A X a ≡ Ok x → n ≤ 64
@@ -100,6 +105,12 @@ few_projected n s x A X v e =
     let f = neither (option_map refusal.mixed_conjunct (first_mixed A s.predicate)) _ d.1 in
     let g = neither (when (not (default_holds A v s.predicate)) _) _ f.1 in
     few n (drop_sort s A) g.1
+
+few_renamed : (n : ℕ) (s x : Sort) (A B : Name) → renaming n s A B ≡ Ok x → n ≤ 64
+few_renamed n s x A B e =
+    let a = neither (when (not (is_column s.columns A)) _) _ (unrefused (rename_fault n s A B) (rename_sort s A B) x e).0 in
+    let b = neither (too_much n s) _ a.1 in
+    few n s b.0
 
 -- the sort of a selection of it is kept
 pub select_kept : (C : Lens) (t s : Sort) (n : ℕ) (P : Predicate) → IsKept C t n → selection (n + 1) t P ≡ Ok s → IsKept (select P C) s (n + 1)
@@ -119,23 +130,32 @@ drop_kept C t s n A X a k e = record {
   few = few_projected (n + 1) t s A X a e;
 }
 
+-- and that of a rename of it
+pub rename_kept : (C : Lens) (t s : Sort) (n : ℕ) (A B : Name) → IsKept C t n → renaming (n + 1) t A B ≡ Ok s → IsKept (rename A B C) s (n + 1)
+rename_kept C t s n A B k e = record {
+  sort = sort-rename C t n A B k ∙ e;
+  sound = k.sound;
+  size = sym (next n (nodes_of C) k.size);
+  few = few_renamed (n + 1) t s A B e;
+}
+
 few_joined : (n : ℕ) (s t x : Sort) (twice : Option Name) → natural_join n s t twice ≡ Ok x → n ≤ 64
 few_joined n s t x twice e =
     let a = neither (option_map refusal.kind_clash (kinds_differ s.columns t.columns)) _ (unrefused (join_fault n s t twice) (join_sort s t) x e).0 in
     let b = neither (form_fault (tree_of (s.tree ++ t.tree))) _ a.1 in
     let c = neither (option_map refusal.not_determined (undetermined s t)) _ b.1 in
-    let d = neither (option_map (refusal.side_mentions_output refusal.left_side) (least_mentioned s.predicate (outputs s.tree))) _ c.1 in
-    let f = neither (option_map (refusal.side_mentions_output refusal.right_side) (least_mentioned t.predicate (outputs t.tree))) _ d.1 in
+    let d = neither (option_map (refusal.side_mentions_output refusal.left_side) (unsteady s.predicate s.tree)) _ c.1 in
+    let f = neither (option_map (refusal.side_mentions_output refusal.right_side) (unsteady t.predicate t.tree)) _ d.1 in
     let g = neither (option_map refusal.table_twice twice) _ f.1 in
     few n (join_sort s t) g.1
 
 -- and that of a join of two lenses
-pub join_kept : (A B : Lens) (s t x : Sort) (n : ℕ) → sort A ≡ Ok s → sort B ≡ Ok t → IsTyped A → IsTyped B → n ≡ nodes_of (join A B) → sort (join A B) ≡ Ok x → IsKept (join A B) x n
-join_kept A B s t x n a b left right size e = record {
+pub join_kept : (kind : JoinKind) (A B : Lens) (s t x : Sort) (n : ℕ) → sort A ≡ Ok s → sort B ≡ Ok t → IsTyped A → IsTyped B → n ≡ nodes_of (join kind A B) → sort (join kind A B) ≡ Ok x → IsKept (join kind A B) x n
+join_kept kind A B s t x n a b left right size e = record {
   sort = e;
   sound = (bases_are_sound A left, bases_are_sound B right);
   size = size;
-  few = few_joined n s t x (shared_table (tables_of A) (tables_of B)) (sym (sort-join A B s t n a b size) ∙ e);
+  few = few_joined n s t x (shared_table (tables_of A) (tables_of B)) (sym (sort-join kind A B s t n a b size) ∙ e);
 }
 
 -- what holds of a sort that is decided

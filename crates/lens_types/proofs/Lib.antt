@@ -5,5 +5,9 @@ pub mod Drops
 pub mod Parts
 pub mod Selections
 pub mod Projections
+pub mod Renamings
+pub mod RenamedRows
 pub mod Joins
 pub mod KeptLenses
+pub mod SteadyConjuncts
+pub mod SmallSorts

@@ -4,9 +4,8 @@ use Rattle.std.specs.Prelude.{[], Option, Some, None, option_map, Ok, Err}
 use Rattle.lens_specs.specs.Names.{Name}
 use Rattle.lens_specs.specs.Lens.{base, select, select_sort}
 use Rattle.lens_specs.specs.Predicate.{Predicate}
-use Rattle.lens_specs.specs.Refusal.{Refusal, source_mentions_output, or_else, unknown_name, unlike_kinds, least_mentioned, too_much}
+use Rattle.lens_specs.specs.Refusal.{Refusal, source_mentions_output, or_else, unknown_name, unlike_kinds, unsteady, too_much}
 use Rattle.lens_specs.specs.Sort.{Sort}
-use Rattle.lens_specs.specs.TreeForm.{outputs}
 use Rattle.lens_specs.specs.Typing.{sort, select_fault, unless_refused}
 use Rattle.lens_laws.specs.Passes.{IsSound}
 use Rattle.lens_laws.proofs.NodeLaws.{sound}
@@ -26,33 +25,33 @@ pub pred_refused : (n : ℕ) (s : Sort) (P : Predicate) (fault : PredFault) → 
 pred_refused n s P fault e = by_names (unknown_name s.columns P) (unlike_kinds s.columns P) fault e
   where
     by_names : (a b : Option Name) (fault : PredFault) → fault_first a b ≡ Err fault
-        → IsRefused (of_pred fault) tt (unless_refused (or_else (option_map Refusal.unknown_column a) (or_else (option_map Refusal.predicate_kind b) (or_else (option_map source_mentions_output (least_mentioned s.predicate (outputs s.tree))) (too_much n (select_sort s P))))) (select_sort s P))
+        → IsRefused (of_pred fault) tt (unless_refused (or_else (option_map Refusal.unknown_column a) (or_else (option_map Refusal.predicate_kind b) (or_else (option_map source_mentions_output (unsteady s.predicate s.tree)) (too_much n (select_sort s P))))) (select_sort s P))
     by_names (Some m) b fault e = (let is : fault ≡ pred_fault.UnknownColumn m = cc in rw is (refl, refl))
     by_names None (Some m) fault e = (let is : fault ≡ pred_fault.PredKind m = cc in rw is (refl, refl))
     by_names None None fault e = cc
 
--- what suits them is refused for what the source's predicate mentions, and for its size
+-- what suits them is refused for a conjunct of the source that is not steady, and for its size
 suited : (n : ℕ) (s : Sort) (P : Predicate) → checked s.columns P ≡ Ok tt
-    → selection n s P ≡ unless_refused (or_else (option_map source_mentions_output (least_mentioned s.predicate (outputs s.tree))) (too_much n (select_sort s P))) (select_sort s P)
+    → selection n s P ≡ unless_refused (or_else (option_map source_mentions_output (unsteady s.predicate s.tree)) (too_much n (select_sort s P))) (select_sort s P)
 suited n s P e = let w = passed (unknown_name s.columns P) (unlike_kinds s.columns P) e in rw (w.0, w.1) refl
 
-pub output_refused : (n : ℕ) (s : Sort) (P : Predicate) (col : Name) → checked s.columns P ≡ Ok tt → Some col ≡ least_mentioned s.predicate (outputs s.tree)
+pub output_refused : (n : ℕ) (s : Sort) (P : Predicate) (col : Name) → checked s.columns P ≡ Ok tt → Some col ≡ unsteady s.predicate s.tree
     → IsRefused (of_fault (type_fault.SourceMentionsOutput col)) tt (selection n s P)
 output_refused n s P col e is =
     (suited n s P e ∙ ap (λ o. unless_refused (or_else (option_map source_mentions_output o) (too_much n (select_sort s P))) (select_sort s P)) (sym is), refl)
 
--- the source's predicate mentions no output
-unmentioned : (n : ℕ) (s : Sort) (P Q : Predicate) → checked s.columns P ≡ Ok tt → None ≡ least_mentioned s.predicate (outputs s.tree) → Q ≡ s.predicate ++ P
+-- the source's conjuncts are steady
+unmentioned : (n : ℕ) (s : Sort) (P Q : Predicate) → checked s.columns P ≡ Ok tt → None ≡ unsteady s.predicate s.tree → Q ≡ s.predicate ++ P
     → selection n s P ≡ unless_refused (too_much n (sort_from s.columns Q s.tree)) (sort_from s.columns Q s.tree)
 unmentioned n s P Q e none is =
     suited n s P e ∙ ap (λ o. unless_refused (or_else (option_map source_mentions_output o) (too_much n (select_sort s P))) (select_sort s P)) (sym none)
     ∙ ap (λ R. unless_refused (too_much n (sort_from s.columns R s.tree)) (sort_from s.columns R s.tree)) (sym is)
 
-pub size_refused : (n : ℕ) (s : Sort) (P Q : Predicate) (fault : TypeFault) → checked s.columns P ≡ Ok tt → None ≡ least_mentioned s.predicate (outputs s.tree) → Q ≡ s.predicate ++ P
+pub size_refused : (n : ℕ) (s : Sort) (P Q : Predicate) (fault : TypeFault) → checked s.columns P ≡ Ok tt → None ≡ unsteady s.predicate s.tree → Q ≡ s.predicate ++ P
     → Some (fault_view fault) ≡ too_much n (sort_from s.columns Q s.tree) → IsRefused (of_fault fault) tt (selection n s P)
 size_refused n s P Q fault e none is large = (unmentioned n s P Q e none is ∙ ap (λ o. unless_refused o (sort_from s.columns Q s.tree)) (sym large), refl)
 
-pub selection_taken : (n : ℕ) (s : Sort) (P Q : Predicate) → checked s.columns P ≡ Ok tt → None ≡ least_mentioned s.predicate (outputs s.tree) → Q ≡ s.predicate ++ P
+pub selection_taken : (n : ℕ) (s : Sort) (P Q : Predicate) → checked s.columns P ≡ Ok tt → None ≡ unsteady s.predicate s.tree → Q ≡ s.predicate ++ P
     → None ≡ too_much n (sort_from s.columns Q s.tree) → selection n s P ≡ Ok (sort_from s.columns Q s.tree)
 selection_taken n s P Q e none is few = unmentioned n s P Q e none is ∙ ap (λ o. unless_refused o (sort_from s.columns Q s.tree)) (sym few)
 
@@ -62,7 +61,7 @@ two_nodes : (n : ℕ) (s : Sort) (P : Predicate) → select_fault n s P ≡ None
 two_nodes n s P e =
     or_last (option_map Refusal.unknown_column (unknown_name s.columns P)) _ _
     (or_last (option_map Refusal.predicate_kind (unlike_kinds s.columns P)) _ _
-    (or_last (option_map source_mentions_output (least_mentioned s.predicate (outputs s.tree))) _ _ (few_in_two n (select_sort s P)))) e
+    (or_last (option_map source_mentions_output (unsteady s.predicate s.tree)) _ _ (few_in_two n (select_sort s P)))) e
 
 selected : (s : Sort) (P : Predicate) → select_fault 2 s P ≡ None → sort (select P (base [] s)) ≡ Ok (select_sort s P)
 unfolding sort

@@ -15,7 +15,7 @@ use Rattle.lens_types.specs.declared.fault.SizeLimit.TheVariants.{Columns, Lens,
 use Rattle.lens_types.specs.declared.fault.Side.{Side}
 use Rattle.lens_types.specs.declared.fault.Side.TheVariants.{Left, Right}
 use Rattle.lens_types.specs.declared.fault.TypeFault.{TypeFault}
-use Rattle.lens_types.specs.declared.fault.TypeFault.TheVariants.{UnknownColumn, KindClash, NotTree, PredKind, SourceMentionsOutput, NoSuchDependency, MixedConjunct, DefaultRefused, NotDetermined, SideMentionsOutput, TableTwice, TooLarge}
+use Rattle.lens_types.specs.declared.fault.TypeFault.TheVariants.{UnknownColumn, KindClash, NotTree, PredKind, SourceMentionsOutput, NoSuchDependency, MixedConjunct, DefaultRefused, NotDetermined, SideMentionsOutput, TableTwice, TooLarge, ColumnTaken}
 use Rattle.lens_types.specs.declared.fault.Refused.{Refused}
 use Rattle.lens_types.specs.declared.fault.Refused.TheVariants.{Rule, NoMemory}
 
@@ -44,6 +44,7 @@ fault_view (NotDetermined col) = refusal.not_determined col
 fault_view (SideMentionsOutput side col) = refusal.side_mentions_output (side_view side) col
 fault_view (TableTwice name) = refusal.table_twice name
 fault_view (TooLarge what) = refusal.too_large (limit_view what)
+fault_view (ColumnTaken name) = refusal.column_taken name
 
 -- ---- what a call answers
 

@@ -2,9 +2,8 @@
 use Rattle.std.specs.Prelude.{Option, Some, None, option_map, Result, Ok, Err}
 use Rattle.lens_specs.specs.Columns.{Columns, both_columns, kinds_differ}
 use Rattle.lens_specs.specs.Names.{Name}
-use Rattle.lens_specs.specs.Refusal.{Refusal, left_side, right_side, kind_clash, not_determined, side_mentions_output, table_twice, or_else, least_mentioned}
+use Rattle.lens_specs.specs.Refusal.{Refusal, left_side, right_side, kind_clash, not_determined, side_mentions_output, table_twice, or_else, unsteady}
 use Rattle.lens_specs.specs.Sort.{Sort}
-use Rattle.lens_specs.specs.TreeForm.{outputs}
 use Rattle.lens_specs.specs.Typing.{undetermined}
 
 -- the columns of both, unless a shared one has two kinds
@@ -16,15 +15,11 @@ columns_from None U V = Ok (both_columns U V)
 abbrev pub joined_columns : Columns → Columns → Result Columns Refusal
 joined_columns U V = columns_from (kinds_differ U V) U V
 
--- the least output of the sort's tree that its predicate mentions
-abbrev pub mentioned_output : Sort → Option Name
-mentioned_output s = least_mentioned s.predicate (outputs s.tree)
-
--- a side whose predicate mentions an output, the left one first, or a table that both have
+-- a side with a conjunct that is not steady, the left one first, or a table that both have
 abbrev pub mention_fault : Sort → Sort → Option Name → Option Refusal
 mention_fault s t twice =
-    or_else (option_map (side_mentions_output left_side) (mentioned_output s))
-    (or_else (option_map (side_mentions_output right_side) (mentioned_output t))
+    or_else (option_map (side_mentions_output left_side) (unsteady s.predicate s.tree))
+    (or_else (option_map (side_mentions_output right_side) (unsteady t.predicate t.tree))
     (option_map table_twice twice))
 
 -- a right column that is not determined, or one of these

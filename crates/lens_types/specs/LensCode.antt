@@ -1,28 +1,31 @@
 -- How a lens is stored: as a list of its nodes, each before its sources, from which it can be read back.
-use Rattle.std.specs.Prelude.{◌≡◌, ℕ, List, [], ◌∷◌, ◌++◌, ◌⊎◌, refl}
+use Rattle.std.specs.Prelude.{◌≡◌, List, [], ◌∷◌, ◌++◌, ◌⊎◌, refl}
 use Rattle.std.proofs.Common.{sym, ap, ◌∙◌, append_assoc, append-nil, inl, inr}
 use Rattle.std.specs.Coded.{Coded, code_by, coded_ℕ, coded_list, coded×, coded⊎}
 use Rattle.std.specs.FinMap as map
 use Rattle.lens_values.specs.contracts.value.Value as contract
 use Rattle.lens_values.specs.declared.value.Value.{Value}
+use Rattle.lens_values.specs.declared.join_kind.JoinKind.{JoinKind}
+use Rattle.lens_values.specs.contracts.join_kind.JoinKind as kinds
 use Rattle.lens_specs.specs.Names.{Name, Names}
 use Rattle.lens_specs.specs.Predicate.{Predicate}
 use Rattle.lens_specs.specs.Sort.{Sort}
-use Rattle.lens_specs.specs.Lens.{Lens, base, select, drop, join}
+use Rattle.lens_specs.specs.Lens.{Lens, base, select, drop, rename, join}
 use Rattle.lens_pred.specs.Code.{formula_code}
 use Rattle.fd_closure.specs.Sides.{coded_names}
 use Rattle.lens_types.specs.SortCode.{sort_code}
 
--- a table and its sort, a predicate, a column with what determines it and what fills it, or a join
+-- a table and its sort, a predicate, a column with what determines it and what fills it, a column with its new name, or the kind of a join
 abbrev pub Node : Type 0
-Node = (Name × Sort) ⊎ (Predicate ⊎ ((Name × (Names × Value)) ⊎ ℕ))
+Node = (Name × Sort) ⊎ (Predicate ⊎ ((Name × (Names × Value)) ⊎ ((Name × Name) ⊎ JoinKind)))
 
 -- the nodes of a lens
 abbrev pub nodes : Lens → List Node
 nodes (base t s) = inl (t, s) ∷ []
 nodes (select P C) = inr (inl P) ∷ nodes C
 nodes (drop A X a C) = inr (inr (inl (A, (X, a)))) ∷ nodes C
-nodes (join A B) = inr (inr (inr 0)) ∷ (nodes A ++ nodes B)
+nodes (rename A B C) = inr (inr (inr (inl (A, B)))) ∷ nodes C
+nodes (join k A B) = inr (inr (inr (inr k))) ∷ (nodes A ++ nodes B)
 
 -- ---- reading them back, from the last on: each node takes its sources from the lenses that were read
 
@@ -36,18 +39,24 @@ abbrev pub dropped : Name → Names → Value → List Lens → List Lens
 dropped A X a [] = []
 dropped A X a (C ∷ Ls) = drop A X a C ∷ Ls
 
+-- the first lens, with a column renamed
+abbrev pub renamed_first : Name → Name → List Lens → List Lens
+renamed_first A B [] = []
+renamed_first A B (C ∷ Ls) = rename A B C ∷ Ls
+
 -- the first two lenses, joined
-abbrev pub joined : List Lens → List Lens
-joined [] = []
-joined (A ∷ []) = []
-joined (A ∷ (B ∷ Ls)) = join A B ∷ Ls
+abbrev pub joined : JoinKind → List Lens → List Lens
+joined k [] = []
+joined k (A ∷ []) = []
+joined k (A ∷ (B ∷ Ls)) = join k A B ∷ Ls
 
 -- what a node makes of the lenses behind it
 abbrev pub with_node : Node → List Lens → List Lens
 with_node (inl n) Ls = base n.0 n.1 ∷ Ls
 with_node (inr (inl P)) Ls = selected P Ls
 with_node (inr (inr (inl n))) Ls = dropped n.0 n.1.0 n.1.1 Ls
-with_node (inr (inr (inr k))) Ls = joined Ls
+with_node (inr (inr (inr (inl n)))) Ls = renamed_first n.0 n.1 Ls
+with_node (inr (inr (inr (inr k)))) Ls = joined k Ls
 
 -- the lenses of the nodes
 abbrev pub lenses_read : List Node → List Lens
@@ -59,8 +68,9 @@ pub read-nodes : (L : Lens) (ns : List Node) → lenses_read (nodes L ++ ns) ≡
 read-nodes (base t s) ns = refl
 read-nodes (select P C) ns = ap (selected P) (read-nodes C ns)
 read-nodes (drop A X a C) ns = ap (dropped A X a) (read-nodes C ns)
-read-nodes (join A B) ns =
-    ap joined (ap lenses_read (append_assoc (nodes A) (nodes B) ns) ∙ read-nodes A (nodes B ++ ns) ∙ ap (λ Ls. A ∷ Ls) (read-nodes B ns))
+read-nodes (rename A B C) ns = ap (renamed_first A B) (read-nodes C ns)
+read-nodes (join k A B) ns =
+    ap (joined k) (ap lenses_read (append_assoc (nodes A) (nodes B) ns) ∙ read-nodes A (nodes B ++ ns) ∙ ap (λ Ls. A ∷ Ls) (read-nodes B ns))
 
 -- a lens of no table, which stands where there is none
 abbrev pub first_of : List Lens → Lens
@@ -73,7 +83,7 @@ first_of-nodes L = ap (λ ns. first_of (lenses_read ns)) (sym (append-nil (nodes
 
 -- a node is stored as its parts
 abbrev pub node_code : Coded Node
-node_code = coded⊎ (coded× (coded_list coded_ℕ) sort_code) (coded⊎ (coded_list formula_code) (coded⊎ (coded× (coded_list coded_ℕ) (coded× coded_names contract.the_row.coded)) coded_ℕ))
+node_code = coded⊎ (coded× (coded_list coded_ℕ) sort_code) (coded⊎ (coded_list formula_code) (coded⊎ (coded× (coded_list coded_ℕ) (coded× coded_names contract.the_row.coded)) (coded⊎ (coded× (coded_list coded_ℕ) (coded_list coded_ℕ)) kinds.the_row.coded)))
 
 -- a lens is stored as its nodes
 abbrev pub lens_code : Coded Lens

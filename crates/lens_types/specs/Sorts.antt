@@ -1,4 +1,4 @@
--- A sort and its parts, and the sorts of a selection, of a projection and of a join.
+-- A sort and its parts, and the sorts of a selection, of a projection, of a rename and of a join.
 use Rattle.std.specs.Prelude.{ℕ, List, Option, Result}
 use Rattle.lens_values.specs.declared.value.Value.{Value}
 use Rattle.lens_specs.specs.Columns.{Columns}
@@ -6,9 +6,9 @@ use Rattle.lens_specs.specs.Dependencies.{Edge}
 use Rattle.lens_specs.specs.Names.{Name, Names}
 use Rattle.lens_specs.specs.Predicate.{Predicate}
 use Rattle.lens_specs.specs.Sort.{Sort}
-use Rattle.lens_specs.specs.Lens.{select_sort, drop_sort, join_sort}
+use Rattle.lens_specs.specs.Lens.{select_sort, drop_sort, rename_sort, join_sort}
 use Rattle.lens_specs.specs.Refusal.{Refusal}
-use Rattle.lens_specs.specs.Typing.{select_fault, drop_fault, join_fault, unless_refused}
+use Rattle.lens_specs.specs.Typing.{select_fault, drop_fault, rename_fault, join_fault, unless_refused}
 
 -- the sort of these parts
 abbrev pub sort_from : Columns → Predicate → List Edge → Sort
@@ -21,6 +21,10 @@ selection nodes s P = unless_refused (select_fault nodes s P) (select_sort s P)
 -- the sort without A, which X determines and a fills, in a lens of so many nodes, or its first refusal
 abbrev pub projection : ℕ → Sort → Name → Names → Value → Result Sort Refusal
 projection nodes s A X a = unless_refused (drop_fault nodes s A X a) (drop_sort s A)
+
+-- the sort with B for A, in a lens of so many nodes, or its first refusal
+abbrev pub renaming : ℕ → Sort → Name → Name → Result Sort Refusal
+renaming nodes s A B = unless_refused (rename_fault nodes s A B) (rename_sort s A B)
 
 -- the sort of the join of both, over which a table may be twice, in a lens of so many nodes, or its first refusal
 abbrev pub natural_join : ℕ → Sort → Sort → Option Name → Result Sort Refusal

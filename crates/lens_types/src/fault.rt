@@ -78,10 +78,11 @@ pub enum TypeFault {
         /// The column.
         name: Name,
     },
-    /// The predicate of the selected source mentions a column that a dependency writes.
-    #[error("the source's predicate mentions {}, which a dependency writes", .col.as_str())]
+    /// A conjunct of the selected source is not steady: it mentions a column that a dependency
+    /// writes, and not the right side of one dependency alone.
+    #[error("a conjunct of the source mentions {} and is not steady", .col.as_str())]
     SourceMentionsOutput {
-        /// The column.
+        /// The least such column.
         col: Name,
     },
     /// The named columns do not determine the dropped column, or that column determines others.
@@ -105,12 +106,13 @@ pub enum TypeFault {
         /// The least such column.
         col: Name,
     },
-    /// The predicate of a side of a join mentions a column that a dependency writes.
-    #[error("the {} side's predicate mentions the output {}", .side.word(), .col.as_str())]
+    /// A conjunct of a side of a join is not steady: it mentions a column that a dependency
+    /// writes, and not the right side of one dependency alone.
+    #[error("a conjunct of the {} side mentions {} and is not steady", .side.word(), .col.as_str())]
     SideMentionsOutput {
         /// The side.
         side: Side,
-        /// The column.
+        /// The least such column.
         col: Name,
     },
     /// Both sides of a join are over the table.
@@ -124,6 +126,12 @@ pub enum TypeFault {
     TooLarge {
         /// The limit.
         what: SizeLimit,
+    },
+    /// A column has the new name already.
+    #[error("there is a column {} already", .name.as_str())]
+    ColumnTaken {
+        /// The new name.
+        name: Name,
     },
 }
 

@@ -1,17 +1,19 @@
 //! Tests of a join: the kinds of the shared columns, the tree of both sides, what the shared
 //! columns determine, what each side's predicate mentions, and the tables.
-ghost use Rattle.std.specs.Prelude.{◌≡◌, IfOk, find, not, option_copied, option_map};
+ghost use Rattle.std.specs.Prelude.{◌≡◌, ◌≤◌, IfOk, find, not, option_copied, option_map};
+ghost use Rattle.std.specs.FinMap as finmap;
 ghost use Rattle.lens_values.specs.SortedSet as set;
 ghost use Rattle.lens_specs.specs.Columns.{least_outside};
 ghost use Rattle.lens_specs.specs.Typing.{undetermined};
 ghost use Rattle.lens_laws.specs.Passes.{IsSound};
 ghost use Rattle.lens_types.specs.Faults.{Decides, fault_view};
-ghost use Rattle.lens_types.specs.Joins.{joined_columns, mention_fault, mentioned_output, sides_fault};
+ghost use Rattle.lens_types.specs.Joins.{joined_columns, mention_fault, sides_fault};
 ghost use Rattle.lens_types.specs.Sorts.{sort_from, natural_join};
 
 use crate::fault::{Refused, Side, TypeFault};
 use crate::sizes::size_fault;
 use crate::sort::Sort;
+use crate::steadiness::unsteady;
 use fd_tree::Tree;
 use lens_pred::Pred;
 use lens_values::{Columns, Name, Names, NoMemory};
@@ -29,6 +31,7 @@ pub fn joined_parts(
     ensures sort { Decides (λ p. sort_from p.0 p.1 p.2) result tt
         (natural_join nodes left.now right.now twice) }
     ensures sound { IfOk result (λ p. IsSound (sort_from p.0 p.1 p.2)) }
+    ensures small { IfOk result (λ p. finmap.len p.0 ≤ 64) }
 {
     let cols = joined_columns(alloc, left.cols(), right.cols())?;
     let tree = left.tree().join(alloc, right.tree())?;
@@ -61,7 +64,7 @@ fn sides_fault(
 {
     match undetermined(alloc, left, right)? {
         Some(col) => Ok(Some(TypeFault::NotDetermined { col })),
-        None => Ok(mention_fault(left, right, twice)),
+        None => mention_fault(alloc, left, right, twice),
     }
 }
 
@@ -89,25 +92,23 @@ fn first_outside<'a>(names: &'a [Name], others: &Names) -> Option<&'a Name>
     names.iter().find(|name| !others.has(name))
 }
 
-/// The fault of a side whose predicate mentions a column that a dependency writes, or of a table
-/// under both sides.
-fn mention_fault(left: &Sort, right: &Sort, twice: Option<Name>) -> Option<TypeFault>
-    ensures { option_map fault_view result ≡ mention_fault left.now right.now twice }
+/// The fault of a side with a conjunct that is not steady, or of a table under both sides.
+fn mention_fault(
+    alloc: Global,
+    left: &Sort,
+    right: &Sort,
+    twice: Option<Name>,
+) -> Result<Option<TypeFault>, NoMemory>
+    ensures { IfOk result (λ fault.
+        option_map fault_view fault ≡ mention_fault left.now right.now twice) }
 {
-    if let Some(col) = mentioned_output(left) {
+    if let Some(col) = unsteady(alloc, left.pred(), left.tree())? {
         let side = Side::Left;
-        return Some(TypeFault::SideMentionsOutput { side, col });
+        return Ok(Some(TypeFault::SideMentionsOutput { side, col }));
     }
-    if let Some(col) = mentioned_output(right) {
+    if let Some(col) = unsteady(alloc, right.pred(), right.tree())? {
         let side = Side::Right;
-        return Some(TypeFault::SideMentionsOutput { side, col });
+        return Ok(Some(TypeFault::SideMentionsOutput { side, col }));
     }
-    twice.map(|name| TypeFault::TableTwice { name })
-}
-
-/// The least column that the predicate mentions and a dependency writes.
-fn mentioned_output(sort: &Sort) -> Option<Name>
-    ensures { result ≡ mentioned_output sort.now }
-{
-    sort.pred().mentions_any(sort.tree().outputs())
+    Ok(twice.map(|name| TypeFault::TableTwice { name }))
 }

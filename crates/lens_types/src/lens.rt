@@ -1,6 +1,7 @@
 //! Lenses to which the rules give a sort.
-ghost use Rattle.std.specs.Prelude.{◌≡◌, ◌≤◌, IfOk, Ok, find, option_copied};
-ghost use Rattle.lens_values.specs.SortedSet as set;
+ghost use Rattle.std.specs.Prelude.{◌≡◌, ◌≤◌, IfOk, Ok};
+ghost use Rattle.lens_values.specs.declared.join_kind.JoinKind.{JoinKind as Kinds};
+ghost use Rattle.lens_values.specs.declared.join_kind.JoinKind.TheVariants.{DeleteLeft};
 ghost use Rattle.lens_specs.specs.Lens as spec;
 ghost use Rattle.lens_specs.specs.Lens.{nodes_of, tables_of};
 ghost use Rattle.lens_specs.specs.Typing.{shared_table, sort as sort_given};
@@ -9,10 +10,11 @@ ghost use Rattle.lens_types.specs.Faults.{Decides};
 ghost use Rattle.lens_types.specs.Kept.{IsKept, IsLens};
 ghost use Rattle.lens_types.specs.Lenses.{kept_sort, lens_view};
 
+use crate::among::first_among;
 use crate::fault::Refused;
 use crate::sort::Sort;
 use lens_pred::Pred;
-use lens_values::{Name, Names, NoMemory, Value};
+use lens_values::{JoinKind, Name, Names, NoMemory, Value};
 use std::alloc::Global;
 use std::marker::Model;
 
@@ -49,9 +51,22 @@ pub enum Lens {
         /// The sort of the rows.
         sort: Sort,
     },
-    /// The rows of the natural join of two lenses. A put deletes rows of the left one alone.
+    /// The rows of a lens with a new name for one column.
+    Rename {
+        /// The column.
+        col: Name,
+        /// Its new name.
+        to: Name,
+        /// The lens whose column is renamed.
+        of: Box<TypedLens>,
+        /// The sort of the rows.
+        sort: Sort,
+    },
+    /// The rows of the natural join of two lenses.
     Join {
-        /// The lens whose rows a put may delete.
+        /// On which side a put deletes rows.
+        kind: JoinKind,
+        /// The left lens.
         left: Box<TypedLens>,
         /// The lens of which the shared columns determine the row.
         right: Box<TypedLens>,
@@ -121,6 +136,7 @@ impl TypedLens {
             Lens::Base { sort, .. }
             | Lens::Select { sort, .. }
             | Lens::Drop { sort, .. }
+            | Lens::Rename { sort, .. }
             | Lens::Join { sort, .. } => sort,
         }
     }
@@ -140,7 +156,9 @@ impl TypedLens {
     {
         match &self.lens {
             Lens::Base { table, .. } => Names::single(alloc, table),
-            Lens::Select { of, .. } | Lens::Drop { of, .. } => of.tables(alloc),
+            Lens::Select { of, .. } | Lens::Drop { of, .. } | Lens::Rename { of, .. } => {
+                of.tables(alloc)
+            }
             Lens::Join { left, right, .. } => {
                 left.tables(alloc)?.union(alloc, &right.tables(alloc)?)
             }
@@ -192,14 +210,31 @@ impl TypedLens {
         Ok(TypedLens { lens, nodes })
     }
 
-    /// The rows of the natural join. A put deletes rows of this lens alone, whose tables the right
-    /// one may not be over, and the shared columns determine the right row.
-    pub fn join_dl(
+    /// The rows with the new name `to` for the column.
+    pub fn rename(self, alloc: Global, col: Name, to: Name) -> Result<TypedLens, Refused<TypedLens>>
+        ensures { IsLens result self (spec.rename col to self) }
+    {
+        let nodes = self.nodes() + 1;
+        let sort = match self.sort().renamed(alloc, nodes, &col, &to) {
+            Ok(sort) => sort,
+            Err(why) => return Err(why.with(self)),
+        };
+        let Ok(of) = boxed(alloc, self) else {
+            return Err(Refused::NoMemory);
+        };
+        let lens = Lens::Rename { col, to, of, sort };
+        Ok(TypedLens { lens, nodes })
+    }
+
+    /// The rows of the natural join. The right lens may be over none of this one's tables, and the
+    /// shared columns determine the right row.
+    pub fn join(
         self,
         alloc: Global,
+        kind: JoinKind,
         right: TypedLens,
     ) -> Result<TypedLens, Refused<(TypedLens, TypedLens)>>
-        ensures { IsLens result (self, right) (spec.join self right) }
+        ensures { IsLens result (self, right) (spec.join kind self right) }
     {
         let nodes = self.nodes() + right.nodes() + 1;
         let sort = match joined_sort(alloc, &self, &right, nodes) {
@@ -212,8 +247,24 @@ impl TypedLens {
         let Ok(right) = boxed(alloc, right) else {
             return Err(Refused::NoMemory);
         };
-        let lens = Lens::Join { left, right, sort };
+        let lens = Lens::Join {
+            kind,
+            left,
+            right,
+            sort,
+        };
         Ok(TypedLens { lens, nodes })
+    }
+
+    /// The natural join of which a put deletes rows of this lens alone.
+    pub fn join_dl(
+        self,
+        alloc: Global,
+        right: TypedLens,
+    ) -> Result<TypedLens, Refused<(TypedLens, TypedLens)>>
+        ensures { IsLens result (self, right) (spec.join DeleteLeft self right) }
+    {
+        self.join(alloc, JoinKind::DeleteLeft, right)
     }
 
     /// An equal lens.
@@ -258,7 +309,19 @@ impl Lens {
                 of: Box::new(alloc, of.copy(alloc)?)?,
                 sort: sort.copy(alloc)?,
             }),
-            Lens::Join { left, right, sort } => Ok(Lens::Join {
+            Lens::Rename { col, to, of, sort } => Ok(Lens::Rename {
+                col: *col,
+                to: *to,
+                of: Box::new(alloc, of.copy(alloc)?)?,
+                sort: sort.copy(alloc)?,
+            }),
+            Lens::Join {
+                kind,
+                left,
+                right,
+                sort,
+            } => Ok(Lens::Join {
+                kind: *kind,
                 left: Box::new(alloc, left.copy(alloc)?)?,
                 right: Box::new(alloc, right.copy(alloc)?)?,
                 sort: sort.copy(alloc)?,
@@ -274,9 +337,11 @@ fn joined_sort(
     right: &TypedLens,
     nodes: usize,
 ) -> Result<Sort, Refused<()>>
-    requires { nodes ≡ nodes_of (spec.join left.now right.now) }
-    ensures sort { Decides (λ s. s) result tt (sort_given (spec.join left.now right.now)) }
-    ensures kept { IfOk result (λ s. IsKept (spec.join left.now right.now) s nodes) }
+    requires { (kind : Kinds) → nodes ≡ nodes_of (spec.join kind left.now right.now) }
+    ensures sort { (kind : Kinds)
+        → Decides (λ s. s) result tt (sort_given (spec.join kind left.now right.now)) }
+    ensures kept { (kind : Kinds)
+        → IfOk result (λ s. IsKept (spec.join kind left.now right.now) s nodes) }
 {
     let twice = shared_table(alloc, left, right)?;
     left.sort().joined(alloc, nodes, right.sort(), twice)
@@ -293,13 +358,6 @@ fn shared_table(
     let tables = left.tables(alloc)?;
     let others = right.tables(alloc)?;
     Ok(first_among(tables.as_slice(), &others).copied())
-}
-
-// The first of the names that is among the others.
-fn first_among<'a>(names: &'a [Name], others: &Names) -> Option<&'a Name>
-    ensures { option_copied result ≡ find (set.contains others.now) names.now }
-{
-    names.iter().find(|name| others.has(name))
 }
 
 // The lens in a box.

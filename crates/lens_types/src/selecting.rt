@@ -5,6 +5,7 @@ ghost use Rattle.lens_types.specs.Sorts.{sort_from, selection};
 use crate::fault::{Refused, TypeFault};
 use crate::sizes::size_fault;
 use crate::sort::Sort;
+use crate::steadiness::unsteady;
 use lens_pred::Pred;
 use std::alloc::Global;
 
@@ -20,7 +21,7 @@ pub fn selected_pred(
         (selection nodes source.now pred.now) }
 {
     pred.check(source.cols())?;
-    if let Some(col) = source.pred().mentions_any(source.tree().outputs()) {
+    if let Some(col) = unsteady(alloc, source.pred(), source.tree())? {
         return Err(Refused::from(TypeFault::SourceMentionsOutput { col }));
     }
     let both = source.pred().join(alloc, pred)?;

@@ -1,14 +1,16 @@
 //! The sort of a table or of a view: its columns, a predicate on its rows and a tree of
 //! dependencies.
-ghost use Rattle.std.specs.Prelude.{◌≡◌, IfOk};
+ghost use Rattle.std.specs.Prelude.{◌≡◌, ◌≤◌, IfOk};
+ghost use Rattle.std.specs.FinMap as finmap;
 ghost use Rattle.lens_specs.specs.Typing.{table_sort};
 ghost use Rattle.lens_laws.specs.Passes.{IsSound};
 ghost use Rattle.lens_types.specs.Faults.{Decides};
-ghost use Rattle.lens_types.specs.Sorts.{sort_from, selection, projection, natural_join};
+ghost use Rattle.lens_types.specs.Sorts.{sort_from, selection, projection, renaming, natural_join};
 
 use crate::dropping::dropped_parts;
 use crate::fault::{Refused, TypeFault};
 use crate::joining::joined_parts;
+use crate::renaming::renamed_parts;
 use crate::selecting::selected_pred;
 use crate::sizes::size_fault;
 use crate::unknowns::unknown_column;
@@ -19,8 +21,8 @@ use lens_values::{Columns, Name, Names, NoMemory, Value};
 use std::alloc::Global;
 use std::marker::Model;
 
-/// Columns, a predicate that holds on each row, and a tree of dependencies that the rows meet. The
-/// predicate and the tree name these columns alone.
+/// At most 64 columns, a predicate that holds on each row, and a tree of dependencies that the rows
+/// meet. The predicate and the tree name these columns alone.
 #[derive(Debug, Drop)]
 pub struct Sort {
     cols: Columns,
@@ -29,6 +31,8 @@ pub struct Sort {
 }
 
 impl Model for Sort {
+    ghost use Rattle.std.specs.Prelude.{◌≤◌};
+    ghost use Rattle.std.specs.FinMap as finmap;
     ghost use Rattle.lens_specs.specs.Sort as spec;
     ghost use Rattle.lens_laws.specs.Passes.{IsSound};
     ghost use Rattle.lens_types.specs.SortCode.{sort_code};
@@ -40,7 +44,8 @@ impl Model for Sort {
 
     ghost view = { λ s. sort_from s.cols s.pred s.tree };
 
-    ghost invariant = { λ s. IsSound (sort_from s.cols s.pred s.tree) };
+    ghost invariant = { λ s.
+        IsSound (sort_from s.cols s.pred s.tree) × (finmap.len s.cols ≤ 64) };
 }
 
 impl Sort {
@@ -64,6 +69,7 @@ impl Sort {
     pub fn cols(&self) -> &Columns
         ensures value { result.now ≡ self.now.columns }
         ensures sound { IsSound self.now }
+        ensures small { finmap.len self.now.columns ≤ 64 }
     {
         &self.cols
     }
@@ -80,6 +86,7 @@ impl Sort {
     pub fn tree(&self) -> &Tree
         ensures value { result.now ≡ self.now.tree }
         ensures sound { IsSound self.now }
+        ensures small { finmap.len self.now.columns ≤ 64 }
     {
         &self.tree
     }
@@ -115,6 +122,21 @@ impl Sort {
             pred,
             tree: self.tree().without(alloc, col)?,
         })
+    }
+
+    /// The sort with the new name `to` for the column, or the first refusal. The lens has `nodes`
+    /// nodes.
+    pub fn renamed(
+        &self,
+        alloc: Global,
+        nodes: usize,
+        col: &Name,
+        to: &Name,
+    ) -> Result<Sort, Refused<()>>
+        ensures { Decides (λ s. s) result tt (renaming nodes self.now col.now to.now) }
+    {
+        let (cols, pred, tree) = renamed_parts(alloc, self, nodes, col, to)?;
+        Ok(Sort { cols, pred, tree })
     }
 
     /// The sort of the natural join with rows of the other sort, or the first refusal. The lens has

@@ -8,6 +8,7 @@ pub mod NameLemmas
 pub mod NamesLemmas
 pub mod Parts
 pub mod Places
+pub mod Renamed
 pub mod Repeated
 pub mod SameRow
 pub mod Sets

@@ -1,6 +1,5 @@
 pub mod Bytes
 pub mod Columns
-pub mod Kept
 pub mod Keys
 pub mod Name
 pub mod NameBytes
@@ -15,5 +14,6 @@ pub mod RowOrder
 pub mod SortedMap
 pub mod SortedSet
 pub mod Text
+pub mod TextBytes
 pub mod Value
 pub mod ValueOrder

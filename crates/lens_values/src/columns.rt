@@ -125,11 +125,18 @@ impl Columns {
         kind_in(self.pairs(), name)
     }
 
-    /// The names of the columns.
+    /// The names of the columns, where they stand.
+    pub fn name_set(&self) -> &Names
+        ensures { result.now ≡ names self.now }
+    {
+        &self.listed.names
+    }
+
+    /// The names of the columns, as a set of its own.
     pub fn names(&self, alloc: Global) -> Result<Names, NoMemory>
         ensures { IfOk result (λ all. all ≡ names self.now) }
     {
-        self.listed.names.copy(alloc)
+        self.name_set().copy(alloc)
     }
 
     /// Whether each of these columns is among the others, with the same kind.
@@ -190,7 +197,7 @@ impl Columns {
         ensures { result ≡ is_kind (map.get self.now column.now.0) column.now.1 }
     {
         match self.kind(&column.0) {
-            Some(kind) => kind == column.1,
+            Some(kind) => kind.same(column.1),
             None => false,
         }
     }
@@ -200,7 +207,7 @@ impl Columns {
         ensures { result ≡ is_other_kind (map.get self.now column.now.0) column.now.1 }
     {
         match self.kind(&column.0) {
-            Some(kind) => kind != column.1,
+            Some(kind) => !column.1.same(kind),
             None => false,
         }
     }

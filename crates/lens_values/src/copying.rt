@@ -28,8 +28,8 @@ pub fn copied<T: TryClone + Drop>(alloc: Global, members: &[T]) -> Result<Vec<T>
     Ok(copies)
 }
 
-// Adds copies of the members at the end. After an `Err` some of them may be there.
-pub(crate) fn append<T: TryClone + Drop>(
+/// Adds copies of the members at the end. After an `Err` some of them may be there.
+pub fn append<T: TryClone + Drop>(
     list: &mut Vec<T>,
     alloc: Global,
     members: &[T],

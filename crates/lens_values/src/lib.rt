@@ -3,17 +3,20 @@
 
 pub mod columns;
 pub mod copying;
+pub mod join_kind;
 pub mod merging;
 pub mod name;
 pub mod names;
 mod pairs;
+mod renaming;
 pub mod row;
 pub mod sorting;
 pub mod text;
 pub mod value;
 
 pub use columns::{Columns, ColumnsFault};
-pub use copying::{TryClone, copied};
+pub use copying::{TryClone, append, copied};
+pub use join_kind::JoinKind;
 pub use merging::{Keyed, difference, intersection, union};
 pub use name::{BadName, Name};
 pub use names::Names;

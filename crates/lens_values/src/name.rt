@@ -93,7 +93,8 @@ impl Name {
         unsafe { str::from_utf8_unchecked(self.as_bytes()) }
     }
 
-    fn as_bytes(&self) -> &[u8]
+    /// The bytes of the name.
+    pub fn as_bytes(&self) -> &[u8]
         ensures value { result.now ≡ self.now }
         ensures name { IsTrue (spec.is_name self.now) }
     {

@@ -1,8 +1,10 @@
 //! A text value.
-ghost use Rattle.std.specs.Prelude.{◌≡◌, IfOk};
+ghost use Rattle.std.specs.Prelude.{◌≡◌, IfOk, IsTrue, IsUtf8};
+ghost use Rattle.lens_values.specs.Bytes.{is_text};
 ghost use Rattle.no_memory.specs.Gives.{Gives};
 ghost use Rattle.lens_values.specs.Text.{text_of};
 
+use crate::copying::TryClone;
 use arrayvec::ArrayString;
 use no_memory::NoMemory;
 use std::alloc::Global;
@@ -19,13 +21,13 @@ const SHORT: usize = 24;
 /// At most 4,096 bytes of UTF-8, without U+0000. A contract sees its bytes.
 #[derive(Debug, Drop)]
 pub struct Text {
-    kept: Kept,
+    bytes: TextBytes,
 }
 
 // Most texts are short. They lie where their value lies, so that a comparison goes to no other
 // place in memory. Copies of a long text share its bytes.
 #[derive(Debug)]
-enum Kept {
+enum TextBytes {
     Short(ArrayString<SHORT>),
     Long(Rc<String>),
 }
@@ -33,34 +35,34 @@ enum Kept {
 impl Model for Text {
     ghost use Rattle.std.specs.Prelude.{List, ℕ, IsTrue};
     ghost use Rattle.lens_values.specs.Bytes.{is_text};
-    ghost use Rattle.lens_values.specs.Kept.{bytes_of};
+    ghost use Rattle.lens_values.specs.TextBytes.{bytes_of};
 
     ghost Value = { List ℕ };
 
-    ghost view = { λ t. bytes_of t.kept };
+    ghost view = { λ t. bytes_of t.bytes };
 
-    ghost invariant = { λ t. IsTrue (is_text (bytes_of t.kept)) };
+    ghost invariant = { λ t. IsTrue (is_text (bytes_of t.bytes)) };
 }
 
 // By hand, so that to let a text go is one call, and no proof above has a case for each kind.
-impl Drop for Kept {
+impl Drop for TextBytes {
     fn drop(self) {
         match self {
-            Kept::Short(_) => (),
-            Kept::Long(long) => drop(long),
+            TextBytes::Short(_) => (),
+            TextBytes::Long(long) => drop(long),
         }
     }
 }
 
-impl Kept {
-    ghost use Rattle.lens_values.specs.Kept.{bytes_of};
+impl TextBytes {
+    ghost use Rattle.lens_values.specs.TextBytes.{bytes_of};
 
-    fn of(alloc: Global, s: &str) -> Result<Kept, NoMemory>
-        ensures { IfOk result (λ kept. bytes_of kept ≡ s.now) }
+    fn of(alloc: Global, s: &str) -> Result<TextBytes, NoMemory>
+        ensures { IfOk result (λ bytes. bytes_of bytes ≡ s.now) }
     {
         match ArrayString::from(s) {
-            Ok(short) => Ok(Kept::Short(short)),
-            Err(_) => Ok(Kept::Long(Rc::new(alloc, String::from_str(alloc, s)?)?)),
+            Ok(short) => Ok(TextBytes::Short(short)),
+            Err(_) => Ok(TextBytes::Long(Rc::new(alloc, String::from_str(alloc, s)?)?)),
         }
     }
 
@@ -68,17 +70,17 @@ impl Kept {
         ensures { result.now ≡ bytes_of self.now }
     {
         match self {
-            Kept::Short(short) => short.as_str(),
-            Kept::Long(long) => long.as_str(),
+            TextBytes::Short(short) => short.as_str(),
+            TextBytes::Long(long) => long.as_str(),
         }
     }
 
-    fn copy(&self) -> Result<Kept, NoMemory>
+    fn copy(&self) -> Result<TextBytes, NoMemory>
         ensures { IfOk result (λ copy. bytes_of copy ≡ bytes_of self.now) }
     {
         match self {
-            Kept::Short(short) => Ok(Kept::Short(*short)),
-            Kept::Long(long) => Ok(Kept::Long(long.clone()?)),
+            TextBytes::Short(short) => Ok(TextBytes::Short(*short)),
+            TextBytes::Long(long) => Ok(TextBytes::Long(long.clone()?)),
         }
     }
 }
@@ -118,7 +120,7 @@ impl Text {
             return Err(TextFault::HasNul);
         }
         Ok(Text {
-            kept: Kept::of(alloc, s)?,
+            bytes: TextBytes::of(alloc, s)?,
         })
     }
 
@@ -126,7 +128,16 @@ impl Text {
     pub fn as_str(&self) -> &str
         ensures { result.now ≡ self.now }
     {
-        self.kept.as_str()
+        self.bytes.as_str()
+    }
+
+    /// The bytes of the text.
+    pub fn as_bytes(&self) -> &[u8]
+        ensures value { result.now ≡ self.now }
+        ensures text { IsTrue (is_text self.now) }
+        ensures utf8 { IsUtf8 self.now }
+    {
+        self.bytes.as_str().as_bytes()
     }
 
     /// An equal text.
@@ -134,7 +145,7 @@ impl Text {
         ensures { IfOk result (λ copy. copy ≡ self.now) }
     {
         Ok(Text {
-            kept: self.kept.copy()?,
+            bytes: self.bytes.copy()?,
         })
     }
 }
@@ -188,5 +199,11 @@ impl Ord for Text {
 
     fn cmp(&self, other: &Text) -> Ordering {
         self.as_str().cmp(other.as_str())
+    }
+}
+
+impl TryClone for Text {
+    fn try_clone(&self, alloc: Global) -> Result<Text, NoMemory> {
+        self.copy(alloc)
     }
 }

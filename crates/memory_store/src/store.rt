@@ -6,7 +6,7 @@ ghost use Rattle.table_keeper.specs.Changes.{change_view, kept_view};
 ghost use Rattle.table_keeper.specs.Places.{Rise};
 
 use crate::row_trees::RowTrees;
-use lens_values::{Name, NoMemory, Text};
+use lens_values::{Name, NoMemory, Text, copied};
 use std::alloc::Global;
 use std::marker::Model;
 use table_keeper::{Change, Kept};
@@ -139,15 +139,4 @@ impl MemoryStore {
         self.definitions.push_reserved(text);
         Ok(())
     }
-}
-
-// Copies of the texts.
-fn copied(alloc: Global, texts: &[Text]) -> Result<Vec<Text>, NoMemory>
-    ensures { IfOk result (λ copies. copies.items ≡ texts.now) }
-{
-    let mut copies = Vec::with_capacity(alloc, texts.len())?;
-    for text in texts {
-        copies.push(text.copy(alloc)?)?;
-    }
-    Ok(copies)
 }

@@ -9,13 +9,6 @@ use std::sync::ledger::Ledger;
 use std::test::Fail;
 use step_counter::Steps;
 
-/// Albums of a quantity above 2.
-pub(crate) const MANY: &str = "albums; above quantity 2";
-
-/// Albums, of which one is not shown.
-pub(crate) const ALBUMS: &str =
-    "albums: album=Galore quantity=1; album=Show quantity=3; album=Wish quantity=5";
-
 // Rows that the view is to show, and the rows that a refusal of them has.
 const ACCEPTED: &str = "album=Show quantity=4; album=Wish quantity=5";
 

@@ -1,7 +1,7 @@
 //! Tables and lenses that tests write as texts.
 use crate::samples::{columns, deps, names, value};
 use lens_pred::{Formula, Op, Pred};
-use lens_types::{Sort, TypedLens};
+use lens_types::{JoinKind, Sort, TypedLens};
 use lens_values::{Name, Names, Value};
 use std::alloc::Global;
 use std::test::Fail;
@@ -14,55 +14,55 @@ pub(crate) struct Table {
     pub(crate) under: &'static str,
 }
 
-const TABLES: [Table; 6] = [
-    Table {
-        name: "tracks",
-        columns: "track:text date:int rating:int album:text",
-        under: "track -> date rating",
-    },
-    Table {
-        name: "albums",
-        columns: "album:text quantity:int",
-        under: "album -> quantity",
-    },
-    Table {
-        name: "places",
-        columns: "album:text place:int",
-        under: "album -> place",
-    },
-    Table {
-        name: "sales",
-        columns: "album:text quantity:int track:text",
-        under: "album -> quantity",
-    },
-    // Nothing determines another column here.
-    Table {
-        name: "pairs",
-        columns: "a:int b:int",
-        under: "",
-    },
-    Table {
-        name: "liked",
-        columns: "track:text",
-        under: "",
-    },
-];
-
 /// The table of this name.
 pub(crate) fn table_named(name: &str) -> Result<Table, Fail> {
-    for table in &TABLES {
-        if table.name == name {
-            return Ok(*table);
-        }
+    match name {
+        "tracks" => Ok(Table {
+            name: "tracks",
+            columns: "track:text date:int rating:int album:text",
+            under: "track -> date rating",
+        }),
+        "albums" => Ok(Table {
+            name: "albums",
+            columns: "album:text quantity:int",
+            under: "album -> quantity",
+        }),
+        "places" => Ok(Table {
+            name: "places",
+            columns: "album:text place:int",
+            under: "album -> place",
+        }),
+        "sales" => Ok(Table {
+            name: "sales",
+            columns: "album:text quantity:int track:text",
+            under: "album -> quantity",
+        }),
+        // Nothing determines another column here.
+        "pairs" => Ok(Table {
+            name: "pairs",
+            columns: "a:int b:int",
+            under: "",
+        }),
+        "liked" => Ok(Table {
+            name: "liked",
+            columns: "track:text",
+            under: "",
+        }),
+        "people" => Ok(Table {
+            name: "people",
+            columns: "name:text boss:text?",
+            under: "name -> boss",
+        }),
+        _ => Err(Fail::from("no such table")),
     }
-    Err(Fail::from("no such table"))
 }
 
-/// The lens that the text describes, as `tracks; join albums; drop date track 2018; above rating 3`:
-/// a table, and what is made of it step by step.
+/// The lens that the text describes, as
+/// `tracks; join_dl albums; drop date track 2018; above rating 3; rename album disc`: a table, and
+/// what is made of it step by step.
 pub(crate) fn lens(alloc: Global, text: &str) -> Result<TypedLens, Fail> {
     let (first, steps) = text.split_once(';').ok_or("no step")?;
-    let mut made = all(alloc, first)?;
+    let mut made = all(alloc, first.trim())?;
     for step in steps.split(';') {
         made = after(alloc, made, step)?;
     }
@@ -73,8 +73,8 @@ pub(crate) fn lens(alloc: Global, text: &str) -> Result<TypedLens, Fail> {
 fn after(alloc: Global, before: TypedLens, step: &str) -> Result<TypedLens, Fail> {
     let words = words(alloc, step)?;
     match words.as_slice() {
-        [_, name] => joined_with(alloc, before, name),
-        [_, col, number] => above(alloc, before, col, number),
+        [word, name] => joined_with(alloc, before, word, name),
+        [word, col, other] => above_or_renamed(alloc, before, word, [col, other]),
         [_, col, by, fill] => without(alloc, before, [col, by, fill]),
         _ => Err(Fail::from("no such step")),
     }
@@ -104,14 +104,50 @@ fn sort(alloc: Global, table: &Table) -> Result<Sort, Fail> {
     accepted(Sort::table(alloc, columns, &deps, pred))
 }
 
-// The join with the table of this name.
-fn joined_with(alloc: Global, left: TypedLens, name: &str) -> Result<TypedLens, Fail> {
+// The kind of join that the word names.
+fn kind_of(word: &str) -> Result<JoinKind, Fail> {
+    match word {
+        "join_dl" => Ok(JoinKind::DeleteLeft),
+        "join_dr" => Ok(JoinKind::DeleteRight),
+        "join_both" => Ok(JoinKind::DeleteBoth),
+        _ => Err(Fail::from("no such join")),
+    }
+}
+
+// The join that the word names, with the table of this name.
+fn joined_with(alloc: Global, left: TypedLens, word: &str, name: &str) -> Result<TypedLens, Fail> {
+    let kind = kind_of(word)?;
     let right = all(alloc, name)?;
-    accepted(left.join_dl(alloc, right))
+    accepted(left.join(alloc, kind, right))
+}
+
+// The rows whose column is above a number, or the rows with another name for the column.
+fn above_or_renamed(
+    alloc: Global,
+    lens: TypedLens,
+    word: &str,
+    words: [&str; 2],
+) -> Result<TypedLens, Fail> {
+    if word == "rename" {
+        renamed(alloc, lens, words)
+    } else {
+        above(alloc, lens, words)
+    }
+}
+
+// The rows with the second name for the column of the first.
+fn renamed(alloc: Global, lens: TypedLens, words: [&str; 2]) -> Result<TypedLens, Fail> {
+    let (col, to) = two_names(words)?;
+    accepted(lens.rename(alloc, col, to))
+}
+
+// The names that the words are.
+fn two_names(words: [&str; 2]) -> Result<(Name, Name), Fail> {
+    Ok((Name::new(words[0])?, Name::new(words[1])?))
 }
 
 // The rows whose column is above the number.
-fn above(alloc: Global, lens: TypedLens, col: &str, number: &str) -> Result<TypedLens, Fail> {
+fn above(alloc: Global, lens: TypedLens, [col, number]: [&str; 2]) -> Result<TypedLens, Fail> {
     let pred = is_above(alloc, col, number)?;
     accepted(lens.select(alloc, pred))
 }

@@ -8,6 +8,8 @@ mod edits;
 #[cfg(test)]
 mod engines;
 #[cfg(test)]
+mod finds;
+#[cfg(test)]
 mod lenses;
 #[cfg(test)]
 mod looks;

@@ -24,7 +24,9 @@ pub(crate) fn has_keys(alloc: Global, lens: &TypedLens) -> Result<bool, NoMemory
 {
     match lens.lens() {
         Lens::Base { sort, .. } => is_keyed(alloc, sort),
-        Lens::Select { of, .. } | Lens::Drop { of, .. } => has_keys(alloc, of),
+        Lens::Select { of, .. } | Lens::Drop { of, .. } | Lens::Rename { of, .. } => {
+            has_keys(alloc, of)
+        }
         Lens::Join { left, right, .. } => {
             if !has_keys(alloc, left)? {
                 return Ok(false);
@@ -63,7 +65,9 @@ pub(crate) fn are_of(alloc: Global, lens: &TypedLens, db: &Db) -> Result<bool, N
             Some(relation) => is_of(alloc, sort, relation),
             None => Ok(false),
         },
-        Lens::Select { of, .. } | Lens::Drop { of, .. } => are_of(alloc, of, db),
+        Lens::Select { of, .. } | Lens::Drop { of, .. } | Lens::Rename { of, .. } => {
+            are_of(alloc, of, db)
+        }
         Lens::Join { left, right, .. } => {
             if !are_of(alloc, left, db)? {
                 return Ok(false);

@@ -8,6 +8,11 @@ use signed_delta::Delta;
 use std::alloc::Global;
 use std::test::Fail;
 
+/// Fails, with the case, where something does not hold of it.
+pub(crate) fn expect(holds: bool, case: &str) -> Result<(), Fail> {
+    if holds { Ok(()) } else { Err(Fail::from(case)) }
+}
+
 /// The names that the text lists, as `a b`.
 pub(crate) fn names(alloc: Global, text: &str) -> Result<Names, Fail> {
     let mut list = Vec::new(alloc);
@@ -17,31 +22,53 @@ pub(crate) fn names(alloc: Global, text: &str) -> Result<Names, Fail> {
     Ok(Names::new(alloc, list)?)
 }
 
-/// The columns that the text lists, as `a:int b:text`.
+// The kind that the word names.
+fn kind(word: &str) -> Result<Kind, Fail> {
+    match word {
+        "int" => Ok(Kind::Int),
+        "text" => Ok(Kind::Text),
+        "text?" => Ok(Kind::TextOrNull),
+        _ => Err(Fail::from("no kind")),
+    }
+}
+
+// The name and the kind of a column, as `a:int`.
+fn column(word: &str) -> Result<(Name, Kind), Fail> {
+    let (name, of) = word.split_once(':').ok_or("no kind")?;
+    Ok((Name::new(name)?, kind(of)?))
+}
+
+/// The columns that the text lists, as `a:int b:text c:text?`.
 pub(crate) fn columns(alloc: Global, text: &str) -> Result<Columns, Fail> {
     let mut pairs = Vec::new(alloc);
     for word in text.split_whitespace() {
-        let (column, kind) = word.split_once(':').ok_or("no kind")?;
-        let kind = if kind == "int" { Kind::Int } else { Kind::Text };
-        pairs.push((Name::new(column)?, kind))?;
+        pairs.push(column(word)?)?;
     }
     Ok(Columns::new(alloc, pairs)?)
 }
 
-/// A number, or else a text.
+/// Null, a number, or else a text.
 pub(crate) fn value(alloc: Global, word: &str) -> Result<Value, Fail> {
+    if word == "null" {
+        return Ok(Value::Null);
+    }
     match word.parse::<i64>() {
         Ok(number) => Ok(Value::Int(number)),
         Err(_) => Ok(Value::Text(Text::new(alloc, word)?)),
     }
 }
 
+// The name and the value of a column, as `a=1`.
+fn cell(alloc: Global, word: &str) -> Result<(Name, Value), Fail> {
+    let (name, of) = word.split_once('=').ok_or("no value")?;
+    Ok((Name::new(name)?, value(alloc, of)?))
+}
+
 /// The row that the text lists, as `a=1 b=x`.
 pub(crate) fn row(alloc: Global, text: &str) -> Result<Row, Fail> {
     let mut pairs = Vec::new(alloc);
     for word in text.split_whitespace() {
-        let (column, of) = word.split_once('=').ok_or("no value")?;
-        pairs.push((Name::new(column)?, value(alloc, of)?))?;
+        pairs.push(cell(alloc, word)?)?;
     }
     Ok(Row::new(alloc, pairs)?)
 }
@@ -81,10 +108,15 @@ fn add(relation: &mut Relation, row: Row) -> Result<(), Fail>
 pub(crate) fn deps(alloc: Global, text: &str) -> Result<Vec<Dep>, Fail> {
     let mut list = Vec::new(alloc);
     for part in text.split_terminator(',') {
-        let (left, right) = part.split_once("->").ok_or("no arrow")?;
-        list.push(Dep::new(names(alloc, left)?, names(alloc, right)?)?)?;
+        list.push(dep(alloc, part)?)?;
     }
     Ok(list)
+}
+
+// The dependency of the text, as `a -> b`.
+fn dep(alloc: Global, text: &str) -> Result<Dep, Fail> {
+    let (left, right) = text.split_once("->").ok_or("no arrow")?;
+    Ok(Dep::new(names(alloc, left)?, names(alloc, right)?)?)
 }
 
 /// Whether the set has the rows that the text lists, in this order, and no other.

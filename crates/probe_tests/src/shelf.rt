@@ -1,5 +1,5 @@
 //! Tables that are kept twice: as whole relations, and by key.
-ghost use Rattle.std.specs.Prelude.{◌≡◌, false, is_some, IfOk, Some};
+ghost use Rattle.std.specs.Prelude.{◌≡◌, false, is_some, IfOk, None, Some};
 ghost use Rattle.std.specs.FinMap as finmap;
 ghost use Rattle.lens_values.specs.SortedSet as set;
 ghost use Rattle.lens_specs.specs.Delta.{diff};
@@ -115,8 +115,10 @@ fn with_table<L: Ledger>(
     walked: &mut Steps<L>,
 ) -> Result<Tables, Fail>
     requires quiet { IsQuiet tables }
+    requires free { tables.held ≡ None }
     requires new { is_some (finmap.get tables.present.relations name) ≡ false }
     ensures quiet { IfOk result (λ after. IsQuiet after) }
+    ensures free { IfOk result (λ after. after.held ≡ None) }
     ensures made { IfOk result (λ after. after.present.relations
         ≡ finmap.insert tables.present.relations name relation.now) }
 {
@@ -134,8 +136,10 @@ fn with_empty<L: Ledger>(
     walked: &mut Steps<L>,
 ) -> Result<Tables, Fail>
     requires quiet { IsQuiet tables }
+    requires free { tables.held ≡ None }
     requires new { is_some (finmap.get tables.present.relations name) ≡ false }
     ensures quiet { IfOk result (λ after. IsQuiet after) }
+    ensures free { IfOk result (λ after. after.held ≡ None) }
     ensures made { IfOk result (λ after. after.present.relations
         ≡ finmap.insert tables.present.relations name
         (record { columns = columns; rows = set.empty })) }
@@ -149,9 +153,11 @@ fn with_empty<L: Ledger>(
 // The tables with the rows of the relation in one that has none.
 fn with_rows(alloc: Global, tables: Tables, name: Name, relation: &Relation) -> Result<Tables, Fail>
     requires quiet { IsQuiet tables }
+    requires free { tables.held ≡ None }
     requires empty { finmap.get tables.present.relations name
         ≡ Some (record { columns = relation.now.columns; rows = set.empty }) }
     ensures quiet { IfOk result (λ after. IsQuiet after) }
+    ensures free { IfOk result (λ after. after.held ≡ None) }
     ensures filled { IfOk result (λ after. after.present.relations
         ≡ finmap.insert tables.present.relations name relation.now) }
 {

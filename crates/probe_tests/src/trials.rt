@@ -1,15 +1,17 @@
-//! Each test: a lens over tables, and a question to its view.
+//! Lenses over tables, and what is asked of their views.
 ghost use Rattle.std.specs.Prelude.{◌≡◌};
 ghost use Rattle.lens_chain.specs.Edits.{over};
 ghost use Rattle.probe_tests.specs.Shelves.{AreKeptTwice};
 
-use crate::checks::{ALBUMS, MANY, are_checked};
+use crate::checks::are_checked;
 use crate::engines::agree;
+use crate::finds::are_found;
 use crate::lenses::lens;
 use crate::looks::view_of;
 use crate::puts::are_changed;
+use crate::samples::expect;
 use crate::shelf::{Shelf, shelf_for};
-use crate::views::{STOCK, TRACKS_AND_ALBUMS, is_stock};
+use crate::views::is_stock;
 use lens_probe::View;
 use lens_types::TypedLens;
 use std::alloc::Global;
@@ -19,62 +21,164 @@ use std::test::Fail;
 use step_counter::Steps;
 use whole_put::Db;
 
-/// What is asked of a view.
-#[derive(Clone, Copy)]
-enum Question {
-    /// Whether it shows and finds what the stock does.
-    IsStock,
-    /// Whether an edit changes the tables of the stock.
-    AreChanged,
-    /// Whether edits are checked.
-    AreChecked,
-    /// Whether both engines make the same of these edits.
-    Agree(&'static str),
-}
+// Trials, each of a lens, of tables (where these are the shop, as listed below), and of what is asked
+// of the view.
+//
+// stock: whether it shows and finds what it should, and a put changes the tables as it should.
+// checks: which edits it refuses.
+// find: which rows it has by values in single columns.
+//
+// The others are edits, by which both engines change the tables exactly alike: the rows that the view
+// is to show, edit by edit.
+const TRIALS: &str = "
+tracks; join_dl albums; drop date track 2018; above quantity 2
+/ tracks: album=Galore date=1989 rating=3 track=Lullaby;
+album=Galore date=1989 rating=5 track=Lovesong; album=Paris date=1989 rating=5 track=Lovesong;
+album=Show date=1989 rating=3 track=Lullaby; album=Wish date=1992 rating=4 track=Trust
+| albums: album=Disintegration quantity=6; album=Galore quantity=1; album=Paris quantity=4;
+album=Show quantity=3; album=Wish quantity=5
+/ stock
 
-// A lens over tables, and a question to its view.
-struct Trial {
-    lens: &'static str,
-    tables: &'static str,
-    question: Question,
-}
+albums; above quantity 2
+/ albums: album=Galore quantity=1; album=Show quantity=3; album=Wish quantity=5
+/ checks
 
-// Whether each answer is yes.
-fn all<L: Ledger>(alloc: Global, blank: Blank, trials: &[Trial]) -> Result<bool, Fail>
+tracks; join_dl albums; drop date track 2018; above quantity 2
+/ shop
+/ find track Lullaby: album=Show quantity=3 rating=3 track=Lullaby | album Galore:
+| rating 3: album=Show quantity=3 rating=3 track=Lullaby
+
+people; rename name who
+/ people: boss=null name=ann; boss=ann name=bob; boss=null name=cy
+/ find boss null: boss=null who=ann; boss=null who=cy | who bob: boss=ann who=bob
+
+sales; above quantity 2
+/ sales: album=G quantity=1 track=a; album=G quantity=1 track=b; album=W quantity=5 track=c
+/ album=G quantity=5 track=a; album=W quantity=5 track=c | album=W quantity=7 track=d |
+
+pairs; above b 2
+/ pairs: a=1 b=1; a=1 b=3; a=2 b=4
+/ a=1 b=4; a=2 b=4 |
+
+tracks; drop date track 2018
+/ shop
+/ album=Galore rating=5 track=Lullaby; album=Paris rating=1 track=Disco
+| album=Wish rating=4 track=Trust
+
+people; drop boss name null
+/ people: boss=null name=ann; boss=ann name=bob; boss=null name=cy
+/ name=bob; name=cy; name=dee |
+
+people; rename name who
+/ people: boss=null name=ann; boss=ann name=bob; boss=null name=cy
+/ boss=null who=ann; boss=ann who=cy; boss=bob who=dee
+
+tracks; join_dl albums
+/ shop
+/ album=Galore date=1989 quantity=2 rating=3 track=Lullaby
+| album=Galore date=1989 quantity=1 rating=5 track=Lullaby;
+album=Paris date=1989 quantity=4 rating=5 track=Lullaby
+
+tracks; join_dr albums
+/ shop
+/ album=Galore date=1989 quantity=2 rating=3 track=Lullaby
+| album=Galore date=1989 quantity=1 rating=5 track=Lullaby;
+album=Paris date=1989 quantity=4 rating=5 track=Lullaby |
+
+tracks; join_both albums
+/ shop
+/ album=Galore date=1989 quantity=2 rating=3 track=Lullaby
+| album=Galore date=1989 quantity=1 rating=5 track=Lullaby;
+album=Paris date=1989 quantity=4 rating=5 track=Lullaby |
+
+tracks; join_dl liked
+/ tracks: album=Galore date=1989 rating=3 track=Lullaby; album=Wish date=1992 rating=4 track=Trust
+| liked: track=Disco; track=Trust
+/ album=Galore date=1989 rating=5 track=Lullaby |
+
+tracks; join_dl albums; above quantity 2
+/ shop
+/ album=Galore date=1989 quantity=3 rating=3 track=Lullaby |
+
+tracks; join_dl albums; drop date track 2018; above quantity 2
+/ shop
+/ album=Paris quantity=9 rating=1 track=Disco; album=Show quantity=3 rating=5 track=Lullaby |
+
+tracks; drop date track 2018; drop rating track 3; join_dl albums; above quantity 2
+/ shop
+/ album=Paris quantity=4 track=Lullaby; album=Wish quantity=8 track=Disco |
+
+tracks; join_dl albums; join_dl places; above place 0
+/ shop
+/ album=Show date=1989 place=8 quantity=2 rating=3 track=Lullaby
+| album=Galore date=1989 place=1 quantity=1 rating=3 track=Lullaby |
+
+tracks; join_both albums; join_dr places; above place 0
+/ shop
+/ album=Show date=1989 place=8 quantity=2 rating=3 track=Lullaby
+| album=Galore date=1989 place=1 quantity=1 rating=3 track=Lullaby |
+
+tracks; join_dr albums; drop date track 2018; above quantity 2
+/ shop
+/ album=Paris quantity=9 rating=1 track=Disco; album=Show quantity=3 rating=5 track=Lullaby |
+
+tracks; rename rating stars; join_both albums; rename album disc; drop date track 2018;
+above quantity 2
+/ shop
+/ disc=Paris quantity=9 stars=1 track=Disco; disc=Show quantity=3 stars=5 track=Lullaby |";
+
+const SHOP: &str = "
+tracks: album=Galore date=1989 rating=3 track=Lullaby;
+album=Show date=1989 rating=3 track=Lullaby; album=Wish date=1992 rating=4 track=Trust
+| albums: album=Galore quantity=1; album=Paris quantity=4; album=Show quantity=3
+| places: album=Galore place=0; album=Show place=7";
+
+// Fails, with the trial, where a view does not pass it.
+fn all<L: Ledger>(alloc: Global, blank: Blank) -> Result<(), Fail>
     requires name { blank.name ≡ L.name }
     requires parts { blank.parts ≡ L.parts }
     requires one { blank.parts ≡ 1 }
 {
     let mut looked = Steps::<L>::new(blank);
-    for trial in trials {
-        if !passes(alloc, trial, &mut looked)? {
-            return Ok(false);
-        }
+    for trial in TRIALS.split("\n\n") {
+        expect(passes(alloc, trial, &mut looked)?, trial)?;
     }
-    Ok(true)
+    Ok(())
 }
 
-// Whether the answer is yes.
-fn passes<L: Ledger>(alloc: Global, trial: &Trial, looked: &mut Steps<L>) -> Result<bool, Fail> {
-    let lens = lens(alloc, trial.lens)?;
-    passes_with(alloc, trial, &lens, looked)
+#[test]
+fn views_answer_questions(rt: HostRuntime) -> Result<(), Fail> {
+    all::<Brand>(rt.alloc(), Blank::new(1))
+}
+
+// Whether the trial, a lens, tables and a question, is passed.
+fn passes<L: Ledger>(alloc: Global, trial: &str, looked: &mut Steps<L>) -> Result<bool, Fail> {
+    let (text, rest) = trial.split_once('/').ok_or("no tables")?;
+    let lens = lens(alloc, text)?;
+    passes_with(alloc, rest, &lens, looked)
 }
 
 // The same with this lens.
 fn passes_with<L: Ledger>(
     alloc: Global,
-    trial: &Trial,
+    trial: &str,
     lens: &TypedLens,
     looked: &mut Steps<L>,
 ) -> Result<bool, Fail> {
-    let shelf = shelf_for(alloc, lens, trial.tables, looked)?;
-    passes_over(alloc, trial.question, lens, &shelf, looked)
+    let (tables, question) = trial.split_once('/').ok_or("no question")?;
+    let shelf = shelf_for(alloc, lens, listed(tables.trim()), looked)?;
+    passes_over(alloc, question, lens, &shelf, looked)
+}
+
+// The tables of the shop, where the text is its name, or else of the text.
+fn listed(tables: &str) -> &str {
+    if tables == "shop" { SHOP } else { tables }
 }
 
 // The same with this lens over these tables.
 fn passes_over<L: Ledger>(
     alloc: Global,
-    question: Question,
+    question: &str,
     lens: &TypedLens,
     shelf: &Shelf,
     looked: &mut Steps<L>,
@@ -82,158 +186,24 @@ fn passes_over<L: Ledger>(
     requires { AreKeptTwice shelf.now.tables shelf.now.db }
 {
     let view = view_of(alloc, lens, shelf)?;
-    answer(alloc, question, &view, &shelf.db, looked)
+    answer(alloc, question.trim(), &view, &shelf.db, looked)
 }
 
 // The answer of the view.
 fn answer<L: Ledger>(
     alloc: Global,
-    question: Question,
+    question: &str,
     view: &View<'_>,
     db: &Db,
     looked: &mut Steps<L>,
 ) -> Result<bool, Fail>
     requires { over view.now ≡ db.now }
 {
-    match question {
-        Question::IsStock => is_stock(alloc, view, looked),
-        Question::AreChanged => are_changed(alloc, view, looked),
-        Question::AreChecked => are_checked(alloc, view, looked),
-        Question::Agree(edits) => agree(alloc, view, db, edits, looked),
+    let (word, rest) = question.split_once(' ').unwrap_or((question, ""));
+    match word {
+        "stock" => Ok(is_stock(alloc, view, looked)? && are_changed(alloc, view, looked)?),
+        "checks" => are_checked(alloc, view, looked),
+        "find" => are_found(alloc, view, rest, looked),
+        _ => agree(alloc, view, db, question, looked),
     }
-}
-
-const OF_STOCK: [Trial; 2] = [
-    Trial {
-        lens: STOCK,
-        tables: TRACKS_AND_ALBUMS,
-        question: Question::IsStock,
-    },
-    Trial {
-        lens: STOCK,
-        tables: TRACKS_AND_ALBUMS,
-        question: Question::AreChanged,
-    },
-];
-
-#[test]
-fn stock_is_shown_and_changed(rt: HostRuntime) -> Result<(), Fail> {
-    assert!(rt; all::<Brand>(rt.alloc(), Blank::new(1), &OF_STOCK)?);
-    Ok(())
-}
-
-const OF_ALBUMS: [Trial; 1] = [Trial {
-    lens: MANY,
-    tables: ALBUMS,
-    question: Question::AreChecked,
-}];
-
-#[test]
-fn edits_are_checked(rt: HostRuntime) -> Result<(), Fail> {
-    assert!(rt; all::<Brand>(rt.alloc(), Blank::new(1), &OF_ALBUMS)?);
-    Ok(())
-}
-
-const SOME_TRACKS: &str = "
-    tracks: album=Galore date=1989 rating=3 track=Lullaby;
-    album=Show date=1989 rating=3 track=Lullaby; album=Wish date=1992 rating=4 track=Trust";
-
-const SOME_TRACKS_AND_ALBUMS: &str = "
-    tracks: album=Galore date=1989 rating=3 track=Lullaby;
-    album=Show date=1989 rating=3 track=Lullaby; album=Wish date=1992 rating=4 track=Trust
-    | albums: album=Galore quantity=1; album=Paris quantity=4; album=Show quantity=3";
-
-const OF_ONE_NODE: [Trial; 4] = [
-    // A selection, where albums determine the quantity: hidden rows of the album are revised.
-    Trial {
-        lens: "sales; above quantity 2",
-        tables: "sales: album=G quantity=1 track=a; album=G quantity=1 track=b;
-            album=W quantity=5 track=c",
-        question: Question::Agree(
-            "album=G quantity=5 track=a; album=W quantity=5 track=c
-            | album=W quantity=7 track=d |",
-        ),
-    },
-    // A selection, where no column determines another.
-    Trial {
-        lens: "pairs; above b 2",
-        tables: "pairs: a=1 b=1; a=1 b=3; a=2 b=4",
-        question: Question::Agree("a=1 b=4; a=2 b=4 |"),
-    },
-    // Tracks without dates: one is kept, one is rated anew, one is new.
-    Trial {
-        lens: "tracks; drop date track 2018",
-        tables: SOME_TRACKS,
-        question: Question::Agree(
-            "album=Galore rating=5 track=Lullaby; album=Paris rating=1 track=Disco
-            | album=Wish rating=4 track=Trust",
-        ),
-    },
-    // A join: a row goes, a quantity changes, and a track comes to another album.
-    Trial {
-        lens: "tracks; join albums",
-        tables: SOME_TRACKS_AND_ALBUMS,
-        question: Question::Agree(
-            "album=Galore date=1989 quantity=2 rating=3 track=Lullaby
-            | album=Galore date=1989 quantity=1 rating=5 track=Lullaby;
-            album=Paris date=1989 quantity=4 rating=5 track=Lullaby",
-        ),
-    },
-];
-
-#[test]
-fn engines_agree_on_one_node(rt: HostRuntime) -> Result<(), Fail> {
-    assert!(rt; all::<Brand>(rt.alloc(), Blank::new(1), &OF_ONE_NODE)?);
-    Ok(())
-}
-
-const OF_SEVERAL_NODES: [Trial; 5] = [
-    // A join with a table of one column, where nothing determines another column.
-    Trial {
-        lens: "tracks; join liked",
-        tables: "tracks: album=Galore date=1989 rating=3 track=Lullaby;
-            album=Wish date=1992 rating=4 track=Trust | liked: track=Disco; track=Trust",
-        question: Question::Agree("album=Galore date=1989 rating=5 track=Lullaby |"),
-    },
-    // A selection from a join, four nodes: an album comes to be shown by a new quantity.
-    Trial {
-        lens: "tracks; join albums; above quantity 2",
-        tables: SOME_TRACKS_AND_ALBUMS,
-        question: Question::Agree("album=Galore date=1989 quantity=3 rating=3 track=Lullaby |"),
-    },
-    // The stock, five nodes: the ratings of hidden tracks are revised.
-    Trial {
-        lens: STOCK,
-        tables: SOME_TRACKS_AND_ALBUMS,
-        question: Question::Agree(
-            "album=Paris quantity=9 rating=1 track=Disco;
-            album=Show quantity=3 rating=5 track=Lullaby |",
-        ),
-    },
-    // Two columns dropped under a join, six nodes.
-    Trial {
-        lens: "tracks; drop date track 2018; drop rating track 3; join albums; above quantity 2",
-        tables: SOME_TRACKS_AND_ALBUMS,
-        question: Question::Agree(
-            "album=Paris quantity=4 track=Lullaby; album=Wish quantity=8 track=Disco |",
-        ),
-    },
-    // Three tables, six nodes.
-    Trial {
-        lens: "tracks; join albums; join places; above place 0",
-        tables: "tracks: album=Galore date=1989 rating=3 track=Lullaby;
-            album=Show date=1989 rating=3 track=Lullaby; album=Wish date=1992 rating=4 track=Trust
-            | albums: album=Galore quantity=1; album=Paris quantity=4; album=Show quantity=3
-            | places: album=Galore place=0; album=Show place=7",
-        question: Question::Agree(
-            "album=Show date=1989 place=8 quantity=2 rating=3 track=Lullaby
-            | album=Galore date=1989 place=1 quantity=1 rating=3 track=Lullaby |",
-        ),
-    },
-];
-
-#[test]
-fn engines_agree_on_several_nodes(rt: HostRuntime) -> Result<(), Fail> {
-    assert!(rt; all::<Brand>(rt.alloc(), Blank::new(1), &OF_SEVERAL_NODES)?);
-    Ok(())
 }

@@ -9,17 +9,6 @@ use std::sync::ledger::Ledger;
 use std::test::Fail;
 use step_counter::Steps;
 
-/// The tracks with the quantities of their albums, without dates, that are there more than twice.
-pub(crate) const STOCK: &str = "tracks; join albums; drop date track 2018; above quantity 2";
-
-/// Tracks with their dates, ratings and albums, and albums with their quantities.
-pub(crate) const TRACKS_AND_ALBUMS: &str = "
-    tracks: album=Galore date=1989 rating=3 track=Lullaby;
-    album=Galore date=1989 rating=5 track=Lovesong; album=Paris date=1989 rating=5 track=Lovesong;
-    album=Show date=1989 rating=3 track=Lullaby; album=Wish date=1992 rating=4 track=Trust
-    | albums: album=Disintegration quantity=6; album=Galore quantity=1; album=Paris quantity=4;
-    album=Show quantity=3; album=Wish quantity=5";
-
 const TRACKS: &str = "
     album=Galore date=1989 rating=3 track=Lullaby; album=Galore date=1989 rating=5 track=Lovesong;
     album=Paris date=1989 rating=5 track=Lovesong; album=Show date=1989 rating=3 track=Lullaby;

@@ -22,12 +22,13 @@ use table_keeper::Keeper;
 /// Answers the lines of the rehearsal of this number, one after another, and gives the line of
 /// their summary. Want of memory, in a reply or elsewhere, ends it: the lines before that were
 /// answered.
-pub fn rehearse<K: Keeper, L: Ledger>(
+pub fn rehearse<K: Keeper, L: Ledger, M: Ledger>(
     alloc: Global,
     server: &mut Server,
     keeper: &mut K,
     number: u64,
     walked: &mut Steps<L>,
+    looked: &mut Steps<M>,
 ) -> Result<Vec<u8>, NoMemory>
     requires room { server.old.version + 3 * number + 6 < 2 ^ 64 - 1 }
     requires told { Tells (K.contents keeper.old) (state.kept server.old) }
@@ -41,19 +42,20 @@ pub fn rehearse<K: Keeper, L: Ledger>(
     ensures place { K.place keeper.new ≡ K.place keeper.old }
 {
     let mut tally = Tally::new();
-    define(alloc, server, keeper, walked, &mut tally)?;
-    fill_tables(alloc, server, keeper, number, walked, &mut tally)?;
-    edit_view(alloc, server, keeper, number, walked, &mut tally)?;
-    let shown = read_all(alloc, server, keeper, walked, &mut tally)?;
+    define(alloc, server, keeper, walked, looked, &mut tally)?;
+    fill_tables(alloc, server, keeper, number, walked, looked, &mut tally)?;
+    edit_view(alloc, server, keeper, number, walked, looked, &mut tally)?;
+    let shown = read_all(alloc, server, keeper, walked, looked, &mut tally)?;
     summary_line(alloc, tally, shown, server.version())
 }
 
 /// The three definitions.
-fn define<K: Keeper, L: Ledger>(
+fn define<K: Keeper, L: Ledger, M: Ledger>(
     alloc: Global,
     server: &mut Server,
     keeper: &mut K,
     walked: &mut Steps<L>,
+    looked: &mut Steps<M>,
     tally: &mut Tally,
 ) -> Result<(), NoMemory>
     requires room { HasRoom server.old.version tally.old 3 }
@@ -69,16 +71,25 @@ fn define<K: Keeper, L: Ledger>(
     ensures place { K.place keeper.new ≡ K.place keeper.old }
 {
     let lines = definition_lines(alloc)?;
-    ask_each(alloc, server, keeper, lines.as_slice(), walked, tally)
+    ask_each(
+        alloc,
+        server,
+        keeper,
+        lines.as_slice(),
+        walked,
+        looked,
+        tally,
+    )
 }
 
 /// The edits of the tables.
-fn fill_tables<K: Keeper, L: Ledger>(
+fn fill_tables<K: Keeper, L: Ledger, M: Ledger>(
     alloc: Global,
     server: &mut Server,
     keeper: &mut K,
     number: u64,
     walked: &mut Steps<L>,
+    looked: &mut Steps<M>,
     tally: &mut Tally,
 ) -> Result<(), NoMemory>
     requires room { HasRoom server.old.version tally.old (2 * number) }
@@ -95,18 +106,27 @@ fn fill_tables<K: Keeper, L: Ledger>(
 {
     for i in 0..number {
         let lines = table_lines(alloc, number, i)?;
-        ask_each(alloc, server, keeper, lines.as_slice(), walked, tally)?;
+        ask_each(
+            alloc,
+            server,
+            keeper,
+            lines.as_slice(),
+            walked,
+            looked,
+            tally,
+        )?;
     }
     Ok(())
 }
 
 /// The edits of the view.
-fn edit_view<K: Keeper, L: Ledger>(
+fn edit_view<K: Keeper, L: Ledger, M: Ledger>(
     alloc: Global,
     server: &mut Server,
     keeper: &mut K,
     number: u64,
     walked: &mut Steps<L>,
+    looked: &mut Steps<M>,
     tally: &mut Tally,
 ) -> Result<(), NoMemory>
     requires room { HasRoom server.old.version tally.old number }
@@ -123,17 +143,26 @@ fn edit_view<K: Keeper, L: Ledger>(
 {
     for i in 0..number {
         let lines = view_lines(alloc, i)?;
-        ask_each(alloc, server, keeper, lines.as_slice(), walked, tally)?;
+        ask_each(
+            alloc,
+            server,
+            keeper,
+            lines.as_slice(),
+            walked,
+            looked,
+            tally,
+        )?;
     }
     Ok(())
 }
 
 /// The three reads.
-fn read_all<K: Keeper, L: Ledger>(
+fn read_all<K: Keeper, L: Ledger, M: Ledger>(
     alloc: Global,
     server: &mut Server,
     keeper: &mut K,
     walked: &mut Steps<L>,
+    looked: &mut Steps<M>,
     tally: &mut Tally,
 ) -> Result<Shown, NoMemory>
     requires room { HasRoom server.old.version tally.old 3 }
@@ -148,9 +177,9 @@ fn read_all<K: Keeper, L: Ledger>(
         (at server.new (K.faults keeper.new) (K.contents keeper.new) tally.new walked.new)) }
     ensures place { K.place keeper.new ≡ K.place keeper.old }
 {
-    let albums = read(alloc, server, keeper, "albums", walked, tally)?;
-    let tracks = read(alloc, server, keeper, "tracks", walked, tally)?;
-    let stock = read(alloc, server, keeper, "stock", walked, tally)?;
+    let albums = read(alloc, server, keeper, "albums", walked, looked, tally)?;
+    let tracks = read(alloc, server, keeper, "tracks", walked, looked, tally)?;
+    let stock = read(alloc, server, keeper, "stock", walked, looked, tally)?;
     Ok(Shown {
         albums,
         tracks,
@@ -159,12 +188,13 @@ fn read_all<K: Keeper, L: Ledger>(
 }
 
 /// Reads a table or a view, and gives how many rows were shown.
-fn read<K: Keeper, L: Ledger>(
+fn read<K: Keeper, L: Ledger, M: Ledger>(
     alloc: Global,
     server: &mut Server,
     keeper: &mut K,
     view: &str,
     walked: &mut Steps<L>,
+    looked: &mut Steps<M>,
     tally: &mut Tally,
 ) -> Result<usize, NoMemory>
     requires short { length view.now ≤ 64 }
@@ -181,16 +211,25 @@ fn read<K: Keeper, L: Ledger>(
     ensures place { K.place keeper.new ≡ K.place keeper.old }
 {
     let line = read_line(alloc, view)?;
-    ask(alloc, server, keeper, line.as_bytes(), walked, tally)
+    ask(
+        alloc,
+        server,
+        keeper,
+        line.as_bytes(),
+        walked,
+        looked,
+        tally,
+    )
 }
 
 /// Answers the lines, one after another.
-fn ask_each<K: Keeper, L: Ledger>(
+fn ask_each<K: Keeper, L: Ledger, M: Ledger>(
     alloc: Global,
     server: &mut Server,
     keeper: &mut K,
     lines: &[String],
     walked: &mut Steps<L>,
+    looked: &mut Steps<M>,
     tally: &mut Tally,
 ) -> Result<(), NoMemory>
     requires room { HasRoom server.old.version tally.old (length lines.now) }
@@ -206,18 +245,27 @@ fn ask_each<K: Keeper, L: Ledger>(
     ensures place { K.place keeper.new ≡ K.place keeper.old }
 {
     for line in lines {
-        ask(alloc, server, keeper, line.as_bytes(), walked, tally)?;
+        ask(
+            alloc,
+            server,
+            keeper,
+            line.as_bytes(),
+            walked,
+            looked,
+            tally,
+        )?;
     }
     Ok(())
 }
 
 /// Answers a line, counts the reply, and gives how many rows it shows.
-fn ask<K: Keeper, L: Ledger>(
+fn ask<K: Keeper, L: Ledger, M: Ledger>(
     alloc: Global,
     server: &mut Server,
     keeper: &mut K,
     line: &[u8],
     walked: &mut Steps<L>,
+    looked: &mut Steps<M>,
     tally: &mut Tally,
 ) -> Result<usize, NoMemory>
     requires room { HasRoom server.old.version tally.old 1 }
@@ -232,7 +280,7 @@ fn ask<K: Keeper, L: Ledger>(
         (at server.new (K.faults keeper.new) (K.contents keeper.new) tally.new walked.new)) }
     ensures place { K.place keeper.new ≡ K.place keeper.old }
 {
-    let reply = server.answer(alloc, keeper, line, walked);
+    let reply = server.answer(alloc, keeper, line, walked, looked);
     if tells_no_memory(&reply) {
         return Err(NoMemory);
     }

@@ -2,9 +2,9 @@
 use Rattle.std.proofs.Common.{◌≡◌, ◌∙◌, ℕ, List, [], ◌∷◌, true, false, cond, ap, sym, refl}
 use Rattle.std.specs.Prelude.{Option, Some, None, option_map, option_and_then, unwrap_or, is_some, not, find, codes}
 use Rattle.std.specs.List.{AllByRecursion}
-use Rattle.serde_json.specs.Data.{Data, Items, Members, no_items}
+use Rattle.serde_json.specs.Data.{Data, Items, Members, no_items, null}
 use Rattle.serde_json.specs.Find.{get_member, as_array}
-use Rattle.server_specs.specs.Request.{Request, define, read, put, edit, preview, describe, Asked, to_define, to_read, to_put, to_edit, to_preview, to_describe, to_list, Wanted, is_wrong, first_wrong, first_other, is_wanted, lesser, least_wrong, wanted, said, text_in, name_in}
+use Rattle.server_specs.specs.Request.{Request, define, read, find_at, put, edit, preview, describe, Asked, to_define, to_read, to_find, to_put, to_edit, to_preview, to_describe, to_list, Wanted, is_wrong, first_wrong, first_other, is_wanted, lesser, least_wrong, wanted, said, text_in, name_in}
 use Rattle.request_text.specs.Requests.{said_in, on_in}
 
 present : {X : Type 0} (f : Data → Option X) (x : X) (d : Data) → not (is_some (f d)) ≡ false → f d ≡ Some (unwrap_or (f d) x)
@@ -42,6 +42,11 @@ is_there : {X : Type 0} (f : Data → Option X) (x : X) (k : List ℕ) (ms : Mem
     → option_and_then f (get_member k ms) ≡ Some (unwrap_or (option_and_then f (get_member k ms)) x)
 is_there f x k ms h = there f x (get_member k ms) h
 
+-- any value is right where it is there
+value_there : (o : Option Data) → (elim o [ None ↦ true | Some d ↦ false ]) ≡ false → o ≡ Some (unwrap_or o null)
+value_there None h = cc
+value_there (Some d) h = refl
+
 -- the wanted members by their places
 nth_right : (ms : Members) (ws : List Wanted) → find (is_wrong ms) ws ≡ None → AllByRecursion (λ w. is_wrong ms w ≡ false) ws
 nth_right ms [] h = tt
@@ -55,6 +60,12 @@ said_right to_define ms h =
 said_right to_read ms h =
     let right = nth_right ms (wanted to_read) (all_right to_read ms h) in
     ap (option_map read) (is_there name_in [] (codes "view") ms right.1.0)
+said_right to_find ms h =
+    let right = nth_right ms (wanted to_find) (all_right to_find ms h) in
+    let view = is_there name_in [] (codes "view") ms right.1.1.1.0 in
+    let column = is_there name_in [] (codes "column") ms right.0 in
+    let value = value_there (get_member (codes "value") ms) right.1.1.0 in
+    (λ i. option_and_then (λ v. option_and_then (λ c. option_map (λ d. find_at v c d) (value i)) (column i)) (view i))
 said_right to_put ms h =
     let right = nth_right ms (wanted to_put) (all_right to_put ms h) in
     let view = is_there name_in [] (codes "view") ms right.1.1.1.0 in

@@ -15,10 +15,9 @@ use Rattle.lens_values.specs.SortedSet as set
 use Rattle.lens_specs.specs.Relation.{Name, Rows}
 use Rattle.lens_specs.specs.Dependencies.{Edge}
 use Rattle.grammar_specs.specs.Printing.{printed_formula}
-use Rattle.grammar_specs.specs.Written.{kind_word}
 use Rattle.lens_pred.specs.View.{formula_view, predicate_view}
 use Rattle.lens_pred.specs.declared.formula.Formula.{Formula}
-use Rattle.server_specs.specs.Answer.{value_data, pairs_data, row_data, rows_data, names_data, change_data, changes_data, columns_data, conjuncts_data, edge_data, edges_data, texts_data}
+use Rattle.server_specs.specs.Answer.{value_data, pairs_data, row_data, rows_data, names_data, change_data, changes_data, columns_data, conjuncts_data, edge_data, edges_data, texts_data, kind_text}
 use Rattle.signed_delta.specs.Tables.{table_delta}
 use Rattle.signed_delta.specs.declared.delta.TableDelta.{TableDelta}
 use Rattle.request_text.specs.Printing.{Adds, data_tokens}
@@ -76,9 +75,9 @@ pairs_whole (p ∷ pairs) =
     ap (λ ts. key p.0 ∷ (data_tokens (value_data p.1) ++ ts)) (pairs_whole pairs)
     ∙ ap (λ ts. key p.0 ∷ ts) (sym (append_assoc (data_tokens (value_data p.1)) (pairs_tokens value_data pairs) (end_object ∷ [])))
 
--- the word of a kind as JSON
+-- the text of a kind as JSON
 abbrev pub kind_data : Kind → Data
-kind_data kind = string (kind_word kind)
+kind_data kind = string (kind_text kind)
 
 pub columns_whole : (columns : List (Name × Kind)) → members_tokens (members_outline (columns_data columns)) ≡ pairs_tokens kind_data columns ++ end_object ∷ []
 unfolding pairs_tokens

@@ -9,7 +9,7 @@ use Rattle.view_lang.specs.declared.definition.Side.TheVariants.{Left, Right}
 use Rattle.view_lang.specs.declared.definition.Limit.{Limit}
 use Rattle.view_lang.specs.declared.definition.Limit.TheVariants.{Columns, Lens, Predicate as PredicateNodes, Nesting, Tables, Views}
 use Rattle.request_text.specs.declared.answer.Answer.{Answer}
-use Rattle.request_text.specs.declared.answer.Answer.TheVariants.{Defined, Shown, Changed, Described, Listed, Memory, TooLong, NotJson, BadRequest, Syntax, NameTaken, UnknownName, UnknownColumn, KindClash, NotTree, PredKind, SourceMentionsOutput, NoSuchDependency, MixedConjunct, DefaultRefused, NotDetermined, SideMentionsOutput, TableTwice, TooLarge, BadRow, Stale, OffPredicate, Clash, StoreFault}
+use Rattle.request_text.specs.declared.answer.Answer.TheVariants.{Defined, Shown, Changed, Described, Listed, Memory, TooLong, NotJson, BadRequest, Syntax, NameTaken, UnknownName, UnknownColumn, KindClash, NotTree, PredKind, SourceMentionsOutput, NoSuchDependency, MixedConjunct, DefaultRefused, NotDetermined, SideMentionsOutput, TableTwice, ColumnTaken, TooLarge, BadRow, Stale, OffPredicate, Clash, StoreFault}
 use Rattle.request_text.specs.declared.answer.RowList.{RowList}
 use Rattle.request_text.specs.declared.answer.RowList.TheVariants.{Rows, Remove, Add}
 
@@ -62,6 +62,7 @@ answer_view DefaultRefused = spec.refused refusal.default_refused
 answer_view (NotDetermined col) = spec.refused (refusal.not_determined col)
 answer_view (SideMentionsOutput side col) = spec.refused (refusal.side_mentions_output (side_view side) col)
 answer_view (TableTwice name) = spec.refused (refusal.table_twice name)
+answer_view (ColumnTaken name) = spec.refused (refusal.column_taken name)
 answer_view (TooLarge what) = spec.refused (refusal.too_large (limit_view what))
 answer_view (BadRow list index col) = spec.bad_row (list_view list) index col
 answer_view (Stale changed_at version) = spec.stale changed_at version

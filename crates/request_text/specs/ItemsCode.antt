@@ -123,3 +123,12 @@ items_of_marks-items_marks ds = ap items_of_marks (sym (append-nil (items_marks 
 
 abbrev pub coded_items : Coded Items
 coded_items = code_by (List Mark) (coded_list (coded× coded_ℕ (coded× coded_ℕ (coded× (coded_list coded_ℕ) (coded× coded_ℤ coded_float))))) items_marks items_of_marks items_of_marks-items_marks
+
+-- the first of the items, or null
+abbrev first_or_null : Items → Data
+first_or_null no_items = null
+first_or_null (item d ds) = d
+
+-- one value is stored as items that have it alone
+abbrev pub coded_data : Coded Data
+coded_data = code_by Items coded_items (λ d. item d no_items) first_or_null (λ _. refl)

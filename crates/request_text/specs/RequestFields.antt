@@ -11,6 +11,7 @@ use Rattle.request_text.specs.declared.fields.Field.{Field}
 abbrev pub kind_view : RequestKind → spec.Asked
 kind_view variant.Define = spec.to_define
 kind_view variant.Read = spec.to_read
+kind_view variant.Find = spec.to_find
 kind_view variant.Put = spec.to_put
 kind_view variant.Edit = spec.to_edit
 kind_view variant.Preview = spec.to_preview
@@ -24,6 +25,7 @@ shape_view shape.Text = spec.a_text
 shape_view shape.Name = spec.a_name
 shape_view shape.Rows = spec.some_rows
 shape_view shape.Version = spec.a_version
+shape_view shape.Value = spec.a_value
 
 -- a member of a request
 abbrev pub field_view : Field → spec.Wanted

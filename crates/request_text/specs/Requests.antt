@@ -6,7 +6,7 @@ use Rattle.lens_specs.specs.Relation.{Name}
 use Rattle.server_specs.specs.Answer.{Answer, not_json, bad_request}
 use Rattle.server_specs.specs.Request as spec
 use Rattle.request_text.specs.declared.request.Request.{Request}
-use Rattle.request_text.specs.declared.request.Request.TheVariants.{Define, Read, Put, Edit, Preview, Describe, List as ToList}
+use Rattle.request_text.specs.declared.request.Request.TheVariants.{Define, Read, Find, Put, Edit, Preview, Describe, List as ToList}
 use Rattle.request_text.specs.declared.request.RequestFault.{RequestFault}
 use Rattle.request_text.specs.declared.request.RequestFault.TheVariants as fault
 use Rattle.request_text.specs.Told.{RefusesBy, GivesTold}
@@ -15,6 +15,7 @@ use Rattle.request_text.specs.Told.{RefusesBy, GivesTold}
 abbrev pub request_view : Request → spec.Request
 request_view (Define text) = spec.define text
 request_view (Read view) = spec.read view
+request_view (Find view column value) = spec.find_at view column value
 request_view (Put view rows on) = spec.put view rows on
 request_view (Edit view remove add on) = spec.edit view remove add on
 request_view (Preview view remove add on) = spec.preview view remove add on
@@ -39,6 +40,10 @@ Reads read expected = GivesTold request_view refusal read expected
 abbrev pub view_in : Members → Option Name
 view_in ms = option_and_then spec.name_in (get_member (codes "view") ms)
 
+-- the name of the column that is there
+abbrev pub column_in : Members → Option Name
+column_in ms = option_and_then spec.name_in (get_member (codes "column") ms)
+
 -- the rows that are there
 abbrev pub rows_in : List ℕ → Members → Option Items
 rows_in k ms = option_and_then as_array (get_member k ms)
@@ -50,6 +55,10 @@ both_in ms = option_and_then (λ remove. option_map (λ add. (remove, add)) (row
 -- the version on which a change rests
 abbrev pub on_in : Members → Option ℕ
 on_in ms = spec.version_at (codes "on") ms
+
+-- the find, where its members are there
+abbrev pub find_in : Members → Option spec.Request
+find_in ms = option_and_then (λ view. option_and_then (λ column. option_map (λ value. spec.find_at view column value) (get_member (codes "value") ms)) (column_in ms)) (view_in ms)
 
 -- the put, where its members are there
 abbrev pub put_in : Members → Option spec.Request
@@ -67,6 +76,7 @@ preview_in ms = option_and_then (λ view. option_map (λ both. spec.preview view
 abbrev pub said_in : spec.Asked → Members → Option spec.Request
 said_in spec.to_define ms = option_map spec.define (option_and_then spec.text_in (get_member (codes "text") ms))
 said_in spec.to_read ms = option_map spec.read (view_in ms)
+said_in spec.to_find ms = find_in ms
 said_in spec.to_put ms = put_in ms
 said_in spec.to_edit ms = edit_in ms
 said_in spec.to_preview ms = preview_in ms

@@ -5,7 +5,7 @@ ghost use Rattle.request_text.specs.Answers.{answer_view};
 
 use crate::changes::changed_text;
 use crate::definition_errors::{
-    default_refused_text, kind_clash_text, mixed_conjunct_text, name_taken_text,
+    column_taken_text, default_refused_text, kind_clash_text, mixed_conjunct_text, name_taken_text,
     no_such_dependency_text, not_determined_text, not_tree_text, pred_kind_text,
     side_mentions_output_text, source_mentions_output_text, syntax_text, table_twice_text,
     too_large_text, unknown_column_text, unknown_name_text,
@@ -107,8 +107,8 @@ pub enum Answer {
     PredKind {
         name: Name,
     },
-    /// The least column that the source's predicate mentions although its dependencies determine
-    /// it.
+    /// The least determined column that a conjunct of the source mentions, of those that are not
+    /// steady.
     SourceMentionsOutput {
         col: Name,
     },
@@ -127,14 +127,18 @@ pub enum Answer {
     NotDetermined {
         col: Name,
     },
-    /// The least column that the predicate of a join's side mentions although its dependencies
-    /// determine it.
+    /// The least determined column that a conjunct of this side of a join mentions, of those that
+    /// are not steady.
     SideMentionsOutput {
         side: Side,
         col: Name,
     },
     /// The least table that both sides of a join have.
     TableTwice {
+        name: Name,
+    },
+    /// The source has a column of the new name already.
+    ColumnTaken {
         name: Name,
     },
     /// This is too large.
@@ -212,6 +216,7 @@ pub fn reply_text(alloc: Global, answer: &Answer) -> Result<Reply, NoMemory>
         Answer::NotDetermined { col } => not_determined_text(alloc, col),
         Answer::SideMentionsOutput { side, col } => side_mentions_output_text(alloc, *side, col),
         Answer::TableTwice { name } => table_twice_text(alloc, name),
+        Answer::ColumnTaken { name } => column_taken_text(alloc, name),
         Answer::TooLarge { what } => too_large_text(alloc, *what),
         Answer::BadRow { list, index, col } => bad_row_text(alloc, *list, *index, col),
         Answer::Stale {

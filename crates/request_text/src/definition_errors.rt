@@ -76,8 +76,8 @@ pub(crate) fn pred_kind_text(alloc: Global, name: &Name) -> Result<Reply, NoMemo
     refuse_name(alloc, 26, name)
 }
 
-/// The line that refuses to select from a view whose predicate mentions this column, which its
-/// dependencies determine.
+/// The line that refuses to select from a view of which a conjunct that is not steady mentions this
+/// column.
 pub(crate) fn source_mentions_output_text(alloc: Global, col: &Name) -> Result<Reply, NoMemory>
     ensures { IfOk result (λ reply.
         reply ≡ spec.text (spec.refused (refusal.source_mentions_output col.now))) }
@@ -124,8 +124,8 @@ pub(crate) fn not_determined_text(alloc: Global, col: &Name) -> Result<Reply, No
     refuse_column(alloc, 31, col)
 }
 
-/// The line that refuses a join of which this side's predicate mentions this column, which its
-/// dependencies determine.
+/// The line that refuses a join of which a conjunct of this side that is not steady mentions this
+/// column.
 pub(crate) fn side_mentions_output_text(
     alloc: Global,
     side: Side,
@@ -148,6 +148,14 @@ pub(crate) fn table_twice_text(alloc: Global, name: &Name) -> Result<Reply, NoMe
         reply ≡ spec.text (spec.refused (refusal.table_twice name.now))) }
 {
     refuse_name(alloc, 33, name)
+}
+
+/// The line that refuses a renaming to a column that is there already.
+pub(crate) fn column_taken_text(alloc: Global, name: &Name) -> Result<Reply, NoMemory>
+    ensures { IfOk result (λ reply.
+        reply ≡ spec.text (spec.refused (refusal.column_taken name.now))) }
+{
+    refuse_name(alloc, 35, name)
 }
 
 /// The line that refuses a definition of which this is too large.

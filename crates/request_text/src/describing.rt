@@ -4,9 +4,8 @@ ghost use Rattle.std.specs.FinMap as finmap;
 ghost use Rattle.json.specs.Token.{key, string};
 ghost use Rattle.serde_json.specs.Data.{array, object};
 ghost use Rattle.grammar_specs.specs.Printing.{printed_formula};
-ghost use Rattle.grammar_specs.specs.Written as written;
 ghost use Rattle.lens_pred.specs.View.{formula_view, predicate_view};
-ghost use Rattle.server_specs.specs.Answer.{columns_data, conjuncts_data, edges_data, texts_data};
+ghost use Rattle.server_specs.specs.Answer.{columns_data, conjuncts_data, edges_data, kind_text, texts_data};
 ghost use Rattle.request_text.specs.Printing.{Adds, data_tokens};
 
 use crate::printing::{print_sides, print_text};
@@ -17,7 +16,7 @@ use lens_values::{Columns, Kind, NoMemory, Text};
 use std::alloc::Global;
 use view_lang::print_formula;
 
-/// A member that is an object from the columns to the words of their kinds.
+/// A member that is an object from the columns to the texts of their kinds.
 pub(crate) fn print_columns(out: &mut Writer, name: &str, columns: &Columns) -> Result<(), NoMemory>
     ensures { OnOk result (Adds out.old out.new
         (key name.now ∷ data_tokens (object (columns_data (finmap.entries columns.now))))) }
@@ -33,19 +32,22 @@ fn print_kinds(out: &mut Writer, columns: &Columns) -> Result<(), NoMemory>
 {
     out.begin_object()?;
     for column in columns.pairs() {
-        print_text(out, column.0.as_str(), kind_word(column.1))?;
+        print_text(out, column.0.as_str(), kind_text(column.1))?;
     }
     out.end_object()?;
     Ok(())
 }
 
-fn kind_word(kind: Kind) -> &'static str
-    ensures { result.now ≡ written.kind_word kind }
+fn kind_text(kind: Kind) -> &'static str
+    ensures { result.now ≡ kind_text kind }
 {
     match kind {
         Kind::Int => "int",
         Kind::Text => "text",
         Kind::Flag => "bool",
+        Kind::IntOrNull => "int null",
+        Kind::TextOrNull => "text null",
+        Kind::FlagOrNull => "bool null",
     }
 }
 

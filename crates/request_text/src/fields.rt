@@ -8,7 +8,7 @@ use crate::changes::{TO_EDIT, TO_PUT};
 use crate::definitions::TO_DEFINE;
 use crate::member::lesser;
 use crate::member_values::{is_text, name_member};
-use crate::questions::{TO_LIST, TO_SHOW};
+use crate::questions::{TO_FIND, TO_LIST, TO_SHOW};
 use borrowed_json::{Entry, as_str, as_u64, member};
 use json::Value as Json;
 
@@ -17,6 +17,7 @@ use json::Value as Json;
 pub(crate) enum RequestKind {
     Define,
     Read,
+    Find,
     Put,
     Edit,
     Preview,
@@ -32,6 +33,8 @@ pub(crate) enum Shape {
     Name,
     Rows,
     Version,
+    // Any value.
+    Value,
 }
 
 /// A member of a request: its name, its shape, and whether it has to be there.
@@ -45,6 +48,12 @@ pub(crate) struct Field {
 pub(crate) const ADD: Field = Field {
     name: "add",
     shape: Shape::Rows,
+    needed: true,
+};
+
+pub(crate) const COLUMN: Field = Field {
+    name: "column",
+    shape: Shape::Name,
     needed: true,
 };
 
@@ -78,6 +87,12 @@ pub(crate) const TEXT: Field = Field {
     needed: true,
 };
 
+pub(crate) const VALUE: Field = Field {
+    name: "value",
+    shape: Shape::Value,
+    needed: true,
+};
+
 pub(crate) const VIEW: Field = Field {
     name: "view",
     shape: Shape::Name,
@@ -92,6 +107,7 @@ impl RequestKind {
         match word {
             "define" => Some(RequestKind::Define),
             "read" => Some(RequestKind::Read),
+            "find" => Some(RequestKind::Find),
             "put" => Some(RequestKind::Put),
             "edit" => Some(RequestKind::Edit),
             "preview" => Some(RequestKind::Preview),
@@ -107,6 +123,7 @@ impl RequestKind {
         match self {
             RequestKind::Define => &TO_DEFINE,
             RequestKind::Read | RequestKind::Describe => &TO_SHOW,
+            RequestKind::Find => &TO_FIND,
             RequestKind::Put => &TO_PUT,
             RequestKind::Edit | RequestKind::Preview => &TO_EDIT,
             RequestKind::List => &TO_LIST,
@@ -153,6 +170,7 @@ fn has_shape(shape: Shape, json: &Json<'_>) -> bool
         Shape::Name => name_member(json).is_some(),
         Shape::Rows => matches!(json, Json::Array(_)),
         Shape::Version => as_u64(json).is_some(),
+        Shape::Value => true,
     }
 }
 

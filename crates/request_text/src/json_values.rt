@@ -31,6 +31,7 @@ fn value_json(alloc: Global, value: &Value) -> Result<Json, NoMemory>
     ensures { IfOk result (λ json. view json ≡ value_data value.now) }
 {
     match value {
+        Value::Null => Ok(Json::Null),
         Value::Int(number) => Ok(Json::from(*number)),
         Value::Text(text) => Ok(Json::try_from_str(alloc, text.as_str())?),
         Value::Flag(flag) => Ok(Json::from(*flag)),

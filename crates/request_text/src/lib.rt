@@ -21,7 +21,7 @@ pub mod rows;
 
 pub use answer::{Answer, RowList, reply_text};
 pub use json_values::row_value;
-pub use lists::{Changes, Edges, JsonRows, Texts};
+pub use lists::{Changes, Edges, JsonRows, JsonValue, Texts};
 pub use member::Member;
 pub use reply::{Reply, long_reply, memory_reply, store_fault_reply};
 pub use request::{Request, RequestFault, read_request};

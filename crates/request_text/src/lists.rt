@@ -1,12 +1,15 @@
 //! Lists that requests and answers hold, each seen by contracts as the list of its members.
-ghost use Rattle.std.specs.Prelude.{◌≡◌, map};
+ghost use Rattle.std.specs.Prelude.{◌≡◌, IfOk, map};
 ghost use Rattle.signed_delta.specs.Tables.{table_delta};
-ghost use Rattle.borrowed_json.specs.Meaning.{items_data};
+ghost use Rattle.borrowed_json.specs.Meaning.{items_data, value_data};
+ghost use Rattle.server_specs.specs.Sending.{value_in as value_said};
 
+use crate::rows::value_in;
 use fd_tree::Edge;
 use json::Value as Json;
-use lens_values::Text;
+use lens_values::{Kind, NoMemory, Text, Value};
 use signed_delta::TableDelta;
+use std::alloc::Global;
 use std::marker::Model;
 
 /// The differences of the tables that are changed. A contract sees them as the definitions speak of
@@ -119,6 +122,41 @@ impl<'a> JsonRows<'a> {
         ensures { items_data result.items ≡ self.entry }
     {
         self.list
+    }
+}
+
+/// A value of a request, as it was sent. It borrows the text of its line. A contract sees it as
+/// JSON.
+#[derive(Debug, Drop)]
+pub struct JsonValue<'a> {
+    json: Json<'a>,
+}
+
+impl<'a> Model for JsonValue<'a> {
+    ghost use Rattle.serde_json.specs.Data.{Data};
+    ghost use Rattle.borrowed_json.specs.Meaning.{value_data};
+    ghost use Rattle.request_text.specs.ItemsCode.{coded_data};
+
+    ghost Value = { Data };
+
+    ghost coded = { coded_data };
+
+    ghost view = { λ v. value_data v.json };
+}
+
+impl<'a> JsonValue<'a> {
+    /// This value.
+    pub fn new(json: Json<'a>) -> JsonValue<'a>
+        ensures { result ≡ value_data json.entry }
+    {
+        JsonValue { json }
+    }
+
+    /// The value that it says, if it fits the kind.
+    pub fn fitting(&self, alloc: Global, kind: Kind) -> Result<Option<Value>, NoMemory>
+        ensures { IfOk result (λ found. found ≡ value_said kind self.now) }
+    {
+        value_in(alloc, kind, &self.json)
     }
 }
 

@@ -215,6 +215,7 @@ fn print_value(out: &mut Writer, value: &Value) -> Result<(), NoMemory>
     ensures { OnOk result (Adds out.old out.new (data_tokens (value_data value.now))) }
 {
     match value {
+        Value::Null => out.null()?,
         Value::Int(number) => out.i64(*number)?,
         Value::Text(text) => out.string(text.as_str())?,
         Value::Flag(flag) => out.boolean(*flag)?,

@@ -10,15 +10,15 @@ ghost use Rattle.request_text.specs.RequestFields.{kind_view};
 use crate::changes::{edit_in, preview_in, put_in};
 use crate::definitions::define_in;
 use crate::fields::{RequestKind, least_wrong};
-use crate::lists::JsonRows;
+use crate::lists::{JsonRows, JsonValue};
 use crate::member::Member;
-use crate::questions::{describe_in, read_in};
+use crate::questions::{describe_in, find_in, read_in};
 use borrowed_json::{Entry, as_str, member, read_line};
 use json::{Scratch, Value as Json};
 use lens_values::{Name, NoMemory, Text};
 use std::alloc::{AllocError, AllocFailed, Global};
 
-/// One of the seven requests. Its rows borrow the texts of its line.
+/// One of the eight requests. Its rows and its value borrow the texts of its line.
 #[derive(Debug, Drop)]
 pub enum Request<'a> {
     /// To make the table or the view that the text defines.
@@ -28,6 +28,12 @@ pub enum Request<'a> {
     /// To show the rows of a view.
     Read {
         view: Name,
+    },
+    /// To show the rows of a view whose value in a column is this one.
+    Find {
+        view: Name,
+        column: Name,
+        value: JsonValue<'a>,
     },
     /// To make these rows the rows of a view. The change may rest on a version.
     Put {
@@ -198,6 +204,7 @@ fn said<'a>(
     match kind {
         RequestKind::Define => define_in(alloc, &members),
         RequestKind::Read => Ok(read_in(&members)),
+        RequestKind::Find => Ok(find_in(members)),
         RequestKind::Put => Ok(put_in(members)),
         RequestKind::Edit => Ok(edit_in(members)),
         RequestKind::Preview => Ok(preview_in(members)),

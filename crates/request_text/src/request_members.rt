@@ -2,7 +2,7 @@
 ghost use Rattle.std.specs.Prelude.{◌≡◌, ℕ, List, option_map};
 ghost use Rattle.serde_json.specs.Find.{as_array, get_member};
 ghost use Rattle.borrowed_json.specs.Meaning.{value_data, items_data, members_data};
-ghost use Rattle.request_text.specs.Requests.{on_in, rows_in, view_in};
+ghost use Rattle.request_text.specs.Requests.{column_in, on_in, rows_in, view_in};
 
 use crate::lists::JsonRows;
 use crate::member_values::name_member;
@@ -15,6 +15,13 @@ pub(crate) fn view_in(members: &[Entry<'_>]) -> Option<Name>
     ensures { result ≡ view_in (members_data members.now) }
 {
     name_member(member(members, "view")?)
+}
+
+/// The name of the column.
+pub(crate) fn column_in(members: &[Entry<'_>]) -> Option<Name>
+    ensures { result ≡ column_in (members_data members.now) }
+{
+    name_member(member(members, "column")?)
 }
 
 /// The version on which a change rests, if one is sent.

@@ -244,7 +244,12 @@ fn value_at(
     }
 }
 
-fn value_in(alloc: Global, kind: Kind, json: &Json<'_>) -> Result<Option<Value>, NoMemory>
+/// The value that the JSON says, if it fits the kind.
+pub(crate) fn value_in(
+    alloc: Global,
+    kind: Kind,
+    json: &Json<'_>,
+) -> Result<Option<Value>, NoMemory>
     ensures { IfOk result (λ found. found ≡ spec.value_in kind (value_data json.now)) }
 {
     match value_of(alloc, json)? {
@@ -253,7 +258,7 @@ fn value_in(alloc: Global, kind: Kind, json: &Json<'_>) -> Result<Option<Value>,
     }
 }
 
-// The value that the JSON says: a number of 64 bits, a text or a truth value.
+// The value that the JSON says: null, a number of 64 bits, a text or a truth value.
 fn value_of(alloc: Global, json: &Json<'_>) -> Result<Option<Value>, NoMemory>
     ensures { IfOk result (λ found. found ≡ spec.value_of (value_data json.now)) }
 {
@@ -261,6 +266,7 @@ fn value_of(alloc: Global, json: &Json<'_>) -> Result<Option<Value>, NoMemory>
         Json::Bool(flag) => Ok(Some(Value::Flag(*flag))),
         Json::Number(_) => Ok(as_i64(json).map(Value::Int)),
         Json::String(_) => Ok(text_member(alloc, json)?.map(Value::Text)),
-        Json::Null | Json::Array(_) | Json::Object(_) => Ok(None),
+        Json::Null => Ok(Some(Value::Null)),
+        Json::Array(_) | Json::Object(_) => Ok(None),
     }
 }

@@ -1,5 +1,5 @@
 //! The rows that revision by new rows may change, found by key.
-ghost use Rattle.std.specs.Prelude.{◌≡◌, ◌≢◌, ◌≤◌, ◌+◌, ◌*◌, ◌++◌, [], ℕ, true, length, Contains, IfOk, OnOk, is_some};
+ghost use Rattle.std.specs.Prelude.{◌≡◌, ◌≢◌, ◌≤◌, ◌+◌, ◌*◌, [], ℕ, true, length, Contains, IfOk, is_some};
 ghost use Rattle.std.specs.List.{list_any};
 ghost use Rattle.lens_values.specs.SortedSet as set;
 ghost use Rattle.lens_specs.specs.Columns.{Fits, names};
@@ -10,7 +10,7 @@ ghost use Rattle.revision.specs.Near.{HasChanged, is_like, near_along, near_from
 
 use crate::unlike::unlike_rows;
 use fd_tree::{Edge, Tree};
-use lens_values::{NoMemory, Row};
+use lens_values::{NoMemory, Row, append};
 use row_sets::RowSet;
 use signed_delta::{Look, find_each};
 use std::alloc::Global;
@@ -174,14 +174,4 @@ fn has_like(edge: &Edge, row: &Row, rows: &[Row]) -> bool
     ensures { result ≡ list_any (is_like edge.now row.now) rows.now }
 {
     rows.iter().any(|other| other.agree_on(row, &edge.left) && other.agree_on(row, &edge.right))
-}
-
-// Adds copies of the rows at the end.
-fn append(list: &mut Vec<Row>, alloc: Global, rows: &[Row]) -> Result<(), NoMemory>
-    ensures { OnOk result (list.new.items ≡ list.old.items ++ rows.now) }
-{
-    for row in rows {
-        list.push(row.copy(alloc)?)?;
-    }
-    Ok(())
 }

@@ -2,9 +2,12 @@
 ghost use Rattle.std.specs.Prelude.{◌≡◌, IfOk, map, true};
 ghost use Rattle.lens_values.specs.SortedSet as set;
 ghost use Rattle.lens_specs.specs.Dependencies.{MeetsTree};
+ghost use Rattle.lens_specs.specs.Predicate.{Predicate, holds};
 ghost use Rattle.lens_specs.specs.Relation.{Fits};
 ghost use Rattle.lens_specs.specs.Revision as spec;
 ghost use Rattle.lens_specs.specs.TreeForm.{outputs};
+ghost use Rattle.lens_laws.specs.Passes.{AllFormulas, IsSteady};
+ghost use Rattle.lens_laws.specs.Shapes.{HoldsOn};
 ghost use Rattle.revision.specs.Changes.{ChangesOnly, SameOutside};
 
 use crate::steps::{all_along, one_along};
@@ -67,7 +70,8 @@ pub fn revise(
 }
 
 /// The relation revised by the rows of another with the same columns, together with those rows.
-/// Where both relations meet the tree, the merge meets it.
+/// Where both relations meet the tree, the merge meets it. Where a predicate of steady conjuncts
+/// holds on both, it holds on the merge.
 pub fn merge(
     alloc: Global,
     tree: &Tree,
@@ -79,6 +83,9 @@ pub fn merge(
         merged ≡ record relation.now { rows = spec.merge tree.now relation.now.rows by.now.rows }) }
     ensures meets { IfOk result (λ merged. MeetsTree relation.now.rows tree.now
         → MeetsTree by.now.rows tree.now → MeetsTree merged.rows tree.now) }
+    ensures steady { IfOk result (λ merged. (pred : Predicate) → AllFormulas (IsSteady tree.now) pred
+        → HoldsOn (holds pred) relation.now.rows → HoldsOn (holds pred) by.now.rows
+        → HoldsOn (holds pred) merged.rows) }
 {
     by.rows_fit();
     tree.is_tree();

@@ -19,8 +19,8 @@ pub(crate) struct Ranked {
     row: Row,
 }
 
-/// The rows, in the order of their ranks. Where all have the same columns and no text has a zero
-/// byte, that is rising order.
+/// The rows, in the order of their ranks. Where all have the same columns and no text has a byte
+/// below 2, that is rising order.
 pub(crate) fn by_rank(alloc: Global, rows: Vec<Row>) -> Result<Vec<Row>, NoMemory>
     ensures { IfOk result (λ ordered. (row : _) → list_any (eq_by_cmp row_cmp row) ordered.items
         ≡ list_any (eq_by_cmp row_cmp row) rows.items) }
@@ -56,9 +56,10 @@ fn rank_of(row: &Row) -> u128 {
     let mut front = Front::new();
     for value in row.values() {
         match value {
+            Value::Null => front.push(0),
             Value::Int(number) => front.push_number(*number),
             Value::Text(text) => front.push_text(text.as_str().as_bytes()),
-            Value::Flag(flag) => front.push(u8::from(*flag)),
+            Value::Flag(flag) => front.push(1 + u8::from(*flag)),
         }
     }
     u128::from_be_bytes(front.bytes)
@@ -103,11 +104,12 @@ impl Front {
         }
     }
 
-    // The bytes of the text, and a zero, so that a text comes before those that it begins.
+    // The bytes of the text, and a one, so that a text comes before those that it begins and behind
+    // null.
     fn push_text(&mut self, bytes: &[u8]) {
         for byte in bytes.iter().take(FRONT.saturating_sub(self.filled)) {
             self.push(*byte);
         }
-        self.push(0);
+        self.push(1);
     }
 }

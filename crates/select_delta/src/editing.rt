@@ -1,5 +1,5 @@
 //! The edit of a selection, taken to its source.
-ghost use Rattle.std.specs.Prelude.{◌≡◌, Contains, IfOk, filter, not};
+ghost use Rattle.std.specs.Prelude.{◌≡◌, ◌≤◌, ◌+◌, ℕ, Contains, IfOk, filter, length, not};
 ghost use Rattle.lens_specs.specs.Columns.{names};
 ghost use Rattle.lens_specs.specs.Delta.{Applies, diff};
 ghost use Rattle.lens_specs.specs.Dependencies.{AllEdges, MeetsTree};
@@ -7,6 +7,7 @@ ghost use Rattle.lens_specs.specs.Names.{Within};
 ghost use Rattle.lens_specs.specs.Nodes.{select_get};
 ghost use Rattle.lens_specs.specs.Predicate.{holds};
 ghost use Rattle.lens_specs.specs.Relation.{those};
+ghost use Rattle.lens_laws.specs.Work.{node_work, rows_down, rows_of};
 ghost use Rattle.select_delta.specs.Selected.{AreSelected, edited, edited_source};
 
 use fd_tree::Tree;
@@ -14,7 +15,7 @@ use lens_pred::Pred;
 use lens_values::NoMemory;
 use revision::{Touched, afters, befores, revise_touched};
 use row_sets::RowSet;
-use signed_delta::{Delta, Look, rows_fit};
+use signed_delta::{Delta, Look, finds_are_few, rows_fit};
 use std::alloc::Global;
 use std::sync::ledger::Ledger;
 use step_counter::Steps;
@@ -43,8 +44,13 @@ pub fn select_delta<S: Look, L: Ledger>(
         AreSelected R.columns tree.now pred.now (edited pred.now R.rows delta.now) }
     ensures delta { let M = (S.relation source.now).rows in
         IfOk result (λ change. change ≡ diff M (edited_source tree.now pred.now M delta.now)) }
+    ensures looks { (n : ℕ) → S.within source.now n → length tree.now ≤ 64
+        → looked.new ≤ looked.old + node_work (rows_of delta.now) n }
+    ensures few { IfOk result (λ change. (n : ℕ) → S.within source.now n → length tree.now ≤ 64
+        → rows_of change ≤ rows_down (rows_of delta.now) n) }
 {
     rows_fit(source);
+    finds_are_few(source);
     tree.is_tree();
     let touched = revise_touched(alloc, tree, source, delta.add(), looked)?;
     let hidden = hidden(alloc, touched, pred)?;

@@ -4,6 +4,8 @@ use Rattle.std.specs.Prelude.{IfSome, codes}
 use Rattle.std.specs.FinMap as finmap
 use Rattle.serde_json.specs.Data.{Data, null, boolean, number, string, array, object, Members}
 use Rattle.lens_values.specs.declared.row.Row.{Row}
+use Rattle.lens_values.specs.declared.value.Kind.{Kind}
+use Rattle.lens_values.specs.declared.value.Value.{Value}
 use Rattle.lens_specs.specs.Names.{Name}
 use Rattle.lens_specs.specs.Relation.{Rows}
 use Rattle.lens_specs.specs.Dependencies.{Edge}
@@ -22,9 +24,9 @@ use Rattle.catalog_specs.specs.Judging as judging
 use Rattle.catalog_specs.specs.Judging.{CatalogFault, language, rule, judged}
 use Rattle.server_specs.specs.State.{State}
 use Rattle.server_specs.specs.Answer.{Answer, Listed, in_rows, in_remove, in_add, long_line, not_json, bad_request, syntax, name_taken, unknown_name, refused, bad_row, stale, off_predicate, clash}
-use Rattle.server_specs.specs.Request.{Request, define, read, put, edit, preview, describe, list, Asked, json_of, asked_in, unless_wrong, request_in, request_of, request_from, request}
-use Rattle.server_specs.specs.Sending.{BadRow, rows_in}
-use Rattle.server_specs.specs.Questions.{about, rows_told, sort_told}
+use Rattle.server_specs.specs.Request.{Request, define, read, find_at, put, edit, preview, describe, list, Asked, json_of, asked_in, unless_wrong, request_in, request_of, request_from, request}
+use Rattle.server_specs.specs.Sending.{BadRow, rows_in, value_in}
+use Rattle.server_specs.specs.Questions.{about, find_told, finding_told, found_told, rows_told, sort_told}
 use Rattle.server_specs.specs.Defining.{limit_of, fault_answer, answer_definition}
 use Rattle.server_specs.specs.Changing.{Sent, whole, edited, as_set, set_in, edit_of, sent_view, is_stale, changed_at, unless_stale, unless_off, unless_clash, of_sort, tested, asked_view, accept, settled, foretold, changed_by}
 use Rattle.server_specs.specs.Answering.{answer, answer_request}
@@ -166,6 +168,14 @@ told_about : (s : State) (tell : Lens → Answer) (name : Name) (o : Option Lens
 told_about s tell name None h = (unknown_refuses s name).told
 told_about s tell name (Some L) h = h L
 
+told_found : (s : State) (L : Lens) (column : Name) (v : Option Value) → IsTold s (found_told s L column v)
+told_found s L column None = record { failure = λ h. h; version = tt }
+told_found s L column (Some value) = record { failure = λ h. h; version = refl }
+
+told_column : (s : State) (L : Lens) (column : Name) (json : Data) (o : Option Kind) → IsTold s (find_told s L column json o)
+told_column s L column json None = record { failure = λ h. h; version = tt }
+told_column s L column json (Some kind) = told_found s L column (value_in kind json)
+
 -- ---- definitions
 
 -- a definition is refused for its fault
@@ -218,6 +228,8 @@ said_request : (s : State) (r : Result Request Answer) → AllRefuse s r → IsS
 said_request s (Err refusal) h = said_refusal s refusal (h refusal refl)
 said_request s (Ok (define text)) h = said_definition s text (judged (catalogue s.texts) (reading text))
 said_request s (Ok (read name)) h = said_question s _ (told_about s (rows_told s) name (finmap.get (catalogue s.texts) name) (λ L. record { failure = λ h. h; version = refl }))
+said_request s (Ok (find_at name column json)) h =
+    said_question s _ (told_about s (finding_told s column json) name (finmap.get (catalogue s.texts) name) (λ L. told_column s L column json (finmap.get (sort_of L).columns column)))
 said_request s (Ok (put name rows on)) h = said_changed s (whole rows) on name (finmap.get (catalogue s.texts) name)
 said_request s (Ok (edit name remove add on)) h = said_changed s (edited remove add) on name (finmap.get (catalogue s.texts) name)
 said_request s (Ok (preview name remove add on)) h =

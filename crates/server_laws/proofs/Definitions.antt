@@ -14,7 +14,7 @@ use Rattle.lens_specs.specs.Columns.{Columns}
 use Rattle.lens_specs.specs.Relation.{Relation}
 use Rattle.lens_specs.specs.Dependencies.{Edge}
 use Rattle.lens_specs.specs.Predicate.{Predicate}
-use Rattle.lens_specs.specs.Lens.{Tables, Lens, base, select, drop, join, get, tables_of, rows_or_none}
+use Rattle.lens_specs.specs.Lens.{Tables, Lens, base, select, drop, rename, join, get, tables_of, rows_or_none}
 use Rattle.lens_specs.specs.Typing.{table_sort}
 use Rattle.io_specs.specs.Lines.{Line}
 use Rattle.grammar_specs.specs.Meaning.{Definition, table, view, Expr}
@@ -25,7 +25,7 @@ use Rattle.catalog_specs.specs.Judging as judging
 use Rattle.catalog_specs.specs.Judging.{CatalogFault, language, is_taken, where_sorted, lens_in, where_lensed, judged}
 use Rattle.server_specs.specs.State.{State}
 use Rattle.server_specs.specs.Answer.{Answer, defined, shown, name_taken}
-use Rattle.server_specs.specs.Request.{Request, define, read, put, edit, preview, describe, list, request}
+use Rattle.server_specs.specs.Request.{Request, define, read, find_at, put, edit, preview, describe, list, request}
 use Rattle.server_specs.specs.Defining.{text_answer, fault_answer, answer_definition, with_defined}
 use Rattle.server_specs.specs.Changing.{Sent, whole, edited, changed_at, asked_view, changed_by}
 use Rattle.server_specs.specs.Answering.{answer, answer_request}
@@ -149,6 +149,7 @@ stays_request : (s : State) (r : Result Request Answer) (name : Name) (L : Lens)
 stays_request s (Err refusal) name L e = e
 stays_request s (Ok (define text)) name L e = stays_definition s text (judgement s text) refl name L e
 stays_request s (Ok (read at)) name L e = e
+stays_request s (Ok (find_at at column json)) name L e = e
 stays_request s (Ok (put at rows on)) name L e = stays_changed s (whole rows) on at (finmap.get (catalogue s.texts) at) name L e
 stays_request s (Ok (edit at remove add on)) name L e = stays_changed s (edited remove add) on at (finmap.get (catalogue s.texts) at) name L e
 stays_request s (Ok (preview at remove add on)) name L e = e
@@ -167,7 +168,8 @@ unfolding tables_of
 bases_there known (base t s) b q i = ap (λ n. is_some (finmap.get known n)) (one_is t q i) ∙ ap is_some b
 bases_there known (select P C) b q i = bases_there known C b q i
 bases_there known (drop A X a C) b q i = bases_there known C b q i
-bases_there known (join A B) b q i = elim (or_cases _ _ (sym (set.contains-union name_total (tables_of A) (tables_of B) q) ∙ i)) [
+bases_there known (rename A B C) b q i = bases_there known C b q i
+bases_there known (join kind A B) b q i = elim (or_cases _ _ (sym (set.contains-union name_total (tables_of A) (tables_of B) q) ∙ i)) [
   | inl j ↦ bases_there known A b.0 q j
   | inr j ↦ bases_there known B b.1 q j
 ]

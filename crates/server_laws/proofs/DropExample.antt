@@ -29,7 +29,7 @@ use Rattle.lens_specs.specs.Dependencies.{Edge, MeetsTree}
 use Rattle.lens_specs.specs.TreeForm.{TreeForm, tree_of, outputs}
 use Rattle.lens_specs.specs.Predicate.{gt, compare, Predicate, holds, compared}
 use Rattle.lens_specs.specs.Sort.{Sort}
-use Rattle.lens_specs.specs.Refusal.{Refusal, unknown_column, kind_clash, predicate_kind, source_mentions_output, no_such_dependency, or_else, or_name, when, unless as or_unlike, too_large, columns_limit, tables_limit, views_limit, unknown_name, unlike_kinds, least_mentioned}
+use Rattle.lens_specs.specs.Refusal.{Refusal, is_like, unknown_column, kind_clash, predicate_kind, source_mentions_output, no_such_dependency, or_else, or_name, when, unless as or_unlike, too_large, columns_limit, tables_limit, views_limit, unknown_name, unlike_kinds, unsteady}
 use Rattle.lens_specs.specs.Nodes.{select_get, drop_get}
 use Rattle.lens_specs.specs.Lens.{Lens, select, drop, select_sort, drop_sort, sort_of, view_names, get, rows_or_none, tree_or_none, table as rows_of_table}
 use Rattle.lens_specs.specs.Typing.{and_then, unless_refused, select_fault, is_determined, drop_fault, sort, table_sort_with, table_sort}
@@ -156,9 +156,9 @@ first_taken = ap (judged none) first_says
 selected : select_fault 2 S P ≡ None
 selected =
     both (option_map unknown_column (unknown_name U P)) _ (ap (λ o. option_map unknown_column (cond (not (is_some o)) (Some a) None)) column)
-    (both (option_map predicate_kind (unlike_kinds U P)) _ (ap (λ o. option_map predicate_kind (or_name (or_unlike (fits_at (Some (Int (pos 0))) o) a) None)) column
+    (both (option_map predicate_kind (unlike_kinds U P)) _ (ap (λ o. option_map predicate_kind (or_name (or_unlike (is_like (Int (pos 0)) o) a) None)) column
     ∙ ap (λ x. option_map predicate_kind (or_name (or_unlike x a) None)) (int_fits (pos 0)))
-    (both (option_map source_mentions_output (least_mentioned [] (outputs S.tree))) _ (ap (option_map source_mentions_output) (nothing_mentioned (set.items (outputs S.tree))))
+    (both (option_map source_mentions_output (unsteady [] S.tree)) _ (ap (option_map source_mentions_output) (nothing_mentioned (set.items (outputs S.tree))))
     (ap (λ n. or_else (when (not (nat_le n 64)) (too_large columns_limit)) None) two_columns)))
 
 same_one : same_names (one a) (one a) ≡ true

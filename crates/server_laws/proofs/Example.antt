@@ -19,12 +19,12 @@ use Rattle.fd_laws.proofs.Relations.{from_those}
 use Rattle.fd_laws.proofs.Rows.{row_total, tied_row, row_itself}
 use Rattle.lens_laws.proofs.Sorts.{none_clash, none_off}
 use Rattle.lens_specs.specs.Names.{Name}
-use Rattle.lens_specs.specs.Columns.{Columns, Fits, fits_at}
+use Rattle.lens_specs.specs.Columns.{Columns, Fits}
 use Rattle.lens_values.proofs.FitsLemmas.{fits_same, fits_cond}
 use Rattle.lens_values.proofs.ValueLemmas.{int_fits}
 use Rattle.lens_specs.specs.Relation.{Rows, Relation, has}
 use Rattle.lens_specs.specs.Predicate.{gt, compare, Predicate, holds, mentions, compared}
-use Rattle.lens_specs.specs.Refusal.{Refusal, unknown_column, predicate_kind, source_mentions_output, or_else, or_name, when, unless as or_unlike, too_large, columns_limit, tables_limit, views_limit, unknown_name, unlike_kinds, least_mentioned}
+use Rattle.lens_specs.specs.Refusal.{Refusal, is_like, unknown_column, predicate_kind, source_mentions_output, or_else, or_name, when, unless as or_unlike, too_large, columns_limit, tables_limit, views_limit, unknown_name, unlike_kinds, unsteady}
 use Rattle.lens_specs.specs.TreeForm.{outputs, tree_of}
 use Rattle.lens_specs.specs.Sort.{clash}
 use Rattle.lens_specs.specs.Typing.{sort, table_sort, select_fault, unless_refused}
@@ -144,9 +144,9 @@ no_fault : select_fault 2 (sort_with U [] []) P ≡ None
 unfolding tree_of
 no_fault =
     both (option_map unknown_column (unknown_name U P)) _ (ap (λ o. option_map unknown_column (cond (not (is_some o)) (Some a) None)) column)
-    (both (option_map predicate_kind (unlike_kinds U P)) _ (ap (λ o. option_map predicate_kind (or_name (or_unlike (fits_at (Some (Int (pos 0))) o) a) None)) column
+    (both (option_map predicate_kind (unlike_kinds U P)) _ (ap (λ o. option_map predicate_kind (or_name (or_unlike (is_like (Int (pos 0)) o) a) None)) column
     ∙ ap (λ b. option_map predicate_kind (or_name (or_unlike b a) None)) (int_fits (pos 0)))
-    (both (option_map source_mentions_output (least_mentioned [] (outputs []))) _ (ap (option_map source_mentions_output) (nothing_mentioned (set.items (outputs []))))
+    (both (option_map source_mentions_output (unsteady [] [])) _ (ap (option_map source_mentions_output) (nothing_mentioned (set.items (outputs []))))
     (ap (λ n. or_else (when (not (nat_le n 64)) (too_large columns_limit)) None) one_column)))
 
 has_sort : sort V ≡ Ok (select_sort (sort_with U [] []) P)

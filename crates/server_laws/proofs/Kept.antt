@@ -13,7 +13,7 @@ use Rattle.fd_laws.proofs.Names.{name_total, name_exact, name_itself, tied_name}
 use Rattle.server_laws.proofs.Differences.{Distinct, items_distinct, other_name, empty_same, not_later}
 use Rattle.lens_specs.specs.Names.{Name, Names, is_among}
 use Rattle.lens_specs.specs.Relation.{Rows, Relation, Columns}
-use Rattle.lens_specs.specs.Lens.{Tables, Lens, base, select, drop, join, tables_of, table, put, rows_or_none}
+use Rattle.lens_specs.specs.Lens.{Tables, Lens, base, select, drop, rename, join, tables_of, table, put, rows_or_none}
 use Rattle.lens_specs.specs.Delta.{Delta, TableDelta, diff, new_view, Applies, is_empty, differences, changes}
 use Rattle.lens_specs.specs.Keeping.{define, rows, or_empty, rows_at, with_deltas, changed, AllApply, CanChange}
 use Rattle.server_specs.specs.State.{State, rows_of_each, kept}
@@ -163,7 +163,8 @@ put_keeps (base u s) N db t h = ap is_some (finmap.get-insert name_total db u (r
     either false o h = h
 put_keeps (select P C) N db t h = put_keeps C _ db t h
 put_keeps (drop A X a C) N db t h = put_keeps C _ db t h
-put_keeps (join A B) N db t h = put_keeps B _ _ t (put_keeps A _ db t h)
+put_keeps (rename A B C) N db t h = put_keeps C _ db t h
+put_keeps (join kind A B) N db t h = put_keeps B _ _ t (put_keeps A _ db t h)
 
 pub put_leads : (L : Lens) (N : Rows) (db : Tables) → AreThere L db → Leads db (put L N db) (tables_of L)
 put_leads L N db h = record { before = h; after = λ t i. put_keeps L N db t (h t i); others = λ t o. put_leaves L N db t o }

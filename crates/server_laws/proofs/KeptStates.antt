@@ -17,7 +17,7 @@ use Rattle.server_specs.specs.Changing.{Sent, whole, edited, asked_view, settled
 use Rattle.server_specs.specs.Answering.{answer, answer_request}
 use Rattle.server_specs.specs.Validity.{Valid}
 use Rattle.server_specs.specs.Answer.{Answer}
-use Rattle.server_specs.specs.Request.{Request, define as define_request, read, put as put_request, edit, preview, describe, list, request}
+use Rattle.server_specs.specs.Request.{Request, define as define_request, read, find_at, put as put_request, edit, preview, describe, list, request}
 use Rattle.io_specs.specs.Lines.{Line}
 use Rattle.server_laws.proofs.AnswerFacts.{AllRefuse, fault_refuses, asked_refuses, request_err}
 use Rattle.server_laws.specs.Answers.{IsChange}
@@ -64,6 +64,7 @@ kept_request : (s : State) → Valid s → (r : Result Request Answer) → AllRe
 kept_request s v (Err refusal) refuses asks h = absurd ((refuses refusal refl).change h)
 kept_request s v (Ok (define_request text)) refuses asks h = kept_definition s v text (judged (catalogue s.texts) (reading text)) refl h
 kept_request s v (Ok (read name)) refuses asks h = absurd (asks tt)
+kept_request s v (Ok (find_at name column json)) refuses asks h = absurd (asks tt)
 kept_request s v (Ok (put_request name items on)) refuses asks h = kept_changed s v (whole items) on name (finmap.get (catalogue s.texts) name) refl h
 kept_request s v (Ok (edit name remove add on)) refuses asks h = kept_changed s v (edited remove add) on name (finmap.get (catalogue s.texts) name) refl h
 kept_request s v (Ok (preview name remove add on)) refuses asks h = absurd (asks tt)

@@ -16,7 +16,7 @@ use Rattle.lens_laws.proofs.SmallSorts.{table_has_keys}
 use Rattle.lens_laws.specs.Asked.{HasKeys, IsFilled}
 use Rattle.lens_specs.specs.Columns.{names}
 use Rattle.lens_specs.specs.Dependencies.{AllEdges}
-use Rattle.lens_specs.specs.Lens.{Lens, base, select, drop}
+use Rattle.lens_specs.specs.Lens.{Lens, base, select, drop, rename}
 use Rattle.lens_specs.specs.Names.{Name}
 use Rattle.grammar_specs.specs.Faults.{Answers}
 use Rattle.grammar_specs.specs.Meaning as language
@@ -78,8 +78,9 @@ lens_keyed : (known : Catalogue) → AllKeyed known → (expr : Expr) (L : Lens)
 lens_keyed known all (named name) L e = all name L e
 lens_keyed known all (language.select P of) L e = let w = mapped (select P) (lens_of of known) L e in subst HasKeys w.2 (lens_keyed known all of w.0 w.1)
 lens_keyed known all (language.drop A X a of) L e = let w = mapped (drop A X a) (lens_of of known) L e in subst HasKeys w.2 (lens_keyed known all of w.0 w.1)
-lens_keyed known all (language.join left right) L e =
-    let w = joined (lens_of left known) (lens_of right known) L e in
+lens_keyed known all (language.rename A B of) L e = let w = mapped (rename A B) (lens_of of known) L e in subst HasKeys w.2 (lens_keyed known all of w.0 w.1)
+lens_keyed known all (language.join kind left right) L e =
+    let w = joined kind (lens_of left known) (lens_of right known) L e in
     subst HasKeys w.4 (lens_keyed known all left w.0 w.2, lens_keyed known all right w.1 w.3)
 
 with_keyed : (known : Catalogue) (name : Name) (M : Lens) → HasKeys M → AllKeyed known → AllKeyed (finmap.insert known name M)

@@ -22,7 +22,7 @@ use Rattle.catalog_specs.specs.Catalogue.{catalogue}
 use Rattle.catalog_specs.specs.Judging.{CatalogFault, judged}
 use Rattle.server_specs.specs.State.{State}
 use Rattle.server_specs.specs.Answer.{Answer}
-use Rattle.server_specs.specs.Request.{Request, define, read, put as put_request, edit, preview, describe, list, request}
+use Rattle.server_specs.specs.Request.{Request, define, read, find_at, put as put_request, edit, preview, describe, list, request}
 use Rattle.server_specs.specs.Defining.{answer_definition}
 use Rattle.server_specs.specs.Changing.{Sent, whole, edited, asked_view, accept, with_last, settled, changed_by}
 use Rattle.server_specs.specs.Answering.{answer, answer_request}
@@ -113,6 +113,7 @@ last_request : (s : State) → Valid s → (r : Result Request Answer) (q : Name
 last_request s v (Err refusal) q = stays s q
 last_request s v (Ok (define text)) q = last_definition s text (judged (catalogue s.texts) (reading text)) q
 last_request s v (Ok (read name)) q = stays s q
+last_request s v (Ok (find_at name column json)) q = stays s q
 last_request s v (Ok (put_request name rows on)) q = last_changed s v (whole rows) on name (finmap.get (catalogue s.texts) name) refl q
 last_request s v (Ok (edit name remove add on)) q = last_changed s v (edited remove add) on name (finmap.get (catalogue s.texts) name) refl q
 last_request s v (Ok (preview name remove add on)) q = stays s q

@@ -22,3 +22,4 @@ pub mod Example
 pub mod OneEdge
 pub mod DropExample
 pub mod UpdateExample
+pub mod Finding

@@ -21,7 +21,7 @@ use Rattle.lens_specs.specs.Relation.{Rows}
 use Rattle.lens_specs.specs.Predicate.{Predicate, holds}
 use Rattle.lens_specs.specs.Dependencies.{Edge}
 use Rattle.lens_specs.specs.Sort.{Sort, off, Clash, clash as first_clash, IsOf}
-use Rattle.lens_specs.specs.Lens.{Tables, Lens, base, select, drop, join, sort_of, tables_of, table, rows_or_none, get, put}
+use Rattle.lens_specs.specs.Lens.{Tables, Lens, base, select, drop, rename, join, sort_of, tables_of, table, rows_or_none, get, put}
 use Rattle.lens_specs.specs.Delta.{TableDelta, diff, is_empty, differences, changes}
 use Rattle.catalog_specs.specs.Catalogue.{catalogue}
 use Rattle.server_specs.specs.State.{State}
@@ -49,7 +49,8 @@ same_table (base u s) old new a b t i h =
     subst (λ n. table old n ≡ table new n → finmap.get new n ≡ finmap.get old n) (sym (one_is u t i)) here h
 same_table (select P C) old new a b t i h = same_table C old new a b t i h
 same_table (drop A X v C) old new a b t i h = same_table C old new a b t i h
-same_table (join A B) old new a b t i h = elim (or_cases _ _ (sym (set.contains-union name_total (tables_of A) (tables_of B) t) ∙ i)) [
+same_table (rename A B C) old new a b t i h = same_table C old new a b t i h
+same_table (join kind A B) old new a b t i h = elim (or_cases _ _ (sym (set.contains-union name_total (tables_of A) (tables_of B) t) ∙ i)) [
   | inl j ↦ same_table A old new a.0 b.0 t j h
   | inr j ↦ same_table B old new a.1 b.1 t j h
 ]

@@ -12,7 +12,7 @@ use Rattle.lens_laws.specs.Lenses.{IsTyped, AreOf}
 use Rattle.lens_specs.specs.Names.{Name}
 use Rattle.lens_specs.specs.Relation.{Relation, Rows}
 use Rattle.lens_specs.specs.Sort.{Sort, IsOfSort}
-use Rattle.lens_specs.specs.Lens.{Tables, Lens, base, select, drop, join, sort_of, tables_of, put}
+use Rattle.lens_specs.specs.Lens.{Tables, Lens, base, select, drop, rename, join, sort_of, tables_of, put}
 use Rattle.catalog_specs.specs.Catalogue.{Catalogue, catalogue}
 use Rattle.server_specs.specs.State.{State}
 use Rattle.server_specs.specs.Validity.{IsRelationOf, IsStoredAs, IsStored, Valid}
@@ -43,7 +43,8 @@ pub are_of : (known : Catalogue) (db : Tables) → AreStored known db → (L : L
 are_of known db h (base t s) b = is_there t s (finmap.get db t) (as_relation t s (finmap.get db t) (subst (λ o. IsStored t o (finmap.get db t)) b (h t)))
 are_of known db h (select P C) b = are_of known db h C b
 are_of known db h (drop A X a C) b = are_of known db h C b
-are_of known db h (join A B) b = (are_of known db h A b.0, are_of known db h B b.1)
+are_of known db h (rename A B C) b = are_of known db h C b
+are_of known db h (join kind A B) b = (are_of known db h A b.0, are_of known db h B b.1)
 
 stored_of : (known : Catalogue) (db : Tables) (L : Lens) → BasesAre known L → AreOf L db → (q : Name) → set.contains (tables_of L) q ≡ true → IsStored q (finmap.get known q) (finmap.get db q)
 unfolding tables_of
@@ -52,7 +53,8 @@ stored_of known db (base t s) b a q i =
     subst (λ n. IsStored n (finmap.get known n) (finmap.get db n)) (sym (one_is t q i)) here
 stored_of known db (select P C) b a q i = stored_of known db C b a q i
 stored_of known db (drop A X v C) b a q i = stored_of known db C b a q i
-stored_of known db (join A B) b a q i = elim (or_cases _ _ (sym (set.contains-union name_total (tables_of A) (tables_of B) q) ∙ i)) [
+stored_of known db (rename A B C) b a q i = stored_of known db C b a q i
+stored_of known db (join kind A B) b a q i = elim (or_cases _ _ (sym (set.contains-union name_total (tables_of A) (tables_of B) q) ∙ i)) [
   | inl j ↦ stored_of known db A b.0 a.0 q j
   | inr j ↦ stored_of known db B b.1 a.1 q j
 ]
@@ -70,7 +72,8 @@ unfolding tables_of
 are_there (base u s) db a t i = ap (λ n. is_some (finmap.get db n)) (one_is u t i) ∙ ap is_some a.1
 are_there (select P C) db a t i = are_there C db a t i
 are_there (drop A X v C) db a t i = are_there C db a t i
-are_there (join A B) db a t i = elim (or_cases _ _ (sym (set.contains-union name_total (tables_of A) (tables_of B) t) ∙ i)) [
+are_there (rename A B C) db a t i = are_there C db a t i
+are_there (join kind A B) db a t i = elim (or_cases _ _ (sym (set.contains-union name_total (tables_of A) (tables_of B) t) ∙ i)) [
   | inl j ↦ are_there A db a.0 t j
   | inr j ↦ are_there B db a.1 t j
 ]

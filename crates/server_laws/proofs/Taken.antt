@@ -18,7 +18,8 @@ use Rattle.lens_specs.specs.Sort.{Sort}
 use Rattle.lens_specs.specs.Refusal.{Refusal, Limit, unknown_column, predicate_kind, or_else, unknown_name, unlike_kinds, too_much, tables_limit, views_limit}
 use Rattle.lens_specs.specs.Columns.{Columns}
 use Rattle.lens_specs.specs.Predicate.{Predicate}
-use Rattle.lens_specs.specs.Lens.{Lens, base, select, drop, join, sort_of, tree_or_none}
+use Rattle.lens_values.specs.declared.join_kind.JoinKind.{JoinKind}
+use Rattle.lens_specs.specs.Lens.{Lens, base, select, drop, rename, join, sort_of, tree_or_none}
 use Rattle.lens_specs.specs.Typing.{sort, table_sort, table_sort_with, unknown_in, unless_refused}
 use Rattle.grammar_specs.specs.Meaning.{Definition, table, view, Expr, named}
 use Rattle.grammar_specs.specs.Meaning as language
@@ -74,7 +75,8 @@ abbrev pub BasesAre : Catalogue → Lens → Type 0
 BasesAre known (base t s) = finmap.get known t ≡ Some (base t s)
 BasesAre known (select P C) = BasesAre known C
 BasesAre known (drop A X a C) = BasesAre known C
-BasesAre known (join A B) = BasesAre known A × BasesAre known B
+BasesAre known (rename A B C) = BasesAre known C
+BasesAre known (join kind A B) = BasesAre known A × BasesAre known B
 
 -- a lens has a sort, and its tables are those of the catalogue
 pub record IsKnown (known : Catalogue) (L : Lens) : Type 0 where
@@ -101,13 +103,15 @@ pub not_own : (known : Catalogue) (name : Name) → is_taken known name ≡ fals
 not_own known name free (base t s) h = texts_ties t name ∙ not_free known name t (base t s) free h
 not_own known name free (select P C) h = refl
 not_own known name free (drop A X a C) h = refl
-not_own known name free (join A B) h = refl
+not_own known name free (rename A B C) h = refl
+not_own known name free (join kind A B) h = refl
 
 bases_stay : (known : Catalogue) (name : Name) (M : Lens) → is_taken known name ≡ false → (L : Lens) → BasesAre known L → BasesAre (finmap.insert known name M) L
 bases_stay known name M free (base t s) h = get-other known name M t (not_free known name t (base t s) free h) ∙ h
 bases_stay known name M free (select P C) h = bases_stay known name M free C h
 bases_stay known name M free (drop A X a C) h = bases_stay known name M free C h
-bases_stay known name M free (join A B) h = (bases_stay known name M free A h.0, bases_stay known name M free B h.1)
+bases_stay known name M free (rename A B C) h = bases_stay known name M free C h
+bases_stay known name M free (join kind A B) h = (bases_stay known name M free A h.0, bases_stay known name M free B h.1)
 
 -- a lens more
 one_more : (known : Catalogue) (name : Name) (M : Lens) → is_taken known name ≡ false → IsKnown (finmap.insert known name M) M → AllKnown known → AllKnown (finmap.insert known name M)
@@ -167,9 +171,9 @@ over_ok : (node : Lens → Lens) (r : Result Lens CatalogFault) (L : Lens) → o
 over_ok node (Err first) L h = cc
 over_ok node (Ok C) L h = let w = typed_ok (node C) (sort (node C)) L h in (C, refl, w.0, w.1)
 
-both_ok : (l r : Result Lens CatalogFault) (L : Lens) → over_both l r ≡ Ok L → (A : Lens) × (B : Lens) × (l ≡ Ok A) × (r ≡ Ok B) × ((s : Sort) × (sort (join A B) ≡ Ok s)) × (join A B ≡ L)
-both_ok (Err first) r L h = cc
-both_ok (Ok A) r L h = let w = over_ok (join A) r L h in (A, w.0, refl, w.1, w.2, w.3)
+both_ok : (kind : JoinKind) (l r : Result Lens CatalogFault) (L : Lens) → over_both kind l r ≡ Ok L → (A : Lens) × (B : Lens) × (l ≡ Ok A) × (r ≡ Ok B) × ((s : Sort) × (sort (join kind A B) ≡ Ok s)) × (join kind A B ≡ L)
+both_ok kind (Err first) r L h = cc
+both_ok kind (Ok A) r L h = let w = over_ok (join kind A) r L h in (A, w.0, refl, w.1, w.2, w.3)
 
 -- an expression that is not refused has its lens
 pub lens_is : (known : Catalogue) (expr : Expr) (L : Lens) → lens_in known expr ≡ Ok L → lens_of expr known ≡ Some L
@@ -180,9 +184,12 @@ lens_is known (language.select P of) L h =
 lens_is known (language.drop A X a of) L h =
     let w = over_ok (drop A X a) (lens_in known of) L h in
     ap (option_map (drop A X a)) (lens_is known of w.0 w.1) ∙ ap Some w.3
-lens_is known (language.join left right) L h =
-    let w = both_ok (lens_in known left) (lens_in known right) L h in
-    ap (λ o. join_of o (lens_of right known)) (lens_is known left w.0 w.2) ∙ ap (join_of (Some w.0)) (lens_is known right w.1 w.3) ∙ ap Some w.5
+lens_is known (language.rename A B of) L h =
+    let w = over_ok (rename A B) (lens_in known of) L h in
+    ap (option_map (rename A B)) (lens_is known of w.0 w.1) ∙ ap Some w.3
+lens_is known (language.join kind left right) L h =
+    let w = both_ok kind (lens_in known left) (lens_in known right) L h in
+    ap (λ o. join_of kind o (lens_of right known)) (lens_is known left w.0 w.2) ∙ ap (join_of kind (Some w.0)) (lens_is known right w.1 w.3) ∙ ap Some w.5
 
 -- and that lens is known, where those of its names are
 pub lens_is_known : (known : Catalogue) → AllKnown known → (expr : Expr) (L : Lens) → lens_in known expr ≡ Ok L → IsKnown known L
@@ -195,11 +202,15 @@ lens_is_known known all (language.drop A X a of) L h =
     let w = over_ok (drop A X a) (lens_in known of) L h in
     let k = lens_is_known known all of w.0 w.1 in
     subst (IsKnown known) w.3 (node_is_known known (drop A X a w.0) w.2.0 k.sound k.bases w.2.1)
-lens_is_known known all (language.join left right) L h =
-    let w = both_ok (lens_in known left) (lens_in known right) L h in
+lens_is_known known all (language.rename A B of) L h =
+    let w = over_ok (rename A B) (lens_in known of) L h in
+    let k = lens_is_known known all of w.0 w.1 in
+    subst (IsKnown known) w.3 (node_is_known known (rename A B w.0) w.2.0 k.sound k.bases w.2.1)
+lens_is_known known all (language.join kind left right) L h =
+    let w = both_ok kind (lens_in known left) (lens_in known right) L h in
     let j = lens_is_known known all left w.0 w.2 in
     let k = lens_is_known known all right w.1 w.3 in
-    subst (IsKnown known) w.5 (node_is_known known (join w.0 w.1) w.4.0 (j.sound, k.sound) (j.bases, k.bases) w.4.1)
+    subst (IsKnown known) w.5 (node_is_known known (join kind w.0 w.1) w.4.0 (j.sound, k.sound) (j.bases, k.bases) w.4.1)
 
 -- ---- the lens that a definition adds
 

@@ -32,6 +32,7 @@ refused_otherwise (refusal.not_determined name) = record { memory = refl; fault 
 refused_otherwise (refusal.side_mentions_output side name) = record { memory = refl; fault = refl }
 refused_otherwise (refusal.table_twice name) = record { memory = refl; fault = refl }
 refused_otherwise (refusal.too_large what) = record { memory = refl; fault = refl }
+refused_otherwise (refusal.column_taken name) = record { memory = refl; fault = refl }
 
 otherwise : (a : Answer) → (IsFailure a → ⊥) → ReadsOtherwise a
 unfolding text serde_json_on_literals digits

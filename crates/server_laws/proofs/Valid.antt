@@ -31,7 +31,7 @@ use Rattle.catalog_specs.specs.Judging.{CatalogFault, judged, is_taken}
 use Rattle.catalog_specs.proofs.Catalogues.{catalogue-push}
 use Rattle.server_specs.specs.State.{State, fresh}
 use Rattle.server_specs.specs.Answer.{Answer}
-use Rattle.server_specs.specs.Request.{Request, define, read, put as put_request, edit, preview, describe, list, request}
+use Rattle.server_specs.specs.Request.{Request, define, read, find_at, put as put_request, edit, preview, describe, list, request}
 use Rattle.server_specs.specs.Defining.{answer_definition, with_defined}
 use Rattle.server_specs.specs.Changing.{Sent, whole, edited, of_sort, asked_view, accept, with_last, settled, changed_by}
 use Rattle.server_specs.specs.Answering.{answer, answer_request}
@@ -233,6 +233,7 @@ valid_request : (s : State) (r : Result Request Answer) → Valid s → Valid (a
 valid_request s (Err refusal) v = v
 valid_request s (Ok (define text)) v = valid_definition s text v (judged (catalogue s.texts) (reading text)) refl
 valid_request s (Ok (read name)) v = v
+valid_request s (Ok (find_at name column json)) v = v
 valid_request s (Ok (put_request name rows on)) v = valid_changed s v (whole rows) on name (finmap.get (catalogue s.texts) name) refl
 valid_request s (Ok (edit name remove add on)) v = valid_changed s v (edited remove add) on name (finmap.get (catalogue s.texts) name) refl
 valid_request s (Ok (preview name remove add on)) v = v

@@ -7,9 +7,10 @@ use Rattle.lens_values.specs.declared.value.Value.{Value}
 use Rattle.lens_specs.specs.Names.{Name, Names}
 use Rattle.lens_specs.specs.Predicate.{Predicate}
 use Rattle.lens_specs.specs.Sort.{Sort}
-use Rattle.lens_specs.specs.Lens.{Lens, select, drop, join, select_sort, drop_sort, join_sort, sort_of, tables_of, nodes_of}
+use Rattle.lens_values.specs.declared.join_kind.JoinKind.{JoinKind}
+use Rattle.lens_specs.specs.Lens.{Lens, select, drop, rename, join, select_sort, drop_sort, rename_sort, join_sort, sort_of, tables_of, nodes_of}
 use Rattle.lens_specs.specs.Refusal.{Refusal, too_large, views_limit}
-use Rattle.lens_specs.specs.Typing.{and_then, unless_refused, select_fault, drop_fault, join_fault, shared_table, sort}
+use Rattle.lens_specs.specs.Typing.{and_then, unless_refused, select_fault, drop_fault, rename_fault, join_fault, shared_table, sort}
 use Rattle.grammar_specs.specs.Meaning as meaning
 use Rattle.grammar_specs.specs.Meaning.{Definition, view, Expr, named}
 use Rattle.io_specs.specs.Lines.{Line}
@@ -32,10 +33,10 @@ pub mapped : {A B : Type 0} (f : A → B) (o : Option A) (y : B) → option_map 
 mapped f None y e = cc
 mapped f (Some x) y e = (x, refl, cc)
 
-pub joined : (l r : Option Lens) (L : Lens) → join_of l r ≡ Some L → (A : Lens) × (B : Lens) × (l ≡ Some A) × (r ≡ Some B) × (join A B ≡ L)
-joined None r L e = cc
-joined (Some A) None L e = cc
-joined (Some A) (Some B) L e = (A, B, refl, refl, cc)
+pub joined : (kind : JoinKind) (l r : Option Lens) (L : Lens) → join_of kind l r ≡ Some L → (A : Lens) × (B : Lens) × (l ≡ Some A) × (r ≡ Some B) × (join kind A B ≡ L)
+joined kind None r L e = cc
+joined kind (Some A) None L e = cc
+joined kind (Some A) (Some B) L e = (A, B, refl, refl, cc)
 
 -- the node over an operand, where what refuses the operand refuses the node
 over_from : (node : Lens → Lens) (C : Lens) (r : Result Sort Refusal) → ((first : Refusal) → r ≡ Err first → sort (node C) ≡ Err first) → over node (where_typed C r) ≡ where_typed (node C) (sort (node C))
@@ -50,21 +51,25 @@ drop_fails : (A : Name) (X : Names) (a : Value) (C : Lens) (first : Refusal) →
 unfolding sort
 drop_fails A X a C first e = ap (λ r. and_then r (λ s. unless_refused (drop_fault (nodes_of (drop A X a C)) s A X a) (drop_sort s A))) e
 
+rename_fails : (A B : Name) (C : Lens) (first : Refusal) → sort C ≡ Err first → sort (rename A B C) ≡ Err first
+unfolding sort
+rename_fails A B C first e = ap (λ r. and_then r (λ s. unless_refused (rename_fault (nodes_of (rename A B C)) s A B) (rename_sort s A B))) e
+
 -- the sort of a join of lenses with these sorts
-abbrev joined_sort : Lens → Lens → Result Sort Refusal → Result Sort Refusal → Result Sort Refusal
-joined_sort A B l r = and_then l (λ s. and_then r (λ t. unless_refused (join_fault (nodes_of (join A B)) s t (shared_table (tables_of A) (tables_of B))) (join_sort s t)))
+abbrev joined_sort : JoinKind → Lens → Lens → Result Sort Refusal → Result Sort Refusal → Result Sort Refusal
+joined_sort kind A B l r = and_then l (λ s. and_then r (λ t. unless_refused (join_fault (nodes_of (join kind A B)) s t (shared_table (tables_of A) (tables_of B))) (join_sort s t)))
 
-left_fails : (A B : Lens) (first : Refusal) → sort A ≡ Err first → sort (join A B) ≡ Err first
+left_fails : (kind : JoinKind) (A B : Lens) (first : Refusal) → sort A ≡ Err first → sort (join kind A B) ≡ Err first
 unfolding sort
-left_fails A B first e = ap (λ l. joined_sort A B l (sort B)) e
+left_fails kind A B first e = ap (λ l. joined_sort kind A B l (sort B)) e
 
-right_fails : (A B : Lens) (s : Sort) (first : Refusal) → sort A ≡ Ok s → sort B ≡ Err first → sort (join A B) ≡ Err first
+right_fails : (kind : JoinKind) (A B : Lens) (s : Sort) (first : Refusal) → sort A ≡ Ok s → sort B ≡ Err first → sort (join kind A B) ≡ Err first
 unfolding sort
-right_fails A B s first e f = ap (λ l. joined_sort A B l (sort B)) e ∙ ap (joined_sort A B (Ok s)) f
+right_fails kind A B s first e f = ap (λ l. joined_sort kind A B l (sort B)) e ∙ ap (joined_sort kind A B (Ok s)) f
 
-both_from : (A B : Lens) (l : Result Sort Refusal) → sort A ≡ l → over_both (where_typed A l) (where_typed B (sort B)) ≡ where_typed (join A B) (sort (join A B))
-both_from A B (Ok s) e = over_from (join A) B (sort B) (λ first f. right_fails A B s first e f)
-both_from A B (Err first) e = sym (ap (where_typed (join A B)) (left_fails A B first e))
+both_from : (kind : JoinKind) (A B : Lens) (l : Result Sort Refusal) → sort A ≡ l → over_both kind (where_typed A l) (where_typed B (sort B)) ≡ where_typed (join kind A B) (sort (join kind A B))
+both_from kind A B (Ok s) e = over_from (join kind A) B (sort B) (λ first f. right_fails kind A B s first e f)
+both_from kind A B (Err first) e = sym (ap (where_typed (join kind A B)) (left_fails kind A B first e))
 
 -- an expression over lenses with sorts is refused exactly as its whole lens is
 whole : (known : Catalogue) → AllKnown known → (expr : Expr) (L : Lens) → lens_of expr known ≡ Some L → lens_in known expr ≡ where_typed L (sort L)
@@ -75,10 +80,13 @@ whole known all (meaning.select P of) L e =
 whole known all (meaning.drop A X a of) L e =
     let w = mapped (drop A X a) (lens_of of known) L e in
     ap (over (drop A X a)) (whole known all of w.0 w.1) ∙ over_from (drop A X a) w.0 (sort w.0) (drop_fails A X a w.0) ∙ ap (λ M. where_typed M (sort M)) w.2
-whole known all (meaning.join left right) L e =
-    let w = joined (lens_of left known) (lens_of right known) L e in
-    ap (λ l. over_both l (lens_in known right)) (whole known all left w.0 w.2) ∙ ap (over_both (where_typed w.0 (sort w.0))) (whole known all right w.1 w.3)
-    ∙ both_from w.0 w.1 (sort w.0) refl ∙ ap (λ M. where_typed M (sort M)) w.4
+whole known all (meaning.rename A B of) L e =
+    let w = mapped (rename A B) (lens_of of known) L e in
+    ap (over (rename A B)) (whole known all of w.0 w.1) ∙ over_from (rename A B) w.0 (sort w.0) (rename_fails A B w.0) ∙ ap (λ M. where_typed M (sort M)) w.2
+whole known all (meaning.join kind left right) L e =
+    let w = joined kind (lens_of left known) (lens_of right known) L e in
+    ap (λ l. over_both kind l (lens_in known right)) (whole known all left w.0 w.2) ∙ ap (over_both kind (where_typed w.0 (sort w.0))) (whole known all right w.1 w.3)
+    ∙ both_from kind w.0 w.1 (sort w.0) refl ∙ ap (λ M. where_typed M (sort M)) w.4
 
 pub taken_where_sorted : (s : State) → Valid s → (expr : Expr) (L : Lens)
     → (lens_in (catalogue s.texts) expr ≡ Ok L) ↔ ((lens_of expr (catalogue s.texts) ≡ Some L) × (sort L ≡ Ok (sort_of L)))
@@ -95,9 +103,9 @@ unmapped : {A B : Type 0} (f : A → B) (o : Option A) → option_map f o ≡ No
 unmapped f None e = refl
 unmapped f (Some x) e = cc
 
-unjoined : (A : Lens) (o : Option Lens) → join_of (Some A) o ≡ None → o ≡ None
-unjoined A None e = refl
-unjoined A (Some B) e = cc
+unjoined : (kind : JoinKind) (A : Lens) (o : Option Lens) → join_of kind (Some A) o ≡ None → o ≡ None
+unjoined kind A None e = refl
+unjoined kind A (Some B) e = cc
 
 -- a name in it has no lens, or a left side in it has one that is refused; and this is the refusal
 abbrev Fails : Catalogue → Expr → Result Lens CatalogFault → Type 0
@@ -108,34 +116,35 @@ under : (node : Lens → Lens) (known : Catalogue) (of : Expr) (r : Result Lens 
 under node known of r (inl w) = inl (w.0, w.1, w.2, ap (over node) w.3)
 under node known of r (inr w) = inr (w.0, w.1, w.2, w.3, w.4, w.5, ap (over node) w.6)
 
-left_missing : (known : Catalogue) (left right : Expr) (l r : Result Lens CatalogFault) → Fails known left l → Fails known (meaning.join left right) (over_both l r)
-left_missing known left right l r (inl w) = inl (w.0, inl w.1, w.2, ap (λ x. over_both x r) w.3)
-left_missing known left right l r (inr w) = inr (w.0, inr (inl w.1), w.2, w.3, w.4, w.5, ap (λ x. over_both x r) w.6)
+left_missing : (known : Catalogue) (kind : JoinKind) (left right : Expr) (l r : Result Lens CatalogFault) → Fails known left l → Fails known (meaning.join kind left right) (over_both kind l r)
+left_missing known kind left right l r (inl w) = inl (w.0, inl w.1, w.2, ap (λ x. over_both kind x r) w.3)
+left_missing known kind left right l r (inr w) = inr (w.0, inr (inl w.1), w.2, w.3, w.4, w.5, ap (λ x. over_both kind x r) w.6)
 
-right_missing : (known : Catalogue) (left right : Expr) (A : Lens) (l r : Result Lens CatalogFault) → l ≡ Ok A → Fails known right r → Fails known (meaning.join left right) (over_both l r)
-right_missing known left right A l r e (inl w) = inl (w.0, inr w.1, w.2, ap (λ x. over_both x r) e ∙ ap (over (join A)) w.3)
-right_missing known left right A l r e (inr w) = inr (w.0, inr (inr w.1), w.2, w.3, w.4, w.5, ap (λ x. over_both x r) e ∙ ap (over (join A)) w.6)
+right_missing : (known : Catalogue) (kind : JoinKind) (left right : Expr) (A : Lens) (l r : Result Lens CatalogFault) → l ≡ Ok A → Fails known right r → Fails known (meaning.join kind left right) (over_both kind l r)
+right_missing known kind left right A l r e (inl w) = inl (w.0, inr w.1, w.2, ap (λ x. over_both kind x r) e ∙ ap (over (join kind A)) w.3)
+right_missing known kind left right A l r e (inr w) = inr (w.0, inr (inr w.1), w.2, w.3, w.4, w.5, ap (λ x. over_both kind x r) e ∙ ap (over (join kind A)) w.6)
 
-both_missing : (known : Catalogue) → AllKnown known → (left right : Expr) → (lens_of left known ≡ None → Fails known left (lens_in known left)) → (lens_of right known ≡ None → Fails known right (lens_in known right))
-    → join_of (lens_of left known) (lens_of right known) ≡ None → Fails known (meaning.join left right) (over_both (lens_in known left) (lens_in known right))
-both_missing known all left right no_left no_right e = by_left (lens_of left known) refl
+both_missing : (known : Catalogue) → AllKnown known → (kind : JoinKind) (left right : Expr) → (lens_of left known ≡ None → Fails known left (lens_in known left)) → (lens_of right known ≡ None → Fails known right (lens_in known right))
+    → join_of kind (lens_of left known) (lens_of right known) ≡ None → Fails known (meaning.join kind left right) (over_both kind (lens_in known left) (lens_in known right))
+both_missing known all kind left right no_left no_right e = by_left (lens_of left known) refl
   where
-    by_sort : (A : Lens) → lens_of left known ≡ Some A → (r : Result Sort Refusal) → sort A ≡ r → Fails known (meaning.join left right) (over_both (lens_in known left) (lens_in known right))
+    by_sort : (A : Lens) → lens_of left known ≡ Some A → (r : Result Sort Refusal) → sort A ≡ r → Fails known (meaning.join kind left right) (over_both kind (lens_in known left) (lens_in known right))
     by_sort A is (Ok s) sorted =
-        right_missing known left right A (lens_in known left) (lens_in known right) (whole known all left A is ∙ ap (where_typed A) sorted)
-        (no_right (unjoined A (lens_of right known) (ap (λ o. join_of o (lens_of right known)) (sym is) ∙ e)))
+        right_missing known kind left right A (lens_in known left) (lens_in known right) (whole known all left A is ∙ ap (where_typed A) sorted)
+        (no_right (unjoined kind A (lens_of right known) (ap (λ o. join_of kind o (lens_of right known)) (sym is) ∙ e)))
     by_sort A is (Err first) failed =
-        inr (left, inl refl, A, is, first, failed, ap (λ x. over_both x (lens_in known right)) (whole known all left A is ∙ ap (where_typed A) failed))
+        inr (left, inl refl, A, is, first, failed, ap (λ x. over_both kind x (lens_in known right)) (whole known all left A is ∙ ap (where_typed A) failed))
 
-    by_left : (o : Option Lens) → lens_of left known ≡ o → Fails known (meaning.join left right) (over_both (lens_in known left) (lens_in known right))
-    by_left None is = left_missing known left right (lens_in known left) (lens_in known right) (no_left is)
+    by_left : (o : Option Lens) → lens_of left known ≡ o → Fails known (meaning.join kind left right) (over_both kind (lens_in known left) (lens_in known right))
+    by_left None is = left_missing known kind left right (lens_in known left) (lens_in known right) (no_left is)
     by_left (Some A) is = by_sort A is (sort A) refl
 
 missing : (known : Catalogue) → AllKnown known → (expr : Expr) → lens_of expr known ≡ None → Fails known expr (lens_in known expr)
 missing known all (named name) e = inl (name, refl, e, ap (lens_named name) e)
 missing known all (meaning.select P of) e = under (select P) known of (lens_in known of) (missing known all of (unmapped (select P) (lens_of of known) e))
 missing known all (meaning.drop A X a of) e = under (drop A X a) known of (lens_in known of) (missing known all of (unmapped (drop A X a) (lens_of of known) e))
-missing known all (meaning.join left right) e = both_missing known all left right (missing known all left) (missing known all right) e
+missing known all (meaning.rename A B of) e = under (rename A B) known of (lens_in known of) (missing known all of (unmapped (rename A B) (lens_of of known) e))
+missing known all (meaning.join kind left right) e = both_missing known all kind left right (missing known all left) (missing known all right) e
 
 -- ---- the answer
 

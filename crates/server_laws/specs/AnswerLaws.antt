@@ -5,7 +5,7 @@ use Rattle.lens_specs.specs.Relation.{Name}
 use Rattle.io_specs.specs.Lines.{Line}
 use Rattle.server_specs.specs.State.{State}
 use Rattle.server_specs.specs.Answer.{Answer}
-use Rattle.server_specs.specs.Request.{Request, define, read, put, edit, preview, describe, list, request}
+use Rattle.server_specs.specs.Request.{Request, define, read, find_at, put, edit, preview, describe, list, request}
 use Rattle.server_specs.specs.Answering.{answer}
 use Rattle.server_specs.specs.Validity.{Valid}
 use Rattle.server_laws.specs.Answers.{IsRefusal, IsFailure, IsChange, told_version}
@@ -19,6 +19,7 @@ abbrev pub IsQuestion : Result Request Answer → Type 0
 IsQuestion (Err refusal) = ⊥
 IsQuestion (Ok (define text)) = ⊥
 IsQuestion (Ok (read name)) = Unit {0}
+IsQuestion (Ok (find_at name column json)) = Unit {0}
 IsQuestion (Ok (put name rows on)) = ⊥
 IsQuestion (Ok (edit name remove add on)) = ⊥
 IsQuestion (Ok (preview name remove add on)) = Unit {0}

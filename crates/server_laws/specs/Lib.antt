@@ -9,3 +9,4 @@ pub mod SessionLaws
 pub mod DefineLaws
 pub mod ViewLaws
 pub mod Witness
+pub mod FindLaws

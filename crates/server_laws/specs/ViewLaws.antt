@@ -5,7 +5,7 @@ use Rattle.lens_specs.specs.Names.{Name}
 use Rattle.lens_specs.specs.Lens.{Lens, sort_of}
 use Rattle.lens_specs.specs.Refusal.{Refusal, too_large, views_limit}
 use Rattle.lens_specs.specs.Typing.{sort}
-use Rattle.grammar_specs.specs.Meaning.{view, Expr, named, select, drop, join}
+use Rattle.grammar_specs.specs.Meaning.{view, Expr, named, select, drop, rename, join}
 use Rattle.grammar_laws.specs.Reading.{reading}
 use Rattle.io_specs.specs.Lines.{Line}
 use Rattle.catalog_specs.specs.Catalogue.{catalogue, lens_of}
@@ -29,14 +29,16 @@ abbrev pub HasName : Expr → Name → Type 0
 HasName (named from) name = from ≡ name
 HasName (select predicate of) name = HasName of name
 HasName (drop column by value of) name = HasName of name
-HasName (join left right) name = HasName left name ⊎ HasName right name
+HasName (rename column new of) name = HasName of name
+HasName (join kind left right) name = HasName left name ⊎ HasName right name
 
 -- the part is the left side of a join in the expression
 abbrev pub IsLeftSide : Expr → Expr → Type 0
 IsLeftSide part (named from) = ⊥
 IsLeftSide part (select predicate of) = IsLeftSide part of
 IsLeftSide part (drop column by value of) = IsLeftSide part of
-IsLeftSide part (join left right) = (part ≡ left) ⊎ (IsLeftSide part left ⊎ IsLeftSide part right)
+IsLeftSide part (rename column new of) = IsLeftSide part of
+IsLeftSide part (join kind left right) = (part ≡ left) ⊎ (IsLeftSide part left ⊎ IsLeftSide part right)
 
 -- An expression has a lens that passes the tests exactly where it has a lens, each name in it standing for its own, and that lens has
 -- a sort: to test each node as it is met is to test the whole.

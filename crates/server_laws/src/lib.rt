@@ -5,6 +5,7 @@
 ghost use Rattle.server_laws.specs.AnswerLaws.{AnswersDoNotFail, ChangesRaiseVersions, LastFollows, OthersStay, QuestionsChangeNothing, RefusalsChangeNothing, VersionsAreTold};
 ghost use Rattle.server_laws.specs.ChangeLaws.{BadRowsAreTold, LastChangeIsGreatest, LinesAcceptedOrRefused, LinesAcceptedWhereTyped, LinesLeaveOthers, LinesMakeDifferences, LinesPutSets, LinesReadViews, LinesRefusedByFirstClash, LinesRefusedByLeastRow, LinesSettle, LinesTellChanges, NextLineReads, NothingIsChanged, PresentIsNotStale, PreviewsForetell, RemovedComeFirst, SentViewsFit, StaleIsTold, UnknownNamesAreTold};
 ghost use Rattle.server_laws.specs.DefineLaws.{DefinitionsLeaveTables, DefinitionsLeaveViews, FaultsAreTold, LensesStay, NamesAreTakenOnce, NewTablesAreEmpty, NewViewsShow, RefusedStays, TakenIsAdded, TakenIsRead, TakenWhereJudged};
+ghost use Rattle.server_laws.specs.FindLaws.{FindsAreFilters, FindsKnowTheirColumn, FindsKnowTheirView, FoundValuesFit};
 ghost use Rattle.server_laws.specs.KeptLaws.{ChangesAreKept, DefinitionsAreKept, PutsAreKept};
 ghost use Rattle.server_laws.specs.PutLaws.{AcceptedOrRefused, AcceptedWhereTyped, ChangesAreDifferences, ChangesAreTold, OtherTablesStay, PutThenRead, ReadThenPut, RefusedByFirstClash, RefusedByLeastRow, SentRowsFit};
 ghost use Rattle.server_laws.specs.SessionLaws.{AnswersReadOtherwise, FaultsAreCounted, RepliesAreAnswers, SessionsAreComplete};
@@ -30,6 +31,16 @@ pub fn refusals_change_nothing()
     ensures state { RefusalsChangeNothing }
     ensures questions { QuestionsChangeNothing }
     ensures failure { AnswersDoNotFail }
+{}
+
+/// A line that finds in a view shows exactly those rows, of what a line that reads it shows, which
+/// have the value; refused are a view that is not there, then a column that is not, then a value
+/// that does not fit.
+pub fn finds_are_filters()
+    ensures found { FindsAreFilters }
+    ensures unknown { FindsKnowTheirView }
+    ensures column { FindsKnowTheirColumn }
+    ensures value { FoundValuesFit }
 {}
 
 /// A put is accepted exactly where the new view meets its type; it is then read again, and changes

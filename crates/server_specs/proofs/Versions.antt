@@ -9,7 +9,7 @@ use Rattle.io_specs.specs.Lines.{Line}
 use Rattle.catalog_specs.specs.Judging.{CatalogFault}
 use Rattle.server_specs.specs.State.{State}
 use Rattle.server_specs.specs.Answer.{Answer}
-use Rattle.server_specs.specs.Request.{Request, define, read, put, edit, preview, describe, list, request}
+use Rattle.server_specs.specs.Request.{Request, define, read, find_at, put, edit, preview, describe, list, request}
 use Rattle.server_specs.specs.Defining.{answer_definition}
 use Rattle.server_specs.specs.Changing.{Sent, whole, edited, asked_view, accept, settled, changed_by}
 use Rattle.server_specs.specs.Answering.{answer, answer_request}
@@ -40,6 +40,7 @@ asked : (r : Result Request Answer) (s : State) → version_of (answer_request r
 asked (Err refusal) s = omega arith
 asked (Ok (define text)) s = defines text _ s
 asked (Ok (read name)) s = omega arith
+asked (Ok (find_at name column json)) s = omega arith
 asked (Ok (put name rows on)) s = changes_by (whole rows) on name _ s
 asked (Ok (edit name remove add on)) s = changes_by (edited remove add) on name _ s
 asked (Ok (preview name remove add on)) s = omega arith

@@ -1,14 +1,15 @@
 -- Answers and their texts.
 use Rattle.std.specs.Prelude.{ℕ, true, false, List, [], ◌∷◌, ◌++◌, codes}
 use Rattle.std.specs.FinMap as finmap
-use Rattle.serde_json.specs.Data.{Data, boolean, number, string, array, object, unsigned, Items, no_items, item, Members, no_members, member}
+use Rattle.serde_json.specs.Data.{Data, null, boolean, number, string, array, object, unsigned, Items, no_items, item, Members, no_members, member}
 use Rattle.serde_json.specs.Find.{of_integer}
 use Rattle.serde_json.specs.Written.{compact_text}
 use Rattle.lens_values.specs.SortedSet as set
 use Rattle.lens_values.specs.declared.value.Value.{Value}
-use Rattle.lens_values.specs.declared.value.Value.TheVariants.{Int, Text, Flag}
+use Rattle.lens_values.specs.declared.value.Value.TheVariants.{Null, Int, Text, Flag}
 use Rattle.lens_values.specs.declared.row.Row.{Row}
 use Rattle.lens_values.specs.declared.value.Kind.{Kind}
+use Rattle.lens_values.specs.declared.value.Kind.TheVariants as kind
 use Rattle.lens_specs.specs.Names.{Name, Names}
 use Rattle.lens_specs.specs.Relation.{Columns, Rows}
 use Rattle.lens_specs.specs.Dependencies.{Edge}
@@ -16,7 +17,6 @@ use Rattle.lens_specs.specs.Predicate.{Predicate}
 use Rattle.lens_specs.specs.Delta.{TableDelta}
 use Rattle.lens_specs.specs.Refusal as refusal
 use Rattle.lens_specs.specs.Refusal.{Refusal, Side, left_side, right_side, Limit, columns_limit, lens_limit, predicate_limit, nesting_limit, tables_limit, views_limit}
-use Rattle.grammar_specs.specs.Written.{kind_word}
 use Rattle.grammar_specs.specs.Printing.{printed_formula}
 
 -- which of a request's lists of rows
@@ -48,6 +48,7 @@ pub data Answer : Type 0 where
 
 -- a value as JSON
 abbrev pub value_data : Value → Data
+value_data Null = null
 value_data (Int z) = number (of_integer z)
 value_data (Text bytes) = string bytes
 value_data (Flag b) = boolean b
@@ -100,10 +101,19 @@ abbrev pub edges_data : List Edge → Items
 edges_data [] = no_items
 edges_data (edge ∷ edges) = item (edge_data edge) (edges_data edges)
 
--- columns with the words of their kinds
+-- the text of a kind
+abbrev pub kind_text : Kind → List ℕ
+kind_text kind.Int = codes "int"
+kind_text kind.Text = codes "text"
+kind_text kind.Flag = codes "bool"
+kind_text kind.IntOrNull = codes "int null"
+kind_text kind.TextOrNull = codes "text null"
+kind_text kind.FlagOrNull = codes "bool null"
+
+-- columns with the texts of their kinds
 abbrev pub columns_data : List (Name × Kind) → Members
 columns_data [] = no_members
-columns_data (column ∷ columns) = member column.0 (string (kind_word column.1)) (columns_data columns)
+columns_data (column ∷ columns) = member column.0 (string (kind_text column.1)) (columns_data columns)
 
 -- the printed text of each conjunct by itself
 abbrev pub conjuncts_data : Predicate → Items
@@ -163,7 +173,7 @@ error_with_name n name = error n (member (codes "name") (string name) (not_ok no
 abbrev pub error_with_column : ℕ → Name → Data
 error_with_column n name = object (member (codes "col") (string name) (numbered n (not_ok no_members)))
 
--- a refusal of a definition, 23 to 34, as JSON
+-- a refusal of a definition, 23 to 35, as JSON
 abbrev pub refusal_data : Refusal → Data
 refusal_data (refusal.unknown_column name) = error_with_name 23 name
 refusal_data (refusal.kind_clash name) = error_with_name 24 name
@@ -178,6 +188,7 @@ refusal_data (refusal.side_mentions_output side name) =
     object (member (codes "col") (string name) (numbered 32 (not_ok (member (codes "side") (string (side_word side)) no_members))))
 refusal_data (refusal.table_twice name) = error_with_name 33 name
 refusal_data (refusal.too_large what) = error 34 (not_ok (member (codes "what") (string (limit_word what)) no_members))
+refusal_data (refusal.column_taken name) = error_with_name 35 name
 
 -- an answer as JSON; the members stand in byte order
 abbrev pub answer_data : Answer → Data

@@ -13,10 +13,11 @@ use Rattle.lens_specs.specs.Relation.{Name}
 use Rattle.io_specs.specs.Lines.{Line, line, too_long}
 use Rattle.server_specs.specs.Answer.{Answer, long_line, not_json, bad_request}
 
--- A request, with what it asks for: a definition's text; a view's name; rows that are sent; and the version on which a change rests.
+-- A request, with what it asks for: a definition's text; a view's name; a column's name and the value to be found in it; rows that are sent; and the version on which a change rests.
 pub data Request : Type 0 where
   define : List ℕ → Request
   read : Name → Request
+  find_at : Name → Name → Data → Request
   put : Name → Items → Option ℕ → Request
   edit : Name → Items → Items → Option ℕ → Request
   preview : Name → Items → Items → Option ℕ → Request
@@ -48,6 +49,7 @@ pub data Shape : Type 0 where
   a_name : Shape
   some_rows : Shape
   a_version : Shape
+  a_value : Shape
 
 -- whether the data is of the shape
 abbrev pub has_shape : Shape → Data → Bool
@@ -56,6 +58,7 @@ has_shape a_text d = is_some (text_in d)
 has_shape a_name d = is_some (name_in d)
 has_shape some_rows d = is_some (json_find.as_array d)
 has_shape a_version d = is_some (version_in d)
+has_shape a_value d = true
 
 -- a member of a request: its name, its shape, and whether it has to be there
 pub record Wanted : Type 0 where
@@ -71,12 +74,13 @@ needed name shape = record { name = name; shape = shape; needed = true }
 abbrev pub allowed : List ℕ → Shape → Wanted
 allowed name shape = record { name = name; shape = shape; needed = false }
 
--- ---- the seven requests
+-- ---- the eight requests
 
 -- what is asked for
 pub data Asked : Type 0 where
   to_define : Asked
   to_read : Asked
+  to_find : Asked
   to_put : Asked
   to_edit : Asked
   to_preview : Asked
@@ -88,6 +92,7 @@ abbrev pub asked_by : List ℕ → Option Asked
 asked_by word =
     if is_key word (codes "define") then Some to_define
     else if is_key word (codes "read") then Some to_read
+    else if is_key word (codes "find") then Some to_find
     else if is_key word (codes "put") then Some to_put
     else if is_key word (codes "edit") then Some to_edit
     else if is_key word (codes "preview") then Some to_preview
@@ -104,6 +109,8 @@ edit_members =
 abbrev pub wanted : Asked → List Wanted
 wanted to_define = needed (codes "do") a_word ∷ needed (codes "text") a_text ∷ []
 wanted to_read = needed (codes "do") a_word ∷ needed (codes "view") a_name ∷ []
+wanted to_find =
+    needed (codes "column") a_name ∷ needed (codes "do") a_word ∷ needed (codes "value") a_value ∷ needed (codes "view") a_name ∷ []
 wanted to_put = needed (codes "do") a_word ∷ allowed (codes "on") a_version ∷ needed (codes "rows") some_rows ∷ needed (codes "view") a_name ∷ []
 wanted to_edit = edit_members
 wanted to_preview = edit_members
@@ -155,6 +162,10 @@ name_at k ms = unwrap_or (option_and_then name_in (json_find.get_member k ms)) [
 abbrev pub rows_at : List ℕ → Members → Items
 rows_at k ms = unwrap_or (option_and_then json_find.as_array (json_find.get_member k ms)) no_items
 
+-- what is there
+abbrev pub data_at : List ℕ → Members → Data
+data_at k ms = unwrap_or (json_find.get_member k ms) null
+
 -- the version, if there is one
 abbrev pub version_at : List ℕ → Members → Option ℕ
 version_at k ms = option_and_then version_in (json_find.get_member k ms)
@@ -163,6 +174,7 @@ version_at k ms = option_and_then version_in (json_find.get_member k ms)
 abbrev pub said : Asked → Members → Request
 said to_define ms = define (text_at (codes "text") ms)
 said to_read ms = read (name_at (codes "view") ms)
+said to_find ms = find_at (name_at (codes "view") ms) (name_at (codes "column") ms) (data_at (codes "value") ms)
 said to_put ms = put (name_at (codes "view") ms) (rows_at (codes "rows") ms) (version_at (codes "on") ms)
 said to_edit ms = edit (name_at (codes "view") ms) (rows_at (codes "remove") ms) (rows_at (codes "add") ms) (version_at (codes "on") ms)
 said to_preview ms = preview (name_at (codes "view") ms) (rows_at (codes "remove") ms) (rows_at (codes "add") ms) (version_at (codes "on") ms)

@@ -6,14 +6,14 @@ use Rattle.serde_json.specs.Find as find
 use Rattle.lens_values.specs.declared.value.Kind.{Kind}
 use Rattle.lens_values.specs.Value.{fits}
 use Rattle.lens_values.specs.declared.value.Value.{Value}
-use Rattle.lens_values.specs.declared.value.Value.TheVariants.{Int, Text, Flag}
+use Rattle.lens_values.specs.declared.value.Value.TheVariants.{Null, Int, Text, Flag}
 use Rattle.lens_values.specs.declared.row.Row.{Row}
 use Rattle.lens_specs.specs.Relation.{Name, Columns}
 use Rattle.server_specs.specs.Request.{text_in, first_other, least_of}
 
--- the value that the data says: a number of 64 bits, a text or a truth value
+-- the value that the data says: null, a number of 64 bits, a text or a truth value
 abbrev pub value_of : Data → Option Value
-value_of null = None
+value_of null = Some Null
 value_of (boolean b) = Some (Flag b)
 value_of (number n) = option_map Int (find.as_i64 n)
 value_of (string bytes) = option_map Text (text_in (string bytes))

@@ -5,4 +5,5 @@ mod giving;
 mod opening;
 pub mod running;
 
+pub use opening::open;
 pub use running::run;

@@ -20,7 +20,8 @@ use lens_server::Server;
 use rehearsal::rehearse;
 use request_text::{Reply, long_reply};
 use std::alloc::Global;
-use std::sync::ledger::Ledger;
+use std::marker::Brand;
+use std::sync::ledger::{Blank, Ledger};
 use step_counter::Steps;
 use table_keeper::Keeper;
 
@@ -123,16 +124,32 @@ pub fn run<S: Source, W: Sink, K: Keeper, L: Ledger>(
     ensures sink_later { W.faults sink.old ≤ W.faults sink.new }
     ensures keeper_later { K.faults keeper.old ≤ K.faults keeper.new }
 
-    // Edits and previews walk no table; each other line walks at most the rows of all tables. Where
-    // no line is answered nothing is walked.
+    // Edits, previews and finds by the left side of a dependency walk no table; each other line
+    // walks at most the rows of all tables. Where no line is answered nothing is walked.
     ensures walks_nothing { (result ≡ 2) ⊎ IsUnserved result
         → IfSome (settings (map string_bytes words.now)) (λ s. IfSome s.rehearse (λ _. result ≢ 3))
         → walked.new ≡ walked.old }
 {
     match read_settings(alloc, words) {
         Ok(settings) => match settings.rehearse {
-            Some(number) => rehearse_over(alloc, &settings, number, sink, keeper, walked),
-            None => serve_input(alloc, &settings, source, sink, keeper, walked),
+            Some(number) => rehearse_over::<W, K, L, Brand>(
+                alloc,
+                &settings,
+                number,
+                sink,
+                keeper,
+                walked,
+                Blank::new(1),
+            ),
+            None => serve_input::<S, W, K, L, Brand>(
+                alloc,
+                &settings,
+                source,
+                sink,
+                keeper,
+                walked,
+                Blank::new(1),
+            ),
         },
         Err(WordsFault::Refused) => {
             tell_usage(sink);
@@ -143,14 +160,18 @@ pub fn run<S: Source, W: Sink, K: Keeper, L: Ledger>(
 }
 
 /// Serves the lines of the source over the store.
-fn serve_input<S: Source, W: Sink, K: Keeper, L: Ledger>(
+fn serve_input<S: Source, W: Sink, K: Keeper, L: Ledger, M: Ledger>(
     alloc: Global,
     settings: &Settings<'_>,
     source: &mut S,
     sink: &mut W,
     keeper: &mut K,
     walked: &mut Steps<L>,
+    blank: Blank,
 ) -> u8
+    requires name { blank.name ≡ M.name }
+    requires parts { blank.parts ≡ M.parts }
+    requires one { blank.parts ≡ 1 }
     ensures serves { IsServed result → Runs (settings_view settings.now) K.stays result
         (S.left source.old) (S.left source.new) (W.taken sink.old) (W.taken sink.new)
         (K.faults keeper.old) (K.faults keeper.new) (K.contents keeper.old)
@@ -178,6 +199,7 @@ fn serve_input<S: Source, W: Sink, K: Keeper, L: Ledger>(
     };
     match open(alloc, settings.store, keeper) {
         Ok(mut server) => {
+            let mut looked = Steps::<M>::new(blank);
             serve(
                 alloc,
                 &mut cutter,
@@ -186,22 +208,28 @@ fn serve_input<S: Source, W: Sink, K: Keeper, L: Ledger>(
                 sink,
                 keeper,
                 walked,
+                &mut looked,
             )
         }
         Err(fault) => refuse(alloc, sink, fault),
     }
 }
 
-/// Answers the lines of the rehearsal of this number over the store, and gives their summary.
-fn rehearse_over<W: Sink, K: Keeper, L: Ledger>(
+/// Answers the lines of the rehearsal of this number over the store, with a counter of look-ups of
+/// its own, and gives their summary.
+fn rehearse_over<W: Sink, K: Keeper, L: Ledger, M: Ledger>(
     alloc: Global,
     settings: &Settings<'_>,
     number: u64,
     sink: &mut W,
     keeper: &mut K,
     walked: &mut Steps<L>,
+    blank: Blank,
 ) -> u8
-    requires { number ≤ 100000 }
+    requires name { blank.name ≡ M.name }
+    requires parts { blank.parts ≡ M.parts }
+    requires one { blank.parts ≡ 1 }
+    requires few { number ≤ 100000 }
     ensures rehearses { (result ≡ 0) ⊎ (result ≡ 5) → Rehearses (settings_view settings.now)
         number K.stays result (W.taken sink.old) (W.taken sink.new) (K.faults keeper.old)
         (K.faults keeper.new) (K.contents keeper.old) (K.contents keeper.new) walked.old walked.new }
@@ -226,16 +254,19 @@ fn rehearse_over<W: Sink, K: Keeper, L: Ledger>(
     ensures walks_nothing { (result ≡ 6) ⊎ (result ≡ 7) → walked.new ≡ walked.old }
 {
     match open(alloc, settings.store, keeper) {
-        Ok(mut server) => match rehearse(alloc, &mut server, keeper, number, walked) {
-            Ok(summary) => give_summary(sink, &summary),
-            Err(_) => 3,
-        },
+        Ok(mut server) => {
+            let mut looked = Steps::<M>::new(blank);
+            match rehearse(alloc, &mut server, keeper, number, walked, &mut looked) {
+                Ok(summary) => give_summary(sink, &summary),
+                Err(_) => 3,
+            }
+        }
         Err(fault) => refuse(alloc, sink, fault),
     }
 }
 
 /// Answers the lines of the source, one after another, to its end, to the limit or to a fault.
-fn serve<S: Source, W: Sink, K: Keeper, L: Ledger>(
+fn serve<S: Source, W: Sink, K: Keeper, L: Ledger, M: Ledger>(
     alloc: Global,
     cutter: &mut LineCutter,
     server: &mut Server,
@@ -243,6 +274,7 @@ fn serve<S: Source, W: Sink, K: Keeper, L: Ledger>(
     sink: &mut W,
     keeper: &mut K,
     walked: &mut Steps<L>,
+    looked: &mut Steps<M>,
 ) -> u8
     requires cutter { cutter.old ≡ record {
       pending = [];
@@ -270,7 +302,7 @@ fn serve<S: Source, W: Sink, K: Keeper, L: Ledger>(
         if cutter.done() {
             return status_of(cut);
         }
-        let reply = reply_to(alloc, server, keeper, cut, cutter.line(), walked);
+        let reply = reply_to(alloc, server, keeper, cut, cutter.line(), walked, looked);
         match give_reply(sink, reply) {
             Ok(()) => {}
             Err(Failed) => return 5,
@@ -290,13 +322,14 @@ fn status_of(cut: Cut) -> u8
 }
 
 /// Replies to a line, or to one that was too long.
-fn reply_to<K: Keeper, L: Ledger>(
+fn reply_to<K: Keeper, L: Ledger, M: Ledger>(
     alloc: Global,
     server: &mut Server,
     keeper: &mut K,
     cut: Cut,
     line: &[u8],
     walked: &mut Steps<L>,
+    looked: &mut Steps<M>,
 ) -> Reply
     requires room { server.old.version < 2 ^ 64 - 1 }
     requires told { Tells (K.contents keeper.old) (state.kept server.old) }
@@ -310,7 +343,7 @@ fn reply_to<K: Keeper, L: Ledger>(
         ≤ walked.old + most_walked (request (line_of cut line.now)) server.old }
 {
     match cut {
-        Cut::Line => server.answer(alloc, keeper, line, walked),
+        Cut::Line => server.answer(alloc, keeper, line, walked, looked),
         _ => long_reply(),
     }
 }

@@ -1,175 +1,200 @@
 //! Runs over sources, sinks and keepers whose calls are short, or fail.
-ghost use Rattle.std.specs.Prelude.{◌≤◌};
-
-use crate::runs::{
-    LIST, NONE_LISTED, NOT_JSON, NOT_STORED, TOO_LONG, failing, outcome, status_of, text_of,
-};
-use crate::scripts::{BASE, are, expect};
-use crate::stores::PUT_STOCK;
+use crate::runs::{PLAIN, Setting, expect, given, is_given, keeper};
+use crate::scripts::{BASE, PUT_STOCK, REFUSED_PUT, follow, side};
 use io_specs::LONGEST_LINE;
-use lens_io::{MemorySink, MemorySource, ROOM};
+use lens_io::ROOM;
 use std::alloc::Global;
 use std::test::Fail;
-use table_keeper::{Kept, MemoryKeeper, SureKeeper};
+use table_keeper::{Kept, SureKeeper};
 
-/// Questions about what is kept.
-const QUESTIONS: [&str; 3] = [
-    LIST,
-    r#"{"do":"read","view":"tracks"}"#,
-    r#"{"do":"read","view":"albums"}"#,
+// The line that words which are refused are answered with.
+const USAGE: &str = "usage: view_program [--store PATH] [--max-input N] [--rehearse N]\n";
+
+// Two and three requests for the definitions, each of 14 bytes, and the replies to one and two.
+const TWO: &str = "{\"do\":\"list\"}\n{\"do\":\"list\"}\n";
+
+const THREE: &str = "{\"do\":\"list\"}\n{\"do\":\"list\"}\n{\"do\":\"list\"}\n";
+
+const ONE_TOLD: &str = r#"{"definitions":[],"ok":true,"version":0}
+"#;
+
+const TWO_TOLD: &str = r#"{"definitions":[],"ok":true,"version":0}
+{"definitions":[],"ok":true,"version":0}
+"#;
+
+const NOT_JSON: &str = r#"{"error":11,"ok":false}
+"#;
+
+const NO_JSON_TWICE: &str = r#"{"error":11,"ok":false}
+{"error":11,"ok":false}
+"#;
+
+const REHEARSED: &str =
+    r#"{"accepted":30,"refused":0,"rows":{"albums":10,"stock":8,"tracks":20},"version":27}
+"#;
+
+// Words, the input, which calls of the source, the sink and the keeper fail, the status and the
+// output.
+const RUNS: [(&str, &str, [u64; 3], u8, &str); 23] = [
+    ("", "", [0, 0, 0], 0, ""),
+    ("", "x", [0, 0, 0], 0, NOT_JSON),
+    ("", "x\n\n", [0, 0, 0], 0, NO_JSON_TWICE),
+    ("--max-input 1", "x\ny\nz", [0, 0, 0], 8, ""),
+    ("--max-input 2", "x\ny\nz", [0, 0, 0], 8, NOT_JSON),
+    ("--max-input 3", "x\ny\nz", [0, 0, 0], 8, NOT_JSON),
+    ("--max-input 4", "x\ny\nz", [0, 0, 0], 8, NO_JSON_TWICE),
+    ("--max-input 4", "x\ny\n", [0, 0, 0], 0, NO_JSON_TWICE),
+    ("x", "x\n", [0, 0, 0], 2, USAGE),
+    ("x", "x\n", [0, 1, 0], 2, ""),
+    ("--help", TWO, [0, 0, 0], 2, USAGE),
+    ("--max-input 0", TWO, [0, 0, 0], 2, USAGE),
+    ("--store x --rehearse 3", TWO, [0, 0, 0], 2, USAGE),
+    ("", "x\n", [1, 0, 0], 4, ""),
+    ("", "x", [2, 0, 0], 4, ""),
+    ("", "x\n", [0, 1, 0], 5, ""),
+    ("", TWO, [0, 0, 1], 6, ""),
+    ("--store x", TWO, [0, 0, 1], 6, ""),
+    ("--rehearse 1", TWO, [0, 0, 1], 6, ""),
+    ("--max-input 28", TWO, [0, 0, 0], 0, TWO_TOLD),
+    ("--max-input 28", THREE, [0, 0, 0], 8, TWO_TOLD),
+    ("--max-input 27", TWO, [0, 0, 0], 8, ONE_TOLD),
+    ("--rehearse 10", TWO, [0, 0, 0], 0, REHEARSED),
 ];
 
-/// Every second line of the program's own script: its requests from the line at 0 on, its replies
-/// from the line at 1.
-pub(crate) fn script(alloc: Global, from: usize) -> Result<Vec<&'static str>, Fail> {
-    let mut lines = Vec::new(alloc);
-    for script in [BASE, PUT_STOCK] {
-        for line in script.lines().skip(from).step_by(2) {
-            lines.push(line)?;
-        }
+// Fails where the run does not end so.
+fn ends_so(
+    alloc: Global,
+    words: &str,
+    input: &str,
+    [from, to, refused]: [u64; 3],
+    status: u8,
+    output: &str,
+) -> Result<(), Fail> {
+    let setting = Setting {
+        words,
+        pieces: [ROOM, ROOM],
+        failing: [from, to],
+    };
+    let mut keeper = keeper(alloc, refused)?;
+    let input = Vec::from_slice(alloc, input.as_bytes())?;
+    let sink = given(alloc, setting, input, &mut keeper, status)?;
+    is_given(sink.bytes(), output.as_bytes())
+}
+
+#[test]
+fn runs_end(rt: HostRuntime) -> Result<(), Fail> {
+    for (words, input, failing, status, output) in RUNS {
+        ends_so(rt.alloc(), words, input, failing, status, output)?;
     }
-    Ok(lines)
+    Ok(())
 }
 
-/// What a run of the script over this source and this sink ends with.
-fn ended(alloc: Global, source: &mut MemorySource, sink: &mut MemorySink) -> Result<u8, Fail> {
-    let mut keeper = SureKeeper::holding(Kept::nothing(alloc));
-    status_of(alloc, "", source, sink, &mut keeper)
-}
-
-/// A source of the script's requests, all at once, of which this call fails.
-fn whole_source(alloc: Global, call: u64) -> Result<MemorySource, Fail> {
-    let requests = text_of(alloc, &script(alloc, 0)?)?;
-    Ok(MemorySource::new(requests, 4096, failing(alloc, call)?))
-}
-
-/// Fails where a source of such pieces does not lead to the script's replies.
-fn is_answered(alloc: Global, piece: usize) -> Result<(), Fail>
-    requires { 1 ≤ piece }
-{
-    let requests = text_of(alloc, &script(alloc, 0)?)?;
-    let mut source = MemorySource::new(requests, piece, Vec::new(alloc));
-    let mut sink = MemorySink::new(alloc, 10_000, ROOM, Vec::new(alloc))?;
-    let status = ended(alloc, &mut source, &mut sink)?;
-    expect(status == 0, "the status")?;
-    are(sink.bytes(), &script(alloc, 1)?)
-}
-
-#[test]
-fn pieces(rt: HostRuntime) -> Result<(), Fail> {
-    let alloc = rt.alloc();
-    is_answered(alloc, 1)?;
-    is_answered(alloc, 2)?;
-    is_answered(alloc, 4096)
-}
-
-#[test]
-fn sources_that_fail(rt: HostRuntime) -> Result<(), Fail> {
-    let alloc = rt.alloc();
+// How many bytes a call of the source gives and one of the sink takes, which of their calls fail, the
+// status, and how many bytes of the replies are given, if not all.
+const PIECES: [([usize; 2], [u64; 2], u8, usize); 10] = [
+    ([1, ROOM], [0, 0], 0, ROOM),
+    ([2, 3], [0, 0], 0, ROOM),
+    ([4096, 1], [0, 0], 0, ROOM),
     // The first call gives the whole input, and the second finds its end.
-    for (call, replies) in [(1, Vec::new(alloc)), (2, script(alloc, 1)?)] {
-        let mut sink = MemorySink::new(alloc, 10_000, ROOM, Vec::new(alloc))?;
-        let status = ended(alloc, &mut whole_source(alloc, call)?, &mut sink)?;
-        expect(status == 4, "the status")?;
-        are(sink.bytes(), &replies)?;
-    }
-    Ok(())
+    ([4096, ROOM], [1, 0], 4, 0),
+    ([4096, ROOM], [2, 0], 4, ROOM),
+    ([4096, 8], [0, 1], 5, 0),
+    ([4096, 8], [0, 2], 5, 8),
+    ([4096, 8], [0, 3], 5, 16),
+    ([4096, 8], [0, 4], 5, 24),
+    ([4096, 8], [0, 10], 5, 72),
+];
+
+// Fails where a run of the script does not end with this status, or gives more or less of the replies.
+fn gives_front(
+    alloc: Global,
+    pieces: [usize; 2],
+    failing: [u64; 2],
+    status: u8,
+    count: usize,
+) -> Result<(), Fail> {
+    let setting = Setting {
+        words: "",
+        pieces,
+        failing,
+    };
+    let mut keeper = SureKeeper::holding(Kept::nothing(alloc));
+    let requests = side(alloc, &[BASE, PUT_STOCK], 0)?;
+    let sink = given(alloc, setting, requests, &mut keeper, status)?;
+    let replies = side(alloc, &[BASE, PUT_STOCK], 1)?;
+    let front = replies.get(..count).unwrap_or(replies.as_slice());
+    expect(sink.bytes() == front, "the front of the replies")
 }
 
 #[test]
-fn sinks_that_fail(rt: HostRuntime) -> Result<(), Fail> {
-    let alloc = rt.alloc();
-    let replies = text_of(alloc, &script(alloc, 1)?)?;
-    // The call that fails, and how many bytes were taken before it.
-    for (call, taken) in [
-        (1, 0),
-        (2, 8),
-        (3, 16),
-        (4, 24),
-        (5, 32),
-        (6, 40),
-        (7, 48),
-        (8, 56),
-        (9, 64),
-        (10, 72),
-    ] {
-        let mut sink = MemorySink::new(alloc, 10_000, 8, failing(alloc, call)?)?;
-        let status = ended(alloc, &mut whole_source(alloc, 0)?, &mut sink)?;
-        expect(status == 5, "the status")?;
-        expect(sink.bytes().len() == taken, "the bytes taken")?;
-        expect(replies.starts_with(sink.bytes()), "the front")?;
+fn devices_fail(rt: HostRuntime) -> Result<(), Fail> {
+    for (pieces, failing, status, count) in PIECES {
+        gives_front(rt.alloc(), pieces, failing, status, count)?;
     }
     Ok(())
 }
 
-/// Adds a request for the definitions that is so long, and its newline.
-fn add_blanks(bytes: &mut Vec<u8>, alloc: Global, length: usize) -> Result<(), Fail> {
-    let mut line = Vec::from_slice(alloc, LIST.as_bytes())?;
+// Adds a request for the definitions that is so long, and its newline.
+fn add_blanks(alloc: Global, bytes: &mut Vec<u8>, length: usize) -> Result<(), Fail> {
+    let mut line = Vec::from_slice(alloc, b"{\"do\":\"list\"}")?;
     line.resize(length, b' ')?;
     line.push(b'\n')?;
     bytes.extend_from_slice(line.as_slice())?;
     Ok(())
 }
 
+// Lines that are no UTF-8: a byte that begins no character, a slash in two bytes, half of a surrogate
+// pair, one past the last character, and a character cut short.
+const NO_UTF8: &[u8] =
+    b"\n{\"do\":\"list\"}\r\n\"\x80\"\n\"\xc0\xaf\"\n\"\xed\xa0\x80\"\n\"\xf4\x90\x80\x80\"\n[\"\xe2\x82\"]\n";
+
+// Requests of which one is too long, and lines that are no JSON.
+fn long_lines(alloc: Global) -> Result<Vec<u8>, Fail> {
+    let mut bytes = Vec::from_slice(alloc, NO_UTF8)?;
+    bytes.resize(200_000, b'[')?;
+    bytes.push(b'\n')?;
+    for length in [LONGEST_LINE, LONGEST_LINE + 1, 20] {
+        add_blanks(alloc, &mut bytes, length)?;
+    }
+    Ok(bytes)
+}
+
+const LONG_LINES_TOLD: &str = r#"{"error":11,"ok":false}
+{"definitions":[],"ok":true,"version":0}
+{"error":11,"ok":false}
+{"error":11,"ok":false}
+{"error":11,"ok":false}
+{"error":11,"ok":false}
+{"error":11,"ok":false}
+{"error":11,"ok":false}
+{"definitions":[],"ok":true,"version":0}
+{"error":10,"ok":false}
+{"definitions":[],"ok":true,"version":0}
+"#;
+
 #[test]
 fn longest_lines(rt: HostRuntime) -> Result<(), Fail> {
     let alloc = rt.alloc();
-    let mut bytes = Vec::from_slice(alloc, b"\n{\"do\":\"list\"}\r\n")?;
-    for length in [LONGEST_LINE, LONGEST_LINE + 1, 20] {
-        add_blanks(&mut bytes, alloc, length)?;
-    }
-    let mut source = MemorySource::new(bytes, ROOM, Vec::new(alloc));
-    let mut sink = MemorySink::new(alloc, 1000, ROOM, Vec::new(alloc))?;
+    let setting = Setting {
+        pieces: [ROOM, ROOM],
+        ..PLAIN
+    };
     let mut keeper = SureKeeper::holding(Kept::nothing(alloc));
-    let status = status_of(alloc, "", &mut source, &mut sink, &mut keeper)?;
-    assert_eq!(rt; status, 0);
-    let replies = [NOT_JSON, NONE_LISTED, NONE_LISTED, TOO_LONG, NONE_LISTED];
-    assert_eq!(rt; sink.bytes(), text_of(alloc, &replies)?.as_slice());
-    Ok(())
+    let sink = given(alloc, setting, long_lines(alloc)?, &mut keeper, 0)?;
+    is_given(sink.bytes(), LONG_LINES_TOLD.as_bytes())
 }
 
-/// Fails where the later reply does not tell what this one does, versions apart.
-fn is_alike(reply: &str, later: &str) -> Result<(), Fail> {
-    let told = reply.split(r#","version""#).next().ok_or("no reply")?;
-    expect(later.starts_with(told), later)
-}
-
-/// Fails where this call of the keeper, which commits the line after the first `kept` ones, is not
-/// refused, or where what is loaded then is not what was shown.
-fn fails_once(alloc: Global, call: u64, kept: usize, sent: usize) -> Result<(), Fail> {
-    let mut keeper = MemoryKeeper::holding(Kept::nothing(alloc), failing(alloc, call)?);
-    let mut lines = script(alloc, 0)?;
-    lines.truncate(sent);
-    lines.extend_from_slice(&QUESTIONS)?;
-    let (status, sink) = outcome(alloc, "", &lines, &mut keeper)?;
-    expect(status == 0, "the status")?;
-    let mut wanted = script(alloc, 1)?;
-    wanted.truncate(kept);
-    wanted.push(NOT_STORED)?;
-    let mut replies = str::from_utf8(sink.bytes())?.lines();
-    for line in &wanted {
-        let reply = replies.next().ok_or("no reply")?;
-        expect(reply == *line, reply)?;
-    }
-    let (_status, again) = outcome(alloc, "", &QUESTIONS, &mut keeper)?;
-    for later in str::from_utf8(again.bytes())?.lines() {
-        is_alike(replies.next().ok_or("no answer")?, later)?;
-    }
-    expect(replies.next().is_none(), "a reply too many")
-}
+// What a later run finds then.
+const FOUND_LATER: &str = r#"{"do":"list"}
+{"definitions":["table tracks (track text, date int, rating int, album text) with track -> date rating","table albums (album text, quantity int) with album -> quantity","view stock = select from (drop date determined by (track, 2018) from (join_dl tracks with albums)) where quantity > 2"],"ok":true,"version":0}
+{"do":"read","view":"tracks"}
+{"ok":true,"rows":[{"album":"Galore","date":1989,"rating":3,"track":"Lullaby"},{"album":"Galore","date":1989,"rating":5,"track":"Lovesong"},{"album":"Paris","date":1989,"rating":5,"track":"Lovesong"},{"album":"Show","date":1989,"rating":3,"track":"Lullaby"},{"album":"Wish","date":1992,"rating":4,"track":"Trust"}],"version":0}
+{"do":"read","view":"albums"}
+{"ok":true,"rows":[{"album":"Disintegration","quantity":6},{"album":"Galore","quantity":1},{"album":"Paris","quantity":4},{"album":"Show","quantity":3},{"album":"Wish","quantity":5}],"version":0}"#;
 
 #[test]
-fn keepers_that_fail(rt: HostRuntime) -> Result<(), Fail> {
-    // The call that fails, and how many lines come before the refused one, and with it.
-    for (call, kept, sent) in [
-        (2, 0, 1),
-        (3, 1, 2),
-        (4, 2, 3),
-        (5, 3, 4),
-        (6, 4, 5),
-        (7, 5, 6),
-    ] {
-        fails_once(rt.alloc(), call, kept, sent)?;
-    }
-    Ok(())
+fn refused_changes_are_not_kept(rt: HostRuntime) -> Result<(), Fail> {
+    let mut keeper = keeper(rt.alloc(), 7)?;
+    follow(rt.alloc(), &mut keeper, &[BASE, REFUSED_PUT])?;
+    follow(rt.alloc(), &mut keeper, &[FOUND_LATER])
 }

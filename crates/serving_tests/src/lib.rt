@@ -4,6 +4,8 @@
 #[cfg(test)]
 mod devices;
 #[cfg(test)]
+mod looks;
+#[cfg(test)]
 mod previews;
 #[cfg(test)]
 mod runs;
@@ -11,5 +13,3 @@ mod runs;
 mod scripts;
 #[cfg(test)]
 mod stores;
-#[cfg(test)]
-mod words;

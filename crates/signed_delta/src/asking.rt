@@ -6,8 +6,7 @@ ghost use Rattle.lens_specs.specs.Rows.{at};
 ghost use Rattle.lens_laws.specs.KeyedDeltas.{found_each};
 
 use crate::look::Look;
-use crate::sides::append;
-use lens_values::{Names, NoMemory};
+use lens_values::{Names, NoMemory, append};
 use row_sets::RowSet;
 use std::alloc::Global;
 use std::sync::ledger::Ledger;

@@ -3,13 +3,14 @@ ghost use Rattle.std.specs.Prelude.{◌≡◌, ◌≤◌, ◌+◌, ◌*◌, ℕ,
 ghost use Rattle.lens_values.specs.SortedSet as set;
 ghost use Rattle.lens_specs.specs.Delta as spec;
 ghost use Rattle.lens_specs.specs.Delta.{AppliesTo};
+ghost use Rattle.lens_laws.specs.Work.{rows_of};
 ghost use Rattle.signed_delta.specs.Disjoint.{AreApart};
 ghost use Rattle.lens_specs.specs.Relation.{Fits};
 
 use crate::asking::{absent, present};
 use crate::look::Look;
 use crate::sides::both_sides;
-use lens_values::{Name, NoMemory};
+use lens_values::{Name, NoMemory, TryClone};
 use row_sets::{Relation, RowSet};
 use std::alloc::Global;
 use std::marker::Model;
@@ -130,6 +131,12 @@ impl TableDelta {
     }
 }
 
+impl TryClone for TableDelta {
+    fn try_clone(&self, alloc: Global) -> Result<TableDelta, NoMemory> {
+        self.copy(alloc)
+    }
+}
+
 /// The difference from the old rows to the new ones, found by one walk along both.
 pub fn diff(alloc: Global, old: &Relation, new: &Relation) -> Result<Delta, NoMemory>
     requires { new.now.columns ≡ old.now.columns }
@@ -158,6 +165,8 @@ pub fn of_touched<K: Look, L: Ledger>(
         ≡ spec.diff V (spec.new_view V (record { remove = remove.now; add = add.now }))) }
     ensures looks { (n : ℕ) → K.within look.now n → looked.new ≤ looked.old
         + n * (length (set.items remove.now) + length (set.items add.now)) }
+    ensures few { IfOk result (λ delta. rows_of delta
+        ≤ length (set.items remove.now) + length (set.items add.now)) }
 {
     let rest = remove.minus(alloc, add)?;
     let gone = present(alloc, &rest, look, looked)?;

@@ -4,6 +4,7 @@ ghost use Rattle.lens_values.specs.SortedSet as set;
 ghost use Rattle.lens_specs.specs.Names as names;
 ghost use Rattle.lens_specs.specs.Relation as spec;
 ghost use Rattle.lens_laws.specs.KeyedDeltas.{find_by};
+ghost use Rattle.lens_laws.specs.Work.{GivesAtMost};
 ghost use Rattle.signed_delta.specs.Keys.{IsKey};
 
 use lens_values::{Columns, Names, NoMemory, Row};
@@ -21,13 +22,16 @@ pub trait Look {
     // The sets of columns by which it may be asked.
     ghost asked: { Self → List names.Names };
 
-    // One question looks at no more than so many rows, and finds no more.
+    // One question looks at no more than so many rows, at least one, and finds no more.
     ghost within: { Self → ℕ → Type 0 };
 
     /// The columns that each row of the relation has.
     fn columns(&self) -> &Columns
         ensures columns { result.now ≡ (relation self.now).columns }
-        ensures fit { spec.IsRelation (relation self.now) };
+        ensures fit { spec.IsRelation (relation self.now) }
+        ensures some { (n : ℕ) → within self.now n → 1 ≤ n }
+        ensures gives { (n : ℕ) → within self.now n
+            → GivesAtMost n (asked self.now) (relation self.now).rows };
 
     /// Whether the row is in the relation.
     fn has<L: Ledger>(
@@ -61,6 +65,16 @@ pub trait Look {
 /// Does nothing, and tells a proof that each row of the look's relation has its columns.
 pub fn rows_fit<K: Look>(look: &K)
     ensures { spec.IsRelation (K.relation look.now) }
+{
+    let _columns = look.columns();
+}
+
+/// Does nothing, and tells a proof that a question looks at one row at least, and that no look-up
+/// finds more rows than a question may look at.
+pub fn finds_are_few<K: Look>(look: &K)
+    ensures some { (n : ℕ) → K.within look.now n → 1 ≤ n }
+    ensures gives { (n : ℕ) → K.within look.now n
+        → GivesAtMost n (K.asked look.now) (K.relation look.now).rows }
 {
     let _columns = look.columns();
 }

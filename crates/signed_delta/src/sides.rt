@@ -1,10 +1,10 @@
 //! The rows that only one of two lists has.
-ghost use Rattle.std.specs.Prelude.{◌≡◌, ◌++◌, IfOk, OnOk, filter, not};
+ghost use Rattle.std.specs.Prelude.{◌≡◌, IfOk, filter, not};
 ghost use Rattle.std.specs.List.Sorted.{IsStrictlySortedBy};
 ghost use Rattle.lens_values.specs.Row.{row_cmp};
 ghost use Rattle.row_sets.specs.Members.{is_in};
 
-use lens_values::{NoMemory, Row};
+use lens_values::{NoMemory, Row, append};
 use std::alloc::Global;
 use std::cmp::Ordering;
 
@@ -49,14 +49,4 @@ pub fn both_sides(alloc: Global, old: &[Row], new: &[Row]) -> Result<Sides, NoMe
     append(&mut remove, alloc, &old[i..])?;
     append(&mut add, alloc, &new[j..])?;
     Ok(Sides { remove, add })
-}
-
-/// Adds copies of the rows at the end.
-pub fn append(list: &mut Vec<Row>, alloc: Global, rows: &[Row]) -> Result<(), NoMemory>
-    ensures { OnOk result (list.new.items ≡ list.old.items ++ rows.now) }
-{
-    for row in rows {
-        list.push(row.copy(alloc)?)?;
-    }
-    Ok(())
 }

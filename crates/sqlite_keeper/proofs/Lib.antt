@@ -1,3 +1,4 @@
 pub mod CellsLemmas
+pub mod CellsListed
 pub mod NamesAlike
 pub mod Texts

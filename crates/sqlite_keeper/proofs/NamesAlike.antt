@@ -1,22 +1,13 @@
 -- Names as a set has them, and as columns and rows do.
-use Rattle.std.proofs.Common.{◌≡◌, ◌∙◌, ℕ, List, ap, refl, sym}
-use Rattle.std.specs.Prelude.{◌↔◌, IsTrue}
-use Rattle.std.specs.Cmp.Lexicographic.{nat_list_cmp_total, pointwise_decides, bytes_decides}
+use Rattle.std.proofs.Common.{◌≡◌, ◌∙◌, ℕ, List, ap, sym}
+use Rattle.std.specs.Cmp.Lexicographic.{nat_list_cmp_total}
 use Rattle.std.specs.FinMap.{entries, keys}
 use Rattle.lens_values.specs.Columns.{Columns, names}
-use Rattle.lens_values.specs.Names.{Names, same_names}
+use Rattle.lens_values.specs.Names.{Names}
 use Rattle.lens_values.specs.Order.{bytes_cmp}
 use Rattle.lens_values.specs.SortedMap.{keys_of, keys_rise}
 use Rattle.lens_values.specs.SortedSet.{items, items-from_list}
 use Rattle.lens_values.specs.declared.value.Kind.{Kind}
-use Rattle.lens_values.proofs.NamesLemmas.{same_is, same_lists}
-
--- sets have the same names where their lists are the same
-pub names_alike : (X Y : Names) (xs : List (List ℕ)) → items X ≡ xs → IsTrue (same_names X Y) ↔ (xs ≡ items Y)
-names_alike X Y xs list = (
-  λ t. sym list ∙ ap items (same_is X Y t),
-  λ e. sym (same_lists X Y (items X) (items Y) refl refl) ∙ (pointwise_decides bytes_decides (items X) (items Y)).1 (list ∙ e),
-)
 
 -- the set of the columns' names has those of their pairs, in the same order
 pub names_listed : (U : Columns) (X : Names) (es : List (List ℕ × Kind)) → X ≡ names U → es ≡ entries U → items X ≡ keys_of es

@@ -1,12 +1,12 @@
 //! One change, made in one transaction.
-ghost use Rattle.std.specs.Prelude.{◌≡◌, ◌↔◌, IsTrue, IfOk, string_bytes};
-ghost use Rattle.std.specs.FinMap as map;
-ghost use Rattle.lens_values.specs.SortedSet as set;
+ghost use Rattle.std.specs.Prelude.{IfOk, string_bytes};
+ghost use Rattle.lens_values.specs.Columns.{Fits};
 ghost use Rattle.sqlite_keeper.specs.Making.{MakesTable};
 
 use crate::cells::cells_of;
+use crate::known::KnownColumns;
 use crate::refusal::Refusal;
-use lens_values::{Name, Names, Row, Text};
+use lens_values::{Columns, Name, Row, Text};
 use signed_delta::TableDelta;
 use sqlite::{Alter, Connection, Statement, Transaction, params};
 use std::alloc::Global;
@@ -18,15 +18,19 @@ use view_lang::{Definition, parse};
 pub fn change<S: Alter>(
     alloc: Global,
     conn: &mut Connection<S>,
+    known: &mut KnownColumns,
     change: &Change,
 ) -> Result<(), Refusal> {
+    if let Change::Rows { deltas } = change {
+        known.learn(alloc, conn, deltas)?;
+    }
     if !conn.is_autocommit() {
         return Err(Refusal::Failed);
     }
     let mut transaction = conn.transaction();
     match change {
         Change::Define { text, table } => define(alloc, &mut transaction, text, *table)?,
-        Change::Rows { deltas } => change_tables(alloc, &mut transaction, deltas)?,
+        Change::Rows { deltas } => change_tables(alloc, &mut transaction, known, deltas)?,
     }
     transaction.commit()?;
     Ok(())
@@ -91,69 +95,88 @@ fn create_of(alloc: Global, definition: &Definition, table: &Name) -> Result<Str
     }
 }
 
-// Makes the differences of the tables.
+// Makes the differences of the tables, whose columns are known.
 fn change_tables<S: Alter>(
     alloc: Global,
     transaction: &mut Transaction<'_, S>,
+    known: &KnownColumns,
     deltas: &[TableDelta],
 ) -> Result<(), Refusal> {
     for change in deltas {
-        remove_rows(
-            alloc,
-            transaction,
-            &change.table,
-            change.delta.remove().rows(),
-        )?;
-        add_rows(alloc, transaction, &change.table, change.delta.add().rows())?;
+        match known.of(&change.table) {
+            Some(columns) => change_table(alloc, transaction, columns, change)?,
+            None => return Err(Refusal::Failed),
+        }
     }
     Ok(())
+}
+
+// Makes the difference of a table with these columns.
+fn change_table<S: Alter>(
+    alloc: Global,
+    transaction: &mut Transaction<'_, S>,
+    columns: &Columns,
+    change: &TableDelta,
+) -> Result<(), Refusal> {
+    remove_rows(
+        alloc,
+        transaction,
+        &change.table,
+        columns,
+        change.delta.remove().rows(),
+    )?;
+    add_rows(
+        alloc,
+        transaction,
+        &change.table,
+        columns,
+        change.delta.add().rows(),
+    )
 }
 
 fn remove_rows<S: Alter>(
     alloc: Global,
     transaction: &mut Transaction<'_, S>,
     table: &Name,
+    columns: &Columns,
     rows: &[Row],
 ) -> Result<(), Refusal> {
-    match rows.first() {
-        None => Ok(()),
-        Some(first) => {
-            let text = delete_text(alloc, table, first.names().as_slice())?;
-            run_for_each(alloc, transaction, text.as_str(), first.names(), rows)
-        }
+    if rows.is_empty() {
+        return Ok(());
     }
+    let text = delete_text(alloc, table, columns.pairs())?;
+    run_for_each(alloc, transaction, text.as_str(), columns, rows)
 }
 
 fn add_rows<S: Alter>(
     alloc: Global,
     transaction: &mut Transaction<'_, S>,
     table: &Name,
+    columns: &Columns,
     rows: &[Row],
 ) -> Result<(), Refusal> {
-    match rows.first() {
-        None => Ok(()),
-        Some(first) => {
-            let text = insert_text(alloc, table, first.names().as_slice())?;
-            run_for_each(alloc, transaction, text.as_str(), first.names(), rows)
-        }
+    if rows.is_empty() {
+        return Ok(());
     }
+    let text = insert_text(alloc, table, columns.pairs())?;
+    run_for_each(alloc, transaction, text.as_str(), columns, rows)
 }
 
-// Runs the statement for each of the rows, which have columns of these names. Each time it is to
-// change one row.
+// Runs the statement for each of the rows, which are to fit the columns. Each time it is to change
+// one row.
 fn run_for_each<S: Alter>(
     alloc: Global,
     transaction: &mut Transaction<'_, S>,
     text: &str,
-    names: &Names,
+    columns: &Columns,
     rows: &[Row],
 ) -> Result<(), Refusal> {
     let statement = transaction.prepare(text)?;
     for row in rows {
-        if !has_names(row, names) {
+        if !row.fits(columns) {
             return Err(Refusal::Failed);
         }
-        run_once(alloc, transaction, &statement, row)?;
+        run_once(alloc, transaction, &statement, columns, row)?;
     }
     Ok(())
 }
@@ -163,19 +186,15 @@ fn run_once<S: Alter>(
     alloc: Global,
     transaction: &mut Transaction<'_, S>,
     statement: &Statement,
+    columns: &Columns,
     row: &Row,
-) -> Result<(), Refusal> {
-    let cells = cells_of(alloc, row.values())?;
+) -> Result<(), Refusal>
+    requires { Fits columns.now row.now }
+{
+    let cells = cells_of(alloc, columns.pairs(), row.values())?;
     if transaction.execute_prepared(statement, &cells)? == 1 {
         Ok(())
     } else {
         Err(Refusal::Failed)
     }
-}
-
-// Whether the row has columns of exactly these names.
-fn has_names(row: &Row, names: &Names) -> bool
-    ensures { IsTrue result ↔ (map.keys row.now ≡ set.items names.now) }
-{
-    row.names().same(names)
 }

@@ -6,6 +6,7 @@ ghost use Rattle.sqlite_keeper.specs.Answers.{AnswersTo};
 
 use crate::changing::change;
 use crate::format::prepare;
+use crate::known::KnownColumns;
 use crate::loading::load;
 use crate::logs::Log;
 use crate::refusal::Refusal;
@@ -39,6 +40,7 @@ pub enum Answer {
 pub struct Database<'a> {
     rt: &'a HostRuntime,
     conn: Connection<FileStore<File>>,
+    known: KnownColumns,
     // None where it is not known, and then it stays at the end.
     log: Option<Log>,
 }
@@ -47,7 +49,13 @@ pub struct Database<'a> {
 // log stays beside the file, and the next open reads both.
 impl Drop for Database<'_> {
     fn drop(self) {
-        let Database { rt, conn, log } = self;
+        let Database {
+            rt,
+            conn,
+            known,
+            log,
+        } = self;
+        drop(known);
         if let Ok(locked) = close(conn) {
             remove(rt, log, &locked);
         }
@@ -60,7 +68,13 @@ impl<'a> Database<'a> {
         refuse_short(rt, path)?;
         let conn = Connection::open(rt, path)?;
         let log = Log::of(rt, path).ok();
-        let mut database = Database { rt, conn, log };
+        let known = KnownColumns::new(alloc);
+        let mut database = Database {
+            rt,
+            conn,
+            known,
+            log,
+        };
         database.serve(alloc, Request::Prepare)?;
         Ok(database)
     }
@@ -70,13 +84,14 @@ impl<'a> Database<'a> {
     pub fn serve(&mut self, alloc: Global, request: Request<'_>) -> Result<Answer, Refusal>
         ensures { IfOk result (AnswersTo request.entry) }
     {
-        serve(alloc, &mut self.conn, request)
+        serve(alloc, &mut self.conn, &mut self.known, request)
     }
 }
 
 fn serve<S: Alter>(
     alloc: Global,
     conn: &mut Connection<S>,
+    known: &mut KnownColumns,
     request: Request<'_>,
 ) -> Result<Answer, Refusal>
     ensures { IfOk result (AnswersTo request.entry) }
@@ -88,7 +103,7 @@ fn serve<S: Alter>(
         }
         Request::Load => Ok(Answer::Kept(load(alloc, conn)?)),
         Request::Change(made) => {
-            change(alloc, conn, made)?;
+            change(alloc, conn, known, made)?;
             Ok(Answer::Done)
         }
     }

@@ -9,18 +9,18 @@ use std::alloc::Global;
 const MAKE: &str = "BEGIN;
 CREATE TABLE lens_format (number INTEGER NOT NULL) STRICT;
 CREATE TABLE lens_defs (place INTEGER PRIMARY KEY, text TEXT NOT NULL) STRICT;
-INSERT INTO lens_format (number) VALUES (1);
+INSERT INTO lens_format (number) VALUES (2);
 COMMIT";
 
 /// Makes the first two tables where there is no table of a store, and else tests the format's
-/// number.
+/// number. A store of format 1 is taken to format 2, which holds each of its tables as it is.
 pub fn prepare<S: Alter>(alloc: Global, conn: &mut Connection<S>) -> Result<(), Refusal> {
     let tables = table_names(alloc, conn)?;
     if !tables.iter().any(|name| is_of_store(name.as_str())) {
         conn.execute_batch(MAKE)?;
         return Ok(());
     }
-    test_format(conn)
+    take_format(conn)
 }
 
 // Whether a table of this name is one of a store's.
@@ -30,13 +30,31 @@ fn is_of_store(name: &str) -> bool
     name == "lens_format" || name == "lens_defs" || name.starts_with("t_")
 }
 
-// Whether the store has the one number of this format, and definitions.
-fn test_format<S: Alter>(conn: &mut Connection<S>) -> Result<(), Refusal> {
-    let numbers = conn.query_all("SELECT number FROM lens_format", &[])?;
+// Tests that the store has definitions and one number, and takes a store of format 1 to format 2.
+fn take_format<S: Alter>(conn: &mut Connection<S>) -> Result<(), Refusal> {
     let _definitions = conn.prepare("SELECT place, text FROM lens_defs")?;
+    let numbers = conn.query_all("SELECT number FROM lens_format", &[])?;
     match numbers.as_slice() {
-        [row] if row.get::<i64>(0)? == 1 => Ok(()),
+        [row] => take_number(conn, row.get::<i64>(0)?),
         _ => Err(Refusal::Failed),
+    }
+}
+
+// Takes a store with this number to format 2.
+fn take_number<S: Alter>(conn: &mut Connection<S>, number: i64) -> Result<(), Refusal> {
+    match number {
+        2 => Ok(()),
+        1 => raise_number(conn),
+        _ => Err(Refusal::Failed),
+    }
+}
+
+// Writes 2 in place of 1, which is to change the one row.
+fn raise_number<S: Alter>(conn: &mut Connection<S>) -> Result<(), Refusal> {
+    if conn.execute("UPDATE lens_format SET number = 2", &[])? == 1 {
+        Ok(())
+    } else {
+        Err(Refusal::Failed)
     }
 }
 

@@ -6,6 +6,7 @@ mod changing;
 mod database;
 mod format;
 pub mod keeper;
+mod known;
 mod loading;
 mod logs;
 mod placing;

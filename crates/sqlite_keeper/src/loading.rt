@@ -30,8 +30,8 @@ pub fn load<S: Alter>(alloc: Global, conn: &mut Connection<S>) -> Result<Kept, R
     })
 }
 
-// The texts of the definitions, in order of their places.
-fn definition_texts<S: Alter>(
+/// The texts of the definitions, in order of their places.
+pub fn definition_texts<S: Alter>(
     alloc: Global,
     conn: &mut Connection<S>,
 ) -> Result<Vec<Text>, Refusal> {

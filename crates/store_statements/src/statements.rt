@@ -1,9 +1,8 @@
 //! The texts of the statements over a table.
-ghost use Rattle.std.specs.Prelude.{◌≡◌, ◌++◌, IfOk, OnOk, codes, flat_map, string_bytes};
-ghost use Rattle.lens_values.specs.SortedMap.{keys_of};
+ghost use Rattle.std.specs.Prelude.{◌≡◌, ◌++◌, IfOk, OnOk, flat_map, string_bytes};
 ghost use Rattle.store_statements.specs.Statements.{create_text, delete_text, insert_text, select_text};
-ghost use Rattle.store_statements.specs.Statements.{column_text, listed, marks_text, names_text};
-ghost use Rattle.store_statements.specs.Statements.{piece, type_text};
+ghost use Rattle.store_statements.specs.Statements.{column_text, first_marks, listed, marks_text, more_marks, names_text};
+ghost use Rattle.store_statements.specs.Statements.{mark_piece, piece, pieces, type_text};
 
 use lens_values::{Kind, Name};
 use std::alloc::{AllocError, Global};
@@ -16,13 +15,12 @@ pub fn create_text(
 ) -> Result<String, AllocError>
     ensures { IfOk result (λ text. string_bytes text ≡ create_text table.now columns.now) }
 {
-    let names = names_of(alloc, columns)?;
     let mut text = String::from_str(alloc, "CREATE TABLE t_")?;
     text.push_str(table.as_str())?;
     text.push_str(" (")?;
     push_columns(&mut text, columns)?;
     text.push_str("UNIQUE (")?;
-    push_names(&mut text, names.as_slice())?;
+    push_names(&mut text, columns)?;
     text.push_str(")) STRICT")?;
     Ok(text)
 }
@@ -35,106 +33,158 @@ pub fn select_text(
 ) -> Result<String, AllocError>
     ensures { IfOk result (λ text. string_bytes text ≡ select_text table.now columns.now) }
 {
-    let names = names_of(alloc, columns)?;
     let mut text = String::from_str(alloc, "SELECT ")?;
-    push_names(&mut text, names.as_slice())?;
+    push_names(&mut text, columns)?;
     text.push_str(" FROM t_")?;
     text.push_str(table.as_str())?;
     Ok(text)
 }
 
-/// Adds a row with columns of these names.
-pub fn insert_text(alloc: Global, table: &Name, names: &[Name]) -> Result<String, AllocError>
-    ensures { IfOk result (λ text. string_bytes text ≡ insert_text table.now names.now) }
+/// Adds a row with these columns.
+pub fn insert_text(
+    alloc: Global,
+    table: &Name,
+    columns: &[(Name, Kind)],
+) -> Result<String, AllocError>
+    ensures { IfOk result (λ text. string_bytes text ≡ insert_text table.now columns.now) }
 {
     let mut text = String::from_str(alloc, "INSERT INTO t_")?;
     text.push_str(table.as_str())?;
     text.push_str(" (")?;
-    push_names(&mut text, names)?;
+    push_names(&mut text, columns)?;
     text.push_str(") VALUES (")?;
-    push_marks(&mut text, names)?;
+    push_marks(&mut text, columns)?;
     text.push_str(")")?;
     Ok(text)
 }
 
-/// Removes the row that has given values in the columns of these names.
-pub fn delete_text(alloc: Global, table: &Name, names: &[Name]) -> Result<String, AllocError>
-    ensures { IfOk result (λ text. string_bytes text ≡ delete_text table.now names.now) }
+/// Removes the row that has given values in these columns.
+pub fn delete_text(
+    alloc: Global,
+    table: &Name,
+    columns: &[(Name, Kind)],
+) -> Result<String, AllocError>
+    ensures { IfOk result (λ text. string_bytes text ≡ delete_text table.now columns.now) }
 {
     let mut text = String::from_str(alloc, "DELETE FROM t_")?;
     text.push_str(table.as_str())?;
     text.push_str(" WHERE ")?;
-    push_listed(&mut text, names, "c_", " AND c_", " = ?")?;
+    push_listed(&mut text, columns, "c_", " AND c_", " AND n_", " = ?")?;
     Ok(text)
 }
 
-// The columns' names, in their order.
-fn names_of(alloc: Global, columns: &[(Name, Kind)]) -> Result<Vec<Name>, AllocError>
-    ensures { IfOk result (λ names. names.items ≡ keys_of columns.now) }
-{
-    let mut names = Vec::with_capacity(alloc, columns.len())?;
-    for column in columns {
-        names.push(column.0)?;
-    }
-    Ok(names)
-}
-
-// Adds the columns' names and types.
+// Adds the columns' names and types, and those of their marks.
 fn push_columns(text: &mut String, columns: &[(Name, Kind)]) -> Result<(), AllocError>
     ensures { OnOk result (string_bytes text.new
         ≡ string_bytes text.old ++ flat_map column_text columns.now) }
 {
     for column in columns {
-        push_piece(text, "c_", &column.0, type_text(column.1))?;
+        push_column(text, column)?;
     }
     Ok(())
+}
+
+// Adds a column's name and type, and those of its mark.
+fn push_column(text: &mut String, column: &(Name, Kind)) -> Result<(), AllocError>
+    ensures { OnOk result (string_bytes text.new
+        ≡ string_bytes text.old ++ column_text column.now) }
+{
+    push_pieces(
+        text,
+        column,
+        "c_",
+        type_text(column.1),
+        "n_",
+        " INTEGER NOT NULL, ",
+    )
 }
 
 fn type_text(kind: Kind) -> &'static str
     ensures { result.now ≡ type_text kind }
 {
     match kind {
-        Kind::Int | Kind::Flag => " INTEGER NOT NULL, ",
-        Kind::Text => " TEXT NOT NULL, ",
+        Kind::Int | Kind::IntOrNull | Kind::Flag | Kind::FlagOrNull => " INTEGER NOT NULL, ",
+        Kind::Text | Kind::TextOrNull => " TEXT NOT NULL, ",
     }
 }
 
 // Adds the names with commas between them.
-fn push_names(text: &mut String, names: &[Name]) -> Result<(), AllocError>
-    ensures { OnOk result (string_bytes text.new ≡ string_bytes text.old ++ names_text names.now) }
+fn push_names(text: &mut String, columns: &[(Name, Kind)]) -> Result<(), AllocError>
+    ensures { OnOk result (string_bytes text.new
+        ≡ string_bytes text.old ++ names_text columns.now) }
 {
-    push_listed(text, names, "c_", ", c_", "")
+    push_listed(text, columns, "c_", ", c_", ", n_", "")
 }
 
-// Adds the names, each between two texts. The front of the first is its own.
+// Adds the names and those of the marks, each between two texts. The front of the first is its own.
 fn push_listed(
     text: &mut String,
-    names: &[Name],
+    columns: &[(Name, Kind)],
     first: &str,
-    later: &str,
+    value: &str,
+    mark: &str,
     back: &str,
 ) -> Result<(), AllocError>
     ensures { OnOk result (string_bytes text.new
-        ≡ string_bytes text.old ++ listed first.now later.now back.now names.now) }
+        ≡ string_bytes text.old ++ listed first.now value.now mark.now back.now columns.now) }
 {
-    match names {
+    match columns {
         [] => Ok(()),
-        [name, rest @ ..] => {
-            push_piece(text, first, name, back)?;
-            push_each(text, rest, later, back)
+        [column, rest @ ..] => {
+            push_pieces(text, column, first, back, mark, back)?;
+            push_each(text, rest, value, mark, back)
         }
     }
 }
 
-// Adds the names, each between two texts.
-fn push_each(text: &mut String, names: &[Name], front: &str, back: &str) -> Result<(), AllocError>
+// Adds the names and those of the marks, each between two texts.
+fn push_each(
+    text: &mut String,
+    columns: &[(Name, Kind)],
+    value: &str,
+    mark: &str,
+    back: &str,
+) -> Result<(), AllocError>
     ensures { OnOk result (string_bytes text.new
-        ≡ string_bytes text.old ++ flat_map (piece front.now back.now) names.now) }
+        ≡ string_bytes text.old ++ flat_map (pieces value.now back.now mark.now back.now) columns.now) }
 {
-    for name in names {
-        push_piece(text, front, name, back)?;
+    for column in columns {
+        push_pieces(text, column, value, back, mark, back)?;
     }
     Ok(())
+}
+
+// Adds a column's name between two texts, and that of its mark between two more.
+fn push_pieces(
+    text: &mut String,
+    column: &(Name, Kind),
+    value: &str,
+    back: &str,
+    mark: &str,
+    end: &str,
+) -> Result<(), AllocError>
+    ensures { OnOk result (string_bytes text.new
+        ≡ string_bytes text.old ++ pieces value.now back.now mark.now end.now column.now) }
+{
+    push_piece(text, value, &column.0, back)?;
+    push_mark(text, column, mark, end)
+}
+
+// Adds the name of a column's mark between two texts, where the column takes null.
+fn push_mark(
+    text: &mut String,
+    column: &(Name, Kind),
+    front: &str,
+    back: &str,
+) -> Result<(), AllocError>
+    ensures { OnOk result (string_bytes text.new
+        ≡ string_bytes text.old ++ mark_piece front.now back.now column.now) }
+{
+    if column.1.is_nullable() {
+        push_piece(text, front, &column.0, back)
+    } else {
+        Ok(())
+    }
 }
 
 // Adds a name between two texts.
@@ -147,26 +197,41 @@ fn push_piece(text: &mut String, front: &str, name: &Name, back: &str) -> Result
     text.push_str(back)
 }
 
-// Adds a parameter for each name.
-fn push_marks(text: &mut String, names: &[Name]) -> Result<(), AllocError>
-    ensures { OnOk result (string_bytes text.new ≡ string_bytes text.old ++ marks_text names.now) }
+// Adds a parameter for each column, and for each mark.
+fn push_marks(text: &mut String, columns: &[(Name, Kind)]) -> Result<(), AllocError>
+    ensures { OnOk result (string_bytes text.new
+        ≡ string_bytes text.old ++ marks_text columns.now) }
 {
-    match names {
+    match columns {
         [] => Ok(()),
-        [_, rest @ ..] => {
-            text.push_str("?")?;
+        [column, rest @ ..] => {
+            text.push_str(first_marks(column.1))?;
             push_more_marks(text, rest)
         }
     }
 }
 
-// Adds a parameter for each further name.
-fn push_more_marks(text: &mut String, names: &[Name]) -> Result<(), AllocError>
+// Adds a parameter for each further column, and for each mark.
+fn push_more_marks(text: &mut String, columns: &[(Name, Kind)]) -> Result<(), AllocError>
     ensures { OnOk result (string_bytes text.new
-        ≡ string_bytes text.old ++ flat_map (λ _. codes ", ?") names.now) }
+        ≡ string_bytes text.old ++ flat_map (λ c. more_marks c.1) columns.now) }
 {
-    for _name in names {
-        text.push_str(", ?")?;
+    for column in columns {
+        text.push_str(more_marks(column.1))?;
     }
     Ok(())
+}
+
+// A parameter for a column of this kind, and one for its mark.
+fn first_marks(kind: Kind) -> &'static str
+    ensures { result.now ≡ first_marks kind }
+{
+    if kind.is_nullable() { "?, ?" } else { "?" }
+}
+
+// The same behind others.
+fn more_marks(kind: Kind) -> &'static str
+    ensures { result.now ≡ more_marks kind }
+{
+    if kind.is_nullable() { ", ?, ?" } else { ", ?" }
 }

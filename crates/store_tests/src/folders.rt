@@ -26,11 +26,6 @@ impl<'a> Folder<'a> {
         Ok(Folder { rt, path })
     }
 
-    /// The path of the folder.
-    pub(crate) fn path(&self) -> &str {
-        self.path.as_str()
-    }
-
     /// The path of a file in it.
     pub(crate) fn file(&self, name: &str) -> Result<String, AllocError> {
         format!(in self.rt.alloc(); "{}/{name}", self.path.as_str())

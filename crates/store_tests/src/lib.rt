@@ -1,24 +1,13 @@
-//! Tests of the keeper in a file, and of runs over it: what it keeps, and the files and changes that
-//! it refuses.
+//! Tests of runs over stores in files: what they keep, and the files that they refuse.
 #![tactic(auto)]
 
 #[cfg(test)]
-mod attaching;
+mod changed_stores;
 #[cfg(test)]
-mod changes;
-#[cfg(test)]
-mod committing;
-#[cfg(test)]
-mod ending;
+mod files;
 #[cfg(test)]
 mod folders;
 #[cfg(test)]
-mod keeping;
-#[cfg(test)]
-mod loading;
-#[cfg(test)]
-mod other_writers;
+mod kept_rows;
 #[cfg(test)]
 mod runs;
-#[cfg(test)]
-mod stores;

@@ -1,86 +1,114 @@
-//! Runs of the whole program, but for its devices, over stores in files.
+//! Runs of the whole program, but for its devices. In a script each request stands before its reply.
 ghost use Rattle.std.specs.Prelude.{◌≡◌};
 
-use crate::changes::expect;
-use crate::folders::Folder;
-use crate::other_writers::make_and_change;
 use lens_io::{MemorySink, MemorySource};
 use serving::run;
 use sqlite_keeper::SqliteKeeper;
+use std::alloc::Global;
+use std::fs;
 use std::marker::Brand;
 use std::sync::ledger::{Blank, Ledger};
 use std::test::Fail;
 use step_counter::Steps;
 
+/// Fails, with the case, where something does not hold of it.
+pub(crate) fn expect(holds: bool, case: &str) -> Result<(), Fail> {
+    if holds { Ok(()) } else { Err(Fail::from(case)) }
+}
+
+// The program's name, and the words that name the store, if it is in a file.
+fn words_of(alloc: Global, path: &str) -> Result<Vec<String>, Fail> {
+    let mut words = Vec::new(alloc);
+    words.push(String::from_str(alloc, "view_program")?)?;
+    if !path.is_empty() {
+        words.push(String::from_str(alloc, "--store")?)?;
+        words.push(String::from_str(alloc, path)?)?;
+    }
+    Ok(words)
+}
+
+// Every second line of the script: its requests from the line at 0 on, its replies from the line at 1.
+fn side(alloc: Global, script: &str, from: usize) -> Result<Vec<u8>, Fail> {
+    let mut lines = Vec::new(alloc);
+    for line in script.lines().skip(from).step_by(2) {
+        lines.extend_from_slice(line.as_bytes())?;
+        lines.push(b'\n')?;
+    }
+    Ok(lines)
+}
+
 fn run_counted<L: Ledger>(
-    rt: &HostRuntime,
+    alloc: Global,
     words: &[String],
     source: &mut MemorySource,
     sink: &mut MemorySink,
+    keeper: &mut SqliteKeeper<'_>,
     blank: Blank,
 ) -> u8
     requires name { blank.name ≡ L.name }
     requires parts { blank.parts ≡ L.parts }
     requires one { blank.parts ≡ 1 }
 {
-    let mut keeper = SqliteKeeper::new(rt);
     let mut walked = Steps::<L>::new(blank);
-    run(rt.alloc(), words, source, sink, &mut keeper, &mut walked)
+    run(alloc, words, source, sink, keeper, &mut walked)
 }
 
-// Fails where a run over the store in this file does not answer the requests with this status and
-// these replies.
-fn gives(
-    rt: &HostRuntime,
+// How a run ends that is asked for the requests of the script.
+fn status_of(
+    alloc: Global,
+    keeper: &mut SqliteKeeper<'_>,
     path: &str,
-    requests: &str,
+    script: &str,
+    sink: &mut MemorySink,
+) -> Result<u8, Fail> {
+    let words = words_of(alloc, path)?;
+    let requests = side(alloc, script, 0)?;
+    let mut source = MemorySource::new(requests, 4096, Vec::new(alloc));
+    let blank = Blank::new(1);
+    Ok(run_counted::<Brand>(alloc, &words, &mut source, sink, keeper, blank))
+}
+
+/// Fails where a run with this keeper over the store in this file does not end with this status, or
+/// answers otherwise than the script.
+pub(crate) fn follow_with(
+    alloc: Global,
+    keeper: &mut SqliteKeeper<'_>,
+    path: &str,
     status: u8,
-    replies: &str,
+    script: &str,
 ) -> Result<(), Fail> {
-    let alloc = rt.alloc();
-    let mut words = Vec::new(alloc);
-    for word in ["view_program", "--store", path] {
-        words.push(String::from_str(alloc, word)?)?;
-    }
-    let input = Vec::from_slice(alloc, requests.as_bytes())?;
-    let mut source = MemorySource::new(input, 1, Vec::new(alloc));
-    let mut sink = MemorySink::new(alloc, 10_000, 1, Vec::new(alloc))?;
-    let ended = run_counted::<Brand>(rt, &words, &mut source, &mut sink, Blank::new(1));
-    expect(ended == status, "the status")?;
-    expect(sink.bytes() == replies.as_bytes(), "the replies")
+    let mut sink = MemorySink::new(alloc, 100_000, 4096, Vec::new(alloc))?;
+    let ended = status_of(alloc, keeper, path, script, &mut sink)?;
+    expect(ended == status, script)?;
+    let replies = side(alloc, script, 1)?;
+    let given = str::from_utf8(sink.bytes())?;
+    expect(given.as_bytes() == replies.as_slice(), given)
 }
 
-const MAKE: &str =
-    r#"{"do":"define","text":"table albums (album text, quantity int) with album -> quantity"}
-{"do":"edit","view":"albums","remove":[],"add":[{"album":"Wish","quantity":5},{"album":"Show","quantity":3}]}
-"#;
-
-const MADE: &str = r#"{"ok":true,"version":1}
-{"changed":[{"add":[{"album":"Show","quantity":3},{"album":"Wish","quantity":5}],"remove":[],"table":"albums"}],"ok":true,"version":2}
-"#;
-
-const ASK: &str = r#"{"do":"list"}
-{"do":"read","view":"albums"}
-"#;
-
-const TOLD: &str =
-    r#"{"definitions":["table albums (album text, quantity int) with album -> quantity"],"ok":true,"version":0}
-{"ok":true,"rows":[{"album":"Show","quantity":3},{"album":"Wish","quantity":5}],"version":0}
-"#;
-
-#[test]
-fn finds_what_the_run_before_left(rt: HostRuntime) -> Result<(), Fail> {
-    let folder = Folder::new(&rt, "opened_again")?;
-    let path = folder.file("store")?;
-    gives(&rt, &path, MAKE, 0, MADE)?;
-    gives(&rt, &path, ASK, 0, TOLD)
+/// The same with a keeper that ends with the run.
+pub(crate) fn follow(rt: &HostRuntime, path: &str, status: u8, script: &str) -> Result<(), Fail> {
+    let mut keeper = SqliteKeeper::new(rt);
+    follow_with(rt.alloc(), &mut keeper, path, status, script)
 }
 
-#[test]
-fn ends_where_the_store_is_refused(rt: HostRuntime) -> Result<(), Fail> {
-    let folder = Folder::new(&rt, "not_opened")?;
-    gives(&rt, &folder.file("none/store")?, ASK, 6, "")?;
-    let path = folder.file("store")?;
-    make_and_change(&rt, &path, "UPDATE lens_format SET number = 3")?;
-    gives(&rt, &path, ASK, 6, "")
+/// A request whose reply is not looked for.
+pub(crate) const ASK: &str = r#"{"do":"list"}"#;
+
+/// Fails where a run takes the file, or changes it.
+pub(crate) fn is_refused(rt: &HostRuntime, path: &str) -> Result<(), Fail> {
+    let before = fs::read(rt, path)?;
+    follow(rt, path, 6, ASK)?;
+    expect(fs::read(rt, path)?.as_slice() == before.as_slice(), path)
 }
+
+/// Makes a table with the number 1.
+pub(crate) const MAKE: &str = r#"{"do":"define","text":"table n (k int)"}
+{"ok":true,"version":1}
+{"do":"put","view":"n","rows":[{"k":1}]}
+{"changed":[{"add":[{"k":1}],"remove":[],"table":"n"}],"ok":true,"version":2}"#;
+
+/// Finds the table, and changes nothing.
+pub(crate) const FIND: &str = r#"{"do":"list"}
+{"definitions":["table n (k int)"],"ok":true,"version":0}
+{"do":"read","view":"n"}
+{"ok":true,"rows":[{"k":1}],"version":0}"#;

@@ -12,7 +12,7 @@ fn says(alloc: Global, text: &str, printed: &str) -> Result<(), Fail> {
 }
 
 // Texts, and the definitions that they say as these are printed.
-const READ: [(&str, &str); 12] = [
+const READ: [(&str, &str); 15] = [
     ("view v=t", "view v = t"),
     ("\tview\r\nv = t \n", "view v = t"),
     (
@@ -20,6 +20,10 @@ const READ: [(&str, &str); 12] = [
         "view v = select from (join_dl t with (drop a determined by (b c, -2) from u)) where a < b and b >= 1 and a = 2",
     ),
     ("table t(a bool)", "table t (a bool)"),
+    (
+        "view v=join_dr(rename album to title from(join_both t with u))with w",
+        "view v = join_dr (rename album to title from (join_both t with u)) with w",
+    ),
     (
         "table w (a int, b text) with a -> b where (a < 3 or b = 'x') and not a in (1, 2)",
         "table w (a int, b text) with a -> b where (a < 3 or b = 'x') and not a in (1, 2)",
@@ -49,6 +53,14 @@ const READ: [(&str, &str); 12] = [
         "view v = select from t where a = 5 and b = 'it''s' and c = 0",
     ),
     (
+        "table t (b bool  null, n int\tnull, t text null , m int) where b is null or not t is  null and n in (1,2)",
+        "table t (b bool null, m int, n int null, t text null) where b is null or not t is null and n in (1, 2)",
+    ),
+    (
+        "view d = drop b determined by (k,null) from (select from kb where (m = 1) and not not t is null)",
+        "view d = drop b determined by (k, null) from (select from kb where m = 1 and not not t is null)",
+    ),
+    (
         "view v = select from t where not not a in (true, '', 9223372036854775807, -9223372036854775808)",
         "view v = select from t where not not a in (true, '', 9223372036854775807, -9223372036854775808)",
     ),
@@ -59,17 +71,42 @@ fn definitions_are_read(rt: HostRuntime) -> Result<(), Fail> {
     for (text, printed) in READ {
         says(rt.alloc(), text, printed)?;
     }
+    for text in PRINTED {
+        says(rt.alloc(), text, text)?;
+    }
     Ok(())
 }
 
-/// Fails where the text does not go wrong at this byte.
-pub(crate) fn fails_at(alloc: Global, text: &str, at: usize) -> Result<(), Fail> {
+// Texts that are printed as they are.
+const PRINTED: [&str; 18] = [
+    "view v = select from t where a >= -5",
+    "view v = select from t where a != -9223372036854775808",
+    "view v = select from t where b = 'it''s '''''",
+    "view v = select from t where a in (1, -2)",
+    "view v = select from t where c = true",
+    "view v = select from t where c is null",
+    "view v = select from t where a <= c",
+    "view v = select from t where true",
+    "view v = select from t where false",
+    "view v = select from t where (a < 3 or b = 'x') and true",
+    "view v = select from t where false or a < 3 and b = 'x'",
+    "view v = select from t where not (a < 3 and b = 'x')",
+    "view v = select from t where not not a < 3",
+    "view v = select from t where not c is null",
+    "table w (a int, b text, c bool null) with a -> b where (a < 3 or b = 'x') and not a in (1, 2)",
+    "view v = drop date determined by (track, 2018) from (join_dl tracks with albums)",
+    "view v = join_dl (select from (drop date determined by (track, 2018) from (join_dl tracks with albums)) where a < 3 or b = 'x') with t",
+    "view v = join_dr (join_both tracks with albums) with (rename day to due from loans)",
+];
+
+// Fails where the text does not go wrong at this byte.
+fn fails_at(alloc: Global, text: &str, at: usize) -> Result<(), Fail> {
     let fault = parse(alloc, &Text::new(alloc, text)?).err();
     expect(fault == Some(LangFault::Syntax { at }), text)
 }
 
 // Texts, and the bytes at which they go wrong.
-const WRONG: [(&str, usize); 20] = [
+const WRONG: [(&str, usize); 33] = [
     ("view = t", 5),
     ("", 0),
     ("   ", 3),
@@ -80,6 +117,16 @@ const WRONG: [(&str, usize); 20] = [
     ("view v = t x", 11),
     ("view v = select from t where a = 99999999999999999999", 33),
     ("view v = drop a determined by (0) from t", 31),
+    ("view v = rename album title from albums", 22),
+    ("view v = rename album to title albums", 31),
+    ("view v = rename to to title from albums", 16),
+    (
+        "view v = rename album to title from rename quantity to n from albums",
+        36,
+    ),
+    ("view v = join_dx tracks with albums", 17),
+    ("view v = join_dr tracks albums", 24),
+    ("view v = join_both tracks with", 30),
     ("table t ()", 9),
     ("table t (a int, a int)", 16),
     ("table t (a int) with a ->", 25),
@@ -90,6 +137,12 @@ const WRONG: [(&str, usize); 20] = [
     ("table t (a int) where a = 'x''", 26),
     ("table t (a int) where (a = 1", 28),
     ("table t (a int) where a = 1)", 27),
+    ("table t (a int null null)", 20),
+    ("table t (a null)", 11),
+    ("table t (a int null) where a = null", 31),
+    ("table t (a int null) where a is not null", 32),
+    ("table t (a int null) where a in (1, null)", 36),
+    ("view v = drop b determined by (a, null, 1) from t", 38),
 ];
 
 #[test]

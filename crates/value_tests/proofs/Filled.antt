@@ -4,6 +4,7 @@ use Rattle.std.proofs.lemmas.Bool.{or_parts}
 use Rattle.std.specs.FinMap as map
 use Rattle.fd_laws.proofs.Names.{name_itself, name_total}
 use Rattle.lens_values.specs.SortedSet as set
+use Rattle.lens_values.specs.declared.join_kind.JoinKind.{JoinKind}
 use Rattle.lens_specs.specs.Lens.{Tables, Lens, base, join, tables_of}
 use Rattle.lens_specs.specs.Names.{Name}
 use Rattle.lens_specs.specs.Relation.{Relation}
@@ -19,9 +20,9 @@ base_filled t s M old new is of_sort = (
   λ u o. ap (λ db. map.get db u) is ∙ map.get-insert name_total old t M u ∙ ap (λ b. cond b (Some M) (map.get old u)) (or_parts _ _ (sym (set.contains-insert name_total set.empty t u) ∙ o)).0,
 )
 
-pub join_filled : (A B : Lens) (old mid new : Tables) → IsTyped (join A B) → Fills A old mid → Fills B mid new → Fills (join A B) old new
+pub join_filled : (k : JoinKind) (A B : Lens) (old mid new : Tables) → IsTyped (join k A B) → Fills A old mid → Fills B mid new → Fills (join k A B) old new
 unfolding tables_of
-join_filled A B old mid new typed left right = (
+join_filled k A B old mid new typed left right = (
   (are_same A mid new (λ t i. right.1 t (typed.3 t i)) left.0, right.0),
   λ t o.
       let apart = or_parts _ _ (sym (set.contains-union name_total (tables_of A) (tables_of B) t) ∙ o) in

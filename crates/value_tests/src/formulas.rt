@@ -27,7 +27,7 @@ fn values(rt: &impl Abort, alloc: Global, text: &str) -> Values {
 }
 
 // A column against a value, as `a > 1`, against another column, as `a > .b`, or against a list of
-// values, as `a in 1 2`.
+// values, as `a in 1 2`; or that it is null, as `a is null`.
 fn comparison(rt: &impl Abort, alloc: Global, text: &str) -> Formula {
     let (col, rest) = text.split_once(' ').expect(rt, text);
     let (sign, right) = rest.split_once(' ').unwrap_or((rest, ""));
@@ -35,6 +35,9 @@ fn comparison(rt: &impl Abort, alloc: Global, text: &str) -> Formula {
     if sign == "in" {
         let values = values(rt, alloc, right);
         return Formula::OneOf { col, values };
+    }
+    if sign == "is" {
+        return Formula::IsNull { col };
     }
     let op = op(rt, sign);
     match right.split_once('.') {

@@ -1,7 +1,9 @@
-//! Tests of the crates of values, rows, dependencies, predicates and lenses, with answers from
-//! outside.
+//! Tests of the crates of values, rows, differences, dependencies, predicates and lenses, with
+//! answers from outside.
 #![tactic(auto)]
 
+#[cfg(test)]
+mod batches;
 #[cfg(test)]
 mod clashes;
 #[cfg(test)]

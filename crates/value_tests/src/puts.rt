@@ -5,7 +5,7 @@ ghost use Rattle.lens_specs.specs.Sort.{IsOfSort, off};
 ghost use Rattle.value_tests.specs.Filled.{Fills};
 
 use crate::lenses::lens;
-use crate::samples::{are_rows, relation};
+use crate::samples::{are_rows, cut, in_four, relation};
 use lens_pred::Pred;
 use lens_types::{Lens, Sort, TypedLens};
 use lens_values::Row;
@@ -13,6 +13,140 @@ use row_sets::{Relation, RowSet};
 use std::alloc::Global;
 use std::process::Abort;
 use whole_put::{Db, get, put};
+
+// Puts, each of a lens, the rows of its tables, the rows that it shows, those of a view, and the rows
+// of the tables after a put of the view. The rules that they show:
+//
+// A hidden row goes that the new quantity of its album would show.
+// A shown row goes that the view lacks, and a hidden row of another album stays.
+// Where nothing depends on the album, the hidden rows stay as they are.
+// The old track keeps its date, and the new one takes the default, which may be null.
+// A left row that joins with nothing stays, and one that would join anew goes.
+// A put through a projection of a selection changes the rating, and nothing else.
+// Which parts of a removed row go is by the kind of the join; the left one goes where another row
+// shows the right one.
+// A column with a new name has the old one in the table.
+// A row comes to be selected by null, and no other row of its name stays.
+const PUTS: &str = "\
+sales with album -> quantity / select quantity > 2
+| album=G quantity=1 track=t1; album=G quantity=1 track=t2
+|
+| album=G quantity=5 track=t1
+| album=G quantity=5 track=t1
+
+sales with album -> quantity / select quantity > 2
+| album=G quantity=1 track=t1; album=G quantity=1 track=t2; album=H quantity=1 track=t3;
+album=I quantity=5 track=t4
+| album=I quantity=5 track=t4
+| album=G quantity=5 track=t1
+| album=G quantity=5 track=t1; album=H quantity=1 track=t3
+
+sales / select quantity > 2
+| album=G quantity=1 track=t1; album=H quantity=5 track=t2
+| album=H quantity=5 track=t2
+| album=G quantity=5 track=t1
+| album=G quantity=1 track=t1; album=G quantity=5 track=t1
+
+tracks with track -> date rating / drop date by track fill 2018
+| album=Wish date=1992 rating=4 track=Trust
+| album=Wish rating=4 track=Trust
+| album=Wish rating=2 track=Disco; album=Wish rating=4 track=Trust
+| album=Wish date=1992 rating=4 track=Trust; album=Wish date=2018 rating=2 track=Disco
+
+people with name -> boss / drop boss by name fill null
+| boss=ann name=bob
+| name=bob
+| name=ann; name=bob
+| boss=null name=ann; boss=ann name=bob
+
+left / join_dl right with a -> b
+| a=1 b=1 x=1; a=1 b=2 x=2 + a=1 b=1
+| a=1 b=1 x=1
+| a=1 b=2 x=3
+| a=1 b=1 x=1; a=1 b=2 x=3 + a=1 b=2
+
+tracks with track -> date rating / select rating > 3 / drop date by track fill 2018
+| album=Galore date=1989 rating=1 track=Lullaby; album=Wish date=1992 rating=4 track=Trust
+| album=Wish rating=4 track=Trust
+| album=Wish rating=5 track=Trust
+| album=Galore date=1989 rating=1 track=Lullaby; album=Wish date=1992 rating=5 track=Trust
+
+left / join_dl right with a -> b
+| a=1 b=1 x=1; a=1 b=2 x=3 + a=1 b=2
+| a=1 b=2 x=3
+|
+| a=1 b=1 x=1 + a=1 b=2
+
+left / join_dr right with a -> b
+| a=1 b=1 x=1; a=1 b=2 x=3 + a=1 b=2
+| a=1 b=2 x=3
+|
+| a=1 b=1 x=1; a=1 b=2 x=3 +
+
+left / join_both right with a -> b
+| a=1 b=1 x=1; a=1 b=2 x=3 + a=1 b=2
+| a=1 b=2 x=3
+|
+| a=1 b=1 x=1 +
+
+tracks with track -> date rating / join_dr albums with album -> quantity
+| album=Galore date=1989 rating=3 track=Lullaby; album=Galore date=1989 rating=5 track=Lovesong
++ album=Galore quantity=1
+| album=Galore date=1989 quantity=1 rating=3 track=Lullaby;
+album=Galore date=1989 quantity=1 rating=5 track=Lovesong
+| album=Galore date=1989 quantity=1 rating=5 track=Lovesong
+| album=Galore date=1989 rating=5 track=Lovesong + album=Galore quantity=1
+
+tracks with track -> date rating / join_both albums with album -> quantity
+| album=Galore date=1989 rating=3 track=Lullaby; album=Galore date=1989 rating=5 track=Lovesong
++ album=Galore quantity=1
+| album=Galore date=1989 quantity=1 rating=3 track=Lullaby;
+album=Galore date=1989 quantity=1 rating=5 track=Lovesong
+| album=Galore date=1989 quantity=1 rating=5 track=Lovesong
+| album=Galore date=1989 rating=5 track=Lovesong + album=Galore quantity=1
+
+albums with album -> quantity / rename album to title
+| album=Galore quantity=1; album=Show quantity=3
+| quantity=1 title=Galore; quantity=3 title=Show
+| quantity=1 title=Galore; quantity=9 title=Show
+| album=Galore quantity=1; album=Show quantity=9
+
+people with name -> boss / select boss is null
+| boss=null name=ann; boss=ann name=bob
+| boss=null name=ann
+| boss=null name=ann; boss=null name=bob
+| boss=null name=ann; boss=null name=bob";
+
+#[test]
+fn puts_lead_to_tables(rt: HostRuntime) {
+    for line in PUTS.split("\n\n") {
+        leads(&rt, rt.alloc(), line);
+    }
+}
+
+// Checks that the lens shows the rows of its tables, and that a put of the view leads to the other
+// tables.
+fn leads(rt: &impl Abort, alloc: Global, line: &str) {
+    let (text, rest) = cut(rt, line);
+    let lens = lens(rt, alloc, text).expect(rt, text);
+    lens_leads(rt, alloc, &lens, in_four(rt, rest));
+}
+
+// The same of this lens.
+fn lens_leads(
+    rt: &impl Abort,
+    alloc: Global,
+    lens: &TypedLens,
+    [rows, shown, new, after]: [&str; 4],
+) {
+    let mut db = Db::new(alloc);
+    fill(rt, alloc, lens, rows, &mut db);
+    let found = get(alloc, lens, &db).expect(rt, "memory");
+    are_rows(rt, alloc, Some(found.into_rows()), shown);
+    let view = of_sort(rt, alloc, lens.sort(), new);
+    let db = put(alloc, lens, &view, &db).expect(rt, "memory");
+    are_tables(rt, alloc, lens, &db, after);
+}
 
 // The least row that the predicate refuses.
 #[tactic(auto, unfolding(lens_specs::specs::Sort::off))]
@@ -57,8 +191,9 @@ fn fill(rt: &impl Abort, alloc: Global, lens: &TypedLens, text: &str, db: &mut D
         }
         Lens::Select { of, .. } => fill(rt, alloc, of, text, db),
         Lens::Drop { of, .. } => fill(rt, alloc, of, text, db),
+        Lens::Rename { of, .. } => fill(rt, alloc, of, text, db),
         Lens::Join { left, right, .. } => {
-            let (rows, others) = text.split_once('|').expect(rt, text);
+            let (rows, others) = text.split_once('+').expect(rt, text);
             fill(rt, alloc, left, rows, db);
             fill(rt, alloc, right, others, db);
         }
@@ -72,108 +207,13 @@ fn are_tables(rt: &impl Abort, alloc: Global, lens: &TypedLens, db: &Db, text: &
             let relation = db.table(table).expect(rt, "a table");
             are_rows(rt, alloc, relation.rows().copy(alloc).ok(), text);
         }
-        Lens::Select { of, .. } | Lens::Drop { of, .. } => are_tables(rt, alloc, of, db, text),
+        Lens::Select { of, .. } | Lens::Drop { of, .. } | Lens::Rename { of, .. } => {
+            are_tables(rt, alloc, of, db, text)
+        }
         Lens::Join { left, right, .. } => {
-            let (rows, others) = text.split_once('|').expect(rt, text);
+            let (rows, others) = text.split_once('+').expect(rt, text);
             are_tables(rt, alloc, left, db, rows);
             are_tables(rt, alloc, right, db, others);
         }
     }
-}
-
-// Checks that the lens shows these rows of its tables, and that a put of the view leads to the
-// other tables.
-fn leads(rt: &impl Abort, alloc: Global, text: &str, [rows, shown, view, after]: [&str; 4]) {
-    let lens = lens(rt, alloc, text).expect(rt, text);
-    let mut db = Db::new(alloc);
-    fill(rt, alloc, &lens, rows, &mut db);
-    let found = get(alloc, &lens, &db).expect(rt, "memory");
-    are_rows(rt, alloc, Some(found.into_rows()), shown);
-    let view = of_sort(rt, alloc, lens.sort(), view);
-    let db = put(alloc, &lens, &view, &db).expect(rt, "memory");
-    are_tables(rt, alloc, &lens, &db, after);
-}
-
-// A hidden row goes that the new quantity of its album would show.
-#[test]
-fn hidden_rows_that_would_be_shown_go(rt: HostRuntime) {
-    let text = "sales with album -> quantity / select quantity > 2";
-    let rows = "album=G quantity=1 track=t1; album=G quantity=1 track=t2";
-    let view = "album=G quantity=5 track=t1";
-    leads(&rt, rt.alloc(), text, [rows, "", view, view]);
-}
-
-// A shown row goes that the view lacks, and a hidden row of another album stays.
-#[test]
-fn hidden_rows_of_other_albums_stay(rt: HostRuntime) {
-    let text = "sales with album -> quantity / select quantity > 2";
-    let rows = "album=G quantity=1 track=t1; album=G quantity=1 track=t2; \
-        album=H quantity=1 track=t3; album=I quantity=5 track=t4";
-    let view = "album=G quantity=5 track=t1";
-    let after = "album=G quantity=5 track=t1; album=H quantity=1 track=t3";
-    leads(
-        &rt,
-        rt.alloc(),
-        text,
-        [rows, "album=I quantity=5 track=t4", view, after],
-    );
-}
-
-// Nothing depends on the album, so the hidden rows stay as they are.
-#[test]
-fn hidden_rows_stay(rt: HostRuntime) {
-    let rows = "album=G quantity=1 track=t1; album=H quantity=5 track=t2";
-    let shown = "album=H quantity=5 track=t2";
-    let view = "album=G quantity=5 track=t1";
-    let after = "album=G quantity=1 track=t1; album=G quantity=5 track=t1";
-    leads(
-        &rt,
-        rt.alloc(),
-        "sales / select quantity > 2",
-        [rows, shown, view, after],
-    );
-}
-
-// The old track keeps its date, and the new one takes 2018.
-#[test]
-fn dropped_values_are_kept_or_filled_in(rt: HostRuntime) {
-    let text = "tracks with track -> date rating / drop date by track fill 2018";
-    let rows = "album=Wish date=1992 rating=4 track=Trust";
-    let shown = "album=Wish rating=4 track=Trust";
-    let view = "album=Wish rating=2 track=Disco; album=Wish rating=4 track=Trust";
-    let after = "album=Wish date=1992 rating=4 track=Trust; \
-        album=Wish date=2018 rating=2 track=Disco";
-    leads(&rt, rt.alloc(), text, [rows, shown, view, after]);
-}
-
-// The first left row joins with nothing and stays; the second would join anew and is deleted.
-#[test]
-fn left_rows_that_would_join_anew_are_deleted(rt: HostRuntime) {
-    let rows = "a=1 b=1 x=1; a=1 b=2 x=2 | a=1 b=1";
-    let after = "a=1 b=1 x=1; a=1 b=2 x=3 | a=1 b=2";
-    let text = "left / join right with a -> b";
-    leads(
-        &rt,
-        rt.alloc(),
-        text,
-        [rows, "a=1 b=1 x=1", "a=1 b=2 x=3", after],
-    );
-}
-
-// A put through a projection of a selection changes the rating, and nothing else.
-#[test]
-fn puts_go_through_each_node(rt: HostRuntime) {
-    let text = "tracks with track -> date rating / select rating > 3 / \
-        drop date by track fill 2018";
-    let rows = "album=Galore date=1989 rating=1 track=Lullaby; \
-        album=Wish date=1992 rating=4 track=Trust";
-    let after = "album=Galore date=1989 rating=1 track=Lullaby; \
-        album=Wish date=1992 rating=5 track=Trust";
-    let shown = "album=Wish rating=4 track=Trust";
-    leads(
-        &rt,
-        rt.alloc(),
-        text,
-        [rows, shown, "album=Wish rating=5 track=Trust", after],
-    );
 }

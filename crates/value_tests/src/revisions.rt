@@ -1,8 +1,9 @@
 //! Rows revised by other rows along a tree of dependencies.
 ghost use Rattle.std.specs.Prelude.{◌≡◌};
 
-use crate::samples::{columns, is_relation, is_row, relation, row, rows, tree};
+use crate::samples::{columns, cut, in_four, is_relation, is_row, relation, row, rows, tree};
 use revision::{merge, revise, revise_row};
+use row_sets::Relation;
 use std::alloc::Global;
 use std::process::Abort;
 
@@ -13,76 +14,68 @@ a -> b, b -> c | a=1 b=2 c=5 | a=1 b=1 c=1 | a=1 b=2 c=5
 a -> b, b -> c | a=1 b=2 c=5 | a=9 b=2 c=1 | a=9 b=2 c=5
 a -> b, b -> c | a=1 b=2 c=5 | a=9 b=8 c=1 | a=9 b=8 c=1
 a -> b | a=1 b=7; a=1 b=8 | a=1 b=3 | a=1 b=7
+a -> b | a=null b=null | a=null b=3 | a=null b=null
 track -> album, album -> quantity | album=X quantity=9 track=a | album=X quantity=1 track=b | album=X quantity=9 track=b";
-
-#[test]
-fn rows_are_revised_along_each_edge(rt: HostRuntime) {
-    let alloc = rt.alloc();
-    for line in REVISED.lines() {
-        let (under, rest) = line.split_once('|').expect(&rt, line);
-        let (by, rest) = rest.split_once('|').expect(&rt, line);
-        let (old, new) = rest.split_once('|').expect(&rt, line);
-        let by = rows(&rt, alloc, by);
-        let old = row(&rt, alloc, old);
-        is_row(
-            &rt,
-            alloc,
-            revise_row(alloc, &tree(&rt, alloc, under), &old, &by).ok(),
-            new,
-        );
-    }
-}
 
 const SALES: &str = "album:text quantity:int track:text";
 
-// Checks that the sales are revised to the first rows by the other sales, and merged with them to
-// the second.
-fn follow(rt: &impl Abort, alloc: Global, under: &str, old: &str, by: &str, new: [&str; 2]) {
-    let tree = tree(rt, alloc, under);
+// Dependencies, sales and other sales by which they are revised; the revised sales, and both merged.
+// In the second, two rows become one, and a row is left that nothing revises.
+const MERGED: &str = "\
+track -> album, album -> quantity
+| album=X quantity=1 track=b
+| album=X quantity=9 track=a
+| album=X quantity=9 track=b
+| album=X quantity=9 track=a; album=X quantity=9 track=b
+
+album -> quantity
+| album=X quantity=1 track=b; album=X quantity=2 track=b; album=Y quantity=1 track=b
+| album=X quantity=9 track=a
+| album=X quantity=9 track=b; album=Y quantity=1 track=b
+| album=X quantity=9 track=a; album=X quantity=9 track=b; album=Y quantity=1 track=b";
+
+#[test]
+fn rows_are_revised_along_each_edge(rt: HostRuntime) {
+    for line in REVISED.lines() {
+        is_revised(&rt, rt.alloc(), line);
+    }
+    for line in MERGED.split("\n\n") {
+        are_merged(&rt, rt.alloc(), line);
+    }
+}
+
+fn is_revised(rt: &impl Abort, alloc: Global, line: &str) {
+    let [under, by, old, new] = in_four(rt, line);
+    let by = rows(rt, alloc, by);
+    let old = row(rt, alloc, old);
+    let found = revise_row(alloc, &tree(rt, alloc, under), &old, &by);
+    is_row(rt, alloc, found.ok(), new);
+}
+
+fn are_merged(rt: &impl Abort, alloc: Global, line: &str) {
+    let (under, rest) = cut(rt, line);
+    let [old, by, revised, merged] = in_four(rt, rest);
     let cols = columns(rt, alloc, SALES);
     let old = relation(rt, alloc, &cols, old);
     let by = relation(rt, alloc, &cols, by);
+    make(rt, alloc, under, &old, &by, [revised, merged]);
+}
+
+// Checks what revision of the old sales by the others makes of them, and what merging does.
+fn make(
+    rt: &impl Abort,
+    alloc: Global,
+    under: &str,
+    old: &Relation,
+    by: &Relation,
+    results: [&str; 2],
+)
+    requires { by.now.columns ≡ old.now.columns }
+{
+    let [revised, merged] = results;
+    let tree = tree(rt, alloc, under);
     by.rows_fit();
-    is_relation(
-        rt,
-        alloc,
-        revise(alloc, &tree, &old, by.rows()).ok(),
-        SALES,
-        new[0],
-    );
-    is_relation(
-        rt,
-        alloc,
-        merge(alloc, &tree, &old, &by).ok(),
-        SALES,
-        new[1],
-    );
-}
-
-#[test]
-fn relations_are_revised_and_merged(rt: HostRuntime) {
-    let old = "album=X quantity=1 track=b";
-    let by = "album=X quantity=9 track=a";
-    let revised = "album=X quantity=9 track=b";
-    let merged = "album=X quantity=9 track=a; album=X quantity=9 track=b";
-    let chain = "track -> album, album -> quantity";
-    follow(&rt, rt.alloc(), chain, old, by, [revised, merged]);
-}
-
-// Two rows become one, and a row is left that nothing revises.
-#[test]
-fn revised_rows_are_a_set(rt: HostRuntime) {
-    let old = "album=X quantity=1 track=b; album=X quantity=2 track=b; album=Y quantity=1 track=b";
-    let by = "album=X quantity=9 track=a";
-    let revised = "album=X quantity=9 track=b; album=Y quantity=1 track=b";
-    let merged =
-        "album=X quantity=9 track=a; album=X quantity=9 track=b; album=Y quantity=1 track=b";
-    follow(
-        &rt,
-        rt.alloc(),
-        "album -> quantity",
-        old,
-        by,
-        [revised, merged],
-    );
+    let found = revise(alloc, &tree, old, by.rows());
+    is_relation(rt, alloc, found.ok(), SALES, revised);
+    is_relation(rt, alloc, merge(alloc, &tree, old, by).ok(), SALES, merged);
 }

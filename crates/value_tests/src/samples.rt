@@ -9,6 +9,26 @@ use row_sets::{Relation, RowSet};
 use std::alloc::Global;
 use std::process::Abort;
 
+/// What stands before the first bar of the text, and after it.
+pub(crate) fn cut<'a>(rt: &impl Abort, text: &'a str) -> (&'a str, &'a str) {
+    let (first, rest) = text.split_once('|').expect(rt, text);
+    (first.trim(), rest.trim())
+}
+
+/// What stands before, between and after the first two bars of the text.
+pub(crate) fn in_three<'a>(rt: &impl Abort, text: &'a str) -> [&'a str; 3] {
+    let (first, rest) = cut(rt, text);
+    let (second, third) = cut(rt, rest);
+    [first, second, third]
+}
+
+/// The same of three bars.
+pub(crate) fn in_four<'a>(rt: &impl Abort, text: &'a str) -> [&'a str; 4] {
+    let (first, rest) = cut(rt, text);
+    let [second, third, fourth] = in_three(rt, rest);
+    [first, second, third, fourth]
+}
+
 /// The name that the word is.
 pub(crate) fn name(rt: &impl Abort, word: &str) -> Name {
     Name::new(word).expect(rt, word)
@@ -37,17 +57,20 @@ pub(crate) fn are_names(rt: &impl Abort, alloc: Global, found: Option<Names>, te
     );
 }
 
-// The kind that the word names.
-fn kind(rt: &impl Abort, word: &str) -> Kind {
+/// The kind that the word names, as `int`, or `int?` of a column that may be null.
+pub(crate) fn kind(rt: &impl Abort, word: &str) -> Kind {
     match word {
         "int" => Kind::Int,
         "text" => Kind::Text,
         "bool" => Kind::Flag,
+        "int?" => Kind::IntOrNull,
+        "text?" => Kind::TextOrNull,
+        "bool?" => Kind::FlagOrNull,
         _ => panic!(rt; "no kind"),
     }
 }
 
-// The columns in the order of the text, as `b:int a:text`.
+// The columns in the order of the text, as `b:int a:text?`.
 fn pairs(rt: &impl Abort, alloc: Global, text: &str) -> Vec<(Name, Kind)> {
     let mut list = Vec::new(alloc);
     for word in text.split_whitespace() {
@@ -72,8 +95,11 @@ pub(crate) fn are_columns(rt: &impl Abort, alloc: Global, found: Option<Columns>
     );
 }
 
-/// A number, a truth value, or else a text.
+/// Null, a number, a truth value, or else a text.
 pub(crate) fn value(rt: &impl Abort, alloc: Global, word: &str) -> Value {
+    if word == "null" {
+        return Value::Null;
+    }
     if let Ok(number) = word.parse::<i64>() {
         return Value::Int(number);
     }
@@ -83,7 +109,7 @@ pub(crate) fn value(rt: &impl Abort, alloc: Global, word: &str) -> Value {
     }
 }
 
-/// The row that the text lists, as `a=1 b=x`.
+/// The row that the text lists, as `a=1 b=x c=null`.
 pub(crate) fn row(rt: &impl Abort, alloc: Global, text: &str) -> Row {
     let mut list = Vec::new(alloc);
     for word in text.split_whitespace() {

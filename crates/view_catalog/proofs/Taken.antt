@@ -9,7 +9,8 @@ use Rattle.lens_specs.specs.Predicate.{Predicate}
 use Rattle.lens_specs.specs.TreeForm.{TreeForm, is_tree, not_tree, tree_of}
 use Rattle.lens_specs.specs.Sort.{Sort}
 use Rattle.lens_specs.specs.Refusal.{Refusal, Limit, unknown_column, predicate_kind, or_else, unknown_name as unknown_column_of, unlike_kinds, too_much, tables_limit, views_limit}
-use Rattle.lens_specs.specs.Lens.{Lens, select, drop, join, tree_or_none}
+use Rattle.lens_values.specs.declared.join_kind.JoinKind.{JoinKind}
+use Rattle.lens_specs.specs.Lens.{Lens, select, drop, rename, join, tree_or_none}
 use Rattle.lens_specs.specs.Typing.{sort, table_sort, table_sort_with, unknown_in, unless_refused}
 use Rattle.grammar_specs.specs.Meaning as meaning
 use Rattle.grammar_specs.specs.Meaning.{Definition, table, view, Expr, named}
@@ -52,9 +53,9 @@ over_ok : (node : Lens → Lens) (r : Result Lens CatalogFault) (L : Lens) → o
 over_ok node (Err first) L h = cc
 over_ok node (Ok C) L h = (C, refl, typed_ok (node C) (sort (node C)) L h)
 
-both_ok : (l r : Result Lens CatalogFault) (L : Lens) → over_both l r ≡ Ok L → (A : Lens) × (B : Lens) × (l ≡ Ok A) × (r ≡ Ok B) × (join A B ≡ L)
-both_ok (Err first) r L h = cc
-both_ok (Ok A) r L h = let w = over_ok (join A) r L h in (A, w.0, refl, w.1, w.2)
+both_ok : (kind : JoinKind) (l r : Result Lens CatalogFault) (L : Lens) → over_both kind l r ≡ Ok L → (A : Lens) × (B : Lens) × (l ≡ Ok A) × (r ≡ Ok B) × (join kind A B ≡ L)
+both_ok kind (Err first) r L h = cc
+both_ok kind (Ok A) r L h = let w = over_ok (join kind A) r L h in (A, w.0, refl, w.1, w.2)
 
 -- an expression that is not refused has its lens
 pub lens_is : (known : Catalogue) (expr : Expr) (L : Lens) → lens_in known expr ≡ Ok L → lens_of expr known ≡ Some L
@@ -65,9 +66,12 @@ lens_is known (meaning.select P of) L h =
 lens_is known (meaning.drop A X a of) L h =
     let w = over_ok (drop A X a) (lens_in known of) L h in
     ap (option_map (drop A X a)) (lens_is known of w.0 w.1) ∙ ap Some w.2
-lens_is known (meaning.join left right) L h =
-    let w = both_ok (lens_in known left) (lens_in known right) L h in
-    ap (λ o. join_of o (lens_of right known)) (lens_is known left w.0 w.2) ∙ ap (join_of (Some w.0)) (lens_is known right w.1 w.3) ∙ ap Some w.4
+lens_is known (meaning.rename A B of) L h =
+    let w = over_ok (rename A B) (lens_in known of) L h in
+    ap (option_map (rename A B)) (lens_is known of w.0 w.1) ∙ ap Some w.2
+lens_is known (meaning.join kind left right) L h =
+    let w = both_ok kind (lens_in known left) (lens_in known right) L h in
+    ap (λ o. join_of kind o (lens_of right known)) (lens_is known left w.0 w.2) ∙ ap (join_of kind (Some w.0)) (lens_is known right w.1 w.3) ∙ ap Some w.4
 
 -- ---- what a verdict says
 

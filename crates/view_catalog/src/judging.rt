@@ -2,7 +2,7 @@
 ghost use Rattle.std.specs.Prelude.{◌≡◌, Ok};
 ghost use Rattle.std.specs.FinMap as finmap;
 ghost use Rattle.grammar_laws.specs.Reading.{reading};
-ghost use Rattle.lens_specs.specs.Lens.{drop, join, select};
+ghost use Rattle.lens_specs.specs.Lens.{drop, join, rename, select};
 ghost use Rattle.catalog_specs.specs.Catalogue.{catalogue};
 ghost use Rattle.catalog_specs.specs.Judging.{judged, judged_table, judged_view, lens_in, lens_named, over};
 ghost use Rattle.view_lang.specs.DefViews.{definition_view};
@@ -17,7 +17,7 @@ use lens_pred::Pred;
 use lens_types::{Sort, TypedLens};
 use lens_values::{Columns, Name, Names, Text, Value};
 use std::alloc::Global;
-use view_lang::{Definition, Expr, LangFault, Limit, parse};
+use view_lang::{Definition, Expr, JoinKind, LangFault, Limit, parse};
 
 /// The greatest number of tables.
 pub const MAX_TABLES: usize = 64;
@@ -133,10 +133,14 @@ fn lens_in(alloc: Global, catalog: &Catalog, expr: Expr) -> Result<TypedLens, Ca
             let source = lens_in(alloc, catalog, Box::into_inner(of))?;
             dropped(alloc, source, col, by, fill)
         }
-        Expr::Join { left, right } => {
+        Expr::Rename { col, to, of } => {
+            let source = lens_in(alloc, catalog, Box::into_inner(of))?;
+            renamed(alloc, source, col, to)
+        }
+        Expr::Join { kind, left, right } => {
             let left = lens_in(alloc, catalog, Box::into_inner(left))?;
             let right = lens_in(alloc, catalog, Box::into_inner(right))?;
-            joined(alloc, left, right)
+            joined(alloc, kind, left, right)
         }
     }
 }
@@ -161,11 +165,23 @@ fn dropped(
     Ok(source.drop_column(alloc, col, by, fill)?)
 }
 
-/// The lens of the natural join. A put deletes rows of the left side alone.
-fn joined(alloc: Global, left: TypedLens, right: TypedLens) -> Result<TypedLens, CatalogFault>
-    ensures { Decides (λ lens. lens) result (over (join left) (Ok right)) }
+/// The lens of the rows with the new name for the column.
+fn renamed(alloc: Global, source: TypedLens, col: Name, to: Name) -> Result<TypedLens, CatalogFault>
+    ensures { Decides (λ lens. lens) result (over (rename col to) (Ok source)) }
 {
-    Ok(left.join_dl(alloc, right)?)
+    Ok(source.rename(alloc, col, to)?)
+}
+
+/// The lens of the natural join, of this kind.
+fn joined(
+    alloc: Global,
+    kind: JoinKind,
+    left: TypedLens,
+    right: TypedLens,
+) -> Result<TypedLens, CatalogFault>
+    ensures { Decides (λ lens. lens) result (over (join kind left) (Ok right)) }
+{
+    Ok(left.join(alloc, kind, right)?)
 }
 
 /// A copy of the lens that the name has.

@@ -54,6 +54,6 @@ pub(crate) fn is_table(lens: &TypedLens, name: &Name) -> bool
 {
     match lens.lens() {
         Lens::Base { table, .. } => table == name,
-        Lens::Select { .. } | Lens::Drop { .. } | Lens::Join { .. } => false,
+        Lens::Select { .. } | Lens::Drop { .. } | Lens::Rename { .. } | Lens::Join { .. } => false,
     }
 }

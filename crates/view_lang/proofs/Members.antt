@@ -1,7 +1,7 @@
 -- The members of a formula, where it is joined or stands alone.
 use Rattle.std.proofs.Common.{◌≡◌, ℕ, suc, ◌+◌, ◌-◌, ◌<◌, arith, false, List, [], ◌∷◌, ◌++◌, refl, sym, ap, ◌∙◌}
 use Rattle.std.proofs.lemmas.List.{map-append}
-use Rattle.lens_specs.specs.Predicate.{Formula, truth, falsity, compare, compare_columns, one_of, negation, all_of, any_of, Formulas}
+use Rattle.lens_specs.specs.Predicate.{Formula, truth, falsity, compare, compare_columns, one_of, null_at, negation, all_of, any_of, Formulas}
 use Rattle.grammar_specs.specs.Meaning.{conjuncts, disjuncts, list_of}
 use Rattle.lens_pred.specs.NormalForm.{is_all_of, is_any_of}
 use Rattle.lens_pred.specs.View.{formula_view, list_view, predicate_view}
@@ -14,6 +14,7 @@ one_conjunct falsity e = refl
 one_conjunct (compare c op v) e = refl
 one_conjunct (compare_columns c op d) e = refl
 one_conjunct (one_of c vs) e = refl
+one_conjunct (null_at c) e = refl
 one_conjunct (negation f) e = refl
 one_conjunct (all_of fs) e = cc
 one_conjunct (any_of fs) e = refl
@@ -24,6 +25,7 @@ one_disjunct falsity e = refl
 one_disjunct (compare c op v) e = refl
 one_disjunct (compare_columns c op d) e = refl
 one_disjunct (one_of c vs) e = refl
+one_disjunct (null_at c) e = refl
 one_disjunct (negation f) e = refl
 one_disjunct (all_of fs) e = refl
 one_disjunct (any_of fs) e = cc

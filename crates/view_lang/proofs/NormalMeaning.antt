@@ -2,10 +2,11 @@
 use Rattle.std.proofs.Common.{◌≡◌, Bool, true, false, List, [], ◌∷◌, ◌++◌, refl}
 use Rattle.std.specs.Prelude.{not, ◌&&◌}
 use Rattle.std.specs.List.{list_all}
+use Rattle.lens_values.specs.Value.{is_null}
 use Rattle.lens_values.specs.declared.value.Value.{Value}
-use Rattle.lens_specs.specs.Predicate.{Formula, truth, falsity, compare, compare_columns, one_of, negation, all_of, any_of, Formulas, no_formulas, formulas}
+use Rattle.lens_specs.specs.Predicate.{Formula, truth, falsity, compare, compare_columns, one_of, null_at, negation, all_of, any_of, Formulas, no_formulas, formulas}
 use Rattle.grammar_specs.specs.Tokens.{is_free_name}
-use Rattle.grammar_specs.specs.Written.{Part, literally, compares, compares_columns, is_in, negated, grouped, All, only, joined, Pred, alone, either, is_some_list, is_part, is_all, is_pred}
+use Rattle.grammar_specs.specs.Written.{Part, literally, compares, compares_columns, is_in, tests_null, negated, grouped, All, only, joined, Pred, alone, either, is_some_list, are_constants, is_part, is_all, is_pred}
 use Rattle.grammar_specs.specs.Meaning.{list_of, formulas_of, conjuncts, disjuncts, conjunction, disjunction, constant, part_meaning, all_conjuncts, pred_disjuncts, pred_meaning}
 use Rattle.lens_pred.specs.NormalForm.{is_all_of, is_any_of, none_is, has_two, has_one, is_normal, are_normal, is_conjunct}
 use Rattle.grammar_laws.proofs.Options.{first_holds, second_holds}
@@ -54,6 +55,7 @@ conjuncts_normal truth h = (refl, refl)
 conjuncts_normal falsity h = (refl, refl)
 conjuncts_normal (compare c op v) h = (refl, refl)
 conjuncts_normal (compare_columns c op d) h = (refl, refl)
+conjuncts_normal (null_at c) h = (refl, refl)
 conjuncts_normal (one_of c vs) h = (rw h refl, refl)
 conjuncts_normal (negation f) h = (rw h refl, refl)
 conjuncts_normal (all_of fs) h = (each_member is_all_of fs (second_holds (has_two fs) (none_is is_all_of fs && are_normal fs) h), two_some fs (first_holds (has_two fs) (none_is is_all_of fs && are_normal fs) h))
@@ -64,6 +66,7 @@ disjuncts_normal truth h = (refl, refl)
 disjuncts_normal falsity h = (refl, refl)
 disjuncts_normal (compare c op v) h = (refl, refl)
 disjuncts_normal (compare_columns c op d) h = (refl, refl)
+disjuncts_normal (null_at c) h = (refl, refl)
 disjuncts_normal (one_of c vs) h = (rw h refl, refl)
 disjuncts_normal (negation f) h = (rw h refl, refl)
 disjuncts_normal (all_of fs) h = (both (is_normal (all_of fs) && true) true (both (is_normal (all_of fs)) true h refl) refl, refl)
@@ -94,7 +97,8 @@ mutual
   part_normal (literally b) h = constant_normal b
   part_normal (compares c op v) h = refl
   part_normal (compares_columns c op d) h = refl
-  part_normal (is_in c vs) h = some_value vs (second_holds (is_free_name c) (is_some_list vs) h)
+  part_normal (is_in c vs) h = some_value vs (first_holds (is_some_list vs) (list_all (λ v. not (is_null v)) vs) (second_holds (is_free_name c) (are_constants vs) h))
+  part_normal (tests_null c) h = refl
   part_normal (negated p) h = part_normal p h
   part_normal (grouped o) h = disjunction_normal (pred_disjuncts o) (pred_normal o h)
 

@@ -10,8 +10,8 @@ use Rattle.grammar_specs.specs.Written as written
 use Rattle.grammar_specs.specs.Written.{Operand, literal, operand_tokens, expr_tokens}
 use Rattle.view_lang.specs.ExprViews.{expr_view}
 use Rattle.view_lang.specs.PrintAdds.{drop_from}
-use Rattle.view_lang.specs.declared.expr.Expr.{Expr, Named, Select', Drop', Join', the_lemmas}
-use Rattle.view_lang.specs.declared.expr.Expr.TheVariants.{outs-Select', outs-Drop', outs-Join'}
+use Rattle.view_lang.specs.declared.expr.Expr.{Expr, Named, Select', Drop', Rename', Join', the_lemmas}
+use Rattle.view_lang.specs.declared.expr.Expr.TheVariants.{outs-Select', outs-Drop', outs-Rename', outs-Join'}
 
 -- as an operand it is the expression in parentheses
 abbrev IsEnclosed : meaning.Expr → Type 0
@@ -24,8 +24,10 @@ enclosed_unless_named (Select' p b e) other =
     let seen : expr_view (Select' p b e) ≡ meaning.select p (expr_view e) = search (rules, the_lemmas, outs-Select') in subst IsEnclosed (sym seen) refl
 enclosed_unless_named (Drop' c by v b e) other =
     let seen : expr_view (Drop' c by v b e) ≡ meaning.drop c by v (expr_view e) = search (rules, the_lemmas, outs-Drop') in subst IsEnclosed (sym seen) refl
-enclosed_unless_named (Join' b e d f) other =
-    let seen : expr_view (Join' b e d f) ≡ meaning.join (expr_view e) (expr_view f) = search (rules, the_lemmas, outs-Join') in subst IsEnclosed (sym seen) refl
+enclosed_unless_named (Rename' c d b e) other =
+    let seen : expr_view (Rename' c d b e) ≡ meaning.rename c d (expr_view e) = search (rules, the_lemmas, outs-Rename') in subst IsEnclosed (sym seen) refl
+enclosed_unless_named (Join' k b e d f) other =
+    let seen : expr_view (Join' k b e d f) ≡ meaning.join k (expr_view e) (expr_view f) = search (rules, the_lemmas, outs-Join') in subst IsEnclosed (sym seen) refl
 
 -- a drop and its operand
 pub drop_whole : (c : Name) (by : List Name) (v : Value) (o : Operand) → drop_from c by v ++ operand_tokens o ≡ expr_tokens (written.drop c by v o)

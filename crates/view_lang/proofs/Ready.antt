@@ -10,7 +10,7 @@ use Rattle.grammar_laws.proofs.Options.{first_holds, second_holds, map_then}
 use Rattle.grammar_laws.proofs.WrittenPreds.{Reading, inside, behind, is_reading}
 use Rattle.grammar_laws.proofs.WrittenExprs as expr
 use Rattle.grammar_laws.proofs.WrittenExprs.{Exprs, exprs, Spot, are_holes, is_spot, is_exprs}
-use Rattle.grammar_laws.proofs.WrittenDefs.{Parse, at_start, at_table, at_open, at_column, at_kind, behind_column, behind_columns, in_left, in_right, in_condition, at_view, at_equals, in_view, is_parse, ended_pred}
+use Rattle.grammar_laws.proofs.WrittenDefs.{Parse, at_start, at_table, at_open, at_column, at_kind, behind_kind, behind_column, behind_columns, in_left, in_right, in_condition, at_view, at_equals, in_view, is_parse, ended_pred}
 use Rattle.grammar_laws.proofs.DefSteps.{pred_end}
 use Rattle.grammar_laws.proofs.DefEnds.{table_known}
 use Rattle.grammar_laws.proofs.PredMeaning.{reading_meaning, ended_meaning}
@@ -42,7 +42,7 @@ spot_ready (expr.at_operand o) good h = tt
 spot_ready (expr.behind_expr e) good h = tt
 spot_ready expr.at_from good h = tt
 spot_ready (expr.at_where o) good h = tt
-spot_ready (expr.at_with o) good h = tt
+spot_ready (expr.at_with k o) good h = tt
 spot_ready expr.at_dropped good h = tt
 spot_ready (expr.at_determined c) good h = tt
 spot_ready (expr.at_by c) good h = tt
@@ -51,6 +51,10 @@ spot_ready (expr.in_keys c ks) good h = tt
 spot_ready (expr.at_fill c ks) good h = tt
 spot_ready (expr.at_keys_end c ks v) good h = tt
 spot_ready (expr.at_drop_from c ks v) good h = tt
+spot_ready expr.at_renamed good h = tt
+spot_ready (expr.at_to c) good h = tt
+spot_ready (expr.at_new_name c) good h = tt
+spot_ready (expr.at_rename_from c d) good h = tt
 spot_ready (expr.in_where o s) good h = reading_ready s (second_holds (is_operand o) (is_reading s) good) h
 
 exprs_ready : (s : Exprs) → is_exprs s ≡ true → meant_expr.count (exprs_meaning s) ≤ 32 → IsReadyExprs (exprs_meaning s)
@@ -63,6 +67,7 @@ parse_ready at_table good h = tt
 parse_ready (at_open n) good h = tt
 parse_ready (at_column n cs) good h = tt
 parse_ready (at_kind n cs c) good h = tt
+parse_ready (behind_kind n cs c k) good h = tt
 parse_ready (behind_column n cs) good h = tt
 parse_ready (behind_columns n cs) good h = no_repeat cs (second_holds (is_some_list cs) (are_columns [] cs) (second_holds (is_free_name n) (is_some_list cs && are_columns [] cs) good))
 parse_ready (in_left n cs ds l) good h = tt

@@ -8,8 +8,8 @@ use Rattle.view_lang.specs.declared.parsing.definitions.Table as code_table
 use Rattle.view_lang.specs.declared.parsing.definitions.Parse as code_parse
 use Rattle.view_lang.specs.declared.parsing.definitions.Parse.TheVariants.{Before, InCondition, InView}
 use Rattle.view_lang.specs.declared.parsing.definitions.Opening as code_opening
-use Rattle.view_lang.specs.declared.parsing.definitions.Opening.TheVariants.{AtStart, AtTable, AtOpen, AtColumn, AtKind, BehindColumn, BehindColumns, InLeft, InRight, AtView, AtEquals}
-use Rattle.grammar_laws.specs.DefParse.{Parse, at_start, at_table, at_open, at_column, at_kind, behind_column, behind_columns, in_left, in_right, in_condition, at_view, at_equals, in_view}
+use Rattle.view_lang.specs.declared.parsing.definitions.Opening.TheVariants.{AtStart, AtTable, AtOpen, AtColumn, AtKind, BehindKind, BehindColumn, BehindColumns, InLeft, InRight, AtView, AtEquals}
+use Rattle.grammar_laws.specs.DefParse.{Parse, at_start, at_table, at_open, at_column, at_kind, behind_kind, behind_column, behind_columns, in_left, in_right, in_condition, at_view, at_equals, in_view}
 use Rattle.view_lang.specs.ExprViews.{expr_view}
 use Rattle.view_lang.specs.ExprsViews.{exprs_view}
 use Rattle.view_lang.specs.PredViews.{preds_view}
@@ -26,6 +26,7 @@ opening_view AtTable = at_table
 opening_view (AtOpen n) = at_open n
 opening_view (AtColumn h) = at_column h.name h.cols
 opening_view (AtKind h c) = at_kind h.name h.cols c
+opening_view (BehindKind h c k) = behind_kind h.name h.cols c k
 opening_view (BehindColumn h) = behind_column h.name h.cols
 opening_view (BehindColumns h) = behind_columns h.name h.cols
 opening_view (InLeft t l) = in_left t.head.name t.head.cols t.deps.items l.items

@@ -5,7 +5,7 @@ use Rattle.lens_specs.specs.Predicate.{Formula}
 use Rattle.grammar_specs.specs.Meaning.{conjuncts}
 use Rattle.lens_pred.specs.NormalForm.{is_conjunct}
 use Rattle.grammar_laws.specs.PredParse.{Preds, inside, behind, ended}
-use Rattle.grammar_laws.specs.ExprParse.{Spot, at_expr, at_operand, behind_expr, at_from, at_where, at_with, at_dropped, at_determined, at_by, at_keys, in_keys, at_fill, at_keys_end, at_drop_from, in_where, Exprs, exprs}
+use Rattle.grammar_laws.specs.ExprParse.{Spot, at_expr, at_operand, behind_expr, at_from, at_where, at_with, at_dropped, at_determined, at_by, at_keys, in_keys, at_fill, at_keys_end, at_drop_from, at_renamed, at_to, at_new_name, at_rename_from, in_where, Exprs, exprs}
 
 -- at most 32 "not"s are open before the next part
 abbrev pub HasFewNots : Preds → Type 0
@@ -27,7 +27,7 @@ IsReadySpot (at_operand h) = Unit {0}
 IsReadySpot (behind_expr e) = Unit {0}
 IsReadySpot at_from = Unit {0}
 IsReadySpot (at_where o) = Unit {0}
-IsReadySpot (at_with o) = Unit {0}
+IsReadySpot (at_with k o) = Unit {0}
 IsReadySpot at_dropped = Unit {0}
 IsReadySpot (at_determined c) = Unit {0}
 IsReadySpot (at_by c) = Unit {0}
@@ -36,6 +36,10 @@ IsReadySpot (in_keys c ks) = Unit {0}
 IsReadySpot (at_fill c ks) = Unit {0}
 IsReadySpot (at_keys_end c ks v) = Unit {0}
 IsReadySpot (at_drop_from c ks v) = Unit {0}
+IsReadySpot at_renamed = Unit {0}
+IsReadySpot (at_to c) = Unit {0}
+IsReadySpot (at_new_name c) = Unit {0}
+IsReadySpot (at_rename_from c d) = Unit {0}
 IsReadySpot (in_where o s) = IsReady s
 
 -- the predicate that is being read in its innermost expression is ready

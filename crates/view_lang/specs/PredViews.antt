@@ -4,9 +4,9 @@ use Rattle.lens_pred.specs.Op.{op_view}
 use Rattle.lens_pred.specs.View.{predicate_view}
 use Rattle.view_lang.specs.declared.parsing.predicates.Level as code
 use Rattle.view_lang.specs.declared.parsing.predicates.Place as code_place
-use Rattle.view_lang.specs.declared.parsing.predicates.Place.TheVariants.{Part, Compared, Against, InOpen, InValue, InNext, Behind}
+use Rattle.view_lang.specs.declared.parsing.predicates.Place.TheVariants.{Part, Compared, Against, InOpen, InValue, InNext, AtNull, Behind}
 use Rattle.view_lang.specs.declared.parsing.predicates.Preds as code_preds
-use Rattle.grammar_laws.specs.PredParse.{Open, at_part, compared, against, in_open, in_value, in_next, Preds, inside, behind}
+use Rattle.grammar_laws.specs.PredParse.{Open, at_part, compared, against, in_open, in_value, in_next, at_null, Preds, inside, behind}
 
 -- what waits for a part, as the language has it
 abbrev pub open_view : code.Level → Open
@@ -29,6 +29,7 @@ preds_at qs o (Against c op) = inside qs o (against c (op_view op))
 preds_at qs o (InOpen c) = inside qs o (in_open c)
 preds_at qs o (InValue c vs) = inside qs o (in_value c vs.items)
 preds_at qs o (InNext c vs) = inside qs o (in_next c vs.items)
+preds_at qs o (AtNull c) = inside qs o (at_null c)
 preds_at qs o Behind = behind qs o.ors o.ands
 
 -- what was read of a predicate, as the language has it

@@ -74,9 +74,12 @@ comma_dep d = comma ∷ dep_tokens d
 abbrev pub comma_deps : List Dep → List Token
 comma_deps ds = flat_map comma_dep ds
 
--- ---- the tokens of a drop, up to its operand
+-- ---- the tokens of a drop and of a rename, up to their operands
 
 abbrev pub drop_from : Name → List Name → Value → List Token
 drop_from c by v =
     word (codes "drop") ∷ word c ∷ word (codes "determined") ∷ word (codes "by") ∷ open_paren
     ∷ (map word by ++ comma ∷ literal v ∷ close_paren ∷ word (codes "from") ∷ [])
+
+abbrev pub rename_from : Name → Name → List Token
+rename_from c d = word (codes "rename") ∷ word c ∷ word (codes "to") ∷ word d ∷ word (codes "from") ∷ []

@@ -1,7 +1,7 @@
 //! Expressions: what a view is made of.
 
 use lens_pred::Pred;
-use lens_values::{Name, Names, Value};
+use lens_values::{JoinKind, Name, Names, Value};
 
 /// The rows that a view shows.
 #[derive(Debug, Drop)]
@@ -29,11 +29,22 @@ pub enum Expr {
         /// The expression whose rows they are.
         of: Box<Expr>,
     },
+    /// One column under another name.
+    Rename {
+        /// The column.
+        col: Name,
+        /// Its new name.
+        to: Name,
+        /// The expression whose rows they are.
+        of: Box<Expr>,
+    },
     /// A join.
     Join {
-        /// The side from which rows are deleted.
+        /// On which side it deletes.
+        kind: JoinKind,
+        /// The left side.
         left: Box<Expr>,
-        /// The other side.
+        /// The right side.
         right: Box<Expr>,
     },
 }

@@ -8,5 +8,6 @@ pub mod printing;
 
 pub use definition::{Definition, Deps, LangFault, Limit, Side};
 pub use expr::Expr;
+pub use lens_values::JoinKind;
 pub use parsing::parse;
 pub use printing::{print, print_formula};

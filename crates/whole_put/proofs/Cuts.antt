@@ -1,9 +1,7 @@
 -- Columns of a projection and of a join.
-use Rattle.std.proofs.Common.{◌≡◌, Bool, true, cond, None, refl, sym, ap, ◌∙◌, inl, inr}
+use Rattle.std.proofs.Common.{◌≡◌, cond, None, sym, ap, ◌∙◌, inl, inr}
 use Rattle.std.proofs.lemmas.Bool.{cases_Bool}
 use Rattle.std.specs.FinMap as map
-use Rattle.std.specs.Ordering.{eq_by_cmp}
-use Rattle.lens_values.specs.Order.{bytes_cmp}
 use Rattle.lens_values.specs.SortedSet as set
 use Rattle.lens_specs.specs.Names.{Name, Names, one}
 use Rattle.lens_specs.specs.Columns.{Columns, both_columns, columns_in, kinds_differ, names, without_column}

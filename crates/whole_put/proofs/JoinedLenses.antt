@@ -6,14 +6,14 @@ use Rattle.std.specs.FinMap as finmap
 use Rattle.std.specs.Ordering.{eq_by_cmp}
 use Rattle.lens_values.specs.Order.{bytes_cmp}
 use Rattle.lens_values.specs.SortedSet as set
-use Rattle.lens_values.specs.Value.{same_kind}
+use Rattle.lens_values.specs.declared.join_kind.JoinKind.{JoinKind}
 use Rattle.lens_values.specs.declared.value.Kind.{Kind}
-use Rattle.lens_values.specs.declared.value.Kind.TheVariants.{Int, Text, Flag}
+use Rattle.lens_values.proofs.ValueLemmas.{kind_itself}
 use Rattle.lens_specs.specs.Columns.{Columns, both_columns, kinds_differ, like_kinds, names}
 use Rattle.lens_specs.specs.Dependencies.{Edge, MeetsTree}
 use Rattle.lens_specs.specs.Lens.{Lens, Tables, join, get, put, sort_of, tables_of, view, view_names}
 use Rattle.lens_specs.specs.Names.{Name, is_among}
-use Rattle.lens_specs.specs.Nodes.{join_get, join_put_left, join_right}
+use Rattle.lens_specs.specs.Nodes.{join_get, join_left_after, join_right_after}
 use Rattle.lens_specs.specs.Relation.{Relation, Rows, project}
 use Rattle.lens_specs.specs.Sort.{IsOf, IsOfSort, Sort}
 use Rattle.lens_specs.specs.Typing as typing
@@ -36,14 +36,9 @@ use Rattle.whole_put.proofs.Shown.{shown_alike_after}
 
 -- ---- shared columns
 
-same_itself : (k : Kind) → same_kind k k ≡ true
-same_itself Int = refl
-same_itself Text = refl
-same_itself Flag = refl
-
 alike : (o p : Option Kind) → o ≡ p → is_some o ≡ true → not (like_kinds o p) ≡ false
 alike None p e i = absurd (true≢false (sym i))
-alike (Some k) p e i = ap (λ q. not (like_kinds (Some k) q)) (sym e) ∙ ap not (same_itself k)
+alike (Some k) p e i = ap (λ q. not (like_kinds (Some k) q)) (sym e) ∙ ap not (kind_itself k)
 
 find_nothing : (p : Name → Bool) (ns : List Name) → ((c : Name) → is_among c ns ≡ true → p c ≡ false) → find p ns ≡ None
 find_nothing p [] h = refl
@@ -59,28 +54,28 @@ one_kind_each U V same = find_nothing (λ c. not (like_kinds (finmap.get U c) (f
 -- ---- what is shown
 
 -- the join of what both sides show is what a join shows
-pub shown_joined : (L A B : Lens) (db : Tables) (M N : Relation) → join A B ≡ L → M ≡ view A db → N ≡ view B db
+pub shown_joined : (kind : JoinKind) (L A B : Lens) (db : Tables) (M N : Relation) → join kind A B ≡ L → M ≡ view A db → N ≡ view B db
     → record { columns = both_columns M.columns N.columns; rows = join_get (names M.columns) (names N.columns) M.rows N.rows } ≡ view L db
 unfolding get
-shown_joined L A B db M N is left right =
+shown_joined kind L A B db M N is left right =
     (λ i. record { columns = both_columns (left i).columns (right i).columns; rows = join_get (names (left i).columns) (names (right i).columns) (left i).rows (right i).rows })
     ∙ ap (λ K. view K db) is
 
 -- ---- a put
 
 -- the rows of the left side after a put of a join
-abbrev pub left_after : Lens → Lens → Rows → Rows → Rows → Rows
-left_after A B O M N = join_put_left (view_names A) (view_names B) (sort_of A).tree (sort_of B).tree O M N
+abbrev pub left_after : JoinKind → Lens → Lens → Rows → Rows → Rows → Rows
+left_after kind A B O M N = join_left_after kind (view_names A) (view_names B) (sort_of A).tree (sort_of B).tree O M N
 
 -- the rows of the right side
-abbrev pub right_after : Lens → Rows → Rows → Rows
-right_after B O N = join_right (view_names B) (sort_of B).tree O N
+abbrev pub right_after : JoinKind → Lens → Lens → Rows → Rows → Rows → Rows
+right_after kind A B O M N = join_right_after kind (view_names A) (view_names B) (sort_of A).tree (sort_of B).tree O M N
 
 -- the tree of the sort that the rules give
 pub kept_tree : (L : Lens) (s : Sort) (T : List Edge) → IsTyped L → typing.sort L ≡ Ok s → T ≡ s.tree → T ≡ (sort_of L).tree
 kept_tree L s T typed given tree = tree ∙ ap (λ (k : Sort). k.tree) (given_is L s typed given)
 
-module _ (A B : Lens) (typed : IsTyped (join A B)) where
+module _ (kind : JoinKind) (A B : Lens) (typed : IsTyped (join kind A B)) where
   kinds : kinds_differ (sort_of A).columns (sort_of B).columns ≡ None
   kinds = one_kind_each (sort_of A).columns (sort_of B).columns typed.2.kinds
 
@@ -96,8 +91,8 @@ module _ (A B : Lens) (typed : IsTyped (join A B)) where
     decides = typed.2.decides;
   }
 
-  in_view : (O : Rows) → IsOf O (sort_of (join A B)) → IsIn O (join_shape (shape_of (sort_of A)) (shape_of (sort_of B)) (sort_of (join A B)).tree)
-  in_view O o = subst (λ k. IsIn O k) (join_sort_is (sort_of A) (sort_of B)) (to_in O (sort_of (join A B)) o)
+  in_view : (O : Rows) → IsOf O (sort_of (join kind A B)) → IsIn O (join_shape (shape_of (sort_of A)) (shape_of (sort_of B)) (sort_of (join kind A B)).tree)
+  in_view O o = subst (λ k. IsIn O k) (join_sort_is (sort_of A) (sort_of B)) (to_in O (sort_of (join kind A B)) o)
 
   module _ (M N : Relation) (F G : List Edge) (left : IsOfSort M (sort_of A)) (right : IsOfSort N (sort_of B)) (left_tree : F ≡ (sort_of A).tree) (right_tree : G ≡ (sort_of B).tree) where
     pub put_can : CanBePut M.columns N.columns F G
@@ -112,35 +107,36 @@ module _ (A B : Lens) (typed : IsTyped (join A B)) where
     pub right_meets : MeetsTree N.rows G
     right_meets = rw right_tree (clash_none (sort_of B).tree N.rows right.1.clash)
 
-    pub columns_of_both : (sort_of (join A B)).columns ≡ both_columns M.columns N.columns
+    pub columns_of_both : (sort_of (join kind A B)).columns ≡ both_columns M.columns N.columns
     columns_of_both = λ i. both_columns (sym left.0 i) (sym right.0 i)
 
     -- the parts of the view meet the trees
-    pub view_left : (O : Rows) → IsOf O (sort_of (join A B)) → MeetsTree (project (names M.columns) O) F
+    pub view_left : (O : Rows) → IsOf O (sort_of (join kind A B)) → MeetsTree (project (names M.columns) O) F
     view_left O o =
         let left_columns = left.0 in
-        rw (left_columns, left_tree) (part_left (shape_of (sort_of A)) (shape_of (sort_of B)) (sort_of (join A B)).tree (both_can A B typed) O (in_view O o)).meets
+        rw (left_columns, left_tree) (part_left (shape_of (sort_of A)) (shape_of (sort_of B)) (sort_of (join kind A B)).tree (both_can kind A B typed) O (in_view O o)).meets
 
-    pub view_right : (O : Rows) → IsOf O (sort_of (join A B)) → MeetsTree (project (names N.columns) O) G
+    pub view_right : (O : Rows) → IsOf O (sort_of (join kind A B)) → MeetsTree (project (names N.columns) O) G
     view_right O o =
         let right_columns = right.0 in
-        rw (right_columns, right_tree) (part_right (shape_of (sort_of A)) (shape_of (sort_of B)) (sort_of (join A B)).tree (both_can A B typed) O (in_view O o)).meets
+        rw (right_columns, right_tree) (part_right (shape_of (sort_of A)) (shape_of (sort_of B)) (sort_of (join kind A B)).tree (both_can kind A B typed) O (in_view O o)).meets
 
     -- ---- the sources after a put
 
-    pub left_source : (O : Rows) (after : Relation) → after ≡ record M { rows = join_put_left (names M.columns) (names N.columns) F G O M.rows N.rows } → after ≡ over A (left_after A B O M.rows N.rows)
+    pub left_source : (O : Rows) (after : Relation) → after ≡ record M { rows = join_left_after kind (names M.columns) (names N.columns) F G O M.rows N.rows } → after ≡ over A (left_after kind A B O M.rows N.rows)
     left_source O after is =
-        is ∙ (λ i. record { columns = left.0 i; rows = join_put_left (names (left.0 i)) (names (right.0 i)) (left_tree i) (right_tree i) O M.rows N.rows })
+        is ∙ (λ i. record { columns = left.0 i; rows = join_left_after kind (names (left.0 i)) (names (right.0 i)) (left_tree i) (right_tree i) O M.rows N.rows })
 
-    pub right_source : (O : Rows) (after : Relation) → after ≡ record N { rows = join_right (names N.columns) G O N.rows } → after ≡ over B (right_after B O N.rows)
-    right_source O after is = is ∙ (λ i. record { columns = right.0 i; rows = join_right (names (right.0 i)) (right_tree i) O N.rows })
+    pub right_source : (O : Rows) (after : Relation) → after ≡ record N { rows = join_right_after kind (names M.columns) (names N.columns) F G O M.rows N.rows } → after ≡ over B (right_after kind A B O M.rows N.rows)
+    right_source O after is =
+        is ∙ (λ i. record { columns = right.0 i; rows = join_right_after kind (names (left.0 i)) (names (right.0 i)) (left_tree i) (right_tree i) O M.rows N.rows })
 
-  module _ (O M N : Rows) (left : IsOf M (sort_of A)) (right : IsOf N (sort_of B)) (of_sort : IsOf O (sort_of (join A B))) where
-    pub left_is_of_sort : IsOfSort (over A (left_after A B O M N)) (sort_of A)
-    left_is_of_sort = (refl, (join_law A B typed).put_sort_left O M N left right of_sort)
+  module _ (O M N : Rows) (left : IsOf M (sort_of A)) (right : IsOf N (sort_of B)) (of_sort : IsOf O (sort_of (join kind A B))) where
+    pub left_is_of_sort : IsOfSort (over A (left_after kind A B O M N)) (sort_of A)
+    left_is_of_sort = (refl, (join_law kind A B typed).put_sort_left O M N left right of_sort)
 
-    pub right_is_of_sort : IsOfSort (over B (right_after B O N)) (sort_of B)
-    right_is_of_sort = (refl, (join_law A B typed).put_sort_right O M N left right of_sort)
+    pub right_is_of_sort : IsOfSort (over B (right_after kind A B O M N)) (sort_of B)
+    right_is_of_sort = (refl, (join_law kind A B typed).put_sort_right O M N left right of_sort)
 
   -- a put to the left side leaves the tables of the right one
   right_left : (db after : Tables) (S : Rows) → after ≡ put A S db → (t : Name) → set.contains (tables_of B) t ≡ true → finmap.get after t ≡ finmap.get db t
@@ -154,6 +150,6 @@ module _ (A B : Lens) (typed : IsTyped (join A B)) where
   right_sources db after S under is shown = shown_alike_after B db after under (right_left db after S is) shown
 
 -- a put to a join is the put to its left side, then that to its right side
-pub put_joined : (L A B : Lens) (db after : Tables) (O S T : Rows) → join A B ≡ L → S ≡ left_after A B O (get A db) (get B db) → T ≡ right_after B O (get B db) → after ≡ put A S db → put B T after ≡ put L O db
+pub put_joined : (kind : JoinKind) (L A B : Lens) (db after : Tables) (O S T : Rows) → join kind A B ≡ L → S ≡ left_after kind A B O (get A db) (get B db) → T ≡ right_after kind A B O (get A db) (get B db) → after ≡ put A S db → put B T after ≡ put L O db
 unfolding put
-put_joined L A B db after O S T is s t e = (λ i. put B (t i) ((e ∙ ap (λ K. put A K db) s) i)) ∙ ap (λ K. put K O db) is
+put_joined kind L A B db after O S T is s t e = (λ i. put B (t i) ((e ∙ ap (λ K. put A K db) s) i)) ∙ ap (λ K. put K O db) is

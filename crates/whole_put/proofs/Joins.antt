@@ -1,48 +1,78 @@
 -- A join and its put.
-use Rattle.std.proofs.Common.{◌≡◌, List, ◌++◌, true, refl, ap, ◌∙◌}
+use Rattle.std.proofs.Common.{◌≡◌, Bool, List, ◌++◌, true, not, refl, ap, ◌∙◌}
+use Rattle.std.proofs.lemmas.Bool.{not-true, not_from_false}
 use Rattle.lens_values.specs.declared.row.Row.{Row}
+use Rattle.lens_values.specs.declared.join_kind.JoinKind.{JoinKind}
+use Rattle.lens_values.specs.declared.join_kind.JoinKind.TheVariants.{DeleteLeft, DeleteRight, DeleteBoth}
 use Rattle.lens_specs.specs.Columns.{Fits, both_columns, names}
 use Rattle.lens_specs.specs.Dependencies.{Edge, Meets, MeetsTree}
 use Rattle.lens_specs.specs.Names.{Names, Within}
-use Rattle.lens_specs.specs.Nodes.{join_get, join_left, join_over, join_put_left, join_right}
-use Rattle.lens_specs.specs.Relation.{IsRelation, Relation, Rows, has, minus, project}
+use Rattle.lens_specs.specs.Nodes.{join_get, join_left, join_over, join_right, join_kept, join_free, join_put_left, join_put_left_kept, join_put_right, join_left_after, join_right_after}
+use Rattle.lens_specs.specs.Relation.{IsRelation, Relation, Rows, has, minus, project, those}
 use Rattle.lens_specs.specs.Revision.{merge}
 use Rattle.lens_specs.specs.Rows.{agree, cut}
 use Rattle.fd_laws.specs.Trees.{EdgesWithin, IsTree}
 use Rattle.lens_laws.specs.Shapes.{CanJoin, IsIn, Shape, join_shape}
 use Rattle.fd_laws.proofs.Closures.{closure_is, implies_sound}
-use Rattle.lens_laws.proofs.Join.{join_lawful}
-use Rattle.fd_laws.proofs.Relations.{in_project}
+use Rattle.lens_laws.proofs.JoinKinds.{kind_lawful}
+use Rattle.fd_laws.proofs.Lists.{false_from, absurd_false}
+use Rattle.fd_laws.proofs.Relations.{same_rel, in_project, in_minus, from_minus, in_those, from_those}
 use Rattle.fd_laws.proofs.Rows.{agree_back, agree_on, agree_within, agree-cut}
 use Rattle.fd_laws.proofs.Trees.{both_edges}
 use Rattle.fd_laws.proofs.TreeForms.{all_append, append_parts}
 use Rattle.whole_put.specs.Joinable.{CanBePut, shared_names}
 use Rattle.lens_laws.proofs.Rules.{one_kind}
+use Rattle.whole_put.specs.Lost.{kept_of, left_without, right_without, surplus_of}
 
 -- ---- the values that the body computes in turn
 
-module _ (A B : Relation) (F G : List Edge) (view left_part right_part merged new_right over new_left : Relation)
+same_others : (p : Row → Bool) (W : Rows) → minus W (those p W) ≡ those (λ w. not (p w)) W
+same_others p W = same_rel _ _
+    (λ w i. let v = from_minus W (those p W) w i in in_those (λ w. not (p w)) W w v.0 (not_from_false _ (false_from _ (λ t. absurd_false _ (in_those p W w v.0 t) v.1))))
+    (λ w i. let v = from_those (λ w. not (p w)) W w i in in_minus W (those p W) w v.0 (false_from _ (λ j. absurd_false _ (from_those p W w j).1 (not-true _ v.1))))
+
+left_by_kind : (kind : JoinKind) (U V : Names) (F G : List Edge) (O M N : Rows)
+    → left_without kind U (join_over U V F G O M N) (those (λ w. has (project V O) (cut V w)) (join_over U V F G O M N)) (join_left U F O M) ≡ join_left_after kind U V F G O M N
+unfolding join_put_left join_put_left_kept join_kept
+left_by_kind DeleteLeft U V F G O M N = refl
+left_by_kind DeleteRight U V F G O M N = refl
+left_by_kind DeleteBoth U V F G O M N = refl
+
+right_by_kind : (kind : JoinKind) (U V : Names) (F G : List Edge) (O M N : Rows)
+    → right_without kind V (join_over U V F G O M N) (those (λ w. has (project V O) (cut V w)) (join_over U V F G O M N)) (join_right V G O N) ≡ join_right_after kind U V F G O M N
+unfolding join_put_right join_free
+right_by_kind DeleteLeft U V F G O M N = refl
+right_by_kind DeleteRight U V F G O M N = ap (λ W. minus (join_right V G O N) (project V W)) (same_others (λ w. has (project V O) (cut V w)) (join_over U V F G O M N))
+right_by_kind DeleteBoth U V F G O M N = ap (λ W. minus (join_right V G O N) (project V W)) (same_others (λ w. has (project V O) (cut V w)) (join_over U V F G O M N))
+
+module _ (kind : JoinKind) (A B : Relation) (F G : List Edge) (view left_part right_part merged merged_right new_left new_right : Relation)
     (is_left_part : left_part ≡ record { columns = A.columns; rows = project (names A.columns) view.rows })
     (is_right_part : right_part ≡ record { columns = B.columns; rows = project (names B.columns) view.rows })
-    (is_merged : merged ≡ record A { rows = merge F A.rows left_part.rows }) (is_new_right : new_right ≡ record B { rows = merge G B.rows right_part.rows })
-    (is_over : over ≡ record merged { rows = project (names merged.columns) (minus (join_get (names merged.columns) (names new_right.columns) merged.rows new_right.rows) view.rows) })
-    (is_new_left : new_left ≡ record merged { rows = minus merged.rows over.rows }) where
-  merged_is : merged ≡ record A { rows = join_left (names A.columns) F view.rows A.rows }
+    (is_merged : merged ≡ record A { rows = merge F A.rows left_part.rows }) (is_merged_right : merged_right ≡ record B { rows = merge G B.rows right_part.rows })
+    (is_new_left : new_left ≡ (let over = surplus_of merged merged_right view.rows in record merged { rows = left_without kind (names merged.columns) over (kept_of right_part over) merged.rows }))
+    (is_new_right : new_right ≡ (let over = surplus_of merged merged_right view.rows in record merged_right { rows = right_without kind (names merged_right.columns) over (kept_of right_part over) merged_right.rows })) where
+  left_merged : merged ≡ record A { rows = join_left (names A.columns) F view.rows A.rows }
   unfolding join_left
-  merged_is = is_merged ∙ ap (λ (R : Relation). record A { rows = merge F A.rows R.rows }) is_left_part
+  left_merged = is_merged ∙ ap (λ (R : Relation). record A { rows = merge F A.rows R.rows }) is_left_part
 
-  pub right_made : new_right ≡ record B { rows = join_right (names B.columns) G view.rows B.rows }
+  right_merged : merged_right ≡ record B { rows = join_right (names B.columns) G view.rows B.rows }
   unfolding join_right
-  right_made = is_new_right ∙ ap (λ (R : Relation). record B { rows = merge G B.rows R.rows }) is_right_part
+  right_merged = is_merged_right ∙ ap (λ (R : Relation). record B { rows = merge G B.rows R.rows }) is_right_part
 
-  over_rows : over.rows ≡ project (names A.columns) (join_over (names A.columns) (names B.columns) F G view.rows A.rows B.rows)
+  over_rows : surplus_of merged merged_right view.rows ≡ join_over (names A.columns) (names B.columns) F G view.rows A.rows B.rows
   unfolding join_over
-  over_rows = ap (λ (R : Relation). R.rows) is_over
-      ∙ (λ i. project (names (merged_is i).columns) (minus (join_get (names (merged_is i).columns) (names (right_made i).columns) (merged_is i).rows (right_made i).rows) view.rows))
+  over_rows = λ i. surplus_of (left_merged i) (right_merged i) view.rows
 
-  pub left_made : new_left ≡ record A { rows = join_put_left (names A.columns) (names B.columns) F G view.rows A.rows B.rows }
-  unfolding join_put_left
-  left_made = is_new_left ∙ (λ i. record { columns = (merged_is i).columns; rows = minus (merged_is i).rows (over_rows i) })
+  kept_rows : kept_of right_part (surplus_of merged merged_right view.rows) ≡ those (λ w. has (project (names B.columns) view.rows) (cut (names B.columns) w)) (join_over (names A.columns) (names B.columns) F G view.rows A.rows B.rows)
+  kept_rows = λ i. kept_of (is_right_part i) (over_rows i)
+
+  pub left_made : new_left ≡ record A { rows = join_left_after kind (names A.columns) (names B.columns) F G view.rows A.rows B.rows }
+  left_made = is_new_left ∙ (λ i. record { columns = (left_merged i).columns; rows = left_without kind (names (left_merged i).columns) (over_rows i) (kept_rows i) (left_merged i).rows })
+      ∙ ap (λ R. record A { rows = R }) (left_by_kind kind (names A.columns) (names B.columns) F G view.rows A.rows B.rows)
+
+  pub right_made : new_right ≡ record B { rows = join_right_after kind (names A.columns) (names B.columns) F G view.rows A.rows B.rows }
+  right_made = is_new_right ∙ (λ i. record { columns = (right_merged i).columns; rows = right_without kind (names (right_merged i).columns) (over_rows i) (kept_rows i) (right_merged i).rows })
+      ∙ ap (λ R. record B { rows = R }) (right_by_kind kind (names A.columns) (names B.columns) F G view.rows A.rows B.rows)
 
 -- ---- the laws
 
@@ -55,7 +85,7 @@ cut_meets U T M O within from = both_edges (λ e. Within e.left U × Within e.ri
     agree_on e.right p v.0 q (agree_within e.right U p v.0 w.1 v.2) (agree_on e.right v.0 u.0 q (mm v.0 u.0 v.1 u.1 left) (agree_back e.right q u.0 (agree_within e.right U q u.0 w.1 u.2))))
     T within
 
-module _ (A B : Relation) (F G : List Edge) (O : Rows) (left_tree : IsTree F) (right_tree : IsTree G) (can : CanBePut A.columns B.columns F G) (fit_left : IsRelation A) (fit_right : IsRelation B)
+module _ (kind : JoinKind) (A B : Relation) (F G : List Edge) (O : Rows) (left_tree : IsTree F) (right_tree : IsTree G) (can : CanBePut A.columns B.columns F G) (fit_left : IsRelation A) (fit_right : IsRelation B)
     (left_meets : MeetsTree A.rows F) (right_meets : MeetsTree B.rows G) (fit_view : (r : Row) → has O r ≡ true → Fits (both_columns A.columns B.columns) r)
     (view_left : MeetsTree (project (names A.columns) O) F) (view_right : MeetsTree (project (names B.columns) O) G) where
   abbrev U : Names
@@ -103,11 +133,11 @@ module _ (A B : Relation) (F G : List Edge) (O : Rows) (left_tree : IsTree F) (r
   of_view : IsIn O (join_shape s t (F ++ G))
   of_view = record { columns = fit_view; holds = λ r i. refl; meets = all_append (λ e. Meets O e.left e.right) F G meets_left meets_right }
 
-  pub put_get : join_get U V (join_put_left U V F G O A.rows B.rows) (join_right V G O B.rows) ≡ O
-  put_get = (join_lawful s t (F ++ G) can_join).put_get O A.rows B.rows of_left of_right of_view
+  pub put_get : join_get U V (join_left_after kind U V F G O A.rows B.rows) (join_right_after kind U V F G O A.rows B.rows) ≡ O
+  put_get = (kind_lawful kind s t (F ++ G) can_join).put_get O A.rows B.rows of_left of_right of_view
 
-  pub get_put_left : O ≡ join_get U V A.rows B.rows → join_put_left U V F G O A.rows B.rows ≡ A.rows
-  get_put_left same = ap (λ K. join_put_left U V F G K A.rows B.rows) same ∙ (join_lawful s t (F ++ G) can_join).get_put_left A.rows B.rows of_left of_right
+  pub get_put_left : O ≡ join_get U V A.rows B.rows → join_left_after kind U V F G O A.rows B.rows ≡ A.rows
+  get_put_left same = ap (λ K. join_left_after kind U V F G K A.rows B.rows) same ∙ (kind_lawful kind s t (F ++ G) can_join).get_put_left A.rows B.rows of_left of_right
 
-  pub get_put_right : O ≡ join_get U V A.rows B.rows → join_right V G O B.rows ≡ B.rows
-  get_put_right same = ap (λ K. join_right V G K B.rows) same ∙ (join_lawful s t (F ++ G) can_join).get_put_right A.rows B.rows of_left of_right
+  pub get_put_right : O ≡ join_get U V A.rows B.rows → join_right_after kind U V F G O A.rows B.rows ≡ B.rows
+  get_put_right same = ap (λ K. join_right_after kind U V F G K A.rows B.rows) same ∙ (kind_lawful kind s t (F ++ G) can_join).get_put_right A.rows B.rows of_left of_right

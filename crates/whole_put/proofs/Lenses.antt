@@ -6,11 +6,12 @@ use Rattle.lens_values.specs.SortedSet as set
 use Rattle.lens_values.specs.declared.value.Value.{Value}
 use Rattle.lens_specs.specs.Columns.{fits_at, names, without_column}
 use Rattle.lens_specs.specs.Dependencies.{Edge, Meets}
-use Rattle.lens_specs.specs.Lens.{Lens, Tables, base, select, drop, get, put, sort_of, view, rows_or_none}
+use Rattle.lens_specs.specs.Lens.{Lens, Tables, base, select, drop, rename, get, put, sort_of, view, rows_or_none}
 use Rattle.lens_specs.specs.Names.{Name, Names, one}
-use Rattle.lens_specs.specs.Nodes.{drop_get, drop_put, select_get, select_put}
+use Rattle.lens_specs.specs.Nodes.{drop_get, drop_put, rename_get, rename_put, select_get, select_put}
 use Rattle.lens_specs.specs.Predicate.{Predicate, holds}
 use Rattle.lens_specs.specs.Relation.{Relation, Rows}
+use Rattle.lens_specs.specs.Rename.{renamed_columns}
 use Rattle.lens_specs.specs.Rows.{agree}
 use Rattle.lens_specs.specs.Sort.{IsOf, IsOfSort, Sort}
 use Rattle.lens_specs.specs.Typing as typing
@@ -19,7 +20,7 @@ use Rattle.fd_laws.proofs.Rows.{agree_at, agree_from}
 use Rattle.fd_laws.proofs.Trees.{at_edge}
 use Rattle.lens_laws.specs.Lenses.{AreOf, IsTyped}
 use Rattle.lens_laws.proofs.Lenses.{get_after, put_back}
-use Rattle.lens_laws.proofs.NodeLaws.{drop_law, select_law}
+use Rattle.lens_laws.proofs.NodeLaws.{drop_law, rename_node_law, select_law}
 use Rattle.lens_laws.proofs.Rules.{given_is}
 use Rattle.lens_laws.proofs.Sorts.{clash_none}
 
@@ -50,6 +51,12 @@ unfolding get
 shown_dropped L C A X a db M is shown =
     ap (λ (N : Relation). record { columns = without_column N.columns A; rows = drop_get (names N.columns) A N.rows }) shown ∙ ap (λ K. view K db) is
 
+-- what its source shows with the new name is what a rename shows
+pub shown_renamed : (L C : Lens) (A B : Name) (db : Tables) (M : Relation) → rename A B C ≡ L → M ≡ view C db
+    → record { columns = renamed_columns A B M.columns; rows = rename_get A B M.rows } ≡ view L db
+unfolding get
+shown_renamed L C A B db M is shown = ap (λ (N : Relation). record { columns = renamed_columns A B N.columns; rows = rename_get A B N.rows }) shown ∙ ap (λ K. view K db) is
+
 -- ---- the source of a node after a put
 
 -- these rows over the columns of the lens
@@ -75,6 +82,12 @@ source_dropped C A X a N M after columns is = is ∙ (λ i. record { columns = c
 
 pub dropped_is_of_sort : (C : Lens) (A : Name) (X : Names) (a : Value) (N M : Rows) → IsTyped (drop A X a C) → IsOf M (sort_of C) → IsOf N (sort_of (drop A X a C)) → IsOfSort (over C (drop_put A X a N M)) (sort_of C)
 dropped_is_of_sort C A X a N M typed of_source of_view = (refl, (drop_law A X a C typed).put_sort N M of_source of_view)
+
+pub source_renamed : (C : Lens) (A B : Name) (N : Rows) (M after : Relation) → M.columns ≡ (sort_of C).columns → after ≡ record M { rows = rename_put A B N } → after ≡ over C (rename_put A B N)
+source_renamed C A B N M after columns is = is ∙ (λ i. record { columns = columns i; rows = rename_put A B N })
+
+pub renamed_is_of_sort : (C : Lens) (A B : Name) (N M : Rows) → IsTyped (rename A B C) → IsOf M (sort_of C) → IsOf N (sort_of (rename A B C)) → IsOfSort (over C (rename_put A B N)) (sort_of C)
+renamed_is_of_sort C A B N M typed of_source of_view = (refl, (rename_node_law A B C typed).put_sort N M of_source of_view)
 
 -- ---- what a put to a projection asks
 
@@ -110,6 +123,10 @@ put_selected L C P db N S is rows = ap (λ K. put C K db) rows ∙ ap (λ K. put
 pub put_dropped : (L C : Lens) (A : Name) (X : Names) (a : Value) (db : Tables) (N S : Rows) → drop A X a C ≡ L → S ≡ drop_put A X a N (get C db) → put C S db ≡ put L N db
 unfolding put
 put_dropped L C A X a db N S is rows = ap (λ K. put C K db) rows ∙ ap (λ K. put K N db) is
+
+pub put_renamed : (L C : Lens) (A B : Name) (db : Tables) (N S : Rows) → rename A B C ≡ L → S ≡ rename_put A B N → put C S db ≡ put L N db
+unfolding put
+put_renamed L C A B db N S is rows = ap (λ K. put C K db) rows ∙ ap (λ K. put K N db) is
 
 -- the laws of the tables after a put
 module _ (after : Tables) (L : Lens) (N : Rows) (db : Tables) (typed : IsTyped L) (are : AreOf L db) (is : after ≡ put L N db) where

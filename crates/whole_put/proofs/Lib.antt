@@ -6,3 +6,4 @@ pub mod Lenses
 pub mod Selections
 pub mod Shown
 pub mod Tables
+pub mod Renames

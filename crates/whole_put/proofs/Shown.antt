@@ -4,7 +4,7 @@ use Rattle.std.specs.FinMap as finmap
 use Rattle.fd_laws.proofs.Lists.{left_true, right_true}
 use Rattle.fd_laws.proofs.Names.{name_total}
 use Rattle.lens_values.specs.SortedSet as set
-use Rattle.lens_specs.specs.Lens.{Lens, Tables, base, select, drop, join, tables_of, view}
+use Rattle.lens_specs.specs.Lens.{Lens, Tables, base, select, drop, rename, join, tables_of, view}
 use Rattle.lens_specs.specs.Names.{Name}
 use Rattle.lens_specs.specs.Relation.{Relation}
 use Rattle.lens_laws.proofs.Lenses.{get_same}
@@ -18,7 +18,8 @@ unfolding tables_of
 shown_alike_after (base t s) db eb S same h = tt
 shown_alike_after (select P C) db eb S same h = (h.0, h.1 ∙ ap (λ M. Some (over C M, h.0)) (sym (get_same C db eb same)), shown_alike_after C db eb h.0 same h.2)
 shown_alike_after (drop A X a C) db eb S same h = (h.0, h.1 ∙ ap (λ M. Some (over C M, h.0)) (sym (get_same C db eb same)), shown_alike_after C db eb h.0 same h.2)
-shown_alike_after (join A B) db eb S same h =
+shown_alike_after (rename A B C) db eb S same h = (h.0, h.1 ∙ ap (λ M. Some (over C M, h.0)) (sym (get_same C db eb same)), shown_alike_after C db eb h.0 same h.2)
+shown_alike_after (join kind A B) db eb S same h =
     let left : (t : Name) → set.contains (tables_of A) t ≡ true → finmap.get eb t ≡ finmap.get db t = λ t i. same t (set.contains-union name_total (tables_of A) (tables_of B) t ∙ left_true _ _ i) in
     let right : (t : Name) → set.contains (tables_of B) t ≡ true → finmap.get eb t ≡ finmap.get db t = λ t i. same t (set.contains-union name_total (tables_of A) (tables_of B) t ∙ right_true _ _ i) in (
       h.0,

@@ -1,6 +1,6 @@
 -- What the sources of a lens show.
 use Rattle.std.specs.Prelude.{◌≡◌, Option, None, Some}
-use Rattle.lens_specs.specs.Lens.{Lens, Tables, base, select, drop, join, view}
+use Rattle.lens_specs.specs.Lens.{Lens, Tables, base, select, drop, rename, join, view}
 use Rattle.lens_specs.specs.Relation.{Relation}
 use Rattle.whole_put.specs.declared.sources.Sources.{Sources, Table, One', Two'}
 
@@ -21,4 +21,5 @@ abbrev pub AreShown : Lens → Tables → Sources → Type 0
 AreShown (base t s) db S = Unit {0}
 AreShown (select P C) db S = (under : Sources) × (only_of S ≡ Some (view C db, under)) × AreShown C db under
 AreShown (drop A X a C) db S = (under : Sources) × (only_of S ≡ Some (view C db, under)) × AreShown C db under
-AreShown (join A B) db S = (left : Sources) × (right : Sources) × (both_of S ≡ Some ((view A db, left), (view B db, right))) × AreShown A db left × AreShown B db right
+AreShown (rename A B C) db S = (under : Sources) × (only_of S ≡ Some (view C db, under)) × AreShown C db under
+AreShown (join k A B) db S = (left : Sources) × (right : Sources) × (both_of S ≡ Some ((view A db, left), (view B db, right))) × AreShown A db left × AreShown B db right

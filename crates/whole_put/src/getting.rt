@@ -8,6 +8,7 @@ ghost use Rattle.lens_laws.specs.Lenses.{AreOf};
 use crate::db::Db;
 use crate::dropping::get_drop;
 use crate::joining::get_join;
+use crate::renaming::get_rename;
 use crate::selecting::get_select;
 use lens_types::{Lens, TypedLens};
 use lens_values::NoMemory;
@@ -24,6 +25,7 @@ pub fn get(alloc: Global, lens: &TypedLens, db: &Db) -> Result<Relation, NoMemor
         Lens::Base { table, .. } => db.at(table).copy(alloc),
         Lens::Select { pred, of, .. } => get_select(alloc, pred, &get(alloc, of, db)?),
         Lens::Drop { col, of, .. } => get_drop(alloc, col, &get(alloc, of, db)?),
+        Lens::Rename { col, to, of, .. } => get_rename(alloc, col, to, &get(alloc, of, db)?),
         Lens::Join { left, right, .. } => {
             let left_source = get(alloc, left, db)?;
             let right_source = get(alloc, right, db)?;

@@ -1,15 +1,19 @@
 //! Natural joins of two sources.
-ghost use Rattle.std.specs.Prelude.{◌≡◌, IfOk, None};
+ghost use Rattle.std.specs.Prelude.{◌≡◌, Bool, IfOk, None, filter};
+ghost use Rattle.lens_values.specs.Part.{restrict};
+ghost use Rattle.lens_values.specs.declared.row.Row.{Row as OneRow};
 ghost use Rattle.lens_specs.specs.Columns.{both_columns, columns_in, kinds_differ, names};
 ghost use Rattle.lens_specs.specs.Dependencies.{MeetsTree};
-ghost use Rattle.lens_specs.specs.Nodes.{join_get, join_put_left, join_right};
-ghost use Rattle.lens_specs.specs.Relation.{minus, project};
+ghost use Rattle.lens_specs.specs.Nodes.{join_get, join_left_after, join_right_after};
+ghost use Rattle.lens_specs.specs.Relation.{has, minus, project, those};
+ghost use Rattle.lens_specs.specs.Rows.{cut};
 ghost use Rattle.whole_put.specs.Joinable.{CanBePut};
+ghost use Rattle.whole_put.specs.Lost.{kept_of, left_without, right_without, surplus_of};
 
 use fd_tree::Tree;
-use lens_values::{Columns, NoMemory};
+use lens_values::{Columns, JoinKind, Names, NoMemory, Row};
 use revision::merge;
-use row_sets::Relation;
+use row_sets::{Relation, RowSet};
 use std::alloc::Global;
 
 /// The natural join of the sources, whose shared columns have one kind each.
@@ -24,10 +28,12 @@ pub fn get_join(alloc: Global, left: &Relation, right: &Relation) -> Result<Rela
 }
 
 /// The left and the right source after a put of the view (Bohannon, Pierce and Vaughan, PODS 2006):
-/// each is merged with its part of the view, and the left one loses the rows that would join to a
-/// row that the view lacks. The view is read again, and to put back what is read changes nothing.
+/// each is merged with its part of the view, and then loses, by the kind of the join, rows that
+/// would join to a row that the view lacks. The view is read again, and to put back what is read
+/// changes nothing.
 pub fn put_join(
     alloc: Global,
+    kind: JoinKind,
     left_tree: &Tree,
     right_tree: &Tree,
     view: &Relation,
@@ -43,9 +49,11 @@ pub fn put_join(
         right_tree.now }
     ensures left { let U = names left.now.columns in
         let V = names right.now.columns in
-        let rows = join_put_left U V left_tree.now right_tree.now view.now.rows left.now.rows right.now.rows in
+        let rows = join_left_after kind U V left_tree.now right_tree.now view.now.rows left.now.rows right.now.rows in
         IfOk result (λ after. after.0 ≡ record left.now { rows = rows }) }
-    ensures right { let rows = join_right (names right.now.columns) right_tree.now view.now.rows right.now.rows in
+    ensures right { let U = names left.now.columns in
+        let V = names right.now.columns in
+        let rows = join_right_after kind U V left_tree.now right_tree.now view.now.rows left.now.rows right.now.rows in
         IfOk result (λ after. after.1 ≡ record right.now { rows = rows }) }
     ensures put_get { let U = names left.now.columns in
         let V = names right.now.columns in
@@ -61,9 +69,41 @@ pub fn put_join(
     let left_part = part(alloc, view, left.columns())?;
     let right_part = part(alloc, view, right.columns())?;
     let merged = merge(alloc, left_tree, left, &left_part)?;
-    let new_right = merge(alloc, right_tree, right, &right_part)?;
-    let over = surplus(alloc, &merged, &new_right, view)?;
-    let new_left = merged.minus(alloc, &over)?;
+    let merged_right = merge(alloc, right_tree, right, &right_part)?;
+    let (new_left, new_right) = without_surplus(
+        alloc,
+        kind,
+        &merged,
+        merged_right,
+        view,
+        &right_part,
+    )?;
+    Ok((new_left, new_right))
+}
+
+// The sources without what each loses, of the joined rows that the view lacks. The parts are those
+// of the view in the columns of the right source.
+fn without_surplus(
+    alloc: Global,
+    kind: JoinKind,
+    left: &Relation,
+    right: Relation,
+    view: &Relation,
+    parts: &Relation,
+) -> Result<(Relation, Relation), NoMemory>
+    requires kinds { kinds_differ left.now.columns right.columns ≡ None }
+    requires columns { view.now.columns ≡ both_columns left.now.columns right.columns }
+    ensures left { let over = surplus_of left.now right view.now.rows in
+        let rows = left_without kind (names left.now.columns) over (kept_of parts.now over) left.now.rows in
+        IfOk result (λ after. after.0 ≡ record left.now { rows = rows }) }
+    ensures right { let over = surplus_of left.now right view.now.rows in
+        let rows = right_without kind (names right.columns) over (kept_of parts.now over) right.rows in
+        IfOk result (λ after. after.1 ≡ record right { rows = rows }) }
+{
+    let over = surplus(alloc, left, &right, view)?;
+    let kept = joined_to(alloc, &over, parts)?;
+    let new_left = left_without(alloc, kind, left, &over, &kept)?;
+    let new_right = right_without(alloc, kind, right, &over, &kept)?;
     Ok((new_left, new_right))
 }
 
@@ -76,7 +116,7 @@ fn part(alloc: Global, relation: &Relation, columns: &Columns) -> Result<Relatio
     relation.project(alloc, &columns.names(alloc)?)
 }
 
-// The left rows that join to a row that the view lacks.
+// The joined rows that the view lacks.
 fn surplus(
     alloc: Global,
     left: &Relation,
@@ -85,11 +125,110 @@ fn surplus(
 ) -> Result<Relation, NoMemory>
     requires kinds { kinds_differ left.now.columns right.now.columns ≡ None }
     requires columns { view.now.columns ≡ both_columns left.now.columns right.now.columns }
-    ensures { let U = names left.now.columns in
-        let shown = join_get U (names right.now.columns) left.now.rows right.now.rows in
-        IfOk result (λ over. over ≡ record left.now { rows = project U (minus shown view.now.rows) }) }
+    ensures { let shown = join_get (names left.now.columns) (names right.now.columns) left.now.rows right.now.rows in
+        IfOk result (λ over. over ≡ record {
+          columns = both_columns left.now.columns right.now.columns;
+          rows = minus shown view.now.rows;
+        }) }
 {
     let joined = get_join(alloc, left, right)?;
-    let unseen = joined.minus(alloc, view)?;
-    part(alloc, &unseen, left.columns())
+    joined.minus(alloc, view)
+}
+
+// Those of the rows whose part in the columns of the others is among these.
+fn joined_to(alloc: Global, rows: &Relation, parts: &Relation) -> Result<Relation, NoMemory>
+    ensures { let is_kept : OneRow → Bool = λ w. has parts.now.rows (cut (names parts.now.columns) w) in
+        IfOk result (λ kept. kept ≡ record rows.now { rows = those is_kept rows.now.rows }) }
+{
+    let cols = parts.columns().names(alloc)?;
+    let kept = RowSet::from_rising(with_part(alloc, rows.rows().rows(), &cols, parts.rows())?);
+    rows.rows_fit();
+    Ok(Relation::with_rows(rows.columns().copy(alloc)?, kept))
+}
+
+// Copies of the rows whose part in these columns is among the parts, in order.
+fn with_part(
+    alloc: Global,
+    rows: &[Row],
+    cols: &Names,
+    parts: &RowSet,
+) -> Result<Vec<Row>, NoMemory>
+    ensures { IfOk result (λ some.
+        some.items ≡ filter (λ w. has parts.now (restrict cols.now w)) rows.now) }
+{
+    let mut some = Vec::new(alloc);
+    for row in rows {
+        if parts.has(&row.project(alloc, cols)?) {
+            some.push(row.copy(alloc)?)?;
+        }
+    }
+    Ok(some)
+}
+
+// The left source without the parts of the rows that it loses.
+fn left_without(
+    alloc: Global,
+    kind: JoinKind,
+    source: &Relation,
+    over: &Relation,
+    kept: &Relation,
+) -> Result<Relation, NoMemory>
+    requires over { columns_in over.now.columns (names source.now.columns) ≡ source.now.columns }
+    requires kept { kept.now.columns ≡ over.now.columns }
+    ensures { let rows = left_without kind (names source.now.columns) over.now.rows kept.now.rows source.now.rows in
+        IfOk result (λ left. left ≡ record source.now { rows = rows }) }
+{
+    match kind {
+        JoinKind::DeleteLeft => without(alloc, source, over),
+        JoinKind::DeleteRight => without(alloc, source, kept),
+        JoinKind::DeleteBoth => without(alloc, source, over),
+    }
+}
+
+// The right source without the parts of the rows that it loses.
+fn right_without(
+    alloc: Global,
+    kind: JoinKind,
+    source: Relation,
+    over: &Relation,
+    kept: &Relation,
+) -> Result<Relation, NoMemory>
+    requires over { columns_in over.now.columns (names source.columns) ≡ source.columns }
+    requires kept { kept.now.columns ≡ over.now.columns }
+    ensures { let rows = right_without kind (names source.columns) over.now.rows kept.now.rows source.rows in
+        IfOk result (λ right. right ≡ record source { rows = rows }) }
+{
+    match kind {
+        JoinKind::DeleteLeft => Ok(source),
+        JoinKind::DeleteRight => without_others(alloc, &source, over, kept),
+        JoinKind::DeleteBoth => without_others(alloc, &source, over, kept),
+    }
+}
+
+// The rows without the parts of the surplus that is not kept.
+fn without_others(
+    alloc: Global,
+    source: &Relation,
+    over: &Relation,
+    kept: &Relation,
+) -> Result<Relation, NoMemory>
+    requires over { columns_in over.now.columns (names source.now.columns) ≡ source.now.columns }
+    requires kept { kept.now.columns ≡ over.now.columns }
+    ensures { let V = names source.now.columns in
+        IfOk result (λ rest. rest
+        ≡ record source.now { rows = minus source.now.rows (project V (minus over.now.rows kept.now.rows)) }) }
+{
+    let others = over.minus(alloc, kept)?;
+    without(alloc, source, &others)
+}
+
+// The rows without the parts of the others in their columns.
+fn without(alloc: Global, source: &Relation, rows: &Relation) -> Result<Relation, NoMemory>
+    requires { columns_in rows.now.columns (names source.now.columns) ≡ source.now.columns }
+    ensures { let U = names source.now.columns in
+        IfOk result (λ rest. rest
+        ≡ record source.now { rows = minus source.now.rows (project U rows.now.rows) }) }
+{
+    let lost = part(alloc, rows, source.columns())?;
+    source.minus(alloc, &lost)
 }

@@ -7,6 +7,7 @@ pub mod dropping;
 pub mod getting;
 pub mod joining;
 pub mod putting;
+pub mod renaming;
 pub mod selecting;
 mod sources;
 
@@ -15,4 +16,5 @@ pub use dropping::{get_drop, put_drop};
 pub use getting::get;
 pub use joining::{get_join, put_join};
 pub use putting::put;
+pub use renaming::{get_rename, put_rename};
 pub use selecting::{get_select, put_select};

@@ -2,7 +2,7 @@
 ghost use Rattle.std.specs.Prelude.{◌≡◌, IfOk, OnOk};
 ghost use Rattle.lens_specs.specs.Lens as spec;
 ghost use Rattle.lens_specs.specs.Lens.{sort_of, view_names};
-ghost use Rattle.lens_specs.specs.Nodes.{drop_put, join_put_left, join_right, select_put};
+ghost use Rattle.lens_specs.specs.Nodes.{drop_put, join_left_after, join_right_after, rename_put, select_put};
 ghost use Rattle.lens_specs.specs.Predicate.{holds};
 ghost use Rattle.lens_specs.specs.Sort.{IsOfSort};
 ghost use Rattle.lens_laws.specs.Lenses.{AreOf, IsTyped};
@@ -11,11 +11,12 @@ ghost use Rattle.whole_put.specs.Sources.{AreShown};
 use crate::db::Db;
 use crate::dropping::put_drop;
 use crate::joining::put_join;
+use crate::renaming::put_rename;
 use crate::selecting::put_select;
 use crate::sources::Sources;
 use lens_pred::Pred;
 use lens_types::{Lens, TypedLens};
-use lens_values::{Name, Names, NoMemory, Value};
+use lens_values::{JoinKind, Name, Names, NoMemory, Value};
 use row_sets::Relation;
 use std::alloc::Global;
 
@@ -69,9 +70,19 @@ fn write(
             let source = under_drop(alloc, col, by, fill, of, &view, shown)?;
             write(alloc, of, rest, source, db)
         }
-        Lens::Join { left, right, .. } => {
+        Lens::Rename { col, to, of, .. } => {
+            let (shown, rest) = under.only();
+            let source = under_rename(alloc, col, to, of, &view, shown)?;
+            write(alloc, of, rest, source, db)
+        }
+        Lens::Join {
+            kind,
+            left,
+            right,
+            ..
+        } => {
             let (left_now, right_now) = under.both();
-            let sources = under_join(alloc, left, right, &view, left_now.0, right_now.0)?;
+            let sources = under_join(alloc, *kind, left, right, &view, left_now.0, right_now.0)?;
             write(alloc, left, left_now.1, sources.0, db)?;
             write(alloc, right, right_now.1, sources.1, db)
         }
@@ -117,30 +128,52 @@ fn under_drop(
     put_drop(alloc, col, by, fill, view, source)
 }
 
+// The source of a rename after a put of the rename.
+fn under_rename(
+    alloc: Global,
+    col: &Name,
+    to: &Name,
+    of: &TypedLens,
+    view: &Relation,
+    source: &Relation,
+) -> Result<Relation, NoMemory>
+    requires typed { IsTyped (spec.rename col.now to.now of.now) }
+    requires source { IsOfSort source.now (sort_of of.now) }
+    requires view { IsOfSort view.now (sort_of (spec.rename col.now to.now of.now)) }
+    ensures rows { IfOk result (λ after. after.rows ≡ rename_put col.now to.now view.now.rows) }
+    ensures sort { IfOk result (λ after. IsOfSort after (sort_of of.now)) }
+{
+    put_rename(alloc, col, to, view, source)
+}
+
 // The sources of a join after a put of the join.
 fn under_join(
     alloc: Global,
+    kind: JoinKind,
     left: &TypedLens,
     right: &TypedLens,
     view: &Relation,
     left_source: &Relation,
     right_source: &Relation,
 ) -> Result<(Relation, Relation), NoMemory>
-    requires typed { IsTyped (spec.join left.now right.now) }
+    requires typed { IsTyped (spec.join kind left.now right.now) }
     requires left { IsOfSort left_source.now (sort_of left.now) }
     requires right { IsOfSort right_source.now (sort_of right.now) }
-    requires view { IsOfSort view.now (sort_of (spec.join left.now right.now)) }
+    requires view { IsOfSort view.now (sort_of (spec.join kind left.now right.now)) }
     ensures left_rows { let U = view_names left.now in
         let V = view_names right.now in
         let F = (sort_of left.now).tree in
         let G = (sort_of right.now).tree in
         let M = left_source.now.rows in
         let N = right_source.now.rows in
-        IfOk result (λ after. after.0.rows ≡ join_put_left U V F G view.now.rows M N) }
-    ensures right_rows { let V = view_names right.now in
+        IfOk result (λ after. after.0.rows ≡ join_left_after kind U V F G view.now.rows M N) }
+    ensures right_rows { let U = view_names left.now in
+        let V = view_names right.now in
+        let F = (sort_of left.now).tree in
         let G = (sort_of right.now).tree in
+        let M = left_source.now.rows in
         let N = right_source.now.rows in
-        IfOk result (λ after. after.1.rows ≡ join_right V G view.now.rows N) }
+        IfOk result (λ after. after.1.rows ≡ join_right_after kind U V F G view.now.rows M N) }
     ensures left_sort { IfOk result (λ after. IsOfSort after.0 (sort_of left.now)) }
     ensures right_sort { IfOk result (λ after. IsOfSort after.1 (sort_of right.now)) }
 {
@@ -148,6 +181,7 @@ fn under_join(
     let right_tree = right.sort().tree();
     put_join(
         alloc,
+        kind,
         left_tree,
         right_tree,
         view,

@@ -7,6 +7,7 @@ ghost use Rattle.whole_put.specs.Sources.{AreShown, both_of, only_of};
 use crate::db::Db;
 use crate::dropping::get_drop;
 use crate::joining::get_join;
+use crate::renaming::get_rename;
 use crate::selecting::get_select;
 use lens_types::{Lens, TypedLens};
 use lens_values::NoMemory;
@@ -18,7 +19,7 @@ use std::alloc::Global;
 pub enum Sources {
     /// A table has none.
     Table,
-    /// The source of a selection or of a drop.
+    /// The source of a selection, a drop or a rename.
     One {
         /// What it shows.
         shown: Relation,
@@ -46,7 +47,7 @@ impl Sources {
     {
         match lens.lens() {
             Lens::Base { .. } => Ok(Sources::Table),
-            Lens::Select { of, .. } | Lens::Drop { of, .. } => {
+            Lens::Select { of, .. } | Lens::Drop { of, .. } | Lens::Rename { of, .. } => {
                 let under = Sources::of(alloc, of, db)?;
                 let shown = shown_over(alloc, of, &under, db)?;
                 Sources::one(alloc, shown, under)
@@ -133,6 +134,7 @@ fn shown_over(
         Lens::Base { table, .. } => db.at(table).copy(alloc),
         Lens::Select { pred, .. } => get_select(alloc, pred, under.only().0),
         Lens::Drop { col, .. } => get_drop(alloc, col, under.only().0),
+        Lens::Rename { col, to, .. } => get_rename(alloc, col, to, under.only().0),
         Lens::Join { .. } => {
             let (left, right) = under.both();
             get_join(alloc, left.0, right.0)

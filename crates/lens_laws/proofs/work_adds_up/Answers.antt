@@ -1,4 +1,4 @@
-use Rattle.lens_laws.proofs.Work.{size_some, size_grows, join_looks, work_adds, work_none, work_grows, keyed_work, select_work, drop_work, join_work, edges_few, view_edges_few}
+use Rattle.lens_laws.proofs.Work.{size_some, size_grows, join_looks, work_adds, work_none, work_grows, keyed_work, select_work, drop_work, rename_work, join_work, edges_few, view_edges_few}
 use Rattle.lens_laws.proofs.work_adds_up.Goals as goal
 
 pub returns : goal.returns
@@ -11,6 +11,7 @@ returns c = record {
   keyed = keyed_work;
   select = select_work;
   drop = drop_work;
+  rename = rename_work;
   join = join_work;
   edges = edges_few;
   view_edges = view_edges_few;

@@ -1,7 +1,6 @@
-use Rattle.std.proofs.Common.{Some, ap, sym, ◌∙◌}
+use Rattle.std.proofs.Common.{ap, sym, ◌∙◌}
 use Rattle.std.specs.List.{list_all}
-use Rattle.lens_specs.specs.Columns.{fits_at}
-use Rattle.lens_specs.specs.Refusal.{unless, unlike}
+use Rattle.lens_specs.specs.Refusal.{is_like, unless, unlike}
 use Rattle.lens_pred.specs.View.{formula_view}
 use Rattle.lens_pred.proofs.Views.{view-OneOf}
 use Rattle.lens_pred.proofs.+first_unlike.Goals as goal
@@ -12,7 +11,7 @@ formula::Formula::first_unlike-returns-in-OneOf t c =
     let col = c.in-OneOf.col in
     let vs = c.in-OneOf.values in
     c.unless-in-OneOf.ensures
-    ∙ ap (λ b. unless b col) c.all_fit.ensures
-    ∙ ap (λ ws. unless (list_all (λ v. fits_at (Some v) c.kind-in-OneOf.result) ws) col) c.as_slice.ensures
-    ∙ ap (λ k. unless (list_all (λ v. fits_at (Some v) k) vs) col) c.kind-in-OneOf.ensures
+    ∙ ap (λ b. unless b col) c.all_like.ensures
+    ∙ ap (λ ws. unless (list_all (λ v. is_like v c.kind-in-OneOf.result) ws) col) c.as_slice.ensures
+    ∙ ap (λ k. unless (list_all (λ v. is_like v k) vs) col) c.kind-in-OneOf.ensures
     ∙ sym (ap (unlike U) (ap formula_view c.in-OneOf.is ∙ view-OneOf col vs))

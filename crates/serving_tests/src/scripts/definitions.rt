@@ -1,67 +1,9 @@
 //! Definitions: which are taken, and why the others are not.
-use crate::scripts::{BASE, follow};
-use std::test::Fail;
 
-/// Over a table without dependencies.
-pub(super) const DEFINITIONS: &str =
-    r#"{"do":"define","text":"table tracks (track text, date int, rating int, album text)"}
-{"ok":true,"version":1}
+/// Sessions, one after another.
+pub(super) const SESSIONS: &str =
+    r#"With the tables: each rule of sorts, over tables with dependencies. What a refusal keeps of a definition would be told by the next one, since all have one name.
 {"do":"define","text":"view = tracks"}
-{"at":5,"error":20,"ok":false}
-{"do":"define","text":"table x (a int "}
-{"at":15,"error":20,"ok":false}
-{"do":"define","text":"table x (a int, a text)"}
-{"at":16,"error":20,"ok":false}
-{"do":"define","text":"table tracks (k int)"}
-{"error":21,"name":"tracks","ok":false}
-{"do":"define","text":"view tracks = join_dl tracks with tracks"}
-{"error":21,"name":"tracks","ok":false}
-{"do":"define","text":"view v = select from nowhere where true"}
-{"error":22,"name":"nowhere","ok":false}
-{"do":"define","text":"view v = nowhere"}
-{"error":22,"name":"nowhere","ok":false}
-{"do":"define","text":"view v = join_dl nowhere with tracks"}
-{"error":22,"name":"nowhere","ok":false}
-{"do":"define","text":"view v = drop date determined by (track, 2018) from tracks"}
-{"col":"date","error":28,"ok":false}
-{"do":"define","text":"view v = select from (select from tracks where true) where genre = 1"}
-{"error":23,"name":"genre","ok":false}
-{"do":"define","text":"view v = select from tracks where genre = 'x'"}
-{"error":23,"name":"genre","ok":false}
-{"do":"define","text":"view v = select from tracks where rating = 'x' and genre = 1"}
-{"error":23,"name":"genre","ok":false}
-{"do":"define","text":"view v = select from tracks where rating = 'x'"}
-{"error":26,"name":"rating","ok":false}
-{"do":"define","text":"view v = select from tracks where album = rating"}
-{"error":26,"name":"album","ok":false}
-{"do":"define","text":"table w (a int) with a -> b where c = 1"}
-{"error":23,"name":"b","ok":false}
-{"do":"define","text":"table w (a int, b int) with a -> b, b -> a where c = 1"}
-{"error":23,"name":"c","ok":false}
-{"do":"define","text":"table w (a int, b int) with a -> b, b -> a where a = 'x'"}
-{"a":["a"],"b":["a"],"error":25,"ok":false}
-{"do":"define","text":"table w (a int) where a in (1, 'x')"}
-{"error":26,"name":"a","ok":false}
-{"do":"define","text":"table w (c0 int, c1 int, c2 int, c3 int, c4 int, c5 int, c6 int, c7 int, c8 int, c9 int, c10 int, c11 int, c12 int, c13 int, c14 int, c15 int, c16 int, c17 int, c18 int, c19 int, c20 int, c21 int, c22 int, c23 int, c24 int, c25 int, c26 int, c27 int, c28 int, c29 int, c30 int, c31 int, c32 int, c33 int, c34 int, c35 int, c36 int, c37 int, c38 int, c39 int, c40 int, c41 int, c42 int, c43 int, c44 int, c45 int, c46 int, c47 int, c48 int, c49 int, c50 int, c51 int, c52 int, c53 int, c54 int, c55 int, c56 int, c57 int, c58 int, c59 int, c60 int, c61 int, c62 int, c63 int, c64 int)"}
-{"error":34,"ok":false,"what":"columns"}
-{"do":"define","text":"view good = select from (tracks) where rating > 3 and not album = 'it''s'"}
-{"ok":true,"version":2}
-{"do":"define","text":"view v = select from good where genre = 1"}
-{"error":23,"name":"genre","ok":false}
-{"do":"define","text":"view v = join_dl good with nowhere"}
-{"error":22,"name":"nowhere","ok":false}
-{"do":"define","text":"view same = tracks"}
-{"ok":true,"version":3}
-{"do":"define","text":"table albums (album text, quantity int) with album -> quantity where quantity >= 0"}
-{"ok":true,"version":4}
-{"do":"define","text":"view v = select from albums where true"}
-{"col":"quantity","error":27,"ok":false}
-{"do":"define","text":"view stock = albums"}
-{"ok":true,"version":5}"#;
-
-/// Each rule of sorts, over tables with dependencies. What a refusal keeps of a definition would be
-/// told by the next one, since all have one name.
-const RULES: &str = r#"{"do":"define","text":"view = tracks"}
 {"at":5,"error":20,"ok":false}
 {"do":"define","text":"table tracks (k int)"}
 {"error":21,"name":"tracks","ok":false}
@@ -79,9 +21,9 @@ const RULES: &str = r#"{"do":"define","text":"view = tracks"}
 {"a":["a"],"b":["a"],"error":25,"ok":false}
 {"do":"define","text":"view v = select from tracks where rating = 'x'"}
 {"error":26,"name":"rating","ok":false}
-{"do":"define","text":"view t1 = select from tracks where rating > 3"}
+{"do":"define","text":"view t2 = select from tracks where rating > 3 or album = 'Wish'"}
 {"ok":true,"version":7}
-{"do":"define","text":"view v = select from t1 where album = 'Wish'"}
+{"do":"define","text":"view v = select from t2 where album != 'Show'"}
 {"col":"rating","error":27,"ok":false}
 {"do":"define","text":"view v = drop rating determined by (album, 0) from tracks"}
 {"col":"rating","error":28,"ok":false}
@@ -99,15 +41,9 @@ const RULES: &str = r#"{"do":"define","text":"view = tracks"}
 {"ok":true,"version":10}
 {"do":"define","text":"view v = join_dl tracks with n"}
 {"col":"k","error":31,"ok":false}
-{"do":"define","text":"view v = join_dl t1 with albums"}
+{"do":"define","text":"view v = join_dl t2 with albums"}
 {"col":"rating","error":32,"ok":false,"side":"left"}
 {"do":"define","text":"view v = join_dl tracks with tracks"}
 {"error":33,"name":"tracks","ok":false}
 {"do":"define","text":"table w (c0 int, c1 int, c2 int, c3 int, c4 int, c5 int, c6 int, c7 int, c8 int, c9 int, c10 int, c11 int, c12 int, c13 int, c14 int, c15 int, c16 int, c17 int, c18 int, c19 int, c20 int, c21 int, c22 int, c23 int, c24 int, c25 int, c26 int, c27 int, c28 int, c29 int, c30 int, c31 int, c32 int, c33 int, c34 int, c35 int, c36 int, c37 int, c38 int, c39 int, c40 int, c41 int, c42 int, c43 int, c44 int, c45 int, c46 int, c47 int, c48 int, c49 int, c50 int, c51 int, c52 int, c53 int, c54 int, c55 int, c56 int, c57 int, c58 int, c59 int, c60 int, c61 int, c62 int, c63 int, c64 int)"}
 {"error":34,"ok":false,"what":"columns"}"#;
-
-#[test]
-fn definitions(rt: HostRuntime) -> Result<(), Fail> {
-    follow(rt.alloc(), &[DEFINITIONS])?;
-    follow(rt.alloc(), &[BASE, RULES])
-}

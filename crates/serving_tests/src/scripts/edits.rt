@@ -1,12 +1,9 @@
 //! Edits: rows to remove and rows to add are sent, and the other rows of the view stay.
-use crate::scripts::{BASE, follow, follow_failing};
-use crate::stores::PUT_STOCK;
-use std::test::Fail;
 
-/// Edits that leave the view as it is: a row in both lists, one that is not there, one that is there
-/// already, none at all, and one that the view hides.
-const NOTHING: &str =
-    r#"{"do":"edit","view":"stock","remove":[{"album":"Wish","quantity":5,"rating":4,"track":"Trust"}],"add":[{"album":"Wish","quantity":5,"rating":4,"track":"Trust"}]}
+/// Sessions, one after another.
+pub(super) const SESSIONS: &str =
+    r#"With the tables: edits that leave the view as it is: a row in both lists, one that is not there, one that is there already, none at all, and one that the view hides. Rows that are added: one that clashes with a row that stays, one that the view would not show, and two whose dates the view hides.
+{"do":"edit","view":"stock","remove":[{"album":"Wish","quantity":5,"rating":4,"track":"Trust"}],"add":[{"album":"Wish","quantity":5,"rating":4,"track":"Trust"}]}
 {"changed":[],"ok":true,"version":5}
 {"do":"edit","view":"stock","remove":[{"album":"Wish","quantity":5,"rating":1,"track":"Trust"}],"add":[]}
 {"changed":[],"ok":true,"version":5}
@@ -17,23 +14,18 @@ const NOTHING: &str =
 {"do":"edit","view":"stock","remove":[{"album":"Galore","quantity":1,"rating":3,"track":"Lullaby"}],"add":[]}
 {"changed":[],"ok":true,"version":5}
 {"do":"edit","view":"albums","remove":[{"album":"Show","quantity":3},{"album":"Show","quantity":4}],"add":[{"album":"Show","quantity":3}]}
-{"changed":[],"ok":true,"version":5}"#;
-
-/// Rows that are added: one that clashes with a row that stays, one that the view would not show, and
-/// two whose dates the view hides.
-const ADDED: &str =
-    r#"{"do":"edit","view":"stock","remove":[],"add":[{"album":"Show","quantity":4,"rating":5,"track":"Lovesong"}]}
+{"changed":[],"ok":true,"version":5}
+{"do":"edit","view":"stock","remove":[],"add":[{"album":"Show","quantity":4,"rating":5,"track":"Lovesong"}]}
 {"edge":{"left":["album"],"right":["quantity"]},"error":43,"ok":false,"rows":[{"album":"Show","quantity":3,"rating":3,"track":"Lullaby"},{"album":"Show","quantity":4,"rating":5,"track":"Lovesong"}]}
 {"do":"edit","view":"stock","remove":[],"add":[{"album":"Show","quantity":2,"rating":3,"track":"Lullaby"}]}
 {"error":42,"ok":false,"row":{"album":"Show","quantity":2,"rating":3,"track":"Lullaby"}}
 {"do":"edit","view":"stock","remove":[],"add":[{"album":"Wish","quantity":5,"rating":5,"track":"Lovesong"},{"album":"Wish","quantity":5,"rating":2,"track":"Disco"}]}
 {"changed":[{"add":[{"album":"Wish","date":1989,"rating":5,"track":"Lovesong"},{"album":"Wish","date":2018,"rating":2,"track":"Disco"}],"remove":[],"table":"tracks"}],"ok":true,"version":6}
 {"do":"read","view":"stock"}
-{"ok":true,"rows":[{"album":"Paris","quantity":4,"rating":5,"track":"Lovesong"},{"album":"Show","quantity":3,"rating":3,"track":"Lullaby"},{"album":"Wish","quantity":5,"rating":2,"track":"Disco"},{"album":"Wish","quantity":5,"rating":4,"track":"Trust"},{"album":"Wish","quantity":5,"rating":5,"track":"Lovesong"}],"version":6}"#;
+{"ok":true,"rows":[{"album":"Paris","quantity":4,"rating":5,"track":"Lovesong"},{"album":"Show","quantity":3,"rating":3,"track":"Lullaby"},{"album":"Wish","quantity":5,"rating":2,"track":"Disco"},{"album":"Wish","quantity":5,"rating":4,"track":"Trust"},{"album":"Wish","quantity":5,"rating":5,"track":"Lovesong"}],"version":6}
 
-/// A row that is removed is forgotten, its date too, and the album stays.
-const REMOVED: &str =
-    r#"{"do":"edit","view":"stock","remove":[{"album":"Wish","quantity":5,"rating":4,"track":"Trust"}],"add":[]}
+With the tables: a row that is removed is forgotten, its date too, and the album stays.
+{"do":"edit","view":"stock","remove":[{"album":"Wish","quantity":5,"rating":4,"track":"Trust"}],"add":[]}
 {"changed":[{"add":[],"remove":[{"album":"Wish","date":1992,"rating":4,"track":"Trust"}],"table":"tracks"}],"ok":true,"version":6}
 {"do":"edit","view":"stock","remove":[],"add":[{"album":"Wish","quantity":5,"rating":4,"track":"Trust"}]}
 {"changed":[{"add":[{"album":"Wish","date":2018,"rating":4,"track":"Trust"}],"remove":[],"table":"tracks"}],"ok":true,"version":7}
@@ -42,12 +34,10 @@ const REMOVED: &str =
 {"do":"read","view":"stock"}
 {"ok":true,"rows":[],"version":8}
 {"do":"read","view":"tracks"}
-{"ok":true,"rows":[{"album":"Galore","date":1989,"rating":3,"track":"Lullaby"},{"album":"Galore","date":1989,"rating":5,"track":"Lovesong"}],"version":8}"#;
+{"ok":true,"rows":[{"album":"Galore","date":1989,"rating":3,"track":"Lullaby"},{"album":"Galore","date":1989,"rating":5,"track":"Lovesong"}],"version":8}
 
-/// A row that is replaced clashes with none that the same edit removes. A row in both lists is
-/// there afterwards. A change of both tables is one version.
-const REPLACED: &str =
-    r#"{"do":"edit","view":"stock","remove":[{"album":"Wish","quantity":5,"rating":4,"track":"Trust"}],"add":[{"album":"Wish","quantity":5,"rating":2,"track":"Trust"}]}
+With the tables: a row that is replaced clashes with none that the same edit removes. A row in both lists is there afterwards. A change of both tables is one version.
+{"do":"edit","view":"stock","remove":[{"album":"Wish","quantity":5,"rating":4,"track":"Trust"}],"add":[{"album":"Wish","quantity":5,"rating":2,"track":"Trust"}]}
 {"changed":[{"add":[{"album":"Wish","date":1992,"rating":2,"track":"Trust"}],"remove":[{"album":"Wish","date":1992,"rating":4,"track":"Trust"}],"table":"tracks"}],"ok":true,"version":6}
 {"do":"edit","view":"stock","remove":[{"album":"Wish","quantity":5,"rating":2,"track":"Disco"}],"add":[{"album":"Wish","quantity":5,"rating":2,"track":"Disco"}]}
 {"changed":[{"add":[{"album":"Wish","date":2018,"rating":2,"track":"Disco"}],"remove":[],"table":"tracks"}],"ok":true,"version":7}
@@ -56,12 +46,10 @@ const REPLACED: &str =
 {"do":"read","view":"stock"}
 {"ok":true,"rows":[{"album":"Paris","quantity":4,"rating":5,"track":"Lovesong"},{"album":"Show","quantity":9,"rating":1,"track":"Lullaby"},{"album":"Wish","quantity":5,"rating":2,"track":"Disco"},{"album":"Wish","quantity":5,"rating":2,"track":"Trust"}],"version":8}
 {"do":"put","view":"stock","rows":[{"album":"Show","quantity":3,"rating":4,"track":"Lullaby"},{"album":"Disintegration","quantity":7,"rating":5,"track":"Lovesong"}]}
-{"changed":[{"add":[{"album":"Disintegration","quantity":7},{"album":"Show","quantity":3}],"remove":[{"album":"Disintegration","quantity":6},{"album":"Show","quantity":9}],"table":"albums"},{"add":[{"album":"Disintegration","date":1989,"rating":5,"track":"Lovesong"},{"album":"Galore","date":1989,"rating":4,"track":"Lullaby"},{"album":"Show","date":1989,"rating":4,"track":"Lullaby"}],"remove":[{"album":"Galore","date":1989,"rating":1,"track":"Lullaby"},{"album":"Paris","date":1989,"rating":5,"track":"Lovesong"},{"album":"Show","date":1989,"rating":1,"track":"Lullaby"},{"album":"Wish","date":1992,"rating":2,"track":"Trust"},{"album":"Wish","date":2018,"rating":2,"track":"Disco"}],"table":"tracks"}],"ok":true,"version":9}"#;
+{"changed":[{"add":[{"album":"Disintegration","quantity":7},{"album":"Show","quantity":3}],"remove":[{"album":"Disintegration","quantity":6},{"album":"Show","quantity":9}],"table":"albums"},{"add":[{"album":"Disintegration","date":1989,"rating":5,"track":"Lovesong"},{"album":"Galore","date":1989,"rating":4,"track":"Lullaby"},{"album":"Show","date":1989,"rating":4,"track":"Lullaby"}],"remove":[{"album":"Galore","date":1989,"rating":1,"track":"Lullaby"},{"album":"Paris","date":1989,"rating":5,"track":"Lovesong"},{"album":"Show","date":1989,"rating":1,"track":"Lullaby"},{"album":"Wish","date":1992,"rating":2,"track":"Trust"},{"album":"Wish","date":2018,"rating":2,"track":"Disco"}],"table":"tracks"}],"ok":true,"version":9}
 
-/// Hidden rows follow the rows that are added, along every edge, and are deleted where the view
-/// would then show them.
-const SELECTIONS: &str =
-    r#"{"do":"define","text":"table sales (track text, album text, quantity int) with album -> quantity"}
+With nothing: hidden rows follow the rows that are added, along every edge, and are deleted where the view would then show them.
+{"do":"define","text":"table sales (track text, album text, quantity int) with album -> quantity"}
 {"ok":true,"version":1}
 {"do":"define","text":"view big = select from sales where quantity > 2"}
 {"ok":true,"version":2}
@@ -88,10 +76,10 @@ const SELECTIONS: &str =
 {"do":"edit","view":"most","remove":[{"album":"X","quantity":1,"track":"a"}],"add":[{"album":"X","quantity":9,"track":"a"}]}
 {"changed":[{"add":[{"album":"X","quantity":9,"track":"a"},{"album":"X","quantity":9,"track":"b"}],"remove":[{"album":"X","quantity":1,"track":"a"},{"album":"X","quantity":1,"track":"b"}],"table":"chain"}],"ok":true,"version":11}
 {"do":"edit","view":"most","remove":[],"add":[{"album":"X","quantity":9,"track":"b"}]}
-{"error":42,"ok":false,"row":{"album":"X","quantity":9,"track":"b"}}"#;
+{"error":42,"ok":false,"row":{"album":"X","quantity":9,"track":"b"}}
 
-/// A left row that would join anew and was not sent is deleted, and one that ceases to join stays.
-const JOINS: &str = r#"{"do":"define","text":"table l (x int, a int, b int)"}
+With nothing: a left row that would join anew and was not sent is deleted, and one that ceases to join stays.
+{"do":"define","text":"table l (x int, a int, b int)"}
 {"ok":true,"version":1}
 {"do":"define","text":"table r (a int, b int) with a -> b"}
 {"ok":true,"version":2}
@@ -112,7 +100,7 @@ const JOINS: &str = r#"{"do":"define","text":"table l (x int, a int, b int)"}
 
 /// A keeper that fails once, at the first change after the base: the change is not made and no
 /// version is spent, and questions and changes that change nothing do not ask it.
-const NOT_STORED: &str =
+pub(super) const NOT_STORED: &str =
     r#"{"do":"preview","view":"stock","remove":[{"album":"Wish","quantity":5,"rating":4,"track":"Trust"}],"add":[]}
 {"changed":[{"add":[],"remove":[{"album":"Wish","date":1992,"rating":4,"track":"Trust"}],"table":"tracks"}],"ok":true,"version":5}
 {"do":"edit","view":"stock","remove":[],"add":[],"on":5}
@@ -123,26 +111,3 @@ const NOT_STORED: &str =
 {"ok":true,"rows":[{"album":"Paris","quantity":4,"rating":5,"track":"Lovesong"},{"album":"Show","quantity":3,"rating":3,"track":"Lullaby"},{"album":"Wish","quantity":5,"rating":4,"track":"Trust"}],"version":5}
 {"do":"edit","view":"stock","remove":[{"album":"Wish","quantity":5,"rating":4,"track":"Trust"}],"add":[],"on":5}
 {"changed":[{"add":[],"remove":[{"album":"Wish","date":1992,"rating":4,"track":"Trust"}],"table":"tracks"}],"ok":true,"version":6}"#;
-
-#[test]
-fn edits(rt: HostRuntime) -> Result<(), Fail> {
-    follow(rt.alloc(), &[BASE, NOTHING, ADDED])?;
-    follow(rt.alloc(), &[BASE, REMOVED])?;
-    follow(rt.alloc(), &[BASE, REPLACED])?;
-    follow(rt.alloc(), &[SELECTIONS])?;
-    follow(rt.alloc(), &[JOINS])
-}
-
-/// The put of the program's own script, which this keeper refuses: the view shows what it showed.
-const REFUSED_PUT: &str =
-    r#"{"do":"put","view":"stock","rows":[{"album":"Show","quantity":3,"rating":4,"track":"Lullaby"},{"album":"Disintegration","quantity":7,"rating":5,"track":"Lovesong"}]}
-{"error":90,"ok":false}
-{"do":"read","view":"stock"}
-{"ok":true,"rows":[{"album":"Paris","quantity":4,"rating":5,"track":"Lovesong"},{"album":"Show","quantity":3,"rating":3,"track":"Lullaby"},{"album":"Wish","quantity":5,"rating":4,"track":"Trust"}],"version":5}"#;
-
-#[test]
-fn keeper_that_fails(rt: HostRuntime) -> Result<(), Fail> {
-    follow_failing(rt.alloc(), 7, &[BASE, NOT_STORED])?;
-    // The same put is accepted when it is sent again.
-    follow_failing(rt.alloc(), 7, &[BASE, REFUSED_PUT, PUT_STOCK])
-}

@@ -1,11 +1,63 @@
 //! Puts: all rows of the new view are sent.
-use crate::scripts::definitions::DEFINITIONS;
-use crate::scripts::{BASE, follow};
-use std::test::Fail;
 
-/// Puts to what the definitions made.
-const PUTS: &str =
-    r#"{"do":"put","view":"stock","rows":[{"album":"Show","quantity":3},{"album":"Paris","quantity":4}]}
+/// Sessions, one after another.
+pub(super) const SESSIONS: &str =
+    r#"With nothing: over a table without dependencies. Puts to what the definitions made.
+{"do":"define","text":"table tracks (track text, date int, rating int, album text)"}
+{"ok":true,"version":1}
+{"do":"define","text":"view = tracks"}
+{"at":5,"error":20,"ok":false}
+{"do":"define","text":"table x (a int "}
+{"at":15,"error":20,"ok":false}
+{"do":"define","text":"table x (a int, a text)"}
+{"at":16,"error":20,"ok":false}
+{"do":"define","text":"table tracks (k int)"}
+{"error":21,"name":"tracks","ok":false}
+{"do":"define","text":"view tracks = join_dl tracks with tracks"}
+{"error":21,"name":"tracks","ok":false}
+{"do":"define","text":"view v = select from nowhere where true"}
+{"error":22,"name":"nowhere","ok":false}
+{"do":"define","text":"view v = nowhere"}
+{"error":22,"name":"nowhere","ok":false}
+{"do":"define","text":"view v = join_dl nowhere with tracks"}
+{"error":22,"name":"nowhere","ok":false}
+{"do":"define","text":"view v = drop date determined by (track, 2018) from tracks"}
+{"col":"date","error":28,"ok":false}
+{"do":"define","text":"view v = select from (select from tracks where true) where genre = 1"}
+{"error":23,"name":"genre","ok":false}
+{"do":"define","text":"view v = select from tracks where genre = 'x'"}
+{"error":23,"name":"genre","ok":false}
+{"do":"define","text":"view v = select from tracks where rating = 'x' and genre = 1"}
+{"error":23,"name":"genre","ok":false}
+{"do":"define","text":"view v = select from tracks where rating = 'x'"}
+{"error":26,"name":"rating","ok":false}
+{"do":"define","text":"view v = select from tracks where album = rating"}
+{"error":26,"name":"album","ok":false}
+{"do":"define","text":"table w (a int) with a -> b where c = 1"}
+{"error":23,"name":"b","ok":false}
+{"do":"define","text":"table w (a int, b int) with a -> b, b -> a where c = 1"}
+{"error":23,"name":"c","ok":false}
+{"do":"define","text":"table w (a int, b int) with a -> b, b -> a where a = 'x'"}
+{"a":["a"],"b":["a"],"error":25,"ok":false}
+{"do":"define","text":"table w (a int) where a in (1, 'x')"}
+{"error":26,"name":"a","ok":false}
+{"do":"define","text":"table w (c0 int, c1 int, c2 int, c3 int, c4 int, c5 int, c6 int, c7 int, c8 int, c9 int, c10 int, c11 int, c12 int, c13 int, c14 int, c15 int, c16 int, c17 int, c18 int, c19 int, c20 int, c21 int, c22 int, c23 int, c24 int, c25 int, c26 int, c27 int, c28 int, c29 int, c30 int, c31 int, c32 int, c33 int, c34 int, c35 int, c36 int, c37 int, c38 int, c39 int, c40 int, c41 int, c42 int, c43 int, c44 int, c45 int, c46 int, c47 int, c48 int, c49 int, c50 int, c51 int, c52 int, c53 int, c54 int, c55 int, c56 int, c57 int, c58 int, c59 int, c60 int, c61 int, c62 int, c63 int, c64 int)"}
+{"error":34,"ok":false,"what":"columns"}
+{"do":"define","text":"view good = select from (tracks) where rating > 3 and not album = 'it''s'"}
+{"ok":true,"version":2}
+{"do":"define","text":"view v = select from good where genre = 1"}
+{"error":23,"name":"genre","ok":false}
+{"do":"define","text":"view v = join_dl good with nowhere"}
+{"error":22,"name":"nowhere","ok":false}
+{"do":"define","text":"view same = tracks"}
+{"ok":true,"version":3}
+{"do":"define","text":"table albums (album text, quantity int) with album -> quantity where quantity >= 0 or album = 'Wish'"}
+{"ok":true,"version":4}
+{"do":"define","text":"view v = select from albums where true"}
+{"col":"quantity","error":27,"ok":false}
+{"do":"define","text":"view stock = albums"}
+{"ok":true,"version":5}
+{"do":"put","view":"stock","rows":[{"album":"Show","quantity":3},{"album":"Paris","quantity":4}]}
 {"changed":[{"add":[{"album":"Paris","quantity":4},{"album":"Show","quantity":3}],"remove":[],"table":"albums"}],"ok":true,"version":6}
 {"do":"put","view":"albums","rows":[{"album":"Show","quantity":-1},{"album":"Paris","quantity":-2},{"album":"Wish","quantity":3}]}
 {"error":42,"ok":false,"row":{"album":"Paris","quantity":-2}}
@@ -30,12 +82,10 @@ const PUTS: &str =
 {"do":"put","view":"n","rows":[{"k":9223372036854775807},{"k":-9223372036854775808}]}
 {"changed":[{"add":[{"k":-9223372036854775808},{"k":9223372036854775807}],"remove":[],"table":"n"}],"ok":true,"version":11}
 {"do":"read","view":"n"}
-{"ok":true,"rows":[{"k":-9223372036854775808},{"k":9223372036854775807}],"version":11}"#;
+{"ok":true,"rows":[{"k":-9223372036854775808},{"k":9223372036854775807}],"version":11}
 
-/// Selections of tables with dependencies: hidden rows are revised, and those that would then be
-/// shown unsent are deleted.
-const SELECTIONS: &str =
-    r#"{"do":"define","text":"table sales (track text, album text, quantity int) with album -> quantity"}
+With nothing: selections of tables with dependencies: hidden rows are revised, and those that would then be shown unsent are deleted.
+{"do":"define","text":"table sales (track text, album text, quantity int) with album -> quantity"}
 {"ok":true,"version":1}
 {"do":"define","text":"view big = select from sales where quantity > 2"}
 {"ok":true,"version":2}
@@ -63,24 +113,23 @@ const SELECTIONS: &str =
 {"changed":[{"add":[{"album":"X","quantity":1,"track":"a"},{"album":"X","quantity":1,"track":"b"},{"album":"Y","quantity":2,"track":"c"}],"remove":[],"table":"chain"}],"ok":true,"version":9}
 {"do":"put","view":"most","rows":[{"album":"X","quantity":9,"track":"a"},{"album":"Y","quantity":2,"track":"c"}]}
 {"changed":[{"add":[{"album":"X","quantity":9,"track":"a"},{"album":"X","quantity":9,"track":"b"}],"remove":[{"album":"X","quantity":1,"track":"a"},{"album":"X","quantity":1,"track":"b"}],"table":"chain"}],"ok":true,"version":10}
-{"do":"define","text":"table q (k int, a int) with k -> a where a > 5"}
+{"do":"define","text":"table q (k int, a int) with k -> a where a > 5 or k = 1"}
 {"ok":true,"version":11}
 {"do":"define","text":"view v = select from q where k = 1"}
 {"col":"a","error":27,"ok":false}
 {"do":"define","text":"view v = select from q where k = 'x'"}
 {"error":26,"name":"k","ok":false}
-{"do":"define","text":"table r (k int, a int, b int) with k -> a b where b > 5 and a > 5"}
+{"do":"define","text":"table r (k int, a int, b int) with k -> a b where (b > 5 or k = 1) and (a > 5 or k = 1)"}
 {"ok":true,"version":12}
 {"do":"define","text":"view v = select from r where true"}
 {"col":"a","error":27,"ok":false}
 {"do":"define","text":"table u (k int, a int) with k -> a where k > 0"}
 {"ok":true,"version":13}
 {"do":"define","text":"view v = select from u where a > 1"}
-{"ok":true,"version":14}"#;
+{"ok":true,"version":14}
 
-/// Views that drop a column: new rows take its default, and rows that stay keep their values.
-const DROPS: &str =
-    r#"{"do":"define","text":"table tracks (track text, date int, rating int, album text) with track -> date rating"}
+With nothing: views that drop a column: new rows take its default, and rows that stay keep their values.
+{"do":"define","text":"table tracks (track text, date int, rating int, album text) with track -> date rating"}
 {"ok":true,"version":1}
 {"do":"define","text":"view d = drop date determined by (track, 2018) from tracks"}
 {"ok":true,"version":2}
@@ -112,11 +161,11 @@ const DROPS: &str =
 {"error":24,"name":"a","ok":false}
 {"do":"define","text":"view v = drop x determined by (k, 3) from p"}
 {"error":23,"name":"x","ok":false}
-{"do":"define","text":"view v = select from (select from tracks where rating > 3) where album = 'Wish'"}
-{"col":"rating","error":27,"ok":false}"#;
+{"do":"define","text":"view v = select from (select from tracks where rating > 3 or album = 'Wish') where album = 'Wish'"}
+{"col":"rating","error":27,"ok":false}
 
-/// A join of tracks with the quantity of their album: rows are deleted from the left side alone.
-const JOINS: &str = r#"{"do":"read","view":"stock"}
+With the tables: a join of tracks with the quantity of their album: rows are deleted from the left side alone.
+{"do":"read","view":"stock"}
 {"ok":true,"rows":[{"album":"Paris","quantity":4,"rating":5,"track":"Lovesong"},{"album":"Show","quantity":3,"rating":3,"track":"Lullaby"},{"album":"Wish","quantity":5,"rating":4,"track":"Trust"}],"version":5}
 {"do":"put","view":"stock","rows":[{"album":"Paris","quantity":4,"rating":5,"track":"Lovesong"},{"album":"Show","quantity":3,"rating":3,"track":"Lullaby"},{"album":"Wish","quantity":5,"rating":4,"track":"Trust"}]}
 {"changed":[],"ok":true,"version":5}
@@ -138,7 +187,7 @@ const JOINS: &str = r#"{"do":"read","view":"stock"}
 {"ok":true,"version":8}
 {"do":"define","text":"view v = join_dl tracks with n"}
 {"col":"k","error":31,"ok":false}
-{"do":"define","text":"view v = join_dl (select from tracks where rating > 3) with albums"}
+{"do":"define","text":"view v = join_dl (select from tracks where rating > 3 or album = 'Wish') with albums"}
 {"col":"rating","error":32,"ok":false,"side":"left"}
 {"do":"define","text":"view v = join_dl tracks with tracks"}
 {"error":33,"name":"tracks","ok":false}
@@ -160,11 +209,3 @@ const JOINS: &str = r#"{"do":"read","view":"stock"}
 {"changed":[{"add":[{"a":1,"b":2,"x":3}],"remove":[{"a":1,"b":2,"x":2}],"table":"l"},{"add":[{"a":1,"b":2}],"remove":[{"a":1,"b":1}],"table":"r"}],"ok":true,"version":14}
 {"do":"read","view":"j"}
 {"ok":true,"rows":[{"a":1,"b":2,"x":3}],"version":14}"#;
-
-#[test]
-fn tables_and_views(rt: HostRuntime) -> Result<(), Fail> {
-    follow(rt.alloc(), &[DEFINITIONS, PUTS])?;
-    follow(rt.alloc(), &[SELECTIONS])?;
-    follow(rt.alloc(), &[DROPS])?;
-    follow(rt.alloc(), &[BASE, JOINS])
-}

@@ -1,9 +1,8 @@
 //! Questions: what is read, typed, listed and foretold, and that none of it changes anything.
-use crate::scripts::{BASE, follow};
-use std::test::Fail;
 
-/// Before any row is there.
-const EMPTY: &str = r#"{"do":"list"}
+/// Sessions, one after another.
+pub(super) const SESSIONS: &str = r#"With nothing: before any row is there.
+{"do":"list"}
 {"definitions":[],"ok":true,"version":0}
 {"do":"define","text":"table tracks (track text, date int, rating int, album text) with track -> date rating"}
 {"ok":true,"version":1}
@@ -16,10 +15,10 @@ const EMPTY: &str = r#"{"do":"list"}
 {"do":"type","view":"tracks"}
 {"columns":{"album":"text","date":"int","rating":"int","track":"text"},"dependencies":[{"left":["track"],"right":["date","rating"]}],"ok":true,"predicate":[],"tables":["tracks"],"version":3}
 {"do":"list"}
-{"definitions":["table tracks (track text, date int, rating int, album text) with track -> date rating","table albums (album text, quantity int) with album -> quantity","view stock = select from (drop date determined by (track, 2018) from (join_dl tracks with albums)) where quantity > 2"],"ok":true,"version":3}"#;
+{"definitions":["table tracks (track text, date int, rating int, album text) with track -> date rating","table albums (album text, quantity int) with album -> quantity","view stock = select from (drop date determined by (track, 2018) from (join_dl tracks with albums)) where quantity > 2"],"ok":true,"version":3}
 
-/// Texts are listed as they were sent, and a definition that was refused is not there.
-const LISTED: &str = r#"{"do":"define","text":" table\tnames\n(name text)"}
+With nothing: texts are listed as they were sent, and a definition that was refused is not there.
+{"do":"define","text":" table\tnames\n(name text)"}
 {"ok":true,"version":1}
 {"do":"define","text":"table names (name text)"}
 {"error":21,"name":"names","ok":false}
@@ -28,11 +27,10 @@ const LISTED: &str = r#"{"do":"define","text":" table\tnames\n(name text)"}
 {"do":"list"}
 {"definitions":[" table\tnames\n(name text)","view v=select from names where name='é'or name='\"'"],"ok":true,"version":2}
 {"do":"type","view":"v"}
-{"columns":{"name":"text"},"dependencies":[],"ok":true,"predicate":["name = 'é' or name = '\"'"],"tables":["names"],"version":2}"#;
+{"columns":{"name":"text"},"dependencies":[],"ok":true,"predicate":["name = 'é' or name = '\"'"],"tables":["names"],"version":2}
 
-/// A preview tells what the edit would change, and changes nothing.
-const FORETOLD: &str =
-    r#"{"do":"preview","view":"stock","remove":[{"album":"Wish","quantity":5,"rating":4,"track":"Trust"}],"add":[]}
+With the tables: a preview tells what the edit would change, and changes nothing.
+{"do":"preview","view":"stock","remove":[{"album":"Wish","quantity":5,"rating":4,"track":"Trust"}],"add":[]}
 {"changed":[{"add":[],"remove":[{"album":"Wish","date":1992,"rating":4,"track":"Trust"}],"table":"tracks"}],"ok":true,"version":5}
 {"do":"read","view":"stock"}
 {"ok":true,"rows":[{"album":"Paris","quantity":4,"rating":5,"track":"Lovesong"},{"album":"Show","quantity":3,"rating":3,"track":"Lullaby"},{"album":"Wish","quantity":5,"rating":4,"track":"Trust"}],"version":5}
@@ -49,11 +47,10 @@ const FORETOLD: &str =
 {"do":"preview","view":"albums","remove":[],"add":[{"album":"Mixed","quantity":2}]}
 {"changed":[{"add":[{"album":"Mixed","quantity":2}],"remove":[],"table":"albums"}],"ok":true,"version":5}
 {"do":"edit","view":"stock","remove":[{"album":"Show","quantity":3,"rating":3,"track":"Lullaby"}],"add":[{"album":"Show","quantity":9,"rating":1,"track":"Lullaby"}],"on":5}
-{"changed":[{"add":[{"album":"Show","quantity":9}],"remove":[{"album":"Show","quantity":3}],"table":"albums"},{"add":[{"album":"Galore","date":1989,"rating":1,"track":"Lullaby"},{"album":"Show","date":1989,"rating":1,"track":"Lullaby"}],"remove":[{"album":"Galore","date":1989,"rating":3,"track":"Lullaby"},{"album":"Show","date":1989,"rating":3,"track":"Lullaby"}],"table":"tracks"}],"ok":true,"version":6}"#;
+{"changed":[{"add":[{"album":"Show","quantity":9}],"remove":[{"album":"Show","quantity":3}],"table":"albums"},{"add":[{"album":"Galore","date":1989,"rating":1,"track":"Lullaby"},{"album":"Show","date":1989,"rating":1,"track":"Lullaby"}],"remove":[{"album":"Galore","date":1989,"rating":3,"track":"Lullaby"},{"album":"Show","date":1989,"rating":3,"track":"Lullaby"}],"table":"tracks"}],"ok":true,"version":6}
 
-/// Conjuncts are printed each by itself, with the parentheses that they need and no other.
-const CONJUNCTS: &str =
-    r#"{"do":"define","text":"table w (flag bool, a int, b text) with a -> b where (a < 007 or b = 'x') and not (flag = true and a in (1, -0)) and not not flag = false and b != 'it''s'"}
+With nothing: conjuncts are printed each by itself, with the parentheses that they need and no other.
+{"do":"define","text":"table w (flag bool, a int, b text) with a -> b where (a < 007 or b = 'x') and not (flag = true and a in (1, -0)) and not not flag = false and b != 'it''s'"}
 {"ok":true,"version":1}
 {"do":"type","view":"w"}
 {"columns":{"a":"int","b":"text","flag":"bool"},"dependencies":[{"left":["a"],"right":["b"]}],"ok":true,"predicate":["a < 7 or b = 'x'","not (flag = true and a in (1, 0))","not not flag = false","b != 'it''s'"],"tables":["w"],"version":1}
@@ -64,12 +61,10 @@ const CONJUNCTS: &str =
 {"do":"define","text":"view t = select from (select from v where (true)) where not ((false)) and ((a <= 1))"}
 {"ok":true,"version":4}
 {"do":"type","view":"t"}
-{"columns":{"a":"int","b":"int"},"dependencies":[],"ok":true,"predicate":["a = 1","b = 2","a = 3 or b >= -9223372036854775808 or a != b","not (a = 1 or b = 2) or a < b and (a = 1 or b = 2)","true","not false","a <= 1"],"tables":["u"],"version":4}"#;
+{"columns":{"a":"int","b":"int"},"dependencies":[],"ok":true,"predicate":["a = 1","b = 2","a = 3 or b >= -9223372036854775808 or a != b","not (a = 1 or b = 2) or a < b and (a = 1 or b = 2)","true","not false","a <= 1"],"tables":["u"],"version":4}
 
-/// Edges stand in the order of the tree form: united, without what the others imply, and each
-/// behind those that write what it reads. A drop takes a column from them.
-const EDGES: &str =
-    r#"{"do":"define","text":"table chain (track text, album text, quantity int) with album -> quantity, track -> album"}
+With nothing: edges stand in the order of the tree form: united, without what the others imply, and each behind those that write what it reads. A drop takes a column from them.
+{"do":"define","text":"table chain (track text, album text, quantity int) with album -> quantity, track -> album"}
 {"ok":true,"version":1}
 {"do":"type","view":"chain"}
 {"columns":{"album":"text","quantity":"int","track":"text"},"dependencies":[{"left":["track"],"right":["album"]},{"left":["album"],"right":["quantity"]}],"ok":true,"predicate":[],"tables":["chain"],"version":1}
@@ -97,12 +92,3 @@ const EDGES: &str =
 {"ok":true,"version":9}
 {"do":"type","view":"e"}
 {"columns":{"b":"int","k":"int"},"dependencies":[{"left":["k"],"right":["b"]}],"ok":true,"predicate":["b > 1"],"tables":["d"],"version":9}"#;
-
-#[test]
-fn questions(rt: HostRuntime) -> Result<(), Fail> {
-    follow(rt.alloc(), &[EMPTY])?;
-    follow(rt.alloc(), &[LISTED])?;
-    follow(rt.alloc(), &[BASE, FORETOLD])?;
-    follow(rt.alloc(), &[CONJUNCTS])?;
-    follow(rt.alloc(), &[EDGES])
-}

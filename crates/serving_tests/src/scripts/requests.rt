@@ -1,11 +1,9 @@
 //! Lines that are no request, and requests that are refused before anything is changed.
-use crate::scripts::{BASE, follow};
-use std::test::Fail;
 
-/// Lines that are no JSON, or no object with a request's word.
-const LINES: &str = r#"{"do":"list"
-{"error":11,"ok":false}
-
+/// Sessions, one after another.
+pub(super) const SESSIONS: &str =
+    r#"With nothing: lines that are no JSON, or no object with a request's word.
+{"do":"list"
 {"error":11,"ok":false}
 {"do":"list"} {}
 {"error":11,"ok":false}
@@ -34,11 +32,10 @@ null
  { "do" : "lis\u0074" }
 {"definitions":[],"ok":true,"version":0}
 {"do":"nothing","view":"Stock","do":"list","view":"a"}
-{"error":12,"member":"view","ok":false}"#;
+{"error":12,"member":"view","ok":false}
 
-/// Members that are missing, unknown or of the wrong shape, of requests that change nothing but
-/// `define`.
-const FEW_MEMBERS: &str = r#"{"do":"define"}
+With nothing: members that are missing, unknown or of the wrong shape, of requests that change nothing but `define`. The same of a put, an edit and a preview. What a version cannot be, whatever view is named.
+{"do":"define"}
 {"error":12,"member":"text","ok":false}
 {"do":"define","text":7}
 {"error":12,"member":"text","ok":false}
@@ -83,10 +80,8 @@ const FEW_MEMBERS: &str = r#"{"do":"define"}
 {"do":"list","on":null}
 {"error":12,"member":"on","ok":false}
 {"do":"list","":1,"a":1}
-{"error":12,"member":"","ok":false}"#;
-
-/// The same of a put, an edit and a preview.
-const MANY_MEMBERS: &str = r#"{"do":"put"}
+{"error":12,"member":"","ok":false}
+{"do":"put"}
 {"error":12,"member":"rows","ok":false}
 {"do":"put","rows":[]}
 {"error":12,"member":"view","ok":false}
@@ -123,10 +118,8 @@ const MANY_MEMBERS: &str = r#"{"do":"put"}
 {"do":"preview","view":"n","add":[],"remove":[],"row":[]}
 {"error":12,"member":"row","ok":false}
 {"do":"preview","add":[],"remove":[],"z":0}
-{"error":12,"member":"view","ok":false}"#;
-
-/// What a version cannot be, whatever view is named.
-const VERSIONS: &str = r#"{"do":"put","view":"n","rows":[],"on":null}
+{"error":12,"member":"view","ok":false}
+{"do":"put","view":"n","rows":[],"on":null}
 {"error":12,"member":"on","ok":false}
 {"do":"put","view":"n","rows":[],"on":-1}
 {"error":12,"member":"on","ok":false}
@@ -151,10 +144,10 @@ const VERSIONS: &str = r#"{"do":"put","view":"n","rows":[],"on":null}
 {"do":"preview","view":"n","remove":[],"add":[],"on":18446744073709551616}
 {"error":12,"member":"on","ok":false}
 {"do":"put","view":"n","rows":[],"on":18446744073709551615}
-{"error":22,"name":"n","ok":false}"#;
+{"error":22,"name":"n","ok":false}
 
-/// A name that is not defined, in each request.
-const UNKNOWN_NAMES: &str = r#"{"do":"define","text":"view v = nowhere"}
+With the tables: a name that is not defined, in each request. Elements that are no row: the first of them by its place, those to remove before those to add, and its least name that is missing, unknown or of the wrong kind.
+{"do":"define","text":"view v = nowhere"}
 {"error":22,"name":"nowhere","ok":false}
 {"do":"read","view":"nowhere"}
 {"error":22,"name":"nowhere","ok":false}
@@ -167,12 +160,8 @@ const UNKNOWN_NAMES: &str = r#"{"do":"define","text":"view v = nowhere"}
 {"do":"type","view":"nowhere"}
 {"error":22,"name":"nowhere","ok":false}
 {"do":"read","view":"a234567890123456789012345678901x"}
-{"error":22,"name":"a234567890123456789012345678901x","ok":false}"#;
-
-/// Elements that are no row: the first of them by its place, those to remove before those to add,
-/// and its least name that is missing, unknown or of the wrong kind.
-const BAD_ROWS: &str =
-    r#"{"do":"edit","view":"albums","remove":[],"add":[{"album":"Show","quantity":3.0}]}
+{"error":22,"name":"a234567890123456789012345678901x","ok":false}
+{"do":"edit","view":"albums","remove":[],"add":[{"album":"Show","quantity":3.0}]}
 {"col":"quantity","error":40,"index":0,"list":"add","ok":false}
 {"do":"edit","view":"albums","remove":[{"album":"Show","quantity":3},{"album":"Show"}],"add":[7]}
 {"col":"quantity","error":40,"index":1,"list":"remove","ok":false}
@@ -190,6 +179,10 @@ const BAD_ROWS: &str =
 {"col":"Album","error":40,"index":0,"list":"add","ok":false}
 {"do":"edit","view":"albums","remove":[],"add":[{"album":"Sh\u0000w","quantity":3}]}
 {"col":"album","error":40,"index":0,"list":"add","ok":false}
+{"do":"edit","view":"albums","remove":[],"add":[{"album":"Show","price":1}]}
+{"col":"price","error":40,"index":0,"list":"add","ok":false}
+{"do":"edit","view":"albums","remove":[],"add":[{"album":"Show","size":1}]}
+{"col":"quantity","error":40,"index":0,"list":"add","ok":false}
 {"do":"edit","view":"albums","remove":[],"add":[{"album":"Show","quantity":9223372036854775808}]}
 {"col":"quantity","error":40,"index":0,"list":"add","ok":false}
 {"do":"edit","view":"albums","remove":[],"add":[{"album":"Show","quantity":-0}]}
@@ -207,11 +200,16 @@ const BAD_ROWS: &str =
 {"do":"edit","view":"f","remove":[],"add":[{"a":true,"b":"\u00e9"},{"a":false,"b":"z"},{"b":"a","a":true},{"a":true,"b":"é"}]}
 {"changed":[{"add":[{"a":false,"b":"z"},{"a":true,"b":"a"},{"a":true,"b":"é"}],"remove":[],"table":"f"}],"ok":true,"version":9}
 {"do":"edit","view":"f","remove":[{"a":true,"b":"a"}],"add":[{"a":0,"b":"a"}]}
-{"col":"a","error":40,"index":0,"list":"add","ok":false}"#;
+{"col":"a","error":40,"index":0,"list":"add","ok":false}
 
-#[test]
-fn requests(rt: HostRuntime) -> Result<(), Fail> {
-    follow(rt.alloc(), &[LINES])?;
-    follow(rt.alloc(), &[FEW_MEMBERS, MANY_MEMBERS, VERSIONS])?;
-    follow(rt.alloc(), &[BASE, UNKNOWN_NAMES, BAD_ROWS])
-}
+With nothing: texts with escapes, and the least and the greatest number, as they are sent and shown.
+{"do":"define","text":"table v (a text, b int, c bool)"}
+{"ok":true,"version":1}
+{"do":"put","view":"v","rows":[{"a":"\u0022\u005c\u000a\u0001\u00e9\u002f","b":-9223372036854775808,"c":true}]}
+{"changed":[{"add":[{"a":"\"\\\n\u0001é/","b":-9223372036854775808,"c":true}],"remove":[],"table":"v"}],"ok":true,"version":2}
+{"do":"put","view":"v","rows":[{"c":false,"b":9223372036854775807,"a":""}]}
+{"changed":[{"add":[{"a":"","b":9223372036854775807,"c":false}],"remove":[{"a":"\"\\\n\u0001é/","b":-9223372036854775808,"c":true}],"table":"v"}],"ok":true,"version":3}
+{"do":"put","view":"v","rows":[{"a":"\u0008\u0009\u000c\u000d\u001f\u4e2d\ud83d\ude00","b":0,"c":false}]}
+{"changed":[{"add":[{"a":"\b\t\f\r\u001f中😀","b":0,"c":false}],"remove":[{"a":"","b":9223372036854775807,"c":false}],"table":"v"}],"ok":true,"version":4}
+{"do":"read","view":"v"}
+{"ok":true,"rows":[{"a":"\b\t\f\r\u001f中😀","b":0,"c":false}],"version":4}"#;

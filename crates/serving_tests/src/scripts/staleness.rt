@@ -1,11 +1,9 @@
 //! Changes that rest on a version: each is refused where a table under its view changed since.
-use crate::scripts::{BASE, follow};
-use std::test::Fail;
 
-/// Two clients have read version 5. The second finds that the tracks changed, reads again and edits
-/// anew; albums did not change, so an edit of them alone may rest on the old version.
-const TWO_CLIENTS: &str =
-    r#"{"do":"edit","view":"stock","remove":[],"add":[{"album":"Wish","quantity":5,"rating":2,"track":"Disco"}],"on":5}
+/// Sessions, one after another.
+pub(super) const SESSIONS: &str =
+    r#"With the tables: two clients have read version 5. The second finds that the tracks changed, reads again and edits anew; albums did not change, so an edit of them alone may rest on the old version.
+{"do":"edit","view":"stock","remove":[],"add":[{"album":"Wish","quantity":5,"rating":2,"track":"Disco"}],"on":5}
 {"changed":[{"add":[{"album":"Wish","date":2018,"rating":2,"track":"Disco"}],"remove":[],"table":"tracks"}],"ok":true,"version":6}
 {"do":"edit","view":"stock","remove":[{"album":"Wish","quantity":5,"rating":4,"track":"Trust"}],"add":[{"album":"Wish","quantity":5,"rating":1,"track":"Trust"}],"on":5}
 {"changed_at":6,"error":41,"ok":false,"version":6}
@@ -22,11 +20,10 @@ const TWO_CLIENTS: &str =
 {"do":"edit","view":"tracks","remove":[],"add":[],"on":7}
 {"changed_at":8,"error":41,"ok":false,"version":8}
 {"do":"edit","view":"albums","remove":[],"add":[],"on":7}
-{"changed":[],"ok":true,"version":8}"#;
+{"changed":[],"ok":true,"version":8}
 
-/// Which tables a change counts for: those that it changed, and no other under its view. Tracks were
-/// put at version 4, and albums at 5.
-const LAST_CHANGES: &str = r#"{"do":"edit","view":"tracks","remove":[],"add":[],"on":3}
+With the tables: which tables a change counts for: those that it changed, and no other under its view. Tracks were put at version 4, and albums at 5.
+{"do":"edit","view":"tracks","remove":[],"add":[],"on":3}
 {"changed_at":4,"error":41,"ok":false,"version":5}
 {"do":"edit","view":"tracks","remove":[],"add":[],"on":4}
 {"changed":[],"ok":true,"version":5}
@@ -57,12 +54,10 @@ const LAST_CHANGES: &str = r#"{"do":"edit","view":"tracks","remove":[],"add":[],
 {"do":"edit","view":"tracks","remove":[],"add":[],"on":7}
 {"changed_at":8,"error":41,"ok":false,"version":8}
 {"do":"edit","view":"stock","remove":[],"add":[],"on":8}
-{"changed":[],"ok":true,"version":8}"#;
+{"changed":[],"ok":true,"version":8}
 
-/// What changes no table leaves its last change: a preview, a change of nothing, a refusal, and a
-/// view's definition. A table is last changed when it is defined. A version to come is stale.
-const NO_CHANGES: &str =
-    r#"{"do":"preview","view":"stock","remove":[{"album":"Wish","quantity":5,"rating":4,"track":"Trust"}],"add":[],"on":5}
+With the tables: what changes no table leaves its last change: a preview, a change of nothing, a refusal, and a view's definition. A table is last changed when it is defined. A version to come is stale.
+{"do":"preview","view":"stock","remove":[{"album":"Wish","quantity":5,"rating":4,"track":"Trust"}],"add":[],"on":5}
 {"changed":[{"add":[],"remove":[{"album":"Wish","date":1992,"rating":4,"track":"Trust"}],"table":"tracks"}],"ok":true,"version":5}
 {"do":"edit","view":"stock","remove":[],"add":[{"album":"Wish","quantity":5,"rating":4,"track":"Trust"}]}
 {"changed":[],"ok":true,"version":5}
@@ -92,10 +87,3 @@ const NO_CHANGES: &str =
 {"changed":[{"add":[{"k":1}],"remove":[],"table":"n"}],"ok":true,"version":8}
 {"do":"edit","view":"same","remove":[],"add":[],"on":5}
 {"changed":[],"ok":true,"version":8}"#;
-
-#[test]
-fn versions(rt: HostRuntime) -> Result<(), Fail> {
-    follow(rt.alloc(), &[BASE, TWO_CLIENTS])?;
-    follow(rt.alloc(), &[BASE, LAST_CHANGES])?;
-    follow(rt.alloc(), &[BASE, NO_CHANGES])
-}

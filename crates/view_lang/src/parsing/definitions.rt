@@ -16,7 +16,7 @@ mod whole;
 
 use crate::definition::Definition;
 use crate::parsing::definitions::columns::{
-    column_kind, end_column, end_columns, next_column, open_columns,
+    column_kind, end_column, end_columns, end_kind, next_column, open_columns,
 };
 use crate::parsing::definitions::dependencies::{next_left, next_right};
 use crate::parsing::definitions::read_columns::ReadColumns;
@@ -27,7 +27,7 @@ use crate::parsing::expressions::{Exprs, begun_expr};
 use crate::parsing::predicates::Preds;
 use crate::parsing::token::Token;
 use fd_closure::Dep;
-use lens_values::{Name, NoMemory};
+use lens_values::{Kind, Name, NoMemory};
 use std::alloc::Global;
 use std::mem;
 
@@ -64,6 +64,12 @@ pub enum Opening {
     AtKind {
         head: Head,
         col: Name,
+    },
+    /// Up to and with this kind, behind which a "null" may stand.
+    BehindKind {
+        head: Head,
+        col: Name,
+        kind: Kind,
     },
     /// Up to and with a column.
     BehindColumn {
@@ -162,7 +168,8 @@ impl Opening {
             Opening::AtTable => Ok(table_name(token)),
             Opening::AtOpen { name } => Ok(open_columns(alloc, name, token)),
             Opening::AtColumn { head } => Ok(next_column(head, token)),
-            Opening::AtKind { head, col } => column_kind(head, col, token),
+            Opening::AtKind { head, col } => Ok(column_kind(head, col, token)),
+            Opening::BehindKind { head, col, kind } => end_kind(head, col, kind, token),
             Opening::BehindColumn { head } => Ok(end_column(head, token)),
             Opening::BehindColumns { head } => Ok(end_columns(alloc, head, token)),
             Opening::InLeft { table, left } => next_left(alloc, table, left, token),
@@ -188,6 +195,7 @@ impl Opening {
             | Opening::AtOpen { .. }
             | Opening::AtColumn { .. }
             | Opening::AtKind { .. }
+            | Opening::BehindKind { .. }
             | Opening::BehindColumn { .. }
             | Opening::InLeft { .. }
             | Opening::AtView

@@ -9,13 +9,14 @@ ghost use Rattle.view_lang.specs.PredBounds.{IsReadySpot, IsReadyExprs};
 
 mod drops;
 mod operands;
+mod renames;
 mod selections;
 
 use crate::expr::Expr;
 use crate::parsing::expressions::selections::selected;
 use crate::parsing::predicates::Preds;
 use crate::parsing::token::Token;
-use lens_values::{Name, NoMemory, Value};
+use lens_values::{JoinKind, Name, NoMemory, Value};
 use std::alloc::Global;
 use std::mem;
 
@@ -30,10 +31,18 @@ pub enum Hole {
         by: Vec<Name>,
         fill: Value,
     },
+    /// A rename of one of its columns.
+    OfRename {
+        col: Name,
+        to: Name,
+    },
     /// The left side of a join.
-    LeftOfJoin,
+    LeftOfJoin {
+        kind: JoinKind,
+    },
     /// The right side of a join.
     RightOfJoin {
+        kind: JoinKind,
         left: Expr,
     },
 }
@@ -57,8 +66,9 @@ pub enum Spot {
     AtWhere {
         of: Expr,
     },
-    /// "join_dl" operand
+    /// "join_dl", "join_dr" or "join_both", and an operand
     AtWith {
+        kind: JoinKind,
         left: Expr,
     },
     /// "drop"
@@ -96,6 +106,21 @@ pub enum Spot {
         col: Name,
         by: Vec<Name>,
         fill: Value,
+    },
+    /// "rename"
+    AtRenamed,
+    /// "rename" NAME
+    AtTo {
+        col: Name,
+    },
+    /// "rename" NAME "to"
+    AtNewName {
+        col: Name,
+    },
+    /// "rename" NAME "to" NAME
+    AtRenameFrom {
+        col: Name,
+        to: Name,
     },
     /// "select" "from" operand "where" and some of a predicate
     InWhere {
@@ -148,7 +173,11 @@ fn ended_spot(alloc: Global, spot: Spot) -> Result<Option<Expr>, NoMemory>
         | Spot::InKeys { .. }
         | Spot::AtFill { .. }
         | Spot::AtKeysEnd { .. }
-        | Spot::AtDropFrom { .. } => Ok(None),
+        | Spot::AtDropFrom { .. }
+        | Spot::AtRenamed
+        | Spot::AtTo { .. }
+        | Spot::AtNewName { .. }
+        | Spot::AtRenameFrom { .. } => Ok(None),
     }
 }
 
@@ -171,7 +200,11 @@ fn spot_count(spot: &Spot) -> usize
         | Spot::InKeys { .. }
         | Spot::AtFill { .. }
         | Spot::AtKeysEnd { .. }
-        | Spot::AtDropFrom { .. } => 0,
+        | Spot::AtDropFrom { .. }
+        | Spot::AtRenamed
+        | Spot::AtTo { .. }
+        | Spot::AtNewName { .. }
+        | Spot::AtRenameFrom { .. } => 0,
     }
 }
 
@@ -217,7 +250,7 @@ impl Exprs {
             Spot::BehindExpr { read } => self.end_expr(alloc, read, token),
             Spot::AtFrom => Ok(self.at_from(token)),
             Spot::AtWhere { of } => self.at_where(alloc, of, token),
-            Spot::AtWith { left } => Ok(self.at_with(left, token)),
+            Spot::AtWith { kind, left } => Ok(self.at_with(kind, left, token)),
             Spot::AtDropped => Ok(self.dropped(token)),
             Spot::AtDetermined { col } => {
                 Ok(self.on_word("determined", Spot::AtBy { col }, token))
@@ -228,6 +261,10 @@ impl Exprs {
             Spot::AtFill { col, by } => self.fill_value(alloc, col, by, token),
             Spot::AtKeysEnd { col, by, fill } => Ok(self.end_keys(col, by, fill, token)),
             Spot::AtDropFrom { col, by, fill } => Ok(self.drop_from(col, by, fill, token)),
+            Spot::AtRenamed => Ok(self.renamed(token)),
+            Spot::AtTo { col } => Ok(self.on_word("to", Spot::AtNewName { col }, token)),
+            Spot::AtNewName { col } => Ok(self.new_name(col, token)),
+            Spot::AtRenameFrom { col, to } => Ok(self.rename_from(col, to, token)),
             Spot::InWhere { selection } => self.next_where(alloc, selection, token),
         }
     }

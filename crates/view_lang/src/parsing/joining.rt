@@ -56,6 +56,7 @@ fn members_of(alloc: Global, formula: Formula) -> Vec<Formula>
         | Formula::Compare { .. }
         | Formula::CompareCols { .. }
         | Formula::OneOf { .. }
+        | Formula::IsNull { .. }
         | Formula::Not(_) => Vec::new(alloc),
     }
 }

@@ -40,7 +40,8 @@ impl Expr {
             Expr::Named { .. } => true,
             Expr::Select { pred, of } => is_small(pred) && of.has_small_predicates(),
             Expr::Drop { of, .. } => of.has_small_predicates(),
-            Expr::Join { left, right } => {
+            Expr::Rename { of, .. } => of.has_small_predicates(),
+            Expr::Join { left, right, .. } => {
                 left.has_small_predicates() && right.has_small_predicates()
             }
         }

@@ -41,6 +41,8 @@ pub enum Place {
     InValue { col: Name, values: Vec<Value> },
     /// The same, with no comma behind the last value.
     InNext { col: Name, values: Vec<Value> },
+    /// Behind a column and "is".
+    AtNull { col: Name },
     /// Behind a part.
     Behind,
 }
@@ -115,6 +117,7 @@ impl Preds {
             Place::InOpen { col } => Ok(self.open_values(alloc, col, token)),
             Place::InValue { col, values } => self.next_value(alloc, col, values, token),
             Place::InNext { col, values } => self.end_value(alloc, col, values, token),
+            Place::AtNull { col } => self.at_null(alloc, col, token),
             Place::Behind => self.step_behind(alloc, token),
         }
     }

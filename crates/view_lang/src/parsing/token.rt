@@ -5,7 +5,7 @@ ghost use Rattle.lens_pred.specs.Op.{op_view};
 ghost use Rattle.grammar_laws.specs.Tests as tests;
 
 use lens_pred::Op;
-use lens_values::{Kind, Name, NoMemory, Text, Value};
+use lens_values::{JoinKind, Kind, Name, NoMemory, Text, Value};
 use std::alloc::Global;
 
 /// A word, an integer, a text, an operator or punctuation.
@@ -91,6 +91,20 @@ fn kind_named(word: &str) -> Option<Kind>
     }
 }
 
+fn join_kind_named(word: &str) -> Option<JoinKind>
+    ensures { result ≡ tests.join_kind_named word.now }
+{
+    if word == "join_dl" {
+        Some(JoinKind::DeleteLeft)
+    } else if word == "join_dr" {
+        Some(JoinKind::DeleteRight)
+    } else if word == "join_both" {
+        Some(JoinKind::DeleteBoth)
+    } else {
+        None
+    }
+}
+
 impl Token {
     ghost use Rattle.view_lang.specs.TokenViews.{token_view};
 
@@ -144,6 +158,16 @@ impl Token {
         }
     }
 
+    /// The kind of joins that the token begins, if it begins one.
+    pub fn join_kind(&self) -> Option<JoinKind>
+        ensures { result ≡ tests.join_kind_in (token_view self.now) }
+    {
+        match self {
+            Token::Word(name) => join_kind_named(name.as_str()),
+            _ => None,
+        }
+    }
+
     /// A copy of the literal, if the token is one.
     pub fn literal(&self, alloc: Global) -> Result<Option<Value>, NoMemory>
         ensures { IfOk result (λ found. found ≡ tests.literal_in (token_view self.now)) }
@@ -154,6 +178,16 @@ impl Token {
             Token::Text(text) => Ok(Some(Value::Text(text.copy(alloc)?))),
             _ => Ok(None),
         }
+    }
+
+    /// A copy of the default, if the token is one: a literal, or null.
+    pub fn fill(&self, alloc: Global) -> Result<Option<Value>, NoMemory>
+        ensures { IfOk result (λ found. found ≡ tests.fill_in (token_view self.now)) }
+    {
+        if self.is_keyword("null") {
+            return Ok(Some(Value::Null));
+        }
+        self.literal(alloc)
     }
 
     /// Whether it is `(`.

@@ -3,14 +3,14 @@ ghost use Rattle.std.specs.Prelude.{◌≡◌, ◌++◌, OnOk, map};
 ghost use Rattle.lens_values.specs.SortedSet as set;
 ghost use Rattle.grammar_specs.specs.Tokens.{word};
 ghost use Rattle.grammar_specs.specs.Printing.{operand_of, expr_written};
-ghost use Rattle.grammar_specs.specs.Written.{operand_tokens, expr_tokens};
+ghost use Rattle.grammar_specs.specs.Written.{join_word, operand_tokens, expr_tokens};
 ghost use Rattle.view_lang.specs.ExprViews.{expr_view};
-ghost use Rattle.view_lang.specs.PrintAdds.{Adds, drop_from};
+ghost use Rattle.view_lang.specs.PrintAdds.{Adds, drop_from, rename_from};
 
 use crate::expr::Expr;
 use crate::printing::formulas::print_conjuncts;
 use crate::printing::printer::Printer;
-use lens_values::{Name, Names, NoMemory, Value};
+use lens_values::{JoinKind, Name, Names, NoMemory, Value};
 
 /// An expression by itself, with no parentheses around it.
 #[cycle(print_exprs)]
@@ -30,8 +30,12 @@ pub(crate) fn print_expr(out: &mut Printer, expr: &Expr) -> Result<(), NoMemory>
             print_drop_from(out, col, by, fill)?;
             print_operand(out, of)
         }
-        Expr::Join { left, right } => {
-            out.word("join_dl")?;
+        Expr::Rename { col, to, of } => {
+            print_rename_from(out, col, to)?;
+            print_operand(out, of)
+        }
+        Expr::Join { kind, left, right } => {
+            out.word(join_word(*kind))?;
             print_operand(out, left)?;
             out.word("with")?;
             print_operand(out, right)
@@ -69,6 +73,27 @@ fn print_drop_from(out: &mut Printer, col: &Name, by: &Names, fill: &Value) -> R
     out.literal(fill)?;
     out.close()?;
     out.word("from")
+}
+
+// A rename, up to its operand.
+fn print_rename_from(out: &mut Printer, col: &Name, to: &Name) -> Result<(), NoMemory>
+    ensures { OnOk result (Adds out.old out.new (rename_from col.now to.now)) }
+{
+    out.word("rename")?;
+    out.name(col)?;
+    out.word("to")?;
+    out.name(to)?;
+    out.word("from")
+}
+
+fn join_word(kind: JoinKind) -> &'static str
+    ensures { result.now ≡ join_word kind }
+{
+    match kind {
+        JoinKind::DeleteLeft => "join_dl",
+        JoinKind::DeleteRight => "join_dr",
+        JoinKind::DeleteBoth => "join_both",
+    }
 }
 
 /// Names one after another.

@@ -2,7 +2,7 @@
 ghost use Rattle.std.specs.Prelude.{◌≡◌, ◌++◌, OnOk};
 ghost use Rattle.grammar_specs.specs.Printing.{part_of, all_parts, all_of_formula, any_alls, pred_of, predicate_written};
 ghost use Rattle.grammar_specs.specs.Written.{literals, part_tokens, all_tokens, pred_tokens};
-ghost use Rattle.lens_specs.specs.Predicate.{compare, compare_columns, one_of};
+ghost use Rattle.lens_specs.specs.Predicate.{compare, compare_columns, null_at, one_of};
 ghost use Rattle.lens_pred.specs.Op.{op_view};
 ghost use Rattle.lens_pred.specs.View.{formula_view, list_view, predicate_view};
 ghost use Rattle.view_lang.specs.PrintAdds.{Adds, and_parts, or_alls, comma_literals};
@@ -47,6 +47,7 @@ fn print_part(out: &mut Printer, formula: &Formula) -> Result<(), NoMemory>
         Formula::Compare { col, op, value } => print_compare(out, col, *op, value),
         Formula::CompareCols { col, op, other } => print_compare_cols(out, col, *op, other),
         Formula::OneOf { col, values } => print_one_of(out, col, values),
+        Formula::IsNull { col } => print_is_null(out, col),
         Formula::Not(inner) => {
             out.word("not")?;
             print_part(out, inner)
@@ -160,6 +161,15 @@ fn print_one_of(out: &mut Printer, col: &Name, values: &Values) -> Result<(), No
     out.open()?;
     print_literals(out, values.as_slice())?;
     out.close()
+}
+
+// The test of a column for null.
+fn print_is_null(out: &mut Printer, col: &Name) -> Result<(), NoMemory>
+    ensures { OnOk result (Adds out.old out.new (part_tokens (part_of (null_at col.now)))) }
+{
+    out.name(col)?;
+    out.word("is")?;
+    out.word("null")
 }
 
 // Literals with commas between them.

@@ -52,11 +52,12 @@ impl Printer {
         self.put(name.as_str())
     }
 
-    /// A literal.
+    /// A literal, or null.
     pub(crate) fn literal(&mut self, value: &Value) -> Result<(), NoMemory>
         ensures { OnOk result (Adds self.old self.new (literal value.now ∷ [])) }
     {
         match value {
+            Value::Null => self.word("null"),
             Value::Int(number) => self.integer(*number),
             Value::Text(text) => self.quoted(text.as_str()),
             Value::Flag(true) => self.word("true"),

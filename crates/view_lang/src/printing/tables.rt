@@ -1,7 +1,7 @@
 //! What defines a table, printed.
 ghost use Rattle.std.specs.Prelude.{◌≡◌, ◌++◌, OnOk, map};
 ghost use Rattle.grammar_specs.specs.Printing.{dep_written, condition_written};
-ghost use Rattle.grammar_specs.specs.Written.{column_tokens, columns_tokens, dep_tokens, deps_tokens, where_tokens, kind_word};
+ghost use Rattle.grammar_specs.specs.Written.{column_tokens, columns_tokens, dep_tokens, deps_tokens, where_tokens, kind_tokens, kind_word};
 ghost use Rattle.lens_pred.specs.View.{predicate_view};
 ghost use Rattle.view_lang.specs.PrintAdds.{Adds, comma_columns, comma_deps};
 
@@ -40,16 +40,27 @@ fn print_column(out: &mut Printer, column: &(Name, Kind)) -> Result<(), NoMemory
     ensures { OnOk result (Adds out.old out.new (column_tokens column.now)) }
 {
     out.name(&column.0)?;
-    out.word(word_of(column.1))
+    print_kind(out, column.1)
+}
+
+// The word of the kind, and "null" behind it where the kind takes it.
+fn print_kind(out: &mut Printer, kind: Kind) -> Result<(), NoMemory>
+    ensures { OnOk result (Adds out.old out.new (kind_tokens kind)) }
+{
+    out.word(word_of(kind))?;
+    if kind.is_nullable() {
+        out.word("null")?;
+    }
+    Ok(())
 }
 
 fn word_of(kind: Kind) -> &'static str
     ensures { result.now ≡ kind_word kind }
 {
     match kind {
-        Kind::Int => "int",
-        Kind::Text => "text",
-        Kind::Flag => "bool",
+        Kind::Int | Kind::IntOrNull => "int",
+        Kind::Text | Kind::TextOrNull => "text",
+        Kind::Flag | Kind::FlagOrNull => "bool",
     }
 }
 

@@ -1,4 +1,4 @@
-use Rattle.std.proofs.Common.{ap, subst}
+use Rattle.std.proofs.Common.{refl, subst}
 use Rattle.lens_specs.specs.Columns.{Fits, names}
 use Rattle.lens_specs.specs.Nodes.{drop_get}
 use Rattle.delta_tests.proofs.Tested.{added, applies}
@@ -7,8 +7,11 @@ use Rattle.delta_tests.proofs.edits.dropped.Goals as goal
 pub drop_delta-requires-clause-applies : goal.drop_delta-requires-clause-applies
 drop_delta-requires-clause-applies g c =
     let R = c.args.look.now.relation in
-    applies (drop_get (names R.columns) c.args.col.now R.rows) c.in_ok-old.old.rows c.args.view.now.rows c.in_ok-delta.delta (ap (λ M. M.rows) c.in_ok-old.ensures) c.in_ok-delta.ensures
+    let shown = drop_get (names R.columns) c.args.col.now R.rows in
+    applies shown shown c.args.view.now.rows c.in_ok-delta.delta refl c.in_ok-delta.ensures
 
 pub drop_delta-requires-clause-fit : goal.drop_delta-requires-clause-fit
 drop_delta-requires-clause-fit g c = λ row there.
-    subst (λ U. Fits U row) c.requires (c.rows_fit.ensures row (added c.in_ok-old.old.rows c.args.view.now.rows c.in_ok-delta.delta c.in_ok-delta.ensures row there))
+    let R = c.args.look.now.relation in
+    let shown = drop_get (names R.columns) c.args.col.now R.rows in
+    subst (λ U. Fits U row) c.requires (c.rows_fit.ensures row (added shown c.args.view.now.rows c.in_ok-delta.delta c.in_ok-delta.ensures row there))

@@ -1,4 +1,4 @@
-use Rattle.std.proofs.Common.{◌≡◌, ◌∙◌, ap, subst, sym, true}
+use Rattle.std.proofs.Common.{◌≡◌, ◌∙◌, ap, refl, subst, sym, true}
 use Rattle.std.specs.List.{list_all}
 use Rattle.lens_values.specs.SortedSet as set
 use Rattle.lens_specs.specs.Columns.{Fits, names}
@@ -17,7 +17,7 @@ select_delta-requires-clause-columns g c =
 
 pub select_delta-requires-clause-applies : goal.select_delta-requires-clause-applies
 select_delta-requires-clause-applies g c =
-    applies (select_get (holds c.args.pred.now) c.args.look.now.relation.rows) c.in_ok-old.old.rows c.args.view.now.rows c.in_ok-delta.delta (ap (λ M. M.rows) c.in_ok-old.ensures) c.in_ok-delta.ensures
+    applies (select_get (holds c.args.pred.now) c.args.look.now.relation.rows) (select_get (holds c.args.pred.now) c.args.look.now.relation.rows) c.args.view.now.rows c.in_ok-delta.delta refl c.in_ok-delta.ensures
 
 pub select_delta-requires-clause-view : goal.select_delta-requires-clause-view
 select_delta-requires-clause-view g c =
@@ -25,7 +25,8 @@ select_delta-requires-clause-view g c =
     let P = c.args.pred.now in
     let N = c.args.view.now.rows in
     let all : list_all (holds P) (set.items N) ≡ true = ap (λ M. list_all (holds P) (set.items M)) (sym c.rows.ensures) ∙ sym c.all_hold.ensures ∙ c.if-not-all_hold.false in
-    let is = leads (select_get (holds P) R.rows) c.in_ok-old.old.rows N c.in_ok-delta.delta (ap (λ M. M.rows) c.in_ok-old.ensures) c.in_ok-delta.ensures in
+    let shown = select_get (holds P) R.rows in
+    let is = leads shown shown N c.in_ok-delta.delta refl c.in_ok-delta.ensures in
     subst (λ M. AreSelected R.columns c.args.look.now.tree P M) (sym is) (record {
       columns = λ r i. subst (λ U. Fits U r) c.requires (c.rows_fit.ensures r i);
       holds = all_held P N all;

@@ -1,4 +1,4 @@
-use Rattle.std.proofs.Common.{◌≡◌, ◌∙◌, subst, sym}
+use Rattle.std.proofs.Common.{◌≡◌, subst, sym}
 use Rattle.std.specs.Prelude.{IfOk, None, Ok, Option, Some}
 use Rattle.lens_values.specs.Columns.{union_from, union_of}
 use Rattle.lens_specs.specs.Columns.{Columns, both_columns, kinds_differ}

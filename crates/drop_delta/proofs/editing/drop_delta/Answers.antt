@@ -2,7 +2,9 @@ use Rattle.std.proofs.Common.{◌≡◌, ◌∙◌, ap, sym}
 use Rattle.lens_values.specs.SortedSet as set
 use Rattle.lens_specs.specs.Delta.{Delta, diff}
 use Rattle.lens_specs.specs.Dependencies.{edge}
-use Rattle.drop_delta.specs.Dropped.{edited_source}
+use Rattle.lens_laws.specs.Work.{rows_of}
+use Rattle.drop_delta.specs.Dropped.{edited_source, filled_in}
+use Rattle.drop_delta.proofs.Counted.{few_are, looks_are}
 use Rattle.drop_delta.proofs.Filling.{apart, carried, have, removed_fit}
 use Rattle.drop_delta.proofs.editing.drop_delta.Goals as goal
 
@@ -56,4 +58,12 @@ returns g c =
     carried R.columns A X a R.rows d q.column q.within q.apart c.rows_fit.ensures q.decides q.applies q.fit default e remove add c.in_ok-default.ensures
     (λ i. edge (c.in_ok-left.ensures i) (c.in_ok-right.ensures i))
     c.in_ok-filled.ensures.remove c.in_ok-filled.ensures.add in
-    record { delta = c.new.ensures ∙ is }
+    record {
+      delta = c.new.ensures ∙ is;
+      looks = λ n w. looks_are (rows_of d) n c.args.looked.now c.filled_sides.new.looked (c.finds_are_few.ensures.some n w) (c.filled_sides.ensures.looks n w);
+      few = λ n w. few_are d c.new.result (filled_in e default R.rows) remove add n c.new.ensures c.in_ok-filled.ensures.remove c.in_ok-filled.ensures.add (c.finds_are_few.ensures.some n w);
+    }
+
+pub returns-in_err-filled-clause-looks : goal.returns-in_err-filled-clause-looks
+returns-in_err-filled-clause-looks g c = λ n w.
+    looks_are (rows_of c.args.delta.now) n c.args.looked.now c.filled_sides.new.looked (c.finds_are_few.ensures.some n w) (c.filled_sides.ensures.looks n w)

@@ -1,4 +1,4 @@
-use Rattle.std.proofs.Common.{◌≡◌, take}
+use Rattle.std.proofs.Common.{◌≡◌, ◌≤◌, ◌+◌, ◌*◌, ℕ, length, take}
 use Rattle.std.specs.Prelude.{map}
 use Rattle.lens_values.specs.SortedSet as set
 use Rattle.drop_delta.specs.Dropped.{BothFill, filled_in}
@@ -11,3 +11,4 @@ invariant-loop-place g l =
     (l.remove.items ≡ map f (take l.place (set.items l.delta.remove)))
     × (l.add.items ≡ map f (take l.place (set.items l.delta.add)))
     × BothFill l.edge l.default M l.fillings
+    × ((n : ℕ) → g.S.Look.within l.source n → l.looked ≤ l.fn.looked + n * (length l.remove.items + length l.add.items))

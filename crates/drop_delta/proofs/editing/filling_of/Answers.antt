@@ -1,4 +1,4 @@
-use Rattle.std.proofs.Common.{◌∙◌, IfSome, ap, subst, sym}
+use Rattle.std.proofs.Common.{◌∙◌, IfSome, ap, arith, subst, sym}
 use Rattle.lens_values.specs.SortedSet as set
 use Rattle.drop_delta.specs.Dropped.{Fills}
 use Rattle.drop_delta.proofs.Filling.{filled_again, key_filled, part_key, row_filled}
@@ -18,6 +18,7 @@ returns-then-agree_on g c =
     record {
       fills = fills;
       part = filled_again e c.edge.inside.left default c.args.row.now c.in-Some.known.key c.in-Some.known.part M c.agree_on.result fills (ap (λ k. k.left) c.edge.view_is) c.agree_on.ensures c.if-agree_on.true;
+      looks = λ n w. omega arith;
     }
 
 pub returns : goal.returns
@@ -30,4 +31,5 @@ returns g c =
     record {
       fills = key_filled e C default c.args.row.now c.in_ok-key.key c.in_ok-part.part M c.in_ok-found.found side c.in_ok-key.ensures c.in_ok-found.ensures.found c.in_ok-part.ensures;
       part = row_filled e C default c.args.row.now c.in_ok-key.key c.in_ok-part.part M c.in_ok-found.found side c.in_ok-key.ensures c.in_ok-found.ensures.found c.in_ok-part.ensures;
+      looks = c.find.ensures.looks;
     }

@@ -1,10 +1,13 @@
-use Rattle.std.proofs.Common.{◌≡◌}
+use Rattle.std.proofs.Common.{◌≡◌, ◌≤◌, ℕ}
 use Rattle.std.proofs.lemmas.Result.{IfOk-weaker}
 use Rattle.lens_specs.specs.Delta.{diff, new_view}
 use Rattle.lens_specs.specs.Lens.{get, view_names}
 use Rattle.lens_specs.specs.Nodes.{drop_get, drop_put}
 use Rattle.lens_laws.specs.KeyedDeltas as keyed
+use Rattle.lens_laws.specs.Work.{rows_down, rows_of, size}
+use Rattle.lens_probe.specs.Viewed.{FindsAtMost, IsWithin}
 use Rattle.lens_chain.specs.Edits.{IsEdit, over}
+use Rattle.lens_chain.proofs.Counted.{within_size}
 use Rattle.lens_chain.proofs.Premises.{drop_applies, drop_apart, drop_carried, drop_decides, drop_fit, drop_some, drop_within}
 use Rattle.lens_chain.proofs.nodes.under_drop.Goals as goal
 
@@ -49,3 +52,17 @@ returns-clause-edit g c =
     IfOk-weaker c.drop_delta.result (λ change. change ≡ diff M (drop_put A X a (new_view (drop_get (view_names v.lens) A M) c.args.delta.now) M)) (λ change. IsEdit v.lens (over v) change)
     (λ change is. (drop_carried A X a v.lens c.requires.typed (over v) c.args.delta.now c.lens.ensures.viewed.1.tables c.requires.edit change is).1)
     c.drop_delta.ensures.delta
+
+pub returns-clause-looks : goal.returns-clause-looks
+returns-clause-looks g c = λ w few.
+    let v = c.args.source.now in
+    c.drop_delta.ensures.looks (size v.lens w) (within_size v w few)
+
+pub returns-clause-few : goal.returns-clause-few
+returns-clause-few g c =
+    let v = c.args.source.now in
+    IfOk-weaker c.drop_delta.result
+    (λ change. (n : ℕ) → IsWithin v n → rows_of change ≤ rows_down (rows_of c.args.delta.now) n)
+    (λ change. (w : ℕ) → FindsAtMost v w → rows_of change ≤ rows_down (rows_of c.args.delta.now) (size v.lens w))
+    (λ change all w few. all (size v.lens w) (within_size v w few))
+    c.drop_delta.ensures.few

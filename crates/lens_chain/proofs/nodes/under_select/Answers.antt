@@ -1,4 +1,4 @@
-use Rattle.std.proofs.Common.{◌≡◌, ◌∙◌, ap, subst, sym}
+use Rattle.std.proofs.Common.{◌≡◌, ◌∙◌, ◌≤◌, ℕ, ap, length, subst, sym}
 use Rattle.std.proofs.lemmas.Result.{IfOk-weaker}
 use Rattle.std.specs.List.{Contains}
 use Rattle.lens_specs.specs.Delta.{diff, new_view}
@@ -8,9 +8,11 @@ use Rattle.lens_specs.specs.Names.{Within}
 use Rattle.lens_specs.specs.Nodes.{select_get, select_put}
 use Rattle.lens_specs.specs.Predicate.{holds}
 use Rattle.lens_laws.specs.KeyedDeltas as keyed
-use Rattle.lens_probe.specs.Viewed.{asked_by}
+use Rattle.lens_laws.specs.Work.{rows_down, rows_of, size}
+use Rattle.lens_probe.specs.Viewed.{FindsAtMost, IsWithin, asked_by}
 use Rattle.select_delta.specs.Selected.{AreSelected}
 use Rattle.lens_chain.specs.Edits.{IsEdit, over}
+use Rattle.lens_chain.proofs.Counted.{edges_few, within_size}
 use Rattle.lens_chain.proofs.Premises.{edges_asked, lefts_within, meets_tree, select_applies, select_carried, select_view, tree_is}
 use Rattle.lens_chain.proofs.nodes.under_select.Goals as goal
 
@@ -68,3 +70,19 @@ returns-clause-edit g c =
     IfOk-weaker c.select_delta.result (λ change. change ≡ diff M (select_put T (holds P) N M)) (λ change. IsEdit v.lens (over v) change)
     (λ change is. (select_carried P v.lens (over v) c.args.delta.now c.requires.typed c.lens.ensures.viewed.1.tables c.requires.edit change (is ∙ ap (λ F. diff M (select_put F (holds P) N M)) tree)).1)
     c.select_delta.ensures.delta
+
+pub returns-clause-looks : goal.returns-clause-looks
+returns-clause-looks g c = λ w few.
+    let v = c.args.source.now in
+    let edges = edges_few v.lens c.lens.result.now c.sort.result.now c.tree-tree.result.now c.requires.typed.0 c.lens.ensures.viewed.1.keys c.lens.ensures.lens c.sort.ensures.given c.tree-tree.ensures.value c.tree-tree.ensures.small in
+    c.select_delta.ensures.looks (size v.lens w) (within_size v w few) edges
+
+pub returns-clause-few : goal.returns-clause-few
+returns-clause-few g c =
+    let v = c.args.source.now in
+    let edges = edges_few v.lens c.lens.result.now c.sort.result.now c.tree-tree.result.now c.requires.typed.0 c.lens.ensures.viewed.1.keys c.lens.ensures.lens c.sort.ensures.given c.tree-tree.ensures.value c.tree-tree.ensures.small in
+    IfOk-weaker c.select_delta.result
+    (λ change. (n : ℕ) → IsWithin v n → length c.tree-tree.result.now ≤ 64 → rows_of change ≤ rows_down (rows_of c.args.delta.now) n)
+    (λ change. (w : ℕ) → FindsAtMost v w → rows_of change ≤ rows_down (rows_of c.args.delta.now) (size v.lens w))
+    (λ change all w few. all (size v.lens w) (within_size v w few) edges)
+    c.select_delta.ensures.few

@@ -1,15 +1,19 @@
-use Rattle.std.proofs.Common.{◌≡◌, ◌∙◌, ap, arith, subst, sym}
+use Rattle.std.proofs.Common.{◌≡◌, ◌∙◌, ◌+◌, ◌≤◌, ap, arith, length, subst, sym}
 use Rattle.std.specs.Prelude.{IfOk, IfSome}
 use Rattle.lens_values.specs.Part.{restrict}
 use Rattle.lens_values.specs.SortedSet as set
-use Rattle.lens_specs.specs.Lens.{drop, get, join, nodes_of, select, view_names}
+use Rattle.lens_specs.specs.Lens.{drop, get, join, nodes_of, rename, select, view_names}
 use Rattle.lens_laws.proofs.PastedFinds.{key_is_over}
 use Rattle.lens_laws.specs.Finds.{IsOver}
 use Rattle.lens_laws.specs.KeyedDeltas.{find_by}
 use Rattle.lens_laws.specs.Lenses.{IsTyped}
 use Rattle.lens_types.specs.Lenses.{lens_view}
-use Rattle.lens_probe.specs.Looking.{ArePartners, MayFind}
+use Rattle.lens_laws.specs.Work.{size}
+use Rattle.signed_delta.proofs.Counts.{at_end, next, one_more}
+use Rattle.lens_probe.specs.Looking.{ArePartners, FindsWithin, MayFind}
 use Rattle.lens_probe.proofs.Found.{drop_finds, found_by_whole, left_asked, left_finds, left_matches, left_over, next_pairs, partners_again, right_asked, right_finds, right_matches, right_over, select_finds, source_of_drop, source_of_select, table_finds, whole_part}
+use Rattle.lens_probe.proofs.RenamedViews.{found_there, key_lacks, names_are, old_asked, old_finds, old_over, new_is_free, rename_size, renamed_finds, source_over}
+use Rattle.lens_probe.proofs.Sizes.{dropped_size, left_few, left_first, left_part, left_shared, left_within, right_few, right_first, right_part, right_shared, right_within, selected_size, table_looks, under_dropped, under_selected}
 use Rattle.lens_probe.proofs.finding.+find.Goals as goal
 
 pub find_in-find_in-requires : goal.find_in-find_in-requires
@@ -30,26 +34,26 @@ find_in-find_in-requires-in-Drop g t c κs within =
       ),
     )
 
-pub find_in-returns-in-Base : goal.find_in-returns-in-Base
-find_in-returns-in-Base g t c =
+pub find_in-returns-in-Base-clause-found : goal.find_in-returns-in-Base-clause-found
+find_in-returns-in-Base-clause-found g t c =
     let is = sym (ap lens_view c.in-Base.is) ∙ c.lens.ensures.view in
     table_finds c.find.result c.args.lens.now c.in-Base.table c.in-Base.sort c.args.query.now.tables.now.present.relations c.args.query.now.cols.now c.args.query.now.key.now is c.find.ensures.ok
 
-pub find_in-returns-in_ok-found-in-Select : goal.find_in-returns-in_ok-found-in-Select
-find_in-returns-in_ok-found-in-Select g t c =
+pub find_in-returns-in_ok-found-in-Select-clause-found : goal.find_in-returns-in_ok-found-in-Select-clause-found
+find_in-returns-in_ok-found-in-Select-clause-found g t c =
     let is = (λ i. select c.in-Select.pred (c.deref.ensures i)) ∙ sym (ap lens_view c.in-Select.is) ∙ c.lens.ensures.view in
     select_finds c.selected.result c.args.lens.now c.deref.result.now c.in-Select.pred c.args.query.now.tables.now.present.relations c.args.query.now.cols.now c.args.query.now.key.now c.in_ok-found-in-Select.found is
-    c.in_ok-found-in-Select.ensures c.selected.ensures
+    c.in_ok-found-in-Select.ensures.found c.selected.ensures
 
-pub find_in-returns-in_ok-kept-in-Drop : goal.find_in-returns-in_ok-kept-in-Drop
-find_in-returns-in_ok-kept-in-Drop g t c =
+pub find_in-returns-in_ok-kept-in-Drop-clause-found : goal.find_in-returns-in_ok-kept-in-Drop-clause-found
+find_in-returns-in_ok-kept-in-Drop-clause-found g t c =
     let is = (λ i. drop c.in-Drop.col c.in-Drop.by c.in-Drop.fill (c.deref-in-Drop.ensures i)) ∙ sym (ap lens_view c.in-Drop.is) ∙ c.lens.ensures.view in
     drop_finds c.project.result c.args.lens.now c.deref-in-Drop.result.now c.in-Drop.col c.in-Drop.by c.in-Drop.fill c.args.query.now.tables.now.present c.args.query.now.cols.now c.in_ok-kept-in-Drop.kept c.args.query.now.key.now c.in_ok-found-in-Drop.found is
-    c.lens.ensures.typed c.requires.asked c.in_ok-kept-in-Drop.ensures c.in_ok-found-in-Drop.ensures c.project.ensures
+    c.lens.ensures.typed c.requires.asked c.in_ok-kept-in-Drop.ensures c.in_ok-found-in-Drop.ensures.found c.project.ensures
 
 pub find_in-find_joined-requires : goal.find_in-find_joined-requires
 find_in-find_joined-requires g t c κs within =
-    let is = (λ i. join (c.deref-in-Join.ensures i) (c.deref-in-Join-2.ensures i)) ∙ sym (ap lens_view c.in-Join.is) ∙ c.lens.ensures.view in (
+    let is = (λ i. join c.in-Join.kind (c.deref-in-Join.ensures i) (c.deref-in-Join-2.ensures i)) ∙ sym (ap lens_view c.in-Join.is) ∙ c.lens.ensures.view in (
       omega (arith, c.decreases, ap nodes_of is),
       (
         within,
@@ -60,11 +64,63 @@ find_in-find_joined-requires g t c κs within =
       ),
     )
 
+-- ---- a rename
+
+pub find_in-find_renamed-requires : goal.find_in-find_renamed-requires
+find_in-find_renamed-requires g t c κs within =
+    let is = (λ i. rename c.in-Rename.col c.in-Rename.to (c.deref-in-Rename.ensures i)) ∙ sym (ap lens_view c.in-Rename.is) ∙ c.lens.ensures.view in (
+      omega (arith, c.decreases, ap nodes_of is),
+      (
+        within,
+        (
+          subst IsTyped (sym is) c.lens.ensures.typed,
+          (subst (λ L. MayFind L c.args.query.now.tables.now.present c.args.query.now.cols.now) (sym is) c.requires.asked, c.requires.key),
+        ),
+      ),
+    )
+
+pub find_in-returns-in-Rename-clause-looks : goal.find_in-returns-in-Rename-clause-looks
+find_in-returns-in-Rename-clause-looks g t c = λ w few.
+    let is = (λ i. rename c.in-Rename.col c.in-Rename.to (c.deref-in-Rename.ensures i)) ∙ sym (ap lens_view c.in-Rename.is) ∙ c.lens.ensures.view in
+    subst (λ L. c.find_renamed.new.looked ≤ c.args.looked.now + size L w) is (c.find_renamed.ensures.looks w (subst (λ L. FindsWithin L c.args.query.now.tables.now.present c.args.query.now.cols.now w) (sym is) few))
+
+pub find_renamed-rename_row-requires : goal.find_renamed-rename_row-requires
+find_renamed-rename_row-requires g t c =
+    record { free = key_lacks c.args.col.now c.args.to.now c.args.of.now c.requires.typed c.args.query.now.tables.now.present c.args.query.now.cols.now c.requires.asked c.args.query.now.key.now c.requires.key }
+
+pub find_renamed-find_in-requires : goal.find_renamed-find_in-requires
+find_renamed-find_in-requires g t c κs within =
+    let A = c.args.col.now in
+    let B = c.args.to.now in
+    let S = c.args.of.now in
+    let st = c.args.query.now.tables.now.present in
+    let C = c.args.query.now.cols.now in
+    let cols = names_are B A C c.in_ok-cols.cols c.in_ok-cols.ensures in
+    let asked = old_asked A B S c.requires.typed st C c.requires.asked c.in_ok-cols.cols cols in
+    let over = old_over A B S c.requires.typed st C c.requires.asked c.in_ok-cols.cols c.args.query.now.key.now c.in_ok-key.key c.requires.key cols c.in_ok-key.ensures in
+    (omega (arith, c.decreases), (within, (asked, over)))
+
+pub find_renamed-rename_set-requires-clause-over : goal.find_renamed-rename_set-requires-clause-over
+find_renamed-rename_set-requires-clause-over g t c = λ row i.
+    let st = c.args.query.now.tables.now.present in
+    let there = found_there c.in_ok-cols.cols c.in_ok-key.key row (get c.args.of.now st.relations) c.in_ok-found.found c.in_ok-found.ensures.found i in
+    source_over c.args.col.now c.args.to.now c.args.of.now c.requires.typed st.relations c.in_ok-names_of.field-0 row c.requires.asked.1.tables c.in_ok-names_of.ensures there
+
+pub find_renamed-rename_set-requires-clause-free : goal.find_renamed-rename_set-requires-clause-free
+find_renamed-rename_set-requires-clause-free g t c = new_is_free c.args.col.now c.args.to.now c.args.of.now c.requires.typed c.in_ok-names_of.field-0 c.in_ok-names_of.ensures
+
+pub find_renamed-returns-clause-found : goal.find_renamed-returns-clause-found
+find_renamed-returns-clause-found g t c =
+    let C = c.args.query.now.cols.now in
+    let cols = names_are c.args.to.now c.args.col.now C c.in_ok-cols.cols c.in_ok-cols.ensures in
+    renamed_finds c.args.col.now c.args.to.now c.args.of.now c.requires.typed c.args.query.now.tables.now.present C c.requires.asked c.rename_set-2.result c.in_ok-cols.cols c.args.query.now.key.now c.in_ok-key.key c.in_ok-found.found
+    cols c.in_ok-key.ensures c.in_ok-found.ensures.found c.rename_set-2.ensures
+
 -- ---- a join
 
 pub find_from_left-find_by_part-requires : goal.find_from_left-find_by_part-requires
 find_from_left-find_by_part-requires g t c κs within =
-    let asked = left_asked c.args.left.now c.args.right.now c.args.query.now.tables.now.present c.args.query.now.cols.now c.requires.typed c.requires.asked c.requires.meets in
+    let asked = left_asked c.args._kind c.args.left.now c.args.right.now c.args.query.now.tables.now.present c.args.query.now.cols.now c.requires.typed c.requires.asked c.requires.meets in
     (omega (arith, c.decreases), (within, (asked, c.requires.key)))
 
 pub find_from_left-pair_each-requires : goal.find_from_left-pair_each-requires
@@ -74,18 +130,18 @@ find_from_left-pair_each-requires g t c κs within =
     let st = c.args.query.now.tables.now.present in
     let C = c.args.query.now.cols.now in
     let S = c.in_ok-shared.shared in
-    let asked = right_matches A B st C c.requires.typed c.requires.asked S c.in_ok-shared.ensures in
-    let over = left_over A B st C c.requires.typed c.requires.asked c.args.query.now.key.now S c.in_ok-found.found c.rows.result.now c.in_ok-shared.ensures c.rows.ensures c.in_ok-found.ensures in
+    let asked = right_matches c.args._kind A B st C c.requires.typed c.requires.asked S c.in_ok-shared.ensures in
+    let over = left_over c.args._kind A B st C c.requires.typed c.requires.asked c.args.query.now.key.now S c.in_ok-found.found c.rows.result.now c.in_ok-shared.ensures c.rows.ensures c.in_ok-found.ensures.found in
     (omega (arith, c.decreases), (within, (asked, over)))
 
-pub find_from_left-returns : goal.find_from_left-returns
-find_from_left-returns g t c =
-    left_finds c.args.left.now c.args.right.now c.args.query.now.tables.now.present c.args.query.now.cols.now c.requires.typed c.requires.asked c.args.query.now.key.now c.in_ok-shared.shared c.in_ok-found.found c.rows.result.now c.in_ok-shared.ensures
-    c.rows.ensures c.new.result c.in_ok-pairs.pairs.items c.new.ensures c.in_ok-found.ensures c.in_ok-pairs.ensures
+pub find_from_left-returns-clause-found : goal.find_from_left-returns-clause-found
+find_from_left-returns-clause-found g t c =
+    left_finds c.args._kind c.args.left.now c.args.right.now c.args.query.now.tables.now.present c.args.query.now.cols.now c.requires.typed c.requires.asked c.args.query.now.key.now c.in_ok-shared.shared c.in_ok-found.found c.rows.result.now c.in_ok-shared.ensures
+    c.rows.ensures c.new.result c.in_ok-pairs.pairs.items c.new.ensures c.in_ok-found.ensures.found c.in_ok-pairs.ensures.pairs
 
 pub find_from_right-find_by_part-requires : goal.find_from_right-find_by_part-requires
 find_from_right-find_by_part-requires g t c κs within =
-    let asked = right_asked c.args.left.now c.args.right.now c.args.query.now.tables.now.present c.args.query.now.cols.now c.requires.typed c.requires.asked c.requires.meets in
+    let asked = right_asked c.args._kind c.args.left.now c.args.right.now c.args.query.now.tables.now.present c.args.query.now.cols.now c.requires.typed c.requires.asked c.requires.meets in
     (omega (arith, c.decreases), (within, (asked, c.requires.key)))
 
 pub find_from_right-pair_each-requires : goal.find_from_right-pair_each-requires
@@ -95,14 +151,14 @@ find_from_right-pair_each-requires g t c κs within =
     let st = c.args.query.now.tables.now.present in
     let C = c.args.query.now.cols.now in
     let S = c.in_ok-shared.shared in
-    let asked = left_matches A B st C c.requires.typed c.requires.asked S c.in_ok-shared.ensures in
-    let over = right_over A B st C c.requires.typed c.requires.asked c.args.query.now.key.now S c.in_ok-found.found c.rows.result.now c.in_ok-shared.ensures c.rows.ensures c.in_ok-found.ensures in
+    let asked = left_matches c.args._kind A B st C c.requires.typed c.requires.asked S c.in_ok-shared.ensures in
+    let over = right_over c.args._kind A B st C c.requires.typed c.requires.asked c.args.query.now.key.now S c.in_ok-found.found c.rows.result.now c.in_ok-shared.ensures c.rows.ensures c.in_ok-found.ensures.found in
     (omega (arith, c.decreases), (within, (asked, over)))
 
-pub find_from_right-returns : goal.find_from_right-returns
-find_from_right-returns g t c =
-    right_finds c.args.left.now c.args.right.now c.args.query.now.tables.now.present c.args.query.now.cols.now c.requires.typed c.requires.asked c.args.query.now.key.now c.in_ok-shared.shared c.in_ok-found.found c.rows.result.now c.in_ok-shared.ensures
-    c.rows.ensures c.new.result c.in_ok-pairs.pairs.items c.new.ensures c.in_ok-found.ensures c.in_ok-pairs.ensures
+pub find_from_right-returns-clause-found : goal.find_from_right-returns-clause-found
+find_from_right-returns-clause-found g t c =
+    right_finds c.args._kind c.args.left.now c.args.right.now c.args.query.now.tables.now.present c.args.query.now.cols.now c.requires.typed c.requires.asked c.args.query.now.key.now c.in_ok-shared.shared c.in_ok-found.found c.rows.result.now c.in_ok-shared.ensures
+    c.rows.ensures c.new.result c.in_ok-pairs.pairs.items c.new.ensures c.in_ok-found.ensures.found c.in_ok-pairs.ensures.pairs
 
 pub find_joined-find_from_left-requires : goal.find_joined-find_from_left-requires
 find_joined-find_from_left-requires g t c κs within = (omega (arith, c.decreases), (within, (c.requires.typed, (c.requires.asked, (c.requires.key, sym c.shows_any.ensures ∙ c.if-shows_any.true)))))
@@ -117,12 +173,12 @@ find_by_part-find_in-requires g t c κs within =
     let whole = whole_part c.args.query.now.cols.now (view_names c.args.side.now) (sym c.shows_all.ensures ∙ c.if-shows_all.true) in
     (omega (arith, c.decreases), (within, (subst (MayFind c.args.side.now c.args.query.now.tables.now.present) whole c.requires.asked, c.requires.key)))
 
-pub find_by_part-returns-then-shows_all : goal.find_by_part-returns-then-shows_all
-find_by_part-returns-then-shows_all g t c =
+pub find_by_part-returns-then-shows_all-clause-found : goal.find_by_part-returns-then-shows_all-clause-found
+find_by_part-returns-then-shows_all-clause-found g t c =
     let C = c.args.query.now.cols.now in
     let U = view_names c.args.side.now in
     let N = get c.args.side.now c.args.query.now.tables.now.present.relations in
-    subst (λ M. IfOk c.find_in.result (λ found. found ≡ M)) (found_by_whole C U c.args.query.now.key.now N (whole_part C U (sym c.shows_all.ensures ∙ c.if-shows_all.true))) c.find_in.ensures
+    subst (λ M. IfOk c.find_in.result (λ found. found ≡ M)) (found_by_whole C U c.args.query.now.key.now N (whole_part C U (sym c.shows_all.ensures ∙ c.if-shows_all.true))) c.find_in.ensures.found
 
 pub find_by_part-find_in-requires-2 : goal.find_by_part-find_in-requires-2
 find_by_part-find_in-requires-2 g t c κs within =
@@ -132,13 +188,13 @@ find_by_part-find_in-requires-2 g t c κs within =
     let key = key_is_over C U c.in_ok-part.part c.args.query.now.key.now c.in_ok-part_key.part_key c.requires.key part c.in_ok-part_key.ensures in
     (omega (arith, c.decreases), (within, (subst (MayFind c.args.side.now c.args.query.now.tables.now.present) (sym part) c.requires.asked, key)))
 
-pub find_by_part-returns : goal.find_by_part-returns
-find_by_part-returns g t c =
+pub find_by_part-returns-clause-found : goal.find_by_part-returns-clause-found
+find_by_part-returns-clause-found g t c =
     let C = c.args.query.now.cols.now in
     let k = c.args.query.now.key.now in
     let N = get c.args.side.now c.args.query.now.tables.now.present.relations in
     let part = c.in_ok-part.ensures ∙ ap (set.intersection C) c.in_ok-names_of.ensures in
-    subst (λ M. IfOk c.find_in-2.result (λ found. found ≡ M)) (ap (λ q. find_by c.in_ok-part.part q N) c.in_ok-part_key.ensures ∙ ap (λ P. find_by P (restrict P k) N) part) c.find_in-2.ensures
+    subst (λ M. IfOk c.find_in-2.result (λ found. found ≡ M)) (ap (λ q. find_by c.in_ok-part.part q N) c.in_ok-part_key.ensures ∙ ap (λ P. find_by P (restrict P k) N) part) c.find_in-2.ensures.found
 
 -- ---- the rows of the other side
 
@@ -151,6 +207,7 @@ pair_each-loop-row-preserved g t c = (
   next_pairs c.args.are_left c.args.shared.now c.args.query.now.cols.now c.args.query.now.key.now (get c.args.other.now c.args.query.now.tables.now.present.relations) c.args.rows.now c.loop-row.row-index c.row-item.result
       c.in_ok-partners.partners.rows c.rows.result.now c.loop-row.pairs.items c.add_pairs.new.pairs.items c.loop-row-test.true c.row-item.is c.in_ok-partners.ensures.rows c.rows.ensures c.loop-row.invariant.0 c.in_ok-add_pairs.ensures,
   c.in_ok-partners.ensures.partners,
+  λ w few. next (size c.args.other.now w) c.loop-row.row-index c.args.looked.now c.loop-row.looked c.partners_of.new.looked (c.loop-row.invariant.2 w few) (c.partners_of.ensures.looks w few),
 )
 
 -- ---- the partners of a row
@@ -165,3 +222,141 @@ partners_of-returns-then-agree_on-clause-rows g t c =
     let k = c.in-Some.last.key in
     let found : c.in-Some.last.rows ≡ find_by S k N = subst (λ o. IfSome o (ArePartners S N)) c.in-Some.is c.requires.last in
     partners_again S N c.args.row.now k c.in-Some.last.rows found (sym c.agree_on.ensures ∙ c.if-agree_on.true)
+
+-- ---- how many looks it takes
+
+pub find_in-returns-in-Base-clause-looks : goal.find_in-returns-in-Base-clause-looks
+find_in-returns-in-Base-clause-looks g t c = λ w few.
+    let is = sym (ap lens_view c.in-Base.is) ∙ c.lens.ensures.view in
+    table_looks c.find.result c.args.lens.now c.in-Base.table c.in-Base.sort c.args.query.now.tables.now.present c.args.query.now.cols.now c.args.query.now.key.now w c.args.looked.now c.find.new.looked is few c.find.ensures.ok c.find.ensures.looked c.find.ensures.looked_in_vain
+
+pub find_in-returns-in_ok-found-in-Select-clause-looks : goal.find_in-returns-in_ok-found-in-Select-clause-looks
+find_in-returns-in_ok-found-in-Select-clause-looks g t c = λ w few.
+    let is = (λ i. select c.in-Select.pred (c.deref.ensures i)) ∙ sym (ap lens_view c.in-Select.is) ∙ c.lens.ensures.view in
+    subst (λ n. c.find_in.new.looked ≤ c.args.looked.now + n) (selected_size c.args.lens.now c.deref.result.now c.in-Select.pred w is)
+    (c.find_in.ensures.looks w (under_selected c.args.lens.now c.deref.result.now c.in-Select.pred c.args.query.now.tables.now.present c.args.query.now.cols.now w is c.lens.ensures.typed few))
+
+pub find_in-returns-in_err-found-in-Select-clause-looks : goal.find_in-returns-in_err-found-in-Select-clause-looks
+find_in-returns-in_err-found-in-Select-clause-looks g t c = λ w few.
+    let is = (λ i. select c.in-Select.pred (c.deref.ensures i)) ∙ sym (ap lens_view c.in-Select.is) ∙ c.lens.ensures.view in
+    subst (λ n. c.find_in.new.looked ≤ c.args.looked.now + n) (selected_size c.args.lens.now c.deref.result.now c.in-Select.pred w is)
+    (c.find_in.ensures.looks w (under_selected c.args.lens.now c.deref.result.now c.in-Select.pred c.args.query.now.tables.now.present c.args.query.now.cols.now w is c.lens.ensures.typed few))
+
+pub find_in-returns-in_err-found-in-Drop-clause-looks : goal.find_in-returns-in_err-found-in-Drop-clause-looks
+find_in-returns-in_err-found-in-Drop-clause-looks g t c = λ w few.
+    let is = (λ i. drop c.in-Drop.col c.in-Drop.by c.in-Drop.fill (c.deref-in-Drop.ensures i)) ∙ sym (ap lens_view c.in-Drop.is) ∙ c.lens.ensures.view in
+    subst (λ n. c.find_in-in-Drop.new.looked ≤ c.args.looked.now + n) (dropped_size c.args.lens.now c.deref-in-Drop.result.now c.in-Drop.col c.in-Drop.by c.in-Drop.fill w is)
+    (c.find_in-in-Drop.ensures.looks w (under_dropped c.args.lens.now c.deref-in-Drop.result.now c.in-Drop.col c.in-Drop.by c.in-Drop.fill c.args.query.now.tables.now.present c.args.query.now.cols.now w is c.lens.ensures.typed few))
+
+pub find_in-returns-in_err-kept-in-Drop-clause-looks : goal.find_in-returns-in_err-kept-in-Drop-clause-looks
+find_in-returns-in_err-kept-in-Drop-clause-looks g t c = λ w few.
+    let is = (λ i. drop c.in-Drop.col c.in-Drop.by c.in-Drop.fill (c.deref-in-Drop.ensures i)) ∙ sym (ap lens_view c.in-Drop.is) ∙ c.lens.ensures.view in
+    subst (λ n. c.find_in-in-Drop.new.looked ≤ c.args.looked.now + n) (dropped_size c.args.lens.now c.deref-in-Drop.result.now c.in-Drop.col c.in-Drop.by c.in-Drop.fill w is)
+    (c.find_in-in-Drop.ensures.looks w (under_dropped c.args.lens.now c.deref-in-Drop.result.now c.in-Drop.col c.in-Drop.by c.in-Drop.fill c.args.query.now.tables.now.present c.args.query.now.cols.now w is c.lens.ensures.typed few))
+
+pub find_in-returns-in_ok-kept-in-Drop-clause-looks : goal.find_in-returns-in_ok-kept-in-Drop-clause-looks
+find_in-returns-in_ok-kept-in-Drop-clause-looks g t c = λ w few.
+    let is = (λ i. drop c.in-Drop.col c.in-Drop.by c.in-Drop.fill (c.deref-in-Drop.ensures i)) ∙ sym (ap lens_view c.in-Drop.is) ∙ c.lens.ensures.view in
+    subst (λ n. c.find_in-in-Drop.new.looked ≤ c.args.looked.now + n) (dropped_size c.args.lens.now c.deref-in-Drop.result.now c.in-Drop.col c.in-Drop.by c.in-Drop.fill w is)
+    (c.find_in-in-Drop.ensures.looks w (under_dropped c.args.lens.now c.deref-in-Drop.result.now c.in-Drop.col c.in-Drop.by c.in-Drop.fill c.args.query.now.tables.now.present c.args.query.now.cols.now w is c.lens.ensures.typed few))
+
+pub find_in-returns-in-Join-clause-looks : goal.find_in-returns-in-Join-clause-looks
+find_in-returns-in-Join-clause-looks g t c = λ w few.
+    let is = (λ i. join c.in-Join.kind (c.deref-in-Join.ensures i) (c.deref-in-Join-2.ensures i)) ∙ sym (ap lens_view c.in-Join.is) ∙ c.lens.ensures.view in
+    subst (λ L. c.find_joined.new.looked ≤ c.args.looked.now + size L w) is (c.find_joined.ensures.looks w (subst (λ L. FindsWithin L c.args.query.now.tables.now.present c.args.query.now.cols.now w) (sym is) few))
+
+pub find_renamed-returns-in_err-found-clause-looks : goal.find_renamed-returns-in_err-found-clause-looks
+find_renamed-returns-in_err-found-clause-looks g t c = λ w few.
+    let A = c.args.col.now in
+    let B = c.args.to.now in
+    let S = c.args.of.now in
+    let C = c.args.query.now.cols.now in
+    let cols = names_are B A C c.in_ok-cols.cols c.in_ok-cols.ensures in
+    subst (λ n. c.find_in.new.looked ≤ c.args.looked.now + n) (rename_size A B S c.requires.typed w)
+    (c.find_in.ensures.looks w (old_finds A B S c.requires.typed c.args.query.now.tables.now.present C c.in_ok-cols.cols w cols few))
+
+pub find_renamed-returns-in_err-names_of-clause-looks : goal.find_renamed-returns-in_err-names_of-clause-looks
+find_renamed-returns-in_err-names_of-clause-looks g t c = λ w few.
+    let A = c.args.col.now in
+    let B = c.args.to.now in
+    let S = c.args.of.now in
+    let C = c.args.query.now.cols.now in
+    let cols = names_are B A C c.in_ok-cols.cols c.in_ok-cols.ensures in
+    subst (λ n. c.find_in.new.looked ≤ c.args.looked.now + n) (rename_size A B S c.requires.typed w)
+    (c.find_in.ensures.looks w (old_finds A B S c.requires.typed c.args.query.now.tables.now.present C c.in_ok-cols.cols w cols few))
+
+pub find_renamed-returns-clause-looks : goal.find_renamed-returns-clause-looks
+find_renamed-returns-clause-looks g t c = λ w few.
+    let A = c.args.col.now in
+    let B = c.args.to.now in
+    let S = c.args.of.now in
+    let C = c.args.query.now.cols.now in
+    let cols = names_are B A C c.in_ok-cols.cols c.in_ok-cols.ensures in
+    subst (λ n. c.find_in.new.looked ≤ c.args.looked.now + n) (rename_size A B S c.requires.typed w)
+    (c.find_in.ensures.looks w (old_finds A B S c.requires.typed c.args.query.now.tables.now.present C c.in_ok-cols.cols w cols few))
+
+pub find_from_left-returns-in_err-found-clause-looks : goal.find_from_left-returns-in_err-found-clause-looks
+find_from_left-returns-in_err-found-clause-looks g t c = λ w few.
+    left_within c.args._kind c.args.left.now c.args.right.now w c.args.looked.now c.find_by_part.new.looked (c.find_by_part.ensures.looks w (left_part c.args._kind c.args.left.now c.args.right.now c.args.query.now.tables.now.present c.args.query.now.cols.now w c.requires.typed few c.requires.meets))
+
+pub find_from_left-returns-in_err-shared-clause-looks : goal.find_from_left-returns-in_err-shared-clause-looks
+find_from_left-returns-in_err-shared-clause-looks g t c = λ w few.
+    left_within c.args._kind c.args.left.now c.args.right.now w c.args.looked.now c.find_by_part.new.looked (c.find_by_part.ensures.looks w (left_part c.args._kind c.args.left.now c.args.right.now c.args.query.now.tables.now.present c.args.query.now.cols.now w c.requires.typed few c.requires.meets))
+
+pub find_from_left-returns-in_err-pairs-clause-looks : goal.find_from_left-returns-in_err-pairs-clause-looks
+find_from_left-returns-in_err-pairs-clause-looks g t c = λ w few.
+    let rows = left_few c.args._kind c.args.left.now c.args.right.now c.args.query.now.tables.now.present c.args.query.now.cols.now w c.requires.typed few c.args.query.now.key.now c.in_ok-found.found c.rows.result.now c.requires.meets c.in_ok-found.ensures.found c.rows.ensures in
+    left_first c.args._kind c.args.left.now c.args.right.now w (length c.rows.result.now) c.args.looked.now c.find_by_part.new.looked c.pair_each.new.looked rows
+    (c.find_by_part.ensures.looks w (left_part c.args._kind c.args.left.now c.args.right.now c.args.query.now.tables.now.present c.args.query.now.cols.now w c.requires.typed few c.requires.meets))
+    (c.pair_each.ensures.looks w (right_shared c.args._kind c.args.left.now c.args.right.now c.args.query.now.tables.now.present c.args.query.now.cols.now w c.requires.typed few c.in_ok-shared.shared c.in_ok-shared.ensures))
+
+pub find_from_left-returns-clause-looks : goal.find_from_left-returns-clause-looks
+find_from_left-returns-clause-looks g t c = λ w few.
+    let rows = left_few c.args._kind c.args.left.now c.args.right.now c.args.query.now.tables.now.present c.args.query.now.cols.now w c.requires.typed few c.args.query.now.key.now c.in_ok-found.found c.rows.result.now c.requires.meets c.in_ok-found.ensures.found c.rows.ensures in
+    left_first c.args._kind c.args.left.now c.args.right.now w (length c.rows.result.now) c.args.looked.now c.find_by_part.new.looked c.pair_each.new.looked rows
+    (c.find_by_part.ensures.looks w (left_part c.args._kind c.args.left.now c.args.right.now c.args.query.now.tables.now.present c.args.query.now.cols.now w c.requires.typed few c.requires.meets))
+    (c.pair_each.ensures.looks w (right_shared c.args._kind c.args.left.now c.args.right.now c.args.query.now.tables.now.present c.args.query.now.cols.now w c.requires.typed few c.in_ok-shared.shared c.in_ok-shared.ensures))
+
+pub find_from_right-returns-in_err-found-clause-looks : goal.find_from_right-returns-in_err-found-clause-looks
+find_from_right-returns-in_err-found-clause-looks g t c = λ w few.
+    right_within c.args._kind c.args.left.now c.args.right.now w c.args.looked.now c.find_by_part.new.looked (c.find_by_part.ensures.looks w (right_part c.args._kind c.args.left.now c.args.right.now c.args.query.now.tables.now.present c.args.query.now.cols.now w c.requires.typed few c.requires.meets))
+
+pub find_from_right-returns-in_err-shared-clause-looks : goal.find_from_right-returns-in_err-shared-clause-looks
+find_from_right-returns-in_err-shared-clause-looks g t c = λ w few.
+    right_within c.args._kind c.args.left.now c.args.right.now w c.args.looked.now c.find_by_part.new.looked (c.find_by_part.ensures.looks w (right_part c.args._kind c.args.left.now c.args.right.now c.args.query.now.tables.now.present c.args.query.now.cols.now w c.requires.typed few c.requires.meets))
+
+pub find_from_right-returns-in_err-pairs-clause-looks : goal.find_from_right-returns-in_err-pairs-clause-looks
+find_from_right-returns-in_err-pairs-clause-looks g t c = λ w few.
+    let rows = right_few c.args._kind c.args.left.now c.args.right.now c.args.query.now.tables.now.present c.args.query.now.cols.now w c.requires.typed few c.args.query.now.key.now c.in_ok-found.found c.rows.result.now c.requires.meets c.in_ok-found.ensures.found c.rows.ensures in
+    right_first c.args._kind c.args.left.now c.args.right.now w (length c.rows.result.now) c.args.looked.now c.find_by_part.new.looked c.pair_each.new.looked rows
+    (c.find_by_part.ensures.looks w (right_part c.args._kind c.args.left.now c.args.right.now c.args.query.now.tables.now.present c.args.query.now.cols.now w c.requires.typed few c.requires.meets))
+    (c.pair_each.ensures.looks w (left_shared c.args._kind c.args.left.now c.args.right.now c.args.query.now.tables.now.present c.args.query.now.cols.now w c.requires.typed few c.in_ok-shared.shared c.in_ok-shared.ensures))
+
+pub find_from_right-returns-clause-looks : goal.find_from_right-returns-clause-looks
+find_from_right-returns-clause-looks g t c = λ w few.
+    let rows = right_few c.args._kind c.args.left.now c.args.right.now c.args.query.now.tables.now.present c.args.query.now.cols.now w c.requires.typed few c.args.query.now.key.now c.in_ok-found.found c.rows.result.now c.requires.meets c.in_ok-found.ensures.found c.rows.ensures in
+    right_first c.args._kind c.args.left.now c.args.right.now w (length c.rows.result.now) c.args.looked.now c.find_by_part.new.looked c.pair_each.new.looked rows
+    (c.find_by_part.ensures.looks w (right_part c.args._kind c.args.left.now c.args.right.now c.args.query.now.tables.now.present c.args.query.now.cols.now w c.requires.typed few c.requires.meets))
+    (c.pair_each.ensures.looks w (left_shared c.args._kind c.args.left.now c.args.right.now c.args.query.now.tables.now.present c.args.query.now.cols.now w c.requires.typed few c.in_ok-shared.shared c.in_ok-shared.ensures))
+
+pub find_by_part-returns-then-shows_all-clause-looks : goal.find_by_part-returns-then-shows_all-clause-looks
+find_by_part-returns-then-shows_all-clause-looks g t c = λ w few.
+    let whole = whole_part c.args.query.now.cols.now (view_names c.args.side.now) (sym c.shows_all.ensures ∙ c.if-shows_all.true) in
+    c.find_in.ensures.looks w (subst (λ P. FindsWithin c.args.side.now c.args.query.now.tables.now.present P w) whole few)
+
+pub find_by_part-returns-clause-looks : goal.find_by_part-returns-clause-looks
+find_by_part-returns-clause-looks g t c = λ w few.
+    let part = c.in_ok-part.ensures ∙ ap (set.intersection c.args.query.now.cols.now) c.in_ok-names_of.ensures in
+    c.find_in-2.ensures.looks w (subst (λ P. FindsWithin c.args.side.now c.args.query.now.tables.now.present P w) (sym part) few)
+
+pub pair_each-returns-in_err-partners-clause-looks : goal.pair_each-returns-in_err-partners-clause-looks
+pair_each-returns-in_err-partners-clause-looks g t c = λ w few.
+    one_more (size c.args.other.now w) c.loop-row.row-index (length c.args.rows.now) c.args.looked.now c.loop-row.looked c.partners_of.new.looked c.loop-row-test.true (c.loop-row.invariant.2 w few) (c.partners_of.ensures.looks w few)
+
+pub pair_each-returns-in_err-add_pairs-clause-looks : goal.pair_each-returns-in_err-add_pairs-clause-looks
+pair_each-returns-in_err-add_pairs-clause-looks g t c = λ w few.
+    one_more (size c.args.other.now w) c.loop-row.row-index (length c.args.rows.now) c.args.looked.now c.loop-row.looked c.partners_of.new.looked c.loop-row-test.true (c.loop-row.invariant.2 w few) (c.partners_of.ensures.looks w few)
+
+pub pair_each-returns-clause-looks : goal.pair_each-returns-clause-looks
+pair_each-returns-clause-looks g t c = λ w few.
+    at_end (size c.args.other.now w) c.loop-row.row-index (length c.args.rows.now) c.args.looked.now c.loop-row.looked c.loop-row.auto.row-index-end (c.loop-row.invariant.2 w few)

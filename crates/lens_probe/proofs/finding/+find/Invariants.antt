@@ -1,12 +1,16 @@
-use Rattle.std.proofs.Common.{◌≡◌, ◌+◌, ◌*◌, take}
+use Rattle.std.proofs.Common.{◌≡◌, ◌≤◌, ◌+◌, ◌*◌, ℕ, take}
 use Rattle.std.specs.Prelude.{IfSome}
 use Rattle.lens_specs.specs.Lens.{get, nodes_of}
-use Rattle.lens_probe.specs.Looking.{ArePartners, pairs_of}
+use Rattle.lens_laws.specs.Work.{size}
+use Rattle.lens_probe.specs.Looking.{ArePartners, FindsWithin, pairs_of}
 use Rattle.lens_probe.proofs.finding.+find.Given as goal
 
 -- the nodes of the lens, and how far the call is from a look at the lens itself
 abbrev pub decreases-find_in : goal.decreases-find_in
 decreases-find_in g l = 5 * nodes_of l.lens.now
+
+abbrev pub decreases-find_renamed : goal.decreases-find_renamed
+decreases-find_renamed g l = 5 * nodes_of l.of.now + 1
 
 abbrev pub decreases-find_joined : goal.decreases-find_joined
 decreases-find_joined g l = 5 * (nodes_of l.left.now + nodes_of l.right.now) + 4
@@ -31,3 +35,4 @@ invariant-pair_each-loop-row g l =
     let N = get l.other l.query.tables.now.present.relations in
     (l.pairs.items ≡ pairs_of l.are_left l.shared l.query.cols.now l.query.key.now N (take l.row-index l.rows))
     × IfSome l.last (ArePartners l.shared N)
+    × ((w : ℕ) → FindsWithin l.other l.query.tables.now.present l.shared w → l.looked ≤ l.initial.looked + size l.other w * l.row-index)

@@ -1,9 +1,10 @@
-use Rattle.std.proofs.Common.{◌≡◌, ◌∙◌, ap, arith, rules, subst, sym, true}
-use Rattle.std.specs.Prelude.{IfOk}
+use Rattle.std.proofs.Common.{◌≡◌, ◌∙◌, ap, arith, map, rules, subst, sym, true}
+use Rattle.std.specs.Prelude.{Contains, IfOk}
 use Rattle.std.proofs.lemmas.Result.{IfOk-weaker}
 use Rattle.lens_values.specs.SortedSet as set
-use Rattle.lens_specs.specs.Lens.{base, drop, get, join, nodes_of, select, view_names}
+use Rattle.lens_specs.specs.Lens.{base, drop, get, join, nodes_of, rename, select, view_names}
 use Rattle.lens_specs.specs.Predicate.{mentioned}
+use Rattle.lens_specs.specs.Rename.{renamed_row}
 use Rattle.fd_laws.proofs.Rows.{row_exact, row_total}
 use Rattle.lens_laws.specs.Lenses.{AreOf, IsTyped}
 use Rattle.lens_types.specs.Lenses.{lens_view}
@@ -11,6 +12,7 @@ use Rattle.row_sets.specs.Joins.{pairs_on}
 use Rattle.lens_probe.specs.Reading.{rows_for}
 use Rattle.lens_probe.proofs.Found.{rows_shown}
 use Rattle.lens_probe.proofs.Listed.{dropped_listed, joined_listed, mentions_shown, rows_for_shown, selected_before, selected_join, selected_listed, shown_before}
+use Rattle.lens_probe.proofs.RenamedViews.{free_in, listed_over, renamed_listed}
 use Rattle.lens_probe.proofs.reading.+rows.Goals as goal
 
 -- ---- a table
@@ -42,6 +44,35 @@ rows_in-returns-in_ok-rows-in-Drop-clause-value g t c =
     ∙ dropped_listed L c.in-Drop.of.value c.in-Drop.col c.in-Drop.by c.in-Drop.fill db c.in_ok-rows-in-Drop.rows.items is source)
     c.shown_parts.ensures
 
+-- ---- a rename
+
+pub rows_in-rename_rows-requires-clause-over : goal.rows_in-rename_rows-requires-clause-over
+rows_in-rename_rows-requires-clause-over g t c =
+    let L = c.args.lens.now in
+    let db = c.args.tables.now.present.relations in
+    let S = c.in-Rename.of.value in
+    let is : rename c.in-Rename.col c.in-Rename.to S ≡ L = sym (ap lens_view c.in-Rename.is) ∙ c.lens.ensures.view in
+    let source = c.in_ok-rows-in-Rename.ensures.value ∙ ap (λ K. get K db) c.deref-in-Rename.ensures in
+    λ row i. listed_over L S c.in-Rename.col c.in-Rename.to is c.lens.ensures.typed db c.in_ok-names_of-in-Rename.field-0 c.in_ok-rows-in-Rename.rows.items c.requires
+    (c.in_ok-names_of-in-Rename.ensures ∙ ap view_names c.deref-in-Rename-3.ensures) source row (subst (λ rows. Contains rows row) c.deref-in-Rename-2.ensures.value i)
+
+pub rows_in-rename_rows-requires-clause-free : goal.rows_in-rename_rows-requires-clause-free
+rows_in-rename_rows-requires-clause-free g t c =
+    let is = sym (ap lens_view c.in-Rename.is) ∙ c.lens.ensures.view in
+    free_in c.args.lens.now c.in-Rename.of.value c.in-Rename.col c.in-Rename.to is c.lens.ensures.typed c.in_ok-names_of-in-Rename.field-0 (c.in_ok-names_of-in-Rename.ensures ∙ ap view_names c.deref-in-Rename-3.ensures)
+
+pub rows_in-returns-in_ok-names_of-in-Rename-clause-value : goal.rows_in-returns-in_ok-names_of-in-Rename-clause-value
+rows_in-returns-in_ok-names_of-in-Rename-clause-value g t c =
+    let L = c.args.lens.now in
+    let db = c.args.tables.now.present.relations in
+    let S = c.in-Rename.of.value in
+    let is : rename c.in-Rename.col c.in-Rename.to S ≡ L = sym (ap lens_view c.in-Rename.is) ∙ c.lens.ensures.view in
+    let source = c.in_ok-rows-in-Rename.ensures.value ∙ ap (λ K. get K db) c.deref-in-Rename.ensures in
+    IfOk-weaker c.rename_rows-in-Rename.result _ _
+    (λ rows made. ap set.from_list (made ∙ ap (map (renamed_row c.in-Rename.col c.in-Rename.to)) c.deref-in-Rename-2.ensures.value)
+    ∙ renamed_listed L S c.in-Rename.col c.in-Rename.to db c.in_ok-rows-in-Rename.rows.items is source)
+    c.rename_rows-in-Rename.ensures
+
 -- ---- a join
 
 pub rows_in-returns-in_ok-right_rows-in-Join-clause-value : goal.rows_in-returns-in_ok-right_rows-in-Join-clause-value
@@ -52,12 +83,12 @@ rows_in-returns-in_ok-right_rows-in-Join-clause-value g t c =
     let B = c.in-Join.right.value in
     let M = c.in_ok-left_rows-in-Join.left_rows in
     let N = c.in_ok-right_rows-in-Join.right_rows in
-    let is : join A B ≡ L = sym (ap lens_view c.in-Join.is) ∙ c.lens.ensures.view in
+    let is : join c.in-Join.kind A B ≡ L = sym (ap lens_view c.in-Join.is) ∙ c.lens.ensures.view in
     let left = c.in_ok-left_rows-in-Join.ensures.value ∙ ap (λ K. get K db) c.deref-in-Join.ensures in
     let right = c.in_ok-right_rows-in-Join.ensures.value ∙ ap (λ K. get K db) c.deref-in-Join-2.ensures in
     IfOk-weaker c.joined.result _ _
     (λ rows paired.
-    joined_listed L A B db rows.items M N is (subst IsTyped (sym is) c.lens.ensures.typed) (subst (λ K. AreOf K db) (sym is) c.requires) left right
+    joined_listed c.in-Join.kind L A B db rows.items M N is (subst IsTyped (sym is) c.lens.ensures.typed) (subst (λ K. AreOf K db) (sym is) c.requires) left right
     (paired ∙ (λ i. pairs_on (set.intersection (view_names (c.deref-in-Join-3.ensures i)) (view_names (c.deref-in-Join-4.ensures i))) M N)))
     c.joined.ensures
 
@@ -94,12 +125,12 @@ selected_in-returns-in_ok-pairs-in-Join-clause-value g t c =
     let B = c.in-Join.right.value in
     let M = c.in_ok-left_rows-in-Join.left_rows in
     let N = c.in_ok-right_rows-in-Join.right_rows in
-    let is : join A B ≡ L = sym (ap lens_view c.in-Join.is) ∙ c.lens.ensures.view in
+    let is : join c.in-Join.kind A B ≡ L = sym (ap lens_view c.in-Join.is) ∙ c.lens.ensures.view in
     let left = c.in_ok-left_rows-in-Join.ensures.value ∙ ap (λ K. rows_for P K db) c.deref-in-Join.ensures in
     let right = c.in_ok-right_rows-in-Join.ensures.value ∙ ap (λ K. rows_for P K db) c.deref-in-Join-2.ensures in
     let paired = c.in_ok-pairs-in-Join.ensures ∙ (λ i. pairs_on (set.intersection (view_names (c.deref-in-Join-3.ensures i)) (view_names (c.deref-in-Join-4.ensures i))) M N) in
     ap set.from_list c.selected.ensures
-    ∙ selected_join P L A B db c.in_ok-pairs-in-Join.pairs.items M N is (subst IsTyped (sym is) c.lens.ensures.typed) (subst (λ K. AreOf K db) (sym is) c.requires.tables) left right paired
+    ∙ selected_join c.in-Join.kind P L A B db c.in_ok-pairs-in-Join.pairs.items M N is (subst IsTyped (sym is) c.lens.ensures.typed) (subst (λ K. AreOf K db) (sym is) c.requires.tables) left right paired
 
 pub selected_in-returns-in_ok-rows_in-in-Base-clause-value : goal.selected_in-returns-in_ok-rows_in-in-Base-clause-value
 selected_in-returns-in_ok-rows_in-in-Base-clause-value g t c =

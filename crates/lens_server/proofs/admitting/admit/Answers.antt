@@ -36,3 +36,4 @@ returns-clause-empty g c =
     let quiet : IsQuiet c.settle.new.self = ap (λ t. t.next) c.settle.ensures ∙ sym (ap (λ t. t.present) c.settle.ensures) in
     empty_after old _ p c.requires.empty says.1 (subst (λ t. length t < 2 ^ 64) (sym says.0) c.is_short.ensures)
     (c.admit.ensures.texts ∙ ap (λ ts. ts ++ p.text ∷ []) c.prepare.ensures.texts) tables quiet
+    (ap (λ t. t.held) c.settle.ensures ∙ ap (λ t. t.held) c.in_ok-stage_definition.ensures.ok)

@@ -1,8 +1,8 @@
-use Rattle.std.proofs.Common.{◌≤◌, Ok, arith, subst, sym}
+use Rattle.std.proofs.Common.{◌≤◌, ◌+◌, Ok, arith, subst, sym}
 use Rattle.request_text.specs.Requests.{request_view}
 use Rattle.server_specs.specs.Changing.{edited, whole}
 use Rattle.lens_server.proofs.Counted.{change_texts, change_walks, definition_walks}
-use Rattle.lens_server.specs.Counting.{Walks, most_walked, row_count}
+use Rattle.lens_server.specs.Counting.{Walks, most_looked, most_walked, row_count}
 use Rattle.lens_server.specs.States.{state_of}
 use Rattle.lens_server.proofs.answering.plan_request.Goals as goal
 
@@ -26,4 +26,12 @@ pub returns-in-Edit-clause-walked : goal.returns-in-Edit-clause-walked
 returns-in-Edit-clause-walked g c =
     let store = c.args.store.now in
     subst (λ r. Walks c.plan_edit.result store c.args.walked.now c.args.walked.now (most_walked (Ok (request_view r)) (state_of store))) (sym c.in-Edit.is)
-    (change_walks c.plan_edit.result _ store c.args.walked.now c.args.walked.now 0 c.plan_edit.ensures (change_texts (edited c.in-Edit.remove c.in-Edit.add) c.in-Edit.on c.in-Edit.view (state_of store)) (omega arith))
+    (change_walks c.plan_edit.result _ store c.args.walked.now c.args.walked.now 0 c.plan_edit.ensures.plan (change_texts (edited c.in-Edit.remove c.in-Edit.add) c.in-Edit.on c.in-Edit.view (state_of store)) (omega arith))
+
+pub returns-in-Put-clause-looked : goal.returns-in-Put-clause-looked
+returns-in-Put-clause-looked g c =
+    subst (λ r. c.plan_put.new.looked ≤ c.args.looked.now + most_looked (Ok (request_view r)) (state_of c.args.store.now)) (sym c.in-Put.is) c.plan_put.ensures.looked
+
+pub returns-in-Edit-clause-looked : goal.returns-in-Edit-clause-looked
+returns-in-Edit-clause-looked g c =
+    subst (λ r. c.plan_edit.new.looked ≤ c.args.looked.now + most_looked (Ok (request_view r)) (state_of c.args.store.now)) (sym c.in-Edit.is) c.plan_edit.ensures.looked

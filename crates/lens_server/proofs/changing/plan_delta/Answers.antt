@@ -11,8 +11,8 @@ use Rattle.lens_server.specs.States.{state_of}
 use Rattle.lens_server.proofs.Changed.{put_planned, told_some}
 use Rattle.lens_server.proofs.changing.plan_delta.Goals as goal
 
-pub returns : goal.returns
-returns g c =
+pub returns-clause-plan : goal.returns-clause-plan
+returns-clause-plan g c =
     let store = c.args.store.now in let s = state_of store in let L = c.args.view.now.lens in let d = c.args.delta.now in
     let N = edited L s.tables d in
     let deltas = c.in_ok-deltas.deltas.items in

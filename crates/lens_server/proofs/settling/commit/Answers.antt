@@ -26,7 +26,8 @@ returns-in-Ok-clause-keyed g c =
     let made = c.make.ensures.tables in
     let present : c.make.new.store.tables.present ≡ next_state staged.change staged.definition store.tables.present = ap (λ t. t.present) made ∙ ap (λ t. t.next) c.in_ok-stage.ensures.ok in
     let quiet : IsQuiet c.make.new.store.tables = ap (λ t. t.next) made ∙ sym (ap (λ t. t.present) made) in
-    keyed_after staged store c.make.new.store c.requires.ready.valid c.requires.ready.keyed c.requires.staged c.make.ensures.catalog quiet present
+    let held : c.make.new.store.tables.held ≡ store.tables.held = ap (λ t. t.held) made ∙ ap (λ t. t.held) c.in_ok-stage.ensures.ok in
+    keyed_after staged store c.make.new.store c.requires.ready.valid c.requires.ready.keyed c.requires.staged c.make.ensures.catalog quiet held present
 
 pub returns-in-Err-clause-outcome : goal.returns-in-Err-clause-outcome
 returns-in-Err-clause-outcome g c =

@@ -7,6 +7,7 @@ use Rattle.lens_types.specs.Faults.{fault_view}
 use Rattle.lens_types.specs.Joins.{joined_columns, sides_fault}
 use Rattle.lens_types.specs.Sorts.{natural_join, sort_from}
 use Rattle.lens_types.proofs.Joins.{join_is_sound, join_taken, sides_refused, size_refused}
+use Rattle.lens_types.proofs.SmallSorts.{join_small}
 use Rattle.lens_types.proofs.joining.joined_parts.Goals as goal
 use Rattle.lens_types.proofs.joining.joined_parts.Goals.{After-size_fault}
 
@@ -48,3 +49,8 @@ pub returns-in-None-clause-sound : goal.returns-in-None-clause-sound
 returns-in-None-clause-sound c =
     join_is_sound c.args.nodes c.args.left.now c.args.right.now _ c.args.twice c.cols.ensures.sound c.cols-2.ensures.sound
     (taken (goal.at.returns-in-None-clause-sound c).After-size_fault (c.in-None.ensures c.in_ok-tree.tree))
+
+pub returns-in-None-clause-small : goal.returns-in-None-clause-small
+returns-in-None-clause-small c =
+    join_small c.args.nodes c.args.left.now c.args.right.now (sort_from c.in_ok-cols.cols c.in_ok-pred.pred c.in_ok-tree.tree) c.args.twice
+    (taken (goal.at.returns-in-None-clause-small c).After-size_fault (c.in-None.ensures c.in_ok-tree.tree))

@@ -16,7 +16,7 @@ loop-column-preserved c =
     adds_same _
     (ap (λ name. (begin_object ∷ pairs_tokens kind_data (take c.loop-column.column-index c.pairs-column-items.result.now)) ++ key name ∷ data_tokens (kind_data c.column-item.result.1)) c.as_str.ensures
     ∙ ap (λ ts. begin_object ∷ ts) (sym (pairs_more kind_data c.pairs-column-items.result.now c.loop-column.column-index c.column-item.result c.loop-column-test.true c.column-item.is)))
-    (follow c.loop-column.invariant (text_same c.kind_word.ensures c.in_ok-print_text.ensures))
+    (follow c.loop-column.invariant (text_same c.kind_text.ensures c.in_ok-print_text.ensures))
 
 pub returns : goal.returns
 returns c =

@@ -3,7 +3,8 @@ use Rattle.lens_values.specs.SortedSet as set
 use Rattle.lens_specs.specs.Relation.{has, minus, those}
 use Rattle.fd_laws.proofs.Relations.{from_minus}
 use Rattle.signed_delta.specs.Disjoint.{AreApart}
-use Rattle.signed_delta.proofs.Counts.{both_counted, minus_len}
+use Rattle.lens_laws.specs.Work.{count_of, rows_of}
+use Rattle.signed_delta.proofs.Counts.{both_counted, minus_len, those_len}
 use Rattle.signed_delta.proofs.Looks.{answered_apart, answered_is}
 use Rattle.signed_delta.proofs.delta.of_touched.Goals as goal
 
@@ -28,6 +29,14 @@ returns g c =
           let fewer = minus_len c.args.remove.now c.args.add.now in
           both_counted n (length (set.items c.in_ok-rest.rest)) (length (set.items c.args.remove.now)) (length (set.items c.args.add.now)) c.args.looked.now c.present.new.looked c.absent.new.looked
           (omega (arith, rest, fewer)) (c.present.ensures.looks n w) (c.absent.ensures.looks n w);
+      few =
+          let gone_few = those_len (has V) (minus c.args.remove.now c.args.add.now) in
+          let rest_few = minus_len c.args.remove.now c.args.add.now in
+          let new_few = minus_len c.args.add.now V in
+          let are = ap rows_of c.new.ensures in
+          let gone_is = ap count_of gone in
+          let new_is = ap count_of c.in_ok-new.ensures.rows in
+          omega (arith, gone_few, rest_few, new_few, are, gone_is, new_is);
     }
 
 pub returns-in_err-gone-clause-looks : goal.returns-in_err-gone-clause-looks

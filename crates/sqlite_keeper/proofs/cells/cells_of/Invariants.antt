@@ -1,9 +1,9 @@
-use Rattle.std.proofs.Common.{◌≡◌, take}
+use Rattle.std.proofs.Common.{◌≡◌, length}
 use Rattle.std.specs.Prelude.{map}
 use Rattle.sqlite_value.specs.Value.{owned}
-use Rattle.sqlite_keeper.specs.Cells.{cell_of}
+use Rattle.sqlite_keeper.proofs.CellsListed.{cells_to}
 use Rattle.sqlite_keeper.proofs.cells.cells_of.Given as goal
 
--- the values so far stand in their order
-abbrev pub invariant-loop-value : goal.invariant-loop-value
-invariant-loop-value l = map owned l.cells.items ≡ map cell_of (take l.value-index l.values)
+-- what stands for the values so far, in their order
+abbrev pub invariant-loop-column : goal.invariant-loop-column
+invariant-loop-column l = map owned l.cells.items ≡ cells_to l.columns l.values (length l.yielded)

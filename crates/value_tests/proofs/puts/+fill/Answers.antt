@@ -1,7 +1,7 @@
 use Rattle.std.proofs.Common.{◌≡◌, ◌∙◌, ap, subst, sym}
 use Rattle.std.proofs.lemmas.Result.{IfOk-at_ok}
 use Rattle.std.specs.FinMap as map
-use Rattle.lens_specs.specs.Lens.{base, drop, join, select, tables_of}
+use Rattle.lens_specs.specs.Lens.{base, drop, join, rename, select, tables_of}
 use Rattle.lens_laws.specs.Lenses.{IsTyped}
 use Rattle.lens_types.specs.Lenses.{lens_view}
 use Rattle.value_tests.specs.Filled.{Fills}
@@ -32,14 +32,22 @@ returns-in-Drop g t c =
     let is : drop c.in-Drop.col c.in-Drop.by c.in-Drop.fill c.in-Drop.of.value ≡ c.args.lens.now = sym (ap lens_view c.in-Drop.is) ∙ c.lens.ensures.view in
     subst (λ L. Fills L old new) is (subst (λ L. Fills L old new) c.deref-in-Drop.ensures c.fill-in-Drop.ensures)
 
+pub returns-in-Rename : goal.returns-in-Rename
+unfolding tables_of
+returns-in-Rename g t c =
+    let old = c.args.db.now in
+    let new = c.fill-in-Rename.new.db in
+    let is : rename c.in-Rename.col c.in-Rename.to c.in-Rename.of.value ≡ c.args.lens.now = sym (ap lens_view c.in-Rename.is) ∙ c.lens.ensures.view in
+    subst (λ L. Fills L old new) is (subst (λ L. Fills L old new) c.deref-in-Rename.ensures c.fill-in-Rename.ensures)
+
 pub returns-in-Join : goal.returns-in-Join
 returns-in-Join g t c =
     let A = c.in-Join.left.value in
     let B = c.in-Join.right.value in
-    let is : join A B ≡ c.args.lens.now = sym (ap lens_view c.in-Join.is) ∙ c.lens.ensures.view in
+    let is : join c.in-Join.kind A B ≡ c.args.lens.now = sym (ap lens_view c.in-Join.is) ∙ c.lens.ensures.view in
     let old = c.args.db.now in
     let mid = c.fill-in-Join.new.db in
     let new = c.fill-in-Join-2.new.db in
     let left = subst (λ L. Fills L old mid) c.deref-in-Join.ensures c.fill-in-Join.ensures in
     let right = subst (λ L. Fills L mid new) c.deref-in-Join-2.ensures c.fill-in-Join-2.ensures in
-    subst (λ L. Fills L old new) is (join_filled A B old mid new (subst IsTyped (sym is) c.lens.ensures.typed) left right)
+    subst (λ L. Fills L old new) is (join_filled c.in-Join.kind A B old mid new (subst IsTyped (sym is) c.lens.ensures.typed) left right)

@@ -69,7 +69,7 @@ impl Exprs {
         ensures { IfOk result (λ goes. then_some goes (exprs_view self.new)
             ≡ expr.step_spot (holes_view self.old.outer.items) (expr.at_fill col by.items) (token_view token.now)) }
     {
-        let Some(fill) = token.literal(alloc)? else {
+        let Some(fill) = token.fill(alloc)? else {
             return Ok(false);
         };
         self.go_to(Spot::AtKeysEnd { col, by, fill });

@@ -11,7 +11,7 @@ ghost use Rattle.view_lang.specs.ExprsViews.{hole_view, holes_view, spot_view, e
 use crate::expr::Expr;
 use crate::parsing::expressions::{Exprs, Hole, Spot};
 use crate::parsing::token::Token;
-use lens_values::{Name, Names, NoMemory, Value};
+use lens_values::{JoinKind, Name, Names, NoMemory, Value};
 use std::alloc::Global;
 
 /// Makes an expression that drops a column.
@@ -24,13 +24,22 @@ fn drop_of(alloc: Global, col: Name, by: Vec<Name>, fill: Value, of: Expr) -> Re
     Ok(Expr::Drop { col, by, fill, of })
 }
 
+/// Makes an expression that renames a column.
+fn rename_of(alloc: Global, col: Name, to: Name, of: Expr) -> Result<Expr, NoMemory>
+    ensures { IfOk result (λ e. expr_view e ≡ meaning.rename col to (expr_view of)) }
+{
+    let of = Box::new(alloc, of)?;
+    Ok(Expr::Rename { col, to, of })
+}
+
 /// Makes a join.
-fn join_of(alloc: Global, left: Expr, right: Expr) -> Result<Expr, NoMemory>
-    ensures { IfOk result (λ e. expr_view e ≡ meaning.join (expr_view left) (expr_view right)) }
+fn join_of(alloc: Global, kind: JoinKind, left: Expr, right: Expr) -> Result<Expr, NoMemory>
+    ensures { IfOk result (λ e.
+        expr_view e ≡ meaning.join kind (expr_view left) (expr_view right)) }
 {
     let left = Box::new(alloc, left)?;
     let right = Box::new(alloc, right)?;
-    Ok(Expr::Join { left, right })
+    Ok(Expr::Join { kind, left, right })
 }
 
 /// The place after this operand.
@@ -44,9 +53,16 @@ fn filled(alloc: Global, hole: Hole, operand: Expr) -> Result<Spot, NoMemory>
             let read = drop_of(alloc, col, by, fill, operand)?;
             Ok(Spot::BehindExpr { read })
         }
-        Hole::LeftOfJoin => Ok(Spot::AtWith { left: operand }),
-        Hole::RightOfJoin { left } => {
-            let read = join_of(alloc, left, operand)?;
+        Hole::OfRename { col, to } => {
+            let read = rename_of(alloc, col, to, operand)?;
+            Ok(Spot::BehindExpr { read })
+        }
+        Hole::LeftOfJoin { kind } => Ok(Spot::AtWith {
+            kind,
+            left: operand,
+        }),
+        Hole::RightOfJoin { kind, left } => {
+            let read = join_of(alloc, kind, left, operand)?;
             Ok(Spot::BehindExpr { read })
         }
     }
@@ -71,8 +87,16 @@ impl Exprs {
             self.go_to(Spot::AtDropped);
             return true;
         }
-        let hole = Hole::LeftOfJoin;
-        self.on_word("join_dl", Spot::AtOperand { hole }, token)
+        if token.is_keyword("rename") {
+            self.go_to(Spot::AtRenamed);
+            return true;
+        }
+        let Some(kind) = token.join_kind() else {
+            return false;
+        };
+        let hole = Hole::LeftOfJoin { kind };
+        self.go_to(Spot::AtOperand { hole });
+        true
     }
 
     /// Reads the "from" of a selection.
@@ -85,12 +109,12 @@ impl Exprs {
     }
 
     /// Reads the "with" of a join.
-    pub fn at_with(&mut self, left: Expr, token: &Token) -> bool
+    pub fn at_with(&mut self, kind: JoinKind, left: Expr, token: &Token) -> bool
         ensures { then_some result (exprs_view self.new)
-            ≡ expr.step_spot (holes_view self.old.outer.items) (expr.at_with (expr_view left))
+            ≡ expr.step_spot (holes_view self.old.outer.items) (expr.at_with kind (expr_view left))
             (token_view token.now) }
     {
-        let hole = Hole::RightOfJoin { left };
+        let hole = Hole::RightOfJoin { kind, left };
         self.on_word("with", Spot::AtOperand { hole }, token)
     }
 

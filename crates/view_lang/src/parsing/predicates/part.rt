@@ -56,7 +56,7 @@ impl Preds {
         Ok(false)
     }
 
-    /// Reads the operator or the "in" that follows a column.
+    /// Reads the operator, the "in" or the "is" that follows a column.
     pub fn behind_name(&mut self, col: Name, token: &Token) -> bool
         ensures { then_some result (preds_view self.new)
             ≡ pred.behind_name (opens_view self.old.outer.items) (open_view self.old.level) col
@@ -70,7 +70,24 @@ impl Preds {
             self.place = Place::InOpen { col };
             return true;
         }
+        if token.is_keyword("is") {
+            self.place = Place::AtNull { col };
+            return true;
+        }
         false
+    }
+
+    /// Reads the "null" that follows "is".
+    pub fn at_null(&mut self, alloc: Global, col: Name, token: &Token) -> Result<bool, NoMemory>
+        ensures { IfOk result (λ goes. then_some goes (preds_view self.new)
+            ≡ pred.step_inside (opens_view self.old.outer.items) (open_view self.old.level)
+            (pred.at_null col) (token_view token.now)) }
+    {
+        if !token.is_keyword("null") {
+            return Ok(false);
+        }
+        self.add(alloc, Formula::IsNull { col })?;
+        Ok(true)
     }
 
     /// Reads the right side of a comparison.

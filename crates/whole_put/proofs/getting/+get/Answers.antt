@@ -1,13 +1,16 @@
 use Rattle.std.proofs.Common.{◌≡◌, ◌∙◌, ℕ, ap, subst, sym}
 use Rattle.std.specs.Prelude.{IfOk}
-use Rattle.lens_specs.specs.Lens.{base, select, drop, join, view}
+use Rattle.lens_specs.specs.Lens.{base, select, drop, rename, join, view}
+use Rattle.lens_values.specs.SortedSet as set
+use Rattle.lens_specs.specs.Columns.{names}
+use Rattle.lens_specs.specs.Relation.{Relation}
 use Rattle.lens_laws.specs.Lenses.{IsTyped}
 use Rattle.lens_types.specs.Lenses.{lens_view}
 use Rattle.whole_put.proofs.JoinedLenses.{shown_alike, shown_joined}
 use Rattle.lens_laws.proofs.Lenses.{shown_is_of_sort}
-use Rattle.whole_put.proofs.Lenses.{shown_dropped, shown_selected, shown_table}
+use Rattle.whole_put.proofs.Lenses.{shown_dropped, shown_renamed, shown_selected, shown_table}
 use Rattle.whole_put.proofs.getting.+get.Goals as goal
-use Rattle.whole_put.proofs.getting.+get.Goals.{After-drop-branch-in-Drop-2, After-drop-branch-in-Select, In_ok-right_source-in-Join, After-get_join}
+use Rattle.whole_put.proofs.getting.+get.Goals.{After-drop-branch-in-Drop-2, After-drop-branch-in-Select, In_ok-get-in-Rename, In_ok-right_source-in-Join, After-get_join}
 
 pub returns-in-Base-clause-value : goal.returns-in-Base-clause-value
 returns-in-Base-clause-value t c =
@@ -48,9 +51,36 @@ pub returns-in_ok-get-in-Drop-clause-sort : goal.returns-in_ok-get-in-Drop-claus
 returns-in_ok-get-in-Drop-clause-sort t c =
     shown_is_of_sort c.get_drop-in-Drop.result c.args.lens.now c.args.db.now c.lens.ensures.typed c.requires (dropped t c)
 
+-- ---- a rename
+
+is_rename : (t : ℕ) (c : In_ok-get-in-Rename t) → rename c.in-Rename.col c.in-Rename.to c.in-Rename.of.value ≡ c.args.lens.now
+is_rename t c = sym (ap lens_view c.in-Rename.is) ∙ c.lens.ensures.view
+
+source_shown : (t : ℕ) (c : In_ok-get-in-Rename t) → c.in_ok-get-in-Rename.field-0 ≡ view c.in-Rename.of.value c.args.db.now
+source_shown t c = c.in_ok-get-in-Rename.ensures.value ∙ ap (λ C. view C c.args.db.now) c.deref-in-Rename.ensures
+
+pub get_rename-requires : goal.get_rename-requires
+get_rename-requires t c =
+    let d = (goal.at.get_rename-requires t c).In_ok-get-in-Rename in
+    let typed = subst IsTyped (sym (is_rename t d)) c.lens.ensures.typed in
+    ap (λ (M : Relation). set.contains (names M.columns) c.in-Rename.to) (source_shown t d) ∙ typed.1.free
+
+pub returns-in_ok-get-in-Rename-clause-value : goal.returns-in_ok-get-in-Rename-clause-value
+returns-in_ok-get-in-Rename-clause-value t c =
+    let d = (goal.at.returns-in_ok-get-in-Rename-clause-value t c).In_ok-get-in-Rename in
+    let same = shown_renamed c.args.lens.now c.in-Rename.of.value c.in-Rename.col c.in-Rename.to c.args.db.now c.in_ok-get-in-Rename.field-0 (is_rename t d) (source_shown t d) in
+    subst (λ u. IfOk c.get_rename-in-Rename.result (λ shown. shown ≡ u)) same c.get_rename-in-Rename.ensures
+
+pub returns-in_ok-get-in-Rename-clause-sort : goal.returns-in_ok-get-in-Rename-clause-sort
+returns-in_ok-get-in-Rename-clause-sort t c =
+    let d = (goal.at.returns-in_ok-get-in-Rename-clause-sort t c).In_ok-get-in-Rename in
+    let same = shown_renamed c.args.lens.now c.in-Rename.of.value c.in-Rename.col c.in-Rename.to c.args.db.now c.in_ok-get-in-Rename.field-0 (is_rename t d) (source_shown t d) in
+    shown_is_of_sort c.get_rename-in-Rename.result c.args.lens.now c.args.db.now c.lens.ensures.typed c.requires
+    (subst (λ u. IfOk c.get_rename-in-Rename.result (λ shown. shown ≡ u)) same c.get_rename-in-Rename.ensures)
+
 -- ---- a join
 
-is_join : (t : ℕ) (c : In_ok-right_source-in-Join t) → join c.in-Join.left.value c.in-Join.right.value ≡ c.args.lens.now
+is_join : (t : ℕ) (c : In_ok-right_source-in-Join t) → join c.in-Join.kind c.in-Join.left.value c.in-Join.right.value ≡ c.args.lens.now
 is_join t c = sym (ap lens_view c.in-Join.is) ∙ c.lens.ensures.view
 
 left_shown : (t : ℕ) (c : In_ok-right_source-in-Join t) → c.in_ok-left_source-in-Join.left_source ≡ view c.in-Join.left.value c.args.db.now
@@ -63,13 +93,13 @@ pub get_join-requires : goal.get_join-requires
 get_join-requires t c =
     let d = (goal.at.get_join-requires t c).In_ok-right_source-in-Join in
     let typed = subst IsTyped (sym (is_join t d)) c.lens.ensures.typed in
-    shown_alike c.in-Join.left.value c.in-Join.right.value typed c.args.db.now c.in_ok-left_source-in-Join.left_source c.in_ok-right_source-in-Join.right_source (left_shown t d) (right_shown t d)
+    shown_alike c.in-Join.kind c.in-Join.left.value c.in-Join.right.value typed c.args.db.now c.in_ok-left_source-in-Join.left_source c.in_ok-right_source-in-Join.right_source (left_shown t d) (right_shown t d)
 
 -- a join shows what it is to show
 joined : (t : ℕ) (c : After-get_join t) → IfOk c.get_join.result (λ shown. shown ≡ view c.args.lens.now c.args.db.now)
 joined t c =
     let d = (goal.at.After-get_join t c).In_ok-right_source-in-Join in
-    let same = shown_joined c.args.lens.now c.in-Join.left.value c.in-Join.right.value c.args.db.now c.in_ok-left_source-in-Join.left_source c.in_ok-right_source-in-Join.right_source (is_join t d) (left_shown t d) (right_shown t d) in
+    let same = shown_joined c.in-Join.kind c.args.lens.now c.in-Join.left.value c.in-Join.right.value c.args.db.now c.in_ok-left_source-in-Join.left_source c.in_ok-right_source-in-Join.right_source (is_join t d) (left_shown t d) (right_shown t d) in
     subst (λ u. IfOk c.get_join.result (λ shown. shown ≡ u)) same c.get_join.ensures
 
 pub returns-in_ok-right_source-in-Join-clause-value : goal.returns-in_ok-right_source-in-Join-clause-value

@@ -1,7 +1,7 @@
 use Rattle.std.proofs.Common.{◌≡◌, ◌∙◌, ap, subst, sym, true}
 use Rattle.lens_values.specs.declared.row.Row.{Row}
-use Rattle.lens_specs.specs.Columns.{both_columns, columns_in, names}
-use Rattle.lens_specs.specs.Nodes.{join_get, join_put_left, join_right}
+use Rattle.lens_specs.specs.Columns.{both_columns, columns_in, kinds_differ, names}
+use Rattle.lens_specs.specs.Nodes.{join_get, join_left_after, join_right_after}
 use Rattle.lens_specs.specs.Relation.{Columns, Fits, Relation, has, project}
 use Rattle.whole_put.proofs.Cuts.{left_columns, right_columns}
 use Rattle.whole_put.proofs.Joins.{get_put_left, get_put_right, left_made, put_get, right_made}
@@ -11,19 +11,19 @@ use Rattle.whole_put.proofs.joining.put_join.Goals.{In_ok-new_left}
 part_of : (U : Columns) (view : Relation) → Relation
 part_of U view = record { columns = U; rows = project (names U) view.rows }
 
-left_value : (c : In_ok-new_left) → c.in_ok-new_left.new_left ≡ record c.args.left.now { rows = join_put_left (names c.args.left.now.columns) (names c.args.right.now.columns) c.args.left_tree.now c.args.right_tree.now c.args.view.now.rows c.args.left.now.rows c.args.right.now.rows }
+left_value : (c : In_ok-new_left) → c.in_ok-new_left.new_left ≡ record c.args.left.now { rows = join_left_after c.args.kind (names c.args.left.now.columns) (names c.args.right.now.columns) c.args.left_tree.now c.args.right_tree.now c.args.view.now.rows c.args.left.now.rows c.args.right.now.rows }
 unfolding part_of
-left_value c = left_made c.args.left.now c.args.right.now c.args.left_tree.now c.args.right_tree.now c.args.view.now c.in_ok-left_part.left_part c.in_ok-right_part.right_part
-    c.in_ok-merged.merged c.in_ok-new_right.new_right c.in_ok-over.over c.in_ok-new_left.new_left
+left_value c = left_made c.args.kind c.args.left.now c.args.right.now c.args.left_tree.now c.args.right_tree.now c.args.view.now c.in_ok-left_part.left_part c.in_ok-right_part.right_part
+    c.in_ok-merged.merged c.in_ok-merged_right.merged_right c.in_ok-new_left.new_left c.in_ok-new_left.new_right
     (c.in_ok-left_part.ensures ∙ ap (λ U. part_of U c.args.view.now) c.columns.ensures) (c.in_ok-right_part.ensures ∙ ap (λ U. part_of U c.args.view.now) c.columns-2.ensures)
-    c.in_ok-merged.ensures.value c.in_ok-new_right.ensures.value c.in_ok-over.ensures c.in_ok-new_left.ensures
+    c.in_ok-merged.ensures.value c.in_ok-merged_right.ensures.value c.in_ok-new_left.ensures.left c.in_ok-new_left.ensures.right
 
-right_value : (c : In_ok-new_left) → c.in_ok-new_right.new_right ≡ record c.args.right.now { rows = join_right (names c.args.right.now.columns) c.args.right_tree.now c.args.view.now.rows c.args.right.now.rows }
+right_value : (c : In_ok-new_left) → c.in_ok-new_left.new_right ≡ record c.args.right.now { rows = join_right_after c.args.kind (names c.args.left.now.columns) (names c.args.right.now.columns) c.args.left_tree.now c.args.right_tree.now c.args.view.now.rows c.args.left.now.rows c.args.right.now.rows }
 unfolding part_of
-right_value c = right_made c.args.left.now c.args.right.now c.args.left_tree.now c.args.right_tree.now c.args.view.now c.in_ok-left_part.left_part c.in_ok-right_part.right_part
-    c.in_ok-merged.merged c.in_ok-new_right.new_right c.in_ok-over.over c.in_ok-new_left.new_left
+right_value c = right_made c.args.kind c.args.left.now c.args.right.now c.args.left_tree.now c.args.right_tree.now c.args.view.now c.in_ok-left_part.left_part c.in_ok-right_part.right_part
+    c.in_ok-merged.merged c.in_ok-merged_right.merged_right c.in_ok-new_left.new_left c.in_ok-new_left.new_right
     (c.in_ok-left_part.ensures ∙ ap (λ U. part_of U c.args.view.now) c.columns.ensures) (c.in_ok-right_part.ensures ∙ ap (λ U. part_of U c.args.view.now) c.columns-2.ensures)
-    c.in_ok-merged.ensures.value c.in_ok-new_right.ensures.value c.in_ok-over.ensures c.in_ok-new_left.ensures
+    c.in_ok-merged.ensures.value c.in_ok-merged_right.ensures.value c.in_ok-new_left.ensures.left c.in_ok-new_left.ensures.right
 
 view_fits : (c : In_ok-new_left) → (r : Row) → has c.args.view.now.rows r ≡ true → Fits (both_columns c.args.left.now.columns c.args.right.now.columns) r
 view_fits c r i = subst (λ U. Fits U r) c.requires.columns (c.rows_fit.ensures r i)
@@ -49,7 +49,7 @@ returns-clause-put_get c =
     let B = c.args.right.now in
     let q = c.requires in
     (λ i. join_get (names A.columns) (names B.columns) (left_value d i).rows (right_value d i).rows)
-    ∙ put_get A B c.args.left_tree.now c.args.right_tree.now c.args.view.now.rows c.is_tree.ensures c.is_tree-2.ensures q.can c.rows_fit-2.ensures c.rows_fit-3.ensures q.left_meets q.right_meets (view_fits d) q.view_left q.view_right
+    ∙ put_get c.args.kind A B c.args.left_tree.now c.args.right_tree.now c.args.view.now.rows c.is_tree.ensures c.is_tree-2.ensures q.can c.rows_fit-2.ensures c.rows_fit-3.ensures q.left_meets q.right_meets (view_fits d) q.view_left q.view_right
 
 pub returns-clause-get_put : goal.returns-clause-get_put
 returns-clause-get_put c = λ same.
@@ -57,8 +57,26 @@ returns-clause-get_put c = λ same.
     let A = c.args.left.now in
     let B = c.args.right.now in
     let q = c.requires in
-    let left = get_put_left A B c.args.left_tree.now c.args.right_tree.now c.args.view.now.rows c.is_tree.ensures c.is_tree-2.ensures q.can c.rows_fit-2.ensures c.rows_fit-3.ensures q.left_meets q.right_meets (view_fits d) q.view_left q.view_right same in
-    let right = get_put_right A B c.args.left_tree.now c.args.right_tree.now c.args.view.now.rows c.is_tree.ensures c.is_tree-2.ensures q.can c.rows_fit-2.ensures c.rows_fit-3.ensures q.left_meets q.right_meets (view_fits d) q.view_left q.view_right same in
+    let left = get_put_left c.args.kind A B c.args.left_tree.now c.args.right_tree.now c.args.view.now.rows c.is_tree.ensures c.is_tree-2.ensures q.can c.rows_fit-2.ensures c.rows_fit-3.ensures q.left_meets q.right_meets (view_fits d) q.view_left q.view_right same in
+    let right = get_put_right c.args.kind A B c.args.left_tree.now c.args.right_tree.now c.args.view.now.rows c.is_tree.ensures c.is_tree-2.ensures q.can c.rows_fit-2.ensures c.rows_fit-3.ensures q.left_meets q.right_meets (view_fits d) q.view_left q.view_right same in
     let new_left : c.in_ok-new_left.new_left ≡ A = left_value d ∙ (λ i. record A { rows = left i }) in
-    let new_right : c.in_ok-new_right.new_right ≡ B = right_value d ∙ (λ i. record B { rows = right i }) in
+    let new_right : c.in_ok-new_left.new_right ≡ B = right_value d ∙ (λ i. record B { rows = right i }) in
     λ i. (new_left i, new_right i)
+
+pub merge-requires : goal.merge-requires
+merge-requires c = ap (λ (R : Relation). R.columns) c.in_ok-left_part.ensures ∙ c.columns.ensures
+
+pub merge-requires-2 : goal.merge-requires-2
+merge-requires-2 c = ap (λ (R : Relation). R.columns) c.in_ok-right_part.ensures ∙ c.columns-2.ensures
+
+pub without_surplus-requires-clause-kinds : goal.without_surplus-requires-clause-kinds
+without_surplus-requires-clause-kinds c =
+    let merged = ap (λ (R : Relation). R.columns) c.in_ok-merged.ensures.value in
+    let merged_right = ap (λ (R : Relation). R.columns) c.in_ok-merged_right.ensures.value in
+    (λ i. kinds_differ (merged i) (merged_right i)) ∙ c.requires.can.kinds
+
+pub without_surplus-requires-clause-columns : goal.without_surplus-requires-clause-columns
+without_surplus-requires-clause-columns c =
+    let merged = ap (λ (R : Relation). R.columns) c.in_ok-merged.ensures.value in
+    let merged_right = ap (λ (R : Relation). R.columns) c.in_ok-merged_right.ensures.value in
+    c.requires.columns ∙ sym (λ i. both_columns (merged i) (merged_right i))

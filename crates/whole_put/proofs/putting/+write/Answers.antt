@@ -1,6 +1,6 @@
 use Rattle.std.proofs.Common.{◌≡◌, ◌∙◌, ℕ, ap, subst, sym, rules}
 use Rattle.std.specs.Prelude.{OnOk}
-use Rattle.lens_specs.specs.Lens.{base, select, drop, join, put, sort_of, view}
+use Rattle.lens_specs.specs.Lens.{base, select, drop, rename, join, put, sort_of, view}
 use Rattle.lens_specs.specs.Nodes.{drop_put, select_put}
 use Rattle.lens_specs.specs.Predicate.{holds}
 use Rattle.lens_specs.specs.Sort.{IsOfSort}
@@ -9,10 +9,10 @@ use Rattle.lens_types.specs.Lenses.{lens_view}
 use Rattle.whole_put.specs.Sources.{AreShown}
 use Rattle.whole_put.proofs.JoinedLenses.{left_after, put_joined, right_after, right_sources, right_tables}
 use Rattle.lens_laws.proofs.Lenses.{view_is_of_sort}
-use Rattle.whole_put.proofs.Lenses.{put_dropped, put_selected, put_table}
+use Rattle.whole_put.proofs.Lenses.{put_dropped, put_renamed, put_selected, put_table}
 use Rattle.whole_put.proofs.Shown.{left_shown, only_shown, right_shown, right_under}
 use Rattle.whole_put.proofs.putting.+write.Goals as goal
-use Rattle.whole_put.proofs.putting.+write.Goals.{After-deref, After-deref-in-Drop, After-deref-in-Join-2, In_ok-write-in-Join}
+use Rattle.whole_put.proofs.putting.+write.Goals.{After-deref, After-deref-in-Drop, After-deref-in-Rename, After-deref-in-Join-2, In_ok-write-in-Join}
 
 pub returns-in-Base : goal.returns-in-Base
 returns-in-Base t c =
@@ -84,18 +84,49 @@ returns-in_ok-source-in-Drop t c =
     let same = ap (λ K. put K S db) c.deref-in-Drop-2.ensures ∙ put_dropped c.args.lens.now C c.in-Drop.col c.in-Drop.by c.in-Drop.fill db N S (is_drop t d) rows in
     subst (λ u. OnOk c.write-in-Drop.result (c.write-in-Drop.new.db ≡ u)) same c.write-in-Drop.ensures
 
+-- ---- a rename
+
+is_rename : (t : ℕ) (c : After-deref-in-Rename t) → rename c.in-Rename.col c.in-Rename.to c.in-Rename.of.value ≡ c.args.lens.now
+is_rename t c = sym (ap lens_view c.in-Rename.is) ∙ c.lens.ensures.view
+
+-- the source shows what it is to show
+renamed : (t : ℕ) (c : After-deref-in-Rename t) → c.only-in-Rename.result.0.now ≡ view c.in-Rename.of.value c.args.db.now
+renamed t c =
+    let S = c.args.under.now in
+    let under = subst (λ K. AreShown K c.args.db.now S) (sym (is_rename t c)) c.requires.under in
+    only_shown c.in-Rename.of.value c.args.db.now S c.only-in-Rename.result.1.now c.only-in-Rename.result.0.now under c.only-in-Rename.ensures
+
+pub under_rename-requires-clause-source : goal.under_rename-requires-clause-source
+under_rename-requires-clause-source t c =
+    let d = (goal.at.under_rename-requires-clause-source t c).After-deref-in-Rename in
+    let M = c.only-in-Rename.result.0.now in
+    let typed = subst IsTyped (sym (is_rename t d)) c.lens.ensures.typed in
+    let are = subst (λ K. AreOf K c.args.db.now) (sym (is_rename t d)) c.requires.tables in
+    subst (λ K. IsOfSort M (sort_of K)) (sym c.deref-in-Rename.ensures) (view_is_of_sort c.in-Rename.of.value c.args.db.now M typed.0 are (renamed t d))
+
+pub returns-in_ok-source-in-Rename : goal.returns-in_ok-source-in-Rename
+returns-in_ok-source-in-Rename t c =
+    let d = (goal.at.returns-in_ok-source-in-Rename t c).After-deref-in-Rename in
+    let C = c.in-Rename.of.value in
+    let N = c.args.view.rows in
+    let db = c.args.db.now in
+    let S = c.in_ok-source-in-Rename.source.rows in
+    let rows = c.in_ok-source-in-Rename.ensures.rows in
+    let same = ap (λ K. put K S db) c.deref-in-Rename-2.ensures ∙ put_renamed c.args.lens.now C c.in-Rename.col c.in-Rename.to db N S (is_rename t d) rows in
+    subst (λ u. OnOk c.write-in-Rename.result (c.write-in-Rename.new.db ≡ u)) same c.write-in-Rename.ensures
+
 -- ---- a join
 
-is_join : (t : ℕ) (c : After-deref-in-Join-2 t) → join c.in-Join.left.value c.in-Join.right.value ≡ c.args.lens.now
+is_join : (t : ℕ) (c : After-deref-in-Join-2 t) → join c.in-Join.kind c.in-Join.left.value c.in-Join.right.value ≡ c.args.lens.now
 is_join t c = sym (ap lens_view c.in-Join.is) ∙ c.lens.ensures.view
 
-under : (t : ℕ) (c : After-deref-in-Join-2 t) → AreShown (join c.in-Join.left.value c.in-Join.right.value) c.args.db.now c.args.under.now
+under : (t : ℕ) (c : After-deref-in-Join-2 t) → AreShown (join c.in-Join.kind c.in-Join.left.value c.in-Join.right.value) c.args.db.now c.args.under.now
 under t c = subst (λ K. AreShown K c.args.db.now c.args.under.now) (sym (is_join t c)) c.requires.under
 
-typed : (t : ℕ) (c : After-deref-in-Join-2 t) → IsTyped (join c.in-Join.left.value c.in-Join.right.value)
+typed : (t : ℕ) (c : After-deref-in-Join-2 t) → IsTyped (join c.in-Join.kind c.in-Join.left.value c.in-Join.right.value)
 typed t c = subst IsTyped (sym (is_join t c)) c.lens.ensures.typed
 
-are : (t : ℕ) (c : After-deref-in-Join-2 t) → AreOf (join c.in-Join.left.value c.in-Join.right.value) c.args.db.now
+are : (t : ℕ) (c : After-deref-in-Join-2 t) → AreOf (join c.in-Join.kind c.in-Join.left.value c.in-Join.right.value) c.args.db.now
 are t c = subst (λ K. AreOf K c.args.db.now) (sym (is_join t c)) c.requires.tables
 
 -- the sources show what they are to show
@@ -134,8 +165,8 @@ write-requires-in-Join-2 t c =
     let M = c.both.result.0.0.now in
     let N = c.both.result.1.0.now in
     let rest = right_under A B db c.args.under.now c.both.result.0.1.now c.both.result.1.1.now M N (under t d) c.both.ensures in
-    let tables = right_tables A B (typed t d) db c.write-in-Join.new.db S (left_put t e) (are t d).1 in
-    let shown = right_sources A B (typed t d) db c.write-in-Join.new.db S c.both.result.1.1.now (left_put t e) rest in
+    let tables = right_tables c.in-Join.kind A B (typed t d) db c.write-in-Join.new.db S (left_put t e) (are t d).1 in
+    let shown = right_sources c.in-Join.kind A B (typed t d) db c.write-in-Join.new.db S c.both.result.1.1.now (left_put t e) rest in
     let sort = subst (λ K. IsOfSort c.in_ok-sources-in-Join.sources.1 (sort_of K)) (c.deref-in-Join-2.ensures ∙ sym c.deref-in-Join-4.ensures) c.in_ok-sources-in-Join.ensures.right_sort in (
       search rules,
       (
@@ -155,7 +186,7 @@ returns-in_ok-write-in-Join t c =
     let O = c.args.view.rows in
     let S = c.in_ok-sources-in-Join.sources.0.rows in
     let T = c.in_ok-sources-in-Join.sources.1.rows in
-    let left = c.in_ok-sources-in-Join.ensures.left_rows ∙ (λ i. left_after (c.deref-in-Join.ensures i) (c.deref-in-Join-2.ensures i) O (left_is t d i).rows (right_is t d i).rows) in
-    let right = c.in_ok-sources-in-Join.ensures.right_rows ∙ (λ i. right_after (c.deref-in-Join-2.ensures i) O (right_is t d i).rows) in
-    let same = ap (λ K. put K T c.write-in-Join.new.db) c.deref-in-Join-4.ensures ∙ put_joined c.args.lens.now A B db c.write-in-Join.new.db O S T (is_join t d) left right (left_put t e) in
+    let left = c.in_ok-sources-in-Join.ensures.left_rows ∙ (λ i. left_after c.in-Join.kind (c.deref-in-Join.ensures i) (c.deref-in-Join-2.ensures i) O (left_is t d i).rows (right_is t d i).rows) in
+    let right = c.in_ok-sources-in-Join.ensures.right_rows ∙ (λ i. right_after c.in-Join.kind (c.deref-in-Join.ensures i) (c.deref-in-Join-2.ensures i) O (left_is t d i).rows (right_is t d i).rows) in
+    let same = ap (λ K. put K T c.write-in-Join.new.db) c.deref-in-Join-4.ensures ∙ put_joined c.in-Join.kind c.args.lens.now A B db c.write-in-Join.new.db O S T (is_join t d) left right (left_put t e) in
     subst (λ u. OnOk c.write-in-Join-2.result (c.write-in-Join-2.new.db ≡ u)) same c.write-in-Join-2.ensures

@@ -3,7 +3,7 @@ use Rattle.std.specs.Prelude.{IfOk}
 use Rattle.std.proofs.lemmas.Result.{IfOk-weaker}
 use Rattle.lens_specs.specs.Lens.{sort_of}
 use Rattle.lens_specs.specs.Columns.{names}
-use Rattle.lens_specs.specs.Nodes.{join_put_left, join_right}
+use Rattle.lens_specs.specs.Nodes.{join_left_after, join_right_after}
 use Rattle.lens_specs.specs.Relation.{Relation}
 use Rattle.lens_specs.specs.Sort.{IsOfSort}
 use Rattle.whole_put.proofs.JoinedLenses.{columns_of_both, kept_tree, left_after, left_is_of_sort, left_meets, left_source, put_can, right_after, right_is_of_sort, right_meets, right_source, view_left, view_right}
@@ -20,41 +20,41 @@ right_tree c = kept_tree c.args.right.now c.sort-2.result.now c.tree-right_tree.
 pub put_join-requires-clause-can : goal.put_join-requires-clause-can
 put_join-requires-clause-can c =
     let d = (goal.at.put_join-requires-clause-can c).After-tree-right_tree in
-    put_can c.args.left.now c.args.right.now c.requires.typed c.args.left_source.now c.args.right_source.now _ _ c.requires.left c.requires.right (left_tree d) (right_tree d)
+    put_can c.args.kind c.args.left.now c.args.right.now c.requires.typed c.args.left_source.now c.args.right_source.now _ _ c.requires.left c.requires.right (left_tree d) (right_tree d)
 
 pub put_join-requires-clause-left_meets : goal.put_join-requires-clause-left_meets
 put_join-requires-clause-left_meets c =
     let d = (goal.at.put_join-requires-clause-left_meets c).After-tree-right_tree in
-    left_meets c.args.left.now c.args.right.now c.requires.typed c.args.left_source.now c.args.right_source.now _ _ c.requires.left c.requires.right (left_tree d) (right_tree d)
+    left_meets c.args.kind c.args.left.now c.args.right.now c.requires.typed c.args.left_source.now c.args.right_source.now _ _ c.requires.left c.requires.right (left_tree d) (right_tree d)
 
 pub put_join-requires-clause-right_meets : goal.put_join-requires-clause-right_meets
 put_join-requires-clause-right_meets c =
     let d = (goal.at.put_join-requires-clause-right_meets c).After-tree-right_tree in
-    right_meets c.args.left.now c.args.right.now c.requires.typed c.args.left_source.now c.args.right_source.now _ _ c.requires.left c.requires.right (left_tree d) (right_tree d)
+    right_meets c.args.kind c.args.left.now c.args.right.now c.requires.typed c.args.left_source.now c.args.right_source.now _ _ c.requires.left c.requires.right (left_tree d) (right_tree d)
 
 pub put_join-requires-clause-columns : goal.put_join-requires-clause-columns
 put_join-requires-clause-columns c =
     let d = (goal.at.put_join-requires-clause-columns c).After-tree-right_tree in
-    c.requires.view.0 ∙ columns_of_both c.args.left.now c.args.right.now c.requires.typed c.args.left_source.now c.args.right_source.now _ _ c.requires.left c.requires.right (left_tree d) (right_tree d)
+    c.requires.view.0 ∙ columns_of_both c.args.kind c.args.left.now c.args.right.now c.requires.typed c.args.left_source.now c.args.right_source.now _ _ c.requires.left c.requires.right (left_tree d) (right_tree d)
 
 pub put_join-requires-clause-view_left : goal.put_join-requires-clause-view_left
 put_join-requires-clause-view_left c =
     let d = (goal.at.put_join-requires-clause-view_left c).After-tree-right_tree in
-    view_left c.args.left.now c.args.right.now c.requires.typed c.args.left_source.now c.args.right_source.now _ _ c.requires.left c.requires.right (left_tree d) (right_tree d) c.args.view.now.rows c.requires.view.1
+    view_left c.args.kind c.args.left.now c.args.right.now c.requires.typed c.args.left_source.now c.args.right_source.now _ _ c.requires.left c.requires.right (left_tree d) (right_tree d) c.args.view.now.rows c.requires.view.1
 
 pub put_join-requires-clause-view_right : goal.put_join-requires-clause-view_right
 put_join-requires-clause-view_right c =
     let d = (goal.at.put_join-requires-clause-view_right c).After-tree-right_tree in
-    view_right c.args.left.now c.args.right.now c.requires.typed c.args.left_source.now c.args.right_source.now _ _ c.requires.left c.requires.right (left_tree d) (right_tree d) c.args.view.now.rows c.requires.view.1
+    view_right c.args.kind c.args.left.now c.args.right.now c.requires.typed c.args.left_source.now c.args.right_source.now _ _ c.requires.left c.requires.right (left_tree d) (right_tree d) c.args.view.now.rows c.requires.view.1
 
 -- ---- the sources are those of the definition
 
 -- the left source after the put, and the right one
 abbrev new_left : After-put_join → Relation
-new_left c = over c.args.left.now (left_after c.args.left.now c.args.right.now c.args.view.now.rows c.args.left_source.now.rows c.args.right_source.now.rows)
+new_left c = over c.args.left.now (left_after c.args.kind c.args.left.now c.args.right.now c.args.view.now.rows c.args.left_source.now.rows c.args.right_source.now.rows)
 
 abbrev new_right : After-put_join → Relation
-new_right c = over c.args.right.now (right_after c.args.right.now c.args.view.now.rows c.args.right_source.now.rows)
+new_right c = over c.args.right.now (right_after c.args.kind c.args.left.now c.args.right.now c.args.view.now.rows c.args.left_source.now.rows c.args.right_source.now.rows)
 
 left_made : (c : After-put_join) → IfOk c.put_join.result (λ after. after.0 ≡ new_left c)
 left_made c =
@@ -66,8 +66,8 @@ left_made c =
     let N = c.args.right_source.now in
     let F = c.tree-left_tree.result.now in
     let G = c.tree-right_tree.result.now in
-    IfOk-weaker c.put_join.result (λ after. after.0 ≡ record M { rows = join_put_left (names M.columns) (names N.columns) F G O M.rows N.rows }) (λ after. after.0 ≡ new_left c)
-    (λ after is. left_source A B c.requires.typed M N F G c.requires.left c.requires.right (left_tree d) (right_tree d) O after.0 is)
+    IfOk-weaker c.put_join.result (λ after. after.0 ≡ record M { rows = join_left_after c.args.kind (names M.columns) (names N.columns) F G O M.rows N.rows }) (λ after. after.0 ≡ new_left c)
+    (λ after is. left_source c.args.kind A B c.requires.typed M N F G c.requires.left c.requires.right (left_tree d) (right_tree d) O after.0 is)
     c.put_join.ensures.left
 
 right_made : (c : After-put_join) → IfOk c.put_join.result (λ after. after.1 ≡ new_right c)
@@ -80,8 +80,8 @@ right_made c =
     let N = c.args.right_source.now in
     let F = c.tree-left_tree.result.now in
     let G = c.tree-right_tree.result.now in
-    IfOk-weaker c.put_join.result (λ after. after.1 ≡ record N { rows = join_right (names N.columns) G O N.rows }) (λ after. after.1 ≡ new_right c)
-    (λ after is. right_source A B c.requires.typed M N F G c.requires.left c.requires.right (left_tree d) (right_tree d) O after.1 is)
+    IfOk-weaker c.put_join.result (λ after. after.1 ≡ record N { rows = join_right_after c.args.kind (names M.columns) (names N.columns) F G O M.rows N.rows }) (λ after. after.1 ≡ new_right c)
+    (λ after is. right_source c.args.kind A B c.requires.typed M N F G c.requires.left c.requires.right (left_tree d) (right_tree d) O after.1 is)
     c.put_join.ensures.right
 
 pub returns-clause-left_rows : goal.returns-clause-left_rows
@@ -101,7 +101,7 @@ returns-clause-left_sort c =
     let d = (goal.at.returns-clause-left_sort c).After-put_join in
     let A = c.args.left.now in
     let U = new_left d in
-    let of_sort = left_is_of_sort A c.args.right.now c.requires.typed c.args.view.now.rows c.args.left_source.now.rows c.args.right_source.now.rows c.requires.left.1 c.requires.right.1 c.requires.view.1 in
+    let of_sort = left_is_of_sort c.args.kind A c.args.right.now c.requires.typed c.args.view.now.rows c.args.left_source.now.rows c.args.right_source.now.rows c.requires.left.1 c.requires.right.1 c.requires.view.1 in
     IfOk-weaker c.put_join.result (λ after. after.0 ≡ U) (λ after. IsOfSort after.0 (sort_of A)) (λ after is. subst (λ M. IsOfSort M (sort_of A)) (sym is) of_sort) (left_made d)
 
 pub returns-clause-right_sort : goal.returns-clause-right_sort
@@ -109,5 +109,5 @@ returns-clause-right_sort c =
     let d = (goal.at.returns-clause-right_sort c).After-put_join in
     let B = c.args.right.now in
     let U = new_right d in
-    let of_sort = right_is_of_sort c.args.left.now B c.requires.typed c.args.view.now.rows c.args.left_source.now.rows c.args.right_source.now.rows c.requires.left.1 c.requires.right.1 c.requires.view.1 in
+    let of_sort = right_is_of_sort c.args.kind c.args.left.now B c.requires.typed c.args.view.now.rows c.args.left_source.now.rows c.args.right_source.now.rows c.requires.left.1 c.requires.right.1 c.requires.view.1 in
     IfOk-weaker c.put_join.result (λ after. after.1 ≡ U) (λ after. IsOfSort after.1 (sort_of B)) (λ after is. subst (λ M. IsOfSort M (sort_of B)) (sym is) of_sort) (right_made d)

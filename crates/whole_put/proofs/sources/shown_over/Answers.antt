@@ -1,14 +1,17 @@
 use Rattle.std.proofs.Common.{◌≡◌, ◌∙◌, ap, subst, sym}
 use Rattle.std.specs.Prelude.{IfOk}
-use Rattle.lens_specs.specs.Lens.{base, select, drop, join, view}
+use Rattle.lens_specs.specs.Lens.{base, select, drop, rename, join, view}
+use Rattle.lens_values.specs.SortedSet as set
+use Rattle.lens_specs.specs.Columns.{names}
+use Rattle.lens_specs.specs.Relation.{Relation}
 use Rattle.lens_laws.specs.Lenses.{IsTyped}
 use Rattle.lens_types.specs.Lenses.{lens_view}
 use Rattle.whole_put.specs.Sources.{AreShown}
 use Rattle.whole_put.proofs.JoinedLenses.{shown_alike, shown_joined}
-use Rattle.whole_put.proofs.Lenses.{shown_dropped, shown_selected, shown_table}
+use Rattle.whole_put.proofs.Lenses.{shown_dropped, shown_renamed, shown_selected, shown_table}
 use Rattle.whole_put.proofs.Shown.{left_shown, only_shown, right_shown}
 use Rattle.whole_put.proofs.sources.shown_over.Goals as goal
-use Rattle.whole_put.proofs.sources.shown_over.Goals.{After-both}
+use Rattle.whole_put.proofs.sources.shown_over.Goals.{After-both, After-only-in-Rename}
 
 pub returns-in-Base : goal.returns-in-Base
 returns-in-Base c =
@@ -41,12 +44,32 @@ returns-in-Drop c =
     let source = only_shown C db S c.only-in-Drop.result.1.now M under c.only-in-Drop.ensures in
     subst (λ u. IfOk c.get_drop.result (λ shown. shown ≡ u)) (shown_dropped L C c.in-Drop.col c.in-Drop.by c.in-Drop.fill db M is source) c.get_drop.ensures
 
+-- ---- a rename
+
+renamed_source : (c : After-only-in-Rename) → c.only-in-Rename.result.0.now ≡ view c.in-Rename.of.value c.args.db.now
+renamed_source c =
+    let C = c.in-Rename.of.value in
+    let is : rename c.in-Rename.col c.in-Rename.to C ≡ c.args.lens.now = sym (ap lens_view c.in-Rename.is) ∙ c.lens.ensures.view in
+    only_shown C c.args.db.now c.args.under.now c.only-in-Rename.result.1.now c.only-in-Rename.result.0.now (subst (λ K. AreShown K c.args.db.now c.args.under.now) (sym is) c.requires.under) c.only-in-Rename.ensures
+
+pub get_rename-requires : goal.get_rename-requires
+get_rename-requires c =
+    let is : rename c.in-Rename.col c.in-Rename.to c.in-Rename.of.value ≡ c.args.lens.now = sym (ap lens_view c.in-Rename.is) ∙ c.lens.ensures.view in
+    let typed = subst IsTyped (sym is) c.lens.ensures.typed in
+    ap (λ (M : Relation). set.contains (names M.columns) c.in-Rename.to) (renamed_source (goal.at.get_rename-requires c).After-only-in-Rename) ∙ typed.1.free
+
+pub returns-in-Rename : goal.returns-in-Rename
+returns-in-Rename c =
+    let is : rename c.in-Rename.col c.in-Rename.to c.in-Rename.of.value ≡ c.args.lens.now = sym (ap lens_view c.in-Rename.is) ∙ c.lens.ensures.view in
+    subst (λ u. IfOk c.get_rename.result (λ shown. shown ≡ u))
+    (shown_renamed c.args.lens.now c.in-Rename.of.value c.in-Rename.col c.in-Rename.to c.args.db.now c.only-in-Rename.result.0.now is (renamed_source (goal.at.returns-in-Rename c).After-only-in-Rename)) c.get_rename.ensures
+
 -- ---- a join
 
-is_join : (c : After-both) → join c.in-Join.left.value c.in-Join.right.value ≡ c.args.lens.now
+is_join : (c : After-both) → join c.in-Join.kind c.in-Join.left.value c.in-Join.right.value ≡ c.args.lens.now
 is_join c = sym (ap lens_view c.in-Join.is) ∙ c.lens.ensures.view
 
-under_join : (c : After-both) → AreShown (join c.in-Join.left.value c.in-Join.right.value) c.args.db.now c.args.under.now
+under_join : (c : After-both) → AreShown (join c.in-Join.kind c.in-Join.left.value c.in-Join.right.value) c.args.db.now c.args.under.now
 under_join c = subst (λ K. AreShown K c.args.db.now c.args.under.now) (sym (is_join c)) c.requires.under
 
 left_is : (c : After-both) → c.both.result.0.0.now ≡ view c.in-Join.left.value c.args.db.now
@@ -61,10 +84,10 @@ pub get_join-requires : goal.get_join-requires
 get_join-requires c =
     let d = (goal.at.get_join-requires c).After-both in
     let typed = subst IsTyped (sym (is_join d)) c.lens.ensures.typed in
-    shown_alike c.in-Join.left.value c.in-Join.right.value typed c.args.db.now c.both.result.0.0.now c.both.result.1.0.now (left_is d) (right_is d)
+    shown_alike c.in-Join.kind c.in-Join.left.value c.in-Join.right.value typed c.args.db.now c.both.result.0.0.now c.both.result.1.0.now (left_is d) (right_is d)
 
 pub returns-in-Join : goal.returns-in-Join
 returns-in-Join c =
     let d = (goal.at.returns-in-Join c).After-both in
-    let same = shown_joined c.args.lens.now c.in-Join.left.value c.in-Join.right.value c.args.db.now c.both.result.0.0.now c.both.result.1.0.now (is_join d) (left_is d) (right_is d) in
+    let same = shown_joined c.in-Join.kind c.args.lens.now c.in-Join.left.value c.in-Join.right.value c.args.db.now c.both.result.0.0.now c.both.result.1.0.now (is_join d) (left_is d) (right_is d) in
     subst (λ u. IfOk c.get_join.result (λ shown. shown ≡ u)) same c.get_join.ensures

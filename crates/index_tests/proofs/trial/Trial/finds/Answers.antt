@@ -6,5 +6,5 @@ use Rattle.index_tests.proofs.trial.Trial.finds.Goals as goal
 
 pub find-requires-clause-key : goal.find-requires-clause-key
 find-requires-clause-key g c = λ k.
-    let fits : Fits c.args.key.now.columns c.args.key.now.row = search rules in
-    fits_names c.args.key.now.columns c.args.key.now.row fits k ∙ ap (λ C. set.contains C k) (sym (ap (λ n. n.cols) c.in_ok-need.ensures))
+    let fits : Fits c.args.columns.now c.args.key.now = search rules in
+    fits_names c.args.columns.now c.args.key.now fits k ∙ ap (λ C. set.contains C k) (sym (ap (λ n. n.cols) c.in_ok-need.ensures))

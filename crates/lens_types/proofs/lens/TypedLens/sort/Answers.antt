@@ -11,3 +11,6 @@ returns-in-Base-3-clause-typed c = subst IsTyped c.self.view_is (kept_is_typed _
 
 pub returns-in-Base-4-clause-typed : goal.returns-in-Base-4-clause-typed
 returns-in-Base-4-clause-typed c = subst IsTyped c.self.view_is (kept_is_typed _ _ _ c.self.invariant)
+
+pub returns-in-Base-5-clause-typed : goal.returns-in-Base-5-clause-typed
+returns-in-Base-5-clause-typed c = subst IsTyped c.self.view_is (kept_is_typed _ _ _ c.self.invariant)

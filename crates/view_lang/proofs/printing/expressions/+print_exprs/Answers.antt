@@ -2,12 +2,12 @@ use Rattle.std.proofs.Common.{◌≡◌, ◌∙◌, ◌∷◌, ◌++◌, ap, sym
 use Rattle.std.specs.Prelude.{codes}
 use Rattle.std.proofs.lemmas.Result.{on_ok_weaker}
 use Rattle.lens_values.specs.SortedSet as set
-use Rattle.grammar_specs.specs.Meaning.{select, drop, join}
+use Rattle.grammar_specs.specs.Meaning.{select, drop, rename, join}
 use Rattle.grammar_specs.specs.Tokens.{word}
 use Rattle.grammar_specs.specs.Printing.{operand_of, expr_written, predicate_written}
 use Rattle.grammar_specs.specs.Written.{operand_tokens, expr_tokens, pred_tokens}
 use Rattle.view_lang.specs.ExprViews.{expr_view}
-use Rattle.view_lang.specs.PrintAdds.{drop_from}
+use Rattle.view_lang.specs.PrintAdds.{drop_from, rename_from}
 use Rattle.view_lang.specs.declared.expr.Expr.{the_lemmas}
 use Rattle.view_lang.proofs.Operands.{enclosed_unless_named, drop_whole}
 use Rattle.view_lang.proofs.Printed.{adds_same, follow}
@@ -43,12 +43,22 @@ print_expr-returns-in_ok-print_drop_from-in-Drop t c =
     (follow c.in_ok-print_drop_from-in-Drop.ensures operand))
     c.print_operand-in-Drop.ensures
 
+pub print_expr-returns-in_ok-print_rename_from-in-Rename : goal.print_expr-returns-in_ok-print_rename_from-in-Rename
+print_expr-returns-in_ok-print_rename_from-in-Rename t c =
+    let head = rename_from c.in-Rename.col c.in-Rename.to in
+    let seen : expr_view c.args.expr.now ≡ rename c.in-Rename.col c.in-Rename.to (expr_view c.in-Rename.of.value) = search (rules, the_lemmas) in
+    on_ok_weaker c.print_operand-in-Rename.result
+    (λ operand. adds_same _
+    (ap (λ e. head ++ operand_tokens (operand_of (expr_view e))) c.deref-in-Rename.ensures ∙ sym (ap (λ e. expr_tokens (expr_written e)) seen))
+    (follow c.in_ok-print_rename_from-in-Rename.ensures operand))
+    c.print_operand-in-Rename.ensures
+
 pub print_expr-returns-in_ok-word-in-Join-2 : goal.print_expr-returns-in_ok-word-in-Join-2
 print_expr-returns-in_ok-word-in-Join-2 t c =
-    let seen : expr_view c.args.expr.now ≡ join (expr_view c.in-Join.left.value) (expr_view c.in-Join.right.value) = search (rules, the_lemmas) in
+    let seen : expr_view c.args.expr.now ≡ join c.in-Join.kind (expr_view c.in-Join.left.value) (expr_view c.in-Join.right.value) = search (rules, the_lemmas) in
     on_ok_weaker c.print_operand-in-Join-2.result
     (λ right. adds_same _
-    ((λ i. word (codes "join_dl")
+    ((λ i. word (c.join_word.ensures i)
     ∷ (operand_tokens (operand_of (expr_view (c.deref-in-Join.ensures i))) ++ word (codes "with") ∷ operand_tokens (operand_of (expr_view (c.deref-in-Join-2.ensures i)))))
     ∙ sym (ap (λ e. expr_tokens (expr_written e)) seen))
     (follow c.in_ok-word-in-Join.ensures (follow c.in_ok-print_operand-in-Join.ensures (follow c.in_ok-word-in-Join-2.ensures right))))

@@ -1,0 +1,10 @@
+use Rattle.std.proofs.Common.{◌≡◌, [], ap, sym, ◌∙◌, rules}
+use Rattle.lens_values.specs.SortedSet as set
+use Rattle.base_index.specs.Lists.{rows_of}
+use Rattle.base_index.proofs.Listed.{none_less, nothing_in}
+use Rattle.base_index.proofs.body.without.Goals as goal
+
+pub returns-then-is_empty : goal.returns-then-is_empty
+returns-then-is_empty c =
+    let none : c.args.list.now ≡ [] = nothing_in c.args.list.now (search rules) in
+    sym (ap (λ l. set.difference c.args.rows (rows_of l)) none ∙ none_less c.args.rows)

@@ -1,0 +1,10 @@
+-- Lists of differences, one after another.
+use Rattle.std.specs.Prelude.{◌≡◌, List, [], ◌∷◌}
+use Rattle.lens_specs.specs.Delta.{TableDelta}
+use Rattle.lens_specs.specs.Lens.{Tables}
+use Rattle.lens_specs.specs.TableDeltas.{LeadTo}
+
+-- each of the lists leads on from where the one before it led
+abbrev pub Chain : List (List TableDelta) → Tables → Tables → Type 0
+Chain [] old new = old ≡ new
+Chain (cs ∷ others) old new = (mid : Tables) × LeadTo cs old mid × Chain others mid new

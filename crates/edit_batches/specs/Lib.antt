@@ -1,0 +1,4 @@
+pub mod Chains
+pub mod DeltasCode
+pub mod Histories
+pub mod Laws

@@ -1,0 +1,56 @@
+-- Keys of one column, and what they find.
+use Rattle.std.proofs.Common.{◌≡◌, ◌∙◌, ◌∷◌, [], Some, ap, cond, inl, inr, is_some, sym, subst, true}
+use Rattle.std.specs.Prelude.{None}
+use Rattle.std.specs.FinMap as finmap
+use Rattle.std.specs.Cmp.Lexicographic.{nat_list_cmp_total}
+use Rattle.std.specs.List.Sorted.{IsStrictlySortedBy}
+use Rattle.std.specs.Ordering.{eq_by_cmp}
+use Rattle.std.proofs.lemmas.Bool.{cases_Bool}
+use Rattle.lens_values.specs.Order.{bytes_cmp}
+use Rattle.lens_values.specs.SortedSet as set
+use Rattle.lens_values.specs.declared.row.Row.{Row}
+use Rattle.lens_values.specs.declared.value.Value.{Value}
+use Rattle.lens_specs.specs.Names.{Name, one}
+use Rattle.lens_specs.specs.Relation.{Rows, has, those}
+use Rattle.lens_specs.specs.Columns.{Columns, Fits}
+use Rattle.lens_specs.specs.Rows.{agree, at, same_value}
+use Rattle.fd_laws.proofs.Lists.{absurd_false, both_ways, false_from}
+use Rattle.fd_laws.proofs.Names.{name_itself, one_is, one_itself, tied_name}
+use Rattle.fd_laws.proofs.Relations.{from_those}
+use Rattle.fd_laws.proofs.Rows.{agree_at, agree_from, same_value-is, same_value-refl}
+use Rattle.lens_laws.specs.KeyedDeltas.{find_by}
+use Rattle.signed_delta.specs.Keys.{IsKey}
+use Rattle.find_rows.specs.Found.{rows_with}
+
+-- a list of one rises
+pub one_rises : (n : Name) → IsStrictlySortedBy bytes_cmp (n ∷ [])
+unfolding IsStrictlySortedBy
+one_rises n = (tt, tt)
+
+module _ (c : Name) (v : Value) (key : Row) (is : key ≡ finmap.from_entries ((c, v) ∷ [])) where
+  at_key : (d : Name) → at key d ≡ cond (eq_by_cmp bytes_cmp d c) (Some v) None
+  at_key d = ap (λ k. at k d) is ∙ finmap.get-from_entries nat_list_cmp_total ((c, v) ∷ []) d
+
+  own : at key c ≡ Some v
+  own = at_key c ∙ ap (λ b. cond b (Some v) None) (name_itself c)
+
+  -- it has a value in the column, and in no other
+  pub key_is : IsKey (one c) key
+  key_is d = elim (cases_Bool (eq_by_cmp bytes_cmp d c)) [
+    | inl t ↦ ap is_some (at_key d ∙ ap (λ b. cond b (Some v) None) t) ∙ sym (ap (set.contains (one c)) (tied_name d c t) ∙ one_itself c)
+    | inr o ↦ ap is_some (at_key d ∙ ap (λ b. cond b (Some v) None) o)
+        ∙ sym (false_from _ (λ i. absurd_false _ (ap (λ e. eq_by_cmp bytes_cmp e c) (one_is c d i) ∙ name_itself c) o))
+  ]
+
+  agrees : (r : Row) → agree (one c) key r ≡ same_value (Some v) (at r c)
+  agrees r = both_ways _ _
+      (λ g. subst (λ o. same_value (Some v) o ≡ true) (sym own ∙ agree_at (one c) key r g c (one_itself c)) (same_value-refl (Some v)))
+      (λ s. agree_from (one c) key r (λ d i. ap (at key) (one_is c d i) ∙ own ∙ same_value-is (Some v) (at r c) s ∙ sym (ap (at r) (one_is c d i))))
+
+  -- the rows found by it are those with the value
+  pub found_with : (M : Rows) → find_by (one c) key M ≡ rows_with c v M
+  found_with M = ap (λ p. those p M) (λ i r. agrees r i)
+
+-- the rows of a relation with the value have its columns
+pub with_fit : (c : Name) (v : Value) (M rows : Rows) (U : Columns) → rows ≡ rows_with c v M → ((r : Row) → has M r ≡ true → Fits U r) → (r : Row) → has rows r ≡ true → Fits U r
+with_fit c v M rows U is fit r i = fit r (from_those _ M r (ap (λ N. has N r) (sym is) ∙ i)).0

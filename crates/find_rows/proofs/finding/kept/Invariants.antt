@@ -1,0 +1,7 @@
+use Rattle.std.proofs.Common.{◌≡◌, Some}
+use Rattle.std.specs.Prelude.{filter}
+use Rattle.lens_specs.specs.Rows.{at, same_value}
+use Rattle.find_rows.proofs.finding.kept.Given as goal
+
+abbrev pub invariant-loop-row : goal.invariant-loop-row
+invariant-loop-row l = l.some.items ≡ filter (λ row. same_value (Some l.value) (at row l.col)) l.yielded

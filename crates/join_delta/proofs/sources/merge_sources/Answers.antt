@@ -1,0 +1,298 @@
+use Rattle.std.proofs.Common.{◌≡◌, ◌∙◌, ℕ, ◌+◌, ◌*◌, ◌≤◌, ap, arith, inl, inr, length, subst, sym, true}
+use Rattle.std.specs.List.{Contains}
+use Rattle.lens_values.specs.SortedSet as set
+use Rattle.lens_values.specs.declared.row.Row.{Row}
+use Rattle.lens_specs.specs.Columns.{Fits, names}
+use Rattle.lens_specs.specs.Delta.{Delta, new_view}
+use Rattle.lens_specs.specs.Relation.{has, minus, project}
+use Rattle.lens_laws.specs.KeyedDeltas.{join_delta_right, merge_delta, suspects}
+use Rattle.lens_laws.specs.Work.{count_of, rows_of}
+use Rattle.signed_delta.proofs.Counts.{minus_len, union_len}
+use Rattle.signed_delta.proofs.Gives.{gives_by_edges}
+use Rattle.join_delta.specs.Joined.{AreKeyed, edited_right, shared_names}
+use Rattle.fd_laws.proofs.Relations.{from_minus, from_union}
+use Rattle.join_delta.proofs.Carried.{apart, left_merges, left_parts_fit, lefts_within, merge_fits, merged_left, right_is, right_keyed, right_parts_fit, surplus_is, surplus_made, suspects_fit}
+use Rattle.join_delta.proofs.Counted.{after_left, after_right, after_suspects, after_tests, left_looks, new_few, new_right, part_few, revised_few, right_looks, suspect_looks, suspects_few, test_looks, tested_few}
+use Rattle.join_delta.proofs.Near.{shared_right}
+use Rattle.join_delta.proofs.sources.merge_sources.Given.{Over}
+use Rattle.join_delta.proofs.sources.merge_sources.Goals.{After-merge_change, After-merge_change-2, After-over_pairs, After-suspects}
+use Rattle.join_delta.proofs.sources.merge_sources.Goals as goal
+
+pub merge_change-requires-clause-fit : goal.merge_change-requires-clause-fit
+merge_change-requires-clause-fit g c =
+    let R = g.A.Look.relation c.args.left.now in
+    let Q = g.B.Look.relation c.args.right.now in
+    let F = c.args.left_tree.now in
+    let G = c.args.right_tree.now in
+    let d = c.args.delta.now in
+    let q = c.requires in
+    let right_rows : c.in_ok-right_rows.right_rows ≡ project (names Q.columns) d.add =
+    c.in_ok-right_rows.ensures ∙ (λ i. project ((c.in_ok-sides.ensures.right ∙ ap names c.columns-2.ensures.columns) i) (c.add.ensures i)) in
+    λ row there. right_parts_fit R Q F G d q.can c.rows_fit.ensures c.rows_fit-2.ensures c.is_tree.ensures c.is_tree-2.ensures q.left_meets q.right_meets q.applies q.view row (ap (λ N. has N row) (sym right_rows) ∙ there)
+
+pub new-right_change-requires : goal.new-right_change-requires
+new-right_change-requires g c =
+    let R = g.A.Look.relation c.args.left.now in
+    let Q = g.B.Look.relation c.args.right.now in
+    let F = c.args.left_tree.now in
+    let G = c.args.right_tree.now in
+    let d = c.args.delta.now in
+    let q = c.requires in
+    let right_rows : c.in_ok-right_rows.right_rows ≡ project (names Q.columns) d.add =
+    c.in_ok-right_rows.ensures ∙ (λ i. project ((c.in_ok-sides.ensures.right ∙ ap names c.columns-2.ensures.columns) i) (c.add.ensures i)) in
+    apart Q.rows (edited_right R Q G d) c.in_ok-change.change.remove c.in_ok-change.change.add
+    (c.in_ok-change.ensures.change ∙ ap (merge_delta G Q.rows) right_rows ∙ right_is R Q F G d q.can c.rows_fit.ensures c.rows_fit-2.ensures c.is_tree.ensures c.is_tree-2.ensures q.left_meets q.right_meets q.applies q.view)
+
+pub merge_change-requires-2-clause-columns : goal.merge_change-requires-2-clause-columns
+merge_change-requires-2-clause-columns g c = lefts_within (names (g.A.Look.relation c.args.left.now).columns) c.args.left_tree.now c.requires.can.within_left
+
+pub merge_change-requires-2-clause-fit : goal.merge_change-requires-2-clause-fit
+merge_change-requires-2-clause-fit g c =
+    let R = g.A.Look.relation c.args.left.now in
+    let Q = g.B.Look.relation c.args.right.now in
+    let F = c.args.left_tree.now in
+    let G = c.args.right_tree.now in
+    let d = c.args.delta.now in
+    let q = c.requires in
+    let left_rows : c.in_ok-left_rows.left_rows ≡ project (names R.columns) d.add =
+    c.in_ok-left_rows.ensures ∙ (λ i. project ((c.in_ok-sides.ensures.left ∙ ap names c.columns.ensures.columns) i) (c.add-2.ensures i)) in
+    λ row there. left_parts_fit R Q F G d q.can c.rows_fit.ensures c.rows_fit-2.ensures c.is_tree.ensures c.is_tree-2.ensures q.left_meets q.right_meets q.applies q.view row (ap (λ N. has N row) (sym left_rows) ∙ there)
+
+pub suspects-requires-clause-have : goal.suspects-requires-clause-have
+suspects-requires-clause-have g c =
+    let R = g.A.Look.relation c.args.left.now in
+    let Q = g.B.Look.relation c.args.right.now in
+    let F = c.args.left_tree.now in
+    let G = c.args.right_tree.now in
+    let d = c.args.delta.now in
+    let q = c.requires in
+    let right_rows : c.in_ok-right_rows.right_rows ≡ project (names Q.columns) d.add =
+    c.in_ok-right_rows.ensures ∙ (λ i. project ((c.in_ok-sides.ensures.right ∙ ap names c.columns-2.ensures.columns) i) (c.add.ensures i)) in
+    let changes : c.new-right_change.result ≡ join_delta_right (names Q.columns) G Q.rows d =
+    c.new-right_change.ensures ∙ c.in_ok-change.ensures.change ∙ ap (merge_delta G Q.rows) right_rows in
+    let change_fits : (row : Row) → has c.new-right_change.result.add row ≡ true → Fits Q.columns row = λ row there.
+    merge_fits Q.columns G Q.rows (project (names Q.columns) d.add) c.rows_fit-2.ensures (right_parts_fit R Q F G d q.can c.rows_fit.ensures c.rows_fit-2.ensures c.is_tree.ensures c.is_tree-2.ensures q.left_meets q.right_meets q.applies q.view) row
+    (ap (λ (x : Delta). has x.add row) (sym changes) ∙ there) in
+    let shared : c.in_ok-sides.sides.shared ≡ shared_names R.columns Q.columns =
+    c.in_ok-sides.ensures.shared ∙ (λ i. set.intersection (names (c.columns.ensures.columns i)) (names (c.columns-2.ensures.columns i))) in
+    λ row there k i. shared_right R.columns Q.columns row (change_fits row there) k (ap (λ C. set.contains C k) (sym shared) ∙ i)
+
+pub over_pairs-requires-clause-rows : goal.over_pairs-requires-clause-rows
+over_pairs-requires-clause-rows g c =
+    let R = g.A.Look.relation c.args.left.now in
+    let Q = g.B.Look.relation c.args.right.now in
+    let F = c.args.left_tree.now in
+    let G = c.args.right_tree.now in
+    let d = c.args.delta.now in
+    let q = c.requires in
+    let shared : c.in_ok-sides.sides.shared ≡ shared_names R.columns Q.columns =
+    c.in_ok-sides.ensures.shared ∙ (λ i. set.intersection (names (c.columns.ensures.columns i)) (names (c.columns-2.ensures.columns i))) in
+    let suspected : c.in_ok-suspects.suspects ≡ suspects (shared_names R.columns Q.columns) (names R.columns) R.rows d c.new-right_change.result.add =
+    c.in_ok-suspects.ensures.suspects ∙ (λ i. suspects (shared i) ((c.in_ok-sides.ensures.left ∙ ap names c.columns.ensures.columns) i) R.rows d c.new-right_change.result.add) in
+    let left_rows : c.in_ok-left_rows.left_rows ≡ project (names R.columns) d.add =
+    c.in_ok-left_rows.ensures ∙ (λ i. project ((c.in_ok-sides.ensures.left ∙ ap names c.columns.ensures.columns) i) (c.add-2.ensures i)) in
+    let merges : ◌≡◌ {A = Delta} (record { remove = c.in_ok-merged.merged.remove; add = c.in_ok-merged.merged.add }) (merge_delta F R.rows (project (names R.columns) d.add)) =
+    c.in_ok-merged.ensures.change ∙ ap (merge_delta F R.rows) left_rows in
+    λ row there. elim (from_union _ _ row (ap (λ N. has N row) (sym c.in_ok-tested.ensures) ∙ there)) [
+      | inl i ↦ suspects_fit R Q F G d q.can c.rows_fit.ensures c.rows_fit-2.ensures c.is_tree.ensures c.is_tree-2.ensures q.left_meets q.right_meets q.applies q.view c.new-right_change.result.add row
+          (ap (λ N. has N row) (sym suspected) ∙ (from_minus c.in_ok-suspects.suspects c.in_ok-merged.merged.remove row i).0)
+      | inr i ↦ merge_fits R.columns F R.rows (project (names R.columns) d.add) c.rows_fit.ensures (left_parts_fit R Q F G d q.can c.rows_fit.ensures c.rows_fit-2.ensures c.is_tree.ensures c.is_tree-2.ensures q.left_meets q.right_meets q.applies q.view) row
+          (ap (λ (x : Delta). has x.add row) (sym merges) ∙ (from_minus c.in_ok-merged.merged.add c.in_ok-left_rows.left_rows row i).0)
+    ]
+
+pub over_pairs-requires-clause-change : goal.over_pairs-requires-clause-change
+over_pairs-requires-clause-change g c =
+    let R = g.A.Look.relation c.args.left.now in
+    let Q = g.B.Look.relation c.args.right.now in
+    let F = c.args.left_tree.now in
+    let G = c.args.right_tree.now in
+    let d = c.args.delta.now in
+    let q = c.requires in
+    let right_rows : c.in_ok-right_rows.right_rows ≡ project (names Q.columns) d.add =
+    c.in_ok-right_rows.ensures ∙ (λ i. project ((c.in_ok-sides.ensures.right ∙ ap names c.columns-2.ensures.columns) i) (c.add.ensures i)) in
+    let changes : c.new-right_change.result ≡ join_delta_right (names Q.columns) G Q.rows d =
+    c.new-right_change.ensures ∙ c.in_ok-change.ensures.change ∙ ap (merge_delta G Q.rows) right_rows in
+    let change_fits : (row : Row) → has c.new-right_change.result.add row ≡ true → Fits Q.columns row = λ row there.
+    merge_fits Q.columns G Q.rows (project (names Q.columns) d.add) c.rows_fit-2.ensures (right_parts_fit R Q F G d q.can c.rows_fit.ensures c.rows_fit-2.ensures c.is_tree.ensures c.is_tree-2.ensures q.left_meets q.right_meets q.applies q.view) row
+    (ap (λ (x : Delta). has x.add row) (sym changes) ∙ there) in
+    change_fits
+
+pub new-left_change-requires : goal.new-left_change-requires
+new-left_change-requires g c =
+    let R = g.A.Look.relation c.args.left.now in
+    let Q = g.B.Look.relation c.args.right.now in
+    let F = c.args.left_tree.now in
+    let G = c.args.right_tree.now in
+    let d = c.args.delta.now in
+    let q = c.requires in
+    let left_rows : c.in_ok-left_rows.left_rows ≡ project (names R.columns) d.add =
+    c.in_ok-left_rows.ensures ∙ (λ i. project ((c.in_ok-sides.ensures.left ∙ ap names c.columns.ensures.columns) i) (c.add-2.ensures i)) in
+    let merges : ◌≡◌ {A = Delta} (record { remove = c.in_ok-merged.merged.remove; add = c.in_ok-merged.merged.add }) (merge_delta F R.rows (project (names R.columns) d.add)) =
+    c.in_ok-merged.ensures.change ∙ ap (merge_delta F R.rows) left_rows in
+    apart R.rows (merged_left R Q F G d q.can c.rows_fit.ensures c.rows_fit-2.ensures c.is_tree.ensures c.is_tree-2.ensures q.left_meets q.right_meets q.applies q.view) c.in_ok-merged.merged.remove c.in_ok-merged.merged.add (merges ∙ left_merges R Q F G d q.can c.rows_fit.ensures c.rows_fit-2.ensures c.is_tree.ensures c.is_tree-2.ensures q.left_meets q.right_meets q.applies q.view)
+
+-- ---- looks, call by call
+
+right_few : (g : Over) (c : After-merge_change g) → count_of c.in_ok-right_rows.right_rows ≤ count_of c.args.delta.now.add
+right_few g c = part_few c.in_ok-sides.sides.right c.in_ok-sides.sides.right c.add.result.now c.args.delta.now.add c.in_ok-right_rows.right_rows c.in_ok-right_rows.ensures c.add.ensures
+
+right_step : (g : Over) (c : After-merge_change g) (a b : ℕ) → g.A.Look.within c.args.left.now a → g.B.Look.within c.args.right.now b → length c.args.right_tree.now ≤ 64
+    → c.merge_change.new.looked ≤ c.args.looked.now + 65 * (rows_of c.args.delta.now * (a * b))
+right_step g c a b v w edges =
+    let few = right_few g c in
+    right_looks a b (c.finds_are_few.ensures.some a v) (c.finds_are_few-2.ensures.some b w) (count_of c.in_ok-right_rows.right_rows) (length c.args.right_tree.now) (rows_of c.args.delta.now)
+    c.args.looked.now c.merge_change.new.looked (omega arith) edges (c.merge_change.ensures.looks b w)
+
+left_few : (g : Over) (c : After-merge_change-2 g) → count_of c.in_ok-left_rows.left_rows ≤ count_of c.args.delta.now.add
+left_few g c = part_few c.in_ok-sides.sides.left c.in_ok-sides.sides.left c.add-2.result.now c.args.delta.now.add c.in_ok-left_rows.left_rows c.in_ok-left_rows.ensures c.add-2.ensures
+
+left_step : (g : Over) (c : After-merge_change-2 g) (a b : ℕ) → g.A.Look.within c.args.left.now a → g.B.Look.within c.args.right.now b → length c.args.left_tree.now ≤ 64
+    → c.merge_change-2.new.looked ≤ c.merge_change.new.looked + 65 * (rows_of c.args.delta.now * (a * b))
+left_step g c a b v w edges =
+    let few = left_few g c in
+    left_looks a b (c.finds_are_few.ensures.some a v) (c.finds_are_few-2.ensures.some b w) (count_of c.in_ok-left_rows.left_rows) (length c.args.left_tree.now) (rows_of c.args.delta.now)
+    c.merge_change.new.looked c.merge_change-2.new.looked (omega arith) edges (c.merge_change-2.ensures.looks a v)
+
+suspect_step : (g : Over) (c : After-suspects g) (a b : ℕ) → g.A.Look.within c.args.left.now a → g.B.Look.within c.args.right.now b → length c.args.right_tree.now ≤ 64
+    → c.suspects.new.looked ≤ c.merge_change-2.new.looked + 65 * (rows_of c.args.delta.now * (a * b))
+suspect_step g c a b v w edges =
+    let N = (g.B.Look.relation c.args.right.now).rows in
+    let G = c.args.right_tree.now in
+    let few = part_few c.in_ok-sides.sides.right c.in_ok-sides.sides.right c.add.result.now c.args.delta.now.add c.in_ok-right_rows.right_rows c.in_ok-right_rows.ensures c.add.ensures in
+    let new = new_right (g.B.Look.asked c.args.right.now) G N c.in_ok-right_rows.right_rows c.new-right_change.result b edges (c.finds_are_few-2.ensures.gives b w) c.requires.right_asked
+    (c.new-right_change.ensures ∙ c.in_ok-change.ensures.change) in
+    suspect_looks a b (c.finds_are_few.ensures.some a v) (c.finds_are_few-2.ensures.some b w) (count_of c.in_ok-right_rows.right_rows) (count_of c.new-right_change.result.add) (rows_of c.args.delta.now)
+    c.merge_change-2.new.looked c.suspects.new.looked (omega (arith, few)) new (c.suspects.ensures.looks a v)
+
+-- the right rows are told apart
+right_rows_keyed : (g : Over) (c : After-over_pairs g) → AreKeyed c.in_ok-sides.sides.shared (new_view (g.B.Look.relation c.args.right.now).rows c.new-right_change.result)
+right_rows_keyed g c =
+    let R = g.A.Look.relation c.args.left.now in
+    let Q = g.B.Look.relation c.args.right.now in
+    let F = c.args.left_tree.now in
+    let G = c.args.right_tree.now in
+    let d = c.args.delta.now in
+    let q = c.requires in
+    let right_rows : c.in_ok-right_rows.right_rows ≡ project (names Q.columns) d.add =
+    c.in_ok-right_rows.ensures ∙ (λ i. project ((c.in_ok-sides.ensures.right ∙ ap names c.columns-2.ensures.columns) i) (c.add.ensures i)) in
+    let changes : c.new-right_change.result ≡ join_delta_right (names Q.columns) G Q.rows d =
+    c.new-right_change.ensures ∙ c.in_ok-change.ensures.change ∙ ap (merge_delta G Q.rows) right_rows in
+    let shared : c.in_ok-sides.sides.shared ≡ shared_names R.columns Q.columns =
+    c.in_ok-sides.ensures.shared ∙ (λ i. set.intersection (names (c.columns.ensures.columns i)) (names (c.columns-2.ensures.columns i))) in
+    subst (λ C. AreKeyed C (new_view Q.rows c.new-right_change.result)) (sym shared)
+    (subst (λ (x : Delta). AreKeyed (shared_names R.columns Q.columns) (new_view Q.rows x)) (sym changes)
+    (right_keyed R Q F G d q.can c.rows_fit.ensures c.rows_fit-2.ensures c.is_tree.ensures c.is_tree-2.ensures q.left_meets q.right_meets q.applies q.view))
+
+-- so few rows are tested
+tested_step : (g : Over) (c : After-over_pairs g) (a b : ℕ) → g.A.Look.within c.args.left.now a → g.B.Look.within c.args.right.now b → length c.args.left_tree.now ≤ 64 → length c.args.right_tree.now ≤ 64
+    → count_of c.in_ok-tested.tested ≤ 129 * (rows_of c.args.delta.now * (a * b))
+tested_step g c a b v w edges more =
+    let R = g.A.Look.relation c.args.left.now in
+    let Q = g.B.Look.relation c.args.right.now in
+    let F = c.args.left_tree.now in
+    let G = c.args.right_tree.now in
+    let d = c.args.delta.now in
+    let q = c.requires in
+    let some_a = c.finds_are_few.ensures.some a v in
+    let some_b = c.finds_are_few-2.ensures.some b w in
+    let shared : c.in_ok-sides.sides.shared ≡ shared_names R.columns Q.columns =
+    c.in_ok-sides.ensures.shared ∙ (λ i. set.intersection (names (c.columns.ensures.columns i)) (names (c.columns-2.ensures.columns i))) in
+    let parts_few = part_few c.in_ok-sides.sides.right c.in_ok-sides.sides.right c.add.result.now d.add c.in_ok-right_rows.right_rows c.in_ok-right_rows.ensures c.add.ensures in
+    let new = new_right (g.B.Look.asked c.args.right.now) G Q.rows c.in_ok-right_rows.right_rows c.new-right_change.result b more (c.finds_are_few-2.ensures.gives b w) q.right_asked
+    (c.new-right_change.ensures ∙ c.in_ok-change.ensures.change) in
+    let few = part_few c.in_ok-sides.sides.left c.in_ok-sides.sides.left c.add-2.result.now d.add c.in_ok-left_rows.left_rows c.in_ok-left_rows.ensures c.add-2.ensures in
+    let suspected : count_of c.in_ok-suspects.suspects ≤ count_of d.remove + a * count_of c.new-right_change.result.add =
+    subst (λ X. count_of X ≤ count_of d.remove + a * count_of c.new-right_change.result.add) (sym c.in_ok-suspects.ensures.suspects)
+    (suspects_few c.in_ok-sides.sides.shared c.in_ok-sides.sides.left R.rows d c.new-right_change.result.add a
+    (λ k. c.finds_are_few.ensures.gives a v c.in_ok-sides.sides.shared k (subst (Contains (g.A.Look.asked c.args.left.now)) (sym shared) q.left_shared))) in
+    let merges = ap (λ (x : Delta). count_of (minus x.add c.in_ok-left_rows.left_rows)) c.in_ok-merged.ensures.change in
+    let revised = revised_few F R.rows c.in_ok-left_rows.left_rows a edges (gives_by_edges (g.A.Look.asked c.args.left.now) F R.rows a (c.finds_are_few.ensures.gives a v) q.left_asked) in
+    let is = ap count_of c.in_ok-tested.ensures in
+    let both = union_len (minus c.in_ok-suspects.suspects c.in_ok-merged.merged.remove) (minus c.in_ok-merged.merged.add c.in_ok-left_rows.left_rows) in
+    let less = minus_len c.in_ok-suspects.suspects c.in_ok-merged.merged.remove in
+    tested_few a b some_a some_b (rows_of d) (count_of d.remove) (count_of d.add) (count_of c.new-right_change.result.add) (count_of c.in_ok-left_rows.left_rows) (count_of c.in_ok-suspects.suspects)
+    (count_of (minus c.in_ok-merged.merged.add c.in_ok-left_rows.left_rows)) (count_of c.in_ok-tested.tested)
+    (omega arith) (new_few a b some_a some_b (count_of c.in_ok-right_rows.right_rows) (count_of c.new-right_change.result.add) (count_of d.add) parts_few new) few suspected (omega (arith, merges, revised)) (omega (arith, is, both, less))
+
+-- each with one right row
+test_step : (g : Over) (c : After-over_pairs g) (a b : ℕ) → g.A.Look.within c.args.left.now a → g.B.Look.within c.args.right.now b → length c.args.left_tree.now ≤ 64 → length c.args.right_tree.now ≤ 64
+    → c.over_pairs.new.looked ≤ c.suspects.new.looked + 387 * (rows_of c.args.delta.now * (a * b) * (a * b))
+test_step g c a b v w edges more =
+    test_looks a b (c.finds_are_few.ensures.some a v) (c.finds_are_few-2.ensures.some b w) (rows_of c.args.delta.now) (count_of c.in_ok-tested.tested) c.suspects.new.looked c.over_pairs.new.looked
+    (tested_step g c a b v w edges more) (c.over_pairs.ensures.looks a b v w (right_rows_keyed g c))
+
+pub returns : goal.returns
+returns g c =
+    let R = g.A.Look.relation c.args.left.now in
+    let Q = g.B.Look.relation c.args.right.now in
+    let F = c.args.left_tree.now in
+    let G = c.args.right_tree.now in
+    let d = c.args.delta.now in
+    let q = c.requires in
+    let left_columns : c.in_ok-sides.sides.left ≡ names R.columns = c.in_ok-sides.ensures.left ∙ ap names c.columns.ensures.columns in
+    let right_columns : c.in_ok-sides.sides.right ≡ names Q.columns = c.in_ok-sides.ensures.right ∙ ap names c.columns-2.ensures.columns in
+    let shared : c.in_ok-sides.sides.shared ≡ shared_names R.columns Q.columns =
+    c.in_ok-sides.ensures.shared ∙ (λ i. set.intersection (names (c.columns.ensures.columns i)) (names (c.columns-2.ensures.columns i))) in
+    let right_rows : c.in_ok-right_rows.right_rows ≡ project (names Q.columns) d.add = c.in_ok-right_rows.ensures ∙ (λ i. project (right_columns i) (c.add.ensures i)) in
+    let left_rows : c.in_ok-left_rows.left_rows ≡ project (names R.columns) d.add = c.in_ok-left_rows.ensures ∙ (λ i. project (left_columns i) (c.add-2.ensures i)) in
+    let changes : c.new-right_change.result ≡ join_delta_right (names Q.columns) G Q.rows d =
+    c.new-right_change.ensures ∙ c.in_ok-change.ensures.change ∙ ap (merge_delta G Q.rows) right_rows in
+    let merges : ◌≡◌ {A = Delta} (record { remove = c.in_ok-merged.merged.remove; add = c.in_ok-merged.merged.add }) (merge_delta F R.rows (project (names R.columns) d.add)) =
+    c.in_ok-merged.ensures.change ∙ ap (merge_delta F R.rows) left_rows in
+    let suspected : c.in_ok-suspects.suspects ≡ suspects (shared_names R.columns Q.columns) (names R.columns) R.rows d c.new-right_change.result.add =
+    c.in_ok-suspects.ensures.suspects ∙ (λ i. suspects (shared i) (left_columns i) R.rows d c.new-right_change.result.add) in
+    let e = goal.at.returns g c in
+    record {
+      merged = record {
+        sides = record { left = left_columns; right = right_columns; shared = shared };
+        left = c.new-left_change.ensures ∙ merges ∙ left_merges R Q F G d q.can c.rows_fit.ensures c.rows_fit-2.ensures c.is_tree.ensures c.is_tree-2.ensures q.left_meets q.right_meets q.applies q.view;
+        right = changes ∙ right_is R Q F G d q.can c.rows_fit.ensures c.rows_fit-2.ensures c.is_tree.ensures c.is_tree-2.ensures q.left_meets q.right_meets q.applies q.view;
+        parts = right_rows;
+        over = surplus_made R Q F G d c.new-right_change.result (record { remove = c.in_ok-merged.merged.remove; add = c.in_ok-merged.merged.add })
+            c.in_ok-suspects.suspects c.in_ok-left_rows.left_rows c.in_ok-tested.tested c.in_ok-over.over changes merges left_rows suspected c.in_ok-tested.ensures c.in_ok-over.ensures.over
+            ∙ surplus_is R Q F G d q.can c.rows_fit.ensures c.rows_fit-2.ensures c.is_tree.ensures c.is_tree-2.ensures q.left_meets q.right_meets q.applies q.view;
+      };
+      looks = λ a b v w edges more.
+          after_tests a b (c.finds_are_few.ensures.some a v) (c.finds_are_few-2.ensures.some b w) (rows_of d) c.args.looked.now c.merge_change.new.looked c.merge_change-2.new.looked c.suspects.new.looked c.over_pairs.new.looked
+          (right_step g e.After-merge_change a b v w more) (left_step g e.After-merge_change-2 a b v w edges) (suspect_step g e.After-suspects a b v w more) (test_step g e.After-over_pairs a b v w edges more);
+      few = λ a b v w edges more.
+          let pairs = c.in_ok-over.ensures.few (right_rows_keyed g e.After-over_pairs) in
+          let few = tested_step g e.After-over_pairs a b v w edges more in
+          omega (arith, pairs, few);
+    }
+
+pub returns-in_err-change-clause-looks : goal.returns-in_err-change-clause-looks
+returns-in_err-change-clause-looks g c = λ a b v w edges more.
+    let e = goal.at.returns-in_err-change-clause-looks g c in
+    after_right a b (c.finds_are_few.ensures.some a v) (c.finds_are_few-2.ensures.some b w) (rows_of c.args.delta.now) c.args.looked.now c.merge_change.new.looked
+    (right_step g e.After-merge_change a b v w more)
+
+pub returns-in_err-left_rows-clause-looks : goal.returns-in_err-left_rows-clause-looks
+returns-in_err-left_rows-clause-looks g c = λ a b v w edges more.
+    let e = goal.at.returns-in_err-left_rows-clause-looks g c in
+    after_right a b (c.finds_are_few.ensures.some a v) (c.finds_are_few-2.ensures.some b w) (rows_of c.args.delta.now) c.args.looked.now c.merge_change.new.looked
+    (right_step g e.After-merge_change a b v w more)
+
+pub returns-in_err-merged-clause-looks : goal.returns-in_err-merged-clause-looks
+returns-in_err-merged-clause-looks g c = λ a b v w edges more.
+    let e = goal.at.returns-in_err-merged-clause-looks g c in
+    after_left a b (c.finds_are_few.ensures.some a v) (c.finds_are_few-2.ensures.some b w) (rows_of c.args.delta.now) c.args.looked.now c.merge_change.new.looked c.merge_change-2.new.looked
+    (right_step g e.After-merge_change a b v w more) (left_step g e.After-merge_change-2 a b v w edges)
+
+pub returns-in_err-suspects-clause-looks : goal.returns-in_err-suspects-clause-looks
+returns-in_err-suspects-clause-looks g c = λ a b v w edges more.
+    let e = goal.at.returns-in_err-suspects-clause-looks g c in
+    after_suspects a b (c.finds_are_few.ensures.some a v) (c.finds_are_few-2.ensures.some b w) (rows_of c.args.delta.now) c.args.looked.now c.merge_change.new.looked c.merge_change-2.new.looked c.suspects.new.looked
+    (right_step g e.After-merge_change a b v w more) (left_step g e.After-merge_change-2 a b v w edges) (suspect_step g e.After-suspects a b v w more)
+
+pub returns-in_err-tested-clause-looks : goal.returns-in_err-tested-clause-looks
+returns-in_err-tested-clause-looks g c = λ a b v w edges more.
+    let e = goal.at.returns-in_err-tested-clause-looks g c in
+    after_suspects a b (c.finds_are_few.ensures.some a v) (c.finds_are_few-2.ensures.some b w) (rows_of c.args.delta.now) c.args.looked.now c.merge_change.new.looked c.merge_change-2.new.looked c.suspects.new.looked
+    (right_step g e.After-merge_change a b v w more) (left_step g e.After-merge_change-2 a b v w edges) (suspect_step g e.After-suspects a b v w more)
+
+pub returns-in_err-over-clause-looks : goal.returns-in_err-over-clause-looks
+returns-in_err-over-clause-looks g c = λ a b v w edges more.
+    let e = goal.at.returns-in_err-over-clause-looks g c in
+    after_tests a b (c.finds_are_few.ensures.some a v) (c.finds_are_few-2.ensures.some b w) (rows_of c.args.delta.now) c.args.looked.now c.merge_change.new.looked c.merge_change-2.new.looked c.suspects.new.looked c.over_pairs.new.looked
+    (right_step g e.After-merge_change a b v w more) (left_step g e.After-merge_change-2 a b v w edges) (suspect_step g e.After-suspects a b v w more) (test_step g e.After-over_pairs a b v w edges more)

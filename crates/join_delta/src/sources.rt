@@ -1,0 +1,150 @@
+//! Both sources of a join, merged with an edit of it.
+ghost use Rattle.std.specs.Prelude.{◌≡◌, ◌≢◌, ◌≤◌, ◌+◌, ◌*◌, ℕ, true, length, Contains, IfOk, is_some};
+ghost use Rattle.lens_values.specs.SortedSet as set;
+ghost use Rattle.lens_specs.specs.Delta.{Applies};
+ghost use Rattle.lens_specs.specs.Dependencies.{AllEdges, MeetsTree};
+ghost use Rattle.lens_specs.specs.Relation.{minus, union};
+ghost use Rattle.lens_specs.specs.Rows.{at};
+ghost use Rattle.lens_laws.specs.KeyedDeltas.{suspects as suspects_of};
+ghost use Rattle.lens_laws.specs.Work.{rows_of};
+ghost use Rattle.join_delta.specs.Joined.{AreJoined, CanBeJoined, edited, joined, shared_names};
+ghost use Rattle.join_delta.specs.Surplus.{IsMerged};
+
+use crate::merging::{Change, merge_change};
+use crate::over::over_pairs;
+use crate::sides::{Sides, sides_of};
+use fd_tree::Tree;
+use lens_values::NoMemory;
+use row_sets::RowSet;
+use signed_delta::{Delta, Look, find_each, finds_are_few, rows_fit};
+use std::alloc::Global;
+use std::sync::ledger::Ledger;
+use step_counter::Steps;
+
+/// What an edit of a join makes of its sources before rows are deleted.
+#[derive(Debug, Drop)]
+pub struct Merged {
+    /// The names of the sources' columns.
+    pub sides: Sides,
+    /// What merging changes in the left source.
+    pub left: Delta,
+    /// What merging changes in the right source.
+    pub right: Delta,
+    /// The right parts of the added rows.
+    pub parts: RowSet,
+    /// The rows that the merged sources join, and that the edited view lacks.
+    pub over: RowSet,
+}
+
+/// Merges each source with its part of the added rows, and finds what they then join too much.
+///
+/// Only the parts of removed rows, the rows that agree with a new or revised right row, and the
+/// merged rows can be left parts of such rows, so these alone are tested: not those that the merge
+/// removes, nor the parts of added rows, which join to the added rows alone.
+pub fn merge_sources<A: Look, B: Look, L: Ledger>(
+    alloc: Global,
+    left: &A,
+    left_tree: &Tree,
+    right: &B,
+    right_tree: &Tree,
+    delta: &Delta,
+    looked: &mut Steps<L>,
+) -> Result<Merged, NoMemory>
+    requires can { let U = (A.relation left.now).columns in
+        CanBeJoined U (B.relation right.now).columns left_tree.now right_tree.now }
+    requires left_asked { AllEdges (λ e. Contains (A.asked left.now) e.left) left_tree.now }
+    requires left_shared { let U = (A.relation left.now).columns in
+        Contains (A.asked left.now) (shared_names U (B.relation right.now).columns) }
+    requires left_meets { MeetsTree (A.relation left.now).rows left_tree.now }
+    requires right_asked { AllEdges (λ e. Contains (B.asked right.now) e.left) right_tree.now }
+    requires right_shared { let U = (A.relation left.now).columns in
+        Contains (B.asked right.now) (shared_names U (B.relation right.now).columns) }
+    requires right_meets { MeetsTree (B.relation right.now).rows right_tree.now }
+    requires applies { Applies delta.now (joined (A.relation left.now) (B.relation right.now)) }
+    requires view { let R = A.relation left.now in let Q = B.relation right.now in
+        AreJoined R.columns Q.columns left_tree.now right_tree.now (edited R Q delta.now) }
+    ensures merged { let R = A.relation left.now in let Q = B.relation right.now in
+        IfOk result (IsMerged R Q left_tree.now right_tree.now delta.now) }
+    ensures looks { (a b : ℕ) → A.within left.now a → B.within right.now b
+        → length left_tree.now ≤ 64 → length right_tree.now ≤ 64
+        → looked.new ≤ looked.old + 582 * (rows_of delta.now * (a * b) * (a * b)) }
+    ensures few { IfOk result (λ merged.
+        (a b : ℕ) → A.within left.now a → B.within right.now b
+        → length left_tree.now ≤ 64 → length right_tree.now ≤ 64
+        → length (set.items merged.over) ≤ 129 * (rows_of delta.now * (a * b))) }
+{
+    rows_fit(left);
+    rows_fit(right);
+    finds_are_few(left);
+    finds_are_few(right);
+    left_tree.is_tree();
+    right_tree.is_tree();
+    let sides = sides_of(alloc, left.columns(), right.columns())?;
+    let right_rows = delta.add().project(alloc, &sides.right)?;
+    let change = merge_change(alloc, right_tree, right, &right_rows, looked)?;
+    let right_change = Delta::new(change.remove, change.add);
+    let left_rows = delta.add().project(alloc, &sides.left)?;
+    let merged = merge_change(alloc, left_tree, left, &left_rows, looked)?;
+    let suspects = suspects(alloc, &sides, left, &right_change, delta, looked)?;
+    let tested = tested(alloc, &suspects, &merged, &left_rows)?;
+    let over = over_pairs(
+        alloc,
+        &tested,
+        &sides,
+        left,
+        right,
+        &right_change,
+        delta,
+        looked,
+    )?;
+    let left_change = Delta::new(merged.remove, merged.add);
+    Ok(Merged {
+        sides,
+        left: left_change,
+        right: right_change,
+        parts: right_rows,
+        over,
+    })
+}
+
+// The left rows that may have to go: the parts of removed rows, and those that agree with a new
+// right row.
+fn suspects<A: Look, L: Ledger>(
+    alloc: Global,
+    sides: &Sides,
+    left: &A,
+    change: &Delta,
+    delta: &Delta,
+    looked: &mut Steps<L>,
+) -> Result<RowSet, NoMemory>
+    requires some { length (set.items sides.now.shared) ≢ 0 }
+    requires asked { Contains (A.asked left.now) sides.now.shared }
+    requires have { (row : _) → set.contains change.now.add row ≡ true
+        → (c : _) → set.contains sides.now.shared c ≡ true → is_some (at row c) ≡ true }
+    ensures suspects { let S = sides.now.shared in let M = (A.relation left.now).rows in
+        IfOk result (λ rows. rows ≡ suspects_of S sides.now.left M delta.now change.now.add) }
+    ensures looks { (n : ℕ) → A.within left.now n → looked.new
+        ≤ looked.old + n * length (set.items change.now.add) }
+{
+    let parts = delta.remove().project(alloc, &sides.left)?;
+    if change.add().rows().is_empty() {
+        return Ok(parts);
+    }
+    let near = find_each(alloc, &sides.shared, change.add(), left, looked)?;
+    parts.union(alloc, &near)
+}
+
+// The suspects that the merge leaves, and the rows that it adds beside the parts of added rows.
+fn tested(
+    alloc: Global,
+    suspects: &RowSet,
+    merged: &Change,
+    parts: &RowSet,
+) -> Result<RowSet, NoMemory>
+    ensures { IfOk result (λ tested. tested
+        ≡ union (minus suspects.now merged.now.remove) (minus merged.now.add parts.now)) }
+{
+    let left = suspects.minus(alloc, &merged.remove)?;
+    let revised = merged.add.minus(alloc, parts)?;
+    left.union(alloc, &revised)
+}

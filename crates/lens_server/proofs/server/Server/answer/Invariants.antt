@@ -1,4 +1,0 @@
-use Rattle.lens_server.proofs.server.Server.answer.Given as goal
-
-abbrev pub ghosts-answer_counted : goal.ghosts-answer_counted
-ghosts-answer_counted g a = record { name = a.blank.name; parts = a.blank.parts }

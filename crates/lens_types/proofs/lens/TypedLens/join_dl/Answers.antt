@@ -1,9 +1,0 @@
-use Rattle.std.proofs.Common.{refl}
-use Rattle.lens_types.proofs.KeptLenses.{given_back}
-use Rattle.lens_types.proofs.lens.TypedLens.join_dl.Goals as goal
-
-pub returns-in-Err : goal.returns-in-Err
-returns-in-Err c = rw c.with.ensures (given_back c.in-Err.why _ _ _ refl c.in-Err.ensures.sort)
-
-pub invariant_of-result : goal.invariant_of-result
-invariant_of-result c = rw (c.in-Ok-boxed.ensures, c.in-Ok-boxed-2.ensures) c.in-Ok.ensures.kept

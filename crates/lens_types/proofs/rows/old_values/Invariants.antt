@@ -1,0 +1,8 @@
+use Rattle.std.proofs.Common.{◌≡◌, take}
+use Rattle.std.specs.List.{filter_map}
+use Rattle.lens_specs.specs.Rename.{renamed}
+use Rattle.lens_specs.specs.Rows.{at}
+use Rattle.lens_types.proofs.rows.old_values.Given as goal
+
+abbrev pub invariant-loop-name : goal.invariant-loop-name
+invariant-loop-name l = l.found.items ≡ filter_map (λ c. at l.row (renamed l.to l.col c)) (take l.name-index l.name-items)

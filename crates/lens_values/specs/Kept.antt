@@ -1,9 +1,0 @@
--- The bytes of a text, wherever they lie.
-use Rattle.std.specs.Prelude.{ℕ, List, string_bytes}
-use Rattle.lens_values.specs.declared.text.Kept.{Kept}
-use Rattle.lens_values.specs.declared.text.Kept.TheVariants.{Short, Long}
-
--- those of a short text in its value, or those that its copies share
-abbrev pub bytes_of : Kept → List ℕ
-bytes_of (Short s) = s.bytes
-bytes_of (Long r) = string_bytes r.value

@@ -1,0 +1,147 @@
+//! Lines read as JSON, with examples of RFC 8259 and values that other programs give.
+
+/// Sessions, one after another.
+pub(super) const SESSIONS: &str =
+    r#"With nothing: lines that are JSON and no request, and lines that are no JSON: text behind the value, text that the grammar does not have, half of a surrogate pair, a number that is too large for a float, and values that nest too deep. Then numbers that are integers and those that are none, texts, and the last of two members of one name.
+   42   
+{"error":12,"member":"do","ok":false}
+null
+{"error":12,"member":"do","ok":false}
+{}
+{"error":12,"member":"do","ok":false}
+1e308
+{"error":12,"member":"do","ok":false}
+1.7976931348623157e308
+{"error":12,"member":"do","ok":false}
+-1E+308
+{"error":12,"member":"do","ok":false}
+1e-400
+{"error":12,"member":"do","ok":false}
+[1e308,{"a":-1e308}]
+{"error":12,"member":"do","ok":false}
+[]
+{"error":12,"member":"do","ok":false}
+"list"
+{"error":12,"member":"do","ok":false}
+true false
+{"error":11,"ok":false}
+[] []
+{"error":11,"ok":false}
+{"do":"list"}x
+{"error":11,"ok":false}
+1,
+{"error":11,"ok":false}
+[1,]
+{"error":11,"ok":false}
+{"a":1,}
+{"error":11,"ok":false}
+{"a" 1}
+{"error":11,"ok":false}
+{1:1}
+{"error":11,"ok":false}
+]
+{"error":11,"ok":false}
+TRUE
+{"error":11,"ok":false}
+NaN
+{"error":11,"ok":false}
+01
+{"error":11,"ok":false}
++1
+{"error":11,"ok":false}
+1.
+{"error":11,"ok":false}
+'a'
+{"error":11,"ok":false}
+"\uDEAD"
+{"error":11,"ok":false}
+"\uD834"
+{"error":11,"ok":false}
+"\uD834\u0041"
+{"error":11,"ok":false}
+"\uDD1E\uD834"
+{"error":11,"ok":false}
+{"\uD834":1}
+{"error":11,"ok":false}
+"\x41"
+{"error":11,"ok":false}
+1e309
+{"error":11,"ok":false}
+-1e309
+{"error":11,"ok":false}
+1.7976931348623159e308
+{"error":11,"ok":false}
+[0,[[1e309]]]
+{"error":11,"ok":false}
+{"a":{"b":[-1e309]}}
+{"error":11,"ok":false}
+[{"a":1e309},0]
+{"error":11,"ok":false}
+{"a":1e309,"a":1}
+{"error":11,"ok":false}
+[[[[[[[[[[[[[[[[[[[[[[[[[[[[[[[[[[[[[[[[[[[[[[[[[[[[[[[[[[[[[[[[[[[[[[[[[[[[[[[[[[[[[[[[[[[[[[[[[[[[[[[[[[[[[[[[[[[[[[[[[[[[[[[]]]]]]]]]]]]]]]]]]]]]]]]]]]]]]]]]]]]]]]]]]]]]]]]]]]]]]]]]]]]]]]]]]]]]]]]]]]]]]]]]]]]]]]]]]]]]]]]]]]]]]]]]]]]]]]]]]]]]]]]]]]]]]]
+{"error":12,"member":"do","ok":false}
+[[[[[[[[[[[[[[[[[[[[[[[[[[[[[[[[[[[[[[[[[[[[[[[[[[[[[[[[[[[[[[[[[[[[[[[[[[[[[[[[[[[[[[[[[[[[[[[[[[[[[[[[[[[[[[[[[[[[[[[[[[[[[[[[]]]]]]]]]]]]]]]]]]]]]]]]]]]]]]]]]]]]]]]]]]]]]]]]]]]]]]]]]]]]]]]]]]]]]]]]]]]]]]]]]]]]]]]]]]]]]]]]]]]]]]]]]]]]]]]]]]]]]]]]]]]]]]]]
+{"error":11,"ok":false}
+{"a":{"a":{"a":{"a":{"a":{"a":{"a":{"a":{"a":{"a":{"a":{"a":{"a":{"a":{"a":{"a":{"a":{"a":{"a":{"a":{"a":{"a":{"a":{"a":{"a":{"a":{"a":{"a":{"a":{"a":{"a":{"a":{"a":{"a":{"a":{"a":{"a":{"a":{"a":{"a":{"a":{"a":{"a":{"a":{"a":{"a":{"a":{"a":{"a":{"a":{"a":{"a":{"a":{"a":{"a":{"a":{"a":{"a":{"a":{"a":{"a":{"a":{"a":{"a":{"a":{"a":{"a":{"a":{"a":{"a":{"a":{"a":{"a":{"a":{"a":{"a":{"a":{"a":{"a":{"a":{"a":{"a":{"a":{"a":{"a":{"a":{"a":{"a":{"a":{"a":{"a":{"a":{"a":{"a":{"a":{"a":{"a":{"a":{"a":{"a":{"a":{"a":{"a":{"a":{"a":{"a":{"a":{"a":{"a":{"a":{"a":{"a":{"a":{"a":{"a":{"a":{"a":{"a":{"a":{"a":{"a":{"a":{"a":{"a":{"a":{"a":{"a":1}}}}}}}}}}}}}}}}}}}}}}}}}}}}}}}}}}}}}}}}}}}}}}}}}}}}}}}}}}}}}}}}}}}}}}}}}}}}}}}}}}}}}}}}}}}}}}}}}}}}}}}}}}}}}}}}}}}}}}}}}}}}}}}
+{"error":12,"member":"do","ok":false}
+{"a":{"a":{"a":{"a":{"a":{"a":{"a":{"a":{"a":{"a":{"a":{"a":{"a":{"a":{"a":{"a":{"a":{"a":{"a":{"a":{"a":{"a":{"a":{"a":{"a":{"a":{"a":{"a":{"a":{"a":{"a":{"a":{"a":{"a":{"a":{"a":{"a":{"a":{"a":{"a":{"a":{"a":{"a":{"a":{"a":{"a":{"a":{"a":{"a":{"a":{"a":{"a":{"a":{"a":{"a":{"a":{"a":{"a":{"a":{"a":{"a":{"a":{"a":{"a":{"a":{"a":{"a":{"a":{"a":{"a":{"a":{"a":{"a":{"a":{"a":{"a":{"a":{"a":{"a":{"a":{"a":{"a":{"a":{"a":{"a":{"a":{"a":{"a":{"a":{"a":{"a":{"a":{"a":{"a":{"a":{"a":{"a":{"a":{"a":{"a":{"a":{"a":{"a":{"a":{"a":{"a":{"a":{"a":{"a":{"a":{"a":{"a":{"a":{"a":{"a":{"a":{"a":{"a":{"a":{"a":{"a":{"a":{"a":{"a":{"a":{"a":{"a":{"a":1}}}}}}}}}}}}}}}}}}}}}}}}}}}}}}}}}}}}}}}}}}}}}}}}}}}}}}}}}}}}}}}}}}}}}}}}}}}}}}}}}}}}}}}}}}}}}}}}}}}}}}}}}}}}}}}}}}}}}}}}}}}}}}}}
+{"error":11,"ok":false}
+{"do":"define","text":"table n (k int)"}
+{"ok":true,"version":1}
+{"do":"put","view":"n","rows":[{"k":9223372036854775808}]}
+{"col":"k","error":40,"index":0,"list":"rows","ok":false}
+{"do":"put","view":"n","rows":[{"k":18446744073709551615}]}
+{"col":"k","error":40,"index":0,"list":"rows","ok":false}
+{"do":"put","view":"n","rows":[{"k":18446744073709551616}]}
+{"col":"k","error":40,"index":0,"list":"rows","ok":false}
+{"do":"put","view":"n","rows":[{"k":-9223372036854775809}]}
+{"col":"k","error":40,"index":0,"list":"rows","ok":false}
+{"do":"put","view":"n","rows":[{"k":-0}]}
+{"col":"k","error":40,"index":0,"list":"rows","ok":false}
+{"do":"put","view":"n","rows":[{"k":1.0}]}
+{"col":"k","error":40,"index":0,"list":"rows","ok":false}
+{"do":"put","view":"n","rows":[{"k":1e2}]}
+{"col":"k","error":40,"index":0,"list":"rows","ok":false}
+{"do":"put","view":"n","rows":[{"k":"42"}]}
+{"col":"k","error":40,"index":0,"list":"rows","ok":false}
+{"do":"put","view":"n","rows":[{"k":[42]}]}
+{"col":"k","error":40,"index":0,"list":"rows","ok":false}
+{"do":"put","view":"n","rows":[{"k":null}]}
+{"col":"k","error":40,"index":0,"list":"rows","ok":false}
+{"do":"put","view":"n","rows":[{"k":true}]}
+{"col":"k","error":40,"index":0,"list":"rows","ok":false}
+{"do":"put","view":"n","rows":[{"k":0},{"k":42},{"k":-1},{"k":9223372036854775807},{"k":-9223372036854775808}]}
+{"changed":[{"add":[{"k":-9223372036854775808},{"k":-1},{"k":0},{"k":42},{"k":9223372036854775807}],"remove":[],"table":"n"}],"ok":true,"version":2}
+{"do":"put","view":"n","rows":[{"k":1,"k":"b","\u006b":3}]}
+{"changed":[{"add":[{"k":3}],"remove":[{"k":-9223372036854775808},{"k":-1},{"k":0},{"k":42},{"k":9223372036854775807}],"table":"n"}],"ok":true,"version":3}
+{"do":"put","view":"n","rows":[{"k":1,"k":"b"}]}
+{"col":"k","error":40,"index":0,"list":"rows","ok":false}
+{"do":"define","text":"table s (t text)"}
+{"ok":true,"version":4}
+{"do":"put","view":"s","rows":[{"t":"Hello world!"}]}
+{"changed":[{"add":[{"t":"Hello world!"}],"remove":[],"table":"s"}],"ok":true,"version":5}
+{"do":"put","view":"s","rows":[{"t":""}]}
+{"changed":[{"add":[{"t":""}],"remove":[{"t":"Hello world!"}],"table":"s"}],"ok":true,"version":6}
+{"do":"put","view":"s","rows":[{"t":"\uD834\uDD1E"}]}
+{"changed":[{"add":[{"t":"𝄞"}],"remove":[{"t":""}],"table":"s"}],"ok":true,"version":7}
+{"do":"put","view":"s","rows":[{"t":"𝄞-"}]}
+{"changed":[{"add":[{"t":"𝄞-"}],"remove":[{"t":"𝄞"}],"table":"s"}],"ok":true,"version":8}
+{"do":"put","view":"s","rows":[{"t":"a\\b"}]}
+{"changed":[{"add":[{"t":"a\\b"}],"remove":[{"t":"𝄞-"}],"table":"s"}],"ok":true,"version":9}
+{"do":"put","view":"s","rows":[{"t":"a\u005Cc"}]}
+{"changed":[{"add":[{"t":"a\\c"}],"remove":[{"t":"a\\b"}],"table":"s"}],"ok":true,"version":10}
+{"do":"put","view":"s","rows":[{"t":"\"\\\/\b\f\n\r\t"}]}
+{"changed":[{"add":[{"t":"\"\\/\b\f\n\r\t"}],"remove":[{"t":"a\\c"}],"table":"s"}],"ok":true,"version":11}
+{"do":"put","view":"s","rows":[{"t":"\u20ac"}]}
+{"changed":[{"add":[{"t":"€"}],"remove":[{"t":"\"\\/\b\f\n\r\t"}],"table":"s"}],"ok":true,"version":12}
+{"do":"put","view":"s","rows":[{"t":42}]}
+{"col":"t","error":40,"index":0,"list":"rows","ok":false}
+{"do":"put","view":"s","rows":[{"t":null}]}
+{"col":"t","error":40,"index":0,"list":"rows","ok":false}
+{"do":"put","view":"s","rows":[{"t":["a"]}]}
+{"col":"t","error":40,"index":0,"list":"rows","ok":false}
+{"do":"put","rows":[],"view":"s","do":"read","rows":[]}
+{"error":12,"member":"rows","ok":false}
+{"view":"n","\u0076iew":"s","do":"read"}
+{"ok":true,"rows":[{"t":"€"}],"version":12}"#;

@@ -1,0 +1,5 @@
+pub mod Numbers
+pub mod PlaceLemmas
+pub mod RecordLemmas
+pub mod RowLemmas
+pub mod TextLemmas

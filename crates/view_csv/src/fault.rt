@@ -1,0 +1,34 @@
+//! Why a text is no sheet of rows.
+use no_memory::NoMemory;
+use std::alloc::AllocFailed;
+
+/// Why a text as CSV gives no rows.
+#[derive(Debug, PartialEq, Eq, Drop)]
+pub enum CsvFault {
+    /// The record at this place, from 0, is the first wrong one.
+    BadRecord { place: usize },
+    /// Out of memory.
+    NoMemory,
+}
+
+impl From<NoMemory> for CsvFault {
+    ghost use Rattle.std.specs.Prelude.{◌≡◌};
+    ghost use Rattle.view_csv.specs.declared.fault.CsvFault.TheVariants.{NoMemory};
+
+    ghost from_gives = { λ _ e. e ≡ NoMemory };
+
+    fn from(_: NoMemory) -> CsvFault {
+        CsvFault::NoMemory
+    }
+}
+
+impl<T: Drop> From<AllocFailed<T>> for CsvFault {
+    ghost use Rattle.std.specs.Prelude.{◌≡◌};
+    ghost use Rattle.view_csv.specs.declared.fault.CsvFault.TheVariants.{NoMemory};
+
+    ghost from_gives = { λ _ e. e ≡ NoMemory };
+
+    fn from(_: AllocFailed<T>) -> CsvFault {
+        CsvFault::NoMemory
+    }
+}

@@ -1,0 +1,31 @@
+use Rattle.std.proofs.Common.{◌∙◌, ap, sym}
+use Rattle.lens_specs.specs.Columns.{names}
+use Rattle.lens_specs.specs.Nodes.{rename_get}
+use Rattle.lens_specs.specs.Relation.{image}
+use Rattle.lens_specs.specs.Rename.{renamed_row, renamed_columns}
+use Rattle.lens_values.specs.SortedSet as set
+use Rattle.lens_types.proofs.Renamings.{no_column}
+use Rattle.whole_put.proofs.Renames.{fits_over, shown_fits}
+use Rattle.whole_put.proofs.renaming.get_rename.Goals as goal
+
+pub rename_columns-requires : goal.rename_columns-requires
+rename_columns-requires c = no_column c.columns-2.result.now c.args.to.now (ap (λ U. set.contains (names U) c.args.to.now) c.columns-2.ensures ∙ c.requires)
+
+pub rename_set-requires-clause-over : goal.rename_set-requires-clause-over
+rename_set-requires-clause-over c = λ row i.
+    fits_over c.args.source.now.columns c.in_ok-names.names row (c.in_ok-names.ensures ∙ ap names c.columns.ensures) (c.rows_fit.ensures row (ap (λ M. set.contains M row) (sym c.rows.ensures) ∙ i))
+
+pub rename_set-requires-clause-free : goal.rename_set-requires-clause-free
+rename_set-requires-clause-free c = ap (λ C. set.contains C c.args.to.now) (c.in_ok-names.ensures ∙ ap names c.columns.ensures) ∙ c.requires
+
+pub with_rows-requires : goal.with_rows-requires
+with_rows-requires c = shown_fits c.args.col.now c.args.to.now c.args.source.now c.in_ok-columns.columns c.in_ok-rows.rows c.rows_fit.ensures
+    (c.in_ok-columns.ensures ∙ ap (renamed_columns c.args.col.now c.args.to.now) c.columns-2.ensures)
+    (c.in_ok-rows.ensures ∙ ap (image (renamed_row c.args.col.now c.args.to.now)) c.rows.ensures)
+
+pub returns : goal.returns
+unfolding rename_get
+returns c =
+    let columns = c.in_ok-columns.ensures ∙ ap (renamed_columns c.args.col.now c.args.to.now) c.columns-2.ensures in
+    let rows = c.in_ok-rows.ensures ∙ ap (image (renamed_row c.args.col.now c.args.to.now)) c.rows.ensures in
+    c.with_rows.ensures ∙ (λ i. record { columns = columns i; rows = rows i })
