@@ -39,6 +39,8 @@ MOST_INPUT = 2**40
 MOST_UNDER_WAY, LONG_REPLY = 256, 1 << 16
 # How many bytes one read of the pipe takes at most: more would be fetched from the system anew for each reply.
 MOST_READ = 1 << 16
+# The kinds of pandas for columns that may be null.
+FRAME_KINDS = {"int": "Int64", "text": "object", "bool": "boolean"}
 # How many characters of a value stand in a message.
 MOST_SHOWN = 80
 # The longest text of a column in bytes, and the ends of a number.
@@ -74,9 +76,33 @@ def sides(edge):
     return f"{listing(edge['left'])} {'decides' if len(edge['left']) == 1 else 'decide'} {listing(edge['right'])}"
 
 
-def cell(value):
-    """A value as it stands in a table: a text as it is, and any other as JSON."""
-    return value if isinstance(value, str) else json.dumps(value)
+def base(kind):
+    """A kind of column without its null: int, text or bool."""
+    return kind.partition(" ")[0]
+
+
+def is_nullable(kind):
+    return kind != base(kind)
+
+
+# In a column that may be null the word null is null, and the text null stands in quotes. So a text that has this form with
+# quotes takes one pair more, and each text has one form of its own.
+SAYS_NULL = re.compile('("*)null\\1')
+
+
+def cell(value, kind):
+    """A value as it stands in a cell: a text as it is, and any other as JSON. In a column that may be null the text null stands in
+    quotes."""
+    if not isinstance(value, str):
+        return json.dumps(value)
+    return f'"{value}"' if is_nullable(kind) and SAYS_NULL.fullmatch(value) else value
+
+
+def without_quotes(text, kind):
+    """A text out of a cell in which `cell` wrote it, or None where the cell says null."""
+    if is_nullable(kind) and SAYS_NULL.fullmatch(text):
+        return None if text == "null" else text[1:-1]
+    return text
 
 
 def width(text):
@@ -89,12 +115,12 @@ def width(text):
 def padded(text, places, kind):
     """A text with blanks, so that it takes so many places; a number stands at the right."""
     blanks = " " * (places - width(text))
-    return blanks + text if kind == "int" else text + blanks
+    return blanks + text if base(kind) == "int" else text + blanks
 
 
 def table(rows, columns):
     """Rows as lines of text. `columns` has the kind of each column by its name."""
-    lines = [list(columns)] + [[plain(cell(row[name])) for name in columns] for row in rows]
+    lines = [list(columns)] + [[plain(cell(row[name], kind)) for name, kind in columns.items()] for row in rows]
     widths = [max(map(width, column)) for column in zip(*lines)]
     printed = ["  ".join(map(padded, line, widths, columns.values())).rstrip() for line in lines]
     return "\n".join([printed[0], "  ".join("-" * places for places in widths), *printed[1:]])
@@ -143,8 +169,11 @@ class Syntax(Refused):
             (r"(?i)(integer|bigint|smallint|number)\b", "the kind of a number is 'int'"),
             (r"(?i)(boolean|flag)\b", "the kind of a truth value is 'bool'"),
             (r"(?i)(float|double|real|decimal|numeric|date|time|timestamp|json|uuid)\b", "the kinds are int, text and bool"),
+            (r"(?i)(?<=is )not\b", "rows with a value are asked for by 'not NAME is null'"),
+            (r"(?i)not\s+null\b", "a column takes null only where its kind says so, as 'int null'"),
+            (r"(?i)null\b", "rows without a value are asked for by 'NAME is null'"),
             (r"(?i)(primary|unique|key|references|foreign)\b", "a key is written behind the columns, as 'with id -> name price'"),
-            (r"(?i)(inner|left|right|natural|join|group|order|union|distinct|limit)\b", "views are made of select, drop and join_dl"),
+            (r"(?i)(inner|left|right|natural|join|group|order|union|distinct|limit)\b", "views are made of select, drop, rename, join_dl, join_dr and join_both"),
             (r"[A-Z]\w*", "names and words are written in lower case"),
             (r";", "no semicolon stands behind a definition"),
             (r'"', "a text stands in single quotes, as 'axe'"),
@@ -176,7 +205,11 @@ class UnknownColumn(Refused):
 
 
 class KindClash(Refused):
-    says = "the column '{name}' has two kinds, in the two sides of the join or in the column and its default"
+    def text(self):
+        name, request = self.reply["name"], self.request or {}
+        if "value" in request:
+            return f"the column '{name}' has values of another kind than {short(request['value'])}"
+        return f"the column '{name}' has two kinds, in the two sides of the join or in the column and its default"
 
 
 class NotTree(Refused):
@@ -190,7 +223,7 @@ class PredicateKind(Refused):
 
 
 class SourceMentionsOutput(Refused):
-    says = "what is selected from has a 'where' with '{col}', which another column decides: write both conditions in one selection"
+    says = "what is selected from has a condition on '{col}', which another column decides, and on a column that is not decided with it: write both conditions in one selection"
 
 
 class NoSuchDependency(Refused):
@@ -210,7 +243,7 @@ class NotDetermined(Refused):
 
 
 class SideMentionsOutput(Refused):
-    says = "the {side} side of the join selects by '{col}', which another column decides, so the join could not be edited"
+    says = "the {side} side of the join has a condition on '{col}', which another column decides, and on a column that is not decided with it: the join could not be edited"
 
 
 class TableTwice(Refused):
@@ -229,6 +262,10 @@ class TooLarge(Refused):
 
     def text(self):
         return f"too large: {self.limits.get(self.reply['what'], self.reply['what'])}"
+
+
+class ColumnTaken(Refused):
+    says = "there is a column '{name}' already"
 
 
 class BadRow(Refused):
@@ -262,7 +299,7 @@ class StoreFault(Refused):
 REFUSALS = {
     1: OutOfMemory, 10: TooLong, 11: NotJson, 12: BadRequest, 20: Syntax, 21: NameTaken, 22: UnknownName, 23: UnknownColumn,
     24: KindClash, 25: NotTree, 26: PredicateKind, 27: SourceMentionsOutput, 28: NoSuchDependency, 29: MixedConjunct,
-    30: DefaultRefused, 31: NotDetermined, 32: SideMentionsOutput, 33: TableTwice, 34: TooLarge, 40: BadRow, 41: Stale,
+    30: DefaultRefused, 31: NotDetermined, 32: SideMentionsOutput, 33: TableTwice, 34: TooLarge, 35: ColumnTaken, 40: BadRow, 41: Stale,
     42: OffPredicate, 43: Clash, 90: StoreFault,
 }
 
@@ -525,7 +562,10 @@ def listed(rows):
     """Rows as a list: of any iterable of dicts, or of a data frame of pandas."""
     if isinstance(rows, (Mapping, str)):
         raise TypeError("rows are a list of dicts, and this is one of them alone")
-    return rows.to_dict("records") if hasattr(rows, "to_dict") else list(rows)
+    if hasattr(rows, "to_dict"):
+        # A frame has several values for null.
+        return rows.astype(object).where(rows.notna(), None).to_dict("records")
+    return list(rows)
 
 
 def values(row, columns):
@@ -546,10 +586,16 @@ class Rows(list):
         self.columns, self.version, self.session = columns, version, session
 
     def to_pandas(self):
-        """The rows as a data frame. Raises ImportError where there is no pandas."""
+        """The rows as a data frame. Columns that may be null are of kinds of pandas that have a null. Raises ImportError where there
+        is no pandas."""
         import pandas
 
-        return pandas.DataFrame.from_records(list(self), columns=list(self.columns))
+        frame = pandas.DataFrame.from_records(list(self), columns=list(self.columns))
+        for name, kind in self.columns.items():
+            if is_nullable(kind):
+                # By the values as they are, since a float of a number of 64 bits has lost some of it.
+                frame[name] = pandas.array([row[name] for row in self], dtype=FRAME_KINDS[base(kind)])
+        return frame
 
     def __str__(self):
         return table(self, self.columns)
@@ -557,7 +603,8 @@ class Rows(list):
     def _repr_html_(self):
         """How a notebook shows them."""
         head = "".join(f"<th>{html.escape(name)}</th>" for name in self.columns)
-        body = "".join("<tr>" + "".join(f"<td>{html.escape(cell(row[name]))}</td>" for name in self.columns) + "</tr>" for row in self)
+        cells = ([html.escape(cell(row[name], kind)) for name, kind in self.columns.items()] for row in self)
+        body = "".join("<tr>" + "".join(f"<td>{it}</td>" for it in line) + "</tr>" for line in cells)
         return f"<table><tr>{head}</tr>{body}</table>"
 
 
@@ -635,7 +682,15 @@ class View:
 
     def read(self):
         """The rows."""
-        columns, reply = self.columns(), self.ask("read")
+        return self.rows_of(self.ask("read"))
+
+    def find(self, column, value):
+        """The rows that have a value in a column. No table is gone over for them where the column alone is the left side of a
+        dependency. Raises UnknownColumn where there is no such column, and KindClash where the value is none of its kind."""
+        return self.rows_of(self.ask("find", column=column, value=value))
+
+    def rows_of(self, reply):
+        columns = self.columns()
         return Rows([in_order(row, columns) for row in reply["rows"]], columns, reply["version"], self.server.session)
 
     def current(self):
@@ -743,8 +798,8 @@ def shape_fault(row, columns):
         if name not in row:
             return name, f"the column '{name}' is missing"
         if not fits(row[name], kind):
-            wanted = {"int": "a whole number of 64 bits", "text": "a text of at most 4,096 bytes without U+0000", "bool": "true or false"}[kind]
-            return name, f"{name} wants {wanted}, and not {short(row[name])}"
+            wanted = {"int": "a whole number of 64 bits", "text": "a text of at most 4,096 bytes without U+0000", "bool": "true or false"}[base(kind)]
+            return name, f"{name} wants {wanted}{' or null' if is_nullable(kind) else ''}, and not {short(row[name])}"
     for name in row:
         if name not in columns:
             return name, f"there is no column {short(name)}"
@@ -753,9 +808,11 @@ def shape_fault(row, columns):
 
 def fits(value, kind):
     """Whether a value is of a kind."""
-    if kind == "bool":
+    if value is None:
+        return is_nullable(kind)
+    if base(kind) == "bool":
         return isinstance(value, bool)
-    if kind == "int":
+    if base(kind) == "int":
         return isinstance(value, int) and not isinstance(value, bool) and LEAST_INT <= value <= MOST_INT
     try:
         return isinstance(value, str) and "\0" not in value and len(value.encode()) <= MOST_TEXT
@@ -904,7 +961,7 @@ class Server:
             path = path_to(self.tree(view), name) if kind == "view" else None
             if path:
                 columns = shown_columns(path)
-                found.append((view, [shown for shown in self[view].current() if values(shown, columns) == values(row, columns)]))
+                found.append((view, [shown for shown in self[view].current() if values(shown, columns.values()) == values(row, columns)]))
         return found
 
     def propose(self, edits):
@@ -985,9 +1042,21 @@ class Drop(NamedTuple):
     operand: tuple
 
 
+class Rename(NamedTuple):
+    column: str
+    to: str
+    operand: tuple
+
+
 class Join(NamedTuple):
+    """`kind` is the word: join_dl, join_dr or join_both, by the side from which it deletes."""
+
+    kind: str
     left: tuple
     right: tuple
+
+    def deletes_from(self, side):
+        return self.kind != "join_dl" or side is self.left
 
 
 class Column(NamedTuple):
@@ -1004,13 +1073,15 @@ class Truth(NamedTuple):
 
 
 class Compare(NamedTuple):
+    """A comparison, which is false where one of the two values is null."""
+
     column: str
     sign: str
     right: object
 
     def holds(self, row):
-        right = row[self.right.name] if isinstance(self.right, Column) else self.right
-        return COMPARISONS[self.sign](row[self.column], right)
+        left, right = row[self.column], row[self.right.name] if isinstance(self.right, Column) else self.right
+        return left is not None and right is not None and COMPARISONS[self.sign](left, right)
 
 
 class Among(NamedTuple):
@@ -1019,6 +1090,13 @@ class Among(NamedTuple):
 
     def holds(self, row):
         return row[self.column] in self.literals
+
+
+class IsNull(NamedTuple):
+    column: str
+
+    def holds(self, row):
+        return row[self.column] is None
 
 
 class Not(NamedTuple):
@@ -1043,6 +1121,7 @@ class Any(NamedTuple):
 
 
 COMPARISONS = {"=": operator.eq, "!=": operator.ne, "<": operator.lt, "<=": operator.le, ">": operator.gt, ">=": operator.ge}
+JOINS = ("join_dl", "join_dr", "join_both")
 TOKEN = re.compile(r"[ \t\r\n]*(?:('(?:[^']|'')*'|->|<=|>=|!=|[a-z_][a-z0-9_]*|-?[0-9]+|[(),=<>])|\Z)")
 
 
@@ -1092,7 +1171,7 @@ class Reader:
         self.take("(")
         while True:
             column = self.take()
-            kinds[column] = self.take("int", "text", "bool")
+            kinds[column] = self.take("int", "text", "bool") + (" null" if self.takes("null") else "")
             if self.take(",", ")") == ")":
                 return Table(name, kinds)
 
@@ -1105,10 +1184,16 @@ class Reader:
             return Select(operand, self.predicate())
         if word == "drop":
             return self.drop()
-        if word == "join_dl":
+        if word == "rename":
+            column = self.take()
+            self.take("to")
+            to = self.take()
+            self.take("from")
+            return Rename(column, to, self.operand())
+        if word in JOINS:
             left = self.operand()
             self.take("with")
-            return Join(left, self.operand())
+            return Join(word, left, self.operand())
         return Named(word)
 
     def drop(self):
@@ -1117,7 +1202,7 @@ class Reader:
             self.take(word)
         while not self.takes(","):
             by.append(self.take())
-        default = self.literal()
+        default = None if self.takes("null") else self.literal()
         self.take(")")
         self.take("from")
         return Drop(column, by, default, self.operand())
@@ -1151,7 +1236,10 @@ class Reader:
             inside = self.predicate()
             self.take(")")
             return inside
-        sign = self.take("in", *COMPARISONS)
+        sign = self.take("in", "is", *COMPARISONS)
+        if sign == "is":
+            self.take("null")
+            return IsNull(word)
         if sign != "in":
             return Compare(word, sign, self.right_side())
         self.take("(")
@@ -1202,7 +1290,7 @@ def expanded(node, texts):
     if isinstance(node, Named):
         return expanded(parsed(texts[node.name]), texts)
     if isinstance(node, Join):
-        return Join(expanded(node.left, texts), expanded(node.right, texts))
+        return Join(node.kind, expanded(node.left, texts), expanded(node.right, texts))
     return node if isinstance(node, Table) else node._replace(operand=expanded(node.operand, texts))
 
 
@@ -1213,8 +1301,16 @@ def columns_of(node):
     if isinstance(node, Join):
         left = columns_of(node.left)
         return left + [name for name in columns_of(node.right) if name not in left]
-    dropped = node.column if isinstance(node, Drop) else None
-    return [name for name in columns_of(node.operand) if name != dropped]
+    return list(carried({name: name for name in columns_of(node.operand)}, node).values())
+
+
+def carried(names, node):
+    """Columns by the names that they have above a node, where `names` has those below it; without the column that it drops."""
+    if isinstance(node, Drop):
+        return {column: name for column, name in names.items() if name != node.column}
+    if isinstance(node, Rename):
+        return {column: node.to if name == node.column else name for column, name in names.items()}
+    return names
 
 
 def path_to(node, name):
@@ -1229,9 +1325,11 @@ def path_to(node, name):
 
 
 def shown_columns(path):
-    """The columns of the table at the end of a path that its top shows."""
-    dropped = {node.column for node in path if isinstance(node, Drop)}
-    return [name for name in path[-1].kinds if name not in dropped]
+    """The columns of the table at the end of a path that its top shows, each with the name that it has there."""
+    names = {name: name for name in path[-1].kinds}
+    for node in reversed(path[:-1]):
+        names = carried(names, node)
+    return names
 
 
 def tables_in(node):
@@ -1249,6 +1347,15 @@ def altering(before, after, edge):
     return {"left": edge["left"], "right": [name for name in edge["right"] if before[name] != after[name]]}
 
 
+def gives(edge, sent, row):
+    """Whether a row that was sent has values of the right side of a dependency that another row has not."""
+    return sent is not None and any(name not in row or row[name] != sent[name] for name in edge["right"])
+
+
+def rows_of(tables):
+    return f"{'the row' if len(tables) == 1 else 'the rows'} of {listing(tables)}"
+
+
 class Reasons:
     """The reasons for the changed rows of one table under a view, where rows were sent to be removed and added.
 
@@ -1260,8 +1367,8 @@ class Reasons:
         self.view, self.server, self.name = view, view.server, name
         self.path = path_to(self.server.tree(view.name), name)
         self.shown = shown_columns(self.path)
-        self.sent_to_remove = {values(row, self.shown) for row in remove}
-        self.sent_to_add = {values(row, self.shown) for row in add}
+        self.sent_to_remove = {values(row, self.shown.values()) for row in remove}
+        self.sent_to_add = {values(row, self.shown.values()) for row in add}
         edges = {below: self.server[below].type()["dependencies"] for below in tables_in(self.path[0])}
         self.edges = edges[name]
         decided = {column for edge in self.edges for column in edge["right"]}
@@ -1271,10 +1378,18 @@ class Reasons:
         self.before = {values(row, self.undecided): row for row in self.removed} if decided else {}
         self.after = {values(row, self.undecided): row for row in self.added} if decided else {}
         self.known = {}
-        # For each dependency by which a row that was sent can give values to one of this table, the rows sent by its left side.
-        # (They agree on the right side, or the edit would be refused.)
-        columns = set(add[0]) & set(self.path[-1].kinds) if add else set()
-        self.giving = [(edge, {values(row, edge["left"]): row for row in add}) for one in edges.values() for edge in one if set(edge["left"]) <= columns]
+        # For each dependency by which a row that was sent can give values to one of this table, in the names of the view, the rows
+        # sent by its left side. (They agree on the right side, or the edit would be refused.)
+        columns, found = set(self.shown.values()), [edge for below in edges for edge in self.shown_edges(below, edges[below])]
+        self.giving = [(edge, {values(row, edge["left"]): row for row in add}) for edge in found if add and set(edge["left"]) <= columns]
+
+    def shown_edges(self, table, edges):
+        """The dependencies of a table, so far as the view shows their columns, in its names."""
+        names = shown_columns(path_to(self.path[0], table))
+        for edge in edges:
+            right = [names[column] for column in edge["right"] if column in names]
+            if right and set(edge["left"]) <= set(names):
+                yield {"left": [names[column] for column in edge["left"]], "right": right}
 
     def of_removed(self, row):
         after = self.after.get(values(row, self.undecided))
@@ -1297,41 +1412,52 @@ class Reasons:
             reason = f"changed in {self.view.name}"
         else:
             reason = f"added to {self.view.name}; {self.name} had this row already, hidden there, and {self.deciding(before, row)}"
-        return [reason, *filter(None, (self.origin(row, before, node) for node in self.path if isinstance(node, Drop)))]
+        drops = [place for place, node in enumerate(self.path) if isinstance(node, Drop)]
+        return [reason, *filter(None, (self.origin(row, before, place) for place in drops))]
 
     def deciding(self, before, after):
         """The dependencies by which a row takes other values."""
         return listing(sides(edge) for edge in map(functools.partial(altering, before, after), self.edges) if edge["right"])
 
-    def kept_beside(self):
-        """The tables at the right of joins whose left side this table is under: a join deletes from its left side."""
-        joins = [node for node, below in zip(self.path, self.path[1:]) if isinstance(node, Join) and node.left is below]
-        return [name for node in joins for name in tables_in(node.right)]
+    def joins_above(self):
+        """The joins over the table, each with the side that the table is under and the other one."""
+        pairs = ((node, below) for node, below in zip(self.path, self.path[1:]) if isinstance(node, Join))
+        return [(node, below, node.right if node.left is below else node.left) for node, below in pairs]
 
     def join_keeps(self):
-        kept = self.kept_beside()
-        rows = "the row" if len(kept) == 1 else "the rows"
-        return f": the join deletes from its left side, {self.name}, and keeps {rows} of {listing(kept)}" if kept else ""
+        """What is told of a row that is removed from the view: which side of each join it is deleted from."""
+        kept, told = {"left": [], "right": []}, []
+        for node, side, other in self.joins_above():
+            if node.kind == "join_both":
+                told.append("the join deletes from both sides what no other row of it shows")
+            elif node.kind == "join_dr" and side is node.left:
+                told.append(f"another row shows {rows_of(tables_in(other))}, so the join deletes from its left side, {self.name}")
+            elif node.deletes_from(side):
+                kept["left" if side is node.left else "right"] += tables_in(other)
+        told += [f"the join deletes from its {side} side, {self.name}, and keeps {rows_of(tables)}" for side, tables in kept.items() if tables]
+        return f": {listing(dict.fromkeys(told))}" if told else ""
 
     def deletion(self, row):
         """Why a row that was not sent is deleted: what was sent gives it, by a dependency, values with which it would be shown."""
-        since = listing(sides(edge) for edge, sent in self.giving if self.gives(edge, sent.get(values(row, edge["left"])), row))
+        seen = {name: row[column] for column, name in self.shown.items()}
+        since = listing(sides(edge) for edge, sent in self.giving if gives(edge, sent.get(values(seen, edge["left"])), seen))
         since = f", since {since}" if since else ""
-        deletes = f"the join deletes it from its left side, {self.name}" if self.kept_beside() else "it is deleted"
+        found = ["left" if side is node.left else "right" for node, side, _ in self.joins_above() if node.deletes_from(side)]
+        deletes = f"the join deletes it from its {found[0]} side, {self.name}" if found else "it is deleted"
         return f"hidden in {self.view.name}; it would be shown now{since}, and was not sent: {deletes}"
 
-    def gives(self, edge, sent, row):
-        """Whether a row that was sent has values of the right side of a dependency that this row has not."""
-        return sent is not None and any(name in sent and row.get(name) != sent[name] for name in edge["right"])
-
-    def origin(self, row, before, drop):
-        """Where the value of a dropped column comes from, or None where it stays."""
-        value, by = row.get(drop.column), sorted(drop.by)
-        if drop.column not in row or not set(by) <= set(row) or (before and before[drop.column] == value):
+    def origin(self, row, before, place):
+        """Where the value of the column that this node of the path drops comes from, or None where it stays."""
+        drop, columns = self.path[place], {name: column for column, name in shown_columns(self.path[place + 1 :]).items()}
+        if not {drop.column, *drop.by} <= set(columns):
             return None
-        if value == drop.default and (values(row, by), value) not in self.known_beside(drop.column, by):
-            return f"{drop.column} {short(value)}: the default of the drop"
-        return f"{drop.column} {short(value)}: {words_of({name: row[name] for name in by})} has it already"
+        dropped, by = columns[drop.column], [columns[name] for name in sorted(drop.by)]
+        value = row[dropped]
+        if before and before[dropped] == value:
+            return None
+        if value == drop.default and (values(row, by), value) not in self.known_beside(dropped, by):
+            return f"{dropped} {short(value)}: the default of the drop"
+        return f"{dropped} {short(value)}: {words_of({name: row[name] for name in by})} has it already"
 
     def known_beside(self, column, by):
         """The values that the table has in a column, each with those of the columns that decide it."""

@@ -8,6 +8,11 @@ import unittest
 HERE = os.path.dirname(os.path.abspath(__file__))
 
 
+def said(errors):
+    """What a client wrote to standard error, without what ./serve tells there of a program that is not proved."""
+    return "".join(line for line in errors.splitlines(True) if not line.startswith("serve: this program is not proved"))
+
+
 class Lines(unittest.TestResult):
     """Prints a line a test: its name, how it went, and its time."""
 

@@ -13,7 +13,7 @@ import unittest.mock
 HERE = os.path.dirname(os.path.abspath(__file__))
 sys.path.insert(0, os.path.dirname(HERE))
 import cigrelk
-from cigrelk import TOP, BadRow, Clash, Ended, NotProposal, NotStarted, OffPredicate, Refused, Server, Stale, Syntax, UnknownName
+from cigrelk import TOP, BadRow, Clash, Ended, KindClash, NotProposal, NotStarted, OffPredicate, Refused, Server, Stale, Syntax, UnknownColumn, UnknownName
 
 try:
     import pandas
@@ -25,6 +25,7 @@ BIG = "view big = select from goods where quantity > 2"
 AXE, SAW = {"name": "axe", "quantity": 7}, {"name": "saw", "quantity": 4}
 TRACKS = "table tracks (track text, date int, rating int, album text) with track -> date rating"
 ALBUMS = "table albums (album text, quantity int) with album -> quantity"
+PEOPLE = "table people (name text, boss text null, age int null, paid bool null) with name -> boss age paid"
 STOCK = "view stock = select from (drop date determined by (track, 2018) from (join_dl tracks with albums)) where quantity > 2"
 
 
@@ -97,26 +98,30 @@ class Requests(InMemory):
             ("table t (a INTEGER)", "is 'int'"), ("table t (a varchar)", "is 'text'"), ("table t (a float)", "int, text and bool"), ("table t (a int primary key)", "with id -> name price"),
             ("view v = SELECT from goods where true", "lower case"), ("table t (a int);", "no semicolon"), ("view v = select * from goods", "all columns"),
             ("view v = select from goods where name <> 'x'", "!="), ("view v = select from goods where name == 'x'", "written ="), ('view v = select from goods where name = "x"', "single quotes"),
-            ("view v = select from goods where quantity > 2 order by name", "select, drop and join_dl"), ("table t (a int", "ends too early"),
+            ("view v = select from goods where quantity > 2 order by name", "select, drop, rename, join_dl, join_dr and join_both"), ("table t (a int", "ends too early"),
+            ("table t (a int not null)", "as 'int null'"), ("view v = select from goods where name = null", "'NAME is null'"), ("view v = select from goods where name is not null", "'not NAME is null'"),
         ):
             with self.assertRaisesRegex(Syntax, hint):
                 self.server.define(text)
 
     def test_each_refusal_has_a_text(self):
-        """Of the example that has them all, and of replies made up for those that it has not."""
+        """Of the examples, which have them all but three, and of replies made up for those."""
         seen = set()
-        with open(f"{TOP}/examples/refusals.requests", "rb") as requests, open(f"{TOP}/examples/refusals.replies") as replies:
-            for request, line in zip(requests, replies):
-                reply = json.loads(line)
-                if not reply["ok"]:
-                    try:
-                        asked = json.loads(request)
-                    except ValueError:
-                        asked = None
-                    found = cigrelk.refusal(reply, asked)
-                    self.assertIsNot(type(found), Refused, reply)
-                    self.assertNotIn("{", str(found).replace("{'", ""))
-                    seen.add(reply["error"])
+        for name in ("refusals", "renames"):
+            with open(f"{TOP}/examples/{name}.requests", "rb") as requests, open(f"{TOP}/examples/{name}.replies") as replies:
+                for request, line in zip(requests, replies):
+                    reply = json.loads(line)
+                    if not reply["ok"]:
+                        try:
+                            asked = json.loads(request)
+                        except ValueError:
+                            asked = None
+                        found = cigrelk.refusal(reply, asked)
+                        self.assertIsNot(type(found), Refused, reply)
+                        self.assertNotIn("{", str(found).replace("{'", ""))
+                        seen.add(reply["error"])
+        # (no short line brings these about)
+        self.assertEqual(set(cigrelk.REFUSALS) - seen, {1, 10, 90})
         for number in set(cigrelk.REFUSALS) - seen:
             made = {"ok": False, "error": number, "changed_at": 1, "col": "a", "name": "a", "what": "lens", "list": "rows", "index": 0}
             self.assertTrue(str(cigrelk.refusal(made)))
@@ -181,6 +186,123 @@ class Requests(InMemory):
         frame["quantity"] += 1
         goods.put(frame)
         self.assertEqual(list(goods.read()), [{**AXE, "quantity": 8}, {**SAW, "quantity": 5}])
+
+
+class Nulls(InMemory):
+    """Columns that may be null."""
+
+    def people(self):
+        people = self.server.define(PEOPLE)
+        people.put([person("ann"), person("bob", "ann", 2**63 - 1, True), person("cy", "null", 0, False), person("di", '"null"', 7)])
+        return people
+
+    def test_rows(self):
+        people = self.people()
+        self.assertEqual(people.columns(), {"name": "text", "boss": "text null", "age": "int null", "paid": "bool null"})
+        self.assertEqual([tuple(row.values()) for row in people.read()], [
+            ("ann", None, None, None), ("cy", "null", 0, False), ("di", '"null"', 7, None), ("bob", "ann", 2**63 - 1, True)])
+        self.assertEqual(str(people.read()).splitlines()[2:], [
+            "ann   null                     null  null", 'cy    "null"                      0  false', 'di    ""null""                    7  null', "bob   ann       9223372036854775807  true"])
+        self.assertIn("<td>ann</td><td>null</td><td>null</td>", people.read()._repr_html_())
+        change = people.edit([person("ann")], [person("ann", age=5)])
+        self.assertEqual(str(change), '- people: name "ann", boss null, age null, paid null\n+ people: name "ann", boss null, age 5, paid null')
+        change.undo()
+        self.assertIn(person("ann"), people.read())
+
+    def test_what_is_refused(self):
+        people = self.people()
+        with self.assertRaisesRegex(BadRow, "'name' is no column, or null is not of its kind"):
+            people.edit(add=[{**person("ann"), "name": None}])
+        with self.assertRaisesRegex(BadRow, "the column 'boss' is missing"):
+            people.edit(add=[{"name": "ed", "age": 1, "paid": None}])
+        with self.assertRaisesRegex(Clash, 'boss null.* / .*boss "ann"'):
+            people.edit(add=[person("ann", "ann")])
+        self.server.define(ALBUMS)
+        for text in ("view v = drop quantity determined by (album, null) from albums", "view v = drop boss determined by (name, 3) from people"):
+            with self.assertRaisesRegex(KindClash, "two kinds"):
+                self.server.define(text)
+
+    def test_all_faults_at_once(self):
+        people = self.people()
+        top = self.server.define("view top = select from people where boss is null and (not age < 3 or paid = true)")
+        self.assertEqual([(fault.error, fault.places, fault.text) for fault in top.faults(add=[
+            person("x", "ann"), person("y", None, 2), {**person("z"), "name": None}, {**person("u"), "age": "x"}, person("v", None, None), person("ann", None, 9)])], [
+            (42, [0], "not boss is null"), (42, [1], "not not age < 3 or paid = true"), (40, [2], "name wants a text of at most 4,096 bytes without U+0000, and not null"),
+            (40, [3], 'age wants a whole number of 64 bits or null, and not "x"'), (43, [5], "name decides age and boss and paid, and these rows differ in it")])
+
+    def test_predicates_as_the_program_has_them(self):
+        """Each comparison over each pair of values, plain and under not, by the client and by the program."""
+        self.server.define("table t (k int, a int null, b int null, c int) with k -> a b c")
+        found = [None, 0, 1]
+        rows = [{"k": 9 * one + 3 * two + three, "a": found[one], "b": found[two], "c": three} for one in range(3) for two in range(3) for three in range(2)]
+        self.server["t"].put(rows)
+        parts = [f"a {sign} {right}" for sign in cigrelk.COMPARISONS for right in ("b", "c", "0")] + ["a in (0, 5)", "a is null", "c is null", "true", "a != b or b is null and not c = 1"]
+        for number, part in enumerate([*parts, *(f"not ({part})" for part in parts)]):
+            view = self.server.define(f"view v{number} = select from t where {part}")
+            self.assertEqual(list(view.read()), [row for row in rows if cigrelk.condition_of(part).holds(row)], part)
+
+    def test_where_the_null_of_a_dropped_column_comes_from(self):
+        people = self.people()
+        names = self.server.define("view names = drop boss determined by (name, null) from people")
+        new = {"name": "ed", "age": 1, "paid": None}
+        self.assertEqual([sentences for _, _, _, sentences in names.why(add=[new])], [["added to names", "boss null: the default of the drop"]])
+        self.assertEqual(self.server.shown_by("people", person("ann")), [("names", [{"name": "ann", "age": None, "paid": None}])])
+        # a row that the table has keeps its null
+        self.assertFalse(names.edit(add=[{"name": "ann", "age": None, "paid": None}]))
+        self.assertEqual(people.read()[0], person("ann"))
+
+    def test_what_a_null_decides(self):
+        """A hidden row that would be shown, since what was sent gives its key null in place of a value."""
+        self.server.define("table sold (track text, album text) with track -> album")
+        self.server.define("table shops (album text, price int null) with album -> price")
+        view = self.server.define("view free = select from (join_dl sold with shops) where price is null")
+        self.server["sold"].put([{"track": "a", "album": "G"}, {"track": "b", "album": "G"}])
+        self.server["shops"].put([{"album": "G", "price": 4}])
+        found = view.why(add=[{"track": "a", "album": "G", "price": None}])
+        self.assertEqual([(table, side, row["album"], row.get("track")) for table, side, row, _ in found], [("shops", "remove", "G", None), ("shops", "add", "G", None), ("sold", "remove", "G", "b")])
+        self.assertIn("it would be shown now, since album decides price, and was not sent", found[2][3][0])
+
+    @unittest.skipUnless(pandas, "there is no pandas")
+    def test_frames_of_pandas(self):
+        people = self.people()
+        before = people.read()
+        frame = before.to_pandas()
+        self.assertEqual(list(map(str, frame.dtypes[["age", "paid"]])), ["Int64", "boolean"])
+        self.assertFalse(people.put(frame))
+        frame["age"] = frame["age"].astype("float64")
+        people.put(frame[frame["name"] == "ann"])
+        self.assertEqual(list(people.read()), [person("ann")])
+
+
+def person(name, boss=None, age=None, paid=None):
+    return {"name": name, "boss": boss, "age": age, "paid": paid}
+
+
+class Find(InMemory):
+    def test_rows_with_a_value(self):
+        stock = self.stock()
+        found = stock.find("track", "Lullaby")
+        self.assertEqual((list(found), found.version, found.columns), ([stocked("Lullaby", 3, "Show", 3)], 5, stock.columns()))
+        self.assertEqual((list(stock.find("rating", 5)), list(stock.find("rating", 9))), ([stocked("Lovesong", 5, "Paris", 4)], []))
+        # what was found is what an edit may rest on
+        stock.edit(remove=found, on=found)
+        with self.assertRaises(Stale):
+            stock.edit(add=found, on=found)
+        people = self.server.define(PEOPLE)
+        people.put([person("ann"), person("bob", "ann")])
+        self.assertEqual([row["name"] for row in people.find("boss", None)], ["ann"])
+
+    def test_what_is_refused(self):
+        stock = self.stock()
+        with self.assertRaisesRegex(UnknownName, "'nothing'"):
+            self.server["nothing"].find("track", "Lullaby")
+        with self.assertRaisesRegex(UnknownColumn, "there is no column 'genre'"):
+            stock.find("genre", "pop")
+        for value in (3, None, True, [], {}, 1.5, "a" * 4097):
+            with self.assertRaisesRegex(KindClash, "the column 'track' has values of another kind than"):
+                stock.find("track", value)
+        with self.assertRaises(cigrelk.BadRequest):
+            stock.find("a column", 3)
 
 
 class UnderWay(InMemory):
@@ -365,6 +487,67 @@ class Why(InMemory):
         self.assertEqual(self.server.shown_by("albums", {"album": "Show", "quantity": 3}), [("stock", [{**title, "quantity": 3}]), ("titles", [title]), ("good", [])])
 
 
+class OtherViews(InMemory):
+    """Renamed columns, and joins that delete on the right side or on both."""
+
+    def why(self, view, remove, add):
+        return [(name, side, tuple(row.values()), *sentences) for name, side, row, sentences in view.why(remove, add)]
+
+    def loans(self):
+        """A table that says title where that of albums says album, and their join."""
+        self.stock()
+        loans = self.server.define("table loans (title text, day int) with title -> day")
+        loans.put([{"title": "Show", "day": 3}, {"title": "Wish", "day": 5}, {"title": "Lost", "day": 9}])
+        return self.server.define("view lent = drop day determined by (album, 0) from (join_dl (rename title to album from loans) with albums)")
+
+    def test_a_renamed_column(self):
+        lent = self.loans()
+        self.assertEqual(lent.columns(), {"album": "text", "quantity": "int"})
+        self.assertEqual(list(lent.find("album", "Show")), [{"album": "Show", "quantity": 3}])
+        self.assertEqual(self.server.shown_by("loans", {"title": "Show", "day": 3}), [("lent", [{"album": "Show", "quantity": 3}])])
+        self.assertEqual(self.server.shown_by("loans", {"title": "Lost", "day": 9}), [("lent", [])])
+        # the rows of the table have its own names, and the reasons too
+        self.assertEqual(self.why(lent, [{"album": "Show", "quantity": 3}], [{"album": "Paris", "quantity": 4}]), [
+            ("loans", "remove", ("Show", 3), "removed from lent: the join deletes from its left side, loans, and keeps the row of albums"),
+            ("loans", "add", ("Paris", 0), "added to lent", "day 0: the default of the drop"),
+        ])
+        self.assertEqual(self.why(lent, [], [{"album": "Lost", "quantity": 8}]), [
+            ("albums", "add", ("Lost", 8), "added to lent"),
+            ("loans", "remove", ("Lost", 9), "hidden in lent; follows, since title decides day"),
+            ("loans", "add", ("Lost", 0), "added to lent; loans had this row already, hidden there, and title decides day", "day 0: the default of the drop"),
+        ])
+        with self.assertRaisesRegex(cigrelk.ColumnTaken, "there is a column 'quantity' already"):
+            self.server.define("view v = rename album to quantity from albums")
+
+    def test_a_renamed_column_that_decides(self):
+        self.stock()
+        named = self.server.define("view named = rename album to disc from (rename quantity to number from (select from albums where quantity > 2))")
+        below = self.server.define("view below = rename track to song from (select from (join_dl tracks with (rename quantity to number from albums)) where number > 2)")
+        self.assertEqual(self.why(named, [{"disc": "Show", "number": 3}], [{"disc": "Show", "number": 4}]), [
+            ("albums", "remove", ("Show", 3), "changed in named"), ("albums", "add", ("Show", 4), "changed in named")])
+        # a row of a hidden album is added: the other tracks of the album would be shown too
+        found = self.why(below, [], [{"song": "Trust", "date": 1992, "rating": 4, "album": "Galore", "number": 6}])
+        self.assertIn("hidden in below; it would be shown now, since album decides number, and was not sent: the join deletes it from its left side, tracks", [line[3] for line in found])
+
+    def test_joins_by_the_side_from_which_they_delete(self):
+        self.stock()
+        right, both = self.server.define("view jr = join_dr tracks with albums"), self.server.define("view jb = join_both tracks with albums")
+        rows = {row["track"] + " " + row["album"]: row for row in right.read()}
+        self.assertEqual(list(both.read()), list(right.read()))
+        wish, galore = [rows["Trust Wish"]], [rows["Lullaby Galore"]]
+        self.assertEqual(self.why(right, wish, []), [("albums", "remove", ("Wish", 5), "removed from jr: the join deletes from its right side, albums, and keeps the row of tracks")])
+        self.assertEqual(self.why(right, galore, []), [("tracks", "remove", ("Lullaby", 1989, 3, "Galore"), "removed from jr: another row shows the row of albums, so the join deletes from its left side, tracks")])
+        told = "removed from jb: the join deletes from both sides what no other row of it shows"
+        self.assertEqual(self.why(both, wish, []), [("albums", "remove", ("Wish", 5), told), ("tracks", "remove", ("Trust", 1992, 4, "Wish"), told)])
+        self.assertEqual(self.why(both, galore, []), [("tracks", "remove", ("Lullaby", 1989, 3, "Galore"), told)])
+        # an album comes back by a row that is sent, and another row on it would be shown
+        self.server["albums"].edit(remove=[{"album": "Galore", "quantity": 1}])
+        found = self.why(right, [], galore)
+        self.assertEqual(found[0], ("albums", "add", ("Galore", 1), "added to jr"))
+        self.assertIn(("tracks", "remove", ("Lovesong", 1989, 5, "Galore")), [line[:3] for line in found])
+        self.assertIn("the join deletes it from its left side, tracks", found[1][3])
+
+
 class Proposals(InMemory):
     def test_propose_and_review(self):
         stock = self.stock()
@@ -402,17 +585,18 @@ class Proposals(InMemory):
 
 class Definitions(unittest.TestCase):
     def test_predicates(self):
-        row = {"a": 5, "b": "it's", "c": True, "d": -5}
+        row = {"a": 5, "b": "it's", "c": True, "d": -5, "n": None}
         for text, holds in (
             ("a = 5", True), ("a=5and b='it''s'", True), ("a-5 = 3", None), ("a < d", False), ("d = -5 or false", True), ("not (a > 3 and c = true)", False), ("a in (1, 2, 5)", True),
-            ("not b in ('x', 'y') and (a != 5 or d <= -5)", True), ("c > false", True), ("b < 'j'", True), ("true", True), ("not not false", False), ("a is null", None), ("a = ", None),
+            ("not b in ('x', 'y') and (a != 5 or d <= -5)", True), ("c > false", True), ("b < 'j'", True), ("true", True), ("not not false", False), ("a is null", False), ("n is null", True), ("a = ", None),
+            ("n = 5", False), ("n != 5", False), ("not n != 5", True), ("n = n", False), ("a > n", False), ("n in (1, 2)", False), ("not n in (1, 2)", True), ("a is not null", None),
         ):
             condition = cigrelk.condition_of(text)
             self.assertEqual(None if condition is None else condition.holds(row), holds, text)
 
     def test_words_of_a_later_program(self):
         with self.assertRaises(cigrelk.UnknownForm):
-            cigrelk.parsed("view v = rename a to b from t")
+            cigrelk.parsed("view v = select from t as u where true")
 
 
 class Kept(unittest.TestCase):

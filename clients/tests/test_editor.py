@@ -264,6 +264,17 @@ class Answers(OverStore):
         self.assertTrue(self.editor.edit(self.editor.read("odd"), [], [[it] for it in ODD_TEXTS])["ok"])
         self.assertEqual(sorted(it for it, in self.editor.read("odd")["rows"]), sorted(ODD_TEXTS))
 
+    def test_nulls_stay_apart_from_texts(self):
+        self.editor.ask("define", text="table nulls (name text, boss text null, age int null, paid bool null) with name -> age boss paid")
+        rows = [["ann", None, None, None], ["bob", "", "0", False], ["cy", "null", "7", True]]
+        self.assertTrue(self.editor.edit(self.editor.read("nulls"), [], rows)["ok"])
+        found = self.editor.read("nulls")
+        self.assertEqual(sorted(found["rows"]), rows)
+        self.assertEqual([it["kind"] for it in found["columns"]], ["text", "text null", "int null", "bool null"])
+        reply = self.editor.edit(found, rows[:1], [["ann", "bob", None, None]], do="preview")["changed"][0]
+        self.assertEqual((reply["columns"][1], reply["lines"][0]["rows"]), ({"name": "boss", "kind": "text null"}, [rows[0], ["ann", "bob", None, None]]))
+        self.assertEqual(self.editor.edit(found, rows[:1], [[None, "bob", None, None]])["error"], 40)
+
     def test_a_preview_tells_why(self):
         reply = self.editor.edit(self.editor.read("stock"), [["Lullaby", "3", "Show", "3"], ["Lovesong", "5", "Paris", "4"]],
                                  [["Lullaby", "4", "Show", "3"], ["Disco", "2", "Wish", "5"]], do="preview")
@@ -440,6 +451,52 @@ class Page(OverStore):
         self.assertEqual(self.edited()[0], ["a", "7", True])
         reasons = self.page.run("[...document.querySelectorAll('tr.bad .why')].map((it) => it.innerText)")
         self.assertEqual(reasons, ["number wants a whole number of 64 bits, sold wants true or false", "number is empty"])
+
+    def test_columns_that_may_be_null(self):
+        self.editor.ask("define", text="table staff (name text, boss text null, age int null, paid bool null) with name -> age boss paid")
+        found = self.editor.read("staff")
+        self.editor.edit(found, found["rows"], [["ann", None, None, None], ["bob", "", "0", False], ["cy", "null", "7", True]])
+        self.open("staff")
+        self.page.click("#sheet th:nth-child(2) button")
+        self.assertEqual(self.page.run("[...document.querySelectorAll('td.none')].map((it) => it.innerText)"), ["null"] * 3)
+        self.assertEqual(self.page.run("[...document.querySelectorAll('tr[data-number=\"2\"] td[data-at]')].map((it) => it.innerText)"), ["cy", '"null"', "7", "✓ true"])
+        # null is typed, and a field that is opened has what would be typed
+        self.put(1, 1, "null")
+        self.put(2, 2, "null")
+        self.put(0, 2, "5")
+        self.put(0, 1, '"null"')
+        self.page.run("state.here = [2, 1], openCell()")
+        self.assertEqual(self.page.run("field.value"), '"null"')
+        self.page.key("Enter")
+        # a truth value turns from true to null, to false, and to true
+        for value in (None, False, True, None):
+            self.page.run("state.here = [2, 3], openCell()")
+            self.assertEqual(self.page.run("shown[2].now[3]"), value)
+        self.settled()
+        self.assertEqual(self.edited(), [["ann", "null", "5", None], ["bob", None, "0", False], ["cy", "null", None, None]])
+        self.assertIn('null → "null"', self.below())
+        self.page.run("state.here = [1, 1], reveal()")
+        self.assertEqual(self.page.run("$('here').getAttribute('aria-label')"), "boss: null, was ")
+        self.save()
+        self.assertEqual(sorted(self.editor.read("staff")["rows"], key=lambda row: row[0]), [["ann", "null", "5", None], ["bob", None, "0", False], ["cy", "null", None, None]])
+        # nulls in filters, in sorting, and in what is pasted; the empty cell is null where no other value is empty
+        self.assertEqual([self.page.run(f"state.rows.filter((row) => testOf('{text}', state.columns[{at}])(row.now[{at}])).length") for at, text in ((1, "null"), (1, "= null"), (1, "!= null"), (1, '!= x'), (2, "null"), (2, "< 9"))],
+                         [1, 1, 2, 2, 1, 2])
+        self.page.click("#sheet th:nth-child(4) button")
+        self.assertEqual(self.page.run("shown.map((row) => row.now[2])"), [None, "0", "5"])
+        self.page.run("state.here = [0, 0]")
+        self.paste("di\tnull\t\t\ned\t\t1\tNULL\nfay\tNull\t2\tmaybe\n")
+        self.page.wait("state.faults.length === 1")
+        self.assertEqual(self.edited(), [["di", None, None, None], ["ed", "", "1", None], ["fay", "Null", "2", "maybe"]])
+        self.assertIn("paid wants true or false or null", self.below())
+        self.page.click("#discard")
+        self.page.wait("!editedRows().length")
+        self.page.click("#add")
+        self.page.wait("editing")
+        self.page.type("gil")
+        self.page.key("Tab")
+        self.settled()
+        self.assertEqual(self.edited(), [["gil", None, None, None]])
 
     def test_a_save_and_a_read_at_once(self):
         self.open("albums")

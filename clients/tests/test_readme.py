@@ -8,7 +8,8 @@ import unittest
 
 HERE = os.path.dirname(os.path.abspath(__file__))
 CLIENTS = os.path.dirname(HERE)
-sys.path.insert(0, CLIENTS)
+sys.path[:0] = [CLIENTS, HERE]
+from run import said
 
 try:
     import pandas
@@ -38,7 +39,7 @@ class Readme(unittest.TestCase):
             # The lines that want it are the last ones.
             code = code[: code.index("    frame =")]
         done = self.run_it([sys.executable, "-c", code])
-        self.assertEqual((done.stdout, done.stderr), (f"{told}\n", ""))
+        self.assertEqual((done.stdout, said(done.stderr)), (f"{told}\n", ""))
 
     def test_shell(self):
         _, *lines = block("$ clients/shell").splitlines()
@@ -52,7 +53,7 @@ class Readme(unittest.TestCase):
             file.write("table stock (title text, quantity int, price int)\n")
         words = block("clients/rebuild").split()
         done = self.run_it([f"{CLIENTS}/rebuild", *words[1:]])
-        self.assertEqual((done.stdout, done.stderr), ("stock: 1 rows of 1\n", ""))
+        self.assertEqual((done.stdout, said(done.stderr)), ("stock: 1 rows of 1\n", ""))
 
 
 if __name__ == "__main__":

@@ -8,8 +8,9 @@ import unittest
 
 HERE = os.path.dirname(os.path.abspath(__file__))
 CLIENTS = os.path.dirname(HERE)
-sys.path.insert(0, CLIENTS)
+sys.path[:0] = [CLIENTS, HERE]
 from cigrelk import Server
+from run import said
 
 FAULTS = """track,rating,album,quantity
 New,5,Paris,9
@@ -67,7 +68,7 @@ class Shell(Room):
             (f"review {paths['twice']}", "line 1 is no edit"), ("propose", "the name of a file"), ("undo", "has changed nothing"), ("save goods /nowhere/goods.csv", "No such file"),
         ]
         done = run("shell", text="table goods (name text, quantity int)\n" + "".join(f"{line}\n" for line, _ in lines) + "read goods\n")
-        self.assertEqual((done.returncode, done.stderr), (1, ""))
+        self.assertEqual((done.returncode, said(done.stderr)), (1, ""))
         *printed, head, bar, end = done.stdout.splitlines()
         self.assertEqual(end, "(0 rows, version 1)")
         self.assertEqual(len(printed), len(lines), done.stdout)
@@ -81,6 +82,23 @@ class Shell(Room):
         with open(path, newline="") as file:
             self.assertEqual(file.read(), 'name,quantity\r\n"an ""axe"",\nsharp",7\r\nnail,1\r\n')
         self.assertEqual(stat.S_IMODE(os.stat(store).st_mode), 0o600)
+
+    def test_nulls(self):
+        path = self.file("people.csv", 'name,boss,age\r\nann,null,null\r\ncy,"""""null""""",0\r\nbob,"""null""",7\r\n')
+        lines = [
+            ("table people (name text, boss text null, age int null) with name -> boss age", ""), (f"load people {path}", '+ people: name "cy", boss "\\"null\\"", age 0'),
+            ("read people where boss=null", "ann   null  null"), ("read people where boss='\"null\"'", 'bob   "null"    7'), ("add people name=di boss=null age=x", "age wants a whole number of 64 bits or null"),
+            ("add people name=null boss=ann age=null", '+ people: name "null", boss "ann", age null'), ("add people name=ed boss=ann", "the column 'age' is missing"),
+            ("change people boss=null set boss=ann age=1", '+ people: name "ann", boss "ann", age 1'), ("undo", '+ people: name "ann", boss null, age null'), ("type people", "name text, boss text null, age int null"),
+            ("delete people name=null", '- people: name "null", boss "ann", age null'), (f"save people {path}2", ""), (f"check people {path}2", "(0 faults)"),
+        ]
+        done = run("shell", text="".join(f"{line}\n" for line, _ in lines))
+        at = 0
+        for line, told in lines:
+            at = done.stdout.find(told, at)
+            self.assertGreaterEqual(at, 0, f"{line}\n{done.stdout}")
+        with open(path, newline="") as one, open(f"{path}2", newline="") as other:
+            self.assertEqual(one.read(), other.read())
 
     def test_how_it_ends(self):
         for store, told in (("/nowhere/shop.db", "its folder is not there"), (self.room, "it is a folder"), (self.file("text.db", "a text and no store"), "the file is no store")):
@@ -115,6 +133,23 @@ class Rebuild(Room):
             self.assertEqual(file.read(), before)
         self.assertEqual(stat.S_IMODE(os.stat(new).st_mode), 0o600)
         self.assertEqual(run("rebuild", old, new, f"{self.room}/definitions").returncode, 1)
+
+    def test_columns_that_may_be_null(self):
+        old, new, newer = (f"{self.room}/{name}.db" for name in ("old", "new", "newer"))
+        with Server(old) as server:
+            server.define("table people (name text, boss text)").put([{"name": "ann", "boss": "null"}, {"name": "bob", "boss": "ann"}])
+        nullable = self.file("nullable", "table people (name text, boss text null, age int null, flag bool null, town text null)\n")
+        done = run("rebuild", old, new, nullable, 'people.flag=null', 'people.town="null"')
+        self.assertEqual((done.returncode, done.stdout), (0, "people: 2 rows of 2\n"), done.stderr)
+        with Server(new) as server:
+            rest = {"age": None, "flag": None, "town": "null"}
+            self.assertEqual(list(server["people"].read()), [{"name": "bob", "boss": "ann", **rest}, {"name": "ann", "boss": "null", **rest}])
+        plain = self.file("plain", "table people (name text, age int, town text)\n")
+        for more, told in (((), "row 0 of 'add': 'age' is no column, or null is not of its kind"), (("people.age=null",), "people.age=null"), (("people.age=3", "people.town=null"), "")):
+            done = run("rebuild", new, newer, plain, *more)
+            self.assertEqual((done.returncode, told in done.stderr), (int(bool(told)), True), done.stderr)
+        with Server(newer) as server:
+            self.assertEqual(list(server["people"].read()), [{"name": name, "age": 3, "town": "null"} for name in ("ann", "bob")])
 
 
 if __name__ == "__main__":

@@ -108,10 +108,19 @@ class ToSql(unittest.TestCase):
 
     def are_same(self):
         with Server(self.store) as server:
-            for name in server.names():
-                there = [json.loads(line) for line in self.sql(f'COPY (SELECT row_to_json("IT") FROM public."{name}" AS "IT") TO STDOUT')]
-                here = [json.dumps(row, sort_keys=True) for row in server[name].read()]
-                self.assertCountEqual(here, [json.dumps(row, sort_keys=True) for row in there], name)
+            here = {name: server[name].read() for name in server.names()}
+        # (one question for all, with a name before the rows of each)
+        lines = self.sql(";".join(f"""SELECT '{name}'; COPY (SELECT row_to_json("IT") FROM public."{name}" AS "IT") TO STDOUT""" for name in here))
+        there = {}
+        for line in lines:
+            if line.startswith("{"):
+                there[name].append(json.loads(line))
+            else:
+                name = line
+                there[name] = []
+        self.assertEqual(list(there), list(here))
+        for name, rows in here.items():
+            self.assertCountEqual(*([json.dumps(row, sort_keys=True) for row in some] for some in (rows, there[name])), name)
 
     def runs_the_guide(self):
         with open(f"{TOP}/examples/lessons.requests") as requests, open(f"{TOP}/examples/lessons.replies") as replies:
@@ -197,6 +206,40 @@ class ToSql(unittest.TestCase):
         self.sql("DELETE FROM it1; INSERT INTO public.pg_class SELECT * FROM public.pg_class; INSERT INTO public.pg_class VALUES ('zz'), ('\\'); UPDATE \"group\" SET \"order\" = 1")
         self.bridge([])
         self.are_same()
+
+    def test_columns_that_may_be_null(self):
+        with open(f"{TOP}/examples/nulls.requests") as requests, open(f"{TOP}/examples/nulls.replies") as replies:
+            self.assertEqual(self.bridge(requests.read().splitlines()), replies.read())
+        self.are_same()
+        # each comparison over each pair of values, plain and under not; joins by columns that are null; a key that is null
+        parts = [f"a {sign} {right}" for sign in ("=", "!=", "<", ">=") for right in ("b", "c", "0")] + ["a in (0, 5)", "a is null", "f = true", "a != b or b is null and not c = 1"]
+        views = [f"select from t where {part}" for part in parts] + [f"select from t where not ({part})" for part in parts]
+        views += ["join_dl t with u", "drop f determined by (k, null) from (join_dl t with (select from u where not w = 'x'))", "join_dl u with c"]
+        definitions = ["table t (k int, a int null, b int null, c int, f bool null) with k -> a b c f", "table u (a int null, b int null, w text null) with a b -> w", "table c (w text null, m int) with w -> m"]
+        definitions += [f"view n{number} = {text}" for number, text in enumerate(views)]
+        values = [None, 0, 1]
+        rows = [{"k": 9 * one + 3 * two + three, "a": values[one], "b": values[two], "c": three, "f": [None, False, True][(one + three) % 3]} for one in range(3) for two in range(3) for three in range(3)]
+        others = [{"a": one, "b": two, "w": text} for (one, two), text in zip([(one, two) for one in values for two in values], [None, "", "x", "null", "y", None, "it's", "0", "z"])]
+        names = [{"w": text, "m": number} for number, text in enumerate([None, "", "x", "null"])]
+        puts = [{"do": "put", "view": view, "rows": found} for view, found in (("t", rows), ("u", others), ("c", names))]
+        told = self.bridge([{"do": "define", "text": text} for text in definitions] + puts)
+        self.assertNotIn('"ok":false', told)
+        self.are_same()
+        # rows with nulls that go, come and change, also behind the bridge
+        self.bridge([{"do": "edit", "view": "t", "remove": [rows[0], rows[1], rows[20]], "add": [{**rows[1], "a": 1}, {**rows[20], "a": None, "f": None}]},
+                     {"do": "edit", "view": "c", "remove": [names[0], names[2]], "add": [{"w": "x", "m": 7}]}, {"do": "edit", "view": "c", "remove": [], "add": [{"w": None, "m": 8}]}])
+        self.are_same()
+        self.sql("UPDATE t SET a = NULL; UPDATE u SET w = '' WHERE w IS NULL; INSERT INTO c VALUES (NULL, 9)")
+        self.bridge([])
+        self.are_same()
+
+    def test_renames_and_joins_by_the_side_from_which_they_delete(self):
+        for name in ("renames", "join_kinds"):
+            with open(f"{TOP}/examples/{name}.requests") as requests, open(f"{TOP}/examples/{name}.replies") as replies:
+                self.assertEqual(self.bridge(requests.read().splitlines()), replies.read())
+            self.are_same()
+            os.remove(self.store)
+            self.sql("SET client_min_messages = warning; DROP SCHEMA public CASCADE; CREATE SCHEMA public")
 
     def test_how_it_ends(self):
         self.bridge([{"do": "define", "text": "table k (a text, b int) with a -> b"}])
