@@ -90,6 +90,10 @@ def edit(view, remove, add, do="edit", on=None):
     return (f'{{"do":"{do}","view":"{view}","remove":[' + ",".join(remove) + '],"add":[' + ",".join(add) + f"]{rests}}}\n").encode()
 
 
+def find(view, column, value):
+    return f'{{"do":"find","view":"{view}","column":"{column}","value":{value}}}\n'.encode()
+
+
 def must_begin(reply, start):
     if not reply.startswith(start):
         raise SystemExit(f"not what was expected: {reply[:200]!r}")
@@ -207,7 +211,7 @@ def questions(program):
 
 def without_date(line):
     """The row as a view without dates has it."""
-    return re.sub(r'"date":[0-9]+,', "", line)
+    return re.sub(r'"date":(?:[0-9]+|null),', "", line)
 
 
 def drops(program):
@@ -259,9 +263,33 @@ def joins(program):
             ("put of that view with one row changed", put(changed, "stock"), b'{"changed":[{'),
             ("edit of that view, one row replaced", edit("stock", stock[:1], [re.sub(r'"rating":[0-9]+', '"rating":9', stock[0])]), b'{"changed":[{'),
             ("preview of such an edit", edit("stock", stock[1:2], [re.sub(r'"rating":[0-9]+', '"rating":9', stock[1])], "preview"), b'{"changed":[{'),
+            ("find of one row of that view by its key", find("stock", "track", re.search('"track":(.*)}', stock[0])[1]), b'{"ok":true,"rows":[{'),
+            ("find of two rows of it by a column that determines nothing", find("stock", "rating", 9), b'{"ok":true,"rows":[{'),
         ]
         table += timed(server, steps)
     return table
+
+
+def nulls(program, folder):
+    """A table of 100,000 rows in which every other date is null, over a store in a file; ms and MB."""
+    server = defined(
+        program,
+        "table tracks (album text, date int null, rating int, track text)",
+        "view undated = select from tracks where date is null",
+        "view later = select from tracks where not date < 2000",
+        words=("--store", os.path.join(folder, "nulls.db")),
+    )
+    rows = [row(number) for number in range(ROWS)]
+    rows[::2] = [re.sub(r'"date":[0-9]+', '"date":null', line) for line in rows[::2]]
+    changed = rows[:-1] + [row(ROWS - 1, 9)]
+    steps = [
+        (f"put of {ROWS:,} rows into a table with a nullable column, every other one null, with `--store`", put(rows), b'{"changed":[{'),
+        ("the put with one row changed", put(changed), b'{"changed":[{'),
+        (f"read of a view of the {ROWS // 2:,} nulls, by `is null`", b'{"do":"read","view":"undated"}\n', b'{"ok":true,"rows":[{'),
+        ("read of a view by `not` over a comparison", b'{"do":"read","view":"later"}\n', b'{"ok":true,"rows":[{'),
+        ("edit of a row of the first view, with `--store`", edit("undated", rows[:1], [renamed(rows[0])]), b'{"changed":[{'),
+    ]
+    return timed(server, steps)
 
 
 def streams(program):
@@ -461,7 +489,7 @@ def rehearsed(program):
 def stores(program):
     """The lines of stores, in a folder beside the program."""
     with tempfile.TemporaryDirectory(dir=os.path.dirname(os.path.abspath(program))) as folder:
-        return edits(program, folder) + kept(program, folder) + committed(program, folder) + rehearsed(program)
+        return edits(program, folder) + nulls(program, folder) + kept(program, folder) + committed(program, folder) + rehearsed(program)
 
 
 def main():

@@ -1,5 +1,5 @@
 #!/usr/bin/env python3
-"""Measures how reads and puts of whole views grow with the tables, by ten times the rows.
+"""Measures how reads and puts of whole views grow with the tables, by ten times the rows; and how little finds by key do.
 
 In time: from 1,000, 10,000 and 25,000 rows on. Each line of the table has the medians of several runs, each by a program of
 its own, those with the small and those with the large tables in turn, and the quotient of the two, with that of the least
@@ -19,7 +19,7 @@ import sys
 import tempfile
 from typing import NamedTuple
 
-from bench import TOP, TRACKS, Server, define, edit, must_begin, put, quantity, row, without_date
+from bench import TOP, TRACKS, Server, define, edit, find, must_begin, put, quantity, row, without_date
 from instructions import instructions
 
 SIZES = (1_000, 10_000, 25_000)
@@ -42,7 +42,7 @@ class Measured(NamedTuple):
 
 
 class Case(NamedTuple):
-    """The lines that make tables and a view, each with how its reply begins, and those that are measured after them."""
+    """The lines that make tables and views, each with how its reply begins, and those that are measured after them."""
 
     begin: list
     measured: list
@@ -98,6 +98,34 @@ def drop_first(count):
     return Case(begin + filling("tracks", rows), [Measured(name, line)])
 
 
+def nullable(count):
+    """A put through a drop over a selection, of a table in which every other date is null."""
+    rows = [row(number) for number in range(count * 5 // 4)]
+    rows[::2] = [re.sub('"date":[0-9]+', '"date":null', line) for line in rows[::2]]
+    shown = [without_date(line) for line in rows if '"rating":0' not in line]
+    begin = defining(
+        TRACKS.replace("date int", "date int null") + " with track -> album date rating",
+        "view undated = drop date determined by (track, null) from (select from tracks where not rating = 0)",
+        "view lacking = select from tracks where date is null",
+    )
+    line = put(with_last_changed(shown, '"album":"album', '"album":"other'), "undated")
+    return Case(begin + filling("tracks", rows), [
+        Measured("put through a drop of a nullable column over a selection, every other value null", line),
+        Measured("read of the rows without a value, by `is null`", b'{"do":"read","view":"lacking"}\n', SHOWN),
+    ])
+
+
+def finds(count):
+    """Finds in a table of so many rows, and in a selection over a drop over a join with a tenth as many."""
+    case = join(count)
+    last = f'"track{next(number for number in reversed(range(count)) if quantity(number // 10) > 2)}"'
+    return Case(case.begin + [(edit("tracks", [], ['{"album":"album3","date":1,"rating":8,"track":"rare"}']), CHANGED)], [
+        Measured("find of one row by key in the table", find("tracks", "track", last), SHOWN),
+        Measured("find of one row by key in a selection over a drop over a join", find("stock", "track", last), SHOWN),
+        Measured("find of one row there by a column that determines nothing", find("stock", "rating", 8), SHOWN),
+    ])
+
+
 def join(count):
     """A read of a join of so many tracks with a tenth as many albums, and a put with one row changed."""
     albums = [f'{{"album":"album{number}","quantity":{quantity(number)}}}' for number in range(count // 10)]
@@ -119,6 +147,9 @@ def join(count):
     )
 
 
+CASES = (drop, drop_as_read, drop_first, join, nullable, finds)
+
+
 def seconds(program, case):
     """What each measured line takes in seconds, with its name."""
     server = Server(program)
@@ -135,7 +166,7 @@ def seconds(program, case):
 
 def once(program, by_hand, count):
     """What each line takes in seconds, with its name."""
-    lines = [line for make in (drop, drop_as_read, drop_first, join) for line in seconds(program, make(count))]
+    lines = [line for make in CASES for line in seconds(program, make(count))]
     if by_hand:
         lines += [(f"{name}, by hand", time) for make in (drop, drop_as_read) for name, time in seconds(by_hand, make(count))]
     return lines
@@ -161,13 +192,13 @@ def built_by_hand(folder):
 
 
 def measure(program, by_hand, runs):
-    print("| What, one row changed | Rows | Time | Ten times the rows | Time | Times |")
+    print("| What, puts with one row changed | Rows | Time | Ten times the rows | Time | Times |")
     print("|---|---|---|---|---|---|")
     for count in SIZES:
         for name, (few, many) in times(program, by_hand, count, runs).items():
             usual, usual_many = statistics.median(few), statistics.median(many)
             quotients = f"{usual_many / usual:.1f} ({min(many) / min(few):.1f})"
-            print(f"| {name} | {count:,} | {usual:,.1f} ms | {count * TIMES:,} | {usual_many:,.0f} ms | {quotients} |", flush=True)
+            print(f"| {name} | {count:,} | {usual:,.{1 if usual > 1 else 3}f} ms | {count * TIMES:,} | {usual_many:,.{0 if usual_many > 1 else 3}f} ms | {quotients} |", flush=True)
 
 
 def counts(program, case):
@@ -176,13 +207,17 @@ def counts(program, case):
     return [instructions(program, begin, [measured.line.decode()]) for measured in case.measured]
 
 
+def in_millions(count):
+    return f"{count / 1e6:,.{1 if count > 1e6 else 3}f} M"
+
+
 def count_instructions(program):
-    print(f"| What, one row changed | Instructions at {COUNTED:,} rows | At {COUNTED * TIMES:,} | Times |")
+    print(f"| What, puts with one row changed | Instructions at {COUNTED:,} rows | At {COUNTED * TIMES:,} | Times |")
     print("|---|---|---|---|")
-    for make in (drop, drop_as_read, drop_first, join):
+    for make in CASES:
         small, large = make(COUNTED), make(COUNTED * TIMES)
         for measured, few, many in zip(small.measured, counts(program, small), counts(program, large)):
-            print(f"| {measured.name} | {few / 1e6:,.1f} M | {many / 1e6:,.1f} M | {many / few:.1f} |", flush=True)
+            print(f"| {measured.name} | {in_millions(few)} | {in_millions(many)} | {many / few:.1f} |", flush=True)
 
 
 def main():

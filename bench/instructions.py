@@ -1,12 +1,15 @@
 #!/usr/bin/env python3
-"""Counts the instructions that edits and previews of a view over a join cost, at tables of several sizes.
+"""Counts the instructions that edits and previews of a view over a join, and finds in it by key, cost at tables of several sizes.
 
 The tables are those of the stored run: albums, tracks (ten on each album) and stock. Each line of the table is the
-number of instructions of one edit or preview of one row, by valgrind's callgrind, which counts from the filled tables
+number of instructions of one edit, preview or find of one row, by valgrind's callgrind, which counts from the filled tables
 on: those of a run with many of them less those of a run with few, by the difference of the numbers. Where a line has
 more rows, it is one edit of so many.
 
-Usage: bench/instructions.py [PROGRAM [ROWS..]]    (ROWS: tracks; without these words 1,000, 100,000 and 1,000,000)
+With --kinds each line is one edit of one row, one that changes it and one that removes it, through each kind of join, through a
+rename, and with columns that may be null, of which none is.
+
+Usage: bench/instructions.py [--kinds] [PROGRAM [ROWS..]]    (ROWS: tracks; without these words 1,000, 100,000 and 1,000,000)
 """
 import json
 import re
@@ -33,10 +36,10 @@ def edit(view, remove, add, do="edit"):
     return line({"add": add, "do": do, "remove": remove, "view": view})
 
 
-def filled(rows):
+def filled(rows, definitions=DEFINITIONS):
     """The lines that make the tables, with so many tracks."""
     albums = max(rows // 10, 1)
-    lines = [line({"do": "define", "text": text}) for text in DEFINITIONS]
+    lines = [line({"do": "define", "text": text}) for text in definitions]
     for first in range(0, albums, FILLING):
         lines.append(edit("albums", [], [{"album": f"a{i}", "quantity": 5} for i in range(first, min(first + FILLING, albums))]))
     for first in range(0, rows, FILLING):
@@ -54,6 +57,11 @@ def shown(i, rows, rating):
 def rated(numbers, rows, do="edit"):
     """The request that gives the tracks of these numbers another rating, by the view."""
     return edit("stock", [shown(i, rows, 3) for i in numbers], [shown(i, rows, 4) for i in numbers], do)
+
+
+def found(i):
+    """The request that finds the row of the track of this number, by the view."""
+    return line({"column": "track", "do": "find", "value": f"t{i}", "view": "stock"})
 
 
 def instructions(program, begin, lines):
@@ -79,11 +87,15 @@ def ask(run, line):
         raise SystemExit(f"not accepted: {reply[:200]}")
 
 
-def each(program, rows, do):
-    """The instructions of one edit or preview of one row."""
-    begin = filled(rows)
-    runs = [instructions(program, begin, [rated([i], rows, do) for i in range(number)]) for number in (FEW, MANY)]
+def each(program, begin, ask_for):
+    """The instructions of one line, of those that `ask_for` gives by numbers."""
+    runs = [instructions(program, begin, [ask_for(i) for i in range(number)]) for number in (FEW, MANY)]
     return (runs[1] - runs[0]) // (MANY - FEW)
+
+
+def of_one_row(program, rows, do):
+    """The instructions of one edit, preview or find of one row."""
+    return each(program, filled(rows), found if do == "find" else lambda i: rated([i], rows, do))
 
 
 def at_once(program, rows, number):
@@ -92,14 +104,47 @@ def at_once(program, rows, number):
     return instructions(program, begin, [rated(range(number), rows)]) - instructions(program, begin, [])
 
 
-def main():
-    words = sys.argv[1:]
-    program = words[0] if words else f"{TOP}/crates/view_program/out/view_program"
-    sizes = [int(word) for word in words[1:]] or [1_000, 100_000, 1_000_000]
-    print("| Tracks | one edit of one row | one preview of it | one edit of 1,000 rows |")
+def with_join(word):
+    return [text.replace("join_dl", word) for text in DEFINITIONS]
+
+
+# What the view is made of, by what is told of it: its definitions, and the name that the view has for the column of the tracks.
+KINDS = {
+    "join_dl": (DEFINITIONS, "track"),
+    "join_dr": (with_join("join_dr"), "track"),
+    "join_both": (with_join("join_both"), "track"),
+    "join_dl, under a rename": ([*DEFINITIONS[:2], DEFINITIONS[2].replace("select from", "rename track to title from (select from") + ")"], "title"),
+    "join_dl, columns that may be null": ([text.replace(" int,", " int null,").replace("quantity int)", "quantity int null)") for text in DEFINITIONS], "track"),
+}
+
+
+def by_kinds(program, sizes):
+    print("| Tracks | The view | one edit that changes a row | one that removes it |")
     print("|---|---|---|---|")
     for rows in sizes:
-        print(f"| {rows:,} | {each(program, rows, 'edit'):,} | {each(program, rows, 'preview'):,} | {at_once(program, rows, min(1_000, rows)):,} |", flush=True)
+        for kind, (definitions, name) in KINDS.items():
+            begin = filled(rows, definitions)
+
+            def named(i, rating):
+                return {name if column == "track" else column: value for column, value in shown(i, rows, rating).items()}
+
+            changed = each(program, begin, lambda i: edit("stock", [named(i, 3)], [named(i, 4)]))
+            removed = each(program, begin, lambda i: edit("stock", [named(i, 3)], []))
+            print(f"| {rows:,} | {kind} | {changed:,} | {removed:,} |", flush=True)
+
+
+def main():
+    words = [word for word in sys.argv[1:] if word != "--kinds"]
+    program = words[0] if words else f"{TOP}/crates/view_program/out/view_program"
+    sizes = [int(word) for word in words[1:]] or [1_000, 100_000, 1_000_000]
+    if "--kinds" in sys.argv:
+        by_kinds(program, sizes)
+        return
+    print("| Tracks | one edit of one row | one preview of it | one find of it by its key | one edit of 1,000 rows |")
+    print("|---|---|---|---|---|")
+    for rows in sizes:
+        counts = [*(of_one_row(program, rows, do) for do in ("edit", "preview", "find")), at_once(program, rows, min(1_000, rows))]
+        print(f"| {rows:,} | {' | '.join(f'{count:,}' for count in counts)} |", flush=True)
 
 
 if __name__ == "__main__":
