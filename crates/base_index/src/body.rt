@@ -373,6 +373,7 @@ impl Body {
             (cols_of self.old.indexes.items) (rows_seen (parts_of self.old))) }
         ensures walked_at_most { walked.new ≤ walked.old + rows_walked table.now needs.now
             (cols_of self.old.indexes.items) (rows_seen (parts_of self.old)) }
+        ensures walks_on { walked.old ≤ walked.new }
     {
         add_indexes(alloc, table, &self.rows, &mut self.indexes, needs, walked)
     }

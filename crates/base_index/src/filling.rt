@@ -32,6 +32,7 @@ pub fn add_indexes<L: Ledger>(
         ≡ walked.old + rows_walked table.now needs.now (cols_of indexes.old.items) rows.now) }
     ensures walked_at_most { walked.new
         ≤ walked.old + rows_walked table.now needs.now (cols_of indexes.old.items) rows.now }
+    ensures walks_on { walked.old ≤ walked.new }
 {
     let mut fresh = fresh_indexes(alloc, table, indexes, needs)?;
     if fresh.is_empty() {
@@ -99,6 +100,7 @@ fn fill<L: Ledger>(
     ensures cols { SameCols indexes.old.items indexes.new.items }
     ensures walked { OnOk result (walked.new ≡ walked.old + length rows.now) }
     ensures walked_at_most { walked.new ≤ walked.old + length rows.now }
+    ensures walks_on { walked.old ≤ walked.new }
 {
     for row in rows {
         walked.tick();

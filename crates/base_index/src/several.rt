@@ -125,6 +125,7 @@ pub fn define_each<L: Ledger>(
         ≡ walked.old + sum_by (walked_of needs.now) (with_new table tables.old.items)) }
     ensures walked_at_most { walked.new
         ≤ walked.old + sum_by (walked_of needs.now) (with_new table tables.old.items) }
+    ensures walks_on { walked.old ≤ walked.new }
 {
     add_table(alloc, tables, table)?;
     need_each(alloc, tables, needs, walked)
@@ -160,6 +161,7 @@ fn need_each<L: Ledger>(
     ensures walked { OnOk result (
         walked.new ≡ walked.old + sum_by (walked_of needs.now) tables.old.items) }
     ensures walked_at_most { walked.new ≤ walked.old + sum_by (walked_of needs.now) tables.old.items }
+    ensures walks_on { walked.old ≤ walked.new }
 {
     for i in 0..tables.len() {
         tables[i].stage_indexes(alloc, needs, walked)?;

@@ -165,6 +165,7 @@ impl Table {
             + rows_walked self.old.name needs.now self.old.indexes self.old.rows) }
         ensures walked_at_most { walked.new ≤ walked.old
             + rows_walked self.old.name needs.now self.old.indexes self.old.rows }
+        ensures walks_on { walked.old ≤ walked.new }
     {
         self.body.unstage();
         self.body.add_indexes(alloc, &self.name, needs, walked)

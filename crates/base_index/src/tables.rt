@@ -80,6 +80,7 @@ impl Tables {
         ensures walked { OnOk result (
             walked.new ≡ walked.old + walked_for needs.now self.old.present) }
         ensures walked_at_most { walked.new ≤ walked.old + walked_for needs.now self.old.present }
+        ensures walks_on { walked.old ≤ walked.new }
     {
         unstage_each(&mut self.tables, self.shown);
         let staged = define_each(self.alloc, &mut self.tables, table, needs, walked);
@@ -230,6 +231,7 @@ impl Tables {
             rows ≡ (relation_in self.now.present.relations table.now).rows) }
         ensures walked { IfOk result (λ rows. walked.new ≡ walked.old + length (set.items rows)) }
         ensures walked_in_vain { OnErr result (walked.new ≡ walked.old) }
+        ensures walks_on { walked.old ≤ walked.new }
     {
         let rows = self.table(table).all_rows(self.alloc)?;
         tick_each(rows.rows(), walked);

@@ -7,7 +7,7 @@ use crate::held::{Held, Source, hold};
 use crate::joins::{JOINS, join_is};
 use crate::samples::{expect, parts, relation, value};
 use lens_pred::{Formula, Op, Pred};
-use lens_values::{Name, Value};
+use lens_values::Name;
 use row_sets::Relation;
 use std::alloc::Global;
 use std::marker::Brand;
@@ -22,8 +22,9 @@ use whole_put::get_drop;
 // change: rows to remove, and rows to add; which rows go, and which come.
 // tell: rows; which of them are there, and which are not.
 // find: rows; the rows of the relation that agree with one of them on the key.
-// touch: rows; which rows a revision by them changes, and what these are then.
-// select: rows that are put to a selection; which rows go, and which come.
+// touch: rows; which rows a revision by them changes, and what each of these is then.
+// select: rows that are put to a selection, and the columns of its predicate, each with a number that
+// it exceeds; which rows go, and which come.
 // drop: rows that are put without dates, and the default; which rows go, and which come.
 const CASES: &str = "
 change | a row removed and added stays, one that is not there is not removed, a new one comes
@@ -51,9 +52,16 @@ touch | a new row touches that of its track, and by the second edge others of it
 select | of two hidden rows of an album one is revised, the other would enter the view and goes
 | album:text quantity:int rating:int track:text | album -> quantity | album
 | album=G quantity=1 rating=1 track=a; album=G quantity=1 rating=5 track=b
-| album=G quantity=5 rating=4 track=c |
+| album=G quantity=5 rating=4 track=c | quantity 2, rating 3
 | album=G quantity=1 rating=1 track=a; album=G quantity=1 rating=5 track=b
 | album=G quantity=5 rating=1 track=a; album=G quantity=5 rating=4 track=c
+
+select | a hidden row is put with another quantity, and the other of its album would enter the view
+| album:text quantity:int track:text | album -> quantity | album
+| album=G quantity=1 track=t1; album=G quantity=1 track=t2
+| album=G quantity=5 track=t1 | quantity 2
+| album=G quantity=1 track=t1; album=G quantity=1 track=t2
+| album=G quantity=5 track=t1
 
 drop | the rows of a track keep its date or null, and the row of a new track has the default
 | album:text date:int? rating:int track:text | | track
@@ -63,6 +71,22 @@ drop | the rows of a track keep its date or null, and the row of a new track has
 | album=Show date=1989 rating=3 track=Lullaby; album=Wish date=null rating=4 track=Trust
 | album=Paris date=2018 rating=5 track=Disco; album=Show date=1989 rating=4 track=Lullaby;
 album=Wish date=null rating=1 track=Trust
+
+drop | two rows come: one of a track that has a date, and one of a new track
+| album:text date:int quantity:int rating:int track:text | | track
+| album=Galore date=1989 quantity=1 rating=3 track=Lullaby;
+album=Galore date=1989 quantity=1 rating=5 track=Lovesong;
+album=Paris date=1989 quantity=4 rating=5 track=Lovesong;
+album=Show date=1989 quantity=3 rating=3 track=Lullaby;
+album=Wish date=1992 quantity=5 rating=4 track=Trust
+| album=Galore quantity=1 rating=3 track=Lullaby; album=Galore quantity=1 rating=5 track=Lovesong;
+album=Paris quantity=4 rating=5 track=Lovesong; album=Show quantity=3 rating=3 track=Lullaby;
+album=Wish quantity=5 rating=2 track=Disco; album=Wish quantity=5 rating=4 track=Trust;
+album=Wish quantity=5 rating=5 track=Lovesong
+| 2018
+|
+| album=Wish date=1989 quantity=5 rating=5 track=Lovesong;
+album=Wish date=2018 quantity=5 rating=2 track=Disco
 
 drop | the default is null
 | album:text date:int? rating:int track:text | | track
@@ -146,7 +170,7 @@ fn answer_is<L: Ledger>(
         "tell" => told_apart(alloc, held, &rows, case.answer, looked),
         "find" => agreeing(alloc, held, &rows, case.answer[0], looked),
         "touch" => touched(alloc, held, &rows, case.answer, looked),
-        "select" => selection_is(alloc, held, &rows, case.answer, looked),
+        "select" => selection_is(alloc, held, &rows, case.more, case.answer, looked),
         _ => Err(Fail::from("no such call")),
     }
 }
@@ -166,32 +190,37 @@ fn change_is<L: Ledger>(
     changed(alloc, held, remove, &add, answer, looked)
 }
 
-// Whether a put of the rows to a selection changes this.
+// Whether a put of the rows to the selection of this predicate changes this.
 fn selection_is<L: Ledger>(
     alloc: Global,
     held: &Held,
     rows: &Relation,
+    listed: &str,
     answer: [&str; 2],
     looked: &mut Steps<L>,
 ) -> Result<bool, Fail>
     requires { rows.now.columns ≡ held.now.relation.columns }
 {
-    let popular = popular(alloc)?;
-    selected(alloc, held, &popular, rows, answer, looked)
+    let pred = pred(alloc, listed)?;
+    selected(alloc, held, &pred, rows, answer, looked)
 }
 
-// A quantity above 2, and a rating above 3.
-fn popular(alloc: Global) -> Result<Pred, Fail> {
-    let conjuncts = vec![in alloc; above("quantity", 2)?, above("rating", 3)?]?;
+// The predicate that the columns exceed their numbers, as `a 2, b 3`.
+fn pred(alloc: Global, text: &str) -> Result<Pred, Fail> {
+    let mut conjuncts = Vec::new(alloc);
+    for part in text.split(',') {
+        conjuncts.push(above(alloc, part.trim())?)?;
+    }
     Ok(Pred::new(conjuncts)?)
 }
 
-// The column is above the number.
-fn above(col: &str, number: i64) -> Result<Formula, Fail> {
+// The column exceeds the number, as `a 2`.
+fn above(alloc: Global, text: &str) -> Result<Formula, Fail> {
+    let (col, number) = text.split_once(' ').ok_or("no number")?;
     Ok(Formula::Compare {
         col: Name::new(col)?,
         op: Op::Gt,
-        value: Value::Int(number),
+        value: value(alloc, number)?,
     })
 }
 

@@ -11,10 +11,10 @@ use crate::kinds::join_change;
 use crate::premises::{
     all_hold, can_be_joined, has_key, is_determined, is_met, is_over, share_key,
 };
-use crate::samples::{are_rows, is_delta};
+use crate::samples::{are_rows, is_delta, rows};
 use drop_delta::drop_delta;
 use lens_pred::Pred;
-use lens_values::{JoinKind, Name, Value};
+use lens_values::{JoinKind, Name, Row, Value};
 use revision::{Touched, afters, befores, revise_touched};
 use row_sets::Relation;
 use select_delta::select_delta;
@@ -77,7 +77,8 @@ pub(crate) fn agreeing<L: Ledger>(
     are_rows(alloc, &found, answer)
 }
 
-/// Whether revision by these rows changes the first rows of the answer, to the second.
+/// Whether revision by these rows changes each of the first rows of the answer to the second row at
+/// its place.
 pub(crate) fn touched<L: Ledger>(
     alloc: Global,
     look: &Held,
@@ -98,10 +99,18 @@ pub(crate) fn touched<L: Ledger>(
     are_touched(alloc, &touched, answer)
 }
 
-// Whether the touched rows were the old ones, and are the new ones.
+// Whether the touched rows are changed so, and those that were and those that are now are known.
 fn are_touched(alloc: Global, touched: &[Touched], [old, new]: [&str; 2]) -> Result<bool, Fail> {
     let before = are_rows(alloc, &befores(alloc, touched)?, old)?;
-    Ok(before && are_rows(alloc, &afters(alloc, touched)?, new)?)
+    let after = are_rows(alloc, &afters(alloc, touched)?, new)?;
+    Ok(before && after && are_pairs(touched, &rows(alloc, old)?, &rows(alloc, new)?))
+}
+
+// Whether each of the touched rows was the old one at its place, and is the new one there.
+fn are_pairs(touched: &[Touched], old: &[Row], new: &[Row]) -> bool {
+    touched.len() == old.len()
+        && touched.iter().zip(old.iter().zip(new)).all(|(one, pair)| one.before == *pair.0
+            && one.after == *pair.1)
 }
 
 /// Whether putting these rows to the selection changes this in the relation.

@@ -83,8 +83,8 @@ fn row(alloc: Global, text: &str) -> Result<Row, Fail> {
     Ok(Row::new(alloc, pairs)?)
 }
 
-// The rows that the text lists, as `a=1 b=x; a=2 b=y`.
-fn rows(alloc: Global, text: &str) -> Result<Vec<Row>, Fail> {
+/// The rows that the text lists, as `a=1 b=x; a=2 b=y`.
+pub(crate) fn rows(alloc: Global, text: &str) -> Result<Vec<Row>, Fail> {
     let mut list = Vec::new(alloc);
     for part in text.split_terminator(';') {
         list.push(row(alloc, part)?)?;

@@ -38,6 +38,7 @@ pub fn find_rows<J: Ledger, K: Ledger>(
         → looked.new ≡ looked.old }
     ensures walks { let db = view.now.tables.present.relations in
         walked.new ≤ walked.old + rows_under view.now.lens db }
+    ensures walks_on { walked.old ≤ walked.new }
 {
     rows_fit(view);
     let cols = Names::single(alloc, col)?;
@@ -67,6 +68,7 @@ fn rows_found<J: Ledger, K: Ledger>(
         → looked.new ≡ looked.old }
     ensures walks { let db = view.now.tables.present.relations in
         walked.new ≤ walked.old + rows_under view.now.lens db }
+    ensures walks_on { walked.old ≤ walked.new }
 {
     if view.asked_by(cols) {
         let key = key_of(alloc, col, value)?;

@@ -77,24 +77,55 @@ const STEPS: &str = "
     finds year:int? | year=null | album=a title=x year=null
     finds year:int? | year=-9223372036854775808 | album=a title=y year=-9223372036854775808";
 
+// A row is staged and settled in a table that has an index by its only column.
+const FIRST_STEPS: &str = "
+    index k:int
+    settle
+    stage k=1
+    lacks k=1
+    settle
+    has k=1
+    finds k:int | k=1 | k=1
+    shows k=1";
+
 // Fails, with the step, where the table is not as a step says.
-fn all<L: Ledger>(alloc: Global, blank: Blank) -> Result<(), Fail>
-    requires name { blank.name ≡ L.name }
-    requires parts { blank.parts ≡ L.parts }
-    requires one { blank.parts ≡ 1 }
-{
-    let mut trial = Trial::<L>::new(alloc, blank, TRACKS)?;
-    for step in STEPS.lines() {
-        if !is_so(alloc, &mut trial, step.trim())? {
+fn follow<L: Ledger>(alloc: Global, trial: &mut Trial<L>, steps: &str) -> Result<(), Fail> {
+    for step in steps.lines() {
+        if !is_so(alloc, trial, step.trim())? {
             return Err(Fail::from(step));
         }
     }
     Ok(())
 }
 
+// Takes the steps of the table of tracks.
+fn all<L: Ledger>(alloc: Global, blank: Blank) -> Result<(), Fail>
+    requires name { blank.name ≡ L.name }
+    requires parts { blank.parts ≡ L.parts }
+    requires one { blank.parts ≡ 1 }
+{
+    let mut trial = Trial::<L>::new(alloc, blank, "tracks", TRACKS)?;
+    follow(alloc, &mut trial, STEPS)
+}
+
 #[test]
 fn tables_are_changed_held_and_asked(rt: HostRuntime) -> Result<(), Fail> {
     all::<Brand>(rt.alloc(), Blank::new(1))
+}
+
+// Takes the steps of the table of one column.
+fn first<L: Ledger>(alloc: Global, blank: Blank) -> Result<(), Fail>
+    requires name { blank.name ≡ L.name }
+    requires parts { blank.parts ≡ L.parts }
+    requires one { blank.parts ≡ 1 }
+{
+    let mut trial = Trial::<L>::new(alloc, blank, "n", "k:int")?;
+    follow(alloc, &mut trial, FIRST_STEPS)
+}
+
+#[test]
+fn a_row_is_seen_once_it_is_settled(rt: HostRuntime) -> Result<(), Fail> {
+    first::<Brand>(rt.alloc(), Blank::new(1))
 }
 
 // Takes the step, and says whether it is as it says.

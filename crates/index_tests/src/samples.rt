@@ -9,6 +9,7 @@ use std::test::Fail;
 // The kind that the word names.
 fn kind(word: &str) -> Result<Kind, Fail> {
     match word {
+        "int" => Ok(Kind::Int),
         "int?" => Ok(Kind::IntOrNull),
         "text" => Ok(Kind::Text),
         _ => Err(Fail::from("no kind")),

@@ -39,14 +39,19 @@ impl<L: Ledger> Model for Trial<L> {
 }
 
 impl<L: Ledger> Trial<L> {
-    /// A table of these columns with no row and no index.
-    pub(crate) fn new(alloc: Global, blank: Blank, listed: &str) -> Result<Trial<L>, Fail>
+    /// A table of this name and these columns with no row and no index.
+    pub(crate) fn new(
+        alloc: Global,
+        blank: Blank,
+        table: &str,
+        listed: &str,
+    ) -> Result<Trial<L>, Fail>
         requires name { blank.name ≡ L.name }
         requires parts { blank.parts ≡ L.parts }
         requires one { blank.parts ≡ 1 }
     {
         let mut steps = Steps::<L>::new(blank);
-        let name = Name::new("tracks")?;
+        let name = Name::new(table)?;
         let columns = columns(alloc, listed)?;
         let mut tables = Tables::new(alloc);
         tables.stage_definition(Some((name, columns)), &[], &mut steps)?;
@@ -129,10 +134,13 @@ impl<L: Ledger> Trial<L> {
         true
     }
 
-    /// Whether a walk finds just these rows, and they are counted.
+    /// Whether a walk finds just these rows, in a step a row, and they are counted.
     pub(crate) fn shows(&mut self, rows: &str) -> Result<bool, Fail> {
+        let before = self.steps.number();
         let walked = self.tables.walk(&self.name, &mut self.steps)?;
-        let counted = self.tables.count(&self.name) == walked.rows().len();
+        let steps = self.steps.number().saturating_sub(before);
+        let count = walked.rows().len();
+        let counted = self.tables.count(&self.name) == count && steps == count as u64;
         Ok(counted && are_rows(self.alloc, &walked, rows)?)
     }
 

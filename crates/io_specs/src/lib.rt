@@ -1,4 +1,4 @@
-//! Definitions of the lines of an input, and of the counts of faults of handed-in objects.
+//! Definitions of the lines of an input, and of the faults and calls of handed-in objects.
 #![tactic(auto)]
 
 /// How many bytes a line has at most, without its newline.

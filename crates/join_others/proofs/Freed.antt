@@ -1,23 +1,26 @@
 -- Right parts of rows joined too much, and which of them the edited view has.
-use Rattle.std.proofs.Common.{◌≡◌, sym, ap, ◌∙◌, true, false, inl, inr}
-use Rattle.lens_values.specs.Part.{restrict}
+use Rattle.std.proofs.Common.{◌≡◌, sym, ap, ◌∙◌, true, false, not, inl, inr}
+use Rattle.std.specs.Ordering.{eq_by_cmp}
+use Rattle.std.proofs.lemmas.Bool.{not-true}
+use Rattle.lens_values.specs.Part.{override, restrict}
+use Rattle.lens_values.specs.Row.{row_cmp}
 use Rattle.lens_values.specs.SortedSet as set
 use Rattle.lens_values.specs.declared.row.Row.{Row}
 use Rattle.lens_specs.specs.Columns.{Columns, Fits, names}
 use Rattle.lens_specs.specs.Delta.{Delta, new_view}
 use Rattle.lens_specs.specs.Names.{Names}
 use Rattle.lens_specs.specs.Nodes.{join_get}
-use Rattle.lens_specs.specs.Relation.{Rows, has, minus, project}
-use Rattle.lens_specs.specs.Rows.{cut}
-use Rattle.lens_laws.specs.KeyedDeltas.{found_each}
-use Rattle.lens_laws.proofs.Deltas.{from_found_each, from_new_view, in_found_each, in_new_view_added, in_new_view_kept}
-use Rattle.lens_laws.proofs.Join.{from_natural, natural_paste}
-use Rattle.fd_laws.proofs.Lists.{absurd_false, false_from}
-use Rattle.fd_laws.proofs.Relations.{from_join, from_minus, from_project, in_join, in_minus, in_project, same_rel}
-use Rattle.fd_laws.proofs.Rows.{agree_back}
-use Rattle.row_sets.specs.Joins.{pairs_on}
-use Rattle.row_sets.proofs.Natural.{natural_is}
+use Rattle.lens_specs.specs.Relation.{Rows, has, minus, project, those}
+use Rattle.lens_specs.specs.Rows.{agree, cut, paste}
+use Rattle.lens_laws.specs.KeyedDeltas.{find_by}
+use Rattle.lens_laws.proofs.Deltas.{from_new_view, in_new_view_added, in_new_view_kept}
+use Rattle.lens_laws.proofs.Join.{cut_right, from_natural, natural_paste}
+use Rattle.lens_laws.proofs.PastedFinds.{both_is_paste}
+use Rattle.fd_laws.proofs.Lists.{absurd_false, any_at, any_from, false_from}
+use Rattle.fd_laws.proofs.Relations.{from_minus, from_project, from_those, in_join, in_minus, in_project, in_those, same_rel}
+use Rattle.fd_laws.proofs.Rows.{agree-cut, agree_back, agree_on, row_itself, tied_row}
 use Rattle.join_delta.specs.Joined.{shared_names}
+use Rattle.join_others.specs.Shown.{is_shown}
 
 -- parts of rows that are of a changed source stand in the old one, if they are not added
 pub parts_stand : (C : Names) (N over : Rows) (right : Delta) → ((w : Row) → has over w ≡ true → has (new_view N right) (restrict C w) ≡ true)
@@ -49,15 +52,9 @@ module _ (U V : Columns) (M N : Rows) (d : Delta) (P added : Rows) (fit_left : (
   abbrev pub old : Rows
   old = minus (minus P (project (names V) d.add)) added
 
-  -- the left rows near them, the pairs, and which of them the view has
-  abbrev pub near : Rows
-  near = found_each (shared_names U V) M (set.items (minus (minus P (project (names V) d.add)) added))
-
-  abbrev pub pairs : Rows
-  pairs = join_get (names U) (names V) near old
-
+  -- those that are shown beside left rows
   abbrev pub shown : Rows
-  shown = project (names V) (minus pairs d.remove)
+  shown = those (is_shown (shared_names U V) M d.remove) old
 
   pub old_stands : (q : Row) → has old q ≡ true → has N q ≡ true
   old_stands q i =
@@ -72,17 +69,22 @@ module _ (U V : Columns) (M N : Rows) (d : Delta) (P added : Rows) (fit_left : (
 
   -- and so are the shown ones
   shown_there : (q : Row) → has shown q ≡ true → has (project (names V) O) q ≡ true
-  unfolding join_get
+  unfolding join_get cut
   shown_there q i =
-      let w = from_project (names V) (minus pairs d.remove) q i in
-      let v = from_minus pairs d.remove w.0 w.1 in
-      let p = from_join S (names V) near old w.0 v.0 in
-      let joined : has J w.0 ≡ true = ap (has J) p.5 ∙ in_join S (names V) M N p.0 p.1 (from_found_each S M (set.items old) p.0 p.2) (old_stands p.1 p.3) p.4 in
-      ap (has (project (names V) O)) w.2 ∙ in_project (names V) O w.0 (in_new_view_kept J d w.0 joined v.1)
+      let v = from_those (is_shown S M d.remove) old q i in
+      let w = any_from (eq_by_cmp row_cmp) tied_row row_itself (λ m. not (has d.remove (override q m))) (set.items (find_by S (cut S q) M)) v.1 in
+      let p = from_those (agree S (cut S q)) M w.0 (set.contains-items (find_by S (cut S q) M) w.0 ∙ w.1) in
+      let stood = old_stands q v.0 in
+      let like : agree S w.0 q ≡ true = agree_back S q w.0 (agree_on S q (cut S q) w.0 (agree_back S (cut S q) q (agree-cut S q)) p.1) in
+      let pair : override q w.0 ≡ paste w.0 (names V) q = both_is_paste V w.0 q (fit_right q stood) in
+      let joined : has J (paste w.0 (names V) q) ≡ true = in_join S (names V) M N w.0 q p.0 stood like in
+      let stays : has d.remove (paste w.0 (names V) q) ≡ false = ap (has d.remove) (sym pair) ∙ not-true _ w.2 in
+      ap (has (project (names V) O)) (sym (cut_right U V M N fit_left fit_right w.0 q p.0 stood))
+      ∙ in_project (names V) O (paste w.0 (names V) q) (in_new_view_kept J d (paste w.0 (names V) q) joined stays)
 
   -- a part of the view is one or the other
   there_shown : (q : Row) → has P q ≡ true → has own q ≡ false → has (project (names V) O) q ≡ true → has shown q ≡ true
-  unfolding join_get
+  unfolding join_get cut
   there_shown q i z h =
       let w = from_project (names V) O q h in
       elim (from_new_view J d w.0 w.1) [
@@ -90,13 +92,15 @@ module _ (U V : Columns) (M N : Rows) (d : Delta) (P added : Rows) (fit_left : (
         | inl y ↦
             let nat = from_natural U V M N fit_left fit_right w.0 y.0 in
             let p = natural_paste U V M N fit_left fit_right w.0 y.0 in
+            let m = cut (names U) w.0 in
             let there : has N q ≡ true = ap (has N) w.2 ∙ nat.1 in
             let stood : has old q ≡ true = in_minus (minus P own) added q (in_minus P own q i z) (false_from _ (λ a. absurd_false _ there (new q a))) in
-            let right : has old (cut (names V) w.0) ≡ true = ap (has old) (sym w.2) ∙ stood in
-            let left : has near (cut (names U) w.0) ≡ true =
-            in_found_each S M (set.items old) (cut (names V) w.0) (cut (names U) w.0) (sym (set.contains-items old (cut (names V) w.0)) ∙ right) nat.0 (agree_back S (cut (names U) w.0) (cut (names V) w.0) p.1) in
-            let pair : has pairs w.0 ≡ true = ap (has pairs) (sym p.0) ∙ in_join S (names V) near old (cut (names U) w.0) (cut (names V) w.0) left right p.1 in
-            ap (has shown) w.2 ∙ in_project (names V) (minus pairs d.remove) w.0 (in_minus pairs d.remove w.0 pair y.1)
+            let like : agree S m q ≡ true = ap (agree S m) w.2 ∙ p.1 in
+            let near : has (find_by S (cut S q) M) m ≡ true = in_those (agree S (cut S q)) M m nat.0 (agree_on S (cut S q) q m (agree-cut S q) (agree_back S m q like)) in
+            let pair : override q m ≡ w.0 = both_is_paste V m q (fit_right q there) ∙ ap (paste m (names V)) w.2 ∙ p.0 in
+            let stays : not (has d.remove (override q m)) ≡ true = ap (λ r. not (has d.remove r)) pair ∙ ap not y.1 in
+            in_those (is_shown S M d.remove) old q stood
+            (any_at (eq_by_cmp row_cmp) tied_row row_itself (λ r. not (has d.remove (override q r))) (set.items (find_by S (cut S q) M)) m (sym (set.contains-items (find_by S (cut S q) M) m) ∙ near) stays)
       ]
 
   pub free_are : minus (minus P own) shown ≡ minus P (project (names V) O)
@@ -111,19 +115,12 @@ module _ (U V : Columns) (M N : Rows) (d : Delta) (P added : Rows) (fit_left : (
       (in_minus P own q v.0 (false_from _ (λ h. absurd_false _ (own_there q h) v.1)))
       (false_from _ (λ h. absurd_false _ (shown_there q h) v.1)))
 
-  -- the pairs as they are made
-  pub pairs_are : pairs_on (shared_names U V) near old ≡ pairs
-  unfolding join_get
-  pairs_are = natural_is U V near old (λ n i. fit_right n (old_stands n i))
-
   -- the same, from what the code makes one after the other
-  pub free_made : (SH VN : Names) (parts others made_old made_near made_pairs stay made_shown : Rows) → SH ≡ shared_names U V → VN ≡ names V → parts ≡ P
-      → others ≡ minus parts (project (names V) d.add) → made_old ≡ minus others added → made_near ≡ found_each SH M (set.items made_old) → made_pairs ≡ pairs_on SH made_near made_old
-      → stay ≡ minus made_pairs d.remove → made_shown ≡ project VN stay → minus others made_shown ≡ minus P (project (names V) (new_view (join_get (names U) (names V) M N) d))
-  free_made SH VN parts others made_old made_near made_pairs stay made_shown sh vn is_parts is_others is_old is_near is_pairs is_stay is_shown =
+  pub free_made : (SH : Names) (parts others made_old made_shown : Rows) → SH ≡ shared_names U V → parts ≡ P
+      → others ≡ minus parts (project (names V) d.add) → made_old ≡ minus others added → made_shown ≡ those (is_shown SH M d.remove) made_old
+      → minus others made_shown ≡ minus P (project (names V) (new_view (join_get (names U) (names V) M N) d))
+  free_made SH parts others made_old made_shown sh is_parts is_others is_old is_shown_of =
       let others_are : others ≡ minus P own = is_others ∙ ap (λ X. minus X own) is_parts in
       let olds : made_old ≡ old = is_old ∙ ap (λ X. minus X added) others_are in
-      let nears : made_near ≡ near = is_near ∙ (λ i. found_each (sh i) M (set.items (olds i))) in
-      let all : made_pairs ≡ pairs = is_pairs ∙ (λ i. pairs_on (sh i) (nears i) (olds i)) ∙ pairs_are in
-      let shows : made_shown ≡ shown = is_shown ∙ (λ i. project (vn i) ((is_stay ∙ ap (λ X. minus X d.remove) all) i)) in
+      let shows : made_shown ≡ shown = is_shown_of ∙ (λ i. those (is_shown (sh i) M d.remove) (olds i)) in
       (λ i. minus (others_are i) (shows i)) ∙ free_are

@@ -1,17 +1,19 @@
 //! The parts of rows that are joined too much, by whether the view has the right one.
-ghost use Rattle.std.specs.Prelude.{◌≡◌, ◌≢◌, ◌≤◌, ◌+◌, ◌*◌, ℕ, true, false, length, not, Contains, IfOk};
+ghost use Rattle.std.specs.Prelude.{◌≡◌, ◌≢◌, ◌≤◌, ◌+◌, ◌*◌, ℕ, true, false, length, not, Contains, IfOk, is_some};
 ghost use Rattle.lens_values.specs.Part.{restrict};
 ghost use Rattle.lens_values.specs.SortedSet as set;
 ghost use Rattle.lens_specs.specs.Columns.{names};
 ghost use Rattle.lens_specs.specs.Delta.{new_view};
 ghost use Rattle.lens_specs.specs.Relation.{has, minus, project, those};
+ghost use Rattle.lens_specs.specs.Rows.{at};
 ghost use Rattle.join_delta.specs.Joined.{edited, shared_names};
 ghost use Rattle.join_delta.specs.Pairs.{AreSides};
+ghost use Rattle.join_others.specs.Shown as spec;
 
 use join_delta::Merged;
-use lens_values::{Names, NoMemory};
+use lens_values::{Names, NoMemory, Row};
 use row_sets::RowSet;
-use signed_delta::{Delta, Look, find_each, rows_fit};
+use signed_delta::{Delta, Look, rows_fit};
 use std::alloc::Global;
 use std::sync::ledger::Ledger;
 use step_counter::Steps;
@@ -51,11 +53,76 @@ pub fn free_parts<A: Look, B: Look, L: Ledger>(
     let parts = merged.over.project(alloc, &merged.sides.right)?;
     let others = parts.minus(alloc, &merged.parts)?;
     let old = others.minus(alloc, merged.right.add())?;
-    let near = find_each(alloc, &merged.sides.shared, &old, left, looked)?;
-    let pairs = near.join(alloc, &old, &merged.sides.shared)?;
-    let stay = pairs.minus(alloc, delta.remove())?;
-    let shown = stay.project(alloc, &merged.sides.right)?;
+    let shown = shown_parts(
+        alloc,
+        &merged.sides.shared,
+        &old,
+        left,
+        delta.remove(),
+        looked,
+    )?;
     others.minus(alloc, &shown)
+}
+
+// Those of the right parts that the view still shows.
+fn shown_parts<A: Look, L: Ledger>(
+    alloc: Global,
+    shared: &Names,
+    parts: &RowSet,
+    left: &A,
+    removed: &RowSet,
+    looked: &mut Steps<L>,
+) -> Result<RowSet, NoMemory>
+    requires some { length (set.items shared.now) ≢ 0 }
+    requires asked { Contains (A.asked left.now) shared.now }
+    requires have { (row : _) → has parts.now row ≡ true → (c : _)
+        → set.contains shared.now c ≡ true → is_some (at row c) ≡ true }
+    ensures shown { let R = (A.relation left.now).rows in IfOk result (λ shown. shown
+        ≡ those (spec.is_shown shared.now R removed.now) parts.now) }
+    ensures looks { (n : ℕ) → A.within left.now n → looked.new
+        ≤ looked.old + n * length (set.items parts.now) }
+{
+    let mut shown = Vec::new(alloc);
+    for part in parts.rows() {
+        if is_shown(alloc, shared, part, left, removed, looked)? {
+            shown.push(part.copy(alloc)?)?;
+        }
+    }
+    Ok(RowSet::from_rising(shown))
+}
+
+// Whether a left row joins the right part in a row that is not removed. The first one is enough.
+fn is_shown<A: Look, L: Ledger>(
+    alloc: Global,
+    shared: &Names,
+    part: &Row,
+    left: &A,
+    removed: &RowSet,
+    looked: &mut Steps<L>,
+) -> Result<bool, NoMemory>
+    requires some { length (set.items shared.now) ≢ 0 }
+    requires asked { Contains (A.asked left.now) shared.now }
+    requires have { (c : _) → set.contains shared.now c ≡ true → is_some (at part.now c) ≡ true }
+    ensures shown { let R = (A.relation left.now).rows in IfOk result (λ shown. shown
+        ≡ spec.is_shown shared.now R removed.now part.now) }
+    ensures looks { (n : ℕ) → A.within left.now n → looked.new ≤ looked.old + n }
+{
+    let key = part.project(alloc, shared)?;
+    let near = left.find(alloc, shared, &key, looked)?;
+    one_stays(alloc, near.rows(), part, removed)
+}
+
+// Whether one of the rows, pasted with the right part, is not removed.
+fn one_stays(alloc: Global, rows: &[Row], part: &Row, removed: &RowSet) -> Result<bool, NoMemory>
+    ensures { IfOk result (λ stays. stays ≡ spec.one_stays removed.now part.now rows.now) }
+{
+    for row in rows {
+        let pair = row.paste(alloc, part)?;
+        if !removed.has(&pair) {
+            return Ok(true);
+        }
+    }
+    Ok(false)
 }
 
 /// The left parts of those of the rows whose right part is not among these.

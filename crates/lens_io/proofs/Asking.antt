@@ -2,7 +2,9 @@
 use Rattle.std.proofs.Common.{◌≤◌, arith, slice_range, ◌≡◌, ◌≢◌, ◌+◌, ◌-◌, ℕ, List, [], ◌∷◌, ◌++◌, length, ap, sym, subst, ◌∙◌, refl, append_assoc, append-nil}
 use Rattle.std.specs.Prelude.{None, Some, min}
 use Rattle.std.specs.declared.option.Option.{Option}
-use Rattle.lens_io.specs.Calls.{Call, Adds, AddsCall}
+use Rattle.io_specs.specs.Calls.{Adds}
+use Rattle.io_specs.proofs.Calls.{Adds-none, Adds-then, Adds-weaker}
+use Rattle.lens_io.specs.Calls.{Call, AddsCall}
 use Rattle.lens_io.specs.Cutting.{HasNoNewline, AskInNeed}
 use Rattle.lens_io.proofs.Pieces.{clear-append, length-range}
 
@@ -12,28 +14,16 @@ pub record Asking (waiting : List ℕ) (taken taken' limit : ℕ) (old new : Opt
   pub clear : HasNoNewline now
   pub follows : (end : Option (List Call)) → Adds (AskInNeed now taken' limit) new end → Adds (AskInNeed waiting taken limit) old end
 
-add_all : (P Q : List Call → Type 0) (old new : Option (List Call)) → ((calls : List Call) → P calls → Q calls) → Adds P old new → Adds Q old new
-add_all P Q None new f p = tt
-add_all P Q (Some xs) None f p = absurd p
-add_all P Q (Some xs) (Some ys) f p = (p.0, p.1, f p.0 p.2)
-
 add_first : (P Q : List Call → Type 0) (old mid new : Option (List Call)) (room : ℕ) (came : List ℕ) → ((calls : List Call) → P calls → Q (record { room = room; came = came } ∷ calls))
     → AddsCall old mid room came → Adds P mid new → Adds Q old new
-add_first P Q None mid new room came f p q = tt
-add_first P Q (Some xs) None new room came f p q = absurd p
-add_first P Q (Some xs) (Some ys) None room came f p q = absurd q
-add_first P Q (Some xs) (Some ys) (Some zs) room came f p q = (
-  record { room = room; came = came } ∷ q.0,
-  q.1 ∙ ap (λ v. v ++ q.0) p.1 ∙ append_assoc xs p.0 q.0 ∙ ap (λ v. xs ++ (v ++ q.0)) p.2,
-  f q.0 q.2,
-)
+add_first P Q old mid new room came f p q =
+    Adds-then (λ calls. calls ≡ record { room = room; came = came } ∷ []) P Q old mid new (λ first later is h. subst (λ v. Q (v ++ later)) (sym is) (f later h)) p q
 
 add_one : (Q : List Call → Type 0) (old new : Option (List Call)) (room : ℕ) (came : List ℕ) → Q (record { room = room; came = came } ∷ []) → AddsCall old new room came → Adds Q old new
-add_one Q old new room came h p = add_all (λ calls. calls ≡ record { room = room; came = came } ∷ []) Q old new (λ calls is. subst Q (sym is) h) p
+add_one Q old new room came h p = Adds-weaker (λ calls. calls ≡ record { room = room; came = came } ∷ []) Q old new (λ calls is. subst Q (sym is) h) p
 
 pub add_none : (Q : List Call → Type 0) (known : Option (List Call)) → Q [] → Adds Q known known
-add_none Q None h = tt
-add_none Q (Some xs) h = ([], sym (append-nil xs), h)
+add_none = Adds-none
 
 pub Asking-nil : (waiting : List ℕ) (taken limit : ℕ) (known : Option (List Call)) → HasNoNewline waiting → Asking waiting taken taken limit known known
 Asking-nil waiting taken limit known clear = record { now = waiting; clear = clear; follows = λ end h. h }
@@ -69,7 +59,7 @@ behind front waiting taken limit (call ∷ calls) clear h = (
 pub Asking-passed : (waiting : List ℕ) (taken taken' limit : ℕ) (old mid new : Option (List Call)) → Asking waiting taken taken' limit old mid
     → Adds (AskInNeed [] taken' limit) mid new → Adds (AskInNeed waiting taken limit) old new
 Asking-passed waiting taken taken' limit old mid new asking passed =
-    asking.follows new (add_all (AskInNeed [] taken' limit) (AskInNeed asking.now taken' limit) mid new
+    asking.follows new (Adds-weaker (AskInNeed [] taken' limit) (AskInNeed asking.now taken' limit) mid new
     (λ calls h. subst (λ v. AskInNeed v taken' limit calls) (append-nil asking.now) (behind asking.now [] taken' limit calls asking.clear h)) passed)
 
 -- one call more filled a part of the buffer

@@ -3,6 +3,7 @@ pub mod Causes
 pub mod Fronts
 pub mod Gathered
 pub mod LineCuts
+pub mod Offering
 pub mod Pieces
 pub mod Progress
 pub mod Taken

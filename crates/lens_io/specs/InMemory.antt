@@ -1,16 +1,19 @@
 -- A source and a sink in memory, for tests.
-use Rattle.std.specs.Prelude.{◌==◌, ◌+◌, ◌-◌, ◌^◌, ◌++◌, ℕ, Bool, List, length, drop, min}
+use Rattle.std.specs.Prelude.{◌==◌, ◌+◌, ◌-◌, ◌^◌, ◌++◌, ℕ, Bool, List, Option, length, drop, min}
 use Rattle.std.specs.List.{list_any}
+use Rattle.lens_io.specs.Calls.{Call}
+use Rattle.lens_io.specs.declared.told.Offer.{Offer}
 
--- The bytes left, how many one call gives at most, which calls fail, how many calls there were and how many of them failed.
+-- The bytes left, how many one call gives at most, which calls fail, how many calls there were and how many of them failed, and the calls, where it tells them.
 pub record PiecewiseSource : Type 0 where
   pub left : List ℕ
   pub piece : ℕ
   pub failing : List ℕ
   pub calls : ℕ
   pub faults : ℕ
+  pub asked : Option (List Call)
 
--- The bytes taken, how many there may be, how many one call takes at most, which calls fail, how many calls there were and how many of them failed.
+-- The bytes taken, how many there may be, how many one call takes at most, which calls fail, how many calls there were and how many of them failed, and the calls, where it tells them.
 pub record PiecewiseSink : Type 0 where
   pub taken : List ℕ
   pub room : ℕ
@@ -18,6 +21,7 @@ pub record PiecewiseSink : Type 0 where
   pub failing : List ℕ
   pub calls : ℕ
   pub faults : ℕ
+  pub offered : Option (List Offer)
 
 -- one more, up to the largest count
 abbrev pub one_more : ℕ → ℕ

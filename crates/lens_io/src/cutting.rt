@@ -2,7 +2,8 @@
 ghost use Rattle.std.specs.Prelude.{◌≡◌, ◌≢◌, ◌≤◌, ◌<◌, ◌^◌, ◌+◌, ◌-◌, ℕ, true, false, length, [], ◌∷◌, ◌++◌, take, drop, min, List, vec_len, vec_capacity, slice_range, slice_index, IfOk, OnErr, MatchOption, MatchResult};
 ghost use Rattle.std.specs.Io.KnownBytes.{Consumes, IsAtEnd, Keeps};
 ghost use Rattle.io_specs.specs.Faults.{Rose};
-ghost use Rattle.lens_io.specs.Calls.{Adds, AddsCall};
+ghost use Rattle.io_specs.specs.Calls.{Adds};
+ghost use Rattle.lens_io.specs.Calls.{AddsCall};
 ghost use Rattle.lens_io.specs.Cutting.{AskInNeed, HasNoNewline, NeedsNone, Step, Passed, is_last, sized, unended};
 ghost use Rattle.lens_io.specs.Within.{IsWithin, FoundStep};
 

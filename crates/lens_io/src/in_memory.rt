@@ -1,12 +1,13 @@
 //! Sources and sinks in memory, for tests: exactly the calls that are listed fail.
-ghost use Rattle.std.specs.Prelude.{◌≡◌, ◌≤◌, ◌<◌, ◌⊎◌, true, false, [], length, take, drop, min, IfOk, OnErr, MatchResult};
+ghost use Rattle.std.specs.Prelude.{◌≡◌, ◌≤◌, ◌<◌, ◌⊎◌, true, false, [], length, map, take, drop, min, None, Some, IfOk, OnErr, MatchOption, MatchResult};
 ghost use Rattle.std.specs.Io.{ReadsAtMost};
 ghost use Rattle.std.specs.Io.KnownBytes.{ReadConsumes, WriteAppends};
 ghost use Rattle.io_specs.specs.Faults.{Rose};
-ghost use Rattle.lens_io.specs.Calls.{AddsTake};
+ghost use Rattle.lens_io.specs.Calls.{AddsGive, AddsTake, call_of, calls_kept, offers_kept};
 ghost use Rattle.lens_io.specs.InMemory.{one_more, is_failing, given_count, after_giving, after_refusing, taken_count, after_taking, after_declining};
 
 use crate::input_output::{Failed, Sink, Source};
+use crate::told::{Offer, Take, add_offer, add_take};
 use no_memory::NoMemory;
 use std::alloc::Global;
 use std::marker::Model;
@@ -102,16 +103,19 @@ impl Calls {
     }
 }
 
-/// A source of bytes in memory that gives them in pieces, and fails at some calls.
+/// A source of bytes in memory that gives them in pieces, and fails at some calls. It keeps its
+/// calls as long as there is memory for their list.
 #[derive(Debug, Drop)]
 pub struct MemorySource {
     source: SureSource,
     piece: usize,
     calls: Calls,
+    kept: Option<Vec<Take>>,
 }
 
 impl Model for MemorySource {
     ghost use Rattle.std.specs.Prelude.{◌≤◌};
+    ghost use Rattle.lens_io.specs.Calls.{calls_kept};
     ghost use Rattle.lens_io.specs.InMemory.{PiecewiseSource};
 
     ghost Value = { PiecewiseSource };
@@ -122,6 +126,7 @@ impl Model for MemorySource {
       failing = s.calls.failing.items;
       calls = s.calls.count;
       faults = s.calls.faults;
+      asked = calls_kept s.kept;
     } };
 
     ghost invariant = { λ s. 1 ≤ s.piece };
@@ -138,13 +143,45 @@ impl MemorySource {
           failing = failing.items;
           calls = 0;
           faults = 0;
+          asked = Some [];
         } }
     {
+        let kept = Vec::new(*failing.allocator());
         MemorySource {
             source: SureSource::new(bytes),
             piece,
             calls: Calls::new(failing),
+            kept: Some(kept),
         }
+    }
+
+    /// The calls so far, as long as there was memory for their list.
+    pub fn asked(&self) -> Option<&[Take]>
+        ensures { MatchOption result (self.now.asked ≡ None)
+            (λ takes. self.now.asked ≡ Some (map call_of takes.now)) }
+    {
+        match &self.kept {
+            Some(takes) => Some(takes.as_slice()),
+            None => None,
+        }
+    }
+
+    /// Gives the next bytes, where the call does not fail.
+    fn give(&mut self, into: &mut [u8]) -> Result<usize, Failed>
+        requires { 0 < length into.old }
+        ensures bound { ReadsAtMost result into.new }
+        ensures bytes { ReadConsumes (Some self.old.left) (Some self.new.left) result into.new }
+        ensures later { self.old.faults ≤ self.new.faults }
+        ensures failed { OnErr result (Rose self.old.faults self.new.faults) }
+        ensures gives { IfOk result (λ count. (count ≡ given_count self.old (length into.old))
+            × (self.new ≡ after_giving self.old count)) }
+        ensures refuses { OnErr result (self.new ≡ after_refusing self.old) }
+        ensures cause { let listed = is_failing self.old.failing (one_more self.old.calls) in
+            MatchResult result (λ _. listed ≡ false) (λ _. listed ≡ true) }
+    {
+        self.calls.next(false)?;
+        let most = into.len().min(self.piece);
+        self.source.take(&mut into[..most])
     }
 
     /// How many calls have failed.
@@ -162,37 +199,48 @@ impl Source for MemorySource {
 
     ghost faults = { λ s. s.faults };
 
-    ghost asked = { λ _. None };
+    ghost asked = { λ s. s.asked };
 
     fn take(&mut self, into: &mut [u8]) -> Result<usize, Failed>
         requires { 0 < length into.old }
         ensures bound { ReadsAtMost result into.new }
         ensures bytes { ReadConsumes (Some self.old.left) (Some self.new.left) result into.new }
-        ensures call { AddsTake None None result into.new }
+        ensures call { AddsTake self.old.asked self.new.asked result into.new }
         ensures later { self.old.faults ≤ self.new.faults }
         ensures failed { OnErr result (Rose self.old.faults self.new.faults) }
         ensures gives { IfOk result (λ count. (count ≡ given_count self.old (length into.old))
-            × (self.new ≡ after_giving self.old count)) }
-        ensures refuses { OnErr result (self.new ≡ after_refusing self.old) }
+            × (self.new ≡ record (after_giving self.old count) { asked = self.new.asked })) }
+        ensures refuses { OnErr result
+            (self.new ≡ record (after_refusing self.old) { asked = self.new.asked }) }
         ensures cause { let listed = is_failing self.old.failing (one_more self.old.calls) in
             MatchResult result (λ _. listed ≡ false) (λ _. listed ≡ true) }
     {
-        self.calls.next(false)?;
-        let most = into.len().min(self.piece);
-        self.source.take(&mut into[..most])
+        match self.give(into) {
+            Ok(count) => {
+                add_take(&mut self.kept, into.len(), &into[..count]);
+                Ok(count)
+            }
+            Err(Failed) => {
+                add_take(&mut self.kept, into.len(), &[]);
+                Err(Failed)
+            }
+        }
     }
 }
 
-/// A sink in memory that takes bytes in pieces, and fails at some calls.
+/// A sink in memory that takes bytes in pieces, and fails at some calls. It keeps its calls as long
+/// as there is memory for their list.
 #[derive(Debug, Drop)]
 pub struct MemorySink {
     bytes: Vec<u8>,
     room: usize,
     piece: usize,
     calls: Calls,
+    kept: Option<Vec<Offer>>,
 }
 
 impl Model for MemorySink {
+    ghost use Rattle.lens_io.specs.Calls.{offers_kept};
     ghost use Rattle.lens_io.specs.InMemory.{PiecewiseSink};
 
     ghost Value = { PiecewiseSink };
@@ -204,6 +252,7 @@ impl Model for MemorySink {
       failing = s.calls.failing.items;
       calls = s.calls.count;
       faults = s.calls.faults;
+      offered = offers_kept s.kept;
     } };
 
     ghost use Rattle.lens_io.specs.Within.{HasRoom};
@@ -229,6 +278,7 @@ impl MemorySink {
           failing = failing.items;
           calls = 0;
           faults = 0;
+          offered = Some [];
         }) }
     {
         let bytes = Vec::with_capacity(alloc, room)?;
@@ -237,7 +287,43 @@ impl MemorySink {
             room,
             piece,
             calls: Calls::new(failing),
+            kept: Some(Vec::new(alloc)),
         })
+    }
+
+    /// The calls so far, as long as there was memory for their list.
+    pub fn offered(&self) -> Option<&[Offer]>
+        ensures { MatchOption result (self.now.offered ≡ None)
+            (λ offers. self.now.offered ≡ Some offers.now) }
+    {
+        match &self.kept {
+            Some(offers) => Some(offers.as_slice()),
+            None => None,
+        }
+    }
+
+    /// Takes the first bytes of the piece, where the call does not fail.
+    fn accept(&mut self, piece: &[u8]) -> Result<usize, Failed>
+        requires { 0 < length piece.now }
+        ensures some { IfOk result (λ n. 0 < n) }
+        ensures bound { IfOk result (λ n. n ≤ length piece.now) }
+        ensures bytes { WriteAppends (Some self.old.taken) (Some self.new.taken) result piece.now }
+        ensures later { self.old.faults ≤ self.new.faults }
+        ensures failed { OnErr result (Rose self.old.faults self.new.faults) }
+        ensures takes { IfOk result (λ count. (count ≡ taken_count self.old (length piece.now))
+            × (self.new ≡ after_taking self.old (take count piece.now))) }
+        ensures declines { OnErr result (self.new ≡ after_declining self.old) }
+        ensures cause { let listed = is_failing self.old.failing (one_more self.old.calls) in
+            MatchResult result (λ _. listed ≡ false)
+            (λ _. (listed ≡ true) ⊎ (length self.old.taken ≡ self.old.room)) }
+    {
+        let room = self.room - self.bytes.len();
+        self.calls.next(room == 0)?;
+        let count = piece.len().min(self.piece).min(room);
+        match self.bytes.extend_from_slice(&piece[..count]) {
+            Ok(()) => Ok(count),
+            Err(_) => unreachable!(),
+        }
     }
 
     /// The bytes that it has taken.
@@ -262,26 +348,35 @@ impl Sink for MemorySink {
 
     ghost faults = { λ s. s.faults };
 
+    ghost offered = { λ s. s.offered };
+
     fn give(&mut self, piece: &[u8]) -> Result<usize, Failed>
         requires { 0 < length piece.now }
         ensures some { IfOk result (λ n. 0 < n) }
         ensures bound { IfOk result (λ n. n ≤ length piece.now) }
         ensures bytes { WriteAppends (Some self.old.taken) (Some self.new.taken) result piece.now }
+        ensures call { AddsGive self.old.offered self.new.offered result piece.now }
         ensures later { self.old.faults ≤ self.new.faults }
         ensures failed { OnErr result (Rose self.old.faults self.new.faults) }
         ensures takes { IfOk result (λ count. (count ≡ taken_count self.old (length piece.now))
-            × (self.new ≡ after_taking self.old (take count piece.now))) }
-        ensures declines { OnErr result (self.new ≡ after_declining self.old) }
+            × (self.new ≡ record (after_taking self.old (take count piece.now)) {
+              offered = self.new.offered;
+            })) }
+        ensures declines { OnErr result
+            (self.new ≡ record (after_declining self.old) { offered = self.new.offered }) }
         ensures cause { let listed = is_failing self.old.failing (one_more self.old.calls) in
             MatchResult result (λ _. listed ≡ false)
             (λ _. (listed ≡ true) ⊎ (length self.old.taken ≡ self.old.room)) }
     {
-        let room = self.room - self.bytes.len();
-        self.calls.next(room == 0)?;
-        let count = piece.len().min(self.piece).min(room);
-        match self.bytes.extend_from_slice(&piece[..count]) {
-            Ok(()) => Ok(count),
-            Err(_) => unreachable!(),
+        match self.accept(piece) {
+            Ok(count) => {
+                add_offer(&mut self.kept, piece.len(), count);
+                Ok(count)
+            }
+            Err(Failed) => {
+                add_offer(&mut self.kept, piece.len(), 0);
+                Err(Failed)
+            }
         }
     }
 }

@@ -5,7 +5,9 @@ ghost use Rattle.std.specs.Io.{ReadsAtMost};
 ghost use Rattle.std.specs.Io.KnownBytes.{Appends, Keeps, ReadConsumes, WriteAppends};
 ghost use Rattle.io_specs.specs.Faults.{Rose};
 ghost use Rattle.lens_io.specs.Bytes.{AppendsFront};
-ghost use Rattle.lens_io.specs.Calls.{AddsTake, Call};
+ghost use Rattle.io_specs.specs.Calls.{Adds};
+ghost use Rattle.lens_io.specs.Calls.{AddsGive, AddsTake, Call, OffersRest};
+ghost use Rattle.lens_io.specs.declared.told.Offer.{Offer};
 
 /// A source or a sink failed, and has counted it.
 #[derive(Clone, Copy, Debug, PartialEq, Eq)]
@@ -41,6 +43,9 @@ pub trait Sink {
     /// How often it has failed.
     ghost faults: { Self → ℕ };
 
+    /// The calls of `give` so far, where it tells them.
+    ghost offered: { Self → Option (List Offer) };
+
     /// Takes some first bytes of the piece, at least one, and answers how many. `Failed`: it took
     /// none.
     fn give(&mut self, piece: &[u8]) -> Result<usize, Failed>
@@ -48,6 +53,7 @@ pub trait Sink {
         ensures some { IfOk result (λ n. 0 < n) }
         ensures bound { IfOk result (λ n. n ≤ length piece.now) }
         ensures bytes { WriteAppends (taken self.old) (taken self.new) result piece.now }
+        ensures call { AddsGive (offered self.old) (offered self.new) result piece.now }
         ensures later { faults self.old ≤ faults self.new }
         ensures failed { OnErr result (Rose (faults self.old) (faults self.new)) };
 }
@@ -57,6 +63,8 @@ pub trait Sink {
 pub fn give_all<W: Sink>(sink: &mut W, bytes: &[u8]) -> Result<(), Failed>
     ensures ok { OnOk result (Appends (W.taken sink.old) (W.taken sink.new) bytes.now) }
     ensures front { OnErr result (AppendsFront (W.taken sink.old) (W.taken sink.new) bytes.now) }
+    // Each call is handed all bytes that are left, and no call follows one that failed.
+    ensures calls { Adds (OffersRest (length bytes.now)) (W.offered sink.old) (W.offered sink.new) }
     ensures later { W.faults sink.old ≤ W.faults sink.new }
     ensures failed { OnErr result (Rose (W.faults sink.old) (W.faults sink.new)) }
 {

@@ -60,9 +60,13 @@ impl<W: Write> StreamSink<W> {
 }
 
 impl<W: Write> Sink for StreamSink<W> {
+    ghost use Rattle.std.specs.Prelude.{None};
+
     ghost taken = { λ s. W.contents s.writer };
 
     ghost faults = { λ s. s.faults };
+
+    ghost offered = { λ _. None };
 
     fn give(&mut self, piece: &[u8]) -> Result<usize, Failed> {
         match self.writer.write(piece) {

@@ -46,6 +46,7 @@ pub(crate) fn difference_in<L: Ledger>(
     ensures delta { IfOk result (λ delta.
         delta ≡ diff (get lens.now tables.now.present.relations) known.now) }
     ensures walked { walked.new ≤ walked.old + rows_under lens.now tables.now.present.relations }
+    ensures walks_on { walked.old ≤ walked.new }
 {
     let untested = untested_rows(alloc, lens, tables, walked)?;
     let cols = names_of(alloc, lens)?;

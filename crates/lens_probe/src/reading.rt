@@ -31,6 +31,7 @@ pub(crate) fn read_in<L: Ledger>(
     ensures value { let db = tables.now.present.relations in
         IfOk result (λ shown. shown ≡ spec.view lens.now db) }
     ensures walked { walked.new ≤ walked.old + rows_under lens.now tables.now.present.relations }
+    ensures walks_on { walked.old ≤ walked.new }
 {
     let rows = row_set_in(alloc, lens, tables, walked)?;
     let columns = lens.sort().cols().copy(alloc)?;
@@ -49,6 +50,7 @@ fn row_set_in<L: Ledger>(
     ensures value { let shown = get lens.now tables.now.present.relations in
         IfOk result (λ rows. rows ≡ shown) }
     ensures walked { walked.new ≤ walked.old + rows_under lens.now tables.now.present.relations }
+    ensures walks_on { walked.old ≤ walked.new }
 {
     match lens.lens() {
         Lens::Base { table, .. } => tables.walk(table, walked),
@@ -71,6 +73,7 @@ pub(crate) fn rows_in<L: Ledger>(
     ensures value { let shown = get lens.now tables.now.present.relations in
         IfOk result (λ rows. set.from_list rows.items ≡ shown) }
     ensures walked { walked.new ≤ walked.old + rows_under lens.now tables.now.present.relations }
+    ensures walks_on { walked.old ≤ walked.new }
 {
     match lens.lens() {
         Lens::Base { table, .. } => Ok(tables.walk(table, walked)?.into_rows()),
@@ -107,6 +110,7 @@ pub(crate) fn selected_in<L: Ledger>(
     ensures value { let shown = get (select pred.now of.now) tables.now.present.relations in
         IfOk result (λ rows. set.from_list rows.items ≡ shown) }
     ensures walked { walked.new ≤ walked.old + rows_under of.now tables.now.present.relations }
+    ensures walks_on { walked.old ≤ walked.new }
 {
     match of.lens() {
         Lens::Drop { of: source, .. } => {
@@ -139,6 +143,7 @@ fn side_in<L: Ledger>(
     ensures value { let needed = rows_for pred.now side.now tables.now.present.relations in
         IfOk result (λ rows. rows ≡ needed) }
     ensures walked { walked.new ≤ walked.old + rows_under side.now tables.now.present.relations }
+    ensures walks_on { walked.old ≤ walked.new }
 {
     let mentioned = pred.mentions(alloc)?;
     if shows_all(side, &mentioned) {

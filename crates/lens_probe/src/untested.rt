@@ -40,6 +40,7 @@ pub(crate) fn untested_rows<'a, L: Ledger>(
         IfOk result (λ rows.
         set.from_list (map (restrict (view_names lens.now)) (passing rows)) ≡ shown) }
     ensures walked { walked.new ≤ walked.old + rows_under lens.now tables.now.present.relations }
+    ensures walks_on { walked.old ≤ walked.new }
 {
     match lens.lens() {
         Lens::Select { pred, of, .. } => untested_selection(alloc, pred, of, tables, walked),
@@ -65,6 +66,7 @@ fn untested_selection<'a, L: Ledger>(
         IfOk result (λ rows.
         set.from_list (map (restrict (view_names of.now)) (passing rows)) ≡ shown) }
     ensures walked { walked.new ≤ walked.old + rows_under of.now tables.now.present.relations }
+    ensures walks_on { walked.old ≤ walked.new }
 {
     match of.lens() {
         Lens::Drop { of: source, .. } => untested_in(alloc, pred, source, tables, walked),
@@ -85,6 +87,7 @@ fn untested_source<'a, L: Ledger>(
     ensures value { let shown = get lens.now tables.now.present.relations in
         IfOk result (λ rows. set.from_list (passing rows) ≡ shown) }
     ensures walked { walked.new ≤ walked.old + rows_under lens.now tables.now.present.relations }
+    ensures walks_on { walked.old ≤ walked.new }
 {
     match lens.lens() {
         Lens::Select { pred, of, .. } => untested_in(alloc, pred, of, tables, walked),
@@ -111,6 +114,7 @@ fn untested_in<'a, L: Ledger>(
     ensures value { let shown = get (select pred.now of.now) tables.now.present.relations in
         IfOk result (λ rows. set.from_list (passing rows) ≡ shown) }
     ensures walked { walked.new ≤ walked.old + rows_under of.now tables.now.present.relations }
+    ensures walks_on { walked.old ≤ walked.new }
 {
     match of.lens() {
         Lens::Base { .. } => Ok(Untested {

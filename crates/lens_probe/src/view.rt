@@ -119,6 +119,7 @@ impl<'a> View<'a> {
         ensures sort { IfOk result (λ relation. IsOfSort relation (sort_of self.now.lens)) }
         ensures walked { let db = self.now.tables.present.relations in
             walked.new ≤ walked.old + rows_under self.now.lens db }
+        ensures walks_on { walked.old ≤ walked.new }
     {
         read_in(alloc, self.lens, self.tables, walked)
     }
@@ -135,6 +136,7 @@ impl<'a> View<'a> {
         ensures delta { IfOk result (λ delta. delta ≡ diff (shown self.now).rows rows.now) }
         ensures walked { let db = self.now.tables.present.relations in
             walked.new ≤ walked.old + rows_under self.now.lens db }
+        ensures walks_on { walked.old ≤ walked.new }
     {
         difference_in(alloc, self.lens, self.tables, rows, walked)
     }

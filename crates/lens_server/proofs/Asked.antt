@@ -14,8 +14,8 @@ use Rattle.request_text.specs.RowFaults.{bad_row as bad_of, set_of}
 use Rattle.request_text.specs.Told.{RefusesBy}
 use Rattle.request_text.specs.declared.rows.RowsFault.{RowsFault}
 use Rattle.request_text.specs.declared.rows.RowsFault.TheVariants as rows_fault
-use Rattle.server_specs.specs.Answer.{Listed, bad_row, in_rows}
 use Rattle.server_specs.specs.Changing.{Sent, as_set, asked_view, changed_at, is_stale, of_sort, sent_view, set_in, tested, unless_stale, whole}
+use Rattle.server_specs.specs.EditRefusal.{Listed, bad_row, in_rows}
 use Rattle.server_specs.specs.Sending.{BadRow, rows_in}
 use Rattle.server_specs.specs.State.{State}
 use Rattle.server_laws.proofs.Asked.{sent_fits}
@@ -57,10 +57,15 @@ diff_edits L db d N is fit = (
   ap (new_view (get L db)) is ∙ diff_leads (get L db) N,
 )
 
--- what is asked, where the rows are sent, the version is not stale, and the difference to the rows is checked
+-- what is asked, where the version is not stale, and the difference to the rows is checked
+pub difference_tested : (s : State) (L : Lens) (db : Tables) (on : Option ℕ) (d : Delta) (N : Rows) (r : Result Delta Refusal) → is_stale s L on ≡ false → edited L db d ≡ N
+    → AsksBy L db r (of_sort (sort_of L) (edited L db d)) → AsksBy L db r (tested s L on (Ok N))
+difference_tested s L db on d N r fresh to h =
+    let same : tested s L on (Ok N) ≡ of_sort (sort_of L) (edited L db d) =
+    ap (λ b. unless_stale b (changed_at s L) s.version (of_sort (sort_of L) N)) fresh ∙ ap (of_sort (sort_of L)) (sym to) in
+    subst (AsksBy L db r) (sym same) h
+
+-- and where the rows are sent
 pub difference_asked : (s : State) (L : Lens) (db : Tables) (sent : Sent) (on : Option ℕ) (d : Delta) (N : Rows) (r : Result Delta Refusal) → sent_view sent L s ≡ Ok N → is_stale s L on ≡ false
     → edited L db d ≡ N → AsksBy L db r (of_sort (sort_of L) (edited L db d)) → AsksBy L db r (asked_view s L sent on)
-difference_asked s L db sent on d N r is fresh to h =
-    let same : asked_view s L sent on ≡ of_sort (sort_of L) (edited L db d) =
-    ap (tested s L on) is ∙ ap (λ b. unless_stale b (changed_at s L) s.version (of_sort (sort_of L) N)) fresh ∙ ap (of_sort (sort_of L)) (sym to) in
-    subst (AsksBy L db r) (sym same) h
+difference_asked s L db sent on d N r is fresh to h = subst (λ x. AsksBy L db r (tested s L on x)) (sym is) (difference_tested s L db on d N r fresh to h)

@@ -1,34 +1,36 @@
--- The plan of a put that is accepted.
-use Rattle.std.proofs.Common.{◌≡◌, ◌∙◌, ◌+◌, ℕ, suc, true, false, List, [], ◌∷◌, ap, sym, subst, refl, arith}
+-- The plan of a change of tables.
+use Rattle.std.proofs.Common.{◌≡◌, ◌∙◌, ◌+◌, ◌-◌, ℕ, suc, true, false, List, [], ◌∷◌, Some, ap, sym, subst, refl, arith}
 use Rattle.std.proofs.lemmas.Bool.Decides.{nat_tests}
-use Rattle.std.specs.Prelude.{◌≢◌, ◌==◌, IfOk, Result, Ok, Err, None, length, map}
+use Rattle.std.specs.Prelude.{◌≢◌, ◌==◌, IfOk, Option, Result, Ok, Err, None, length, map, slice_get}
 use Rattle.no_memory.specs.declared.NoMemory.{NoMemory}
 use Rattle.lens_specs.specs.Delta.{TableDelta, changes}
 use Rattle.lens_specs.specs.Keeping.{rows}
 use Rattle.lens_specs.specs.Lens.{Lens, Tables, put, sort_of}
 use Rattle.lens_specs.specs.Relation.{Rows}
 use Rattle.lens_specs.specs.Sort.{IsOf}
+use Rattle.lens_specs.specs.TableDeltas.{LeadTo, inverted}
+use Rattle.base_index.specs.Held.{AllApply, with_deltas}
 use Rattle.request_text.specs.Answers.{answer_view}
 use Rattle.server_specs.specs.Answer as answers
-use Rattle.server_specs.specs.Changing.{accept}
+use Rattle.server_specs.specs.Changing.{accept, with_last}
+use Rattle.server_specs.specs.State.{State, remember}
+use Rattle.server_specs.specs.Undoing.{undone}
 use Rattle.server_specs.specs.Validity.{Valid}
 use Rattle.server_laws.specs.KeptLaws.{KeptFollows}
-use Rattle.server_laws.proofs.Kept.{accept_is_kept}
-use Rattle.server_laws.proofs.Stored.{IsHere, are_there}
-use Rattle.server_laws.proofs.Valid.{valid_accept}
+use Rattle.server_laws.proofs.KeptStates.{led_is_kept}
+use Rattle.server_laws.proofs.Led.{IsChangeTo, put_change}
+use Rattle.server_laws.proofs.Stored.{IsHere}
+use Rattle.server_laws.proofs.Valid.{undo_leads, valid_accept, valid_undone}
 use Rattle.signed_delta.specs.Tables.{table_delta}
 use Rattle.signed_delta.specs.declared.delta.TableDelta.{TableDelta as DeltaOf}
 use Rattle.table_keeper.specs.Changes.{change_view}
-use Rattle.lens_server.specs.Plans.{CanStage, CanTake, IsChange, IsPlan, IsStaged, Leads, after, changed_tables, texts_with}
-use Rattle.lens_server.proofs.Deltas.{changes_apply, changes_lead}
-use Rattle.base_index.specs.Held.{AllApply, with_deltas}
-use Rattle.lens_laws.proofs.Lenses.{get_after}
-use Rattle.lens_laws.specs.Lenses.{AreOf}
 use Rattle.table_keeper.specs.declared.keeper.Change.{Change}
 use Rattle.table_keeper.specs.declared.keeper.Change.TheVariants.{Define, Rows as RowsChange}
 use Rattle.view_catalog.specs.declared.prepared.Prepared.{Prepared}
-use Rattle.std.specs.Prelude.{Option}
+use Rattle.lens_server.specs.Plans.{CanStage, CanTake, IsChange, IsPlan, IsStaged, Leads, after, changed_tables, past_after, texts_with}
 use Rattle.lens_server.specs.States.{state_of}
+use Rattle.lens_server.specs.declared.plan.PastStep.{PastStep}
+use Rattle.lens_server.specs.declared.plan.PastStep.TheVariants.{Gains, Loses}
 use Rattle.lens_server.specs.declared.plan.Plan.{Plan}
 use Rattle.lens_server.specs.declared.store.Store.{Store}
 
@@ -41,49 +43,79 @@ rows_stage : (change : Change) (o : Option Prepared) (cs : List TableDelta) (db 
 rows_stage (RowsChange deltas) o cs db is all = let same : map table_delta deltas.items ≡ cs = cc in subst (λ l. AllApply l db) (sym same) all
 rows_stage (Define text table) o cs db is all = cc
 
--- where no table changes, nothing does
-pub nothing_planned : (store : Store) (L : Lens) (N : Rows) (plan : Plan) (ds : List TableDelta) → changes L N (state_of store).tables ≡ ds → ds ≡ []
-    → answer_view plan.answer ≡ answers.changed ds store.version → plan.staged ≡ None
-    → IsPlan plan (accept L N (changes L N (state_of store).tables) (state_of store)) store
-nothing_planned store L N plan ds is none answer staged =
-    subst (λ l. IsPlan plan (accept L N l (state_of store)) store) (sym (is ∙ none))
-    (record { answer = answer ∙ ap (λ l. answers.changed l store.version) none; leads = subst (λ o. Leads o (state_of store) store) (sym staged) refl })
+-- the changes that can be undone gain it
+rows_gained : (change : Change) (cs : List TableDelta) (past : List (List TableDelta)) → change_view change ≡ rows cs → remember cs past ≡ past_after Gains change past
+rows_gained (RowsChange deltas) cs past is = let same : map table_delta deltas.items ≡ cs = cc in ap (λ l. remember l past) (sym same)
+rows_gained (Define text table) cs past is = cc
 
--- the tables become those of the put
-pub change_planned : (store : Store) (L : Lens) (N : Rows) (plan : Plan) (d : TableDelta) (ds : List TableDelta) → Valid (state_of store) → IsHere (state_of store) L
-    → IsOf N (sort_of L) → changes L N (state_of store).tables ≡ d ∷ ds → IsChange (d ∷ ds) store plan
-    → IsPlan plan (accept L N (changes L N (state_of store).tables) (state_of store)) store
-change_planned store L N plan d ds v here typed is p =
+-- a plan of these differences leads to a valid state, where they lead to its tables, and its other parts are those after them
+led_planned : (store : Store) (plan : Plan) (step : PastStep) (ds : List TableDelta) (next : State) → IsChange ds step store plan → LeadTo ds store.tables.present.relations next.tables → Valid next
+    → next.texts ≡ store.catalog.texts → next.version ≡ store.version + 1 → next.last ≡ with_last (store.version + 1) ds store.last
+    → ((change : Change) → change_view change ≡ rows ds → next.past ≡ past_after step change store.past)
+    → IsPlan plan (answers.changed ds (store.version + 1), next) store
+led_planned store plan step ds next p leads valid texts version last past =
     let s = state_of store in
     let staged = p.staged in
-    let later : AreOf L (put L N s.tables) = (get_after L s.tables here.typed here.are N typed).0 in
-    let tables : put L N s.tables ≡ changed_tables staged.change staged.definition s.tables =
-    sym (changes_lead L N s.tables here.are later) ∙ ap (λ l. with_deltas l s.tables) is ∙ sym (rows_change staged.change staged.definition (d ∷ ds) s.tables p.change) in
-    let next : (accept L N (d ∷ ds) s).1 ≡ after staged s = (λ i. record {
-      texts = texts_with (sym p.definition i) s.texts;
-      tables = tables i;
-      version = s.version + 1;
-      last = sym p.last i;
+    let is : next ≡ after staged s = (λ i. record {
+      texts = (texts ∙ ap (λ o. texts_with o s.texts) (sym p.definition)) i;
+      tables = (sym leads.1 ∙ sym (rows_change staged.change staged.definition ds s.tables p.change)) i;
+      version = version i;
+      last = (last ∙ sym p.last) i;
+      past = (past staged.change p.change ∙ ap (λ q. past_after q staged.change s.past) (sym p.past)) i;
     }) in
     let kept : KeptFollows (change_view staged.change) s (after staged s) =
-    subst (λ c. KeptFollows c s (after staged s)) (sym p.change)
-    (subst (λ t. KeptFollows (rows (d ∷ ds)) s t) next (accept_is_kept L N s (are_there L s.tables here.are) (d ∷ ds) is)) in
+    subst (λ c. KeptFollows c s (after staged s)) (sym p.change) (subst (λ t. KeptFollows (rows ds) s t) is (led_is_kept s next ds leads texts)) in
     let ready : IsStaged staged store = record {
-      tables = rows_stage staged.change staged.definition (d ∷ ds) s.tables p.change (subst (λ l. AllApply l s.tables) is (changes_apply L N s.tables here.are later));
+      tables = rows_stage staged.change staged.definition ds s.tables p.change leads.0;
       definition = subst (λ o. CanTake o store.catalog) (sym p.definition) tt;
       kept = kept;
-      valid = subst Valid next (valid_accept s L N v here typed (d ∷ ds) is);
+      valid = subst Valid is valid;
     } in
-    subst (λ l. IsPlan plan (accept L N l s) store) (sym is)
-    (record { answer = p.answer; leads = subst (λ o. Leads o (accept L N (d ∷ ds) s).1 store) (sym p.is) (next, ready) })
+    record { answer = p.answer; leads = subst (λ o. Leads o next store) (sym p.is) (is, ready) }
+
+-- where no table changes, nothing does
+pub nothing_planned : (store : Store) (db : Tables) (plan : Plan) (cs ds : List TableDelta) → cs ≡ ds → ds ≡ [] → answer_view plan.answer ≡ answers.changed ds store.version → plan.staged ≡ None
+    → IsPlan plan (accept db cs (state_of store)) store
+nothing_planned store db plan cs ds is none answer staged =
+    subst (λ l. IsPlan plan (accept db l (state_of store)) store) (sym (is ∙ none))
+    (record { answer = answer ∙ ap (λ l. answers.changed l store.version) none; leads = subst (λ o. Leads o (state_of store) store) (sym staged) refl })
+
+-- the tables become others of the catalogue
+change_planned : (store : Store) (db : Tables) (plan : Plan) (d : TableDelta) (ds : List TableDelta) → Valid (state_of store) → IsChangeTo (state_of store) (d ∷ ds) db → IsChange (d ∷ ds) Gains store plan
+    → IsPlan plan (accept db (d ∷ ds) (state_of store)) store
+change_planned store db plan d ds v to p =
+    led_planned store plan Gains (d ∷ ds) (accept db (d ∷ ds) (state_of store)).1 p to.leads (valid_accept (state_of store) (d ∷ ds) db v to) refl refl refl
+    (λ change is. rows_gained change (d ∷ ds) store.past is)
 
 -- what was found to change, by whether anything does
+pub changes_planned : (store : Store) (db : Tables) (ds : List TableDelta) (result : Result Plan NoMemory) → Valid (state_of store) → IsChangeTo (state_of store) ds db → ds ≢ []
+    → IfOk result (IsChange ds Gains store) → IfOk result (λ plan. IsPlan plan (accept db ds (state_of store)) store)
+changes_planned store db [] result v to some h = absurd (some refl)
+changes_planned store db (d ∷ ds) (Err e) v to some h = tt
+changes_planned store db (d ∷ ds) (Ok plan) v to some h = change_planned store db plan d ds v to h
+
+-- the tables become those of a put
 pub put_planned : (store : Store) (L : Lens) (N : Rows) (ds : List TableDelta) (result : Result Plan NoMemory) → Valid (state_of store) → IsHere (state_of store) L
-    → IsOf N (sort_of L) → changes L N (state_of store).tables ≡ ds → ds ≢ [] → IfOk result (IsChange ds store)
-    → IfOk result (λ plan. IsPlan plan (accept L N (changes L N (state_of store).tables) (state_of store)) store)
-put_planned store L N [] result v here typed is some h = absurd (some refl)
-put_planned store L N (d ∷ ds) (Err e) v here typed is some h = tt
-put_planned store L N (d ∷ ds) (Ok plan) v here typed is some h = change_planned store L N plan d ds v here typed is h
+    → IsOf N (sort_of L) → changes L N (state_of store).tables ≡ ds → ds ≢ [] → IfOk result (IsChange ds Gains store)
+    → IfOk result (λ plan. IsPlan plan (accept (put L N (state_of store).tables) (changes L N (state_of store).tables) (state_of store)) store)
+put_planned store L N ds result v here typed is some h =
+    let s = state_of store in
+    let db = put L N s.tables in
+    subst (λ cs. IfOk result (λ plan. IsPlan plan (accept db cs s) store)) (sym is)
+    (changes_planned store db ds result v (subst (λ cs. IsChangeTo s cs db) is (put_change s L N v here typed)) some h)
+
+undo_is : (store : Store) (cs : List TableDelta) (plan : Plan) → Valid (state_of store) → slice_get store.past (length store.past - 1) ≡ Some cs → IsChange (inverted cs) Loses store plan
+    → IsPlan plan (undone (Some cs) (state_of store)) store
+undo_is store cs plan v is p =
+    let s = state_of store in
+    led_planned store plan Loses (inverted cs) (undone (Some cs) s).1 p (undo_leads s cs v is) (valid_undone s v (Some cs) is) refl refl refl (λ change _. refl)
+
+-- the last change is taken back
+pub undo_planned : (store : Store) (cs ds : List TableDelta) (result : Result Plan NoMemory) → Valid (state_of store) → slice_get store.past (length store.past - 1) ≡ Some cs → ds ≡ inverted cs
+    → IfOk result (IsChange ds Loses store) → IfOk result (λ plan. IsPlan plan (undone (slice_get store.past (length store.past - 1)) (state_of store)) store)
+undo_planned store cs ds (Err e) v last is h = tt
+undo_planned store cs ds (Ok plan) v last is h =
+    subst (λ o. IsPlan plan (undone o (state_of store)) store) (sym last) (undo_is store cs plan v last (subst (λ l. IsChange l Loses store plan) is h))
 
 no_length : (n : ℕ) → (suc n == 0) ≡ true → ⊥
 no_length n e = grind (arith, nat_tests)

@@ -8,8 +8,9 @@ use Rattle.lens_specs.specs.Sort as spec
 use Rattle.lens_specs.specs.Sort.{clash}
 use Rattle.fd_tree.specs.ClashView.{shown_clash}
 use Rattle.fd_tree.specs.declared.clash.Clash.{Clash}
-use Rattle.server_specs.specs.Answer.{Answer, clash as clash_answer}
 use Rattle.server_specs.specs.Changing.{unless_clash}
+use Rattle.server_specs.specs.EditRefusal as refusals
+use Rattle.server_specs.specs.EditRefusal.{EditRefusal}
 
 -- the edge after those before it
 behind : (before : List Edge) (e : Edge) (after : List Edge) (d : Edge) → (length before < length (before ++ e ∷ after)) × (slice_index_or (before ++ e ∷ after) (length before) d ≡ e)
@@ -43,5 +44,5 @@ pub found_clash : (T : List Edge) (M : Rows) (found : Clash) → Some found ≡ 
 found_clash T M found e = of_clash T M found (clash T M) refl e
 
 -- a clash that is there is told
-pub clash_asked : (o : Option spec.Clash) (c : spec.Clash) (N : Rows) (answer : Answer) → o ≡ Some c → answer ≡ clash_answer c.edge c.first c.second → unless_clash o N ≡ Err answer
-clash_asked o c N answer is told = ap (λ p. unless_clash p N) is ∙ ap Err (sym told)
+pub clash_asked : (o : Option spec.Clash) (c : spec.Clash) (N : Rows) (why : EditRefusal) → o ≡ Some c → why ≡ refusals.clash c.edge c.first c.second → unless_clash o N ≡ Err why
+clash_asked o c N why is told = ap (λ p. unless_clash p N) is ∙ ap Err (sym told)

@@ -1,6 +1,6 @@
 -- How many rows the tables of a lens have, and how many are walked for a change.
 use Rattle.std.proofs.Common.{◌≡◌, ◌∙◌, ◌+◌, ◌≤◌, ◌||◌, ◌++◌, ℕ, Bool, true, false, cond, List, [], ◌∷◌, length, Option, Some, None, Result, Ok, Err, ap, sym, subst, refl, arith}
-use Rattle.std.specs.Prelude.{IfOk, sum_by}
+use Rattle.std.specs.Prelude.{◌-◌, IfOk, slice_get, sum_by}
 use Rattle.std.proofs.lemmas.Bool.{true≢false}
 use Rattle.std.proofs.lemmas.List.{length-append}
 use Rattle.std.proofs.lemmas.List.Sums.{sum_by-cons}
@@ -13,14 +13,18 @@ use Rattle.fd_laws.proofs.Names.{name_total, one_itself, tied_name}
 use Rattle.fd_laws.proofs.Rows.{row_total}
 use Rattle.lens_laws.specs.Lenses.{IsTyped}
 use Rattle.lens_laws.specs.Work.{count_of}
-use Rattle.lens_specs.specs.Delta.{TableDelta, changes}
-use Rattle.lens_specs.specs.Lens.{Lens, Tables, base, drop, join, rename, rows_or_none, select, tables_of}
+use Rattle.lens_specs.specs.Delta.{TableDelta, changes, differences}
+use Rattle.lens_specs.specs.Lens.{Lens, Tables, base, drop, join, put, rename, rows_or_none, select, tables_of}
 use Rattle.lens_specs.specs.Names.{Name, Names, one}
 use Rattle.lens_specs.specs.Relation.{Relation, Rows}
 use Rattle.catalog_specs.specs.Catalogue.{catalogue}
 use Rattle.server_specs.specs.Answer.{Answer}
+use Rattle.server_specs.specs.Batching.{batch_answer, batch_settled, edits_from}
 use Rattle.server_specs.specs.Changing.{Sent, accept, asked_view, change_answer, changed_by, settled}
+use Rattle.server_specs.specs.EditRefusal.{EditRefusal}
+use Rattle.server_specs.specs.Request.{BatchEdit}
 use Rattle.server_specs.specs.State.{State}
+use Rattle.server_specs.specs.Undoing.{undo_answer, undone}
 use Rattle.base_index.specs.Held as held
 use Rattle.base_index.specs.Held.{indexes_in, walked_for}
 use Rattle.base_index.specs.Need.{rows_walked}
@@ -147,13 +151,13 @@ steps_none (Some staged) next store l e = undefined_steps staged.change staged.d
 
 -- ---- changes of views add no text
 
-accept_texts : (L : Lens) (N : Rows) (cs : List TableDelta) (s : State) → (accept L N cs s).1.texts ≡ s.texts
-accept_texts L N [] s = refl
-accept_texts L N (c ∷ cs) s = refl
+accept_texts : (db : Tables) (cs : List TableDelta) (s : State) → (accept db cs s).1.texts ≡ s.texts
+accept_texts db [] s = refl
+accept_texts db (c ∷ cs) s = refl
 
-settled_texts : (r : Result Rows Answer) (L : Lens) (s : State) → (settled r L s).1.texts ≡ s.texts
-settled_texts (Err refusal) L s = refl
-settled_texts (Ok rows) L s = accept_texts L rows (changes L rows s.tables) s
+pub settled_texts : (r : Result Rows EditRefusal) (L : Lens) (s : State) → (settled r L s).1.texts ≡ s.texts
+settled_texts (Err why) L s = refl
+settled_texts (Ok rows) L s = accept_texts (put L rows s.tables) (changes L rows s.tables) s
 
 by_texts : (sent : Sent) (on : Option ℕ) (name : Name) (o : Option Lens) (s : State) → (changed_by sent on name o s).1.texts ≡ s.texts
 by_texts sent on name None s = refl
@@ -161,6 +165,22 @@ by_texts sent on name (Some L) s = settled_texts (asked_view s L sent on) L s
 
 pub change_texts : (sent : Sent) (on : Option ℕ) (name : Name) (s : State) → (change_answer sent on name s).1.texts ≡ s.texts
 change_texts sent on name s = by_texts sent on name (finmap.get (catalogue s.texts) name) s
+
+settled_batch_texts : (r : Result Tables (ℕ × EditRefusal)) (s : State) → (batch_settled r s).1.texts ≡ s.texts
+settled_batch_texts (Err refused) s = refl
+settled_batch_texts (Ok db) s = accept_texts db (differences (finmap.keys s.tables) s.tables db) s
+
+-- nor does a batch
+pub batch_texts : (edits : List BatchEdit) (on : Option ℕ) (s : State) → (batch_answer edits on s).1.texts ≡ s.texts
+batch_texts edits on s = settled_batch_texts (edits_from 0 on s edits s.tables) s
+
+undone_texts : (o : Option (List TableDelta)) (s : State) → (undone o s).1.texts ≡ s.texts
+undone_texts None s = refl
+undone_texts (Some cs) s = refl
+
+-- nor an undo
+pub undo_texts : (s : State) → (undo_answer s).1.texts ≡ s.texts
+undo_texts s = undone_texts (slice_get s.past (length s.past - 1)) s
 
 -- what was walked for the plan of such a change is all that is walked for it
 pub change_walks : (result : Result Plan NoMemory) (expected : Answer × State) (store : Store) (old new most : ℕ) → IfOk result (λ plan. IsPlan plan expected store)

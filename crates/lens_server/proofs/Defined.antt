@@ -5,11 +5,14 @@ use Rattle.server_laws.proofs.Kept.{get-rows_of, is_some-rows}
 use Rattle.server_specs.specs.State.{kept as kept_of}
 use Rattle.table_keeper.specs.declared.keeper.Change.{Change}
 use Rattle.table_keeper.specs.declared.keeper.Change.TheVariants.{Define, Rows as RowsChange}
-use Rattle.lens_server.specs.Plans.{CanStage, IsFree, changed_tables}
+use Rattle.lens_server.specs.Plans.{CanStage, IsFree, changed_tables, past_after}
+use Rattle.lens_server.specs.declared.plan.PastStep.{PastStep}
+use Rattle.lens_server.specs.declared.plan.PastStep.TheVariants.{Stays}
 use Rattle.std.proofs.Common.{◌≡◌, ◌∙◌, ◌+◌, ◌<◌, ℕ, false, List, [], ◌∷◌, ◌++◌, ap, sym, subst, refl}
 use Rattle.std.specs.Prelude.{Some, None, Ok, if◌then◌else◌}
 use Rattle.std.specs.FinMap as finmap
 use Rattle.lens_specs.specs.Columns.{Columns}
+use Rattle.lens_specs.specs.Delta.{TableDelta}
 use Rattle.lens_specs.specs.Dependencies.{Edge}
 use Rattle.lens_specs.specs.Keeping.{define}
 use Rattle.lens_specs.specs.Lens.{Lens, Tables}
@@ -84,7 +87,7 @@ is_made s prepared (view name expr) v j n l =
     view_is_made s prepared name expr taken.1.0 (sym n) is (not_own known name taken.0 taken.1.0 k.bases)
 
 defined_is : (text : List ℕ) (d : Definition) (s : State)
-    → with_defined text d s ≡ record { texts = s.texts ++ text ∷ []; tables = (with_defined text d s).tables; version = s.version + 1; last = (with_defined text d s).last }
+    → with_defined text d s ≡ record { texts = s.texts ++ text ∷ []; tables = (with_defined text d s).tables; version = s.version + 1; last = (with_defined text d s).last; past = s.past }
 defined_is text (table name columns deps P) s = refl
 defined_is text (view name expr) s = refl
 
@@ -106,14 +109,18 @@ free_of : (text : List ℕ) (o : Option Name) (s : State) → CanChange (define 
 free_of text None s h = tt
 free_of text (Some name) s h = sym (is_some-rows (finmap.get s.tables name)) ∙ ap is_some (sym (get-rows_of s.tables name)) ∙ h
 
+-- the changes that can be undone stay
+past_stays : (step : PastStep) (change : Change) (past : List (List TableDelta)) → Stays ≡ step → past ≡ past_after step change past
+past_stays step change past e = ap (λ p. past_after p change past) e
+
 -- the plan that the catalogue takes a definition
 pub definition_planned : (store : Store) (prepared : Prepared) (plan : Plan) (staged : Staged) → Valid (state_of store) → 0 < store.catalog.room → IsAdmissible store.catalog.texts prepared
     → answer_view plan.answer ≡ defined (store.version + 1) → plan.staged ≡ Some staged
     → change_view staged.change ≡ define prepared.text (table_in prepared.name prepared.lens) → staged.definition ≡ Some prepared
     → length prepared.text < 2 ^ 64
-    → staged.last ≡ last_with (table_in prepared.name prepared.lens) (store.version + 1) store.last
+    → staged.last ≡ last_with (table_in prepared.name prepared.lens) (store.version + 1) store.last → staged.past ≡ Stays
     → IsPlan plan (define_answer prepared.text (state_of store)) store
-definition_planned store prepared plan staged v room a answer is change definition short last =
+definition_planned store prepared plan staged v room a answer is change definition short last past =
     let s = state_of store in
     let d = a.definition in
     let made = is_made s prepared d v a.taken a.named a.lens in
@@ -126,6 +133,7 @@ definition_planned store prepared plan staged v room a answer is change definiti
       tables = (sym made.tables ∙ sym tables) i;
       version = s.version + 1;
       last = (sym made.last ∙ sym last) i;
+      past = past_stays staged.past staged.change s.past (sym past) i;
     }) in
     let changed : define prepared.text (table_made d) ≡ change_view staged.change = ap (define prepared.text) (sym made.table) ∙ sym change in
     let follows : KeptFollows (change_view staged.change) s (after staged s) =

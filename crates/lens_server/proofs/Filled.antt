@@ -161,15 +161,15 @@ settled_with db st = record { present = record st { relations = db }; next = rec
 -- a store of filled tables has the state of what is kept
 pub filled_state : (admitted : Admitted) (ts : List KeptTable) (store : Store) → HasEmptyTables admitted → Rise ts → damage_of_tables (catalogue admitted.catalog.texts) (rows_in ts) ≡ None
     → store.catalog ≡ admitted.catalog → store.tables ≡ settled_with (with_deltas (map filling ts) admitted.tables.present.relations) admitted.tables.present
-    → store.version ≡ 0 → store.last ≡ mapped (λ _. 0) (rows_in ts)
+    → store.version ≡ 0 → store.last ≡ mapped (λ _. 0) (rows_in ts) → store.past ≡ []
     → state_of store ≡ opening.state_of (record { texts = admitted.catalog.texts; rows = rows_in ts })
-filled_state admitted ts store h rise none catalog tables version last =
+filled_state admitted ts store h rise none catalog tables version last past =
     let texts = admitted.catalog.texts in
     let whole : first_damage (record { texts = texts; rows = rows_in ts }) ≡ None =
     none_or (option_map definition (first_refused texts)) (damage_of_tables (catalogue texts) (rows_in ts)) (ap (option_map definition) h.taken) none in
     let filled = filled_tables texts ts admitted.tables.present.relations whole h.tables (fillings_apply admitted ts h rise none) in
     let db = ap (λ t. t.present.relations) tables ∙ filled in
-    (λ i. record { texts = (catalog i).texts; tables = db i; version = version i; last = last i })
+    (λ i. record { texts = (catalog i).texts; tables = db i; version = version i; last = last i; past = past i })
 
 -- and its lenses ask their tables by key
 pub filled_keyed : (admitted : Admitted) (db : Tables) (store : Store) → HasEmptyTables admitted → store.catalog ≡ admitted.catalog → store.tables ≡ settled_with db admitted.tables.present → IsKeyed store

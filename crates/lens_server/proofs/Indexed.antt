@@ -30,7 +30,7 @@ use Rattle.lens_server.proofs.Counted.{longer}
 use Rattle.lens_server.proofs.Grown.{AllIndexed, asked_there, now_indexed}
 use Rattle.lens_server.specs.Defining.{tables_with}
 use Rattle.lens_server.specs.Keyed.{IsKeyed}
-use Rattle.lens_server.specs.Plans.{CanStage, CanTake, IsFree, IsStaged, after, changed_tables, texts_with}
+use Rattle.lens_server.specs.Plans.{CanStage, CanTake, IsFree, IsStaged, after, changed_tables, past_after, texts_with}
 use Rattle.lens_server.specs.Staging.{defined_by, needs_of, next_state, table_of}
 use Rattle.lens_server.specs.States.{state_of}
 use Rattle.lens_server.specs.declared.plan.Staged.{Staged}
@@ -123,11 +123,11 @@ keyed_after staged old new v keyed h texts quiet held present =
 -- the state after it
 pub state_after : (staged : Staged) (old new : Store) → new.catalog.texts ≡ texts_with staged.definition old.catalog.texts
     → new.tables.present ≡ next_state staged.change staged.definition old.tables.present → new.version ≡ old.version + 1 → new.last ≡ staged.last
-    → state_of new ≡ after staged (state_of old)
-state_after staged old new texts present version last =
+    → new.past ≡ past_after staged.past staged.change old.past → state_of new ≡ after staged (state_of old)
+state_after staged old new texts present version last past =
     let tables : new.tables.present.relations ≡ changed_tables staged.change staged.definition old.tables.present.relations =
     ap (λ st. st.relations) present ∙ next_relations staged.change staged.definition old.tables.present in
-    (λ i. record { texts = texts i; tables = tables i; version = version i; last = last i })
+    (λ i. record { texts = texts i; tables = tables i; version = version i; last = last i; past = past i })
 
 -- ---- a change that is dropped
 

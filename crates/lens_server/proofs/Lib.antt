@@ -1,7 +1,7 @@
 pub mod Admitted
-pub mod Deltas
 pub mod Keyed
 pub mod Asked
+pub mod Batched
 pub mod Changed
 pub mod Counted
 pub mod Clashes
@@ -18,3 +18,6 @@ pub mod Stored
 pub mod Told
 pub mod Staged
 pub mod Looked
+pub mod Loaded
+pub mod Exported
+pub mod Imported

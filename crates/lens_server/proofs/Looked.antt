@@ -2,8 +2,8 @@
 use Rattle.std.specs.Prelude.{Result, Ok, Err, if◌then◌else◌}
 use Rattle.serde_json.specs.Data.{Items}
 use Rattle.lens_specs.specs.Relation.{Rows}
-use Rattle.server_specs.specs.Answer.{Answer, Listed, in_rows}
 use Rattle.server_specs.specs.Changing.{set_in}
+use Rattle.server_specs.specs.EditRefusal.{EditRefusal, Listed, in_rows}
 use Rattle.std.proofs.Common.{◌≡◌, Bool, true, false, ℕ, ◌+◌, ◌*◌, ◌≤◌, Option, Some, ap, arith, refl, subst}
 use Rattle.std.proofs.lemmas.Nat.{mul-le}
 use Rattle.lens_specs.specs.Delta.{Delta, diff}
@@ -42,6 +42,9 @@ twice x old mid new h k = omega (arith, h, k)
 pub thrice : (x old mid new : ℕ) → mid ≤ old + 2 * x → new ≤ mid + x → new ≤ old + 3 * x
 thrice x old mid new h k = omega (arith, h, k)
 
+pub twice_of_three : (x old new : ℕ) → new ≤ old + 2 * x → new ≤ old + 3 * x
+twice_of_three x old new h = omega (arith, h)
+
 -- the lens of the name is there
 pub at_lens : (f : Lens → ℕ) (o : Option Lens) (L : Lens) (old new : ℕ) → Some L ≡ o → new ≤ old + f L → new ≤ old + of_lens f o
 at_lens f o L old new is h = subst (λ p. new ≤ old + of_lens f p) is h
@@ -49,10 +52,10 @@ at_lens f o L old new is h = subst (λ p. new ≤ old + of_lens f p) is h
 -- ---- rows that are sent
 
 pub sent_is : (which : Listed) (L : Lens) (items : Items) (rows : Rows) → set_in which (sort_of L).columns items ≡ Ok rows → sent_of which L items ≡ count_of rows
-sent_is which L items rows e = ap (λ (r : Result Rows Answer). elim r as (λ _. ℕ) [ Ok rows ↦ count_of rows | Err bad ↦ 0 ]) e
+sent_is which L items rows e = ap (λ (r : Result Rows EditRefusal). elim r as (λ _. ℕ) [ Ok rows ↦ count_of rows | Err bad ↦ 0 ]) e
 
 pub changed_is : (db : Tables) (L : Lens) (items : Items) (rows : Rows) → set_in in_rows (sort_of L).columns items ≡ Ok rows → changed_by db L items ≡ rows_of (diff (get L db) rows)
-changed_is db L items rows e = ap (λ (r : Result Rows Answer). elim r as (λ _. ℕ) [ Ok rows ↦ rows_of (diff (get L db) rows) | Err bad ↦ 0 ]) e
+changed_is db L items rows e = ap (λ (r : Result Rows EditRefusal). elim r as (λ _. ℕ) [ Ok rows ↦ rows_of (diff (get L db) rows) | Err bad ↦ 0 ]) e
 
 -- ---- finds
 

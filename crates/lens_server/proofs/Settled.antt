@@ -1,18 +1,24 @@
 -- What becomes of a plan.
-use Rattle.std.proofs.Common.{◌≡◌, ◌∙◌, ◌+◌, ◌<◌, ◌≤◌, ℕ, List, ap, sym, subst, refl, arith}
-use Rattle.std.specs.Prelude.{◌≢◌, ◌-◌, ◌^◌, Option, Some, None, Result, Ok, Err, IsErr}
+use Rattle.std.proofs.Common.{◌≡◌, ◌∙◌, ◌+◌, ◌<◌, ◌≤◌, ℕ, List, [], ◌∷◌, ap, sym, subst, refl, inl, inr, arith}
+use Rattle.std.specs.Prelude.{◌≢◌, ◌↔◌, ◌-◌, ◌^◌, Option, Some, None, Result, Ok, Err, IsErr}
 use Rattle.std.proofs.lemmas.Bool.{true≢false}
 use Rattle.no_memory.specs.declared.NoMemory.{NoMemory}
+use Rattle.io_specs.specs.Calls.{Adds}
 use Rattle.io_specs.specs.Faults.{Rose}
+use Rattle.io_specs.proofs.Calls.{Adds-none, Adds-weaker}
 use Rattle.lens_specs.specs.Keeping.{CanChange, CanCommit, Change, Follows, Kept, Stays, Tells, changed}
-use Rattle.server_specs.specs.Answer.{Answer, store_fault, text}
+use Rattle.server_specs.specs.Answer.{Answer, memory, text}
 use Rattle.server_specs.specs.Session.{answered, not_stored}
 use Rattle.server_specs.specs.State.{State, kept}
 use Rattle.server_specs.specs.Validity.{Valid}
+use Rattle.table_keeper.specs.Asking.{AddsEnded}
 use Rattle.table_keeper.specs.Changes.{change_view}
+use Rattle.table_keeper.specs.declared.calls.Asked.TheVariants.{Commit}
+use Rattle.table_keeper.specs.declared.calls.Call.{Call}
 use Rattle.table_keeper.specs.declared.keeper.KeepFault.{KeepFault}
 use Rattle.table_keeper.specs.declared.keeper.KeepFault.TheVariants as keep
 use Rattle.lens_server.proofs.Keyed.{same_keyed, same_state}
+use Rattle.lens_server.specs.Committing.{Commits, IsReply}
 use Rattle.lens_server.specs.Keyed.{IsSame}
 use Rattle.lens_server.specs.Outcomes.{IsReady, NotKept, Outcome}
 use Rattle.lens_server.specs.Plans.{IsStaged, after}
@@ -63,63 +69,73 @@ still_ready old new contents s r =
       told = subst (λ state. Tells contents (kept state)) same r.told;
     }
 
+-- ---- commits
+
+pub raised : (staged : Staged) (s t : State) → t ≡ after staged s → t ≢ s
+raised staged s t is same = let up : t.version ≡ s.version + 1 = ap (λ x. x.version) is in let no : t.version ≡ s.version = ap (λ x. x.version) same in absurd (omega (arith, up, no))
+
+-- a staged change was committed, or not
+committed : (staged : Staged) (s : State) (a : Answer × State) (new : State) (count count' : ℕ) (fault : Option KeepFault) (reply : List ℕ) (calls calls' : Option (List Call))
+    → a.1 ≡ after staged s → ((fault ≡ None) ↔ (new ≡ a.1)) → IsReply fault a.0 reply → AddsEnded calls calls' Commit fault count' → Adds (Commits a s new count count' reply) calls calls'
+committed staged s a new count count' fault reply calls calls' is done told call =
+    Adds-weaker (λ more. more ≡ record { asked = Commit; fault = fault; faults = count' } ∷ []) (Commits a s new count count' reply) calls calls'
+    (λ more e. subst (Commits a s new count count' reply) (sym e) (raised staged s a.1 is, refl, refl, done, told)) call
+
+not_done : (staged : Staged) (s : State) (a : Answer × State) (fault : KeepFault) → a.1 ≡ after staged s → (Some fault ≡ None) ↔ (s ≡ a.1)
+not_done staged s a fault is = ((λ e. cc), (λ e. absurd (raised staged s a.1 is (sym e))))
+
 -- ---- outcomes
 
 -- nothing changes, and the answer is given
-pub outcome_unchanged : (answer : Answer × State) (s : State) (count : ℕ) (contents : Option Kept) (reply : List ℕ) → Valid s → Tells contents (kept s) → reply ≡ text answer.0 → answer.1 ≡ s
-    → Outcome answer s s count count contents contents (Ok reply)
-outcome_unchanged answer s count contents reply v told r is =
-    record { valid = v; later = omega arith; told = told_untouched contents (kept s) told; ok = answered r (sym is); err = tt }
-
--- memory ran out
-pub outcome_no_memory : (answer : Answer × State) (s : State) (count count' : ℕ) (contents contents' : Option Kept) (e : NoMemory) → Valid s → count ≤ count' → Tells contents (kept s)
-    → Stays contents contents' → Outcome answer s s count count' contents contents' (Err e)
-outcome_no_memory answer s count count' contents contents' e v later told stays =
-    record { valid = v; later = later; told = told_still contents contents' (kept s) stays told; ok = tt; err = refl }
+pub outcome_unchanged : (answer : Answer × State) (s : State) (count : ℕ) (contents : Option Kept) (calls : Option (List Call)) (reply : List ℕ) → Valid s → Tells contents (kept s) → reply ≡ text answer.0 → answer.1 ≡ s
+    → Outcome answer s s count count contents contents calls calls (Ok reply)
+outcome_unchanged answer s count contents calls reply v told r is =
+    record { valid = v; later = omega arith; told = told_untouched contents (kept s) told; ok = answered r (sym is); err = tt; commits = Adds-none _ calls (refl, inl is) }
 
 -- memory ran out before the keeper was called
-pub outcome_given_up : (answer : Answer × State) (s : State) (count : ℕ) (contents : Option Kept) (result : Result (List ℕ) NoMemory) → IsErr result → Valid s → Tells contents (kept s)
-    → Outcome answer s s count count contents contents result
-outcome_given_up answer s count contents (Ok reply) is v told = absurd (true≢false (sym is))
-outcome_given_up answer s count contents (Err e) is v told = record { valid = v; later = omega arith; told = told_untouched contents (kept s) told; ok = tt; err = refl }
+pub outcome_given_up : (answer : Answer × State) (s : State) (count : ℕ) (contents : Option Kept) (calls : Option (List Call)) (result : Result (List ℕ) NoMemory) → IsErr result → Valid s → Tells contents (kept s)
+    → Outcome answer s s count count contents contents calls calls result
+outcome_given_up answer s count contents calls (Ok reply) is v told = absurd (true≢false (sym is))
+outcome_given_up answer s count contents calls (Err e) is v told =
+    record { valid = v; later = omega arith; told = told_untouched contents (kept s) told; ok = tt; err = refl; commits = Adds-none _ calls (refl, inr refl) }
 
 -- the change is made
-pub outcome_made : (staged : Staged) (store : Store) (answer : Answer × State) (count count' : ℕ) (contents contents' : Option Kept) (reply : List ℕ) → IsStaged staged store
-    → Tells contents (kept (state_of store)) → Follows (λ a b. b ≡ changed (change_view staged.change) a) contents contents' → count ≤ count'
+pub outcome_made : (staged : Staged) (store : Store) (answer : Answer × State) (count count' : ℕ) (contents contents' : Option Kept) (calls calls' : Option (List Call)) (reply : List ℕ) → IsStaged staged store
+    → Tells contents (kept (state_of store)) → Follows (λ a b. b ≡ changed (change_view staged.change) a) contents contents' → AddsEnded calls calls' Commit None count' → count ≤ count'
     → reply ≡ text answer.0 → answer.1 ≡ after staged (state_of store) → (new : State) → new ≡ after staged (state_of store)
-    → Outcome answer (state_of store) new count count' contents contents' (Ok reply)
-outcome_made staged store answer count count' contents contents' reply h told follows later r is new became = record {
+    → Outcome answer (state_of store) new count count' contents contents' calls calls' (Ok reply)
+outcome_made staged store answer count count' contents contents' calls calls' reply h told follows call later r is new became = record {
   valid = subst Valid (sym became) h.valid;
   later = later;
   told = told_after (change_view staged.change) contents contents' (kept (state_of store)) (kept new) follows told (sym (ap kept became ∙ h.kept.0));
   ok = answered r (became ∙ sym is);
   err = tt;
-}
-
-raised : (staged : Staged) (s t : State) → t ≡ after staged s → t ≢ s
-raised staged s t is same = let up : t.version ≡ s.version + 1 = ap (λ x. x.version) is in let no : t.version ≡ s.version = ap (λ x. x.version) same in absurd (omega (arith, up, no))
-
--- the keeper failed
-pub outcome_not_stored : (staged : Staged) (store : Store) (answer : Answer × State) (count count' : ℕ) (contents contents' : Option Kept) (reply : List ℕ) → Valid (state_of store)
-    → Tells contents (kept (state_of store)) → Stays contents contents' → count ≤ count' → Rose count count' → reply ≡ text store_fault → answer.1 ≡ after staged (state_of store)
-    → Outcome answer (state_of store) (state_of store) count count' contents contents' (Ok reply)
-outcome_not_stored staged store answer count count' contents contents' reply v told stays later rose r is = record {
-  valid = v;
-  later = later;
-  told = told_still contents contents' (kept (state_of store)) stays told;
-  ok = not_stored r refl (raised staged (state_of store) answer.1 is) rose;
-  err = tt;
+  commits = committed staged (state_of store) answer new count count' None reply calls calls' is ((λ _. became ∙ sym is), (λ _. refl)) r call;
 }
 
 -- the keeper failed, or lacked memory
-pub outcome_failed : (fault : KeepFault) (result : Result (List ℕ) NoMemory) (staged : Staged) (store : Store) (answer : Answer × State) (count count' : ℕ) (contents contents' : Option Kept)
-    → NotKept fault result → Valid (state_of store) → Tells contents (kept (state_of store)) → Stays contents contents' → count ≤ count' → (fault ≡ keep.Failed → Rose count count')
-    → answer.1 ≡ after staged (state_of store) → (new : State) → new ≡ state_of store → Outcome answer (state_of store) new count count' contents contents' result
-outcome_failed keep.Failed (Ok reply) staged store answer count count' contents contents' told v tells stays later rose is new same =
-    subst (λ s. Outcome answer (state_of store) s count count' contents contents' (Ok reply)) (sym same)
-    (outcome_not_stored staged store answer count count' contents contents' reply v tells stays later (rose refl) told is)
-outcome_failed keep.Failed (Err e) staged store answer count count' contents contents' told v tells stays later rose is new same = absurd told
-outcome_failed keep.NoMemory (Ok reply) staged store answer count count' contents contents' told v tells stays later rose is new same = absurd told
-outcome_failed keep.NoMemory (Err e) staged store answer count count' contents contents' told v tells stays later rose is new same =
-    subst (λ s. Outcome answer (state_of store) s count count' contents contents' (Err e)) (sym same)
-    (outcome_no_memory answer (state_of store) count count' contents contents' e v later tells stays)
+pub outcome_failed : (fault : KeepFault) (result : Result (List ℕ) NoMemory) (staged : Staged) (store : Store) (answer : Answer × State) (count count' : ℕ) (contents contents' : Option Kept) (calls calls' : Option (List Call))
+    → NotKept fault result → Valid (state_of store) → Tells contents (kept (state_of store)) → Stays contents contents' → AddsEnded calls calls' Commit (Some fault) count' → count ≤ count' → (fault ≡ keep.Failed → Rose count count')
+    → answer.1 ≡ after staged (state_of store) → (new : State) → new ≡ state_of store → Outcome answer (state_of store) new count count' contents contents' calls calls' result
+outcome_failed keep.Failed (Ok reply) staged store answer count count' contents contents' calls calls' told v tells stays call later rose is new same =
+    subst (λ s. Outcome answer (state_of store) s count count' contents contents' calls calls' (Ok reply)) (sym same)
+    (record {
+      valid = v;
+      later = later;
+      told = told_still contents contents' (kept (state_of store)) stays tells;
+      ok = not_stored told refl (raised staged (state_of store) answer.1 is) (rose refl);
+      err = tt;
+      commits = committed staged (state_of store) answer (state_of store) count count' (Some keep.Failed) reply calls calls' is (not_done staged (state_of store) answer keep.Failed is) told call;
+    })
+outcome_failed keep.Failed (Err e) staged store answer count count' contents contents' calls calls' told v tells stays call later rose is new same = absurd told
+outcome_failed keep.NoMemory (Ok reply) staged store answer count count' contents contents' calls calls' told v tells stays call later rose is new same = absurd told
+outcome_failed keep.NoMemory (Err e) staged store answer count count' contents contents' calls calls' told v tells stays call later rose is new same =
+    subst (λ s. Outcome answer (state_of store) s count count' contents contents' calls calls' (Err e)) (sym same)
+    (record {
+      valid = v;
+      later = later;
+      told = told_still contents contents' (kept (state_of store)) stays tells;
+      ok = tt;
+      err = refl;
+      commits = committed staged (state_of store) answer (state_of store) count count' (Some keep.NoMemory) (text memory) calls calls' is (not_done staged (state_of store) answer keep.NoMemory is) refl call;
+    })

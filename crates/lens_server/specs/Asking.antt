@@ -4,29 +4,29 @@ use Rattle.lens_specs.specs.Delta.{Delta}
 use Rattle.lens_specs.specs.Lens.{Lens, Tables}
 use Rattle.lens_specs.specs.Relation.{Rows}
 use Rattle.lens_chain.specs.Edits.{IsEdit, edited}
-use Rattle.request_text.specs.Answers.{answer_view}
-use Rattle.server_specs.specs.Answer.{Answer, stale}
+use Rattle.request_text.specs.Answers.{edit_refusal_view}
+use Rattle.server_specs.specs.EditRefusal.{EditRefusal, stale}
 use Rattle.server_specs.specs.Changing.{changed_at, is_stale}
 use Rattle.server_specs.specs.State.{State}
 use Rattle.lens_server.specs.declared.asking.Refusal.{Refusal}
 use Rattle.lens_server.specs.declared.asking.Refusal.TheVariants as refusal
 
 -- the rows are the expected ones, or the refusal is, unless memory ran out
-abbrev pub Asks : Result Rows Refusal → Result Rows Answer → Type 0
+abbrev pub Asks : Result Rows Refusal → Result Rows EditRefusal → Type 0
 Asks (Ok rows) expected = expected ≡ Ok rows
-Asks (Err (refusal.Told answer)) expected = expected ≡ Err (answer_view answer)
+Asks (Err (refusal.Told why)) expected = expected ≡ Err (edit_refusal_view why)
 Asks (Err refusal.NoMemory) expected = Unit {0}
 
 -- the difference is an edit of the view to the expected rows, or the refusal is the expected one, unless memory ran out
-abbrev pub AsksBy : Lens → Tables → Result Delta Refusal → Result Rows Answer → Type 0
+abbrev pub AsksBy : Lens → Tables → Result Delta Refusal → Result Rows EditRefusal → Type 0
 AsksBy L db (Ok delta) expected = (expected ≡ Ok (edited L db delta)) × IsEdit L db delta
-AsksBy L db (Err (refusal.Told answer)) expected = expected ≡ Err (answer_view answer)
+AsksBy L db (Err (refusal.Told why)) expected = expected ≡ Err (edit_refusal_view why)
 AsksBy L db (Err refusal.NoMemory) expected = Unit {0}
 
 -- the change is not stale, or the refusal tells that it is, unless memory ran out
 abbrev pub IsFresh : State → Lens → Option ℕ → Result (Unit {0}) Refusal → Type 0
 IsFresh s L on (Ok done) = is_stale s L on ≡ false
-IsFresh s L on (Err (refusal.Told answer)) = (is_stale s L on ≡ true) × (answer_view answer ≡ stale (changed_at s L) s.version)
+IsFresh s L on (Err (refusal.Told why)) = (is_stale s L on ≡ true) × (edit_refusal_view why ≡ stale (changed_at s L) s.version)
 IsFresh s L on (Err refusal.NoMemory) = Unit {0}
 
 -- whether the version on which a change rests, if it rests on one, is before the last change or after the present one

@@ -1,5 +1,5 @@
 -- How many rows a line may walk, and how many it may look at by key.
-use Rattle.std.specs.Prelude.{ℕ, ◌+◌, ◌*◌, ◌≤◌, Bool, true, false, Option, None, Some, if◌then◌else◌, Result, Ok, Err}
+use Rattle.std.specs.Prelude.{ℕ, ◌+◌, ◌*◌, ◌≤◌, Bool, true, false, List, [], ◌∷◌, Option, None, Some, if◌then◌else◌, Result, Ok, Err}
 use Rattle.std.specs.List.{sum_by}
 use Rattle.std.specs.FinMap as finmap
 use Rattle.no_memory.specs.declared.NoMemory.{NoMemory}
@@ -7,12 +7,16 @@ use Rattle.serde_json.specs.Data.{Items}
 use Rattle.lens_specs.specs.Delta.{diff}
 use Rattle.lens_specs.specs.Lens.{Lens, Tables, get, sort_of}
 use Rattle.lens_specs.specs.Names.{Name, one}
+use Rattle.lens_specs.specs.Relation.{Rows}
+use Rattle.sheet_specs.specs.Sheets.{unsheet}
 use Rattle.catalog_specs.specs.Catalogue.{catalogue}
 use Rattle.lens_probe.specs.Viewed.{is_left_side}
 use Rattle.lens_laws.specs.Work.{count_of, fan, rows_of, size, work}
 use Rattle.server_specs.specs.Answer.{Answer, Listed, in_add, in_remove, in_rows}
+use Rattle.server_specs.specs.Batching.{edit_tables}
 use Rattle.server_specs.specs.Changing.{set_in}
-use Rattle.server_specs.specs.Request.{Request, define, read, find_at, put, edit, preview, describe, list}
+use Rattle.server_specs.specs.EditRefusal.{EditRefusal}
+use Rattle.server_specs.specs.Request.{BatchEdit, Request, define, read, find_at, put, edit, preview, describe, list, batch, undo, export, import}
 use Rattle.server_specs.specs.State.{State}
 use Rattle.lens_server.specs.Staging.{steps_of}
 use Rattle.lens_server.specs.declared.plan.Plan.{Plan}
@@ -27,7 +31,7 @@ abbrev pub is_asked_by : Name → Option Lens → Bool
 is_asked_by column None = true
 is_asked_by column (Some L) = is_left_side (one column) (sort_of L).tree
 
--- whether rows are found by key alone: by an edit, a preview, and a find by the left side of a dependency
+-- whether rows are found by key alone: by an edit, a preview, a batch, an undo, and a find by the left side of a dependency
 abbrev pub is_by_key : Result Request Answer → State → Bool
 is_by_key (Err refusal) s = false
 is_by_key (Ok (define text)) s = false
@@ -38,6 +42,10 @@ is_by_key (Ok (edit name remove add on)) s = true
 is_by_key (Ok (preview name remove add on)) s = true
 is_by_key (Ok (describe name)) s = false
 is_by_key (Ok list) s = false
+is_by_key (Ok (batch edits on)) s = true
+is_by_key (Ok undo) s = true
+is_by_key (Ok (export name)) s = false
+is_by_key (Ok (import name text on)) s = false
 
 -- the most rows that it may walk: none by key, and else as many as there are
 abbrev pub most_walked : Result Request Answer → State → ℕ
@@ -58,18 +66,29 @@ sent_of which L items = elim (set_in which (sort_of L).columns items) [ Ok rows 
 abbrev pub sent_by : Lens → Items → Items → ℕ
 sent_by L remove add = sent_of in_remove L remove + sent_of in_add L add
 
+-- the rows by which these differ from what the view shows
+abbrev pub differs_by : Tables → Lens → Rows → ℕ
+differs_by db L rows = rows_of (diff (get L db) rows)
+
 -- the rows by which a put differs from what the view shows
 abbrev pub changed_by : Tables → Lens → Items → ℕ
-changed_by db L items = elim (set_in in_rows (sort_of L).columns items) [ Ok rows ↦ rows_of (diff (get L db) rows) | Err bad ↦ 0 ]
+changed_by db L items = elim (set_in in_rows (sort_of L).columns items) [ Ok rows ↦ differs_by db L rows | Err bad ↦ 0 ]
+
+-- the rows by which those of a text do; none where a record is wrong
+abbrev pub imported_by : Tables → Lens → List ℕ → ℕ
+imported_by db L text = elim (unsheet (sort_of L).columns text) [ Ok rows ↦ differs_by db L rows | Err place ↦ 0 ]
 
 -- a number for the lens, if there is one
 abbrev pub of_lens : (Lens → ℕ) → Option Lens → ℕ
 of_lens f None = 0
 of_lens f (Some L) = f L
 
--- the most looks of a put, of an edit and of a find, where fan bounds the groups of the tables
+-- the most looks of a put, of an import, of an edit and of a find, where fan bounds the groups of the tables
 abbrev pub put_looks : Tables → Items → Lens → ℕ
 put_looks db rows L = 2 * work L (changed_by db L rows) (fan L db)
+
+abbrev pub import_looks : Tables → List ℕ → Lens → ℕ
+import_looks db text L = 2 * work L (imported_by db L text) (fan L db)
 
 abbrev pub edit_looks : Tables → Items → Items → Lens → ℕ
 edit_looks db remove add L = 3 * work L (sent_by L remove add) (fan L db)
@@ -77,14 +96,30 @@ edit_looks db remove add L = 3 * work L (sent_by L remove add) (fan L db)
 abbrev pub find_looks : Tables → Name → Lens → ℕ
 find_looks db column L = if is_left_side (one column) (sort_of L).tree then size L (fan L db) else 0
 
+-- the looks behind an edit that gave these tables, and none behind one that is refused
+abbrev pub then_looks : (Tables → ℕ) → Result Tables EditRefusal → ℕ
+then_looks others (Err why) = 0
+then_looks others (Ok db) = others db
+
+-- the most looks of the edits of a batch, each on the tables that the edits before it gave
+abbrev pub batch_looks : Option ℕ → State → List BatchEdit → Tables → ℕ
+batch_looks on s [] db = 0
+batch_looks on s (e ∷ edits) db =
+    of_lens (edit_looks db e.remove e.add) (finmap.get (catalogue s.texts) e.view)
+    + then_looks (batch_looks on s edits) (edit_tables e on (finmap.get (catalogue s.texts) e.view) s db)
+
 -- the most rows that a line may look at: by the rows that it changes, and not by the sizes of tables
 abbrev pub most_looked : Result Request Answer → State → ℕ
 most_looked (Err refusal) s = 0
 most_looked (Ok (define text)) s = 0
 most_looked (Ok (read name)) s = 0
 most_looked (Ok (find_at name column json)) s = of_lens (find_looks s.tables column) (finmap.get (catalogue s.texts) name)
+most_looked (Ok (export name)) s = 0
 most_looked (Ok (put name rows on)) s = of_lens (put_looks s.tables rows) (finmap.get (catalogue s.texts) name)
+most_looked (Ok (import name text on)) s = of_lens (import_looks s.tables text) (finmap.get (catalogue s.texts) name)
 most_looked (Ok (edit name remove add on)) s = of_lens (edit_looks s.tables remove add) (finmap.get (catalogue s.texts) name)
 most_looked (Ok (preview name remove add on)) s = of_lens (edit_looks s.tables remove add) (finmap.get (catalogue s.texts) name)
 most_looked (Ok (describe name)) s = 0
 most_looked (Ok list) s = 0
+most_looked (Ok (batch edits on)) s = batch_looks on s edits s.tables
+most_looked (Ok undo) s = 0

@@ -31,3 +31,4 @@ pub record IsSame (old new : Store) : Type 0 where
   pub tables : new.tables ≡ old.tables
   pub version : new.version ≡ old.version
   pub last : new.last ≡ old.last
+  pub past : new.past ≡ old.past

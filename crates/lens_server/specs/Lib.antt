@@ -2,6 +2,7 @@ pub mod States
 pub mod Outcomes
 pub mod Plans
 pub mod Asking
+pub mod Committing
 pub mod Keyed
 pub mod Staging
 pub mod Counting
@@ -9,3 +10,5 @@ pub mod Defining
 pub mod StateCode
 pub mod StartFaults
 pub mod Starting
+pub mod Batches
+pub mod Exports

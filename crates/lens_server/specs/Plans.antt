@@ -1,5 +1,5 @@
 -- Plans: the answer to a request, and the change that is made before it is given.
-use Rattle.std.specs.Prelude.{◌≡◌, ◌<◌, ◌+◌, ◌^◌, ℕ, false, List, [], ◌∷◌, ◌++◌, length, map, Option, Some, None, is_some}
+use Rattle.std.specs.Prelude.{◌≡◌, ◌<◌, ◌+◌, ◌-◌, ◌^◌, ℕ, false, List, [], ◌∷◌, ◌++◌, length, map, take, Option, Some, None, is_some}
 use Rattle.std.specs.FinMap as finmap
 use Rattle.lens_specs.specs.Delta.{TableDelta}
 use Rattle.lens_specs.specs.Keeping.{rows}
@@ -9,7 +9,7 @@ use Rattle.base_index.specs.Held.{AllApply, with_deltas}
 use Rattle.request_text.specs.Answers.{answer_view}
 use Rattle.server_specs.specs.Answer.{Answer, changed}
 use Rattle.server_specs.specs.Changing.{with_last}
-use Rattle.server_specs.specs.State.{State}
+use Rattle.server_specs.specs.State.{State, remember}
 use Rattle.server_specs.specs.Validity.{Valid}
 use Rattle.server_laws.specs.KeptLaws.{KeptFollows}
 use Rattle.signed_delta.specs.Tables.{table_delta}
@@ -21,6 +21,8 @@ use Rattle.view_catalog.specs.Contents.{Contents}
 use Rattle.view_catalog.specs.declared.prepared.Prepared.{Prepared}
 use Rattle.lens_server.specs.Defining.{tables_with}
 use Rattle.lens_server.specs.States.{state_of}
+use Rattle.lens_server.specs.declared.plan.PastStep.{PastStep}
+use Rattle.lens_server.specs.declared.plan.PastStep.TheVariants.{Stays, Gains, Loses}
 use Rattle.lens_server.specs.declared.plan.Plan.{Plan}
 use Rattle.lens_server.specs.declared.plan.Staged.{Staged}
 use Rattle.lens_server.specs.declared.store.Store.{Store}
@@ -36,6 +38,13 @@ changed_tables (Rows deltas) definition tables = with_deltas (map table_delta de
 changed_tables (Define text table) None tables = tables
 changed_tables (Define text table) (Some prepared) tables = tables_with table prepared.lens tables
 
+-- the changes that can be undone, after a change
+abbrev pub past_after : PastStep → Change → List (List TableDelta) → List (List TableDelta)
+past_after Stays change past = past
+past_after Gains (Rows deltas) past = remember (map table_delta deltas.items) past
+past_after Gains (Define text table) past = past
+past_after Loses change past = take (length past - 1) past
+
 -- the state after a change
 abbrev pub after : Staged → State → State
 after staged s = record {
@@ -43,6 +52,7 @@ after staged s = record {
   tables = changed_tables staged.change staged.definition s.tables;
   version = s.version + 1;
   last = staged.last;
+  past = past_after staged.past staged.change s.past;
 }
 
 -- the catalogue can take the definition, if there is one, without memory
@@ -83,11 +93,13 @@ pub record IsPlan (plan : Plan) (expected : Answer × State) (store : Store) : T
 abbrev pub IsPlanned : Plan → Store → Type 0
 IsPlanned plan store = (expected : Answer × State) × IsPlan plan expected store
 
--- The plan tells these differences with the next version, and they are its change, each changed table last changed then.
-pub record IsChange (deltas : List TableDelta) (store : Store) (plan : Plan) : Type 0 where
+-- The plan tells these differences with the next version, and they are its change, each changed table last changed then; the
+-- changes that can be undone gain or lose it.
+pub record IsChange (deltas : List TableDelta) (step : PastStep) (store : Store) (plan : Plan) : Type 0 where
   pub answer : answer_view plan.answer ≡ changed deltas (store.version + 1)
   pub staged : Staged
   pub is : plan.staged ≡ Some staged
   pub change : change_view staged.change ≡ rows deltas
   pub definition : staged.definition ≡ None
   pub last : staged.last ≡ with_last (store.version + 1) deltas store.last
+  pub past : staged.past ≡ step

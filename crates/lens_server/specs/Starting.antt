@@ -1,5 +1,5 @@
 -- What a start gives, and what its parts do.
-use Rattle.std.specs.Prelude.{◌≡◌, ◌≢◌, ℕ, false, List, [], Option, Some, None, option_map, Result, Ok, Err}
+use Rattle.std.specs.Prelude.{◌≡◌, ◌≢◌, ◌⊎◌, ℕ, false, List, [], ◌∷◌, Option, Some, None, option_map, Result, Ok, Err}
 use Rattle.std.specs.FinMap as finmap
 use Rattle.lens_values.specs.Order.{bytes_cmp}
 use Rattle.lens_values.specs.SortedSet as set
@@ -17,6 +17,10 @@ use Rattle.server_specs.specs.State.{State}
 use Rattle.server_laws.specs.StateLaws.{AreShort}
 use Rattle.opening_specs.specs.Opening as opening
 use Rattle.opening_specs.specs.Opening.{IsOpened, all_names, damage_among, damage_at, definition, opened, table_sort_of}
+use Rattle.table_keeper.specs.Asking.{done_call, stopped_call}
+use Rattle.table_keeper.specs.declared.calls.Asked.TheVariants.{Load}
+use Rattle.table_keeper.specs.declared.calls.Call.{Call}
+use Rattle.table_keeper.specs.declared.keeper.KeepFault.TheVariants as keep
 use Rattle.table_keeper.specs.declared.keeper.KeptTable.{KeptTable}
 use Rattle.view_catalog.specs.declared.fault.CatalogFault.{CatalogFault}
 use Rattle.view_catalog.specs.declared.fault.CatalogFault.TheVariants.{NoMemory}
@@ -42,6 +46,13 @@ Opens contents (Ok s) = IsOpened contents (Ok s)
 Opens contents (Err (fault.Damaged damage)) = IsOpened contents (Err (damage_view damage))
 Opens contents (Err fault.StoreFault) = Unit {0}
 Opens contents (Err fault.NoMemory) = Unit {0}
+
+-- The one call of a start is a load, which was done where there is a state or a damage; this was the count of faults after it.
+abbrev pub IsLoad : Result State StartFault → ℕ → List Call → Type 0
+IsLoad (Ok s) count calls = calls ≡ done_call Load count ∷ []
+IsLoad (Err (fault.Damaged damage)) count calls = calls ≡ done_call Load count ∷ []
+IsLoad (Err fault.StoreFault) count calls = calls ≡ stopped_call Load keep.Failed count ∷ []
+IsLoad (Err fault.NoMemory) count calls = (calls ≡ done_call Load count ∷ []) ⊎ (calls ≡ stopped_call Load keep.NoMemory count ∷ [])
 
 -- the store, or the damage, is what is kept opens to, unless memory ran out
 abbrev pub IsStoreOf : Result Store StartFault → Kept → Type 0

@@ -4,4 +4,4 @@ use Rattle.lens_server.specs.declared.store.Store.{Store}
 
 -- the state of a store: its tables are those that readers see
 abbrev pub state_of : Store → State
-state_of store = record { texts = store.catalog.texts; tables = store.tables.present.relations; version = store.version; last = store.last }
+state_of store = record { texts = store.catalog.texts; tables = store.tables.present.relations; version = store.version; last = store.last; past = store.past }

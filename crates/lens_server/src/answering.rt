@@ -6,17 +6,22 @@ ghost use Rattle.server_specs.specs.Answering.{answer_request};
 ghost use Rattle.server_specs.specs.Request.{request};
 ghost use Rattle.server_specs.specs.Validity.{Valid};
 ghost use Rattle.lens_server.specs.Counting.{Walks, most_looked, most_walked};
+ghost use Rattle.lens_server.specs.Exports.{ExportReadsBack};
 ghost use Rattle.lens_server.specs.Keyed.{IsKeyed, IsSame};
 ghost use Rattle.lens_server.specs.Outcomes.{IsReady, Outcome};
 ghost use Rattle.lens_server.specs.Plans.{IsPlan};
 ghost use Rattle.lens_server.specs.States.{state_of};
 
+use crate::batching::plan_batch;
 use crate::changing::{plan_edit, plan_put, preview_answer};
 use crate::defining::plan_definition;
+use crate::exporting::export_answer;
+use crate::importing::plan_import;
 use crate::plan::Plan;
 use crate::questions::{find_answer, list_answer, read_answer, type_answer};
 use crate::settling::settle;
 use crate::store::Store;
+use crate::undoing::plan_undo;
 use json::Scratch;
 use lens_values::NoMemory;
 use request_text::{Answer, Reply, Request, RequestFault, read_request};
@@ -25,8 +30,8 @@ use std::sync::ledger::Ledger;
 use step_counter::Steps;
 use table_keeper::Keeper;
 
-/// Answers a line that is not too long. An edit, a preview and a find by the left side of a
-/// dependency walk no table. The scratch is what reading the line needs.
+/// Answers a line that is not too long. An edit, a preview, a batch, an undo and a find by the left
+/// side of a dependency walk no table. The scratch is what reading the line needs.
 pub fn answer_line<K: Keeper, L: Ledger, M: Ledger>(
     alloc: Global,
     store: &mut Store,
@@ -39,13 +44,19 @@ pub fn answer_line<K: Keeper, L: Ledger, M: Ledger>(
     requires { IsReady store.old (K.contents keeper.old) }
     ensures outcome { Outcome (answer_request (request (short line.now)) (state_of store.old))
         (state_of store.old) (state_of store.new) (K.faults keeper.old) (K.faults keeper.new)
-        (K.contents keeper.old) (K.contents keeper.new) result }
+        (K.contents keeper.old) (K.contents keeper.new) (K.calls keeper.old) (K.calls keeper.new)
+        result }
+    ensures untouched { (answer_request (request (short line.now)) (state_of store.old)).1
+        ≡ state_of store.old → keeper.new ≡ keeper.old }
+    ensures back { IfOk result (λ _.
+        ExportReadsBack (request (short line.now)) (state_of store.old)) }
     ensures keyed { IsKeyed store.new }
     ensures place { K.place keeper.new ≡ K.place keeper.old }
     ensures walked { walked.new
         ≤ walked.old + most_walked (request (short line.now)) (state_of store.old) }
     ensures looked { looked.new
         ≤ looked.old + most_looked (request (short line.now)) (state_of store.old) }
+    ensures walks_on { walked.old ≤ walked.new }
 {
     let plan = plan_line(alloc, store, scratch, line, walked, looked)?;
     settle(alloc, store, keeper, plan, walked)
@@ -66,10 +77,13 @@ fn plan_line<L: Ledger, M: Ledger>(
     ensures same { IsSame store.old store.new }
     ensures plan { IfOk result (λ plan. IsPlan plan
         (answer_request (request (short line.now)) (state_of store.old)) store.new) }
+    ensures back { IfOk result (λ _.
+        ExportReadsBack (request (short line.now)) (state_of store.old)) }
     ensures walked { Walks result store.new walked.old walked.new
         (most_walked (request (short line.now)) (state_of store.old)) }
     ensures looked { looked.new
         ≤ looked.old + most_looked (request (short line.now)) (state_of store.old) }
+    ensures walks_on { walked.old ≤ walked.new }
 {
     match read_request(alloc, line, scratch) {
         Ok(request) => plan_request(alloc, store, request, walked, looked),
@@ -95,10 +109,13 @@ fn plan_request<L: Ledger, M: Ledger>(
     ensures same { IsSame store.old store.new }
     ensures plan { IfOk result (λ plan. IsPlan plan
         (answer_request (Ok (request_view request.entry)) (state_of store.old)) store.new) }
+    ensures back { IfOk result (λ _.
+        ExportReadsBack (Ok (request_view request.entry)) (state_of store.old)) }
     ensures walked { Walks result store.new walked.old walked.new
         (most_walked (Ok (request_view request.entry)) (state_of store.old)) }
     ensures looked { looked.new
         ≤ looked.old + most_looked (Ok (request_view request.entry)) (state_of store.old) }
+    ensures walks_on { walked.old ≤ walked.new }
 {
     match request {
         Request::Define { text } => plan_definition(alloc, store, text),
@@ -131,5 +148,13 @@ fn plan_request<L: Ledger, M: Ledger>(
         }
         Request::Describe { view } => Ok(Plan::unchanged(type_answer(alloc, store, &view)?)),
         Request::List => Ok(Plan::unchanged(list_answer(alloc, store)?)),
+        Request::Batch { edits, on } => plan_batch(alloc, store, edits, on, looked),
+        Request::Undo => plan_undo(alloc, store),
+        Request::Export { view } => {
+            Ok(Plan::unchanged(export_answer(alloc, store, &view, walked)?))
+        }
+        Request::Import { view, csv, on } => {
+            plan_import(alloc, store, &view, &csv, on, walked, looked)
+        }
     }
 }

@@ -1,16 +1,17 @@
 //! The difference of a view that a change asks for.
-ghost use Rattle.std.specs.Prelude.{◌≡◌, ◌<◌, ◌+◌, ◌*◌, ◌≤◌, ℕ, IfOk, length, slice_index_or};
+ghost use Rattle.std.specs.Prelude.{◌≡◌, ◌<◌, ◌+◌, ◌*◌, ◌≤◌, ℕ, IfOk, Ok, length, slice_index_or};
 ghost use Rattle.lens_specs.specs.Delta.{AppliesTo};
 ghost use Rattle.lens_specs.specs.Lens.{sort_of};
+ghost use Rattle.lens_laws.specs.Finds.{AllFit};
 ghost use Rattle.lens_laws.specs.Work.{rows_of, work};
-ghost use Rattle.request_text.specs.Answers.{answer_view, list_view};
-ghost use Rattle.server_specs.specs.Answer as answers;
+ghost use Rattle.request_text.specs.Answers.{edit_refusal_view, list_view};
+ghost use Rattle.server_specs.specs.EditRefusal as refusals;
 ghost use Rattle.server_specs.specs.Changing as spec;
 ghost use Rattle.lens_chain.specs.Edits.{edited, over};
 ghost use Rattle.lens_probe.specs.Reading.{rows_under};
 ghost use Rattle.lens_probe.specs.Viewed.{FindsAtMost, shown};
 ghost use Rattle.lens_server.specs.Asking.{Asks, AsksBy, IsFresh, is_outside};
-ghost use Rattle.lens_server.specs.Counting.{changed_by, sent_by};
+ghost use Rattle.lens_server.specs.Counting.{changed_by, differs_by, sent_by};
 ghost use Rattle.lens_server.specs.Keyed.{IsOpen};
 ghost use Rattle.lens_server.specs.States.{state_of};
 
@@ -20,7 +21,7 @@ use fd_tree::{Clash, Edge};
 use lens_probe::View;
 use lens_types::TypedLens;
 use lens_values::NoMemory;
-use request_text::{Answer, JsonRows, RowList, RowsFault, rows_of};
+use request_text::{EditRefusal, JsonRows, RowList, RowsFault, rows_of};
 use row_sets::RowSet;
 use signed_delta::{Delta, of_touched};
 use std::alloc::Global;
@@ -32,8 +33,8 @@ use step_counter::Steps;
 pub enum Refusal {
     /// The change is refused.
     Told {
-        /// What it is answered.
-        answer: Answer,
+        /// Why.
+        refusal: EditRefusal,
     },
     /// Memory ran out.
     NoMemory,
@@ -70,11 +71,36 @@ pub fn asked_by_put<L: Ledger, M: Ledger>(
         rows_of delta ≤ changed_by (over view.now) view.now.lens rows.entry) }
     ensures looks { (w : ℕ) → FindsAtMost view.now w → looked.new ≤ looked.old
         + work view.now.lens (changed_by (over view.now) view.now.lens rows.entry) w }
+    ensures walks_on { walked.old ≤ walked.new }
 {
-    let lens = view.lens();
-    let new = set_in(alloc, lens, RowList::Rows, rows)?;
-    not_stale(alloc, store, lens, on)?;
-    let delta = view.difference(alloc, &new, walked)?;
+    let new = set_in(alloc, view.lens(), RowList::Rows, rows)?;
+    asked_by_rows(alloc, store, view, &new, on, walked, looked)
+}
+
+/// What changes in the view where these rows, which fit, become all of its rows, or its first
+/// refusal: the version on which it rests, a row that the predicate refuses, two rows that clash.
+/// The tables are walked.
+pub fn asked_by_rows<L: Ledger, M: Ledger>(
+    alloc: Global,
+    store: &Store,
+    view: &View<'_>,
+    rows: &RowSet,
+    on: Option<u64>,
+    walked: &mut Steps<L>,
+    looked: &mut Steps<M>,
+) -> Result<Delta, Refusal>
+    requires { AllFit (sort_of view.now.lens).columns rows.now }
+    ensures asks { AsksBy view.now.lens (over view.now) result
+        (spec.tested (state_of store.now) view.now.lens on (Ok rows.now)) }
+    ensures walked { walked.new ≤ walked.old + rows_under view.now.lens (over view.now) }
+    ensures few { IfOk result (λ delta.
+        rows_of delta ≤ differs_by (over view.now) view.now.lens rows.now) }
+    ensures looks { (w : ℕ) → FindsAtMost view.now w → looked.new ≤ looked.old
+        + work view.now.lens (differs_by (over view.now) view.now.lens rows.now) w }
+    ensures walks_on { walked.old ≤ walked.new }
+{
+    not_stale(alloc, store, view.lens(), on)?;
+    let delta = view.difference(alloc, rows, walked)?;
     checked(alloc, view, delta, looked)
 }
 
@@ -118,7 +144,7 @@ fn set_in(
     match rows_of(alloc, lens.sort().cols(), rows) {
         Ok(rows) => Ok(rows),
         Err(RowsFault::BadRow { index, col }) => Err(Refusal::Told {
-            answer: Answer::BadRow { list, index, col },
+            refusal: EditRefusal::BadRow { list, index, col },
         }),
         Err(RowsFault::NoMemory) => Err(Refusal::NoMemory),
     }
@@ -131,7 +157,7 @@ fn not_stale(alloc: Global, store: &Store, lens: &TypedLens, on: Option<u64>) ->
     let changed_at = store.last.latest(lens.tables(alloc)?.as_slice());
     if is_outside(on, changed_at, store.version) {
         return Err(Refusal::Told {
-            answer: Answer::Stale {
+            refusal: EditRefusal::Stale {
                 changed_at,
                 version: store.version,
             },
@@ -169,23 +195,23 @@ fn checked<M: Ledger>(
     match check_edit(alloc, sort, view, &delta, looked) {
         Ok(()) => Ok(delta),
         Err(EditFault::OffPredicate { row }) => Err(Refusal::Told {
-            answer: Answer::OffPredicate { row },
+            refusal: EditRefusal::OffPredicate { row },
         }),
         Err(EditFault::Clash { clash }) => Err(Refusal::Told {
-            answer: clash_answer(alloc, edges, clash)?,
+            refusal: clash_refusal(alloc, edges, clash)?,
         }),
         Err(EditFault::NoMemory) => Err(Refusal::NoMemory),
     }
 }
 
-/// The answer that two rows clash on the edge at the place.
-fn clash_answer(alloc: Global, edges: &[Edge], found: Clash) -> Result<Answer, NoMemory>
+/// The refusal for two rows that clash on the edge at the place.
+fn clash_refusal(alloc: Global, edges: &[Edge], found: Clash) -> Result<EditRefusal, NoMemory>
     requires { found.edge < length edges.now }
-    ensures { IfOk result (λ answer.
+    ensures { IfOk result (λ refusal.
         (edge : _) → edge ≡ slice_index_or edges.now found.edge edge
-        → answer_view answer ≡ answers.clash edge found.first found.second) }
+        → edit_refusal_view refusal ≡ refusals.clash edge found.first found.second) }
 {
-    Ok(Answer::Clash {
+    Ok(EditRefusal::Clash {
         edge: edges[found.edge].copy(alloc)?,
         first: found.first,
         second: found.second,

@@ -2,6 +2,7 @@
 ghost use Rattle.std.specs.Prelude.{◌≡◌, ◌<◌, ◌+◌, ◌-◌, ◌^◌, ◌≤◌, ℕ, IfOk, Result, map};
 ghost use Rattle.std.specs.FinMap as finmap;
 ghost use Rattle.lens_specs.specs.Delta.{changes};
+ghost use Rattle.lens_specs.specs.Lens.{put};
 ghost use Rattle.lens_specs.specs.Relation.{Rows};
 ghost use Rattle.lens_laws.specs.Work.{fan, rows_of, work};
 ghost use Rattle.lens_probe.specs.Viewed.{FindsAtMost};
@@ -9,6 +10,7 @@ ghost use Rattle.catalog_specs.specs.Catalogue.{catalogue};
 ghost use Rattle.request_text.specs.Answers.{answer_view};
 ghost use Rattle.lens_chain.specs.Edits.{IsEdit, edited, over};
 ghost use Rattle.server_specs.specs.Answer as answers;
+ghost use Rattle.server_specs.specs.EditRefusal.{EditRefusal};
 ghost use Rattle.server_specs.specs.Changing as spec;
 ghost use Rattle.server_specs.specs.Changing.{accept, change_answer, foretold, settled};
 ghost use Rattle.server_specs.specs.Validity.{Valid};
@@ -20,7 +22,7 @@ ghost use Rattle.lens_server.specs.Plans.{IsChange, IsPlan};
 ghost use Rattle.lens_server.specs.States.{state_of};
 
 use crate::asking::{Refusal, asked_by_edit, asked_by_put};
-use crate::plan::{Plan, Staged};
+use crate::plan::{PastStep, Plan, Staged};
 use crate::store::Store;
 use lens_chain::put_delta;
 use lens_probe::View;
@@ -61,6 +63,7 @@ pub fn plan_put<L: Ledger, M: Ledger>(
     ensures walked { walked.new ≤ walked.old + row_count store.now.tables.present.relations }
     ensures looked { let s = state_of store.now in looked.new ≤ looked.old
         + of_lens (put_looks s.tables rows.entry) (finmap.get (catalogue s.texts) view.now) }
+    ensures walks_on { walked.old ≤ walked.new }
 {
     match store.catalog.lens(view) {
         Some(lens) => {
@@ -103,7 +106,7 @@ pub fn plan_edit<M: Ledger>(
 }
 
 /// Plans a change of the view, or its refusal.
-fn plan_asked<M: Ledger>(
+pub fn plan_asked<M: Ledger>(
     alloc: Global,
     store: &Store,
     view: &View<'_>,
@@ -113,10 +116,10 @@ fn plan_asked<M: Ledger>(
     requires valid { Valid (state_of store.now) }
     requires open { IsOpen store.now view.now.lens }
     requires tables { view.now.tables ≡ store.now.tables }
-    requires asked { (expected : Result Rows answers.Answer)
+    requires asked { (expected : Result Rows EditRefusal)
         × AsksBy view.now.lens (over view.now) asked expected }
     requires room { store.now.version < 2 ^ 64 - 1 }
-    ensures plan { (expected : Result Rows answers.Answer)
+    ensures plan { (expected : Result Rows EditRefusal)
         → AsksBy view.now.lens (over view.now) asked expected
         → IfOk result (λ plan.
         IsPlan plan (settled expected view.now.lens (state_of store.now)) store.now) }
@@ -125,7 +128,7 @@ fn plan_asked<M: Ledger>(
 {
     match asked {
         Ok(delta) => plan_delta(alloc, store, view, &delta, looked),
-        Err(Refusal::Told { answer }) => Ok(Plan::unchanged(answer)),
+        Err(Refusal::Told { refusal }) => Ok(Plan::unchanged(refusal.into_answer())),
         Err(Refusal::NoMemory) => Err(NoMemory),
     }
 }
@@ -145,7 +148,7 @@ fn plan_delta<M: Ledger>(
     requires room { store.now.version < 2 ^ 64 - 1 }
     ensures plan { let L = view.now.lens in let db = over view.now in
         let rows = edited L db delta.now in IfOk result (λ plan.
-        IsPlan plan (accept L rows (changes L rows db) (state_of store.now)) store.now) }
+        IsPlan plan (accept (put L rows db) (changes L rows db) (state_of store.now)) store.now) }
     ensures looks { (w : ℕ) → FindsAtMost view.now w
         → looked.new ≤ looked.old + work view.now.lens (rows_of delta.now) w }
 {
@@ -156,13 +159,18 @@ fn plan_delta<M: Ledger>(
             version: store.version,
         }));
     }
-    plan_tables(alloc, store, deltas)
+    plan_tables(alloc, store, deltas, PastStep::Gains)
 }
 
-/// Plans that the tables differ so.
-fn plan_tables(alloc: Global, store: &Store, deltas: Vec<TableDelta>) -> Result<Plan, NoMemory>
+/// Plans that the tables differ so, which the changes that can be undone gain or lose.
+pub fn plan_tables(
+    alloc: Global,
+    store: &Store,
+    deltas: Vec<TableDelta>,
+    past: PastStep,
+) -> Result<Plan, NoMemory>
     requires room { store.now.version < 2 ^ 64 - 1 }
-    ensures { IfOk result (IsChange (map table_delta deltas.items) store.now) }
+    ensures { IfOk result (IsChange (map table_delta deltas.items) past store.now) }
 {
     let version = store.version + 1;
     let last = store.last.with_all(alloc, deltas.as_slice(), version)?;
@@ -176,6 +184,7 @@ fn plan_tables(alloc: Global, store: &Store, deltas: Vec<TableDelta>) -> Result<
             change: Change::Rows { deltas: kept },
             definition: None,
             last,
+            past,
         }),
     })
 }
@@ -229,9 +238,9 @@ fn foretold<M: Ledger>(
 ) -> Result<Answer, NoMemory>
     requires open { IsOpen store.now view.now.lens }
     requires tables { view.now.tables ≡ store.now.tables }
-    requires asked { (expected : Result Rows answers.Answer)
+    requires asked { (expected : Result Rows EditRefusal)
         × AsksBy view.now.lens (over view.now) asked expected }
-    ensures answer { (expected : Result Rows answers.Answer)
+    ensures answer { (expected : Result Rows EditRefusal)
         → AsksBy view.now.lens (over view.now) asked expected
         → IfOk result (λ answer.
         answer_view answer ≡ foretold expected view.now.lens (state_of store.now)) }
@@ -240,7 +249,7 @@ fn foretold<M: Ledger>(
 {
     match asked {
         Ok(delta) => changes_told(alloc, store, view, &delta, looked),
-        Err(Refusal::Told { answer }) => Ok(answer),
+        Err(Refusal::Told { refusal }) => Ok(refusal.into_answer()),
         Err(Refusal::NoMemory) => Err(NoMemory),
     }
 }

@@ -10,7 +10,7 @@ ghost use Rattle.lens_server.specs.Plans.{IsPlan};
 ghost use Rattle.lens_server.specs.States.{state_of};
 
 use crate::last_changes::LastChanges;
-use crate::plan::{Plan, Staged};
+use crate::plan::{PastStep, Plan, Staged};
 use crate::refusals::refusal;
 use crate::store::Store;
 use lens_values::{Name, NoMemory, Text};
@@ -53,6 +53,7 @@ fn plan_prepared(alloc: Global, store: &Store, prepared: Prepared) -> Result<Pla
             change: Change::Define { text, table },
             definition: Some(prepared),
             last,
+            past: PastStep::Stays,
         }),
     })
 }

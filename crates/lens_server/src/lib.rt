@@ -4,9 +4,12 @@
 mod admitting;
 mod answering;
 mod asking;
+mod batching;
 mod changing;
 pub mod damage;
 mod defining;
+mod exporting;
+mod importing;
 mod inspecting;
 mod last_changes;
 mod opening;
@@ -17,6 +20,7 @@ pub mod server;
 mod settling;
 pub mod starting;
 mod store;
+mod undoing;
 
 pub use damage::{Damage, damage_line};
 pub use server::Server;

@@ -14,6 +14,7 @@ use crate::inspecting::damage_of_tables;
 use crate::last_changes::LastChanges;
 use crate::starting::StartFault;
 use crate::store::Store;
+use edit_batches::History;
 use lens_values::NoMemory;
 use row_sets::RowSet;
 use signed_delta::{Delta, TableDelta};
@@ -54,6 +55,7 @@ fn undamaged(alloc: Global, admitted: Admitted, tables: Vec<KeptTable>) -> Resul
     ensures keyed { IfOk result IsKeyed }
 {
     let last = LastChanges::at_start(alloc, tables.as_slice())?;
+    let past = History::new(alloc)?;
     let deltas = fillings(alloc, tables)?;
     let mut filled = admitted.tables;
     filled.stage(&deltas)?;
@@ -63,6 +65,7 @@ fn undamaged(alloc: Global, admitted: Admitted, tables: Vec<KeptTable>) -> Resul
         tables: filled,
         last,
         version: 0,
+        past,
     })
 }
 

@@ -6,6 +6,17 @@ use request_text::Answer;
 use table_keeper::Change;
 use view_catalog::Prepared;
 
+/// What a change does to the changes that can be undone.
+#[derive(Clone, Copy, Debug)]
+pub enum PastStep {
+    /// Nothing: it is a definition.
+    Stays,
+    /// It is one more.
+    Gains,
+    /// It takes the last one back.
+    Loses,
+}
+
 /// A change that is prepared. Once the tables have staged it, to make it takes no memory.
 #[derive(Drop)]
 pub struct Staged {
@@ -15,6 +26,8 @@ pub struct Staged {
     pub definition: Option<Prepared>,
     /// The last change of each table after it.
     pub last: LastChanges,
+    /// What it does to the changes that can be undone.
+    pub past: PastStep,
 }
 
 /// The answer to a request, and what is changed before it is given.

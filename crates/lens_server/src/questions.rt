@@ -37,6 +37,7 @@ pub fn read_answer<L: Ledger>(
     ensures answer { IfOk result (λ answer.
         answer_view answer ≡ spec.read_answer view.now (state_of store.now)) }
     ensures walked { walked.new ≤ walked.old + row_count store.now.tables.present.relations }
+    ensures walks_on { walked.old ≤ walked.new }
 {
     match store.catalog.lens(view) {
         Some(lens) => rows_told(alloc, store, lens, walked),
@@ -55,6 +56,7 @@ fn rows_told<L: Ledger>(
     ensures answer { IfOk result (λ answer.
         answer_view answer ≡ rows_told (state_of store.now) lens.now) }
     ensures walked { walked.new ≤ walked.old + row_count store.now.tables.present.relations }
+    ensures walks_on { walked.old ≤ walked.new }
 {
     let view = view_of(store, lens).read(alloc, walked)?;
     Ok(Answer::Shown {
@@ -83,6 +85,7 @@ pub fn find_answer<L: Ledger, M: Ledger>(
         → walked.new ≡ walked.old }
     ensures looked { let s = state_of store.now in looked.new ≤ looked.old
         + of_lens (find_looks s.tables column.now) (finmap.get (catalogue s.texts) view.now) }
+    ensures walks_on { walked.old ≤ walked.new }
 {
     match store.catalog.lens(view) {
         Some(lens) => finding_told(alloc, store, lens, column, value, walked, looked),
@@ -108,6 +111,7 @@ fn finding_told<L: Ledger, M: Ledger>(
         → walked.new ≡ walked.old }
     ensures looked { let db = store.now.tables.present.relations in
         looked.new ≤ looked.old + find_looks db column.now lens.now }
+    ensures walks_on { walked.old ≤ walked.new }
 {
     let Some(kind) = lens.sort().cols().kind(column) else {
         return Ok(Answer::UnknownColumn { name: *column });
@@ -136,6 +140,7 @@ fn found_told<L: Ledger, M: Ledger>(
         → walked.new ≡ walked.old }
     ensures looked { let db = store.now.tables.present.relations in
         looked.new ≤ looked.old + find_looks db column.now lens.now }
+    ensures walks_on { walked.old ≤ walked.new }
 {
     let view = view_of(store, lens);
     let found = find_rows(alloc, &view, column, value, looked, walked)?;

@@ -1,17 +1,20 @@
 //! The state, and what it answers.
-ghost use Rattle.std.specs.Prelude.{◌≡◌, ◌≤◌, ◌<◌, ◌+◌, ◌-◌, ◌^◌, Err, IfOk, MatchResult};
+ghost use Rattle.std.specs.Prelude.{◌≡◌, ◌⊎◌, ◌≤◌, ◌<◌, ◌+◌, ◌-◌, ◌^◌, Err, IfOk, MatchResult};
 ghost use Rattle.lens_specs.specs.Keeping.{Follows, Stays, Tells};
 ghost use Rattle.io_specs.specs.Faults.{Rose};
 ghost use Rattle.io_specs.specs.Lines.{line as short, marked};
 ghost use Rattle.server_specs.specs.Answer.{memory, text};
-ghost use Rattle.server_specs.specs.Answering.{answer_request};
+ghost use Rattle.server_specs.specs.Answering.{answer, answer_request};
 ghost use Rattle.server_specs.specs.Request.{request};
 ghost use Rattle.server_specs.specs.Session.{Step};
 ghost use Rattle.server_specs.specs.State as state;
+ghost use Rattle.server_laws.specs.SheetLaws.{IsExportLine, ReadsBack};
+ghost use Rattle.io_specs.specs.Calls.{Adds};
+ghost use Rattle.lens_server.specs.Committing.{CommitsFor};
 ghost use Rattle.lens_server.specs.Counting.{most_looked, most_walked};
 ghost use Rattle.lens_server.specs.Keyed.{IsKeyed};
 ghost use Rattle.lens_server.specs.Outcomes.{IsReady, Outcome};
-ghost use Rattle.lens_server.specs.Starting.{IsStoreOf, Opens};
+ghost use Rattle.lens_server.specs.Starting.{IsLoad, IsStoreOf, Opens};
 ghost use Rattle.table_keeper.specs.Changes.{kept_view};
 ghost use Rattle.table_keeper.specs.Places.{Rise};
 ghost use Rattle.lens_server.specs.States.{state_of};
@@ -62,6 +65,11 @@ impl Server {
         ensures opened { Opens (K.contents keeper.old) result }
         ensures kept { Stays (K.contents keeper.old) (K.contents keeper.new) }
         ensures place { K.place keeper.new ≡ K.place keeper.old }
+
+        // The keeper is asked to load once, and for nothing else.
+        ensures calls { Adds (IsLoad result (K.faults keeper.new)) (K.calls keeper.old)
+            (K.calls keeper.new) }
+
         ensures later { K.faults keeper.old ≤ K.faults keeper.new }
         ensures failed { result ≡ Err StartFault.StoreFault
             → Rose (K.faults keeper.old) (K.faults keeper.new) }
@@ -94,8 +102,24 @@ impl Server {
             (K.contents keeper.new) }
         ensures place { K.place keeper.new ≡ K.place keeper.old }
 
+        // What an export gives reads back as the rows of the view.
+        ensures back { (name : _) (L : _) → IsExportLine self.old (marked line.now) name L
+            → (result ≡ text memory) ⊎ ReadsBack L self.old.tables }
+
+        // Nothing is committed where nothing changes, and one change where the state changes.
+        ensures untouched { (answer self.old (marked line.now)).1 ≡ self.old
+            → keeper.new ≡ keeper.old }
+        ensures commits { Adds (CommitsFor self.old (K.faults keeper.old)
+            (record {
+              line = marked line.now;
+              reply = result;
+              state = self.new;
+              count = K.faults keeper.new;
+            })) (K.calls keeper.old) (K.calls keeper.new) }
+
         // An edit, a preview and a find by the left side of a dependency look by key, and walk none.
         ensures walked { walked.new ≤ walked.old + most_walked (request (marked line.now)) self.old }
+        ensures walks_on { walked.old ≤ walked.new }
 
         // How many rows are looked at follows from the rows that an edit sends, or in which a put
         // differs from what its view shows, and from the largest group of rows with one key.

@@ -7,13 +7,15 @@ ghost use Rattle.server_specs.specs.Answer.{text};
 ghost use Rattle.server_specs.specs.State.{State};
 ghost use Rattle.lens_server.specs.Keyed.{IsKeyed};
 ghost use Rattle.lens_server.specs.Outcomes.{IsReady, NotKept, Outcome};
-ghost use Rattle.lens_server.specs.Plans.{CanStage, CanTake, IsFree, IsPlan, IsPlanned, IsStaged, Leads, texts_with};
+ghost use Rattle.lens_server.specs.Plans.{CanStage, CanTake, IsFree, IsPlan, IsPlanned, IsStaged, Leads, past_after, texts_with};
 ghost use Rattle.lens_server.specs.Staging.{defined_by, next_state, steps_in, steps_of, table_of, walked_by};
 ghost use Rattle.lens_server.specs.States.{state_of};
+ghost use Rattle.lens_server.specs.declared.plan.PastStep.TheVariants.{Gains};
 
-use crate::plan::{Plan, Staged};
+use crate::plan::{PastStep, Plan, Staged};
 use crate::store::Store;
 use base_index::Tables;
+use edit_batches::{Deltas, Entry, History};
 use lens_probe::needs;
 use lens_types::TypedLens;
 use lens_values::{Columns, Name, NoMemory};
@@ -37,10 +39,14 @@ pub fn settle<K: Keeper, L: Ledger>(
     ensures outcome { (answer : spec.Answer × State) → IsPlan plan answer store.old
         → Outcome answer (state_of store.old) (state_of store.new)
         (K.faults keeper.old) (K.faults keeper.new)
-        (K.contents keeper.old) (K.contents keeper.new) result }
+        (K.contents keeper.old) (K.contents keeper.new) (K.calls keeper.old) (K.calls keeper.new)
+        result }
+    ensures untouched { (answer : spec.Answer × State) → IsPlan plan answer store.old
+        → answer.1 ≡ state_of store.old → keeper.new ≡ keeper.old }
     ensures keyed { IsKeyed store.new }
     ensures place { K.place keeper.new ≡ K.place keeper.old }
     ensures walked { walked.new ≤ walked.old + steps_of plan.staged store.old }
+    ensures walks_on { walked.old ≤ walked.new }
 {
     let Plan { answer, staged } = plan;
     let reply = reply_text(alloc, &answer)?;
@@ -65,10 +71,12 @@ fn commit<K: Keeper, L: Ledger>(
         → reply ≡ text answer.0
         → Outcome answer (state_of store.old) (state_of store.new)
         (K.faults keeper.old) (K.faults keeper.new)
-        (K.contents keeper.old) (K.contents keeper.new) result }
+        (K.contents keeper.old) (K.contents keeper.new) (K.calls keeper.old) (K.calls keeper.new)
+        result }
     ensures keyed { IsKeyed store.new }
     ensures place { K.place keeper.new ≡ K.place keeper.old }
     ensures walked { walked.new ≤ walked.old + steps_of (Some staged) store.old }
+    ensures walks_on { walked.old ≤ walked.new }
 {
     stage(alloc, &mut store.tables, &staged, walked)?;
     match keeper.commit(alloc, &staged.change) {
@@ -109,6 +117,7 @@ fn stage<L: Ledger>(
     ensures err { OnErr result (tables.new ≡ tables.old) }
     ensures walked { walked.new
         ≤ walked.old + steps_in staged.now.change staged.now.definition tables.old.present }
+    ensures walks_on { walked.old ≤ walked.new }
 {
     match (&staged.change, &staged.definition) {
         (Change::Rows { deltas }, _) => tables.stage(deltas.as_slice()),
@@ -134,6 +143,7 @@ pub fn stage_definition<L: Ledger>(
         ≡ record tables.old { next = defined_by table.now lens.now tables.old.present }) }
     ensures err { OnErr result (tables.new ≡ tables.old) }
     ensures walked { walked.new ≤ walked.old + walked_by lens.now tables.old.present }
+    ensures walks_on { walked.old ≤ walked.new }
 {
     let needs = needs(alloc, lens)?;
     let new = new_table(alloc, table, lens)?;
@@ -167,16 +177,46 @@ fn make(store: &mut Store, staged: Staged)
         ≡ record store.old.tables { present = store.old.tables.next } }
     ensures version { store.new.version ≡ store.old.version + 1 }
     ensures last { store.new.last ≡ staged.last }
+    ensures past { store.new.past ≡ past_after staged.past staged.change store.old.past }
 {
     let Staged {
-        change: _change,
+        change,
         definition,
         last,
+        past,
     } = staged;
     admit(&mut store.catalog, definition);
     store.tables.settle();
     store.last = last;
     store.version += 1;
+    remember(&mut store.past, past, change);
+}
+
+/// Remembers the change, or forgets the last one. It takes no memory.
+fn remember(past: &mut History, step: PastStep, change: Change)
+    ensures { past.new ≡ past_after step change past.old }
+{
+    match step {
+        PastStep::Stays => {}
+        PastStep::Gains => gain(past, change),
+        PastStep::Loses => {
+            let _undone = past.pop();
+        }
+    }
+}
+
+/// Remembers the change, if it is one of rows. It takes no memory.
+fn gain(past: &mut History, change: Change)
+    ensures { past.new ≡ past_after Gains change past.old }
+{
+    match change {
+        Change::Rows { deltas } => {
+            let _oldest = past.push(Entry {
+                deltas: Deltas::new(deltas),
+            });
+        }
+        Change::Define { .. } => {}
+    }
 }
 
 /// The catalogue takes the definition, if there is one.

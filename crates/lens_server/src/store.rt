@@ -2,9 +2,11 @@
 
 use crate::last_changes::LastChanges;
 use base_index::Tables;
+use edit_batches::History;
 use view_catalog::Catalog;
 
-/// The definitions with their lenses, the tables, the version, and the last change of each table.
+/// The definitions with their lenses, the tables, the version, the last change of each table, and
+/// the changes that can be undone.
 #[derive(Drop)]
 pub struct Store {
     /// The definitions, and the lens of each name.
@@ -15,4 +17,6 @@ pub struct Store {
     pub last: LastChanges,
     /// How many changes were made.
     pub version: u64,
+    /// The changes that can be undone, the oldest first.
+    pub past: History,
 }

@@ -209,9 +209,9 @@ unless_ok : (d : Option Damage) (k : Kept) (s : State) → unless_damaged d k �
 unless_ok None k s e = (refl, cc)
 unless_ok (Some d) k s e = cc
 
-zero_past : (o : Option Rows) → IfSome (option_map {U = ℕ} (λ x. 0) o) (λ version. version ≤ 0)
-zero_past None = tt
-zero_past (Some M) = omega arith
+zero_version : (o : Option Rows) → IfSome (option_map {U = ℕ} (λ x. 0) o) (λ version. version ≤ 0)
+zero_version None = tt
+zero_version (Some M) = omega arith
 
 pub state_is_valid : (k : Kept) → first_damage k ≡ None → Valid (state_of k)
 state_is_valid k e =
@@ -223,7 +223,10 @@ state_is_valid k e =
       tables = λ q. subst (IsStored q (finmap.get known q)) (sym (get-mapped (as_table known) k.rows q)) (stored_at q (finmap.get known q) (finmap.get k.rows q) (whole q));
       last = λ q. ap is_some (get-mapped {Y = ℕ} (λ e. 0) k.rows q) ∙ is_some-map {B = ℕ} (λ x. 0) (finmap.get k.rows q)
           ∙ sym (ap is_some (get-mapped (as_table known) k.rows q) ∙ is_some-map (λ x. as_table known (q, x)) (finmap.get k.rows q));
-      past = λ q. subst (λ o. IfSome o (λ version. version ≤ 0)) (sym (get-mapped {Y = ℕ} (λ e. 0) k.rows q)) (zero_past (finmap.get k.rows q));
+      versions = λ q. subst (λ o. IfSome o (λ version. version ≤ 0)) (sym (get-mapped {Y = ℕ} (λ e. 0) k.rows q)) (zero_version (finmap.get k.rows q));
+      few = omega arith;
+      differences = tt;
+      past = tt;
     }
 
 pub opened_is_valid : (k : Kept) (s : State) → opened k ≡ Ok s → Valid s
@@ -260,7 +263,7 @@ state_again s v =
     get-mapped (as_table known) (rows_of s.tables) q ∙ ap (option_map (λ x. as_table known (q, x))) (get-rows_of s.tables q) ∙ again_at q (finmap.get known q) (finmap.get s.tables q) (v.tables q)) in
     let last : mapped {Y = ℕ} (λ e. 0) (rows_of s.tables) ≡ mapped {Y = ℕ} (λ e. 0) s.tables = finmap.same_map name_total name_exact _ _ (λ q.
     get-mapped {Y = ℕ} (λ e. 0) (rows_of s.tables) q ∙ ap (option_map {U = ℕ} (λ x. 0)) (get-rows_of s.tables q) ∙ zero_again (finmap.get s.tables q) ∙ sym (get-mapped {Y = ℕ} (λ e. 0) s.tables q)) in
-    λ i. record { texts = s.texts; tables = tables i; version = 0; last = last i }
+    λ i. record { texts = s.texts; tables = tables i; version = 0; last = last i; past = [] }
 
 pub kept_is_opened : (s : State) → Valid s → opened (kept s) ≡ Ok (at_start s)
 unfolding opened
@@ -294,7 +297,7 @@ nothing_is_kept =
     λ i. record { texts = []; rows = e i }
 
 fresh_at_start : at_start fresh ≡ fresh
-fresh_at_start = λ i. record { texts = []; tables = finmap.empty; version = 0; last = mapped_nothing {X = Relation} {Y = ℕ} (λ e. 0) i }
+fresh_at_start = λ i. record { texts = []; tables = finmap.empty; version = 0; last = mapped_nothing {X = Relation} {Y = ℕ} (λ e. 0) i; past = [] }
 
 pub nothing_opens : opened nothing ≡ Ok fresh
 nothing_opens = ap opened (sym nothing_is_kept) ∙ kept_is_opened fresh fresh_is_valid ∙ ap Ok fresh_at_start

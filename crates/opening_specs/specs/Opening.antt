@@ -102,9 +102,9 @@ as_table known entry = record { columns = columns_of (table_sort_of entry.0 (fin
 abbrev pub mapped : {X Y : Type 0} → (Name × X → Y) → finmap.FinMap bytes_cmp X → finmap.FinMap bytes_cmp Y
 mapped f m = finmap.from_entries (map (λ e. (e.0, f e)) (finmap.entries m))
 
--- the texts and the tables that are kept, at version 0
+-- the texts and the tables that are kept, at version 0, and no change that can be undone
 abbrev pub state_of : Kept → State
-state_of kept = record { texts = kept.texts; tables = mapped (as_table (catalogue kept.texts)) kept.rows; version = 0; last = mapped (λ e. 0) kept.rows }
+state_of kept = record { texts = kept.texts; tables = mapped (as_table (catalogue kept.texts)) kept.rows; version = 0; last = mapped (λ e. 0) kept.rows; past = [] }
 
 -- the damage, if there is one, or else the state
 abbrev pub unless_damaged : Option Damage → Kept → Result State Damage

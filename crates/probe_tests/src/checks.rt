@@ -9,81 +9,50 @@ use std::sync::ledger::Ledger;
 use std::test::Fail;
 use step_counter::Steps;
 
-// Rows that the view is to show, and the rows that a refusal of them has.
-const ACCEPTED: &str = "album=Show quantity=4; album=Wish quantity=5";
-
-const OFF: &str = "album=Paris quantity=2; album=Disintegration quantity=0; album=Wish quantity=5";
-
-const LEAST_OFF: &str = "album=Disintegration quantity=0";
-
-const ONE_CLASHES: &str = "album=Show quantity=3; album=Show quantity=7; album=Wish quantity=5";
-
-const THREE: &str = "album=Show quantity=3";
-
-const SEVEN: &str = "album=Show quantity=7";
-
-const TWO_CLASH: &str = "album=Show quantity=7; album=Show quantity=8; album=Wish quantity=5";
-
-const EIGHT: &str = "album=Show quantity=8";
-
-// Whether the edit to these rows is accepted.
-fn is_accepted<L: Ledger>(
-    alloc: Global,
-    view: &View<'_>,
-    rows: &str,
-    looked: &mut Steps<L>,
-) -> Result<bool, Fail> {
-    Ok(fault_of(alloc, view, rows, looked)?.is_none())
+// Whether the clash is on the edge at this place, of this pair, as `a=1 b=1; a=1 b=2`.
+fn is_clash(alloc: Global, clash: &Clash, place: &str, pair: &str) -> Result<bool, Fail> {
+    let (first, second) = pair.split_once(';').ok_or("no pair")?;
+    let is_there = place.parse::<usize>() == Ok(clash.edge);
+    Ok(is_there && clash.first == row(alloc, first)? && clash.second == row(alloc, second)?)
 }
 
-// Whether the edit to these rows is refused for this row, off the predicate.
-fn is_off<L: Ledger>(
-    alloc: Global,
-    view: &View<'_>,
-    rows: &str,
-    least: &str,
-    looked: &mut Steps<L>,
-) -> Result<bool, Fail> {
-    match &fault_of(alloc, view, rows, looked)? {
-        Some(EditFault::OffPredicate { row: found }) => Ok(*found == row(alloc, least)?),
-        _ => Ok(false),
+// Whether the edit is accepted, where the text is `accepted`, or is refused as it says: `off` and the
+// row that the predicate refuses, or the place of an edge and the pair that clashes on it.
+fn is_answer(alloc: Global, fault: Option<&EditFault>, text: &str) -> Result<bool, Fail> {
+    let (word, rest) = text.split_once(' ').unwrap_or((text, ""));
+    match fault {
+        None => Ok(word == "accepted"),
+        Some(EditFault::OffPredicate { row: found }) => {
+            Ok(word == "off" && *found == row(alloc, rest)?)
+        }
+        Some(EditFault::Clash { clash }) => is_clash(alloc, clash, word, rest),
+        Some(EditFault::NoMemory) => Err(Fail::from("no memory")),
     }
 }
 
-// Whether the edit to these rows is refused for this pair, on the first edge.
-fn is_clash<L: Ledger>(
+// Whether the check, as `a=1 b=4; a=2 b=4: accepted`, the rows that the view is to show, answers so.
+fn is_checked<L: Ledger>(
     alloc: Global,
     view: &View<'_>,
-    rows: &str,
-    pair: [&str; 2],
+    check: &str,
     looked: &mut Steps<L>,
 ) -> Result<bool, Fail> {
-    match &fault_of(alloc, view, rows, looked)? {
-        Some(EditFault::Clash { clash }) => is_pair(alloc, clash, pair),
-        _ => Ok(false),
-    }
+    let (rows, answer) = check.split_once(':').ok_or("no answer")?;
+    let fault = fault_of(alloc, view, rows, looked)?;
+    is_answer(alloc, fault.as_ref(), answer.trim())
 }
 
-// Whether the clash is of this pair, on the first edge.
-fn is_pair(alloc: Global, clash: &Clash, pair: [&str; 2]) -> Result<bool, Fail> {
-    Ok(
-        clash.edge == 0
-            && clash.first == row(alloc, pair[0])?
-            && clash.second == row(alloc, pair[1])?,
-    )
-}
-
-/// Whether an edit is accepted, and others are refused: of their added rows one is refused by the
-/// predicate, one clashes with a row that is there, and two with one another.
+/// Whether each of the checks, with a bar between them, answers so.
 pub(crate) fn are_checked<L: Ledger>(
     alloc: Global,
     view: &View<'_>,
+    checks: &str,
     looked: &mut Steps<L>,
 ) -> Result<bool, Fail> {
-    Ok(
-        is_accepted(alloc, view, ACCEPTED, looked)?
-            && is_off(alloc, view, OFF, LEAST_OFF, looked)?
-            && is_clash(alloc, view, ONE_CLASHES, [THREE, SEVEN], looked)?
-            && is_clash(alloc, view, TWO_CLASH, [SEVEN, EIGHT], looked)?,
-    )
+    for check in checks.split('|') {
+        if !is_checked(alloc, view, check, looked)? {
+            return Ok(false);
+        }
+    }
+    Ok(true)
 }

@@ -21,27 +21,40 @@ use std::test::Fail;
 use step_counter::Steps;
 use whole_put::Db;
 
-// Trials, each of a lens, of tables (where these are the shop, as listed below), and of what is asked
-// of the view.
+// Trials, each of a lens, of tables (where these are the base or the shop, as listed below), and of
+// what is asked of the view.
 //
 // stock: whether it shows and finds what it should, and a put changes the tables as it should.
-// checks: which edits it refuses.
+// check: which edits are accepted, and why others are refused, given by the rows that it is to show.
 // find: which rows it has by values in single columns.
 //
 // The others are edits, by which both engines change the tables exactly alike: the rows that the view
 // is to show, edit by edit.
 const TRIALS: &str = "
 tracks; join_dl albums; drop date track 2018; above quantity 2
-/ tracks: album=Galore date=1989 rating=3 track=Lullaby;
-album=Galore date=1989 rating=5 track=Lovesong; album=Paris date=1989 rating=5 track=Lovesong;
-album=Show date=1989 rating=3 track=Lullaby; album=Wish date=1992 rating=4 track=Trust
-| albums: album=Disintegration quantity=6; album=Galore quantity=1; album=Paris quantity=4;
-album=Show quantity=3; album=Wish quantity=5
+/ base
 / stock
+
+tracks; join_dl albums; drop date track 2018; above quantity 2
+/ base
+/ check album=Paris quantity=4 rating=5 track=Lovesong;
+album=Show quantity=3 rating=3 track=Lullaby; album=Show quantity=4 rating=5 track=Lovesong;
+album=Wish quantity=5 rating=4 track=Trust:
+1 album=Show quantity=3 rating=3 track=Lullaby; album=Show quantity=4 rating=5 track=Lovesong
+| album=Paris quantity=4 rating=5 track=Lovesong;
+album=Show quantity=2 rating=3 track=Lullaby; album=Show quantity=3 rating=3 track=Lullaby;
+album=Wish quantity=5 rating=4 track=Trust:
+off album=Show quantity=2 rating=3 track=Lullaby
 
 albums; above quantity 2
 / albums: album=Galore quantity=1; album=Show quantity=3; album=Wish quantity=5
-/ checks
+/ check album=Show quantity=4; album=Wish quantity=5: accepted
+| album=Paris quantity=2; album=Disintegration quantity=0; album=Wish quantity=5:
+off album=Disintegration quantity=0
+| album=Show quantity=3; album=Show quantity=7; album=Wish quantity=5:
+0 album=Show quantity=3; album=Show quantity=7
+| album=Show quantity=7; album=Show quantity=8; album=Wish quantity=5:
+0 album=Show quantity=7; album=Show quantity=8
 
 tracks; join_dl albums; drop date track 2018; above quantity 2
 / shop
@@ -127,6 +140,13 @@ above quantity 2
 / shop
 / disc=Paris quantity=9 stars=1 track=Disco; disc=Show quantity=3 stars=5 track=Lullaby |";
 
+const BASE: &str = "
+tracks: album=Galore date=1989 rating=3 track=Lullaby;
+album=Galore date=1989 rating=5 track=Lovesong; album=Paris date=1989 rating=5 track=Lovesong;
+album=Show date=1989 rating=3 track=Lullaby; album=Wish date=1992 rating=4 track=Trust
+| albums: album=Disintegration quantity=6; album=Galore quantity=1; album=Paris quantity=4;
+album=Show quantity=3; album=Wish quantity=5";
+
 const SHOP: &str = "
 tracks: album=Galore date=1989 rating=3 track=Lullaby;
 album=Show date=1989 rating=3 track=Lullaby; album=Wish date=1992 rating=4 track=Trust
@@ -170,9 +190,13 @@ fn passes_with<L: Ledger>(
     passes_over(alloc, question, lens, &shelf, looked)
 }
 
-// The tables of the shop, where the text is its name, or else of the text.
+// The tables of the base or of the shop, where the text is the name of one, or else of the text.
 fn listed(tables: &str) -> &str {
-    if tables == "shop" { SHOP } else { tables }
+    match tables {
+        "base" => BASE,
+        "shop" => SHOP,
+        _ => tables,
+    }
 }
 
 // The same with this lens over these tables.
@@ -202,7 +226,7 @@ fn answer<L: Ledger>(
     let (word, rest) = question.split_once(' ').unwrap_or((question, ""));
     match word {
         "stock" => Ok(is_stock(alloc, view, looked)? && are_changed(alloc, view, looked)?),
-        "checks" => are_checked(alloc, view, looked),
+        "check" => are_checked(alloc, view, rest, looked),
         "find" => are_found(alloc, view, rest, looked),
         _ => agree(alloc, view, db, question, looked),
     }

@@ -1,11 +1,16 @@
 -- One session after another.
-use Rattle.std.proofs.Common.{◌≡◌, ◌≤◌, ◌+◌, ℕ, List, [], ◌∷◌, ◌++◌, map, length, refl, ap, sym, subst, ◌∙◌, arith}
+use Rattle.std.proofs.Common.{◌≡◌, ◌≤◌, ◌+◌, ℕ, List, [], ◌∷◌, ◌++◌, map, length, refl, ap, sym, subst, ◌∙◌, arith, append-nil, append_assoc}
+use Rattle.std.specs.Prelude.{Option}
 use Rattle.std.proofs.lemmas.List.{map-append, length-map}
+use Rattle.io_specs.specs.Calls.{Adds}
 use Rattle.io_specs.specs.Lines.{Line}
+use Rattle.io_specs.proofs.Calls.{Adds-then, Adds-weaker}
 use Rattle.server_specs.specs.State.{State}
 use Rattle.server_specs.specs.Request.{request}
 use Rattle.server_specs.specs.Session.{Exchange, Chain, Step, last_state, last_count, Session}
 use Rattle.server_specs.proofs.Versions.{version-step}
+use Rattle.table_keeper.specs.declared.calls.Call.{Call}
+use Rattle.lens_server.specs.Committing.{CommitsFor, CommitsForAll}
 use Rattle.lens_server.specs.Counting.{most_walked}
 use Rattle.rehearsal.specs.Walking.{most_walked_in}
 
@@ -67,6 +72,33 @@ pub few-one : (s : State) (count : ℕ) (l : Line) (reply : List ℕ) (last : St
     → walked' ≤ walked + most_walked_in s (Session-one s count l reply last after step).exchanges
 unfolding Session-one
 few-one s count l reply last after step walked walked' few = omega (arith, few)
+
+-- ---- commits
+
+-- the commits of exchanges, and those of the ones after them
+CommitsForAll-append : (s : State) (count : ℕ) (es fs : List Exchange) (first later : List Call) → CommitsForAll s count es first → CommitsForAll (last_state s es) (last_count count es) fs later
+    → CommitsForAll s count (es ++ fs) (first ++ later)
+CommitsForAll-append s count [] fs first later p q = subst (λ cs. CommitsForAll s count fs (cs ++ later)) (sym p) q
+CommitsForAll-append s count (e ∷ es) fs first later p q =
+    (p.0, p.1 ++ later, ap (λ cs. cs ++ later) p.2 ∙ append_assoc p.0 p.1 later, p.3, CommitsForAll-append e.state e.count es fs p.1 later p.4 q)
+
+pub commits-append : (s : State) (count : ℕ) (lines : List Line) (replies : List (List ℕ)) (mid : State) (between : ℕ) (lines' : List Line) (replies' : List (List ℕ)) (last : State) (after : ℕ)
+    (p : Session s count lines replies mid between) (q : Session mid between lines' replies' last after) (calls amid calls' : Option (List Call))
+    → Adds (CommitsForAll s count p.exchanges) calls amid → Adds (CommitsForAll mid between q.exchanges) amid calls'
+    → Adds (CommitsForAll s count (Session-append s count lines replies mid between lines' replies' last after p q).exchanges) calls calls'
+unfolding Session-append
+commits-append s count lines replies mid between lines' replies' last after p q calls amid calls' h k =
+    Adds-then (CommitsForAll s count p.exchanges) (CommitsForAll mid between q.exchanges) (CommitsForAll s count (p.exchanges ++ q.exchanges)) calls amid calls'
+    (λ first later f l. CommitsForAll-append s count p.exchanges q.exchanges first later f
+    (subst (λ c. CommitsForAll (last_state s p.exchanges) c q.exchanges later) (sym p.count_is) (subst (λ t. CommitsForAll t between q.exchanges later) (sym p.last_is) l))) h k
+
+-- the commit of a line
+pub commits-one : (s : State) (count : ℕ) (l : Line) (reply : List ℕ) (last : State) (after : ℕ) (step : Step s count l reply last after) (calls calls' : Option (List Call))
+    → Adds (CommitsFor s count (record { line = l; reply = reply; state = last; count = after })) calls calls' → Adds (CommitsForAll s count (Session-one s count l reply last after step).exchanges) calls calls'
+unfolding Session-one
+commits-one s count l reply last after step calls calls' h =
+    Adds-weaker (CommitsFor s count (record { line = l; reply = reply; state = last; count = after })) (CommitsForAll s count (record { line = l; reply = reply; state = last; count = after } ∷ [])) calls calls'
+    (λ mine m. (mine, [], sym (append-nil mine), m, refl)) h
 
 -- ---- counts
 

@@ -27,7 +27,7 @@ last_three-append before (a ∷ b ∷ c ∷ d ∷ replies) h = absurd (omega (ar
 
 -- with the reads at its end, the rehearsal is told by its summary
 pub Rehearsed-Passed : (a b c : Point) (lines : List Line) (replies : List (List ℕ)) (shown : Shown) (told : List ℕ) → a.tally ≡ record { accepted = 0; refused = 0 } → Passed a lines replies b → Shows b read_lines shown c
-    → told ≡ summary_line c.tally.accepted c.tally.refused (rows_data shown.albums shown.tracks shown.stock) c.state.version → Rehearsed a.state a.faults (lines ++ read_lines) told c.state c.faults a.walked c.walked
+    → told ≡ summary_line c.tally.accepted c.tally.refused (rows_data shown.albums shown.tracks shown.stock) c.state.version → Rehearsed a.state a.faults (lines ++ read_lines) told c.state c.faults a.calls c.calls a.walked c.walked
 unfolding summary
 Rehearsed-Passed a b c lines replies shown told zero p q is =
     let all = Passed-append a b c lines read_lines replies q.0 p q.1 in
@@ -41,5 +41,6 @@ Rehearsed-Passed a b c lines replies shown told zero p q is =
       session = all.session;
       found_memory = all.found_memory;
       told_is = is ∙ (λ i. summary_line (accepted i) (refused i) (rows i) c.state.version);
+      commits = all.commits;
       few = all.few;
     }

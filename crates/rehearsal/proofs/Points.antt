@@ -4,18 +4,21 @@ use Rattle.std.specs.Prelude.{None, Some, Option, Result, Ok, Err, OnErr, Bool, 
 use Rattle.std.specs.List.{AllByRecursion}
 use Rattle.std.proofs.lemmas.List.Sums.{sum_by-append, count_by-le-length}
 use Rattle.lens_specs.specs.Keeping.{Kept, Follows, Tells}
+use Rattle.io_specs.specs.Calls.{Adds}
 use Rattle.io_specs.specs.Lines.{Line}
+use Rattle.io_specs.proofs.Calls.{Adds-none}
 use Rattle.server_specs.specs.State.{State, kept}
 use Rattle.server_specs.specs.Answer.{memory, text}
 use Rattle.server_specs.specs.Session.{Step}
 use Rattle.server_specs.specs.Request.{request}
 use Rattle.server_specs.proofs.Sessions.{Session-nil}
+use Rattle.lens_server.specs.Committing.{CommitsFor}
 use Rattle.lens_server.specs.Counting.{most_walked}
 use Rattle.rehearsal.specs.Summary.{is_ok, is_refusal}
 use Rattle.rehearsal.specs.Rehearsed.{Stopped}
 use Rattle.rehearsal.specs.Stages.{Point, Passed, Halted, HasRoom, counted}
 use Rattle.rehearsal.specs.declared.tally.Tally.{Tally}
-use Rattle.rehearsal.proofs.Joined.{Session-append, Session-one, few-append, few-one, version-session, later-session, length-replies}
+use Rattle.rehearsal.proofs.Joined.{Session-append, Session-one, commits-append, commits-one, few-append, few-one, version-session, later-session, length-replies}
 
 -- ---- what is kept
 
@@ -71,7 +74,7 @@ counted-one t t' accepts reply is same =
 
 -- nothing was answered yet
 pub Passed-nil : (p : Point) → Tells p.contents (kept p.state) → Passed p [] [] p
-Passed-nil p told = record { session = Session-nil p.state p.faults; found_memory = tt; counted_are = counted-nil p.tally; stored = stored_same p.state p.contents told; few = omega arith }
+Passed-nil p told = record { session = Session-nil p.state p.faults; found_memory = tt; counted_are = counted-nil p.tally; stored = stored_same p.state p.contents told; commits = Adds-none _ p.calls refl; few = omega arith }
 
 -- a stage after another
 pub Passed-append : (a b c : Point) (lines lines' : List Line) (replies replies' : List (List ℕ)) → Passed a lines replies b → Passed b lines' replies' c → Passed a (lines ++ lines') (replies ++ replies') c
@@ -80,17 +83,20 @@ Passed-append a b c lines lines' replies replies' p q = record {
   found_memory = AllByRecursion-append _ replies replies' p.found_memory q.found_memory;
   counted_are = q.counted_are ∙ ap (λ t. counted t replies') p.counted_are ∙ counted-append a.tally replies replies';
   stored = stored_next b.state c.state a.contents b.contents c.contents p.stored q.stored;
+  commits = commits-append a.state a.faults lines replies b.state b.faults lines' replies' c.state c.faults p.session q.session a.calls b.calls c.calls p.commits q.commits;
   few = few-append a.state a.faults lines replies b.state b.faults lines' replies' c.state c.faults p.session q.session a.walked b.walked c.walked p.few q.few;
 }
 
 -- a line was answered, and its reply was counted
 pub Passed-step : (a b : Point) (l : Line) (reply : List ℕ) → Step a.state a.faults l reply b.state b.faults → reply ≢ text memory → b.tally ≡ counted a.tally (reply ∷ [])
-    → IsStored b.state a.contents b.contents → b.walked ≤ a.walked + most_walked (request l) a.state → Passed a (l ∷ []) (reply ∷ []) b
-Passed-step a b l reply step found count stored few = record {
+    → IsStored b.state a.contents b.contents → Adds (CommitsFor a.state a.faults (record { line = l; reply = reply; state = b.state; count = b.faults })) a.calls b.calls → b.walked ≤ a.walked + most_walked (request l) a.state
+    → Passed a (l ∷ []) (reply ∷ []) b
+Passed-step a b l reply step found count stored commits few = record {
   session = Session-one a.state a.faults l reply b.state b.faults step;
   found_memory = (found, tt);
   counted_are = count;
   stored = stored;
+  commits = commits-one a.state a.faults l reply b.state b.faults step a.calls b.calls commits;
   few = few-one a.state a.faults l reply b.state b.faults step a.walked b.walked few;
 }
 
@@ -123,22 +129,23 @@ on_err (Err e) P p = p
 
 -- before the first line
 pub Halted-first : (p : Point) (lines : List Line) → Tells p.contents (kept p.state) → Halted p lines p
-Halted-first p lines told = record { taken = []; rest = lines; front = refl; replies = []; session = Session-nil p.state p.faults; stored = stored_same p.state p.contents told; few = omega arith }
+Halted-first p lines told = record { taken = []; rest = lines; front = refl; replies = []; session = Session-nil p.state p.faults; stored = stored_same p.state p.contents told; commits = Adds-none _ p.calls refl; few = omega arith }
 
 -- after the last line
 pub Halted-last : (a b : Point) (lines : List Line) (replies : List (List ℕ)) → Passed a lines replies b → Halted a lines b
-Halted-last a b lines replies p = record { taken = lines; rest = []; front = append-nil lines; replies = replies; session = p.session; stored = p.stored; few = p.few }
+Halted-last a b lines replies p = record { taken = lines; rest = []; front = append-nil lines; replies = replies; session = p.session; stored = p.stored; commits = p.commits; few = p.few }
 
 -- at a line that was answered
 pub Halted-step : (a b : Point) (l : Line) (reply : List ℕ) → Step a.state a.faults l reply b.state b.faults → IsStored b.state a.contents b.contents
-    → b.walked ≤ a.walked + most_walked (request l) a.state → Halted a (l ∷ []) b
-Halted-step a b l reply step stored few = record {
+    → Adds (CommitsFor a.state a.faults (record { line = l; reply = reply; state = b.state; count = b.faults })) a.calls b.calls → b.walked ≤ a.walked + most_walked (request l) a.state → Halted a (l ∷ []) b
+Halted-step a b l reply step stored commits few = record {
   taken = l ∷ [];
   rest = [];
   front = refl;
   replies = reply ∷ [];
   session = Session-one a.state a.faults l reply b.state b.faults step;
   stored = stored;
+  commits = commits-one a.state a.faults l reply b.state b.faults step a.calls b.calls commits;
   few = few-one a.state a.faults l reply b.state b.faults step a.walked b.walked few;
 }
 
@@ -151,6 +158,7 @@ Halted-early a b lines later h = record {
   replies = h.replies;
   session = h.session;
   stored = h.stored;
+  commits = h.commits;
   few = h.few;
 }
 
@@ -163,11 +171,12 @@ Halted-after a b c lines lines' replies p h = record {
   replies = replies ++ h.replies;
   session = Session-append a.state a.faults lines replies b.state b.faults h.taken h.replies c.state c.faults p.session h.session;
   stored = stored_next b.state c.state a.contents b.contents c.contents p.stored h.stored;
+  commits = commits-append a.state a.faults lines replies b.state b.faults h.taken h.replies c.state c.faults p.session h.session a.calls b.calls c.calls p.commits h.commits;
   few = few-append a.state a.faults lines replies b.state b.faults h.taken h.replies c.state c.faults p.session h.session a.walked b.walked c.walked p.few h.few;
 }
 
-pub Stopped-Halted : (a b : Point) (lines : List Line) → Halted a lines b → Stopped a.state a.faults lines b.state b.faults a.walked b.walked
-Stopped-Halted a b lines h = record { taken = h.taken; rest = h.rest; front = h.front; replies = h.replies; session = h.session; few = h.few }
+pub Stopped-Halted : (a b : Point) (lines : List Line) → Halted a lines b → Stopped a.state a.faults lines b.state b.faults a.calls b.calls a.walked b.walked
+Stopped-Halted a b lines h = record { taken = h.taken; rest = h.rest; front = h.front; replies = h.replies; session = h.session; commits = h.commits; few = h.few }
 
 pub later-Passed : (a b : Point) (lines : List Line) (replies : List (List ℕ)) → Passed a lines replies b → a.faults ≤ b.faults
 later-Passed a b lines replies p = later-session a.state a.faults lines replies b.state b.faults p.session

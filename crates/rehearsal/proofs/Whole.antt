@@ -84,7 +84,7 @@ Halted-summary a b c d e n shown p q r s = Halted-reads a b c d e n p q r (Halte
 
 pub Rehearsed-reads : (a b c d e : Point) (n : ℕ) (shown : Shown) (told : List ℕ) → a.tally ≡ record { accepted = 0; refused = 0 } → Passes a definition_lines b → Passes b (tables n) c → Passes c (views n) d
     → Shows d read_lines shown e → told ≡ summary_line e.tally.accepted e.tally.refused (rows_data shown.albums shown.tracks shown.stock) e.state.version
-    → Rehearsed a.state a.faults (rehearsal n) told e.state e.faults a.walked e.walked
+    → Rehearsed a.state a.faults (rehearsal n) told e.state e.faults a.calls e.calls a.walked e.walked
 unfolding rehearsal
 Rehearsed-reads a b c d e n shown told zero p q r s is =
     let three = Passes-three a b c d n p q r in

@@ -33,9 +33,11 @@ pub fn rehearse<K: Keeper, L: Ledger, M: Ledger>(
     requires room { server.old.version + 3 * number + 6 < 2 ^ 64 - 1 }
     requires told { Tells (K.contents keeper.old) (state.kept server.old) }
     ensures done { IfOk result (λ line. Rehearsed server.old (K.faults keeper.old)
-        (rehearsal number) line.items server.new (K.faults keeper.new) walked.old walked.new) }
+        (rehearsal number) line.items server.new (K.faults keeper.new) (K.calls keeper.old)
+        (K.calls keeper.new) walked.old walked.new) }
     ensures stopped { OnErr result (Stopped server.old (K.faults keeper.old)
-        (rehearsal number) server.new (K.faults keeper.new) walked.old walked.new) }
+        (rehearsal number) server.new (K.faults keeper.new) (K.calls keeper.old)
+        (K.calls keeper.new) walked.old walked.new) }
     ensures told { Follows (λ _ now. now ≡ state.kept server.new) (K.contents keeper.old)
         (K.contents keeper.new) }
     ensures later { K.faults keeper.old ≤ K.faults keeper.new }
@@ -61,13 +63,17 @@ fn define<K: Keeper, L: Ledger, M: Ledger>(
     requires room { HasRoom server.old.version tally.old 3 }
     requires told { Tells (K.contents keeper.old) (state.kept server.old) }
     ensures done { OnOk result (Passes
-        (at server.old (K.faults keeper.old) (K.contents keeper.old) tally.old walked.old)
+        (at server.old (K.faults keeper.old) (K.contents keeper.old)
+        (K.calls keeper.old) tally.old walked.old)
         definition_lines
-        (at server.new (K.faults keeper.new) (K.contents keeper.new) tally.new walked.new)) }
+        (at server.new (K.faults keeper.new) (K.contents keeper.new)
+        (K.calls keeper.new) tally.new walked.new)) }
     ensures halted { OnErr result (Halted
-        (at server.old (K.faults keeper.old) (K.contents keeper.old) tally.old walked.old)
+        (at server.old (K.faults keeper.old) (K.contents keeper.old)
+        (K.calls keeper.old) tally.old walked.old)
         definition_lines
-        (at server.new (K.faults keeper.new) (K.contents keeper.new) tally.new walked.new)) }
+        (at server.new (K.faults keeper.new) (K.contents keeper.new)
+        (K.calls keeper.new) tally.new walked.new)) }
     ensures place { K.place keeper.new ≡ K.place keeper.old }
 {
     let lines = definition_lines(alloc)?;
@@ -95,13 +101,17 @@ fn fill_tables<K: Keeper, L: Ledger, M: Ledger>(
     requires room { HasRoom server.old.version tally.old (2 * number) }
     requires told { Tells (K.contents keeper.old) (state.kept server.old) }
     ensures done { OnOk result (Passes
-        (at server.old (K.faults keeper.old) (K.contents keeper.old) tally.old walked.old)
+        (at server.old (K.faults keeper.old) (K.contents keeper.old)
+        (K.calls keeper.old) tally.old walked.old)
         (flat_map (table_lines number) (below number))
-        (at server.new (K.faults keeper.new) (K.contents keeper.new) tally.new walked.new)) }
+        (at server.new (K.faults keeper.new) (K.contents keeper.new)
+        (K.calls keeper.new) tally.new walked.new)) }
     ensures halted { OnErr result (Halted
-        (at server.old (K.faults keeper.old) (K.contents keeper.old) tally.old walked.old)
+        (at server.old (K.faults keeper.old) (K.contents keeper.old)
+        (K.calls keeper.old) tally.old walked.old)
         (flat_map (table_lines number) (below number))
-        (at server.new (K.faults keeper.new) (K.contents keeper.new) tally.new walked.new)) }
+        (at server.new (K.faults keeper.new) (K.contents keeper.new)
+        (K.calls keeper.new) tally.new walked.new)) }
     ensures place { K.place keeper.new ≡ K.place keeper.old }
 {
     for i in 0..number {
@@ -132,13 +142,17 @@ fn edit_view<K: Keeper, L: Ledger, M: Ledger>(
     requires room { HasRoom server.old.version tally.old number }
     requires told { Tells (K.contents keeper.old) (state.kept server.old) }
     ensures done { OnOk result (Passes
-        (at server.old (K.faults keeper.old) (K.contents keeper.old) tally.old walked.old)
+        (at server.old (K.faults keeper.old) (K.contents keeper.old)
+        (K.calls keeper.old) tally.old walked.old)
         (flat_map view_lines (below number))
-        (at server.new (K.faults keeper.new) (K.contents keeper.new) tally.new walked.new)) }
+        (at server.new (K.faults keeper.new) (K.contents keeper.new)
+        (K.calls keeper.new) tally.new walked.new)) }
     ensures halted { OnErr result (Halted
-        (at server.old (K.faults keeper.old) (K.contents keeper.old) tally.old walked.old)
+        (at server.old (K.faults keeper.old) (K.contents keeper.old)
+        (K.calls keeper.old) tally.old walked.old)
         (flat_map view_lines (below number))
-        (at server.new (K.faults keeper.new) (K.contents keeper.new) tally.new walked.new)) }
+        (at server.new (K.faults keeper.new) (K.contents keeper.new)
+        (K.calls keeper.new) tally.new walked.new)) }
     ensures place { K.place keeper.new ≡ K.place keeper.old }
 {
     for i in 0..number {
@@ -168,13 +182,17 @@ fn read_all<K: Keeper, L: Ledger, M: Ledger>(
     requires room { HasRoom server.old.version tally.old 3 }
     requires told { Tells (K.contents keeper.old) (state.kept server.old) }
     ensures done { IfOk result (λ shown. Shows
-        (at server.old (K.faults keeper.old) (K.contents keeper.old) tally.old walked.old)
+        (at server.old (K.faults keeper.old) (K.contents keeper.old)
+        (K.calls keeper.old) tally.old walked.old)
         read_lines shown
-        (at server.new (K.faults keeper.new) (K.contents keeper.new) tally.new walked.new)) }
+        (at server.new (K.faults keeper.new) (K.contents keeper.new)
+        (K.calls keeper.new) tally.new walked.new)) }
     ensures halted { OnErr result (Halted
-        (at server.old (K.faults keeper.old) (K.contents keeper.old) tally.old walked.old)
+        (at server.old (K.faults keeper.old) (K.contents keeper.old)
+        (K.calls keeper.old) tally.old walked.old)
         read_lines
-        (at server.new (K.faults keeper.new) (K.contents keeper.new) tally.new walked.new)) }
+        (at server.new (K.faults keeper.new) (K.contents keeper.new)
+        (K.calls keeper.new) tally.new walked.new)) }
     ensures place { K.place keeper.new ≡ K.place keeper.old }
 {
     let albums = read(alloc, server, keeper, "albums", walked, looked, tally)?;
@@ -201,13 +219,17 @@ fn read<K: Keeper, L: Ledger, M: Ledger>(
     requires room { HasRoom server.old.version tally.old 1 }
     requires told { Tells (K.contents keeper.old) (state.kept server.old) }
     ensures done { IfOk result (λ rows. Answers
-        (at server.old (K.faults keeper.old) (K.contents keeper.old) tally.old walked.old)
+        (at server.old (K.faults keeper.old) (K.contents keeper.old)
+        (K.calls keeper.old) tally.old walked.old)
         (read_line view.now) rows
-        (at server.new (K.faults keeper.new) (K.contents keeper.new) tally.new walked.new)) }
+        (at server.new (K.faults keeper.new) (K.contents keeper.new)
+        (K.calls keeper.new) tally.new walked.new)) }
     ensures halted { OnErr result (Halted
-        (at server.old (K.faults keeper.old) (K.contents keeper.old) tally.old walked.old)
+        (at server.old (K.faults keeper.old) (K.contents keeper.old)
+        (K.calls keeper.old) tally.old walked.old)
         (read_line view.now ∷ [])
-        (at server.new (K.faults keeper.new) (K.contents keeper.new) tally.new walked.new)) }
+        (at server.new (K.faults keeper.new) (K.contents keeper.new)
+        (K.calls keeper.new) tally.new walked.new)) }
     ensures place { K.place keeper.new ≡ K.place keeper.old }
 {
     let line = read_line(alloc, view)?;
@@ -235,13 +257,17 @@ fn ask_each<K: Keeper, L: Ledger, M: Ledger>(
     requires room { HasRoom server.old.version tally.old (length lines.now) }
     requires told { Tells (K.contents keeper.old) (state.kept server.old) }
     ensures done { OnOk result (Passes
-        (at server.old (K.faults keeper.old) (K.contents keeper.old) tally.old walked.old)
+        (at server.old (K.faults keeper.old) (K.contents keeper.old)
+        (K.calls keeper.old) tally.old walked.old)
         (map (λ line. marked (string_bytes line)) lines.now)
-        (at server.new (K.faults keeper.new) (K.contents keeper.new) tally.new walked.new)) }
+        (at server.new (K.faults keeper.new) (K.contents keeper.new)
+        (K.calls keeper.new) tally.new walked.new)) }
     ensures halted { OnErr result (Halted
-        (at server.old (K.faults keeper.old) (K.contents keeper.old) tally.old walked.old)
+        (at server.old (K.faults keeper.old) (K.contents keeper.old)
+        (K.calls keeper.old) tally.old walked.old)
         (map (λ line. marked (string_bytes line)) lines.now)
-        (at server.new (K.faults keeper.new) (K.contents keeper.new) tally.new walked.new)) }
+        (at server.new (K.faults keeper.new) (K.contents keeper.new)
+        (K.calls keeper.new) tally.new walked.new)) }
     ensures place { K.place keeper.new ≡ K.place keeper.old }
 {
     for line in lines {
@@ -271,13 +297,17 @@ fn ask<K: Keeper, L: Ledger, M: Ledger>(
     requires room { HasRoom server.old.version tally.old 1 }
     requires told { Tells (K.contents keeper.old) (state.kept server.old) }
     ensures done { IfOk result (λ rows. Answers
-        (at server.old (K.faults keeper.old) (K.contents keeper.old) tally.old walked.old)
+        (at server.old (K.faults keeper.old) (K.contents keeper.old)
+        (K.calls keeper.old) tally.old walked.old)
         (marked line.now) rows
-        (at server.new (K.faults keeper.new) (K.contents keeper.new) tally.new walked.new)) }
+        (at server.new (K.faults keeper.new) (K.contents keeper.new)
+        (K.calls keeper.new) tally.new walked.new)) }
     ensures halted { OnErr result (Halted
-        (at server.old (K.faults keeper.old) (K.contents keeper.old) tally.old walked.old)
+        (at server.old (K.faults keeper.old) (K.contents keeper.old)
+        (K.calls keeper.old) tally.old walked.old)
         (marked line.now ∷ [])
-        (at server.new (K.faults keeper.new) (K.contents keeper.new) tally.new walked.new)) }
+        (at server.new (K.faults keeper.new) (K.contents keeper.new)
+        (K.calls keeper.new) tally.new walked.new)) }
     ensures place { K.place keeper.new ≡ K.place keeper.old }
 {
     let reply = server.answer(alloc, keeper, line, walked, looked);

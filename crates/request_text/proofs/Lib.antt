@@ -1,3 +1,4 @@
+pub mod Batched
 pub mod Columns
 pub mod Entries
 pub mod Faults
@@ -6,6 +7,7 @@ pub mod Lines
 pub mod Members
 pub mod Objects
 pub mod Others
+pub mod Places
 pub mod Rising
 pub mod Said
 pub mod Sending

@@ -3,8 +3,8 @@ use Rattle.std.proofs.Common.{◌≡◌, ◌∙◌, ℕ, List, [], ◌∷◌, tr
 use Rattle.std.specs.Prelude.{Option, Some, None, option_map, option_and_then, unwrap_or, is_some, not, find, codes}
 use Rattle.std.specs.List.{AllByRecursion}
 use Rattle.serde_json.specs.Data.{Data, Items, Members, no_items, null}
-use Rattle.serde_json.specs.Find.{get_member, as_array}
-use Rattle.server_specs.specs.Request.{Request, define, read, find_at, put, edit, preview, describe, Asked, to_define, to_read, to_find, to_put, to_edit, to_preview, to_describe, to_list, Wanted, is_wrong, first_wrong, first_other, is_wanted, lesser, least_wrong, wanted, said, text_in, name_in}
+use Rattle.serde_json.specs.Find.{get_member, as_array, as_str}
+use Rattle.server_specs.specs.Request.{Request, define, read, find_at, put, edit, preview, describe, batch, export, import, Asked, to_define, to_read, to_find, to_put, to_edit, to_preview, to_describe, to_list, to_batch, to_undo, to_export, to_import, edits_in, Wanted, is_wrong, first_wrong, first_other, is_wanted, lesser, least_wrong, wanted, said, text_in, name_in}
 use Rattle.request_text.specs.Requests.{said_in, on_in}
 
 present : {X : Type 0} (f : Data → Option X) (x : X) (d : Data) → not (is_some (f d)) ≡ false → f d ≡ Some (unwrap_or (f d) x)
@@ -87,6 +87,18 @@ said_right to_describe ms h =
     let right = nth_right ms (wanted to_describe) (all_right to_describe ms h) in
     ap (option_map describe) (is_there name_in [] (codes "view") ms right.1.0)
 said_right to_list ms h = refl
+said_right to_batch ms h =
+    let right = nth_right ms (wanted to_batch) (all_right to_batch ms h) in
+    ap (option_map (λ edits. batch edits (on_in ms))) (is_there edits_in [] (codes "edits") ms right.1.0)
+said_right to_undo ms h = refl
+said_right to_export ms h =
+    let right = nth_right ms (wanted to_export) (all_right to_export ms h) in
+    ap (option_map export) (is_there name_in [] (codes "view") ms right.1.0)
+said_right to_import ms h =
+    let right = nth_right ms (wanted to_import) (all_right to_import ms h) in
+    let view = is_there name_in [] (codes "view") ms right.1.1.1.0 in
+    let text = is_there as_str [] (codes "csv") ms right.0 in
+    (λ i. option_and_then (λ v. option_map (λ t. import v t (on_in ms)) (text i)) (view i))
 
 -- no request is missing, then
 pub said_none : (a : Asked) (ms : Members) (found : Option Request) → least_wrong a ms ≡ None → found ≡ said_in a ms → found ≡ None → ⊥

@@ -1,7 +1,9 @@
 -- What the answers of the code stand for.
+use Rattle.std.specs.Prelude.{ℕ, Option, Some, None}
 use Rattle.lens_specs.specs.Predicate.{Predicate}
 use Rattle.lens_specs.specs.Refusal as refusal
 use Rattle.server_specs.specs.Answer as spec
+use Rattle.server_specs.specs.EditRefusal as refusals
 use Rattle.lens_pred.specs.View.{predicate_view}
 use Rattle.lens_pred.specs.declared.formula.Formulas.{Formulas, out-Formulas}
 use Rattle.view_lang.specs.declared.definition.Side.{Side}
@@ -9,7 +11,9 @@ use Rattle.view_lang.specs.declared.definition.Side.TheVariants.{Left, Right}
 use Rattle.view_lang.specs.declared.definition.Limit.{Limit}
 use Rattle.view_lang.specs.declared.definition.Limit.TheVariants.{Columns, Lens, Predicate as PredicateNodes, Nesting, Tables, Views}
 use Rattle.request_text.specs.declared.answer.Answer.{Answer}
-use Rattle.request_text.specs.declared.answer.Answer.TheVariants.{Defined, Shown, Changed, Described, Listed, Memory, TooLong, NotJson, BadRequest, Syntax, NameTaken, UnknownName, UnknownColumn, KindClash, NotTree, PredKind, SourceMentionsOutput, NoSuchDependency, MixedConjunct, DefaultRefused, NotDetermined, SideMentionsOutput, TableTwice, ColumnTaken, TooLarge, BadRow, Stale, OffPredicate, Clash, StoreFault}
+use Rattle.request_text.specs.declared.answer.Answer.TheVariants.{Defined, Shown, Changed, Described, Listed, Memory, TooLong, NotJson, BadRequest, Syntax, NameTaken, UnknownName, UnknownColumn, KindClash, NotTree, PredKind, SourceMentionsOutput, NoSuchDependency, MixedConjunct, DefaultRefused, NotDetermined, SideMentionsOutput, TableTwice, ColumnTaken, TooLarge, BadRow, Stale, OffPredicate, Clash, InEdit, NothingToUndo, Exported, NullableColumn, BadRecord, StoreFault}
+use Rattle.request_text.specs.declared.answer.EditRefusal.{EditRefusal}
+use Rattle.request_text.specs.declared.answer.EditRefusal.TheVariants as why
 use Rattle.request_text.specs.declared.answer.RowList.{RowList}
 use Rattle.request_text.specs.declared.answer.RowList.TheVariants.{Rows, Remove, Add}
 
@@ -36,6 +40,19 @@ limit_view Views = refusal.views_limit
 -- the conjuncts that the list has, in its order
 abbrev pub conjuncts_view : Formulas → Predicate
 conjuncts_view list = predicate_view (out-Formulas list).list.items
+
+-- why an edit is refused, as the definitions have it
+abbrev pub edit_refusal_view : EditRefusal → refusals.EditRefusal
+edit_refusal_view (why.UnknownName name) = refusals.unknown_name name
+edit_refusal_view (why.BadRow list index col) = refusals.bad_row (list_view list) index col
+edit_refusal_view (why.Stale changed_at version) = refusals.stale changed_at version
+edit_refusal_view (why.OffPredicate row) = refusals.off_predicate row
+edit_refusal_view (why.Clash edge first second) = refusals.clash edge first second
+
+-- the answer that refuses an edit, at its place if it is one of a batch
+abbrev pub refused_in : Option ℕ → refusals.EditRefusal → spec.Answer
+refused_in None refusal = spec.told refusal
+refused_in (Some edit) refusal = spec.in_edit edit refusal
 
 -- the answer that the definitions speak of
 abbrev pub answer_view : Answer → spec.Answer
@@ -68,4 +85,9 @@ answer_view (BadRow list index col) = spec.bad_row (list_view list) index col
 answer_view (Stale changed_at version) = spec.stale changed_at version
 answer_view (OffPredicate row) = spec.off_predicate row
 answer_view (Clash edge first second) = spec.clash edge first second
+answer_view (InEdit edit refusal) = spec.in_edit edit (edit_refusal_view refusal)
+answer_view NothingToUndo = spec.nothing_to_undo
+answer_view (Exported csv version) = spec.exported csv version
+answer_view (NullableColumn col) = spec.nullable_column col
+answer_view (BadRecord place) = spec.bad_record place
 answer_view StoreFault = spec.store_fault

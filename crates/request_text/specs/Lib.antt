@@ -8,3 +8,5 @@ pub mod Requests
 pub mod RowFaults
 pub mod Told
 pub mod RequestFields
+pub mod Edits
+pub mod EditsCode

@@ -1,6 +1,6 @@
 -- The tokens that a call adds to a writer, and the line of a JSON value.
-use Rattle.std.specs.Prelude.{◌≡◌, ℕ, List, [], ◌∷◌, ◌++◌}
-use Rattle.json.specs.Token.{Token}
+use Rattle.std.specs.Prelude.{◌≡◌, ℕ, List, [], ◌∷◌, ◌++◌, Option, Some, None, codes, decimal}
+use Rattle.json.specs.Token.{Token, key, number}
 use Rattle.json.specs.Tree.{json_tokens}
 use Rattle.json.specs.Written.{Written}
 use Rattle.serde_json.specs.Data.{Data}
@@ -14,6 +14,11 @@ data_tokens d = json_tokens (outline d)
 pub record Adds (old new : Written) (tokens : List Token) : Type 0 where
   pub before : new.before ≡ old.before
   pub after : new.tokens ≡ old.tokens ++ tokens
+
+-- the tokens of the place of an edit in its batch, if it is one of a batch
+abbrev pub place_tokens : Option ℕ → List Token
+place_tokens None = []
+place_tokens (Some edit) = key (codes "edit") ∷ number (decimal edit) ∷ []
 
 -- compact JSON and a newline
 abbrev pub json_line : Data → List ℕ

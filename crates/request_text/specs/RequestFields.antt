@@ -17,6 +17,10 @@ kind_view variant.Edit = spec.to_edit
 kind_view variant.Preview = spec.to_preview
 kind_view variant.Describe = spec.to_describe
 kind_view variant.List = spec.to_list
+kind_view variant.Batch = spec.to_batch
+kind_view variant.Undo = spec.to_undo
+kind_view variant.Export = spec.to_export
+kind_view variant.Import = spec.to_import
 
 -- the shape that a member must have
 abbrev pub shape_view : Shape → spec.Shape
@@ -26,6 +30,7 @@ shape_view shape.Name = spec.a_name
 shape_view shape.Rows = spec.some_rows
 shape_view shape.Version = spec.a_version
 shape_view shape.Value = spec.a_value
+shape_view shape.Edits = spec.some_edits
 
 -- a member of a request
 abbrev pub field_view : Field → spec.Wanted

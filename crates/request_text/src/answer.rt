@@ -1,23 +1,26 @@
 //! Answers, and the line of each.
-ghost use Rattle.std.specs.Prelude.{◌≡◌, IfOk};
-ghost use Rattle.server_specs.specs.Answer.{text};
-ghost use Rattle.request_text.specs.Answers.{answer_view};
+ghost use Rattle.std.specs.Prelude.{◌≡◌, IfOk, Some};
+ghost use Rattle.server_specs.specs.Answer.{text, told};
+ghost use Rattle.request_text.specs.Answers.{answer_view, edit_refusal_view, refused_in};
 
 use crate::changes::changed_text;
 use crate::definition_errors::{
     column_taken_text, default_refused_text, kind_clash_text, mixed_conjunct_text, name_taken_text,
     no_such_dependency_text, not_determined_text, not_tree_text, pred_kind_text,
     side_mentions_output_text, source_mentions_output_text, syntax_text, table_twice_text,
-    too_large_text, unknown_column_text, unknown_name_text,
+    too_large_text, unknown_column_text,
 };
 use crate::definitions::defined_text;
-use crate::lists::{Changes, Edges, Texts};
+use crate::lists::{Changes, CsvText, Edges, Texts};
 use crate::member::Member;
 use crate::questions::{described_text, listed_text, shown_text};
-use crate::reply::{Reply, long_reply, memory_reply, not_json_reply, store_fault_reply};
-use crate::request_errors::{
-    bad_request_text, bad_row_text, clash_text, off_predicate_text, stale_text,
+use crate::reply::{
+    Reply, long_reply, memory_reply, not_json_reply, nothing_to_undo_reply, store_fault_reply,
 };
+use crate::request_errors::{
+    bad_request_text, bad_row_text, clash_text, off_predicate_text, stale_text, unknown_name_text,
+};
+use crate::sheets::{bad_record_text, exported_text, nullable_column_text};
 use fd_tree::Edge;
 use lens_pred::Formulas;
 use lens_values::{Columns, Name, Names, NoMemory, Row};
@@ -36,6 +39,38 @@ pub enum RowList {
     Add,
 }
 
+/// Why an edit of a view is refused.
+#[derive(Debug, Drop)]
+pub enum EditRefusal {
+    /// No table and no view has the name.
+    UnknownName {
+        name: Name,
+    },
+    /// The first element of a list that is no row of the columns, and its least wrong name.
+    BadRow {
+        list: RowList,
+        index: usize,
+        col: Member,
+    },
+    /// The change rests on a version before the last change of the view's tables, or on one that is
+    /// yet to come; the version of that last change, and the one now.
+    Stale {
+        changed_at: u64,
+        version: u64,
+    },
+    /// The least row of the new view that the view's predicate refuses.
+    OffPredicate {
+        row: Row,
+    },
+    /// The first dependency that the rows of the new view break, and the least two rows that break
+    /// it, in order.
+    Clash {
+        edge: Edge,
+        first: Row,
+        second: Row,
+    },
+}
+
 /// The answer to a line.
 #[derive(Debug, Drop)]
 pub enum Answer {
@@ -48,8 +83,8 @@ pub enum Answer {
         rows: RowSet,
         version: u64,
     },
-    /// What a put or an edit changed, and the version after it; or what a preview would change, and
-    /// the version now.
+    /// What a put, an import, an edit, a batch or an undo changed, and the version after it; or what a
+    /// preview would change, and the version now.
     Changed {
         changed: Changes,
         version: u64,
@@ -168,8 +203,79 @@ pub enum Answer {
         first: Row,
         second: Row,
     },
+    /// The first edit of a batch that is refused, its place from 0, and why.
+    InEdit {
+        edit: usize,
+        refusal: EditRefusal,
+    },
+    /// No change is left that can be undone.
+    NothingToUndo,
+    /// The rows of a view as CSV, and the version at which they were read.
+    Exported {
+        csv: CsvText,
+        version: u64,
+    },
+    /// The least column of the view that may be null. CSV has no null.
+    NullableColumn {
+        col: Name,
+    },
+    /// The place of the first wrong record of an import, from 0; the first record is the header.
+    BadRecord {
+        place: usize,
+    },
     /// The store failed.
     StoreFault,
+}
+
+impl EditRefusal {
+    /// The answer to a put, an import, an edit or a preview that is refused so.
+    pub fn into_answer(self) -> Answer
+        ensures { answer_view result ≡ told (edit_refusal_view self) }
+    {
+        match self {
+            EditRefusal::UnknownName { name } => Answer::UnknownName { name },
+            EditRefusal::BadRow { list, index, col } => Answer::BadRow { list, index, col },
+            EditRefusal::Stale {
+                changed_at,
+                version,
+            } => Answer::Stale {
+                changed_at,
+                version,
+            },
+            EditRefusal::OffPredicate { row } => Answer::OffPredicate { row },
+            EditRefusal::Clash {
+                edge,
+                first,
+                second,
+            } => Answer::Clash {
+                edge,
+                first,
+                second,
+            },
+        }
+    }
+}
+
+// The line that refuses the edit at this place of a batch.
+fn edit_text(alloc: Global, place: usize, refusal: &EditRefusal) -> Result<Reply, NoMemory>
+    ensures { IfOk result (λ reply.
+        reply ≡ text (refused_in (Some place) (edit_refusal_view refusal.now))) }
+{
+    let edit = Some(place);
+    match refusal {
+        EditRefusal::UnknownName { name } => unknown_name_text(alloc, edit, name),
+        EditRefusal::BadRow { list, index, col } => bad_row_text(alloc, edit, *list, *index, col),
+        EditRefusal::Stale {
+            changed_at,
+            version,
+        } => stale_text(alloc, edit, *changed_at, *version),
+        EditRefusal::OffPredicate { row } => off_predicate_text(alloc, edit, row),
+        EditRefusal::Clash {
+            edge,
+            first,
+            second,
+        } => clash_text(alloc, edit, edge, first, second),
+    }
 }
 
 /// The line of an answer, or `NoMemory`.
@@ -204,7 +310,7 @@ pub fn reply_text(alloc: Global, answer: &Answer) -> Result<Reply, NoMemory>
         Answer::BadRequest { member } => bad_request_text(alloc, member),
         Answer::Syntax { at } => syntax_text(alloc, *at),
         Answer::NameTaken { name } => name_taken_text(alloc, name),
-        Answer::UnknownName { name } => unknown_name_text(alloc, name),
+        Answer::UnknownName { name } => unknown_name_text(alloc, None, name),
         Answer::UnknownColumn { name } => unknown_column_text(alloc, name),
         Answer::KindClash { name } => kind_clash_text(alloc, name),
         Answer::NotTree { a, b } => not_tree_text(alloc, a, b),
@@ -218,17 +324,22 @@ pub fn reply_text(alloc: Global, answer: &Answer) -> Result<Reply, NoMemory>
         Answer::TableTwice { name } => table_twice_text(alloc, name),
         Answer::ColumnTaken { name } => column_taken_text(alloc, name),
         Answer::TooLarge { what } => too_large_text(alloc, *what),
-        Answer::BadRow { list, index, col } => bad_row_text(alloc, *list, *index, col),
+        Answer::BadRow { list, index, col } => bad_row_text(alloc, None, *list, *index, col),
         Answer::Stale {
             changed_at,
             version,
-        } => stale_text(alloc, *changed_at, *version),
-        Answer::OffPredicate { row } => off_predicate_text(alloc, row),
+        } => stale_text(alloc, None, *changed_at, *version),
+        Answer::OffPredicate { row } => off_predicate_text(alloc, None, row),
         Answer::Clash {
             edge,
             first,
             second,
-        } => clash_text(alloc, edge, first, second),
+        } => clash_text(alloc, None, edge, first, second),
+        Answer::InEdit { edit, refusal } => edit_text(alloc, *edit, refusal),
+        Answer::NothingToUndo => Ok(nothing_to_undo_reply()),
+        Answer::Exported { csv, version } => exported_text(alloc, csv, *version),
+        Answer::NullableColumn { col } => nullable_column_text(alloc, col),
+        Answer::BadRecord { place } => bad_record_text(alloc, *place),
         Answer::StoreFault => Ok(store_fault_reply()),
     }
 }

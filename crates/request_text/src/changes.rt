@@ -62,8 +62,8 @@ pub(crate) fn preview_in<'a>(members: Vec<Entry<'a>>) -> Option<Request<'a>>
     })
 }
 
-// The rows to remove and the rows to add.
-fn both_in<'a>(mut members: Vec<Entry<'a>>) -> Option<(JsonRows<'a>, JsonRows<'a>)>
+/// The rows to remove and the rows to add.
+pub(crate) fn both_in<'a>(mut members: Vec<Entry<'a>>) -> Option<(JsonRows<'a>, JsonRows<'a>)>
     ensures { result ≡ both_in (members_data members.entry.items) }
 {
     let remove = take_rows(&mut members, "remove")?;

@@ -31,13 +31,6 @@ pub(crate) fn name_taken_text(alloc: Global, name: &Name) -> Result<Reply, NoMem
     refuse_name(alloc, 21, name)
 }
 
-/// The line that refuses a name that no table and no view has.
-pub(crate) fn unknown_name_text(alloc: Global, name: &Name) -> Result<Reply, NoMemory>
-    ensures { IfOk result (λ reply. reply ≡ spec.text (spec.unknown_name name.now)) }
-{
-    refuse_name(alloc, 22, name)
-}
-
 /// The line that refuses a column that is not known.
 pub(crate) fn unknown_column_text(alloc: Global, name: &Name) -> Result<Reply, NoMemory>
     ensures { IfOk result (λ reply.
@@ -181,8 +174,8 @@ fn refuse_name(alloc: Global, number: u64, name: &Name) -> Result<Reply, NoMemor
     ended(out)
 }
 
-// The line of a refusal that names a column as `col`.
-fn refuse_column(alloc: Global, number: u64, col: &Name) -> Result<Reply, NoMemory>
+/// The line of a refusal that names a column as `col`.
+pub(crate) fn refuse_column(alloc: Global, number: u64, col: &Name) -> Result<Reply, NoMemory>
     ensures { IfOk result (λ reply. reply ≡ json_line (spec.error_with_column number col.now)) }
 {
     let mut out = begun(alloc)?;

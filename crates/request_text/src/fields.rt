@@ -4,11 +4,13 @@ ghost use Rattle.borrowed_json.specs.Meaning.{value_data, members_data};
 ghost use Rattle.server_specs.specs.Request as spec;
 ghost use Rattle.request_text.specs.RequestFields.{kind_view, shape_view, fields_of, field_view};
 
+use crate::batches::{TO_BATCH, is_edits};
 use crate::changes::{TO_EDIT, TO_PUT};
 use crate::definitions::TO_DEFINE;
 use crate::member::lesser;
 use crate::member_values::{is_text, name_member};
-use crate::questions::{TO_FIND, TO_LIST, TO_SHOW};
+use crate::questions::{TO_DO, TO_FIND, TO_SHOW};
+use crate::sheets::TO_IMPORT;
 use borrowed_json::{Entry, as_str, as_u64, member};
 use json::Value as Json;
 
@@ -23,6 +25,10 @@ pub(crate) enum RequestKind {
     Preview,
     Describe,
     List,
+    Batch,
+    Undo,
+    Export,
+    Import,
 }
 
 /// The shape that a member must have.
@@ -35,6 +41,7 @@ pub(crate) enum Shape {
     Version,
     // Any value.
     Value,
+    Edits,
 }
 
 /// A member of a request: its name, its shape, and whether it has to be there.
@@ -57,9 +64,21 @@ pub(crate) const COLUMN: Field = Field {
     needed: true,
 };
 
+pub(crate) const CSV: Field = Field {
+    name: "csv",
+    shape: Shape::Word,
+    needed: true,
+};
+
 pub(crate) const DO: Field = Field {
     name: "do",
     shape: Shape::Word,
+    needed: true,
+};
+
+pub(crate) const EDITS: Field = Field {
+    name: "edits",
+    shape: Shape::Edits,
     needed: true,
 };
 
@@ -113,6 +132,10 @@ impl RequestKind {
             "preview" => Some(RequestKind::Preview),
             "type" => Some(RequestKind::Describe),
             "list" => Some(RequestKind::List),
+            "batch" => Some(RequestKind::Batch),
+            "undo" => Some(RequestKind::Undo),
+            "export" => Some(RequestKind::Export),
+            "import" => Some(RequestKind::Import),
             _ => None,
         }
     }
@@ -122,11 +145,13 @@ impl RequestKind {
     {
         match self {
             RequestKind::Define => &TO_DEFINE,
-            RequestKind::Read | RequestKind::Describe => &TO_SHOW,
+            RequestKind::Read | RequestKind::Describe | RequestKind::Export => &TO_SHOW,
             RequestKind::Find => &TO_FIND,
             RequestKind::Put => &TO_PUT,
             RequestKind::Edit | RequestKind::Preview => &TO_EDIT,
-            RequestKind::List => &TO_LIST,
+            RequestKind::List | RequestKind::Undo => &TO_DO,
+            RequestKind::Batch => &TO_BATCH,
+            RequestKind::Import => &TO_IMPORT,
         }
     }
 }
@@ -171,10 +196,12 @@ fn has_shape(shape: Shape, json: &Json<'_>) -> bool
         Shape::Rows => matches!(json, Json::Array(_)),
         Shape::Version => as_u64(json).is_some(),
         Shape::Value => true,
+        Shape::Edits => is_edits(json),
     }
 }
 
-fn first_unknown<'a>(fields: &[Field], members: &[Entry<'a>]) -> Option<&'a str>
+/// The least member that none of the fields names.
+pub(crate) fn first_unknown<'a>(fields: &[Field], members: &[Entry<'a>]) -> Option<&'a str>
     ensures { option_map (λ name. name.now) result
         ≡ spec.first_other (spec.is_wanted (map field_view fields.now))
         (members_data members.now) }

@@ -2,6 +2,7 @@
 #![tactic(auto)]
 
 pub mod answer;
+mod batches;
 mod changes;
 mod definition_errors;
 mod definitions;
@@ -18,10 +19,11 @@ pub mod request;
 mod request_errors;
 mod request_members;
 pub mod rows;
+mod sheets;
 
-pub use answer::{Answer, RowList, reply_text};
+pub use answer::{Answer, EditRefusal, RowList, reply_text};
 pub use json_values::row_value;
-pub use lists::{Changes, Edges, JsonRows, JsonValue, Texts};
+pub use lists::{BatchEdit, BatchEdits, Changes, CsvText, Edges, JsonRows, JsonValue, Texts};
 pub use member::Member;
 pub use reply::{Reply, long_reply, memory_reply, store_fault_reply};
 pub use request::{Request, RequestFault, read_request};

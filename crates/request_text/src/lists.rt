@@ -1,13 +1,14 @@
-//! Lists that requests and answers hold, each seen by contracts as the list of its members.
-ghost use Rattle.std.specs.Prelude.{◌≡◌, IfOk, map};
+//! What requests and answers hold, each seen by contracts as the definitions speak of it.
+ghost use Rattle.std.specs.Prelude.{◌≡◌, IfOk, map, string_bytes};
 ghost use Rattle.signed_delta.specs.Tables.{table_delta};
 ghost use Rattle.borrowed_json.specs.Meaning.{items_data, value_data};
 ghost use Rattle.server_specs.specs.Sending.{value_in as value_said};
+ghost use Rattle.request_text.specs.Edits.{edit_view};
 
 use crate::rows::value_in;
 use fd_tree::Edge;
 use json::Value as Json;
-use lens_values::{Kind, NoMemory, Text, Value};
+use lens_values::{Kind, Name, NoMemory, Text, Value};
 use signed_delta::TableDelta;
 use std::alloc::Global;
 use std::marker::Model;
@@ -160,6 +161,59 @@ impl<'a> JsonValue<'a> {
     }
 }
 
+/// An edit of a batch. Its rows borrow the texts of its line.
+#[derive(Debug, Drop)]
+pub struct BatchEdit<'a> {
+    /// The view.
+    pub view: Name,
+    /// The rows to remove.
+    pub remove: JsonRows<'a>,
+    /// The rows to add.
+    pub add: JsonRows<'a>,
+}
+
+/// The edits of a batch, in order. A contract sees them as the definitions speak of them.
+#[derive(Debug, Drop)]
+pub struct BatchEdits<'a> {
+    list: Vec<BatchEdit<'a>>,
+}
+
+impl<'a> Model for BatchEdits<'a> {
+    ghost use Rattle.std.specs.Prelude.{List, map};
+    ghost use Rattle.server_specs.specs.Request as spec;
+    ghost use Rattle.request_text.specs.Edits.{edit_view};
+    ghost use Rattle.request_text.specs.EditsCode.{coded_edits};
+
+    ghost Value = { List spec.BatchEdit };
+
+    ghost coded = { coded_edits };
+
+    ghost view = { λ e. map edit_view e.list.items };
+}
+
+impl<'a> BatchEdits<'a> {
+    /// These edits.
+    pub fn new(list: Vec<BatchEdit<'a>>) -> BatchEdits<'a>
+        ensures { result ≡ map edit_view list.entry.items }
+    {
+        BatchEdits { list }
+    }
+
+    /// The edits in their order.
+    pub fn as_slice(&self) -> &[BatchEdit<'a>]
+        ensures { map edit_view result.now ≡ self.now }
+    {
+        self.list.as_slice()
+    }
+
+    /// The edits in their order, handed on without a copy.
+    pub fn into_list(self) -> Vec<BatchEdit<'a>>
+        ensures { map edit_view result.items ≡ self.entry }
+    {
+        self.list
+    }
+}
+
 /// Texts, in order. A contract sees the list of their bytes.
 #[derive(Debug, Drop)]
 pub struct Texts {
@@ -187,5 +241,42 @@ impl Texts {
         ensures { result.now ≡ self.now }
     {
         self.list.as_slice()
+    }
+}
+
+/// Rows as CSV, in a text of any length. A contract sees its bytes.
+#[derive(Debug, Drop)]
+pub struct CsvText {
+    text: String,
+}
+
+impl Model for CsvText {
+    ghost use Rattle.std.specs.Prelude.{List, ℕ, string_bytes};
+
+    ghost Value = { List ℕ };
+
+    ghost view = { λ c. string_bytes c.text };
+}
+
+impl CsvText {
+    /// The CSV of these bytes.
+    pub fn new(text: String) -> CsvText
+        ensures { result ≡ string_bytes text }
+    {
+        CsvText { text }
+    }
+
+    /// A copy of the text.
+    pub(crate) fn copy_of(alloc: Global, text: &str) -> Result<CsvText, NoMemory>
+        ensures { IfOk result (λ csv. csv ≡ text.now) }
+    {
+        Ok(CsvText::new(String::from_str(alloc, text)?))
+    }
+
+    /// The CSV as text.
+    pub fn as_str(&self) -> &str
+        ensures { result.now ≡ self.now }
+    {
+        self.text.as_str()
     }
 }

@@ -26,8 +26,8 @@ pub(crate) const TO_SHOW: [Field; 2] = [DO, VIEW];
 /// The members of a request to find, in byte order of their names.
 pub(crate) const TO_FIND: [Field; 4] = [COLUMN, DO, VALUE, VIEW];
 
-/// The one member of a request to list.
-pub(crate) const TO_LIST: [Field; 1] = [DO];
+/// The one member of a request to list, and of one to undo.
+pub(crate) const TO_DO: [Field; 1] = [DO];
 
 /// A request to read, if its view is there.
 pub(crate) fn read_in<'a>(members: &[Entry<'a>]) -> Option<Request<'a>>

@@ -1,6 +1,6 @@
 //! Reply lines.
 ghost use Rattle.std.specs.Prelude.{◌≡◌, codes};
-ghost use Rattle.server_specs.specs.Answer.{long_line, memory, not_json, store_fault, text};
+ghost use Rattle.server_specs.specs.Answer.{long_line, memory, not_json, nothing_to_undo, store_fault, text};
 
 use std::marker::Model;
 
@@ -70,6 +70,15 @@ pub(crate) fn not_json_reply() -> Reply
 {
     Reply {
         source: Source::Fixed(b"{\"error\":11,\"ok\":false}\n"),
+    }
+}
+
+/// The reply that no change is left to undo. It takes no memory.
+pub(crate) fn nothing_to_undo_reply() -> Reply
+    ensures { result ≡ text nothing_to_undo }
+{
+    Reply {
+        source: Source::Fixed(b"{\"error\":44,\"ok\":false}\n"),
     }
 }
 

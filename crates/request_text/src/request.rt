@@ -7,18 +7,20 @@ ghost use Rattle.server_specs.specs.Request as spec;
 ghost use Rattle.request_text.specs.Requests.{Reads, Tells, request_view, said_in};
 ghost use Rattle.request_text.specs.RequestFields.{kind_view};
 
+use crate::batches::batch_in;
 use crate::changes::{edit_in, preview_in, put_in};
 use crate::definitions::define_in;
 use crate::fields::{RequestKind, least_wrong};
-use crate::lists::{JsonRows, JsonValue};
+use crate::lists::{BatchEdits, CsvText, JsonRows, JsonValue};
 use crate::member::Member;
 use crate::questions::{describe_in, find_in, read_in};
+use crate::sheets::{export_in, import_in};
 use borrowed_json::{Entry, as_str, member, read_line};
 use json::{Scratch, Value as Json};
 use lens_values::{Name, NoMemory, Text};
 use std::alloc::{AllocError, AllocFailed, Global};
 
-/// One of the eight requests. Its rows and its value borrow the texts of its line.
+/// One of the twelve requests. Its rows and its value borrow the texts of its line.
 #[derive(Debug, Drop)]
 pub enum Request<'a> {
     /// To make the table or the view that the text defines.
@@ -61,6 +63,23 @@ pub enum Request<'a> {
     },
     /// To show the definitions.
     List,
+    /// To make these edits one after another, or none of them. The change may rest on a version.
+    Batch {
+        edits: BatchEdits<'a>,
+        on: Option<u64>,
+    },
+    /// To undo the last change.
+    Undo,
+    /// To show the rows of a view as CSV.
+    Export {
+        view: Name,
+    },
+    /// To make the rows of this CSV the rows of a view. The change may rest on a version.
+    Import {
+        view: Name,
+        csv: CsvText,
+        on: Option<u64>,
+    },
 }
 
 /// Why a line is no request.
@@ -210,5 +229,9 @@ fn said<'a>(
         RequestKind::Preview => Ok(preview_in(members)),
         RequestKind::Describe => Ok(describe_in(&members)),
         RequestKind::List => Ok(Some(Request::List)),
+        RequestKind::Batch => batch_in(alloc, members),
+        RequestKind::Undo => Ok(Some(Request::Undo)),
+        RequestKind::Export => Ok(export_in(&members)),
+        RequestKind::Import => import_in(alloc, &members),
     }
 }

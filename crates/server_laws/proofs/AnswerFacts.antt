@@ -1,6 +1,7 @@
 -- What every answer says of the state after it.
-use Rattle.std.proofs.Common.{◌≡◌, ◌+◌, ◌⊎◌, ℕ, Bool, true, false, List, [], ◌∷◌, Option, Some, None, Result, Ok, Err, inl, inr, refl, subst}
-use Rattle.std.specs.Prelude.{IfSome, codes}
+use Rattle.std.proofs.Common.{◌≡◌, ◌+◌, ◌-◌, ◌⊎◌, ℕ, zero, suc, length, Bool, true, false, List, [], ◌∷◌, Option, Some, None, Result, Ok, Err, inl, inr, refl, subst}
+use Rattle.std.specs.Prelude.{IfSome, codes, slice_get}
+use Rattle.std.specs.List.{AllByRecursion}
 use Rattle.std.specs.FinMap as finmap
 use Rattle.serde_json.specs.Data.{Data, null, boolean, number, string, array, object, Members}
 use Rattle.lens_values.specs.declared.row.Row.{Row}
@@ -8,10 +9,9 @@ use Rattle.lens_values.specs.declared.value.Kind.{Kind}
 use Rattle.lens_values.specs.declared.value.Value.{Value}
 use Rattle.lens_specs.specs.Names.{Name}
 use Rattle.lens_specs.specs.Relation.{Rows}
-use Rattle.lens_specs.specs.Dependencies.{Edge}
 use Rattle.lens_specs.specs.Sort.{off, Clash, clash as first_clash}
-use Rattle.lens_specs.specs.Lens.{Lens, sort_of, get}
-use Rattle.lens_specs.specs.Delta.{TableDelta, changes}
+use Rattle.lens_specs.specs.Lens.{Tables, Lens, sort_of, get, put as put_rows}
+use Rattle.lens_specs.specs.Delta.{TableDelta, changes, differences}
 use Rattle.lens_specs.specs.Refusal.{Refusal, too_large}
 use Rattle.io_specs.specs.Lines as lines
 use Rattle.io_specs.specs.Lines.{Line, line}
@@ -23,15 +23,24 @@ use Rattle.catalog_specs.specs.Catalogue.{catalogue}
 use Rattle.catalog_specs.specs.Judging as judging
 use Rattle.catalog_specs.specs.Judging.{CatalogFault, language, rule, judged}
 use Rattle.server_specs.specs.State.{State}
-use Rattle.server_specs.specs.Answer.{Answer, Listed, in_rows, in_remove, in_add, long_line, not_json, bad_request, syntax, name_taken, unknown_name, refused, bad_row, stale, off_predicate, clash}
-use Rattle.server_specs.specs.Request.{Request, define, read, find_at, put, edit, preview, describe, list, Asked, json_of, asked_in, unless_wrong, request_in, request_of, request_from, request}
+use Rattle.server_specs.specs.EditRefusal as refusals
+use Rattle.server_specs.specs.EditRefusal.{EditRefusal, Listed, in_rows, in_remove, in_add}
+use Rattle.server_specs.specs.Answer.{Answer, told, in_edit, nothing_to_undo, nullable_column, bad_record, long_line, not_json, bad_request, syntax, name_taken, unknown_name, refused}
+use Rattle.server_specs.specs.Request.{Request, define, read, find_at, put, edit, preview, describe, list, BatchEdit, batch, undo, export, import, Asked, json_of, asked_in, unless_wrong, request_in, request_of, request_from, request}
 use Rattle.server_specs.specs.Sending.{BadRow, rows_in, value_in}
 use Rattle.server_specs.specs.Questions.{about, find_told, finding_told, found_told, rows_told, sort_told}
 use Rattle.server_specs.specs.Defining.{limit_of, fault_answer, answer_definition}
 use Rattle.server_specs.specs.Changing.{Sent, whole, edited, as_set, set_in, edit_of, sent_view, is_stale, changed_at, unless_stale, unless_off, unless_clash, of_sort, tested, asked_view, accept, settled, foretold, changed_by}
+use Rattle.server_specs.specs.Batching.{at_tables, put_in, edit_tables, then_edits, edits_from, batch_settled}
+use Rattle.server_specs.specs.Undoing.{undone}
+use Rattle.server_specs.specs.Exporting.{first_nullable, sheet_told, read_settled, import_settled, imported_by}
+use Rattle.server_specs.specs.Validity.{IsDifference, Valid}
 use Rattle.server_specs.specs.Answering.{answer, answer_request}
-use Rattle.server_laws.specs.Answers.{IsRefusal, IsFailure, IsAccepted, IsChange, told_version}
+use Rattle.server_laws.specs.Answers.{IsRefusal, IsFailure, IsAccepted, IsChange, told_version, version_of_refusal}
 use Rattle.server_laws.specs.AnswerLaws.{IsQuestion}
+use Rattle.server_laws.specs.PutLaws.{AllFit}
+use Rattle.sheet_specs.specs.Sheets.{unsheet}
+use Rattle.sheet_specs.proofs.Fitting.{unsheet_fits}
 
 -- the answer r to a state s, where it may be only a question
 pub record IsSaid (s : State) (question : Type 0) (r : Answer × State) : Type 0 where
@@ -39,7 +48,7 @@ pub record IsSaid (s : State) (question : Type 0) (r : Answer × State) : Type 0
   pub refusal : IsRefusal r.0 → r.1 ≡ s
   pub failure : IsFailure r.0 → ⊥
   pub rises : (question → ⊥) → IsChange r.0 → r.1.version ≡ s.version + 1
-  pub stays : (IsChange r.0 → ⊥) → r.1 ≡ s
+  pub stays : Valid s → (IsChange r.0 → ⊥) → r.1 ≡ s
   pub told : IfSome (told_version r.0) (λ version. version ≡ r.1.version)
   pub moves : (r.1 ≡ s) ⊎ (r.1.version ≡ s.version + 1)
 
@@ -52,7 +61,7 @@ pub record IsTold (s : State) (a : Answer) : Type 0 where
 
 -- an answer to a question leaves the state
 said_question : (s : State) (a : Answer) → IsTold s a → IsSaid s (Unit {0}) (a, s)
-said_question s a t = record { asked = λ _. refl; refusal = λ _. refl; failure = t.failure; rises = λ h. absurd (h tt); stays = λ _. refl; told = t.version; moves = inl refl }
+said_question s a t = record { asked = λ _. refl; refusal = λ _. refl; failure = t.failure; rises = λ h. absurd (h tt); stays = λ _ _. refl; told = t.version; moves = inl refl }
 
 -- ---- refusals
 
@@ -65,7 +74,7 @@ pub record Refuses (s : State) (a : Answer) : Type 0 where
 
 said_refusal : (s : State) (a : Answer) → Refuses s a → IsSaid s ⊥ (a, s)
 said_refusal s a h =
-    record { asked = λ q. absurd q; refusal = λ _. refl; failure = h.told.failure; rises = λ _ c. absurd (h.change c); stays = λ _. refl; told = h.told.version; moves = inl refl }
+    record { asked = λ q. absurd q; refusal = λ _. refl; failure = h.told.failure; rises = λ _ c. absurd (h.change c); stays = λ _ _. refl; told = h.told.version; moves = inl refl }
 
 unknown_refuses : (s : State) (name : Name) → Refuses s (unknown_name name)
 unknown_refuses s name = record { told = record { failure = λ h. h; version = tt }; refusal = tt; accepted = λ h. h; change = λ h. h }
@@ -88,18 +97,6 @@ json_refuses s = record { told = record { failure = λ h. h; version = tt }; ref
 request_refuses : (s : State) (name : List ℕ) → Refuses s (bad_request name)
 request_refuses s name = record { told = record { failure = λ h. h; version = tt }; refusal = tt; accepted = λ h. h; change = λ h. h }
 
-bad_refuses : (s : State) (which : Listed) (index : ℕ) (name : List ℕ) → Refuses s (bad_row which index name)
-bad_refuses s which index name = record { told = record { failure = λ h. h; version = tt }; refusal = tt; accepted = λ h. h; change = λ h. h }
-
-stale_refuses : (s : State) (at : ℕ) → Refuses s (stale at s.version)
-stale_refuses s at = record { told = record { failure = λ h. h; version = refl }; refusal = tt; accepted = λ h. h; change = λ h. h }
-
-off_refuses : (s : State) (row : Row) → Refuses s (off_predicate row)
-off_refuses s row = record { told = record { failure = λ h. h; version = tt }; refusal = tt; accepted = λ h. h; change = λ h. h }
-
-clash_refuses : (s : State) (edge : Edge) (first second : Row) → Refuses s (clash edge first second)
-clash_refuses s edge first second = record { told = record { failure = λ h. h; version = tt }; refusal = tt; accepted = λ h. h; change = λ h. h }
-
 -- the one refusal is the other
 same_refuses : {A : Type 0} (s : State) (a b : Answer) → Refuses s a → ◌≡◌ {A = Result A Answer} (Err a) (Err b) → Refuses s b
 same_refuses s a b h e = let is : a ≡ b = cc in subst (Refuses s) is h
@@ -110,58 +107,163 @@ AllRefuse {A} s r = (a : Answer) → r ≡ Err a → Refuses s a
 
 -- ---- refusals of changes
 
-set_refuses : (s : State) (which : Listed) (r : Result (List Row) BadRow) → AllRefuse s (as_set which r)
-set_refuses s which (Ok rows) a e = cc
-set_refuses s which (Err bad) a e = same_refuses s (bad_row which bad.0 bad.1) a (bad_refuses s which bad.0 bad.1) e
+-- the version that it tells, if it tells one, is the state's
+abbrev pub IsPresent : State → EditRefusal → Type 0
+IsPresent s why = IfSome (version_of_refusal why) (λ version. version ≡ s.version)
 
-edit_refuses : (s : State) (old : Rows) (removed added : Result Rows Answer) → AllRefuse s removed → AllRefuse s added → AllRefuse s (edit_of old removed added)
-edit_refuses s old (Err bad) added h k a e = h a e
-edit_refuses s old (Ok R) (Err bad) h k a e = k a e
-edit_refuses s old (Ok R) (Ok A) h k a e = cc
+-- each refusal of it is such a one
+abbrev pub AllPresent : {A : Type 0} → State → Result A EditRefusal → Type 0
+AllPresent {A} s r = (why : EditRefusal) → r ≡ Err why → IsPresent s why
 
-sent_refuses : (s : State) (L : Lens) (sent : Sent) → AllRefuse s (sent_view sent L s)
-sent_refuses s L (whole rows) a e = set_refuses s in_rows (rows_in (sort_of L).columns rows) a e
-sent_refuses s L (edited remove add) a e =
-    edit_refuses s (get L s.tables) (set_in in_remove (sort_of L).columns remove) (set_in in_add (sort_of L).columns add)
-    (set_refuses s in_remove (rows_in (sort_of L).columns remove)) (set_refuses s in_add (rows_in (sort_of L).columns add)) a e
+same_present : {A : Type 0} (s : State) (why other : EditRefusal) → IsPresent s why → ◌≡◌ {A = Result A EditRefusal} (Err why) (Err other) → IsPresent s other
+same_present s why other h e = let is : why ≡ other = cc in subst (IsPresent s) is h
 
-stale_first : (s : State) (b : Bool) (at : ℕ) (later : Result Rows Answer) → AllRefuse s later → AllRefuse s (unless_stale b at s.version later)
-stale_first s true at later h a e = same_refuses s (stale at s.version) a (stale_refuses s at) e
-stale_first s false at later h a e = h a e
+set_present : (s : State) (which : Listed) (r : Result (List Row) BadRow) → AllPresent s (as_set which r)
+set_present s which (Ok rows) why e = cc
+set_present s which (Err bad) why e = same_present s (refusals.bad_row which bad.0 bad.1) why tt e
 
-off_first : (s : State) (o : Option Row) (later : Result Rows Answer) → AllRefuse s later → AllRefuse s (unless_off o later)
-off_first s None later h a e = h a e
-off_first s (Some row) later h a e = same_refuses s (off_predicate row) a (off_refuses s row) e
+edit_present : (s : State) (old : Rows) (removed added : Result Rows EditRefusal) → AllPresent s removed → AllPresent s added → AllPresent s (edit_of old removed added)
+edit_present s old (Err bad) added h k why e = h why e
+edit_present s old (Ok R) (Err bad) h k why e = k why e
+edit_present s old (Ok R) (Ok A) h k why e = cc
 
-clash_last : (s : State) (c : Option Clash) (rows : Rows) → AllRefuse s (unless_clash c rows)
-clash_last s None rows a e = cc
-clash_last s (Some c) rows a e = same_refuses s (clash c.edge c.first c.second) a (clash_refuses s c.edge c.first c.second) e
+sent_present : (s : State) (L : Lens) (sent : Sent) → AllPresent s (sent_view sent L s)
+sent_present s L (whole rows) why e = set_present s in_rows (rows_in (sort_of L).columns rows) why e
+sent_present s L (edited remove add) why e =
+    edit_present s (get L s.tables) (set_in in_remove (sort_of L).columns remove) (set_in in_add (sort_of L).columns add)
+    (set_present s in_remove (rows_in (sort_of L).columns remove)) (set_present s in_add (rows_in (sort_of L).columns add)) why e
 
-tested_refuses : (s : State) (L : Lens) (on : Option ℕ) (r : Result Rows Answer) → AllRefuse s r → AllRefuse s (tested s L on r)
-tested_refuses s L on (Err bad) h a e = h a e
-tested_refuses s L on (Ok N) h a e = stale_first s (is_stale s L on) (changed_at s L) (of_sort (sort_of L) N)
-    (off_first s (off (sort_of L).predicate N) (unless_clash (first_clash (sort_of L).tree N) N) (clash_last s (first_clash (sort_of L).tree N) N)) a e
+stale_first : (s : State) (b : Bool) (at : ℕ) (later : Result Rows EditRefusal) → AllPresent s later → AllPresent s (unless_stale b at s.version later)
+stale_first s true at later h why e = same_present s (refusals.stale at s.version) why refl e
+stale_first s false at later h why e = h why e
+
+off_first : (s : State) (o : Option Row) (later : Result Rows EditRefusal) → AllPresent s later → AllPresent s (unless_off o later)
+off_first s None later h why e = h why e
+off_first s (Some row) later h why e = same_present s (refusals.off_predicate row) why tt e
+
+clash_last : (s : State) (c : Option Clash) (rows : Rows) → AllPresent s (unless_clash c rows)
+clash_last s None rows why e = cc
+clash_last s (Some c) rows why e = same_present s (refusals.clash c.edge c.first c.second) why tt e
+
+tested_present : (s : State) (L : Lens) (on : Option ℕ) (r : Result Rows EditRefusal) → AllPresent s r → AllPresent s (tested s L on r)
+tested_present s L on (Err bad) h why e = h why e
+tested_present s L on (Ok N) h why e = stale_first s (is_stale s L on) (changed_at s L) (of_sort (sort_of L) N)
+    (off_first s (off (sort_of L).predicate N) (unless_clash (first_clash (sort_of L).tree N) N) (clash_last s (first_clash (sort_of L).tree N) N)) why e
+
+-- rows that are read and then refused tell the state's version, if any
+read_present : (s : State) (L : Lens) (on : Option ℕ) (M : Rows) → AllPresent s (tested s L on (Ok M))
+read_present s L on M why e = tested_present s L on (Ok M) (λ other is. cc) why e
+
+-- a change that is refused tells the state's version, if any
+pub asked_present : (s : State) (L : Lens) (sent : Sent) (on : Option ℕ) → AllPresent s (asked_view s L sent on)
+asked_present s L sent on why e = tested_present s L on (sent_view sent L s) (sent_present s L sent) why e
+
+-- so the answer to a put, an edit or a preview refuses
+told_refuses : (s : State) (why : EditRefusal) → IsPresent s why → Refuses s (told why)
+told_refuses s (refusals.unknown_name name) h = unknown_refuses s name
+told_refuses s (refusals.bad_row which index name) h = record { told = record { failure = λ h. h; version = tt }; refusal = tt; accepted = λ h. h; change = λ h. h }
+told_refuses s (refusals.stale at version) h = record { told = record { failure = λ h. h; version = h }; refusal = tt; accepted = λ h. h; change = λ h. h }
+told_refuses s (refusals.off_predicate row) h = record { told = record { failure = λ h. h; version = tt }; refusal = tt; accepted = λ h. h; change = λ h. h }
+told_refuses s (refusals.clash edge first second) h = record { told = record { failure = λ h. h; version = tt }; refusal = tt; accepted = λ h. h; change = λ h. h }
+
+-- and so does that to a batch
+edit_refuses : (s : State) (i : ℕ) (why : EditRefusal) → IsPresent s why → Refuses s (in_edit i why)
+edit_refuses s i why h = record { told = record { failure = λ h. h; version = h }; refusal = tt; accepted = λ h. h; change = λ h. h }
 
 -- a change that is refused is refused so
-pub asked_refuses : (s : State) (L : Lens) (sent : Sent) (on : Option ℕ) → AllRefuse s (asked_view s L sent on)
-asked_refuses s L sent on a e = tested_refuses s L on (sent_view sent L s) (sent_refuses s L sent) a e
+pub asked_refuses : (s : State) (L : Lens) (sent : Sent) (on : Option ℕ) (why : EditRefusal) → asked_view s L sent on ≡ Err why → Refuses s (told why)
+asked_refuses s L sent on why e = told_refuses s why (asked_present s L sent on why e)
+
+-- an import whose rows are refused is refused so
+pub read_refuses : (s : State) (L : Lens) (on : Option ℕ) (M : Rows) (why : EditRefusal) → tested s L on (Ok M) ≡ Err why → Refuses s (told why)
+read_refuses s L on M why e = told_refuses s why (read_present s L on M why e)
+
+-- ---- edits of a batch
+
+put_present : (s : State) (r : Result Rows EditRefusal) (L : Lens) (db : Tables) → AllPresent s r → AllPresent s (put_in r L db)
+put_present s (Err bad) L db h why e = same_present s bad why (h bad refl) e
+put_present s (Ok N) L db h why e = cc
+
+one_present : (s : State) (e : BatchEdit) (on : Option ℕ) (o : Option Lens) (db : Tables) → AllPresent s (edit_tables e on o s db)
+one_present s e on None db why is = same_present s (refusals.unknown_name e.view) why tt is
+one_present s e on (Some L) db why is = put_present s (asked_view (at_tables s db) L (edited e.remove e.add) on) L db (asked_present (at_tables s db) L (edited e.remove e.add) on) why is
+
+then_present : (s : State) (i : ℕ) (others : Tables → Result Tables (ℕ × EditRefusal)) (r : Result Tables EditRefusal) → AllPresent s r
+    → ((db : Tables) (found : ℕ × EditRefusal) → others db ≡ Err found → IsPresent s found.1)
+    → (found : ℕ × EditRefusal) → then_edits i others r ≡ Err found → IsPresent s found.1
+then_present s i others (Err why) h k found e = let is : (i, why) ≡ found = cc in subst (λ w. IsPresent s w.1) is (h why refl)
+then_present s i others (Ok db) h k found e = k db found e
+
+-- an edit of a batch that is refused tells the state's version, if any
+edits_present : (s : State) (i : ℕ) (on : Option ℕ) (edits : List BatchEdit) (db : Tables) (found : ℕ × EditRefusal) → edits_from i on s edits db ≡ Err found → IsPresent s found.1
+edits_present s i on [] db found e = cc
+edits_present s i on (b ∷ edits) db found e =
+    then_present s i (edits_from (suc i) on s edits) (edit_tables b on (finmap.get (catalogue s.texts) b.view) s db) (one_present s b on (finmap.get (catalogue s.texts) b.view) db)
+    (λ d w. edits_present s (suc i) on edits d w) found e
 
 -- ---- changes
 
-said_accept : (s : State) (L : Lens) (N : Rows) (ds : List TableDelta) → IsSaid s ⊥ (accept L N ds s)
-said_accept s L N [] = record { asked = λ q. absurd q; refusal = λ h. refl; failure = λ h. h; rises = λ _ h. absurd h; stays = λ h. refl; told = refl; moves = inl refl }
-said_accept s L N (d ∷ ds) = record { asked = λ q. absurd q; refusal = λ h. absurd h; failure = λ h. h; rises = λ _ h. refl; stays = λ h. absurd (h tt); told = refl; moves = inr refl }
+said_accept : (s : State) (db : Tables) (ds : List TableDelta) → IsSaid s ⊥ (accept db ds s)
+said_accept s db [] = record { asked = λ q. absurd q; refusal = λ h. refl; failure = λ h. h; rises = λ _ h. absurd h; stays = λ _ h. refl; told = refl; moves = inl refl }
+said_accept s db (d ∷ ds) = record { asked = λ q. absurd q; refusal = λ h. absurd h; failure = λ h. h; rises = λ _ h. refl; stays = λ _ h. absurd (h tt); told = refl; moves = inr refl }
 
-said_settled : (s : State) (L : Lens) (r : Result Rows Answer) → AllRefuse s r → IsSaid s ⊥ (settled r L s)
-said_settled s L (Err a) h = said_refusal s a (h a refl)
-said_settled s L (Ok N) h = said_accept s L N (changes L N s.tables)
+said_settled : (s : State) (L : Lens) (r : Result Rows EditRefusal) → AllPresent s r → IsSaid s ⊥ (settled r L s)
+said_settled s L (Err why) h = said_refusal s (told why) (told_refuses s why (h why refl))
+said_settled s L (Ok N) h = said_accept s (put_rows L N s.tables) (changes L N s.tables)
 
 said_changed : (s : State) (sent : Sent) (on : Option ℕ) (name : Name) (o : Option Lens) → IsSaid s ⊥ (changed_by sent on name o s)
 said_changed s sent on name None = said_refusal s (unknown_name name) (unknown_refuses s name)
-said_changed s sent on name (Some L) = said_settled s L (asked_view s L sent on) (asked_refuses s L sent on)
+said_changed s sent on name (Some L) = said_settled s L (asked_view s L sent on) (asked_present s L sent on)
 
-told_foretold : (s : State) (L : Lens) (r : Result Rows Answer) → AllRefuse s r → IsTold s (foretold r L s)
-told_foretold s L (Err a) h = (h a refl).told
+said_batch : (s : State) (r : Result Tables (ℕ × EditRefusal)) → ((found : ℕ × EditRefusal) → r ≡ Err found → IsPresent s found.1) → IsSaid s ⊥ (batch_settled r s)
+said_batch s (Err found) h = said_refusal s (in_edit found.0 found.1) (edit_refuses s found.0 found.1 (h found refl))
+said_batch s (Ok db) h = said_accept s db (differences (finmap.keys s.tables) s.tables db)
+
+-- what holds where an import is refused, and where the rows that it reads are put, holds of what it is answered
+module _ (P : Answer × State → Type 0) (s : State) (on : Option ℕ) (refuses : (a : Answer) → Refuses s a → P (a, s)) where
+  of_read : (L : Lens) (r : Result Rows ℕ) → ((M : Rows) → r ≡ Ok M → P (settled (tested s L on (Ok M)) L s)) → P (read_settled r on L s)
+  of_read L (Err place) puts = refuses (bad_record place) (record { told = record { failure = λ h. h; version = tt }; refusal = tt; accepted = λ h. h; change = λ h. h })
+  of_read L (Ok M) puts = puts M refl
+
+  of_plain : (L : Lens) (csv : List ℕ) (o : Option Name) → ((M : Rows) → unsheet (sort_of L).columns csv ≡ Ok M → P (settled (tested s L on (Ok M)) L s)) → P (import_settled o csv on L s)
+  of_plain L csv (Some column) puts = refuses (nullable_column column) (record { told = record { failure = λ h. h; version = tt }; refusal = tt; accepted = λ h. h; change = λ h. h })
+  of_plain L csv None puts = of_read L (unsheet (sort_of L).columns csv) puts
+
+  of_named : (csv : List ℕ) (name : Name) (o : Option Lens) → finmap.get (catalogue s.texts) name ≡ o
+      → ((L : Lens) → finmap.get (catalogue s.texts) name ≡ Some L → (M : Rows) → AllFit (sort_of L).columns M → P (settled (tested s L on (Ok M)) L s))
+      → P (imported_by csv on name o s)
+  of_named csv name None is puts = refuses (unknown_name name) (unknown_refuses s name)
+  of_named csv name (Some L) is puts = of_plain L csv (first_nullable (sort_of L).columns) (λ M e. puts L is M (unsheet_fits (sort_of L).columns csv M e))
+
+  pub of_import : (csv : List ℕ) (name : Name)
+      → ((L : Lens) → finmap.get (catalogue s.texts) name ≡ Some L → (M : Rows) → AllFit (sort_of L).columns M → P (settled (tested s L on (Ok M)) L s))
+      → P (imported_by csv on name (finmap.get (catalogue s.texts) name) s)
+  of_import csv name puts = of_named csv name (finmap.get (catalogue s.texts) name) refl puts
+
+said_import : (s : State) (csv : List ℕ) (on : Option ℕ) (name : Name) → IsSaid s ⊥ (imported_by csv on name (finmap.get (catalogue s.texts) name) s)
+said_import s csv on name = of_import (IsSaid s ⊥) s on (said_refusal s) csv name (λ L is M fits. said_settled s L (tested s L on (Ok M)) (read_present s L on M))
+
+-- what holds of each holds of the last
+pub last_is_one : {A : Type 0} (P : A → Type 0) (xs : List A) (i : ℕ) (x : A) → AllByRecursion P xs → slice_get xs i ≡ Some x → P x
+last_is_one P [] i x h e = cc
+last_is_one P (y ∷ ys) zero x h e = let is : y ≡ x = cc in subst P is h.0
+last_is_one P (y ∷ ys) (suc i) x h e = last_is_one P ys i x h.1 e
+
+said_undone : (s : State) (o : Option (List TableDelta)) → slice_get s.past (length s.past - 1) ≡ o → IsSaid s ⊥ (undone o s)
+said_undone s None is = said_refusal s nothing_to_undo (record { told = record { failure = λ h. h; version = tt }; refusal = tt; accepted = λ h. h; change = λ h. h })
+said_undone s (Some []) is = record {
+  asked = λ q. absurd q;
+  refusal = λ h. absurd h;
+  failure = λ h. h;
+  rises = λ _ h. absurd h;
+  stays = λ v _. absurd ((last_is_one IsDifference s.past (length s.past - 1) [] v.differences is).0 refl);
+  told = refl;
+  moves = inr refl;
+}
+said_undone s (Some (c ∷ cs)) is = record { asked = λ q. absurd q; refusal = λ h. absurd h; failure = λ h. h; rises = λ _ h. refl; stays = λ _ h. absurd (h tt); told = refl; moves = inr refl }
+
+told_foretold : (s : State) (L : Lens) (r : Result Rows EditRefusal) → AllPresent s r → IsTold s (foretold r L s)
+told_foretold s L (Err why) h = (told_refuses s why (h why refl)).told
 told_foretold s L (Ok N) h = record { failure = λ h. h; version = refl }
 
 told_about : (s : State) (tell : Lens → Answer) (name : Name) (o : Option Lens) → ((L : Lens) → IsTold s (tell L)) → IsTold s (about tell name o)
@@ -176,6 +278,10 @@ told_column : (s : State) (L : Lens) (column : Name) (json : Data) (o : Option K
 told_column s L column json None = record { failure = λ h. h; version = tt }
 told_column s L column json (Some kind) = told_found s L column (value_in kind json)
 
+told_sheet : (s : State) (L : Lens) (o : Option Name) → IsTold s (sheet_told o s L)
+told_sheet s L None = record { failure = λ h. h; version = refl }
+told_sheet s L (Some column) = record { failure = λ h. h; version = tt }
+
 -- ---- definitions
 
 -- a definition is refused for its fault
@@ -189,9 +295,9 @@ fault_refuses s (rule first) = rule_refuses s first
 said_definition : (s : State) (text : List ℕ) (r : Result Definition CatalogFault) → IsSaid s ⊥ (answer_definition text r s)
 said_definition s text (Err fault) = said_refusal s (fault_answer fault) (fault_refuses s fault)
 said_definition s text (Ok (table name columns deps P)) =
-    record { asked = λ q. absurd q; refusal = λ h. absurd h; failure = λ h. h; rises = λ _ h. refl; stays = λ h. absurd (h tt); told = refl; moves = inr refl }
+    record { asked = λ q. absurd q; refusal = λ h. absurd h; failure = λ h. h; rises = λ _ h. refl; stays = λ _ h. absurd (h tt); told = refl; moves = inr refl }
 said_definition s text (Ok (view name expr)) =
-    record { asked = λ q. absurd q; refusal = λ h. absurd h; failure = λ h. h; rises = λ _ h. refl; stays = λ h. absurd (h tt); told = refl; moves = inr refl }
+    record { asked = λ q. absurd q; refusal = λ h. absurd h; failure = λ h. h; rises = λ _ h. refl; stays = λ _ h. absurd (h tt); told = refl; moves = inr refl }
 
 -- ---- requests
 
@@ -234,9 +340,14 @@ said_request s (Ok (put name rows on)) h = said_changed s (whole rows) on name (
 said_request s (Ok (edit name remove add on)) h = said_changed s (edited remove add) on name (finmap.get (catalogue s.texts) name)
 said_request s (Ok (preview name remove add on)) h =
     said_question s _ (told_about s (λ L. foretold (asked_view s L (edited remove add) on) L s) name (finmap.get (catalogue s.texts) name)
-    (λ L. told_foretold s L (asked_view s L (edited remove add) on) (asked_refuses s L (edited remove add) on)))
+    (λ L. told_foretold s L (asked_view s L (edited remove add) on) (asked_present s L (edited remove add) on)))
 said_request s (Ok (describe name)) h = said_question s _ (told_about s (sort_told s) name (finmap.get (catalogue s.texts) name) (λ L. record { failure = λ h. h; version = refl }))
 said_request s (Ok list) h = said_question s _ (record { failure = λ h. h; version = refl })
+said_request s (Ok (batch edits on)) h = said_batch s (edits_from 0 on s edits s.tables) (edits_present s 0 on edits s.tables)
+said_request s (Ok undo) h = said_undone s (slice_get s.past (length s.past - 1)) refl
+said_request s (Ok (export name)) h =
+    said_question s _ (told_about s (λ L. sheet_told (first_nullable (sort_of L).columns) s L) name (finmap.get (catalogue s.texts) name) (λ L. told_sheet s L (first_nullable (sort_of L).columns)))
+said_request s (Ok (import name csv on)) h = said_import s csv on name
 
 pub said : (s : State) (l : Line) → IsSaid s (IsQuestion (request l)) (answer s l)
 unfolding answer

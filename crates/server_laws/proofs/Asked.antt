@@ -10,7 +10,7 @@ use Rattle.lens_specs.specs.Sort.{Sort, off, Clash, clash as first_clash, IsOf}
 use Rattle.lens_specs.specs.Lens.{Lens, sort_of, get}
 use Rattle.lens_specs.specs.Delta.{new_view}
 use Rattle.server_specs.specs.State.{State}
-use Rattle.server_specs.specs.Answer.{Answer, Listed, in_rows, in_remove, in_add}
+use Rattle.server_specs.specs.EditRefusal.{EditRefusal, Listed, in_rows, in_remove, in_add}
 use Rattle.server_specs.specs.Sending.{BadRow, rows_in}
 use Rattle.server_specs.specs.Changing.{Sent, whole, edited, as_set, set_in, edit_of, sent_view, is_stale, changed_at, unless_stale, unless_off, unless_clash, of_sort, tested, asked_view}
 use Rattle.server_specs.proofs.Sent.{sent_fit}
@@ -19,7 +19,7 @@ use Rattle.server_laws.specs.PutLaws.{AllFit}
 
 -- ---- the tests of a sort
 
-not_off : (o : Option Row) (later : Result Rows Answer) (N : Rows) → unless_off o later ≡ Ok N → (o ≡ None) × (later ≡ Ok N)
+not_off : (o : Option Row) (later : Result Rows EditRefusal) (N : Rows) → unless_off o later ≡ Ok N → (o ≡ None) × (later ≡ Ok N)
 not_off None later N e = (refl, e)
 not_off (Some row) later N e = cc
 
@@ -28,7 +28,7 @@ not_clash None M N e = (refl, cc)
 not_clash (Some c) M N e = cc
 
 -- what passes is what was tested: the predicate refuses no row of it, and no rows clash
-passed_sort : (t : Sort) (M N : Rows) → of_sort t M ≡ Ok N → (M ≡ N) × (off t.predicate M ≡ None) × (first_clash t.tree M ≡ None)
+pub passed_sort : (t : Sort) (M N : Rows) → of_sort t M ≡ Ok N → (M ≡ N) × (off t.predicate M ≡ None) × (first_clash t.tree M ≡ None)
 passed_sort t M N e =
     let a = not_off (off t.predicate M) (unless_clash (first_clash t.tree M) M) N e in
     let b = not_clash (first_clash t.tree M) M N a.1 in
@@ -39,7 +39,7 @@ pub passes_sort : (t : Sort) (N : Rows) → off t.predicate N ≡ None → first
 passes_sort t N none met = ap (λ o. unless_off o (unless_clash (first_clash t.tree N) N)) none ∙ ap (λ c. unless_clash c N) met
 
 -- the rows that come, if any do, are of the lens's sort
-abbrev pub GivesTyped : Lens → Result Rows Answer → Type 0
+abbrev pub GivesTyped : Lens → Result Rows EditRefusal → Type 0
 GivesTyped L r = (N : Rows) → r ≡ Ok N → IsOf N (sort_of L)
 
 -- rows with the columns come so through the tests
@@ -59,7 +59,7 @@ set_fits L which items N e =
     let w = set_ok which (rows_in (sort_of L).columns items) N e in
     subst (AllFit (sort_of L).columns) w.2 (sent_fit (sort_of L).columns items w.0 w.1)
 
-edit_ok : (old : Rows) (removed added : Result Rows Answer) (N : Rows) → edit_of old removed added ≡ Ok N
+pub edit_ok : (old : Rows) (removed added : Result Rows EditRefusal) (N : Rows) → edit_of old removed added ≡ Ok N
     → (R : Rows) × (A : Rows) × (removed ≡ Ok R) × (added ≡ Ok A) × (new_view old (record { remove = R; add = A }) ≡ N)
 edit_ok old (Err bad) added N e = cc
 edit_ok old (Ok R) (Err bad) N e = cc
@@ -81,7 +81,7 @@ sent_fits s L here (edited remove add) N e =
 
 -- ---- what is asked for
 
-not_stale : (b : Bool) (at version : ℕ) (later : Result Rows Answer) (N : Rows) → unless_stale b at version later ≡ Ok N → (b ≡ false) × (later ≡ Ok N)
+not_stale : (b : Bool) (at version : ℕ) (later : Result Rows EditRefusal) (N : Rows) → unless_stale b at version later ≡ Ok N → (b ≡ false) × (later ≡ Ok N)
 not_stale true at version later N e = cc
 not_stale false at version later N e = (refl, e)
 
@@ -92,11 +92,19 @@ pub record IsAsked (s : State) (L : Lens) (sent : Sent) (on : Option ℕ) (N : R
   pub fresh : is_stale s L on ≡ false
   pub passes : of_sort (sort_of L) view ≡ Ok N
 
-tested_is : (s : State) (L : Lens) (sent : Sent) (on : Option ℕ) (r : Result Rows Answer) (N : Rows) → sent_view sent L s ≡ r → tested s L on r ≡ Ok N → IsAsked s L sent on N
+tested_is : (s : State) (L : Lens) (sent : Sent) (on : Option ℕ) (r : Result Rows EditRefusal) (N : Rows) → sent_view sent L s ≡ r → tested s L on r ≡ Ok N → IsAsked s L sent on N
 tested_is s L sent on (Err bad) N is e = cc
 tested_is s L sent on (Ok M) N is e =
     let w = not_stale (is_stale s L on) (changed_at s L) s.version (of_sort (sort_of L) M) N e in
     record { view = M; is = is; fresh = w.0; passes = w.1 }
+
+-- rows with the columns come so through the tests of an import
+pub read_typed : (s : State) (L : Lens) (on : Option ℕ) (M : Rows) → AllFit (sort_of L).columns M → GivesTyped L (tested s L on (Ok M))
+read_typed s L on M fits N e = sort_typed L M fits N (not_stale (is_stale s L on) (changed_at s L) s.version (of_sort (sort_of L) M) N e).1
+
+-- what comes through them is not stale
+pub read_fresh : (s : State) (L : Lens) (on : Option ℕ) (M N : Rows) → tested s L on (Ok M) ≡ Ok N → is_stale s L on ≡ false
+read_fresh s L on M N e = (not_stale (is_stale s L on) (changed_at s L) s.version (of_sort (sort_of L) M) N e).0
 
 pub asked_is : (s : State) (L : Lens) (sent : Sent) (on : Option ℕ) (N : Rows) → asked_view s L sent on ≡ Ok N → IsAsked s L sent on N
 asked_is s L sent on N e = tested_is s L sent on (sent_view sent L s) N refl e

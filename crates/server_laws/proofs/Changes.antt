@@ -1,4 +1,4 @@
--- Lines that read, put, edit and preview.
+-- Lines that read, put, edit, import and preview.
 use Rattle.std.proofs.Common.{◌≡◌, ◌⊎◌, true, false, ℕ, List, [], ◌∷◌, Option, Some, None, Result, Ok, Err, inl, inr, refl, sym, ap, subst, ◌∙◌}
 use Rattle.std.specs.Prelude.{◌↔◌}
 use Rattle.std.proofs.lemmas.Bool.{cases_Bool}
@@ -13,16 +13,23 @@ use Rattle.lens_specs.specs.Relation.{Rows}
 use Rattle.lens_specs.specs.Predicate.{holds}
 use Rattle.lens_specs.specs.Dependencies.{Edge}
 use Rattle.lens_specs.specs.Sort.{IsOf}
-use Rattle.lens_specs.specs.Lens.{Lens, sort_of, get, tables_of}
+use Rattle.lens_specs.specs.Lens.{Tables, Lens, sort_of, get, put as put_rows, tables_of}
 use Rattle.lens_specs.specs.Delta.{TableDelta, changes, differences}
 use Rattle.io_specs.specs.Lines.{Line}
 use Rattle.catalog_specs.specs.Catalogue.{catalogue}
 use Rattle.server_specs.specs.State.{State}
-use Rattle.server_specs.specs.Answer.{Answer, shown, changed, stale, unknown_name, bad_row, in_remove, in_add, off_predicate, clash}
-use Rattle.server_specs.specs.Request.{read, edit, preview, request}
+use Rattle.server_specs.specs.EditRefusal as refusals
+use Rattle.server_specs.specs.EditRefusal.{EditRefusal, in_remove, in_add}
+use Rattle.server_specs.specs.Answer.{Answer, shown, changed, stale, unknown_name, bad_row, off_predicate, clash, told as told_answer}
+use Rattle.server_specs.specs.Request.{read, edit, preview, import, request}
 use Rattle.server_specs.specs.Sending.{rows_in}
 use Rattle.server_specs.specs.Questions.{about, rows_told}
 use Rattle.server_specs.specs.Changing.{Sent, whole, edited, as_set, set_in, edit_of, sent_view, changed_at, is_stale, unless_stale, of_sort, tested, asked_view, accept, settled, foretold, changed_by}
+use Rattle.server_specs.specs.Batching.{batch_settled}
+use Rattle.server_specs.specs.Undoing.{undone}
+use Rattle.server_specs.specs.Exporting.{import_settled, imported_by, read_settled}
+use Rattle.sheet_specs.specs.Sheets.{unsheet}
+use Rattle.sheet_specs.proofs.Fitting.{unsheet_fits}
 use Rattle.server_specs.specs.Answering.{answer, answer_request}
 use Rattle.server_specs.specs.Validity.{Valid}
 use Rattle.server_laws.proofs.AnswerFacts.{asked_refuses}
@@ -30,7 +37,7 @@ use Rattle.server_laws.proofs.Asked.{sent_fits}
 use Rattle.server_laws.proofs.Puts.{IsSettled, accepted_where, accepted_or_refused, refused_by, clashes_by, put_then_read, told, changes_told, changes_differ, others_stay, read_then_put}
 use Rattle.server_laws.proofs.Stored.{lens_here}
 use Rattle.server_laws.specs.Answers.{IsAccepted, IsRefusal}
-use Rattle.server_laws.specs.ChangeLaws.{IsReadLine, change_request, IsChangeLine, SendsView}
+use Rattle.server_laws.specs.ChangeLaws.{IsReadLine, change_request, IsChangeLine, IsImportLine, SendsView, by_rows, by_text}
 use Rattle.server_laws.specs.PutLaws.{AllFit, IsFirstClashOf, put_set}
 
 pub lines_read : (s : State) (l : Line) (name : Name) (L : Lens) → IsReadLine s l name L → answer s l ≡ (shown (get L s.tables) s.version, s)
@@ -53,39 +60,80 @@ pub unknown_told : (s : State) (l : Line) (name : Name) (sent : Sent) (on : Opti
     → answer s l ≡ (unknown_name name, s)
 unknown_told s l name sent on asked none = change_is s l name sent on asked ∙ ap (λ o. changed_by sent on name o s) none
 
-pub bad_told : (s : State) (l : Line) (name : Name) (L : Lens) (sent : Sent) (on : Option ℕ) → IsChangeLine s l name L sent on → (bad : Answer) → sent_view sent L s ≡ Err bad → answer s l ≡ (bad, s)
+pub bad_told : (s : State) (l : Line) (name : Name) (L : Lens) (sent : Sent) (on : Option ℕ) → IsChangeLine s l name L sent on → (bad : EditRefusal) → sent_view sent L s ≡ Err bad → answer s l ≡ (told_answer bad, s)
 bad_told s l name L sent on h bad is = lines_settle s l name L sent on h ∙ ap (λ r. settled (tested s L on r) L s) is
 
 pub removed_first : (s : State) (l : Line) (name : Name) (L : Lens) (remove add : Items) (on : Option ℕ) → IsChangeLine s l name L (edited remove add) on
     → (index : ℕ) (column : List ℕ) → rows_in (sort_of L).columns remove ≡ Err (index, column) → answer s l ≡ (bad_row in_remove index column, s)
-removed_first s l name L remove add on h index column is = bad_told s l name L (edited remove add) on h (bad_row in_remove index column)
+removed_first s l name L remove add on h index column is = bad_told s l name L (edited remove add) on h (refusals.bad_row in_remove index column)
     (ap (λ r. edit_of (get L s.tables) (as_set in_remove r) (set_in in_add (sort_of L).columns add)) is)
 
 pub others_left : (s : State) (l : Line) (name : Name) (L : Lens) (sent : Sent) (on : Option ℕ) → IsChangeLine s l name L sent on
     → (t : Name) → set.contains (tables_of L) t ≡ false → finmap.get (answer s l).1.tables t ≡ finmap.get s.tables t
 others_left s l name L sent on h t o = ap (λ r. finmap.get r.1.tables t) (lines_settle s l name L sent on h) ∙ others_stay (asked_view s L sent on) L s t o
 
-texts_accept : (L : Lens) (N : Rows) (ds : List TableDelta) (s : State) → (accept L N ds s).1.texts ≡ s.texts
-texts_accept L N [] s = refl
-texts_accept L N (d ∷ ds) s = refl
+pub texts_accept : (db : Tables) (ds : List TableDelta) (s : State) → (accept db ds s).1.texts ≡ s.texts
+texts_accept db [] s = refl
+texts_accept db (d ∷ ds) s = refl
 
 -- a change leaves the definitions
-pub texts_settled : (r : Result Rows Answer) (L : Lens) (s : State) → (settled r L s).1.texts ≡ s.texts
+pub texts_settled : (r : Result Rows EditRefusal) (L : Lens) (s : State) → (settled r L s).1.texts ≡ s.texts
 texts_settled (Err refusal) L s = refl
-texts_settled (Ok N) L s = texts_accept L N (changes L N s.tables) s
+texts_settled (Ok N) L s = texts_accept (put_rows L N s.tables) (changes L N s.tables) s
+
+pub texts_batch : (r : Result Tables (ℕ × EditRefusal)) (s : State) → (batch_settled r s).1.texts ≡ s.texts
+texts_batch (Err found) s = refl
+texts_batch (Ok db) s = texts_accept db (differences (finmap.keys s.tables) s.tables db) s
+
+pub texts_undone : (o : Option (List TableDelta)) (s : State) → (undone o s).1.texts ≡ s.texts
+texts_undone None s = refl
+texts_undone (Some cs) s = refl
+
+-- ---- lines that import
+
+-- the answer to a line that imports, by what its name has
+pub import_is : (s : State) (l : Line) (name : Name) (csv : List ℕ) (on : Option ℕ) → request l ≡ Ok (import name csv on)
+    → answer s l ≡ imported_by csv on name (finmap.get (catalogue s.texts) name) s
+unfolding answer
+import_is s l name csv on asked = ap (λ r. answer_request r s) asked
+
+-- where the view has no column that may be null, by what is read
+pub import_reads : (s : State) (l : Line) (name : Name) (L : Lens) (csv : List ℕ) (on : Option ℕ) → IsImportLine s l name L csv on
+    → answer s l ≡ read_settled (unsheet (sort_of L).columns csv) on L s
+import_reads s l name L csv on h =
+    import_is s l name csv on h.asked ∙ ap (λ o. imported_by csv on name o s) h.lens ∙ ap (λ o. import_settled o csv on L s) h.plain
+
+pub imports_put : (s : State) (l : Line) (name : Name) (L : Lens) (csv : List ℕ) (on : Option ℕ) → IsImportLine s l name L csv on
+    → (N : Rows) → unsheet (sort_of L).columns csv ≡ Ok N → answer s l ≡ settled (tested s L on (Ok N)) L s
+imports_put s l name L csv on h N is = import_reads s l name L csv on h ∙ ap (λ r. read_settled r on L s) is
 
 -- ---- lines that send a new view
+
+-- the view's lens
+lens_sent : (s : State) (l : Line) (name : Name) (L : Lens) (on : Option ℕ) (N : Rows) → SendsView s l name L on N → finmap.get (catalogue s.texts) name ≡ Some L
+lens_sent s l name L on N (by_rows sent h view) = h.lens
+lens_sent s l name L on N (by_text csv h rows) = h.lens
+
+-- the new view is put through the tests
+sends_settle : (s : State) (l : Line) (name : Name) (L : Lens) (on : Option ℕ) (N : Rows) → SendsView s l name L on N → answer s l ≡ settled (tested s L on (Ok N)) L s
+sends_settle s l name L on N (by_rows sent h view) = lines_settle s l name L sent on h ∙ ap (λ r. settled (tested s L on r) L s) view
+sends_settle s l name L on N (by_text csv h rows) = imports_put s l name L csv on h N rows
+
+-- and fits the columns
+fits_sent : (s : State) → Valid s → (l : Line) (name : Name) (L : Lens) (on : Option ℕ) (N : Rows) → SendsView s l name L on N → AllFit (sort_of L).columns N
+fits_sent s v l name L on N (by_rows sent h view) = sent_fits s L (lens_here s v name L h.lens) sent N view
+fits_sent s v l name L on N (by_text csv h rows) = unsheet_fits (sort_of L).columns csv N rows
 
 module _ (s : State) (l : Line) (name : Name) (L : Lens) (on : Option ℕ) (N : Rows) (h : SendsView s l name L on N) where
   -- the answer, by whether the version is stale
   sent_settles : answer s l ≡ settled (unless_stale (is_stale s L on) (changed_at s L) s.version (of_sort (sort_of L) N)) L s
-  sent_settles = lines_settle s l name L h.sent on h.line ∙ ap (λ r. settled (tested s L on r) L s) h.view
+  sent_settles = sends_settle s l name L on N h
 
   pub stale_told : is_stale s L on ≡ true → answer s l ≡ (stale (changed_at s L) s.version, s)
   stale_told old = sent_settles ∙ ap (λ b. settled (unless_stale b (changed_at s L) s.version (of_sort (sort_of L) N)) L s) old
 
   pub views_fit : Valid s → AllFit (sort_of L).columns N
-  views_fit v = sent_fits s L (lens_here s v name L h.line.lens) h.sent N h.view
+  views_fit v = fits_sent s v l name L on N h
 
   pub puts_set : is_stale s L on ≡ false → answer s l ≡ put_set N L s
   puts_set fresh = sent_settles ∙ ap (λ b. settled (unless_stale b (changed_at s L) s.version (of_sort (sort_of L) N)) L s) fresh
@@ -113,13 +161,23 @@ module _ (s : State) (l : Line) (name : Name) (L : Lens) (on : Option ℕ) (N : 
   put_accepted : IsAccepted (answer s l).0 → IsAccepted (put_set N L s).0
   put_accepted accepted = subst (λ r. IsAccepted r.0) (accepted_puts accepted) accepted
 
+  -- it is not stale, and the view then shows what was sent
+  pub accepted_fresh : IsAccepted (answer s l).0 → is_stale s L on ≡ false
+  accepted_fresh accepted = elim (cases_Bool (is_stale s L on)) [
+    | inl old ↦ absurd (subst (λ r. IsAccepted r.0) (stale_told old) accepted)
+    | inr fresh ↦ fresh
+  ]
+
+  pub accepted_shows : Valid s → IsAccepted (answer s l).0 → get L (answer s l).1.tables ≡ N
+  accepted_shows v accepted =
+      ap (λ r. get L r.1.tables) (accepted_puts accepted) ∙ put_then_read s L N (lens_here s v name L (lens_sent s l name L on N h)) (views_fit v) (put_accepted accepted)
+
   pub next_reads : Valid s → IsAccepted (answer s l).0 → (m : Line) → request m ≡ Ok (read name) → (answer (answer s l).1 m).0 ≡ shown N (answer s l).1.version
   next_reads v accepted m asked =
       let is = accepted_puts accepted in
       let texts : (answer s l).1.texts ≡ s.texts = ap (λ r. r.1.texts) is ∙ texts_settled (of_sort (sort_of L) N) L s in
-      let reads = lines_read (answer s l).1 m name L (record { asked = asked; lens = ap (λ t. finmap.get (catalogue t) name) texts ∙ h.line.lens }) in
-      let rows_are : get L (answer s l).1.tables ≡ N = ap (λ r. get L r.1.tables) is ∙ put_then_read s L N (lens_here s v name L h.line.lens) (views_fit v) (put_accepted accepted) in
-      ap (λ r. r.0) reads ∙ ap (λ M. shown M (answer s l).1.version) rows_are
+      let reads = lines_read (answer s l).1 m name L (record { asked = asked; lens = ap (λ t. finmap.get (catalogue t) name) texts ∙ (lens_sent s l name L on N h) }) in
+      ap (λ r. r.0) reads ∙ ap (λ M. shown M (answer s l).1.version) (accepted_shows v accepted)
 
   pub lines_tell : IsAccepted (answer s l).0 → (answer s l).0 ≡ changed (changes L N s.tables) (answer s l).1.version
   lines_tell accepted = subst (λ r. r.0 ≡ changed (changes L N s.tables) r.1.version) (sym (accepted_puts accepted)) (changes_told L N s (put_accepted accepted))
@@ -132,7 +190,7 @@ module _ (s : State) (l : Line) (name : Name) (L : Lens) (on : Option ℕ) (N : 
 
 pub nothing_changed : (s : State) → Valid s → (l : Line) (name : Name) (L : Lens) (on : Option ℕ) → SendsView s l name L on (get L s.tables) → is_stale s L on ≡ false
     → answer s l ≡ (changed [] s.version, s)
-nothing_changed s v l name L on h fresh = puts_set s l name L on (get L s.tables) h fresh ∙ read_then_put s v name L h.line.lens
+nothing_changed s v l name L on h fresh = puts_set s l name L on (get L s.tables) h fresh ∙ read_then_put s v name L (lens_sent s l name L on (get L s.tables) h)
 
 -- ---- previews
 
@@ -142,13 +200,13 @@ Foretells s r a =
     (IsRefusal r.0 × (a ≡ r.0))
     ⊎ ((L : Lens) × (N : Rows) × (r.0 ≡ changed (changes L N s.tables) r.1.version) × (a ≡ changed (changes L N s.tables) s.version))
 
-foretells_lens : (s : State) (L : Lens) (r : Result Rows Answer) → ((a : Answer) → r ≡ Err a → IsRefusal a) → Foretells s (settled r L s) (foretold r L s)
-foretells_lens s L (Err a) h = inl (h a refl, refl)
-foretells_lens s L (Ok N) h = inr (L, N, told s L N (changes L N s.tables), refl)
+foretells_lens : (s : State) (L : Lens) (r : Result Rows EditRefusal) → ((why : EditRefusal) → r ≡ Err why → IsRefusal (told_answer why)) → Foretells s (settled r L s) (foretold r L s)
+foretells_lens s L (Err why) h = inl (h why refl, refl)
+foretells_lens s L (Ok N) h = inr (L, N, told s (put_rows L N s.tables) (changes L N s.tables), refl)
 
 foretells_name : (s : State) (sent : Sent) (on : Option ℕ) (name : Name) (o : Option Lens) → Foretells s (changed_by sent on name o s) (about (λ L. foretold (asked_view s L sent on) L s) name o)
 foretells_name s sent on name None = inl (tt, refl)
-foretells_name s sent on name (Some L) = foretells_lens s L (asked_view s L sent on) (λ a e. (asked_refuses s L sent on a e).refusal)
+foretells_name s sent on name (Some L) = foretells_lens s L (asked_view s L sent on) (λ why e. (asked_refuses s L sent on why e).refusal)
 
 pub previews_foretell : (s : State) (l m : Line) (name : Name) (remove add : Items) (on : Option ℕ) → request l ≡ Ok (edit name remove add on) → request m ≡ Ok (preview name remove add on)
     → Foretells s (answer s l) (answer s m).0

@@ -32,7 +32,7 @@ none_among : (t : Name) (ts : List Name) → AllByRecursion (λ y. bytes_cmp t y
 none_among t [] h = refl
 none_among t (u ∷ ts) h = or_from _ _ (ap is_eq h.0) (none_among t ts h.1)
 
-rising_distinct : (ts : List Name) → IsStrictlySortedBy bytes_cmp ts → Distinct ts
+pub rising_distinct : (ts : List Name) → IsStrictlySortedBy bytes_cmp ts → Distinct ts
 unfolding IsStrictlySortedBy
 rising_distinct [] h = tt
 rising_distinct (t ∷ ts) h = (none_among t ts h.0, rising_distinct ts h.1)

@@ -204,7 +204,7 @@ or_no : (b : Bool) → (b || false) ≡ true → b ≡ true
 or_no true e = refl
 or_no false e = absurd (true≢false (sym e))
 
-only : (r : Row) → has N r ≡ true → r ≡ row
+pub only : (r : Row) → has N r ≡ true → r ≡ row
 only r i = tied_row r row (or_no (eq_by_cmp row_cmp r row) (sym (set.contains-from_list row_total (row ∷ []) r) ∙ i))
 
 row_fits : Fits U row

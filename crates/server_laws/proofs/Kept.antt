@@ -208,9 +208,10 @@ put_is_kept L N s t h texts is = (
 )
 
 -- What is kept of a state, after the put is accepted; `ds` are its changes.
-pub accept_is_kept : (L : Lens) (N : Rows) (s : State) → AreThere L s.tables → (ds : List TableDelta) → changes L N s.tables ≡ ds → KeptFollows (rows ds) s (accept L N ds s).1
+pub accept_is_kept : (L : Lens) (N : Rows) (s : State) → AreThere L s.tables → (ds : List TableDelta) → changes L N s.tables ≡ ds → KeptFollows (rows ds) s (accept (put L N s.tables) ds s).1
 accept_is_kept L N s h [] is = (refl, tt)
-accept_is_kept L N s h (d ∷ ds) is = subst (λ l. KeptFollows (rows l) s (accept L N (d ∷ ds) s).1) is (put_is_kept L N s (accept L N (d ∷ ds) s).1 h refl refl)
+accept_is_kept L N s h (d ∷ ds) is =
+    subst (λ l. KeptFollows (rows l) s (accept (put L N s.tables) (d ∷ ds) s).1) is (put_is_kept L N s (accept (put L N s.tables) (d ∷ ds) s).1 h refl refl)
 
 -- What is kept of a state, after a definition that makes no table.
 pub view_is_kept : (text : List ℕ) (s t : State) → t.texts ≡ s.texts ++ text ∷ [] → t.tables ≡ s.tables

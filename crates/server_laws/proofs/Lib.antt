@@ -1,8 +1,12 @@
 pub mod Differences
+pub mod Leading
 pub mod Kept
 pub mod Taken
 pub mod Stored
 pub mod Asked
+pub mod Edited
+pub mod Remembered
+pub mod Led
 pub mod Valid
 pub mod AnswerFacts
 pub mod Texts
@@ -10,6 +14,8 @@ pub mod Sessions
 pub mod Clashes
 pub mod Puts
 pub mod Changes
+pub mod Batches
+pub mod Recalled
 pub mod Stale
 pub mod KeptStates
 pub mod Last
@@ -17,9 +23,13 @@ pub mod Definitions
 pub mod Views
 pub mod Keys
 pub mod Since
+pub mod Exports
 pub mod NoLost
+pub mod Returned
 pub mod Example
 pub mod OneEdge
 pub mod DropExample
 pub mod UpdateExample
 pub mod Finding
+pub mod UndoExample
+pub mod ExportExample

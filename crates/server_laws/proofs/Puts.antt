@@ -25,6 +25,7 @@ use Rattle.lens_specs.specs.Lens.{Tables, Lens, base, select, drop, rename, join
 use Rattle.lens_specs.specs.Delta.{TableDelta, diff, is_empty, differences, changes}
 use Rattle.catalog_specs.specs.Catalogue.{catalogue}
 use Rattle.server_specs.specs.State.{State}
+use Rattle.server_specs.specs.EditRefusal.{EditRefusal}
 use Rattle.server_specs.specs.Answer.{Answer, changed, clash, off_predicate}
 use Rattle.server_specs.specs.Changing.{unless_clash, unless_off, accept, settled}
 use Rattle.server_specs.specs.Validity.{Valid}
@@ -78,9 +79,9 @@ unchanged_put L N db a b e = finmap.same_map name_total name_exact (put L N db) 
 
 -- ---- what is accepted
 
-accepts : (L : Lens) (N : Rows) (ds : List TableDelta) (s : State) → IsAccepted (accept L N ds s).0
-accepts L N [] s = tt
-accepts L N (d ∷ ds) s = tt
+accepts : (db : Tables) (ds : List TableDelta) (s : State) → IsAccepted (accept db ds s).0
+accepts db [] s = tt
+accepts db (d ∷ ds) s = tt
 
 -- what becomes of a put, by the first row that is off and by the first clash
 abbrev by_tests : Option Row → Option Clash → Lens → Rows → State → Answer × State
@@ -92,11 +93,11 @@ passes None (Some c) L N s h = absurd h
 passes (Some r) c L N s h = absurd h
 
 -- where nothing is refused, a put is `accept`
-pub put_is_accept : (N : Rows) (L : Lens) (s : State) → off (sort_of L).predicate N ≡ None → first_clash (sort_of L).tree N ≡ None → put_set N L s ≡ accept L N (changes L N s.tables) s
+pub put_is_accept : (N : Rows) (L : Lens) (s : State) → off (sort_of L).predicate N ≡ None → first_clash (sort_of L).tree N ≡ None → put_set N L s ≡ accept (put L N s.tables) (changes L N s.tables) s
 put_is_accept N L s none met = ap (λ r. settled r L s) (passes_sort (sort_of L) N none met)
 
 -- an accepted put, as `accept`
-pub accepted_is : (L : Lens) (N : Rows) (s : State) → IsAccepted (put_set N L s).0 → put_set N L s ≡ accept L N (changes L N s.tables) s
+pub accepted_is : (L : Lens) (N : Rows) (s : State) → IsAccepted (put_set N L s).0 → put_set N L s ≡ accept (put L N s.tables) (changes L N s.tables) s
 accepted_is L N s h = let w = passes (off (sort_of L).predicate N) (first_clash (sort_of L).tree N) L N s h in put_is_accept N L s w.0 w.1
 
 typed_of : (L : Lens) (N : Rows) (s : State) → AllFit (sort_of L).columns N → IsAccepted (put_set N L s).0 → IsOf N (sort_of L)
@@ -107,7 +108,7 @@ typed_of L N s fits h =
 pub accepted_where : (L : Lens) (N : Rows) (s : State) → AllFit (sort_of L).columns N → IsAccepted (put_set N L s).0 ↔ IsOf N (sort_of L)
 accepted_where L N s fits = (
   typed_of L N s fits,
-  λ n. subst (λ r. IsAccepted r.0) (sym (put_is_accept N L s n.off n.clash)) (accepts L N (changes L N s.tables) s),
+  λ n. subst (λ r. IsAccepted r.0) (sym (put_is_accept N L s n.off n.clash)) (accepts (put L N s.tables) (changes L N s.tables) s),
 )
 
 -- an answer to a put
@@ -115,7 +116,7 @@ abbrev pub IsSettled : State → Answer × State → Type 0
 IsSettled s r = IsAccepted r.0 ⊎ (((row : Row) × (r ≡ (off_predicate row, s))) ⊎ ((edge : Edge) × (first : Row) × (second : Row) × (r ≡ (clash edge first second, s))))
 
 either_case : (o : Option Row) (c : Option Clash) (L : Lens) (N : Rows) (s : State) → IsSettled s (by_tests o c L N s)
-either_case None None L N s = inl (accepts L N (changes L N s.tables) s)
+either_case None None L N s = inl (accepts (put L N s.tables) (changes L N s.tables) s)
 either_case None (Some c) L N s = inr (inr (c.edge, c.first, c.second, refl))
 either_case (Some row) c L N s = inr (inl (row, refl))
 
@@ -131,7 +132,7 @@ off_of_least P N row w (Some r) is =
     ap Some (least_is_one r row (row_cmp r row) refl (v.least row w.there w.refused) (w.least r v.there v.refused))
 
 refusing : (o : Option Row) (c : Option Clash) (L : Lens) (N : Rows) (s : State) (row : Row) → by_tests o c L N s ≡ (off_predicate row, s) → o ≡ Some row
-refusing None None L N s row e = absurd (subst IsAccepted (ap (λ r. r.0) e) (accepts L N (changes L N s.tables) s))
+refusing None None L N s row e = absurd (subst IsAccepted (ap (λ r. r.0) e) (accepts (put L N s.tables) (changes L N s.tables) s))
 refusing None (Some c) L N s row e = let f : clash c.edge c.first c.second ≡ off_predicate row = ap (λ r. r.0) e in cc
 refusing (Some r) c L N s row e = let f : off_predicate r ≡ off_predicate row = ap (λ r. r.0) e in ap Some (cc)
 
@@ -157,7 +158,7 @@ record IsClashing (o : Option Row) (c : Option Clash) (edge : Edge) (first secon
 
 clashing : (o : Option Row) (c : Option Clash) (L : Lens) (N : Rows) (s : State) (edge : Edge) (first second : Row) → by_tests o c L N s ≡ (clash edge first second, s)
     → IsClashing o c edge first second
-clashing None None L N s edge first second e = absurd (subst IsAccepted (ap (λ r. r.0) e) (accepts L N (changes L N s.tables) s))
+clashing None None L N s edge first second e = absurd (subst IsAccepted (ap (λ r. r.0) e) (accepts (put L N s.tables) (changes L N s.tables) s))
 clashing None (Some c) L N s edge first second e =
     let w = parts_same c.edge edge c.first first c.second second (ap (λ r. r.0) e) in
     record { not_off = refl; found = c; is = refl; edge_is = w.0; first_is = w.1; second_is = w.2 }
@@ -181,7 +182,7 @@ clashes_by L N s edge first second = (
 
 -- ---- what is read again, and what is changed
 
-read_again : (s : State) (L : Lens) (N : Rows) → IsHere s L → IsOf N (sort_of L) → (ds : List TableDelta) → changes L N s.tables ≡ ds → get L (accept L N ds s).1.tables ≡ N
+read_again : (s : State) (L : Lens) (N : Rows) → IsHere s L → IsOf N (sort_of L) → (ds : List TableDelta) → changes L N s.tables ≡ ds → get L (accept (put L N s.tables) ds s).1.tables ≡ N
 read_again s L N here n [] is =
     let after = get_after L s.tables here.typed here.are N n in
     ap (get L) (sym (unchanged_put L N s.tables here.are after.0 is)) ∙ after.1
@@ -191,13 +192,13 @@ pub put_then_read : (s : State) (L : Lens) (N : Rows) → IsHere s L → AllFit 
 put_then_read s L N here fits h = ap (λ r. get L r.1.tables) (accepted_is L N s h) ∙ read_again s L N here (typed_of L N s fits h) (changes L N s.tables) refl
 
 -- the changes are told, with the version after them
-pub told : (s : State) (L : Lens) (N : Rows) (ds : List TableDelta) → (accept L N ds s).0 ≡ changed ds (accept L N ds s).1.version
-told s L N [] = refl
-told s L N (d ∷ ds) = refl
+pub told : (s : State) (db : Tables) (ds : List TableDelta) → (accept db ds s).0 ≡ changed ds (accept db ds s).1.version
+told s db [] = refl
+told s db (d ∷ ds) = refl
 
 pub changes_told : (L : Lens) (N : Rows) (s : State) → IsAccepted (put_set N L s).0 → (put_set N L s).0 ≡ changed (changes L N s.tables) (put_set N L s).1.version
 changes_told L N s h = let e = accepted_is L N s h in
-    ap (λ r. r.0) e ∙ told s L N (changes L N s.tables) ∙ ap (λ r. changed (changes L N s.tables) r.1.version) (sym e)
+    ap (λ r. r.0) e ∙ told s (put L N s.tables) (changes L N s.tables) ∙ ap (λ r. changed (changes L N s.tables) r.1.version) (sym e)
 
 are_diffs : (ts : List Name) (old new : Tables) → AreDiffs old new (differences ts old new)
 are_diffs [] old new = tt
@@ -206,7 +207,7 @@ are_diffs (t ∷ ts) old new = elim (is_empty (diff (table old t) (table new t))
   | false ↦ (refl, are_diffs ts old new)
 ]
 
-differ : (s : State) (L : Lens) (N : Rows) (ds : List TableDelta) → changes L N s.tables ≡ ds → changes L N s.tables ≡ differences (set.items (tables_of L)) s.tables (accept L N ds s).1.tables
+differ : (s : State) (L : Lens) (N : Rows) (ds : List TableDelta) → changes L N s.tables ≡ ds → changes L N s.tables ≡ differences (set.items (tables_of L)) s.tables (accept (put L N s.tables) ds s).1.tables
 differ s L N [] is = is ∙ sym (none_differ (set.items (tables_of L)) s.tables)
 differ s L N (d ∷ ds) is = refl
 
@@ -217,11 +218,11 @@ changes_differ L N s h =
     differ s L N (changes L N s.tables) refl ∙ ap (λ r. differences (set.items (tables_of L)) s.tables r.1.tables) (sym (accepted_is L N s h)) in
     (e, subst (AreDiffs s.tables (put_set N L s).1.tables) (sym e) (are_diffs (set.items (tables_of L)) s.tables (put_set N L s).1.tables))
 
-leaves : (L : Lens) (N : Rows) (ds : List TableDelta) (s : State) (t : Name) → set.contains (tables_of L) t ≡ false → finmap.get (accept L N ds s).1.tables t ≡ finmap.get s.tables t
+leaves : (L : Lens) (N : Rows) (ds : List TableDelta) (s : State) (t : Name) → set.contains (tables_of L) t ≡ false → finmap.get (accept (put L N s.tables) ds s).1.tables t ≡ finmap.get s.tables t
 leaves L N [] s t o = refl
 leaves L N (d ∷ ds) s t o = put_leaves L N s.tables t o
 
-pub others_stay : (r : Result Rows Answer) (L : Lens) (s : State) (t : Name) → set.contains (tables_of L) t ≡ false → finmap.get (settled r L s).1.tables t ≡ finmap.get s.tables t
+pub others_stay : (r : Result Rows EditRefusal) (L : Lens) (s : State) (t : Name) → set.contains (tables_of L) t ≡ false → finmap.get (settled r L s).1.tables t ≡ finmap.get s.tables t
 others_stay (Err refusal) L s t o = refl
 others_stay (Ok N) L s t o = leaves L N (changes L N s.tables) s t o
 
@@ -231,4 +232,4 @@ read_then_put s v name L e =
     let here = lens_here s v name L e in
     let none : changes L (get L s.tables) s.tables ≡ [] = ap (differences (set.items (tables_of L)) s.tables) (put_back L s.tables here.typed here.are) ∙ none_differ (set.items (tables_of L)) s.tables in
     let n = get_sort L s.tables here.typed here.are in
-    put_is_accept (get L s.tables) L s n.off n.clash ∙ ap (λ ds. accept L (get L s.tables) ds s) none
+    put_is_accept (get L s.tables) L s n.off n.clash ∙ ap (λ ds. accept (put L (get L s.tables) s.tables) ds s) none

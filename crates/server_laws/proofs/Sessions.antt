@@ -9,7 +9,7 @@ use Rattle.server_specs.specs.State.{State}
 use Rattle.server_specs.specs.Answer.{memory, store_fault, text}
 use Rattle.server_specs.specs.Answering.{answer}
 use Rattle.server_specs.specs.Session.{answered, not_stored, found_memory, out_of_memory, Replies, Step, Exchange, Chain, last_state, last_count, Session}
-use Rattle.server_laws.specs.SessionLaws.{answers, state_after, AreAnswered, is_fault}
+use Rattle.server_laws.specs.SessionLaws.{AllLeave, answers, state_after, AreAnswered, is_fault}
 use Rattle.server_laws.proofs.AnswerFacts.{said}
 use Rattle.server_laws.proofs.Texts.{no_fault_read, no_fault_in_memory, fault_read, not_memory, not_fault}
 
@@ -111,3 +111,13 @@ faults_counted s count lines replies last count' session below =
 
 pub read_otherwise : (s : State) (l : Line) → (text (answer s l).0 ≢ text memory) × (text (answer s l).0 ≢ text store_fault)
 read_otherwise s l = (not_memory (answer s l).0 (said s l).failure, not_fault (answer s l).0 (said s l).failure)
+
+-- ---- counts that stay
+
+chain_stays : (s : State) (count : ℕ) (es : List Exchange) → Chain s count es → AllLeave s es → last_count count es ≡ count
+chain_stays s count [] c h = refl
+chain_stays s count (e ∷ es) c h = chain_stays e.state e.count es c.1 h.1 ∙ c.0.still h.0
+
+pub counts_stay : (s : State) (count : ℕ) (lines : List Line) (replies : List (List ℕ)) (last : State) (count' : ℕ)
+    → (session : Session s count lines replies last count') → AllLeave s session.exchanges → count' ≡ count
+counts_stay s count lines replies last count' session h = sym session.count_is ∙ chain_stays s count session.exchanges session.chain h

@@ -50,5 +50,5 @@ latest_past last v past (t ∷ ts) =
 
 pub present_fresh : (s : State) → Valid s → (L : Lens) → is_stale s L (Some s.version) ≡ false
 present_fresh s v L =
-    let no_later = latest_past s.last s.version v.past (set.items (tables_of L)) in
+    let no_later = latest_past s.last s.version v.versions (set.items (tables_of L)) in
     or_from (nat_lt s.version (changed_at s L)) (nat_lt s.version s.version) (le-ltb s.version (changed_at s L) no_later) (le-ltb s.version s.version (omega arith))

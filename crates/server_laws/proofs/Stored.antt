@@ -1,7 +1,7 @@
 -- The tables of a valid state: those of the catalogue, each of its sort.
-use Rattle.std.proofs.Common.{◌≡◌, true, Option, Some, None, is_some, refl, sym, ap, subst, ◌∙◌, inl, inr}
+use Rattle.std.proofs.Common.{◌≡◌, Bool, true, false, Option, Some, None, is_some, refl, sym, ap, subst, ◌∙◌, inl, inr}
 use Rattle.std.specs.Prelude.{nat_eq}
-use Rattle.std.proofs.lemmas.Bool.{cases_Bool, or_cases}
+use Rattle.std.proofs.lemmas.Bool.{cases_Bool, or_cases, true≢false}
 use Rattle.std.specs.Cmp.Lexicographic.{pointwise, texts_ties}
 use Rattle.std.specs.FinMap as finmap
 use Rattle.lens_values.specs.SortedSet as set
@@ -10,18 +10,18 @@ use Rattle.fd_laws.proofs.Names.{name_total, name_itself, one_is}
 use Rattle.lens_laws.proofs.Rules.{sort_is_typed}
 use Rattle.lens_laws.specs.Lenses.{IsTyped, AreOf}
 use Rattle.lens_specs.specs.Names.{Name}
+use Rattle.lens_specs.specs.Columns.{Fits}
 use Rattle.lens_specs.specs.Relation.{Relation, Rows}
 use Rattle.lens_specs.specs.Sort.{Sort, IsOfSort}
 use Rattle.lens_specs.specs.Lens.{Tables, Lens, base, select, drop, rename, join, sort_of, tables_of, put}
-use Rattle.catalog_specs.specs.Catalogue.{Catalogue, catalogue}
+use Rattle.catalog_specs.specs.Catalogue.{Catalogue, catalogue, is_table_of}
+use Rattle.catalog_specs.specs.Judging.{first_refused}
 use Rattle.server_specs.specs.State.{State}
 use Rattle.server_specs.specs.Validity.{IsRelationOf, IsStoredAs, IsStored, Valid}
+pub use Rattle.server_specs.specs.Validity.{AreStored}
 use Rattle.server_laws.proofs.Kept.{AreThere, put_keeps}
+use Rattle.server_laws.proofs.Leading.{IsAlike}
 use Rattle.server_laws.proofs.Taken.{BasesAre, IsKnown, all_known}
-
--- the tables are those of the catalogue
-abbrev pub AreStored : Catalogue → Tables → Type 0
-AreStored known db = (name : Name) → IsStored name (finmap.get known name) (finmap.get db name)
 
 -- a name is the same as itself
 pub name_same : (t : Name) → pointwise nat_eq t t ≡ true
@@ -85,6 +85,41 @@ put_names L N db h q = elim (cases_Bool (set.contains (tables_of L) q)) [
   | inr o ↦ ap is_some (put_leaves L N db q o)
 ]
 
+-- ---- tables of one catalogue
+
+alike_as : (b : Bool) (L : Lens) (t : Name) (old new : Tables) (p q : Option Relation) → finmap.get old t ≡ p → finmap.get new t ≡ q → IsStoredAs b L p → IsStoredAs b L q → is_some p ≡ true → IsAlike old new t
+alike_as false L t old new p q was is h k there = absurd (true≢false (sym there ∙ ap is_some h))
+alike_as true L t old new None q was is h k there = absurd h
+alike_as true L t old new (Some M) None was is h k there = absurd k
+alike_as true L t old new (Some M) (Some N) was is h k there = record {
+  before = M;
+  later = N;
+  was = was;
+  is = is;
+  columns = k.0 ∙ sym h.0;
+  before_fits = λ r i. subst (λ U. Fits U r) (sym h.0) (h.1.columns r i);
+  later_fits = λ r i. subst (λ U. Fits U r) (sym k.0) (k.1.columns r i);
+}
+
+alike_at : (t : Name) (o : Option Lens) (old new : Tables) → IsStored t o (finmap.get old t) → IsStored t o (finmap.get new t) → is_some (finmap.get old t) ≡ true → IsAlike old new t
+alike_at t None old new h k there = absurd (true≢false (sym there ∙ ap is_some h))
+alike_at t (Some L) old new h k there = alike_as (is_table_of t L) L t old new (finmap.get old t) (finmap.get new t) refl refl h k there
+
+-- a table that is there in one is there in the other, with the same columns
+pub stored_alike : (known : Catalogue) (old new : Tables) → AreStored known old → AreStored known new → (t : Name) → is_some (finmap.get old t) ≡ true → IsAlike old new t
+stored_alike known old new h k t there = alike_at t (finmap.get known t) old new (h t) (k t) there
+
+-- and one that is not there in one is not in the other
+pub stored_absent : (known : Catalogue) (old new : Tables) → AreStored known old → AreStored known new → (t : Name) → is_some (finmap.get old t) ≡ false → finmap.get new t ≡ finmap.get old t
+stored_absent known old new h k t absent = elim (cases_Bool (is_some (finmap.get new t))) [
+  | inl there ↦ let a = stored_alike known new old k h t there in absurd (true≢false (sym (ap is_some a.is) ∙ absent))
+  | inr gone ↦ absent_is (finmap.get new t) gone ∙ sym (absent_is (finmap.get old t) absent)
+]
+  where
+    absent_is : (o : Option Relation) → is_some o ≡ false → o ≡ None
+    absent_is None e = refl
+    absent_is (Some r) e = absurd (true≢false e)
+
 -- ---- a lens of a valid state
 
 -- what is known of a lens of a valid state
@@ -93,7 +128,11 @@ pub record IsHere (s : State) (L : Lens) : Type 0 where
   pub typed : IsTyped L
   pub are : AreOf L s.tables
 
+-- over any tables of the catalogue
+pub lens_over : (s : State) → first_refused s.texts ≡ None → AreStored (catalogue s.texts) s.tables → (name : Name) (L : Lens) → finmap.get (catalogue s.texts) name ≡ Some L → IsHere s L
+lens_over s taken stored name L e =
+    let k = all_known s.texts taken name L e in
+    record { known = k; typed = (sort_is_typed L (sort_of L) k.sound k.sorted).1; are = are_of (catalogue s.texts) s.tables stored L k.bases }
+
 pub lens_here : (s : State) → Valid s → (name : Name) (L : Lens) → finmap.get (catalogue s.texts) name ≡ Some L → IsHere s L
-lens_here s v name L e =
-    let k = all_known s.texts v.definitions name L e in
-    record { known = k; typed = (sort_is_typed L (sort_of L) k.sound k.sorted).1; are = are_of (catalogue s.texts) s.tables v.tables L k.bases }
+lens_here s v name L e = lens_over s v.definitions v.tables name L e

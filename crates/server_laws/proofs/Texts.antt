@@ -6,7 +6,9 @@ use Rattle.std.specs.Fmt.{digits}
 use Rattle.serde_json.proofs.OnLiterals.{serde_json_on_literals}
 use Rattle.lens_specs.specs.Refusal as refusal
 use Rattle.lens_specs.specs.Refusal.{Refusal}
-use Rattle.server_specs.specs.Answer.{Answer, defined, shown, changed, described, listed, memory, long_line, not_json, bad_request, syntax, name_taken, unknown_name, refused, bad_row, stale, off_predicate, clash, store_fault, text}
+use Rattle.server_specs.specs.EditRefusal as refusals
+use Rattle.server_specs.specs.EditRefusal.{EditRefusal}
+use Rattle.server_specs.specs.Answer.{Answer, defined, shown, changed, described, listed, memory, long_line, not_json, bad_request, syntax, name_taken, unknown_name, refused, bad_row, stale, off_predicate, clash, in_edit, nothing_to_undo, exported, nullable_column, bad_record, store_fault, text}
 use Rattle.server_laws.specs.Answers.{IsFailure}
 
 -- whether the two answers read alike
@@ -34,6 +36,14 @@ refused_otherwise (refusal.table_twice name) = record { memory = refl; fault = r
 refused_otherwise (refusal.too_large what) = record { memory = refl; fault = refl }
 refused_otherwise (refusal.column_taken name) = record { memory = refl; fault = refl }
 
+edit_otherwise : (i : ℕ) (why : EditRefusal) → ReadsOtherwise (in_edit i why)
+unfolding text serde_json_on_literals digits
+edit_otherwise i (refusals.unknown_name name) = record { memory = refl; fault = refl }
+edit_otherwise i (refusals.bad_row which index name) = record { memory = refl; fault = refl }
+edit_otherwise i (refusals.stale changed_at version) = record { memory = refl; fault = refl }
+edit_otherwise i (refusals.off_predicate row) = record { memory = refl; fault = refl }
+edit_otherwise i (refusals.clash edge first second) = record { memory = refl; fault = refl }
+
 otherwise : (a : Answer) → (IsFailure a → ⊥) → ReadsOtherwise a
 unfolding text serde_json_on_literals digits
 otherwise (defined version) h = record { memory = refl; fault = refl }
@@ -53,6 +63,11 @@ otherwise (bad_row which index name) h = record { memory = refl; fault = refl }
 otherwise (stale changed_at version) h = record { memory = refl; fault = refl }
 otherwise (off_predicate row) h = record { memory = refl; fault = refl }
 otherwise (clash edge first second) h = record { memory = refl; fault = refl }
+otherwise (in_edit i why) h = edit_otherwise i why
+otherwise nothing_to_undo h = record { memory = refl; fault = refl }
+otherwise (exported csv version) h = record { memory = refl; fault = refl }
+otherwise (nullable_column name) h = record { memory = refl; fault = refl }
+otherwise (bad_record place) h = record { memory = refl; fault = refl }
 otherwise store_fault h = absurd (h tt)
 
 memory_reads : reads_as memory memory ≡ true

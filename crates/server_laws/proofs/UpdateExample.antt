@@ -14,7 +14,7 @@ use Rattle.lens_values.proofs.ValueLemmas.{int_fits}
 use Rattle.fd_laws.proofs.Lists.{absurd_false}
 use Rattle.fd_laws.proofs.Names.{name_total}
 use Rattle.lens_specs.specs.Relation.{has}
-use Rattle.lens_specs.specs.Lens.{get}
+use Rattle.lens_specs.specs.Lens.{get, put as put_rows}
 use Rattle.lens_specs.specs.Delta.{TableDelta, changes}
 use Rattle.io_specs.specs.Lines.{Line, line}
 use Rattle.server_specs.specs.Answer.{shown, in_rows, text}
@@ -29,8 +29,9 @@ use Rattle.server_laws.proofs.Puts.{accepted_is, put_then_read}
 use Rattle.server_laws.proofs.Stale.{present_fresh}
 use Rattle.server_laws.proofs.Stored.{lens_here}
 use Rattle.server_laws.specs.Answers.{IsAccepted, IsChange}
-use Rattle.server_laws.specs.ChangeLaws.{SendsView}
+use Rattle.server_laws.specs.ChangeLaws.{SendsView, by_rows}
 use Rattle.server_laws.specs.PutLaws.{put_set}
+use Rattle.server_laws.specs.UpdateLaws.{by_itself}
 use Rattle.server_laws.specs.Witness.{UpdatesCanRest}
 
 -- ---- the two lines
@@ -38,7 +39,7 @@ use Rattle.server_laws.specs.Witness.{UpdatesCanRest}
 abbrev read_line : Line
 read_line = line (codes "{\"do\":\"read\",\"view\":\"v\"}")
 
-abbrev put_line : Line
+abbrev pub put_line : Line
 put_line = line (codes "{\"do\":\"put\",\"on\":2,\"rows\":[{\"a\":1}],\"view\":\"v\"}")
 
 abbrev members : Members
@@ -57,7 +58,7 @@ put_asked = refl
 
 -- ---- the rows that are sent
 
-one_entry : finmap.entries U ≡ listing
+pub one_entry : finmap.entries U ≡ listing
 one_entry = finmap.entries-insert name_total (finmap.empty {X = Kind} {R = bytes_cmp}) a kind.Int
     ∙ ap (listed.put bytes_cmp a kind.Int) (nothing (finmap.entries (finmap.empty {X = Kind} {R = bytes_cmp}))
     (sym (finmap.len-entries (finmap.empty {X = Kind} {R = bytes_cmp})) ∙ finmap.len-empty bytes_cmp Kind))
@@ -69,18 +70,18 @@ rows_are =
     ∙ ap (λ b. with_row (row_from (with_pair a (cond b (Some (Int (pos 1))) None) (Ok [])) None) (Ok [])) (int_fits (pos 1))
 
 sends : SendsView state put_line v V (Some 2) N
-sends = record { sent = whole items; line = record { asked = put_asked; lens = known_view }; view = ap (as_set in_rows) rows_are }
+sends = by_rows (whole items) (record { asked = put_asked; lens = known_view }) (ap (as_set in_rows) rows_are)
 
 -- ---- the answers
 
 read_is : answer state read_line ≡ (shown (get V state.tables) 2, state)
 read_is = lines_read state read_line v V (record { asked = read_asked; lens = known_view })
 
-put_is : answer state put_line ≡ put_set N V state
+pub put_is : answer state put_line ≡ put_set N V state
 put_is = puts_set state put_line v V (Some 2) N sends (present_fresh state valid V)
 
 -- the row is new, so that a table changes
-moves : (ds : List TableDelta) → put_set N V state ≡ accept V N ds state → IsChange (put_set N V state).0
+pub moves : (ds : List TableDelta) → put_set N V state ≡ accept (put_rows V N state.tables) ds state → IsChange (put_set N V state).0
 moves [] e =
     let same : get V state.tables ≡ N = ap (λ r. get V r.1.tables) (sym e) ∙ put_then_read state V N (lens_here state valid v V known_view) all_fit accepted in
     absurd_false _ there (ap (λ M. has M row) (sym same) ∙ is_new)
@@ -91,14 +92,14 @@ moves (d ∷ ds) e = subst (λ r. IsChange r.0) (sym e) tt
 abbrev reading : Exchange
 reading = record { line = read_line; reply = text (answer state read_line).0; state = state; count = 0 }
 
-abbrev changing : Exchange
+abbrev pub changing : Exchange
 changing = record { line = put_line; reply = text (answer state put_line).0; state = (answer state put_line).1; count = 0 }
 
 read_step : Step state 0 reading.line reading.reply reading.state 0
-read_step = record { later = omega arith; replied = found_memory (answered refl (sym (ap (λ r. r.1) read_is))) }
+read_step = record { later = omega arith; still = λ _. refl; replied = found_memory (answered refl (sym (ap (λ r. r.1) read_is))) }
 
-put_step : Step state 0 changing.line changing.reply changing.state 0
-put_step = record { later = omega arith; replied = found_memory (answered refl refl) }
+pub put_step : Step state 0 changing.line changing.reply changing.state 0
+put_step = record { later = omega arith; still = λ _. refl; replied = found_memory (answered refl refl) }
 
 abbrev session : Session state 0 (read_line ∷ put_line ∷ []) (reading.reply ∷ changing.reply ∷ []) changing.state 0
 session = record { exchanges = reading ∷ changing ∷ []; chain = (read_step, (put_step, tt)); lines_are = refl; replies_are = refl; last_is = refl; count_is = refl }
@@ -120,6 +121,6 @@ updates_can_rest = record {
   view = λ table. refl;
   rows = get V state.tables;
   version = 2;
-  rests = record { asked = read_asked; told = ap (λ r. r.0) read_is; sent = whole items; rests = put_asked; accepted = subst (λ r. IsAccepted r.0) (sym put_is) accepted };
+  rests = record { asked = read_asked; told = ap (λ r. r.0) read_is; rests = by_itself (whole items) put_asked; accepted = subst (λ r. IsAccepted r.0) (sym put_is) accepted };
   changes = subst (λ r. IsChange r.0) (sym put_is) (moves (changes V N state.tables) (accepted_is V N state accepted));
 }

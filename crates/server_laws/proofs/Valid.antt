@@ -1,6 +1,7 @@
 -- Every state that the server reaches is valid.
-use Rattle.std.proofs.Common.{◌≡◌, ◌≤◌, ◌+◌, ℕ, Bool, true, false, cond, ◌||◌, List, [], ◌∷◌, ◌++◌, Option, Some, None, Result, Ok, Err, is_some, refl, sym, ap, subst, ◌∙◌, arith}
-use Rattle.std.specs.Prelude.{IfSome}
+use Rattle.std.proofs.Common.{◌≡◌, ◌≤◌, ◌+◌, ◌-◌, ℕ, length, reverse, take, Bool, true, false, cond, List, [], ◌∷◌, ◌++◌, Option, Some, None, Result, Ok, Err, is_some, refl, sym, ap, subst, ◌∙◌, arith}
+use Rattle.std.specs.Prelude.{IfSome, ◌≢◌, slice_get}
+use Rattle.std.proofs.lemmas.List.{length-take}
 use Rattle.std.proofs.lemmas.Bool.{true≢false}
 use Rattle.std.specs.FinMap as finmap
 use Rattle.std.specs.List.{AllByRecursion}
@@ -9,36 +10,43 @@ use Rattle.lens_values.specs.Order.{bytes_cmp}
 use Rattle.lens_values.specs.Row.{row_cmp}
 use Rattle.lens_values.specs.SortedSet as set
 use Rattle.lens_values.specs.declared.row.Row.{Row}
-use Rattle.lens_laws.proofs.Lenses.{get_after}
 use Rattle.fd_laws.proofs.Lists.{absurd_false}
-use Rattle.fd_laws.proofs.Names.{name_total, name_itself, tied_name}
+use Rattle.fd_laws.proofs.Names.{name_total, tied_name}
 use Rattle.lens_laws.proofs.Sorts.{none_off, none_clash}
-use Rattle.lens_laws.specs.Lenses.{AreOf}
-use Rattle.lens_specs.specs.Names.{Name, is_among}
+use Rattle.lens_specs.specs.Names.{Name}
 use Rattle.lens_specs.specs.Columns.{Columns, Fits}
 use Rattle.lens_specs.specs.Relation.{Relation, Rows, has}
 use Rattle.lens_specs.specs.Predicate.{Predicate}
 use Rattle.lens_specs.specs.Dependencies.{Edge, MeetsTree}
 use Rattle.lens_specs.specs.Sort.{Sort, IsOf}
-use Rattle.lens_specs.specs.Lens.{Tables, Lens, sort_of, tables_of, put}
-use Rattle.lens_specs.specs.Delta.{TableDelta, changes, differences, diff, is_empty}
-use Rattle.lens_specs.specs.Lens.{table as rows_of_table}
+use Rattle.lens_specs.specs.Lens.{Tables, Lens, sort_of, put}
+use Rattle.lens_specs.specs.Delta.{TableDelta, changes, differences}
 use Rattle.grammar_specs.specs.Meaning.{Definition, table, view}
 use Rattle.io_specs.specs.Lines.{Line}
 use Rattle.grammar_laws.specs.Reading.{reading}
-use Rattle.catalog_specs.specs.Catalogue.{Catalogue, catalogue, with_definition, with_lens, sort_with, table_lens, is_table_of}
+use Rattle.catalog_specs.specs.Catalogue.{Catalogue, catalogue, with_definition, lens_of, with_lens, sort_with, table_lens, is_table_of}
 use Rattle.catalog_specs.specs.Judging.{CatalogFault, judged, is_taken}
 use Rattle.catalog_specs.proofs.Catalogues.{catalogue-push}
-use Rattle.server_specs.specs.State.{State, fresh}
+use Rattle.server_specs.specs.State.{State, fresh, remember}
+use Rattle.lens_specs.specs.TableDeltas.{LeadTo, inverted, with_deltas}
+use Rattle.server_specs.specs.EditRefusal.{EditRefusal}
 use Rattle.server_specs.specs.Answer.{Answer}
-use Rattle.server_specs.specs.Request.{Request, define, read, find_at, put as put_request, edit, preview, describe, list, request}
+use Rattle.server_specs.specs.Request.{Request, define, read, find_at, put as put_request, edit, preview, describe, list, batch, undo, export, import, request}
 use Rattle.server_specs.specs.Defining.{answer_definition, with_defined}
-use Rattle.server_specs.specs.Changing.{Sent, whole, edited, of_sort, asked_view, accept, with_last, settled, changed_by}
+use Rattle.server_specs.specs.Changing.{Sent, whole, edited, of_sort, asked_view, tested, accept, with_last, settled, changed_by}
 use Rattle.server_specs.specs.Answering.{answer, answer_request}
 use Rattle.server_specs.specs.Session.{Replies, answered, not_stored, found_memory, out_of_memory, Exchange, Chain, last_state, Session}
-use Rattle.server_specs.specs.Validity.{IsStoredAs, IsStored, Valid}
-use Rattle.server_laws.proofs.Asked.{GivesTyped, sort_typed, asked_typed}
-use Rattle.server_laws.proofs.Stored.{AreStored, as_stored, stored_put, put_names, are_there, IsHere, lens_here}
+use Rattle.server_specs.specs.Validity.{AreStored, CanUndo, IsDifference, IsStoredAs, IsStored, Valid}
+use Rattle.server_specs.specs.Batching.{batch_settled, edits_from}
+use Rattle.server_specs.specs.Undoing.{undone}
+use Rattle.server_specs.specs.Exporting.{imported_by}
+use Rattle.server_laws.proofs.AnswerFacts.{of_import}
+use Rattle.server_laws.proofs.Asked.{GivesTyped, sort_typed, asked_typed, read_typed}
+use Rattle.server_laws.proofs.Edited.{edits_stored}
+use Rattle.server_laws.proofs.Led.{IsChangeTo, led_names, put_change, tables_change}
+use Rattle.lens_laws.proofs.Moves.{AllThere, all_there}
+use Rattle.server_laws.proofs.Remembered.{all_taken, can_undo_more, can_undo_still, can_undo_with, differences_remembered, few_remembered, reverse_last}
+use Rattle.server_laws.proofs.Stored.{as_stored, IsHere, lens_here}
 use Rattle.server_laws.proofs.Taken.{IsTaken, judged_ok, not_own, lens_is, lens_is_known, all_known, first_refused-push}
 use Rattle.server_laws.specs.PutLaws.{put_set}
 
@@ -47,7 +55,10 @@ fresh_is_valid = record {
   definitions = refl;
   tables = λ name. subst (λ o. IsStored name o (finmap.get (finmap.empty {X = Relation} {R = bytes_cmp}) name)) (sym (finmap.get-empty bytes_cmp name)) (finmap.get-empty bytes_cmp name);
   last = λ name. ap is_some (finmap.get-empty bytes_cmp name) ∙ sym (ap is_some (finmap.get-empty bytes_cmp name));
-  past = λ name. subst (λ o. IfSome o (λ version. version ≤ 0)) (sym (finmap.get-empty bytes_cmp name)) tt;
+  versions = λ name. subst (λ o. IfSome o (λ version. version ≤ 0)) (sym (finmap.get-empty bytes_cmp name)) tt;
+  few = omega arith;
+  differences = tt;
+  past = tt;
 }
 
 -- ---- versions of tables
@@ -59,17 +70,17 @@ later (Some n) v w l h = omega arith
 
 module _ (last : finmap.FinMap bytes_cmp ℕ) (v : ℕ) where
   -- a version that is put under a name is there, and is no later
-  put_past : (name q : Name) → IfSome (finmap.get last q) (λ version. version ≤ v) → IfSome (finmap.get (finmap.insert last name v) q) (λ version. version ≤ v)
-  put_past name q h = subst (λ o. IfSome o (λ version. version ≤ v)) (sym (finmap.get-insert name_total last name v q)) (either (eq_by_cmp bytes_cmp q name) (finmap.get last q) h)
+  put_version : (name q : Name) → IfSome (finmap.get last q) (λ version. version ≤ v) → IfSome (finmap.get (finmap.insert last name v) q) (λ version. version ≤ v)
+  put_version name q h = subst (λ o. IfSome o (λ version. version ≤ v)) (sym (finmap.get-insert name_total last name v q)) (either (eq_by_cmp bytes_cmp q name) (finmap.get last q) h)
     where
       either : (b : Bool) (o : Option ℕ) → IfSome o (λ version. version ≤ v) → IfSome (cond b (Some v) o) (λ version. version ≤ v)
       either true o h = omega arith
       either false o h = h
 
-with_last_past : (v : ℕ) (ds : List TableDelta) (last : finmap.FinMap bytes_cmp ℕ) → ((q : Name) → IfSome (finmap.get last q) (λ version. version ≤ v))
+with_last_versions : (v : ℕ) (ds : List TableDelta) (last : finmap.FinMap bytes_cmp ℕ) → ((q : Name) → IfSome (finmap.get last q) (λ version. version ≤ v))
     → (q : Name) → IfSome (finmap.get (with_last v ds last) q) (λ version. version ≤ v)
-with_last_past v [] last h q = h q
-with_last_past v (d ∷ ds) last h q = with_last_past v ds (finmap.insert last d.table v) (λ u. put_past last v d.table u (h u)) q
+with_last_versions v [] last h q = h q
+with_last_versions v (d ∷ ds) last h q = with_last_versions v ds (finmap.insert last d.table v) (λ u. put_version last v d.table u (h u)) q
 
 -- each of the changed tables has a version
 abbrev AllIn : finmap.FinMap bytes_cmp ℕ → List TableDelta → Type 0
@@ -90,46 +101,36 @@ with_last_names : (v : ℕ) (ds : List TableDelta) (last : finmap.FinMap bytes_c
 with_last_names v [] last h q = refl
 with_last_names v (d ∷ ds) last h q = with_last_names v ds (finmap.insert last d.table v) (all_in_after last v d.table h.0 ds h.1) q ∙ same_names last v d.table h.0 q
 
--- the tables of differences are among the names
-all_of_differences : (P : Name → Type 0) (ts : List Name) (old new : Tables) → AllByRecursion P ts → AllByRecursion (λ d. P d.table) (differences ts old new)
-all_of_differences P [] old new h = tt
-all_of_differences P (t ∷ ts) old new h =
-    let rest = all_of_differences P ts old new h.1 in
-    elim (is_empty (diff (rows_of_table old t) (rows_of_table new t))) as (λ b. AllByRecursion (λ d. P d.table) (cond b (differences ts old new) (record { table = t; delta = diff (rows_of_table old t) (rows_of_table new t) } ∷ differences ts old new))) [
-      | true ↦ rest
-      | false ↦ (h.0, rest)
-    ]
+-- ---- changes of tables
 
-each : (P : Name → Type 0) (ts : List Name) → ((t : Name) → is_among t ts ≡ true → P t) → AllByRecursion P ts
-each P [] h = tt
-each P (t ∷ ts) h = (h t (ap (λ b. b || is_among t ts) (name_itself t)), each P ts (λ u i. h u (behind (eq_by_cmp bytes_cmp u t) (is_among u ts) i)))
-  where
-    behind : (a b : Bool) → b ≡ true → (a || b) ≡ true
-    behind true b e = refl
-    behind false b e = e
+named : (last : finmap.FinMap bytes_cmp ℕ) (db : Tables) (ds : List TableDelta) → ((q : Name) → is_some (finmap.get last q) ≡ is_some (finmap.get db q)) → AllThere ds db → AllIn last ds
+named last db [] h there = tt
+named last db (d ∷ ds) h there = (h d.table ∙ there.0, named last db ds h there.1)
 
--- ---- puts
+-- differences that lead to other tables, with the changes that can then be undone
+valid_led : (s : State) (ds : List TableDelta) (db : Tables) (past : List (List TableDelta)) → Valid s → AreStored (catalogue s.texts) db → LeadTo ds s.tables db
+    → length past ≤ 16 → AllByRecursion IsDifference past → CanUndo (catalogue s.texts) db (reverse past)
+    → Valid (record s { tables = db; version = s.version + 1; last = with_last (s.version + 1) ds s.last; past = past })
+valid_led s ds db past v stored leads few differ can = record {
+  definitions = v.definitions;
+  tables = stored;
+  last = λ q. with_last_names (s.version + 1) ds s.last (named s.last s.tables ds v.last (all_there ds s.tables leads.0)) q ∙ v.last q ∙ sym (led_names ds s.tables db leads q);
+  versions = λ q. with_last_versions (s.version + 1) ds s.last (λ u. later (finmap.get s.last u) s.version (s.version + 1) (omega arith) (v.versions u)) q;
+  few = few;
+  differences = differ;
+  past = can;
+}
 
-valid_put : (s : State) (L : Lens) (N : Rows) → Valid s → IsHere s L → AreOf L (put L N s.tables) → Valid (record s { tables = put L N s.tables; version = s.version + 1; last = with_last (s.version + 1) (changes L N s.tables) s.last })
-valid_put s L N v here are =
-    let there : (t : Name) → is_among t (set.items (tables_of L)) ≡ true → is_some (finmap.get s.last t) ≡ true = λ t i. v.last t ∙ are_there L s.tables here.are t (set.contains-items (tables_of L) t ∙ i) in
-    let all : AllIn s.last (changes L N s.tables) = all_of_differences (λ t. is_some (finmap.get s.last t) ≡ true) (set.items (tables_of L)) s.tables (put L N s.tables)
-    (each (λ t. is_some (finmap.get s.last t) ≡ true) (set.items (tables_of L)) there) in
-    record {
-      definitions = v.definitions;
-      tables = stored_put (catalogue s.texts) s.tables L N v.tables here.known.bases are;
-      last = λ q. with_last_names (s.version + 1) (changes L N s.tables) s.last all q ∙ v.last q ∙ sym (put_names L N s.tables (are_there L s.tables here.are) q);
-      past = λ q. with_last_past (s.version + 1) (changes L N s.tables) s.last (λ u. later (finmap.get s.last u) s.version (s.version + 1) (omega arith) (v.past u)) q;
-    }
+pub valid_accept : (s : State) (ds : List TableDelta) (db : Tables) → Valid s → IsChangeTo s ds db → Valid (accept db ds s).1
+valid_accept s [] db v h = v
+valid_accept s (d ∷ ds) db v h =
+    let some : (d ∷ ds) ≢ [] = λ e. cc in
+    valid_led s (d ∷ ds) db (remember (d ∷ ds) s.past) v h.stored h.leads (few_remembered (d ∷ ds) s.past) (differences_remembered (d ∷ ds) s.past v.differences (some, h.deltas))
+    (can_undo_more (catalogue s.texts) s.tables db (d ∷ ds) s.past v.tables h.back v.past)
 
-pub valid_accept : (s : State) (L : Lens) (N : Rows) → Valid s → IsHere s L → IsOf N (sort_of L) → (ds : List TableDelta) → changes L N s.tables ≡ ds → Valid (accept L N ds s).1
-valid_accept s L N v here n [] is = v
-valid_accept s L N v here n (d ∷ ds) is = subst (λ l. Valid (record s { tables = put L N s.tables; version = s.version + 1; last = with_last (s.version + 1) l s.last })) is
-    (valid_put s L N v here (get_after L s.tables here.typed here.are N n).0)
-
-valid_settled : (s : State) (L : Lens) → Valid s → IsHere s L → (r : Result Rows Answer) → GivesTyped L r → Valid (settled r L s).1
-valid_settled s L v here (Err refusal) typed = v
-valid_settled s L v here (Ok N) typed = valid_accept s L N v here (typed N refl) (changes L N s.tables) refl
+valid_settled : (s : State) (L : Lens) → Valid s → IsHere s L → (r : Result Rows EditRefusal) → GivesTyped L r → Valid (settled r L s).1
+valid_settled s L v here (Err why) typed = v
+valid_settled s L v here (Ok N) typed = valid_accept s (changes L N s.tables) (put L N s.tables) v (put_change s L N v here (typed N refl))
 
 pub valid_put_set : (s : State) (L : Lens) (N : Rows) → Valid s → IsHere s L → ((r : Row) → has N r ≡ true → Fits (sort_of L).columns r) → Valid (put_set N L s).1
 valid_put_set s L N v here fits = valid_settled s L v here (of_sort (sort_of L) N) (sort_typed L N fits)
@@ -137,6 +138,32 @@ valid_put_set s L N v here fits = valid_settled s L v here (of_sort (sort_of L) 
 valid_changed : (s : State) → Valid s → (sent : Sent) (on : Option ℕ) (name : Name) (o : Option Lens) → finmap.get (catalogue s.texts) name ≡ o → Valid (changed_by sent on name o s).1
 valid_changed s v sent on name None is = v
 valid_changed s v sent on name (Some L) is = let here = lens_here s v name L is in valid_settled s L v here (asked_view s L sent on) (asked_typed s L here sent on)
+
+valid_import : (s : State) → Valid s → (csv : List ℕ) (on : Option ℕ) (name : Name) → Valid (imported_by csv on name (finmap.get (catalogue s.texts) name) s).1
+valid_import s v csv on name =
+    of_import (λ r. Valid r.1) s on (λ a refuses. v) csv name (λ L is M fits. valid_settled s L v (lens_here s v name L is) (tested s L on (Ok M)) (read_typed s L on M fits))
+
+valid_batch : (s : State) → Valid s → (r : Result Tables (ℕ × EditRefusal)) → ((db : Tables) → r ≡ Ok db → AreStored (catalogue s.texts) db) → Valid (batch_settled r s).1
+valid_batch s v (Err found) stored = v
+valid_batch s v (Ok db) stored = valid_accept s (differences (finmap.keys s.tables) s.tables db) db v (tables_change s db v (stored db refl))
+
+-- ---- undone changes
+
+-- the first of the changes that can be undone
+pub first_undo : (s : State) (cs : List TableDelta) → Valid s → slice_get s.past (length s.past - 1) ≡ Some cs → CanUndo (catalogue s.texts) s.tables (cs ∷ reverse (take (length s.past - 1) s.past))
+first_undo s cs v is = subst (CanUndo (catalogue s.texts) s.tables) (reverse_last s.past cs is) v.past
+
+pub undo_leads : (s : State) (cs : List TableDelta) → Valid s → slice_get s.past (length s.past - 1) ≡ Some cs → LeadTo (inverted cs) s.tables (with_deltas (inverted cs) s.tables)
+undo_leads s cs v is = ((first_undo s cs v is).0, refl)
+
+pub valid_undone : (s : State) → Valid s → (o : Option (List TableDelta)) → slice_get s.past (length s.past - 1) ≡ o → Valid (undone o s).1
+valid_undone s v None is = v
+valid_undone s v (Some cs) is =
+    let can = first_undo s cs v is in
+    let few = v.few in
+    let shorter = length-take (length s.past - 1) s.past in
+    valid_led s (inverted cs) (with_deltas (inverted cs) s.tables) (take (length s.past - 1) s.past) v can.1 (undo_leads s cs v is)
+    (omega arith) (all_taken IsDifference (length s.past - 1) s.past v.differences) can.2
 
 -- ---- definitions
 
@@ -194,6 +221,10 @@ known_after s text d j = catalogue-push s.texts text ∙ ap (λ r. with_definiti
 stored_after : (s : State) (text : List ℕ) (d : Definition) → judged (catalogue s.texts) (reading text) ≡ Ok d → (db : Tables) → AreStored (with_definition (Ok d) (catalogue s.texts)) db → AreStored (catalogue (s.texts ++ text ∷ [])) db
 stored_after s text d j db h = subst (λ k. AreStored k db) (sym (known_after s text d j)) h
 
+undo_after : (s : State) (text : List ℕ) (d : Definition) → judged (catalogue s.texts) (reading text) ≡ Ok d → (db : Tables) → CanUndo (with_definition (Ok d) (catalogue s.texts)) db (reverse s.past)
+    → CanUndo (catalogue (s.texts ++ text ∷ [])) db (reverse s.past)
+undo_after s text d j db h = subst (λ k. CanUndo k db (reverse s.past)) (sym (known_after s text d j)) h
+
 inserted_names : (last : finmap.FinMap bytes_cmp ℕ) (db : Tables) (name : Name) (v : ℕ) (r : Relation) → ((q : Name) → is_some (finmap.get last q) ≡ is_some (finmap.get db q))
     → (q : Name) → is_some (finmap.get (finmap.insert last name v) q) ≡ is_some (finmap.get (finmap.insert db name r) q)
 inserted_names last db name v r h q = ap is_some (finmap.get-insert name_total last name v q) ∙ either (eq_by_cmp bytes_cmp q name) (finmap.get last q) (finmap.get db q) (h q)
@@ -204,23 +235,34 @@ inserted_names last db name v r h q = ap is_some (finmap.get-insert name_total l
     either false o t e = e
 
 later_all : (s : State) → Valid s → (q : Name) → IfSome (finmap.get s.last q) (λ version. version ≤ s.version + 1)
-later_all s v q = later (finmap.get s.last q) s.version (s.version + 1) (omega arith) (v.past q)
+later_all s v q = later (finmap.get s.last q) s.version (s.version + 1) (omega arith) (v.versions q)
 
 pub valid_taken : (s : State) (text : List ℕ) (d : Definition) → Valid s → judged (catalogue s.texts) (reading text) ≡ Ok d → IsTaken (catalogue s.texts) d → Valid (with_defined text d s)
 valid_taken s text (table name columns deps P) v j h = record {
   definitions = first_refused-push s.texts text (table name columns deps P) v.definitions j;
   tables = stored_after s text (table name columns deps P) j (finmap.insert s.tables name (record { columns = columns; rows = set.empty })) (stored_table (catalogue s.texts) s.tables name columns deps P v.tables);
   last = inserted_names s.last s.tables name (s.version + 1) (record { columns = columns; rows = set.empty }) v.last;
-  past = λ q. put_past s.last (s.version + 1) name q (later_all s v q);
+  versions = λ q. put_version s.last (s.version + 1) name q (later_all s v q);
+  few = v.few;
+  differences = v.differences;
+  past = undo_after s text (table name columns deps P) j (finmap.insert s.tables name (record { columns = columns; rows = set.empty }))
+      (can_undo_with name (record { columns = columns; rows = set.empty }) (catalogue s.texts) (finmap.insert (catalogue s.texts) name (table_lens name columns deps P))
+      (λ db stored. stored_table (catalogue s.texts) db name columns deps P stored)
+      (λ db stored. ap is_some (no_table name (finmap.get (catalogue s.texts) name) (finmap.get db name) h.0 (stored name)))
+      s.tables (reverse s.past) v.tables v.past);
 }
 valid_taken s text (view name expr) v j h =
     let known = catalogue s.texts in
     let k = lens_is_known known (all_known s.texts v.definitions) expr h.1.0 h.1.1 in
-    let stored : AreStored (finmap.insert known name h.1.0) s.tables = stored_view known s.tables name h.1.0 h.0 (not_own known name h.0 h.1.0 k.bases) v.tables in record {
+    let stored : (db : Tables) → AreStored known db → AreStored (with_lens name (lens_of expr known) known) db = λ db here.
+    subst (λ o. AreStored (with_lens name o known) db) (sym (lens_is known expr h.1.0 h.1.1)) (stored_view known db name h.1.0 h.0 (not_own known name h.0 h.1.0 k.bases) here) in record {
       definitions = first_refused-push s.texts text (view name expr) v.definitions j;
-      tables = stored_after s text (view name expr) j s.tables (subst (λ o. AreStored (with_lens name o known) s.tables) (sym (lens_is known expr h.1.0 h.1.1)) stored);
+      tables = stored_after s text (view name expr) j s.tables (stored s.tables v.tables);
       last = v.last;
-      past = λ q. later_all s v q;
+      versions = λ q. later_all s v q;
+      few = v.few;
+      differences = v.differences;
+      past = undo_after s text (view name expr) j s.tables (can_undo_still known (with_lens name (lens_of expr known) known) stored s.tables (reverse s.past) v.past);
     }
 
 valid_definition : (s : State) (text : List ℕ) → Valid s → (r : Result Definition CatalogFault) → judged (catalogue s.texts) (reading text) ≡ r → Valid (answer_definition text r s).1
@@ -239,6 +281,10 @@ valid_request s (Ok (edit name remove add on)) v = valid_changed s v (edited rem
 valid_request s (Ok (preview name remove add on)) v = v
 valid_request s (Ok (describe name)) v = v
 valid_request s (Ok list) v = v
+valid_request s (Ok (batch edits on)) v = valid_batch s v (edits_from 0 on s edits s.tables) (λ db is. edits_stored s v 0 on edits s.tables db v.tables is)
+valid_request s (Ok undo) v = valid_undone s v (slice_get s.past (length s.past - 1)) refl
+valid_request s (Ok (export name)) v = v
+valid_request s (Ok (import name csv on)) v = valid_import s v csv on name
 
 pub valid_answer : (s : State) (l : Line) → Valid s → Valid (answer s l).1
 unfolding answer

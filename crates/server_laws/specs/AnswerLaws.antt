@@ -5,7 +5,7 @@ use Rattle.lens_specs.specs.Relation.{Name}
 use Rattle.io_specs.specs.Lines.{Line}
 use Rattle.server_specs.specs.State.{State}
 use Rattle.server_specs.specs.Answer.{Answer}
-use Rattle.server_specs.specs.Request.{Request, define, read, find_at, put, edit, preview, describe, list, request}
+use Rattle.server_specs.specs.Request.{Request, define, read, find_at, put, edit, preview, describe, list, batch, undo, export, import, request}
 use Rattle.server_specs.specs.Answering.{answer}
 use Rattle.server_specs.specs.Validity.{Valid}
 use Rattle.server_laws.specs.Answers.{IsRefusal, IsFailure, IsChange, told_version}
@@ -25,6 +25,10 @@ IsQuestion (Ok (edit name remove add on)) = ⊥
 IsQuestion (Ok (preview name remove add on)) = Unit {0}
 IsQuestion (Ok (describe name)) = Unit {0}
 IsQuestion (Ok list) = Unit {0}
+IsQuestion (Ok (batch edits on)) = ⊥
+IsQuestion (Ok undo) = ⊥
+IsQuestion (Ok (export name)) = Unit {0}
+IsQuestion (Ok (import name csv on)) = ⊥
 
 -- a question leaves the state as it was
 abbrev pub QuestionsChangeNothing : Type 0
@@ -38,9 +42,9 @@ AnswersDoNotFail = (s : State) (l : Line) → IsFailure (answer s l).0 → ⊥
 abbrev pub ChangesRaiseVersions : Type 0
 ChangesRaiseVersions = (s : State) (l : Line) → (IsQuestion (request l) → ⊥) → IsChange (answer s l).0 → (answer s l).1.version ≡ s.version + 1
 
--- every other answer leaves the state, and so the version
+-- every other answer leaves a valid state, and so the version
 abbrev pub OthersStay : Type 0
-OthersStay = (s : State) (l : Line) → (IsChange (answer s l).0 → ⊥) → (answer s l).1 ≡ s
+OthersStay = (s : State) → Valid s → (l : Line) → (IsChange (answer s l).0 → ⊥) → (answer s l).1 ≡ s
 
 -- the version that an answer tells is the one after it
 abbrev pub VersionsAreTold : Type 0

@@ -1,4 +1,4 @@
--- The laws of lines that read, put, edit and preview.
+-- The laws of lines that read, put, edit, import and preview.
 use Rattle.std.specs.Prelude.{◌≡◌, ◌↔◌, ◌⊎◌, ◌≤◌, ℕ, true, false, List, [], Option, Some, None, Ok, Err}
 use Rattle.std.specs.FinMap as finmap
 use Rattle.serde_json.specs.Data.{Items}
@@ -14,11 +14,14 @@ use Rattle.lens_laws.specs.Checks.{IsOff}
 use Rattle.lens_laws.specs.Edits.{AreDiffs}
 use Rattle.io_specs.specs.Lines.{Line}
 use Rattle.catalog_specs.specs.Catalogue.{catalogue}
+use Rattle.sheet_specs.specs.Sheets.{unsheet}
 use Rattle.server_specs.specs.State.{State}
-use Rattle.server_specs.specs.Answer.{Answer, shown, changed, stale, off_predicate, clash, unknown_name, bad_row, in_remove}
-use Rattle.server_specs.specs.Request.{Request, read, put, edit, preview, request}
+use Rattle.server_specs.specs.EditRefusal.{EditRefusal, in_remove}
+use Rattle.server_specs.specs.Answer.{shown, changed, stale, off_predicate, clash, unknown_name, bad_row, told}
+use Rattle.server_specs.specs.Request.{Request, read, put, edit, preview, import, request}
 use Rattle.server_specs.specs.Sending.{rows_in}
 use Rattle.server_specs.specs.Changing.{Sent, whole, edited, sent_view, last_change, changed_at, is_stale, asked_view, settled}
+use Rattle.server_specs.specs.Exporting.{first_nullable}
 use Rattle.server_specs.specs.Answering.{answer}
 use Rattle.server_specs.specs.Validity.{Valid}
 use Rattle.server_laws.specs.Answers.{IsAccepted, IsRefusal}
@@ -47,11 +50,16 @@ pub record IsChangeLine (s : State) (l : Line) (name : Name) (L : Lens) (sent : 
   pub asked : request l ≡ Ok (change_request sent name on)
   pub lens : finmap.get (catalogue s.texts) name ≡ Some L
 
--- such a line, and the new view that its rows make
-pub record SendsView (s : State) (l : Line) (name : Name) (L : Lens) (on : Option ℕ) (N : Rows) : Type 0 where
-  pub sent : Sent
-  pub line : IsChangeLine s l name L sent on
-  pub view : sent_view sent L s ≡ Ok N
+-- a line that imports a text into a view that is there and has no column that may be null
+pub record IsImportLine (s : State) (l : Line) (name : Name) (L : Lens) (csv : List ℕ) (on : Option ℕ) : Type 0 where
+  pub asked : request l ≡ Ok (import name csv on)
+  pub lens : finmap.get (catalogue s.texts) name ≡ Some L
+  pub plain : first_nullable (sort_of L).columns ≡ None
+
+-- such a line, and the new view that its rows make, or that its text has
+pub data SendsView (s : State) (l : Line) (name : Name) (L : Lens) (on : Option ℕ) (N : Rows) : Type 0 where
+  by_rows : (sent : Sent) → IsChangeLine s l name L sent on → sent_view sent L s ≡ Ok N → SendsView s l name L on N
+  by_text : (csv : List ℕ) → IsImportLine s l name L csv on → unsheet (sort_of L).columns csv ≡ Ok N → SendsView s l name L on N
 
 -- a line that changes puts the new view that it asks for, or is refused
 abbrev pub LinesSettle : Type 0
@@ -66,7 +74,7 @@ UnknownNamesAreTold = (s : State) (l : Line) (name : Name) (sent : Sent) (on : O
 -- then a bad row
 abbrev pub BadRowsAreTold : Type 0
 BadRowsAreTold = (s : State) (l : Line) (name : Name) (L : Lens) (sent : Sent) (on : Option ℕ) → IsChangeLine s l name L sent on
-    → (bad : Answer) → sent_view sent L s ≡ Err bad → answer s l ≡ (bad, s)
+    → (bad : EditRefusal) → sent_view sent L s ≡ Err bad → answer s l ≡ (told bad, s)
 
 -- and a bad row to remove before one to add
 abbrev pub RemovedComeFirst : Type 0

@@ -10,3 +10,6 @@ pub mod DefineLaws
 pub mod ViewLaws
 pub mod Witness
 pub mod FindLaws
+pub mod BatchLaws
+pub mod UndoLaws
+pub mod SheetLaws

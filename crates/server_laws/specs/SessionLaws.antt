@@ -7,7 +7,7 @@ use Rattle.io_specs.specs.Lines.{Line}
 use Rattle.server_specs.specs.State.{State}
 use Rattle.server_specs.specs.Answer.{Answer, memory, store_fault, text}
 use Rattle.server_specs.specs.Answering.{answer}
-use Rattle.server_specs.specs.Session.{IsShort, Session}
+use Rattle.server_specs.specs.Session.{Exchange, IsShort, Session}
 
 -- the answers to these lines, one after another
 abbrev pub answers : State → List Line → List Answer
@@ -51,3 +51,13 @@ FaultsAreCounted = (s : State) (count : ℕ) (lines : List Line) (replies : List
 -- The answer to a line never reads as that memory ran out, nor as that the keeper failed.
 abbrev pub AnswersReadOtherwise : Type 0
 AnswersReadOtherwise = (s : State) (l : Line) → (text (answer s l).0 ≢ text memory) × (text (answer s l).0 ≢ text store_fault)
+
+-- the answer to each line leaves the state before it
+abbrev pub AllLeave : State → List Exchange → Type 0
+AllLeave s [] = Unit {0}
+AllLeave s (e ∷ exchanges) = ((answer s e.line).1 ≡ s) × AllLeave e.state exchanges
+
+-- Where no answer changes the state, as where all lines are questions or refused, the keeper's count is as it was.
+abbrev pub CountsStay : Type 0
+CountsStay = (s : State) (count : ℕ) (lines : List Line) (replies : List (List ℕ)) (last : State) (count' : ℕ)
+    → (session : Session s count lines replies last count') → AllLeave s session.exchanges → count' ≡ count

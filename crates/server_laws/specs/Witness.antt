@@ -1,5 +1,5 @@
--- That the premises of the laws of puts and of updates can be met.
-use Rattle.std.specs.Prelude.{◌≡◌, ℕ, true, false, List, [], ◌∷◌, Some}
+-- That the premises of the laws of puts, of updates, of undo and of exports can be met.
+use Rattle.std.specs.Prelude.{◌≡◌, ℕ, true, false, List, [], ◌∷◌, Option, Some}
 use Rattle.std.specs.FinMap as finmap
 use Rattle.lens_values.specs.declared.value.Value.{Value}
 use Rattle.lens_values.specs.declared.row.Row.{Row}
@@ -16,6 +16,8 @@ use Rattle.server_specs.specs.Session.{Exchange, Session}
 use Rattle.server_specs.specs.Validity.{Valid}
 use Rattle.server_laws.specs.Answers.{IsAccepted, IsChange}
 use Rattle.server_laws.specs.PutLaws.{IsPut, put_set}
+use Rattle.server_laws.specs.SheetLaws.{ImportsExport}
+use Rattle.server_laws.specs.UndoLaws.{move, taken_back}
 use Rattle.server_laws.specs.UpdateLaws.{RestsOnRead}
 
 -- a valid state with a view that is no table, and an accepted put of a row that the view lacks
@@ -41,6 +43,42 @@ pub record DropsCanChange : Type 0 where
   pub table : Name
   pub sort : Sort
   pub drops : change.lens ≡ drop column by fill (select predicate (base table sort))
+
+-- A session from a valid state in which no change can be undone: the first line changes a table, and the next one undoes that.
+pub record UndosCanRestore : Type 0 where
+  pub state : State
+  pub valid : Valid state
+  pub none : state.past ≡ []
+  pub lines : List Line
+  pub replies : List (List ℕ)
+  pub last : State
+  pub session : Session state 0 lines replies last 0
+  pub changing : Exchange
+  pub undoing : Exchange
+  pub exchanges : session.exchanges ≡ changing ∷ undoing ∷ []
+  pub changes : IsChange (answer state changing.line).0
+  pub undoes : move changing.state undoing ≡ taken_back
+
+-- A session from a valid state: the first line exports a view, which is no table and has a row, and the next one imports the text.
+pub record ExportsCanComeBack : Type 0 where
+  pub state : State
+  pub valid : Valid state
+  pub lines : List Line
+  pub replies : List (List ℕ)
+  pub last : State
+  pub session : Session state 0 lines replies last 0
+  pub exporting : Exchange
+  pub importing : Exchange
+  pub exchanges : session.exchanges ≡ exporting ∷ importing ∷ []
+  pub name : Name
+  pub lens : Lens
+  pub view : (table : Name) → is_table_of table lens ≡ false
+  pub row : Row
+  pub there : has (get lens state.tables) row ≡ true
+  pub csv : List ℕ
+  pub version : ℕ
+  pub on : Option ℕ
+  pub imports : ImportsExport state [] exporting [] importing name lens csv version on
 
 -- A session from a valid state in which a view, which is no table, is read, and the next line changes a table through it and rests
 -- on the version read.

@@ -3,16 +3,19 @@
 #![tactic(auto)]
 
 ghost use Rattle.server_laws.specs.AnswerLaws.{AnswersDoNotFail, ChangesRaiseVersions, LastFollows, OthersStay, QuestionsChangeNothing, RefusalsChangeNothing, VersionsAreTold};
+ghost use Rattle.server_laws.specs.BatchLaws.{BatchesAcceptedOrRefused, BatchesAreMade, BatchesLead, EditsAreLawful, FirstRefusedIsTold, NoEditsChangeNothing, NothingMadeChangesNothing, OneEditIsAnEdit};
 ghost use Rattle.server_laws.specs.ChangeLaws.{BadRowsAreTold, LastChangeIsGreatest, LinesAcceptedOrRefused, LinesAcceptedWhereTyped, LinesLeaveOthers, LinesMakeDifferences, LinesPutSets, LinesReadViews, LinesRefusedByFirstClash, LinesRefusedByLeastRow, LinesSettle, LinesTellChanges, NextLineReads, NothingIsChanged, PresentIsNotStale, PreviewsForetell, RemovedComeFirst, SentViewsFit, StaleIsTold, UnknownNamesAreTold};
 ghost use Rattle.server_laws.specs.DefineLaws.{DefinitionsLeaveTables, DefinitionsLeaveViews, FaultsAreTold, LensesStay, NamesAreTakenOnce, NewTablesAreEmpty, NewViewsShow, RefusedStays, TakenIsAdded, TakenIsRead, TakenWhereJudged};
 ghost use Rattle.server_laws.specs.FindLaws.{FindsAreFilters, FindsKnowTheirColumn, FindsKnowTheirView, FoundValuesFit};
 ghost use Rattle.server_laws.specs.KeptLaws.{ChangesAreKept, DefinitionsAreKept, PutsAreKept};
 ghost use Rattle.server_laws.specs.PutLaws.{AcceptedOrRefused, AcceptedWhereTyped, ChangesAreDifferences, ChangesAreTold, OtherTablesStay, PutThenRead, ReadThenPut, RefusedByFirstClash, RefusedByLeastRow, SentRowsFit};
-ghost use Rattle.server_laws.specs.SessionLaws.{AnswersReadOtherwise, FaultsAreCounted, RepliesAreAnswers, SessionsAreComplete};
+ghost use Rattle.server_laws.specs.SessionLaws.{AnswersReadOtherwise, CountsStay, FaultsAreCounted, RepliesAreAnswers, SessionsAreComplete};
+ghost use Rattle.server_laws.specs.SheetLaws.{BadRecordsAreTold, ExportsAreSheets, ExportsComeBack, ImportsArePuts, ImportsLeaveOthers, ImportsOfExports, RightSheetsReadBack, SheetsHaveNoNulls, SheetsKnowTheirView};
 ghost use Rattle.server_laws.specs.StateLaws.{AnswersStayValid, FreshIsValid, LensesAreLawful, LensesAreTyped, LensesHaveKeys, SessionsStayValid};
-ghost use Rattle.server_laws.specs.UpdateLaws.{NoUpdateIsLost};
+ghost use Rattle.server_laws.specs.UndoLaws.{NothingIsTold, UndoneAtOnce, UndoRestores};
+ghost use Rattle.server_laws.specs.UpdateLaws.{NoExportIsLost, NoUpdateIsLost};
 ghost use Rattle.server_laws.specs.ViewLaws.{FullIsTold, RulesAreTold, TakenWhereSorted, TypedIsTaken, UnknownIsTold};
-ghost use Rattle.server_laws.specs.Witness.{DropsCanChange, PutsCanChange, UpdatesCanRest};
+ghost use Rattle.server_laws.specs.Witness.{DropsCanChange, ExportsCanComeBack, PutsCanChange, UndosCanRestore, UpdatesCanRest};
 
 /// Every state that the server reaches is valid, and in a valid state each lens has a sort, keys and
 /// its tables, and keeps the laws of lenses over them.
@@ -60,7 +63,8 @@ pub fn puts_are_lawful()
 
 /// A line that puts or edits is refused for its name, a bad row, a stale version, or as the put of
 /// the new view that it sends; or else it is accepted, its changes are told, and the next line
-/// reads that view. A preview is answered as the edit would be.
+/// reads that view. A line that imports the rows of a text is as one that puts them. A preview is
+/// answered as the edit would be.
 pub fn changes_are_lawful()
     ensures reads { LinesReadViews }
     ensures settle { LinesSettle }
@@ -84,10 +88,49 @@ pub fn changes_are_lawful()
     ensures previews { PreviewsForetell }
 {}
 
-/// A change that rests on a version at which its view was read, and is accepted, finds the view as
-/// it was read.
+/// A batch is refused for its first edit that is refused, each being tested on the tables that those
+/// before it gave; or else its edits are made one after another, each lawfully, and it tells exactly
+/// how the tables differ. A batch of one edit is answered as the edit is.
+pub fn batches_are_edits()
+    ensures refused { FirstRefusedIsTold }
+    ensures either { BatchesAcceptedOrRefused }
+    ensures made { BatchesAreMade }
+    ensures differences { BatchesLead }
+    ensures lawful { EditsAreLawful }
+    ensures none { NoEditsChangeNothing }
+    ensures nothing { NothingMadeChangesNothing }
+    ensures one { OneEditIsAnEdit }
+{}
+
+/// An undo makes every table that was there just before the change that it undoes what it was then.
+/// It is refused exactly where no change is left.
+pub fn changes_can_be_undone()
+    ensures nothing { NothingIsTold }
+    ensures once { UndoneAtOnce }
+    ensures restores { UndoRestores }
+{}
+
+/// A change that rests on a version at which its view was read or exported, and is accepted, finds
+/// the view as it was then.
 pub fn no_update_is_lost()
-    ensures { NoUpdateIsLost }
+    ensures read { NoUpdateIsLost }
+    ensures exported { NoExportIsLost }
+{}
+
+/// A line that exports is answered with the rows of the view as a text, and one that imports puts
+/// the rows of its text. Both are refused for a name that has no lens, and then for a column that
+/// may be null; an import also for a record that cannot be read. To import what was exported
+/// changes nothing, as long as no table of the view was changed.
+pub fn exports_can_be_imported()
+    ensures unknown { SheetsKnowTheirView }
+    ensures nulls { SheetsHaveNoNulls }
+    ensures records { BadRecordsAreTold }
+    ensures exports { ExportsAreSheets }
+    ensures imports { ImportsArePuts }
+    ensures others { ImportsLeaveOthers }
+    ensures back { RightSheetsReadBack }
+    ensures same { ImportsOfExports }
+    ensures sessions { ExportsComeBack }
 {}
 
 /// A definition is taken exactly where it is judged so, is shown from then on, and its name is
@@ -128,12 +171,14 @@ pub fn versions_rise()
 
 /// Over a session in which the keeper does not fail, each reply is the answer to its line, or says
 /// that memory ran out. Where none says that, the replies are exactly the answers, in order. Of
-/// each rise of the keeper's count at most one reply tells.
+/// each rise of the keeper's count at most one reply tells. Where no answer changes the state, the
+/// count is as it was.
 pub fn sessions_are_complete()
     ensures answers { RepliesAreAnswers }
     ensures complete { SessionsAreComplete }
     ensures faults { FaultsAreCounted }
     ensures failures { AnswersReadOtherwise }
+    ensures still { CountsStay }
 {}
 
 /// What a keeper keeps of a state follows each change.
@@ -144,10 +189,12 @@ pub fn kept_follows()
 {}
 
 /// The premises of the laws of puts can be met, over a view, by a put that changes something; also
-/// over a view that drops a column of a selection. Those of the law of updates can be met by a
-/// session.
+/// over a view that drops a column of a selection. Those of the laws of updates, of undo and of
+/// imports of exports can be met by sessions.
 pub fn premises_can_be_met()
     ensures puts { PutsCanChange }
     ensures drops { DropsCanChange }
     ensures updates { UpdatesCanRest }
+    ensures undos { UndosCanRestore }
+    ensures exports { ExportsCanComeBack }
 {}

@@ -22,7 +22,7 @@ map-push : {A B : Type 0} (f : A → B) (xs : List A) (x : A) → map f (xs ++ x
 map-push f [] x = refl
 map-push f (y ∷ xs) x = ap (λ l. f y ∷ l) (map-push f xs x)
 
-pub Session-nil : (s : State) (count : ℕ) → Session s count [] [] s count
+abbrev pub Session-nil : (s : State) (count : ℕ) → Session s count [] [] s count
 Session-nil s count = record { exchanges = []; chain = tt; lines_are = refl; replies_are = refl; last_is = refl; count_is = refl }
 
 pub Session-push : (s : State) (count : ℕ) (lines : List Line) (replies : List (List ℕ)) (mid : State) (between : ℕ)

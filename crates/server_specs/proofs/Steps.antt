@@ -16,7 +16,7 @@ too_many n h = lt-leb n 16777216 h
 -- what is too long is refused for that
 pub long_line : (s : State) (count : ℕ) (bytes reply : List ℕ) → 16777216 < length bytes → reply ≡ text spec.long_line → Step s count (marked bytes) reply s count
 unfolding answer request
-long_line s count bytes reply h e = rw (too_many (length bytes) h) (record { later = omega arith; replied = found_memory (answered e refl) })
+long_line s count bytes reply h e = rw (too_many (length bytes) h) (record { later = omega arith; still = λ _. refl; replied = found_memory (answered e refl) })
 
 short : (b : Bool) (bytes : List ℕ) → b ≡ true → IsShort (if b then line bytes else too_long)
 short true bytes e = tt
@@ -24,4 +24,4 @@ short false bytes e = cc
 
 -- a line that is not too long may find no memory
 pub no_memory : (s : State) (count : ℕ) (bytes reply : List ℕ) → length bytes ≤ 16777216 → reply ≡ text memory → Step s count (marked bytes) reply s count
-no_memory s count bytes reply h e = record { later = omega arith; replied = out_of_memory (short (nat_le (length bytes) 16777216) bytes (le-leb (length bytes) 16777216 h)) e refl }
+no_memory s count bytes reply h e = record { later = omega arith; still = λ _. refl; replied = out_of_memory (short (nat_le (length bytes) 16777216) bytes (le-leb (length bytes) 16777216 h)) e refl }

@@ -2,16 +2,22 @@
 use Rattle.std.proofs.Common.{◌≤◌, ◌+◌, ℕ, List, [], ◌∷◌, sym, subst, arith}
 use Rattle.std.specs.Prelude.{Option, Some, None, Result, Ok, Err}
 use Rattle.lens_specs.specs.Relation.{Name, Rows}
-use Rattle.lens_specs.specs.Lens.{Lens}
-use Rattle.lens_specs.specs.Delta.{TableDelta, changes}
+use Rattle.lens_specs.specs.Lens.{Tables, Lens, put as put_rows, sort_of}
+use Rattle.std.specs.FinMap as finmap
+use Rattle.lens_specs.specs.Delta.{TableDelta, changes, differences}
 use Rattle.grammar_specs.specs.Meaning.{Definition, table, view}
 use Rattle.io_specs.specs.Lines.{Line}
 use Rattle.catalog_specs.specs.Judging.{CatalogFault}
 use Rattle.server_specs.specs.State.{State}
 use Rattle.server_specs.specs.Answer.{Answer}
-use Rattle.server_specs.specs.Request.{Request, define, read, find_at, put, edit, preview, describe, list, request}
+use Rattle.server_specs.specs.EditRefusal.{EditRefusal}
+use Rattle.server_specs.specs.Request.{Request, define, read, find_at, put, edit, preview, describe, list, batch, undo, export, import, request}
 use Rattle.server_specs.specs.Defining.{answer_definition}
-use Rattle.server_specs.specs.Changing.{Sent, whole, edited, asked_view, accept, settled, changed_by}
+use Rattle.server_specs.specs.Changing.{Sent, whole, edited, tested, asked_view, accept, settled, changed_by}
+use Rattle.server_specs.specs.Batching.{edits_from, batch_settled}
+use Rattle.server_specs.specs.Undoing.{undone}
+use Rattle.server_specs.specs.Exporting.{first_nullable, read_settled, import_settled, imported_by}
+use Rattle.sheet_specs.specs.Sheets.{unsheet}
 use Rattle.server_specs.specs.Answering.{answer, answer_request}
 use Rattle.server_specs.specs.Session.{Step, answered, not_stored, found_memory, out_of_memory}
 
@@ -19,13 +25,13 @@ use Rattle.server_specs.specs.Session.{Step, answered, not_stored, found_memory,
 abbrev version_of : Answer × State → ℕ
 version_of r = r.1.version
 
-accepts : (lens : Lens) (rows : Rows) (ds : List TableDelta) (s : State) → version_of (accept lens rows ds s) ≤ s.version + 1
-accepts lens rows [] s = omega arith
-accepts lens rows (d ∷ ds) s = omega arith
+accepts : (db : Tables) (ds : List TableDelta) (s : State) → version_of (accept db ds s) ≤ s.version + 1
+accepts db [] s = omega arith
+accepts db (d ∷ ds) s = omega arith
 
-settles : (r : Result Rows Answer) (lens : Lens) (s : State) → version_of (settled r lens s) ≤ s.version + 1
-settles (Err refusal) lens s = omega arith
-settles (Ok rows) lens s = accepts lens rows (changes lens rows s.tables) s
+settles : (r : Result Rows EditRefusal) (lens : Lens) (s : State) → version_of (settled r lens s) ≤ s.version + 1
+settles (Err why) lens s = omega arith
+settles (Ok rows) lens s = accepts (put_rows lens rows s.tables) (changes lens rows s.tables) s
 
 changes_by : (sent : Sent) (on : Option ℕ) (name : Name) (lens : Option Lens) (s : State) → version_of (changed_by sent on name lens s) ≤ s.version + 1
 changes_by sent on name None s = omega arith
@@ -35,6 +41,26 @@ defines : (text : List ℕ) (judgement : Result Definition CatalogFault) (s : St
 defines text (Err fault) s = omega arith
 defines text (Ok (table name columns deps predicate)) s = omega arith
 defines text (Ok (view name expr)) s = omega arith
+
+batches : (r : Result Tables (ℕ × EditRefusal)) (s : State) → version_of (batch_settled r s) ≤ s.version + 1
+batches (Err refused) s = omega arith
+batches (Ok db) s = accepts db (differences (finmap.keys s.tables) s.tables db) s
+
+undoes : (o : Option (List TableDelta)) (s : State) → version_of (undone o s) ≤ s.version + 1
+undoes None s = omega arith
+undoes (Some changes) s = omega arith
+
+reads : (r : Result Rows ℕ) (on : Option ℕ) (lens : Lens) (s : State) → version_of (read_settled r on lens s) ≤ s.version + 1
+reads (Err place) on lens s = omega arith
+reads (Ok rows) on lens s = settles (tested s lens on (Ok rows)) lens s
+
+reads_unless : (nullable : Option Name) (csv : List ℕ) (on : Option ℕ) (lens : Lens) (s : State) → version_of (import_settled nullable csv on lens s) ≤ s.version + 1
+reads_unless (Some column) csv on lens s = omega arith
+reads_unless None csv on lens s = reads (unsheet (sort_of lens).columns csv) on lens s
+
+imports : (csv : List ℕ) (on : Option ℕ) (name : Name) (lens : Option Lens) (s : State) → version_of (imported_by csv on name lens s) ≤ s.version + 1
+imports csv on name None s = omega arith
+imports csv on name (Some lens) s = reads_unless (first_nullable (sort_of lens).columns) csv on lens s
 
 asked : (r : Result Request Answer) (s : State) → version_of (answer_request r s) ≤ s.version + 1
 asked (Err refusal) s = omega arith
@@ -46,6 +72,10 @@ asked (Ok (edit name remove add on)) s = changes_by (edited remove add) on name 
 asked (Ok (preview name remove add on)) s = omega arith
 asked (Ok (describe name)) s = omega arith
 asked (Ok list) s = omega arith
+asked (Ok (batch edits on)) s = batches (edits_from 0 on s edits s.tables) s
+asked (Ok undo) s = undoes _ s
+asked (Ok (export name)) s = omega arith
+asked (Ok (import name csv on)) s = imports csv on name _ s
 
 version-answer : (s : State) (l : Line) → (answer s l).1.version ≤ s.version + 1
 unfolding answer

@@ -1,5 +1,5 @@
 -- Answers and their texts.
-use Rattle.std.specs.Prelude.{ℕ, true, false, List, [], ◌∷◌, ◌++◌, codes}
+use Rattle.std.specs.Prelude.{ℕ, true, false, List, [], ◌∷◌, ◌++◌, Option, Some, None, codes}
 use Rattle.std.specs.FinMap as finmap
 use Rattle.serde_json.specs.Data.{Data, null, boolean, number, string, array, object, unsigned, Items, no_items, item, Members, no_members, member}
 use Rattle.serde_json.specs.Find.{of_integer}
@@ -18,12 +18,9 @@ use Rattle.lens_specs.specs.Delta.{TableDelta}
 use Rattle.lens_specs.specs.Refusal as refusal
 use Rattle.lens_specs.specs.Refusal.{Refusal, Side, left_side, right_side, Limit, columns_limit, lens_limit, predicate_limit, nesting_limit, tables_limit, views_limit}
 use Rattle.grammar_specs.specs.Printing.{printed_formula}
-
--- which of a request's lists of rows
-pub data Listed : Type 0 where
-  in_rows : Listed
-  in_remove : Listed
-  in_add : Listed
+use Rattle.server_specs.specs.EditRefusal as refusals
+use Rattle.server_specs.specs.EditRefusal.{EditRefusal}
+pub use Rattle.server_specs.specs.EditRefusal.{Listed, in_rows, in_remove, in_add}
 
 -- what was accepted, with the version after it or the present one; or why it is refused
 pub data Answer : Type 0 where
@@ -44,7 +41,20 @@ pub data Answer : Type 0 where
   stale : ℕ → ℕ → Answer
   off_predicate : Row → Answer
   clash : Edge → Row → Row → Answer
+  in_edit : ℕ → EditRefusal → Answer
+  nothing_to_undo : Answer
+  exported : List ℕ → ℕ → Answer
+  nullable_column : Name → Answer
+  bad_record : ℕ → Answer
   store_fault : Answer
+
+-- the answer to a put, an edit or a preview that is refused so
+abbrev pub told : EditRefusal → Answer
+told (refusals.unknown_name name) = unknown_name name
+told (refusals.bad_row which index name) = bad_row which index name
+told (refusals.stale changed_at version) = stale changed_at version
+told (refusals.off_predicate row) = off_predicate row
+told (refusals.clash edge first second) = clash edge first second
 
 -- a value as JSON
 abbrev pub value_data : Value → Data
@@ -190,6 +200,23 @@ refusal_data (refusal.table_twice name) = error_with_name 33 name
 refusal_data (refusal.too_large what) = error 34 (not_ok (member (codes "what") (string (limit_word what)) no_members))
 refusal_data (refusal.column_taken name) = error_with_name 35 name
 
+-- the place of the edit in its batch, if it is one of a batch, and more members
+abbrev pub in_batch : Option ℕ → Members → Members
+in_batch None more = more
+in_batch (Some edit) more = member (codes "edit") (number (unsigned edit)) more
+
+-- why an edit is refused, as JSON; the members stand in byte order
+abbrev pub refused_edit_data : Option ℕ → EditRefusal → Data
+refused_edit_data edit (refusals.unknown_name name) = object (in_batch edit (numbered 22 (member (codes "name") (string name) (not_ok no_members))))
+refused_edit_data edit (refusals.bad_row which index name) =
+    object (member (codes "col") (string name) (in_batch edit (numbered 40 (member (codes "index") (number (unsigned index))
+    (member (codes "list") (string (list_word which)) (not_ok no_members))))))
+refused_edit_data edit (refusals.stale changed_at version) =
+    object (member (codes "changed_at") (number (unsigned changed_at)) (in_batch edit (numbered 41 (not_ok (at_version version)))))
+refused_edit_data edit (refusals.off_predicate row) = object (in_batch edit (numbered 42 (not_ok (member (codes "row") (row_data row) no_members))))
+refused_edit_data edit (refusals.clash edge first second) =
+    object (member (codes "edge") (edge_data edge) (in_batch edit (numbered 43 (not_ok (member (codes "rows") (pair_data first second) no_members)))))
+
 -- an answer as JSON; the members stand in byte order
 abbrev pub answer_data : Answer → Data
 answer_data (defined version) = object (accepted version)
@@ -208,16 +235,17 @@ answer_data not_json = error 11 (not_ok no_members)
 answer_data (bad_request name) = error 12 (member (codes "member") (string name) (not_ok no_members))
 answer_data (syntax at) = object (member (codes "at") (number (unsigned at)) (numbered 20 (not_ok no_members)))
 answer_data (name_taken name) = error_with_name 21 name
-answer_data (unknown_name name) = error_with_name 22 name
+answer_data (unknown_name name) = refused_edit_data None (refusals.unknown_name name)
 answer_data (refused refusal) = refusal_data refusal
-answer_data (bad_row which index name) =
-    object (member (codes "col") (string name) (numbered 40 (member (codes "index") (number (unsigned index))
-    (member (codes "list") (string (list_word which)) (not_ok no_members)))))
-answer_data (stale changed_at version) =
-    object (member (codes "changed_at") (number (unsigned changed_at)) (numbered 41 (not_ok (at_version version))))
-answer_data (off_predicate row) = error 42 (not_ok (member (codes "row") (row_data row) no_members))
-answer_data (clash edge first second) =
-    object (member (codes "edge") (edge_data edge) (numbered 43 (not_ok (member (codes "rows") (pair_data first second) no_members))))
+answer_data (bad_row which index name) = refused_edit_data None (refusals.bad_row which index name)
+answer_data (stale changed_at version) = refused_edit_data None (refusals.stale changed_at version)
+answer_data (off_predicate row) = refused_edit_data None (refusals.off_predicate row)
+answer_data (clash edge first second) = refused_edit_data None (refusals.clash edge first second)
+answer_data (in_edit edit why) = refused_edit_data (Some edit) why
+answer_data nothing_to_undo = error 44 (not_ok no_members)
+answer_data (exported csv version) = object (member (codes "csv") (string csv) (accepted version))
+answer_data (nullable_column name) = error_with_column 46 name
+answer_data (bad_record place) = error 45 (not_ok (member (codes "record") (number (unsigned place)) no_members))
 answer_data store_fault = error 90 (not_ok no_members)
 
 -- the line of an answer: compact JSON and a newline

@@ -1,3 +1,4 @@
+pub mod EditRefusal
 pub mod Answer
 pub mod Request
 pub mod State
@@ -5,6 +6,9 @@ pub mod Defining
 pub mod Questions
 pub mod Sending
 pub mod Changing
+pub mod Batching
+pub mod Undoing
+pub mod Exporting
 pub mod Answering
 pub mod Session
 pub mod Validity

@@ -4,7 +4,7 @@ use Rattle.std.specs.List.{list_any}
 use Rattle.std.specs.Ordering.{is_lt}
 use Rattle.std.specs.Str.{is_utf8}
 use Rattle.std.specs.Cmp.Lexicographic.{pointwise}
-use Rattle.serde_json.specs.Data.{Data, null, boolean, number, string, array, object, Items, no_items, Members, no_members, member}
+use Rattle.serde_json.specs.Data.{Data, null, boolean, number, string, array, object, Items, no_items, item, Members, no_members, member}
 use Rattle.serde_json.specs.Find as json_find
 use Rattle.serde_json.specs.Read as json
 use Rattle.lens_values.specs.Bytes.{is_text, is_name}
@@ -13,7 +13,14 @@ use Rattle.lens_specs.specs.Relation.{Name}
 use Rattle.io_specs.specs.Lines.{Line, line, too_long}
 use Rattle.server_specs.specs.Answer.{Answer, long_line, not_json, bad_request}
 
--- A request, with what it asks for: a definition's text; a view's name; a column's name and the value to be found in it; rows that are sent; and the version on which a change rests.
+-- an edit of a batch: the name of the view, the rows to remove and the rows to add
+pub record BatchEdit : Type 0 where
+  pub view : Name
+  pub remove : Items
+  pub add : Items
+
+-- A request, with what it asks for: a definition's text; a view's name; a column's name and the value to be found in it; rows that
+-- are sent, edits, or rows as CSV; and the version on which a change rests.
 pub data Request : Type 0 where
   define : List ℕ → Request
   read : Name → Request
@@ -23,6 +30,10 @@ pub data Request : Type 0 where
   preview : Name → Items → Items → Option ℕ → Request
   describe : Name → Request
   list : Request
+  batch : List BatchEdit → Option ℕ → Request
+  undo : Request
+  export : Name → Request
+  import : Name → List ℕ → Option ℕ → Request
 
 -- ---- members
 
@@ -50,15 +61,7 @@ pub data Shape : Type 0 where
   some_rows : Shape
   a_version : Shape
   a_value : Shape
-
--- whether the data is of the shape
-abbrev pub has_shape : Shape → Data → Bool
-has_shape a_word d = is_some (json_find.as_str d)
-has_shape a_text d = is_some (text_in d)
-has_shape a_name d = is_some (name_in d)
-has_shape some_rows d = is_some (json_find.as_array d)
-has_shape a_version d = is_some (version_in d)
-has_shape a_value d = true
+  some_edits : Shape
 
 -- a member of a request: its name, its shape, and whether it has to be there
 pub record Wanted : Type 0 where
@@ -74,7 +77,73 @@ needed name shape = record { name = name; shape = shape; needed = true }
 abbrev pub allowed : List ℕ → Shape → Wanted
 allowed name shape = record { name = name; shape = shape; needed = false }
 
--- ---- the eight requests
+-- whether the name is that of a wanted member
+abbrev pub is_wanted : List Wanted → List ℕ → Bool
+is_wanted ws k = list_any (λ w. is_key k w.name) ws
+
+-- the first member whose name does not pass; the members of an object stand in byte order
+abbrev pub first_other : (List ℕ → Bool) → Members → Option (List ℕ)
+first_other passes no_members = None
+first_other passes (member k d ms) = if passes k then first_other passes ms else Some k
+
+-- ---- the edits of a batch
+
+-- the members of an edit
+abbrev pub batch_edit_members : List Wanted
+batch_edit_members = needed (codes "add") some_rows ∷ needed (codes "remove") some_rows ∷ needed (codes "view") a_name ∷ []
+
+-- the edit, where each member is there and of its shape
+abbrev pub edit_with : Option Name → Option Items → Option Items → Option BatchEdit
+edit_with (Some view) (Some remove) (Some add) = Some (record { view = view; remove = remove; add = add })
+edit_with (Some view) (Some remove) None = None
+edit_with (Some view) None add = None
+edit_with None remove add = None
+
+-- the edit that the members say, which are exactly these three
+abbrev pub edit_of_members : Members → Option BatchEdit
+edit_of_members ms =
+    if is_some (first_other (is_wanted batch_edit_members) ms) then None
+    else edit_with (option_and_then name_in (json_find.get_member (codes "view") ms))
+    (option_and_then json_find.as_array (json_find.get_member (codes "remove") ms))
+    (option_and_then json_find.as_array (json_find.get_member (codes "add") ms))
+
+-- the edit that the data says
+abbrev pub batch_edit_in : Data → Option BatchEdit
+batch_edit_in null = None
+batch_edit_in (boolean b) = None
+batch_edit_in (number n) = None
+batch_edit_in (string bytes) = None
+batch_edit_in (array ds) = None
+batch_edit_in (object ms) = edit_of_members ms
+
+-- the edit in front of the others
+abbrev pub with_edit : Option BatchEdit → Option (List BatchEdit) → Option (List BatchEdit)
+with_edit None others = None
+with_edit (Some e) None = None
+with_edit (Some e) (Some edits) = Some (e ∷ edits)
+
+-- each of the edits
+abbrev pub each_edit : Items → Option (List BatchEdit)
+each_edit no_items = Some []
+each_edit (item d ds) = with_edit (batch_edit_in d) (each_edit ds)
+
+-- the edits that an array says
+abbrev pub edits_in : Data → Option (List BatchEdit)
+edits_in d = option_and_then each_edit (json_find.as_array d)
+
+-- ---- shapes
+
+-- whether the data is of the shape
+abbrev pub has_shape : Shape → Data → Bool
+has_shape a_word d = is_some (json_find.as_str d)
+has_shape a_text d = is_some (text_in d)
+has_shape a_name d = is_some (name_in d)
+has_shape some_rows d = is_some (json_find.as_array d)
+has_shape a_version d = is_some (version_in d)
+has_shape a_value d = true
+has_shape some_edits d = is_some (edits_in d)
+
+-- ---- the twelve requests
 
 -- what is asked for
 pub data Asked : Type 0 where
@@ -86,6 +155,10 @@ pub data Asked : Type 0 where
   to_preview : Asked
   to_describe : Asked
   to_list : Asked
+  to_batch : Asked
+  to_undo : Asked
+  to_export : Asked
+  to_import : Asked
 
 -- the word of each request
 abbrev pub asked_by : List ℕ → Option Asked
@@ -98,6 +171,10 @@ asked_by word =
     else if is_key word (codes "preview") then Some to_preview
     else if is_key word (codes "type") then Some to_describe
     else if is_key word (codes "list") then Some to_list
+    else if is_key word (codes "batch") then Some to_batch
+    else if is_key word (codes "undo") then Some to_undo
+    else if is_key word (codes "export") then Some to_export
+    else if is_key word (codes "import") then Some to_import
     else None
 
 -- the members of an edit
@@ -116,6 +193,10 @@ wanted to_edit = edit_members
 wanted to_preview = edit_members
 wanted to_describe = needed (codes "do") a_word ∷ needed (codes "view") a_name ∷ []
 wanted to_list = needed (codes "do") a_word ∷ []
+wanted to_batch = needed (codes "do") a_word ∷ needed (codes "edits") some_edits ∷ allowed (codes "on") a_version ∷ []
+wanted to_undo = needed (codes "do") a_word ∷ []
+wanted to_export = needed (codes "do") a_word ∷ needed (codes "view") a_name ∷ []
+wanted to_import = needed (codes "csv") a_word ∷ needed (codes "do") a_word ∷ allowed (codes "on") a_version ∷ needed (codes "view") a_name ∷ []
 
 -- whether a member is missing or of the wrong shape
 abbrev pub is_wrong : Members → Wanted → Bool
@@ -124,15 +205,6 @@ is_wrong ms w = elim (json_find.get_member w.name ms) [ None ↦ w.needed | Some
 -- the first of the wanted members that is wrong
 abbrev pub first_wrong : List Wanted → Members → Option (List ℕ)
 first_wrong ws ms = option_map (λ w. w.name) (find (is_wrong ms) ws)
-
--- whether the name is that of a wanted member
-abbrev pub is_wanted : List Wanted → List ℕ → Bool
-is_wanted ws k = list_any (λ w. is_key k w.name) ws
-
--- the first member whose name does not pass; the members of an object stand in byte order
-abbrev pub first_other : (List ℕ → Bool) → Members → Option (List ℕ)
-first_other passes no_members = None
-first_other passes (member k d ms) = if passes k then first_other passes ms else Some k
 
 -- the lesser of a name and another, if there is one
 abbrev pub least_of : List ℕ → Option (List ℕ) → List ℕ
@@ -154,6 +226,10 @@ least_wrong a ms = lesser (first_wrong (wanted a) ms) (first_other (is_wanted (w
 abbrev pub text_at : List ℕ → Members → List ℕ
 text_at k ms = unwrap_or (option_and_then text_in (json_find.get_member k ms)) []
 
+-- the string that is there, of any length
+abbrev pub string_at : List ℕ → Members → List ℕ
+string_at k ms = unwrap_or (option_and_then json_find.as_str (json_find.get_member k ms)) []
+
 -- the name that is there
 abbrev pub name_at : List ℕ → Members → Name
 name_at k ms = unwrap_or (option_and_then name_in (json_find.get_member k ms)) []
@@ -170,6 +246,10 @@ data_at k ms = unwrap_or (json_find.get_member k ms) null
 abbrev pub version_at : List ℕ → Members → Option ℕ
 version_at k ms = option_and_then version_in (json_find.get_member k ms)
 
+-- the edits that are there
+abbrev pub edits_at : List ℕ → Members → List BatchEdit
+edits_at k ms = unwrap_or (option_and_then edits_in (json_find.get_member k ms)) []
+
 -- the request that right members say
 abbrev pub said : Asked → Members → Request
 said to_define ms = define (text_at (codes "text") ms)
@@ -180,6 +260,10 @@ said to_edit ms = edit (name_at (codes "view") ms) (rows_at (codes "remove") ms)
 said to_preview ms = preview (name_at (codes "view") ms) (rows_at (codes "remove") ms) (rows_at (codes "add") ms) (version_at (codes "on") ms)
 said to_describe ms = describe (name_at (codes "view") ms)
 said to_list ms = list
+said to_batch ms = batch (edits_at (codes "edits") ms) (version_at (codes "on") ms)
+said to_undo ms = undo
+said to_export ms = export (name_at (codes "view") ms)
+said to_import ms = import (name_at (codes "view") ms) (string_at (codes "csv") ms) (version_at (codes "on") ms)
 
 -- the request, where no member is wrong
 abbrev pub unless_wrong : Option (List ℕ) → Asked → Members → Result Request Answer

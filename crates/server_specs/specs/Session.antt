@@ -22,9 +22,10 @@ pub data Replies (old : State) (count : ℕ) (l : Line) (reply : List ℕ) (new 
   found_memory : Becomes (answer old l) old count reply new count' → Replies old count l reply new count'
   out_of_memory : IsShort l → reply ≡ text memory → new ≡ old → Replies old count l reply new count'
 
--- One step of a session: a line is replied to, and no count falls.
+-- One step of a session: a line is replied to, no count falls, and where the answer leaves the state, the count is as it was.
 pub record Step (old : State) (count : ℕ) (l : Line) (reply : List ℕ) (new : State) (count' : ℕ) : Type 0 where
   pub later : count ≤ count'
+  pub still : (answer old l).1 ≡ old → count' ≡ count
   pub replied : Replies old count l reply new count'
 
 -- One line with its reply, and the state and the count after it.

@@ -1,23 +1,34 @@
 -- The state of the server, and what a keeper keeps of it.
-use Rattle.std.specs.Prelude.{ℕ, List, [], map}
+use Rattle.std.specs.Prelude.{ℕ, ◌-◌, List, [], ◌∷◌, ◌++◌, map, drop, length}
 use Rattle.std.specs.FinMap as finmap
 use Rattle.lens_values.specs.Order.{bytes_cmp}
 use Rattle.lens_specs.specs.Names.{Name}
 use Rattle.lens_specs.specs.Relation.{Rows, Relation}
 use Rattle.lens_specs.specs.Lens.{Tables}
+use Rattle.lens_specs.specs.Delta.{TableDelta}
 use Rattle.lens_specs.specs.Keeping.{Kept}
 use Rattle.server_specs.specs.Answer.{Answer}
 
--- the definition texts in order, the tables, the version, and for each table the version that changed it last
+-- the definition texts in order, the tables, the version, for each table the version that changed it last, and the changes that
+-- can be undone, the oldest first
 pub record State : Type 0 where
   pub texts : List (List ℕ)
   pub tables : Tables
   pub version : ℕ
   pub last : finmap.FinMap bytes_cmp ℕ
+  pub past : List (List TableDelta)
 
 -- no definitions
 abbrev pub fresh : State
-fresh = record { texts = []; tables = finmap.empty; version = 0; last = finmap.empty }
+fresh = record { texts = []; tables = finmap.empty; version = 0; last = finmap.empty; past = [] }
+
+-- the last n of a list
+abbrev pub last_of : {A : Type 0} → ℕ → List A → List A
+last_of n xs = drop (length xs - n) xs
+
+-- with one more change that can be undone, of which there are 16 at most
+abbrev pub remember : List TableDelta → List (List TableDelta) → List (List TableDelta)
+remember changes past = last_of 16 (past ++ changes ∷ [])
 
 -- the rows of each table
 abbrev pub rows_of_each : List (Name × Relation) → List (Name × Rows)

@@ -1,6 +1,7 @@
 -- What follows from the opening of a store.
 use Rattle.std.proofs.Common.{◌≡◌, ◌≤◌, ℕ, Bool, true, false, List, Option, Some, None, is_some, Result, Ok, Err, refl, sym, ap, subst, ◌∙◌}
-use Rattle.std.specs.Prelude.{IfOk}
+use Rattle.std.specs.Prelude.{◌↔◌, IfOk}
+use Rattle.io_specs.specs.Calls.{Adds}
 use Rattle.lens_specs.specs.Keeping.{Kept, Follows, Stays, Tells}
 use Rattle.server_specs.specs.State.{State, kept}
 use Rattle.opening_specs.specs.Opening.{Damage, IsOpened, damage_text}
@@ -13,9 +14,11 @@ use Rattle.lens_server.specs.declared.starting.StartFault.{StartFault}
 use Rattle.lens_server.specs.declared.starting.StartFault.TheVariants as fault
 use Rattle.rehearsal.specs.Rehearsal.{rehearsal}
 use Rattle.rehearsal.specs.Rehearsed.{Rehearsed, Stopped}
-use Rattle.serving.specs.Running.{Loads, Refuses, Rehearses, Runs, Serves, StaysAtEntry, StopsShort}
+use Rattle.table_keeper.specs.declared.calls.Call.{Call}
+use Rattle.serving.specs.Running.{Loads, OpensBy, Refuses, Rehearses, Runs, Serves, StaysAtEntry, StopsShort}
 use Rattle.serving.specs.Running as running
-use Rattle.serving.specs.Opening.{OpensTo, IsDamage}
+use Rattle.serving.proofs.Calls.{lacks_by}
+use Rattle.serving.specs.Opening.{OpensTo, IsDamage, IsOpening}
 
 -- ---- contents that stay
 
@@ -69,12 +72,14 @@ loads store stays contents chosen count start result at_entry later w = record {
 }
 
 -- what the chosen contents open to is opened
-pub starts : (store : Option (List ℕ)) (stays : Bool) (contents chosen : Option Kept) (count start : ℕ) (result : Result State StartFault)
-    → StaysAtEntry store stays contents chosen → count ≤ start → Opens chosen result → OpensTo store stays contents count start result
-starts store stays contents chosen count start (Ok s) at_entry later w = loads store stays contents chosen count start (Ok s) at_entry later w
-starts store stays contents chosen count start (Err (fault.Damaged damage)) at_entry later w = loads store stays contents chosen count start _ at_entry later w
-starts store stays contents chosen count start (Err fault.StoreFault) at_entry later w = tt
-starts store stays contents chosen count start (Err fault.NoMemory) at_entry later w = tt
+pub starts : (store : Option (List ℕ)) (stays : Bool) (contents chosen contents' : Option Kept) (count start : ℕ) (result : Result State StartFault)
+    → StaysAtEntry store stays contents chosen → count ≤ start → Opens chosen result → Stays chosen contents' → OpensTo store stays contents contents' count start result
+unfolding loads
+starts store stays contents chosen contents' count start (Ok s) at_entry later w same = loads store stays contents chosen count start (Ok s) at_entry later w
+starts store stays contents chosen contents' count start (Err (fault.Damaged damage)) at_entry later w same =
+    (loads store stays contents chosen count start _ at_entry later w, told_after chosen contents' w.0 same w.1)
+starts store stays contents chosen contents' count start (Err fault.StoreFault) at_entry later w same = tt
+starts store stays contents chosen contents' count start (Err fault.NoMemory) at_entry later w same = tt
 
 -- a state that was started is at version 0
 pub at_first : (chosen : Option Kept) (result : Result State StartFault) → Opens chosen result → IfOk result (λ s. s.version ≡ 0)
@@ -88,9 +93,9 @@ told_kept chosen now (Err e) w stays = tt
 
 -- ---- a run from the state that was started
 
-from_entry : (first : State) (limit status : ℕ) (left left' given given' : Option (List ℕ)) (count count' : ℕ) (contents chosen contents' : Option Kept) (walked walked' : ℕ) → is_some chosen ≡ is_some contents
-    → Serves first limit status left left' given given' count count' chosen contents' walked walked' → Serves first limit status left left' given given' count count' contents contents' walked walked'
-from_entry first limit status left left' given given' count count' contents chosen contents' walked walked' told w = record {
+from_entry : (first : State) (limit status : ℕ) (left left' given given' : Option (List ℕ)) (count count' : ℕ) (contents chosen contents' : Option Kept) (calls calls' : Option (List Call)) (walked walked' : ℕ) → is_some chosen ≡ is_some contents
+    → Serves first limit status left left' given given' count count' chosen contents' calls calls' walked walked' → Serves first limit status left left' given given' count count' contents contents' calls calls' walked walked'
+from_entry first limit status left left' given given' count count' contents chosen contents' calls calls' walked walked' told w = record {
   came = w.came;
   consumed = w.consumed;
   most = w.most;
@@ -99,39 +104,43 @@ from_entry first limit status left left' given given' count count' contents chos
   last = w.last;
   session = w.session;
   few = w.few;
+  commits = w.commits;
   stored = follows_from (λ now. now ≡ kept w.last) contents chosen contents' told w.stored;
   all_lines = w.all_lines;
   failed_lines = w.failed_lines;
   spent_lines = w.spent_lines;
   some_lines = w.some_lines;
-  no_lines = w.no_lines;
   all_replies = w.all_replies;
   some_replies = w.some_replies;
   in_time = w.in_time;
 }
 
 -- lines that were served over the chosen contents are a run
-pub runs : (s : Settings) (stays : Bool) (first : State) (limit status : ℕ) (left left' given given' : Option (List ℕ)) (count start count' : ℕ) (contents chosen contents' : Option Kept) (walked walked' : ℕ)
-    → Loads s.store stays contents count start (Ok first) → is_some chosen ≡ is_some contents → limit ≡ s.max_input
-    → Serves first limit status left left' given given' start count' chosen contents' walked walked' → Runs s stays status left left' given given' count count' contents contents' walked walked'
-runs s stays first limit status left left' given given' count start count' contents chosen contents' walked walked' loaded told same w = record {
+pub runs : (s : Settings) (stays : Bool) (first : State) (limit status : ℕ) (left left' given given' : Option (List ℕ)) (count start count' : ℕ) (contents chosen contents' : Option Kept) (calls middle calls' : Option (List Call)) (walked walked' : ℕ)
+    → Loads s.store stays contents count start (Ok first) → Adds (OpensBy s.store start) calls middle → is_some chosen ≡ is_some contents → limit ≡ s.max_input
+    → Serves first limit status left left' given given' start count' chosen contents' middle calls' walked walked' → Runs s stays status left left' given given' count count' contents contents' calls calls' walked walked'
+runs s stays first limit status left left' given given' count start count' contents chosen contents' calls middle calls' walked walked' loaded opened_by told same w = record {
   first = first;
   start = start;
   loads = loaded;
-  serves = subst (λ n. Serves first n status left left' given given' start count' contents contents' walked walked') same
-      (from_entry first limit status left left' given given' start count' contents chosen contents' walked walked' told w);
+  middle = middle;
+  opened_by = opened_by;
+  serves = subst (λ n. Serves first n status left left' given given' start count' contents contents' middle calls' walked walked') same
+      (from_entry first limit status left left' given given' start count' contents chosen contents' middle calls' walked walked' told w);
 }
 
 -- and so is a rehearsal
-pub rehearses : (s : Settings) (n : ℕ) (stays : Bool) (first last : State) (status : ℕ) (line : List ℕ) (given given' : Option (List ℕ)) (count start count' : ℕ) (contents chosen contents' : Option Kept) (walked walked' : ℕ)
-    → Loads s.store stays contents count start (Ok first) → is_some chosen ≡ is_some contents → Rehearsed first start (rehearsal n) line last count' walked walked' → Follows (λ _ now. now ≡ kept last) chosen contents'
-    → (status ≡ 0 → Appends given given' line) → (status ≡ 5 → AppendsFront given given' line) → Rehearses s n stays status given given' count count' contents contents' walked walked'
-rehearses s n stays first last status line given given' count start count' contents chosen contents' walked walked' loaded told rehearsed stored all some = record {
+pub rehearses : (s : Settings) (n : ℕ) (stays : Bool) (first last : State) (status : ℕ) (line : List ℕ) (given given' : Option (List ℕ)) (count start count' : ℕ) (contents chosen contents' : Option Kept) (calls middle calls' : Option (List Call)) (walked walked' : ℕ)
+    → Loads s.store stays contents count start (Ok first) → Adds (OpensBy s.store start) calls middle → is_some chosen ≡ is_some contents → Rehearsed first start (rehearsal n) line last count' middle calls' walked walked' → Follows (λ _ now. now ≡ kept last) chosen contents'
+    → (status ≡ 0 → Appends given given' line) → (status ≡ 5 → AppendsFront given given' line) → Rehearses s n stays status given given' count count' contents contents' calls calls' walked walked'
+rehearses s n stays first last status line given given' count start count' contents chosen contents' calls middle calls' walked walked' loaded opened_by told rehearsed stored all some = record {
   first = first;
   start = start;
   loads = loaded;
   told = line;
   last = last;
+  middle = middle;
+  opened_by = opened_by;
   rehearsed = rehearsed;
   stored = follows_from (λ now. now ≡ kept last) contents chosen contents' told stored;
   all = all;
@@ -139,18 +148,26 @@ rehearses s n stays first last status line given given' count start count' conte
 }
 
 -- one that stopped for want of memory
-pub stops : (s : Settings) (n : ℕ) (stays : Bool) (first last : State) (count start count' : ℕ) (contents chosen contents' : Option Kept) (walked walked' : ℕ)
-    → Loads s.store stays contents count start (Ok first) → is_some chosen ≡ is_some contents → Stopped first start (rehearsal n) last count' walked walked'
-    → Follows (λ _ now. now ≡ kept last) chosen contents' → StopsShort s n stays count count' contents contents' walked walked'
-stops s n stays first last count start count' contents chosen contents' walked walked' loaded told stopped stored =
-    running.amid first last start loaded stopped (follows_from (λ now. now ≡ kept last) contents chosen contents' told stored)
+pub stops : (s : Settings) (n : ℕ) (stays : Bool) (first last : State) (count start count' : ℕ) (contents chosen contents' : Option Kept) (calls middle calls' : Option (List Call)) (walked walked' : ℕ)
+    → Loads s.store stays contents count start (Ok first) → Adds (OpensBy s.store start) calls middle → is_some chosen ≡ is_some contents → Stopped first start (rehearsal n) last count' middle calls' walked walked'
+    → Follows (λ _ now. now ≡ kept last) chosen contents' → StopsShort s n stays count count' contents contents' calls calls' walked walked'
+stops s n stays first last count start count' contents chosen contents' calls middle calls' walked walked' loaded opened_by told stopped stored =
+    running.amid first last start middle loaded opened_by stopped (follows_from (λ now. now ≡ kept last) contents chosen contents' told stored)
+
+-- one that did not begin
+pub stops_early : (s : Settings) (n : ℕ) (stays : Bool) (status start : ℕ) (e : StartFault) (count count' : ℕ) (contents contents' : Option Kept) (calls calls' : Option (List Call)) (walked walked' : ℕ)
+    → StaysAtEntry s.store stays contents contents' → (status ≡ 6) ↔ (e ≡ fault.StoreFault) → Adds (IsOpening s.store (Err e) start) calls calls' → status ≡ 3
+    → walked' ≡ walked → StopsShort s n stays count count' contents contents' calls calls' walked walked'
+stops_early s n stays status start e count count' contents contents' calls calls' walked walked' stay six opened_by is same =
+    running.before stay (lacks_by s.store status start e calls calls' six opened_by is) same
 
 -- ---- a start that failed
 
 -- a damage whose line was given is refused
-pub refused : (s : Settings) (stays : Bool) (contents : Option Kept) (count start : ℕ) (e : StartFault) (given given' : Option (List ℕ)) (failures failures' : ℕ)
-    → OpensTo s.store stays contents count start (Err e) → IsDamage e (λ damage. GivesUnlessFailed given given' failures failures' (damage_text damage))
-    → Refuses s stays given given' failures failures' count contents
-refused s stays contents count start (fault.Damaged damage) given given' failures failures' opens told = record { damage = _; start = start; loads = opens; told = told }
-refused s stays contents count start fault.StoreFault given given' failures failures' opens told = absurd told
-refused s stays contents count start fault.NoMemory given given' failures failures' opens told = absurd told
+pub refused : (s : Settings) (stays : Bool) (contents contents' : Option Kept) (count start : ℕ) (e : StartFault) (given given' : Option (List ℕ)) (failures failures' : ℕ) (calls calls' : Option (List Call))
+    → OpensTo s.store stays contents contents' count start (Err e) → Adds (IsOpening s.store (Err e) start) calls calls' → IsDamage e (λ damage. GivesUnlessFailed given given' failures failures' (damage_text damage))
+    → Refuses s stays given given' failures failures' count contents contents' calls calls'
+refused s stays contents contents' count start (fault.Damaged damage) given given' failures failures' calls calls' opens opened_by told =
+    record { damage = _; start = start; loads = opens.0; still_kept = opens.1; opened_by = opened_by; told = told }
+refused s stays contents contents' count start fault.StoreFault given given' failures failures' calls calls' opens opened_by told = absurd told
+refused s stays contents contents' count start fault.NoMemory given given' failures failures' calls calls' opens opened_by told = absurd told

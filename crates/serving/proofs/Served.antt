@@ -2,6 +2,8 @@
 use Rattle.std.proofs.Common.{◌≡◌, ◌≢◌, ◌≤◌, ◌<◌, ◌+◌, ◌-◌, ◌^◌, ◌⊎◌, ℕ, Bool, true, false, List, [], ◌∷◌, ◌++◌, take, length, ap, sym, subst, ◌∙◌, refl, arith, append_assoc, append-nil, length-append, inl, inr}
 use Rattle.std.specs.Prelude.{None, Some, IfSome}
 use Rattle.std.specs.declared.option.Option.{Option}
+use Rattle.io_specs.specs.Calls.{Adds}
+use Rattle.io_specs.proofs.Calls.{Adds-none}
 use Rattle.std.specs.Io.KnownBytes.{Appends}
 use Rattle.std.proofs.KnownBytes.{Appends-trans}
 use Rattle.lens_specs.specs.Keeping.{Kept, Follows, Tells}
@@ -21,9 +23,11 @@ use Rattle.lens_io.specs.Cutting.{Cutter, Step, is_last}
 use Rattle.lens_io.specs.Taken.{ComesInTime}
 use Rattle.lens_io.proofs.Fronts.{Appends-nil}
 use Rattle.lens_io.proofs.Taken.{Taken, Taken-nil, Taken-line, Taken-too_long, Taken-ended, Taken-failed, Taken-spent, if_some, longer}
+use Rattle.table_keeper.specs.declared.calls.Call.{Call}
+use Rattle.lens_server.specs.Committing.{CommitsFor, CommitsForAll}
 use Rattle.lens_server.specs.Counting.{most_walked}
 use Rattle.rehearsal.specs.Walking.{most_walked_in}
-use Rattle.rehearsal.proofs.Joined.{Session-append, Session-one, few-append, few-one}
+use Rattle.rehearsal.proofs.Joined.{Session-append, Session-one, commits-append, commits-one, few-append, few-one}
 use Rattle.serving.specs.Running.{Serves, AreFirst, BreaksOff, joined, line_of, status_of}
 
 -- Where they are told, the contents are those of this state, and were told before.
@@ -47,12 +51,13 @@ stored_next server server' (Some old) None contents' p q = absurd p
 stored_next server server' (Some old) (Some m) None p q = absurd q
 stored_next server server' (Some old) (Some m) (Some now) p q = q
 
-pub record Served (first : State) (limit : ℕ) (cutter : Cutter) (server : State) (left0 left given0 given : Option (List ℕ)) (count0 count : ℕ) (contents0 contents : Option Kept) (walked0 walked : ℕ) : Type 0 where
+pub record Served (first : State) (limit : ℕ) (cutter : Cutter) (server : State) (left0 left given0 given : Option (List ℕ)) (count0 count : ℕ) (contents0 contents : Option Kept) (calls0 calls : Option (List Call)) (walked0 walked : ℕ) : Type 0 where
   pub lines : List Line
   pub replies : List (List ℕ)
   pub taken : Taken lines cutter.pending cutter.taken cutter.ended left0 left
   pub session : Session first count0 lines replies server count
   pub few : walked ≤ walked0 + most_walked_in first session.exchanges
+  pub commits : Adds (CommitsForAll first count0 session.exchanges) calls0 calls
   pub stored : IsStored server contents0 contents
   pub gave : Appends given0 given (joined replies)
   pub version : server.version ≤ first.version + length lines
@@ -61,14 +66,15 @@ pub record Served (first : State) (limit : ℕ) (cutter : Cutter) (server : Stat
   pub within : cutter.taken ≤ cutter.limit + 1
   pub going : cutter.done ≡ false
 
-pub Served-nil : (first : State) (limit : ℕ) (left given : Option (List ℕ)) (count : ℕ) (contents : Option Kept) (walked : ℕ) → Tells contents (kept first)
-    → Served first limit (record { pending = []; line = []; taken = 0; limit = limit; ended = false; done = false }) first left left given given count count contents contents walked walked
-Served-nil first limit left given count contents walked told = record {
+pub Served-nil : (first : State) (limit : ℕ) (left given : Option (List ℕ)) (count : ℕ) (contents : Option Kept) (calls : Option (List Call)) (walked : ℕ) → Tells contents (kept first)
+    → Served first limit (record { pending = []; line = []; taken = 0; limit = limit; ended = false; done = false }) first left left given given count count contents contents calls calls walked walked
+Served-nil first limit left given count contents calls walked told = record {
   lines = [];
   replies = [];
   taken = Taken-nil left;
   session = Session-nil first count;
   few = omega arith;
+  commits = Adds-none _ calls refl;
   stored = stored_same first contents told;
   gave = Appends-nil given;
   version = omega arith;
@@ -95,7 +101,7 @@ given_more cut.Spent given pending text rest taken taken' limit ended ended' lef
 -- what is too long is refused for that
 too_long_step : (s : State) (count : ℕ) (reply : List ℕ) → reply ≡ text long_line → steps.Step s count too_long reply s count
 unfolding answer request
-too_long_step s count reply e = record { later = omega arith; replied = found_memory (answered e refl) }
+too_long_step s count reply e = record { later = omega arith; still = λ _. refl; replied = found_memory (answered e refl) }
 
 pub other_step : (c : Cut) (s : State) (count : ℕ) (bytes reply : List ℕ) → (c ≡ cut.Line → ⊥) → reply ≡ text long_line → steps.Step s count (line_of c bytes) reply s count
 other_step cut.Line s count bytes reply other e = absurd (other refl)
@@ -104,19 +110,32 @@ other_step cut.End s count bytes reply other e = too_long_step s count reply e
 other_step cut.Failed s count bytes reply other e = too_long_step s count reply e
 other_step cut.Spent s count bytes reply other e = too_long_step s count reply e
 
+-- and asks the keeper for nothing
+too_long_commits : (s : State) (count : ℕ) (reply : List ℕ) (calls : Option (List Call)) → Adds (CommitsFor s count (record { line = too_long; reply = reply; state = s; count = count })) calls calls
+unfolding answer request
+too_long_commits s count reply calls = Adds-none _ calls (refl, inl refl)
+
+pub other_commits : (c : Cut) (s : State) (count : ℕ) (bytes reply : List ℕ) (calls : Option (List Call)) → (c ≡ cut.Line → ⊥)
+    → Adds (CommitsFor s count (record { line = line_of c bytes; reply = reply; state = s; count = count })) calls calls
+other_commits cut.Line s count bytes reply calls other = absurd (other refl)
+other_commits cut.TooLong s count bytes reply calls other = too_long_commits s count reply calls
+other_commits cut.End s count bytes reply calls other = too_long_commits s count reply calls
+other_commits cut.Failed s count bytes reply calls other = too_long_commits s count reply calls
+other_commits cut.Spent s count bytes reply calls other = too_long_commits s count reply calls
+
 -- the lines so far are the first of what came
 first_lines : (given : List Line) (pending : List ℕ) (taken : ℕ) (ended : Bool) (left0 left : Option (List ℕ)) → (t : Taken given pending taken ended left0 left) → AreFirst given t.all left
 first_lines given pending taken true left0 left t = inr (sym (t.at_end refl).1, (t.at_end refl).2)
 first_lines given pending taken false left0 left t = inl (whole pending, sym (t.whole_are refl pending) ∙ ap whole (sym t.parts))
 
 -- The last answer ends the run.
-pub finished : (first : State) (limit : ℕ) (c : Cut) (cutter cutter' : Cutter) (server : State) (left0 left left' given0 given : Option (List ℕ)) (count0 count : ℕ) (contents0 contents : Option Kept) (walked0 walked : ℕ)
-    → Served first limit cutter server left0 left given0 given count0 count contents0 contents walked0 walked
+pub finished : (first : State) (limit : ℕ) (c : Cut) (cutter cutter' : Cutter) (server : State) (left0 left left' given0 given : Option (List ℕ)) (count0 count : ℕ) (contents0 contents : Option Kept) (calls0 calls : Option (List Call)) (walked0 walked : ℕ)
+    → Served first limit cutter server left0 left given0 given count0 count contents0 contents calls0 calls walked0 walked
     → Step c cutter.pending cutter'.line cutter'.pending cutter.taken cutter'.taken cutter.limit cutter.ended cutter'.ended left left' → is_last c ≡ true
-    → Serves first limit (status_of c) left0 left' given0 given count0 count contents0 contents walked0 walked
-finished first limit cut.Line cutter cutter' server left0 left left' given0 given count0 count contents0 contents walked0 walked s t last = absurd (let no : false ≡ true = last in cc)
-finished first limit cut.TooLong cutter cutter' server left0 left left' given0 given count0 count contents0 contents walked0 walked s t last = absurd (let no : false ≡ true = last in cc)
-finished first limit cut.End cutter cutter' server left0 left left' given0 given count0 count contents0 contents walked0 walked s t last =
+    → Serves first limit (status_of c) left0 left' given0 given count0 count contents0 contents calls0 calls walked0 walked
+finished first limit cut.Line cutter cutter' server left0 left left' given0 given count0 count contents0 contents calls0 calls walked0 walked s t last = absurd (let no : false ≡ true = last in cc)
+finished first limit cut.TooLong cutter cutter' server left0 left left' given0 given count0 count contents0 contents calls0 calls walked0 walked s t last = absurd (let no : false ≡ true = last in cc)
+finished first limit cut.End cutter cutter' server left0 left left' given0 given count0 count contents0 contents calls0 calls walked0 walked s t last =
     let found = Taken-ended s.lines cutter.pending cutter'.line cutter'.pending cutter.taken cutter'.taken cutter.limit cutter.ended cutter'.ended left0 left left' s.taken t in
     record {
       came = found.0;
@@ -127,17 +146,17 @@ finished first limit cut.End cutter cutter' server left0 left left' given0 given
       last = server;
       session = s.session;
       few = s.few;
+      commits = s.commits;
       stored = s.stored;
       all_lines = λ _. (found.3, found.4);
       failed_lines = λ h. absurd (omega (arith, h));
       spent_lines = λ h. absurd (omega (arith, h));
       some_lines = λ h. absurd (omega (arith, h));
-      no_lines = λ h. absurd (omega (arith, h));
       all_replies = λ _. s.gave;
       some_replies = λ h. absurd (omega (arith, h));
       in_time = λ h. absurd (omega (arith, h));
     }
-finished first limit cut.Failed cutter cutter' server left0 left left' given0 given count0 count contents0 contents walked0 walked s t last =
+finished first limit cut.Failed cutter cutter' server left0 left left' given0 given count0 count contents0 contents calls0 calls walked0 walked s t last =
     let found = Taken-failed s.lines cutter.pending cutter'.line cutter'.pending cutter.taken cutter'.taken cutter.limit cutter.ended cutter'.ended left0 left left' s.taken t in
     record {
       came = found.0;
@@ -148,17 +167,17 @@ finished first limit cut.Failed cutter cutter' server left0 left left' given0 gi
       last = server;
       session = s.session;
       few = s.few;
+      commits = s.commits;
       stored = s.stored;
       all_lines = λ h. absurd (omega (arith, h));
       failed_lines = λ _. found.3;
       spent_lines = λ h. absurd (omega (arith, h));
       some_lines = λ h. absurd (omega (arith, h));
-      no_lines = λ h. absurd (omega (arith, h));
       all_replies = λ _. s.gave;
       some_replies = λ h. absurd (omega (arith, h));
       in_time = λ h. absurd (omega (arith, h));
     }
-finished first limit cut.Spent cutter cutter' server left0 left left' given0 given count0 count contents0 contents walked0 walked s t last =
+finished first limit cut.Spent cutter cutter' server left0 left left' given0 given count0 count contents0 contents calls0 calls walked0 walked s t last =
     let found = Taken-spent s.lines cutter.pending cutter'.line cutter'.pending cutter.taken cutter'.taken cutter.limit cutter.ended cutter'.ended left0 left left' s.taken t in
     record {
       came = found.0;
@@ -169,21 +188,21 @@ finished first limit cut.Spent cutter cutter' server left0 left left' given0 giv
       last = server;
       session = s.session;
       few = s.few;
+      commits = s.commits;
       stored = s.stored;
       all_lines = λ h. absurd (omega (arith, h));
       failed_lines = λ h. absurd (omega (arith, h));
       spent_lines = λ _. (found.3 ∙ ap (λ n. whole (take n found.0)) s.limit_is, omega (arith, found.2, s.limit_is));
       some_lines = λ h. absurd (omega (arith, h));
-      no_lines = λ h. absurd (omega (arith, h));
       all_replies = λ _. s.gave;
       some_replies = λ h. absurd (omega (arith, h));
       in_time = λ h. absurd (omega (arith, h));
     }
 
 -- Past the limit the input is longer than that.
-pub spent_input : (first : State) (limit most status : ℕ) (left left' given given' : Option (List ℕ)) (count count' : ℕ) (contents contents' : Option Kept) (walked walked' : ℕ) → limit ≡ most
-    → Serves first limit status left left' given given' count count' contents contents' walked walked' → status ≡ 8 → IfSome left (λ bytes. most < length bytes)
-spent_input first limit most status left left' given given' count count' contents contents' walked walked' same s is =
+pub spent_input : (first : State) (limit most status : ℕ) (left left' given given' : Option (List ℕ)) (count count' : ℕ) (contents contents' : Option Kept) (calls calls' : Option (List Call)) (walked walked' : ℕ) → limit ≡ most
+    → Serves first limit status left left' given given' count count' contents contents' calls calls' walked walked' → status ≡ 8 → IfSome left (λ bytes. most < length bytes)
+spent_input first limit most status left left' given given' count count' contents contents' calls calls' walked walked' same s is =
     if_some left (λ bytes. length s.came ≤ length bytes) (λ bytes. most < length bytes) (λ bytes h. omega (arith, same, h, (s.spent_lines is).1)) (longer left left' s.came s.consumed)
 
 -- the statuses at a last answer
@@ -195,9 +214,9 @@ ends_of cut.Failed = inr (inl refl)
 ends_of cut.Spent = inr (inr (inr refl))
 
 -- a version never rises above the bytes that were taken
-pub room : (first : State) (limit : ℕ) (cutter : Cutter) (server : State) (left0 left given0 given : Option (List ℕ)) (count0 count : ℕ) (contents0 contents : Option Kept) (walked0 walked : ℕ)
-    → Served first limit cutter server left0 left given0 given count0 count contents0 contents walked0 walked → first.version + limit + 1 < 2 ^ 64 - 1 → server.version < 2 ^ 64 - 1
-room first limit cutter server left0 left given0 given count0 count contents0 contents walked0 walked s few =
+pub room : (first : State) (limit : ℕ) (cutter : Cutter) (server : State) (left0 left given0 given : Option (List ℕ)) (count0 count : ℕ) (contents0 contents : Option Kept) (calls0 calls : Option (List Call)) (walked0 walked : ℕ)
+    → Served first limit cutter server left0 left given0 given count0 count contents0 contents calls0 calls walked0 walked → first.version + limit + 1 < 2 ^ 64 - 1 → server.version < 2 ^ 64 - 1
+room first limit cutter server left0 left given0 given count0 count contents0 contents calls0 calls walked0 walked s few =
     let t = s.taken in
     omega (arith, few, s.version, s.within, s.limit_is, t.few, t.counted, ap length t.parts, length-append t.front cutter.pending)
 
@@ -216,19 +235,30 @@ few_more first count0 lines replies server count session l reply server' count' 
     few-append first count0 lines replies server count (l ∷ []) (reply ∷ []) server' count' session (Session-one server count l reply server' count' step) walked0 walked walked'
     few (few-one server count l reply server' count' step walked walked' more)
 
+-- and asks for its commit
+commits_more : (first : State) (count0 : ℕ) (lines : List Line) (replies : List (List ℕ)) (server : State) (count : ℕ) (session : Session first count0 lines replies server count)
+    (l : Line) (reply : List ℕ) (server' : State) (count' : ℕ) (step : steps.Step server count l reply server' count') (calls0 calls calls' : Option (List Call))
+    → Adds (CommitsForAll first count0 session.exchanges) calls0 calls → Adds (CommitsFor server count (record { line = l; reply = reply; state = server'; count = count' })) calls calls'
+    → Adds (CommitsForAll first count0 (session_more first count0 lines replies server count session l reply server' count' step).exchanges) calls0 calls'
+commits_more first count0 lines replies server count session l reply server' count' step calls0 calls calls' before mine =
+    commits-append first count0 lines replies server count (l ∷ []) (reply ∷ []) server' count' session (Session-one server count l reply server' count' step) calls0 calls calls'
+    before (commits-one server count l reply server' count' step calls calls' mine)
+
 -- One line more was answered and its reply given.
-pub Served-more : (first : State) (limit : ℕ) (c : Cut) (cutter cutter' : Cutter) (server server' : State) (left0 left left' given0 given given' : Option (List ℕ)) (count0 count count' : ℕ) (contents0 contents contents' : Option Kept) (walked0 walked walked' : ℕ) (reply : List ℕ)
-    → Served first limit cutter server left0 left given0 given count0 count contents0 contents walked0 walked
+pub Served-more : (first : State) (limit : ℕ) (c : Cut) (cutter cutter' : Cutter) (server server' : State) (left0 left left' given0 given given' : Option (List ℕ)) (count0 count count' : ℕ) (contents0 contents contents' : Option Kept) (calls0 calls calls' : Option (List Call)) (walked0 walked walked' : ℕ) (reply : List ℕ)
+    → Served first limit cutter server left0 left given0 given count0 count contents0 contents calls0 calls walked0 walked
     → Step c cutter.pending cutter'.line cutter'.pending cutter.taken cutter'.taken cutter.limit cutter.ended cutter'.ended left left' → is_last c ≡ false
     → cutter'.limit ≡ cutter.limit → cutter'.done ≡ is_last c
-    → steps.Step server count (line_of c cutter'.line) reply server' count' → IsStored server' contents contents' → Appends given given' reply
-    → walked' ≤ walked + most_walked (request (line_of c cutter'.line)) server → Served first limit cutter' server' left0 left' given0 given' count0 count' contents0 contents' walked0 walked'
-Served-more first limit c cutter cutter' server server' left0 left left' given0 given given' count0 count count' contents0 contents contents' walked0 walked walked' reply s t going limit_kept done step told gave few = record {
+    → steps.Step server count (line_of c cutter'.line) reply server' count' → IsStored server' contents contents' → Adds (CommitsFor server count (record { line = line_of c cutter'.line; reply = reply; state = server'; count = count' })) calls calls'
+    → Appends given given' reply
+    → walked' ≤ walked + most_walked (request (line_of c cutter'.line)) server → Served first limit cutter' server' left0 left' given0 given' count0 count' contents0 contents' calls0 calls' walked0 walked'
+Served-more first limit c cutter cutter' server server' left0 left left' given0 given given' count0 count count' contents0 contents contents' calls0 calls calls' walked0 walked walked' reply s t going limit_kept done step told commits gave few = record {
   lines = s.lines ++ line_of c cutter'.line ∷ [];
   replies = s.replies ++ reply ∷ [];
   taken = given_more c s.lines cutter.pending cutter'.line cutter'.pending cutter.taken cutter'.taken cutter.limit cutter.ended cutter'.ended left0 left left' s.taken t going;
   session = session_more first count0 s.lines s.replies server count s.session (line_of c cutter'.line) reply server' count' step;
   few = few_more first count0 s.lines s.replies server count s.session (line_of c cutter'.line) reply server' count' step walked0 walked walked' s.few few;
+  commits = commits_more first count0 s.lines s.replies server count s.session (line_of c cutter'.line) reply server' count' step calls0 calls calls' s.commits commits;
   stored = stored_next server server' contents0 contents contents' s.stored told;
   gave = subst (Appends given0 given') (sym (joined-push s.replies reply)) (Appends-trans given0 given given' (joined s.replies) reply s.gave gave);
   version = omega (arith, s.version, version-step server count (line_of c cutter'.line) reply server' count' step, length-append s.lines (line_of c cutter'.line ∷ []));
@@ -245,12 +275,13 @@ broken_off : (a b c : Option (List ℕ)) (before : List (List ℕ)) (reply : Lis
 broken_off a b c before reply p q = (before, reply, q.0, refl, Appends-trans a b c (joined before) (take q.0 reply) p q.1)
 
 -- The sink failed at the last reply.
-pub unwritten : (first : State) (limit : ℕ) (c : Cut) (cutter cutter' : Cutter) (server server' : State) (left0 left left' given0 given given' : Option (List ℕ)) (count0 count count' : ℕ) (contents0 contents contents' : Option Kept) (walked0 walked walked' : ℕ) (reply : List ℕ)
-    → Served first limit cutter server left0 left given0 given count0 count contents0 contents walked0 walked
+pub unwritten : (first : State) (limit : ℕ) (c : Cut) (cutter cutter' : Cutter) (server server' : State) (left0 left left' given0 given given' : Option (List ℕ)) (count0 count count' : ℕ) (contents0 contents contents' : Option Kept) (calls0 calls calls' : Option (List Call)) (walked0 walked walked' : ℕ) (reply : List ℕ)
+    → Served first limit cutter server left0 left given0 given count0 count contents0 contents calls0 calls walked0 walked
     → Step c cutter.pending cutter'.line cutter'.pending cutter.taken cutter'.taken cutter.limit cutter.ended cutter'.ended left left' → is_last c ≡ false
-    → steps.Step server count (line_of c cutter'.line) reply server' count' → IsStored server' contents contents' → AppendsFront given given' reply
-    → walked' ≤ walked + most_walked (request (line_of c cutter'.line)) server → Serves first limit 5 left0 left' given0 given' count0 count' contents0 contents' walked0 walked'
-unwritten first limit c cutter cutter' server server' left0 left left' given0 given given' count0 count count' contents0 contents contents' walked0 walked walked' reply s t going step told gave few =
+    → steps.Step server count (line_of c cutter'.line) reply server' count' → IsStored server' contents contents' → Adds (CommitsFor server count (record { line = line_of c cutter'.line; reply = reply; state = server'; count = count' })) calls calls'
+    → AppendsFront given given' reply
+    → walked' ≤ walked + most_walked (request (line_of c cutter'.line)) server → Serves first limit 5 left0 left' given0 given' count0 count' contents0 contents' calls0 calls' walked0 walked'
+unwritten first limit c cutter cutter' server server' left0 left left' given0 given given' count0 count count' contents0 contents contents' calls0 calls calls' walked0 walked walked' reply s t going step told commits gave few =
     let now : Taken (s.lines ++ line_of c cutter'.line ∷ []) cutter'.pending cutter'.taken cutter'.ended left0 left' =
     given_more c s.lines cutter.pending cutter'.line cutter'.pending cutter.taken cutter'.taken cutter.limit cutter.ended cutter'.ended left0 left left' s.taken t going in
     let same : length (s.lines ++ line_of c cutter'.line ∷ []) ≡ length (s.replies ++ reply ∷ []) =
@@ -264,12 +295,12 @@ unwritten first limit c cutter cutter' server server' left0 left left' given0 gi
       last = server';
       session = session_more first count0 s.lines s.replies server count s.session (line_of c cutter'.line) reply server' count' step;
       few = few_more first count0 s.lines s.replies server count s.session (line_of c cutter'.line) reply server' count' step walked0 walked walked' s.few few;
+      commits = commits_more first count0 s.lines s.replies server count s.session (line_of c cutter'.line) reply server' count' step calls0 calls calls' s.commits commits;
       stored = stored_next server server' contents0 contents contents' s.stored told;
       all_lines = λ h. absurd (omega (arith, h));
       failed_lines = λ h. absurd (omega (arith, h));
       spent_lines = λ h. absurd (omega (arith, h));
       some_lines = λ _. (not_nil s.lines (line_of c cutter'.line), first_lines (s.lines ++ line_of c cutter'.line ∷ []) cutter'.pending cutter'.taken cutter'.ended left0 left' now);
-      no_lines = λ h. absurd (omega (arith, h));
       all_replies = λ h. absurd (h refl);
       some_replies = λ _. broken_off given0 given given' s.replies reply s.gave gave;
       in_time = λ _. subst (λ n. ComesInTime (n - 1) now.all) same now.in_time;

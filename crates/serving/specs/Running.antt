@@ -2,11 +2,18 @@
 use Rattle.std.specs.Prelude.{◌≡◌, ◌≢◌, ◌≤◌, ◌+◌, ◌-◌, ◌⊎◌, ℕ, Bool, true, List, [], ◌∷◌, ◌++◌, flat_map, length, take, codes, Option, Some, None, Result, Ok, Err}
 use Rattle.std.specs.Io.KnownBytes.{Appends, Consumes, IsAtEnd}
 use Rattle.lens_specs.specs.Keeping.{Kept, Follows, Stays, Tells}
+use Rattle.io_specs.specs.Calls.{Adds}
 use Rattle.io_specs.specs.Lines.{Line, line, too_long, lines, whole}
 use Rattle.server_specs.specs.State.{State, kept}
 use Rattle.server_specs.specs.Session.{Session}
 use Rattle.opening_specs.specs.Opening.{Damage, opened, damage_text}
 use Rattle.command_words.specs.Settings.{Settings}
+use Rattle.lens_server.specs.Committing.{CommitsForAll}
+use Rattle.table_keeper.specs.Asking.{done_call, stopped_call}
+use Rattle.table_keeper.specs.declared.calls.Asked.TheVariants.{Attach, Load}
+use Rattle.table_keeper.specs.declared.calls.Call.{Call}
+use Rattle.table_keeper.specs.declared.keeper.KeepFault.{KeepFault}
+use Rattle.table_keeper.specs.declared.keeper.KeepFault.TheVariants as keep
 use Rattle.rehearsal.specs.Rehearsal.{rehearsal}
 use Rattle.rehearsal.specs.Rehearsed.{Rehearsed, Stopped}
 use Rattle.rehearsal.specs.Walking.{most_walked_in}
@@ -52,9 +59,9 @@ status_of cut.Failed = 4
 status_of cut.Spent = 8
 
 -- From the first state on, some bytes came from the source, lines of them were replied to, and the replies were given.
--- `left` is what the source has left, before and after, `given` what the sink has taken and `contents` what the keeper has, where they tell it; `count` is the keeper's,
--- and `walked` counts the rows that were walked.
-pub record Serves (first : State) (limit status : ℕ) (left left' given given' : Option (List ℕ)) (count count' : ℕ) (contents contents' : Option Kept) (walked walked' : ℕ) : Type 0 where
+-- `left` is what the source has left, before and after, `given` what the sink has taken, `contents` what the keeper has and `calls` what it was asked, where they tell
+-- it; `count` is the keeper's, and `walked` counts the rows that were walked.
+pub record Serves (first : State) (limit status : ℕ) (left left' given given' : Option (List ℕ)) (count count' : ℕ) (contents contents' : Option Kept) (calls calls' : Option (List Call)) (walked walked' : ℕ) : Type 0 where
   pub came : List ℕ
   pub consumed : Consumes left left' came
   -- at most one byte beyond the limit
@@ -65,6 +72,8 @@ pub record Serves (first : State) (limit status : ℕ) (left left' given given' 
   pub session : Session first count taken replies last count'
   -- no more rows were walked than the lines may walk
   pub few : walked' ≤ walked + most_walked_in first session.exchanges
+  -- the keeper was asked for the commits of the lines, and for nothing else
+  pub commits : Adds (CommitsForAll first count session.exchanges) calls calls'
   -- a keeper that told its contents tells them still, and they are those of the last state
   pub stored : Follows (λ _ now. now ≡ kept last) contents contents'
   -- at the end of the input all lines were taken
@@ -75,8 +84,6 @@ pub record Serves (first : State) (limit status : ℕ) (left left' given given' 
   pub spent_lines : status ≡ 8 → (taken ≡ whole (take limit came)) × (length came ≡ limit + 1)
   -- where the sink failed, the first ones
   pub some_lines : status ≡ 5 → (taken ≢ []) × AreFirst taken came left'
-  -- without memory none
-  pub no_lines : status ≡ 3 → taken ≡ []
   -- all replies were given, unless the sink failed; then all before the last, and a front of that
   pub all_replies : status ≢ 5 → Appends given given' (joined replies)
   pub some_replies : status ≡ 5 → BreaksOff given given' replies
@@ -106,41 +113,88 @@ pub record Loads (store : Option (List ℕ)) (stays : Bool) (contents : Option K
   pub opens : opened loaded ≡ result
   pub later : count ≤ start
 
+-- ---- what opens a store
+
+-- A store is opened by an attach, where a place is chosen, and then by one load. Both were done, and this was the count of faults after the load.
+abbrev pub OpensBy : Option (List ℕ) → ℕ → List Call → Type 0
+OpensBy None start calls = calls ≡ done_call Load start ∷ []
+OpensBy (Some place) start calls = (n : ℕ) × (calls ≡ done_call Attach n ∷ done_call Load start ∷ [])
+
+-- the first of these calls that was not done was the last, and ended with this fault
+abbrev pub StopsBy : Option (List ℕ) → KeepFault → List Call → Type 0
+StopsBy None fault calls = (n : ℕ) × (calls ≡ stopped_call Load fault n ∷ [])
+StopsBy (Some place) fault calls = ((n : ℕ) × (calls ≡ stopped_call Attach fault n ∷ [])) ⊎ ((m : ℕ) × (n : ℕ) × (calls ≡ done_call Attach m ∷ stopped_call Load fault n ∷ []))
+
+-- one of these calls failed
+abbrev pub FailsBy : Option (List ℕ) → List Call → Type 0
+FailsBy store calls = StopsBy store keep.Failed calls
+
+-- memory ran out before these calls, in them or after them; none of them failed
+abbrev pub LacksMemoryBy : Option (List ℕ) → List Call → Type 0
+LacksMemoryBy store calls = (calls ≡ []) ⊎ (StopsBy store keep.NoMemory calls ⊎ ((n : ℕ) × OpensBy store n calls))
+
+-- The fault of the first call that has one, among those that open a store, if one has.
+abbrev pub or_fault : Option KeepFault → Option KeepFault → Option KeepFault
+or_fault None later = later
+or_fault (Some fault) later = Some fault
+
+abbrev pub opening_fault : Option (List ℕ) → List Call → Option KeepFault
+opening_fault None [] = None
+opening_fault None (load ∷ calls) = load.fault
+opening_fault (Some place) [] = None
+opening_fault (Some place) (attach ∷ []) = attach.fault
+opening_fault (Some place) (attach ∷ load ∷ calls) = or_fault attach.fault load.fault
+
 -- ---- whole runs
 
 -- the statuses of a run that took lines
 abbrev pub IsServed : ℕ → Type 0
 IsServed status = (status ≡ 0) ⊎ ((status ≡ 4) ⊎ ((status ≡ 5) ⊎ (status ≡ 8)))
 
--- The lines of the source were served, from the state that was loaded on.
-pub record Runs (s : Settings) (stays : Bool) (status : ℕ) (left left' given given' : Option (List ℕ)) (count count' : ℕ) (contents contents' : Option Kept) (walked walked' : ℕ) : Type 0 where
+-- The lines of the source were served, from the state that was loaded on. The keeper was asked to open the store, and then for the commits of the lines.
+pub record Runs (s : Settings) (stays : Bool) (status : ℕ) (left left' given given' : Option (List ℕ)) (count count' : ℕ) (contents contents' : Option Kept) (calls calls' : Option (List Call)) (walked walked' : ℕ) : Type 0 where
   pub first : State
   pub start : ℕ
   pub loads : Loads s.store stays contents count start (Ok first)
-  pub serves : Serves first s.max_input status left left' given given' start count' contents contents' walked walked'
+  -- the calls once the store was opened
+  pub middle : Option (List Call)
+  pub opened_by : Adds (OpensBy s.store start) calls middle
+  pub serves : Serves first s.max_input status left left' given given' start count' contents contents' middle calls' walked walked'
 
 -- The lines of the rehearsal of n were answered, from the state that was loaded on, and their summary was given; a front of it where
 -- the sink failed.
-pub record Rehearses (s : Settings) (n : ℕ) (stays : Bool) (status : ℕ) (given given' : Option (List ℕ)) (count count' : ℕ) (contents contents' : Option Kept) (walked walked' : ℕ) : Type 0 where
+pub record Rehearses (s : Settings) (n : ℕ) (stays : Bool) (status : ℕ) (given given' : Option (List ℕ)) (count count' : ℕ) (contents contents' : Option Kept) (calls calls' : Option (List Call)) (walked walked' : ℕ) : Type 0 where
   pub first : State
   pub start : ℕ
   pub loads : Loads s.store stays contents count start (Ok first)
   pub told : List ℕ
   pub last : State
-  pub rehearsed : Rehearsed first start (rehearsal n) told last count' walked walked'
+  pub middle : Option (List Call)
+  pub opened_by : Adds (OpensBy s.store start) calls middle
+  pub rehearsed : Rehearsed first start (rehearsal n) told last count' middle calls' walked walked'
   pub stored : Follows (λ _ now. now ≡ kept last) contents contents'
   pub all : status ≡ 0 → Appends given given' told
   pub some : status ≡ 5 → AppendsFront given given' told
 
 -- Memory ran out in a rehearsal of n: before it began, and the contents are as at entry, and nothing was walked; or in it, and they are those of the last state.
-pub data StopsShort (s : Settings) (n : ℕ) (stays : Bool) (count count' : ℕ) (contents contents' : Option Kept) (walked walked' : ℕ) : Type 0 where
-  before : StaysAtEntry s.store stays contents contents' → walked' ≡ walked → StopsShort s n stays count count' contents contents' walked walked'
-  amid : (first last : State) (start : ℕ) → Loads s.store stays contents count start (Ok first) → Stopped first start (rehearsal n) last count' walked walked'
-      → Follows (λ _ now. now ≡ kept last) contents contents' → StopsShort s n stays count count' contents contents' walked walked'
+pub data StopsShort (s : Settings) (n : ℕ) (stays : Bool) (count count' : ℕ) (contents contents' : Option Kept) (calls calls' : Option (List Call)) (walked walked' : ℕ) : Type 0 where
+  before : StaysAtEntry s.store stays contents contents' → Adds (LacksMemoryBy s.store) calls calls' → walked' ≡ walked → StopsShort s n stays count count' contents contents' calls calls' walked walked'
+  amid : (first last : State) (start : ℕ) (middle : Option (List Call)) → Loads s.store stays contents count start (Ok first) → Adds (OpensBy s.store start) calls middle
+      → Stopped first start (rehearsal n) last count' middle calls' walked walked'
+      → Follows (λ _ now. now ≡ kept last) contents contents' → StopsShort s n stays count count' contents contents' calls calls' walked walked'
 
--- What was loaded is damaged, and the line that tells its first damage was given; a front of it where the sink failed.
-pub record Refuses (s : Settings) (stays : Bool) (given given' : Option (List ℕ)) (failures failures' count : ℕ) (contents : Option Kept) : Type 0 where
+-- What was loaded is damaged, and the line that tells its first damage was given; a front of it where the sink failed. It is what is kept, where the keeper tells that in the end.
+-- The keeper was asked for nothing after it was loaded.
+pub record Refuses (s : Settings) (stays : Bool) (given given' : Option (List ℕ)) (failures failures' count : ℕ) (contents contents' : Option Kept) (calls calls' : Option (List Call)) : Type 0 where
   pub damage : Damage
   pub start : ℕ
   pub loads : Loads s.store stays contents count start (Err damage)
+  pub still_kept : Tells contents' loads.loaded
+  pub opened_by : Adds (OpensBy s.store start) calls calls'
   pub told : GivesUnlessFailed given given' failures failures' (damage_text damage)
+
+-- ---- when the status is 7
+
+-- what is kept opens to a damage
+abbrev pub IsDamaged : Kept → Type 0
+IsDamaged kept = (damage : Damage) × (opened kept ≡ Err damage)

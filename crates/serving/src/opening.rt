@@ -1,13 +1,14 @@
 //! The store of a run: a server is started over it, or the run is refused.
-ghost use Rattle.std.specs.Prelude.{◌≡◌, ◌≢◌, ◌≤◌, ◌↔◌, is_some, Err, IfOk, OnOk};
+ghost use Rattle.std.specs.Prelude.{◌≡◌, ◌≢◌, ◌≤◌, ◌↔◌, is_some, Err, IfOk, None, OnErr, OnOk};
 ghost use Rattle.std.specs.Option.{option_copied};
+ghost use Rattle.io_specs.specs.Calls.{Adds};
 ghost use Rattle.io_specs.specs.Faults.{Rose};
 ghost use Rattle.lens_specs.specs.Keeping.{Tells};
 ghost use Rattle.server_specs.specs.State.{kept};
 ghost use Rattle.opening_specs.specs.Opening.{damage_text};
 ghost use Rattle.lens_io.specs.Bytes.{GivesUnlessFailed};
 ghost use Rattle.serving.specs.Running.{StaysAtEntry, place_after};
-ghost use Rattle.serving.specs.Opening.{IsDamage, IsUnserved, OpensTo};
+ghost use Rattle.serving.specs.Opening.{IsAttach, IsDamage, IsOpening, IsUnserved, OpensTo};
 
 use crate::giving::give_or_fail;
 use lens_io::Sink;
@@ -23,7 +24,7 @@ pub fn open<K: Keeper>(
     keeper: &mut K,
 ) -> Result<Server, StartFault>
     ensures opens { OpensTo (option_copied place.entry) K.stays (K.contents keeper.old)
-        (K.faults keeper.old) (K.faults keeper.new) result }
+        (K.contents keeper.new) (K.faults keeper.old) (K.faults keeper.new) result }
     ensures first { IfOk result (λ server. server.version ≡ 0) }
     ensures told { IfOk result (λ server. Tells (K.contents keeper.new) (kept server)) }
     ensures as_told { is_some (K.contents keeper.new) ≡ is_some (K.contents keeper.old) }
@@ -31,6 +32,12 @@ pub fn open<K: Keeper>(
         (K.contents keeper.new) }
     ensures place { result ≢ Err StartFault.StoreFault → result ≢ Err StartFault.NoMemory
         → K.place keeper.new ≡ place_after (option_copied place.entry) (K.place keeper.old) }
+
+    // The keeper is asked for an attach where a place is given, then for one load, and for nothing
+    // else.
+    ensures calls { Adds (IsOpening (option_copied place.entry) result (K.faults keeper.new))
+        (K.calls keeper.old) (K.calls keeper.new) }
+
     ensures later { K.faults keeper.old ≤ K.faults keeper.new }
     ensures failed { result ≡ Err StartFault.StoreFault
         → Rose (K.faults keeper.old) (K.faults keeper.new) }
@@ -53,6 +60,9 @@ fn choose_place<K: Keeper>(
     ensures stays { StaysAtEntry (option_copied place.entry) K.stays (K.contents keeper.old)
         (K.contents keeper.new) }
     ensures as_told { is_some (K.contents keeper.new) ≡ is_some (K.contents keeper.old) }
+    ensures some { OnErr result (option_copied place.entry ≢ None) }
+    ensures calls { Adds (IsAttach (option_copied place.entry) result (K.faults keeper.new))
+        (K.calls keeper.old) (K.calls keeper.new) }
     ensures later { K.faults keeper.old ≤ K.faults keeper.new }
     ensures failed { result ≡ Err KeepFault.Failed
         → Rose (K.faults keeper.old) (K.faults keeper.new) }

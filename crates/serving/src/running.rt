@@ -1,16 +1,20 @@
 //! The whole program but for its devices: lines in, replies out.
-ghost use Rattle.std.specs.Prelude.{◌≡◌, ◌≢◌, ◌≤◌, ◌<◌, ◌↔◌, ◌⊎◌, ◌+◌, ◌-◌, ◌^◌, [], false, length, map, string_bytes, None, IfSome};
+ghost use Rattle.std.specs.Prelude.{◌≡◌, ◌≢◌, ◌≤◌, ◌<◌, ◌↔◌, ◌⊎◌, ◌+◌, ◌-◌, ◌^◌, [], false, length, map, string_bytes, None, Some, IfSome};
+ghost use Rattle.io_specs.specs.Calls.{Adds};
 ghost use Rattle.io_specs.specs.Faults.{Rose};
 ghost use Rattle.lens_specs.specs.Keeping.{Follows, Tells};
 ghost use Rattle.server_specs.specs.Request.{request};
+ghost use Rattle.server_specs.specs.Answering.{answer};
 ghost use Rattle.server_specs.specs.Session.{Step};
 ghost use Rattle.server_specs.specs.State as state;
+ghost use Rattle.lens_server.specs.Committing.{CommitsFor};
 ghost use Rattle.lens_server.specs.Counting.{most_walked};
 ghost use Rattle.lens_io.specs.Bytes.{GivesUnlessFailed};
 ghost use Rattle.command_words.specs.Settings.{settings};
 ghost use Rattle.command_words.specs.Views.{settings_view};
-ghost use Rattle.serving.specs.Running.{IsServed, Refuses, Rehearses, Runs, Serves, StaysAtEntry, StopsShort, line_of, place_after, status_of, usage};
+ghost use Rattle.serving.specs.Running.{FailsBy, IsAtEntry, IsDamaged, IsServed, LacksMemoryBy, Refuses, Rehearses, Runs, Serves, StaysAtEntry, StopsShort, line_of, opening_fault, place_after, status_of, usage};
 ghost use Rattle.serving.specs.Opening.{IsUnserved};
+ghost use Rattle.table_keeper.specs.declared.keeper.KeepFault.TheVariants as keep;
 
 use crate::giving::{give_reply, give_summary, tell_usage};
 use crate::opening::{open, refuse};
@@ -48,13 +52,15 @@ pub fn run<S: Source, W: Sink, K: Keeper, L: Ledger>(
     ensures serves { IfSome (settings (map string_bytes words.now)) (λ s. s.rehearse ≡ None
         → IsServed result → Runs s K.stays result (S.left source.old) (S.left source.new)
         (W.taken sink.old) (W.taken sink.new) (K.faults keeper.old) (K.faults keeper.new)
-        (K.contents keeper.old) (K.contents keeper.new) walked.old walked.new) }
+        (K.contents keeper.old) (K.contents keeper.new) (K.calls keeper.old) (K.calls keeper.new)
+        walked.old walked.new) }
 
     // In a rehearsal they are those to its lines, and their summary is given.
     ensures rehearses { IfSome (settings (map string_bytes words.now)) (λ s.
         IfSome s.rehearse (λ n. (result ≡ 0) ⊎ (result ≡ 5) → Rehearses s n K.stays result
         (W.taken sink.old) (W.taken sink.new) (K.faults keeper.old) (K.faults keeper.new)
-        (K.contents keeper.old) (K.contents keeper.new) walked.old walked.new)) }
+        (K.contents keeper.old) (K.contents keeper.new) (K.calls keeper.old) (K.calls keeper.new)
+        walked.old walked.new)) }
     ensures rehearsal_takes_nothing { IfSome (settings (map string_bytes words.now)) (λ s.
         IfSome s.rehearse (λ _. (source.new ≡ source.old) × (result ≢ 4) × (result ≢ 8))) }
 
@@ -75,11 +81,20 @@ pub fn run<S: Source, W: Sink, K: Keeper, L: Ledger>(
         → keeper.new ≡ keeper.old }
     ensures memory_stops { result ≡ 3 → IfSome (settings (map string_bytes words.now)) (λ s.
         IfSome s.rehearse (λ n. StopsShort s n K.stays (K.faults keeper.old)
-        (K.faults keeper.new) (K.contents keeper.old) (K.contents keeper.new) walked.old
-        walked.new)) }
+        (K.faults keeper.new) (K.contents keeper.old) (K.contents keeper.new)
+        (K.calls keeper.old) (K.calls keeper.new) walked.old walked.new)) }
+    ensures memory_calls { result ≡ 3 → IfSome (settings (map string_bytes words.now)) (λ s.
+        s.rehearse ≡ None → Adds (LacksMemoryBy s.store) (K.calls keeper.old)
+        (K.calls keeper.new)) }
 
-    // The keeper failed at the start.
+    // The keeper failed at the start: exactly where a call that opens the store failed, of those
+    // that were told.
     ensures store { result ≡ 6 → Rose (K.faults keeper.old) (K.faults keeper.new) }
+    ensures store_calls { result ≡ 6 → IfSome (settings (map string_bytes words.now)) (λ s.
+        Adds (FailsBy s.store) (K.calls keeper.old) (K.calls keeper.new)) }
+    ensures store_exactly { IfSome (settings (map string_bytes words.now)) (λ s.
+        Adds (λ calls. (result ≡ 6) ↔ (opening_fault s.store calls ≡ Some keep.Failed))
+        (K.calls keeper.old) (K.calls keeper.new)) }
     ensures store_takes_nothing { result ≡ 6 → source.new ≡ source.old }
     ensures store_gives_nothing { result ≡ 6 → sink.new ≡ sink.old }
     ensures store_changes_nothing { result ≡ 6 → IfSome (settings (map string_bytes words.now))
@@ -88,7 +103,18 @@ pub fn run<S: Source, W: Sink, K: Keeper, L: Ledger>(
     // What is kept is damaged, and the first damage is told.
     ensures damaged { result ≡ 7 → IfSome (settings (map string_bytes words.now)) (λ s.
         Refuses s K.stays (W.taken sink.old) (W.taken sink.new) (W.faults sink.old)
-        (W.faults sink.new) (K.faults keeper.old) (K.contents keeper.old)) }
+        (W.faults sink.new) (K.faults keeper.old) (K.contents keeper.old)
+        (K.contents keeper.new) (K.calls keeper.old) (K.calls keeper.new)) }
+
+    // Unless memory ran out or the keeper failed: exactly where what is kept at entry is damaged,
+    // where no other place is chosen or the contents stay where one is; and exactly where what is
+    // kept in the end is damaged, wherever it lies.
+    ensures damaged_exactly { result ≢ 3 → result ≢ 6
+        → IfSome (settings (map string_bytes words.now)) (λ s. IsAtEntry s.store K.stays
+        → IfSome (K.contents keeper.old) (λ kept. (result ≡ 7) ↔ IsDamaged kept)) }
+    ensures damaged_exactly_now { result ≢ 3 → result ≢ 6
+        → IfSome (settings (map string_bytes words.now)) (λ _.
+        IfSome (K.contents keeper.new) (λ kept. (result ≡ 7) ↔ IsDamaged kept)) }
     ensures damage_takes_nothing { result ≡ 7 → source.new ≡ source.old }
     ensures damage_changes_nothing { result ≡ 7 → IfSome (settings (map string_bytes words.now))
         (λ s. StaysAtEntry s.store K.stays (K.contents keeper.old) (K.contents keeper.new)) }
@@ -175,10 +201,23 @@ fn serve_input<S: Source, W: Sink, K: Keeper, L: Ledger, M: Ledger>(
     ensures serves { IsServed result → Runs (settings_view settings.now) K.stays result
         (S.left source.old) (S.left source.new) (W.taken sink.old) (W.taken sink.new)
         (K.faults keeper.old) (K.faults keeper.new) (K.contents keeper.old)
-        (K.contents keeper.new) walked.old walked.new }
+        (K.contents keeper.new) (K.calls keeper.old) (K.calls keeper.new) walked.old walked.new }
     ensures damaged { result ≡ 7 → Refuses (settings_view settings.now) K.stays
         (W.taken sink.old) (W.taken sink.new) (W.faults sink.old) (W.faults sink.new)
-        (K.faults keeper.old) (K.contents keeper.old) }
+        (K.faults keeper.old) (K.contents keeper.old) (K.contents keeper.new)
+        (K.calls keeper.old) (K.calls keeper.new) }
+    ensures damaged_exactly { result ≢ 3 → result ≢ 6
+        → IsAtEntry (settings_view settings.now).store K.stays
+        → IfSome (K.contents keeper.old) (λ kept. (result ≡ 7) ↔ IsDamaged kept) }
+    ensures damaged_exactly_now { result ≢ 3 → result ≢ 6
+        → IfSome (K.contents keeper.new) (λ kept. (result ≡ 7) ↔ IsDamaged kept) }
+    ensures store_calls { result ≡ 6 → Adds (FailsBy (settings_view settings.now).store)
+        (K.calls keeper.old) (K.calls keeper.new) }
+    ensures store_exactly { Adds (λ calls. (result ≡ 6)
+        ↔ (opening_fault (settings_view settings.now).store calls ≡ Some keep.Failed))
+        (K.calls keeper.old) (K.calls keeper.new) }
+    ensures memory_calls { result ≡ 3 → Adds (LacksMemoryBy (settings_view settings.now).store)
+        (K.calls keeper.old) (K.calls keeper.new) }
     ensures takes_nothing { IsUnserved result → source.new ≡ source.old }
     ensures changes_nothing { IsUnserved result → StaysAtEntry (settings_view settings.now).store
         K.stays (K.contents keeper.old) (K.contents keeper.new) }
@@ -232,13 +271,25 @@ fn rehearse_over<W: Sink, K: Keeper, L: Ledger, M: Ledger>(
     requires few { number ≤ 100000 }
     ensures rehearses { (result ≡ 0) ⊎ (result ≡ 5) → Rehearses (settings_view settings.now)
         number K.stays result (W.taken sink.old) (W.taken sink.new) (K.faults keeper.old)
-        (K.faults keeper.new) (K.contents keeper.old) (K.contents keeper.new) walked.old walked.new }
+        (K.faults keeper.new) (K.contents keeper.old) (K.contents keeper.new)
+        (K.calls keeper.old) (K.calls keeper.new) walked.old walked.new }
     ensures stops { result ≡ 3 → StopsShort (settings_view settings.now) number K.stays
         (K.faults keeper.old) (K.faults keeper.new) (K.contents keeper.old)
-        (K.contents keeper.new) walked.old walked.new }
+        (K.contents keeper.new) (K.calls keeper.old) (K.calls keeper.new) walked.old walked.new }
     ensures damaged { result ≡ 7 → Refuses (settings_view settings.now) K.stays
         (W.taken sink.old) (W.taken sink.new) (W.faults sink.old) (W.faults sink.new)
-        (K.faults keeper.old) (K.contents keeper.old) }
+        (K.faults keeper.old) (K.contents keeper.old) (K.contents keeper.new)
+        (K.calls keeper.old) (K.calls keeper.new) }
+    ensures damaged_exactly { result ≢ 3 → result ≢ 6
+        → IsAtEntry (settings_view settings.now).store K.stays
+        → IfSome (K.contents keeper.old) (λ kept. (result ≡ 7) ↔ IsDamaged kept) }
+    ensures damaged_exactly_now { result ≢ 3 → result ≢ 6
+        → IfSome (K.contents keeper.new) (λ kept. (result ≡ 7) ↔ IsDamaged kept) }
+    ensures store_calls { result ≡ 6 → Adds (FailsBy (settings_view settings.now).store)
+        (K.calls keeper.old) (K.calls keeper.new) }
+    ensures store_exactly { Adds (λ calls. (result ≡ 6)
+        ↔ (opening_fault (settings_view settings.now).store calls ≡ Some keep.Failed))
+        (K.calls keeper.old) (K.calls keeper.new) }
     ensures changes_nothing { (result ≡ 6) ⊎ (result ≡ 7)
         → StaysAtEntry (settings_view settings.now).store K.stays (K.contents keeper.old)
         (K.contents keeper.new) }
@@ -288,7 +339,8 @@ fn serve<S: Source, W: Sink, K: Keeper, L: Ledger, M: Ledger>(
     requires told { Tells (K.contents keeper.old) (state.kept server.old) }
     ensures serves { Serves server.old cutter.old.limit result (S.left source.old) (S.left source.new)
         (W.taken sink.old) (W.taken sink.new) (K.faults keeper.old) (K.faults keeper.new)
-        (K.contents keeper.old) (K.contents keeper.new) walked.old walked.new }
+        (K.contents keeper.old) (K.contents keeper.new) (K.calls keeper.old) (K.calls keeper.new)
+        walked.old walked.new }
     ensures ends { (result ≡ 0) ⊎ ((result ≡ 4) ⊎ ((result ≡ 5) ⊎ (result ≡ 8))) }
     ensures read { result ≡ 4 → Rose (S.faults source.old) (S.faults source.new) }
     ensures write { result ≡ 5 → Rose (W.faults sink.old) (W.faults sink.new) }
@@ -339,6 +391,15 @@ fn reply_to<K: Keeper, L: Ledger, M: Ledger>(
     ensures told { Follows (λ _ now. now ≡ state.kept server.new)
         (K.contents keeper.old) (K.contents keeper.new) }
     ensures place { K.place keeper.new ≡ K.place keeper.old }
+    ensures untouched { (answer server.old (line_of cut line.now)).1 ≡ server.old
+        → keeper.new ≡ keeper.old }
+    ensures commits { Adds (CommitsFor server.old (K.faults keeper.old)
+        (record {
+          line = line_of cut line.now;
+          reply = result;
+          state = server.new;
+          count = K.faults keeper.new;
+        })) (K.calls keeper.old) (K.calls keeper.new) }
     ensures walked { walked.new
         ≤ walked.old + most_walked (request (line_of cut line.now)) server.old }
 {

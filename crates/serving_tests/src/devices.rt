@@ -2,15 +2,17 @@
 use crate::runs::{PLAIN, Setting, expect, given, is_given, keeper};
 use crate::scripts::{BASE, PUT_STOCK, REFUSED_PUT, follow, side};
 use io_specs::LONGEST_LINE;
-use lens_io::ROOM;
+use lens_io::{LineCutter, MemorySink, MemorySource, ROOM, give_all};
 use std::alloc::Global;
 use std::test::Fail;
-use table_keeper::{Kept, SureKeeper};
+use table_keeper::{Asked, Kept, SureKeeper};
 
 // The line that words which are refused are answered with.
 const USAGE: &str = "usage: view_program [--store PATH] [--max-input N] [--rehearse N]\n";
 
-// Two and three requests for the definitions, each of 14 bytes, and the replies to one and two.
+// One, two and three requests for the definitions, each of 14 bytes, and the replies to one and two.
+const ONE: &str = "{\"do\":\"list\"}\n";
+
 const TWO: &str = "{\"do\":\"list\"}\n{\"do\":\"list\"}\n";
 
 const THREE: &str = "{\"do\":\"list\"}\n{\"do\":\"list\"}\n{\"do\":\"list\"}\n";
@@ -49,10 +51,10 @@ const RUNS: [(&str, &str, [u64; 3], u8, &str); 23] = [
     ("--help", TWO, [0, 0, 0], 2, USAGE),
     ("--max-input 0", TWO, [0, 0, 0], 2, USAGE),
     ("--store x --rehearse 3", TWO, [0, 0, 0], 2, USAGE),
-    ("", "x\n", [1, 0, 0], 4, ""),
+    ("", ONE, [1, 0, 0], 4, ""),
     ("", "x", [2, 0, 0], 4, ""),
-    ("", "x\n", [0, 1, 0], 5, ""),
-    ("", TWO, [0, 0, 1], 6, ""),
+    ("", ONE, [0, 1, 0], 5, ""),
+    ("", ONE, [0, 0, 1], 6, ""),
     ("--store x", TWO, [0, 0, 1], 6, ""),
     ("--rehearse 1", TWO, [0, 0, 1], 6, ""),
     ("--max-input 28", TWO, [0, 0, 0], 0, TWO_TOLD),
@@ -197,4 +199,65 @@ fn refused_changes_are_not_kept(rt: HostRuntime) -> Result<(), Fail> {
     let mut keeper = keeper(rt.alloc(), 7)?;
     follow(rt.alloc(), &mut keeper, &[BASE, REFUSED_PUT])?;
     follow(rt.alloc(), &mut keeper, &[FOUND_LATER])
+}
+
+// Fails where a run with these words, over six lines that change something and two that ask, does not
+// ask the keeper for this.
+fn asks_for(alloc: Global, words: &str, wanted: &[Asked]) -> Result<(), Fail> {
+    let mut keeper = keeper(alloc, 0)?;
+    let mut requests = side(alloc, &[BASE, PUT_STOCK], 0)?;
+    requests.extend_from_slice(TWO.as_bytes())?;
+    given(alloc, Setting { words, ..PLAIN }, requests, &mut keeper, 0)?;
+    let calls = keeper.calls().ok_or("no calls")?;
+    expect(calls.len() == wanted.len(), "how many calls")?;
+    for (call, asked) in calls.iter().zip(wanted) {
+        expect(call.asked == *asked && call.fault.is_none(), "a call")?;
+    }
+    Ok(())
+}
+
+#[test]
+fn the_keeper_is_asked_at_changes_alone(rt: HostRuntime) -> Result<(), Fail> {
+    use Asked::{Attach, Commit, Load};
+
+    let alloc = rt.alloc();
+    let loaded = [Load, Commit, Commit, Commit, Commit, Commit, Commit];
+    asks_for(alloc, "", &loaded)?;
+    let attached = [Attach, Load, Commit, Commit, Commit, Commit, Commit, Commit];
+    asks_for(alloc, "--store x", &attached)
+}
+
+// Fails where a sink with room for four bytes, two a call, was not handed all that was left of five,
+// call after call, or does not tell so.
+fn sink_tells(alloc: Global) -> Result<(), Fail> {
+    let mut sink = MemorySink::new(alloc, 4, 2, Vec::new(alloc))?;
+    let all = give_all(&mut sink, b"abcde");
+    expect(all.is_err(), "the room")?;
+    let offers = sink.offered().ok_or("no offers")?;
+    expect(offers.len() == 3, "how many offers")?;
+    for (offer, (size, took)) in offers.iter().zip([(5, 2), (3, 2), (1, 0)]) {
+        expect(offer.size == size && offer.took == took, "an offer")?;
+    }
+    Ok(())
+}
+
+// Fails where a source was not asked once for a line that its first call gives, or does not tell so.
+fn source_tells(alloc: Global) -> Result<(), Fail> {
+    let bytes = Vec::from_slice(alloc, b"a\nb")?;
+    let mut source = MemorySource::new(bytes, 2, Vec::new(alloc));
+    let mut cutter = LineCutter::new(alloc, 100)?;
+    let _line = cutter.next(&mut source);
+    let takes = source.asked().ok_or("no takes")?;
+    expect(takes.len() == 1, "how many takes")?;
+    let take = takes.first().ok_or("no take")?;
+    expect(
+        take.room == 101 && take.came.as_slice() == b"a\n".as_slice(),
+        "a take",
+    )
+}
+
+#[test]
+fn devices_tell_their_calls(rt: HostRuntime) -> Result<(), Fail> {
+    sink_tells(rt.alloc())?;
+    source_tells(rt.alloc())
 }

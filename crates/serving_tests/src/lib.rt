@@ -6,6 +6,8 @@ mod devices;
 #[cfg(test)]
 mod looks;
 #[cfg(test)]
+mod parts;
+#[cfg(test)]
 mod previews;
 #[cfg(test)]
 mod runs;

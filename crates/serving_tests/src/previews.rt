@@ -1,42 +1,80 @@
 //! A stream of previews over many rows, which ends in time only where no preview walks them.
 use crate::looks::albums_line;
-use crate::runs::{PLAIN, Setting, expect, given};
+use crate::runs::{PLAIN, Setting, given, is_given};
 use crate::scripts::{BASE, side};
 use lens_io::ROOM;
 use std::alloc::Global;
 use std::test::Fail;
 use table_keeper::{Kept, SureKeeper};
 
-// How many previews are asked for.
+// How many previews are asked for, and how many albums there are then beside those of the script.
 const PREVIEWS: usize = 40_000;
 
-// One new track of an album that the view shows.
-const PREVIEW: &str =
-    r#"{"do":"preview","view":"stock","remove":[],"add":[{"album":"Wish","quantity":5,"rating":2,"track":"n"}]}
-"#;
+const ALBUMS: u64 = 50_000;
 
-const FORETOLD: &str =
-    r#"{"changed":[{"add":[{"album":"Wish","date":2018,"rating":2,"track":"n"}],"remove":[],"table":"tracks"}],"ok":true,"version":6}"#;
+// The preview of one new track of an album that the view shows.
+fn preview(alloc: Global, number: usize) -> Result<String, Fail> {
+    Ok(format!(in alloc;
+        r#"{{"do":"preview","view":"stock","remove":[],"add":[{{"album":"Wish","quantity":5,"rating":2,"track":"n{number}"}}]}}"#
+    )?)
+}
+
+// The reply to it.
+fn foretold(alloc: Global, number: usize) -> Result<String, Fail> {
+    Ok(format!(in alloc;
+        r#"{{"changed":[{{"add":[{{"album":"Wish","date":2018,"rating":2,"track":"n{number}"}}],"remove":[],"table":"tracks"}}],"ok":true,"version":6}}"#
+    )?)
+}
+
+// Adds the line and a newline.
+fn add_line(bytes: &mut Vec<u8>, line: &str) -> Result<(), Fail> {
+    bytes.extend_from_slice(line.as_bytes())?;
+    bytes.push(b'\n')?;
+    Ok(())
+}
 
 // Tables, many albums and the previews.
 fn requests(alloc: Global) -> Result<Vec<u8>, Fail> {
     let mut bytes = side(alloc, &[BASE], 0)?;
-    bytes.extend_from_slice(albums_line(alloc, 50_000)?.as_bytes())?;
-    for _ in 0..PREVIEWS {
-        bytes.extend_from_slice(PREVIEW.as_bytes())?;
+    bytes.extend_from_slice(albums_line(alloc, ALBUMS)?.as_bytes())?;
+    for number in 0..PREVIEWS {
+        add_line(&mut bytes, &preview(alloc, number)?)?;
     }
     Ok(bytes)
 }
 
-// Fails where these are not the replies to the previews, after those to the five lines of the
-// script and to the edit.
-fn are_foretold(replies: &str) -> Result<(), Fail> {
-    let mut replies = replies.lines().skip(6);
-    for _ in 0..PREVIEWS {
-        let reply = replies.next().ok_or("no reply")?;
-        expect(reply == FORETOLD, reply)?;
+// The names of the albums, as they rise.
+fn names(alloc: Global) -> Result<Vec<String>, Fail> {
+    let mut names = Vec::new(alloc);
+    for number in 0..ALBUMS {
+        names.push(format!(in alloc; "z{number}")?)?;
     }
-    expect(replies.next().is_none(), "a reply too many")
+    names.sort_unstable();
+    Ok(names)
+}
+
+// The reply to the edit that adds the albums.
+fn added(alloc: Global) -> Result<String, Fail> {
+    let mut line = String::from_str(alloc, r#"{"changed":[{"add":["#)?;
+    for name in names(alloc)? {
+        if !line.ends_with('[') {
+            line.push(',')?;
+        }
+        let row = format!(in alloc; r#"{{"album":"{name}","quantity":5}}"#)?;
+        line.push_str(&row)?;
+    }
+    line.push_str(r#"],"remove":[],"table":"albums"}],"ok":true,"version":6}"#)?;
+    Ok(line)
+}
+
+// The replies to the five lines of the script, to the edit and to the previews.
+fn replies(alloc: Global) -> Result<Vec<u8>, Fail> {
+    let mut bytes = side(alloc, &[BASE], 1)?;
+    add_line(&mut bytes, &added(alloc)?)?;
+    for number in 0..PREVIEWS {
+        add_line(&mut bytes, &foretold(alloc, number)?)?;
+    }
+    Ok(bytes)
 }
 
 #[test]
@@ -48,5 +86,5 @@ fn previews(rt: HostRuntime) -> Result<(), Fail> {
     };
     let mut keeper = SureKeeper::holding(Kept::nothing(alloc));
     let sink = given(alloc, setting, requests(alloc)?, &mut keeper, 0)?;
-    are_foretold(str::from_utf8(sink.bytes())?)
+    is_given(sink.bytes(), &replies(alloc)?)
 }

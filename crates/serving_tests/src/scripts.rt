@@ -1,6 +1,7 @@
 //! Scripts: each request stands before its reply. Sessions are scripts with a line before, and each
 //! begins with nothing.
 
+mod batches;
 mod definitions;
 mod edits;
 mod finds;
@@ -13,9 +14,11 @@ mod questions;
 mod refusals;
 mod renames;
 mod requests;
+mod sheets;
 mod staleness;
 mod steady_conjuncts;
 mod tables;
+mod undos;
 mod views_of_views;
 
 use crate::runs::{PLAIN, given, is_given, keeper};
@@ -120,6 +123,21 @@ fn rows_are_edited(rt: HostRuntime) -> Result<(), Fail> {
 }
 
 #[test]
+fn edits_are_made_in_batches(rt: HostRuntime) -> Result<(), Fail> {
+    follow_each(rt.alloc(), batches::SESSIONS)
+}
+
+#[test]
+fn changes_are_undone(rt: HostRuntime) -> Result<(), Fail> {
+    follow_each(rt.alloc(), undos::SESSIONS)
+}
+
+#[test]
+fn rows_are_exported_and_imported(rt: HostRuntime) -> Result<(), Fail> {
+    follow_each(rt.alloc(), sheets::SESSIONS)
+}
+
+#[test]
 fn views_of_views_are_read_and_edited(rt: HostRuntime) -> Result<(), Fail> {
     follow_each(rt.alloc(), views_of_views::SESSIONS)
 }
@@ -195,7 +213,14 @@ fn many_and_long_definitions_are_answered(rt: HostRuntime) -> Result<(), Fail> {
 #[test]
 fn refused_changes_are_answered(rt: HostRuntime) -> Result<(), Fail> {
     follow_failing(rt.alloc(), 4, &[tables::STORED_LATER])?;
-    follow_failing(rt.alloc(), 7, &[BASE, edits::NOT_STORED])?;
+    for script in [
+        edits::NOT_STORED,
+        batches::NOT_STORED,
+        undos::NOT_STORED,
+        sheets::NOT_STORED,
+    ] {
+        follow_failing(rt.alloc(), 7, &[BASE, script])?;
+    }
     // The same put is accepted when it is sent again.
     follow_failing(rt.alloc(), 7, &[BASE, REFUSED_PUT, PUT_STOCK])
 }

@@ -69,6 +69,8 @@ impl Keeper for SqliteKeeper<'_> {
 
     ghost faults = { faults_of };
 
+    ghost calls = { λ _. None };
+
     fn attach(&mut self, alloc: Global, new_place: &str) -> Result<(), KeepFault> {
         let Ok(place) = String::from_str(alloc, new_place) else {
             return Err(KeepFault::NoMemory);

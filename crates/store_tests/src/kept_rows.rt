@@ -89,6 +89,34 @@ fn rows_are_kept_in_files(rt: HostRuntime) -> Result<(), Fail> {
     expect(number_of(&rt, &people, NULLS)? == 3, NULLS)
 }
 
+// A batch, which is undone and made again, and an import, which is undone.
+const CHANGE: &str =
+    r#"{"do":"batch","edits":[{"view":"n","remove":[{"k":1}],"add":[{"k":2}]},{"view":"n","remove":[{"k":2}],"add":[{"k":3},{"k":4}]}]}
+{"changed":[{"add":[{"k":3},{"k":4}],"remove":[{"k":1}],"table":"n"}],"ok":true,"version":1}
+{"do":"undo"}
+{"changed":[{"add":[{"k":1}],"remove":[{"k":3},{"k":4}],"table":"n"}],"ok":true,"version":2}
+{"do":"import","view":"n","csv":"k\n5\n"}
+{"changed":[{"add":[{"k":5}],"remove":[{"k":1}],"table":"n"}],"ok":true,"version":3}
+{"do":"undo"}
+{"changed":[{"add":[{"k":1}],"remove":[{"k":5}],"table":"n"}],"ok":true,"version":4}
+{"do":"batch","edits":[{"view":"n","remove":[{"k":1}],"add":[{"k":2}]},{"view":"n","remove":[],"add":[{"k":6}]}]}
+{"changed":[{"add":[{"k":2},{"k":6}],"remove":[{"k":1}],"table":"n"}],"ok":true,"version":5}"#;
+
+// A later run finds what the last change left, and no change to undo.
+const FIND_CHANGED: &str = r#"{"do":"undo"}
+{"error":44,"ok":false}
+{"do":"export","view":"n"}
+{"csv":"k\n2\n6\n","ok":true,"version":0}"#;
+
+// Runs one after another.
+const CHANGED: [&str; 3] = [MAKE, CHANGE, FIND_CHANGED];
+
+#[test]
+fn changes_are_kept_and_not_their_undo(rt: HostRuntime) -> Result<(), Fail> {
+    let folder = Folder::new(&rt, "changes")?;
+    follow_each(&rt, &folder.file("changed")?, &CHANGED)
+}
+
 // A store of format 1, as another program made it.
 const FORMAT_1: &str = "CREATE TABLE lens_format (number INTEGER NOT NULL) STRICT;
 CREATE TABLE lens_defs (place INTEGER PRIMARY KEY, text TEXT NOT NULL) STRICT;

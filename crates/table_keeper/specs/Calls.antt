@@ -1,7 +1,9 @@
 -- A keeper in memory whose listed calls fail: its calls and its faults.
-use Rattle.std.specs.Prelude.{ℕ, ◌+◌, ◌-◌, ◌^◌, min, Bool, List, nat_eq, if◌then◌else◌}
+use Rattle.std.specs.Prelude.{ℕ, ◌+◌, ◌-◌, ◌^◌, min, Bool, List, Option, nat_eq, if◌then◌else◌}
 use Rattle.std.specs.List.{list_any}
+use Rattle.table_keeper.specs.Asking.{calls_kept}
 use Rattle.table_keeper.specs.Holding.{Holding}
+use Rattle.table_keeper.specs.declared.calls.Call.{Call}
 use Rattle.table_keeper.specs.declared.memory.MemoryKeeper.{MemoryKeeper}
 use Rattle.table_keeper.specs.declared.memory.SureKeeper.{SureKeeper}
 
@@ -34,3 +36,10 @@ held_surely k = k.store
 -- what a keeper whose listed calls fail holds
 abbrev pub held : MemoryKeeper → Holding
 held k = k.store
+
+-- the calls that a keeper in memory tells
+abbrev pub calls_told_surely : SureKeeper → Option (List Call)
+calls_told_surely k = calls_kept k.told
+
+abbrev pub calls_told : MemoryKeeper → Option (List Call)
+calls_told k = calls_kept k.told

@@ -6,7 +6,10 @@ ghost use Rattle.lens_values.specs.Order.{bytes_cmp};
 ghost use Rattle.io_specs.specs.Faults.{Rose};
 ghost use Rattle.lens_specs.specs.Keeping as keeping;
 ghost use Rattle.lens_specs.specs.Keeping.{CanCommit, Follows, Stays, Tells, changed};
+ghost use Rattle.table_keeper.specs.Asking.{AddsCall};
 ghost use Rattle.table_keeper.specs.Changes.{change_view, kept_view, names_of};
+ghost use Rattle.table_keeper.specs.declared.calls.Asked.TheVariants.{Attach, Commit, Load};
+ghost use Rattle.table_keeper.specs.declared.calls.Call.{Call};
 
 use lens_values::{Name, NoMemory, Text};
 use row_sets::RowSet;
@@ -90,6 +93,9 @@ pub trait Keeper {
     /// How often it has failed.
     ghost faults: { Self → ℕ };
 
+    /// The calls so far, where it tells them.
+    ghost calls: { Self → Option (List Call) };
+
     /// Chooses where the contents lie.
     fn attach(&mut self, alloc: Global, new_place: &str) -> Result<(), KeepFault>
         ensures chosen { OnOk result (place self.new ≡ Some new_place.now) }
@@ -97,6 +103,8 @@ pub trait Keeper {
         ensures kept_at_fault { OnErr result (Stays (contents self.old) (contents self.new)) }
         ensures kept { stays ≡ true → Stays (contents self.old) (contents self.new) }
         ensures told { is_some (contents self.new) ≡ is_some (contents self.old) }
+        ensures call { AddsCall (calls self.old) (calls self.new) Attach result
+            (faults self.new) }
         ensures later { faults self.old ≤ faults self.new }
         ensures failed { result ≡ Err KeepFault.Failed → Rose (faults self.old) (faults self.new) };
 
@@ -106,6 +114,8 @@ pub trait Keeper {
         ensures rising { IfOk result (λ kept. IsStrictlySortedBy bytes_cmp
             (names_of kept.tables.items)) }
         ensures kept { Stays (contents self.old) (contents self.new) }
+        ensures call { AddsCall (calls self.old) (calls self.new) Load result
+            (faults self.new) }
         ensures place { place self.new ≡ place self.old }
         ensures later { faults self.old ≤ faults self.new }
         ensures failed { result ≡ Err KeepFault.Failed → Rose (faults self.old) (faults self.new) };
@@ -116,6 +126,8 @@ pub trait Keeper {
         ensures ok { OnOk result (Follows (λ old new. new ≡ changed (change_view change.now) old)
             (contents self.old) (contents self.new)) }
         ensures err { OnErr result (Stays (contents self.old) (contents self.new)) }
+        ensures call { AddsCall (calls self.old) (calls self.new) Commit result
+            (faults self.new) }
         ensures place { place self.new ≡ place self.old }
         ensures later { faults self.old ≤ faults self.new }
         ensures failed { result ≡ Err KeepFault.Failed → Rose (faults self.old) (faults self.new) };

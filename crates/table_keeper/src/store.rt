@@ -1,12 +1,11 @@
 //! What a keeper in memory holds.
-ghost use Rattle.std.specs.Prelude.{◌≡◌, IfOk, OnOk, OnErr, None, Some};
+ghost use Rattle.std.specs.Prelude.{◌≡◌, Err, IfOk, OnOk, OnErr, None, Some};
 ghost use Rattle.lens_specs.specs.Keeping.{CanChange, changed};
 ghost use Rattle.table_keeper.specs.Changes.{change_view, kept_view};
 ghost use Rattle.table_keeper.specs.Places.{Rise};
 
 use crate::contents::{copied_contents, make};
-use crate::keeper::{Change, Kept};
-use lens_values::NoMemory;
+use crate::keeper::{Change, KeepFault, Kept};
 use std::alloc::Global;
 use std::marker::Model;
 
@@ -51,30 +50,35 @@ impl Store {
     }
 
     /// Chooses the place.
-    pub fn attach(&mut self, alloc: Global, new_place: &str) -> Result<(), NoMemory>
+    pub fn attach(&mut self, alloc: Global, new_place: &str) -> Result<(), KeepFault>
         ensures ok { OnOk result (self.new ≡ record self.old { place = Some new_place.now }) }
         ensures err { OnErr result (self.new ≡ self.old) }
+        ensures memory { OnErr result (result ≡ Err KeepFault.NoMemory) }
     {
-        let place = String::from_str(alloc, new_place)?;
+        let Ok(place) = String::from_str(alloc, new_place) else {
+            return Err(KeepFault::NoMemory);
+        };
         self.place = Some(place);
         Ok(())
     }
 
     /// A copy of what is kept.
-    pub fn copy(&self, alloc: Global) -> Result<Kept, NoMemory>
+    pub fn copy(&self, alloc: Global) -> Result<Kept, KeepFault>
         ensures ok { IfOk result (λ copy. kept_view copy ≡ self.now.kept) }
         ensures rising { IfOk result (λ copy. Rise copy.tables.items) }
+        ensures memory { OnErr result (result ≡ Err KeepFault.NoMemory) }
     {
         let copy = copied_contents(alloc, &self.kept)?;
         Ok(copy)
     }
 
     /// Makes a change, whole or not at all.
-    pub fn change(&mut self, alloc: Global, change: &Change) -> Result<(), NoMemory>
+    pub fn change(&mut self, alloc: Global, change: &Change) -> Result<(), KeepFault>
         requires { CanChange (change_view change.now) self.old.kept }
         ensures ok { OnOk result (self.new
             ≡ record self.old { kept = changed (change_view change.now) self.old.kept }) }
         ensures err { OnErr result (self.new ≡ self.old) }
+        ensures memory { OnErr result (result ≡ Err KeepFault.NoMemory) }
     {
         make(&mut self.kept, alloc, change)?;
         Ok(())

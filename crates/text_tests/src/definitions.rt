@@ -3,7 +3,7 @@ use crate::samples::expect;
 use lens_values::Text;
 use std::alloc::Global;
 use std::test::Fail;
-use view_lang::{LangFault, parse, print};
+use view_lang::{Definition, Expr, LangFault, parse, print, print_formula};
 
 // Fails where the text does not say the definition that is printed so.
 fn says(alloc: Global, text: &str, printed: &str) -> Result<(), Fail> {
@@ -98,6 +98,33 @@ const PRINTED: [&str; 18] = [
     "view v = join_dl (select from (drop date determined by (track, 2018) from (join_dl tracks with albums)) where a < 3 or b = 'x') with t",
     "view v = join_dr (join_both tracks with albums) with (rename day to due from loans)",
 ];
+
+#[test]
+fn a_view_is_parsed(rt: HostRuntime) -> Result<(), Fail> {
+    match &parse(rt.alloc(), &Text::new(rt.alloc(), "view v=t")?)? {
+        Definition::View {
+            name,
+            expr: Expr::Named { name: of },
+        } => expect(name.as_str() == "v" && of.as_str() == "t", "its names"),
+        _ => Err(Fail::from("no view of all rows")),
+    }
+}
+
+#[test]
+fn a_formula_is_printed(rt: HostRuntime) -> Result<(), Fail> {
+    let text = "view v = select from t where a<3 or b='x'";
+    match &parse(rt.alloc(), &Text::new(rt.alloc(), text)?)? {
+        Definition::View {
+            expr: Expr::Select { pred, .. },
+            ..
+        } => {
+            let formula = pred.conjuncts().first().ok_or("no conjunct")?;
+            let printed = print_formula(rt.alloc(), formula)?;
+            expect(printed.as_str() == "a < 3 or b = 'x'", "its text")
+        }
+        _ => Err(Fail::from("no selection")),
+    }
+}
 
 // Fails where the text does not go wrong at this byte.
 fn fails_at(alloc: Global, text: &str, at: usize) -> Result<(), Fail> {

@@ -2,7 +2,7 @@
 use crate::formulas::{is_pred, pred};
 use crate::lenses::lens;
 use crate::samples::{are_columns, are_edges, are_names, cut, in_four, in_three, tree};
-use lens_types::{Sort, TypedLens, unsteady};
+use lens_types::{Sort, TypeFault, TypedLens, unsteady};
 use std::alloc::Global;
 use std::process::Abort;
 
@@ -46,29 +46,33 @@ a -> b, c -> d | b < .d | b
 a -> b, b -> c | c = 1, b < .c | b
 a -> b c | a < .c, a < .b | b";
 
+// Tables whose dependencies have no tree form, and the sides that overlap.
+const NO_TREES: &str = "\
+w with a -> c, b -> c | c | c
+right with a -> b, b -> a | a | a";
+
 // Lenses, and why their last nodes are refused.
 const REFUSED: &str = "\
 tracks with track -> genre: no column has the name genre
-right with a -> b, b -> a: the dependencies have no tree form, because two of their sides overlap
 tracks where date = x: column date is compared with a value or a column of another kind
 notes where rating = .title: column rating is compared with a value or a column of another kind
 notes where rating in null x: column rating is compared with a value or a column of another kind
-tracks / select genre = x: no column has the name genre
-tracks / select rating = x: column rating is compared with a value or a column of another kind
-tracks with track -> date rating where rating > 3, album = Wish, or / select album != Show: a conjunct of the source mentions rating and is not steady
+tracks with track -> date rating / select genre = x: no column has the name genre
+tracks with track -> date rating / select rating = x: column rating is compared with a value or a column of another kind
+tracks with track -> date rating / select rating > 3, album = Wish, or / select album != Show: a conjunct of the source mentions rating and is not steady
 tracks / drop genre by track fill 1: no column has the name genre
 tracks with track -> rating / drop rating by track fill true: column rating has two kinds
 albums with album -> quantity / drop quantity by album fill null: column quantity has two kinds
-tracks with track -> rating / drop rating by album fill 0: the named columns do not determine rating, or it determines others
+tracks with track -> date rating / drop rating by album fill 0: the named columns do not determine rating, or it determines others
 triples with k -> a b where a < .b / drop a by k fill 0: conjunct 0 mentions the dropped column and another one
-triples with k -> a where a > 5 / drop a by k fill 3: the predicate does not hold on the value that fills the dropped column
-tracks / join_dl loans with album -> day: column album has two kinds
+p with k -> a where a > 5 / drop a by k fill 3: the predicate does not hold on the value that fills the dropped column
+tracks with track -> date rating / join_dl loans with album -> day: column album has two kinds
 tracks / join_dl notes: column rating has two kinds
-albums / join_dl tracks with track -> date rating: the shared columns do not determine date of the right side
-tracks / join_dl triples: the shared columns do not determine a of the right side
-tracks with track -> date rating where rating > 3, album = Wish, or / join_dl albums with album -> quantity: a conjunct of the left side mentions rating and is not steady
+albums with album -> quantity / join_dl tracks with track -> date rating: the shared columns do not determine date of the right side
+tracks with track -> date rating / join_dl n: the shared columns do not determine k of the right side
+tracks with track -> date rating / select rating > 3, album = Wish, or / join_dl albums with album -> quantity: a conjunct of the left side mentions rating and is not steady
 left / join_dr right with a -> b where a < .b: a conjunct of the right side mentions b and is not steady
-tracks / join_both tracks: both sides are over the table tracks
+tracks with track -> date rating / join_dl tracks with track -> date rating: both sides are over the table tracks
 albums / rename genre to kind: no column has the name genre
 albums / rename album to quantity: there is a column quantity already
 wide: there are more than 64 columns";
@@ -80,6 +84,9 @@ fn lenses_have_sorts_or_are_refused(rt: HostRuntime) {
     }
     for line in UNSTEADY.lines() {
         assert!(rt; is_unsteady(&rt, rt.alloc(), line), "{line}");
+    }
+    for line in NO_TREES.lines() {
+        has_no_tree(&rt, rt.alloc(), line);
     }
     for line in REFUSED.lines() {
         assert!(rt; is_refused(&rt, rt.alloc(), line), "{line}");
@@ -124,6 +131,18 @@ fn is_unsteady(rt: &impl Abort, alloc: Global, line: &str) -> bool {
     match found.expect(rt, "memory") {
         Some(col) => col.as_str() == expected,
         None => expected == "none",
+    }
+}
+
+// Checks that the table has no tree, because the two sides overlap.
+fn has_no_tree(rt: &impl Abort, alloc: Global, line: &str) {
+    let [text, first, second] = in_three(rt, line);
+    match lens(rt, alloc, text).err() {
+        Some(TypeFault::NotTree { a, b }) => {
+            are_names(rt, alloc, Some(a), first);
+            are_names(rt, alloc, Some(b), second);
+        }
+        _ => panic!(rt; "{text}"),
     }
 }
 

@@ -4,6 +4,7 @@
 ghost use Rattle.std.specs.Prelude.{◌≡◌, ◌≢◌, ◌↔◌, None, map, string_bytes};
 ghost use Rattle.command_words.specs.Settings.{settings};
 
+mod causes;
 mod words;
 
 use lens_io::{StreamSink, StreamSource};
@@ -16,10 +17,15 @@ use std::sync::ledger::{Blank, Ledger};
 use step_counter::Steps;
 
 fn main(rt: HostRuntime) -> ExitCode {
-    match words::collected(&rt) {
-        Ok(words) => ExitCode::from(serve_host::<Brand>(&rt, &words, Blank::new(1))),
-        Err(fault) => ExitCode::from(words::status_of(fault)),
+    let status = match words::collected(&rt) {
+        Ok(words) => serve_host::<Brand>(&rt, &words, Blank::new(1)),
+        Err(fault) => words::status_of(fault),
+    };
+    if let Some(cause) = causes::cause_of(status) {
+        // There is nobody to tell where standard error cannot be written.
+        let _ = rt.eprintln(cause);
     }
+    ExitCode::from(status)
 }
 
 /// Serves the standard input. The tables are kept in a file, or else in memory.

@@ -2,17 +2,18 @@ use Rattle.std.proofs.Common.{◌≡◌, ◌∙◌, ◌+◌, ◌*◌, ◌≤◌,
 use Rattle.std.proofs.lemmas.Nat.{mul-le}
 use Rattle.lens_values.specs.SortedSet as set
 use Rattle.lens_specs.specs.Columns.{names}
-use Rattle.lens_specs.specs.Relation.{Rows, has, minus, project}
+use Rattle.lens_specs.specs.Relation.{Rows, has, minus, project, those}
 use Rattle.fd_laws.proofs.Relations.{from_minus}
 use Rattle.signed_delta.proofs.Counts.{minus_len, project_len}
 use Rattle.join_delta.proofs.Near.{shared_right}
+use Rattle.join_others.specs.Shown.{is_shown}
 use Rattle.join_others.proofs.Freed.{free_made, parts_stand}
 use Rattle.join_others.proofs.parts.free_parts.Given.{Over}
-use Rattle.join_others.proofs.parts.free_parts.Goals.{After-find_each}
+use Rattle.join_others.proofs.parts.free_parts.Goals.{After-shown_parts}
 use Rattle.join_others.proofs.parts.free_parts.Goals as goal
 
-pub find_each-requires-clause-have : goal.find_each-requires-clause-have
-find_each-requires-clause-have g c =
+pub shown_parts-requires-clause-have : goal.shown_parts-requires-clause-have
+shown_parts-requires-clause-have g c =
     let R = g.A.Look.relation c.args.left.now in
     let Q = g.B.Look.relation c.args.right.now in
     let q = c.requires in
@@ -25,9 +26,9 @@ find_each-requires-clause-have g c =
     let stands = parts_stand (names Q.columns) Q.rows c.args.merged.now.over c.args.merged.now.right q.over row (ap (λ M. has M row) (sym parts) ∙ w.0) v.1 in
     shared_right R.columns Q.columns row (c.rows_fit-2.ensures row stands) k (ap (λ C. set.contains C k) (sym q.sides.shared) ∙ i)
 
-few_asked : (g : Over) (c : After-find_each g) (n : ℕ) → g.A.Look.within c.args.left.now n → c.find_each.new.looked ≤ c.args.looked.now + n * length (set.items c.args.merged.now.over)
+few_asked : (g : Over) (c : After-shown_parts g) (n : ℕ) → g.A.Look.within c.args.left.now n → c.shown_parts.new.looked ≤ c.args.looked.now + n * length (set.items c.args.merged.now.over)
 few_asked g c n w =
-    let all = c.find_each.ensures.looks n w in
+    let all = c.shown_parts.ensures.looks n w in
     let old = ap (λ (M : Rows). length (set.items M)) c.in_ok-old.ensures in
     let fewer = minus_len c.in_ok-others.others c.add.result.now in
     let others = ap (λ (M : Rows). length (set.items M)) c.in_ok-others.ensures in
@@ -48,25 +49,17 @@ returns g c =
     let parts : c.in_ok-parts.parts ≡ project (names Q.columns) m.over = c.in_ok-parts.ensures ∙ ap (λ C. project C m.over) q.sides.right in
     let others : c.in_ok-others.others ≡ minus c.in_ok-parts.parts (project (names Q.columns) d.add) = c.in_ok-others.ensures ∙ ap (minus c.in_ok-parts.parts) q.parts in
     let old : c.in_ok-old.old ≡ minus c.in_ok-others.others m.right.add = c.in_ok-old.ensures ∙ ap (minus c.in_ok-others.others) c.add.ensures in
-    let stay : c.in_ok-stay.stay ≡ minus c.in_ok-pairs.pairs d.remove = c.in_ok-stay.ensures ∙ ap (minus c.in_ok-pairs.pairs) c.remove.ensures in
+    let shown : c.in_ok-shown.shown ≡ those (is_shown m.sides.shared R.rows d.remove) c.in_ok-old.old =
+    c.in_ok-shown.ensures.shown ∙ ap (λ (X : Rows). those (is_shown m.sides.shared R.rows X) c.in_ok-old.old) c.remove.ensures in
     let is = free_made R.columns Q.columns R.rows Q.rows d (project (names Q.columns) m.over) m.right.add c.rows_fit.ensures c.rows_fit-2.ensures q.new
     (parts_stand (names Q.columns) Q.rows m.over m.right q.over)
-    m.sides.shared m.sides.right c.in_ok-parts.parts c.in_ok-others.others c.in_ok-old.old c.in_ok-near.near c.in_ok-pairs.pairs c.in_ok-stay.stay c.in_ok-shown.shown
-    q.sides.shared q.sides.right parts others old c.in_ok-near.ensures.found c.in_ok-pairs.ensures stay c.in_ok-shown.ensures in
+    m.sides.shared c.in_ok-parts.parts c.in_ok-others.others c.in_ok-old.old c.in_ok-shown.shown
+    q.sides.shared parts others old shown in
     let e = goal.at.returns g c in
     record {
-      free = subst (λ (s : Rows). IfOk c.minus-4.result (λ free. free ≡ s)) is c.minus-4.ensures;
-      looks = few_asked g e.After-find_each;
+      free = subst (λ (s : Rows). IfOk c.minus-3.result (λ free. free ≡ s)) is c.minus-3.ensures;
+      looks = few_asked g e.After-shown_parts;
     }
 
-pub returns-in_err-near-clause-looks : goal.returns-in_err-near-clause-looks
-returns-in_err-near-clause-looks g c = let e = goal.at.returns-in_err-near-clause-looks g c in few_asked g e.After-find_each
-
-pub returns-in_err-pairs-clause-looks : goal.returns-in_err-pairs-clause-looks
-returns-in_err-pairs-clause-looks g c = let e = goal.at.returns-in_err-pairs-clause-looks g c in few_asked g e.After-find_each
-
-pub returns-in_err-stay-clause-looks : goal.returns-in_err-stay-clause-looks
-returns-in_err-stay-clause-looks g c = let e = goal.at.returns-in_err-stay-clause-looks g c in few_asked g e.After-find_each
-
 pub returns-in_err-shown-clause-looks : goal.returns-in_err-shown-clause-looks
-returns-in_err-shown-clause-looks g c = let e = goal.at.returns-in_err-shown-clause-looks g c in few_asked g e.After-find_each
+returns-in_err-shown-clause-looks g c = let e = goal.at.returns-in_err-shown-clause-looks g c in few_asked g e.After-shown_parts

@@ -1,9 +1,10 @@
-use Rattle.std.proofs.Common.{◌≤◌, ◌+◌, Ok, arith, subst, sym}
+use Rattle.std.proofs.Common.{◌∙◌, ◌≤◌, ◌+◌, Ok, arith, subst, sym}
 use Rattle.request_text.specs.Requests.{request_view}
 use Rattle.server_specs.specs.Changing.{edited, whole}
-use Rattle.lens_server.proofs.Counted.{change_texts, change_walks, definition_walks}
+use Rattle.lens_server.proofs.Counted.{batch_texts, change_texts, change_walks, definition_walks, undo_texts}
 use Rattle.lens_server.specs.Counting.{Walks, most_looked, most_walked, row_count}
 use Rattle.lens_server.specs.States.{state_of}
+use Rattle.lens_server.proofs.Imported.{import_texts}
 use Rattle.lens_server.proofs.answering.plan_request.Goals as goal
 
 pub returns-in-Define-clause-walked : goal.returns-in-Define-clause-walked
@@ -35,3 +36,31 @@ returns-in-Put-clause-looked g c =
 pub returns-in-Edit-clause-looked : goal.returns-in-Edit-clause-looked
 returns-in-Edit-clause-looked g c =
     subst (λ r. c.plan_edit.new.looked ≤ c.args.looked.now + most_looked (Ok (request_view r)) (state_of c.args.store.now)) (sym c.in-Edit.is) c.plan_edit.ensures.looked
+
+pub returns-in-Batch-clause-walked : goal.returns-in-Batch-clause-walked
+returns-in-Batch-clause-walked g c =
+    let store = c.args.store.now in
+    subst (λ r. Walks c.plan_batch.result c.plan_batch.new.store c.args.walked.now c.args.walked.now (most_walked (Ok (request_view r)) (state_of store))) (sym c.in-Batch.is)
+    (change_walks c.plan_batch.result _ c.plan_batch.new.store c.args.walked.now c.args.walked.now 0 c.plan_batch.ensures.plan
+    (batch_texts c.in-Batch.edits c.in-Batch.on (state_of store) ∙ sym c.plan_batch.ensures.same.texts) (omega arith))
+
+pub returns-in-Batch-clause-looked : goal.returns-in-Batch-clause-looked
+returns-in-Batch-clause-looked g c =
+    subst (λ r. c.plan_batch.new.looked ≤ c.args.looked.now + most_looked (Ok (request_view r)) (state_of c.args.store.now)) (sym c.in-Batch.is) c.plan_batch.ensures.looked
+
+pub returns-in-Undo-clause-walked : goal.returns-in-Undo-clause-walked
+returns-in-Undo-clause-walked g c =
+    let store = c.args.store.now in
+    subst (λ r. Walks c.plan_undo.result store c.args.walked.now c.args.walked.now (most_walked (Ok (request_view r)) (state_of store))) (sym c.in-Undo.is)
+    (change_walks c.plan_undo.result _ store c.args.walked.now c.args.walked.now 0 c.plan_undo.ensures (undo_texts (state_of store)) (omega arith))
+
+pub returns-in-Import-clause-walked : goal.returns-in-Import-clause-walked
+returns-in-Import-clause-walked g c =
+    let store = c.args.store.now in
+    subst (λ r. Walks c.plan_import.result store c.args.walked.now c.plan_import.new.walked (most_walked (Ok (request_view r)) (state_of store))) (sym c.in-Import.is)
+    (change_walks c.plan_import.result _ store c.args.walked.now c.plan_import.new.walked (row_count store.tables.present.relations) c.plan_import.ensures.plan (import_texts c.in-Import.view c.in-Import.csv c.in-Import.on (state_of store))
+    c.plan_import.ensures.walked)
+
+pub returns-in-Import-clause-looked : goal.returns-in-Import-clause-looked
+returns-in-Import-clause-looked g c =
+    subst (λ r. c.plan_import.new.looked ≤ c.args.looked.now + most_looked (Ok (request_view r)) (state_of c.args.store.now)) (sym c.in-Import.is) c.plan_import.ensures.looked

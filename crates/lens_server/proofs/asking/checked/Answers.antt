@@ -9,8 +9,8 @@ use Rattle.lens_probe.specs.Viewed.{asked_by, shown}
 use Rattle.lens_specs.specs.Dependencies.{AllEdges}
 use Rattle.lens_specs.specs.Lens.{sort_of}
 use Rattle.lens_specs.specs.Sort.{Sort, IsOf, IsOfSort, clash, off}
-use Rattle.server_specs.specs.Answer.{clash as clash_answer}
 use Rattle.server_specs.specs.Changing.{unless_clash, unless_off}
+use Rattle.server_specs.specs.EditRefusal as refusals
 use Rattle.lens_laws.proofs.Rules.{given_is}
 use Rattle.lens_laws.specs.Work.{size}
 use Rattle.lens_chain.proofs.Counted.{edges_few, within_size}
@@ -48,8 +48,8 @@ returns-in-Err-OffPredicate-clause-asks g c =
     let found : off s.predicate N ≡ Some c.in-Err-OffPredicate.row = ap (λ (t : Sort). off t.predicate N) (sym sort) ∙ subst (λ e. IsChecked c.sort-sort.result.now N (Err e)) c.in-Err-OffPredicate.field-0-is c.in-Err-OffPredicate.ensures.checked in
     ap (λ o. unless_off o (unless_clash (clash s.tree N) N)) found
 
-pub clash_answer-requires : goal.clash_answer-requires
-clash_answer-requires g c =
+pub clash_refusal-requires : goal.clash_refusal-requires
+clash_refusal-requires g c =
     let v = c.args.view.now in
     let N = edited v.lens (over v) c.args.delta in
     let edges : c.edges-edges.result.now ≡ c.sort-sort.result.now.tree = c.edges-edges.ensures ∙ c.tree.ensures.value in
@@ -68,7 +68,7 @@ returns-in-Err-Clash-clause-asks g c =
     let same : clash s.tree N ≡ Some w.clash = ap (λ T. clash T N) (sym (edges ∙ ap (λ (t : Sort). t.tree) sort)) ∙ w.is in
     ap (λ o. unless_off o (unless_clash (clash s.tree N) N)) fits
     ∙ clash_asked (clash s.tree N) w.clash N _ same
-    (c.in_ok-clash_answer-in-Err-Clash.ensures w.clash.edge (w.edge w.clash.edge) ∙ (λ i. clash_answer w.clash.edge (w.first i) (w.second i)))
+    (c.in_ok-clash_refusal-in-Err-Clash.ensures w.clash.edge (w.edge w.clash.edge) ∙ (λ i. refusals.clash w.clash.edge (w.first i) (w.second i)))
 
 pub returns-in-Ok-clause-looks : goal.returns-in-Ok-clause-looks
 returns-in-Ok-clause-looks g c = λ w few.
@@ -91,8 +91,8 @@ returns-in-Err-Clash-clause-looks g c = λ w few.
     let edges = edges_few v.lens c.lens.result.now s s.tree c.lens.ensures.viewed.0 c.lens.ensures.viewed.1.keys c.lens.ensures.lens c.sort-sort.ensures.given refl c.tree.ensures.small in
     check_within v.lens c.args.delta (length s.tree) w c.args.looked.now c.check_edit.new.looked edges (c.check_edit.ensures.looks (size v.lens w) (within_size v w few))
 
-pub returns-in_err-clash_answer-in-Err-Clash-clause-looks : goal.returns-in_err-clash_answer-in-Err-Clash-clause-looks
-returns-in_err-clash_answer-in-Err-Clash-clause-looks g c = λ w few.
+pub returns-in_err-clash_refusal-in-Err-Clash-clause-looks : goal.returns-in_err-clash_refusal-in-Err-Clash-clause-looks
+returns-in_err-clash_refusal-in-Err-Clash-clause-looks g c = λ w few.
     let v = c.args.view.now in
     let s = c.sort-sort.result.now in
     let edges = edges_few v.lens c.lens.result.now s s.tree c.lens.ensures.viewed.0 c.lens.ensures.viewed.1.keys c.lens.ensures.lens c.sort-sort.ensures.given refl c.tree.ensures.small in

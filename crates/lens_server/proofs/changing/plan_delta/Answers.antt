@@ -2,7 +2,7 @@ use Rattle.std.proofs.Common.{◌≡◌, ◌∙◌, ap, subst, sym}
 use Rattle.std.specs.Prelude.{◌==◌, IfOk, length, map}
 use Rattle.lens_chain.specs.Edits.{IsEdit, edited}
 use Rattle.lens_specs.specs.Delta.{changes}
-use Rattle.lens_specs.specs.Lens.{sort_of}
+use Rattle.lens_specs.specs.Lens.{put, sort_of}
 use Rattle.lens_specs.specs.Sort.{IsOf}
 use Rattle.server_specs.specs.Changing.{accept}
 use Rattle.signed_delta.specs.Tables.{table_delta}
@@ -19,6 +19,6 @@ returns-clause-plan g c =
     let typed : IsOf N (sort_of L) = (subst (λ t. IsEdit L t.present.relations d) c.requires.tables c.requires.edit).1 in
     let is : changes L N s.tables ≡ map table_delta deltas =
     sym (c.in_ok-deltas.ensures.changes ∙ ap (λ t. changes L (edited L t.present.relations d) t.present.relations) c.requires.tables) in
-    subst (λ t. IfOk c.plan_tables.result (λ plan. IsPlan plan (accept L (edited L t.present.relations d) (changes L (edited L t.present.relations d) t.present.relations) s) store)) (sym c.requires.tables)
+    subst (λ t. IfOk c.plan_tables.result (λ plan. IsPlan plan (accept (put L (edited L t.present.relations d) t.present.relations) (changes L (edited L t.present.relations d) t.present.relations) s) store)) (sym c.requires.tables)
     (put_planned store L N (map table_delta deltas) c.plan_tables.result c.requires.valid c.requires.open.here typed is
     (told_some deltas (ap (λ l. length l == 0) (sym c.as_slice.ensures.value) ∙ sym c.is_empty.ensures ∙ c.if-is_empty.false)) c.plan_tables.ensures)

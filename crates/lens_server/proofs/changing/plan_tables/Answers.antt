@@ -15,4 +15,5 @@ returns c =
       change = ap (λ ds. rows (map table_delta ds)) (c.in_ok-kept.ensures ∙ c.as_slice-2.ensures.value);
       definition = refl;
       last = c.in_ok-last.ensures ∙ ap (λ ds. with_last version (map table_delta ds) c.args.store.now.last) c.as_slice.ensures.value;
+      past = refl;
     }

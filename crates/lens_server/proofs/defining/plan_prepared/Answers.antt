@@ -13,4 +13,4 @@ returns c =
     definition_planned store p _ _ c.requires.valid c.requires.room c.requires.admissible refl refl
     (λ i. define ((c.in_ok-text.ensures ∙ c.text.ensures) i) (c.table-table.ensures i)) refl
     (subst (λ t. length t < 2 ^ 64) c.text-2.ensures c.is_short.ensures)
-    (c.in_ok-last.ensures ∙ ap (λ o. last_with o (store.version + 1) store.last) c.table-table.ensures)
+    (c.in_ok-last.ensures ∙ ap (λ o. last_with o (store.version + 1) store.last) c.table-table.ensures) refl

@@ -21,7 +21,7 @@ returns-clause-state c =
     let tables : c.settle.new.self ≡ settled_with (with_deltas (map filling ts) st.relations) st =
     c.settle.ensures ∙ (λ i. record { present = (c.in_ok-stage.ensures.ok i).next; next = (c.in_ok-stage.ensures.ok i).next; held = free i }) ∙ (λ i. settled_with (with_deltas (deltas i) st.relations) st) in
     filled_state c.args.admitted ts _ c.requires.empty c.requires.rising c.requires.undamaged refl tables refl
-    (c.in_ok-last.ensures ∙ ap (λ us. mapped {Y = ℕ} (λ _. 0) (rows_in us)) c.as_slice.ensures.value)
+    (c.in_ok-last.ensures ∙ ap (λ us. mapped {Y = ℕ} (λ _. 0) (rows_in us)) c.as_slice.ensures.value) c.in_ok-past.ensures
 
 pub returns-clause-keyed : goal.returns-clause-keyed
 returns-clause-keyed c =

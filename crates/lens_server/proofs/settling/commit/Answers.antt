@@ -1,15 +1,26 @@
-use Rattle.std.proofs.Common.{◌≡◌, ◌∙◌, Err, ap, refl, sym}
+use Rattle.std.proofs.Common.{◌≡◌, ◌∙◌, Err, ap, refl, subst, sym}
 use Rattle.base_index.specs.Held.{Held, IsQuiet}
 use Rattle.lens_server.proofs.Indexed.{keyed_after, state_after, unstaged_same}
 use Rattle.lens_server.proofs.Keyed.{same_keyed}
-use Rattle.lens_server.proofs.Settled.{outcome_failed, outcome_made}
+use Rattle.lens_server.proofs.Settled.{outcome_failed, outcome_given_up, outcome_made}
+use Rattle.lens_server.specs.Outcomes.{Outcome}
 use Rattle.lens_server.specs.Staging.{next_state}
 use Rattle.lens_server.specs.States.{state_of}
 use Rattle.lens_server.proofs.settling.commit.Goals as goal
 
+pub returns-in_err-stage-clause-outcome : goal.returns-in_err-stage-clause-outcome
+returns-in_err-stage-clause-outcome g c =
+    let store = c.args.store.now in
+    let same = c.in_err-stage.ensures.err in
+    λ answer leads said.
+    subst (λ s. Outcome answer (state_of store) s (g.K.Keeper.faults c.args.keeper.now) (g.K.Keeper.faults c.args.keeper.now) (g.K.Keeper.contents c.args.keeper.now) (g.K.Keeper.contents c.args.keeper.now)
+    (g.K.Keeper.calls c.args.keeper.now) (g.K.Keeper.calls c.args.keeper.now) c.from_residual.result) (sym (λ i. state_of (record store { tables = same i })))
+    (outcome_given_up answer (state_of store) (g.K.Keeper.faults c.args.keeper.now) (g.K.Keeper.contents c.args.keeper.now) (g.K.Keeper.calls c.args.keeper.now) c.from_residual.result
+    c.from_residual.ensures.0 c.requires.ready.valid c.requires.ready.told)
+
 pub returns-in_err-stage-clause-keyed : goal.returns-in_err-stage-clause-keyed
 returns-in_err-stage-clause-keyed g c =
-    same_keyed c.args.store.now _ (record { texts = refl; tables = c.in_err-stage.ensures.err; version = refl; last = refl }) c.requires.ready.keyed
+    same_keyed c.args.store.now _ (record { texts = refl; tables = c.in_err-stage.ensures.err; version = refl; last = refl; past = refl }) c.requires.ready.keyed
 
 pub returns-in-Ok-clause-outcome : goal.returns-in-Ok-clause-outcome
 returns-in-Ok-clause-outcome g c =
@@ -17,8 +28,8 @@ returns-in-Ok-clause-outcome g c =
     let present : c.make.new.store.tables.present ≡ next_state staged.change staged.definition store.tables.present =
     ap (λ t. t.present) c.make.ensures.tables ∙ ap (λ t. t.next) c.in_ok-stage.ensures.ok in
     λ answer leads said. outcome_made staged store answer (g.K.Keeper.faults c.args.keeper.now) (g.K.Keeper.faults c.commit.new.self) (g.K.Keeper.contents c.args.keeper.now)
-    (g.K.Keeper.contents c.commit.new.self) c.args.reply c.requires.staged c.requires.ready.told c.in-Ok.ensures.ok c.commit.ensures.later said leads.0 (state_of c.make.new.store)
-    (state_after staged store c.make.new.store c.make.ensures.catalog present c.make.ensures.version c.make.ensures.last)
+    (g.K.Keeper.contents c.commit.new.self) (g.K.Keeper.calls c.args.keeper.now) (g.K.Keeper.calls c.commit.new.self) c.args.reply c.requires.staged c.requires.ready.told c.in-Ok.ensures.ok c.in-Ok.ensures.call c.commit.ensures.later said leads.0 (state_of c.make.new.store)
+    (state_after staged store c.make.new.store c.make.ensures.catalog present c.make.ensures.version c.make.ensures.last c.make.ensures.past)
 
 pub returns-in-Ok-clause-keyed : goal.returns-in-Ok-clause-keyed
 returns-in-Ok-clause-keyed g c =
@@ -36,7 +47,8 @@ returns-in-Err-clause-outcome g c =
     c.unstage.ensures ∙ ap {A = Held} (λ t. record t { next = t.present }) c.in_ok-stage.ensures.ok
     ∙ unstaged_same store.tables (next_state staged.change staged.definition store.tables.present) c.requires.ready.keyed.quiet in
     λ answer leads said. outcome_failed c.in-Err.fault c.not_kept.result staged store answer (g.K.Keeper.faults c.args.keeper.now) (g.K.Keeper.faults c.commit.new.self)
-    (g.K.Keeper.contents c.args.keeper.now) (g.K.Keeper.contents c.commit.new.self) c.not_kept.ensures c.requires.ready.valid c.requires.ready.told c.in-Err.ensures.err c.commit.ensures.later
+    (g.K.Keeper.contents c.args.keeper.now) (g.K.Keeper.contents c.commit.new.self) (g.K.Keeper.calls c.args.keeper.now) (g.K.Keeper.calls c.commit.new.self) c.not_kept.ensures
+    c.requires.ready.valid c.requires.ready.told c.in-Err.ensures.err c.in-Err.ensures.call c.commit.ensures.later
     (λ e. c.commit.ensures.failed (c.in-Err.is ∙ ap Err e)) leads.0 _ (λ i. state_of (record store { tables = same i }))
 
 pub returns-in-Err-clause-keyed : goal.returns-in-Err-clause-keyed
@@ -45,4 +57,4 @@ returns-in-Err-clause-keyed g c =
     let same : c.unstage.new.self ≡ store.tables =
     c.unstage.ensures ∙ ap {A = Held} (λ t. record t { next = t.present }) c.in_ok-stage.ensures.ok
     ∙ unstaged_same store.tables (next_state staged.change staged.definition store.tables.present) c.requires.ready.keyed.quiet in
-    same_keyed store _ (record { texts = refl; tables = same; version = refl; last = refl }) c.requires.ready.keyed
+    same_keyed store _ (record { texts = refl; tables = same; version = refl; last = refl; past = refl }) c.requires.ready.keyed

@@ -1,5 +1,5 @@
 use Rattle.std.proofs.Common.{refl, arith}
-use Rattle.serving.proofs.Served.{other_step, stored_same}
+use Rattle.serving.proofs.Served.{other_commits, other_step, stored_same}
 use Rattle.serving.proofs.running.reply_to.Goals as goal
 
 pub returns-in_default : goal.returns-in_default
@@ -7,5 +7,7 @@ returns-in_default g c = record {
   step = other_step c.args.cut _ _ _ _ c.in_default.not-Line c.long_reply.ensures;
   told = stored_same c.args.server.now _ c.requires.told;
   place = refl;
+  untouched = λ _. refl;
+  commits = other_commits c.args.cut _ _ _ _ _ c.in_default.not-Line;
   walked = omega arith;
 }

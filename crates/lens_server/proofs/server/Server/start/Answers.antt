@@ -1,7 +1,9 @@
 use Rattle.std.proofs.lemmas.Result.{err_from_is_err_and}
+use Rattle.io_specs.proofs.Calls.{Adds-weaker}
 use Rattle.opening_laws.proofs.Opened.{opened_is_valid}
 use Rattle.table_keeper.specs.Changes.{kept_view}
 use Rattle.lens_server.specs.States.{state_of}
+use Rattle.lens_server.proofs.Loaded.{load_done, load_failed}
 use Rattle.lens_server.proofs.Stored.{start_told}
 use Rattle.lens_server.proofs.server.Server.start.Goals as goal
 
@@ -15,3 +17,16 @@ invariant_of-result g c = (
   opened_is_valid (kept_view c.in_ok-kept.kept) (state_of c.in_ok-store.store) c.in_ok-store.ensures.store,
   c.in_ok-store.ensures.keyed,
 )
+
+pub returns-in_err-kept-clause-calls : goal.returns-in_err-kept-clause-calls
+returns-in_err-kept-clause-calls g c =
+    let p = err_from_is_err_and c.from_residual.result c.from_residual.ensures.1 in
+    rw (p.1, p.2) (Adds-weaker _ _ _ _ (load_failed c.in_err-kept.field-0.0 (g.K.Keeper.faults c.load.new.self)) c.in_err-kept.ensures.call)
+
+pub returns-in_err-store-clause-calls : goal.returns-in_err-store-clause-calls
+returns-in_err-store-clause-calls g c =
+    let p = err_from_is_err_and c.from_residual-in_err-store.result c.from_residual-in_err-store.ensures.1 in
+    rw (p.1, p.2) (Adds-weaker _ _ _ _ (load_done c.in_err-store.field-0.0 (kept_view c.in_ok-kept.kept) (g.K.Keeper.faults c.load.new.self) c.in_err-store.ensures.store) c.in_ok-kept.ensures.call)
+
+pub returns-clause-calls : goal.returns-clause-calls
+returns-clause-calls g c = c.in_ok-kept.ensures.call

@@ -1,0 +1,73 @@
+-- Exports: a view has a column, none that may be null, and its text reads back.
+use Rattle.std.proofs.Common.{◌≡◌, ◌∙◌, ◌<◌, ◌≤◌, ◌&&◌, ℕ, Bool, true, false, cond, List, [], ◌∷◌, length, Option, Some, None, Result, Ok, Err, ap, subst, refl, inl, inr}
+use Rattle.std.specs.Prelude.{◌≢◌, ◌⊎◌, IfOk, MatchResult, find, not, option_map}
+use Rattle.std.specs.List.{list_all}
+use Rattle.std.proofs.lemmas.Bool.{lt-leb}
+use Rattle.std.specs.FinMap as finmap
+use Rattle.no_memory.specs.declared.NoMemory.{NoMemory}
+use Rattle.lens_values.specs.Order.{bytes_cmp}
+use Rattle.lens_values.specs.SortedSet as set
+use Rattle.lens_values.specs.Value.{is_nullable}
+use Rattle.fd_laws.proofs.Names.{name_total}
+use Rattle.lens_laws.proofs.Asked.{keyed}
+use Rattle.lens_specs.specs.Columns.{Columns, names}
+use Rattle.lens_specs.specs.Lens.{Lens, sort_of}
+use Rattle.lens_specs.specs.Names.{Name}
+use Rattle.io_specs.specs.Lines.{line, marked}
+use Rattle.catalog_specs.specs.Catalogue.{catalogue}
+use Rattle.server_specs.specs.Answer.{Answer, long_line, memory, text}
+use Rattle.server_specs.specs.Exporting.{first_nullable}
+use Rattle.server_specs.specs.Request.{Request, export, request}
+use Rattle.server_specs.specs.State.{State}
+use Rattle.server_laws.specs.SheetLaws.{IsExportLine, ReadsBack}
+use Rattle.lens_server.proofs.Stepping.{marked_short}
+use Rattle.lens_server.specs.Exports.{ExportReadsBack, NamedReadsBack}
+use Rattle.lens_server.specs.Keyed.{IsOpen}
+use Rattle.lens_server.specs.declared.store.Store.{Store}
+
+-- ---- columns
+
+no_names : (U : Columns) → finmap.keys U ≡ [] → length (set.items (names U)) ≡ 0
+unfolding names
+no_names U e = ap (λ ks. length (set.items (set.from_list {R = bytes_cmp} ks))) e ∙ ap length (set.items-from_list name_total [] (set.nothing_rises name_total))
+
+-- a view that may be asked has a column
+pub has_columns : (store : Store) (L : Lens) → IsOpen store L → finmap.keys (sort_of L).columns ≢ []
+has_columns store L opened e = (keyed L opened.here.typed opened.keys).0 (no_names (sort_of L).columns e)
+
+-- where none is found that passes, all fail
+none_passes : {X : Type 0} (p : X → Bool) (xs : List X) → find p xs ≡ None → list_all (λ x. not (p x)) xs ≡ true
+none_passes p [] e = refl
+none_passes p (x ∷ xs) e = elim (p x) as (λ b. cond b (Some x) (find p xs) ≡ None → (not b && list_all (λ y. not (p y)) xs) ≡ true) [
+  | true ↦ λ f. cc
+  | false ↦ λ f. none_passes p xs f
+] e
+
+unmapped : {X Y : Type 0} (f : X → Y) (o : Option X) → option_map f o ≡ None → o ≡ None
+unmapped f None e = refl
+unmapped f (Some x) e = cc
+
+-- no column may be null where none is the least that may
+pub all_plain : (U : Columns) → first_nullable U ≡ None → list_all (λ c. not (is_nullable c.1)) (finmap.entries U) ≡ true
+all_plain U e = none_passes (λ c. is_nullable c.1) (finmap.entries U) (unmapped (λ c. c.0) (find (λ c. is_nullable c.1) (finmap.entries U)) e)
+
+-- ---- lines
+
+exported_back : (r : Result Request Answer) (s : State) (name : Name) (L : Lens) → r ≡ Ok (export name) → finmap.get (catalogue s.texts) name ≡ Some L → first_nullable (sort_of L).columns ≡ None
+    → ExportReadsBack r s → ReadsBack L s.tables
+exported_back r s name L asked lens plain back =
+    let named : NamedReadsBack (finmap.get (catalogue s.texts) name) s.tables = subst (λ x. ExportReadsBack x s) asked back in
+    let here : NamedReadsBack (Some L) s.tables = subst (λ o. NamedReadsBack o s.tables) lens named in
+    here plain
+
+-- what a line exports reads back, unless memory ran out
+pub line_back : (before old : State) (bytes reply : List ℕ) (result : Result (List ℕ) NoMemory) → length bytes ≤ 16777216 → old ≡ before → IfOk result (λ _. ExportReadsBack (request (line bytes)) old)
+    → MatchResult result (λ r. reply ≡ r) (λ _. reply ≡ text memory) → (name : Name) (L : Lens) → IsExportLine before (marked bytes) name L → (reply ≡ text memory) ⊎ ReadsBack L before.tables
+line_back before old bytes reply (Err e) h is back said name L x = inl said
+line_back before old bytes reply (Ok r) h is back said name L x =
+    inr (exported_back (request (line bytes)) before name L (ap request (marked_short bytes h) ∙ x.asked) x.lens x.plain (subst (λ s. ExportReadsBack (request (line bytes)) s) is back))
+
+-- a line that is too long exports nothing
+pub long_exports_none : (s : State) (bytes : List ℕ) (name : Name) (L : Lens) → 16777216 < length bytes → IsExportLine s (marked bytes) name L → ⊥
+unfolding request
+long_exports_none s bytes name L h x = let e : ◌≡◌ {A = Result Request Answer} (Err long_line) (Ok (export name)) = rw (lt-leb (length bytes) 16777216 h) at x.asked in cc

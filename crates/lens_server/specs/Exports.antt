@@ -1,0 +1,35 @@
+-- What is exported reads back.
+use Rattle.std.specs.Prelude.{◌≡◌, Option, Some, None, Result, Ok, Err}
+use Rattle.std.specs.FinMap as finmap
+use Rattle.lens_specs.specs.Lens.{Lens, Tables, sort_of}
+use Rattle.catalog_specs.specs.Catalogue.{catalogue}
+use Rattle.server_specs.specs.Answer.{Answer}
+use Rattle.server_specs.specs.Exporting.{first_nullable}
+use Rattle.server_specs.specs.Request.{Request, define, read, find_at, put, edit, preview, describe, list, batch, undo, export, import}
+use Rattle.server_specs.specs.State.{State}
+use Rattle.server_laws.specs.SheetLaws.{ReadsBack}
+
+-- where no column of the view may be null, its text reads back as its rows
+abbrev pub SheetReadsBack : Lens → Tables → Type 0
+SheetReadsBack L db = first_nullable (sort_of L).columns ≡ None → ReadsBack L db
+
+-- so it is with the lens of a name, if there is one
+abbrev pub NamedReadsBack : Option Lens → Tables → Type 0
+NamedReadsBack None db = Unit {0}
+NamedReadsBack (Some L) db = SheetReadsBack L db
+
+-- so it is with the view that a request exports, if it exports one
+abbrev pub ExportReadsBack : Result Request Answer → State → Type 0
+ExportReadsBack (Err refusal) s = Unit {0}
+ExportReadsBack (Ok (define text)) s = Unit {0}
+ExportReadsBack (Ok (read name)) s = Unit {0}
+ExportReadsBack (Ok (find_at name column json)) s = Unit {0}
+ExportReadsBack (Ok (put name rows on)) s = Unit {0}
+ExportReadsBack (Ok (edit name remove add on)) s = Unit {0}
+ExportReadsBack (Ok (preview name remove add on)) s = Unit {0}
+ExportReadsBack (Ok (describe name)) s = Unit {0}
+ExportReadsBack (Ok list) s = Unit {0}
+ExportReadsBack (Ok (batch edits on)) s = Unit {0}
+ExportReadsBack (Ok undo) s = Unit {0}
+ExportReadsBack (Ok (export name)) s = NamedReadsBack (finmap.get (catalogue s.texts) name) s.tables
+ExportReadsBack (Ok (import name text on)) s = Unit {0}

@@ -1,0 +1,131 @@
+-- From what a run promises to the law of runs.
+use Rattle.std.proofs.Common.{◌≡◌, ◌≤◌, ◌+◌, ℕ, List, [], ◌∷◌, ◌++◌, map, ap, subst, sym, refl, ◌∙◌, arith, append-nil}
+use Rattle.std.specs.Prelude.{Option, None, Some, Ok, IfSome, flat_map, min}
+use Rattle.std.specs.FinMap as finmap
+use Rattle.std.specs.Io.KnownBytes.{Appends, Consumes, IsAtEnd}
+use Rattle.lens_specs.specs.Delta.{TableDelta, changes, differences}
+use Rattle.lens_specs.specs.Lens.{Tables, get}
+use Rattle.lens_specs.specs.TableDeltas.{AreDeltas, LeadTo}
+use Rattle.lens_laws.specs.Edits.{AreDiffs}
+use Rattle.io_specs.specs.Lines.{Line, lines}
+use Rattle.server_specs.specs.Answer.{Answer, changed, text}
+use Rattle.server_specs.specs.Answering.{answer}
+use Rattle.server_specs.specs.Batching.{edits_from}
+use Rattle.server_specs.specs.Changing.{accept}
+use Rattle.server_specs.specs.Request.{BatchEdit}
+use Rattle.server_specs.specs.Session.{Chain, Exchange, Replies, Step, answered, found_memory, not_stored, out_of_memory}
+use Rattle.server_specs.specs.State.{State}
+use Rattle.server_specs.specs.Validity.{Valid}
+use Rattle.server_laws.specs.Answers.{IsAccepted}
+use Rattle.server_laws.specs.BatchLaws.{IsBatchLine}
+use Rattle.server_laws.specs.SessionLaws.{answers}
+use Rattle.server_laws.proofs.Batches.{accepted_tables, batch_is, batch_leads, batch_made, edits_lawful, nothing_made}
+use Rattle.server_laws.proofs.Changes.{accepted_fresh, accepted_shows, lines_accepted, lines_differ, lines_tell, nothing_changed}
+use Rattle.server_laws.proofs.Recalled.{undo_restores}
+use Rattle.server_laws.proofs.Sessions.{complete, read_otherwise}
+use Rattle.server_laws.proofs.Valid.{valid_chain, valid_step}
+use Rattle.opening_laws.proofs.Opened.{opened_at_start, opened_is_valid}
+use Rattle.serving.specs.Running.{joined}
+use Rattle.run_laws.specs.RunLaws.{EachFrom, IsLawful, IsLawfulBatch, RunsAreLawful}
+
+-- a reply that reads as the answer left the answer's state
+left_by : (s : State) (count : ℕ) (e : Exchange) → Replies s count e.line e.reply e.state e.count → e.reply ≡ text (answer s e.line).0 → e.state ≡ (answer s e.line).1
+left_by s count e (found_memory (answered told is)) same = is
+left_by s count e (found_memory (not_stored told is moved rose)) same = absurd ((read_otherwise s e.line).1 (sym same ∙ told))
+left_by s count e (out_of_memory short told is) same = absurd ((read_otherwise s e.line).0 (sym same ∙ told))
+
+lawful : (s : State) (count : ℕ) (e : Exchange) → Valid s → Step s count e.line e.reply e.state e.count → IsLawful s count e
+lawful s count e v step = record {
+  typed = λ name L on N h. lines_accepted s e.line name L on N h v;
+  put_get = λ name L on N h. ap (λ t. get L t.tables) (left_by s count e step.replied h.told) ∙ accepted_shows s e.line name L on N h.sends v h.accepted;
+  told = λ name L on N h.
+      h.told ∙ ap text (lines_tell s e.line name L on N h.sends h.accepted)
+      ∙ ap (λ t. text (changed (changes L N s.tables) t.version)) (sym (left_by s count e step.replied h.told));
+  exact = λ name L on N h.
+      subst (λ t. AreDiffs s.tables t.tables (changes L N s.tables)) (sym (left_by s count e step.replied h.told)) (lines_differ s e.line name L on N h.sends h.accepted).1;
+  get_put = λ name L on h.
+      let same : (answer s e.line).1 ≡ s = ap (λ r. r.1) (nothing_changed s v e.line name L on h.sends (accepted_fresh s e.line name L on (get L s.tables) h.sends h.accepted)) in
+      (left_by s count e step.replied h.told ∙ same, step.still same);
+}
+
+-- ---- batches
+
+-- a batch that leaves the tables leaves the state, whichever differences it tells
+left_as_it_was : (s : State) (l : Line) (edits : List BatchEdit) (on : Option ℕ) (db : Tables) (ds : List TableDelta) → IsBatchLine l edits on → edits_from 0 on s edits s.tables ≡ Ok db
+    → answer s l ≡ accept db ds s → (answer s l).1.tables ≡ s.tables → (answer s l).1 ≡ s
+left_as_it_was s l edits on db [] asked is answers same = ap (λ r. r.1) answers
+left_as_it_was s l edits on db (d ∷ ds) asked is answers same =
+    let unmoved : db ≡ s.tables = sym (ap (λ r. r.1.tables) answers) ∙ same in
+    ap (λ r. r.1) (nothing_made s l edits on asked (is ∙ ap Ok unmoved))
+
+batch_still : (s : State) (l : Line) (edits : List BatchEdit) (on : Option ℕ) → IsBatchLine l edits on × IsAccepted (answer s l).0 → (answer s l).1.tables ≡ s.tables → (answer s l).1 ≡ s
+batch_still s l edits on a same =
+    let w = accepted_tables s l edits on a.0 a.1 in
+    left_as_it_was s l edits on w.0 (differences (finmap.keys s.tables) s.tables w.0) a.0 w.1 (batch_is s l edits on (Ok w.0) a.0 w.1) same
+
+lawful_batch : (s : State) (count : ℕ) (e : Exchange) → Valid s → Step s count e.line e.reply e.state e.count → IsLawfulBatch s count e
+lawful_batch s count e v step = record {
+  made = λ edits on h.
+      let w = batch_made s v e.line edits on h.sends h.accepted in
+      (w.0, w.1, edits_lawful s v e.line edits on h.sends h.accepted w.0 w.1, ap (λ t. t.tables) (left_by s count e step.replied h.told) ∙ w.2);
+  told = λ edits on h.
+      h.told ∙ ap text (batch_made s v e.line edits on h.sends h.accepted).3
+      ∙ ap (λ t. text (changed (differences (finmap.keys s.tables) s.tables t.tables) t.version)) (sym (left_by s count e step.replied h.told));
+  exact = λ edits on h.
+      subst (λ t. AreDeltas (differences (finmap.keys s.tables) s.tables t.tables) × LeadTo (differences (finmap.keys s.tables) s.tables t.tables) s.tables t.tables)
+      (sym (left_by s count e step.replied h.told)) (batch_leads s v e.line edits on h.sends h.accepted);
+  still = λ edits on h same.
+      let left = left_by s count e step.replied h.told in
+      let stays : (answer s e.line).1 ≡ s = batch_still s e.line edits on (h.sends, h.accepted) (sym (ap (λ t. t.tables) left) ∙ same) in
+      (left ∙ stays, step.still stays);
+}
+
+-- ---- sessions
+
+each_from : (P : State → ℕ → Exchange → Type 0) → ((s : State) (count : ℕ) (e : Exchange) → Valid s → Step s count e.line e.reply e.state e.count → P s count e)
+    → (s : State) (count : ℕ) (es : List Exchange) → Valid s → Chain s count es → EachFrom P s count es
+each_from P f s count [] v c = tt
+each_from P f s count (e ∷ es) v c =
+    (f s count e v c.0, each_from P f e.state e.count es (valid_step s count e.line e.reply e.state e.count v c.0.replied) c.1)
+
+-- ---- what was given
+
+-- texts one after another
+joined_texts : (xs : List Answer) → joined (map text xs) ≡ flat_map text xs
+joined_texts [] = refl
+joined_texts (a ∷ xs) = ap (λ rest. text a ++ rest) (joined_texts xs)
+
+-- what came from a source that tells its bytes, and is at its end, are all of them
+all_came : (left left' : Option (List ℕ)) (came : List ℕ) → Consumes left left' came → IsAtEnd left' → IfSome left (λ bytes. came ≡ bytes)
+all_came None left' came c e = tt
+all_came (Some bytes) None came c e = absurd c
+all_came (Some bytes) (Some rest) came c e = sym (c ∙ ap (λ r. came ++ r) e ∙ append-nil came)
+
+some_same : (left : Option (List ℕ)) (P Q : List ℕ → Type 0) → ((bytes : List ℕ) → P bytes → Q bytes) → IfSome left P → IfSome left Q
+some_same None P Q f p = tt
+some_same (Some bytes) P Q f p = f bytes p
+
+-- a count that rose after the load rose in the run
+rose_since : (top count start count' : ℕ) → count ≤ start → min (start + 1) top ≤ count' → min (count + 1) top ≤ count'
+rose_since top count start count' h r = omega arith
+
+pub runs_are_lawful : RunsAreLawful
+runs_are_lawful s stays status left left' given given' count count' contents contents' calls calls' walked walked' run =
+    let serves = run.serves in
+    let session = serves.session in
+    let v : Valid run.first = opened_is_valid run.loads.loaded run.first run.loads.opens in
+    let new : run.first.past ≡ [] = ap (λ (t : State). t.past) (opened_at_start run.loads.loaded run.first run.loads.opens) in (
+      record {
+        opened = v;
+        valid = (valid_chain run.first run.start session.exchanges v session.chain).0;
+        lawful = each_from IsLawful lawful run.first run.start session.exchanges v session.chain;
+        batches = each_from IsLawfulBatch lawful_batch run.first run.start session.exchanges v session.chain;
+        undos = λ before after e parts taken. undo_restores run.first run.start serves.taken serves.replies serves.last count' v new session before after e parts taken;
+      },
+      λ quiet gave found.
+          let all = (complete run.first run.start serves.taken serves.replies serves.last count' session (λ r. quiet (rose_since _ count run.start count' run.loads.later r)) found).0 in
+          subst (Appends given given') (ap joined all ∙ joined_texts (answers run.first serves.taken)) (serves.all_replies gave),
+      λ zero.
+          let ended = serves.all_lines zero in
+          some_same left (λ bytes. serves.came ≡ bytes) (λ bytes. serves.taken ≡ lines bytes) (λ bytes is. ended.0 ∙ ap lines is) (all_came left left' serves.came serves.consumed ended.1),
+    )

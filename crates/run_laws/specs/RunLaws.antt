@@ -1,0 +1,106 @@
+-- The law of a run that serves lines.
+use Rattle.std.specs.Prelude.{◌≡◌, ◌≢◌, ◌↔◌, ◌++◌, ℕ, Bool, false, List, [], ◌∷◌, flat_map, Option, IfSome}
+use Rattle.std.specs.FinMap as finmap
+use Rattle.std.specs.List.{AllByRecursion}
+use Rattle.std.specs.Io.KnownBytes.{Appends}
+use Rattle.lens_specs.specs.Delta.{TableDelta, changes, differences}
+use Rattle.lens_specs.specs.Keeping.{Kept}
+use Rattle.lens_specs.specs.Lens.{Lens, Tables, get, sort_of}
+use Rattle.lens_specs.specs.Relation.{Name, Rows}
+use Rattle.lens_specs.specs.Sort.{IsOf}
+use Rattle.lens_specs.specs.TableDeltas.{AreDeltas, LeadTo}
+use Rattle.lens_laws.specs.Edits.{AreDiffs}
+use Rattle.io_specs.specs.Faults.{Rose}
+use Rattle.io_specs.specs.Lines.{lines}
+use Rattle.server_specs.specs.Answer.{changed, memory, text}
+use Rattle.server_specs.specs.Answering.{answer}
+use Rattle.server_specs.specs.Batching as batching
+use Rattle.server_specs.specs.Batching.{KnownEdit}
+use Rattle.server_specs.specs.Changing.{is_stale}
+use Rattle.server_specs.specs.Request.{BatchEdit}
+use Rattle.server_specs.specs.Session.{Exchange, last_state}
+use Rattle.server_specs.specs.State.{State}
+use Rattle.server_specs.specs.Validity.{Valid}
+use Rattle.server_laws.specs.Answers.{IsAccepted}
+use Rattle.server_laws.specs.BatchLaws.{AreKnown, AreLawful, IsBatchLine}
+use Rattle.server_laws.specs.ChangeLaws.{SendsView}
+use Rattle.server_laws.specs.SessionLaws.{answers}
+use Rattle.server_laws.specs.UndoLaws.{AreIn, befores_after, move, taken_back}
+use Rattle.command_words.specs.Settings.{Settings}
+use Rattle.table_keeper.specs.declared.calls.Call.{Call}
+use Rattle.serving.specs.Running.{Runs}
+
+-- ---- lines that send a new view
+
+-- The line sends the new view N of the name, resting on a version, if on any, and the reply is that it is accepted.
+pub record Accepts (s : State) (e : Exchange) (name : Name) (L : Lens) (on : Option ℕ) (N : Rows) : Type 0 where
+  pub sends : SendsView s e.line name L on N
+  pub accepted : IsAccepted (answer s e.line).0
+  pub told : e.reply ≡ text (answer s e.line).0
+
+-- The laws of lenses at an exchange, from this state and count on.
+pub record IsLawful (s : State) (count : ℕ) (e : Exchange) : Type 0 where
+  -- a new view that is not stale is accepted exactly where it is of the view's sort
+  pub typed : (name : Name) (L : Lens) (on : Option ℕ) (N : Rows) → SendsView s e.line name L on N → is_stale s L on ≡ false → IsAccepted (answer s e.line).0 ↔ IsOf N (sort_of L)
+  -- PutGet: what was accepted is what the view then shows
+  pub put_get : (name : Name) (L : Lens) (on : Option ℕ) (N : Rows) → Accepts s e name L on N → get L e.state.tables ≡ N
+  -- the reply tells the changes, which are exactly the differences of the tables
+  pub told : (name : Name) (L : Lens) (on : Option ℕ) (N : Rows) → Accepts s e name L on N → e.reply ≡ text (changed (changes L N s.tables) e.state.version)
+  pub exact : (name : Name) (L : Lens) (on : Option ℕ) (N : Rows) → Accepts s e name L on N → AreDiffs s.tables e.state.tables (changes L N s.tables)
+  -- GetPut: where it is what the view showed, nothing changes, nor does the keeper's count
+  pub get_put : (name : Name) (L : Lens) (on : Option ℕ) → Accepts s e name L on (get L s.tables) → (e.state ≡ s) × (e.count ≡ count)
+
+-- ---- batches
+
+-- The line sends these edits as a batch, resting on a version, if on any, and the reply is that they are accepted.
+pub record AcceptsBatch (s : State) (e : Exchange) (edits : List BatchEdit) (on : Option ℕ) : Type 0 where
+  pub sends : IsBatchLine e.line edits on
+  pub accepted : IsAccepted (answer s e.line).0
+  pub told : e.reply ≡ text (answer s e.line).0
+
+-- how the tables differ after an exchange
+abbrev pub differing : State → Exchange → List TableDelta
+differing s e = differences (finmap.keys s.tables) s.tables e.state.tables
+
+-- The laws of batches at an exchange, from this state and count on.
+pub record IsLawfulBatch (s : State) (count : ℕ) (e : Exchange) : Type 0 where
+  -- the edits are made one after another; each keeps PutGet and GetPut on the tables that those before it gave
+  pub made : (edits : List BatchEdit) (on : Option ℕ) → AcceptsBatch s e edits on
+      → (known : List KnownEdit) × AreKnown s edits known × AreLawful known s.tables × (e.state.tables ≡ batching.batch known s.tables)
+  -- the reply tells exactly how the tables differ
+  pub told : (edits : List BatchEdit) (on : Option ℕ) → AcceptsBatch s e edits on → e.reply ≡ text (changed (differing s e) e.state.version)
+  pub exact : (edits : List BatchEdit) (on : Option ℕ) → AcceptsBatch s e edits on → AreDeltas (differing s e) × LeadTo (differing s e) s.tables e.state.tables
+  -- where the edits leave the tables, nothing changes, nor does the keeper's count
+  pub still : (edits : List BatchEdit) (on : Option ℕ) → AcceptsBatch s e edits on → e.state.tables ≡ s.tables → (e.state ≡ s) × (e.count ≡ count)
+
+-- ---- a session
+
+-- it holds of each exchange, from the state and the count that the one before left
+abbrev pub EachFrom : (State → ℕ → Exchange → Type 0) → State → ℕ → List Exchange → Type 0
+EachFrom P s count [] = Unit {0}
+EachFrom P s count (e ∷ exchanges) = P s count e × EachFrom P e.state e.count exchanges
+
+-- An undo that changes something makes every table that was there just before the last change that is not taken back what it was then.
+abbrev pub UndosRestore : State → List Exchange → Type 0
+UndosRestore first exchanges = (before after : List Exchange) (e : Exchange) → exchanges ≡ before ++ e ∷ after → move (last_state first before) e ≡ taken_back
+    → (db : Tables) × (older : List Tables) × (befores_after first before [] ≡ db ∷ older) × AreIn db e.state.tables
+
+-- The first state and that after each line are valid, and each line is lawful.
+pub record IsLawfulSession (first : State) (start : ℕ) (exchanges : List Exchange) : Type 0 where
+  pub opened : Valid first
+  pub valid : AllByRecursion (λ e. Valid e.state) exchanges
+  pub lawful : EachFrom IsLawful first start exchanges
+  pub batches : EachFrom IsLawfulBatch first start exchanges
+  pub undos : UndosRestore first exchanges
+
+-- ---- a run
+
+-- In every run that serves lines its session is lawful; where neither the keeper's count rises nor the sink fails, and no reply says
+-- that memory ran out, what was given is exactly the answers to the lines, in order; and at the end of an input that is told, these
+-- are all its lines.
+abbrev pub RunsAreLawful : Type 0
+RunsAreLawful = (s : Settings) (stays : Bool) (status : ℕ) (left left' given given' : Option (List ℕ)) (count count' : ℕ) (contents contents' : Option Kept) (calls calls' : Option (List Call)) (walked walked' : ℕ)
+    → (run : Runs s stays status left left' given given' count count' contents contents' calls calls' walked walked')
+    → IsLawfulSession run.first run.start run.serves.session.exchanges
+    × ((Rose count count' → ⊥) → status ≢ 5 → AllByRecursion (λ reply. reply ≢ text memory) run.serves.replies → Appends given given' (flat_map text (answers run.first run.serves.taken)))
+    × (status ≡ 0 → IfSome left (λ bytes. run.serves.taken ≡ lines bytes))

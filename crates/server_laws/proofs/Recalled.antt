@@ -1,0 +1,367 @@
+-- What undo brings back, over a session.
+use Rattle.std.proofs.Common.{◌≡◌, ◌∙◌, ◌+◌, ◌-◌, ℕ, zero, suc, get_or, Bool, true, false, cond, List, [], ◌∷◌, ◌++◌, length, take, drop, reverse, Option, Some, None, Result, Ok, Err, is_some, ap, sym, subst, refl, inl, inr, arith}
+use Rattle.std.specs.Prelude.{◌↔◌, nat_eq, slice_get}
+use Rattle.std.proofs.lemmas.Bool.{ne_eqb, true≢false}
+use Rattle.std.proofs.lemmas.Bool.Decides.{eqb_tells}
+use Rattle.std.proofs.lemmas.List.{drop-append-le, length-append, reverse-append, take-append-drop}
+use Rattle.std.proofs.lemmas.Option.{slice_get-get_or}
+use Rattle.std.specs.FinMap as finmap
+use Rattle.std.specs.Ordering.{eq_by_cmp}
+use Rattle.lens_values.specs.Order.{bytes_cmp}
+use Rattle.lens_values.specs.SortedSet as set
+use Rattle.fd_laws.proofs.Lists.{false_from}
+use Rattle.fd_laws.proofs.Names.{name_total, tied_name}
+use Rattle.lens_specs.specs.Delta.{TableDelta, changes, differences}
+use Rattle.lens_specs.specs.Lens.{Lens, Tables, put as put_rows}
+use Rattle.lens_specs.specs.Names.{Name}
+use Rattle.lens_specs.specs.Relation.{Relation, Rows}
+use Rattle.grammar_specs.specs.Meaning.{Definition, table, view}
+use Rattle.grammar_laws.specs.Reading.{reading}
+use Rattle.io_specs.specs.Lines.{Line}
+use Rattle.catalog_specs.specs.Catalogue.{Catalogue, catalogue}
+use Rattle.catalog_specs.specs.Judging.{CatalogFault, judged}
+use Rattle.server_specs.specs.State.{State, remember}
+use Rattle.server_specs.specs.EditRefusal.{EditRefusal}
+use Rattle.server_specs.specs.Answer.{Answer, told, changed, nothing_to_undo}
+use Rattle.server_specs.specs.Request.{Request, define, read, find_at, put, edit, preview, describe, list, batch, undo, export, import, request}
+use Rattle.lens_specs.specs.TableDeltas.{LeadTo, inverted, with_deltas}
+use Rattle.server_specs.specs.Defining.{answer_definition, with_defined}
+use Rattle.server_specs.specs.Changing.{Sent, whole, edited, accept, asked_view, tested, changed_by, settled}
+use Rattle.server_specs.specs.Batching.{batch_settled, edits_from}
+use Rattle.server_specs.specs.Undoing.{undone}
+use Rattle.server_specs.specs.Answering.{answer, answer_request}
+use Rattle.server_specs.specs.Session.{Replies, answered, not_stored, found_memory, out_of_memory, Exchange, Chain, Session, last_state, last_count}
+use Rattle.server_specs.specs.Validity.{AreStored, CanUndo, Valid}
+use Rattle.server_laws.specs.Answers.{IsChange}
+use Rattle.server_laws.specs.UndoLaws.{AreIn, Move, stays, made, taken_back, befores_after, move, move_of, move_to, moved}
+use Rattle.server_specs.specs.Exporting.{imported_by}
+use Rattle.server_laws.proofs.AnswerFacts.{Refuses, asked_refuses, of_import, read_refuses}
+use Rattle.server_laws.proofs.Asked.{GivesTyped, asked_typed, read_typed}
+use Rattle.server_laws.proofs.Edited.{edits_stored}
+use Rattle.server_laws.proofs.Led.{IsChangeTo, put_change, tables_change}
+use Rattle.lens_laws.proofs.Moves.{all_there}
+use Rattle.server_laws.proofs.Remembered.{reverse_last, with_new}
+use Rattle.server_laws.proofs.Stored.{IsHere, lens_here}
+use Rattle.server_laws.proofs.Taken.{judged_ok}
+use Rattle.server_laws.proofs.Valid.{no_table, valid_chain, valid_step}
+
+-- taken back one after another from these tables, the changes leave the tables before each as they were
+abbrev pub Recalls : Tables → List (List TableDelta) → List Tables → Type 0
+Recalls db [] befores = Unit {0}
+Recalls db (cs ∷ pasts) [] = ⊥
+Recalls db (cs ∷ pasts) (b ∷ befores) = AreIn b (with_deltas (inverted cs) db) × Recalls (with_deltas (inverted cs) db) pasts befores
+
+-- so do the first of them
+front_recalls : (db : Tables) (xs ys : List (List TableDelta)) (befores : List Tables) → Recalls db (xs ++ ys) befores → Recalls db xs befores
+front_recalls db [] ys befores h = tt
+front_recalls db (cs ∷ xs) ys [] h = h
+front_recalls db (cs ∷ xs) ys (b ∷ befores) h = (h.0, front_recalls (with_deltas (inverted cs) db) xs ys befores h.1)
+
+-- and those that are not the oldest
+last_recalls : (db : Tables) (n : ℕ) (past : List (List TableDelta)) (befores : List Tables) → Recalls db (reverse past) befores → Recalls db (reverse (drop n past)) befores
+last_recalls db n past befores h = front_recalls db (reverse (drop n past)) (reverse (take n past)) befores
+    (subst (λ p. Recalls db p befores) (ap reverse (sym (take-append-drop n past)) ∙ reverse-append (take n past) (drop n past)) h)
+
+-- one more change
+recalls_more : (old new : Tables) (cs : List TableDelta) (past : List (List TableDelta)) (befores : List Tables) → LeadTo (inverted cs) new old → Recalls old (reverse past) befores
+    → Recalls new (reverse (remember cs past)) (old ∷ befores)
+recalls_more old new cs past befores back h =
+    last_recalls new (length (past ++ cs ∷ []) - 16) (past ++ cs ∷ []) (old ∷ befores)
+    (subst (λ p. Recalls new p (old ∷ befores)) (sym (reverse-append past (cs ∷ [])))
+    (λ q _. ap (λ db. finmap.get db q) back.1, subst (λ db. Recalls db (reverse past) befores) (sym back.1) h))
+
+-- ---- a table more
+
+module _ (known : Catalogue) (t : Name) (r : Relation) (absent : (db : Tables) → AreStored known db → is_some (finmap.get db t) ≡ false) where
+  still_in : (b db : Tables) → is_some (finmap.get db t) ≡ false → AreIn b db → AreIn b (finmap.insert db t r)
+  still_in b db new h q there =
+      let other : eq_by_cmp bytes_cmp q t ≡ false = false_from _ (λ tie. true≢false (sym there ∙ ap is_some (sym (h q there)) ∙ ap (λ n. is_some (finmap.get db n)) (tied_name q t tie) ∙ new)) in
+      finmap.get-insert name_total db t r q ∙ ap (λ c. cond c (Some r) (finmap.get db q)) other ∙ h q there
+
+  recalls_with : (db : Tables) (past : List (List TableDelta)) (befores : List Tables) → AreStored known db → CanUndo known db past → Recalls db past befores → Recalls (finmap.insert db t r) past befores
+  recalls_with db [] befores s can h = tt
+  recalls_with db (cs ∷ past) [] s can h = h
+  recalls_with db (cs ∷ past) (b ∷ befores) s can h =
+      let is : with_deltas (inverted cs) (finmap.insert db t r) ≡ finmap.insert (with_deltas (inverted cs) db) t r = with_new t r (inverted cs) db (all_there (inverted cs) db can.0) (absent db s) in (
+        subst (AreIn b) (sym is) (still_in b (with_deltas (inverted cs) db) (absent (with_deltas (inverted cs) db) can.1) h.0),
+        subst (λ d. Recalls d past befores) (sym is) (recalls_with (with_deltas (inverted cs) db) past befores can.1 can.2 h.1),
+      )
+
+-- ---- one answer
+
+-- from one state to the next, by what the request does where it raises the version
+abbrev Goes : State → State → Move → List Tables → Type 0
+Goes s t m befores = Recalls t.tables (reverse t.past) (moved (move_to s t m) s.tables befores)
+
+same_version : (v : ℕ) → nat_eq v v ≡ true
+same_version v = elim (eqb_tells v v) [ inl h ↦ h.0 | inr h ↦ absurd (h.1 refl) ]
+
+later_version : (v : ℕ) → nat_eq v (v + 1) ≡ false
+later_version v = ne_eqb v (v + 1) (λ e. omega arith)
+
+-- where the version is the same, nothing becomes of them
+still_recalls : (s : State) (m : Move) (befores : List Tables) → Recalls s.tables (reverse s.past) befores → Goes s s m befores
+still_recalls s m befores h = subst (λ b. Recalls s.tables (reverse s.past) (moved (cond b stays m) s.tables befores)) (sym (same_version s.version)) h
+
+-- where it is one more, what the request does
+raised : (s t : State) (m : Move) (befores : List Tables) → t.version ≡ s.version + 1 → Recalls t.tables (reverse t.past) (moved m s.tables befores) → Goes s t m befores
+raised s t m befores more h =
+    subst (λ b. Recalls t.tables (reverse t.past) (moved (cond b stays m) s.tables befores)) (sym (ap (nat_eq s.version) more ∙ later_version s.version)) h
+
+accept_recalls : (s : State) (ds : List TableDelta) (db : Tables) (befores : List Tables) → IsChangeTo s ds db → Recalls s.tables (reverse s.past) befores → Goes s (accept db ds s).1 made befores
+accept_recalls s [] db befores c h = still_recalls s made befores h
+accept_recalls s (d ∷ ds) db befores c h = raised s (accept db (d ∷ ds) s).1 made befores refl (recalls_more s.tables db (d ∷ ds) s.past befores c.back h)
+
+settled_recalls : (s : State) (L : Lens) → Valid s → IsHere s L → (r : Result Rows EditRefusal) → GivesTyped L r → (befores : List Tables) → Recalls s.tables (reverse s.past) befores → Goes s (settled r L s).1 made befores
+settled_recalls s L v here (Err why) typed befores h = still_recalls s made befores h
+settled_recalls s L v here (Ok N) typed befores h = accept_recalls s (changes L N s.tables) (put_rows L N s.tables) befores (put_change s L N v here (typed N refl)) h
+
+changed_recalls : (s : State) → Valid s → (sent : Sent) (on : Option ℕ) (name : Name) (o : Option Lens) → finmap.get (catalogue s.texts) name ≡ o → (befores : List Tables) → Recalls s.tables (reverse s.past) befores
+    → Goes s (changed_by sent on name o s).1 made befores
+changed_recalls s v sent on name None is befores h = still_recalls s made befores h
+changed_recalls s v sent on name (Some L) is befores h =
+    let here = lens_here s v name L is in settled_recalls s L v here (asked_view s L sent on) (asked_typed s L here sent on) befores h
+
+import_recalls : (s : State) → Valid s → (csv : List ℕ) (on : Option ℕ) (name : Name) (befores : List Tables) → Recalls s.tables (reverse s.past) befores
+    → Goes s (imported_by csv on name (finmap.get (catalogue s.texts) name) s).1 made befores
+import_recalls s v csv on name befores h =
+    of_import (λ r. Goes s r.1 made befores) s on (λ a refuses. still_recalls s made befores h) csv name
+    (λ L is M fits. settled_recalls s L v (lens_here s v name L is) (tested s L on (Ok M)) (read_typed s L on M fits) befores h)
+
+batch_recalls : (s : State) → Valid s → (r : Result Tables (ℕ × EditRefusal)) → ((db : Tables) → r ≡ Ok db → AreStored (catalogue s.texts) db) → (befores : List Tables) → Recalls s.tables (reverse s.past) befores
+    → Goes s (batch_settled r s).1 made befores
+batch_recalls s v (Err found) stored befores h = still_recalls s made befores h
+batch_recalls s v (Ok db) stored befores h = accept_recalls s (differences (finmap.keys s.tables) s.tables db) db befores (tables_change s db v (stored db refl)) h
+
+without_first : (db : Tables) (cs : List TableDelta) (past : List (List TableDelta)) (befores : List Tables) → Recalls db (cs ∷ past) befores → Recalls (with_deltas (inverted cs) db) past (drop 1 befores)
+without_first db cs past [] h = absurd h
+without_first db cs past (b ∷ befores) h = h.1
+
+undone_recalls : (s : State) → Valid s → (o : Option (List TableDelta)) → slice_get s.past (length s.past - 1) ≡ o → (befores : List Tables) → Recalls s.tables (reverse s.past) befores → Goes s (undone o s).1 taken_back befores
+undone_recalls s v None is befores h = still_recalls s taken_back befores h
+undone_recalls s v (Some cs) is befores h =
+    raised s (undone (Some cs) s).1 taken_back befores refl (without_first s.tables cs (reverse (take (length s.past - 1) s.past)) befores (subst (λ p. Recalls s.tables p befores) (reverse_last s.past cs is) h))
+
+defined_recalls : (s : State) → Valid s → (text : List ℕ) (d : Definition) → judged (catalogue s.texts) (reading text) ≡ Ok d → (befores : List Tables) → Recalls s.tables (reverse s.past) befores
+    → Goes s (with_defined text d s) stays befores
+defined_recalls s v text (table name columns deps P) j befores h =
+    let free = (judged_ok (catalogue s.texts) (reading text) (table name columns deps P) j).1.0 in
+    raised s (with_defined text (table name columns deps P) s) stays befores refl
+    (recalls_with (catalogue s.texts) name (record { columns = columns; rows = set.empty })
+    (λ db stored. ap is_some (no_table name (finmap.get (catalogue s.texts) name) (finmap.get db name) free (stored name)))
+    s.tables (reverse s.past) befores v.tables v.past h)
+defined_recalls s v text (view name expr) j befores h = raised s (with_defined text (view name expr) s) stays befores refl h
+
+definition_recalls : (s : State) → Valid s → (text : List ℕ) (r : Result Definition CatalogFault) → judged (catalogue s.texts) (reading text) ≡ r → (befores : List Tables) → Recalls s.tables (reverse s.past) befores
+    → Goes s (answer_definition text r s).1 stays befores
+definition_recalls s v text (Err fault) j befores h = still_recalls s stays befores h
+definition_recalls s v text (Ok d) j befores h = defined_recalls s v text d j befores h
+
+request_recalls : (s : State) → Valid s → (r : Result Request Answer) (befores : List Tables) → Recalls s.tables (reverse s.past) befores → Goes s (answer_request r s).1 (move_of r) befores
+request_recalls s v (Err refusal) befores h = still_recalls s stays befores h
+request_recalls s v (Ok (define text)) befores h = definition_recalls s v text (judged (catalogue s.texts) (reading text)) refl befores h
+request_recalls s v (Ok (read name)) befores h = still_recalls s stays befores h
+request_recalls s v (Ok (find_at name column json)) befores h = still_recalls s stays befores h
+request_recalls s v (Ok (put name rows on)) befores h = changed_recalls s v (whole rows) on name (finmap.get (catalogue s.texts) name) refl befores h
+request_recalls s v (Ok (edit name remove add on)) befores h = changed_recalls s v (edited remove add) on name (finmap.get (catalogue s.texts) name) refl befores h
+request_recalls s v (Ok (preview name remove add on)) befores h = still_recalls s stays befores h
+request_recalls s v (Ok (describe name)) befores h = still_recalls s stays befores h
+request_recalls s v (Ok list) befores h = still_recalls s stays befores h
+request_recalls s v (Ok (batch edits on)) befores h = batch_recalls s v (edits_from 0 on s edits s.tables) (λ db is. edits_stored s v 0 on edits s.tables db v.tables is) befores h
+request_recalls s v (Ok undo) befores h = undone_recalls s v (slice_get s.past (length s.past - 1)) refl befores h
+request_recalls s v (Ok (export name)) befores h = still_recalls s stays befores h
+request_recalls s v (Ok (import name csv on)) befores h = import_recalls s v csv on name befores h
+
+answer_recalls : (s : State) → Valid s → (l : Line) (befores : List Tables) → Recalls s.tables (reverse s.past) befores → Goes s (answer s l).1 (move_of (request l)) befores
+unfolding answer
+answer_recalls s v l befores h = request_recalls s v (request l) befores h
+
+-- ---- sessions
+
+step_recalls : (s : State) (count : ℕ) (l : Line) (reply : List ℕ) (t : State) (count' : ℕ) → Valid s → Replies s count l reply t count' → (befores : List Tables) → Recalls s.tables (reverse s.past) befores
+    → Goes s t (move_of (request l)) befores
+step_recalls s count l reply t count' v r befores h = elim r [
+  | found_memory (answered told is) ↦ subst (λ u. Goes s u (move_of (request l)) befores) (sym is) (answer_recalls s v l befores h)
+  | out_of_memory short told is ↦ subst (λ u. Goes s u (move_of (request l)) befores) (sym is) (still_recalls s (move_of (request l)) befores h)
+  | found_memory (not_stored told is moved grew) ↦ subst (λ u. Goes s u (move_of (request l)) befores) (sym is) (still_recalls s (move_of (request l)) befores h)
+]
+
+chain_recalls : (s : State) (count : ℕ) (es : List Exchange) → Valid s → Chain s count es → (befores : List Tables) → Recalls s.tables (reverse s.past) befores
+    → Recalls (last_state s es).tables (reverse (last_state s es).past) (befores_after s es befores)
+chain_recalls s count [] v c befores h = h
+chain_recalls s count (e ∷ es) v c befores h =
+    chain_recalls e.state e.count es (valid_step s count e.line e.reply e.state e.count v c.0.replied) c.1 (moved (move s e) s.tables befores)
+    (step_recalls s count e.line e.reply e.state e.count v c.0.replied befores h)
+
+-- the part of a chain that comes after some exchanges, and the part before
+rest_of : (s : State) (count : ℕ) (before rest : List Exchange) → Chain s count (before ++ rest) → Chain (last_state s before) (last_count count before) rest
+rest_of s count [] rest c = c
+rest_of s count (e ∷ es) rest c = rest_of e.state e.count es rest c.1
+
+front_of : (s : State) (count : ℕ) (before rest : List Exchange) → Chain s count (before ++ rest) → Chain s count before
+front_of s count [] rest c = tt
+front_of s count (e ∷ es) rest c = (c.0, front_of e.state e.count es rest c.1)
+
+-- a move that takes a change back raises the version, and is that of an undo
+moved_on : (s t : State) (m : Move) → move_to s t m ≡ taken_back → (nat_eq s.version t.version ≡ false) × (m ≡ taken_back)
+moved_on s t m e = by_test (nat_eq s.version t.version) e
+  where
+    by_test : (b : Bool) → cond b stays m ≡ taken_back → (b ≡ false) × (m ≡ taken_back)
+    by_test true e = cc
+    by_test false e = (refl, e)
+
+is_undo : (r : Result Request Answer) → move_of r ≡ taken_back → r ≡ Ok undo
+is_undo (Err refusal) e = cc
+is_undo (Ok (define text)) e = cc
+is_undo (Ok (read name)) e = cc
+is_undo (Ok (find_at name column json)) e = cc
+is_undo (Ok (put name rows on)) e = cc
+is_undo (Ok (edit name remove add on)) e = cc
+is_undo (Ok (preview name remove add on)) e = cc
+is_undo (Ok (describe name)) e = cc
+is_undo (Ok list) e = cc
+is_undo (Ok (batch edits on)) e = cc
+is_undo (Ok undo) e = refl
+is_undo (Ok (export name)) e = cc
+is_undo (Ok (import name csv on)) e = cc
+
+-- the tables before the last change are first, and an undo brings them back
+Restores : State → State → List Tables → Type 0
+Restores s t befores = (db : Tables) × (older : List Tables) × (befores ≡ db ∷ older) × AreIn db t.tables
+
+undone_restores : (s : State) → Valid s → (o : Option (List TableDelta)) → slice_get s.past (length s.past - 1) ≡ o → (befores : List Tables) → Recalls s.tables (reverse s.past) befores
+    → nat_eq s.version (undone o s).1.version ≡ false → Restores s (undone o s).1 befores
+unfolding Restores
+undone_restores s v None is befores h later = absurd (true≢false (sym (same_version s.version) ∙ later))
+undone_restores s v (Some cs) is befores h later = by_list befores (subst (λ p. Recalls s.tables p befores) (reverse_last s.past cs is) h)
+  where
+    by_list : (bs : List Tables) → Recalls s.tables (cs ∷ reverse (take (length s.past - 1) s.past)) bs
+        → (db : Tables) × (older : List Tables) × (bs ≡ db ∷ older) × AreIn db (with_deltas (inverted cs) s.tables)
+    by_list [] k = absurd k
+    by_list (b ∷ bs) k = (b, bs, refl, k.0)
+
+pub undo_is : (s : State) (l : Line) → request l ≡ Ok undo → answer s l ≡ undone (slice_get s.past (length s.past - 1)) s
+unfolding answer
+undo_is s l asked = ap (λ q. answer_request q s) asked
+
+-- an undo that raises the version takes a change back
+pub move_of_undo : (s t : State) (l : Line) → request l ≡ Ok undo → nat_eq s.version t.version ≡ false → move_to s t (move_of (request l)) ≡ taken_back
+move_of_undo s t l asked later = ap (λ b. cond b stays (move_of (request l))) later ∙ ap move_of asked
+
+step_restores : (s : State) (count : ℕ) (l : Line) (reply : List ℕ) (t : State) (count' : ℕ) → Valid s → Replies s count l reply t count' → (befores : List Tables) → Recalls s.tables (reverse s.past) befores
+    → move_to s t (move_of (request l)) ≡ taken_back → Restores s t befores
+step_restores s count l reply t count' v r befores h taken =
+    let w = moved_on s t (move_of (request l)) taken in
+    let asked = is_undo (request l) w.1 in
+    let stuck : t ≡ s → Restores s t befores = λ same. absurd (true≢false (sym (same_version s.version) ∙ ap (λ u. nat_eq s.version u.version) (sym same) ∙ w.0)) in
+    elim r [
+      | found_memory (answered told is) ↦
+          let here : t ≡ (undone (slice_get s.past (length s.past - 1)) s).1 = is ∙ ap (λ a. a.1) (undo_is s l asked) in
+          subst (λ u. Restores s u befores) (sym here)
+          (undone_restores s v (slice_get s.past (length s.past - 1)) refl befores h (ap (λ u. nat_eq s.version u.version) (sym here) ∙ w.0))
+      | out_of_memory short told is ↦ stuck is
+      | found_memory (not_stored told is moved grew) ↦ stuck is
+    ]
+
+pub undo_restores : (s : State) (count : ℕ) (lines : List Line) (replies : List (List ℕ)) (last : State) (count' : ℕ) → Valid s → s.past ≡ []
+    → (session : Session s count lines replies last count') → (before after : List Exchange) (e : Exchange)
+    → session.exchanges ≡ before ++ e ∷ after → move (last_state s before) e ≡ taken_back
+    → (db : Tables) × (older : List Tables) × (befores_after s before [] ≡ db ∷ older) × AreIn db e.state.tables
+unfolding Restores
+undo_restores s count lines replies last count' v none session before after e parts taken =
+    let chain = subst (Chain s count) parts session.chain in
+    let front = front_of s count before (e ∷ after) chain in
+    let here = rest_of s count before (e ∷ after) chain in
+    let start : Recalls s.tables (reverse s.past) [] = subst (λ p. Recalls s.tables (reverse p) []) (sym none) tt in
+    step_restores (last_state s before) (last_count count before) e.line e.reply e.state e.count (valid_chain s count before v front).1 here.0.replied
+    (befores_after s before []) (chain_recalls s count before v front [] start) taken
+
+-- ---- at once
+
+-- the last change that can be undone leads from the tables back to the old ones
+record IsBack (s t : State) : Type 0 where
+  cs : List TableDelta
+  last : slice_get t.past (length t.past - 1) ≡ Some cs
+  back : with_deltas (inverted cs) t.tables ≡ s.tables
+
+last_got : {A : Type 0} (n : ℕ) (xs : List A) (y : A) → n ≡ length xs → slice_get (xs ++ y ∷ []) n ≡ Some y
+last_got zero [] y e = refl
+last_got zero (x ∷ xs) y e = absurd (omega arith)
+last_got (suc n) [] y e = absurd (omega arith)
+last_got (suc n) (x ∷ xs) y e = last_got n xs y (omega arith)
+
+last_pushed : {A : Type 0} (xs : List A) (y : A) → slice_get (xs ++ y ∷ []) (length (xs ++ y ∷ []) - 1) ≡ Some y
+last_pushed xs y = let e = length-append xs (y ∷ []) in last_got (length (xs ++ y ∷ []) - 1) xs y (omega arith)
+
+-- the last change remembered is the new one
+pub remembered_last : (cs : List TableDelta) (past : List (List TableDelta)) → slice_get (remember cs past) (length (remember cs past) - 1) ≡ Some cs
+remembered_last cs past =
+    let e = length-append past (cs ∷ []) in
+    let is : remember cs past ≡ drop (length (past ++ cs ∷ []) - 16) past ++ cs ∷ [] = drop-append-le (length (past ++ cs ∷ []) - 16) past (cs ∷ []) (omega arith) in
+    ap (λ p. slice_get p (length p - 1)) is ∙ last_pushed (drop (length (past ++ cs ∷ []) - 16) past) cs
+
+accept_back : (s : State) (ds : List TableDelta) (db : Tables) → IsChangeTo s ds db → IsChange (accept db ds s).0 → IsBack s (accept db ds s).1
+accept_back s [] db c h = absurd h
+accept_back s (d ∷ ds) db c h = record { cs = d ∷ ds; last = remembered_last (d ∷ ds) s.past; back = c.back.1 }
+
+settled_back : (s : State) (L : Lens) → Valid s → IsHere s L → (r : Result Rows EditRefusal) → ((why : EditRefusal) → r ≡ Err why → Refuses s (told why)) → GivesTyped L r
+    → IsChange (settled r L s).0 → IsBack s (settled r L s).1
+settled_back s L v here (Err why) refuses typed h = absurd ((refuses why refl).change h)
+settled_back s L v here (Ok N) refuses typed h = accept_back s (changes L N s.tables) (put_rows L N s.tables) (put_change s L N v here (typed N refl)) h
+
+changed_back : (s : State) → Valid s → (sent : Sent) (on : Option ℕ) (name : Name) (o : Option Lens) → finmap.get (catalogue s.texts) name ≡ o → IsChange (changed_by sent on name o s).0 → IsBack s (changed_by sent on name o s).1
+changed_back s v sent on name None is h = absurd h
+changed_back s v sent on name (Some L) is h =
+    let here = lens_here s v name L is in settled_back s L v here (asked_view s L sent on) (asked_refuses s L sent on) (asked_typed s L here sent on) h
+
+import_back : (s : State) → Valid s → (csv : List ℕ) (on : Option ℕ) (name : Name) → IsChange (imported_by csv on name (finmap.get (catalogue s.texts) name) s).0
+    → IsBack s (imported_by csv on name (finmap.get (catalogue s.texts) name) s).1
+import_back s v csv on name =
+    of_import (λ r. IsChange r.0 → IsBack s r.1) s on (λ a refuses h. absurd (refuses.change h)) csv name
+    (λ L is M fits. settled_back s L v (lens_here s v name L is) (tested s L on (Ok M)) (read_refuses s L on M) (read_typed s L on M fits))
+
+batch_back : (s : State) → Valid s → (r : Result Tables (ℕ × EditRefusal)) → ((db : Tables) → r ≡ Ok db → AreStored (catalogue s.texts) db) → IsChange (batch_settled r s).0 → IsBack s (batch_settled r s).1
+batch_back s v (Err found) stored h = absurd h
+batch_back s v (Ok db) stored h = accept_back s (differences (finmap.keys s.tables) s.tables db) db (tables_change s db v (stored db refl)) h
+
+request_back : (s : State) → Valid s → (r : Result Request Answer) → move_of r ≡ made → IsChange (answer_request r s).0 → IsBack s (answer_request r s).1
+request_back s v (Err refusal) m h = cc
+request_back s v (Ok (define text)) m h = cc
+request_back s v (Ok (read name)) m h = cc
+request_back s v (Ok (find_at name column json)) m h = cc
+request_back s v (Ok (put name rows on)) m h = changed_back s v (whole rows) on name (finmap.get (catalogue s.texts) name) refl h
+request_back s v (Ok (edit name remove add on)) m h = changed_back s v (edited remove add) on name (finmap.get (catalogue s.texts) name) refl h
+request_back s v (Ok (preview name remove add on)) m h = cc
+request_back s v (Ok (describe name)) m h = cc
+request_back s v (Ok list) m h = cc
+request_back s v (Ok (batch edits on)) m h = batch_back s v (edits_from 0 on s edits s.tables) (λ db is. edits_stored s v 0 on edits s.tables db v.tables is) h
+request_back s v (Ok undo) m h = cc
+request_back s v (Ok (export name)) m h = cc
+request_back s v (Ok (import name csv on)) m h = import_back s v csv on name h
+
+answer_back : (s : State) → Valid s → (l : Line) → move_of (request l) ≡ made → IsChange (answer s l).0 → IsBack s (answer s l).1
+unfolding answer
+answer_back s v l m h = request_back s v (request l) m h
+
+pub undone_at_once : (s : State) → Valid s → (l m : Line) → move_of (request l) ≡ made → IsChange (answer s l).0 → request m ≡ Ok undo → (answer (answer s l).1 m).1.tables ≡ s.tables
+undone_at_once s v l m makes h asked =
+    let b = answer_back s v l makes h in
+    ap (λ a. a.1.tables) (undo_is (answer s l).1 m asked) ∙ ap (λ o. (undone o (answer s l).1).1.tables) b.last ∙ b.back
+
+-- ---- nothing to undo
+
+none_last : {A : Type 0} (xs : List A) → slice_get xs (length xs - 1) ≡ None → xs ≡ []
+none_last [] e = refl
+none_last {A = A} (x ∷ xs) e =
+    let is : slice_get (x ∷ xs) (length (x ∷ xs) - 1) ≡ Some (get_or (x ∷ xs) (length (x ∷ xs) - 1) x) = slice_get-get_or (x ∷ xs) (length (x ∷ xs) - 1) x (omega arith) in
+    let clash : ◌≡◌ {A = Option A} None (Some (get_or (x ∷ xs) (length (x ∷ xs) - 1) x)) = sym e ∙ is in cc
+
+nothing_by : (o : Option (List TableDelta)) (s : State) → undone o s ≡ (nothing_to_undo, s) → o ≡ None
+nothing_by None s e = refl
+nothing_by (Some cs) s e = let f : changed (inverted cs) (s.version + 1) ≡ nothing_to_undo = ap (λ a. a.0) e in cc
+
+pub nothing_told : (s : State) (l : Line) → request l ≡ Ok undo → (answer s l ≡ (nothing_to_undo, s)) ↔ (s.past ≡ [])
+nothing_told s l asked = (
+  λ e. none_last s.past (nothing_by (slice_get s.past (length s.past - 1)) s (sym (undo_is s l asked) ∙ e)),
+  λ none. undo_is s l asked ∙ ap (λ p. undone (slice_get p (length p - 1)) s) none,
+)
