@@ -1,8 +1,9 @@
 #!/usr/bin/env python3
-"""Measures the built program, and prints the table of docs/PROOF.md: the time of each line, and peak memory.
+"""Measures the built program, and prints the table of docs/SPEED.md: the time of each line, and peak memory.
 
 Usage: bench/bench.py [PROGRAM]    (without the word, the program that ./serve builds)
 """
+import json
 import os
 import re
 import sqlite3
@@ -24,6 +25,7 @@ LONGEST = 16_777_216
 AS_SERVED = {"GLIBC_TUNABLES": "glibc.malloc.hugetlb=1:glibc.malloc.tcache_count=1000", **os.environ}
 
 
+UNDO = b'{"do":"undo"}\n'
 TRACKS = "table tracks (album text, date int, rating int, track text)"
 DEPENDENCIES = " with track -> album date, date -> rating"
 
@@ -90,6 +92,22 @@ def edit(view, remove, add, do="edit", on=None):
     return (f'{{"do":"{do}","view":"{view}","remove":[' + ",".join(remove) + '],"add":[' + ",".join(add) + f"]{rests}}}\n").encode()
 
 
+def batch(edits):
+    """A batch of edits, each a view, rows to remove and rows to add."""
+    members = (f'{{"view":"{view}","remove":[{",".join(remove)}],"add":[{",".join(add)}]}}' for view, remove, add in edits)
+    return (f'{{"do":"batch","edits":[{",".join(members)}]}}\n').encode()
+
+
+def csv_of(rows):
+    """Rows as CSV."""
+    records = [json.loads(line) for line in rows]
+    return "".join(",".join(map(str, fields)) + "\n" for fields in [records[0], *(record.values() for record in records)])
+
+
+def imported(rows, view="tracks"):
+    return (json.dumps({"do": "import", "view": view, "csv": csv_of(rows)}) + "\n").encode()
+
+
 def find(view, column, value):
     return f'{{"do":"find","view":"{view}","column":"{column}","value":{value}}}\n'.encode()
 
@@ -143,6 +161,10 @@ def large(program):
         (f"read of {ROWS:,} rows", b'{"do":"read","view":"tracks"}\n', b'{"ok":true,"rows":[{'),
         ("the same put again, which changes nothing", put(rows), b'{"changed":[],'),
         ("the put with one row changed", put(changed), b'{"changed":[{'),
+        ("undo of that put", UNDO, b'{"changed":[{'),
+        (f"export of {ROWS:,} rows", b'{"do":"export","view":"tracks"}\n', b'{"csv":"album,'),
+        ("import of what was exported, which changes nothing", imported(rows), b'{"changed":[],'),
+        ("import of it with one row changed", imported(changed), b'{"changed":[{'),
         (f"read of a view of {len(good):,} of the rows", b'{"do":"read","view":"good"}\n', b'{"ok":true,"rows":[{'),
         ("put of that view with one row changed", put(good, "good"), b'{"changed":[{'),
     ]
@@ -191,6 +213,49 @@ def edits(program, folder):
         ("an edit of one row that the view would not show, refused", edit("shown", [], [row(0)]), b'{"error":42,'),
     ]
     return timed(server, steps)
+
+
+def in_batches(program, folder):
+    """1,000 edits of one row of a view of 100,000 rows, each a line, and in one batch, without a store and over one in a file; and their
+    undo. So with 10,000 edits in a batch. ms and MB."""
+    rows = [row(number) for number in range(HIDING)]
+    shown = [line for line in rows if '"rating":0' not in line]
+    table = []
+    for told, words in (("", ()), (", with `--store`", ("--store", os.path.join(folder, "batches.db")))):
+        server = defined(program, TRACKS + " with track -> album date rating", "view shown = select from tracks where rating > 0", words=words)
+        reply, _ = server.ask(put(rows))
+        must_begin(reply, b'{"changed":[{')
+        lines = [edit("shown", [line], [line.replace('"album":"album', '"album":"other', 1)]) for line in shown[:PUTS]]
+        begin = time.perf_counter()
+        for line in lines:
+            must_begin(server.ask(line)[0], b'{"changed":[{')
+        table.append((f"{PUTS:,} edits of one row of a view of {len(shown):,}, a line each{told}", sum(map(len, lines)), in_ms(time.perf_counter() - begin), f"{server.peak():,.0f} MB"))
+        some, many = ([("shown", [line], [line.replace('"album":"album', '"album":"other', 1)]) for line in part] for part in (shown[PUTS : 2 * PUTS], shown[2 * PUTS : 12 * PUTS]))
+        table += timed(server, [
+            (f"a batch of {len(some):,} such edits{told}", batch(some), b'{"changed":[{'), ("its undo", UNDO, b'{"changed":[{'),
+            (f"a batch of {len(many):,}{told}", batch(many), b'{"changed":[{'), ("its undo", UNDO, b'{"changed":[{'),
+        ])
+    return table
+
+
+def remembered(program):
+    """16 puts of 100,000 rows, each of other rows, which can all be undone; their undo; seconds and MB."""
+    server = defined(program, TRACKS)
+    lines = [put([row(number, number % 5 + 5 * turn) for number in range(ROWS)]) for turn in range(16)]
+    seconds = 0.0
+    for line in lines:
+        reply, taken = server.ask(line)
+        must_begin(reply, b'{"changed":[{')
+        seconds += taken
+    table = [(f"16 puts of {ROWS:,} rows, each of other rows", sum(map(len, lines)), f"{seconds:,.1f} s", f"{server.peak():,.0f} MB")]
+    seconds = 0.0
+    for start in [b'{"changed":[{'] * 16 + [b'{"error":44,']:
+        reply, taken = server.ask(UNDO)
+        must_begin(reply, start)
+        seconds += taken
+    table.append(("their undo, 16 times", 16 * len(UNDO), f"{seconds:,.1f} s", f"{server.peak():,.0f} MB"))
+    server.end()
+    return table
 
 
 def questions(program):
@@ -489,14 +554,14 @@ def rehearsed(program):
 def stores(program):
     """The lines of stores, in a folder beside the program."""
     with tempfile.TemporaryDirectory(dir=os.path.dirname(os.path.abspath(program))) as folder:
-        return edits(program, folder) + nulls(program, folder) + kept(program, folder) + committed(program, folder) + rehearsed(program)
+        return edits(program, folder) + in_batches(program, folder) + nulls(program, folder) + kept(program, folder) + committed(program, folder) + rehearsed(program)
 
 
 def main():
     program = sys.argv[1] if len(sys.argv) > 1 else os.path.join(TOP, "crates/view_program/out/view_program")
     print("| What | Bytes of input | Time | Peak memory |")
     print("|---|---|---|---|")
-    for part in (large, views, questions, drops, joins, streams, dependent, chains, long_texts, longest, small, stores):
+    for part in (large, remembered, views, questions, drops, joins, streams, dependent, chains, long_texts, longest, small, stores):
         for name, size, taken, peak in part(program):
             print(f"| {name} | {size:,} | {taken} | {peak} |", flush=True)
 

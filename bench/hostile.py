@@ -34,6 +34,18 @@ def filled(front, member, between, back):
     return (front + between.join([member] * count) + back + "\n").encode()
 
 
+def numbered(count):
+    """A batch of so many edits, each of which adds a row of its own."""
+    edits = ",".join(f'{{"view":"t","remove":[],"add":[{{"a":{number}}}]}}' for number in range(count))
+    return f'{{"do":"batch","edits":[{edits}]}}\n'.encode()
+
+
+def in_turn(count):
+    """A batch that adds and removes one row so many times."""
+    both = '{"view":"t","remove":[],"add":[{"a":1}]},{"view":"t","remove":[{"a":1}],"add":[]}'
+    return f'{{"do":"batch","edits":[{",".join([both] * count)}]}}\n'.encode()
+
+
 def lines():
     """What each line is, and the line."""
     members = ",".join(f'"{name}":0' for name in short_names(1_600_000))
@@ -49,6 +61,14 @@ def lines():
         ("a string of escapes alone", filled('{"do":"list","on":"', "\\u0041", "", '"}')),
         ("digits alone", ("1" * LONGEST + "\n").encode()),
         ("blanks alone", (" " * LONGEST + "\n").encode()),
+        ("a batch of edits without rows", filled('{"do":"batch","edits":[', '{"view":"t","remove":[],"add":[]}', ",", "]}")),
+        ("a batch that adds and removes one row 100,000 times", in_turn(100_000)),
+        ("a batch of 100,000 edits of one row each", numbered(100_000)),
+        ("an import of commas alone", filled('{"do":"import","view":"t","csv":"', ",", "", '"}')),
+        ("an import of quotation marks alone", filled('{"do":"import","view":"t","csv":"', '\\"', "", '"}')),
+        ("an import of ends of lines alone", filled('{"do":"import","view":"t","csv":"', "\\n", "", '"}')),
+        ("an import of rows that are equal", filled('{"do":"import","view":"t","csv":"a', "\\n1", "", '"}')),
+        ("an import of one field that is never closed", filled('{"do":"import","view":"t","csv":"a\\n\\"', "1", "", '"}')),
     ]
 
 

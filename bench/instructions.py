@@ -6,17 +6,21 @@ number of instructions of one edit, preview or find of one row, by valgrind's ca
 on: those of a run with many of them less those of a run with few, by the difference of the numbers. Where a line has
 more rows, it is one edit of so many.
 
+With --changes each line compares two: a batch with its edits as lines, and with a tenth as many; undos with what they take back; and
+an export and an import of as many rows as there are tracks with a read and a put of them.
+
 With --kinds each line is one edit of one row, one that changes it and one that removes it, through each kind of join, through a
 rename, and with columns that may be null, of which none is.
 
-Usage: bench/instructions.py [--kinds] [PROGRAM [ROWS..]]    (ROWS: tracks; without these words 1,000, 100,000 and 1,000,000)
+Usage: bench/instructions.py [--kinds|--changes] [PROGRAM [ROWS..]]    (ROWS: tracks; without these words 1,000, 100,000 and 1,000,000,
+and with --changes 100,000)
 """
 import json
 import re
 import subprocess
 import sys
 
-from bench import AS_SERVED, TOP
+from bench import AS_SERVED, TOP, UNDO
 
 DEFINITIONS = [
     "table albums (album text, quantity int) with album -> quantity",
@@ -133,10 +137,52 @@ def by_kinds(program, sizes):
             print(f"| {rows:,} | {kind} | {changed:,} | {removed:,} |", flush=True)
 
 
+def batch(numbers, rows):
+    """The batch of edits that each give one track another rating, by the view."""
+    edits = [{"view": "stock", "remove": [shown(i, rows, 3)], "add": [shown(i, rows, 4)]} for i in numbers]
+    return line({"do": "batch", "edits": edits})
+
+
+def csv_line(tracks):
+    records = ["album,date,rating,track", *(f"{it['album']},{it['date']},{it['rating']},{it['track']}" for it in tracks)]
+    return line({"do": "import", "view": "tracks", "csv": "".join(f"{record}\n" for record in records)})
+
+
+def changes(program, sizes):
+    print("| Tracks | What | Instructions | Beside | Instructions | Times |")
+    print("|---|---|---|---|---|---|")
+    for rows in sizes:
+        begin, undo = filled(rows), UNDO.decode()
+        some, many = min(1_000, rows // 10), min(10_000, rows)
+
+        def cost(lines, before=()):
+            return instructions(program, [*begin, *before], lines)
+
+        few, batched = batch(range(some), rows), cost([batch(range(some), rows)])
+        one = cost([rated([0], rows)])
+        tracks = [{"album": f"a{i % max(rows // 10, 1)}", "date": 1980 + i % 40, "rating": 3, "track": f"t{i}"} for i in range(rows)]
+        others = line({"do": "put", "view": "tracks", "rows": [{**track, "rating": 4} for track in tracks]})
+        tracks[-1]["rating"] = 5
+        found = [
+            (f"a batch of {some:,} edits", batched, f"{some:,} lines", cost([rated([i], rows) for i in range(some)])),
+            (f"a batch of {many:,} edits", cost([batch(range(many), rows)]), f"a batch of {some:,}", batched),
+            ("its undo", cost([undo], [few]), f"a batch of {some:,}", batched),
+            ("an undo of an edit of one row", cost([undo], [rated([0], rows)]), "the edit", one),
+            (f"an undo of a put of {rows:,} other rows", cost([undo], [others]), "the put", cost([others])),
+            (f"an export of {rows:,} rows", cost([line({"do": "export", "view": "tracks"})]), "a read", cost([line({"do": "read", "view": "tracks"})])),
+            ("an import of them, one row changed", cost([csv_line(tracks)]), "a put", cost([line({"do": "put", "view": "tracks", "rows": tracks})])),
+        ]
+        for name, first, other, second in found:
+            print(f"| {rows:,} | {name} | {first:,} | {other} | {second:,} | {first / second:.2f} |", flush=True)
+
+
 def main():
-    words = [word for word in sys.argv[1:] if word != "--kinds"]
+    words = [word for word in sys.argv[1:] if word not in ("--kinds", "--changes")]
     program = words[0] if words else f"{TOP}/crates/view_program/out/view_program"
-    sizes = [int(word) for word in words[1:]] or [1_000, 100_000, 1_000_000]
+    sizes = [int(word) for word in words[1:]] or ([100_000] if "--changes" in sys.argv else [1_000, 100_000, 1_000_000])
+    if "--changes" in sys.argv:
+        changes(program, sizes)
+        return
     if "--kinds" in sys.argv:
         by_kinds(program, sizes)
         return

@@ -17,8 +17,10 @@ It starts the program, sends it requests, and gives rows, changes, and refusals 
 The program is the one that CIGRELK names in the environment, or else `serve` in the folder above that of this file.
 """
 import collections
+import csv
 import functools
 import html
+import io
 import json
 import operator
 import os
@@ -45,6 +47,8 @@ FRAME_KINDS = {"int": "Int64", "text": "object", "bool": "boolean"}
 MOST_SHOWN = 80
 # The longest text of a column in bytes, and the ends of a number.
 MOST_TEXT, LEAST_INT, MOST_INT = 4096, -(2**63), 2**63 - 1
+# What a column wants, by its kind without null.
+WANTED = {"int": "a whole number of 64 bits", "text": "a text of at most 4,096 bytes without U+0000", "bool": "true or false"}
 
 # ---- Texts for people ----
 
@@ -131,13 +135,21 @@ def table(rows, columns):
 
 class Refused(Exception):
     """The program refused a request, and nothing was changed. `error` is the number of the refusal, `reply` the whole reply, and
-    `request` the request, where it is known."""
+    `request` the request, where it is known. Where an edit of a batch is refused, `edit` is its place among the edits, from 0, and
+    `request` is that edit; else `edit` is None."""
 
     says = "refused"
 
     def __init__(self, reply, request=None):
-        self.reply, self.request, self.error = reply, request, reply["error"]
-        super().__init__(self.text())
+        self.reply, self.error, self.edit = reply, reply["error"], reply.get("edit")
+        self.request = request["edits"][self.edit] if request and self.edit is not None else request
+        super().__init__(f"{self.place()}{self.text()}")
+
+    def place(self):
+        """Which edit of a batch it is, in words."""
+        if self.edit is None:
+            return ""
+        return f"edit {self.edit}, counted from 0{', of ' + self.request['view'] if self.request else ''}: "
 
     def text(self):
         return self.says.format_map(self.reply)
@@ -292,6 +304,36 @@ class Clash(Refused):
         return f"{sides(self.reply['edge'])}, and these rows differ in it: {one} / {other}"
 
 
+class NothingToUndo(Refused):
+    says = "no change is left to undo: only changes of rows since the program was started can be undone, and only the last 16 of them"
+
+
+class BadRecord(Refused):
+    def text(self, columns=None):
+        """What is wrong, as far as it can be told; `columns` has the kind of each column of the view by its name."""
+        number = self.reply["record"]
+        if number == 0:
+            return f"the first record of the CSV is not the names of the columns, each once{': ' + ', '.join(columns) if columns else ''}"
+        try:
+            records = list(records_of((self.request or {}).get("csv", "")))
+        except csv.Error:
+            records = []
+        if number >= len(records):
+            return f"record {number} of the CSV, the header counted as 0, is no row"
+        (_, header), (line, fields) = records[0], records[number]
+        place = f"line {line} of the CSV, its record {number}"
+        if len(fields) != len(header):
+            return f"{place}, has another number of fields than the header: {len(fields)} and {len(header)}"
+        for name, field in zip(header, fields):
+            if columns and not is_field(field, columns.get(name)):
+                return f"{place}: {name} wants {WANTED[columns[name]]}, and not {short(field)}"
+        return f"{place}, is no row"
+
+
+class NullableColumn(Refused):
+    says = "the column '{col}' may be null, for which CSV has no word: export a view that drops it"
+
+
 class StoreFault(Refused):
     says = "the store could not be written (a full disk?): nothing was changed, and the request may be sent again"
 
@@ -300,7 +342,7 @@ REFUSALS = {
     1: OutOfMemory, 10: TooLong, 11: NotJson, 12: BadRequest, 20: Syntax, 21: NameTaken, 22: UnknownName, 23: UnknownColumn,
     24: KindClash, 25: NotTree, 26: PredicateKind, 27: SourceMentionsOutput, 28: NoSuchDependency, 29: MixedConjunct,
     30: DefaultRefused, 31: NotDetermined, 32: SideMentionsOutput, 33: TableTwice, 34: TooLarge, 35: ColumnTaken, 40: BadRow, 41: Stale,
-    42: OffPredicate, 43: Clash, 90: StoreFault,
+    42: OffPredicate, 43: Clash, 44: NothingToUndo, 45: BadRecord, 46: NullableColumn, 90: StoreFault,
 }
 
 
@@ -319,6 +361,22 @@ def value_fault(name, value):
     if isinstance(value, str) and ("\0" in value or len(value.encode(errors="replace")) > MOST_TEXT):
         return f"a text has at most 4,096 bytes and no U+0000, and '{name}' has another: {short(value)}"
     return f"'{name}' is no column, or {short(value)} is not of its kind"
+
+
+def records_of(text):
+    """The records of a text of CSV, each with the line at which it begins. Raises csv.Error for what Python does not read."""
+    lines, begins = csv.reader(io.StringIO(text[1:] if text.startswith("\ufeff") else text, newline="")), 1
+    for fields in lines:
+        if fields:
+            yield begins, fields
+        begins = lines.line_num + 1
+
+
+def is_field(text, kind):
+    """Whether a field of CSV is a value of a kind that takes no null."""
+    if kind == "int":
+        return bool(re.fullmatch("-?0*[0-9]{1,19}", text)) and LEAST_INT <= int(text) <= MOST_INT
+    return text in ("true", "false") if kind == "bool" else kind is not None and fits(text, kind)
 
 
 # ---- The program and its pipes ----
@@ -608,9 +666,18 @@ class Rows(list):
         return f"<table><tr>{head}</tr>{body}</table>"
 
 
+class Sheet(str):
+    """The rows of a table or a view as CSV. `version` and `session` say when they were read."""
+
+    def __new__(cls, text, version, session):
+        sheet = super().__new__(cls, text)
+        sheet.version, sheet.session = version, session
+        return sheet
+
+
 class Change:
-    """What a put, an edit or a preview changes. `tables` has, for each table that differs, the rows removed and those added. It is
-    false where nothing changes."""
+    """What a change or a preview changes. `tables` has, for each table that differs, the rows removed and those added. It is false
+    where nothing changes."""
 
     def __init__(self, server, reply):
         self.server, self.version, self.session = server, reply["version"], server.session
@@ -627,17 +694,18 @@ class Change:
         return "\n".join(lines) or "no change"
 
     def undo(self):
-        """Edits each table back, and gives the changes. What was changed since in other rows stays. Raises Stale, and edits no
-        table, where the same rows were changed."""
-        resting = {}
+        """Edits the tables back in one step, and gives that change. What was changed since in other rows stays. Raises Stale, and
+        changes nothing, where the same rows were changed, or where another change comes between."""
+        resting = None
         for name, (removed, added) in self.tables.items():
             try:
-                resting[name] = self.server[name].preview(added, removed)
+                preview = self.server[name].preview(added, removed)
             except Clash:
                 raise stale() from None
-            if resting[name].tables != {name: (added, removed)}:
+            if preview.tables != {name: (added, removed)}:
                 raise stale()
-        return [self.server[name].edit(added, removed, on=resting[name]) for name, (removed, added) in self.tables.items()]
+            resting = preview if resting is None else resting
+        return self.server.batch([(name, added, removed) for name, (removed, added) in self.tables.items()], on=resting)
 
 
 def tables_of(changed):
@@ -717,6 +785,21 @@ class View:
     def preview(self, remove=(), add=(), on=None):
         """What the same edit would change. Nothing is changed."""
         return Change(self.server, self.ask("preview", remove=listed(remove), add=listed(add), **self.server.rests(on)))
+
+    def export_csv(self):
+        """The rows as CSV: a text whose first record has the names of the columns. Raises NullableColumn where a column may be
+        null."""
+        reply = self.ask("export")
+        return Sheet(reply["csv"], reply["version"], self.server.session)
+
+    def import_csv(self, text, on=None):
+        """Makes the rows of a text of CSV the rows, as `put` does; its columns stand in any order. `on` takes what `export_csv`
+        gave too. Raises BadRecord for the first record that is no row, and NullableColumn and the exceptions of `put`."""
+        try:
+            return Change(self.server, self.ask("import", csv=text, **self.server.rests(on)))
+        except BadRecord as error:
+            error.args = (error.text(self.columns()),)
+            raise
 
     def change(self, edit, tries=10):
         """Reads the rows, has `edit` give those to remove and those to add, and sends them on the version that was read. Where
@@ -798,8 +881,7 @@ def shape_fault(row, columns):
         if name not in row:
             return name, f"the column '{name}' is missing"
         if not fits(row[name], kind):
-            wanted = {"int": "a whole number of 64 bits", "text": "a text of at most 4,096 bytes without U+0000", "bool": "true or false"}[base(kind)]
-            return name, f"{name} wants {wanted}{' or null' if is_nullable(kind) else ''}, and not {short(row[name])}"
+            return name, f"{name} wants {WANTED[base(kind)]}{' or null' if is_nullable(kind) else ''}, and not {short(row[name])}"
     for name in row:
         if name not in columns:
             return name, f"there is no column {short(name)}"
@@ -915,13 +997,25 @@ class Server:
         return self.program.ask(line)
 
     def rests(self, on):
-        """The member `on` for rows that were read, for a change, for a version, or for nothing. Raises Stale for rows of an
-        earlier start of the program: versions count from each start, so the program may take theirs for one of now."""
-        if isinstance(on, (Rows, Change)):
+        """The member `on` for rows that were read or exported, for a change, for a version, or for nothing. Raises Stale for rows
+        of an earlier start of the program: versions count from each start, so the program may take theirs for one of now."""
+        if isinstance(on, (Rows, Sheet, Change)):
             if on.session != self.session:
                 raise stale()
             on = on.version
         return {} if on is None else {"on": on}
+
+    def batch(self, edits, on=None):
+        """Does edits in order as one change, each on the rows that those before it gave: all of them, or none. Each is a table or a
+        view, or its name, with rows to remove and rows to add. The refusal of the first that is refused is raised, with its place
+        as `edit`. `on` is that of `View.put`, for all their tables."""
+        edits = [{"view": getattr(view, "name", view), "remove": listed(remove), "add": listed(add)} for view, remove, add in edits]
+        return Change(self, self.ask({"do": "batch", "edits": edits, **self.rests(on)}))
+
+    def undo(self):
+        """Takes the last put, edit, batch or import of this start of the program back, whoever sent it, and gives that change. The
+        last 16 can be taken back, one after another; raises NothingToUndo where none is left."""
+        return Change(self, self.ask({"do": "undo"}))
 
     def define(self, text):
         """Adds a table or a view, and gives it."""

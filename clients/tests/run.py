@@ -1,6 +1,7 @@
 """Runs the tests of this folder, prints a line for each, and tells at the end what was left out."""
 import glob
 import os
+import signal
 import sys
 import time
 import unittest
@@ -42,6 +43,8 @@ class Lines(unittest.TestResult):
 
 
 def main(files):
+    # A shell that starts this in the background lets it ignore interrupts, and so would the programs that tests end by one.
+    signal.signal(signal.SIGINT, signal.default_int_handler)
     sys.path.insert(0, HERE)
     names = [os.path.basename(path)[:-3] for path in files or sorted(glob.glob(f"{HERE}/test_*.py"))]
     result, began = Lines(), time.monotonic()

@@ -13,7 +13,8 @@ import unittest.mock
 HERE = os.path.dirname(os.path.abspath(__file__))
 sys.path.insert(0, os.path.dirname(HERE))
 import cigrelk
-from cigrelk import TOP, BadRow, Clash, Ended, KindClash, NotProposal, NotStarted, OffPredicate, Refused, Server, Stale, Syntax, UnknownColumn, UnknownName
+from cigrelk import (TOP, BadRecord, BadRow, Clash, Ended, KindClash, NotProposal, NothingToUndo, NotStarted, NullableColumn, OffPredicate, Refused, Server, Stale,
+                     Syntax, UnknownColumn, UnknownName)
 
 try:
     import pandas
@@ -105,9 +106,9 @@ class Requests(InMemory):
                 self.server.define(text)
 
     def test_each_refusal_has_a_text(self):
-        """Of the examples, which have them all but three, and of replies made up for those."""
+        """Of the examples, which have them all but three, and of replies made up for those three."""
         seen = set()
-        for name in ("refusals", "renames"):
+        for name in ("refusals", "batches", "undos", "sheets"):
             with open(f"{TOP}/examples/{name}.requests", "rb") as requests, open(f"{TOP}/examples/{name}.replies") as replies:
                 for request, line in zip(requests, replies):
                     reply = json.loads(line)
@@ -186,6 +187,128 @@ class Requests(InMemory):
         frame["quantity"] += 1
         goods.put(frame)
         self.assertEqual(list(goods.read()), [{**AXE, "quantity": 8}, {**SAW, "quantity": 5}])
+
+
+class Batches(InMemory):
+    def test_all_or_none(self):
+        stock = self.stock()
+        goods, _ = self.shop()
+        before = self.server.version()
+        change = self.server.batch([
+            ("albums", [], [{"album": "Mixed", "quantity": 8}]), (stock, [], [stocked("Lovesong", 5, "Mixed", 8)]), (goods, [], iter([AXE, SAW])), ("goods", [SAW], [])])
+        self.assertEqual((change.tables, change.version), (
+            {"albums": ([], [{"album": "Mixed", "quantity": 8}]), "goods": ([], [AXE]), "tracks": ([], [track("Lovesong", 1989, 5, "Mixed")])}, before + 1))
+        # the second edit is refused, since what the first one adds is there then
+        with self.assertRaisesRegex(Clash, '^edit 1, counted from 0, of stock: album decides quantity.*quantity 3.*quantity 4') as caught:
+            self.server.batch([("goods", [AXE], []), (stock, [], [stocked("Trust", 4, "Show", 4)]), (goods, [], [{"name": "axe"}])])
+        self.assertEqual((caught.exception.edit, caught.exception.request["view"]), (1, "stock"))
+        self.assertEqual((list(goods.read()), self.server.version()), ([AXE], before + 1))
+        self.assertFalse(self.server.batch([]))
+        self.assertFalse(self.server.batch([(goods, [AXE], []), (goods, [], [AXE])]))
+        self.assertEqual(str(self.server.undo()).splitlines(), ['- albums: album "Mixed", quantity 8', '- goods: name "axe", quantity 7', '- tracks: track "Lovesong", date 1989, rating 5, album "Mixed"'])
+
+    def test_what_is_refused(self):
+        goods, big = self.shop()
+        rows = goods.read()
+        for edits, kind, told in (
+            ([("goods", [], [AXE]), ("nowhere", [], [])], UnknownName, "edit 1, counted from 0, of nowhere: there is no table and no view 'nowhere'"),
+            ([("goods", [], [AXE, {"name": 7, "quantity": 1}])], BadRow, "edit 0, counted from 0, of goods: row 1 of 'add': 'name' is no column, or 7 is not of its kind"),
+            ([("goods", [], [AXE]), ("big", [AXE], [{**AXE, "quantity": 1}])], OffPredicate, 'edit 1, counted from 0, of big: the view does not show such a row: name "axe", quantity 1'),
+        ):
+            with self.assertRaises(kind) as caught:
+                self.server.batch(edits)
+            self.assertEqual(str(caught.exception), told)
+        with self.assertRaises(TypeError):
+            self.server.batch([("goods", [], AXE)])
+        # each edit rests on the version before the batch
+        change = self.server.batch([(goods, [], [AXE]), (big, [AXE], [SAW])], on=rows)
+        self.assertEqual((change.tables, list(goods.read())), ({"goods": ([], [SAW])}, [SAW]))
+        with self.assertRaisesRegex(Stale, "^edit 0, .* read them again$"):
+            self.server.batch([(goods, [], [AXE])], on=rows)
+
+    def test_undo(self):
+        goods, _ = self.shop()
+        with self.assertRaisesRegex(NothingToUndo, "no change is left to undo: .* the last 16 of them"):
+            self.server.undo()
+        for number in range(17):
+            goods.edit(add=[{"name": "axe", "quantity": number}])
+        goods.preview(add=[SAW])
+        self.server.define("view same = goods")
+        for number in range(16, 0, -1):
+            self.assertEqual(self.server.undo().tables, {"goods": ([{"name": "axe", "quantity": number}], [])})
+        with self.assertRaises(NothingToUndo):
+            self.server.undo()
+        self.assertEqual((list(goods.read()), self.server.version()), ([{"name": "axe", "quantity": 0}], 36))
+
+    def test_a_change_of_several_tables_is_edited_back_in_one_step(self):
+        stock = self.stock()
+        change = stock.edit(add=[stocked("Disco", 2, "Mixed", 9)])
+        version = self.server.version()
+        self.assertEqual(change.undo().version, version + 1)
+        with self.assertRaises(Stale):
+            change.undo()
+        self.assertEqual(self.server.version(), version + 1)
+
+
+class Sheets(InMemory):
+    """Rows as CSV."""
+
+    def test_there_and_back(self):
+        stock = self.stock()
+        sheet = stock.export_csv()
+        self.assertEqual(sheet, "album,quantity,rating,track\nParis,4,5,Lovesong\nShow,3,3,Lullaby\nWish,5,4,Trust\n")
+        self.assertEqual((sheet.version, sheet.session), (self.server.version(), self.server.session))
+        self.assertFalse(stock.import_csv(sheet, on=sheet))
+        change = stock.import_csv("\ufefftrack,album,rating,quantity\r\nLullaby,Show,4,3\r\n", on=sheet)
+        self.assertEqual([row["album"] for row in change.tables["tracks"][0]], ["Galore", "Paris", "Show", "Wish"])
+        self.assertEqual(list(stock.read()), [stocked("Lullaby", 4, "Show", 3)])
+        with self.assertRaises(Stale):
+            stock.import_csv(sheet, on=sheet)
+        self.server.undo()
+        self.assertEqual(stock.export_csv(), sheet)
+
+    def test_odd_values(self):
+        odd = self.server.define("table odd (t text, i int, f bool)")
+        odd.put([{"t": text, "i": number, "f": flag} for text, number, flag in (
+            ("", 0, True), ("\n", 1, False), ('"', -(2**63), True), ("a,b", 2**63 - 1, True), (" a ", 2, False), ("x\r\ny", 3, True), ("ß€𝄞", 4, True), ("\ufeff", 5, True))])
+        self.assertFalse(odd.import_csv(odd.export_csv()))
+
+    def test_what_is_refused(self):
+        albums = self.stock() and self.server["albums"]
+        for text, record, told in (
+            ("", 0, "the first record of the CSV is not the names of the columns, each once: album, quantity"), ("album\nShow\n", 0, "the first record"), ("album,quantity,album\n", 0, "the first record"),
+            ("album,quantity\nShow,3\n\nWish,x\n", 2, "line 4 of the CSV, its record 2: quantity wants a whole number of 64 bits, and not \"x\""),
+            ('album,quantity\r\n"a\r\nb",3\r\nWish\r\n', 2, "line 4 of the CSV, its record 2, has another number of fields than the header: 1 and 2"),
+            ("quantity,album\n+3,Show\n", 1, 'line 2 of the CSV, its record 1: quantity wants a whole number of 64 bits, and not "+3"'),
+            ("quantity,album\n9223372036854775808,Show\n", 1, "quantity wants"), ("quantity,album\n3,%s\n" % ("a" * 4097), 1, "album wants a text of at most 4,096 bytes"),
+            ("quantity,album\n%s,Show\n" % ("0" * 5000 + "x"), 1, "(5003 characters)"),
+        ):
+            with self.assertRaises(BadRecord) as caught:
+                albums.import_csv(text)
+            self.assertEqual(caught.exception.reply["record"], record, text)
+            self.assertIn(told, str(caught.exception))
+        with self.assertRaises(Clash):
+            albums.import_csv("album,quantity\nShow,3\nShow,4\n")
+        with self.assertRaises(OffPredicate):
+            self.server["stock"].import_csv("album,quantity,rating,track\nShow,2,3,Lullaby\n")
+        people = self.server.define(PEOPLE)
+        for ask in (people.export_csv, lambda: people.import_csv("")):
+            with self.assertRaisesRegex(NullableColumn, "the column 'age' may be null, for which CSV has no word"):
+                ask()
+
+    def test_records_as_the_program_has_them(self):
+        """Random texts, of which the program takes a record exactly where the client finds nothing wrong with it."""
+        odd = self.server.define("table odd (t text, i int, f bool)")
+        dice, pieces = random.Random(7), ["a", ",", '"', "\n", "\r", "0", "-", "7", "true", "1,true,x", "\n1,true,x\n", '"1","true","x"', " "]
+        for _ in range(300):
+            text = "i,f,t\n" + "".join(dice.choice(pieces) for _ in range(dice.randrange(9)))
+            wrong = next((place for place, (_, fields) in enumerate(cigrelk.records_of(text)) if place and not (len(fields) == 3 and all(map(cigrelk.is_field, fields, ("int", "bool", "text"))))), None)
+            try:
+                odd.import_csv(text)
+                found = None
+            except BadRecord as refusal:
+                found = refusal.reply["record"]
+            self.assertEqual(found, wrong, text)
 
 
 class Nulls(InMemory):

@@ -65,7 +65,7 @@ class Shell(Room):
             ("read goods were name=a", "where COLUMN=VALUE"), ("delete goods", "so that a slip"), ("change goods name=a", "the word set is missing"), ("preview list", "add, change or delete"),
             ("add goods name=a quantity=x", "a whole number"), ("add goods name=a quantity=1.5", "a whole number"), ("add goods name=a quantity=99999999999999999999", "a whole number"),
             ("add goods name=a quantity=9999999999999999999", "not of its kind"), ("add goods name=a number=1", "which has name, quantity"), ("shows goods2", "is no table"),
-            (f"review {paths['twice']}", "line 1 is no edit"), ("propose", "the name of a file"), ("undo", "has changed nothing"), ("save goods /nowhere/goods.csv", "No such file"),
+            (f"review {paths['twice']}", "line 1 is no edit"), ("propose", "the name of a file"), ("undo", "no change is left to undo"), ("save goods /nowhere/goods.csv", "No such file"),
         ]
         done = run("shell", text="table goods (name text, quantity int)\n" + "".join(f"{line}\n" for line, _ in lines) + "read goods\n")
         self.assertEqual((done.returncode, said(done.stderr)), (1, ""))
@@ -83,6 +83,40 @@ class Shell(Room):
             self.assertEqual(file.read(), 'name,quantity\r\n"an ""axe"",\nsharp",7\r\nnail,1\r\n')
         self.assertEqual(stat.S_IMODE(os.stat(store).st_mode), 0o600)
 
+    def in_turn(self, lines):
+        """Has the shell do lines, and looks in what it prints for what each is told, in order. Gives the status."""
+        done, at = run("shell", text="".join(f"{line}\n" for line, _ in lines)), 0
+        for line, told in lines:
+            at = done.stdout.find(told, at)
+            self.assertGreaterEqual(at, 0, f"{line}\n{done.stdout}")
+            at += len(told)
+        return done.returncode
+
+    def test_batches_and_undo(self):
+        table = ("table goods (name text, quantity int) with name -> quantity\nview big = select from goods where quantity > 2", "")
+        add = ("add goods name=axe quantity=7", "kept as edit 0\n")
+        self.assertEqual(self.in_turn([
+            table, ("batch", ""), add, ("change goods name=nothing set quantity=1", "kept as edit 1\n"), ("add big name=saw quantity=4", "kept as edit 2\n"), ("preview add big name=nail quantity=9", '+ goods: name "nail"'),
+            ("done", '+ goods: name "axe", quantity 7\n+ goods: name "saw", quantity 4\n'), ("goods", "(2 rows, version 3)\n"), ("batch", ""), add, ("drop", ""),
+            ("undo", '- goods: name "axe", quantity 7\n- goods: name "saw", quantity 4\n'), ("goods", "(0 rows, version 4)\n")]), 0)
+        for lines, told in (
+            ([("batch", ""), add, ("add big name=nail quantity=1", "kept as edit 1\n"), ("done", 'OffPredicate: edit 1, counted from 0, of big: the view does not show such a row: name "nail", quantity 1\n')], "(0 rows, version 2)"),
+            ([("batch", ""), ("add goods name=axe", "kept as edit 0\n"), ("add goods prize=9", "'prize=9' is no COLUMN=VALUE"), ("done", "Wrong: a line of this batch was refused, so nothing of it is done\n")], "(0 rows, version 2)"),
+            ([("done", "Wrong: there is no batch"), ("batch", ""), ("batch", "Wrong: a batch is under way"), ("drop", ""), ("drop", "Wrong: there is no batch"), ("undo", "NothingToUndo")], "(0 rows, version 2)"),
+            ([("batch", ""), add], "(0 rows, version 2)\nWrong: the batch was not done\n"),
+        ):
+            self.assertEqual(self.in_turn([table, *lines, ("goods", told)]), 1)
+
+    def test_a_file_that_is_exported_and_imported(self):
+        path, other = f"{self.room}/goods.csv", self.file("other.csv", "\ufeffquantity,name\r\n9,axe\r\n")
+        self.assertEqual(self.in_turn([
+            ("table goods (name text, quantity int) with name -> quantity", ""), ('add goods name="an axe" quantity=7', ""), (f"export goods {path}", ""), (f"import goods {path}", "no change\n"),
+            (f"import goods {other}", '- goods: name "an axe", quantity 7\n+ goods: name "axe", quantity 9\n'), ("undo", '+ goods: name "an axe", quantity 7'), (f"import goods {path}", "Stale"),
+            (f"export goods {path}", ""), (f"import goods {path}", "no change"), (f"import goods {self.file('wrong.csv', 'name,quantity' + chr(10) + 'axe,9.5')}", 'BadRecord: line 2 of the CSV, its record 1: quantity wants'),
+            ("import goods /nowhere.csv", "No such file"), ("table people (name text, boss text null)", ""), (f"export people {path}2", "NullableColumn: the column 'boss' may be null")]), 1)
+        with open(path, newline="") as file:
+            self.assertEqual((file.read(), os.path.exists(f"{path}2")), ("name,quantity\nan axe,7\n", False))
+
     def test_nulls(self):
         path = self.file("people.csv", 'name,boss,age\r\nann,null,null\r\ncy,"""""null""""",0\r\nbob,"""null""",7\r\n')
         lines = [
@@ -92,11 +126,7 @@ class Shell(Room):
             ("change people boss=null set boss=ann age=1", '+ people: name "ann", boss "ann", age 1'), ("undo", '+ people: name "ann", boss null, age null'), ("type people", "name text, boss text null, age int null"),
             ("delete people name=null", '- people: name "null", boss "ann", age null'), (f"save people {path}2", ""), (f"check people {path}2", "(0 faults)"),
         ]
-        done = run("shell", text="".join(f"{line}\n" for line, _ in lines))
-        at = 0
-        for line, told in lines:
-            at = done.stdout.find(told, at)
-            self.assertGreaterEqual(at, 0, f"{line}\n{done.stdout}")
+        self.in_turn(lines)
         with open(path, newline="") as one, open(f"{path}2", newline="") as other:
             self.assertEqual(one.read(), other.read())
 

@@ -233,13 +233,19 @@ class ToSql(unittest.TestCase):
         self.bridge([])
         self.are_same()
 
-    def test_renames_and_joins_by_the_side_from_which_they_delete(self):
-        for name in ("renames", "join_kinds"):
+    def run_examples(self, *names):
+        for name in names:
             with open(f"{TOP}/examples/{name}.requests") as requests, open(f"{TOP}/examples/{name}.replies") as replies:
                 self.assertEqual(self.bridge(requests.read().splitlines()), replies.read())
             self.are_same()
             os.remove(self.store)
             self.sql("SET client_min_messages = warning; DROP SCHEMA public CASCADE; CREATE SCHEMA public")
+
+    def test_renames_and_joins_by_the_side_from_which_they_delete(self):
+        self.run_examples("renames", "join_kinds")
+
+    def test_batches_undo_and_imports(self):
+        self.run_examples("batches", "undos", "sheets")
 
     def test_how_it_ends(self):
         self.bridge([{"do": "define", "text": "table k (a text, b int) with a -> b"}])
