@@ -5,7 +5,8 @@ In time: from 1,000, 10,000 and 25,000 rows on. Each line of the table has the m
 its own, those with the small and those with the large tables in turn, and the quotient of the two, with that of the least
 times in brackets. Where rustc is installed, two lines of each size are of bench/by_hand.rs, as a mark to compare with.
 
-In instructions: from 10,000 rows on, by valgrind's callgrind, which counts the line alone.
+In instructions: at 5,000, 10,000 and 100,000 rows, by valgrind's callgrind, which counts the line alone. Times is
+the last of these over the one before. Of what goes over a whole view the table has the instructions for each of its rows, too.
 
 Usage: bench/growth.py [PROGRAM [RUNS]]            (without the words, the program that ./serve builds, and 6 runs)
        bench/growth.py --instructions [PROGRAM]
@@ -23,7 +24,7 @@ from bench import TOP, TRACKS, Server, define, edit, find, must_begin, put, quan
 from instructions import instructions
 
 SIZES = (1_000, 10_000, 25_000)
-COUNTED = 10_000
+COUNTED = (5_000, 10_000, 100_000)
 TIMES = 10
 # How many rows one line of the filling adds.
 FILLING = 100_000
@@ -34,10 +35,11 @@ READ = b'{"do":"read","view":"stock"}\n'
 
 
 class Measured(NamedTuple):
-    """A line that is measured, and how its reply begins."""
+    """A line that is measured, how many rows of a view it goes over, if it does, and how its reply begins."""
 
     name: str
     line: bytes
+    rows: int
     start: bytes = CHANGED
 
 
@@ -72,7 +74,7 @@ def undated(count, name, order):
         "view undated = drop date determined by (track, 2018) from (select from tracks where rating > 0)",
     )
     line = put(with_last_changed(shown, '"album":"album', '"album":"other'), "undated")
-    return Case(begin + filling("tracks", rows), [Measured(name, line)])
+    return Case(begin + filling("tracks", rows), [Measured(name, line, len(shown))])
 
 
 def drop(count):
@@ -95,7 +97,7 @@ def drop_first(count):
     )
     line = put(with_last_changed(shown, '"rating":', '"rating":1'), "bare")
     name = "put through a drop of the first column, in the order of a read"
-    return Case(begin + filling("tracks", rows), [Measured(name, line)])
+    return Case(begin + filling("tracks", rows), [Measured(name, line, len(shown))])
 
 
 def nullable(count):
@@ -110,8 +112,8 @@ def nullable(count):
     )
     line = put(with_last_changed(shown, '"album":"album', '"album":"other'), "undated")
     return Case(begin + filling("tracks", rows), [
-        Measured("put through a drop of a nullable column over a selection, every other value null", line),
-        Measured("read of the rows without a value, by `is null`", b'{"do":"read","view":"lacking"}\n', SHOWN),
+        Measured("put through a drop of a nullable column over a selection, every other value null", line, len(shown)),
+        Measured("read of the rows without a value, by `is null`", b'{"do":"read","view":"lacking"}\n', len(rows[::2]), SHOWN),
     ])
 
 
@@ -120,9 +122,9 @@ def finds(count):
     case = join(count)
     last = f'"track{next(number for number in reversed(range(count)) if quantity(number // 10) > 2)}"'
     return Case(case.begin + [(edit("tracks", [], ['{"album":"album3","date":1,"rating":8,"track":"rare"}']), CHANGED)], [
-        Measured("find of one row by key in the table", find("tracks", "track", last), SHOWN),
-        Measured("find of one row by key in a selection over a drop over a join", find("stock", "track", last), SHOWN),
-        Measured("find of one row there by a column that determines nothing", find("stock", "rating", 8), SHOWN),
+        Measured("find of one row by key in the table", find("tracks", "track", last), 0, SHOWN),
+        Measured("find of one row by key in a selection over a drop over a join", find("stock", "track", last), 0, SHOWN),
+        Measured("find of one row there by a column that determines nothing", find("stock", "rating", 8), 0, SHOWN),
     ])
 
 
@@ -143,7 +145,7 @@ def join(count):
     changed = put(with_last_changed(stock, '"rating":3', '"rating":9'), "stock")
     return Case(
         begin + filling("tracks", tracks) + filling("albums", albums),
-        [Measured("read of a selection over a drop over a join", READ, SHOWN), Measured("put of that view", changed)],
+        [Measured("read of a selection over a drop over a join", READ, len(stock), SHOWN), Measured("put of that view", changed, len(stock))],
     )
 
 
@@ -168,7 +170,7 @@ def once(program, by_hand, count):
     """What each line takes in seconds, with its name."""
     lines = [line for make in CASES for line in seconds(program, make(count))]
     if by_hand:
-        lines += [(f"{name}, by hand", time) for make in (drop, drop_as_read) for name, time in seconds(by_hand, make(count))]
+        lines += [(f"{name}, by hand", time) for name, time in seconds(by_hand, join(count))]
     return lines
 
 
@@ -182,12 +184,12 @@ def times(program, by_hand, count, runs):
     return taken
 
 
-def built_by_hand(folder):
-    """The program of bench/by_hand.rs, or nothing where there is no rustc."""
+def built(name, folder):
+    """The program of bench/NAME.rs, or nothing where there is no rustc."""
     if not shutil.which("rustc"):
         return None
-    program = os.path.join(folder, "by_hand")
-    subprocess.run(["rustc", "-O", "-o", program, os.path.join(TOP, "bench", "by_hand.rs")], check=True)
+    program = os.path.join(folder, name)
+    subprocess.run(["rustc", "--edition", "2021", "-O", "-o", program, os.path.join(TOP, "bench", f"{name}.rs")], check=True)
     return program
 
 
@@ -212,12 +214,14 @@ def in_millions(count):
 
 
 def count_instructions(program):
-    print(f"| What, puts with one row changed | Instructions at {COUNTED:,} rows | At {COUNTED * TIMES:,} | Times |")
-    print("|---|---|---|---|")
+    sizes = [f"{rows:,} rows" for rows in COUNTED]
+    print(f"| What, puts with one row changed | Instructions at {' | '.join(sizes)} | Times | A row of the view at {' | '.join(sizes)} |")
+    print("|---" * (2 * len(COUNTED) + 2) + "|")
     for make in CASES:
-        small, large = make(COUNTED), make(COUNTED * TIMES)
-        for measured, few, many in zip(small.measured, counts(program, small), counts(program, large)):
-            print(f"| {measured.name} | {in_millions(few)} | {in_millions(many)} | {many / few:.1f} |", flush=True)
+        cases = [make(rows) for rows in COUNTED]
+        for lines, found in zip(zip(*(case.measured for case in cases)), zip(*(counts(program, case) for case in cases))):
+            of_rows = [f"{count / line.rows:,.0f}" if line.rows else "" for line, count in zip(lines, found)]
+            print(f"| {' | '.join([lines[0].name, *map(in_millions, found), f'{found[-1] / found[-2]:.1f}', *of_rows])} |", flush=True)
 
 
 def main():
@@ -231,7 +235,7 @@ def main():
         return
     runs = int(words[1]) if len(words) > 1 else 6
     with tempfile.TemporaryDirectory() as folder:
-        measure(program, built_by_hand(folder), runs)
+        measure(program, built("by_hand", folder), runs)
 
 
 if __name__ == "__main__":

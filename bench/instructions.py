@@ -1,7 +1,7 @@
 #!/usr/bin/env python3
 """Counts the instructions that edits and previews of a view over a join, and finds in it by key, cost at tables of several sizes.
 
-The tables are those of the stored run: albums, tracks (ten on each album) and stock. Each line of the table is the
+The tables are those of the stored run: albums, tracks (ten on each album, none on one) and stock. Each line of the table is the
 number of instructions of one edit, preview or find of one row, by valgrind's callgrind, which counts from the filled tables
 on: those of a run with many of them less those of a run with few, by the difference of the numbers. Where a line has
 more rows, it is one edit of so many.
@@ -30,6 +30,8 @@ DEFINITIONS = [
 # How many rows one line of the filling adds, and how many edits the shorter and the longer run make.
 FILLING = 100_000
 FEW, MANY = 20, 220
+# An album without tracks.
+EMPTY = "none"
 
 
 def line(request):
@@ -51,6 +53,7 @@ def filled(rows, definitions=DEFINITIONS):
             {"album": f"a{i % albums}", "date": 1980 + i % 40, "rating": 3, "track": f"t{i}"}
             for i in range(first, min(first + FILLING, rows))
         ]))
+    lines.append(edit("albums", [], [{"album": EMPTY, "quantity": 5}]))
     return lines
 
 
@@ -63,9 +66,24 @@ def rated(numbers, rows, do="edit"):
     return edit("stock", [shown(i, rows, 3) for i in numbers], [shown(i, rows, 4) for i in numbers], do)
 
 
+def added(i, rows, album):
+    """The preview of a new track on this album, by the view."""
+    return edit("stock", [], [{**shown(i, rows, 3), "album": album, "track": f"n{i}"}], "preview")
+
+
 def found(i):
     """The request that finds the row of the track of this number, by the view."""
     return line({"column": "track", "do": "find", "value": f"t{i}", "view": "stock"})
+
+
+# What is asked of one row, by what is told of it. Each is given the number of a track, and how many there are.
+OF_ONE_ROW = {
+    "one edit of one row": lambda i, rows: rated([i], rows),
+    "one preview of it": lambda i, rows: rated([i], rows, "preview"),
+    "one find of it by its key": lambda i, rows: found(i),
+    "one preview of a row added to an album with ten tracks": lambda i, rows: added(i, rows, "a7"),
+    "one preview of a row added to one with none": lambda i, rows: added(i, rows, EMPTY),
+}
 
 
 def instructions(program, begin, lines):
@@ -74,11 +92,11 @@ def instructions(program, begin, lines):
     run = subprocess.Popen(words, stdin=subprocess.PIPE, stdout=subprocess.PIPE, stderr=subprocess.PIPE, text=True, env=AS_SERVED)
     for line in begin:
         ask(run, line)
-    subprocess.run(["callgrind_control", "--instr=on", str(run.pid)], stdout=subprocess.DEVNULL, check=True)
+    subprocess.run(["callgrind_control", "--instr=on", str(run.pid)], capture_output=True, check=True)
     for line in lines:
         ask(run, line)
     # Before the end, where the program lets the tables go.
-    subprocess.run(["callgrind_control", "--instr=off", str(run.pid)], stdout=subprocess.DEVNULL, check=True)
+    subprocess.run(["callgrind_control", "--instr=off", str(run.pid)], capture_output=True, check=True)
     _, said = run.communicate()
     return int(re.search(r"Collected : (\d+)", said).group(1))
 
@@ -97,9 +115,9 @@ def each(program, begin, ask_for):
     return (runs[1] - runs[0]) // (MANY - FEW)
 
 
-def of_one_row(program, rows, do):
-    """The instructions of one edit, preview or find of one row."""
-    return each(program, filled(rows), found if do == "find" else lambda i: rated([i], rows, do))
+def of_one_row(program, rows, ask_for):
+    """The instructions of one line, of those of OF_ONE_ROW."""
+    return each(program, filled(rows), lambda i: ask_for(i, rows))
 
 
 def at_once(program, rows, number):
@@ -186,10 +204,10 @@ def main():
     if "--kinds" in sys.argv:
         by_kinds(program, sizes)
         return
-    print("| Tracks | one edit of one row | one preview of it | one find of it by its key | one edit of 1,000 rows |")
-    print("|---|---|---|---|---|")
+    print(f"| Tracks | {' | '.join(OF_ONE_ROW)} | one edit of 1,000 rows |")
+    print("|---" * (len(OF_ONE_ROW) + 2) + "|")
     for rows in sizes:
-        counts = [*(of_one_row(program, rows, do) for do in ("edit", "preview", "find")), at_once(program, rows, min(1_000, rows))]
+        counts = [*(of_one_row(program, rows, ask_for) for ask_for in OF_ONE_ROW.values()), at_once(program, rows, min(1_000, rows))]
         print(f"| {rows:,} | {' | '.join(f'{count:,}' for count in counts)} |", flush=True)
 
 
