@@ -13,7 +13,7 @@ use Rattle.base_index.specs.declared.index.Index.{Index}
 use Rattle.base_index.specs.declared.keyed.Keyed.{Keyed}
 use Rattle.base_index.proofs.Groups.{tied}
 
-inside : {A : Type 0} (xs : List A) (i : ℕ) (d e : A) → i < length xs → slice_index_or xs i d ≡ slice_index_or xs i e
+pub inside : {A : Type 0} (xs : List A) (i : ℕ) (d e : A) → i < length xs → slice_index_or xs i d ≡ slice_index_or xs i e
 inside [] i d e within = absurd (omega arith)
 inside (x ∷ xs) zero d e within = refl
 inside (x ∷ xs) (suc i) d e within = inside xs i d e (omega arith)

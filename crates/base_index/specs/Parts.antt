@@ -4,15 +4,18 @@ use Rattle.lens_values.specs.SortedSet as set
 use Rattle.lens_values.specs.declared.row.Row.{Row}
 use Rattle.lens_specs.specs.Relation.{Columns, Fits, Rows, has}
 use Rattle.base_index.specs.Lists.{AreKeyed, IsTableOf, SameCols, rows_of, set_of}
+use Rattle.base_index.specs.Marks.{HasMarks}
 use Rattle.base_index.specs.declared.body.Body.{Body}
 use Rattle.base_index.specs.declared.index.Index.{Index}
 use Rattle.base_index.specs.declared.keyed.Keyed.{Keyed}
+use Rattle.base_index.specs.declared.marks.Marks.{Marks}
 
 -- the fields, each as what it holds
 pub record Parts : Type 0 where
   pub columns : Columns
   pub rows : Rows
   pub hidden : Rows
+  pub marks : Marks
   pub indexes : List Index
   pub add : List Keyed
   pub added : ℕ
@@ -26,6 +29,7 @@ parts_of b = record {
   columns = b.columns;
   rows = b.rows;
   hidden = b.hidden;
+  marks = b.marks;
   indexes = b.indexes.items;
   add = b.add.items;
   added = b.added;
@@ -72,6 +76,7 @@ pub record IsWhole (p : Parts) : Type 0 where
   pub hidden_there : (row : Row) → has p.hidden row ≡ true → has p.rows row ≡ true
   pub hidden_old : (row : Row) → has p.hidden row ≡ true → has (to_come p) row ≡ false
   pub hidden_listed : (row : Row) → has p.hidden row ≡ true → has (rows_of p.remove) row ≡ true
+  pub hidden_marked : (row : Row) → has p.hidden row ≡ true → HasMarks p.marks p.indexes row
   pub going_there : (row : Row) → has (to_go p) row ≡ true → has p.rows row ≡ true
   pub going_old : (row : Row) → has (to_go p) row ≡ true → has (to_come p) row ≡ false
   pub going_hidden : p.held ≡ true → (row : Row) → has (to_go p) row ≡ true → has p.hidden row ≡ true

@@ -1,10 +1,10 @@
 //! New indexes of a table, filled by one walk along its rows.
 ghost use Rattle.std.specs.Prelude.{◌≡◌, ◌++◌, ◌+◌, ◌≤◌, [], length, take, IfOk, OnOk, OnErr};
-ghost use Rattle.base_index.specs.Lists.{IsTableOf, SameCols, cols_of, set_of};
+ghost use Rattle.base_index.specs.Lists.{AreKeyed, IsTableOf, SameCols, cols_of, rows_of, set_of};
 ghost use Rattle.base_index.specs.Need.{is_fresh, rows_walked, with_need, with_needs};
 
 use crate::index::{Index, has_index};
-use crate::keyed::{put_each, with_keys};
+use crate::keyed::{Keyed, put_each, with_keys};
 use crate::need::Need;
 use lens_values::{Name, NoMemory, Row};
 use row_sets::RowTree;
@@ -108,4 +108,29 @@ fn fill<L: Ledger>(
         put_each(alloc, indexes, &keyed)?;
     }
     Ok(())
+}
+
+/// Indexes of the listed rows by the same columns as these ones.
+pub fn indexes_of(alloc: Global, indexes: &[Index], list: &[Keyed]) -> Result<Vec<Index>, NoMemory>
+    requires { AreKeyed indexes.now list.now }
+    ensures table { IfOk result (λ made. IsTableOf (rows_of list.now) made.items) }
+    ensures cols { IfOk result (λ made. SameCols indexes.now made.items) }
+{
+    let mut made = empty_indexes(alloc, indexes)?;
+    for keyed in list {
+        put_each(alloc, &mut made, keyed)?;
+    }
+    Ok(made)
+}
+
+// Indexes of no row by the same columns as these ones.
+fn empty_indexes(alloc: Global, indexes: &[Index]) -> Result<Vec<Index>, NoMemory>
+    ensures table { IfOk result (λ made. IsTableOf (rows_of []) made.items) }
+    ensures cols { IfOk result (λ made. SameCols indexes.now made.items) }
+{
+    let mut made = Vec::with_capacity(alloc, indexes.len())?;
+    for index in indexes {
+        made.push(Index::new(alloc, index.cols.copy(alloc)?))?;
+    }
+    Ok(made)
 }

@@ -102,7 +102,7 @@ pub fn find_by(
     alloc: Global,
     indexes: &[Index],
     cols: &Names,
-    key: &Row,
+    key: &Key,
 ) -> Result<RowSet, NoMemory>
     requires { IsTrue (has_cols (cols_of indexes.now) cols.now) }
     ensures { IfOk result (λ found. (rows : _) → IsTableOf rows indexes.now
@@ -110,7 +110,7 @@ pub fn find_by(
 {
     for index in indexes {
         if index.is_by(cols) {
-            return index.find(alloc, &Key::of(key.copy(alloc)?));
+            return index.find(alloc, key);
         }
     }
     unreachable!()

@@ -49,6 +49,13 @@ impl Key {
         }
     }
 
+    /// The hash of its values.
+    pub fn hash(&self) -> u64
+        ensures { result ≡ hash_row self.now }
+    {
+        self.hash
+    }
+
     /// An equal key.
     pub fn copy(&self, alloc: Global) -> Result<Key, NoMemory>
         ensures { IfOk result (λ copy. copy ≡ self.now) }

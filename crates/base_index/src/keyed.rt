@@ -2,19 +2,37 @@
 ghost use Rattle.std.specs.Prelude.{◌≡◌, ◌≤◌, false, IfOk, OnOk, OnErr, length, take, drop};
 ghost use Rattle.lens_values.specs.SortedSet as set;
 ghost use Rattle.base_index.specs.Lists.{AreKeyed, HasKeys, IsListed, IsMixed, IsTableOf, SameCols};
-ghost use Rattle.base_index.specs.Lists.{rows_of};
+ghost use Rattle.base_index.specs.Lists.{rows_of, set_of};
+ghost use Rattle.base_index.specs.Marks.{AreMarked, StayMarked};
 
 use crate::index::Index;
 use crate::key::Key;
+use crate::marks::Marks;
 use lens_values::{NoMemory, Row};
 use row_sets::{RowSet, RowTree};
 use std::alloc::Global;
+
+// For how many rows an empty list may keep room.
+const MOST_ROOM: usize = 1_024;
 
 /// A row and its key in each index.
 #[derive(Drop)]
 pub struct Keyed {
     pub(crate) row: Row,
     keys: Vec<Key>,
+}
+
+impl Keyed {
+    /// Marks the row's keys. After `NoMemory` some of them are marked.
+    pub fn mark(&self, marks: &mut Marks) -> Result<(), NoMemory>
+        ensures ok { OnOk result (AreMarked marks.new self.now.keys.items) }
+        ensures stay { StayMarked marks.old marks.new }
+    {
+        for key in &self.keys {
+            marks.add(key.hash())?;
+        }
+        Ok(())
+    }
 }
 
 /// A row with its keys.
@@ -30,6 +48,18 @@ pub fn with_keys(alloc: Global, indexes: &[Index], row: &Row) -> Result<Keyed, N
         row: row.copy(alloc)?,
         keys,
     })
+}
+
+/// Rows with their keys, each of them listed.
+pub fn all_with_keys(alloc: Global, indexes: &[Index], rows: &[Row]) -> Result<Vec<Keyed>, NoMemory>
+    ensures rows { IfOk result (λ list. rows_of list.items ≡ set_of rows.now) }
+    ensures keys { IfOk result (λ list. AreKeyed indexes.now list.items) }
+{
+    let mut list = Vec::with_capacity(alloc, rows.len())?;
+    for row in rows {
+        list.push(with_keys(alloc, indexes, row)?)?;
+    }
+    Ok(list)
 }
 
 /// Puts a row into each index. A fault leaves it in some of them.
@@ -141,6 +171,15 @@ pub fn add_row(
     }
     added.push_reserved(keyed);
     Ok(())
+}
+
+/// Lets the room of an empty list go, where it is for many rows. It takes no memory.
+pub fn shrink(alloc: Global, list: &mut Vec<Keyed>)
+    ensures { list.new.items ≡ list.old.items }
+{
+    if list.is_empty() && list.capacity() > MOST_ROOM {
+        *list = Vec::new(alloc);
+    }
 }
 
 /// Whether the row is listed.

@@ -27,11 +27,11 @@ pub fn named<'a>(tables: &'a [Table], name: &Name) -> Option<&'a Table>
 }
 
 /// Makes present what is staged in any of them. It takes no memory.
-pub fn settle_each(tables: &mut Vec<Table>)
+pub fn settle_each(alloc: Global, tables: &mut Vec<Table>)
     ensures { tables.new.items ≡ map settled tables.old.items }
 {
     for table in tables.as_mut_slice() {
-        table.settle();
+        table.settle(alloc);
     }
 }
 

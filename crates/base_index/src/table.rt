@@ -9,7 +9,7 @@ ghost use Rattle.base_index.specs.Need.{has_cols, rows_walked, with_needs};
 ghost use Rattle.base_index.specs.Stored.{IsQuiet, new_table, settled, shown_of, unstaged};
 
 use crate::body::Body;
-use crate::index::{find_by, has_index};
+use crate::index::has_index;
 use crate::need::Need;
 use lens_values::{Columns, Name, Names, NoMemory, Row};
 use row_sets::RowSet;
@@ -106,23 +106,21 @@ impl Table {
         ensures { IfOk result (λ found.
             found ≡ set.filter (agree cols.now key.now) self.now.rows) }
     {
-        let found = find_by(alloc, &self.body.indexes, cols, key)?;
-        self.body.seen_of(alloc, found)
+        self.body.find(alloc, cols, key)
     }
 
     /// All rows that readers see.
     pub fn all_rows(&self, alloc: Global) -> Result<RowSet, NoMemory>
         ensures { IfOk result (λ rows. rows ≡ self.now.rows) }
     {
-        let rows = self.body.rows.rows(alloc)?;
-        self.body.seen_of(alloc, rows)
+        self.body.all_rows(alloc)
     }
 
     /// Makes what is staged present. It takes no memory.
-    pub fn settle(&mut self)
+    pub fn settle(&mut self, alloc: Global)
         ensures { self.new ≡ settled self.old }
     {
-        self.body.settle();
+        self.body.settle(alloc);
         self.count = self.body.count();
         self.shown = self.body.indexes.len();
     }

@@ -114,7 +114,7 @@ impl Tables {
     pub fn settle(&mut self)
         ensures { self.new ≡ record self.old { present = self.old.next } }
     {
-        settle_each(&mut self.tables);
+        settle_each(self.alloc, &mut self.tables);
         self.shown = self.tables.len();
     }
 

@@ -1,61 +1,37 @@
--- The data that a tree over borrowed text stands for: what serde_json reads of the same text.
-use Rattle.std.specs.Prelude.{ℕ, List, Some, None, Bool, true, false, ◌&&◌, is_some}
+-- The data that a value over borrowed text stands for: what serde_json reads of the same text.
+use Rattle.std.specs.Prelude.{ℕ, List, [], ◌∷◌, map}
 use Rattle.std.specs.Borrow.{Bor}
-use Rattle.std.specs.Float.{inf}
-use Rattle.json.specs.Json as json
-use Rattle.json.specs.Value.{value_view, items_view, members_view}
-use Rattle.json.specs.declared.value.Value.{Value}
-use Rattle.serde_json.specs.Data.{Data, float, null, boolean, number, string, array, object, Items, no_items, item, Members, no_members, put}
-use Rattle.serde_json.specs.Read.{number_of}
+use Rattle.serde_json.specs.Data.{Data, null, boolean, number, string, array, object, Items, Members, no_members, put}
+use Rattle.serde_json.specs.View.{items_of, number_view}
+use Rattle.borrowed_json.specs.declared.value.Value.{Value, fold-Value}
+use Rattle.borrowed_json.specs.declared.value.Value.TheOpen.{Value-F}
 
--- the data of a number's text; a number that is refused, since it is too large, is infinity
-abbrev pub number_data : List ℕ → Data
-number_data text = elim (number_of text) [ None ↦ number (float (inf false)) | Some n ↦ number n ]
+-- the members put in one after another, so that the last value of a name stays
+abbrev pub members_onto : List (Bor (List ℕ) × Data) → Members → Members
+members_onto [] found = found
+members_onto (m ∷ ms) found = members_onto ms (put m.0.now m.1 found)
 
--- the data of a tree; the members of an object go in one after another, so that the last value of a name stays
-abbrev mutual
-  pub data_of : json.Json → Data
-  data_of json.null = null
-  data_of (json.boolean b) = boolean b
-  data_of (json.number text) = number_data text
-  data_of (json.string text) = string text
-  data_of (json.array js) = array (items_of js)
-  data_of (json.object ms) = object (members_onto ms no_members)
-
-  pub items_of : json.Items → Items
-  items_of json.no_items = no_items
-  items_of (json.item j js) = item (data_of j) (items_of js)
-
-  pub members_onto : json.Members → Members → Members
-  members_onto json.no_members found = found
-  members_onto (json.member name j ms) found = members_onto ms (put name (data_of j) found)
+-- one level, with each value inside already seen as its data
+abbrev pub data_step : Value-F Data → Data
+data_step Value-F.Null = null
+data_step (Value-F.Bool b) = boolean b
+data_step (Value-F.Number n) = number (number_view n)
+data_step (Value-F.String s) = string s.now
+data_step (Value-F.Array v) = array (items_of v.items)
+data_step (Value-F.Object v) = object (members_onto v.items no_members)
 
 -- the data of a value
-abbrev pub value_data : {A : Type 0} → Value A → Data
-value_data v = data_of (value_view v)
+abbrev pub value_data : Value → Data
+value_data = fold-Value Data data_step
 
 -- the data of an array's items
-abbrev pub items_data : {A : Type 0} → List (Value A) → Items
-items_data vs = items_of (items_view vs)
+abbrev pub items_data : List Value → Items
+items_data vs = items_of (map value_data vs)
+
+-- the members with their data, in the order in which they were sent
+abbrev pub sent_data : List (Bor (List ℕ) × Value) → List (Bor (List ℕ) × Data)
+sent_data ms = map (λ m. (m.0, value_data m.1)) ms
 
 -- the data of an object's members, in byte order of their names
-abbrev pub members_data : {A : Type 0} → List (Bor (List ℕ) × Value A) → Members
-members_data ms = members_onto (members_view ms) no_members
-
--- whether each number is one that is not refused
-abbrev mutual
-  pub is_right : json.Json → Bool
-  is_right json.null = true
-  is_right (json.boolean b) = true
-  is_right (json.number text) = is_some (number_of text)
-  is_right (json.string text) = true
-  is_right (json.array js) = are_right js
-  is_right (json.object ms) = members_right ms
-
-  pub are_right : json.Items → Bool
-  are_right json.no_items = true
-  are_right (json.item j js) = is_right j && are_right js
-
-  pub members_right : json.Members → Bool
-  members_right json.no_members = true
-  members_right (json.member name j ms) = is_right j && members_right ms
+abbrev pub members_data : List (Bor (List ℕ) × Value) → Members
+members_data ms = members_onto (sent_data ms) no_members

@@ -1,13 +1,11 @@
 //! The members of an object, by their names.
 ghost use Rattle.std.specs.Prelude.{◌≡◌, ◌<◌, ℕ, List, None, Some, MatchOption, length, option_map, slice_index_or};
+ghost use Rattle.std.specs.Str.{bytes_eq};
 ghost use Rattle.serde_json.specs.Find.{get_member};
 ghost use Rattle.borrowed_json.specs.Meaning.{value_data, members_data};
 ghost use Rattle.borrowed_json.specs.Places.{IsLast};
 
-use json::Value;
-
-/// A member of an object: its name and its value.
-pub type Entry<'a> = (&'a str, Value<'a>);
+use crate::value::{Entry, Value};
 
 /// The member of this name: the last, where several have it.
 pub fn member<'v, 'a>(members: &'v [Entry<'a>], name: &str) -> Option<&'v Value<'a>>
@@ -38,9 +36,16 @@ fn place_of(members: &[Entry<'_>], name: &str) -> Option<usize>
     let mut left = members.len();
     while left > 0 {
         left -= 1;
-        if members[left].0 == name {
+        if is_named(&members[left], name) {
             return Some(left);
         }
     }
     None
+}
+
+// Whether the member has the name. Most others have a name of another length.
+fn is_named(member: &Entry<'_>, name: &str) -> bool
+    ensures { result ≡ bytes_eq member.now.0.now name.now }
+{
+    member.0.len() == name.len() && member.0 == name
 }

@@ -1,12 +1,15 @@
 //! Lines read as JSON.
-ghost use Rattle.std.specs.Prelude.{◌≡◌, None, IfOk, option_map, if◌then◌else◌};
+ghost use Rattle.std.specs.Prelude.{◌≡◌, ◌<◌, Err, None, Some, IfOk, OnOk, MatchResult, if◌then◌else◌, length, option_map};
 ghost use Rattle.std.specs.Str.{is_utf8};
-ghost use Rattle.json.specs.Value.{value_view};
-ghost use Rattle.serde_json.specs.Read.{read};
-ghost use Rattle.borrowed_json.specs.Meaning.{value_data, is_right as is_right_of};
+ghost use Rattle.json.specs.Json.{items, members, value};
+ghost use Rattle.serde_json.specs.Data.{no_members};
+ghost use Rattle.serde_json.specs.Read.{converted, of_items, of_json, of_members, read};
+ghost use Rattle.borrowed_json.specs.Meaning.{value_data, items_data, members_data};
 
+use crate::fault::Fault;
 use crate::numbers::number_in;
-use json::{Error, Reader, Scratch, Value};
+use crate::value::{Entry, Value};
+use json::{Reader, Scratch, Token};
 use no_memory::NoMemory;
 use std::alloc::Global;
 
@@ -39,39 +42,105 @@ fn read_text<'a>(
     ensures { IfOk result (λ found. option_map value_data found ≡ read text.now) }
 {
     let mut reader = Reader::new(text, scratch)?;
-    let value = match Value::read(alloc, &mut reader, MAX_DEPTH) {
-        Ok(value) => value,
-        Err(Error::OutOfMemory) => return Err(NoMemory),
-        Err(_) => return Ok(None),
-    };
-    if reader.next().is_some() || !is_right(&value) {
-        return Ok(None);
+    match read_value(alloc, &mut reader, MAX_DEPTH) {
+        Ok(_) if reader.next().is_some() => Ok(None),
+        Ok(value) => Ok(Some(value)),
+        Err(Fault::NotJson) => Ok(None),
+        Err(Fault::NoMemory) => Err(NoMemory),
     }
-    Ok(Some(value))
 }
 
-// Whether each number is one that is not refused.
-fn is_right(value: &Value<'_>) -> bool
-    ensures { result ≡ is_right_of (value_view value.now) }
+// The next value. Arrays and objects may nest so deep in it.
+#[cycle(reading)]
+#[inline(always)]
+fn read_value<'a>(alloc: Global, reader: &mut Reader<'a>, depth: usize) -> Result<Value<'a>, Fault>
+    ensures ok { IfOk result (λ found.
+        converted of_json (value depth reader.old) ≡ Some (value_data found, reader.new)) }
+    ensures shorter { OnOk result (length reader.new < length reader.old) }
+    ensures err { result ≡ Err Fault.NotJson → converted of_json (value depth reader.old) ≡ None }
 {
-    match value {
-        Value::Null | Value::Bool(_) | Value::String(_) => true,
-        Value::Number(text) => number_in(text).is_some(),
-        Value::Array(items) => {
-            for item in items {
-                if !is_right(item) {
-                    return false;
-                }
+    let token = reader.next().ok_or(Fault::NotJson)?;
+    match token {
+        Token::Null => Ok(Value::Null),
+        Token::Bool(flag) => Ok(Value::Bool(flag)),
+        Token::Number(text) => match number_in(text) {
+            Some(number) => Ok(Value::Number(number)),
+            None => Err(Fault::NotJson),
+        },
+        Token::String(text) => Ok(Value::String(text)),
+        Token::BeginArray => {
+            if depth == 0 {
+                return Err(Fault::NotJson);
             }
-            true
+            Ok(Value::Array(read_items(alloc, reader, depth - 1)?))
         }
-        Value::Object(members) => {
-            for member in members {
-                if !is_right(&member.1) {
-                    return false;
-                }
+        Token::BeginObject => {
+            if depth == 0 {
+                return Err(Fault::NotJson);
             }
-            true
+            Ok(Value::Object(read_members(alloc, reader, depth - 1)?))
         }
+        Token::EndArray | Token::EndObject | Token::Key(_) | Token::Bad => Err(Fault::NotJson),
     }
+}
+
+// The values of an array, behind its bracket.
+#[cycle(reading)]
+#[inline(never)]
+fn read_items<'a>(
+    alloc: Global,
+    reader: &mut Reader<'a>,
+    depth: usize,
+) -> Result<Vec<Value<'a>>, Fault>
+    ensures ok { IfOk result (λ list.
+        converted of_items (items (value depth) (length reader.old) reader.old)
+        ≡ Some (items_data list.items, reader.new)) }
+    ensures shorter { OnOk result (length reader.new < length reader.old) }
+    ensures err { result ≡ Err Fault.NotJson
+        → converted of_items (items (value depth) (length reader.old) reader.old) ≡ None }
+{
+    let mut list = Vec::new(alloc);
+    'items: while !reader.take_end_array() {
+        let item = read_value(alloc, reader, depth)?;
+        list.push(item)?;
+    }
+    Ok(fitted(alloc, list)?)
+}
+
+// The members of an object, behind its brace.
+#[cycle(reading)]
+#[inline(never)]
+fn read_members<'a>(
+    alloc: Global,
+    reader: &mut Reader<'a>,
+    depth: usize,
+) -> Result<Vec<Entry<'a>>, Fault>
+    ensures ok { IfOk result (λ list.
+        converted (λ ms. of_members ms no_members)
+        (members (value depth) (length reader.old) reader.old)
+        ≡ Some (members_data list.items, reader.new)) }
+    ensures shorter { OnOk result (length reader.new < length reader.old) }
+    ensures err { result ≡ Err Fault.NotJson
+        → converted (λ ms. of_members ms no_members)
+        (members (value depth) (length reader.old) reader.old) ≡ None }
+{
+    let mut list = Vec::new(alloc);
+    'members: while let Some(name) = reader.next_key()? {
+        let member = read_value(alloc, reader, depth)?;
+        list.push((name, member))?;
+    }
+    Ok(fitted(alloc, list)?)
+}
+
+// The list, in no more memory than it needs where it has one element: else lists of one in one
+// another would take three times as much.
+fn fitted<T: Drop>(alloc: Global, mut list: Vec<T>) -> Result<Vec<T>, NoMemory>
+    ensures { IfOk result (λ fitted. fitted.items ≡ list.items) }
+{
+    if list.len() != 1 {
+        return Ok(list);
+    }
+    let mut one = Vec::with_capacity(alloc, 1)?;
+    one.append(&mut list)?;
+    Ok(one)
 }

@@ -37,3 +37,14 @@ pub one_of : {A : Type 0} (xs : List A) (x : A) → 1 ≤ length xs → length x
 one_of [] x some few is = absurd (omega arith)
 one_of (y ∷ []) x some few is = ap (λ z. z ∷ []) (sym is)
 one_of (y ∷ z ∷ zs) x some few is = absurd (omega arith)
+
+-- one difference after another, with nothing after them
+pub two_lead : (ds es : List TableDelta) (a c : Tables) → Chain (ds ∷ es ∷ []) a c → LeadTo (composed ds es) a c
+two_lead ds es a c chain = composed_lead ds es a chain.0 c chain.1 (subst (LeadTo es chain.0) chain.2.2 chain.2.1)
+
+-- a list of two is these two
+pub two_of : {A : Type 0} (xs : List A) (x y : A) → 2 ≤ length xs → length xs < 3 → x ≡ slice_index_or xs 0 x → y ≡ slice_index_or xs 1 y → xs ≡ x ∷ y ∷ []
+two_of [] x y some few is next = absurd (omega arith)
+two_of (z ∷ []) x y some few is next = absurd (omega arith)
+two_of (z ∷ w ∷ []) x y some few is next = λ i. sym is i ∷ sym next i ∷ []
+two_of (z ∷ w ∷ v ∷ xs) x y some few is next = absurd (omega arith)

@@ -1,6 +1,7 @@
 -- Lists of differences, one after another.
 use Rattle.std.specs.Prelude.{◌≡◌, List, [], ◌∷◌}
-use Rattle.lens_specs.specs.Delta.{TableDelta}
+use Rattle.lens_values.specs.SortedSet as set
+use Rattle.lens_specs.specs.Delta.{Delta, TableDelta}
 use Rattle.lens_specs.specs.Lens.{Tables}
 use Rattle.lens_specs.specs.TableDeltas.{LeadTo}
 
@@ -8,3 +9,7 @@ use Rattle.lens_specs.specs.TableDeltas.{LeadTo}
 abbrev pub Chain : List (List TableDelta) → Tables → Tables → Type 0
 Chain [] old new = old ≡ new
 Chain (cs ∷ others) old new = (mid : Tables) × LeadTo cs old mid × Chain others mid new
+
+-- the difference that neither removes nor adds a row
+abbrev pub no_change : Delta
+no_change = record { remove = set.empty; add = set.empty }

@@ -1,12 +1,13 @@
 //! What two differences of tables do, the one after the other.
-ghost use Rattle.std.specs.Prelude.{◌≡◌, ◌++◌, IfOk, map};
+ghost use Rattle.std.specs.Prelude.{◌≡◌, ◌++◌, IfOk, map, option_copied, unwrap_or};
 ghost use Rattle.lens_values.specs.SortedSet as set;
 ghost use Rattle.lens_laws.specs.Edits.{delta_for};
-ghost use Rattle.signed_delta.specs.Disjoint.{AreApart};
 ghost use Rattle.signed_delta.specs.Tables.{table_delta};
 ghost use Rattle.lens_specs.specs.TableDeltas.{AreDeltas, compose_delta, composed};
 ghost use Rattle.lens_specs.specs.TableDeltas.{names_of_both};
+ghost use Rattle.edit_batches.specs.Chains.{no_change};
 
+use crate::uniting::{joined, meet};
 use lens_values::{Name, Names, NoMemory};
 use row_sets::RowSet;
 use signed_delta::{Delta, TableDelta};
@@ -68,34 +69,51 @@ fn composed_of(
     ensures { IfOk result (λ both. both ≡ compose_delta (delta_for name.now (map table_delta first.now))
         (delta_for name.now (map table_delta second.now))) }
 {
-    let before = delta_of(alloc, name, first)?;
-    let later = delta_of(alloc, name, second)?;
-    compose_pair(alloc, &before, &later)
+    match (delta_of(name, first), delta_of(name, second)) {
+        (Some(before), Some(later)) => compose_pair(alloc, before, later),
+        (Some(before), None) => before.copy(alloc),
+        (None, Some(later)) => later.copy(alloc),
+        (None, None) => Ok(Delta::new(RowSet::empty(alloc), RowSet::empty(alloc))),
+    }
 }
 
-// The difference of the table in the list, without a row where it is not there.
-fn delta_of(alloc: Global, name: &Name, list: &[TableDelta]) -> Result<Delta, NoMemory>
-    ensures is { IfOk result (λ delta. delta ≡ delta_for name.now (map table_delta list.now)) }
-    ensures apart { IfOk result (λ delta. AreApart delta.remove delta.add) }
+// The difference of the table in the list, if it is there.
+fn delta_of<'a>(name: &Name, list: &'a [TableDelta]) -> Option<&'a Delta>
+    ensures { unwrap_or (option_copied result) no_change
+        ≡ delta_for name.now (map table_delta list.now) }
 {
     for change in list {
         if change.table == *name {
-            return change.delta.copy(alloc);
+            return Some(&change.delta);
         }
     }
-    Ok(Delta::new(RowSet::empty(alloc), RowSet::empty(alloc)))
+    None
 }
 
 // What two differences of one table do, the one after the other.
 fn compose_pair(alloc: Global, before: &Delta, later: &Delta) -> Result<Delta, NoMemory>
-    requires before { AreApart before.now.remove before.now.add }
-    requires later { AreApart later.now.remove later.now.add }
     ensures { IfOk result (λ both. both ≡ compose_delta before.now later.now) }
 {
-    let gone = before.remove().minus(alloc, later.add())?;
-    let gone_later = later.remove().minus(alloc, before.add())?;
-    let come = before.add().minus(alloc, later.remove())?;
-    let come_later = later.add().minus(alloc, before.remove())?;
+    let (removed, added) = before.sides();
+    let (removed_later, added_later) = later.sides();
+    if meet(removed, added_later) || meet(added, removed_later) {
+        return compose_meeting(alloc, before, later);
+    }
+    let gone = joined(alloc, removed, removed_later)?;
+    let come = joined(alloc, added, added_later)?;
+    Ok(Delta::new(gone, come))
+}
+
+// The same, where the later one may take back some of what the one before does.
+fn compose_meeting(alloc: Global, before: &Delta, later: &Delta) -> Result<Delta, NoMemory>
+    ensures { IfOk result (λ both. both ≡ compose_delta before.now later.now) }
+{
+    let (removed, added) = before.sides();
+    let (removed_later, added_later) = later.sides();
+    let gone = removed.minus(alloc, added_later)?;
+    let gone_later = removed_later.minus(alloc, added)?;
+    let come = added.minus(alloc, removed_later)?;
+    let come_later = added_later.minus(alloc, removed)?;
     let remove = gone.union(alloc, &gone_later)?;
     let add = come.union(alloc, &come_later)?;
     Ok(Delta::new(remove, add))

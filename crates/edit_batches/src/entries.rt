@@ -65,6 +65,7 @@ pub fn compose_all(alloc: Global, entries: &[Entry]) -> Result<Vec<TableDelta>, 
     match entries {
         [] => Ok(Vec::new(alloc)),
         [one] => compose(alloc, one.deltas.as_slice(), &[]),
+        [one, next] => compose(alloc, one.deltas.as_slice(), next.deltas.as_slice()),
         _ => {
             let (front, back) = entries.split_at(entries.len() / 2);
             let first = compose_all(alloc, front)?;

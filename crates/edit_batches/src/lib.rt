@@ -5,6 +5,7 @@ pub mod composing;
 pub mod entries;
 pub mod history;
 pub mod laws;
+mod uniting;
 
 pub use composing::compose;
 pub use entries::{Deltas, Entry, compose_all, inverted};

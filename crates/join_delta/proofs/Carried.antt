@@ -30,7 +30,7 @@ use Rattle.signed_delta.proofs.Differences.{sides_apart}
 use Rattle.revision.proofs.Runs.{revised_fit}
 use Rattle.join_delta.proofs.Keyed.{decided_keyed}
 use Rattle.join_delta.proofs.NoRows.{minus_none}
-use Rattle.join_delta.specs.Joined.{AreJoined, AreKeyed, CanBeJoined, edited, edited_left, edited_right, joined, shared_names}
+use Rattle.join_delta.specs.Joined.{AreJoined, AreKeyed, CanBeJoined, CanEdit, edited, joined, shared_names}
 
 -- the sides of a difference have no row in common
 pub apart : (M N remove add : Rows) → ◌≡◌ {A = Delta} (record { remove = remove; add = add }) (diff M N) → AreApart remove add
@@ -64,9 +64,32 @@ tested A B F G d = union
     (minus (suspects (shared_names A.columns B.columns) (names A.columns) A.rows d (join_delta_right (names B.columns) G B.rows d).add) (merge_delta F A.rows (project (names A.columns) d.add)).remove)
     (minus (merge_delta F A.rows (project (names A.columns) d.add)).add (project (names A.columns) d.add))
 
-module _ (A B : Relation) (F G : List Edge) (d : Delta) (can : CanBeJoined A.columns B.columns F G) (fit_left : IsRelation A) (fit_right : IsRelation B)
-    (tree_left : IsTree F) (tree_right : IsTree G)
-    (left_meets : MeetsTree A.rows F) (right_meets : MeetsTree B.rows G) (applies : Applies d (joined A B)) (view : AreJoined A.columns B.columns F G (edited A B d)) where
+-- two sources of a join with their trees, and an edit of it
+pub record IsJoinEdit (A B : Relation) (F G : List Edge) (d : Delta) : Type 0 where
+  pub can : CanBeJoined A.columns B.columns F G
+  pub fit_left : IsRelation A
+  pub fit_right : IsRelation B
+  pub tree_left : IsTree F
+  pub tree_right : IsTree G
+  pub left_meets : MeetsTree A.rows F
+  pub right_meets : MeetsTree B.rows G
+  pub applies : Applies d (joined A B)
+  pub view : AreJoined A.columns B.columns F G (edited A B d)
+
+pub join_edit : {K L : List Names} {A B : Relation} {F G : List Edge} {d : Delta} → CanEdit K L A B F G d → IsRelation A → IsRelation B → IsTree F → IsTree G → IsJoinEdit A B F G d
+join_edit p fit_left fit_right tree_left tree_right = record {
+  can = p.can;
+  fit_left = fit_left;
+  fit_right = fit_right;
+  tree_left = tree_left;
+  tree_right = tree_right;
+  left_meets = p.left_meets;
+  right_meets = p.right_meets;
+  applies = p.applies;
+  view = p.view;
+}
+
+module _ {A B : Relation} {F G : List Edge} {d : Delta} (q : IsJoinEdit A B F G d) where
   abbrev U : Names
   U = names A.columns
 
@@ -82,30 +105,37 @@ module _ (A B : Relation) (F G : List Edge) (d : Delta) (can : CanBeJoined A.col
   abbrev t : Shape
   t = record { columns = B.columns; holds = λ _. true; tree = G }
 
+  -- both sources after the merge
+  abbrev pub merged_left : Rows
+  merged_left = join_left (names A.columns) F (edited A B d) A.rows
+
+  abbrev pub merged_right : Rows
+  merged_right = join_right (names B.columns) G (edited A B d) B.rows
+
   pub passes : CanJoin s t (F ++ G)
   passes = record {
-    kinds = can.kinds;
-    tree_left = tree_left;
-    tree_right = tree_right;
-    within_left = can.within_left;
-    within_right = can.within_right;
+    kinds = q.can.kinds;
+    tree_left = q.tree_left;
+    tree_right = q.tree_right;
+    within_left = q.can.within_left;
+    within_right = q.can.within_right;
     sees_left = λ a b h. refl;
     sees_right = λ a b h. refl;
     keeps_left = λ M L h k r i. refl;
     keeps_right = λ M L h k r i. refl;
     splits = λ O h. append_parts (λ e. Meets O e.left e.right) F G h;
     joins = λ O f g. all_append (λ e. Meets O e.left e.right) F G f g;
-    decides = λ N m. implies_sound S V _ G N (closure_is S G) can.decides m;
+    decides = λ N m. implies_sound S V _ G N (closure_is S G) q.can.decides m;
   }
 
   pub of_left : IsIn A.rows s
-  of_left = record { columns = fit_left; holds = λ r i. refl; meets = left_meets }
+  of_left = record { columns = q.fit_left; holds = λ r i. refl; meets = q.left_meets }
 
   pub of_right : IsIn B.rows t
-  of_right = record { columns = fit_right; holds = λ r i. refl; meets = right_meets }
+  of_right = record { columns = q.fit_right; holds = λ r i. refl; meets = q.right_meets }
 
   pub of_view : IsIn (edited A B d) (join_shape s t (F ++ G))
-  of_view = record { columns = view.columns; holds = λ r i. refl; meets = all_append (λ e. Meets (edited A B d) e.left e.right) F G view.left view.right }
+  of_view = record { columns = q.view.columns; holds = λ r i. refl; meets = all_append (λ e. Meets (edited A B d) e.left e.right) F G q.view.left q.view.right }
 
   -- the parts of added rows have the columns
   pub left_parts_fit : (r : Row) → has (project U d.add) r ≡ true → Fits A.columns r
@@ -122,22 +152,22 @@ module _ (A B : Relation) (F G : List Edge) (d : Delta) (can : CanBeJoined A.col
   unfolding suspects
   suspects_fit added r i = elim (from_union (project U d.remove) _ r i) [
     | inl j ↦ let w = from_project U d.remove r j in
-        fit_left r (ap (has A.rows) w.2 ∙ (from_natural A.columns B.columns A.rows B.rows fit_left fit_right w.0 (applies.removes w.0 w.1)).0)
-    | inr j ↦ fit_left r (from_found_each S A.rows _ r j)
+        q.fit_left r (ap (has A.rows) w.2 ∙ (from_natural A.columns B.columns A.rows B.rows q.fit_left q.fit_right w.0 (q.applies.removes w.0 w.1)).0)
+    | inr j ↦ q.fit_left r (from_found_each S A.rows _ r j)
   ]
 
-  pub right_is : join_delta_right V G B.rows d ≡ diff B.rows (edited_right A B G d)
-  right_is = join_delta_right_is s t (F ++ G) passes A.rows B.rows d of_left of_right applies of_view
+  pub right_is : join_delta_right V G B.rows d ≡ diff B.rows merged_right
+  right_is = join_delta_right_is s t (F ++ G) passes A.rows B.rows d of_left of_right q.applies of_view
 
   -- the shared columns tell apart the rows of the new right source
   pub right_keyed : AreKeyed S (new_view B.rows (join_delta_right V G B.rows d))
   right_keyed =
-      let made = ap (new_view B.rows) right_is ∙ diff_leads B.rows (edited_right A B G d) in
+      let made = ap (new_view B.rows) right_is ∙ diff_leads B.rows merged_right in
       let sort = right_sort s t (F ++ G) passes (edited A B d) B.rows of_right of_view in
-      subst (AreKeyed S) (sym made) (decided_keyed S B.columns (edited_right A B G d) sort.columns (passes.decides (edited_right A B G d) sort.meets))
+      subst (AreKeyed S) (sym made) (decided_keyed S B.columns merged_right sort.columns (passes.decides merged_right sort.meets))
 
-  pub left_is : join_delta_left U V F G A.rows B.rows (edited A B d) d ≡ diff A.rows (edited_left A F B G d)
-  left_is = join_delta_left_is s t (F ++ G) passes A.rows B.rows d of_left of_right applies of_view
+  pub left_is : join_delta_left U V F G A.rows B.rows (edited A B d) d ≡ diff A.rows (join_put_left (names A.columns) (names B.columns) F G (edited A B d) A.rows B.rows)
+  left_is = join_delta_left_is s t (F ++ G) passes A.rows B.rows d of_left of_right q.applies of_view
 
   -- what the edit adds to the left source
   abbrev come : Rows
@@ -145,10 +175,10 @@ module _ (A B : Relation) (F G : List Edge) (d : Delta) (can : CanBeJoined A.col
 
   come_apart : (r : Row) → has come r ≡ true → has A.rows r ≡ false
   come_apart r i =
-      (merge_adds F A.rows (project U (edited A B d)) (project U d.add) tree_left left_meets
+      (merge_adds F A.rows (project U (edited A B d)) (project U d.add) q.tree_left q.left_meets
       (part_left s t (F ++ G) passes (edited A B d) of_view).meets
-      (split_left s t (F ++ G) passes A.rows B.rows d of_left of_right applies of_view)
-      (sub_left s t (F ++ G) passes A.rows B.rows d of_left of_right applies of_view) r i).1
+      (split_left s t (F ++ G) passes A.rows B.rows d of_left of_right q.applies of_view)
+      (sub_left s t (F ++ G) passes A.rows B.rows d of_left of_right q.applies of_view) r i).1
 
   -- an added row's part is not over
   parts_stay : (r : Row) → has come r ≡ true → has (project U d.add) r ≡ true → is_over S V (new_view B.rows (join_delta_right V G B.rows d)) (edited A B d) r ≡ false
@@ -163,20 +193,13 @@ module _ (A B : Relation) (F G : List Edge) (d : Delta) (can : CanBeJoined A.col
       let added = ap (λ (x : Delta). has x.add r) left_is ∙ in_minus new A.rows r kept (come_apart r i) in
       not-true _ (from_those _ come r added).1
 
-  -- both sources after the merge
-  abbrev pub merged_left : Rows
-  merged_left = join_left (names A.columns) F (edited A B d) A.rows
-
-  abbrev pub merged_right : Rows
-  merged_right = join_right (names B.columns) G (edited A B d) B.rows
-
   pub left_merges : merge_delta F A.rows (project U d.add) ≡ diff A.rows merged_left
   unfolding join_left
   left_merges =
-      merge_delta_is F A.rows (project U (edited A B d)) (project U d.add) tree_left left_meets
+      merge_delta_is F A.rows (project U (edited A B d)) (project U d.add) q.tree_left q.left_meets
       (part_left s t (F ++ G) passes (edited A B d) of_view).meets
-      (split_left s t (F ++ G) passes A.rows B.rows d of_left of_right applies of_view)
-      (sub_left s t (F ++ G) passes A.rows B.rows d of_left of_right applies of_view)
+      (split_left s t (F ++ G) passes A.rows B.rows d of_left of_right q.applies of_view)
+      (sub_left s t (F ++ G) passes A.rows B.rows d of_left of_right q.applies of_view)
 
   abbrev new_right : Rows
   new_right = new_view B.rows (join_delta_right (names B.columns) G B.rows d)
@@ -193,7 +216,7 @@ module _ (A B : Relation) (F G : List Edge) (d : Delta) (can : CanBeJoined A.col
   from_tested r i = elim (from_union (minus (suspects S U A.rows d (join_delta_right V G B.rows d).add) gone) (minus come (project U d.add)) r i) [
     | inl j ↦
         let w = from_minus (suspects S U A.rows d (join_delta_right V G B.rows d).add) gone r j in
-        let there = from_suspects s t (F ++ G) passes A.rows B.rows d of_left of_right applies of_view r w.0 in
+        let there = from_suspects s t (F ++ G) passes A.rows B.rows d of_left of_right q.applies of_view r w.0 in
         elim (cases_Bool (has merged_left r)) [
           | inl y ↦ y
           | inr z ↦ absurd_false _ (ap (λ (x : Delta). has x.remove r) left_merges ∙ in_minus A.rows merged_left r there z) w.1
@@ -209,7 +232,7 @@ module _ (A B : Relation) (F G : List Edge) (d : Delta) (can : CanBeJoined A.col
   in_tested r i h = elim (cases_Bool (has A.rows r)) [
     | inl y ↦ in_union_left (minus (suspects S U A.rows d (join_delta_right V G B.rows d).add) gone) (minus come (project U d.add)) r
         (in_minus (suspects S U A.rows d (join_delta_right V G B.rows d).add) gone r
-        (in_suspects s t (F ++ G) passes A.rows B.rows d of_left of_right applies of_view r y h)
+        (in_suspects s t (F ++ G) passes A.rows B.rows d of_left of_right q.applies of_view r y h)
         (false_from _ (λ k. absurd_false _ i (from_minus A.rows merged_left r (ap (λ (x : Delta). has x.remove r) (sym left_merges) ∙ k)).1)))
     | inr z ↦
         let new : has come r ≡ true = ap (λ (x : Delta). has x.add r) left_merges ∙ in_minus merged_left A.rows r i z in
@@ -243,11 +266,11 @@ module _ (A B : Relation) (F G : List Edge) (d : Delta) (can : CanBeJoined A.col
   pub over_left : (r : Row) → has (project U (join_over U V F G (edited A B d) A.rows B.rows)) r ≡ true → has merged_left r ≡ true
   over_left r i =
       let w = from_project U (join_over U V F G (edited A B d) A.rows B.rows) r i in
-      ap (has merged_left) w.2 ∙ (over_pair s t (F ++ G) passes A.rows B.rows d of_left of_right applies of_view w.0 w.1).0
+      ap (has merged_left) w.2 ∙ (over_pair s t (F ++ G) passes A.rows B.rows d of_left of_right q.applies of_view w.0 w.1).0
 
   -- and so are their right parts
   pub over_right : (w : Row) → has (join_over U V F G (edited A B d) A.rows B.rows) w ≡ true → has merged_right (cut V w) ≡ true
-  over_right w i = (over_pair s t (F ++ G) passes A.rows B.rows d of_left of_right applies of_view w i).1
+  over_right w i = (over_pair s t (F ++ G) passes A.rows B.rows d of_left of_right q.applies of_view w i).1
 
 -- the surplus, from what the code makes one after the other
 module _ (A B : Relation) (F G : List Edge) (d right merged : Delta) (suspect own some over : Rows) where

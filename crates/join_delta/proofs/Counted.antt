@@ -23,17 +23,6 @@ use Rattle.signed_delta.proofs.Counts.{listed_len, minus_len, project_len, union
 
 -- ---- looks, one call after another
 
--- each row is asked for once, and once for each edge
-pub merge_looks : (n r e old first now : ℕ) → first ≤ old + n * r → now ≤ first + n * r * e → now ≤ old + n * r * (e + 1)
-merge_looks n r e old first now h k =
-    let s : n * r * (e + 1) ≡ n * r + n * r * e = grind arith in
-    omega arith
-
-pub absent_looks : (n r e old now : ℕ) → now ≤ old + n * r → now ≤ old + n * r * (e + 1)
-absent_looks n r e old now h =
-    let s : n * r * (e + 1) ≡ n * r + n * r * e = grind arith in
-    omega arith
-
 -- the right rows of each row, and both parts of each pair
 pub over_looks : (a b x p old found now : ℕ) → p ≤ x → found ≤ old + b * x → now ≤ found + (a + b) * p → now ≤ old + (a + 2 * b) * x
 over_looks a b x p old found now few h k =

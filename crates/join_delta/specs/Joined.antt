@@ -1,11 +1,12 @@
 -- Joins of two sources, and edits of them.
-use Rattle.std.specs.Prelude.{◌≡◌, ◌≢◌, List, length, true}
+use Rattle.std.specs.Prelude.{◌≡◌, ◌≢◌, ◌≤◌, ◌*◌, ℕ, List, length, true}
 use Rattle.std.specs.FinMap as finmap
+use Rattle.std.specs.List.{Contains}
 use Rattle.lens_values.specs.SortedSet as set
 use Rattle.lens_values.specs.declared.row.Row.{Row}
 use Rattle.lens_specs.specs.Columns.{Columns, Fits, both_columns, names}
-use Rattle.lens_specs.specs.Delta.{Delta, new_view}
-use Rattle.lens_specs.specs.Dependencies.{Edge, MeetsTree, closure}
+use Rattle.lens_specs.specs.Delta.{Applies, Delta, new_view}
+use Rattle.lens_specs.specs.Dependencies.{AllEdges, Edge, MeetsTree, closure}
 use Rattle.lens_specs.specs.Names.{Name, Names, Within}
 use Rattle.lens_specs.specs.Nodes.{join_get, join_put_left, join_right}
 use Rattle.lens_specs.specs.Relation.{Relation, Rows, has}
@@ -51,6 +52,26 @@ edited_left A F B G d =
 abbrev pub edited_right : Relation → Relation → List Edge → Delta → Rows
 edited_right A B G d = join_right (names B.columns) G (edited A B d) B.rows
 
+-- an edit d of the join of A, which may be asked by the sets K, and of B, which may be asked by L
+pub record CanEdit (K L : List Names) (A B : Relation) (F G : List Edge) (d : Delta) : Type 0 where
+  pub can : CanBeJoined A.columns B.columns F G
+  -- each source may be asked by the left side of each edge of its tree, and by the shared columns
+  pub left_asked : AllEdges (λ e. Contains K e.left) F
+  pub left_shared : Contains K (shared_names A.columns B.columns)
+  pub right_asked : AllEdges (λ e. Contains L e.left) G
+  pub right_shared : Contains L (shared_names A.columns B.columns)
+  -- each meets its tree
+  pub left_meets : MeetsTree A.rows F
+  pub right_meets : MeetsTree B.rows G
+  -- the edit applies to the join, and leads to rows over its columns that meet both trees
+  pub applies : Applies d (joined A B)
+  pub view : AreJoined A.columns B.columns F G (edited A B d)
+
 -- two of the rows that agree on S are one
 abbrev pub AreKeyed : Names → Rows → Type 0
 AreKeyed S N = (m n : Row) → has N m ≡ true → has N n ≡ true → agree S m n ≡ true → m ≡ n
+
+-- what holds of 2 * a * b, where a and b bound one question to each source, and each tree has at most 64 edges
+abbrev pub AtSizes : (ℕ → Type 0) → (ℕ → Type 0) → List Edge → List Edge → (ℕ → Type 0) → Type 0
+AtSizes within_left within_right F G P =
+    (a b : ℕ) → within_left a → within_right b → length F ≤ 64 → length G ≤ 64 → P (2 * a * b)

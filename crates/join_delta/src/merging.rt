@@ -1,19 +1,17 @@
 //! What a merge changes, by rows found by key.
 ghost use Rattle.std.specs.Prelude.{◌≡◌, ◌≤◌, ◌+◌, ◌*◌, ℕ, true, length, Contains, IfOk};
 ghost use Rattle.lens_values.specs.SortedSet as set;
-ghost use Rattle.lens_specs.specs.Columns.{Fits, names};
 ghost use Rattle.lens_specs.specs.Delta.{diff};
-ghost use Rattle.lens_specs.specs.Dependencies.{AllEdges, MeetsTree};
-ghost use Rattle.lens_specs.specs.Names.{Within};
 ghost use Rattle.lens_specs.specs.Relation.{Rows, has, minus};
 ghost use Rattle.lens_laws.specs.KeyedDeltas.{merge_delta};
 ghost use Rattle.signed_delta.specs.Disjoint.{AreApart};
+ghost use Rattle.revision.specs.Near.{CanRevise};
 
 use fd_tree::Tree;
 use lens_values::NoMemory;
-use revision::{afters, befores, revise_touched};
+use revision::{afters, befores, near_and_new, touched_among};
 use row_sets::RowSet;
-use signed_delta::{Delta, Look, absent};
+use signed_delta::{Delta, Look};
 use std::alloc::Global;
 use std::sync::ledger::Ledger;
 use step_counter::Steps;
@@ -36,27 +34,25 @@ pub fn merge_change<K: Look, L: Ledger>(
     rows: &RowSet,
     looked: &mut Steps<L>,
 ) -> Result<Change, NoMemory>
-    requires asked { AllEdges (λ e. Contains (K.asked look.now) e.left) tree.now }
-    requires columns { let U = names (K.relation look.now).columns in
-        AllEdges (λ e. Within e.left U) tree.now }
-    requires meets { MeetsTree (K.relation look.now).rows tree.now }
-    requires fit { (row : _) → set.contains rows.now row ≡ true
-        → Fits (K.relation look.now).columns row }
+    requires { CanRevise (K.asked look.now) (K.relation look.now) tree.now rows.now }
     ensures change { IfOk result (λ change. record { remove = change.remove; add = change.add }
         ≡ merge_delta tree.now (K.relation look.now).rows rows.now) }
     ensures looks { (n : ℕ) → K.within look.now n → looked.new ≤ looked.old
         + n * length (set.items rows.now) * (length tree.now + 1) }
 {
-    let new = absent(alloc, rows, look, looked)?;
+    let near = near_and_new(alloc, tree, look, rows, looked)?;
     // Rows that are all there revise nothing.
-    if new.rows().is_empty() {
+    if near.new.rows().is_empty() {
         let remove = RowSet::empty(alloc);
-        return Ok(Change { remove, add: new });
+        return Ok(Change {
+            remove,
+            add: near.new,
+        });
     }
-    let touched = revise_touched(alloc, tree, look, rows, looked)?;
+    let touched = touched_among(alloc, tree, &near.rows, rows)?;
     let remove = befores(alloc, &touched)?;
     let revised = afters(alloc, &touched)?;
-    let add = revised.union(alloc, &new)?;
+    let add = revised.union(alloc, &near.new)?;
     Ok(Change { remove, add })
 }
 

@@ -1,13 +1,11 @@
 //! Both sources of a join, merged with an edit of it.
 ghost use Rattle.std.specs.Prelude.{◌≡◌, ◌≢◌, ◌≤◌, ◌+◌, ◌*◌, ℕ, true, length, Contains, IfOk, is_some};
 ghost use Rattle.lens_values.specs.SortedSet as set;
-ghost use Rattle.lens_specs.specs.Delta.{Applies};
-ghost use Rattle.lens_specs.specs.Dependencies.{AllEdges, MeetsTree};
 ghost use Rattle.lens_specs.specs.Relation.{minus, union};
 ghost use Rattle.lens_specs.specs.Rows.{at};
 ghost use Rattle.lens_laws.specs.KeyedDeltas.{suspects as suspects_of};
 ghost use Rattle.lens_laws.specs.Work.{rows_of};
-ghost use Rattle.join_delta.specs.Joined.{AreJoined, CanBeJoined, edited, joined, shared_names};
+ghost use Rattle.join_delta.specs.Joined.{CanEdit};
 ghost use Rattle.join_delta.specs.Surplus.{IsMerged};
 
 use crate::merging::{Change, merge_change};
@@ -50,19 +48,8 @@ pub fn merge_sources<A: Look, B: Look, L: Ledger>(
     delta: &Delta,
     looked: &mut Steps<L>,
 ) -> Result<Merged, NoMemory>
-    requires can { let U = (A.relation left.now).columns in
-        CanBeJoined U (B.relation right.now).columns left_tree.now right_tree.now }
-    requires left_asked { AllEdges (λ e. Contains (A.asked left.now) e.left) left_tree.now }
-    requires left_shared { let U = (A.relation left.now).columns in
-        Contains (A.asked left.now) (shared_names U (B.relation right.now).columns) }
-    requires left_meets { MeetsTree (A.relation left.now).rows left_tree.now }
-    requires right_asked { AllEdges (λ e. Contains (B.asked right.now) e.left) right_tree.now }
-    requires right_shared { let U = (A.relation left.now).columns in
-        Contains (B.asked right.now) (shared_names U (B.relation right.now).columns) }
-    requires right_meets { MeetsTree (B.relation right.now).rows right_tree.now }
-    requires applies { Applies delta.now (joined (A.relation left.now) (B.relation right.now)) }
-    requires view { let R = A.relation left.now in let Q = B.relation right.now in
-        AreJoined R.columns Q.columns left_tree.now right_tree.now (edited R Q delta.now) }
+    requires { let R = A.relation left.now in let Q = B.relation right.now in
+        CanEdit (A.asked left.now) (B.asked right.now) R Q left_tree.now right_tree.now delta.now }
     ensures merged { let R = A.relation left.now in let Q = B.relation right.now in
         IfOk result (IsMerged R Q left_tree.now right_tree.now delta.now) }
     ensures looks { (a b : ℕ) → A.within left.now a → B.within right.now b

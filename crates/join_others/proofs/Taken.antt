@@ -1,24 +1,32 @@
 -- An edit of a join that deletes on the right, or on both sides, carried down to both sources.
-use Rattle.std.proofs.Common.{◌≡◌, List, ◌++◌, not, sym, ap, ◌∙◌, subst, true, false, inl, inr}
+use Rattle.std.proofs.Common.{◌≡◌, ◌≤◌, ◌*◌, [], ◌∷◌, ℕ, List, ◌++◌, arith, length, not, sym, ap, ◌∙◌, refl, subst, true, false, inl, inr}
 use Rattle.std.proofs.lemmas.Bool.{cases_Bool, not-true, not_from_false}
 use Rattle.lens_values.specs.Part.{restrict}
+use Rattle.lens_values.specs.SortedSet as set
+use Rattle.lens_values.specs.declared.join_kind.JoinKind.{JoinKind}
+use Rattle.lens_values.specs.declared.join_kind.JoinKind.TheVariants.{DeleteBoth, DeleteLeft, DeleteRight}
 use Rattle.lens_values.specs.declared.row.Row.{Row}
 use Rattle.lens_specs.specs.Columns.{names}
 use Rattle.lens_specs.specs.Delta.{Applies, Delta, diff, new_view}
-use Rattle.lens_specs.specs.Dependencies.{Edge, MeetsTree}
+use Rattle.lens_specs.specs.Dependencies.{Edge}
 use Rattle.lens_specs.specs.Names.{Names}
-use Rattle.lens_specs.specs.Nodes.{join_free, join_kept, join_over, join_put_left_kept, join_put_right}
-use Rattle.lens_specs.specs.Relation.{IsRelation, Relation, Rows, has, minus, project, those}
+use Rattle.lens_specs.specs.Nodes.{join_free, join_kept, join_left_after, join_over, join_put_left, join_put_left_kept, join_put_right, join_right_after}
+use Rattle.lens_specs.specs.Relation.{Relation, Rows, has, minus, project, those}
 use Rattle.lens_specs.specs.Rows.{cut}
 use Rattle.lens_laws.specs.JoinKinds.{join_delta_left_kept, join_delta_right_free}
+use Rattle.lens_laws.specs.Asked.{left_sides}
 use Rattle.lens_laws.specs.Shapes.{Shape}
+use Rattle.lens_laws.specs.Work.{GivesAtMost, rows_down, rows_of}
+use Rattle.lens_laws.proofs.DeltaCounts.{left_delta_small, left_kept_small, right_delta_small, right_free_small}
 use Rattle.lens_laws.proofs.Deltas.{diff_applies, diff_leads}
 use Rattle.lens_laws.proofs.JoinKindDeltas.{left_kept_is, right_free_is}
-use Rattle.fd_laws.specs.Trees.{IsTree}
 use Rattle.fd_laws.proofs.Lists.{absurd_false, false_from}
 use Rattle.fd_laws.proofs.Relations.{from_minus, from_project, from_those, in_minus, in_project, in_those, same_rel}
-use Rattle.join_delta.specs.Joined.{AreJoined, CanBeJoined, edited, joined}
-use Rattle.join_delta.proofs.Carried.{merged_left, merged_right, of_left, of_right, of_view, over_left, over_right, passes}
+use Rattle.signed_delta.proofs.Counts.{listed_len}
+use Rattle.join_delta.specs.Joined.{edited, shared_names}
+use Rattle.join_delta.proofs.NoRows.{has_none, minus_none}
+use Rattle.join_others.specs.Edited.{left_deleted, right_deleted}
+use Rattle.join_delta.proofs.Carried.{IsJoinEdit, left_is, merged_left, merged_right, of_left, of_right, of_view, over_left, over_right, passes, right_is}
 
 -- ---- what is joined too much, by whether the view has the right part
 module _ (U V : Names) (F G : List Edge) (O M N : Rows) where
@@ -57,9 +65,7 @@ module _ (U V : Names) (F G : List Edge) (O M N : Rows) where
       (not_from_false _ (false_from _ (λ h. absurd_false _ v.1 (from_minus (project V over) (project V O) (cut V w) (ap (λ X. has X (cut V w)) (sym is) ∙ h)).1))))
 
 -- ---- the edit of two sources
-module _ (A B : Relation) (F G : List Edge) (d : Delta) (can : CanBeJoined A.columns B.columns F G) (fit_left : IsRelation A) (fit_right : IsRelation B)
-    (tree_left : IsTree F) (tree_right : IsTree G)
-    (left_meets : MeetsTree A.rows F) (right_meets : MeetsTree B.rows G) (applies : Applies d (joined A B)) (view : AreJoined A.columns B.columns F G (edited A B d)) where
+module _ {A B : Relation} {F G : List Edge} {d : Delta} (q : IsJoinEdit A B F G d) where
   abbrev U : Names
   U = names A.columns
 
@@ -74,45 +80,110 @@ module _ (A B : Relation) (F G : List Edge) (d : Delta) (can : CanBeJoined A.col
 
   -- the kept left parts are merged rows
   pub kept_left : (r : Row) → has (project U (join_kept U V F G (edited A B d) A.rows B.rows)) r ≡ true
-      → has (merged_left A B F G d can fit_left fit_right tree_left tree_right left_meets right_meets applies view) r ≡ true
+      → has (merged_left q) r ≡ true
   unfolding join_kept
   kept_left r i =
       let w = from_project U (those (λ x. has (project V (edited A B d)) (cut V x)) (join_over U V F G (edited A B d) A.rows B.rows)) r i in
       let v = from_those (λ x. has (project V (edited A B d)) (cut V x)) (join_over U V F G (edited A B d) A.rows B.rows) w.0 w.1 in
-      over_left A B F G d can fit_left fit_right tree_left tree_right left_meets right_meets applies view r
+      over_left q r
       (ap (has (project U (join_over U V F G (edited A B d) A.rows B.rows))) w.2 ∙ in_project U (join_over U V F G (edited A B d) A.rows B.rows) w.0 v.0)
 
   -- and so are the free right ones
-  pub free_right : (q : Row) → has (project V (join_free U V F G (edited A B d) A.rows B.rows)) q ≡ true
-      → has (merged_right A B F G d can fit_left fit_right tree_left tree_right left_meets right_meets applies view) q ≡ true
+  pub free_right : (n : Row) → has (project V (join_free U V F G (edited A B d) A.rows B.rows)) n ≡ true
+      → has (merged_right q) n ≡ true
   unfolding join_free
-  free_right q i =
-      let w = from_project V (those (λ x. not (has (project V (edited A B d)) (cut V x))) (join_over U V F G (edited A B d) A.rows B.rows)) q i in
+  free_right n i =
+      let w = from_project V (those (λ x. not (has (project V (edited A B d)) (cut V x))) (join_over U V F G (edited A B d) A.rows B.rows)) n i in
       let v = from_those (λ x. not (has (project V (edited A B d)) (cut V x))) (join_over U V F G (edited A B d) A.rows B.rows) w.0 w.1 in
-      ap (has (merged_right A B F G d can fit_left fit_right tree_left tree_right left_meets right_meets applies view)) w.2
-      ∙ over_right A B F G d can fit_left fit_right tree_left tree_right left_meets right_meets applies view w.0 v.0
+      ap (has (merged_right q)) w.2
+      ∙ over_right q w.0 v.0
 
   -- ---- what is asked of the merge
-  pub none_added : (right : Delta) → right ≡ diff B.rows (merged_right A B F G d can fit_left fit_right tree_left tree_right left_meets right_meets applies view)
+  pub none_added : (right : Delta) → right ≡ diff B.rows (merged_right q)
       → (q : Row) → has right.add q ≡ true → has B.rows q ≡ false
   none_added right is =
-      (subst (λ x. Applies x B.rows) (sym is) (diff_applies B.rows (merged_right A B F G d can fit_left fit_right tree_left tree_right left_meets right_meets applies view))).adds
+      (subst (λ x. Applies x B.rows) (sym is) (diff_applies B.rows (merged_right q))).adds
 
-  pub over_there : (right : Delta) (found : Rows) → right ≡ diff B.rows (merged_right A B F G d can fit_left fit_right tree_left tree_right left_meets right_meets applies view)
+  pub over_there : (right : Delta) (found : Rows) → right ≡ diff B.rows (merged_right q)
       → found ≡ join_over U V F G (edited A B d) A.rows B.rows → (w : Row) → has found w ≡ true → has (new_view B.rows right) (restrict V w) ≡ true
   unfolding cut
   over_there right found is same w i =
-      let new = ap (new_view B.rows) is ∙ diff_leads B.rows (merged_right A B F G d can fit_left fit_right tree_left tree_right left_meets right_meets applies view) in
+      let new = ap (new_view B.rows) is ∙ diff_leads B.rows (merged_right q) in
       ap (λ X. has X (cut V w)) new
-      ∙ over_right A B F G d can fit_left fit_right tree_left tree_right left_meets right_meets applies view w (ap (λ X. has X w) (sym same) ∙ i)
+      ∙ over_right q w (ap (λ X. has X w) (sym same) ∙ i)
 
   -- ---- the laws of lens_laws, which are of any shapes
   pub kept_delta : join_delta_left_kept U V F G A.rows B.rows (edited A B d) d ≡ diff A.rows (join_put_left_kept U V F G (edited A B d) A.rows B.rows)
-  kept_delta = left_kept_is s t (F ++ G) (passes A B F G d can fit_left fit_right tree_left tree_right left_meets right_meets applies view) A.rows B.rows d
-      (of_left A B F G d can fit_left fit_right tree_left tree_right left_meets right_meets applies view) (of_right A B F G d can fit_left fit_right tree_left tree_right left_meets right_meets applies view)
-      applies (of_view A B F G d can fit_left fit_right tree_left tree_right left_meets right_meets applies view)
+  kept_delta = left_kept_is s t (F ++ G) (passes q) A.rows B.rows d
+      (of_left q) (of_right q)
+      q.applies (of_view q)
 
   pub free_delta : join_delta_right_free U V F G A.rows B.rows (edited A B d) d ≡ diff B.rows (join_put_right U V F G (edited A B d) A.rows B.rows)
-  free_delta = right_free_is s t (F ++ G) (passes A B F G d can fit_left fit_right tree_left tree_right left_meets right_meets applies view) A.rows B.rows d
-      (of_left A B F G d can fit_left fit_right tree_left tree_right left_meets right_meets applies view) (of_right A B F G d can fit_left fit_right tree_left tree_right left_meets right_meets applies view)
-      applies (of_view A B F G d can fit_left fit_right tree_left tree_right left_meets right_meets applies view)
+  free_delta = right_free_is s t (F ++ G) (passes q) A.rows B.rows d
+      (of_left q) (of_right q)
+      q.applies (of_view q)
+
+  -- ---- by the side on which the join deletes
+  abbrev over_of : Rows
+  over_of = join_over U V F G (edited A B d) A.rows B.rows
+
+  pub left_without : (k : JoinKind) (gone : Rows) → gone ≡ left_deleted k U V over_of (right_deleted k V over_of (edited A B d))
+      → minus (merged_left q) gone ≡ join_left_after k U V F G (edited A B d) A.rows B.rows
+  unfolding join_put_left join_put_left_kept
+  left_without DeleteLeft gone is = ap (minus (merged_left q)) is
+  left_without DeleteRight gone is = ap (minus (merged_left q)) (is ∙ ap (project U) (kept_is U V F G (edited A B d) A.rows B.rows (right_deleted DeleteRight V over_of (edited A B d)) refl))
+  left_without DeleteBoth gone is = ap (minus (merged_left q)) is
+
+  pub left_there : (k : JoinKind) (gone : Rows) → gone ≡ left_deleted k U V over_of (right_deleted k V over_of (edited A B d))
+      → (r : Row) → has gone r ≡ true → has (merged_left q) r ≡ true
+  left_there DeleteLeft gone is r i = over_left q r (ap (λ M. has M r) (sym is) ∙ i)
+  left_there DeleteRight gone is r i =
+      kept_left r (ap (λ M. has M r) (sym (is ∙ ap (project U) (kept_is U V F G (edited A B d) A.rows B.rows (right_deleted DeleteRight V over_of (edited A B d)) refl))) ∙ i)
+  left_there DeleteBoth gone is r i = over_left q r (ap (λ M. has M r) (sym is) ∙ i)
+
+  no_rows : (N : Rows) → N ≡ set.empty → length (set.items N) ≡ 0
+  no_rows N is =
+      let same = ap (λ s. length (set.items s)) is in
+      let none = listed_len [] in
+      omega (arith, same, none)
+
+  pub right_without : (k : JoinKind) (gone : Rows) → gone ≡ right_deleted k V over_of (edited A B d)
+      → minus (merged_right q) gone ≡ join_right_after k U V F G (edited A B d) A.rows B.rows
+  unfolding join_put_right
+  right_without DeleteLeft gone is = minus_none (merged_right q) gone (no_rows gone is)
+  right_without DeleteRight gone is = ap (minus (merged_right q)) (is ∙ free_is U V F G (edited A B d) A.rows B.rows)
+  right_without DeleteBoth gone is = ap (minus (merged_right q)) (is ∙ free_is U V F G (edited A B d) A.rows B.rows)
+
+  pub right_there : (k : JoinKind) (gone : Rows) → gone ≡ right_deleted k V over_of (edited A B d)
+      → (r : Row) → has gone r ≡ true → has (merged_right q) r ≡ true
+  right_there DeleteLeft gone is r i = absurd_false _ i (has_none gone r (no_rows gone is))
+  right_there DeleteRight gone is r i = free_right r (ap (λ M. has M r) (sym (is ∙ free_is U V F G (edited A B d) A.rows B.rows)) ∙ i)
+  right_there DeleteBoth gone is r i = free_right r (ap (λ M. has M r) (sym (is ∙ free_is U V F G (edited A B d) A.rows B.rows)) ∙ i)
+
+  -- ---- how many rows change, where a and b bound one question on the left and on the right
+  module _ (a b : ℕ) (edges : length F ≤ 64) (more : length G ≤ 64) (some_a : 1 ≤ a) (some_b : 1 ≤ b)
+      (gives_left : GivesAtMost a (shared_names A.columns B.columns ∷ left_sides F) A.rows) (gives_right : GivesAtMost b (shared_names A.columns B.columns ∷ left_sides G) B.rows)
+      (edges_left : GivesAtMost a (left_sides F) A.rows) (edges_right : GivesAtMost b (left_sides G) B.rows) where
+    few_by_left : rows_of (diff A.rows (join_put_left U V F G (edited A B d) A.rows B.rows)) ≤ rows_down (rows_of d) (2 * a * b)
+    few_by_left =
+        subst (λ (x : Delta). rows_of x ≤ rows_down (rows_of d) (2 * a * b)) (left_is q)
+        (left_delta_small U V F G A.rows B.rows (edited A B d) d a b edges more some_a some_b gives_left edges_right)
+
+    few_by_right : rows_of (diff B.rows (join_put_right U V F G (edited A B d) A.rows B.rows)) ≤ rows_down (rows_of d) (2 * a * b)
+    few_by_right =
+        subst (λ (x : Delta). rows_of x ≤ rows_down (rows_of d) (2 * a * b)) free_delta
+        (right_free_small U V F G A.rows B.rows (edited A B d) d a b edges more some_a some_b edges_left gives_right)
+
+    pub left_few : (k : JoinKind) → rows_of (diff A.rows (join_left_after k U V F G (edited A B d) A.rows B.rows)) ≤ rows_down (rows_of d) (2 * a * b)
+    left_few DeleteLeft = few_by_left
+    left_few DeleteRight =
+        subst (λ (x : Delta). rows_of x ≤ rows_down (rows_of d) (2 * a * b)) kept_delta
+        (left_kept_small U V F G A.rows B.rows (edited A B d) d a b edges more some_a some_b gives_left edges_right)
+    left_few DeleteBoth = few_by_left
+
+    pub right_few : (k : JoinKind) → rows_of (diff B.rows (join_right_after k U V F G (edited A B d) A.rows B.rows)) ≤ rows_down (rows_of d) (2 * a * b)
+    right_few DeleteLeft =
+        subst (λ (x : Delta). rows_of x ≤ rows_down (rows_of d) (2 * a * b)) (right_is q)
+        (right_delta_small V G B.rows d a b more some_a some_b edges_right)
+    right_few DeleteRight = few_by_right
+    right_few DeleteBoth = few_by_right

@@ -1,28 +1,71 @@
 //! The parts of rows that are joined too much, by whether the view has the right one.
-ghost use Rattle.std.specs.Prelude.{◌≡◌, ◌≢◌, ◌≤◌, ◌+◌, ◌*◌, ℕ, true, false, length, not, Contains, IfOk, is_some};
+ghost use Rattle.std.specs.Prelude.{◌≡◌, ◌≢◌, ◌≤◌, ◌+◌, ◌*◌, ℕ, true, length, not, Contains, IfOk, is_some};
 ghost use Rattle.lens_values.specs.Part.{restrict};
 ghost use Rattle.lens_values.specs.SortedSet as set;
 ghost use Rattle.lens_specs.specs.Columns.{names};
-ghost use Rattle.lens_specs.specs.Delta.{new_view};
 ghost use Rattle.lens_specs.specs.Relation.{has, minus, project, those};
 ghost use Rattle.lens_specs.specs.Rows.{at};
-ghost use Rattle.join_delta.specs.Joined.{edited, shared_names};
-ghost use Rattle.join_delta.specs.Pairs.{AreSides};
+ghost use Rattle.join_delta.specs.Joined.{edited};
+ghost use Rattle.join_others.specs.Edited.{left_deleted, right_deleted};
 ghost use Rattle.join_others.specs.Shown as spec;
+ghost use Rattle.join_others.specs.Shown.{IsMergeOf};
 
 use join_delta::Merged;
-use lens_values::{Names, NoMemory, Row};
+use lens_values::{JoinKind, Names, NoMemory, Row};
 use row_sets::RowSet;
 use signed_delta::{Delta, Look, rows_fit};
 use std::alloc::Global;
 use std::sync::ledger::Ledger;
 use step_counter::Steps;
 
-/// The right parts of the rows that are joined too much, those that the edited view lacks.
-///
-/// The view has the parts of the added rows. Of the others it has those that stood in the right
-/// source and that join a left row to a row that is not removed.
-pub fn free_parts<A: Look, B: Look, L: Ledger>(
+/// The right parts that are deleted: none where the join deletes on the left.
+pub fn right_parts<A: Look, B: Look, L: Ledger>(
+    alloc: Global,
+    kind: JoinKind,
+    merged: &Merged,
+    left: &A,
+    right: &B,
+    delta: &Delta,
+    looked: &mut Steps<L>,
+) -> Result<RowSet, NoMemory>
+    requires { let R = A.relation left.now in let Q = B.relation right.now in
+        IsMergeOf (A.asked left.now) R Q delta.now merged.now }
+    ensures gone { let R = A.relation left.now in let Q = B.relation right.now in
+        let view = edited R Q delta.now in
+        IfOk result (λ gone. gone ≡ right_deleted kind (names Q.columns) merged.now.over view) }
+    ensures looks { (n : ℕ) → A.within left.now n → looked.new
+        ≤ looked.old + n * length (set.items merged.now.over) }
+{
+    match kind {
+        JoinKind::DeleteLeft => Ok(RowSet::empty(alloc)),
+        JoinKind::DeleteRight => free_parts(alloc, merged, left, right, delta, looked),
+        JoinKind::DeleteBoth => free_parts(alloc, merged, left, right, delta, looked),
+    }
+}
+
+/// The left parts that are deleted beside these right parts: where the join deletes on the right,
+/// those of the rows whose right part is kept.
+pub fn left_parts(
+    alloc: Global,
+    kind: JoinKind,
+    merged: &Merged,
+    gone: &RowSet,
+) -> Result<RowSet, NoMemory>
+    ensures { let S = merged.now.sides in
+        IfOk result (λ parts. parts ≡ left_deleted kind S.left S.right merged.now.over gone.now) }
+{
+    match kind {
+        JoinKind::DeleteRight => kept_parts(alloc, merged, gone),
+        JoinKind::DeleteLeft => merged.over.project(alloc, &merged.sides.left),
+        JoinKind::DeleteBoth => merged.over.project(alloc, &merged.sides.left),
+    }
+}
+
+// The right parts of the rows that are joined too much, those that the edited view lacks.
+//
+// The view has the parts of the added rows. Of the others it has those that stood in the right
+// source and that join a left row to a row that is not removed.
+fn free_parts<A: Look, B: Look, L: Ledger>(
     alloc: Global,
     merged: &Merged,
     left: &A,
@@ -30,18 +73,8 @@ pub fn free_parts<A: Look, B: Look, L: Ledger>(
     delta: &Delta,
     looked: &mut Steps<L>,
 ) -> Result<RowSet, NoMemory>
-    requires sides { let U = (A.relation left.now).columns in
-        AreSides U (B.relation right.now).columns merged.now.sides }
-    requires shared { let U = (A.relation left.now).columns in
-        length (set.items (shared_names U (B.relation right.now).columns)) ≢ 0 }
-    requires asked { let U = (A.relation left.now).columns in
-        Contains (A.asked left.now) (shared_names U (B.relation right.now).columns) }
-    requires parts { merged.now.parts ≡ project (names (B.relation right.now).columns) delta.now.add }
-    requires new { (row : _) → has merged.now.right.add row ≡ true
-        → has (B.relation right.now).rows row ≡ false }
-    requires over { let N = new_view (B.relation right.now).rows merged.now.right in
-        (row : _) → has merged.now.over row ≡ true
-        → has N (restrict (names (B.relation right.now).columns) row) ≡ true }
+    requires { let R = A.relation left.now in let Q = B.relation right.now in
+        IsMergeOf (A.asked left.now) R Q delta.now merged.now }
     ensures free { let V = names (B.relation right.now).columns in
         let view = edited (A.relation left.now) (B.relation right.now) delta.now in
         IfOk result (λ free. free ≡ minus (project V merged.now.over) (project V view)) }
@@ -116,8 +149,13 @@ fn is_shown<A: Look, L: Ledger>(
 fn one_stays(alloc: Global, rows: &[Row], part: &Row, removed: &RowSet) -> Result<bool, NoMemory>
     ensures { IfOk result (λ stays. stays ≡ spec.one_stays removed.now part.now rows.now) }
 {
+    // A removed row has the columns of each pair.
+    let like = match removed.rows().first() {
+        Some(gone) => gone.names(),
+        None => part.names(),
+    };
     for row in rows {
-        let pair = row.paste(alloc, part)?;
+        let pair = row.paste_like(alloc, part, like)?;
         if !removed.has(&pair) {
             return Ok(true);
         }
@@ -125,8 +163,8 @@ fn one_stays(alloc: Global, rows: &[Row], part: &Row, removed: &RowSet) -> Resul
     Ok(false)
 }
 
-/// The left parts of those of the rows whose right part is not among these.
-pub fn kept_parts(alloc: Global, merged: &Merged, free: &RowSet) -> Result<RowSet, NoMemory>
+// The left parts of those of the rows whose right part is not among these.
+fn kept_parts(alloc: Global, merged: &Merged, free: &RowSet) -> Result<RowSet, NoMemory>
     ensures { let C = merged.now.sides.right in
         let pairs = those (λ row. not (has free.now (restrict C row))) merged.now.over in
         IfOk result (λ kept. kept ≡ project merged.now.sides.left pairs) }

@@ -55,31 +55,34 @@ fn carry_down<L: Ledger>(
 {
     match view.lens().lens() {
         Lens::Base { table, .. } => changes.add(*table, delta),
-        Lens::Select { pred, .. } => {
-            let Some(source) = view.source() else {
-                unreachable!()
-            };
+        Lens::Select { pred, of, .. } => {
+            let source = view.over(of);
             let change = under_select(alloc, pred, &source, &delta, looked)?;
             carry_down(alloc, &source, change, changes, looked)
         }
-        Lens::Drop { col, by, fill, .. } => {
-            let Some(source) = view.source() else {
-                unreachable!()
-            };
+        Lens::Drop {
+            col,
+            by,
+            fill,
+            of,
+            ..
+        } => {
+            let source = view.over(of);
             let filled = under_drop(alloc, col, by, fill, &source, &delta, looked)?;
             carry_down(alloc, &source, filled, changes, looked)
         }
-        Lens::Rename { col, to, .. } => {
-            let Some(source) = view.source() else {
-                unreachable!()
-            };
+        Lens::Rename { col, to, of, .. } => {
+            let source = view.over(of);
             let renamed = under_rename(alloc, col, to, &source, &delta)?;
             carry_down(alloc, &source, renamed, changes, looked)
         }
-        Lens::Join { kind, .. } => {
-            let Some((left, right)) = view.sides() else {
-                unreachable!()
-            };
+        Lens::Join {
+            kind,
+            left,
+            right,
+            ..
+        } => {
+            let (left, right) = view.over_sides(left, right);
             let (to_left, to_right) = under_join(alloc, *kind, &left, &right, &delta, looked)?;
             carry_down(alloc, &left, to_left, changes, looked)?;
             carry_down(alloc, &right, to_right, changes, looked)

@@ -4,6 +4,7 @@ pub mod Fronts
 pub mod Gathered
 pub mod LineCuts
 pub mod Offering
+pub mod PassedOver
 pub mod Pieces
 pub mod Progress
 pub mod Taken

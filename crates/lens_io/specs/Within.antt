@@ -1,7 +1,7 @@
 -- What holds of the fields of a cutter and of a sink in memory.
 use Rattle.std.specs.Prelude.{◌≡◌, ◌≤◌, ◌+◌, ◌^◌, ℕ, Bool, List, true, slice_range, vec_len, vec_capacity}
 use Rattle.std.specs.declared.option.Option.{Option}
-use Rattle.lens_io.specs.declared.cutting.Found.{Found}
+use Rattle.lens_io.specs.declared.cutting.found.Found.{Found}
 use Rattle.lens_io.specs.declared.cutting.LineCutter.TheInside.{Inside}
 use Rattle.lens_io.specs.declared.in_memory.MemorySink.TheInside.{Inside as Sunk}
 use Rattle.lens_io.specs.Cutting.{Step}

@@ -6,7 +6,7 @@ use Rattle.std.specs.FinMap as finmap
 use Rattle.std.proofs.lemmas.Bool.{and_from, and_parts}
 use Rattle.std.proofs.lemmas.List.{flat_map_more, take_all, take_more}
 use Rattle.no_memory.specs.declared.NoMemory.{NoMemory}
-use Rattle.lens_values.specs.Part.{restrict}
+use Rattle.lens_values.specs.Part.{override, restrict}
 use Rattle.lens_values.specs.SortedSet as set
 use Rattle.lens_values.specs.declared.row.Row.{Row}
 use Rattle.lens_values.specs.declared.value.Value.{Value}
@@ -21,19 +21,21 @@ use Rattle.lens_specs.specs.Sort.{Sort}
 use Rattle.fd_laws.proofs.Columns.{names-without}
 use Rattle.fd_laws.proofs.Lists.{both_ways}
 use Rattle.fd_laws.proofs.Names.{name_exact, name_total, subset_is}
-use Rattle.fd_laws.proofs.Rows.{agree_back, row_exact, row_total}
+use Rattle.fd_laws.proofs.Relations.{from_those}
+use Rattle.fd_laws.proofs.Rows.{agree-cut, agree_back, agree_on, agree_within, row_exact, row_total}
 use Rattle.lens_laws.specs.Asked.{keys_at, Reaches}
 use Rattle.lens_laws.specs.Finds.{AllFit, IsOver}
 use Rattle.lens_laws.specs.KeyedDeltas.{find_by}
 use Rattle.lens_laws.specs.Lenses.{AreOf, IsTyped}
-use Rattle.lens_laws.proofs.Asked.{contains_map, keys_reach}
+use Rattle.lens_laws.proofs.Asked.{contains_map, keys_are, keys_reach}
 use Rattle.lens_laws.proofs.Finds.{find_project, find_select}
 use Rattle.lens_laws.proofs.Lenses.{get_sort}
-use Rattle.lens_laws.proofs.NodeFinds.{find_alike, find_cut}
+use Rattle.lens_laws.proofs.NodeFinds.{find_alike, find_cut, fits_is_over}
 use Rattle.lens_laws.proofs.PastedFinds.{found_are_over, left_pairs_are, right_pairs_are, shared_within}
 use Rattle.signed_delta.proofs.Looks.{passed_are}
 use Rattle.base_index.specs.Held.{State, is_indexed, no_relation, relation_in}
 use Rattle.lens_probe.specs.Looking.{MayFind, both_of, pairs_of}
+use Rattle.lens_probe.proofs.Listed.{own_parts, parts}
 use Rattle.lens_probe.proofs.Viewing.{under_drop, under_left, under_right, under_select}
 
 -- ---- a table
@@ -81,6 +83,17 @@ unfolding get
 select_finds r L S P db C k found is of =
     subst (λ M. IfOk r (λ some. some ≡ M)) (ap (those (holds P)) of ∙ sym (find_select (holds P) C k (get S db)) ∙ ap (λ M. find_by C k (get M db)) is)
 
+-- ---- the columns of a look-up
+
+-- are all shown
+pub shown_to : (L : Lens) (st : State) (C : Names) → IsTyped L → MayFind L st C → Within C (view_names L)
+shown_to L st C typed may = (keys_are L may.0 typed may.1.keys may.1.sets C may.2).1
+
+-- what is found is its own part
+pub found_whole : (L : Lens) (st : State) (C : Names) (k : Row) → IsTyped L → AreOf L st.relations → project (view_names L) (find_by C k (get L st.relations)) ≡ find_by C k (get L st.relations)
+found_whole L st C k typed are = own_parts (view_names L) (find_by C k (get L st.relations))
+    (λ r i. fits_is_over (sort_of L).columns r ((get_sort L st.relations typed are).columns r (from_those (agree C k) (get L st.relations) r i).0))
+
 -- ---- a projection
 
 drop_asks : (A : Name) (X : Names) (v : Value) (S : Lens) (st : State) (C : Names) → IsTyped (drop A X v S) → MayFind (drop A X v S) st C
@@ -106,6 +119,41 @@ pub drop_finds : (r : Result Rows NoMemory) (L S : Lens) (A : Name) (X : Names) 
 drop_finds r L S A X v st C D k found is typed may cols of =
     let here = drop_finds_at A X v S st C D k found (subst IsTyped (sym is) typed) (subst (λ M. MayFind M st C) (sym is) may) (cols ∙ ap view_names (sym is)) of in
     subst (λ M. IfOk r (λ part. part ≡ M)) (here ∙ ap (λ M. find_by C k (get M st.relations)) is)
+
+-- ---- what is kept of pairs
+
+-- the test by a key of some columns sees their part alone
+agree_part : (C K : Names) (k r : Row) → Within C K → agree C k (restrict K r) ≡ agree C k r
+unfolding cut
+agree_part C K k r within =
+    let same : agree C (cut K r) r ≡ true = agree_within C K (cut K r) r within (agree-cut K r) in
+    both_ways _ _ (λ i. agree_on C k (cut K r) r i same) (λ i. agree_on C k r (cut K r) i (agree_back C (cut K r) r same))
+
+module _ (C K : Names) (k : Row) (within : Within C K) where
+  -- parts that pass are the parts of those that pass
+  passed_cut : {X : Type 0} (with : X → Row) (xs : List X) → filter (agree C k) (map (λ x. restrict K (with x)) xs) ≡ map (restrict K) (filter (agree C k) (map with xs))
+  passed_cut with [] = refl
+  passed_cut with (x ∷ xs) =
+      (λ i. cond (agree_part C K k (with x) within i) (restrict K (with x) ∷ passed_cut with xs i) (passed_cut with xs i))
+      ∙ chosen_cut (agree C k (with x)) (with x) (filter (agree C k) (map with xs))
+    where
+      chosen_cut : (b : Bool) (r : Row) (rs : List Row) → cond b (restrict K r ∷ map (restrict K) rs) (map (restrict K) rs) ≡ map (restrict K) (cond b (r ∷ rs) rs)
+      chosen_cut true r rs = refl
+      chosen_cut false r rs = refl
+
+  joined_cut : (ps qs : List Row) → map (restrict K) ps ++ map (restrict K) qs ≡ map (restrict K) (ps ++ qs)
+  joined_cut [] qs = refl
+  joined_cut (p ∷ ps) qs = ap (λ l. restrict K p ∷ l) (joined_cut ps qs)
+
+  pub left_cut : (S : Names) (N : Rows) (rows : List Row)
+      → pairs_of true S K C k N rows ≡ map (restrict K) (flat_map (λ m. filter (agree C k) (map (λ n. override n m) (set.items (find_by S (restrict S m) N)))) rows)
+  left_cut S N [] = refl
+  left_cut S N (m ∷ rows) = (λ i. passed_cut (λ n. override n m) (set.items (find_by S (restrict S m) N)) i ++ left_cut S N rows i) ∙ joined_cut _ _
+
+  pub right_cut : (S : Names) (M : Rows) (rows : List Row)
+      → pairs_of false S K C k M rows ≡ map (restrict K) (flat_map (λ n. filter (agree C k) (map (λ m. override n m) (set.items (find_by S (restrict S n) M)))) rows)
+  right_cut S M [] = refl
+  right_cut S M (n ∷ rows) = (λ i. passed_cut (λ m. override n m) (set.items (find_by S (restrict S n) M)) i ++ right_cut S M rows i) ∙ joined_cut _ _
 
 -- ---- a join
 
@@ -148,21 +196,25 @@ module _ (kind : JoinKind) (A B : Lens) (st : State) (C : Names) (typed : IsType
     pub right_over : F ≡ by_part (view_names B) (get B st.relations) → (m : Row) → Contains rows m → IsOver S (restrict S m)
     right_over found = let P = set.intersection C (view_names B) in found_are_over (sort_of B).columns S P (restrict P k) (get B st.relations) F rows right_fit within.1 found listed
 
-    module _ (r : Result Rows NoMemory) (pairs : List Row) (made : IfOk r (λ all. all ≡ set.from_list pairs)) where
-      -- the pairs of rows found on both sides are what the join finds
-      pub left_finds : F ≡ by_part (view_names A) (get A st.relations) → pairs ≡ pairs_of true S C k (get B st.relations) rows → IfOk r (λ all. all ≡ find_by C k (get (join kind A B) st.relations))
+    module _ (K : Names) (within_kept : Within C K) (r : Result Rows NoMemory) (pairs : List Row) (made : IfOk r (λ all. all ≡ set.from_list pairs)) where
+      -- what is kept of the pairs of rows found on both sides is what is kept of what the join finds
+      pub left_finds : F ≡ by_part (view_names A) (get A st.relations) → pairs ≡ pairs_of true S K C k (get B st.relations) rows → IfOk r (λ all. all ≡ project K (find_by C k (get (join kind A B) st.relations)))
       unfolding get
       left_finds found paired =
           let P = set.intersection C (view_names A) in
+          let all = flat_map (λ m. filter (agree C k) (map (λ n. override n m) (set.items (find_by S (restrict S m) (get B st.relations))))) rows in
           subst (λ M. IfOk r (λ all. all ≡ M))
-          (left_pairs_are (sort_of A).columns (sort_of B).columns (get A st.relations) (get B st.relations) left_fit right_fit C k (view_names A) (view_names B) S P (restrict P k) F rows pairs refl refl shared refl listed refl found paired) made
+          (ap set.from_list (paired ∙ left_cut C K k within_kept S (get B st.relations) rows)
+          ∙ parts K all _ (left_pairs_are (sort_of A).columns (sort_of B).columns (get A st.relations) (get B st.relations) left_fit right_fit C k (view_names A) (view_names B) S P (restrict P k) F rows all refl refl shared refl listed refl found refl)) made
 
-      pub right_finds : F ≡ by_part (view_names B) (get B st.relations) → pairs ≡ pairs_of false S C k (get A st.relations) rows → IfOk r (λ all. all ≡ find_by C k (get (join kind A B) st.relations))
+      pub right_finds : F ≡ by_part (view_names B) (get B st.relations) → pairs ≡ pairs_of false S K C k (get A st.relations) rows → IfOk r (λ all. all ≡ project K (find_by C k (get (join kind A B) st.relations)))
       unfolding get
       right_finds found paired =
           let P = set.intersection C (view_names B) in
+          let all = flat_map (λ n. filter (agree C k) (map (λ m. override n m) (set.items (find_by S (restrict S n) (get A st.relations))))) rows in
           subst (λ M. IfOk r (λ all. all ≡ M))
-          (right_pairs_are (sort_of A).columns (sort_of B).columns (get A st.relations) (get B st.relations) left_fit right_fit C k (view_names A) (view_names B) S P (restrict P k) F rows pairs refl refl shared refl listed refl found paired) made
+          (ap set.from_list (paired ∙ right_cut C K k within_kept S (get A st.relations) rows)
+          ∙ parts K all _ (right_pairs_are (sort_of A).columns (sort_of B).columns (get A st.relations) (get B st.relations) left_fit right_fit C k (view_names A) (view_names B) S P (restrict P k) F rows all refl refl shared refl listed refl found refl)) made
 
 -- columns that are all among others are what both have
 pub whole_part : (C U : Names) → set.is_subset C U ≡ true → set.intersection C U ≡ C
@@ -180,11 +232,11 @@ unfolding cut
 partners_again S N row key rows found alike = found ∙ find_alike S key row N (agree_back S row key alike) ∙ sym (find_cut S row N)
 
 -- one row more
-pub next_pairs : (is_left : Bool) (S C : Names) (k : Row) (N : Rows) (rows : List Row) (i : ℕ) (row : Row) (found : Rows) (others old new : List Row) → i < length rows → row ≡ get_or rows i row
-    → found ≡ find_by S (restrict S row) N → others ≡ set.items found → old ≡ pairs_of is_left S C k N (take i rows) → new ≡ old ++ filter (agree C k) (map (both_of is_left row) others) → new ≡ pairs_of is_left S C k N (take (i + 1) rows)
-next_pairs is_left S C k N rows i row found others old new below here of listed before now =
-    let pairs : Row → List Row = λ m. filter (agree C k) (map (both_of is_left m) (set.items (find_by S (restrict S m) N))) in
-    let mine = ap (λ z. filter (agree C k) (map (both_of is_left row) z)) (listed ∙ ap set.items of) in
+pub next_pairs : (is_left : Bool) (S K C : Names) (k : Row) (N : Rows) (rows : List Row) (i : ℕ) (row : Row) (found : Rows) (others old new : List Row) → i < length rows → row ≡ get_or rows i row
+    → found ≡ find_by S (restrict S row) N → others ≡ set.items found → old ≡ pairs_of is_left S K C k N (take i rows) → new ≡ old ++ filter (agree C k) (map (both_of is_left K row) others) → new ≡ pairs_of is_left S K C k N (take (i + 1) rows)
+next_pairs is_left S K C k N rows i row found others old new below here of listed before now =
+    let pairs : Row → List Row = λ m. filter (agree C k) (map (both_of is_left K m) (set.items (find_by S (restrict S m) N))) in
+    let mine = ap (λ z. filter (agree C k) (map (both_of is_left K row) z)) (listed ∙ ap set.items of) in
     now ∙ (λ z. before z ++ mine z) ∙ flat_map_more pairs [] (take i rows) row
     ∙ ap (flat_map pairs) (ap (λ r. take i rows ++ r ∷ []) here ∙ sym (take_more rows i row below))
 

@@ -1,6 +1,5 @@
 mod Walks
 pub mod Contained
-mod SharedColumns
 pub mod Found
 mod Sides
 pub mod Listed

@@ -2,6 +2,6 @@ pub mod Handed
 pub mod Looking
 pub mod Needs
 pub mod Reading
-pub mod Untested
+pub mod Unfiltered
 pub mod KnownRows
 pub mod Viewed

@@ -36,13 +36,13 @@ FindsWithin L st C w =
 abbrev pub ArePartners : Names → Rows → Partners → Type 0
 ArePartners S N found = found.rows ≡ find_by S found.key N
 
--- a row of the left side of a join put together with one of the right, or the other way round
-abbrev pub both_of : Bool → Row → Row → Row
-both_of true m n = override n m
-both_of false n m = override n m
+-- what is kept of a row of the left side of a join put together with one of the right, or the other way round
+abbrev pub both_of : Bool → Names → Row → Row → Row
+both_of true K m n = restrict K (override n m)
+both_of false K n m = restrict K (override n m)
 
--- each row put together with each of N that agrees with it on S, where the key agrees with both
-abbrev pub pairs_of : Bool → Names → Names → Row → Rows → List Row → List Row
-pairs_of is_left S C k N rows =
+-- what is kept of each row put together with each of N that agrees with it on S, where the key agrees with it
+abbrev pub pairs_of : Bool → Names → Names → Names → Row → Rows → List Row → List Row
+pairs_of is_left S K C k N rows =
     let others : Row → Rows = λ m. find_by S (restrict S m) N in
-    flat_map (λ m. filter (agree C k) (map (both_of is_left m) (set.items (others m)))) rows
+    flat_map (λ m. filter (agree C k) (map (both_of is_left K m) (set.items (others m)))) rows

@@ -8,12 +8,12 @@ ghost use Rattle.lens_specs.specs.Relation.{minus};
 ghost use Rattle.lens_laws.specs.Lenses.{AreOf};
 ghost use Rattle.lens_probe.specs.KnownRows.{AreOver, AreParts, IsPartToo, parts_in, unmarked};
 ghost use Rattle.lens_probe.specs.Reading.{rows_under};
-ghost use Rattle.lens_probe.specs.Untested.{passing};
+ghost use Rattle.lens_probe.specs.Unfiltered.{passing};
 
 use crate::columns::names_of;
 use crate::known::Cursor;
 use crate::reading::into_part;
-use crate::untested::{Untested, passes, untested_rows};
+use crate::unfiltered::{Unfiltered, passes, unfiltered_rows};
 use base_index::Tables;
 use lens_types::TypedLens;
 use lens_values::{Names, NoMemory, Row};
@@ -48,9 +48,8 @@ pub(crate) fn difference_in<L: Ledger>(
     ensures walked { walked.new ≤ walked.old + rows_under lens.now tables.now.present.relations }
     ensures walks_on { walked.old ≤ walked.new }
 {
-    let untested = untested_rows(alloc, lens, tables, walked)?;
-    let cols = names_of(alloc, lens)?;
-    let parts = Parts::of(alloc, &cols, untested, known.rows())?;
+    let unfiltered = unfiltered_rows(alloc, lens, tables, walked)?;
+    let parts = Parts::of(alloc, names_of(lens), unfiltered, known.rows())?;
     parts.difference(alloc, known)
 }
 
@@ -59,14 +58,14 @@ impl Parts {
     fn of(
         alloc: Global,
         cols: &Names,
-        untested: Untested<'_>,
+        unfiltered: Unfiltered<'_>,
         known: &[Row],
     ) -> Result<Parts, NoMemory>
         requires { AreOver cols.now known.now }
         ensures { IfOk result (λ parts.
-            AreParts known.now parts (map (restrict cols.now) (passing untested.entry))) }
+            AreParts known.now parts (map (restrict cols.now) (passing unfiltered.entry))) }
     {
-        let Untested { rows, pred } = untested;
+        let Unfiltered { rows, pred } = unfiltered;
         let mut parts = Parts {
             are_parts: vec![in alloc; false; known.len()]?,
             others: Vec::new(alloc),
@@ -129,7 +128,7 @@ fn rest(alloc: Global, known: &[Row], are_parts: &[bool]) -> Result<Vec<Row>, No
     Ok(rest)
 }
 
-// Rows are few where there are more than so many times as many known rows.
+// Fewer than a sixteenth of the known rows are looked up one by one.
 const FEW: usize = 16;
 
 // The rows that are not known. Few rows are each looked up, and many are found by one walk.

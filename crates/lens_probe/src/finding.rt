@@ -1,21 +1,22 @@
 //! Rows of a view by key.
-ghost use Rattle.std.specs.Prelude.{◌≡◌, ◌≤◌, ◌+◌, ◌*◌, ◌++◌, ℕ, Contains, IfOk, IfSome, OnOk, length};
-ghost use Rattle.std.specs.Prelude.{false, filter, map, true};
+ghost use Rattle.std.specs.Prelude.{◌≡◌, ◌≤◌, ◌+◌, ◌*◌, ℕ, Contains, IfOk, IfSome, length};
+ghost use Rattle.std.specs.Prelude.{false, true};
 ghost use Rattle.std.specs.List.{list_all};
 ghost use Rattle.lens_values.specs.Part.{restrict};
 ghost use Rattle.lens_values.specs.SortedSet as set;
 ghost use Rattle.lens_specs.specs.Lens.{get, join, rename, view_names};
-ghost use Rattle.lens_specs.specs.Names.{share};
+ghost use Rattle.lens_specs.specs.Names.{Within, share};
 ghost use Rattle.lens_specs.specs.Predicate.{holds};
-ghost use Rattle.lens_specs.specs.Relation.{those};
+ghost use Rattle.lens_specs.specs.Relation.{project, those};
 ghost use Rattle.lens_specs.specs.Rows.{agree};
 ghost use Rattle.lens_laws.specs.KeyedDeltas.{find_by};
 ghost use Rattle.lens_laws.specs.Lenses.{IsTyped};
 ghost use Rattle.lens_laws.specs.Work.{size};
 ghost use Rattle.signed_delta.specs.Keys.{IsKey};
-ghost use Rattle.lens_probe.specs.Looking.{ArePartners, FindsWithin, MayFind, both_of, pairs_of};
+ghost use Rattle.lens_probe.specs.Looking.{ArePartners, FindsWithin, MayFind, pairs_of};
 
-use crate::columns::{names_of, shared_names, shows_all, shows_any};
+use crate::columns::{names_of, shared_names};
+use crate::pairing::add_pairs;
 use base_index::Tables;
 use lens_pred::Pred;
 use lens_types::{JoinKind, Lens, TypedLens, rename_row, rename_set};
@@ -63,18 +64,48 @@ pub(crate) fn find_in<L: Ledger>(
             let found = find_in(alloc, of, query, looked)?;
             selected(alloc, pred, found)
         }
-        Lens::Drop { of, .. } => {
-            let found = find_in(alloc, of, query, looked)?;
-            let kept = names_of(alloc, lens)?;
-            found.project(alloc, &kept)
-        }
+        Lens::Drop { of, .. } => find_parts(alloc, names_of(lens), of, query, looked),
         Lens::Rename { col, to, of, .. } => find_renamed(alloc, col, to, of, query, looked),
         Lens::Join {
             kind,
             left,
             right,
             ..
-        } => find_joined(alloc, *kind, left, right, query, looked),
+        } => find_joined(alloc, *kind, left, right, names_of(lens), query, looked),
+    }
+}
+
+// The parts of the same rows in some columns, among which are those of the query. Nothing else is
+// made of the pairs of a join.
+#[cycle(find)]
+fn find_parts<L: Ledger>(
+    alloc: Global,
+    kept: &Names,
+    lens: &TypedLens,
+    query: &Query<'_>,
+    looked: &mut Steps<L>,
+) -> Result<RowSet, NoMemory>
+    requires kept { Within query.now.cols.now kept.now }
+    requires asked { MayFind lens.now query.now.tables.now.present query.now.cols.now }
+    requires key { IsKey query.now.cols.now query.now.key.now }
+    ensures found { let shown = get lens.now query.now.tables.now.present.relations in
+        IfOk result (λ found.
+        found ≡ project kept.now (find_by query.now.cols.now query.now.key.now shown)) }
+    ensures looks { (w : ℕ)
+        → FindsWithin lens.now query.now.tables.now.present query.now.cols.now w
+        → looked.new ≤ looked.old + size lens.now w }
+{
+    match lens.lens() {
+        Lens::Join {
+            kind,
+            left,
+            right,
+            ..
+        } => find_joined(alloc, *kind, left, right, kept, query, looked),
+        Lens::Base { .. } | Lens::Select { .. } | Lens::Drop { .. } | Lens::Rename { .. } => {
+            let found = find_in(alloc, lens, query, looked)?;
+            found.project(alloc, kept)
+        }
     }
 }
 
@@ -107,33 +138,37 @@ fn find_renamed<L: Ledger>(
         ..*query
     };
     let found = find_in(alloc, of, &asked, looked)?;
-    rename_set(alloc, &found, &names_of(alloc, of)?, col, to)
+    rename_set(alloc, &found, names_of(of), col, to)
 }
 
-// The same of the join of both: the left side is asked first where the key has a column of it.
+// The parts in the columns that are kept of the same rows of the join of both: the left side is asked
+// first where the key has a column of it.
 #[cycle(find)]
 fn find_joined<L: Ledger>(
     alloc: Global,
     kind: JoinKind,
     left: &TypedLens,
     right: &TypedLens,
+    kept: &Names,
     query: &Query<'_>,
     looked: &mut Steps<L>,
 ) -> Result<RowSet, NoMemory>
     requires typed { IsTyped (join kind left.now right.now) }
+    requires kept { Within query.now.cols.now kept.now }
     requires asked { let st = query.now.tables.now.present in
         MayFind (join kind left.now right.now) st query.now.cols.now }
     requires key { IsKey query.now.cols.now query.now.key.now }
     ensures found { let shown = get (join kind left.now right.now) query.now.tables.now.present.relations in
-        IfOk result (λ found. found ≡ find_by query.now.cols.now query.now.key.now shown) }
+        IfOk result (λ found.
+        found ≡ project kept.now (find_by query.now.cols.now query.now.key.now shown)) }
     ensures looks { (w : ℕ) → let L = join kind left.now right.now in
         FindsWithin L query.now.tables.now.present query.now.cols.now w
         → looked.new ≤ looked.old + size L w }
 {
-    if shows_any(left, query.cols) {
-        find_from_left(alloc, kind, left, right, query, looked)
+    if query.cols.meets(names_of(left)) {
+        find_from_left(alloc, kind, left, right, kept, query, looked)
     } else {
-        find_from_right(alloc, kind, left, right, query, looked)
+        find_from_right(alloc, kind, left, right, kept, query, looked)
     }
 }
 
@@ -144,23 +179,35 @@ fn find_from_left<L: Ledger>(
     _kind: JoinKind,
     left: &TypedLens,
     right: &TypedLens,
+    kept: &Names,
     query: &Query<'_>,
     looked: &mut Steps<L>,
 ) -> Result<RowSet, NoMemory>
     requires typed { IsTyped (join _kind left.now right.now) }
+    requires kept { Within query.now.cols.now kept.now }
     requires asked { let st = query.now.tables.now.present in
         MayFind (join _kind left.now right.now) st query.now.cols.now }
     requires key { IsKey query.now.cols.now query.now.key.now }
     requires meets { share query.now.cols.now (view_names left.now) ≡ true }
     ensures found { let shown = get (join _kind left.now right.now) query.now.tables.now.present.relations in
-        IfOk result (λ found. found ≡ find_by query.now.cols.now query.now.key.now shown) }
+        IfOk result (λ found.
+        found ≡ project kept.now (find_by query.now.cols.now query.now.key.now shown)) }
     ensures looks { (w : ℕ) → let L = join _kind left.now right.now in
         FindsWithin L query.now.tables.now.present query.now.cols.now w
         → looked.new ≤ looked.old + size L w }
 {
     let found = find_by_part(alloc, left, query, looked)?;
     let shared = shared_names(alloc, left, right)?;
-    let pairs = pair_each(alloc, found.rows(), true, right, &shared, query, looked)?;
+    let pairs = pair_each(
+        alloc,
+        found.rows(),
+        true,
+        right,
+        &shared,
+        kept,
+        query,
+        looked,
+    )?;
     RowSet::new(alloc, pairs)
 }
 
@@ -171,23 +218,35 @@ fn find_from_right<L: Ledger>(
     _kind: JoinKind,
     left: &TypedLens,
     right: &TypedLens,
+    kept: &Names,
     query: &Query<'_>,
     looked: &mut Steps<L>,
 ) -> Result<RowSet, NoMemory>
     requires typed { IsTyped (join _kind left.now right.now) }
+    requires kept { Within query.now.cols.now kept.now }
     requires asked { let st = query.now.tables.now.present in
         MayFind (join _kind left.now right.now) st query.now.cols.now }
     requires key { IsKey query.now.cols.now query.now.key.now }
     requires meets { share query.now.cols.now (view_names left.now) ≡ false }
     ensures found { let shown = get (join _kind left.now right.now) query.now.tables.now.present.relations in
-        IfOk result (λ found. found ≡ find_by query.now.cols.now query.now.key.now shown) }
+        IfOk result (λ found.
+        found ≡ project kept.now (find_by query.now.cols.now query.now.key.now shown)) }
     ensures looks { (w : ℕ) → let L = join _kind left.now right.now in
         FindsWithin L query.now.tables.now.present query.now.cols.now w
         → looked.new ≤ looked.old + size L w }
 {
     let found = find_by_part(alloc, right, query, looked)?;
     let shared = shared_names(alloc, left, right)?;
-    let pairs = pair_each(alloc, found.rows(), false, left, &shared, query, looked)?;
+    let pairs = pair_each(
+        alloc,
+        found.rows(),
+        false,
+        left,
+        &shared,
+        kept,
+        query,
+        looked,
+    )?;
     RowSet::new(alloc, pairs)
 }
 
@@ -211,10 +270,10 @@ fn find_by_part<L: Ledger>(
         FindsWithin side.now query.now.tables.now.present part w
         → looked.new ≤ looked.old + size side.now w }
 {
-    if shows_all(side, query.cols) {
+    if query.cols.within(names_of(side)) {
         return find_in(alloc, side, query, looked);
     }
-    let part = query.cols.meet(alloc, &names_of(alloc, side)?)?;
+    let part = query.cols.meet(alloc, names_of(side))?;
     let part_key = query.key.project(alloc, &part)?;
     let asked = Query {
         cols: &part,
@@ -225,7 +284,8 @@ fn find_by_part<L: Ledger>(
 }
 
 // Each of the rows, which are of the left side or of the right one, put together with each row of
-// the other side that agrees with it on the shared columns, where both agree with the key.
+// the other side that agrees with it on the shared columns: what is kept, where it agrees with the
+// key.
 #[cycle(find)]
 fn pair_each<L: Ledger>(
     alloc: Global,
@@ -233,6 +293,7 @@ fn pair_each<L: Ledger>(
     are_left: bool,
     other: &TypedLens,
     shared: &Names,
+    kept: &Names,
     query: &Query<'_>,
     looked: &mut Steps<L>,
 ) -> Result<Vec<Row>, NoMemory>
@@ -242,7 +303,7 @@ fn pair_each<L: Ledger>(
     ensures pairs { let others = get other.now query.now.tables.now.present.relations in
         let C = query.now.cols.now in
         IfOk result (λ pairs.
-        pairs.items ≡ pairs_of are_left shared.now C query.now.key.now others rows.now) }
+        pairs.items ≡ pairs_of are_left shared.now kept.now C query.now.key.now others rows.now) }
     ensures looks { (w : ℕ) → FindsWithin other.now query.now.tables.now.present shared.now w
         → looked.new ≤ looked.old + size other.now w * length rows.now }
 {
@@ -255,6 +316,7 @@ fn pair_each<L: Ledger>(
             row,
             are_left,
             partners.rows.rows(),
+            kept,
             query,
             &mut pairs,
         )?;
@@ -300,39 +362,6 @@ fn partners_of<L: Ledger>(
     };
     let rows = find_in(alloc, other, &asked, looked)?;
     Ok(Partners { key, rows })
-}
-
-// Adds the row put together with each of the others, where both agree with the key.
-fn add_pairs(
-    alloc: Global,
-    row: &Row,
-    is_left: bool,
-    others: &[Row],
-    query: &Query<'_>,
-    pairs: &mut Vec<Row>,
-) -> Result<(), NoMemory>
-    ensures { let all = map (both_of is_left row.now) others.now in
-        let agreeing = filter (agree query.now.cols.now query.now.key.now) all in
-        OnOk result (pairs.new.items ≡ pairs.old.items ++ agreeing) }
-{
-    for other in others {
-        let both = put_together(alloc, row, is_left, other)?;
-        if query.key.agree_on(&both, query.cols) {
-            pairs.push(both)?;
-        }
-    }
-    Ok(())
-}
-
-// The row, which is of the left side or of the right one, put together with one of the other side.
-fn put_together(alloc: Global, row: &Row, is_left: bool, other: &Row) -> Result<Row, NoMemory>
-    ensures { IfOk result (λ both. both ≡ both_of is_left row.now other.now) }
-{
-    if is_left {
-        row.paste(alloc, other)
-    } else {
-        other.paste(alloc, row)
-    }
 }
 
 // Those of the rows that the predicate holds on.

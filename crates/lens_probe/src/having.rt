@@ -8,7 +8,7 @@ ghost use Rattle.lens_specs.specs.Rows.{agree};
 ghost use Rattle.lens_laws.specs.Work.{size};
 ghost use Rattle.lens_probe.specs.Looking.{LooksWithin, MayLook};
 
-use crate::columns::{agree_on_shown, names_of};
+use crate::columns::names_of;
 use crate::finding::{Query, find_in};
 use base_index::Tables;
 use lens_types::{Lens, TypedLens, rename_row};
@@ -55,11 +55,11 @@ pub(crate) fn has_in<L: Ledger>(
             has_in(alloc, of, tables, &old_row, looked)
         }
         Lens::Join { left, right, .. } => {
-            let left_row = row.project(alloc, &names_of(alloc, left)?)?;
+            let left_row = row.project(alloc, names_of(left))?;
             if !has_in(alloc, left, tables, &left_row, looked)? {
                 return Ok(false);
             }
-            let right_row = row.project(alloc, &names_of(alloc, right)?)?;
+            let right_row = row.project(alloc, names_of(right))?;
             has_in(alloc, right, tables, &right_row, looked)
         }
     }
@@ -69,5 +69,6 @@ pub(crate) fn has_in<L: Ledger>(
 fn any_agrees(lens: &TypedLens, rows: &[Row], row: &Row) -> bool
     ensures { result ≡ list_any (agree (view_names lens.now) row.now) rows.now }
 {
-    rows.iter().any(|other| agree_on_shown(lens, row, other))
+    let shown = names_of(lens);
+    rows.iter().any(|other| row.agree_on(other, shown))
 }

@@ -9,8 +9,9 @@ mod handed;
 mod having;
 mod known;
 mod needed;
+mod pairing;
 mod reading;
-mod untested;
+mod unfiltered;
 pub mod view;
 
 pub use needed::needs;

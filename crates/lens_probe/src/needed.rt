@@ -6,7 +6,7 @@ ghost use Rattle.lens_specs.specs.Rename.{renamed_names};
 ghost use Rattle.lens_laws.specs.Asked.{asked, keys_at, side_keys};
 ghost use Rattle.lens_probe.specs.Needs.{pair_of};
 
-use crate::columns::names_of;
+use crate::columns::{names_of, shared_names};
 use base_index::Need;
 use lens_types::{Lens, TypedLens};
 use lens_values::{Name, Names, NoMemory};
@@ -107,11 +107,9 @@ fn handed_to_sides(
     ensures right { let S = set.intersection (view_names left.now) (view_names right.now) in
         IfOk result (λ handed. handed.1.items ≡ side_keys S (view_names right.now) sets.now) }
 {
-    let left_names = names_of(alloc, left)?;
-    let right_names = names_of(alloc, right)?;
-    let shared = left_names.meet(alloc, &right_names)?;
-    let under_left = handed_to(alloc, shared.copy(alloc)?, &left_names, sets)?;
-    let under_right = handed_to(alloc, shared, &right_names, sets)?;
+    let shared = shared_names(alloc, left, right)?;
+    let under_left = handed_to(alloc, shared.copy(alloc)?, names_of(left), sets)?;
+    let under_right = handed_to(alloc, shared, names_of(right), sets)?;
     Ok((under_left, under_right))
 }
 

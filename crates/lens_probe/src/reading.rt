@@ -5,12 +5,13 @@ ghost use Rattle.lens_values.specs.SortedSet as set;
 ghost use Rattle.lens_specs.specs.Lens as spec;
 ghost use Rattle.lens_specs.specs.Lens.{get, select, view_names};
 ghost use Rattle.lens_specs.specs.Predicate.{holds};
+ghost use Rattle.lens_specs.specs.Relation.{project, those};
 ghost use Rattle.lens_laws.specs.Lenses.{AreOf};
 ghost use Rattle.lens_laws.specs.Passes.{PredWithin};
 ghost use Rattle.row_sets.specs.Joins.{pairs_on};
 ghost use Rattle.lens_probe.specs.Reading.{rows_for, rows_under};
 
-use crate::columns::{names_of, shared_names, shows_all};
+use crate::columns::{names_of, shared_names};
 use base_index::Tables;
 use lens_pred::Pred;
 use lens_types::{Lens, TypedLens, rename_rows};
@@ -78,20 +79,69 @@ pub(crate) fn rows_in<L: Ledger>(
     match lens.lens() {
         Lens::Base { table, .. } => Ok(tables.walk(table, walked)?.into_rows()),
         Lens::Select { pred, of, .. } => selected_in(alloc, pred, of, tables, walked),
-        Lens::Drop { of, .. } => {
-            let rows = rows_in(alloc, of, tables, walked)?;
-            shown_parts(alloc, lens, rows)
-        }
+        Lens::Drop { of, .. } => parts_in(alloc, names_of(lens), of, tables, walked),
         Lens::Rename { col, to, of, .. } => {
             let rows = rows_in(alloc, of, tables, walked)?;
-            rename_rows(alloc, &rows, &names_of(alloc, of)?, col, to)
+            rename_rows(alloc, &rows, names_of(of), col, to)
         }
         Lens::Join { left, right, .. } => {
-            let left_rows = row_set_in(alloc, left, tables, walked)?;
-            let right_rows = row_set_in(alloc, right, tables, walked)?;
-            joined(alloc, left, right, &left_rows, &right_rows)
+            pair_parts_in(alloc, names_of(lens), left, right, tables, walked)
         }
     }
+}
+
+// The parts in these columns of the rows that the lens shows, in no certain order and perhaps more
+// than once. Nothing else is made of the pairs of a join.
+#[cycle(rows)]
+fn parts_in<L: Ledger>(
+    alloc: Global,
+    kept: &Names,
+    lens: &TypedLens,
+    tables: &Tables,
+    walked: &mut Steps<L>,
+) -> Result<Vec<Row>, NoMemory>
+    requires { AreOf lens.now tables.now.present.relations }
+    ensures value { let shown = get lens.now tables.now.present.relations in
+        IfOk result (λ parts. set.from_list parts.items ≡ project kept.now shown) }
+    ensures walked { walked.new ≤ walked.old + rows_under lens.now tables.now.present.relations }
+    ensures walks_on { walked.old ≤ walked.new }
+{
+    match lens.lens() {
+        Lens::Join { left, right, .. } => {
+            pair_parts_in(alloc, kept, left, right, tables, walked)
+        }
+        Lens::Base { .. } | Lens::Select { .. } | Lens::Drop { .. } | Lens::Rename { .. } => {
+            let rows = rows_in(alloc, lens, tables, walked)?;
+            parts(alloc, kept, rows)
+        }
+    }
+}
+
+// The parts in these columns of the pairs of rows of both lenses that agree on the columns that both
+// show, pasted.
+#[cycle(rows)]
+fn pair_parts_in<L: Ledger>(
+    alloc: Global,
+    kept: &Names,
+    left: &TypedLens,
+    right: &TypedLens,
+    tables: &Tables,
+    walked: &mut Steps<L>,
+) -> Result<Vec<Row>, NoMemory>
+    requires left { AreOf left.now tables.now.present.relations }
+    requires right { AreOf right.now tables.now.present.relations }
+    ensures value { let db = tables.now.present.relations in
+        let shared = set.intersection (view_names left.now) (view_names right.now) in
+        let pairs = pairs_on shared (get left.now db) (get right.now db) in
+        IfOk result (λ parts. set.from_list parts.items ≡ project kept.now pairs) }
+    ensures walked { let db = tables.now.present.relations in
+        walked.new ≤ walked.old + (rows_under left.now db + rows_under right.now db) }
+    ensures walks_on { walked.old ≤ walked.new }
+{
+    let left_rows = row_set_in(alloc, left, tables, walked)?;
+    let right_rows = row_set_in(alloc, right, tables, walked)?;
+    let shared = shared_names(alloc, left, right)?;
+    left_rows.joined_parts(alloc, &right_rows, &shared, kept)
 }
 
 /// The rows of the lens on which the predicate holds, in no certain order and perhaps more than
@@ -114,19 +164,75 @@ pub(crate) fn selected_in<L: Ledger>(
 {
     match of.lens() {
         Lens::Drop { of: source, .. } => {
-            let rows = selected_in(alloc, pred, source, tables, walked)?;
-            shown_parts(alloc, of, rows)
+            selected_parts_in(alloc, pred, names_of(of), source, tables, walked)
         }
         Lens::Join { left, right, .. } => {
-            let left_rows = side_in(alloc, pred, left, tables, walked)?;
-            let right_rows = side_in(alloc, pred, right, tables, walked)?;
-            let pairs = joined(alloc, left, right, &left_rows, &right_rows)?;
-            Ok(selected(pred, pairs))
+            selected_pairs_in(alloc, pred, names_of(of), left, right, tables, walked)
         }
         Lens::Base { .. } | Lens::Select { .. } | Lens::Rename { .. } => {
             Ok(selected(pred, rows_in(alloc, of, tables, walked)?))
         }
     }
+}
+
+// The parts in these columns of the rows of the lens on which the predicate holds, which mentions
+// none but these columns.
+#[cycle(rows)]
+fn selected_parts_in<L: Ledger>(
+    alloc: Global,
+    pred: &Pred,
+    kept: &Names,
+    lens: &TypedLens,
+    tables: &Tables,
+    walked: &mut Steps<L>,
+) -> Result<Vec<Row>, NoMemory>
+    requires kept { PredWithin pred.now kept.now }
+    requires shown { PredWithin pred.now (view_names lens.now) }
+    requires tables { AreOf lens.now tables.now.present.relations }
+    ensures value { let some = get (select pred.now lens.now) tables.now.present.relations in
+        IfOk result (λ parts. set.from_list parts.items ≡ project kept.now some) }
+    ensures walked { walked.new ≤ walked.old + rows_under lens.now tables.now.present.relations }
+    ensures walks_on { walked.old ≤ walked.new }
+{
+    match lens.lens() {
+        Lens::Join { left, right, .. } => {
+            selected_pairs_in(alloc, pred, kept, left, right, tables, walked)
+        }
+        Lens::Base { .. } | Lens::Select { .. } | Lens::Drop { .. } | Lens::Rename { .. } => {
+            let rows = selected_in(alloc, pred, lens, tables, walked)?;
+            parts(alloc, kept, rows)
+        }
+    }
+}
+
+// The parts in these columns on which the predicate holds, of the pairs of those rows of both lenses
+// that it needs.
+#[cycle(rows)]
+fn selected_pairs_in<L: Ledger>(
+    alloc: Global,
+    pred: &Pred,
+    kept: &Names,
+    left: &TypedLens,
+    right: &TypedLens,
+    tables: &Tables,
+    walked: &mut Steps<L>,
+) -> Result<Vec<Row>, NoMemory>
+    requires left { AreOf left.now tables.now.present.relations }
+    requires right { AreOf right.now tables.now.present.relations }
+    ensures value { let db = tables.now.present.relations in
+        let shared = set.intersection (view_names left.now) (view_names right.now) in
+        let pairs = pairs_on shared (rows_for pred.now left.now db) (rows_for pred.now right.now db) in
+        IfOk result (λ parts.
+        set.from_list parts.items ≡ those (holds pred.now) (project kept.now pairs)) }
+    ensures walked { let db = tables.now.present.relations in
+        walked.new ≤ walked.old + (rows_under left.now db + rows_under right.now db) }
+    ensures walks_on { walked.old ≤ walked.new }
+{
+    let left_rows = side_in(alloc, pred, left, tables, walked)?;
+    let right_rows = side_in(alloc, pred, right, tables, walked)?;
+    let shared = shared_names(alloc, left, right)?;
+    let parts = left_rows.joined_parts(alloc, &right_rows, &shared, kept)?;
+    Ok(selected(pred, parts))
 }
 
 // The rows of one side of a join: where it shows each column that the predicate mentions, only
@@ -146,7 +252,7 @@ fn side_in<L: Ledger>(
     ensures walks_on { walked.old ≤ walked.new }
 {
     let mentioned = pred.mentions(alloc)?;
-    if shows_all(side, &mentioned) {
+    if mentioned.within(names_of(side)) {
         RowSet::new(alloc, selected_in(alloc, pred, side, tables, walked)?)
     } else {
         row_set_in(alloc, side, tables, walked)
@@ -160,15 +266,6 @@ fn selected(pred: &Pred, rows: Vec<Row>) -> Vec<Row>
     let mut rows = rows;
     rows.retain(|row| pred.holds(row));
     rows
-}
-
-// Each row's part in the columns that the lens shows.
-fn shown_parts(alloc: Global, lens: &TypedLens, rows: Vec<Row>) -> Result<Vec<Row>, NoMemory>
-    ensures { IfOk result (λ parts.
-        parts.items ≡ map (restrict (view_names lens.now)) rows.items) }
-{
-    let cols = names_of(alloc, lens)?;
-    parts(alloc, &cols, rows)
 }
 
 // Each row's part in these columns. A row is freed as soon as its part is made, and the next part
@@ -191,20 +288,4 @@ pub(crate) fn into_part(alloc: Global, cols: &Names, row: Row) -> Result<Row, No
         return Ok(row);
     }
     row.project(alloc, cols)
-}
-
-// All pairs of a row of each side that agree on the columns that both lenses show, pasted.
-fn joined(
-    alloc: Global,
-    left: &TypedLens,
-    right: &TypedLens,
-    left_rows: &RowSet,
-    right_rows: &RowSet,
-) -> Result<Vec<Row>, NoMemory>
-    ensures { let shared = set.intersection (view_names left.now) (view_names right.now) in
-        IfOk result (λ rows.
-        set.from_list rows.items ≡ pairs_on shared left_rows.now right_rows.now) }
-{
-    let shared = shared_names(alloc, left, right)?;
-    left_rows.joined_rows(alloc, right_rows, &shared)
 }

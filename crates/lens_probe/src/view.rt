@@ -141,8 +141,8 @@ impl<'a> View<'a> {
         difference_in(alloc, self.lens, self.tables, rows, walked)
     }
 
-    // The view of the only source.
-    fn over(&self, source: &'a TypedLens) -> View<'a>
+    /// The view of this source of the lens, which is its only one.
+    pub fn over(&self, source: &'a TypedLens) -> View<'a>
         requires { only_source self.now.lens ≡ Some source.now }
         ensures { Some result ≡ source_of self.now }
     {
@@ -153,8 +153,8 @@ impl<'a> View<'a> {
         }
     }
 
-    // The views of both sides.
-    fn over_sides(&self, left: &'a TypedLens, right: &'a TypedLens) -> (View<'a>, View<'a>)
+    /// The views of these sides of the lens, the left one first.
+    pub fn over_sides(&self, left: &'a TypedLens, right: &'a TypedLens) -> (View<'a>, View<'a>)
         requires { both_sides self.now.lens ≡ Some (left.now, right.now) }
         ensures { Some result ≡ sides_of self.now }
     {

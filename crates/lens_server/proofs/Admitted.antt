@@ -29,10 +29,10 @@ use Rattle.view_catalog.proofs.Growth.{grown_by, new_name}
 use Rattle.lens_server.proofs.Grown.{AllIndexed, HasBases, indexed_after}
 use Rattle.lens_server.specs.Plans.{IsFree}
 use Rattle.lens_server.specs.Staging.{defined_by, table_of}
-use Rattle.lens_server.specs.declared.admitting.Admitted.{Admitted}
+use Rattle.lens_server.specs.declared.startup.definitions.Admitted.{Admitted}
 use Rattle.lens_server.specs.Starting.{AreAdmitted, HasEmptyTables, HasTables, IsRefusedAt}
-use Rattle.lens_server.specs.declared.starting.StartFault.{StartFault}
-use Rattle.lens_server.specs.declared.starting.StartFault.TheVariants as fault
+use Rattle.lens_server.specs.declared.startup.fault.StartFault.{StartFault}
+use Rattle.lens_server.specs.declared.startup.fault.StartFault.TheVariants as fault
 
 -- ---- the first text that is refused
 

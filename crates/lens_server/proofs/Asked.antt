@@ -21,7 +21,7 @@ use Rattle.server_specs.specs.State.{State}
 use Rattle.server_laws.proofs.Asked.{sent_fits}
 use Rattle.server_laws.proofs.Stored.{IsHere}
 use Rattle.lens_server.specs.Asking.{AsksBy}
-use Rattle.lens_server.specs.declared.asking.Refusal.{Refusal}
+use Rattle.lens_server.specs.declared.requested_edit.Refusal.{Refusal}
 
 -- ---- lists of rows
 

@@ -37,18 +37,18 @@ use Rattle.lens_server.specs.Batches.{AreMade, CanEdit, Gives, IsHolding, IsMade
 use Rattle.lens_server.specs.Counting.{batch_looks, edit_looks, of_lens, sent_by, then_looks}
 use Rattle.lens_server.specs.Keyed.{IsKeyed, IsSame}
 use Rattle.lens_server.specs.States.{state_of}
-use Rattle.lens_server.specs.declared.asking.Refusal.{Refusal}
-use Rattle.lens_server.specs.declared.asking.Refusal.TheVariants as refusal
-use Rattle.lens_server.specs.declared.batching.BatchFault.{BatchFault}
-use Rattle.lens_server.specs.declared.store.Store.{Store}
+use Rattle.lens_server.specs.declared.requested_edit.Refusal.{Refusal}
+use Rattle.lens_server.specs.declared.requested_edit.Refusal.TheVariants as refusal
+use Rattle.lens_server.specs.declared.batches.BatchFault.{BatchFault}
+use Rattle.lens_server.specs.declared.database.Database.{Database}
 
 -- ---- one edit
 
 -- an edit of a lens that is known
-known_is : (store : Store) (e : BatchEdit) (on : Option ℕ) (L : Lens) (r : Result Rows EditRefusal) → finmap.get (catalogue store.catalog.texts) e.view ≡ Some L
-    → asked_view (state_of store) L (edited e.remove e.add) on ≡ r → edit_on store on e ≡ put_in r L store.tables.present.relations
-known_is store e on L r known asked =
-    let s = state_of store in ap (λ o. edit_tables e on o s s.tables) known ∙ ap (λ q. put_in q L s.tables) asked
+known_is : (database : Database) (e : BatchEdit) (on : Option ℕ) (L : Lens) (r : Result Rows EditRefusal) → finmap.get (catalogue database.catalog.texts) e.view ≡ Some L
+    → asked_view (state_of database) L (edited e.remove e.add) on ≡ r → edit_on database on e ≡ put_in r L database.tables.present.relations
+known_is database e on L r known asked =
+    let s = state_of database in ap (λ o. edit_tables e on o s s.tables) known ∙ ap (λ q. put_in q L s.tables) asked
 
 -- what is asked of a view is asked of its lens
 pub asked_over : (s : State) (L : Lens) (v : Viewed) (t : Held) (r : Result Delta Refusal) (sent : Sent) (on : Option ℕ) → v.lens ≡ L → v.tables ≡ t → AsksBy v.lens (over v) r (asked_view s v.lens sent on)
@@ -56,57 +56,57 @@ pub asked_over : (s : State) (L : Lens) (v : Viewed) (t : Held) (r : Result Delt
 asked_over s L v t r sent on lens tables h = subst (λ u. AsksBy L u.present.relations r (asked_view s L sent on)) tables (subst (λ M. AsksBy M (over v) r (asked_view s M sent on)) lens h)
 
 -- the looks of one edit
-pub edit_within : (store : Store) (name : Name) (remove add : Items) (L : Lens) (v : Viewed) (d old mid new : ℕ) → Some L ≡ finmap.get (catalogue store.catalog.texts) name → v.lens ≡ L
-    → FindsAtMost v (fan L store.tables.present.relations) → d ≤ sent_by v.lens remove add → ((w : ℕ) → FindsAtMost v w → mid ≤ old + 2 * work v.lens (sent_by v.lens remove add) w)
+pub edit_within : (database : Database) (name : Name) (remove add : Items) (L : Lens) (v : Viewed) (d old mid new : ℕ) → Some L ≡ finmap.get (catalogue database.catalog.texts) name → v.lens ≡ L
+    → FindsAtMost v (fan L database.tables.present.relations) → d ≤ sent_by v.lens remove add → ((w : ℕ) → FindsAtMost v w → mid ≤ old + 2 * work v.lens (sent_by v.lens remove add) w)
     → ((w : ℕ) → FindsAtMost v w → new ≤ mid + work v.lens d w)
-    → new ≤ old + of_lens (edit_looks store.tables.present.relations remove add) (finmap.get (catalogue store.catalog.texts) name)
-edit_within store name remove add L v d old mid new known lens finds few asked carried =
-    let db = store.tables.present.relations in
+    → new ≤ old + of_lens (edit_looks database.tables.present.relations remove add) (finmap.get (catalogue database.catalog.texts) name)
+edit_within database name remove add L v d old mid new known lens finds few asked carried =
+    let db = database.tables.present.relations in
     let w = fan L db in
     let r = sent_by v.lens remove add in
     let all = thrice (work v.lens r w) old mid new (asked w finds) (fewer_rows v.lens d r w mid new few (carried w finds)) in
-    at_lens (edit_looks db remove add) (finmap.get (catalogue store.catalog.texts) name) L old new known (subst (λ M. new ≤ old + 3 * work M (sent_by M remove add) w) lens all)
+    at_lens (edit_looks db remove add) (finmap.get (catalogue database.catalog.texts) name) L old new known (subst (λ M. new ≤ old + 3 * work M (sent_by M remove add) w) lens all)
 
 -- the changes of a new view lead to the tables after the edit, which are the catalogue's
-pub edit_given : (store : Store) (e : BatchEdit) (on : Option ℕ) (L : Lens) (N : Rows) (ds : List TableDelta) → CanEdit store → finmap.get (catalogue store.catalog.texts) e.view ≡ Some L
-    → asked_view (state_of store) L (edited e.remove e.add) on ≡ Ok N → IsOf N (sort_of L) → ds ≡ changes L N store.tables.present.relations
-    → (db : Tables) × (edit_on store on e ≡ Ok db) × LeadTo ds store.tables.present.relations db × AreStored (catalogue store.catalog.texts) db
-edit_given store e on L N ds can known asked typed is =
-    let s = state_of store in
+pub edit_given : (database : Database) (e : BatchEdit) (on : Option ℕ) (L : Lens) (N : Rows) (ds : List TableDelta) → CanEdit database → finmap.get (catalogue database.catalog.texts) e.view ≡ Some L
+    → asked_view (state_of database) L (edited e.remove e.add) on ≡ Ok N → IsOf N (sort_of L) → ds ≡ changes L N database.tables.present.relations
+    → (db : Tables) × (edit_on database on e ≡ Ok db) × LeadTo ds database.tables.present.relations db × AreStored (catalogue database.catalog.texts) db
+edit_given database e on L N ds can known asked typed is =
+    let s = state_of database in
     let here = lens_over s can.taken can.stored e.view L known in (
       put L N s.tables,
-      known_is store e on L (Ok N) known asked,
+      known_is database e on L (Ok N) known asked,
       subst (λ l. LeadTo l s.tables (put L N s.tables)) (sym is) (put_leads_to s L N can.stored here typed),
       stored_put (catalogue s.texts) s.tables L N can.stored here.known.bases (get_after L s.tables here.typed here.are N typed).0,
     )
 
 -- a refusal of the view is that of the edit
-pub edit_refused : (store : Store) (e : BatchEdit) (on : Option ℕ) (L : Lens) (db : Tables) (why : Refusal) → finmap.get (catalogue store.catalog.texts) e.view ≡ Some L
-    → AsksBy L db (Err why) (asked_view (state_of store) L (edited e.remove e.add) on) → Gives store on e (Err why)
-edit_refused store e on L db (refusal.Told told) known asked = known_is store e on L (Err (edit_refusal_view told)) known asked
-edit_refused store e on L db refusal.NoMemory known asked = tt
+pub edit_refused : (database : Database) (e : BatchEdit) (on : Option ℕ) (L : Lens) (db : Tables) (why : Refusal) → finmap.get (catalogue database.catalog.texts) e.view ≡ Some L
+    → AsksBy L db (Err why) (asked_view (state_of database) L (edited e.remove e.add) on) → Gives database on e (Err why)
+edit_refused database e on L db (refusal.Told told) known asked = known_is database e on L (Err (edit_refusal_view told)) known asked
+edit_refused database e on L db refusal.NoMemory known asked = tt
 
 -- a name without a lens
-pub edit_unknown : (store : Store) (e : BatchEdit) (on : Option ℕ) → finmap.get (catalogue store.catalog.texts) e.view ≡ None → edit_on store on e ≡ Err (unknown_name e.view)
-edit_unknown store e on none = let s = state_of store in ap (λ o. edit_tables e on o s s.tables) none
+pub edit_unknown : (database : Database) (e : BatchEdit) (on : Option ℕ) → finmap.get (catalogue database.catalog.texts) e.view ≡ None → edit_on database on e ≡ Err (unknown_name e.view)
+edit_unknown database e on none = let s = state_of database in ap (λ o. edit_tables e on o s s.tables) none
 
 -- a refusal is told as it was given
-pub refusal_told : (old new : Store) (on : Option ℕ) (e : BatchEdit) (why : Refusal) → Gives old on e (Err why) → IsMade old new on e (Err why)
+pub refusal_told : (old new : Database) (on : Option ℕ) (e : BatchEdit) (why : Refusal) → Gives old on e (Err why) → IsMade old new on e (Err why)
 refusal_told old new on e (refusal.Told told) h = h
 refusal_told old new on e refusal.NoMemory h = tt
 
 -- ---- tables that are held
 
--- a valid store whose tables are held can make edits
-pub held_can : (store : Store) (tables : Held) → Valid (state_of store) → IsKeyed store → tables ≡ record store.tables { held = Some store.tables.present } → CanEdit (record store { tables = tables })
-held_can store tables v k is =
-    subst (λ t. CanEdit (record store { tables = t })) (sym is)
+-- a valid database whose tables are held can make edits
+pub held_can : (database : Database) (tables : Held) → Valid (state_of database) → IsKeyed database → tables ≡ record database.tables { held = Some database.tables.present } → CanEdit (record database { tables = tables })
+held_can database tables v k is =
+    subst (λ t. CanEdit (record database { tables = t })) (sym is)
     (record { taken = v.definitions; stored = v.tables; short = k.short; indexed = k.indexed; quiet = k.quiet; held = refl })
 
 -- other relations of the catalogue, with the same indexes and held alike
-pub still_holding : (store : Store) (tables : Held) → CanEdit store → AreStored (catalogue store.catalog.texts) tables.present.relations → tables.held ≡ store.tables.held
-    → tables.present.indexes ≡ store.tables.present.indexes → IsQuiet tables → IsHolding store (record store { tables = tables })
-still_holding store tables can stored held indexes quiet = record {
+pub still_holding : (database : Database) (tables : Held) → CanEdit database → AreStored (catalogue database.catalog.texts) tables.present.relations → tables.held ≡ database.tables.held
+    → tables.present.indexes ≡ database.tables.present.indexes → IsQuiet tables → IsHolding database (record database { tables = tables })
+still_holding database tables can stored held indexes quiet = record {
   texts = refl;
   version = refl;
   last = refl;
@@ -124,7 +124,7 @@ still_holding store tables can stored held indexes quiet = record {
 }
 
 -- once the tables are taken back, all is as it was before they were held
-pub taken_back : (old mid : Store) (held back : Held) → IsKeyed old → held ≡ record old.tables { held = Some old.tables.present } → IsHolding (record old { tables = held }) mid
+pub taken_back : (old mid : Database) (held back : Held) → IsKeyed old → held ≡ record old.tables { held = Some old.tables.present } → IsHolding (record old { tables = held }) mid
     → ((st : held_tables.State) → mid.tables.held ≡ Some st → back ≡ record { present = st; next = st; held = None }) → IsSame old (record mid { tables = back })
 taken_back old mid held back k is h taken = record {
   texts = h.texts;
@@ -134,12 +134,12 @@ taken_back old mid held back k is h taken = record {
   past = h.past;
 }
 
--- the same store
-pub holding_itself : (store : Store) → CanEdit store → IsHolding store store
-holding_itself store can = record { texts = refl; version = refl; last = refl; past = refl; held = refl; indexes = refl; can = can }
+-- the same database
+pub holding_itself : (database : Database) → CanEdit database → IsHolding database database
+holding_itself database can = record { texts = refl; version = refl; last = refl; past = refl; held = refl; indexes = refl; can = can }
 
 -- one edit after others
-pub holding_on : (old mid new : Store) → IsHolding old mid → IsHolding mid new → IsHolding old new
+pub holding_on : (old mid new : Database) → IsHolding old mid → IsHolding mid new → IsHolding old new
 holding_on old mid new h k = record {
   texts = k.texts ∙ h.texts;
   version = k.version ∙ h.version;
@@ -156,7 +156,7 @@ edit_at s e on None db = refl
 edit_at s e on (Some L) db = refl
 
 -- an edit on the tables now is one of the batch
-pub edit_here : (old now : Store) (e : BatchEdit) (on : Option ℕ) → IsHolding old now
+pub edit_here : (old now : Database) (e : BatchEdit) (on : Option ℕ) → IsHolding old now
     → edit_tables e on (finmap.get (catalogue old.catalog.texts) e.view) (state_of old) now.tables.present.relations ≡ edit_on now on e
 edit_here old now e on h =
     let db = now.tables.present.relations in
@@ -165,7 +165,7 @@ edit_here old now e on h =
     (record { texts = sym h.texts i; tables = db; version = sym h.version i; last = sym h.last i; past = sym h.past i }) db)
 
 -- and looks as it does by itself
-pub looks_here : (old now : Store) (e : BatchEdit) (db : Tables) → IsHolding old now
+pub looks_here : (old now : Database) (e : BatchEdit) (db : Tables) → IsHolding old now
     → of_lens (edit_looks db e.remove e.add) (finmap.get (catalogue now.catalog.texts) e.view) ≡ of_lens (edit_looks db e.remove e.add) (finmap.get (catalogue old.catalog.texts) e.view)
 looks_here old now e db h = ap (λ ts. of_lens (edit_looks db e.remove e.add) (finmap.get (catalogue ts) e.view)) h.texts
 
@@ -184,18 +184,18 @@ pub one_longer : (entries more : List Entry) (entry : Entry) → more ≡ entrie
 one_longer entries more entry is = let n = ap length is in let m = length-append entries (entry ∷ []) in omega (arith, n, m)
 
 -- an edit that was made is behind, and the others are to come
-pub edits_made : (old now : Store) (k n : ℕ) (on : Option ℕ) (e : BatchEdit) (edits : List BatchEdit) (db : Tables) → IsHolding old now → edit_on now on e ≡ Ok db → n ≡ suc k
+pub edits_made : (old now : Database) (k n : ℕ) (on : Option ℕ) (e : BatchEdit) (edits : List BatchEdit) (db : Tables) → IsHolding old now → edit_on now on e ≡ Ok db → n ≡ suc k
     → edits_from k on (state_of old) (e ∷ edits) now.tables.present.relations ≡ edits_from n on (state_of old) edits db
 edits_made old now k n on e edits db h made more =
     ap (then_edits k (edits_from (suc k) on (state_of old) edits)) (edit_here old now e on h ∙ made) ∙ ap (λ m. edits_from m on (state_of old) edits db) (sym more)
 
 -- an edit that is refused ends the batch
-edits_refused : (old now : Store) (k : ℕ) (on : Option ℕ) (e : BatchEdit) (edits : List BatchEdit) (why : EditRefusal) → IsHolding old now → edit_on now on e ≡ Err why
+edits_refused : (old now : Database) (k : ℕ) (on : Option ℕ) (e : BatchEdit) (edits : List BatchEdit) (why : EditRefusal) → IsHolding old now → edit_on now on e ≡ Err why
     → edits_from k on (state_of old) (e ∷ edits) now.tables.present.relations ≡ Err (k, why)
 edits_refused old now k on e edits why h refused = ap (then_edits k (edits_from (suc k) on (state_of old) edits)) (edit_here old now e on h ∙ refused)
 
 -- and the fault tells it, with its place, or that memory ran out
-pub batch_stopped : (old now new : Store) (k place : ℕ) (on : Option ℕ) (e : BatchEdit) (rest edits : List BatchEdit) (why : Refusal) (fault : BatchFault) → IsHolding old now
+pub batch_stopped : (old now new : Database) (k place : ℕ) (on : Option ℕ) (e : BatchEdit) (rest edits : List BatchEdit) (why : Refusal) (fault : BatchFault) → IsHolding old now
     → edits_from 0 on (state_of old) edits old.tables.present.relations ≡ edits_from k on (state_of old) (e ∷ rest) now.tables.present.relations → place ≡ k → IsMade now new on e (Err why) → fault ≡ fault_at place why
     → AreMade old new on edits (Err fault)
 batch_stopped old now new k place on e rest edits (refusal.Told why) fault h left here told is =
@@ -210,7 +210,7 @@ part_within : (mid new here now behind most : ℕ) → now ≡ here → mid + (h
 part_within mid new here now behind most e left looked = omega (arith, e, left, looked)
 
 -- what the edits look at: this one, and then the others on the tables that it gave
-pub looks_made : (old now : Store) (on : Option ℕ) (e : BatchEdit) (edits : List BatchEdit) (db : Tables) (mid new most : ℕ) → IsHolding old now → edit_on now on e ≡ Ok db
+pub looks_made : (old now : Database) (on : Option ℕ) (e : BatchEdit) (edits : List BatchEdit) (db : Tables) (mid new most : ℕ) → IsHolding old now → edit_on now on e ≡ Ok db
     → mid + batch_looks on (state_of old) (e ∷ edits) now.tables.present.relations ≤ most
     → new ≤ mid + of_lens (edit_looks now.tables.present.relations e.remove e.add) (finmap.get (catalogue now.catalog.texts) e.view)
     → new + batch_looks on (state_of old) edits db ≤ most
@@ -219,7 +219,7 @@ looks_made old now on e edits db mid new most h made left looked =
     sum_within mid new _ _ _ (others db) most (looks_here old now e now.tables.present.relations h) (ap (then_looks others) (edit_here old now e on h ∙ made)) left looked
 
 -- an edit looks at no more than all that are left
-pub looks_within : (old now : Store) (on : Option ℕ) (e : BatchEdit) (edits : List BatchEdit) (mid new most : ℕ) → IsHolding old now
+pub looks_within : (old now : Database) (on : Option ℕ) (e : BatchEdit) (edits : List BatchEdit) (mid new most : ℕ) → IsHolding old now
     → mid + batch_looks on (state_of old) (e ∷ edits) now.tables.present.relations ≤ most
     → new ≤ mid + of_lens (edit_looks now.tables.present.relations e.remove e.add) (finmap.get (catalogue now.catalog.texts) e.view) → new ≤ most
 looks_within old now on e edits mid new most h left looked =

@@ -32,7 +32,7 @@ use Rattle.lens_server.specs.States.{state_of}
 use Rattle.lens_server.specs.declared.plan.PastStep.{PastStep}
 use Rattle.lens_server.specs.declared.plan.PastStep.TheVariants.{Gains, Loses}
 use Rattle.lens_server.specs.declared.plan.Plan.{Plan}
-use Rattle.lens_server.specs.declared.store.Store.{Store}
+use Rattle.lens_server.specs.declared.database.Database.{Database}
 
 -- what a change of rows makes of the tables, and that they can stage it
 rows_change : (change : Change) (o : Option Prepared) (cs : List TableDelta) (db : Tables) → change_view change ≡ rows cs → changed_tables change o db ≡ with_deltas cs db
@@ -49,12 +49,12 @@ rows_gained (RowsChange deltas) cs past is = let same : map table_delta deltas.i
 rows_gained (Define text table) cs past is = cc
 
 -- a plan of these differences leads to a valid state, where they lead to its tables, and its other parts are those after them
-led_planned : (store : Store) (plan : Plan) (step : PastStep) (ds : List TableDelta) (next : State) → IsChange ds step store plan → LeadTo ds store.tables.present.relations next.tables → Valid next
-    → next.texts ≡ store.catalog.texts → next.version ≡ store.version + 1 → next.last ≡ with_last (store.version + 1) ds store.last
-    → ((change : Change) → change_view change ≡ rows ds → next.past ≡ past_after step change store.past)
-    → IsPlan plan (answers.changed ds (store.version + 1), next) store
-led_planned store plan step ds next p leads valid texts version last past =
-    let s = state_of store in
+led_planned : (database : Database) (plan : Plan) (step : PastStep) (ds : List TableDelta) (next : State) → IsChange ds step database plan → LeadTo ds database.tables.present.relations next.tables → Valid next
+    → next.texts ≡ database.catalog.texts → next.version ≡ database.version + 1 → next.last ≡ with_last (database.version + 1) ds database.last
+    → ((change : Change) → change_view change ≡ rows ds → next.past ≡ past_after step change database.past)
+    → IsPlan plan (answers.changed ds (database.version + 1), next) database
+led_planned database plan step ds next p leads valid texts version last past =
+    let s = state_of database in
     let staged = p.staged in
     let is : next ≡ after staged s = (λ i. record {
       texts = (texts ∙ ap (λ o. texts_with o s.texts) (sym p.definition)) i;
@@ -65,57 +65,57 @@ led_planned store plan step ds next p leads valid texts version last past =
     }) in
     let kept : KeptFollows (change_view staged.change) s (after staged s) =
     subst (λ c. KeptFollows c s (after staged s)) (sym p.change) (subst (λ t. KeptFollows (rows ds) s t) is (led_is_kept s next ds leads texts)) in
-    let ready : IsStaged staged store = record {
+    let ready : IsStaged staged database = record {
       tables = rows_stage staged.change staged.definition ds s.tables p.change leads.0;
-      definition = subst (λ o. CanTake o store.catalog) (sym p.definition) tt;
+      definition = subst (λ o. CanTake o database.catalog) (sym p.definition) tt;
       kept = kept;
       valid = subst Valid is valid;
     } in
-    record { answer = p.answer; leads = subst (λ o. Leads o next store) (sym p.is) (is, ready) }
+    record { answer = p.answer; leads = subst (λ o. Leads o next database) (sym p.is) (is, ready) }
 
 -- where no table changes, nothing does
-pub nothing_planned : (store : Store) (db : Tables) (plan : Plan) (cs ds : List TableDelta) → cs ≡ ds → ds ≡ [] → answer_view plan.answer ≡ answers.changed ds store.version → plan.staged ≡ None
-    → IsPlan plan (accept db cs (state_of store)) store
-nothing_planned store db plan cs ds is none answer staged =
-    subst (λ l. IsPlan plan (accept db l (state_of store)) store) (sym (is ∙ none))
-    (record { answer = answer ∙ ap (λ l. answers.changed l store.version) none; leads = subst (λ o. Leads o (state_of store) store) (sym staged) refl })
+pub nothing_planned : (database : Database) (db : Tables) (plan : Plan) (cs ds : List TableDelta) → cs ≡ ds → ds ≡ [] → answer_view plan.answer ≡ answers.changed ds database.version → plan.staged ≡ None
+    → IsPlan plan (accept db cs (state_of database)) database
+nothing_planned database db plan cs ds is none answer staged =
+    subst (λ l. IsPlan plan (accept db l (state_of database)) database) (sym (is ∙ none))
+    (record { answer = answer ∙ ap (λ l. answers.changed l database.version) none; leads = subst (λ o. Leads o (state_of database) database) (sym staged) refl })
 
 -- the tables become others of the catalogue
-change_planned : (store : Store) (db : Tables) (plan : Plan) (d : TableDelta) (ds : List TableDelta) → Valid (state_of store) → IsChangeTo (state_of store) (d ∷ ds) db → IsChange (d ∷ ds) Gains store plan
-    → IsPlan plan (accept db (d ∷ ds) (state_of store)) store
-change_planned store db plan d ds v to p =
-    led_planned store plan Gains (d ∷ ds) (accept db (d ∷ ds) (state_of store)).1 p to.leads (valid_accept (state_of store) (d ∷ ds) db v to) refl refl refl
-    (λ change is. rows_gained change (d ∷ ds) store.past is)
+change_planned : (database : Database) (db : Tables) (plan : Plan) (d : TableDelta) (ds : List TableDelta) → Valid (state_of database) → IsChangeTo (state_of database) (d ∷ ds) db → IsChange (d ∷ ds) Gains database plan
+    → IsPlan plan (accept db (d ∷ ds) (state_of database)) database
+change_planned database db plan d ds v to p =
+    led_planned database plan Gains (d ∷ ds) (accept db (d ∷ ds) (state_of database)).1 p to.leads (valid_accept (state_of database) (d ∷ ds) db v to) refl refl refl
+    (λ change is. rows_gained change (d ∷ ds) database.past is)
 
 -- what was found to change, by whether anything does
-pub changes_planned : (store : Store) (db : Tables) (ds : List TableDelta) (result : Result Plan NoMemory) → Valid (state_of store) → IsChangeTo (state_of store) ds db → ds ≢ []
-    → IfOk result (IsChange ds Gains store) → IfOk result (λ plan. IsPlan plan (accept db ds (state_of store)) store)
-changes_planned store db [] result v to some h = absurd (some refl)
-changes_planned store db (d ∷ ds) (Err e) v to some h = tt
-changes_planned store db (d ∷ ds) (Ok plan) v to some h = change_planned store db plan d ds v to h
+pub changes_planned : (database : Database) (db : Tables) (ds : List TableDelta) (result : Result Plan NoMemory) → Valid (state_of database) → IsChangeTo (state_of database) ds db → ds ≢ []
+    → IfOk result (IsChange ds Gains database) → IfOk result (λ plan. IsPlan plan (accept db ds (state_of database)) database)
+changes_planned database db [] result v to some h = absurd (some refl)
+changes_planned database db (d ∷ ds) (Err e) v to some h = tt
+changes_planned database db (d ∷ ds) (Ok plan) v to some h = change_planned database db plan d ds v to h
 
 -- the tables become those of a put
-pub put_planned : (store : Store) (L : Lens) (N : Rows) (ds : List TableDelta) (result : Result Plan NoMemory) → Valid (state_of store) → IsHere (state_of store) L
-    → IsOf N (sort_of L) → changes L N (state_of store).tables ≡ ds → ds ≢ [] → IfOk result (IsChange ds Gains store)
-    → IfOk result (λ plan. IsPlan plan (accept (put L N (state_of store).tables) (changes L N (state_of store).tables) (state_of store)) store)
-put_planned store L N ds result v here typed is some h =
-    let s = state_of store in
+pub put_planned : (database : Database) (L : Lens) (N : Rows) (ds : List TableDelta) (result : Result Plan NoMemory) → Valid (state_of database) → IsHere (state_of database) L
+    → IsOf N (sort_of L) → changes L N (state_of database).tables ≡ ds → ds ≢ [] → IfOk result (IsChange ds Gains database)
+    → IfOk result (λ plan. IsPlan plan (accept (put L N (state_of database).tables) (changes L N (state_of database).tables) (state_of database)) database)
+put_planned database L N ds result v here typed is some h =
+    let s = state_of database in
     let db = put L N s.tables in
-    subst (λ cs. IfOk result (λ plan. IsPlan plan (accept db cs s) store)) (sym is)
-    (changes_planned store db ds result v (subst (λ cs. IsChangeTo s cs db) is (put_change s L N v here typed)) some h)
+    subst (λ cs. IfOk result (λ plan. IsPlan plan (accept db cs s) database)) (sym is)
+    (changes_planned database db ds result v (subst (λ cs. IsChangeTo s cs db) is (put_change s L N v here typed)) some h)
 
-undo_is : (store : Store) (cs : List TableDelta) (plan : Plan) → Valid (state_of store) → slice_get store.past (length store.past - 1) ≡ Some cs → IsChange (inverted cs) Loses store plan
-    → IsPlan plan (undone (Some cs) (state_of store)) store
-undo_is store cs plan v is p =
-    let s = state_of store in
-    led_planned store plan Loses (inverted cs) (undone (Some cs) s).1 p (undo_leads s cs v is) (valid_undone s v (Some cs) is) refl refl refl (λ change _. refl)
+undo_is : (database : Database) (cs : List TableDelta) (plan : Plan) → Valid (state_of database) → slice_get database.past (length database.past - 1) ≡ Some cs → IsChange (inverted cs) Loses database plan
+    → IsPlan plan (undone (Some cs) (state_of database)) database
+undo_is database cs plan v is p =
+    let s = state_of database in
+    led_planned database plan Loses (inverted cs) (undone (Some cs) s).1 p (undo_leads s cs v is) (valid_undone s v (Some cs) is) refl refl refl (λ change _. refl)
 
 -- the last change is taken back
-pub undo_planned : (store : Store) (cs ds : List TableDelta) (result : Result Plan NoMemory) → Valid (state_of store) → slice_get store.past (length store.past - 1) ≡ Some cs → ds ≡ inverted cs
-    → IfOk result (IsChange ds Loses store) → IfOk result (λ plan. IsPlan plan (undone (slice_get store.past (length store.past - 1)) (state_of store)) store)
-undo_planned store cs ds (Err e) v last is h = tt
-undo_planned store cs ds (Ok plan) v last is h =
-    subst (λ o. IsPlan plan (undone o (state_of store)) store) (sym last) (undo_is store cs plan v last (subst (λ l. IsChange l Loses store plan) is h))
+pub undo_planned : (database : Database) (cs ds : List TableDelta) (result : Result Plan NoMemory) → Valid (state_of database) → slice_get database.past (length database.past - 1) ≡ Some cs → ds ≡ inverted cs
+    → IfOk result (IsChange ds Loses database) → IfOk result (λ plan. IsPlan plan (undone (slice_get database.past (length database.past - 1)) (state_of database)) database)
+undo_planned database cs ds (Err e) v last is h = tt
+undo_planned database cs ds (Ok plan) v last is h =
+    subst (λ o. IsPlan plan (undone o (state_of database)) database) (sym last) (undo_is database cs plan v last (subst (λ l. IsChange l Loses database plan) is h))
 
 no_length : (n : ℕ) → (suc n == 0) ≡ true → ⊥
 no_length n e = grind (arith, nat_tests)

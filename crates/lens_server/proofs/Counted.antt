@@ -33,13 +33,13 @@ use Rattle.lens_probe.specs.Reading.{rows_under}
 use Rattle.table_keeper.specs.declared.keeper.Change.{Change}
 use Rattle.table_keeper.specs.declared.keeper.Change.TheVariants.{Define, Rows as RowsChange}
 use Rattle.view_catalog.specs.declared.prepared.Prepared.{Prepared}
-use Rattle.lens_server.specs.Counting.{Walks, row_count}
+use Rattle.lens_server.specs.Counting.{RisesBy, Walks, WalksTables, row_count}
 use Rattle.lens_server.specs.Keyed.{IsOpen}
 use Rattle.lens_server.specs.Plans.{IsPlan, Leads, texts_with}
 use Rattle.lens_server.specs.Staging.{needs_of, steps_in, steps_of}
 use Rattle.lens_server.specs.declared.plan.Plan.{Plan}
 use Rattle.lens_server.specs.declared.plan.Staged.{Staged}
-use Rattle.lens_server.specs.declared.store.Store.{Store}
+use Rattle.lens_server.specs.declared.database.Database.{Database}
 
 -- ---- sums
 
@@ -109,14 +109,14 @@ under_few L db h =
     let few = sum_less (counted (tables_of L)) (λ e. count_of e.1.rows) (finmap.entries db) (λ e. some_less (set.contains (tables_of L) e.0) (count_of e.1.rows)) in
     omega (arith, under_less L db h, few)
 
--- to read a view of the store walks no more
-pub read_few : (store : Store) (L M : Lens) (tables : held.Held) (old new : ℕ) → IsOpen store L → M ≡ L → tables ≡ store.tables → new ≤ old + rows_under M tables.present.relations
-    → new ≤ old + row_count store.tables.present.relations
-read_few store L M tables old new opened same is h =
-    let few = under_few L store.tables.present.relations opened.here.typed in
-    let there : new ≤ old + rows_under L store.tables.present.relations =
-    subst (λ t. new ≤ old + rows_under L t.present.relations) is (subst (λ N. new ≤ old + rows_under N tables.present.relations) same h) in
-    omega (arith, few, there)
+-- to read a view of the database walks no more
+pub read_few : (database : Database) (L M : Lens) (tables : held.Held) (old new : ℕ) → IsOpen database L → M ≡ L → tables ≡ database.tables → RisesBy (rows_under M tables.present.relations) old new
+    → WalksTables database old new
+read_few database L M tables old new opened same is h =
+    let few = under_few L database.tables.present.relations opened.here.typed in
+    let there : new ≤ old + rows_under L database.tables.present.relations =
+    subst (λ t. new ≤ old + rows_under L t.present.relations) is (subst (λ N. new ≤ old + rows_under N tables.present.relations) same h.1) in
+    (h.0, omega (arith, few, there))
 
 -- ---- rows that are walked for a change
 
@@ -132,9 +132,9 @@ steps_in_few (Define text table) None st = omega arith
 steps_in_few (Define text table) (Some p) st = walked_few (needs_of p.lens) st
 
 -- nor for what is staged
-pub steps_few : (o : Option Staged) (store : Store) → steps_of o store ≤ row_count store.tables.present.relations
-steps_few None store = omega arith
-steps_few (Some staged) store = steps_in_few staged.change staged.definition store.tables.present
+pub steps_few : (o : Option Staged) (database : Database) → steps_of o database ≤ row_count database.tables.present.relations
+steps_few None database = omega arith
+steps_few (Some staged) database = steps_in_few staged.change staged.definition database.tables.present
 
 pub longer : (texts : List (List ℕ)) (text : List ℕ) → texts ++ text ∷ [] ≡ texts → ⊥
 longer texts text e = let n = ap length e in let m = length-append texts (text ∷ []) in absurd (omega (arith, n, m))
@@ -145,9 +145,9 @@ undefined_steps (Define text table) None st texts e = refl
 undefined_steps (Define text table) (Some p) st texts e = absurd (longer texts p.text e)
 
 -- none is walked where no text is added
-steps_none : (o : Option Staged) (next : State) (store : Store) → Leads o next store → next.texts ≡ store.catalog.texts → steps_of o store ≡ 0
-steps_none None next store l e = refl
-steps_none (Some staged) next store l e = undefined_steps staged.change staged.definition store.tables.present store.catalog.texts (sym (ap (λ s. s.texts) l.0) ∙ e)
+steps_none : (o : Option Staged) (next : State) (database : Database) → Leads o next database → next.texts ≡ database.catalog.texts → steps_of o database ≡ 0
+steps_none None next database l e = refl
+steps_none (Some staged) next database l e = undefined_steps staged.change staged.definition database.tables.present database.catalog.texts (sym (ap (λ s. s.texts) l.0) ∙ e)
 
 -- ---- changes of views add no text
 
@@ -183,12 +183,12 @@ pub undo_texts : (s : State) → (undo_answer s).1.texts ≡ s.texts
 undo_texts s = undone_texts (slice_get s.past (length s.past - 1)) s
 
 -- what was walked for the plan of such a change is all that is walked for it
-pub change_walks : (result : Result Plan NoMemory) (expected : Answer × State) (store : Store) (old new most : ℕ) → IfOk result (λ plan. IsPlan plan expected store)
-    → expected.1.texts ≡ store.catalog.texts → new ≤ old + most → Walks result store old new most
-change_walks (Ok plan) expected store old new most p e h = omega (arith, steps_none plan.staged expected.1 store p.leads e, h)
-change_walks (Err e) expected store old new most p t h = h
+pub change_walks : (result : Result Plan NoMemory) (expected : Answer × State) (database : Database) (old new most : ℕ) → IfOk result (λ plan. IsPlan plan expected database)
+    → expected.1.texts ≡ database.catalog.texts → new ≤ old + most → Walks result database old new most
+change_walks (Ok plan) expected database old new most p e h = omega (arith, steps_none plan.staged expected.1 database p.leads e, h)
+change_walks (Err e) expected database old new most p t h = h
 
 -- a definition walks the tables once, when it is settled
-pub definition_walks : (result : Result Plan NoMemory) (store : Store) (old most : ℕ) → row_count store.tables.present.relations ≤ most → Walks result store old old most
-definition_walks (Ok plan) store old most h = omega (arith, steps_few plan.staged store, h)
-definition_walks (Err e) store old most h = omega arith
+pub definition_walks : (result : Result Plan NoMemory) (database : Database) (old most : ℕ) → row_count database.tables.present.relations ≤ most → Walks result database old old most
+definition_walks (Ok plan) database old most h = omega (arith, steps_few plan.staged database, h)
+definition_walks (Err e) database old most h = omega arith

@@ -41,7 +41,7 @@ use Rattle.lens_server.specs.Plans.{CanTake, IsPlan, IsStaged, Leads, after, tex
 use Rattle.lens_server.specs.States.{state_of}
 use Rattle.lens_server.specs.declared.plan.Plan.{Plan}
 use Rattle.lens_server.specs.declared.plan.Staged.{Staged}
-use Rattle.lens_server.specs.declared.store.Store.{Store}
+use Rattle.lens_server.specs.declared.database.Database.{Database}
 
 -- the tables, the last changes and the table's name are those of the definition
 record IsMade (s : State) (prepared : Prepared) (d : Definition) : Type 0 where
@@ -114,14 +114,14 @@ past_stays : (step : PastStep) (change : Change) (past : List (List TableDelta))
 past_stays step change past e = ap (λ p. past_after p change past) e
 
 -- the plan that the catalogue takes a definition
-pub definition_planned : (store : Store) (prepared : Prepared) (plan : Plan) (staged : Staged) → Valid (state_of store) → 0 < store.catalog.room → IsAdmissible store.catalog.texts prepared
-    → answer_view plan.answer ≡ defined (store.version + 1) → plan.staged ≡ Some staged
+pub definition_planned : (database : Database) (prepared : Prepared) (plan : Plan) (staged : Staged) → Valid (state_of database) → 0 < database.catalog.room → IsAdmissible database.catalog.texts prepared
+    → answer_view plan.answer ≡ defined (database.version + 1) → plan.staged ≡ Some staged
     → change_view staged.change ≡ define prepared.text (table_in prepared.name prepared.lens) → staged.definition ≡ Some prepared
     → length prepared.text < 2 ^ 64
-    → staged.last ≡ last_with (table_in prepared.name prepared.lens) (store.version + 1) store.last → staged.past ≡ Stays
-    → IsPlan plan (define_answer prepared.text (state_of store)) store
-definition_planned store prepared plan staged v room a answer is change definition short last past =
-    let s = state_of store in
+    → staged.last ≡ last_with (table_in prepared.name prepared.lens) (database.version + 1) database.last → staged.past ≡ Stays
+    → IsPlan plan (define_answer prepared.text (state_of database)) database
+definition_planned database prepared plan staged v room a answer is change definition short last past =
+    let s = state_of database in
     let d = a.definition in
     let made = is_made s prepared d v a.taken a.named a.lens in
     let name = table_in prepared.name prepared.lens in
@@ -140,11 +140,11 @@ definition_planned store prepared plan staged v room a answer is change definiti
     subst (λ c. KeptFollows c s (after staged s)) changed
     (subst (λ t. KeptFollows (define prepared.text (table_made d)) s t) next (definitions_kept s v prepared.text d a.taken)) in
     let free : IsFree name s.tables = free_of prepared.text name s (subst (λ c. CanChange c (kept_of s)) change follows.1) in
-    let ready : IsStaged staged store = record {
+    let ready : IsStaged staged database = record {
       tables = define_stage staged.change staged.definition prepared prepared.text name s.tables change definition short free;
-      definition = subst (λ o. CanTake o store.catalog) (sym definition) (room, a);
+      definition = subst (λ o. CanTake o database.catalog) (sym definition) (room, a);
       kept = follows;
       valid = subst Valid next (valid_taken s prepared.text d v a.taken (judged_ok (catalogue s.texts) (reading prepared.text) d a.taken).1);
     } in
-    subst (λ r. IsPlan plan (answer_definition prepared.text r s) store) (sym a.taken)
-    (record { answer = answer; leads = subst (λ o. Leads o (with_defined prepared.text d s) store) (sym is) (next, ready) })
+    subst (λ r. IsPlan plan (answer_definition prepared.text r s) database) (sym a.taken)
+    (record { answer = answer; leads = subst (λ o. Leads o (with_defined prepared.text d s) database) (sym is) (next, ready) })

@@ -23,7 +23,7 @@ use Rattle.server_laws.specs.SheetLaws.{IsExportLine, ReadsBack}
 use Rattle.lens_server.proofs.Stepping.{marked_short}
 use Rattle.lens_server.specs.Exports.{ExportReadsBack, NamedReadsBack}
 use Rattle.lens_server.specs.Keyed.{IsOpen}
-use Rattle.lens_server.specs.declared.store.Store.{Store}
+use Rattle.lens_server.specs.declared.database.Database.{Database}
 
 -- ---- columns
 
@@ -32,8 +32,8 @@ unfolding names
 no_names U e = ap (λ ks. length (set.items (set.from_list {R = bytes_cmp} ks))) e ∙ ap length (set.items-from_list name_total [] (set.nothing_rises name_total))
 
 -- a view that may be asked has a column
-pub has_columns : (store : Store) (L : Lens) → IsOpen store L → finmap.keys (sort_of L).columns ≢ []
-has_columns store L opened e = (keyed L opened.here.typed opened.keys).0 (no_names (sort_of L).columns e)
+pub has_columns : (database : Database) (L : Lens) → IsOpen database L → finmap.keys (sort_of L).columns ≢ []
+has_columns database L opened e = (keyed L opened.here.typed opened.keys).0 (no_names (sort_of L).columns e)
 
 -- where none is found that passes, all fail
 none_passes : {X : Type 0} (p : X → Bool) (xs : List X) → find p xs ≡ None → list_all (λ x. not (p x)) xs ≡ true

@@ -36,8 +36,8 @@ use Rattle.table_keeper.specs.declared.keeper.KeptTable.{KeptTable}
 use Rattle.lens_server.specs.Keyed.{IsKeyed}
 use Rattle.lens_server.specs.Starting.{HasEmptyTables, IsSound, damage_of_tables, filling}
 use Rattle.lens_server.specs.States.{state_of}
-use Rattle.lens_server.specs.declared.admitting.Admitted.{Admitted}
-use Rattle.lens_server.specs.declared.store.Store.{Store}
+use Rattle.lens_server.specs.declared.startup.definitions.Admitted.{Admitted}
+use Rattle.lens_server.specs.declared.database.Database.{Database}
 use Rattle.lens_server.proofs.Admitted.{AreEmpty, empty_of}
 use Rattle.lens_server.proofs.Stored.{all_sound, sound_fits}
 
@@ -152,18 +152,18 @@ filled_tables texts ts db whole empty all = finmap.same_map name_total name_exac
         filled_at ts db db q M all is ∙ ap (λ o. Some (after (unwrap_or o no_relation) (added M))) (empty q)
         ∙ ap Some (filled_one (table_sort_of q (finmap.get (catalogue texts) q)) M) ∙ sym (made q (Some M) is)
 
--- ---- the store
+-- ---- the database
 
 -- the tables with other relations, and nothing staged or held
 abbrev pub settled_with : Tables → State → Held
 settled_with db st = record { present = record st { relations = db }; next = record st { relations = db }; held = None }
 
--- a store of filled tables has the state of what is kept
-pub filled_state : (admitted : Admitted) (ts : List KeptTable) (store : Store) → HasEmptyTables admitted → Rise ts → damage_of_tables (catalogue admitted.catalog.texts) (rows_in ts) ≡ None
-    → store.catalog ≡ admitted.catalog → store.tables ≡ settled_with (with_deltas (map filling ts) admitted.tables.present.relations) admitted.tables.present
-    → store.version ≡ 0 → store.last ≡ mapped (λ _. 0) (rows_in ts) → store.past ≡ []
-    → state_of store ≡ opening.state_of (record { texts = admitted.catalog.texts; rows = rows_in ts })
-filled_state admitted ts store h rise none catalog tables version last past =
+-- a database of filled tables has the state of what is kept
+pub filled_state : (admitted : Admitted) (ts : List KeptTable) (database : Database) → HasEmptyTables admitted → Rise ts → damage_of_tables (catalogue admitted.catalog.texts) (rows_in ts) ≡ None
+    → database.catalog ≡ admitted.catalog → database.tables ≡ settled_with (with_deltas (map filling ts) admitted.tables.present.relations) admitted.tables.present
+    → database.version ≡ 0 → database.last ≡ mapped (λ _. 0) (rows_in ts) → database.past ≡ []
+    → state_of database ≡ opening.state_of (record { texts = admitted.catalog.texts; rows = rows_in ts })
+filled_state admitted ts database h rise none catalog tables version last past =
     let texts = admitted.catalog.texts in
     let whole : first_damage (record { texts = texts; rows = rows_in ts }) ≡ None =
     none_or (option_map definition (first_refused texts)) (damage_of_tables (catalogue texts) (rows_in ts)) (ap (option_map definition) h.taken) none in
@@ -172,8 +172,8 @@ filled_state admitted ts store h rise none catalog tables version last past =
     (λ i. record { texts = (catalog i).texts; tables = db i; version = version i; last = last i; past = past i })
 
 -- and its lenses ask their tables by key
-pub filled_keyed : (admitted : Admitted) (db : Tables) (store : Store) → HasEmptyTables admitted → store.catalog ≡ admitted.catalog → store.tables ≡ settled_with db admitted.tables.present → IsKeyed store
-filled_keyed admitted db store h catalog tables = record {
+pub filled_keyed : (admitted : Admitted) (db : Tables) (database : Database) → HasEmptyTables admitted → database.catalog ≡ admitted.catalog → database.tables ≡ settled_with db admitted.tables.present → IsKeyed database
+filled_keyed admitted db database h catalog tables = record {
   quiet = subst IsQuiet (sym tables) refl;
   free = ap (λ t. t.held) tables;
   short = subst (λ c. AreShort c.texts) (sym catalog) h.short;

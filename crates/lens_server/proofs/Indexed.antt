@@ -1,4 +1,4 @@
--- Stores whose lenses have their indexes after a change.
+-- Databases whose lenses have their indexes after a change.
 use Rattle.std.proofs.Common.{◌≡◌, ◌∙◌, ◌++◌, ◌+◌, ◌<◌, ℕ, true, false, List, [], ◌∷◌, length, Option, Some, None, ap, sym, subst, refl}
 use Rattle.std.specs.Prelude.{◌^◌}
 use Rattle.std.specs.FinMap as finmap
@@ -34,7 +34,7 @@ use Rattle.lens_server.specs.Plans.{CanStage, CanTake, IsFree, IsStaged, after, 
 use Rattle.lens_server.specs.Staging.{defined_by, needs_of, next_state, table_of}
 use Rattle.lens_server.specs.States.{state_of}
 use Rattle.lens_server.specs.declared.plan.Staged.{Staged}
-use Rattle.lens_server.specs.declared.store.Store.{Store}
+use Rattle.lens_server.specs.declared.database.Database.{Database}
 
 -- each table that a lens of the catalogue asks is there
 abbrev AllThere : List (List ℕ) → held.State → Type 0
@@ -102,7 +102,7 @@ change_indexed (Define text table) (Some p) catalog st k is can take told there 
     definition_indexed catalog.texts p table st take.1 can.1 there later all
 
 -- a change that was staged and settled leaves the lenses able to ask their tables
-pub keyed_after : (staged : Staged) (old new : Store) → Valid (state_of old) → IsKeyed old → IsStaged staged old
+pub keyed_after : (staged : Staged) (old new : Database) → Valid (state_of old) → IsKeyed old → IsStaged staged old
     → new.catalog.texts ≡ texts_with staged.definition old.catalog.texts
     → IsQuiet new.tables → new.tables.held ≡ old.tables.held → new.tables.present ≡ next_state staged.change staged.definition old.tables.present → IsKeyed new
 keyed_after staged old new v keyed h texts quiet held present =
@@ -121,7 +121,7 @@ keyed_after staged old new v keyed h texts quiet held present =
     }
 
 -- the state after it
-pub state_after : (staged : Staged) (old new : Store) → new.catalog.texts ≡ texts_with staged.definition old.catalog.texts
+pub state_after : (staged : Staged) (old new : Database) → new.catalog.texts ≡ texts_with staged.definition old.catalog.texts
     → new.tables.present ≡ next_state staged.change staged.definition old.tables.present → new.version ≡ old.version + 1 → new.last ≡ staged.last
     → new.past ≡ past_after staged.past staged.change old.past → state_of new ≡ after staged (state_of old)
 state_after staged old new texts present version last past =

@@ -1,4 +1,4 @@
--- Stores whose lenses ask their tables by key.
+-- Databases whose lenses ask their tables by key.
 use Rattle.std.proofs.Common.{◌≡◌, ◌∙◌, [], None, Some, ap, subst, sym}
 use Rattle.std.specs.FinMap as finmap
 use Rattle.base_index.specs.Held.{IsQuiet}
@@ -14,23 +14,23 @@ use Rattle.server_laws.specs.StateLaws.{AreShort}
 use Rattle.server_specs.specs.Validity.{AreStored, Valid}
 use Rattle.lens_server.specs.Keyed.{IsKeyed, IsOpen, IsSame}
 use Rattle.lens_server.specs.States.{state_of}
-use Rattle.lens_server.specs.declared.store.Store.{Store}
+use Rattle.lens_server.specs.declared.database.Database.{Database}
 
 -- a lens whose indexes are there may ask any tables of the catalogue
-pub open_over : (store : Store) → first_refused store.catalog.texts ≡ None → AreStored (catalogue store.catalog.texts) store.tables.present.relations → AreShort store.catalog.texts
-    → (name : Name) (L : Lens) → finmap.get (catalogue store.catalog.texts) name ≡ Some L → AreIndexed (asked L []) store.tables.present → IsOpen store L
-open_over store taken stored short name L e indexed =
-    record { here = lens_over (state_of store) taken stored name L e; keys = all_keyed store.catalog.texts short taken name L e; indexed = indexed }
+pub open_over : (database : Database) → first_refused database.catalog.texts ≡ None → AreStored (catalogue database.catalog.texts) database.tables.present.relations → AreShort database.catalog.texts
+    → (name : Name) (L : Lens) → finmap.get (catalogue database.catalog.texts) name ≡ Some L → AreIndexed (asked L []) database.tables.present → IsOpen database L
+open_over database taken stored short name L e indexed =
+    record { here = lens_over (state_of database) taken stored name L e; keys = all_keyed database.catalog.texts short taken name L e; indexed = indexed }
 
--- a lens of a keyed store, whose state is valid, may ask its tables
-pub open_lens : (store : Store) → Valid (state_of store) → IsKeyed store → (name : Name) (L : Lens) → finmap.get (catalogue store.catalog.texts) name ≡ Some L → IsOpen store L
-open_lens store v k name L e = open_over store v.definitions v.tables k.short name L e (k.indexed name L e)
+-- a lens of a keyed database, whose state is valid, may ask its tables
+pub open_lens : (database : Database) → Valid (state_of database) → IsKeyed database → (name : Name) (L : Lens) → finmap.get (catalogue database.catalog.texts) name ≡ Some L → IsOpen database L
+open_lens database v k name L e = open_over database v.definitions v.tables k.short name L e (k.indexed name L e)
 
--- a store that differs by the room of its catalogue alone
-pub same_state : (old new : Store) → IsSame old new → state_of new ≡ state_of old
+-- a database that differs by the room of its catalogue alone
+pub same_state : (old new : Database) → IsSame old new → state_of new ≡ state_of old
 same_state old new s = (λ i. record { texts = s.texts i; tables = (s.tables i).present.relations; version = s.version i; last = s.last i; past = s.past i })
 
-pub same_keyed : (old new : Store) → IsSame old new → IsKeyed old → IsKeyed new
+pub same_keyed : (old new : Database) → IsSame old new → IsKeyed old → IsKeyed new
 same_keyed old new s k = record {
   quiet = subst IsQuiet (sym s.tables) k.quiet;
   free = ap (λ t. t.held) s.tables ∙ k.free;

@@ -24,7 +24,7 @@ use Rattle.lens_server.specs.Outcomes.{IsReady, NotKept, Outcome}
 use Rattle.lens_server.specs.Plans.{IsStaged, after}
 use Rattle.lens_server.specs.States.{state_of}
 use Rattle.lens_server.specs.declared.plan.Staged.{Staged}
-use Rattle.lens_server.specs.declared.store.Store.{Store}
+use Rattle.lens_server.specs.declared.database.Database.{Database}
 
 -- ---- what the keeper tells
 
@@ -33,8 +33,8 @@ can_commit change None k told can = tt
 can_commit change (Some t) k told can = subst (CanChange change) (sym told) can
 
 -- a change that is staged can be committed
-pub staged_can : (staged : Staged) (store : Store) (contents : Option Kept) → IsStaged staged store → Tells contents (kept (state_of store)) → CanCommit (change_view staged.change) contents
-staged_can staged store contents h told = can_commit (change_view staged.change) contents (kept (state_of store)) told h.kept.1
+pub staged_can : (staged : Staged) (database : Database) (contents : Option Kept) → IsStaged staged database → Tells contents (kept (state_of database)) → CanCommit (change_view staged.change) contents
+staged_can staged database contents h told = can_commit (change_view staged.change) contents (kept (state_of database)) told h.kept.1
 
 -- contents that follow the change are what is kept after it
 told_after : (change : Change) (contents contents' : Option Kept) (k k' : Kept) → Follows (λ a b. b ≡ changed change a) contents contents' → Tells contents k → changed change k ≡ k'
@@ -56,16 +56,18 @@ pub told_untouched : (contents : Option Kept) (k : Kept) → Tells contents k �
 told_untouched None k told = tt
 told_untouched (Some a) k told = told
 
--- ---- stores that are ready
+-- ---- databases that are ready
 
--- a store that differs by the room of its catalogue alone is ready too
-pub still_ready : (old new : Store) (contents : Option Kept) → IsSame old new → IsReady old contents → IsReady new contents
+-- a database that differs by the room of its catalogue alone is ready too
+pub still_ready : (old new : Database) (contents : Option Kept) → IsSame old new → IsReady old contents → IsReady new contents
 still_ready old new contents s r =
     let same = sym (same_state old new s) in
     record {
-      valid = subst Valid same r.valid;
-      keyed = same_keyed old new s r.keyed;
-      room = subst (λ version. version < 2 ^ 64 - 1) (sym s.version) r.room;
+      can = record {
+        valid = subst Valid same r.can.valid;
+        keyed = same_keyed old new s r.can.keyed;
+        room = subst (λ version. version < 2 ^ 64 - 1) (sym s.version) r.can.room;
+      };
       told = subst (λ state. Tells contents (kept state)) same r.told;
     }
 
@@ -100,42 +102,42 @@ outcome_given_up answer s count contents calls (Err e) is v told =
     record { valid = v; later = omega arith; told = told_untouched contents (kept s) told; ok = tt; err = refl; commits = Adds-none _ calls (refl, inr refl) }
 
 -- the change is made
-pub outcome_made : (staged : Staged) (store : Store) (answer : Answer × State) (count count' : ℕ) (contents contents' : Option Kept) (calls calls' : Option (List Call)) (reply : List ℕ) → IsStaged staged store
-    → Tells contents (kept (state_of store)) → Follows (λ a b. b ≡ changed (change_view staged.change) a) contents contents' → AddsEnded calls calls' Commit None count' → count ≤ count'
-    → reply ≡ text answer.0 → answer.1 ≡ after staged (state_of store) → (new : State) → new ≡ after staged (state_of store)
-    → Outcome answer (state_of store) new count count' contents contents' calls calls' (Ok reply)
-outcome_made staged store answer count count' contents contents' calls calls' reply h told follows call later r is new became = record {
+pub outcome_made : (staged : Staged) (database : Database) (answer : Answer × State) (count count' : ℕ) (contents contents' : Option Kept) (calls calls' : Option (List Call)) (reply : List ℕ) → IsStaged staged database
+    → Tells contents (kept (state_of database)) → Follows (λ a b. b ≡ changed (change_view staged.change) a) contents contents' → AddsEnded calls calls' Commit None count' → count ≤ count'
+    → reply ≡ text answer.0 → answer.1 ≡ after staged (state_of database) → (new : State) → new ≡ after staged (state_of database)
+    → Outcome answer (state_of database) new count count' contents contents' calls calls' (Ok reply)
+outcome_made staged database answer count count' contents contents' calls calls' reply h told follows call later r is new became = record {
   valid = subst Valid (sym became) h.valid;
   later = later;
-  told = told_after (change_view staged.change) contents contents' (kept (state_of store)) (kept new) follows told (sym (ap kept became ∙ h.kept.0));
+  told = told_after (change_view staged.change) contents contents' (kept (state_of database)) (kept new) follows told (sym (ap kept became ∙ h.kept.0));
   ok = answered r (became ∙ sym is);
   err = tt;
-  commits = committed staged (state_of store) answer new count count' None reply calls calls' is ((λ _. became ∙ sym is), (λ _. refl)) r call;
+  commits = committed staged (state_of database) answer new count count' None reply calls calls' is ((λ _. became ∙ sym is), (λ _. refl)) r call;
 }
 
 -- the keeper failed, or lacked memory
-pub outcome_failed : (fault : KeepFault) (result : Result (List ℕ) NoMemory) (staged : Staged) (store : Store) (answer : Answer × State) (count count' : ℕ) (contents contents' : Option Kept) (calls calls' : Option (List Call))
-    → NotKept fault result → Valid (state_of store) → Tells contents (kept (state_of store)) → Stays contents contents' → AddsEnded calls calls' Commit (Some fault) count' → count ≤ count' → (fault ≡ keep.Failed → Rose count count')
-    → answer.1 ≡ after staged (state_of store) → (new : State) → new ≡ state_of store → Outcome answer (state_of store) new count count' contents contents' calls calls' result
-outcome_failed keep.Failed (Ok reply) staged store answer count count' contents contents' calls calls' told v tells stays call later rose is new same =
-    subst (λ s. Outcome answer (state_of store) s count count' contents contents' calls calls' (Ok reply)) (sym same)
+pub outcome_failed : (fault : KeepFault) (result : Result (List ℕ) NoMemory) (staged : Staged) (database : Database) (answer : Answer × State) (count count' : ℕ) (contents contents' : Option Kept) (calls calls' : Option (List Call))
+    → NotKept fault result → Valid (state_of database) → Tells contents (kept (state_of database)) → Stays contents contents' → AddsEnded calls calls' Commit (Some fault) count' → count ≤ count' → (fault ≡ keep.Failed → Rose count count')
+    → answer.1 ≡ after staged (state_of database) → (new : State) → new ≡ state_of database → Outcome answer (state_of database) new count count' contents contents' calls calls' result
+outcome_failed keep.Failed (Ok reply) staged database answer count count' contents contents' calls calls' told v tells stays call later rose is new same =
+    subst (λ s. Outcome answer (state_of database) s count count' contents contents' calls calls' (Ok reply)) (sym same)
     (record {
       valid = v;
       later = later;
-      told = told_still contents contents' (kept (state_of store)) stays tells;
-      ok = not_stored told refl (raised staged (state_of store) answer.1 is) (rose refl);
+      told = told_still contents contents' (kept (state_of database)) stays tells;
+      ok = not_stored told refl (raised staged (state_of database) answer.1 is) (rose refl);
       err = tt;
-      commits = committed staged (state_of store) answer (state_of store) count count' (Some keep.Failed) reply calls calls' is (not_done staged (state_of store) answer keep.Failed is) told call;
+      commits = committed staged (state_of database) answer (state_of database) count count' (Some keep.Failed) reply calls calls' is (not_done staged (state_of database) answer keep.Failed is) told call;
     })
-outcome_failed keep.Failed (Err e) staged store answer count count' contents contents' calls calls' told v tells stays call later rose is new same = absurd told
-outcome_failed keep.NoMemory (Ok reply) staged store answer count count' contents contents' calls calls' told v tells stays call later rose is new same = absurd told
-outcome_failed keep.NoMemory (Err e) staged store answer count count' contents contents' calls calls' told v tells stays call later rose is new same =
-    subst (λ s. Outcome answer (state_of store) s count count' contents contents' calls calls' (Err e)) (sym same)
+outcome_failed keep.Failed (Err e) staged database answer count count' contents contents' calls calls' told v tells stays call later rose is new same = absurd told
+outcome_failed keep.NoMemory (Ok reply) staged database answer count count' contents contents' calls calls' told v tells stays call later rose is new same = absurd told
+outcome_failed keep.NoMemory (Err e) staged database answer count count' contents contents' calls calls' told v tells stays call later rose is new same =
+    subst (λ s. Outcome answer (state_of database) s count count' contents contents' calls calls' (Err e)) (sym same)
     (record {
       valid = v;
       later = later;
-      told = told_still contents contents' (kept (state_of store)) stays tells;
+      told = told_still contents contents' (kept (state_of database)) stays tells;
       ok = tt;
       err = refl;
-      commits = committed staged (state_of store) answer (state_of store) count count' (Some keep.NoMemory) (text memory) calls calls' is (not_done staged (state_of store) answer keep.NoMemory is) refl call;
+      commits = committed staged (state_of database) answer (state_of database) count count' (Some keep.NoMemory) (text memory) calls calls' is (not_done staged (state_of database) answer keep.NoMemory is) refl call;
     })

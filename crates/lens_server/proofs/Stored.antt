@@ -25,9 +25,9 @@ use Rattle.table_keeper.specs.Changes.{names_of, rows_of}
 use Rattle.table_keeper.specs.Places.{Rise, rows_in}
 use Rattle.table_keeper.specs.declared.keeper.KeptTable.{KeptTable}
 use Rattle.table_keeper.proofs.ByName.{rows_found}
-use Rattle.lens_server.specs.Starting.{AreAdmitted, IsSound, IsStoreOf, Opens, damage_of_tables, damage_view}
-use Rattle.lens_server.specs.declared.starting.StartFault.{StartFault}
-use Rattle.lens_server.specs.declared.starting.StartFault.TheVariants as fault
+use Rattle.lens_server.specs.Starting.{AreAdmitted, IsSound, IsDatabaseOf, Opens, damage_of_tables, damage_view}
+use Rattle.lens_server.specs.declared.startup.fault.StartFault.{StartFault}
+use Rattle.lens_server.specs.declared.startup.fault.StartFault.TheVariants as fault
 
 -- ---- tables without damage
 
@@ -103,13 +103,13 @@ opened_whole k taken e =
     ap (λ o. unless_damaged (or_damage (option_map definition o) (damage_of_tables (catalogue k.texts) k.rows)) k) taken ∙ ap (λ o. unless_damaged o k) e
 
 -- definitions that are not all taken
-pub admission_told : (r : StartFault) (k : Kept) → AreAdmitted (Err r) k.texts → IsStoreOf (Err r) k
+pub admission_told : (r : StartFault) (k : Kept) → AreAdmitted (Err r) k.texts → IsDatabaseOf (Err r) k
 admission_told (fault.Damaged damage) k h = opened_refused k (damage_view damage) h
 admission_told fault.StoreFault k h = h
 admission_told fault.NoMemory k h = tt
 
 -- what was loaded, where it does not open to a state
-pub start_told : (r : StartFault) (contents : Option Kept) (k : Kept) → Tells contents k → IsStoreOf (Err r) k → Opens contents (Err r)
+pub start_told : (r : StartFault) (contents : Option Kept) (k : Kept) → Tells contents k → IsDatabaseOf (Err r) k → Opens contents (Err r)
 start_told (fault.Damaged damage) contents k told is = (k, told, is)
 start_told fault.StoreFault contents k told is = tt
 start_told fault.NoMemory contents k told is = tt

@@ -8,8 +8,8 @@ use Rattle.request_text.specs.Answers.{edit_refusal_view}
 use Rattle.server_specs.specs.EditRefusal.{EditRefusal, stale}
 use Rattle.server_specs.specs.Changing.{changed_at, is_stale}
 use Rattle.server_specs.specs.State.{State}
-use Rattle.lens_server.specs.declared.asking.Refusal.{Refusal}
-use Rattle.lens_server.specs.declared.asking.Refusal.TheVariants as refusal
+use Rattle.lens_server.specs.declared.requested_edit.Refusal.{Refusal}
+use Rattle.lens_server.specs.declared.requested_edit.Refusal.TheVariants as refusal
 
 -- the rows are the expected ones, or the refusal is, unless memory ran out
 abbrev pub Asks : Result Rows Refusal → Result Rows EditRefusal → Type 0

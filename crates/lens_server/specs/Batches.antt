@@ -22,23 +22,23 @@ use Rattle.server_laws.specs.StateLaws.{AreShort}
 use Rattle.signed_delta.specs.Tables.{table_delta}
 use Rattle.signed_delta.specs.declared.delta.TableDelta.{TableDelta}
 use Rattle.lens_server.specs.States.{state_of}
-use Rattle.lens_server.specs.declared.asking.Refusal.{Refusal}
-use Rattle.lens_server.specs.declared.asking.Refusal.TheVariants as refusal
-use Rattle.lens_server.specs.declared.batching.BatchFault.{BatchFault}
-use Rattle.lens_server.specs.declared.batching.BatchFault.TheVariants as fault
-use Rattle.lens_server.specs.declared.store.Store.{Store}
+use Rattle.lens_server.specs.declared.requested_edit.Refusal.{Refusal}
+use Rattle.lens_server.specs.declared.requested_edit.Refusal.TheVariants as refusal
+use Rattle.lens_server.specs.declared.batches.BatchFault.{BatchFault}
+use Rattle.lens_server.specs.declared.batches.BatchFault.TheVariants as fault
+use Rattle.lens_server.specs.declared.database.Database.{Database}
 
--- edits can be made in the tables of the store, which are held
-pub record CanEdit (store : Store) : Type 0 where
-  pub taken : first_refused store.catalog.texts ≡ None
-  pub stored : AreStored (catalogue store.catalog.texts) store.tables.present.relations
-  pub short : AreShort store.catalog.texts
-  pub indexed : (name : Name) (L : Lens) → finmap.get (catalogue store.catalog.texts) name ≡ Some L → AreIndexed (asked L []) store.tables.present
-  pub quiet : IsQuiet store.tables
-  pub held : is_some store.tables.held ≡ true
+-- edits can be made in the tables of the database, which are held
+pub record CanEdit (database : Database) : Type 0 where
+  pub taken : first_refused database.catalog.texts ≡ None
+  pub stored : AreStored (catalogue database.catalog.texts) database.tables.present.relations
+  pub short : AreShort database.catalog.texts
+  pub indexed : (name : Name) (L : Lens) → finmap.get (catalogue database.catalog.texts) name ≡ Some L → AreIndexed (asked L []) database.tables.present
+  pub quiet : IsQuiet database.tables
+  pub held : is_some database.tables.held ≡ true
 
 -- the two differ by the relations that readers see alone, and are held alike
-pub record IsHolding (old new : Store) : Type 0 where
+pub record IsHolding (old new : Database) : Type 0 where
   pub texts : new.catalog.texts ≡ old.catalog.texts
   pub version : new.version ≡ old.version
   pub last : new.last ≡ old.last
@@ -47,19 +47,19 @@ pub record IsHolding (old new : Store) : Type 0 where
   pub indexes : new.tables.present.indexes ≡ old.tables.present.indexes
   pub can : CanEdit new
 
--- what an edit of a batch comes to on the tables of the store
-abbrev pub edit_on : Store → Option ℕ → BatchEdit → Result Tables EditRefusal
-edit_on store on e = edit_tables e on (finmap.get (catalogue store.catalog.texts) e.view) (state_of store) store.tables.present.relations
+-- what an edit of a batch comes to on the tables of the database
+abbrev pub edit_on : Database → Option ℕ → BatchEdit → Result Tables EditRefusal
+edit_on database on e = edit_tables e on (finmap.get (catalogue database.catalog.texts) e.view) (state_of database) database.tables.present.relations
 
 -- the differences lead to the tables after the edit, which are the catalogue's; or its refusal is told, unless memory ran out
-abbrev pub Gives : Store → Option ℕ → BatchEdit → Result (Vec TableDelta Global) Refusal → Type 0
-Gives store on e (Ok deltas) = (db : Tables) × (edit_on store on e ≡ Ok db) × LeadTo (map table_delta deltas.items) store.tables.present.relations db
-    × AreStored (catalogue store.catalog.texts) db
-Gives store on e (Err (refusal.Told why)) = edit_on store on e ≡ Err (edit_refusal_view why)
-Gives store on e (Err refusal.NoMemory) = Unit {0}
+abbrev pub Gives : Database → Option ℕ → BatchEdit → Result (Vec TableDelta Global) Refusal → Type 0
+Gives database on e (Ok deltas) = (db : Tables) × (edit_on database on e ≡ Ok db) × LeadTo (map table_delta deltas.items) database.tables.present.relations db
+    × AreStored (catalogue database.catalog.texts) db
+Gives database on e (Err (refusal.Told why)) = edit_on database on e ≡ Err (edit_refusal_view why)
+Gives database on e (Err refusal.NoMemory) = Unit {0}
 
 -- the edit was made, and the entry tells how; or its refusal is told, unless memory ran out
-abbrev pub IsMade : Store → Store → Option ℕ → BatchEdit → Result Entry Refusal → Type 0
+abbrev pub IsMade : Database → Database → Option ℕ → BatchEdit → Result Entry Refusal → Type 0
 IsMade old new on e (Ok entry) =
     (edit_on old on e ≡ Ok new.tables.present.relations) × LeadTo (deltas_of entry) old.tables.present.relations new.tables.present.relations
 IsMade old new on e (Err (refusal.Told why)) = edit_on old on e ≡ Err (edit_refusal_view why)
@@ -71,7 +71,7 @@ fault_at edit (refusal.Told why) = fault.Refused edit why
 fault_at edit refusal.NoMemory = fault.NoMemory
 
 -- the edits were made, and the entries tell how, one after another; or the first that is refused is told, unless memory ran out
-abbrev pub AreMade : Store → Store → Option ℕ → List BatchEdit → Result (Vec Entry Global) BatchFault → Type 0
+abbrev pub AreMade : Database → Database → Option ℕ → List BatchEdit → Result (Vec Entry Global) BatchFault → Type 0
 AreMade old new on edits (Ok entries) =
     (edits_from 0 on (state_of old) edits old.tables.present.relations ≡ Ok new.tables.present.relations)
     × Chain (map deltas_of entries.items) old.tables.present.relations new.tables.present.relations

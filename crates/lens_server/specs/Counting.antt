@@ -20,11 +20,19 @@ use Rattle.server_specs.specs.Request.{BatchEdit, Request, define, read, find_at
 use Rattle.server_specs.specs.State.{State}
 use Rattle.lens_server.specs.Staging.{steps_of}
 use Rattle.lens_server.specs.declared.plan.Plan.{Plan}
-use Rattle.lens_server.specs.declared.store.Store.{Store}
+use Rattle.lens_server.specs.declared.database.Database.{Database}
 
 -- the number of rows of all tables
 abbrev pub row_count : Tables → ℕ
 row_count db = sum_by (λ e. count_of e.1.rows) (finmap.entries db)
+
+-- a counter goes on, by so many at most
+abbrev pub RisesBy : ℕ → ℕ → ℕ → Type 0
+RisesBy most old new = (old ≤ new) × (new ≤ old + most)
+
+-- rows are walked: as many at most as the tables have
+abbrev pub WalksTables : Database → ℕ → ℕ → Type 0
+WalksTables database old new = RisesBy (row_count database.tables.present.relations) old new
 
 -- whether the lens of the name, if it has one, is asked by the column alone
 abbrev pub is_asked_by : Name → Option Lens → Bool
@@ -52,9 +60,9 @@ abbrev pub most_walked : Result Request Answer → State → ℕ
 most_walked request s = if is_by_key request s then 0 else row_count s.tables
 
 -- what was walked for the plan, and will be when it is settled, is so many rows at most
-abbrev pub Walks : Result Plan NoMemory → Store → ℕ → ℕ → ℕ → Type 0
-Walks (Ok plan) store old new most = new + steps_of plan.staged store ≤ old + most
-Walks (Err e) store old new most = new ≤ old + most
+abbrev pub Walks : Result Plan NoMemory → Database → ℕ → ℕ → ℕ → Type 0
+Walks (Ok plan) database old new most = new + steps_of plan.staged database ≤ old + most
+Walks (Err e) database old new most = new ≤ old + most
 
 -- ---- rows that are looked at by key
 

@@ -4,6 +4,7 @@ pub mod Plans
 pub mod Asking
 pub mod Committing
 pub mod Keyed
+pub mod Premises
 pub mod Staging
 pub mod Counting
 pub mod Defining

@@ -1,5 +1,5 @@
 -- What a request needs, and what becomes of its answer.
-use Rattle.std.specs.Prelude.{◌≡◌, ◌≤◌, ◌<◌, ◌-◌, ◌^◌, ℕ, List, Option, Result, Ok, Err, IfOk, OnErr}
+use Rattle.std.specs.Prelude.{◌≡◌, ◌≤◌, ℕ, List, Option, Result, Ok, Err, IfOk, OnErr}
 use Rattle.no_memory.specs.declared.NoMemory.{NoMemory}
 use Rattle.io_specs.specs.Calls.{Adds}
 use Rattle.lens_specs.specs.Keeping.{Kept, Follows, Tells}
@@ -11,17 +11,14 @@ use Rattle.table_keeper.specs.declared.calls.Call.{Call}
 use Rattle.table_keeper.specs.declared.keeper.KeepFault.{KeepFault}
 use Rattle.table_keeper.specs.declared.keeper.KeepFault.TheVariants as fault
 use Rattle.lens_server.specs.Committing.{Commits}
-use Rattle.lens_server.specs.Keyed.{IsKeyed}
+use Rattle.lens_server.specs.Premises.{CanAnswer}
 use Rattle.lens_server.specs.States.{state_of}
-use Rattle.lens_server.specs.declared.store.Store.{Store}
+use Rattle.lens_server.specs.declared.database.Database.{Database}
 
--- The store can take a request: its state is valid and its lenses can ask their tables, its version can rise, and the keeper, where
--- it tells its contents, has the state's.
-pub record IsReady (store : Store) (contents : Option Kept) : Type 0 where
-  pub valid : Valid (state_of store)
-  pub keyed : IsKeyed store
-  pub room : store.version < 2 ^ 64 - 1
-  pub told : Tells contents (kept (state_of store))
+-- A line can be answered: any request can, and the keeper, where it tells its contents, has those of the state.
+pub record IsReady (database : Database) (contents : Option Kept) : Type 0 where
+  pub can : CanAnswer database
+  pub told : Tells contents (kept (state_of database))
 
 -- the reply is that of the store where the keeper failed, and memory ran out where it lacked memory
 abbrev pub NotKept : KeepFault → Result (List ℕ) NoMemory → Type 0

@@ -25,7 +25,7 @@ use Rattle.lens_server.specs.declared.plan.PastStep.{PastStep}
 use Rattle.lens_server.specs.declared.plan.PastStep.TheVariants.{Stays, Gains, Loses}
 use Rattle.lens_server.specs.declared.plan.Plan.{Plan}
 use Rattle.lens_server.specs.declared.plan.Staged.{Staged}
-use Rattle.lens_server.specs.declared.store.Store.{Store}
+use Rattle.lens_server.specs.declared.database.Database.{Database}
 
 -- the texts, and the definition's, if there is one
 abbrev pub texts_with : Option Prepared → List (List ℕ) → List (List ℕ)
@@ -73,33 +73,33 @@ CanStage (Define text table) (Some prepared) tables = (length prepared.text < 2 
 
 -- The change can be made: the tables can stage it, the catalogue can take the definition, the keeper's contents follow, and the
 -- state after it is valid.
-pub record IsStaged (staged : Staged) (store : Store) : Type 0 where
-  pub tables : CanStage staged.change staged.definition store.tables.present.relations
-  pub definition : CanTake staged.definition store.catalog
-  pub kept : KeptFollows (change_view staged.change) (state_of store) (after staged (state_of store))
-  pub valid : Valid (after staged (state_of store))
+pub record IsStaged (staged : Staged) (database : Database) : Type 0 where
+  pub tables : CanStage staged.change staged.definition database.tables.present.relations
+  pub definition : CanTake staged.definition database.catalog
+  pub kept : KeptFollows (change_view staged.change) (state_of database) (after staged (state_of database))
+  pub valid : Valid (after staged (state_of database))
 
 -- the change leads to the state, or there is none and the state is the present one
-abbrev pub Leads : Option Staged → State → Store → Type 0
-Leads None next store = next ≡ state_of store
-Leads (Some staged) next store = (next ≡ after staged (state_of store)) × IsStaged staged store
+abbrev pub Leads : Option Staged → State → Database → Type 0
+Leads None next database = next ≡ state_of database
+Leads (Some staged) next database = (next ≡ after staged (state_of database)) × IsStaged staged database
 
 -- the plan has the answer, and leads to the state after it
-pub record IsPlan (plan : Plan) (expected : Answer × State) (store : Store) : Type 0 where
+pub record IsPlan (plan : Plan) (expected : Answer × State) (database : Database) : Type 0 where
   pub answer : answer_view plan.answer ≡ expected.0
-  pub leads : Leads plan.staged expected.1 store
+  pub leads : Leads plan.staged expected.1 database
 
 -- the plan is that of some answer
-abbrev pub IsPlanned : Plan → Store → Type 0
-IsPlanned plan store = (expected : Answer × State) × IsPlan plan expected store
+abbrev pub IsPlanned : Plan → Database → Type 0
+IsPlanned plan database = (expected : Answer × State) × IsPlan plan expected database
 
 -- The plan tells these differences with the next version, and they are its change, each changed table last changed then; the
 -- changes that can be undone gain or lose it.
-pub record IsChange (deltas : List TableDelta) (step : PastStep) (store : Store) (plan : Plan) : Type 0 where
-  pub answer : answer_view plan.answer ≡ changed deltas (store.version + 1)
+pub record IsChange (deltas : List TableDelta) (step : PastStep) (database : Database) (plan : Plan) : Type 0 where
+  pub answer : answer_view plan.answer ≡ changed deltas (database.version + 1)
   pub staged : Staged
   pub is : plan.staged ≡ Some staged
   pub change : change_view staged.change ≡ rows deltas
   pub definition : staged.definition ≡ None
-  pub last : staged.last ≡ with_last (store.version + 1) deltas store.last
+  pub last : staged.last ≡ with_last (database.version + 1) deltas database.last
   pub past : staged.past ≡ step

@@ -11,7 +11,7 @@ use Rattle.table_keeper.specs.declared.keeper.Change.{Change}
 use Rattle.table_keeper.specs.declared.keeper.Change.TheVariants.{Define, Rows}
 use Rattle.view_catalog.specs.declared.prepared.Prepared.{Prepared}
 use Rattle.lens_server.specs.declared.plan.Staged.{Staged}
-use Rattle.lens_server.specs.declared.store.Store.{Store}
+use Rattle.lens_server.specs.declared.database.Database.{Database}
 
 -- the indexes that the lens needs
 abbrev pub needs_of : Lens → List Need
@@ -42,6 +42,6 @@ steps_in (Define text table) None st = 0
 steps_in (Define text table) (Some prepared) st = walked_by prepared.lens st
 
 -- how many rows are walked for what is staged, if anything is
-abbrev pub steps_of : Option Staged → Store → ℕ
-steps_of None store = 0
-steps_of (Some staged) store = steps_in staged.change staged.definition store.tables.present
+abbrev pub steps_of : Option Staged → Database → ℕ
+steps_of None database = 0
+steps_of (Some staged) database = steps_in staged.change staged.definition database.tables.present

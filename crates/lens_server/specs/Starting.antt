@@ -25,12 +25,12 @@ use Rattle.table_keeper.specs.declared.keeper.KeptTable.{KeptTable}
 use Rattle.view_catalog.specs.declared.fault.CatalogFault.{CatalogFault}
 use Rattle.view_catalog.specs.declared.fault.CatalogFault.TheVariants.{NoMemory}
 use Rattle.lens_server.specs.States.{state_of}
-use Rattle.lens_server.specs.declared.admitting.Admitted.{Admitted}
-use Rattle.lens_server.specs.declared.damage.Damage.{Damage}
-use Rattle.lens_server.specs.declared.damage.Damage.TheVariants as damage
-use Rattle.lens_server.specs.declared.starting.StartFault.{StartFault}
-use Rattle.lens_server.specs.declared.starting.StartFault.TheVariants as fault
-use Rattle.lens_server.specs.declared.store.Store.{Store}
+use Rattle.lens_server.specs.declared.startup.definitions.Admitted.{Admitted}
+use Rattle.lens_server.specs.declared.startup.damage.Damage.{Damage}
+use Rattle.lens_server.specs.declared.startup.damage.Damage.TheVariants as damage
+use Rattle.lens_server.specs.declared.startup.fault.StartFault.{StartFault}
+use Rattle.lens_server.specs.declared.startup.fault.StartFault.TheVariants as fault
+use Rattle.lens_server.specs.declared.database.Database.{Database}
 
 -- the damage that the definitions speak of
 abbrev pub damage_view : Damage → opening.Damage
@@ -54,12 +54,12 @@ IsLoad (Err (fault.Damaged damage)) count calls = calls ≡ done_call Load count
 IsLoad (Err fault.StoreFault) count calls = calls ≡ stopped_call Load keep.Failed count ∷ []
 IsLoad (Err fault.NoMemory) count calls = (calls ≡ done_call Load count ∷ []) ⊎ (calls ≡ stopped_call Load keep.NoMemory count ∷ [])
 
--- the store, or the damage, is what is kept opens to, unless memory ran out
-abbrev pub IsStoreOf : Result Store StartFault → Kept → Type 0
-IsStoreOf (Ok store) kept = opened kept ≡ Ok (state_of store)
-IsStoreOf (Err (fault.Damaged damage)) kept = opened kept ≡ Err (damage_view damage)
-IsStoreOf (Err fault.StoreFault) kept = ⊥
-IsStoreOf (Err fault.NoMemory) kept = Unit {0}
+-- the database, or the damage, is what is kept opens to, unless memory ran out
+abbrev pub IsDatabaseOf : Result Database StartFault → Kept → Type 0
+IsDatabaseOf (Ok database) kept = opened kept ≡ Ok (state_of database)
+IsDatabaseOf (Err (fault.Damaged damage)) kept = opened kept ≡ Err (damage_view damage)
+IsDatabaseOf (Err fault.StoreFault) kept = ⊥
+IsDatabaseOf (Err fault.NoMemory) kept = Unit {0}
 
 -- ---- definitions
 

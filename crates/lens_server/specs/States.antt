@@ -1,7 +1,7 @@
--- What a store stands for.
+-- What a database stands for.
 use Rattle.server_specs.specs.State.{State}
-use Rattle.lens_server.specs.declared.store.Store.{Store}
+use Rattle.lens_server.specs.declared.database.Database.{Database}
 
--- the state of a store: its tables are those that readers see
-abbrev pub state_of : Store → State
-state_of store = record { texts = store.catalog.texts; tables = store.tables.present.relations; version = store.version; last = store.last; past = store.past }
+-- the state of a database: its tables are those that readers see
+abbrev pub state_of : Database → State
+state_of database = record { texts = database.catalog.texts; tables = database.tables.present.relations; version = database.version; last = database.last; past = database.past }

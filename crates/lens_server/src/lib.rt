@@ -1,27 +1,23 @@
 //! The server: requests are answered one line at a time.
 #![tactic(auto)]
 
-mod admitting;
-mod answering;
-mod asking;
-mod batching;
-mod changing;
-pub mod damage;
-mod defining;
-mod exporting;
-mod importing;
-mod inspecting;
+mod batches;
+mod changes;
+mod commit;
+mod database;
+mod definitions;
+mod dispatch;
+mod exports;
+mod imports;
 mod last_changes;
-mod opening;
 mod plan;
 mod questions;
 mod refusals;
+mod requested_edit;
 pub mod server;
-mod settling;
-pub mod starting;
-mod store;
-mod undoing;
+pub mod startup;
+mod undo;
 
-pub use damage::{Damage, damage_line};
 pub use server::Server;
-pub use starting::StartFault;
+pub use startup::damage::{Damage, damage_line};
+pub use startup::fault::StartFault;

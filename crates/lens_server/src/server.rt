@@ -14,15 +14,15 @@ ghost use Rattle.lens_server.specs.Committing.{CommitsFor};
 ghost use Rattle.lens_server.specs.Counting.{most_looked, most_walked};
 ghost use Rattle.lens_server.specs.Keyed.{IsKeyed};
 ghost use Rattle.lens_server.specs.Outcomes.{IsReady, Outcome};
-ghost use Rattle.lens_server.specs.Starting.{IsLoad, IsStoreOf, Opens};
+ghost use Rattle.lens_server.specs.Starting.{IsLoad, IsDatabaseOf, Opens};
 ghost use Rattle.table_keeper.specs.Changes.{kept_view};
 ghost use Rattle.table_keeper.specs.Places.{Rise};
 ghost use Rattle.lens_server.specs.States.{state_of};
 
-use crate::answering::answer_line;
-use crate::opening::store_of;
-use crate::starting::StartFault;
-use crate::store::Store;
+use crate::database::Database;
+use crate::dispatch::answer_line;
+use crate::startup::database_of;
+use crate::startup::fault::StartFault;
 use io_specs::LONGEST_LINE;
 use json::Scratch;
 use lens_values::{NoMemory, Text};
@@ -36,7 +36,7 @@ use table_keeper::{Keeper, Kept};
 /// The definitions, the tables and the version. A contract sees the state.
 #[derive(Drop)]
 pub struct Server {
-    store: Store,
+    database: Database,
     // What reading a line needs, kept from line to line.
     scratch: Scratch,
 }
@@ -52,9 +52,9 @@ impl Model for Server {
 
     ghost coded = { coded_state };
 
-    ghost view = { λ s. state_of s.store };
+    ghost view = { λ s. state_of s.database };
 
-    ghost invariant = { λ s. Valid (state_of s.store) × IsKeyed s.store };
+    ghost invariant = { λ s. Valid (state_of s.database) × IsKeyed s.database };
 }
 
 impl Server {
@@ -75,9 +75,9 @@ impl Server {
             → Rose (K.faults keeper.old) (K.faults keeper.new) }
     {
         let kept = keeper.load(alloc)?;
-        let store = store_counted::<Brand>(alloc, kept, Blank::new(1))?;
+        let database = database_counted::<Brand>(alloc, kept, Blank::new(1))?;
         Ok(Server {
-            store,
+            database,
             scratch: Scratch::new(alloc),
         })
     }
@@ -130,7 +130,7 @@ impl Server {
         }
         let outcome = answer_line(
             alloc,
-            &mut self.store,
+            &mut self.database,
             &mut self.scratch,
             keeper,
             line,
@@ -144,29 +144,33 @@ impl Server {
     pub fn definitions(&self) -> &[Text]
         ensures { result.now ≡ self.now.texts }
     {
-        self.store.catalog.definitions()
+        self.database.catalog.definitions()
     }
 
     /// The version: how many changes were made.
     pub fn version(&self) -> u64
         ensures { result ≡ self.now.version }
     {
-        self.store.version
+        self.database.version
     }
 }
 
-/// The store of what is kept, or its first damage, with a counter of its own: the tables have no
+/// The database of what is kept, or its first damage, with a counter of its own: the tables have no
 /// rows while the definitions are taken.
-fn store_counted<L: Ledger>(alloc: Global, kept: Kept, blank: Blank) -> Result<Store, StartFault>
+fn database_counted<L: Ledger>(
+    alloc: Global,
+    kept: Kept,
+    blank: Blank,
+) -> Result<Database, StartFault>
     requires name { blank.name ≡ L.name }
     requires parts { blank.parts ≡ L.parts }
     requires one { blank.parts ≡ 1 }
     requires rising { Rise kept.tables.items }
-    ensures store { IsStoreOf result (kept_view kept) }
+    ensures database { IsDatabaseOf result (kept_view kept) }
     ensures keyed { IfOk result IsKeyed }
 {
     let mut walked = Steps::<L>::new(blank);
-    store_of(alloc, kept, &mut walked)
+    database_of(alloc, kept, &mut walked)
 }
 
 /// The reply, or that of memory where it ran out.

@@ -1,8 +1,10 @@
+pub mod Among
 pub mod Cells
 pub mod ColumnsLemmas
 pub mod Comparing
 pub mod Dedup
 pub mod FitsLemmas
+pub mod Fronts
 pub mod Maps
 pub mod NameLemmas
 pub mod NamesLemmas
@@ -12,5 +14,6 @@ pub mod Renamed
 pub mod Repeated
 pub mod SameRow
 pub mod Sets
+pub mod ShortLemmas
 pub mod ValueLemmas
 pub mod Walks

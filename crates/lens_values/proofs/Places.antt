@@ -1,6 +1,6 @@
 -- The place that a binary search finds in a strictly rising list, and a member put there.
 use Rattle.std.proofs.lemmas.Bool.{cases_lt}
-use Rattle.std.proofs.Common.{inl, inr, ◌≡◌, ℕ, ◌+◌, ◌<◌, ◌≤◌, List, [], ◌∷◌, length, get_or, ap, sym, subst, ◌∙◌, refl, Bool, true, false, zero, suc, arith, Result, Ok, Err}
+use Rattle.std.proofs.Common.{inl, inr, ◌≡◌, ℕ, ◌+◌, ◌-◌, ◌<◌, ◌≤◌, List, [], ◌∷◌, length, get_or, ap, sym, subst, ◌∙◌, refl, Bool, true, false, zero, suc, arith, Result, Ok, Err}
 use Rattle.std.specs.Prelude.{◌||◌, is_ok, Some, None, map, position, cond}
 use Rattle.std.specs.declared.cmp.Ordering.{Ordering}
 use Rattle.std.specs.declared.cmp.Ordering.TheVariants.{Less, Equal, Greater}
@@ -8,7 +8,7 @@ use Rattle.std.specs.Ordering.{eq_by_cmp, is_eq, is_lt, on, ordering_reverse, or
 use Rattle.std.specs.List.{AllByRecursion, AllWithin, HoldsAt, list_any, insert, position_from}
 use Rattle.std.specs.List.Sorted.{IsStrictlySortedBy, IsSearchInRange, IsBinarySearchResult, IsNonDecreasingBy, IsPartitionPoint}
 use Rattle.std.specs.Result.{result_ok}
-use Rattle.std.specs.Cmp.{IsTotalOrder, alike_right, tied_back, tied_itself}
+use Rattle.std.specs.Cmp.{IsTotalOrder, alike_right, tied_back}
 use Rattle.std.specs.FinMap.{IsAntisymmetric, find}
 use Rattle.std.proofs.lemmas.Iterator.Adapters.{position_from-zero}
 use Rattle.std.proofs.lemmas.List.Sorted.{searchable_from_sorted}
@@ -144,11 +144,11 @@ module _ {K X : Type 0} {R : K → K → Ordering} (o : IsTotalOrder R) (key : X
   searched_place xs q (Ok i) s l h = sym (position_from-zero (eq_by_cmp R q) (map key xs) ∙ position_at xs q 0 i s l h ∙ ap Some (omega arith))
   searched_place xs q (Err i) s l h = sym (position_from-zero (eq_by_cmp R q) (map key xs) ∙ no_position xs q 0 (none_tie xs q i (h (searchable_keys xs q s))))
 
--- a member of a strictly rising list is at its place
-pub own_place : {K : Type 0} {R : K → K → Ordering} (o : IsTotalOrder R) (xs : List K) (q : K) (i : ℕ) → IsStrictlySortedBy R xs → i < length xs → HoldsAt (λ y. q ≡ y) xs i → Some i ≡ position (eq_by_cmp R q) xs
-own_place {R = R} o xs q i s l h =
+-- where a member of a strictly rising list ties with one, that is its place
+pub tied_place : {K : Type 0} {R : K → K → Ordering} (o : IsTotalOrder R) (xs : List K) (q : K) (i : ℕ) → IsStrictlySortedBy R xs → i < length xs → HoldsAt (λ y. R y q ≡ Equal) xs i → Some i ≡ position (eq_by_cmp R q) xs
+tied_place {R = R} o xs q i s l h =
     ap Some (omega arith)
-    ∙ sym (position_at o (λ x. x) xs q 0 i (subst (IsStrictlySortedBy R) (sym (map-id xs)) s) l (λ d. ap (λ y. R y q) (sym (h d)) ∙ tied_itself o q))
+    ∙ sym (position_at o (λ x. x) xs q 0 i (subst (IsStrictlySortedBy R) (sym (map-id xs)) s) l h)
     ∙ sym (position_from-zero (eq_by_cmp R q) (map (λ x. x) xs)) ∙ ap (position (eq_by_cmp R q)) (map-id xs)
 
 module _ {K V : Type 0} {R : K → K → Ordering} (o : IsTotalOrder R) where
@@ -169,3 +169,29 @@ module _ {K V : Type 0} {R : K → K → Ordering} (o : IsTotalOrder R) where
   -- and where not, they have nothing
   pub searched_nothing : (es : List (K × V)) (q : K) (i : ℕ) → IsStrictlySortedBy R (keys_of es) → IsBinarySearchResult (λ e. R e.0 q) es (Err i) → find R q es ≡ None
   searched_nothing es q i s h = no_value es q (none_tie o (λ e. e.0) es q i (h (searchable_keys o (λ e. e.0) es q s)))
+
+-- ---- by what stands around a place
+
+module _ {K : Type 0} {R : K → K → Ordering} (o : IsTotalOrder R) where
+  after_place : (xs : List K) (q : K) (i : ℕ) → IsStrictlySortedBy R xs → (i < length xs → HoldsAt (λ y. R y q ≡ Greater) xs i) → AllWithin (λ y. R y q ≡ Greater) xs i (length xs)
+  after_place xs q i s h k d a l = elim (cases_lt i k) [
+    | inl m ↦
+        let first : R q (get_or xs i d) ≡ Less = under o (get_or xs i d) q (h (omega arith) d) in
+        o.antisymm (get_or xs k d) q ∙ ap ordering_reverse (o.trans q (get_or xs i d) (get_or xs k d) first (Less-from_sorted R xs i k d s m l))
+    | inr m ↦ let same : k ≡ i = omega arith in subst (λ j. R (get_or xs j d) q ≡ Greater) (sym same) (h (omega arith) d)
+  ]
+
+  before_place : (xs : List K) (q : K) (i : ℕ) → IsStrictlySortedBy R xs → (0 < i → (i ≤ length xs) × HoldsAt (λ y. R y q ≡ Less) xs (i - 1)) → AllWithin (λ y. R y q ≡ Less) xs 0 i
+  before_place xs q i s h k d a l =
+      let t = h (omega arith) in
+      elim (cases_lt k (i - 1)) [
+        | inl m ↦ o.trans (get_or xs k d) (get_or xs (i - 1) d) q (Less-from_sorted R xs k (i - 1) d s m (omega (arith, t.0))) (t.1 d)
+        | inr m ↦ let same : k ≡ i - 1 = omega arith in subst (λ j. R (get_or xs j d) q ≡ Less) (sym same) (t.1 d)
+      ]
+
+  -- what falls between the members before and at a place is nowhere in the list
+  pub between : (xs : List K) (q : K) (i : ℕ) → IsStrictlySortedBy R xs → (0 < i → (i ≤ length xs) × HoldsAt (λ y. R y q ≡ Less) xs (i - 1)) → (i < length xs → HoldsAt (λ y. R y q ≡ Greater) xs i)
+      → None ≡ position (eq_by_cmp R q) xs
+  between xs q i s before after =
+      sym (ap (position (eq_by_cmp R q)) (sym (map-id xs)) ∙ position_from-zero (eq_by_cmp R q) (map (λ y. y) xs)
+      ∙ no_position o (λ y. y) xs q 0 (none_tie o (λ y. y) xs q i (before_place xs q i s before, after_place xs q i s after)))

@@ -11,6 +11,8 @@ pub mod Part
 pub mod Row
 pub mod Repeats
 pub mod RowOrder
+pub mod ShortBytes
+pub mod ShortFields
 pub mod SortedMap
 pub mod SortedSet
 pub mod Text

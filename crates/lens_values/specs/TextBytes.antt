@@ -5,5 +5,5 @@ use Rattle.lens_values.specs.declared.text.TextBytes.TheVariants.{Short, Long}
 
 -- those of a short text in its value, or those that its copies share
 abbrev pub bytes_of : TextBytes → List ℕ
-bytes_of (Short s) = s.bytes
+bytes_of (Short s) = s
 bytes_of (Long r) = string_bytes r.value

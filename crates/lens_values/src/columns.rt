@@ -10,6 +10,7 @@ ghost use Rattle.lens_values.specs.Order.{bytes_cmp};
 ghost use Rattle.lens_values.specs.Part.{override, restrict, exclude};
 ghost use Rattle.lens_values.specs.Repeats.{AreDistinct, IsLeastRepeated};
 ghost use Rattle.lens_values.specs.SortedMap.{keys_of};
+ghost use Rattle.lens_values.specs.declared.columns.ColumnsFault.TheVariants.{NoMemory};
 
 use crate::merging::{difference, intersection, union};
 use crate::name::Name;
@@ -67,9 +68,6 @@ pub enum ColumnsFault {
 }
 
 impl From<AllocError> for ColumnsFault {
-    ghost use Rattle.std.specs.Prelude.{◌≡◌};
-    ghost use Rattle.lens_values.specs.declared.columns.ColumnsFault.TheVariants.{NoMemory};
-
     ghost from_gives = { λ _ e. e ≡ NoMemory };
 
     fn from(_: AllocError) -> ColumnsFault {
@@ -78,9 +76,6 @@ impl From<AllocError> for ColumnsFault {
 }
 
 impl From<NoMemory> for ColumnsFault {
-    ghost use Rattle.std.specs.Prelude.{◌≡◌};
-    ghost use Rattle.lens_values.specs.declared.columns.ColumnsFault.TheVariants.{NoMemory};
-
     ghost from_gives = { λ _ e. e ≡ NoMemory };
 
     fn from(_: NoMemory) -> ColumnsFault {

@@ -10,6 +10,7 @@ pub mod names;
 mod pairs;
 mod renaming;
 pub mod row;
+mod short_text;
 pub mod sorting;
 pub mod text;
 pub mod value;

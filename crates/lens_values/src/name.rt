@@ -1,8 +1,13 @@
 //! The name of a column, a table or a view.
-ghost use Rattle.std.specs.Prelude.{◌≡◌, IsTrue};
+ghost use Rattle.std.specs.Prelude.{◌≡◌, IsTrue, length, nat_eq, nat_le, refl, take};
+ghost use Rattle.std.specs.Cmp.{partial_equiv_from_equiv};
+ghost use Rattle.std.specs.Cmp.Lexicographic.{nat_list_cmp_total, nat_list_eq_equiv, pointwise, texts_po, texts_ties};
 ghost use Rattle.std.specs.List.{list_all};
+ghost use Rattle.std.specs.Ordering.{as_partial_cmp};
 ghost use Rattle.lens_values.specs.Bytes as spec;
 ghost use Rattle.lens_values.specs.Name.{name_of};
+ghost use Rattle.lens_values.specs.NameBytes.{spelt};
+ghost use Rattle.lens_values.specs.Order.{bytes_cmp};
 
 use crate::copying::TryClone;
 use crate::merging::Keyed;
@@ -14,16 +19,21 @@ use std::marker::Model;
 /// The greatest number of bytes of a name.
 pub const MAX_NAME: usize = 32;
 
+// How many bytes of a name are kept as a number too.
+const FRONT: usize = 8;
+
 /// A lower-case letter or `_`, and then at most 31 of these and digits. A contract sees its bytes.
 #[derive(Clone, Copy, Debug)]
 pub struct Name {
     bytes: [u8; 32],
     len: usize,
+    // The number that the first bytes spell. It tells most names apart, and orders them.
+    front: u64,
 }
 
 impl Model for Name {
     ghost use Rattle.std.specs.Prelude.{List, ℕ, take, length};
-    ghost use Rattle.lens_values.specs.NameBytes.{KeepsName, padded};
+    ghost use Rattle.lens_values.specs.NameBytes.{KeepsName, padded, spelt};
 
     ghost Value = { List ℕ };
 
@@ -31,9 +41,9 @@ impl Model for Name {
 
     ghost view = { λ n. take n.len n.bytes };
 
-    ghost invariant = { λ n. KeepsName n.bytes n.len };
+    ghost invariant = { λ n. KeepsName n.bytes n.len n.front };
 
-    ghost inverse = { λ v. record { bytes = padded v; len = length v } };
+    ghost inverse = { λ v. record { bytes = padded v; len = length v; front = spelt 8 0 v } };
 
     ghost inverse_ok = { λ n kept. same_fields n kept };
 }
@@ -83,6 +93,7 @@ impl Name {
         Ok(Name {
             bytes,
             len: text.len(),
+            front: front_of(bytes),
         })
     }
 
@@ -100,33 +111,69 @@ impl Name {
     {
         &self.bytes[..self.len]
     }
+
+    // The number that the first bytes spell.
+    fn front(&self) -> u64
+        ensures value { result ≡ spelt 8 0 self.now }
+        ensures name { IsTrue (spec.is_name self.now) }
+    {
+        self.front
+    }
+
+    // Whether the name has no more bytes than those.
+    fn is_short(&self) -> bool
+        ensures { result ≡ nat_le (length self.now) 8 }
+    {
+        self.len <= FRONT
+    }
+
+    // Whether the names are equal, where their first bytes are.
+    fn equals_rest(&self, other: &Name) -> bool
+        requires { take 8 self.now ≡ take 8 other.now }
+        ensures { result ≡ pointwise nat_eq self.now other.now }
+    {
+        if self.is_short() && other.is_short() {
+            return true;
+        }
+        self.as_str() == other.as_str()
+    }
+
+    // How the names stand to one another, where their first bytes are equal.
+    fn cmp_rest(&self, other: &Name) -> Ordering
+        requires { take 8 self.now ≡ take 8 other.now }
+        ensures { result ≡ bytes_cmp self.now other.now }
+    {
+        if self.is_short() && other.is_short() {
+            return Ordering::Equal;
+        }
+        self.as_str().cmp(other.as_str())
+    }
+}
+
+// The number that the first of the bytes spell, the greatest first.
+fn front_of(bytes: [u8; 32]) -> u64
+    ensures { result ≡ spelt 8 0 bytes }
+{
+    u64::from_be_bytes([
+        bytes[0], bytes[1], bytes[2], bytes[3], bytes[4], bytes[5], bytes[6], bytes[7],
+    ])
 }
 
 impl PartialEq for Name {
-    ghost use Rattle.std.specs.Prelude.{nat_eq};
-    ghost use Rattle.std.specs.Cmp.Lexicographic.{pointwise, nat_list_eq_equiv};
-    ghost use Rattle.std.specs.Cmp.{partial_equiv_from_equiv};
-
     ghost eq = { pointwise nat_eq };
 
     ghost laws = { partial_equiv_from_equiv nat_list_eq_equiv };
 
     fn eq(&self, other: &Name) -> bool {
-        self.as_str() == other.as_str()
+        self.front() == other.front() && self.equals_rest(other)
     }
 }
 
 impl Eq for Name {
-    ghost use Rattle.std.specs.Cmp.Lexicographic.{nat_list_eq_equiv};
-
     ghost laws = { nat_list_eq_equiv };
 }
 
 impl PartialOrd for Name {
-    ghost use Rattle.std.specs.Ordering.{as_partial_cmp};
-    ghost use Rattle.lens_values.specs.Order.{bytes_cmp};
-    ghost use Rattle.std.specs.Cmp.Lexicographic.{texts_po};
-
     ghost partial_cmp = { as_partial_cmp bytes_cmp };
 
     ghost laws = { texts_po };
@@ -137,10 +184,6 @@ impl PartialOrd for Name {
 }
 
 impl Ord for Name {
-    ghost use Rattle.std.specs.Prelude.{refl};
-    ghost use Rattle.lens_values.specs.Order.{bytes_cmp};
-    ghost use Rattle.std.specs.Cmp.Lexicographic.{nat_list_cmp_total, texts_ties};
-
     ghost cmp = { bytes_cmp };
 
     ghost total = { nat_list_cmp_total };
@@ -150,7 +193,10 @@ impl Ord for Name {
     ghost matches_eq = { texts_ties };
 
     fn cmp(&self, other: &Name) -> Ordering {
-        self.as_str().cmp(other.as_str())
+        match self.front().cmp(&other.front()) {
+            Ordering::Equal => self.cmp_rest(other),
+            order => order,
+        }
     }
 }
 

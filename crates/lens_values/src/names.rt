@@ -1,7 +1,10 @@
 //! A finite set of names.
-ghost use Rattle.std.specs.Prelude.{◌≡◌, IfOk, length, position};
+ghost use Rattle.std.specs.Prelude.{◌≡◌, ◌<◌, ◌≤◌, ◌-◌, IfErr, IfOk, IsTrue, length, position};
+ghost use Rattle.std.specs.List.{HoldsAt, list_all};
 ghost use Rattle.std.specs.List.Sorted.{IsStrictlySortedBy};
 ghost use Rattle.std.specs.Ordering.{eq_by_cmp};
+ghost use Rattle.std.specs.declared.cmp.Ordering.TheVariants.{Equal, Greater, Less};
+ghost use Rattle.lens_values.specs.Keys.{is_among};
 ghost use Rattle.lens_values.specs.Names.{one, same_names, share};
 ghost use Rattle.lens_values.specs.Order.{bytes_cmp};
 ghost use Rattle.lens_values.specs.SortedSet as set;
@@ -11,6 +14,7 @@ use crate::name::Name;
 use crate::sorting::into_sorted;
 use no_memory::NoMemory;
 use std::alloc::Global;
+use std::cmp::Ordering;
 use std::marker::Model;
 use std::rc::Rc;
 
@@ -92,13 +96,16 @@ impl Names {
         place_in(self.as_slice(), name)
     }
 
-    // The same, where the name may stand at the place `near`.
+    // The same, where the name may stand at the place `near` or behind it. A walk that takes rising
+    // names one after another so meets each with few steps.
     pub(crate) fn place_near(&self, name: &Name, near: usize) -> Option<usize>
         ensures { result ≡ position (eq_by_cmp bytes_cmp name.now) (set.items self.now) }
     {
-        match self.as_slice().get(near) {
-            Some(own) if own == name => Some(near),
-            _ => self.place_of(name),
+        let own = self.as_slice();
+        match place_from(own, name, near) {
+            Ok(place) => Some(place),
+            Err(place) if is_above_before(own, name, place) => None,
+            Err(_) => self.place_of(name),
         }
     }
 
@@ -110,11 +117,10 @@ impl Names {
     }
 
     /// Whether each name of this set is in the other.
-    #[tactic(auto, unfolding(crate::specs::SortedSet::is_subset))]
     pub fn within(&self, other: &Names) -> bool
         ensures { result ≡ set.is_subset self.now other.now }
     {
-        self.as_slice().iter().all(|name| other.has(name))
+        are_among(self.as_slice(), other.as_slice())
     }
 
     /// Whether a name is in both sets.
@@ -164,4 +170,53 @@ fn place_in(list: &[Name], name: &Name) -> Option<usize>
     ensures { result ≡ position (eq_by_cmp bytes_cmp name.now) list.now }
 {
     list.binary_search(name).ok()
+}
+
+// The place of the name from `near` on, or the first place there that has no lesser name.
+fn place_from(list: &[Name], name: &Name, near: usize) -> Result<usize, usize>
+    ensures found { IfOk result (λ place.
+        (place < length list.now) × HoldsAt (λ own. bytes_cmp own name.now ≡ Equal) list.now place) }
+    ensures above { IfErr result (λ place.
+        place < length list.now → HoldsAt (λ own. bytes_cmp own name.now ≡ Greater) list.now place) }
+{
+    for place in near..list.len() {
+        match list[place].cmp(name) {
+            Ordering::Less => (),
+            Ordering::Equal => return Ok(place),
+            Ordering::Greater => return Err(place),
+        }
+    }
+    Err(list.len().max(near))
+}
+
+// Whether the name is above the one before the place, if there is one.
+fn is_above_before(list: &[Name], name: &Name, place: usize) -> bool
+    ensures { IsTrue result → 0 < place
+        → (place ≤ length list.now) × HoldsAt (λ own. bytes_cmp own name.now ≡ Less) list.now (place - 1) }
+{
+    if place == 0 {
+        return true;
+    }
+    match list.get(place - 1) {
+        Some(before) => before.cmp(name).is_lt(),
+        None => false,
+    }
+}
+
+// Whether each of the names is among the others. Both rise, so one walk along the others meets them.
+fn are_among(names: &[Name], others: &[Name]) -> bool
+    requires names { IsStrictlySortedBy bytes_cmp names.now }
+    requires others { IsStrictlySortedBy bytes_cmp others.now }
+    ensures { result ≡ list_all (is_among bytes_cmp others.now) names.now }
+{
+    let mut met = 0;
+    for other in others {
+        if met == names.len() {
+            return true;
+        }
+        if names[met] == *other {
+            met += 1;
+        }
+    }
+    met == names.len()
 }

@@ -1,17 +1,21 @@
 //! A row: a finite map from names to values.
-ghost use Rattle.std.specs.Prelude.{◌≡◌, ◌↔◌, IsTrue, IfOk, OnOk, option_copied};
+ghost use Rattle.std.specs.Prelude.{◌≡◌, ◌↔◌, IsTrue, IfOk, OnOk, option_copied, refl};
+ghost use Rattle.std.specs.Cmp.{eq_by_cmp_equiv, partial_equiv_from_equiv, partial_order_from_agreeing_total};
 ghost use Rattle.std.specs.FinMap as map;
 ghost use Rattle.std.specs.List.Sorted.{IsStrictlySortedBy};
 ghost use Rattle.std.specs.List.{filter_map};
+ghost use Rattle.std.specs.Ordering.{as_partial_cmp, eq_by_cmp};
 ghost use Rattle.lens_values.specs.Columns.{Fits};
 ghost use Rattle.lens_values.specs.Order.{bytes_cmp};
 ghost use Rattle.lens_values.specs.Paired.{AreAsMany, paired};
 ghost use Rattle.lens_values.specs.Part.{override, restrict};
 ghost use Rattle.lens_values.specs.Repeats.{AreDistinct, IsLeastRepeated};
-ghost use Rattle.lens_values.specs.Row.{agree};
+ghost use Rattle.lens_values.specs.Row.{agree, row_cmp};
+ghost use Rattle.lens_values.specs.RowOrder.{row_cmp_total};
 ghost use Rattle.lens_values.specs.SortedMap.{keys_of, values_of};
 ghost use Rattle.lens_values.specs.SortedSet as set;
 ghost use Rattle.lens_values.specs.Value.{same_value};
+ghost use Rattle.lens_values.specs.declared.row.RowFault.TheVariants.{NoMemory};
 
 use crate::columns::Columns;
 use crate::copying::TryClone;
@@ -68,9 +72,6 @@ pub enum RowFault {
 }
 
 impl From<AllocError> for RowFault {
-    ghost use Rattle.std.specs.Prelude.{◌≡◌};
-    ghost use Rattle.lens_values.specs.declared.row.RowFault.TheVariants.{NoMemory};
-
     ghost from_gives = { λ _ e. e ≡ NoMemory };
 
     fn from(_: AllocError) -> RowFault {
@@ -79,9 +80,6 @@ impl From<AllocError> for RowFault {
 }
 
 impl From<NoMemory> for RowFault {
-    ghost use Rattle.std.specs.Prelude.{◌≡◌};
-    ghost use Rattle.lens_values.specs.declared.row.RowFault.TheVariants.{NoMemory};
-
     ghost from_gives = { λ _ e. e ≡ NoMemory };
 
     fn from(_: NoMemory) -> RowFault {
@@ -214,7 +212,13 @@ impl Row {
     fn agrees_at(&self, other: &Row, name: &Name) -> bool
         ensures { result ≡ same_value (map.get self.now name.now) (map.get other.now name.now) }
     {
-        match (self.value(name), other.value(name)) {
+        // Rows with the same names have it at the same place.
+        let mut place = self.names().place_of(name).unwrap_or(0);
+        let mut others_place = place;
+        match (
+            self.value_near(name, &mut place),
+            other.value_near(name, &mut others_place),
+        ) {
             (Some(mine), Some(others)) => mine == others,
             (None, None) => true,
             _ => false,
@@ -288,11 +292,6 @@ fn names_and_values(
 }
 
 impl PartialEq for Row {
-    ghost use Rattle.std.specs.Ordering.{eq_by_cmp};
-    ghost use Rattle.std.specs.Cmp.{partial_equiv_from_equiv, eq_by_cmp_equiv};
-    ghost use Rattle.lens_values.specs.Row.{row_cmp};
-    ghost use Rattle.lens_values.specs.RowOrder.{row_cmp_total};
-
     ghost eq = { eq_by_cmp row_cmp };
 
     ghost laws = { partial_equiv_from_equiv (eq_by_cmp_equiv row_cmp_total) };
@@ -303,19 +302,10 @@ impl PartialEq for Row {
 }
 
 impl Eq for Row {
-    ghost use Rattle.std.specs.Cmp.{eq_by_cmp_equiv};
-    ghost use Rattle.lens_values.specs.RowOrder.{row_cmp_total};
-
     ghost laws = { eq_by_cmp_equiv row_cmp_total };
 }
 
 impl PartialOrd for Row {
-    ghost use Rattle.std.specs.Prelude.{refl};
-    ghost use Rattle.std.specs.Ordering.{as_partial_cmp};
-    ghost use Rattle.std.specs.Cmp.{partial_order_from_agreeing_total};
-    ghost use Rattle.lens_values.specs.Row.{row_cmp};
-    ghost use Rattle.lens_values.specs.RowOrder.{row_cmp_total};
-
     ghost partial_cmp = { as_partial_cmp row_cmp };
 
     ghost laws = { partial_order_from_agreeing_total row_cmp row_cmp_total (λ _ _. refl) (λ _ _. refl) };
@@ -326,10 +316,6 @@ impl PartialOrd for Row {
 }
 
 impl Ord for Row {
-    ghost use Rattle.std.specs.Prelude.{refl};
-    ghost use Rattle.lens_values.specs.Row.{row_cmp};
-    ghost use Rattle.lens_values.specs.RowOrder.{row_cmp_total};
-
     ghost cmp = { row_cmp };
 
     ghost total = { row_cmp_total };

@@ -1,11 +1,17 @@
 //! A text value.
-ghost use Rattle.std.specs.Prelude.{◌≡◌, IfOk, IsTrue, IsUtf8};
-ghost use Rattle.lens_values.specs.Bytes.{is_text};
+ghost use Rattle.std.specs.Prelude.{◌≡◌, IfOk, IsTrue, IsUtf8, nat_eq, refl};
+ghost use Rattle.std.specs.Cmp.{partial_equiv_from_equiv};
+ghost use Rattle.std.specs.Cmp.Lexicographic.{nat_list_cmp_total, nat_list_eq_equiv, pointwise, texts_po, texts_ties};
+ghost use Rattle.std.specs.Ordering.{as_partial_cmp};
 ghost use Rattle.no_memory.specs.Gives.{Gives};
+ghost use Rattle.lens_values.specs.Bytes.{is_text};
+ghost use Rattle.lens_values.specs.Order.{bytes_cmp};
 ghost use Rattle.lens_values.specs.Text.{text_of};
+ghost use Rattle.lens_values.specs.TextBytes.{bytes_of};
+ghost use Rattle.lens_values.specs.declared.text.TextFault.TheVariants.{NoMemory};
 
 use crate::copying::TryClone;
-use arrayvec::ArrayString;
+use crate::short_text::ShortText;
 use no_memory::NoMemory;
 use std::alloc::Global;
 use std::cmp::Ordering;
@@ -14,9 +20,6 @@ use std::rc::Rc;
 
 /// The greatest number of bytes of a text.
 pub const MAX_TEXT: usize = 4096;
-
-// The greatest number of bytes of a short text.
-const SHORT: usize = 24;
 
 /// At most 4,096 bytes of UTF-8, without U+0000. A contract sees its bytes.
 #[derive(Debug, Drop)]
@@ -28,7 +31,7 @@ pub struct Text {
 // place in memory. Copies of a long text share its bytes.
 #[derive(Debug)]
 enum TextBytes {
-    Short(ArrayString<SHORT>),
+    Short(ShortText),
     Long(Rc<String>),
 }
 
@@ -55,14 +58,13 @@ impl Drop for TextBytes {
 }
 
 impl TextBytes {
-    ghost use Rattle.lens_values.specs.TextBytes.{bytes_of};
-
     fn of(alloc: Global, s: &str) -> Result<TextBytes, NoMemory>
+        requires { IsTrue (is_text s.now) }
         ensures { IfOk result (λ bytes. bytes_of bytes ≡ s.now) }
     {
-        match ArrayString::from(s) {
-            Ok(short) => Ok(TextBytes::Short(short)),
-            Err(_) => Ok(TextBytes::Long(Rc::new(alloc, String::from_str(alloc, s)?)?)),
+        match ShortText::new(s) {
+            Some(short) => Ok(TextBytes::Short(short)),
+            None => Ok(TextBytes::Long(Rc::new(alloc, String::from_str(alloc, s)?)?)),
         }
     }
 
@@ -97,9 +99,6 @@ pub enum TextFault {
 }
 
 impl From<NoMemory> for TextFault {
-    ghost use Rattle.std.specs.Prelude.{◌≡◌};
-    ghost use Rattle.lens_values.specs.declared.text.TextFault.TheVariants.{NoMemory};
-
     ghost from_gives = { λ _ e. e ≡ NoMemory };
 
     fn from(_: NoMemory) -> TextFault {
@@ -151,30 +150,23 @@ impl Text {
 }
 
 impl PartialEq for Text {
-    ghost use Rattle.std.specs.Prelude.{nat_eq};
-    ghost use Rattle.std.specs.Cmp.Lexicographic.{pointwise, nat_list_eq_equiv};
-    ghost use Rattle.std.specs.Cmp.{partial_equiv_from_equiv};
-
     ghost eq = { pointwise nat_eq };
 
     ghost laws = { partial_equiv_from_equiv nat_list_eq_equiv };
 
     fn eq(&self, other: &Text) -> bool {
-        self.as_str() == other.as_str()
+        match (&self.bytes, &other.bytes) {
+            (TextBytes::Short(mine), TextBytes::Short(others)) => mine.cmp(others).is_eq(),
+            _ => self.as_str() == other.as_str(),
+        }
     }
 }
 
 impl Eq for Text {
-    ghost use Rattle.std.specs.Cmp.Lexicographic.{nat_list_eq_equiv};
-
     ghost laws = { nat_list_eq_equiv };
 }
 
 impl PartialOrd for Text {
-    ghost use Rattle.std.specs.Ordering.{as_partial_cmp};
-    ghost use Rattle.lens_values.specs.Order.{bytes_cmp};
-    ghost use Rattle.std.specs.Cmp.Lexicographic.{texts_po};
-
     ghost partial_cmp = { as_partial_cmp bytes_cmp };
 
     ghost laws = { texts_po };
@@ -185,10 +177,6 @@ impl PartialOrd for Text {
 }
 
 impl Ord for Text {
-    ghost use Rattle.std.specs.Prelude.{refl};
-    ghost use Rattle.lens_values.specs.Order.{bytes_cmp};
-    ghost use Rattle.std.specs.Cmp.Lexicographic.{nat_list_cmp_total, texts_ties};
-
     ghost cmp = { bytes_cmp };
 
     ghost total = { nat_list_cmp_total };
@@ -198,7 +186,10 @@ impl Ord for Text {
     ghost matches_eq = { texts_ties };
 
     fn cmp(&self, other: &Text) -> Ordering {
-        self.as_str().cmp(other.as_str())
+        match (&self.bytes, &other.bytes) {
+            (TextBytes::Short(mine), TextBytes::Short(others)) => mine.cmp(others),
+            _ => self.as_str().cmp(other.as_str()),
+        }
     }
 }
 

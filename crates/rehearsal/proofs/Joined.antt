@@ -52,6 +52,14 @@ Session-one s count l reply last after step = record {
   count_is = refl;
 }
 
+-- a session that goes on by a line has one exchange more
+pub exchanges-more : (s : State) (count : ℕ) (lines : List Line) (replies : List (List ℕ)) (mid : State) (between : ℕ) (p : Session s count lines replies mid between)
+    (l : Line) (reply : List ℕ) (last : State) (after : ℕ) (step : Step mid between l reply last after)
+    → (Session-append s count lines replies mid between (l ∷ []) (reply ∷ []) last after p (Session-one mid between l reply last after step)).exchanges
+    ≡ p.exchanges ++ record { line = l; reply = reply; state = last; count = after } ∷ []
+unfolding Session-append Session-one
+exchanges-more s count lines replies mid between p l reply last after step = refl
+
 -- ---- rows that are walked
 
 -- exchanges after others walk what both may

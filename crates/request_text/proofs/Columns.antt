@@ -1,11 +1,11 @@
 -- Members beside columns.
-use Rattle.std.proofs.Common.{◌≡◌, ◌≤◌, ◌∙◌, ℕ, List, [], ◌∷◌, length, ap, sym, refl, arith, Bool, true, false, Bor, Global}
+use Rattle.std.proofs.Common.{◌≡◌, ◌≤◌, ◌∙◌, ℕ, List, [], ◌∷◌, length, ap, sym, refl, arith, Bool, true, false, Bor}
 use Rattle.std.specs.Prelude.{◌||◌, Option, Some, None, option_and_then, Result, Ok, Err, IsOk}
 use Rattle.std.specs.FinMap as finmap
 use Rattle.std.specs.Ordering.{eq_by_cmp}
 use Rattle.std.specs.Cmp.Lexicographic.{texts_ties}
 use Rattle.std.specs.List.{AllByRecursion, list_any}
-use Rattle.json.specs.declared.value.Value.{Value as Json}
+use Rattle.borrowed_json.specs.declared.value.Value.{Value as Json}
 use Rattle.serde_json.specs.Data.{Data, Members}
 use Rattle.serde_json.specs.Find.{get_member}
 use Rattle.lens_values.specs.Order.{bytes_cmp}
@@ -68,7 +68,7 @@ all_columns columns [] names e h = tt
 all_columns columns (k ∷ ks) names e h = (sym (column_named columns k) ∙ ap (λ ns. is_in ns k) e ∙ h.0, all_columns columns ks names e h.1)
 
 -- beside all columns, and no more members than they are, no member is strange
-pub none_strange : (columns : Columns) (ms : List (Bor (List ℕ) × Json Global)) (pairs : List (Name × Value))
+pub none_strange : (columns : Columns) (ms : List (Bor (List ℕ) × Json)) (pairs : List (Name × Value))
     → length ms ≡ length (finmap.entries columns) → pairs_in (finmap.entries columns) (members_data ms) ≡ Ok pairs → first_other (is_column_of columns) (members_data ms) ≡ None
 none_strange columns ms pairs count found =
     let names = names_of (members_data ms) in
@@ -83,7 +83,7 @@ column_told columns pairs k s r b are is told same =
     sym (column_named columns k) ∙ (λ i. list_any (is_key (sym is i)) (sorted.keys_of (sym are i))) ∙ sym told ∙ same
 
 -- the same, where the columns are known to be found
-pub none_beside : (columns : Columns) (ms : List (Bor (List ℕ) × Json Global)) → length ms ≡ length (finmap.entries columns)
+pub none_beside : (columns : Columns) (ms : List (Bor (List ℕ) × Json)) → length ms ≡ length (finmap.entries columns)
     → IsOk (pairs_in (finmap.entries columns) (members_data ms)) → first_other (is_column_of columns) (members_data ms) ≡ None
 none_beside columns ms count found =
     elim (pairs_in (finmap.entries columns) (members_data ms)) as (λ r. pairs_in (finmap.entries columns) (members_data ms) ≡ r → IsOk r → first_other (is_column_of columns) (members_data ms) ≡ None) [

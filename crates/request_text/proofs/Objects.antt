@@ -7,12 +7,11 @@ use Rattle.std.specs.Ordering.{nat_cmp, is_eq, match_ordering}
 use Rattle.std.specs.Cmp.Lexicographic.{slice_cmp, texts_ties}
 use Rattle.std.specs.List.{AllByRecursion, list_any}
 use Rattle.std.specs.List.Sorted.{IsStrictlySortedBy}
-use Rattle.json.specs.Value.{value_view, members_view}
-use Rattle.json.specs.declared.value.Value.{Value}
 use Rattle.serde_json.specs.Data.{Data, Members, no_members, member, put}
 use Rattle.serde_json.specs.Find.{get_member}
 use Rattle.lens_values.specs.Order.{bytes_cmp}
-use Rattle.borrowed_json.specs.Meaning.{data_of, members_onto, members_data}
+use Rattle.borrowed_json.specs.Meaning.{value_data, members_onto, sent_data, members_data}
+use Rattle.borrowed_json.specs.declared.value.Value.{Value}
 use Rattle.server_specs.specs.Request.{first_other, is_key}
 use Rattle.request_text.proofs.Others.{Rises, Below, rises_data}
 
@@ -50,7 +49,7 @@ names_rise no_members h = tt
 names_rise (member k d ms) h = (above_names k ms h.0, names_rise ms h.1)
 
 -- the names of an object rise
-pub data_rises : {A : Type 0} (ms : List (Bor (List ℕ) × Value A)) → IsStrictlySortedBy bytes_cmp (names_of (members_data ms))
+pub data_rises : (ms : List (Bor (List ℕ) × Value)) → IsStrictlySortedBy bytes_cmp (names_of (members_data ms))
 data_rises ms = names_rise (members_data ms) (rises_data ms)
 
 -- ---- how many they are
@@ -65,13 +64,13 @@ put_counted : (k : List ℕ) (d : Data) (ms : Members) → length (names_of (put
 put_counted k d no_members = omega arith
 put_counted k d (member l e ms) = put_counted_at (slice_cmp nat_cmp k l) k l d e ms (put_counted k d ms)
 
-onto_counted : {A : Type 0} (ms : List (Bor (List ℕ) × Value A)) (found : Members) → length (names_of (members_onto (members_view ms) found)) ≤ length (names_of found) + length ms
+onto_counted : (ms : List (Bor (List ℕ) × Value)) (found : Members) → length (names_of (members_onto (sent_data ms) found)) ≤ length (names_of found) + length ms
 onto_counted [] found = omega arith
 onto_counted (m ∷ ms) found =
-    let one = put_counted m.0.now (data_of (value_view m.1)) found in
-    let rest = onto_counted ms (put m.0.now (data_of (value_view m.1)) found) in
+    let one = put_counted m.0.now (value_data m.1) found in
+    let rest = onto_counted ms (put m.0.now (value_data m.1) found) in
     omega (arith, one, rest)
 
 -- no more than were sent
-pub data_counted : {A : Type 0} (ms : List (Bor (List ℕ) × Value A)) → length (names_of (members_data ms)) ≤ length ms
+pub data_counted : (ms : List (Bor (List ℕ) × Value)) → length (names_of (members_data ms)) ≤ length ms
 data_counted ms = omega (arith, onto_counted ms no_members)

@@ -8,12 +8,11 @@ use Rattle.std.specs.Cmp.Lexicographic.{nat_list_cmp_total}
 use Rattle.std.proofs.lemmas.List.{take_more}
 use Rattle.std.proofs.lemmas.Map.Text.{is_eq-slice_cmp}
 use Rattle.std.proofs.lemmas.Slice.Eq.{bytes_eq-Decides}
-use Rattle.json.specs.Value.{members_view}
-use Rattle.json.specs.declared.value.Value.{Value}
 use Rattle.serde_json.specs.Data.{Data, Members, no_members, member, put}
 use Rattle.lens_values.specs.Order.{bytes_cmp}
 use Rattle.server_specs.specs.Request.{first_other, lesser}
-use Rattle.borrowed_json.specs.Meaning.{members_onto, members_data, value_data}
+use Rattle.borrowed_json.specs.Meaning.{members_onto, sent_data, members_data, value_data}
+use Rattle.borrowed_json.specs.declared.value.Value.{Value}
 use Rattle.borrowed_json.proofs.Trees.{data_push}
 
 -- ---- the order of the names
@@ -94,23 +93,22 @@ other_put passes k d (member l e ms) h = other_put_at (bytes_cmp k l) passes k l
 
 -- ---- the members of an object, one after another
 
-module _ {A : Type 0} where
-  rises_onto : (ms : List (Bor (List ℕ) × Value A)) (found : Members) → Rises found → Rises (members_onto (members_view ms) found)
-  rises_onto [] found h = h
-  rises_onto (x ∷ ms) found h = rises_onto ms (put x.0.now (value_data x.1) found) (rises_put x.0.now (value_data x.1) found h)
+rises_onto : (ms : List (Bor (List ℕ) × Value)) (found : Members) → Rises found → Rises (members_onto (sent_data ms) found)
+rises_onto [] found h = h
+rises_onto (x ∷ ms) found h = rises_onto ms (put x.0.now (value_data x.1) found) (rises_put x.0.now (value_data x.1) found h)
 
-  -- the names of an object's data rise
-  pub rises_data : (ms : List (Bor (List ℕ) × Value A)) → Rises (members_data ms)
-  rises_data ms = rises_onto ms no_members tt
+-- the names of an object's data rise
+pub rises_data : (ms : List (Bor (List ℕ) × Value)) → Rises (members_data ms)
+rises_data ms = rises_onto ms no_members tt
 
-  -- the first name that does not pass, with one member more at the end
-  pub other_push : (passes : List ℕ → Bool) (ms : List (Bor (List ℕ) × Value A)) (m : Bor (List ℕ) × Value A)
-      → first_other passes (members_data (ms ++ m ∷ [])) ≡ (if passes m.0.now then first_other passes (members_data ms) else lesser (Some m.0.now) (first_other passes (members_data ms)))
-  other_push passes ms m = ap (first_other passes) (data_push ms m) ∙ other_put passes m.0.now (value_data m.1) (members_data ms) (rises_data ms)
+-- the first name that does not pass, with one member more at the end
+pub other_push : (passes : List ℕ → Bool) (ms : List (Bor (List ℕ) × Value)) (m : Bor (List ℕ) × Value)
+    → first_other passes (members_data (ms ++ m ∷ [])) ≡ (if passes m.0.now then first_other passes (members_data ms) else lesser (Some m.0.now) (first_other passes (members_data ms)))
+other_push passes ms m = ap (first_other passes) (data_push ms m) ∙ other_put passes m.0.now (value_data m.1) (members_data ms) (rises_data ms)
 
-  -- the same, where the members are read one after another
-  pub other_more : (passes : List ℕ → Bool) (ms : List (Bor (List ℕ) × Value A)) (i : ℕ) (m : Bor (List ℕ) × Value A) → i < length ms → m ≡ get_or ms i m
-      → first_other passes (members_data (take (i + 1) ms))
-      ≡ (if passes m.0.now then first_other passes (members_data (take i ms)) else lesser (Some m.0.now) (first_other passes (members_data (take i ms))))
-  other_more passes ms i m h e =
-      ap (λ ns. first_other passes (members_data ns)) (take_more ms i m h ∙ ap (λ n. take i ms ++ n ∷ []) (sym e)) ∙ other_push passes (take i ms) m
+-- the same, where the members are read one after another
+pub other_more : (passes : List ℕ → Bool) (ms : List (Bor (List ℕ) × Value)) (i : ℕ) (m : Bor (List ℕ) × Value) → i < length ms → m ≡ get_or ms i m
+    → first_other passes (members_data (take (i + 1) ms))
+    ≡ (if passes m.0.now then first_other passes (members_data (take i ms)) else lesser (Some m.0.now) (first_other passes (members_data (take i ms))))
+other_more passes ms i m h e =
+    ap (λ ns. first_other passes (members_data ns)) (take_more ms i m h ∙ ap (λ n. take i ms ++ n ∷ []) (sym e)) ∙ other_push passes (take i ms) m

@@ -1,11 +1,11 @@
 -- Elements that are read one after another, until one is not right.
-use Rattle.std.proofs.Common.{◌≡◌, ◌∙◌, ◌<◌, ◌+◌, ◌≤◌, ℕ, zero, suc, List, [], ◌∷◌, ◌++◌, take, length, get_or, ap, sym, refl, arith, Global}
+use Rattle.std.proofs.Common.{◌≡◌, ◌∙◌, ◌<◌, ◌+◌, ◌≤◌, ℕ, zero, suc, List, [], ◌∷◌, ◌++◌, take, length, get_or, ap, sym, refl, arith}
 use Rattle.std.specs.Prelude.{Option, Some, None, Result, Ok, Err}
 use Rattle.std.specs.List.{zip}
 use Rattle.std.proofs.lemmas.List.{length-map, length-take-le, take_more}
 use Rattle.serde_json.specs.Data.{Members}
 use Rattle.borrowed_json.specs.Meaning.{value_data, items_data}
-use Rattle.json.specs.declared.value.Value.{Value as JsonOver}
+use Rattle.borrowed_json.specs.declared.value.Value.{Value as Json}
 use Rattle.lens_values.specs.SortedMap.{keys_of}
 use Rattle.lens_values.specs.declared.value.Kind.{Kind}
 use Rattle.lens_values.specs.declared.value.Value.{Value}
@@ -86,9 +86,6 @@ pairs_wrong ms (c ∷ columns) (suc i) column h e is pairs so_far =
 
 abbrev Sent : Type 0
 Sent = Result (List Row) BadRow
-
-abbrev Json : Type 0
-Json = JsonOver Global
 
 row_more : (first : Result Row (List ℕ)) (others more : Sent) (row : Row)
     → ((rs : List Row) → others ≡ Ok rs → more ≡ Ok (rs ++ row ∷ [])) → (all : List Row) → with_row first others ≡ Ok all → with_row first more ≡ Ok (all ++ row ∷ [])

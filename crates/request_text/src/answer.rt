@@ -5,10 +5,8 @@ ghost use Rattle.request_text.specs.Answers.{answer_view, edit_refusal_view, ref
 
 use crate::changes::changed_text;
 use crate::definition_errors::{
-    column_taken_text, default_refused_text, kind_clash_text, mixed_conjunct_text, name_taken_text,
-    no_such_dependency_text, not_determined_text, not_tree_text, pred_kind_text,
-    side_mentions_output_text, source_mentions_output_text, syntax_text, table_twice_text,
-    too_large_text, unknown_column_text,
+    default_refused_text, mixed_conjunct_text, not_tree_text, refuse_column, refuse_name,
+    side_mentions_output_text, syntax_text, too_large_text,
 };
 use crate::definitions::defined_text;
 use crate::lists::{Changes, CsvText, Edges, Texts};
@@ -20,7 +18,7 @@ use crate::reply::{
 use crate::request_errors::{
     bad_request_text, bad_row_text, clash_text, off_predicate_text, stale_text, unknown_name_text,
 };
-use crate::sheets::{bad_record_text, exported_text, nullable_column_text};
+use crate::sheets::{bad_record_text, exported_text};
 use fd_tree::Edge;
 use lens_pred::Formulas;
 use lens_values::{Columns, Name, Names, NoMemory, Row};
@@ -309,20 +307,20 @@ pub fn reply_text(alloc: Global, answer: &Answer) -> Result<Reply, NoMemory>
         Answer::NotJson => Ok(not_json_reply()),
         Answer::BadRequest { member } => bad_request_text(alloc, member),
         Answer::Syntax { at } => syntax_text(alloc, *at),
-        Answer::NameTaken { name } => name_taken_text(alloc, name),
+        Answer::NameTaken { name } => refuse_name(alloc, 21, name),
         Answer::UnknownName { name } => unknown_name_text(alloc, None, name),
-        Answer::UnknownColumn { name } => unknown_column_text(alloc, name),
-        Answer::KindClash { name } => kind_clash_text(alloc, name),
+        Answer::UnknownColumn { name } => refuse_name(alloc, 23, name),
+        Answer::KindClash { name } => refuse_name(alloc, 24, name),
         Answer::NotTree { a, b } => not_tree_text(alloc, a, b),
-        Answer::PredKind { name } => pred_kind_text(alloc, name),
-        Answer::SourceMentionsOutput { col } => source_mentions_output_text(alloc, col),
-        Answer::NoSuchDependency { col } => no_such_dependency_text(alloc, col),
+        Answer::PredKind { name } => refuse_name(alloc, 26, name),
+        Answer::SourceMentionsOutput { col } => refuse_column(alloc, 27, col),
+        Answer::NoSuchDependency { col } => refuse_column(alloc, 28, col),
         Answer::MixedConjunct { index } => mixed_conjunct_text(alloc, *index),
         Answer::DefaultRefused => default_refused_text(alloc),
-        Answer::NotDetermined { col } => not_determined_text(alloc, col),
+        Answer::NotDetermined { col } => refuse_column(alloc, 31, col),
         Answer::SideMentionsOutput { side, col } => side_mentions_output_text(alloc, *side, col),
-        Answer::TableTwice { name } => table_twice_text(alloc, name),
-        Answer::ColumnTaken { name } => column_taken_text(alloc, name),
+        Answer::TableTwice { name } => refuse_name(alloc, 33, name),
+        Answer::ColumnTaken { name } => refuse_name(alloc, 35, name),
         Answer::TooLarge { what } => too_large_text(alloc, *what),
         Answer::BadRow { list, index, col } => bad_row_text(alloc, None, *list, *index, col),
         Answer::Stale {
@@ -338,7 +336,7 @@ pub fn reply_text(alloc: Global, answer: &Answer) -> Result<Reply, NoMemory>
         Answer::InEdit { edit, refusal } => edit_text(alloc, *edit, refusal),
         Answer::NothingToUndo => Ok(nothing_to_undo_reply()),
         Answer::Exported { csv, version } => exported_text(alloc, csv, *version),
-        Answer::NullableColumn { col } => nullable_column_text(alloc, col),
+        Answer::NullableColumn { col } => refuse_column(alloc, 46, col),
         Answer::BadRecord { place } => bad_record_text(alloc, *place),
         Answer::StoreFault => Ok(store_fault_reply()),
     }

@@ -10,8 +10,7 @@ use crate::fields::{ADD, DO, EDITS, Field, ON, REMOVE, VIEW, first_unknown};
 use crate::lists::{BatchEdit, BatchEdits};
 use crate::request::Request;
 use crate::request_members::{on_in, view_in};
-use borrowed_json::{Entry, member, take_member};
-use json::Value as Json;
+use borrowed_json::{Entry, Value as Json, member, take_member};
 use lens_values::NoMemory;
 use std::alloc::Global;
 

@@ -24,30 +24,6 @@ pub(crate) fn syntax_text(alloc: Global, at: usize) -> Result<Reply, NoMemory>
     ended(out)
 }
 
-/// The line that refuses a definition of a name that is taken.
-pub(crate) fn name_taken_text(alloc: Global, name: &Name) -> Result<Reply, NoMemory>
-    ensures { IfOk result (λ reply. reply ≡ spec.text (spec.name_taken name.now)) }
-{
-    refuse_name(alloc, 21, name)
-}
-
-/// The line that refuses a column that is not known.
-pub(crate) fn unknown_column_text(alloc: Global, name: &Name) -> Result<Reply, NoMemory>
-    ensures { IfOk result (λ reply.
-        reply ≡ spec.text (spec.refused (refusal.unknown_column name.now))) }
-{
-    refuse_name(alloc, 23, name)
-}
-
-/// The line that refuses a join in which this column has two kinds, or a drop whose default has
-/// another kind.
-pub(crate) fn kind_clash_text(alloc: Global, name: &Name) -> Result<Reply, NoMemory>
-    ensures { IfOk result (λ reply.
-        reply ≡ spec.text (spec.refused (refusal.kind_clash name.now))) }
-{
-    refuse_name(alloc, 24, name)
-}
-
 /// The line that refuses dependencies that are no tree, with the two sides that do not fit.
 pub(crate) fn not_tree_text(alloc: Global, a: &Names, b: &Names) -> Result<Reply, NoMemory>
     ensures { IfOk result (λ reply.
@@ -59,31 +35,6 @@ pub(crate) fn not_tree_text(alloc: Global, a: &Names, b: &Names) -> Result<Reply
     print_number(&mut out, "error", 25)?;
     print_flag(&mut out, "ok", false)?;
     ended(out)
-}
-
-/// The line that refuses a predicate that compares this column with another kind.
-pub(crate) fn pred_kind_text(alloc: Global, name: &Name) -> Result<Reply, NoMemory>
-    ensures { IfOk result (λ reply.
-        reply ≡ spec.text (spec.refused (refusal.predicate_kind name.now))) }
-{
-    refuse_name(alloc, 26, name)
-}
-
-/// The line that refuses to select from a view of which a conjunct that is not steady mentions this
-/// column.
-pub(crate) fn source_mentions_output_text(alloc: Global, col: &Name) -> Result<Reply, NoMemory>
-    ensures { IfOk result (λ reply.
-        reply ≡ spec.text (spec.refused (refusal.source_mentions_output col.now))) }
-{
-    refuse_column(alloc, 27, col)
-}
-
-/// The line that refuses to drop this column, which no dependency determines by the given ones.
-pub(crate) fn no_such_dependency_text(alloc: Global, col: &Name) -> Result<Reply, NoMemory>
-    ensures { IfOk result (λ reply.
-        reply ≡ spec.text (spec.refused (refusal.no_such_dependency col.now))) }
-{
-    refuse_column(alloc, 28, col)
 }
 
 /// The line that refuses to drop a column that the conjunct at this place mentions beside another.
@@ -108,15 +59,6 @@ pub(crate) fn default_refused_text(alloc: Global) -> Result<Reply, NoMemory>
     ended(out)
 }
 
-/// The line that refuses a join whose shared columns do not determine this column of the right
-/// side.
-pub(crate) fn not_determined_text(alloc: Global, col: &Name) -> Result<Reply, NoMemory>
-    ensures { IfOk result (λ reply.
-        reply ≡ spec.text (spec.refused (refusal.not_determined col.now))) }
-{
-    refuse_column(alloc, 31, col)
-}
-
 /// The line that refuses a join of which a conjunct of this side that is not steady mentions this
 /// column.
 pub(crate) fn side_mentions_output_text(
@@ -135,22 +77,6 @@ pub(crate) fn side_mentions_output_text(
     ended(out)
 }
 
-/// The line that refuses a join with this table on both sides.
-pub(crate) fn table_twice_text(alloc: Global, name: &Name) -> Result<Reply, NoMemory>
-    ensures { IfOk result (λ reply.
-        reply ≡ spec.text (spec.refused (refusal.table_twice name.now))) }
-{
-    refuse_name(alloc, 33, name)
-}
-
-/// The line that refuses a renaming to a column that is there already.
-pub(crate) fn column_taken_text(alloc: Global, name: &Name) -> Result<Reply, NoMemory>
-    ensures { IfOk result (λ reply.
-        reply ≡ spec.text (spec.refused (refusal.column_taken name.now))) }
-{
-    refuse_name(alloc, 35, name)
-}
-
 /// The line that refuses a definition of which this is too large.
 pub(crate) fn too_large_text(alloc: Global, what: Limit) -> Result<Reply, NoMemory>
     ensures { IfOk result (λ reply.
@@ -163,8 +89,8 @@ pub(crate) fn too_large_text(alloc: Global, what: Limit) -> Result<Reply, NoMemo
     ended(out)
 }
 
-// The line of a refusal that names a table or a column as `name`.
-fn refuse_name(alloc: Global, number: u64, name: &Name) -> Result<Reply, NoMemory>
+/// The line of a refusal that names a table or a column as `name`.
+pub(crate) fn refuse_name(alloc: Global, number: u64, name: &Name) -> Result<Reply, NoMemory>
     ensures { IfOk result (λ reply. reply ≡ json_line (spec.error_with_name number name.now)) }
 {
     let mut out = begun(alloc)?;

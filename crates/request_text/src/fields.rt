@@ -11,8 +11,7 @@ use crate::member::lesser;
 use crate::member_values::{is_text, name_member};
 use crate::questions::{TO_DO, TO_FIND, TO_SHOW};
 use crate::sheets::TO_IMPORT;
-use borrowed_json::{Entry, as_str, as_u64, member};
-use json::Value as Json;
+use borrowed_json::{Entry, Value as Json, as_str, as_u64, member};
 
 /// The kind of a request.
 #[derive(Clone, Copy, Debug, Drop)]

@@ -6,8 +6,8 @@ ghost use Rattle.server_specs.specs.Sending.{value_in as value_said};
 ghost use Rattle.request_text.specs.Edits.{edit_view};
 
 use crate::rows::value_in;
+use borrowed_json::Value as Json;
 use fd_tree::Edge;
-use json::Value as Json;
 use lens_values::{Kind, Name, NoMemory, Text, Value};
 use signed_delta::TableDelta;
 use std::alloc::Global;

@@ -4,8 +4,7 @@ ghost use Rattle.borrowed_json.specs.Meaning.{value_data};
 ghost use Rattle.lens_values.specs.Bytes.{is_text as is_text_of};
 ghost use Rattle.server_specs.specs.Request.{text_in, name_in};
 
-use borrowed_json::as_str;
-use json::Value as Json;
+use borrowed_json::{Value as Json, as_str};
 use lens_values::text::MAX_TEXT;
 use lens_values::{Name, NoMemory, Text, TextFault};
 use std::alloc::Global;

@@ -15,8 +15,8 @@ use crate::lists::{BatchEdits, CsvText, JsonRows, JsonValue};
 use crate::member::Member;
 use crate::questions::{describe_in, find_in, read_in};
 use crate::sheets::{export_in, import_in};
-use borrowed_json::{Entry, as_str, member, read_line};
-use json::{Scratch, Value as Json};
+use borrowed_json::{Entry, Value as Json, as_str, member, read_line};
+use json::Scratch;
 use lens_values::{Name, NoMemory, Text};
 use std::alloc::{AllocError, AllocFailed, Global};
 

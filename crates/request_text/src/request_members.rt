@@ -6,8 +6,7 @@ ghost use Rattle.request_text.specs.Requests.{column_in, on_in, rows_in, view_in
 
 use crate::lists::JsonRows;
 use crate::member_values::name_member;
-use borrowed_json::{Entry, as_u64, member, take_member};
-use json::Value as Json;
+use borrowed_json::{Entry, Value as Json, as_u64, member, take_member};
 use lens_values::Name;
 
 /// The name of the view.

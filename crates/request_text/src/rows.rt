@@ -15,8 +15,7 @@ ghost use Rattle.request_text.specs.RowFaults.{GivesRows, TellsRow, fault_at, se
 use crate::lists::JsonRows;
 use crate::member::{Member, MemberFault, lesser};
 use crate::member_values::text_member;
-use borrowed_json::{Entry, as_i64, member};
-use json::Value as Json;
+use borrowed_json::{Entry, Value as Json, as_i64, member};
 use lens_values::{Columns, Kind, Name, Names, NoMemory, Row, Value};
 use row_sets::RowSet;
 use std::alloc::{AllocError, AllocFailed, Global};

@@ -5,7 +5,6 @@ ghost use Rattle.server_specs.specs.Request.{to_export};
 ghost use Rattle.borrowed_json.specs.Meaning.{members_data};
 ghost use Rattle.request_text.specs.Requests.{csv_in, import_in, request_view, said_in};
 
-use crate::definition_errors::refuse_column;
 use crate::fields::{CSV, DO, Field, ON, VIEW};
 use crate::lists::CsvText;
 use crate::printing::{begun, ended, print_flag, print_number, print_text};
@@ -13,7 +12,7 @@ use crate::reply::Reply;
 use crate::request::Request;
 use crate::request_members::{on_in, view_in};
 use borrowed_json::{Entry, as_str, member};
-use lens_values::{Name, NoMemory};
+use lens_values::NoMemory;
 use std::alloc::Global;
 
 /// The members of an import, in byte order of their names.
@@ -62,13 +61,6 @@ pub(crate) fn exported_text(alloc: Global, csv: &CsvText, version: u64) -> Resul
     print_flag(&mut out, "ok", true)?;
     print_number(&mut out, "version", version)?;
     ended(out)
-}
-
-/// The line that refuses CSV for a view of which this column may be null.
-pub(crate) fn nullable_column_text(alloc: Global, col: &Name) -> Result<Reply, NoMemory>
-    ensures { IfOk result (λ reply. reply ≡ spec.text (spec.nullable_column col.now)) }
-{
-    refuse_column(alloc, 46, col)
 }
 
 /// The line that refuses CSV of which the record at this place is wrong.

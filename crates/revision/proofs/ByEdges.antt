@@ -1,5 +1,5 @@
 -- The rows near the new ones, edge by edge: they are enough too.
-use Rattle.std.proofs.Common.{◌≡◌, ℕ, ◌+◌, ◌<◌, length, get_or, drop, List, [], ◌∷◌, refl, sym, ap, ◌∙◌, true, false, inl, inr}
+use Rattle.std.proofs.Common.{◌≡◌, ◌≢◌, ℕ, ◌+◌, ◌<◌, length, get_or, drop, List, [], ◌∷◌, refl, sym, ap, ◌∙◌, true, false, inl, inr}
 use Rattle.std.specs.Prelude.{Option, Some, None, not}
 use Rattle.std.proofs.lemmas.Bool.{cases_Bool, true≢false}
 use Rattle.std.proofs.lemmas.List.{drop_more}
@@ -14,7 +14,7 @@ use Rattle.lens_laws.proofs.Deltas.{from_found_each, in_found_each, in_touched}
 use Rattle.fd_laws.specs.Trees.{Among}
 use Rattle.fd_laws.proofs.Lists.{absurd_false}
 use Rattle.fd_laws.proofs.Relations.{first_some, from_those, from_union, in_those, in_union_left, in_union_right}
-use Rattle.fd_laws.proofs.Rows.{agree_back, agree_on}
+use Rattle.fd_laws.proofs.Rows.{agree_back, agree_itself, agree_on}
 use Rattle.revision.specs.Near.{HasChanged, agrees_with, is_like_first, near_through, unlike}
 use Rattle.revision.proofs.Near.{apart_from, changes_at}
 
@@ -32,10 +32,16 @@ in_found : (T : List Edge) (M L : Rows) (m : Row) → has M m ≡ true → is_ch
 unfolding touched
 in_found T M L m im t = (from_those (is_changed T L) (found T M L) m (in_touched T M L m im (apart_from T L m t))).0
 
+found_present : (T : List Edge) (M L : Rows) → length T ≢ 0 → (m : Row) → has L m ≡ true → has M m ≡ true → has (found T M L) m ≡ true
+unfolding found
+found_present [] M L some m new im = absurd (some refl)
+found_present (e ∷ es) M L some m new im = in_union_left _ _ m (in_found_each e.left M (set.items L) m m (sym (set.contains-items L m) ∙ new) im (agree_itself e.left m))
+
 pub found_enough : (T : List Edge) (M L near : Rows) → near ≡ found T M L → HasChanged T M L near
 found_enough T M L near is = record {
   within = λ m i. from_found T M L m (ap (λ N. has N m) (sym is) ∙ i);
   changed = λ m im t. ap (λ N. has N m) is ∙ in_found T M L m im t;
+  present = λ some m new im. ap (λ N. has N m) is ∙ found_present T M L some m new im;
 }
 
 -- ---- the rows near the new ones, through the edges in turn
@@ -102,6 +108,19 @@ module _ (M L : Rows) where
     | inr j ↦ found_through ks _ meets.1 (own_more k N own) e j m p im ip left right
   ]
 
+-- of no rows none is like another
+none_like : (e : Edge) (p : Row) (o : Option Row) → first_row (agree e.left p) set.empty ≡ o → agrees_with e.right p o ≡ false
+none_like e p None is = refl
+none_like e p (Some q) is = absurd (true≢false (sym (first_some (agree e.left p) set.empty q is).0 ∙ set.contains-empty row_cmp q))
+
+through_present : (T : List Edge) (M L : Rows) → length T ≢ 0 → (m : Row) → has L m ≡ true → has M m ≡ true → has (near_through T M L set.empty) m ≡ true
+unfolding near_through
+through_present [] M L some m new im = absurd (some refl)
+through_present (e ∷ es) M L some m new im =
+    let there : has (unlike e set.empty L) m ≡ true = in_those (λ r. not (is_like_first e set.empty r)) L m new (ap not (none_like e m (first_row (agree e.left m) set.empty) refl)) in
+    stays_through M L es _ m
+    (in_union_right set.empty _ m (in_found_each e.left M (set.items (unlike e set.empty L)) m m (sym (set.contains-items (unlike e set.empty L) m) ∙ there) im (agree_itself e.left m)))
+
 pub through_enough : (T : List Edge) (M L near : Rows) → MeetsTree M T → near ≡ near_through T M L set.empty → HasChanged T M L near
 through_enough T M L near meets is =
     let none : (m : Row) → has set.empty m ≡ true → has M m ≡ true = λ m i. absurd (true≢false (sym i ∙ set.contains-empty row_cmp m)) in
@@ -110,4 +129,5 @@ through_enough T M L near meets is =
       changed = λ m im t.
           let w = changes_at T L m (apart_from T L m t) in
           ap (λ N. has N m) is ∙ found_through M L T set.empty meets none w.edge w.among m w.row im w.there w.left w.right;
+      present = λ some m new im. ap (λ N. has N m) is ∙ through_present T M L some m new im;
     }

@@ -1,5 +1,5 @@
 -- The rows near new ones are enough: revision changes none of the others.
-use Rattle.std.proofs.Common.{◌≡◌, ℕ, ◌+◌, ◌*◌, ◌<◌, length, get_or, drop, List, [], ◌∷◌, ◌++◌, refl, sym, ap, ◌∙◌, Bool, true, false, cond, inl, inr}
+use Rattle.std.proofs.Common.{◌≡◌, ◌≢◌, ℕ, ◌+◌, ◌*◌, ◌<◌, length, get_or, drop, List, [], ◌∷◌, ◌++◌, refl, sym, ap, ◌∙◌, Bool, true, false, cond, inl, inr}
 use Rattle.std.specs.Prelude.{flat_map, is_some}
 use Rattle.std.specs.List.{list_any}
 use Rattle.std.specs.Ordering.{eq_by_cmp}
@@ -12,14 +12,14 @@ use Rattle.lens_values.specs.SortedSet as set
 use Rattle.lens_values.specs.declared.row.Row.{Row}
 use Rattle.lens_specs.specs.Dependencies.{Edge, Meets, MeetsTree}
 use Rattle.lens_specs.specs.Names.{Name, Names}
-use Rattle.lens_specs.specs.Relation.{Rows, has, those}
+use Rattle.lens_specs.specs.Relation.{Rows, has, minus, those}
 use Rattle.lens_specs.specs.Revision.{along, revise_row}
 use Rattle.lens_specs.specs.Rows.{agree, at, cut}
 use Rattle.lens_laws.specs.KeyedDeltas.{find_by, is_changed}
 use Rattle.fd_laws.specs.Trees.{Among}
-use Rattle.fd_laws.proofs.Lists.{absurd_false, from_append, from_flat_map, in_append_left, in_append_right, in_flat_map, any_from}
-use Rattle.fd_laws.proofs.Relations.{from_those, in_those, same_rel}
-use Rattle.fd_laws.proofs.Rows.{agree_alike, agree_back, agree_on, agree-cut, at-cut, cut_column, paste_same, row_itself, row_total, tied_row}
+use Rattle.fd_laws.proofs.Lists.{absurd_false, false_from, from_append, from_flat_map, in_append_left, in_append_right, in_flat_map, any_from}
+use Rattle.fd_laws.proofs.Relations.{from_minus, from_those, in_minus, in_those, same_rel}
+use Rattle.fd_laws.proofs.Rows.{agree_alike, agree_back, agree_itself, agree_on, agree-cut, at-cut, cut_column, paste_same, row_itself, row_total, tied_row}
 use Rattle.fd_laws.proofs.Trees.{along_cases}
 use Rattle.row_sets.specs.Members.{is_in}
 use Rattle.signed_delta.specs.Keys.{IsKey}
@@ -145,6 +145,13 @@ module _ (M : Rows) (p : Row) where
     | inr j ↦ found_from ks (near_along k M p rows) meets.1 (own_along k rows own) e j m im left right
   ]
 
+  -- p itself is found at the first edge, if it is there
+  present_from : (T : List Edge) → length T ≢ 0 → has M p ≡ true → is_in (near_from T M p []) p ≡ true
+  unfolding near_from
+  present_from [] some im = absurd (some refl)
+  present_from (e ∷ es) some im = stays_from es (near_along e M p []) p
+      (in_append_right same tied_row row_itself p [] _ (sym (set.contains-items (find_by e.left p M) p) ∙ in_those (agree e.left p) M p im (agree_itself e.left p)))
+
 none_own : (M : Rows) (m : Row) → is_in [] m ≡ true → has M m ≡ true
 none_own M m i = absurd (true≢false (sym i))
 
@@ -163,6 +170,8 @@ near_enough T M L near list meets all is =
           let w = changes_at T L m (apart_from T L m t) in
           in_list m ∙ in_flat_map same tied_row row_itself same tied_row row_itself f (set.items L) w.row m (sym (set.contains-items L w.row) ∙ w.there)
           (found_from M w.row T [] meets (none_own M) w.edge w.among m im w.left w.right);
+      present = λ some m new im.
+          in_list m ∙ in_flat_map same tied_row row_itself same tied_row row_itself f (set.items L) m m (sym (set.contains-items L m) ∙ new) (present_from M m T some im);
     }
 
 -- rows of the relation that have the changed ones have no others that are changed
@@ -170,6 +179,12 @@ pub changed_among : (T : List Edge) (M L N : Rows) → HasChanged T M L N → th
 changed_among T M L N h = same_rel _ _
     (λ m i. let w = from_those (is_changed T L) N m i in in_those (is_changed T L) M m (h.within m w.0) w.1)
     (λ m i. let w = from_those (is_changed T L) M m i in in_those (is_changed T L) N m (h.changed m w.0 w.1) w.1)
+
+-- the new rows that are not among them are those that the relation lacks
+pub new_among : (T : List Edge) (M L N : Rows) → HasChanged T M L N → length T ≢ 0 → minus L N ≡ minus L M
+new_among T M L N h some = same_rel _ _
+    (λ m i. let w = from_minus L N m i in in_minus L M m w.0 (false_from _ (λ im. absurd_false _ (h.present some m w.0 im) w.1)))
+    (λ m i. let w = from_minus L M m i in in_minus L N m w.0 (false_from _ (λ k. absurd_false _ (h.within m k) w.1)))
 
 -- ---- how many looks
 

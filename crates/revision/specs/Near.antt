@@ -1,11 +1,12 @@
 -- The rows near new ones: those that revision by them may change.
-use Rattle.std.specs.Prelude.{◌≡◌, Bool, true, false, not, cond, ◌&&◌, List, [], ◌∷◌, ◌++◌, Option, Some, None}
-use Rattle.std.specs.List.{list_any}
+use Rattle.std.specs.Prelude.{◌≡◌, ◌≢◌, ◌*◌, ℕ, length, Bool, true, false, not, cond, ◌&&◌, List, [], ◌∷◌, ◌++◌, Option, Some, None}
+use Rattle.std.specs.List.{Contains, list_any}
 use Rattle.lens_values.specs.SortedSet as set
 use Rattle.lens_values.specs.declared.row.Row.{Row}
-use Rattle.lens_specs.specs.Dependencies.{Edge}
-use Rattle.lens_specs.specs.Names.{Names}
-use Rattle.lens_specs.specs.Relation.{Rows, first_row, has, those, union}
+use Rattle.lens_specs.specs.Columns.{Fits, names}
+use Rattle.lens_specs.specs.Dependencies.{AllEdges, Edge, MeetsTree}
+use Rattle.lens_specs.specs.Names.{Names, Within}
+use Rattle.lens_specs.specs.Relation.{Relation, Rows, first_row, has, those, union}
 use Rattle.lens_specs.specs.Rows.{agree}
 use Rattle.lens_laws.specs.KeyedDeltas.{find_by, found_each, is_changed}
 
@@ -40,7 +41,20 @@ unfoldable pub near_through : List Edge → Rows → Rows → Rows → Rows
 near_through [] M L N = N
 near_through (e ∷ es) M L N = near_through es M L (union N (found_each e.left M (set.items (unlike e N L))))
 
+-- a relation that meets the tree and may be asked by the left side of each edge, by the sets K, and new rows L over its columns
+pub record CanRevise (K : List Names) (A : Relation) (T : List Edge) (L : Rows) : Type 0 where
+  pub asked : AllEdges (λ e. Contains K e.left) T
+  pub columns : AllEdges (λ e. Within e.left (names A.columns)) T
+  pub meets : MeetsTree A.rows T
+  pub fit : (row : Row) → has L row ≡ true → Fits A.columns row
+
+-- a question for each row of L along each edge, where one looks at n rows and finds no more
+abbrev pub near_work : List Edge → Rows → ℕ → ℕ
+near_work T L n = n * length (set.items L) * length T
+
 -- N are rows of M, among them each that revision by L changes
 pub record HasChanged (T : List Edge) (M L N : Rows) : Type 0 where
   pub within : (m : Row) → has N m ≡ true → has M m ≡ true
   pub changed : (m : Row) → has M m ≡ true → is_changed T L m ≡ true → has N m ≡ true
+  -- where the tree has an edge, also each row of L that M has already
+  pub present : length T ≢ 0 → (m : Row) → has L m ≡ true → has M m ≡ true → has N m ≡ true

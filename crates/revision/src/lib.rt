@@ -12,4 +12,6 @@ mod unlike;
 
 pub use revising::{merge, revise, revise_row};
 pub use steps::{all_along, one_along};
-pub use touching::{Touched, afters, befores, revise_touched};
+pub use touching::{
+    NearRows, Touched, afters, befores, near_and_new, revise_touched, touched_among,
+};

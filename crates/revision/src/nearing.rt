@@ -3,10 +3,10 @@ ghost use Rattle.std.specs.Prelude.{◌≡◌, ◌≢◌, ◌≤◌, ◌+◌, �
 ghost use Rattle.std.specs.List.{list_any};
 ghost use Rattle.lens_values.specs.SortedSet as set;
 ghost use Rattle.lens_specs.specs.Columns.{Fits, names};
-ghost use Rattle.lens_specs.specs.Dependencies.{AllEdges, MeetsTree};
+ghost use Rattle.lens_specs.specs.Dependencies.{AllEdges};
 ghost use Rattle.lens_specs.specs.Names.{Within};
 ghost use Rattle.lens_specs.specs.Rows.{at};
-ghost use Rattle.revision.specs.Near.{HasChanged, is_like, near_along, near_from};
+ghost use Rattle.revision.specs.Near.{CanRevise, HasChanged, is_like, near_along, near_from, near_work};
 
 use crate::unlike::unlike_rows;
 use fd_tree::{Edge, Tree};
@@ -29,18 +29,12 @@ pub fn near_rows<K: Look, L: Ledger>(
     plus: &RowSet,
     looked: &mut Steps<L>,
 ) -> Result<RowSet, NoMemory>
-    requires asked { AllEdges (λ e. Contains (K.asked look.now) e.left) tree.now }
-    requires columns { AllEdges (λ e.
-        Within e.left (names (K.relation look.now).columns)) tree.now }
-    requires meets { MeetsTree (K.relation look.now).rows tree.now }
-    requires fit { (row : _) → set.contains plus.now row ≡ true
-        → Fits (K.relation look.now).columns row }
-    ensures near { IfOk result (λ near.
-        HasChanged tree.now (K.relation look.now).rows plus.now near) }
-    ensures looks { (n : ℕ) → K.within look.now n → looked.new ≤ looked.old
-        + n * length (set.items plus.now) * length tree.now }
-    ensures few { IfOk result (λ near. (n : ℕ) → K.within look.now n → length (set.items near)
-        ≤ n * length (set.items plus.now) * length tree.now) }
+    requires { CanRevise (K.asked look.now) (K.relation look.now) tree.now plus.now }
+    ensures near { IfOk result (HasChanged tree.now (K.relation look.now).rows plus.now) }
+    ensures looks { (n : ℕ) → K.within look.now n
+        → looked.new ≤ looked.old + near_work tree.now plus.now n }
+    ensures few { IfOk result (λ near. (n : ℕ) → K.within look.now n
+        → length (set.items near) ≤ near_work tree.now plus.now n) }
 {
     if plus.rows().len() <= FEW {
         near_by_rows(alloc, tree, look, plus, looked)
@@ -57,18 +51,12 @@ fn near_by_rows<K: Look, L: Ledger>(
     plus: &RowSet,
     looked: &mut Steps<L>,
 ) -> Result<RowSet, NoMemory>
-    requires asked { AllEdges (λ e. Contains (K.asked look.now) e.left) tree.now }
-    requires columns { AllEdges (λ e.
-        Within e.left (names (K.relation look.now).columns)) tree.now }
-    requires meets { MeetsTree (K.relation look.now).rows tree.now }
-    requires fit { (row : _) → set.contains plus.now row ≡ true
-        → Fits (K.relation look.now).columns row }
-    ensures near { IfOk result (λ near.
-        HasChanged tree.now (K.relation look.now).rows plus.now near) }
-    ensures looks { (n : ℕ) → K.within look.now n → looked.new ≤ looked.old
-        + n * length (set.items plus.now) * length tree.now }
-    ensures few { IfOk result (λ near. (n : ℕ) → K.within look.now n → length (set.items near)
-        ≤ n * length (set.items plus.now) * length tree.now) }
+    requires { CanRevise (K.asked look.now) (K.relation look.now) tree.now plus.now }
+    ensures near { IfOk result (HasChanged tree.now (K.relation look.now).rows plus.now) }
+    ensures looks { (n : ℕ) → K.within look.now n
+        → looked.new ≤ looked.old + near_work tree.now plus.now n }
+    ensures few { IfOk result (λ near. (n : ℕ) → K.within look.now n
+        → length (set.items near) ≤ near_work tree.now plus.now n) }
 {
     let mut near = Vec::new(alloc);
     for row in plus.rows() {
@@ -88,18 +76,12 @@ fn near_by_edges<K: Look, L: Ledger>(
     plus: &RowSet,
     looked: &mut Steps<L>,
 ) -> Result<RowSet, NoMemory>
-    requires asked { AllEdges (λ e. Contains (K.asked look.now) e.left) tree.now }
-    requires columns { AllEdges (λ e.
-        Within e.left (names (K.relation look.now).columns)) tree.now }
-    requires meets { MeetsTree (K.relation look.now).rows tree.now }
-    requires fit { (row : _) → set.contains plus.now row ≡ true
-        → Fits (K.relation look.now).columns row }
-    ensures near { IfOk result (λ near.
-        HasChanged tree.now (K.relation look.now).rows plus.now near) }
-    ensures looks { (n : ℕ) → K.within look.now n → looked.new ≤ looked.old
-        + n * length (set.items plus.now) * length tree.now }
-    ensures few { IfOk result (λ near. (n : ℕ) → K.within look.now n → length (set.items near)
-        ≤ n * length (set.items plus.now) * length tree.now) }
+    requires { CanRevise (K.asked look.now) (K.relation look.now) tree.now plus.now }
+    ensures near { IfOk result (HasChanged tree.now (K.relation look.now).rows plus.now) }
+    ensures looks { (n : ℕ) → K.within look.now n
+        → looked.new ≤ looked.old + near_work tree.now plus.now n }
+    ensures few { IfOk result (λ near. (n : ℕ) → K.within look.now n
+        → length (set.items near) ≤ near_work tree.now plus.now n) }
 {
     tree.lefts_are_full();
     let mut near = RowSet::empty(alloc);

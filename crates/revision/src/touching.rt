@@ -1,9 +1,8 @@
 //! The rows that revision changes, found by key.
-ghost use Rattle.std.specs.Prelude.{◌≡◌, ◌≤◌, ◌+◌, ◌*◌, ℕ, true, length, map, Contains, IfOk};
+ghost use Rattle.std.specs.Prelude.{◌≡◌, ◌≤◌, ◌+◌, ◌*◌, ℕ, length, map, IfOk};
 ghost use Rattle.lens_values.specs.SortedSet as set;
-ghost use Rattle.lens_specs.specs.Columns.{Fits, names};
-ghost use Rattle.lens_specs.specs.Dependencies.{AllEdges, MeetsTree};
-ghost use Rattle.lens_specs.specs.Names.{Within};
+ghost use Rattle.lens_specs.specs.Relation.{Rows, minus};
+ghost use Rattle.revision.specs.Near.{CanRevise, HasChanged, near_work};
 ghost use Rattle.revision.specs.Touching.{all_touched, differing};
 
 use crate::nearing::near_rows;
@@ -11,7 +10,7 @@ use crate::revising::revised_rows;
 use fd_tree::Tree;
 use lens_values::{NoMemory, Row};
 use row_sets::RowSet;
-use signed_delta::Look;
+use signed_delta::{Look, absent};
 use std::alloc::Global;
 use std::sync::ledger::Ledger;
 use step_counter::Steps;
@@ -25,6 +24,59 @@ pub struct Touched {
     pub after: Row,
 }
 
+/// Rows of a relation near new ones, and those of the new rows that it lacks.
+#[derive(Debug, Drop)]
+pub struct NearRows {
+    /// Rows of the relation, among them each that revision by the new rows changes.
+    pub rows: RowSet,
+    /// The new rows that the relation lacks.
+    pub new: RowSet,
+}
+
+/// The rows of the look's relation near the new rows, and those of these that it lacks. Each new row
+/// that it has is found as a row near itself, so that no question is asked for it alone, unless the
+/// tree has no edge.
+pub fn near_and_new<K: Look, L: Ledger>(
+    alloc: Global,
+    tree: &Tree,
+    look: &K,
+    plus: &RowSet,
+    looked: &mut Steps<L>,
+) -> Result<NearRows, NoMemory>
+    requires { CanRevise (K.asked look.now) (K.relation look.now) tree.now plus.now }
+    ensures rows { let M = (K.relation look.now).rows in
+        IfOk result (λ near. HasChanged tree.now M plus.now near.rows) }
+    ensures new { IfOk result (λ near. near.new ≡ minus plus.now (K.relation look.now).rows) }
+    ensures looks { (n : ℕ) → K.within look.now n → looked.new ≤ looked.old
+        + n * length (set.items plus.now) * (length tree.now + 1) }
+{
+    if tree.edges().is_empty() {
+        let rows = RowSet::empty(alloc);
+        let new = absent(alloc, plus, look, looked)?;
+        return Ok(NearRows { rows, new });
+    }
+    let rows = near_rows(alloc, tree, look, plus, looked)?;
+    let new = plus.minus(alloc, &rows)?;
+    Ok(NearRows { rows, new })
+}
+
+/// Those of the near rows that revision by the new rows changes, in rising order, each with what it
+/// becomes.
+pub fn touched_among(
+    alloc: Global,
+    tree: &Tree,
+    near: &RowSet,
+    plus: &RowSet,
+) -> Result<Vec<Touched>, NoMemory>
+    ensures touched { IfOk result (λ touched. (M : Rows) → HasChanged tree.now M plus.now near.now
+        → touched.items ≡ all_touched tree.now M plus.now) }
+    ensures few { IfOk result (λ touched. length touched.items ≤ length (set.items near.now)) }
+{
+    let revised = revised_rows(alloc, tree, near.rows(), plus)?;
+    let touched = changed(alloc, near.rows(), &revised)?;
+    Ok(touched)
+}
+
 /// The rows of the look's relation that revision by the new rows changes, in rising order, each
 /// with what it becomes. They are found by what the new rows have on the left side of an edge
 /// (Horn, Perera, Cheney, ICFP 2018).
@@ -35,22 +87,16 @@ pub fn revise_touched<K: Look, L: Ledger>(
     plus: &RowSet,
     looked: &mut Steps<L>,
 ) -> Result<Vec<Touched>, NoMemory>
-    requires asked { AllEdges (λ e. Contains (K.asked look.now) e.left) tree.now }
-    requires columns { AllEdges (λ e.
-        Within e.left (names (K.relation look.now).columns)) tree.now }
-    requires meets { MeetsTree (K.relation look.now).rows tree.now }
-    requires fit { (row : _) → set.contains plus.now row ≡ true
-        → Fits (K.relation look.now).columns row }
+    requires { CanRevise (K.asked look.now) (K.relation look.now) tree.now plus.now }
     ensures touched { IfOk result (λ touched. touched.items
         ≡ all_touched tree.now (K.relation look.now).rows plus.now) }
-    ensures looks { (n : ℕ) → K.within look.now n → looked.new ≤ looked.old
-        + n * length (set.items plus.now) * length tree.now }
-    ensures few { IfOk result (λ touched. (n : ℕ) → K.within look.now n → length touched.items
-        ≤ n * length (set.items plus.now) * length tree.now) }
+    ensures looks { (n : ℕ) → K.within look.now n
+        → looked.new ≤ looked.old + near_work tree.now plus.now n }
+    ensures few { IfOk result (λ touched. (n : ℕ) → K.within look.now n
+        → length touched.items ≤ near_work tree.now plus.now n) }
 {
     let near = near_rows(alloc, tree, look, plus, looked)?;
-    let revised = revised_rows(alloc, tree, near.rows(), plus)?;
-    let touched = changed(alloc, near.rows(), &revised)?;
+    let touched = touched_among(alloc, tree, &near, plus)?;
     Ok(touched)
 }
 

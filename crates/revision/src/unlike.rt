@@ -4,7 +4,7 @@ ghost use Rattle.lens_values.specs.SortedSet as set;
 ghost use Rattle.revision.specs.FirstByKey.{IsFirstByKey};
 ghost use Rattle.revision.specs.Near.{is_like_first, unlike};
 
-use crate::first_by_key::first_by_key;
+use crate::first_by_key::{first_by_key, first_like};
 use fd_tree::Edge;
 use lens_values::{NoMemory, Row};
 use row_sets::RowSet;
@@ -42,9 +42,9 @@ fn is_like_first(
     requires { IsFirstByKey edge.now.left (set.items near.now) places.now }
     ensures { IfOk result (λ like. like ≡ is_like_first edge.now near.now row.now) }
 {
-    let key = row.project(alloc, &edge.left)?;
-    match places.get(&key) {
+    let first = first_like(alloc, near, &edge.left, row, places)?;
+    match first {
         None => Ok(false),
-        Some(place) => Ok(near.rows()[*place].agree_on(row, &edge.right)),
+        Some(first) => Ok(first.agree_on(row, &edge.right)),
     }
 }

@@ -1,5 +1,5 @@
 -- The members of a list that tie with a key, where the list ascends by keys.
-use Rattle.std.proofs.Common.{◌≡◌, ℕ, ◌+◌, ◌<◌, ◌≤◌, List, [], ◌∷◌, length, take, drop, length-drop, get_or, ap, sym, ◌∙◌, refl, Bool, true, false, cond, zero, suc, arith}
+use Rattle.std.proofs.Common.{inl, inr, ◌≡◌, ℕ, ◌+◌, ◌<◌, ◌≤◌, List, [], ◌∷◌, length, take, drop, length-drop, get_or, ap, sym, subst, ◌∙◌, refl, Bool, true, false, cond, zero, suc, arith}
 use Rattle.std.specs.Prelude.{filter}
 use Rattle.std.specs.declared.cmp.Ordering.{Ordering}
 use Rattle.std.specs.declared.cmp.Ordering.TheVariants.{Less, Equal, Greater}
@@ -7,7 +7,8 @@ use Rattle.std.specs.List.{AllWithin}
 use Rattle.std.specs.List.Sorted.{IsPartitionedBy, IsPartitionPoint}
 use Rattle.std.specs.Ordering.{is_eq, is_gt, is_le, is_lt}
 use Rattle.std.specs.Cmp.{IsTotalOrder, upto}
-use Rattle.std.proofs.lemmas.List.{get_or-drop, get_or-take, length-take-le}
+use Rattle.std.proofs.lemmas.Bool.{cases_lt, true≢false}
+use Rattle.std.proofs.lemmas.List.{get_or_default, get_or-drop, get_or-take, length-take-le}
 
 module _ {X : Type 0} (test : X → Bool) where
   from_next : (P : X → Type 0) (x : X) (xs : List X) (low high : ℕ) → AllWithin P (x ∷ xs) (suc low) (suc high) → AllWithin P xs low high
@@ -101,3 +102,35 @@ module _ {K X : Type 0} {R : K → K → Ordering} (o : IsTotalOrder R) (key : X
       ap tied here ∙ between (R (key (get_or (drop s xs) i d)) k)
       (ap (λ x. is_lt (R (key x) k)) place ∙ p.1 (s + i) d (omega arith) (omega (arith, length-drop s xs)))
       (q.0 i d (omega arith) below)))
+
+gt_not_le : (r : Ordering) → is_gt r ≡ true → is_le r ≡ false
+gt_not_le Less e = cc
+gt_not_le Equal e = cc
+gt_not_le Greater e = refl
+
+module _ {K X : Type 0} (R : K → K → Ordering) (key : X → K) (k : K) (xs : List X) (i : ℕ) (x : X) (l : i < length xs) (is : x ≡ get_or xs i x) where
+  here_is : (d : X) → R (key (get_or xs i d)) k ≡ R (key x) k
+  here_is d = ap (λ y. R (key y) k) (get_or_default xs i d x l ∙ sym is)
+
+  -- a walk goes past a member that is not above the key
+  pub one_more : AllWithin (λ y. is_le (R (key y) k) ≡ true) xs 0 i → is_gt (R (key x) k) ≡ false → AllWithin (λ y. is_le (R (key y) k) ≡ true) xs 0 (i + 1)
+  one_more a g j d u v = elim (cases_lt j i) [
+    | inl m ↦ a j d u m
+    | inr m ↦
+        let same : j ≡ i = omega arith in
+        subst (λ n. is_le (R (key (get_or xs n d)) k) ≡ true) (sym same) (gt_le (R (key (get_or xs i d)) k) (ap is_gt (here_is d) ∙ g))
+  ]
+
+  -- and stops at the first above it, behind which all are
+  pub first_above : IsPartitionedBy (λ y. is_le (R (key y) k)) xs → AllWithin (λ y. is_le (R (key y) k) ≡ true) xs 0 i → is_gt (R (key x) k) ≡ true
+      → IsPartitionPoint (λ y. is_le (R (key y) k) ≡ true) (λ y. is_le (R (key y) k) ≡ false) xs i
+  first_above parted a g = (
+    a,
+    λ j d u v.
+        let above : is_le (R (key (get_or xs i d)) k) ≡ false = gt_not_le (R (key (get_or xs i d)) k) (ap is_gt (here_is d) ∙ g) in
+        by (is_le (R (key (get_or xs j d)) k)) refl above (parted i j d u v),
+  )
+    where
+      by : {i' j' : Bool} (b : Bool) → j' ≡ b → i' ≡ false → (j' ≡ true → i' ≡ true) → j' ≡ false
+      by true e f p = absurd (true≢false (sym (p e) ∙ f))
+      by false e f p = e

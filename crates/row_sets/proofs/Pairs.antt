@@ -1,5 +1,5 @@
 -- Pairs of rows that agree, and what an index of them finds.
-use Rattle.std.proofs.Common.{◌≡◌, List, [], ◌∷◌, ap, sym, ◌∙◌, refl, Bool, true, false, cond, map, inl, inr, get_or, arith}
+use Rattle.std.proofs.Common.{◌≡◌, List, [], ◌∷◌, ◌++◌, ap, sym, ◌∙◌, refl, Bool, true, false, cond, map, inl, inr, get_or, arith}
 use Rattle.std.specs.Prelude.{◌||◌, ◌&&◌, filter, flat_map, Option, Some, None}
 use Rattle.std.specs.declared.cmp.Ordering.{Ordering}
 use Rattle.std.specs.declared.cmp.Ordering.TheVariants.{Less, Equal, Greater}
@@ -23,8 +23,8 @@ use Rattle.lens_values.specs.declared.row.Row.{Row}
 use Rattle.lens_values.specs.declared.value.Value.{Value}
 use Rattle.lens_values.proofs.Maps.{exact, is_tie}
 use Rattle.lens_specs.specs.Names.{Name, Names}
-use Rattle.lens_specs.specs.Rows.{agree, same_value}
-use Rattle.lens_specs.specs.Relation.{Rows}
+use Rattle.lens_specs.specs.Rows.{agree, cut, same_value}
+use Rattle.lens_specs.specs.Relation.{Rows, image, project}
 use Rattle.row_sets.specs.Joins.{entry_cmp, pairs_on, with_key}
 use Rattle.row_sets.proofs.Groups.{Ascend}
 
@@ -173,6 +173,44 @@ paired_is C M N index alike = set.same_set row_cmp_total row_cmp-IsAntisymmetric
     ∙ sym (any-filtered tied (λ n. override n m) (agree C m) (set.items N)))
     ∙ sym (any-flat_map tied (λ m. map (λ n. override n m) (filter (agree C m) (set.items N))) (set.items M))
     ∙ sym (set.contains-from_list row_cmp_total (flat_map (λ m. map (λ n. override n m) (filter (agree C m) (set.items N))) (set.items M)) q))
+
+map-append : {X Y : Type 0} (f : X → Y) (xs ys : List X) → map f (xs ++ ys) ≡ map f xs ++ map f ys
+map-append f [] ys = refl
+map-append f (x ∷ xs) ys = ap (λ l. f x ∷ l) (map-append f xs ys)
+
+map-map : {X Y Z : Type 0} (f : Y → Z) (g : X → Y) (xs : List X) → map f (map g xs) ≡ map (λ x. f (g x)) xs
+map-map f g [] = refl
+map-map f g (x ∷ xs) = ap (λ l. f (g x) ∷ l) (map-map f g xs)
+
+-- the images of what each row makes
+each_image : {X Y Z W : Type 0} (f : Z → W) (with : X → Y → Z) (some : X → List Y) (xs : List X)
+    → flat_map (λ x. map (λ y. f (with x y)) (some x)) xs ≡ map f (flat_map (λ x. map (with x) (some x)) xs)
+each_image f with some [] = refl
+each_image f with some (x ∷ xs) =
+    (λ i. sym (map-map f (with x) (some x)) i ++ each_image f with some xs i)
+    ∙ sym (map-append f (map (with x) (some x)) (flat_map (λ y. map (with y) (some y)) xs))
+
+-- the parts of the rows of a list are those of its set
+listed_parts : (C : Names) (rows : List Row) → set.from_list (map (restrict C) rows) ≡ project C (set.from_list rows)
+unfolding project image cut
+listed_parts C rows = set.same_set row_cmp_total row_cmp-IsAntisymmetric _ _ (λ q.
+    let tied : Row → Bool = eq_by_cmp row_cmp q in
+    set.contains-from_list row_cmp_total (map (restrict C) rows) q
+    ∙ any-map tied (restrict C) rows
+    ∙ same_members row_cmp_total row_cmp-IsAntisymmetric rows (set.items (set.from_list rows))
+    (λ r. sym (set.contains-from_list row_cmp_total rows r) ∙ set.contains-items (set.from_list rows) r) (λ r. tied (restrict C r))
+    ∙ sym (any-map tied (restrict C) (set.items (set.from_list rows)))
+    ∙ sym (set.contains-from_list row_cmp_total (map (restrict C) (set.items (set.from_list rows))) q))
+
+-- and the parts of what the index pairs are those of the pairs
+pub parts_paired : (C K : Names) (M N : Rows) (index : List (Row × Row))
+    → ((e : Row × Row) → list_any (eq_by_cmp entry_cmp e) index ≡ list_any (eq_by_cmp entry_cmp e) (map (with_key C) (set.items N)))
+    → set.from_list (flat_map (λ m. map (λ e. restrict K (override e.1 m)) (filter (λ e. is_eq (row_cmp e.0 (restrict C m))) index)) (set.items M)) ≡ project K (pairs_on C M N)
+parts_paired C K M N index alike =
+    let found : Row → List (Row × Row) = λ m. filter (λ e. is_eq (row_cmp e.0 (restrict C m))) index in
+    ap set.from_list (each_image (restrict K) (λ m e. override e.1 m) found (set.items M))
+    ∙ listed_parts K (flat_map (λ m. map (λ e. override e.1 m) (found m)) (set.items M))
+    ∙ ap (project K) (paired_is C M N index alike)
 
 first_no_higher : (a b : Ordering) → ordering_then a b ≡ Less → is_gt a ≡ false
 first_no_higher Less b e = refl

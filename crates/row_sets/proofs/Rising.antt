@@ -1,12 +1,12 @@
 -- Lists put in order, and lists that rise strictly, from what a look at all neighbours answers.
-use Rattle.std.proofs.Common.{◌≡◌, ◌+◌, Bool, true, false, List, [], ◌∷◌, ap, sym, ◌∙◌, refl, arith}
+use Rattle.std.proofs.Common.{◌≡◌, ◌+◌, get_or, Bool, true, false, List, [], ◌∷◌, ap, sym, ◌∙◌, refl, arith}
 use Rattle.std.specs.Prelude.{IsTrue}
 use Rattle.std.specs.declared.cmp.Ordering.{Ordering}
 use Rattle.std.specs.declared.cmp.Ordering.TheVariants.{Less, Equal, Greater}
 use Rattle.std.specs.Cmp.{IsTotalOrder}
 use Rattle.std.specs.List.{IsAllAdjacentAnswer, list_any}
-use Rattle.std.specs.List.Sorted.{IsPermutation, IsStrictlySortedBy}
-use Rattle.std.specs.Ordering.{eq_by_cmp, is_lt}
+use Rattle.std.specs.List.Sorted.{IsPermutation, IsSorted, IsStrictlySortedBy}
+use Rattle.std.specs.Ordering.{as_partial_cmp, eq_by_cmp, is_le, is_lt, ordering_reverse, partial_le}
 use Rattle.std.proofs.lemmas.Bool.{true≢false}
 use Rattle.std.proofs.lemmas.List.Sorted.{list_any-IsPermutation}
 use Rattle.std.proofs.lemmas.Map.Keys.{Less-from_sorted, sorted_from_all_adjacent}
@@ -16,6 +16,16 @@ less_is : (r : Ordering) → true ≡ is_lt r → r ≡ Less
 less_is Less e = refl
 less_is Equal e = cc
 less_is Greater e = cc
+
+reversed : (r : Ordering) → is_le r ≡ true → is_lt (ordering_reverse r) ≡ false
+reversed Less e = refl
+reversed Equal e = refl
+reversed Greater e = cc
+
+turned : (r : Ordering) → is_le r ≡ false → is_lt (ordering_reverse r) ≡ true
+turned Less e = cc
+turned Equal e = cc
+turned Greater e = refl
 
 module _ {K : Type 0} {R : K → K → Ordering} (o : IsTotalOrder R) where
   rises : (xs : List K) → IsAllAdjacentAnswer (λ x y b. b ≡ is_lt (R x y)) xs true → IsStrictlySortedBy R xs
@@ -31,6 +41,20 @@ module _ {K : Type 0} {R : K → K → Ordering} (o : IsTotalOrder R) where
       → (IsTrue r → IsStrictlySortedBy R xs) × (IsStrictlySortedBy R xs → IsTrue r)
   rise_is xs true h = (λ _. rises xs h, λ _. refl)
   rise_is xs false h = (λ no. absurd (true≢false (sym no)), falls xs h)
+
+  not_below : (x y : K) (r : Ordering) → r ≡ R x y → is_le r ≡ true → is_lt (R y x) ≡ false
+  not_below x y r e l = ap is_lt (o.antisymm y x ∙ ap ordering_reverse (sym e)) ∙ reversed r l
+
+  below : (x y : K) (r : Ordering) → r ≡ R x y → is_le r ≡ false → is_lt (R y x) ≡ true
+  below x y r e l = ap is_lt (o.antisymm y x ∙ ap ordering_reverse (sym e)) ∙ turned r l
+
+  -- no neighbour is below the one before it exactly where the list is sorted
+  pub ascend_is : (xs : List K) (r : Bool) → IsAllAdjacentAnswer (λ x y b. partial_le (as_partial_cmp R) x y ≡ b) xs r
+      → (IsTrue r → IsSorted R xs) × (IsSorted R xs → IsTrue r)
+  ascend_is xs true h = (λ _ k d u v. not_below (get_or xs k d) (get_or xs (k + 1) d) _ refl (h k d v), λ _. refl)
+  ascend_is [] false h = (λ no. absurd (true≢false (sym no)), λ s. absurd (omega (arith, h.1)))
+  ascend_is (x ∷ xs) false h =
+      (λ no. absurd (true≢false (sym no)), λ s. absurd (true≢false (sym (below (get_or (x ∷ xs) h.0 x) (get_or (x ∷ xs) (h.0 + 1) x) _ refl (h.2 x)) ∙ s h.0 x (omega arith) h.1)))
 
   -- rows that were only moved have the same members
   pub moved_alike : (before lent moved after : List K) → lent ≡ before → IsPermutation lent moved → after ≡ moved

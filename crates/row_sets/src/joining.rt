@@ -1,13 +1,15 @@
 //! Pairs of rows that agree on some columns, found by an index.
-ghost use Rattle.std.specs.Prelude.{◌≡◌, ◌++◌, IfOk, IfSome, OnOk, filter, flat_map, map};
-ghost use Rattle.std.specs.List.{list_any};
-ghost use Rattle.std.specs.List.Sorted.{IsStrictlySortedBy};
-ghost use Rattle.std.specs.Ordering.{eq_by_cmp, is_eq};
+ghost use Rattle.std.specs.Prelude.{◌≡◌, ◌≤◌, ◌++◌, IfOk, IfSome, OnOk, false, filter, flat_map, length, map, option_map, true};
+ghost use Rattle.std.specs.FinMap as finmap;
+ghost use Rattle.std.specs.List.{filter_map, list_any};
+ghost use Rattle.std.specs.List.Sorted.{IsPartitionPoint, IsPartitionedBy, IsStrictlySortedBy};
+ghost use Rattle.std.specs.Ordering.{eq_by_cmp, is_eq, is_le};
 ghost use Rattle.lens_values.specs.Part.{override, restrict};
 ghost use Rattle.lens_values.specs.Row.{row_cmp};
-ghost use Rattle.row_sets.specs.Joins.{entry_cmp, with_key};
+ghost use Rattle.lens_values.specs.SortedSet as set;
+ghost use Rattle.row_sets.specs.Joins.{entry_cmp, kept_of, with_key};
 
-use lens_values::{Names, NoMemory, Row, into_sorted};
+use lens_values::{Names, NoMemory, Row, Value, into_sorted};
 use std::alloc::Global;
 
 /// The index of the rows by these columns: each row after its part in the columns, in rising order
@@ -33,17 +35,20 @@ fn entries(alloc: Global, rows: &[Row], cols: &Names) -> Result<Vec<(Row, Row)>,
     Ok(list)
 }
 
-/// Each of the rows pasted with each indexed row that agrees with it on the columns.
+/// Each of the rows pasted with each indexed row that agrees with it on the columns. Where some
+/// columns are to be kept, only the part in them is made.
 pub fn paired(
     alloc: Global,
     rows: &[Row],
     cols: &Names,
     index: &[(Row, Row)],
+    kept: Option<&Names>,
 ) -> Result<Vec<Row>, NoMemory>
     requires { IsStrictlySortedBy entry_cmp index.now }
-    ensures { IfOk result (λ pairs.
+    ensures { let kept = option_map (λ C. C.now) kept.entry in
+        IfOk result (λ pairs.
         pairs.items ≡ flat_map (λ m.
-        map (λ e. override e.1 m)
+        map (λ e. kept_of kept (override e.1 m))
         (filter (λ e. is_eq (row_cmp e.0 (restrict cols.now m))) index.now)) rows.now) }
 {
     let mut pairs = Vec::new(alloc);
@@ -51,7 +56,7 @@ pub fn paired(
     let mut before = None;
     for row in rows {
         near = partners(alloc, row, before, cols, index, near)?;
-        append_pairs(&mut pairs, alloc, row, near)?;
+        append_pairs(&mut pairs, alloc, row, near, kept)?;
         before = Some(row);
     }
     Ok(pairs)
@@ -78,25 +83,74 @@ fn partners<'a>(
     }
 }
 
-// Adds the row pasted with each of the indexed rows. The pairs of two relations all have the same
-// columns, so each shares the names of the one before it.
+// Adds the row pasted with each of the indexed rows, or the part that is kept.
 fn append_pairs(
     pairs: &mut Vec<Row>,
     alloc: Global,
     row: &Row,
     index: &[(Row, Row)],
+    kept: Option<&Names>,
 ) -> Result<(), NoMemory>
-    ensures { OnOk result (pairs.new.items
-        ≡ pairs.old.items ++ map (λ e. override e.1 row.now) index.now) }
+    ensures { let kept = option_map (λ C. C.now) kept.entry in
+        OnOk result (pairs.new.items
+        ≡ pairs.old.items ++ map (λ e. kept_of kept (override e.1 row.now)) index.now) }
 {
     for entry in index {
-        let pair = match pairs.last() {
-            Some(before) => row.paste_like(alloc, &entry.1, before.names())?,
-            None => row.paste(alloc, &entry.1)?,
-        };
+        let pair = pasted(alloc, row, &entry.1, kept, pairs.last())?;
         pairs.push(pair)?;
     }
     Ok(())
+}
+
+// The row with the other pasted over it, or the part of this that is kept. Whole pairs of two
+// relations all have the same columns, so each shares the names of the one before it.
+fn pasted(
+    alloc: Global,
+    row: &Row,
+    over: &Row,
+    kept: Option<&Names>,
+    before: Option<&Row>,
+) -> Result<Row, NoMemory>
+    ensures { let kept = option_map (λ C. C.now) kept.entry in
+        IfOk result (λ pair. pair ≡ kept_of kept (override over.now row.now)) }
+{
+    match kept {
+        Some(kept) => pasted_part(alloc, row, over, kept),
+        None => match before {
+            Some(before) => row.paste_like(alloc, over, before.names()),
+            None => row.paste(alloc, over),
+        },
+    }
+}
+
+/// The part in these columns of the row with the other pasted over it, made with nothing else.
+pub fn pasted_part(alloc: Global, row: &Row, over: &Row, cols: &Names) -> Result<Row, NoMemory>
+    ensures { IfOk result (λ part. part ≡ restrict cols.now (override over.now row.now)) }
+{
+    let values = pasted_values(alloc, row, over, cols)?;
+    if values.len() == cols.len() {
+        return Row::from_values(alloc, cols.copy(alloc)?, values);
+    }
+    row.paste(alloc, over)?.project(alloc, cols)
+}
+
+// The values that the row with the other pasted over it has in these columns.
+fn pasted_values(alloc: Global, row: &Row, over: &Row, cols: &Names) -> Result<Vec<Value>, NoMemory>
+    ensures { IfOk result (λ values.
+        values.items
+        ≡ filter_map (finmap.get (override over.now row.now)) (set.items cols.now)) }
+{
+    let mut values = Vec::with_capacity(alloc, cols.len())?;
+    for name in cols.as_slice() {
+        let found = match over.value(name) {
+            Some(value) => Some(value),
+            None => row.value(name),
+        };
+        if let Some(value) = found {
+            values.push(value.copy(alloc)?)?;
+        }
+    }
+    Ok(values)
 }
 
 // The entries with this part, which are neighbours.
@@ -106,6 +160,22 @@ fn with_part<'a>(index: &'a [(Row, Row)], part: &Row) -> &'a [(Row, Row)]
 {
     let start = index.partition_point(|entry| entry.0.cmp(part).is_lt());
     let rest = &index[start..];
-    let count = rest.partition_point(|entry| entry.0.cmp(part).is_le());
+    let count = not_above(rest, part);
     &rest[..count]
+}
+
+// How many entries at the front have a part that is not above this one. Behind the first with this
+// part these are all that have it, and mostly few.
+fn not_above(entries: &[(Row, Row)], part: &Row) -> usize
+    requires { IsPartitionedBy (λ e. is_le (row_cmp e.0 part.now)) entries.now }
+    ensures bound { result ≤ length entries.now }
+    ensures partitioned { IsPartitionPoint (λ e. is_le (row_cmp e.0 part.now) ≡ true)
+        (λ e. is_le (row_cmp e.0 part.now) ≡ false) entries.now result }
+{
+    for place in 0..entries.len() {
+        if entries[place].0 > *part {
+            return place;
+        }
+    }
+    entries.len()
 }

@@ -8,6 +8,7 @@ pub mod relation;
 pub mod row_set;
 pub mod row_tree;
 
+pub use joining::pasted_part;
 pub use relation::Relation;
 pub use row_set::RowSet;
 pub use row_tree::RowTree;

@@ -1,7 +1,7 @@
 //! A finite set of rows.
 ghost use Rattle.std.specs.Prelude.{◌≡◌, ◌↔◌, IfOk, IsTrue, OnOk, OnErr, map, not};
 ghost use Rattle.std.specs.List.{list_any};
-ghost use Rattle.std.specs.List.Sorted.{IsStrictlySortedBy};
+ghost use Rattle.std.specs.List.Sorted.{IsSorted, IsStrictlySortedBy};
 ghost use Rattle.std.specs.Ordering.{eq_by_cmp};
 ghost use Rattle.lens_specs.specs.Relation.{project};
 ghost use Rattle.lens_values.specs.Part.{restrict};
@@ -147,7 +147,23 @@ impl RowSet {
             set.from_list rows.items ≡ pairs_on cols.now self.now other.now) }
     {
         let index = indexed(alloc, other.rows(), cols)?;
-        paired(alloc, self.rows(), cols, &index)
+        paired(alloc, self.rows(), cols, &index, None)
+    }
+
+    /// The parts in the columns `kept` of the rows of the join on the others, in no certain order
+    /// and perhaps more than once. Nothing else is made of the rows.
+    pub fn joined_parts(
+        &self,
+        alloc: Global,
+        other: &RowSet,
+        cols: &Names,
+        kept: &Names,
+    ) -> Result<Vec<Row>, NoMemory>
+        ensures { IfOk result (λ parts.
+            set.from_list parts.items ≡ project kept.now (pairs_on cols.now self.now other.now)) }
+    {
+        let index = indexed(alloc, other.rows(), cols)?;
+        paired(alloc, self.rows(), cols, &index, Some(kept))
     }
 
     /// An equal set.
@@ -161,7 +177,7 @@ impl RowSet {
 }
 
 // The rows in rising order, each once. Mostly short moves put them in order, and otherwise mostly
-// their ranks.
+// their ranks. Parts of rows that are in order ascend too, and mostly repeat.
 fn put_in_order(alloc: Global, rows: Vec<Row>) -> Result<Vec<Row>, NoMemory>
     ensures order { IfOk result (λ sorted. IsStrictlySortedBy row_cmp sorted.items) }
     ensures members { IfOk result (λ sorted. (row : _)
@@ -172,6 +188,9 @@ fn put_in_order(alloc: Global, rows: Vec<Row>) -> Result<Vec<Row>, NoMemory>
     order_nearly(&mut rows);
     if rise(&rows) {
         return Ok(rows);
+    }
+    if ascend(&rows) {
+        return Ok(each_once(rows));
     }
     sorted(by_rank(alloc, rows)?)
 }
@@ -186,8 +205,19 @@ fn sorted(rows: Vec<Row>) -> Result<Vec<Row>, NoMemory>
 {
     let mut rows = rows;
     rows.sort()?;
+    Ok(each_once(rows))
+}
+
+// The rows, which ascend, each once.
+fn each_once(rows: Vec<Row>) -> Vec<Row>
+    requires { IsSorted row_cmp rows.items }
+    ensures order { IsStrictlySortedBy row_cmp result.items }
+    ensures members { (row : _) → list_any (eq_by_cmp row_cmp row) result.items
+        ≡ list_any (eq_by_cmp row_cmp row) rows.items }
+{
+    let mut rows = rows;
     rows.dedup();
-    Ok(rows)
+    rows
 }
 
 // Whether each row is below the one after it.
@@ -195,6 +225,13 @@ fn rise(rows: &[Row]) -> bool
     ensures { IsTrue result ↔ IsStrictlySortedBy row_cmp rows.now }
 {
     rows.is_sorted_by(|row, next| row < next)
+}
+
+// Whether no row is below the one before it.
+fn ascend(rows: &[Row]) -> bool
+    ensures { IsTrue result ↔ IsSorted row_cmp rows.now }
+{
+    rows.is_sorted()
 }
 
 // Each row's part in these columns.

@@ -1,10 +1,12 @@
 //! A finite set of rows with quick insertion and removal.
 ghost use Rattle.std.specs.Prelude.{◌≡◌, IfOk, OnOk, OnErr, length};
+ghost use Rattle.std.specs.BTreeSet.{IsFromIterResult};
+ghost use Rattle.lens_values.specs.Row.{row_cmp};
 ghost use Rattle.lens_values.specs.SortedSet as set;
 
 use crate::row_set::RowSet;
 use lens_values::{NoMemory, Row};
-use std::alloc::Global;
+use std::alloc::{AllocError, Global};
 use std::collections::BTreeSet;
 use std::marker::Model;
 
@@ -34,6 +36,15 @@ impl RowTree {
         RowTree {
             rows: BTreeSet::new(alloc),
         }
+    }
+
+    /// The tree of the rows of a set, which is made in one walk along them.
+    pub fn of(alloc: Global, rows: RowSet) -> Result<RowTree, NoMemory>
+        ensures { IfOk result (λ tree. tree ≡ rows) }
+    {
+        Ok(RowTree {
+            rows: tree_of(alloc, rows.into_rows())?,
+        })
     }
 
     /// The number of rows.
@@ -76,4 +87,11 @@ impl RowTree {
         }
         Ok(RowSet::from_rising(rows))
     }
+}
+
+// The tree of these rows.
+fn tree_of(alloc: Global, rows: Vec<Row>) -> Result<BTreeSet<Row>, AllocError>
+    ensures { IfOk result (IsFromIterResult row_cmp rows.items) }
+{
+    rows.into_iter().collect(alloc)
 }

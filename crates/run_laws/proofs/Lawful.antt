@@ -1,10 +1,11 @@
 -- From what a run promises to the law of runs.
-use Rattle.std.proofs.Common.{◌≡◌, ◌≤◌, ◌+◌, ℕ, List, [], ◌∷◌, ◌++◌, map, ap, subst, sym, refl, ◌∙◌, arith, append-nil}
+use Rattle.std.proofs.Common.{◌≡◌, ◌≤◌, ◌+◌, ℕ, List, [], ◌∷◌, ◌++◌, map, ap, subst, sym, refl, ◌∙◌, arith, append-nil, inl, inr}
 use Rattle.std.specs.Prelude.{Option, None, Some, Ok, IfSome, flat_map, min}
 use Rattle.std.specs.FinMap as finmap
 use Rattle.std.specs.Io.KnownBytes.{Appends, Consumes, IsAtEnd}
 use Rattle.lens_specs.specs.Delta.{TableDelta, changes, differences}
-use Rattle.lens_specs.specs.Lens.{Tables, get}
+use Rattle.lens_specs.specs.Lens.{Lens, Tables, get}
+use Rattle.lens_specs.specs.Relation.{Name}
 use Rattle.lens_specs.specs.TableDeltas.{AreDeltas, LeadTo}
 use Rattle.lens_laws.specs.Edits.{AreDiffs}
 use Rattle.io_specs.specs.Lines.{Line, lines}
@@ -13,20 +14,23 @@ use Rattle.server_specs.specs.Answering.{answer}
 use Rattle.server_specs.specs.Batching.{edits_from}
 use Rattle.server_specs.specs.Changing.{accept}
 use Rattle.server_specs.specs.Request.{BatchEdit}
-use Rattle.server_specs.specs.Session.{Chain, Exchange, Replies, Step, answered, found_memory, not_stored, out_of_memory}
+use Rattle.server_specs.specs.Session.{Chain, Exchange, Replies, Session, Step, answered, found_memory, last_state, not_stored, out_of_memory}
 use Rattle.server_specs.specs.State.{State}
 use Rattle.server_specs.specs.Validity.{Valid}
 use Rattle.server_laws.specs.Answers.{IsAccepted}
 use Rattle.server_laws.specs.BatchLaws.{IsBatchLine}
 use Rattle.server_laws.specs.SessionLaws.{answers}
+use Rattle.server_laws.specs.SheetLaws.{IsExportLine, ReadsBack}
 use Rattle.server_laws.proofs.Batches.{accepted_tables, batch_is, batch_leads, batch_made, edits_lawful, nothing_made}
 use Rattle.server_laws.proofs.Changes.{accepted_fresh, accepted_shows, lines_accepted, lines_differ, lines_tell, nothing_changed}
 use Rattle.server_laws.proofs.Recalled.{undo_restores}
+use Rattle.server_laws.proofs.Returned.{exports_come_back}
 use Rattle.server_laws.proofs.Sessions.{complete, read_otherwise}
 use Rattle.server_laws.proofs.Valid.{valid_chain, valid_step}
 use Rattle.opening_laws.proofs.Opened.{opened_at_start, opened_is_valid}
+use Rattle.serving.specs.Exports.{AreReadBack, IsReadBack}
 use Rattle.serving.specs.Running.{joined}
-use Rattle.run_laws.specs.RunLaws.{EachFrom, IsLawful, IsLawfulBatch, RunsAreLawful}
+use Rattle.run_laws.specs.RunLaws.{EachFrom, ExportsComeBack, IsLawful, IsLawfulBatch, RunsAreLawful}
 
 -- a reply that reads as the answer left the answer's state
 left_by : (s : State) (count : ℕ) (e : Exchange) → Replies s count e.line e.reply e.state e.count → e.reply ≡ text (answer s e.line).0 → e.state ≡ (answer s e.line).1
@@ -88,6 +92,31 @@ each_from P f s count [] v c = tt
 each_from P f s count (e ∷ es) v c =
     (f s count e v c.0, each_from P f e.state e.count es (valid_step s count e.line e.reply e.state e.count v c.0.replied) c.1)
 
+-- ---- exports
+
+-- what an exchange exports reads back, unless its reply is that of memory
+back_at : (s : State) (before : List Exchange) (e : Exchange) (after : List Exchange) → AreReadBack s (before ++ e ∷ after) → IsReadBack (last_state s before) e
+back_at s [] e after h = h.0
+back_at s (x ∷ before) e after h = back_at x.state before e after h.1
+
+reads_back : (s : State) (e : Exchange) (name : Name) (L : Lens) → IsReadBack s e → IsExportLine s e.line name L → e.reply ≡ text (answer s e.line).0 → ReadsBack L s.tables
+reads_back s e name L back line told = elim (back name L line) [
+  | inl short ↦ absurd ((read_otherwise s e.line).0 (sym told ∙ short))
+  | inr reads ↦ reads
+]
+
+come_back : (s : State) (count : ℕ) (lines : List Line) (replies : List (List ℕ)) (last : State) (count' : ℕ) → Valid s → (session : Session s count lines replies last count') → AreReadBack s session.exchanges
+    → ExportsComeBack s session.exchanges
+come_back s count lines replies last count' v session back before between after e f parts name L csv version on h =
+    exports_come_back s count lines replies last count' v session before between after e f parts name L csv version on (record {
+      line = h.line;
+      told = h.answered;
+      back = reads_back (last_state s before) e name L (back_at s before e (between ++ f ∷ after) (subst (AreReadBack s) parts back)) h.line h.told;
+      asked = h.asked;
+      unmoved = h.unmoved;
+      fresh = h.fresh;
+    })
+
 -- ---- what was given
 
 -- texts one after another
@@ -121,6 +150,7 @@ runs_are_lawful s stays status left left' given given' count count' contents con
         lawful = each_from IsLawful lawful run.first run.start session.exchanges v session.chain;
         batches = each_from IsLawfulBatch lawful_batch run.first run.start session.exchanges v session.chain;
         undos = λ before after e parts taken. undo_restores run.first run.start serves.taken serves.replies serves.last count' v new session before after e parts taken;
+        exports = come_back run.first run.start serves.taken serves.replies serves.last count' v session serves.exports;
       },
       λ quiet gave found.
           let all = (complete run.first run.start serves.taken serves.replies serves.last count' session (λ r. quiet (rose_since _ count run.start count' run.loads.later r)) found).0 in

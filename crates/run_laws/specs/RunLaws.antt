@@ -1,5 +1,5 @@
 -- The law of a run that serves lines.
-use Rattle.std.specs.Prelude.{◌≡◌, ◌≢◌, ◌↔◌, ◌++◌, ℕ, Bool, false, List, [], ◌∷◌, flat_map, Option, IfSome}
+use Rattle.std.specs.Prelude.{◌≡◌, ◌≢◌, ◌↔◌, ◌++◌, ℕ, Bool, false, List, [], ◌∷◌, flat_map, Option, Some, Ok, IfSome}
 use Rattle.std.specs.FinMap as finmap
 use Rattle.std.specs.List.{AllByRecursion}
 use Rattle.std.specs.Io.KnownBytes.{Appends}
@@ -12,12 +12,12 @@ use Rattle.lens_specs.specs.TableDeltas.{AreDeltas, LeadTo}
 use Rattle.lens_laws.specs.Edits.{AreDiffs}
 use Rattle.io_specs.specs.Faults.{Rose}
 use Rattle.io_specs.specs.Lines.{lines}
-use Rattle.server_specs.specs.Answer.{changed, memory, text}
+use Rattle.server_specs.specs.Answer.{changed, exported, memory, text}
 use Rattle.server_specs.specs.Answering.{answer}
 use Rattle.server_specs.specs.Batching as batching
 use Rattle.server_specs.specs.Batching.{KnownEdit}
 use Rattle.server_specs.specs.Changing.{is_stale}
-use Rattle.server_specs.specs.Request.{BatchEdit}
+use Rattle.server_specs.specs.Request.{BatchEdit, import, request}
 use Rattle.server_specs.specs.Session.{Exchange, last_state}
 use Rattle.server_specs.specs.State.{State}
 use Rattle.server_specs.specs.Validity.{Valid}
@@ -25,6 +25,7 @@ use Rattle.server_laws.specs.Answers.{IsAccepted}
 use Rattle.server_laws.specs.BatchLaws.{AreKnown, AreLawful, IsBatchLine}
 use Rattle.server_laws.specs.ChangeLaws.{SendsView}
 use Rattle.server_laws.specs.SessionLaws.{answers}
+use Rattle.server_laws.specs.SheetLaws.{IsExportLine}
 use Rattle.server_laws.specs.UndoLaws.{AreIn, befores_after, move, taken_back}
 use Rattle.command_words.specs.Settings.{Settings}
 use Rattle.table_keeper.specs.declared.calls.Call.{Call}
@@ -85,6 +86,22 @@ abbrev pub UndosRestore : State → List Exchange → Type 0
 UndosRestore first exchanges = (before after : List Exchange) (e : Exchange) → exchanges ≡ before ++ e ∷ after → move (last_state first before) e ≡ taken_back
     → (db : Tables) × (older : List Tables) × (befores_after first before [] ≡ db ∷ older) × AreIn db e.state.tables
 
+-- After some exchanges, e exports the view of the lens, and the reply is this text at this version; and after some more, f imports the
+-- text, when no table of the view was changed after that version, and the version that it rests on, if on any, is not stale.
+pub record ImportsExported (first : State) (before : List Exchange) (e : Exchange) (between : List Exchange) (f : Exchange) (name : Name) (L : Lens) (csv : List ℕ) (version : ℕ) (on : Option ℕ) : Type 0 where
+  pub line : IsExportLine (last_state first before) e.line name L
+  pub answered : (answer (last_state first before) e.line).0 ≡ exported csv version
+  pub told : e.reply ≡ text (answer (last_state first before) e.line).0
+  pub asked : request f.line ≡ Ok (import name csv on)
+  pub unmoved : is_stale (last_state e.state between) L (Some version) ≡ false
+  pub fresh : is_stale (last_state e.state between) L on ≡ false
+
+-- Such an import is accepted, and changes nothing.
+abbrev pub ExportsComeBack : State → List Exchange → Type 0
+ExportsComeBack first exchanges = (before between after : List Exchange) (e f : Exchange) → exchanges ≡ before ++ e ∷ (between ++ f ∷ after)
+    → (name : Name) (L : Lens) (csv : List ℕ) (version : ℕ) (on : Option ℕ) → ImportsExported first before e between f name L csv version on
+    → answer (last_state e.state between) f.line ≡ (changed [] (last_state e.state between).version, last_state e.state between)
+
 -- The first state and that after each line are valid, and each line is lawful.
 pub record IsLawfulSession (first : State) (start : ℕ) (exchanges : List Exchange) : Type 0 where
   pub opened : Valid first
@@ -92,6 +109,7 @@ pub record IsLawfulSession (first : State) (start : ℕ) (exchanges : List Excha
   pub lawful : EachFrom IsLawful first start exchanges
   pub batches : EachFrom IsLawfulBatch first start exchanges
   pub undos : UndosRestore first exchanges
+  pub exports : ExportsComeBack first exchanges
 
 -- ---- a run
 

@@ -19,6 +19,7 @@ use Rattle.catalog_specs.specs.Judging.{first_refused}
 use Rattle.server_specs.specs.State.{State}
 use Rattle.server_specs.specs.Validity.{IsRelationOf, IsStoredAs, IsStored, Valid}
 pub use Rattle.server_specs.specs.Validity.{AreStored}
+pub use Rattle.server_laws.specs.Known.{IsHere}
 use Rattle.server_laws.proofs.Kept.{AreThere, put_keeps}
 use Rattle.server_laws.proofs.Leading.{IsAlike}
 use Rattle.server_laws.proofs.Taken.{BasesAre, IsKnown, all_known}
@@ -121,12 +122,6 @@ stored_absent known old new h k t absent = elim (cases_Bool (is_some (finmap.get
     absent_is (Some r) e = absurd (true≢false e)
 
 -- ---- a lens of a valid state
-
--- what is known of a lens of a valid state
-pub record IsHere (s : State) (L : Lens) : Type 0 where
-  pub known : IsKnown (catalogue s.texts) L
-  pub typed : IsTyped L
-  pub are : AreOf L s.tables
 
 -- over any tables of the catalogue
 pub lens_over : (s : State) → first_refused s.texts ≡ None → AreStored (catalogue s.texts) s.tables → (name : Name) (L : Lens) → finmap.get (catalogue s.texts) name ≡ Some L → IsHere s L

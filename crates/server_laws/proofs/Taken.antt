@@ -27,6 +27,7 @@ use Rattle.grammar_specs.specs.Faults.{Fault}
 use Rattle.grammar_laws.specs.Reading.{reading}
 use Rattle.catalog_specs.specs.Catalogue.{Catalogue, catalogue, catalogue_onto, with_definition, with_lens, lens_of, join_of, sort_with, table_lens, is_table_of}
 use Rattle.catalog_specs.specs.Judging.{CatalogFault, name_taken, is_taken, table_count, view_count, unless_full, where_sorted, lens_named, where_typed, over, over_both, lens_in, where_lensed, judged, refused_from, first_refused}
+pub use Rattle.server_laws.specs.Known.{BasesAre, IsKnown}
 
 -- ---- what a judgement says
 
@@ -69,20 +70,6 @@ no_error (Ok a) h = (a, refl)
 no_error (Err e) h = absurd (true≢false h)
 
 -- ---- lenses of a catalogue
-
--- the tables under the lens are those of the catalogue
-abbrev pub BasesAre : Catalogue → Lens → Type 0
-BasesAre known (base t s) = finmap.get known t ≡ Some (base t s)
-BasesAre known (select P C) = BasesAre known C
-BasesAre known (drop A X a C) = BasesAre known C
-BasesAre known (rename A B C) = BasesAre known C
-BasesAre known (join kind A B) = BasesAre known A × BasesAre known B
-
--- a lens has a sort, and its tables are those of the catalogue
-pub record IsKnown (known : Catalogue) (L : Lens) : Type 0 where
-  pub sound : BasesAreSound L
-  pub sorted : sort L ≡ Ok (sort_of L)
-  pub bases : BasesAre known L
 
 -- each lens of the catalogue is so
 abbrev pub AllKnown : Catalogue → Type 0

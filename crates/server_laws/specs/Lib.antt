@@ -13,3 +13,4 @@ pub mod FindLaws
 pub mod BatchLaws
 pub mod UndoLaws
 pub mod SheetLaws
+pub mod Known

@@ -48,7 +48,7 @@ pub data Answer : Type 0 where
   bad_record : ℕ → Answer
   store_fault : Answer
 
--- the answer to a put, an edit or a preview that is refused so
+-- the answer to a put, an edit, a preview or an import that is refused so
 abbrev pub told : EditRefusal → Answer
 told (refusals.unknown_name name) = unknown_name name
 told (refusals.bad_row which index name) = bad_row which index name

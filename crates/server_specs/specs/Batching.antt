@@ -25,7 +25,7 @@ abbrev pub edit_tables : BatchEdit → Option ℕ → Option Lens → State → 
 edit_tables e on None s db = Err (unknown_name e.view)
 edit_tables e on (Some lens) s db = put_in (asked_view (at_tables s db) lens (edited e.remove e.add) on) lens db
 
--- the edits behind go on from the tables, or the edit at this place is refused
+-- the edits after this one are made on the tables that it gives; or it is refused, with its place
 abbrev pub then_edits : ℕ → (Tables → Result Tables (ℕ × EditRefusal)) → Result Tables EditRefusal → Result Tables (ℕ × EditRefusal)
 then_edits i others (Err why) = Err (i, why)
 then_edits i others (Ok db) = others db

@@ -17,8 +17,8 @@ use Rattle.table_keeper.specs.declared.keeper.KeepFault.{KeepFault}
 use Rattle.table_keeper.specs.declared.keeper.KeepFault.TheVariants as keep
 use Rattle.lens_server.specs.StartFaults.{of_keeper}
 use Rattle.lens_server.specs.Starting.{IsLoad}
-use Rattle.lens_server.specs.declared.starting.StartFault.{StartFault}
-use Rattle.lens_server.specs.declared.starting.StartFault.TheVariants as fault
+use Rattle.lens_server.specs.declared.startup.fault.StartFault.{StartFault}
+use Rattle.lens_server.specs.declared.startup.fault.StartFault.TheVariants as fault
 use Rattle.serving.specs.Opening.{IsAttach, IsDamage, IsOpening, IsUnserved, OpensTo}
 use Rattle.serving.specs.Running.{FailsBy, IsAtEntry, IsDamaged, LacksMemoryBy, Loads, OpensBy, StopsBy, opening_fault}
 

@@ -1,3 +1,4 @@
 pub mod Calls
 pub mod Opened
+pub mod Promised
 pub mod Served

@@ -10,8 +10,8 @@ use Rattle.std.specs.Io.KnownBytes.{Appends}
 use Rattle.lens_io.specs.Bytes.{AppendsFront, GivesUnlessFailed}
 use Rattle.command_words.specs.Settings.{Settings}
 use Rattle.lens_server.specs.Starting.{Opens}
-use Rattle.lens_server.specs.declared.starting.StartFault.{StartFault}
-use Rattle.lens_server.specs.declared.starting.StartFault.TheVariants as fault
+use Rattle.lens_server.specs.declared.startup.fault.StartFault.{StartFault}
+use Rattle.lens_server.specs.declared.startup.fault.StartFault.TheVariants as fault
 use Rattle.rehearsal.specs.Rehearsal.{rehearsal}
 use Rattle.rehearsal.specs.Rehearsed.{Rehearsed, Stopped}
 use Rattle.table_keeper.specs.declared.calls.Call.{Call}
@@ -104,6 +104,7 @@ from_entry first limit status left left' given given' count count' contents chos
   last = w.last;
   session = w.session;
   few = w.few;
+  exports = w.exports;
   commits = w.commits;
   stored = follows_from (λ now. now ≡ kept w.last) contents chosen contents' told w.stored;
   all_lines = w.all_lines;

@@ -1,21 +1,24 @@
 -- What `run` has done before it takes the next line.
 use Rattle.std.proofs.Common.{◌≡◌, ◌≢◌, ◌≤◌, ◌<◌, ◌+◌, ◌-◌, ◌^◌, ◌⊎◌, ℕ, Bool, true, false, List, [], ◌∷◌, ◌++◌, take, length, ap, sym, subst, ◌∙◌, refl, arith, append_assoc, append-nil, length-append, inl, inr}
-use Rattle.std.specs.Prelude.{None, Some, IfSome}
+use Rattle.std.specs.Prelude.{None, Some, IfSome, Result, Ok, Err}
 use Rattle.std.specs.declared.option.Option.{Option}
 use Rattle.io_specs.specs.Calls.{Adds}
 use Rattle.io_specs.proofs.Calls.{Adds-none}
 use Rattle.std.specs.Io.KnownBytes.{Appends}
 use Rattle.std.proofs.KnownBytes.{Appends-trans}
 use Rattle.lens_specs.specs.Keeping.{Kept, Follows, Tells}
+use Rattle.lens_specs.specs.Lens.{Lens}
+use Rattle.lens_specs.specs.Relation.{Name}
 use Rattle.io_specs.specs.Lines.{Line, too_long, whole}
 use Rattle.server_specs.specs.State.{State, kept}
-use Rattle.server_specs.specs.Answer.{long_line, text}
+use Rattle.server_specs.specs.Answer.{Answer, long_line, memory, text}
 use Rattle.server_specs.specs.Answering.{answer}
-use Rattle.server_specs.specs.Request.{request}
-use Rattle.server_specs.specs.Session.{Session, answered, found_memory}
+use Rattle.server_specs.specs.Request.{Request, export, request}
+use Rattle.server_specs.specs.Session.{Exchange, Session, answered, found_memory, last_state}
 use Rattle.server_specs.specs.Session as steps
 use Rattle.server_specs.proofs.Sessions.{Session-nil}
 use Rattle.server_specs.proofs.Versions.{version-step}
+use Rattle.server_laws.specs.SheetLaws.{IsExportLine, ReadsBack}
 use Rattle.lens_io.specs.declared.cutting.Cut.{Cut}
 use Rattle.lens_io.specs.declared.cutting.Cut.TheVariants as cut
 use Rattle.lens_io.specs.Bytes.{AppendsFront}
@@ -27,7 +30,8 @@ use Rattle.table_keeper.specs.declared.calls.Call.{Call}
 use Rattle.lens_server.specs.Committing.{CommitsFor, CommitsForAll}
 use Rattle.lens_server.specs.Counting.{most_walked}
 use Rattle.rehearsal.specs.Walking.{most_walked_in}
-use Rattle.rehearsal.proofs.Joined.{Session-append, Session-one, commits-append, commits-one, few-append, few-one}
+use Rattle.rehearsal.proofs.Joined.{Session-append, Session-one, commits-append, commits-one, exchanges-more, few-append, few-one}
+use Rattle.serving.specs.Exports.{AreReadBack, IsReadBack}
 use Rattle.serving.specs.Running.{Serves, AreFirst, BreaksOff, joined, line_of, status_of}
 
 -- Where they are told, the contents are those of this state, and were told before.
@@ -57,6 +61,7 @@ pub record Served (first : State) (limit : ℕ) (cutter : Cutter) (server : Stat
   pub taken : Taken lines cutter.pending cutter.taken cutter.ended left0 left
   pub session : Session first count0 lines replies server count
   pub few : walked ≤ walked0 + most_walked_in first session.exchanges
+  pub exports : AreReadBack first session.exchanges
   pub commits : Adds (CommitsForAll first count0 session.exchanges) calls0 calls
   pub stored : IsStored server contents0 contents
   pub gave : Appends given0 given (joined replies)
@@ -74,6 +79,7 @@ Served-nil first limit left given count contents calls walked told = record {
   taken = Taken-nil left;
   session = Session-nil first count;
   few = omega arith;
+  exports = tt;
   commits = Adds-none _ calls refl;
   stored = stored_same first contents told;
   gave = Appends-nil given;
@@ -109,6 +115,18 @@ other_step cut.TooLong s count bytes reply other e = too_long_step s count reply
 other_step cut.End s count bytes reply other e = too_long_step s count reply e
 other_step cut.Failed s count bytes reply other e = too_long_step s count reply e
 other_step cut.Spent s count bytes reply other e = too_long_step s count reply e
+
+-- it exports nothing
+too_long_back : (s : State) (name : Name) (L : Lens) → IsExportLine s too_long name L → ⊥
+unfolding request
+too_long_back s name L h = let no : ◌≡◌ {A = Result Request Answer} (Err long_line) (Ok (export name)) = h.asked in cc
+
+pub other_back : (c : Cut) (s : State) (bytes reply : List ℕ) (name : Name) (L : Lens) → (c ≡ cut.Line → ⊥) → IsExportLine s (line_of c bytes) name L → (reply ≡ text memory) ⊎ ReadsBack L s.tables
+other_back cut.Line s bytes reply name L other h = absurd (other refl)
+other_back cut.TooLong s bytes reply name L other h = absurd (too_long_back s name L h)
+other_back cut.End s bytes reply name L other h = absurd (too_long_back s name L h)
+other_back cut.Failed s bytes reply name L other h = absurd (too_long_back s name L h)
+other_back cut.Spent s bytes reply name L other h = absurd (too_long_back s name L h)
 
 -- and asks the keeper for nothing
 too_long_commits : (s : State) (count : ℕ) (reply : List ℕ) (calls : Option (List Call)) → Adds (CommitsFor s count (record { line = too_long; reply = reply; state = s; count = count })) calls calls
@@ -146,6 +164,7 @@ finished first limit cut.End cutter cutter' server left0 left left' given0 given
       last = server;
       session = s.session;
       few = s.few;
+      exports = s.exports;
       commits = s.commits;
       stored = s.stored;
       all_lines = λ _. (found.3, found.4);
@@ -167,6 +186,7 @@ finished first limit cut.Failed cutter cutter' server left0 left left' given0 gi
       last = server;
       session = s.session;
       few = s.few;
+      exports = s.exports;
       commits = s.commits;
       stored = s.stored;
       all_lines = λ h. absurd (omega (arith, h));
@@ -188,6 +208,7 @@ finished first limit cut.Spent cutter cutter' server left0 left left' given0 giv
       last = server;
       session = s.session;
       few = s.few;
+      exports = s.exports;
       commits = s.commits;
       stored = s.stored;
       all_lines = λ h. absurd (omega (arith, h));
@@ -235,6 +256,20 @@ few_more first count0 lines replies server count session l reply server' count' 
     few-append first count0 lines replies server count (l ∷ []) (reply ∷ []) server' count' session (Session-one server count l reply server' count' step) walked0 walked walked'
     few (few-one server count l reply server' count' step walked walked' more)
 
+-- and what it exports reads back
+AreReadBack-append : (s : State) (es fs : List Exchange) → AreReadBack s es → AreReadBack (last_state s es) fs → AreReadBack s (es ++ fs)
+AreReadBack-append s [] fs p q = q
+AreReadBack-append s (e ∷ es) fs p q = (p.0, AreReadBack-append e.state es fs p.1 q)
+
+exports_more : (first : State) (count0 : ℕ) (lines : List Line) (replies : List (List ℕ)) (server : State) (count : ℕ) (session : Session first count0 lines replies server count)
+    (l : Line) (reply : List ℕ) (server' : State) (count' : ℕ) (step : steps.Step server count l reply server' count') → AreReadBack first session.exchanges
+    → IsReadBack server (record { line = l; reply = reply; state = server'; count = count' })
+    → AreReadBack first (session_more first count0 lines replies server count session l reply server' count' step).exchanges
+exports_more first count0 lines replies server count session l reply server' count' step before mine =
+    let e : Exchange = record { line = l; reply = reply; state = server'; count = count' } in
+    subst (AreReadBack first) (sym (exchanges-more first count0 lines replies server count session l reply server' count' step))
+    (AreReadBack-append first session.exchanges (e ∷ []) before (subst (λ s. IsReadBack s e) (sym session.last_is) mine, tt))
+
 -- and asks for its commit
 commits_more : (first : State) (count0 : ℕ) (lines : List Line) (replies : List (List ℕ)) (server : State) (count : ℕ) (session : Session first count0 lines replies server count)
     (l : Line) (reply : List ℕ) (server' : State) (count' : ℕ) (step : steps.Step server count l reply server' count') (calls0 calls calls' : Option (List Call))
@@ -250,14 +285,16 @@ pub Served-more : (first : State) (limit : ℕ) (c : Cut) (cutter cutter' : Cutt
     → Step c cutter.pending cutter'.line cutter'.pending cutter.taken cutter'.taken cutter.limit cutter.ended cutter'.ended left left' → is_last c ≡ false
     → cutter'.limit ≡ cutter.limit → cutter'.done ≡ is_last c
     → steps.Step server count (line_of c cutter'.line) reply server' count' → IsStored server' contents contents' → Adds (CommitsFor server count (record { line = line_of c cutter'.line; reply = reply; state = server'; count = count' })) calls calls'
+    → IsReadBack server (record { line = line_of c cutter'.line; reply = reply; state = server'; count = count' })
     → Appends given given' reply
     → walked' ≤ walked + most_walked (request (line_of c cutter'.line)) server → Served first limit cutter' server' left0 left' given0 given' count0 count' contents0 contents' calls0 calls' walked0 walked'
-Served-more first limit c cutter cutter' server server' left0 left left' given0 given given' count0 count count' contents0 contents contents' calls0 calls calls' walked0 walked walked' reply s t going limit_kept done step told commits gave few = record {
+Served-more first limit c cutter cutter' server server' left0 left left' given0 given given' count0 count count' contents0 contents contents' calls0 calls calls' walked0 walked walked' reply s t going limit_kept done step told commits back gave few = record {
   lines = s.lines ++ line_of c cutter'.line ∷ [];
   replies = s.replies ++ reply ∷ [];
   taken = given_more c s.lines cutter.pending cutter'.line cutter'.pending cutter.taken cutter'.taken cutter.limit cutter.ended cutter'.ended left0 left left' s.taken t going;
   session = session_more first count0 s.lines s.replies server count s.session (line_of c cutter'.line) reply server' count' step;
   few = few_more first count0 s.lines s.replies server count s.session (line_of c cutter'.line) reply server' count' step walked0 walked walked' s.few few;
+  exports = exports_more first count0 s.lines s.replies server count s.session (line_of c cutter'.line) reply server' count' step s.exports back;
   commits = commits_more first count0 s.lines s.replies server count s.session (line_of c cutter'.line) reply server' count' step calls0 calls calls' s.commits commits;
   stored = stored_next server server' contents0 contents contents' s.stored told;
   gave = subst (Appends given0 given') (sym (joined-push s.replies reply)) (Appends-trans given0 given given' (joined s.replies) reply s.gave gave);
@@ -279,9 +316,10 @@ pub unwritten : (first : State) (limit : ℕ) (c : Cut) (cutter cutter' : Cutter
     → Served first limit cutter server left0 left given0 given count0 count contents0 contents calls0 calls walked0 walked
     → Step c cutter.pending cutter'.line cutter'.pending cutter.taken cutter'.taken cutter.limit cutter.ended cutter'.ended left left' → is_last c ≡ false
     → steps.Step server count (line_of c cutter'.line) reply server' count' → IsStored server' contents contents' → Adds (CommitsFor server count (record { line = line_of c cutter'.line; reply = reply; state = server'; count = count' })) calls calls'
+    → IsReadBack server (record { line = line_of c cutter'.line; reply = reply; state = server'; count = count' })
     → AppendsFront given given' reply
     → walked' ≤ walked + most_walked (request (line_of c cutter'.line)) server → Serves first limit 5 left0 left' given0 given' count0 count' contents0 contents' calls0 calls' walked0 walked'
-unwritten first limit c cutter cutter' server server' left0 left left' given0 given given' count0 count count' contents0 contents contents' calls0 calls calls' walked0 walked walked' reply s t going step told commits gave few =
+unwritten first limit c cutter cutter' server server' left0 left left' given0 given given' count0 count count' contents0 contents contents' calls0 calls calls' walked0 walked walked' reply s t going step told commits back gave few =
     let now : Taken (s.lines ++ line_of c cutter'.line ∷ []) cutter'.pending cutter'.taken cutter'.ended left0 left' =
     given_more c s.lines cutter.pending cutter'.line cutter'.pending cutter.taken cutter'.taken cutter.limit cutter.ended cutter'.ended left0 left left' s.taken t going in
     let same : length (s.lines ++ line_of c cutter'.line ∷ []) ≡ length (s.replies ++ reply ∷ []) =
@@ -295,6 +333,7 @@ unwritten first limit c cutter cutter' server server' left0 left left' given0 gi
       last = server';
       session = session_more first count0 s.lines s.replies server count s.session (line_of c cutter'.line) reply server' count' step;
       few = few_more first count0 s.lines s.replies server count s.session (line_of c cutter'.line) reply server' count' step walked0 walked walked' s.few few;
+      exports = exports_more first count0 s.lines s.replies server count s.session (line_of c cutter'.line) reply server' count' step s.exports back;
       commits = commits_more first count0 s.lines s.replies server count s.session (line_of c cutter'.line) reply server' count' step calls0 calls calls' s.commits commits;
       stored = stored_next server server' contents0 contents contents' s.stored told;
       all_lines = λ h. absurd (omega (arith, h));

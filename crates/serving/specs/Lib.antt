@@ -1,2 +1,4 @@
+pub mod Exports
 pub mod Running
 pub mod Opening
+pub mod Promises

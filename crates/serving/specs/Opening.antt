@@ -4,8 +4,8 @@ use Rattle.lens_specs.specs.Keeping.{Kept, Tells}
 use Rattle.server_specs.specs.State.{State}
 use Rattle.opening_specs.specs.Opening.{Damage}
 use Rattle.lens_server.specs.Starting.{damage_view}
-use Rattle.lens_server.specs.declared.starting.StartFault.{StartFault}
-use Rattle.lens_server.specs.declared.starting.StartFault.TheVariants as fault
+use Rattle.lens_server.specs.declared.startup.fault.StartFault.{StartFault}
+use Rattle.lens_server.specs.declared.startup.fault.StartFault.TheVariants as fault
 use Rattle.table_keeper.specs.Asking.{fault_of}
 use Rattle.table_keeper.specs.declared.calls.Asked.TheVariants.{Attach}
 use Rattle.table_keeper.specs.declared.calls.Call.{Call}

@@ -21,6 +21,7 @@ use Rattle.lens_io.specs.Bytes.{AppendsFront, GivesUnlessFailed}
 use Rattle.lens_io.specs.Taken.{ComesInTime}
 use Rattle.lens_io.specs.declared.cutting.Cut.{Cut}
 use Rattle.lens_io.specs.declared.cutting.Cut.TheVariants as cut
+use Rattle.serving.specs.Exports.{AreReadBack}
 
 -- the line that a faulty command line is answered with
 abbrev pub usage : List ℕ
@@ -72,6 +73,8 @@ pub record Serves (first : State) (limit status : ℕ) (left left' given given' 
   pub session : Session first count taken replies last count'
   -- no more rows were walked than the lines may walk
   pub few : walked' ≤ walked + most_walked_in first session.exchanges
+  -- what was exported reads back as the rows of its view
+  pub exports : AreReadBack first session.exchanges
   -- the keeper was asked for the commits of the lines, and for nothing else
   pub commits : Adds (CommitsForAll first count session.exchanges) calls calls'
   -- a keeper that told its contents tells them still, and they are those of the last state

@@ -2,7 +2,9 @@
 #![tactic(auto)]
 
 mod giving;
+mod input;
 mod opening;
+mod rehearsals;
 pub mod running;
 
 pub use opening::open;

@@ -61,6 +61,15 @@ impl Delta {
         &self.add
     }
 
+    /// The rows to remove and those to add. No row is in both.
+    pub fn sides(&self) -> (&RowSet, &RowSet)
+        ensures remove { result.0.now ≡ self.now.remove }
+        ensures add { result.1.now ≡ self.now.add }
+        ensures apart { AreApart self.now.remove self.now.add }
+    {
+        (&self.remove, &self.add)
+    }
+
     /// Whether it changes nothing.
     pub fn is_empty(&self) -> bool
         ensures { result ≡ spec.is_empty self.now }

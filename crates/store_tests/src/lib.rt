@@ -8,6 +8,8 @@ mod files;
 #[cfg(test)]
 mod folders;
 #[cfg(test)]
+mod keepers;
+#[cfg(test)]
 mod kept_rows;
 #[cfg(test)]
 mod runs;

@@ -3,7 +3,7 @@ use Rattle.std.proofs.lemmas.List.{take_all}
 use Rattle.lens_values.specs.SortedSet as set
 use Rattle.base_index.specs.Lists.{rows_of}
 use Rattle.base_index.specs.Lists.{SameCols, AreKeyed, IsTableOf}
-use Rattle.base_index.proofs.Bodies.{all_gone, one_less_behind, same_front}
+use Rattle.base_index.proofs.Fronts.{all_gone, one_less_behind, same_front}
 use Rattle.base_index.proofs.Listed.{same_trans, others_keyed, all_keep_keys, never}
 use Rattle.base_index.proofs.keyed.take_behind.Goals.{in-Some, in_default}
 use Rattle.base_index.proofs.keyed.take_behind.Goals as goal

@@ -6,8 +6,8 @@ use Rattle.borrowed_json.specs.Meaning.{members_data}
 use Rattle.borrowed_json.proofs.Found.{found_last, not_last}
 use Rattle.borrowed_json.proofs.members.place_of.Goals as goal
 
-pub returns-then-eq : goal.returns-then-eq
-returns-then-eq c =
+pub returns-then-is_named : goal.returns-then-is_named
+returns-then-is_named c =
     let xs = c.args.members.now in
     let name = c.args.name.now in
     let i = c.loop-left.left - 1 in

@@ -9,26 +9,31 @@ use Rattle.lens_laws.specs.KeyedDeltas.{join_delta_right, merge_delta, suspects}
 use Rattle.lens_laws.specs.Work.{count_of, rows_of}
 use Rattle.signed_delta.proofs.Counts.{minus_len, union_len}
 use Rattle.signed_delta.proofs.Gives.{gives_by_edges}
-use Rattle.join_delta.specs.Joined.{AreKeyed, edited_right, shared_names}
+use Rattle.join_delta.specs.Joined.{AreKeyed, shared_names}
 use Rattle.fd_laws.proofs.Relations.{from_minus, from_union}
-use Rattle.join_delta.proofs.Carried.{apart, left_merges, left_parts_fit, lefts_within, merge_fits, merged_left, right_is, right_keyed, right_parts_fit, surplus_is, surplus_made, suspects_fit}
+use Rattle.join_delta.proofs.Carried.{apart, join_edit, left_merges, left_parts_fit, lefts_within, merge_fits, merged_left, merged_right, right_is, right_keyed, right_parts_fit, surplus_is, surplus_made, suspects_fit}
 use Rattle.join_delta.proofs.Counted.{after_left, after_right, after_suspects, after_tests, left_looks, new_few, new_right, part_few, revised_few, right_looks, suspect_looks, suspects_few, test_looks, tested_few}
 use Rattle.join_delta.proofs.Near.{shared_right}
 use Rattle.join_delta.proofs.sources.merge_sources.Given.{Over}
 use Rattle.join_delta.proofs.sources.merge_sources.Goals.{After-merge_change, After-merge_change-2, After-over_pairs, After-suspects}
 use Rattle.join_delta.proofs.sources.merge_sources.Goals as goal
 
-pub merge_change-requires-clause-fit : goal.merge_change-requires-clause-fit
-merge_change-requires-clause-fit g c =
+pub merge_change-requires : goal.merge_change-requires
+merge_change-requires g c =
     let R = g.A.Look.relation c.args.left.now in
     let Q = g.B.Look.relation c.args.right.now in
     let F = c.args.left_tree.now in
     let G = c.args.right_tree.now in
     let d = c.args.delta.now in
-    let q = c.requires in
+    let q = join_edit c.requires c.rows_fit.ensures c.rows_fit-2.ensures c.is_tree.ensures c.is_tree-2.ensures in
     let right_rows : c.in_ok-right_rows.right_rows ≡ project (names Q.columns) d.add =
     c.in_ok-right_rows.ensures ∙ (λ i. project ((c.in_ok-sides.ensures.right ∙ ap names c.columns-2.ensures.columns) i) (c.add.ensures i)) in
-    λ row there. right_parts_fit R Q F G d q.can c.rows_fit.ensures c.rows_fit-2.ensures c.is_tree.ensures c.is_tree-2.ensures q.left_meets q.right_meets q.applies q.view row (ap (λ N. has N row) (sym right_rows) ∙ there)
+    record {
+      asked = c.requires.right_asked;
+      columns = lefts_within (names Q.columns) G c.requires.can.within_right;
+      meets = c.requires.right_meets;
+      fit = λ row there. right_parts_fit q row (ap (λ N. has N row) (sym right_rows) ∙ there);
+    }
 
 pub new-right_change-requires : goal.new-right_change-requires
 new-right_change-requires g c =
@@ -37,26 +42,28 @@ new-right_change-requires g c =
     let F = c.args.left_tree.now in
     let G = c.args.right_tree.now in
     let d = c.args.delta.now in
-    let q = c.requires in
+    let q = join_edit c.requires c.rows_fit.ensures c.rows_fit-2.ensures c.is_tree.ensures c.is_tree-2.ensures in
     let right_rows : c.in_ok-right_rows.right_rows ≡ project (names Q.columns) d.add =
     c.in_ok-right_rows.ensures ∙ (λ i. project ((c.in_ok-sides.ensures.right ∙ ap names c.columns-2.ensures.columns) i) (c.add.ensures i)) in
-    apart Q.rows (edited_right R Q G d) c.in_ok-change.change.remove c.in_ok-change.change.add
-    (c.in_ok-change.ensures.change ∙ ap (merge_delta G Q.rows) right_rows ∙ right_is R Q F G d q.can c.rows_fit.ensures c.rows_fit-2.ensures c.is_tree.ensures c.is_tree-2.ensures q.left_meets q.right_meets q.applies q.view)
+    apart Q.rows (merged_right q) c.in_ok-change.change.remove c.in_ok-change.change.add
+    (c.in_ok-change.ensures.change ∙ ap (merge_delta G Q.rows) right_rows ∙ right_is q)
 
-pub merge_change-requires-2-clause-columns : goal.merge_change-requires-2-clause-columns
-merge_change-requires-2-clause-columns g c = lefts_within (names (g.A.Look.relation c.args.left.now).columns) c.args.left_tree.now c.requires.can.within_left
-
-pub merge_change-requires-2-clause-fit : goal.merge_change-requires-2-clause-fit
-merge_change-requires-2-clause-fit g c =
+pub merge_change-requires-2 : goal.merge_change-requires-2
+merge_change-requires-2 g c =
     let R = g.A.Look.relation c.args.left.now in
     let Q = g.B.Look.relation c.args.right.now in
     let F = c.args.left_tree.now in
     let G = c.args.right_tree.now in
     let d = c.args.delta.now in
-    let q = c.requires in
+    let q = join_edit c.requires c.rows_fit.ensures c.rows_fit-2.ensures c.is_tree.ensures c.is_tree-2.ensures in
     let left_rows : c.in_ok-left_rows.left_rows ≡ project (names R.columns) d.add =
     c.in_ok-left_rows.ensures ∙ (λ i. project ((c.in_ok-sides.ensures.left ∙ ap names c.columns.ensures.columns) i) (c.add-2.ensures i)) in
-    λ row there. left_parts_fit R Q F G d q.can c.rows_fit.ensures c.rows_fit-2.ensures c.is_tree.ensures c.is_tree-2.ensures q.left_meets q.right_meets q.applies q.view row (ap (λ N. has N row) (sym left_rows) ∙ there)
+    record {
+      asked = c.requires.left_asked;
+      columns = lefts_within (names R.columns) F c.requires.can.within_left;
+      meets = c.requires.left_meets;
+      fit = λ row there. left_parts_fit q row (ap (λ N. has N row) (sym left_rows) ∙ there);
+    }
 
 pub suspects-requires-clause-have : goal.suspects-requires-clause-have
 suspects-requires-clause-have g c =
@@ -65,13 +72,13 @@ suspects-requires-clause-have g c =
     let F = c.args.left_tree.now in
     let G = c.args.right_tree.now in
     let d = c.args.delta.now in
-    let q = c.requires in
+    let q = join_edit c.requires c.rows_fit.ensures c.rows_fit-2.ensures c.is_tree.ensures c.is_tree-2.ensures in
     let right_rows : c.in_ok-right_rows.right_rows ≡ project (names Q.columns) d.add =
     c.in_ok-right_rows.ensures ∙ (λ i. project ((c.in_ok-sides.ensures.right ∙ ap names c.columns-2.ensures.columns) i) (c.add.ensures i)) in
     let changes : c.new-right_change.result ≡ join_delta_right (names Q.columns) G Q.rows d =
     c.new-right_change.ensures ∙ c.in_ok-change.ensures.change ∙ ap (merge_delta G Q.rows) right_rows in
     let change_fits : (row : Row) → has c.new-right_change.result.add row ≡ true → Fits Q.columns row = λ row there.
-    merge_fits Q.columns G Q.rows (project (names Q.columns) d.add) c.rows_fit-2.ensures (right_parts_fit R Q F G d q.can c.rows_fit.ensures c.rows_fit-2.ensures c.is_tree.ensures c.is_tree-2.ensures q.left_meets q.right_meets q.applies q.view) row
+    merge_fits Q.columns G Q.rows (project (names Q.columns) d.add) c.rows_fit-2.ensures (right_parts_fit q) row
     (ap (λ (x : Delta). has x.add row) (sym changes) ∙ there) in
     let shared : c.in_ok-sides.sides.shared ≡ shared_names R.columns Q.columns =
     c.in_ok-sides.ensures.shared ∙ (λ i. set.intersection (names (c.columns.ensures.columns i)) (names (c.columns-2.ensures.columns i))) in
@@ -84,7 +91,7 @@ over_pairs-requires-clause-rows g c =
     let F = c.args.left_tree.now in
     let G = c.args.right_tree.now in
     let d = c.args.delta.now in
-    let q = c.requires in
+    let q = join_edit c.requires c.rows_fit.ensures c.rows_fit-2.ensures c.is_tree.ensures c.is_tree-2.ensures in
     let shared : c.in_ok-sides.sides.shared ≡ shared_names R.columns Q.columns =
     c.in_ok-sides.ensures.shared ∙ (λ i. set.intersection (names (c.columns.ensures.columns i)) (names (c.columns-2.ensures.columns i))) in
     let suspected : c.in_ok-suspects.suspects ≡ suspects (shared_names R.columns Q.columns) (names R.columns) R.rows d c.new-right_change.result.add =
@@ -94,9 +101,9 @@ over_pairs-requires-clause-rows g c =
     let merges : ◌≡◌ {A = Delta} (record { remove = c.in_ok-merged.merged.remove; add = c.in_ok-merged.merged.add }) (merge_delta F R.rows (project (names R.columns) d.add)) =
     c.in_ok-merged.ensures.change ∙ ap (merge_delta F R.rows) left_rows in
     λ row there. elim (from_union _ _ row (ap (λ N. has N row) (sym c.in_ok-tested.ensures) ∙ there)) [
-      | inl i ↦ suspects_fit R Q F G d q.can c.rows_fit.ensures c.rows_fit-2.ensures c.is_tree.ensures c.is_tree-2.ensures q.left_meets q.right_meets q.applies q.view c.new-right_change.result.add row
+      | inl i ↦ suspects_fit q c.new-right_change.result.add row
           (ap (λ N. has N row) (sym suspected) ∙ (from_minus c.in_ok-suspects.suspects c.in_ok-merged.merged.remove row i).0)
-      | inr i ↦ merge_fits R.columns F R.rows (project (names R.columns) d.add) c.rows_fit.ensures (left_parts_fit R Q F G d q.can c.rows_fit.ensures c.rows_fit-2.ensures c.is_tree.ensures c.is_tree-2.ensures q.left_meets q.right_meets q.applies q.view) row
+      | inr i ↦ merge_fits R.columns F R.rows (project (names R.columns) d.add) c.rows_fit.ensures (left_parts_fit q) row
           (ap (λ (x : Delta). has x.add row) (sym merges) ∙ (from_minus c.in_ok-merged.merged.add c.in_ok-left_rows.left_rows row i).0)
     ]
 
@@ -107,13 +114,13 @@ over_pairs-requires-clause-change g c =
     let F = c.args.left_tree.now in
     let G = c.args.right_tree.now in
     let d = c.args.delta.now in
-    let q = c.requires in
+    let q = join_edit c.requires c.rows_fit.ensures c.rows_fit-2.ensures c.is_tree.ensures c.is_tree-2.ensures in
     let right_rows : c.in_ok-right_rows.right_rows ≡ project (names Q.columns) d.add =
     c.in_ok-right_rows.ensures ∙ (λ i. project ((c.in_ok-sides.ensures.right ∙ ap names c.columns-2.ensures.columns) i) (c.add.ensures i)) in
     let changes : c.new-right_change.result ≡ join_delta_right (names Q.columns) G Q.rows d =
     c.new-right_change.ensures ∙ c.in_ok-change.ensures.change ∙ ap (merge_delta G Q.rows) right_rows in
     let change_fits : (row : Row) → has c.new-right_change.result.add row ≡ true → Fits Q.columns row = λ row there.
-    merge_fits Q.columns G Q.rows (project (names Q.columns) d.add) c.rows_fit-2.ensures (right_parts_fit R Q F G d q.can c.rows_fit.ensures c.rows_fit-2.ensures c.is_tree.ensures c.is_tree-2.ensures q.left_meets q.right_meets q.applies q.view) row
+    merge_fits Q.columns G Q.rows (project (names Q.columns) d.add) c.rows_fit-2.ensures (right_parts_fit q) row
     (ap (λ (x : Delta). has x.add row) (sym changes) ∙ there) in
     change_fits
 
@@ -124,12 +131,12 @@ new-left_change-requires g c =
     let F = c.args.left_tree.now in
     let G = c.args.right_tree.now in
     let d = c.args.delta.now in
-    let q = c.requires in
+    let q = join_edit c.requires c.rows_fit.ensures c.rows_fit-2.ensures c.is_tree.ensures c.is_tree-2.ensures in
     let left_rows : c.in_ok-left_rows.left_rows ≡ project (names R.columns) d.add =
     c.in_ok-left_rows.ensures ∙ (λ i. project ((c.in_ok-sides.ensures.left ∙ ap names c.columns.ensures.columns) i) (c.add-2.ensures i)) in
     let merges : ◌≡◌ {A = Delta} (record { remove = c.in_ok-merged.merged.remove; add = c.in_ok-merged.merged.add }) (merge_delta F R.rows (project (names R.columns) d.add)) =
     c.in_ok-merged.ensures.change ∙ ap (merge_delta F R.rows) left_rows in
-    apart R.rows (merged_left R Q F G d q.can c.rows_fit.ensures c.rows_fit-2.ensures c.is_tree.ensures c.is_tree-2.ensures q.left_meets q.right_meets q.applies q.view) c.in_ok-merged.merged.remove c.in_ok-merged.merged.add (merges ∙ left_merges R Q F G d q.can c.rows_fit.ensures c.rows_fit-2.ensures c.is_tree.ensures c.is_tree-2.ensures q.left_meets q.right_meets q.applies q.view)
+    apart R.rows (merged_left q) c.in_ok-merged.merged.remove c.in_ok-merged.merged.add (merges ∙ left_merges q)
 
 -- ---- looks, call by call
 
@@ -172,7 +179,7 @@ right_rows_keyed g c =
     let F = c.args.left_tree.now in
     let G = c.args.right_tree.now in
     let d = c.args.delta.now in
-    let q = c.requires in
+    let q = join_edit c.requires c.rows_fit.ensures c.rows_fit-2.ensures c.is_tree.ensures c.is_tree-2.ensures in
     let right_rows : c.in_ok-right_rows.right_rows ≡ project (names Q.columns) d.add =
     c.in_ok-right_rows.ensures ∙ (λ i. project ((c.in_ok-sides.ensures.right ∙ ap names c.columns-2.ensures.columns) i) (c.add.ensures i)) in
     let changes : c.new-right_change.result ≡ join_delta_right (names Q.columns) G Q.rows d =
@@ -181,7 +188,7 @@ right_rows_keyed g c =
     c.in_ok-sides.ensures.shared ∙ (λ i. set.intersection (names (c.columns.ensures.columns i)) (names (c.columns-2.ensures.columns i))) in
     subst (λ C. AreKeyed C (new_view Q.rows c.new-right_change.result)) (sym shared)
     (subst (λ (x : Delta). AreKeyed (shared_names R.columns Q.columns) (new_view Q.rows x)) (sym changes)
-    (right_keyed R Q F G d q.can c.rows_fit.ensures c.rows_fit-2.ensures c.is_tree.ensures c.is_tree-2.ensures q.left_meets q.right_meets q.applies q.view))
+    (right_keyed q))
 
 -- so few rows are tested
 tested_step : (g : Over) (c : After-over_pairs g) (a b : ℕ) → g.A.Look.within c.args.left.now a → g.B.Look.within c.args.right.now b → length c.args.left_tree.now ≤ 64 → length c.args.right_tree.now ≤ 64
@@ -192,21 +199,21 @@ tested_step g c a b v w edges more =
     let F = c.args.left_tree.now in
     let G = c.args.right_tree.now in
     let d = c.args.delta.now in
-    let q = c.requires in
+    let q = join_edit c.requires c.rows_fit.ensures c.rows_fit-2.ensures c.is_tree.ensures c.is_tree-2.ensures in
     let some_a = c.finds_are_few.ensures.some a v in
     let some_b = c.finds_are_few-2.ensures.some b w in
     let shared : c.in_ok-sides.sides.shared ≡ shared_names R.columns Q.columns =
     c.in_ok-sides.ensures.shared ∙ (λ i. set.intersection (names (c.columns.ensures.columns i)) (names (c.columns-2.ensures.columns i))) in
     let parts_few = part_few c.in_ok-sides.sides.right c.in_ok-sides.sides.right c.add.result.now d.add c.in_ok-right_rows.right_rows c.in_ok-right_rows.ensures c.add.ensures in
-    let new = new_right (g.B.Look.asked c.args.right.now) G Q.rows c.in_ok-right_rows.right_rows c.new-right_change.result b more (c.finds_are_few-2.ensures.gives b w) q.right_asked
+    let new = new_right (g.B.Look.asked c.args.right.now) G Q.rows c.in_ok-right_rows.right_rows c.new-right_change.result b more (c.finds_are_few-2.ensures.gives b w) c.requires.right_asked
     (c.new-right_change.ensures ∙ c.in_ok-change.ensures.change) in
     let few = part_few c.in_ok-sides.sides.left c.in_ok-sides.sides.left c.add-2.result.now d.add c.in_ok-left_rows.left_rows c.in_ok-left_rows.ensures c.add-2.ensures in
     let suspected : count_of c.in_ok-suspects.suspects ≤ count_of d.remove + a * count_of c.new-right_change.result.add =
     subst (λ X. count_of X ≤ count_of d.remove + a * count_of c.new-right_change.result.add) (sym c.in_ok-suspects.ensures.suspects)
     (suspects_few c.in_ok-sides.sides.shared c.in_ok-sides.sides.left R.rows d c.new-right_change.result.add a
-    (λ k. c.finds_are_few.ensures.gives a v c.in_ok-sides.sides.shared k (subst (Contains (g.A.Look.asked c.args.left.now)) (sym shared) q.left_shared))) in
+    (λ k. c.finds_are_few.ensures.gives a v c.in_ok-sides.sides.shared k (subst (Contains (g.A.Look.asked c.args.left.now)) (sym shared) c.requires.left_shared))) in
     let merges = ap (λ (x : Delta). count_of (minus x.add c.in_ok-left_rows.left_rows)) c.in_ok-merged.ensures.change in
-    let revised = revised_few F R.rows c.in_ok-left_rows.left_rows a edges (gives_by_edges (g.A.Look.asked c.args.left.now) F R.rows a (c.finds_are_few.ensures.gives a v) q.left_asked) in
+    let revised = revised_few F R.rows c.in_ok-left_rows.left_rows a edges (gives_by_edges (g.A.Look.asked c.args.left.now) F R.rows a (c.finds_are_few.ensures.gives a v) c.requires.left_asked) in
     let is = ap count_of c.in_ok-tested.ensures in
     let both = union_len (minus c.in_ok-suspects.suspects c.in_ok-merged.merged.remove) (minus c.in_ok-merged.merged.add c.in_ok-left_rows.left_rows) in
     let less = minus_len c.in_ok-suspects.suspects c.in_ok-merged.merged.remove in
@@ -228,7 +235,7 @@ returns g c =
     let F = c.args.left_tree.now in
     let G = c.args.right_tree.now in
     let d = c.args.delta.now in
-    let q = c.requires in
+    let q = join_edit c.requires c.rows_fit.ensures c.rows_fit-2.ensures c.is_tree.ensures c.is_tree-2.ensures in
     let left_columns : c.in_ok-sides.sides.left ≡ names R.columns = c.in_ok-sides.ensures.left ∙ ap names c.columns.ensures.columns in
     let right_columns : c.in_ok-sides.sides.right ≡ names Q.columns = c.in_ok-sides.ensures.right ∙ ap names c.columns-2.ensures.columns in
     let shared : c.in_ok-sides.sides.shared ≡ shared_names R.columns Q.columns =
@@ -245,12 +252,12 @@ returns g c =
     record {
       merged = record {
         sides = record { left = left_columns; right = right_columns; shared = shared };
-        left = c.new-left_change.ensures ∙ merges ∙ left_merges R Q F G d q.can c.rows_fit.ensures c.rows_fit-2.ensures c.is_tree.ensures c.is_tree-2.ensures q.left_meets q.right_meets q.applies q.view;
-        right = changes ∙ right_is R Q F G d q.can c.rows_fit.ensures c.rows_fit-2.ensures c.is_tree.ensures c.is_tree-2.ensures q.left_meets q.right_meets q.applies q.view;
+        left = c.new-left_change.ensures ∙ merges ∙ left_merges q;
+        right = changes ∙ right_is q;
         parts = right_rows;
         over = surplus_made R Q F G d c.new-right_change.result (record { remove = c.in_ok-merged.merged.remove; add = c.in_ok-merged.merged.add })
             c.in_ok-suspects.suspects c.in_ok-left_rows.left_rows c.in_ok-tested.tested c.in_ok-over.over changes merges left_rows suspected c.in_ok-tested.ensures c.in_ok-over.ensures.over
-            ∙ surplus_is R Q F G d q.can c.rows_fit.ensures c.rows_fit-2.ensures c.is_tree.ensures c.is_tree-2.ensures q.left_meets q.right_meets q.applies q.view;
+            ∙ surplus_is q;
       };
       looks = λ a b v w edges more.
           after_tests a b (c.finds_are_few.ensures.some a v) (c.finds_are_few-2.ensures.some b w) (rows_of d) c.args.looked.now c.merge_change.new.looked c.merge_change-2.new.looked c.suspects.new.looked c.over_pairs.new.looked

@@ -19,69 +19,39 @@ use Rattle.lens_chain.proofs.Counted.{edges_few, join_size, within_size}
 use Rattle.lens_chain.proofs.Premises.{edges_asked, edges_within, join_applies, join_carried_left, join_carried_right, join_fit, join_meets, meets_tree, tree_is}
 use Rattle.lens_chain.proofs.nodes.under_join.Goals as goal
 
-pub join_change-requires-clause-can : goal.join_change-requires-clause-can
-join_change-requires-clause-can g c =
+pub join_change-requires : goal.join_change-requires
+join_change-requires g c =
     let v = c.args.left.now in
     let w = c.args.right.now in
+    let d = c.args.delta.now in
     let typed = c.requires.typed in
-    let left = tree_is v.lens c.lens.result.now c.sort.result.now c.tree-left_tree.result.now c.requires.typed.0 c.lens.ensures.lens c.sort.ensures.given c.tree-left_tree.ensures.value in
-    let right = tree_is w.lens c.lens-2.result.now c.sort-2.result.now c.tree-right_tree.result.now c.requires.typed.1 c.lens-2.ensures.lens c.sort-2.ensures.given c.tree-right_tree.ensures.value in
+    let left = tree_is v.lens c.lens.result.now c.sort.result.now c.tree-left_tree.result.now typed.0 c.lens.ensures.lens c.sort.ensures.given c.tree-left_tree.ensures.value in
+    let right = tree_is w.lens c.lens-2.result.now c.sort-2.result.now c.tree-right_tree.result.now typed.1 c.lens-2.ensures.lens c.sort-2.ensures.given c.tree-right_tree.ensures.value in
+    let are : AreOf v.lens (over v) × AreOf w.lens (over v) = (c.lens.ensures.viewed.1.tables, subst (AreOf w.lens) c.requires.same c.lens-2.ensures.viewed.1.tables) in
+    let meets = join_meets c.args.kind v.lens w.lens typed (over v) d are c.requires.edit in
     record {
-      within_left = subst (EdgesWithin (view_names v.lens)) (sym left) (edges_within v.lens typed.0);
-      within_right = subst (EdgesWithin (view_names w.lens)) (sym right) (edges_within w.lens typed.1);
-      kinds = typed.2.kinds;
-      shared = shared_keyed c.args.kind v.lens w.lens typed (c.lens.ensures.viewed.1.keys, c.lens-2.ensures.viewed.1.keys);
-      decides = subst (λ T. Within (view_names w.lens) (closure (set.intersection (view_names v.lens) (view_names w.lens)) T)) (sym right) typed.2.decides;
+      can = record {
+        within_left = subst (EdgesWithin (view_names v.lens)) (sym left) (edges_within v.lens typed.0);
+        within_right = subst (EdgesWithin (view_names w.lens)) (sym right) (edges_within w.lens typed.1);
+        kinds = typed.2.kinds;
+        shared = shared_keyed c.args.kind v.lens w.lens typed (c.lens.ensures.viewed.1.keys, c.lens-2.ensures.viewed.1.keys);
+        decides = subst (λ T. Within (view_names w.lens) (closure (set.intersection (view_names v.lens) (view_names w.lens)) T)) (sym right) typed.2.decides;
+      };
+      left_asked = subst (AllEdges (λ e. Contains (asked_by v) e.left)) (sym left) (edges_asked v.lens v.sets);
+      left_shared = c.requires.left_asked;
+      right_asked = subst (AllEdges (λ e. Contains (asked_by w) e.left)) (sym right) (edges_asked w.lens w.sets);
+      right_shared = c.requires.right_asked;
+      left_meets = subst (MeetsTree (get v.lens (over v))) (sym left) (meets_tree v.lens (over v) typed.0 c.lens.ensures.viewed.1.tables);
+      right_meets = subst (MeetsTree (get w.lens (over w))) (sym right) (meets_tree w.lens (over w) typed.1 c.lens-2.ensures.viewed.1.tables);
+      applies = subst (λ db. Applies d (join_get (view_names v.lens) (view_names w.lens) (get v.lens (over v)) (get w.lens db))) (sym c.requires.same)
+          (join_applies c.args.kind v.lens w.lens typed (over v) d are c.requires.edit);
+      view = subst (λ db. AreJoined (sort_of v.lens).columns (sort_of w.lens).columns c.tree-left_tree.result.now c.tree-right_tree.result.now (new_view (join_get (view_names v.lens) (view_names w.lens) (get v.lens (over v)) (get w.lens db)) d)) (sym c.requires.same)
+          (record {
+            columns = join_fit c.args.kind v.lens w.lens typed (over v) d are c.requires.edit;
+            left = subst (MeetsTree _) (sym left) meets.0;
+            right = subst (MeetsTree _) (sym right) meets.1;
+          });
     }
-
-pub join_change-requires-clause-left_asked : goal.join_change-requires-clause-left_asked
-join_change-requires-clause-left_asked g c =
-    let v = c.args.left.now in
-    let left = tree_is v.lens c.lens.result.now c.sort.result.now c.tree-left_tree.result.now c.requires.typed.0 c.lens.ensures.lens c.sort.ensures.given c.tree-left_tree.ensures.value in
-    subst (AllEdges (λ e. Contains (asked_by v) e.left)) (sym left) (edges_asked v.lens v.sets)
-
-pub join_change-requires-clause-left_meets : goal.join_change-requires-clause-left_meets
-join_change-requires-clause-left_meets g c =
-    let v = c.args.left.now in
-    let left = tree_is v.lens c.lens.result.now c.sort.result.now c.tree-left_tree.result.now c.requires.typed.0 c.lens.ensures.lens c.sort.ensures.given c.tree-left_tree.ensures.value in
-    subst (MeetsTree (get v.lens (over v))) (sym left) (meets_tree v.lens (over v) c.requires.typed.0 c.lens.ensures.viewed.1.tables)
-
-pub join_change-requires-clause-right_asked : goal.join_change-requires-clause-right_asked
-join_change-requires-clause-right_asked g c =
-    let w = c.args.right.now in
-    let right = tree_is w.lens c.lens-2.result.now c.sort-2.result.now c.tree-right_tree.result.now c.requires.typed.1 c.lens-2.ensures.lens c.sort-2.ensures.given c.tree-right_tree.ensures.value in
-    subst (AllEdges (λ e. Contains (asked_by w) e.left)) (sym right) (edges_asked w.lens w.sets)
-
-pub join_change-requires-clause-right_meets : goal.join_change-requires-clause-right_meets
-join_change-requires-clause-right_meets g c =
-    let w = c.args.right.now in
-    let right = tree_is w.lens c.lens-2.result.now c.sort-2.result.now c.tree-right_tree.result.now c.requires.typed.1 c.lens-2.ensures.lens c.sort-2.ensures.given c.tree-right_tree.ensures.value in
-    subst (MeetsTree (get w.lens (over w))) (sym right) (meets_tree w.lens (over w) c.requires.typed.1 c.lens-2.ensures.viewed.1.tables)
-
-pub join_change-requires-clause-applies : goal.join_change-requires-clause-applies
-join_change-requires-clause-applies g c =
-    let v = c.args.left.now in
-    let w = c.args.right.now in
-    let d = c.args.delta.now in
-    let are : AreOf v.lens (over v) × AreOf w.lens (over v) = (c.lens.ensures.viewed.1.tables, subst (AreOf w.lens) c.requires.same c.lens-2.ensures.viewed.1.tables) in
-    subst (λ db. Applies d (join_get (view_names v.lens) (view_names w.lens) (get v.lens (over v)) (get w.lens db))) (sym c.requires.same)
-    (join_applies c.args.kind v.lens w.lens c.requires.typed (over v) d are c.requires.edit)
-
-pub join_change-requires-clause-view : goal.join_change-requires-clause-view
-join_change-requires-clause-view g c =
-    let v = c.args.left.now in
-    let w = c.args.right.now in
-    let d = c.args.delta.now in
-    let left = tree_is v.lens c.lens.result.now c.sort.result.now c.tree-left_tree.result.now c.requires.typed.0 c.lens.ensures.lens c.sort.ensures.given c.tree-left_tree.ensures.value in
-    let right = tree_is w.lens c.lens-2.result.now c.sort-2.result.now c.tree-right_tree.result.now c.requires.typed.1 c.lens-2.ensures.lens c.sort-2.ensures.given c.tree-right_tree.ensures.value in
-    let are : AreOf v.lens (over v) × AreOf w.lens (over v) = (c.lens.ensures.viewed.1.tables, subst (AreOf w.lens) c.requires.same c.lens-2.ensures.viewed.1.tables) in
-    let meets = join_meets c.args.kind v.lens w.lens c.requires.typed (over v) d are c.requires.edit in
-    subst (λ db. AreJoined (sort_of v.lens).columns (sort_of w.lens).columns c.tree-left_tree.result.now c.tree-right_tree.result.now (new_view (join_get (view_names v.lens) (view_names w.lens) (get v.lens (over v)) (get w.lens db)) d)) (sym c.requires.same)
-    (record {
-      columns = join_fit c.args.kind v.lens w.lens c.requires.typed (over v) d are c.requires.edit;
-      left = subst (MeetsTree _) (sym left) meets.0;
-      right = subst (MeetsTree _) (sym right) meets.1;
-    })
 
 pub returns-clause-left : goal.returns-clause-left
 returns-clause-left g c =

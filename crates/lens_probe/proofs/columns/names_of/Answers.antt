@@ -1,6 +1,8 @@
-use Rattle.std.proofs.Common.{◌≡◌, subst}
-use Rattle.std.specs.Prelude.{IfOk}
+use Rattle.std.proofs.Common.{◌∙◌, ap}
+use Rattle.lens_specs.specs.Columns.{names}
+use Rattle.lens_specs.specs.Sort.{Sort}
+use Rattle.lens_laws.proofs.Rules.{given_is}
 use Rattle.lens_probe.proofs.columns.names_of.Goals as goal
 
 pub returns : goal.returns
-returns c = subst (λ N. IfOk c.names.result (λ all. all ≡ N)) c.columns_of.ensures c.names.ensures
+returns c = c.name_set.ensures ∙ ap names (c.cols.ensures.value ∙ ap (λ (s : Sort). s.columns) (given_is c.args.lens.now c.sort.result.now c.sort.ensures.typed c.sort.ensures.given))

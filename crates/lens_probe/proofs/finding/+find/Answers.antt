@@ -1,8 +1,11 @@
-use Rattle.std.proofs.Common.{◌≡◌, ◌∙◌, ◌+◌, ◌≤◌, ap, arith, length, subst, sym}
+use Rattle.std.proofs.Common.{◌≡◌, ◌∙◌, ◌+◌, ◌≤◌, ap, arith, length, refl, subst, sym}
 use Rattle.std.specs.Prelude.{IfOk, IfSome}
+use Rattle.std.proofs.lemmas.Result.{IfOk-weaker}
 use Rattle.lens_values.specs.Part.{restrict}
 use Rattle.lens_values.specs.SortedSet as set
+use Rattle.lens_specs.specs.Names.{Within, share}
 use Rattle.lens_specs.specs.Lens.{drop, get, join, nodes_of, rename, select, view_names}
+use Rattle.lens_specs.specs.Relation.{project}
 use Rattle.lens_laws.proofs.PastedFinds.{key_is_over}
 use Rattle.lens_laws.specs.Finds.{IsOver}
 use Rattle.lens_laws.specs.KeyedDeltas.{find_by}
@@ -11,7 +14,7 @@ use Rattle.lens_types.specs.Lenses.{lens_view}
 use Rattle.lens_laws.specs.Work.{size}
 use Rattle.signed_delta.proofs.Counts.{at_end, next, one_more}
 use Rattle.lens_probe.specs.Looking.{ArePartners, FindsWithin, MayFind}
-use Rattle.lens_probe.proofs.Found.{drop_finds, found_by_whole, left_asked, left_finds, left_matches, left_over, next_pairs, partners_again, right_asked, right_finds, right_matches, right_over, select_finds, source_of_drop, source_of_select, table_finds, whole_part}
+use Rattle.lens_probe.proofs.Found.{drop_finds, found_by_whole, left_asked, left_finds, left_matches, left_over, next_pairs, partners_again, right_asked, right_finds, right_matches, right_over, select_finds, shown_to, found_whole, source_of_drop, source_of_select, table_finds, whole_part}
 use Rattle.lens_probe.proofs.RenamedViews.{found_there, key_lacks, names_are, old_asked, old_finds, old_over, new_is_free, rename_size, renamed_finds, source_over}
 use Rattle.lens_probe.proofs.Sizes.{dropped_size, left_few, left_first, left_part, left_shared, left_within, right_few, right_first, right_part, right_shared, right_within, selected_size, table_looks, under_dropped, under_selected}
 use Rattle.lens_probe.proofs.finding.+find.Goals as goal
@@ -21,15 +24,18 @@ find_in-find_in-requires g t c κs within =
     let is = (λ i. select c.in-Select.pred (c.deref.ensures i)) ∙ sym (ap lens_view c.in-Select.is) ∙ c.lens.ensures.view in
     (omega (arith, c.decreases, ap nodes_of is), (within, (source_of_select c.args.lens.now c.deref.result.now c.in-Select.pred c.args.query.now.tables.now.present c.args.query.now.cols.now is c.lens.ensures.typed c.requires.asked, c.requires.key)))
 
-pub find_in-find_in-requires-in-Drop : goal.find_in-find_in-requires-in-Drop
-find_in-find_in-requires-in-Drop g t c κs within =
+pub find_in-find_parts-requires : goal.find_in-find_parts-requires
+find_in-find_parts-requires g t c κs within =
+    let L = c.args.lens.now in
+    let st = c.args.query.now.tables.now.present in
+    let C = c.args.query.now.cols.now in
     let is = (λ i. drop c.in-Drop.col c.in-Drop.by c.in-Drop.fill (c.deref-in-Drop.ensures i)) ∙ sym (ap lens_view c.in-Drop.is) ∙ c.lens.ensures.view in (
       omega (arith, c.decreases, ap nodes_of is),
       (
         within,
         (
-          source_of_drop c.args.lens.now c.deref-in-Drop.result.now c.in-Drop.col c.in-Drop.by c.in-Drop.fill c.args.query.now.tables.now.present c.args.query.now.cols.now is c.lens.ensures.typed c.requires.asked,
-          c.requires.key,
+          subst (Within C) (sym c.names_of.ensures) (shown_to L st C c.lens.ensures.typed c.requires.asked),
+          (source_of_drop L c.deref-in-Drop.result.now c.in-Drop.col c.in-Drop.by c.in-Drop.fill st C is c.lens.ensures.typed c.requires.asked, c.requires.key),
         ),
       ),
     )
@@ -45,21 +51,68 @@ find_in-returns-in_ok-found-in-Select-clause-found g t c =
     select_finds c.selected.result c.args.lens.now c.deref.result.now c.in-Select.pred c.args.query.now.tables.now.present.relations c.args.query.now.cols.now c.args.query.now.key.now c.in_ok-found-in-Select.found is
     c.in_ok-found-in-Select.ensures.found c.selected.ensures
 
-pub find_in-returns-in_ok-kept-in-Drop-clause-found : goal.find_in-returns-in_ok-kept-in-Drop-clause-found
-find_in-returns-in_ok-kept-in-Drop-clause-found g t c =
+pub find_in-returns-in-Drop-clause-found : goal.find_in-returns-in-Drop-clause-found
+find_in-returns-in-Drop-clause-found g t c =
+    let S = c.deref-in-Drop.result.now in
+    let st = c.args.query.now.tables.now.present in
+    let C = c.args.query.now.cols.now in
+    let k = c.args.query.now.key.now in
     let is = (λ i. drop c.in-Drop.col c.in-Drop.by c.in-Drop.fill (c.deref-in-Drop.ensures i)) ∙ sym (ap lens_view c.in-Drop.is) ∙ c.lens.ensures.view in
-    drop_finds c.project.result c.args.lens.now c.deref-in-Drop.result.now c.in-Drop.col c.in-Drop.by c.in-Drop.fill c.args.query.now.tables.now.present c.args.query.now.cols.now c.in_ok-kept-in-Drop.kept c.args.query.now.key.now c.in_ok-found-in-Drop.found is
-    c.lens.ensures.typed c.requires.asked c.in_ok-kept-in-Drop.ensures c.in_ok-found-in-Drop.ensures.found c.project.ensures
+    drop_finds c.find_parts.result c.args.lens.now S c.in-Drop.col c.in-Drop.by c.in-Drop.fill st C c.names_of.result.now k (find_by C k (get S st.relations)) is
+    c.lens.ensures.typed c.requires.asked c.names_of.ensures refl c.find_parts.ensures.found
+
+pub find_in-returns-in-Join-clause-found : goal.find_in-returns-in-Join-clause-found
+find_in-returns-in-Join-clause-found g t c =
+    let L = c.args.lens.now in
+    let st = c.args.query.now.tables.now.present in
+    let C = c.args.query.now.cols.now in
+    let k = c.args.query.now.key.now in
+    let is = (λ i. join c.in-Join.kind (c.deref-in-Join.ensures i) (c.deref-in-Join-2.ensures i)) ∙ sym (ap lens_view c.in-Join.is) ∙ c.lens.ensures.view in
+    IfOk-weaker c.find_joined.result _ _
+    (λ found made. made
+    ∙ (λ i. project (c.names_of-in-Join.ensures i) (find_by C k (get (is i) st.relations)))
+    ∙ found_whole L st C k c.lens.ensures.typed c.requires.asked.1.tables)
+    c.find_joined.ensures.found
+
+pub find_parts-find_joined-requires : goal.find_parts-find_joined-requires
+find_parts-find_joined-requires g t c κs within =
+    let is = (λ i. join c.in-Join.kind (c.deref.ensures i) (c.deref-in-Join.ensures i)) ∙ sym (ap lens_view c.in-Join.is) ∙ c.lens.ensures.view in (
+      omega (arith, c.decreases, ap nodes_of is),
+      (
+        within,
+        (
+          subst IsTyped (sym is) c.lens.ensures.typed,
+          (c.requires.kept, (subst (λ L. MayFind L c.args.query.now.tables.now.present c.args.query.now.cols.now) (sym is) c.requires.asked, c.requires.key)),
+        ),
+      ),
+    )
+
+pub find_parts-returns-in-Join-clause-found : goal.find_parts-returns-in-Join-clause-found
+find_parts-returns-in-Join-clause-found g t c =
+    let is = (λ i. join c.in-Join.kind (c.deref.ensures i) (c.deref-in-Join.ensures i)) ∙ sym (ap lens_view c.in-Join.is) ∙ c.lens.ensures.view in
+    IfOk-weaker c.find_joined.result _ _
+    (λ found made. made ∙ (λ i. project c.args.kept.now (find_by c.args.query.now.cols.now c.args.query.now.key.now (get (is i) c.args.query.now.tables.now.present.relations))))
+    c.find_joined.ensures.found
+
+pub find_parts-returns-in_ok-found-in-Base-clause-found : goal.find_parts-returns-in_ok-found-in-Base-clause-found
+find_parts-returns-in_ok-found-in-Base-clause-found g t c =
+    IfOk-weaker c.project.result _ _ (λ part made. made ∙ ap (project c.args.kept.now) c.in_ok-found-in-Base.ensures.found) c.project.ensures
 
 pub find_in-find_joined-requires : goal.find_in-find_joined-requires
 find_in-find_joined-requires g t c κs within =
+    let L = c.args.lens.now in
+    let st = c.args.query.now.tables.now.present in
+    let C = c.args.query.now.cols.now in
     let is = (λ i. join c.in-Join.kind (c.deref-in-Join.ensures i) (c.deref-in-Join-2.ensures i)) ∙ sym (ap lens_view c.in-Join.is) ∙ c.lens.ensures.view in (
       omega (arith, c.decreases, ap nodes_of is),
       (
         within,
         (
           subst IsTyped (sym is) c.lens.ensures.typed,
-          (subst (λ L. MayFind L c.args.query.now.tables.now.present c.args.query.now.cols.now) (sym is) c.requires.asked, c.requires.key),
+          (
+            subst (Within C) (sym c.names_of-in-Join.ensures) (shown_to L st C c.lens.ensures.typed c.requires.asked),
+            (subst (λ L. MayFind L st C) (sym is) c.requires.asked, c.requires.key),
+          ),
         ),
       ),
     )
@@ -104,17 +157,17 @@ pub find_renamed-rename_set-requires-clause-over : goal.find_renamed-rename_set-
 find_renamed-rename_set-requires-clause-over g t c = λ row i.
     let st = c.args.query.now.tables.now.present in
     let there = found_there c.in_ok-cols.cols c.in_ok-key.key row (get c.args.of.now st.relations) c.in_ok-found.found c.in_ok-found.ensures.found i in
-    source_over c.args.col.now c.args.to.now c.args.of.now c.requires.typed st.relations c.in_ok-names_of.field-0 row c.requires.asked.1.tables c.in_ok-names_of.ensures there
+    source_over c.args.col.now c.args.to.now c.args.of.now c.requires.typed st.relations c.names_of.result.now row c.requires.asked.1.tables c.names_of.ensures there
 
 pub find_renamed-rename_set-requires-clause-free : goal.find_renamed-rename_set-requires-clause-free
-find_renamed-rename_set-requires-clause-free g t c = new_is_free c.args.col.now c.args.to.now c.args.of.now c.requires.typed c.in_ok-names_of.field-0 c.in_ok-names_of.ensures
+find_renamed-rename_set-requires-clause-free g t c = new_is_free c.args.col.now c.args.to.now c.args.of.now c.requires.typed c.names_of.result.now c.names_of.ensures
 
 pub find_renamed-returns-clause-found : goal.find_renamed-returns-clause-found
 find_renamed-returns-clause-found g t c =
     let C = c.args.query.now.cols.now in
     let cols = names_are c.args.to.now c.args.col.now C c.in_ok-cols.cols c.in_ok-cols.ensures in
-    renamed_finds c.args.col.now c.args.to.now c.args.of.now c.requires.typed c.args.query.now.tables.now.present C c.requires.asked c.rename_set-2.result c.in_ok-cols.cols c.args.query.now.key.now c.in_ok-key.key c.in_ok-found.found
-    cols c.in_ok-key.ensures c.in_ok-found.ensures.found c.rename_set-2.ensures
+    renamed_finds c.args.col.now c.args.to.now c.args.of.now c.requires.typed c.args.query.now.tables.now.present C c.requires.asked c.rename_set.result c.in_ok-cols.cols c.args.query.now.key.now c.in_ok-key.key c.in_ok-found.found
+    cols c.in_ok-key.ensures c.in_ok-found.ensures.found c.rename_set.ensures
 
 -- ---- a join
 
@@ -137,7 +190,7 @@ find_from_left-pair_each-requires g t c κs within =
 pub find_from_left-returns-clause-found : goal.find_from_left-returns-clause-found
 find_from_left-returns-clause-found g t c =
     left_finds c.args._kind c.args.left.now c.args.right.now c.args.query.now.tables.now.present c.args.query.now.cols.now c.requires.typed c.requires.asked c.args.query.now.key.now c.in_ok-shared.shared c.in_ok-found.found c.rows.result.now c.in_ok-shared.ensures
-    c.rows.ensures c.new.result c.in_ok-pairs.pairs.items c.new.ensures c.in_ok-found.ensures.found c.in_ok-pairs.ensures.pairs
+    c.rows.ensures c.args.kept.now c.requires.kept c.new.result c.in_ok-pairs.pairs.items c.new.ensures c.in_ok-found.ensures.found c.in_ok-pairs.ensures.pairs
 
 pub find_from_right-find_by_part-requires : goal.find_from_right-find_by_part-requires
 find_from_right-find_by_part-requires g t c κs within =
@@ -158,33 +211,33 @@ find_from_right-pair_each-requires g t c κs within =
 pub find_from_right-returns-clause-found : goal.find_from_right-returns-clause-found
 find_from_right-returns-clause-found g t c =
     right_finds c.args._kind c.args.left.now c.args.right.now c.args.query.now.tables.now.present c.args.query.now.cols.now c.requires.typed c.requires.asked c.args.query.now.key.now c.in_ok-shared.shared c.in_ok-found.found c.rows.result.now c.in_ok-shared.ensures
-    c.rows.ensures c.new.result c.in_ok-pairs.pairs.items c.new.ensures c.in_ok-found.ensures.found c.in_ok-pairs.ensures.pairs
+    c.rows.ensures c.args.kept.now c.requires.kept c.new.result c.in_ok-pairs.pairs.items c.new.ensures c.in_ok-found.ensures.found c.in_ok-pairs.ensures.pairs
 
 pub find_joined-find_from_left-requires : goal.find_joined-find_from_left-requires
-find_joined-find_from_left-requires g t c κs within = (omega (arith, c.decreases), (within, (c.requires.typed, (c.requires.asked, (c.requires.key, sym c.shows_any.ensures ∙ c.if-shows_any.true)))))
+find_joined-find_from_left-requires g t c κs within = (omega (arith, c.decreases), (within, (c.requires.typed, (c.requires.kept, (c.requires.asked, (c.requires.key, sym (c.meets.ensures ∙ ap (share c.args.query.now.cols.now) c.names_of.ensures) ∙ c.if-meets.true))))))
 
 pub find_joined-find_from_right-requires : goal.find_joined-find_from_right-requires
-find_joined-find_from_right-requires g t c κs within = (omega (arith, c.decreases), (within, (c.requires.typed, (c.requires.asked, (c.requires.key, sym c.shows_any.ensures ∙ c.if-shows_any.false)))))
+find_joined-find_from_right-requires g t c κs within = (omega (arith, c.decreases), (within, (c.requires.typed, (c.requires.kept, (c.requires.asked, (c.requires.key, sym (c.meets.ensures ∙ ap (share c.args.query.now.cols.now) c.names_of.ensures) ∙ c.if-meets.false))))))
 
 -- ---- a part of the key
 
 pub find_by_part-find_in-requires : goal.find_by_part-find_in-requires
 find_by_part-find_in-requires g t c κs within =
-    let whole = whole_part c.args.query.now.cols.now (view_names c.args.side.now) (sym c.shows_all.ensures ∙ c.if-shows_all.true) in
+    let whole = whole_part c.args.query.now.cols.now (view_names c.args.side.now) (sym (c.within.ensures ∙ ap (set.is_subset c.args.query.now.cols.now) c.names_of.ensures) ∙ c.if-within.true) in
     (omega (arith, c.decreases), (within, (subst (MayFind c.args.side.now c.args.query.now.tables.now.present) whole c.requires.asked, c.requires.key)))
 
-pub find_by_part-returns-then-shows_all-clause-found : goal.find_by_part-returns-then-shows_all-clause-found
-find_by_part-returns-then-shows_all-clause-found g t c =
+pub find_by_part-returns-then-within-clause-found : goal.find_by_part-returns-then-within-clause-found
+find_by_part-returns-then-within-clause-found g t c =
     let C = c.args.query.now.cols.now in
     let U = view_names c.args.side.now in
     let N = get c.args.side.now c.args.query.now.tables.now.present.relations in
-    subst (λ M. IfOk c.find_in.result (λ found. found ≡ M)) (found_by_whole C U c.args.query.now.key.now N (whole_part C U (sym c.shows_all.ensures ∙ c.if-shows_all.true))) c.find_in.ensures.found
+    subst (λ M. IfOk c.find_in.result (λ found. found ≡ M)) (found_by_whole C U c.args.query.now.key.now N (whole_part C U (sym (c.within.ensures ∙ ap (set.is_subset c.args.query.now.cols.now) c.names_of.ensures) ∙ c.if-within.true))) c.find_in.ensures.found
 
 pub find_by_part-find_in-requires-2 : goal.find_by_part-find_in-requires-2
 find_by_part-find_in-requires-2 g t c κs within =
     let C = c.args.query.now.cols.now in
     let U = view_names c.args.side.now in
-    let part = c.in_ok-part.ensures ∙ ap (set.intersection C) c.in_ok-names_of.ensures in
+    let part = c.in_ok-part.ensures ∙ ap (set.intersection C) c.names_of-2.ensures in
     let key = key_is_over C U c.in_ok-part.part c.args.query.now.key.now c.in_ok-part_key.part_key c.requires.key part c.in_ok-part_key.ensures in
     (omega (arith, c.decreases), (within, (subst (MayFind c.args.side.now c.args.query.now.tables.now.present) (sym part) c.requires.asked, key)))
 
@@ -193,7 +246,7 @@ find_by_part-returns-clause-found g t c =
     let C = c.args.query.now.cols.now in
     let k = c.args.query.now.key.now in
     let N = get c.args.side.now c.args.query.now.tables.now.present.relations in
-    let part = c.in_ok-part.ensures ∙ ap (set.intersection C) c.in_ok-names_of.ensures in
+    let part = c.in_ok-part.ensures ∙ ap (set.intersection C) c.names_of-2.ensures in
     subst (λ M. IfOk c.find_in-2.result (λ found. found ≡ M)) (ap (λ q. find_by c.in_ok-part.part q N) c.in_ok-part_key.ensures ∙ ap (λ P. find_by P (restrict P k) N) part) c.find_in-2.ensures.found
 
 -- ---- the rows of the other side
@@ -204,7 +257,7 @@ pair_each-partners_of-requires g t c κs within =
 
 pub pair_each-loop-row-preserved : goal.pair_each-loop-row-preserved
 pair_each-loop-row-preserved g t c = (
-  next_pairs c.args.are_left c.args.shared.now c.args.query.now.cols.now c.args.query.now.key.now (get c.args.other.now c.args.query.now.tables.now.present.relations) c.args.rows.now c.loop-row.row-index c.row-item.result
+  next_pairs c.args.are_left c.args.shared.now c.args.kept.now c.args.query.now.cols.now c.args.query.now.key.now (get c.args.other.now c.args.query.now.tables.now.present.relations) c.args.rows.now c.loop-row.row-index c.row-item.result
       c.in_ok-partners.partners.rows c.rows.result.now c.loop-row.pairs.items c.add_pairs.new.pairs.items c.loop-row-test.true c.row-item.is c.in_ok-partners.ensures.rows c.rows.ensures c.loop-row.invariant.0 c.in_ok-add_pairs.ensures,
   c.in_ok-partners.ensures.partners,
   λ w few. next (size c.args.other.now w) c.loop-row.row-index c.args.looked.now c.loop-row.looked c.partners_of.new.looked (c.loop-row.invariant.2 w few) (c.partners_of.ensures.looks w few),
@@ -242,23 +295,16 @@ find_in-returns-in_err-found-in-Select-clause-looks g t c = λ w few.
     subst (λ n. c.find_in.new.looked ≤ c.args.looked.now + n) (selected_size c.args.lens.now c.deref.result.now c.in-Select.pred w is)
     (c.find_in.ensures.looks w (under_selected c.args.lens.now c.deref.result.now c.in-Select.pred c.args.query.now.tables.now.present c.args.query.now.cols.now w is c.lens.ensures.typed few))
 
-pub find_in-returns-in_err-found-in-Drop-clause-looks : goal.find_in-returns-in_err-found-in-Drop-clause-looks
-find_in-returns-in_err-found-in-Drop-clause-looks g t c = λ w few.
+pub find_in-returns-in-Drop-clause-looks : goal.find_in-returns-in-Drop-clause-looks
+find_in-returns-in-Drop-clause-looks g t c = λ w few.
     let is = (λ i. drop c.in-Drop.col c.in-Drop.by c.in-Drop.fill (c.deref-in-Drop.ensures i)) ∙ sym (ap lens_view c.in-Drop.is) ∙ c.lens.ensures.view in
-    subst (λ n. c.find_in-in-Drop.new.looked ≤ c.args.looked.now + n) (dropped_size c.args.lens.now c.deref-in-Drop.result.now c.in-Drop.col c.in-Drop.by c.in-Drop.fill w is)
-    (c.find_in-in-Drop.ensures.looks w (under_dropped c.args.lens.now c.deref-in-Drop.result.now c.in-Drop.col c.in-Drop.by c.in-Drop.fill c.args.query.now.tables.now.present c.args.query.now.cols.now w is c.lens.ensures.typed few))
+    subst (λ n. c.find_parts.new.looked ≤ c.args.looked.now + n) (dropped_size c.args.lens.now c.deref-in-Drop.result.now c.in-Drop.col c.in-Drop.by c.in-Drop.fill w is)
+    (c.find_parts.ensures.looks w (under_dropped c.args.lens.now c.deref-in-Drop.result.now c.in-Drop.col c.in-Drop.by c.in-Drop.fill c.args.query.now.tables.now.present c.args.query.now.cols.now w is c.lens.ensures.typed few))
 
-pub find_in-returns-in_err-kept-in-Drop-clause-looks : goal.find_in-returns-in_err-kept-in-Drop-clause-looks
-find_in-returns-in_err-kept-in-Drop-clause-looks g t c = λ w few.
-    let is = (λ i. drop c.in-Drop.col c.in-Drop.by c.in-Drop.fill (c.deref-in-Drop.ensures i)) ∙ sym (ap lens_view c.in-Drop.is) ∙ c.lens.ensures.view in
-    subst (λ n. c.find_in-in-Drop.new.looked ≤ c.args.looked.now + n) (dropped_size c.args.lens.now c.deref-in-Drop.result.now c.in-Drop.col c.in-Drop.by c.in-Drop.fill w is)
-    (c.find_in-in-Drop.ensures.looks w (under_dropped c.args.lens.now c.deref-in-Drop.result.now c.in-Drop.col c.in-Drop.by c.in-Drop.fill c.args.query.now.tables.now.present c.args.query.now.cols.now w is c.lens.ensures.typed few))
-
-pub find_in-returns-in_ok-kept-in-Drop-clause-looks : goal.find_in-returns-in_ok-kept-in-Drop-clause-looks
-find_in-returns-in_ok-kept-in-Drop-clause-looks g t c = λ w few.
-    let is = (λ i. drop c.in-Drop.col c.in-Drop.by c.in-Drop.fill (c.deref-in-Drop.ensures i)) ∙ sym (ap lens_view c.in-Drop.is) ∙ c.lens.ensures.view in
-    subst (λ n. c.find_in-in-Drop.new.looked ≤ c.args.looked.now + n) (dropped_size c.args.lens.now c.deref-in-Drop.result.now c.in-Drop.col c.in-Drop.by c.in-Drop.fill w is)
-    (c.find_in-in-Drop.ensures.looks w (under_dropped c.args.lens.now c.deref-in-Drop.result.now c.in-Drop.col c.in-Drop.by c.in-Drop.fill c.args.query.now.tables.now.present c.args.query.now.cols.now w is c.lens.ensures.typed few))
+pub find_parts-returns-in-Join-clause-looks : goal.find_parts-returns-in-Join-clause-looks
+find_parts-returns-in-Join-clause-looks g t c = λ w few.
+    let is = (λ i. join c.in-Join.kind (c.deref.ensures i) (c.deref-in-Join.ensures i)) ∙ sym (ap lens_view c.in-Join.is) ∙ c.lens.ensures.view in
+    subst (λ L. c.find_joined.new.looked ≤ c.args.looked.now + size L w) is (c.find_joined.ensures.looks w (subst (λ L. FindsWithin L c.args.query.now.tables.now.present c.args.query.now.cols.now w) (sym is) few))
 
 pub find_in-returns-in-Join-clause-looks : goal.find_in-returns-in-Join-clause-looks
 find_in-returns-in-Join-clause-looks g t c = λ w few.
@@ -267,16 +313,6 @@ find_in-returns-in-Join-clause-looks g t c = λ w few.
 
 pub find_renamed-returns-in_err-found-clause-looks : goal.find_renamed-returns-in_err-found-clause-looks
 find_renamed-returns-in_err-found-clause-looks g t c = λ w few.
-    let A = c.args.col.now in
-    let B = c.args.to.now in
-    let S = c.args.of.now in
-    let C = c.args.query.now.cols.now in
-    let cols = names_are B A C c.in_ok-cols.cols c.in_ok-cols.ensures in
-    subst (λ n. c.find_in.new.looked ≤ c.args.looked.now + n) (rename_size A B S c.requires.typed w)
-    (c.find_in.ensures.looks w (old_finds A B S c.requires.typed c.args.query.now.tables.now.present C c.in_ok-cols.cols w cols few))
-
-pub find_renamed-returns-in_err-names_of-clause-looks : goal.find_renamed-returns-in_err-names_of-clause-looks
-find_renamed-returns-in_err-names_of-clause-looks g t c = λ w few.
     let A = c.args.col.now in
     let B = c.args.to.now in
     let S = c.args.of.now in
@@ -339,14 +375,14 @@ find_from_right-returns-clause-looks g t c = λ w few.
     (c.find_by_part.ensures.looks w (right_part c.args._kind c.args.left.now c.args.right.now c.args.query.now.tables.now.present c.args.query.now.cols.now w c.requires.typed few c.requires.meets))
     (c.pair_each.ensures.looks w (left_shared c.args._kind c.args.left.now c.args.right.now c.args.query.now.tables.now.present c.args.query.now.cols.now w c.requires.typed few c.in_ok-shared.shared c.in_ok-shared.ensures))
 
-pub find_by_part-returns-then-shows_all-clause-looks : goal.find_by_part-returns-then-shows_all-clause-looks
-find_by_part-returns-then-shows_all-clause-looks g t c = λ w few.
-    let whole = whole_part c.args.query.now.cols.now (view_names c.args.side.now) (sym c.shows_all.ensures ∙ c.if-shows_all.true) in
+pub find_by_part-returns-then-within-clause-looks : goal.find_by_part-returns-then-within-clause-looks
+find_by_part-returns-then-within-clause-looks g t c = λ w few.
+    let whole = whole_part c.args.query.now.cols.now (view_names c.args.side.now) (sym (c.within.ensures ∙ ap (set.is_subset c.args.query.now.cols.now) c.names_of.ensures) ∙ c.if-within.true) in
     c.find_in.ensures.looks w (subst (λ P. FindsWithin c.args.side.now c.args.query.now.tables.now.present P w) whole few)
 
 pub find_by_part-returns-clause-looks : goal.find_by_part-returns-clause-looks
 find_by_part-returns-clause-looks g t c = λ w few.
-    let part = c.in_ok-part.ensures ∙ ap (set.intersection c.args.query.now.cols.now) c.in_ok-names_of.ensures in
+    let part = c.in_ok-part.ensures ∙ ap (set.intersection c.args.query.now.cols.now) c.names_of-2.ensures in
     c.find_in-2.ensures.looks w (subst (λ P. FindsWithin c.args.side.now c.args.query.now.tables.now.present P w) (sym part) few)
 
 pub pair_each-returns-in_err-partners-clause-looks : goal.pair_each-returns-in_err-partners-clause-looks

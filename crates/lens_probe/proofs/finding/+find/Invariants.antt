@@ -9,6 +9,9 @@ use Rattle.lens_probe.proofs.finding.+find.Given as goal
 abbrev pub decreases-find_in : goal.decreases-find_in
 decreases-find_in g l = 5 * nodes_of l.lens.now
 
+abbrev pub decreases-find_parts : goal.decreases-find_parts
+decreases-find_parts g l = 5 * nodes_of l.lens.now + 4
+
 abbrev pub decreases-find_renamed : goal.decreases-find_renamed
 decreases-find_renamed g l = 5 * nodes_of l.of.now + 1
 
@@ -33,6 +36,6 @@ decreases-partners_of g l = 5 * nodes_of l.other.now + 1
 abbrev pub invariant-pair_each-loop-row : goal.invariant-pair_each-loop-row
 invariant-pair_each-loop-row g l =
     let N = get l.other l.query.tables.now.present.relations in
-    (l.pairs.items ≡ pairs_of l.are_left l.shared l.query.cols.now l.query.key.now N (take l.row-index l.rows))
+    (l.pairs.items ≡ pairs_of l.are_left l.shared l.kept l.query.cols.now l.query.key.now N (take l.row-index l.rows))
     × IfSome l.last (ArePartners l.shared N)
     × ((w : ℕ) → FindsWithin l.other l.query.tables.now.present l.shared w → l.looked ≤ l.initial.looked + size l.other w * l.row-index)

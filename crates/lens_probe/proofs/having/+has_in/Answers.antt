@@ -94,13 +94,13 @@ returns-in_ok-old_row-in-Rename-clause-there g t c =
 pub has_in-requires-in-Join : goal.has_in-requires-in-Join
 has_in-requires-in-Join g t c κs within =
     let is = (λ i. join c.in-Join.kind (c.deref-in-Join-2.ensures i) c.in-Join.right.value) ∙ sym (ap lens_view c.in-Join.is) ∙ c.lens.ensures.view in
-    let cols = c.in_ok-names_of-in-Join.ensures ∙ ap view_names (c.deref-in-Join.ensures ∙ sym c.deref-in-Join-2.ensures) in (
+    let cols = c.names_of.ensures ∙ ap view_names (c.deref-in-Join.ensures ∙ sym c.deref-in-Join-2.ensures) in (
       omega (arith, c.decreases, ap nodes_of is),
       (
         within,
         (
           left_of_join c.in-Join.kind c.args.lens.now c.deref-in-Join-2.result.now c.in-Join.right.value c.args.tables.now.present is c.lens.ensures.typed c.requires.may,
-          left_part_fits c.in-Join.kind c.args.lens.now c.deref-in-Join-2.result.now c.in-Join.right.value c.args.row.now c.in_ok-left_row-in-Join.left_row c.in_ok-names_of-in-Join.field-0 is c.lens.ensures.typed c.requires.fits cols c.in_ok-left_row-in-Join.ensures,
+          left_part_fits c.in-Join.kind c.args.lens.now c.deref-in-Join-2.result.now c.in-Join.right.value c.args.row.now c.in_ok-left_row-in-Join.left_row c.names_of.result.now is c.lens.ensures.typed c.requires.fits cols c.in_ok-left_row-in-Join.ensures,
         ),
       ),
     )
@@ -108,13 +108,13 @@ has_in-requires-in-Join g t c κs within =
 pub has_in-requires-in-Join-2 : goal.has_in-requires-in-Join-2
 has_in-requires-in-Join-2 g t c κs within =
     let is = (λ i. join c.in-Join.kind c.in-Join.left.value (c.deref-in-Join-4.ensures i)) ∙ sym (ap lens_view c.in-Join.is) ∙ c.lens.ensures.view in
-    let cols = c.in_ok-names_of-in-Join-2.ensures ∙ ap view_names (c.deref-in-Join-3.ensures ∙ sym c.deref-in-Join-4.ensures) in (
+    let cols = c.names_of-in-Join.ensures ∙ ap view_names (c.deref-in-Join-3.ensures ∙ sym c.deref-in-Join-4.ensures) in (
       omega (arith, c.decreases, ap nodes_of is),
       (
         within,
         (
           right_of_join c.in-Join.kind c.args.lens.now c.in-Join.left.value c.deref-in-Join-4.result.now c.args.tables.now.present is c.lens.ensures.typed c.requires.may,
-          right_part_fits c.in-Join.kind c.args.lens.now c.in-Join.left.value c.deref-in-Join-4.result.now c.args.row.now c.in_ok-right_row-in-Join.right_row c.in_ok-names_of-in-Join-2.field-0 is c.lens.ensures.typed c.requires.fits cols
+          right_part_fits c.in-Join.kind c.args.lens.now c.in-Join.left.value c.deref-in-Join-4.result.now c.args.row.now c.in_ok-right_row-in-Join.right_row c.names_of-in-Join.result.now is c.lens.ensures.typed c.requires.fits cols
               c.in_ok-right_row-in-Join.ensures,
         ),
       ),
@@ -123,8 +123,8 @@ has_in-requires-in-Join-2 g t c κs within =
 pub returns-then-not-branch-clause-there : goal.returns-then-not-branch-clause-there
 returns-then-not-branch-clause-there g t c =
     let is = (λ i. join c.in-Join.kind (c.deref-in-Join-2.ensures i) c.in-Join.right.value) ∙ sym (ap lens_view c.in-Join.is) ∙ c.lens.ensures.view in
-    let cols = c.in_ok-names_of-in-Join.ensures ∙ ap view_names (c.deref-in-Join.ensures ∙ sym c.deref-in-Join-2.ensures) in
-    join_lacks c.in-Join.kind c.args.lens.now c.deref-in-Join-2.result.now c.in-Join.right.value c.args.tables.now.present c.args.row.now c.in_ok-left_row-in-Join.left_row c.in_ok-names_of-in-Join.field-0 is c.lens.ensures.typed c.requires.may
+    let cols = c.names_of.ensures ∙ ap view_names (c.deref-in-Join.ensures ∙ sym c.deref-in-Join-2.ensures) in
+    join_lacks c.in-Join.kind c.args.lens.now c.deref-in-Join-2.result.now c.in-Join.right.value c.args.tables.now.present c.args.row.now c.in_ok-left_row-in-Join.left_row c.names_of.result.now is c.lens.ensures.typed c.requires.may
     c.requires.fits cols c.in_ok-left_row-in-Join.ensures (sym c.if-not-branch.true ∙ c.in_ok-has_in-in-Join.ensures.there)
 
 pub returns-in_ok-right_row-in-Join-clause-there : goal.returns-in_ok-right_row-in-Join-clause-there
@@ -133,10 +133,10 @@ returns-in_ok-right_row-in-Join-clause-there g t c =
     let B = c.deref-in-Join-4.result.now in
     let st = c.args.tables.now.present in
     let is = (λ i. join c.in-Join.kind (c.deref-in-Join-2.ensures i) (c.deref-in-Join-4.ensures i)) ∙ sym (ap lens_view c.in-Join.is) ∙ c.lens.ensures.view in
-    let left = c.in_ok-names_of-in-Join.ensures ∙ ap view_names (c.deref-in-Join.ensures ∙ sym c.deref-in-Join-2.ensures) in
-    let right = c.in_ok-names_of-in-Join-2.ensures ∙ ap view_names (c.deref-in-Join-3.ensures ∙ sym c.deref-in-Join-4.ensures) in
+    let left = c.names_of.ensures ∙ ap view_names (c.deref-in-Join.ensures ∙ sym c.deref-in-Join-2.ensures) in
+    let right = c.names_of-in-Join.ensures ∙ ap view_names (c.deref-in-Join-3.ensures ∙ sym c.deref-in-Join-4.ensures) in
     subst (λ b. IfOk c.has_in-in-Join-2.result (λ there. there ≡ b))
-    (join_has c.in-Join.kind c.args.lens.now A B st c.args.row.now c.in_ok-left_row-in-Join.left_row c.in_ok-right_row-in-Join.right_row c.in_ok-names_of-in-Join.field-0 c.in_ok-names_of-in-Join-2.field-0
+    (join_has c.in-Join.kind c.args.lens.now A B st c.args.row.now c.in_ok-left_row-in-Join.left_row c.in_ok-right_row-in-Join.right_row c.names_of.result.now c.names_of-in-Join.result.now
     (has (get B st.relations) c.in_ok-right_row-in-Join.right_row) is c.lens.ensures.typed c.requires.may c.requires.fits left right c.in_ok-left_row-in-Join.ensures c.in_ok-right_row-in-Join.ensures
     (sym c.if-not-branch.false ∙ c.in_ok-has_in-in-Join.ensures.there) refl)
     c.has_in-in-Join-2.ensures.there
@@ -183,12 +183,6 @@ returns-in_err-has_in-in-Join-clause-looks g t c = λ w few.
 
 pub returns-then-not-branch-clause-looks : goal.returns-then-not-branch-clause-looks
 returns-then-not-branch-clause-looks g t c = λ w few.
-    let is = (λ i. join c.in-Join.kind (c.deref-in-Join-2.ensures i) c.in-Join.right.value) ∙ sym (ap lens_view c.in-Join.is) ∙ c.lens.ensures.view in
-    left_alone c.in-Join.kind c.args.lens.now c.deref-in-Join-2.result.now c.in-Join.right.value w c.args.looked.now c.has_in-in-Join.new.looked is
-    (c.has_in-in-Join.ensures.looks w (look_left c.in-Join.kind c.args.lens.now c.deref-in-Join-2.result.now c.in-Join.right.value c.args.tables.now.present w is c.lens.ensures.typed few))
-
-pub returns-in_err-names_of-in-Join-2-clause-looks : goal.returns-in_err-names_of-in-Join-2-clause-looks
-returns-in_err-names_of-in-Join-2-clause-looks g t c = λ w few.
     let is = (λ i. join c.in-Join.kind (c.deref-in-Join-2.ensures i) c.in-Join.right.value) ∙ sym (ap lens_view c.in-Join.is) ∙ c.lens.ensures.view in
     left_alone c.in-Join.kind c.args.lens.now c.deref-in-Join-2.result.now c.in-Join.right.value w c.args.looked.now c.has_in-in-Join.new.looked is
     (c.has_in-in-Join.ensures.looks w (look_left c.in-Join.kind c.args.lens.now c.deref-in-Join-2.result.now c.in-Join.right.value c.args.tables.now.present w is c.lens.ensures.typed few))

@@ -9,8 +9,8 @@ use Rattle.lens_server.proofs.questions.found_told.Goals as goal
 
 pub returns-in_err-found-clause-walked : goal.returns-in_err-found-clause-walked
 returns-in_err-found-clause-walked g c =
-    read_few c.args.store.now c.args.lens.now c.view_of-view.result.lens c.view_of-view.result.tables c.args.walked.now c.find_rows.new.walked c.requires
-    c.view_of-view.ensures.lens c.view_of-view.ensures.tables c.find_rows.ensures.walks
+    read_few c.args.database.now c.args.lens.now c.view_of-view.result.lens c.view_of-view.result.tables c.args.walked.now c.find_rows.new.walked c.requires
+    c.view_of-view.ensures.lens c.view_of-view.ensures.tables (c.find_rows.ensures.walks_on, c.find_rows.ensures.walks)
 
 pub returns-in_err-found-clause-by_key : goal.returns-in_err-found-clause-by_key
 returns-in_err-found-clause-by_key g c = λ yes. c.find_rows.ensures.by_key (subst (λ L. is_left_side (one c.args.column.now) (sort_of L).tree ≡ true) (sym c.view_of-view.ensures.lens) yes)
@@ -19,7 +19,7 @@ pub returns-in_err-found-clause-looked : goal.returns-in_err-found-clause-looked
 returns-in_err-found-clause-looked g c =
     let L = c.args.lens.now in
     let b = is_left_side (one c.args.column.now) (sort_of L).tree in
-    let w = fan L c.args.store.now.tables.present.relations in
+    let w = fan L c.args.database.now.tables.present.relations in
     let old = c.args.looked.now in let new = c.find_rows.new.looked in
     found_within b (size L w) old new
     (subst (λ M. new ≤ old + size M w) c.view_of-view.ensures.lens (c.find_rows.ensures.looks w c.view_of-view.ensures.finds))
@@ -27,8 +27,8 @@ returns-in_err-found-clause-looked g c =
 
 pub returns-clause-walked : goal.returns-clause-walked
 returns-clause-walked g c =
-    read_few c.args.store.now c.args.lens.now c.view_of-view.result.lens c.view_of-view.result.tables c.args.walked.now c.find_rows.new.walked c.requires
-    c.view_of-view.ensures.lens c.view_of-view.ensures.tables c.find_rows.ensures.walks
+    read_few c.args.database.now c.args.lens.now c.view_of-view.result.lens c.view_of-view.result.tables c.args.walked.now c.find_rows.new.walked c.requires
+    c.view_of-view.ensures.lens c.view_of-view.ensures.tables (c.find_rows.ensures.walks_on, c.find_rows.ensures.walks)
 
 pub returns-clause-by_key : goal.returns-clause-by_key
 returns-clause-by_key g c = λ yes. c.find_rows.ensures.by_key (subst (λ L. is_left_side (one c.args.column.now) (sort_of L).tree ≡ true) (sym c.view_of-view.ensures.lens) yes)
@@ -37,7 +37,7 @@ pub returns-clause-looked : goal.returns-clause-looked
 returns-clause-looked g c =
     let L = c.args.lens.now in
     let b = is_left_side (one c.args.column.now) (sort_of L).tree in
-    let w = fan L c.args.store.now.tables.present.relations in
+    let w = fan L c.args.database.now.tables.present.relations in
     let old = c.args.looked.now in let new = c.find_rows.new.looked in
     found_within b (size L w) old new
     (subst (λ M. new ≤ old + size M w) c.view_of-view.ensures.lens (c.find_rows.ensures.looks w c.view_of-view.ensures.finds))

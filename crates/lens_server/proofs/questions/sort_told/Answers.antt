@@ -13,4 +13,4 @@ returns c =
     let tree : c.new.result ≡ (sort_of L).tree = c.new.ensures ∙ c.in_ok-copied.ensures ∙ c.edges.ensures ∙ c.tree.ensures.value ∙ ap (λ s. s.tree) sort in
     let predicate : conjuncts_view c.in_ok-formulas.field-0 ≡ (sort_of L).predicate =
     c.in_ok-formulas.ensures ∙ c.conjuncts.ensures.list ∙ c.pred.ensures.value ∙ ap (λ s. s.predicate) sort in
-    (λ i. described (columns i) (tree i) (predicate i) (c.in_ok-tables.ensures i) c.args.store.now.version)
+    (λ i. described (columns i) (tree i) (predicate i) (c.in_ok-tables.ensures i) c.args.database.now.version)

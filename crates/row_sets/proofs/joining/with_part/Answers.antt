@@ -9,17 +9,24 @@ use Rattle.row_sets.proofs.Groups.{Ascend, group_is, lower_first, no_higher_firs
 use Rattle.row_sets.proofs.Pairs.{parts_ascend}
 use Rattle.row_sets.proofs.joining.with_part.Goals as goal
 
+pub not_above-count-requires : goal.not_above-count-requires
+not_above-count-requires c =
+    let index = c.args.index.now in
+    let part = c.args.part.now in
+    let start = c.partition_point-start.result in
+    let up : Ascend row_cmp_total (λ e. e.0) index = parts_ascend index c.requires in
+    let rest : take (length index - start) (drop start index) ≡ drop start index = part_is index start in
+    no_higher_first row_cmp_total (λ e. e.0) _ part (subst (Ascend row_cmp_total (λ e. e.0)) (sym rest) (rest_ascends row_cmp_total (λ e. e.0) index start c.partition_point-start.ensures.bound up))
+
 pub returns : goal.returns
 returns c =
     let index = c.args.index.now in
     let part = c.args.part.now in
     let start = c.partition_point-start.result in
-    let count = c.partition_point-count.result in
+    let count = c.not_above-count.result in
     let up : Ascend row_cmp_total (λ e. e.0) index = parts_ascend index c.requires in
     let rest : take (length index - start) (drop start index) ≡ drop start index = part_is index start in
     ap (take count) rest
-    ∙ group_is row_cmp_total (λ e. e.0) index part start count c.partition_point-start.ensures.bound (subst (λ l. count ≤ length l) rest c.partition_point-count.ensures.bound)
+    ∙ group_is row_cmp_total (λ e. e.0) index part start count c.partition_point-start.ensures.bound (subst (λ l. count ≤ length l) rest c.not_above-count.ensures.bound)
     (c.partition_point-start.ensures.partitioned (λ e. is_lt (row_cmp e.0 part)) (always_returns_same _ _ _ (λ a r f k. search (rules, of_calls))) (lower_first row_cmp_total (λ e. e.0) index part up))
-    (subst (λ l. IsPartitionPoint (λ e. is_le (row_cmp e.0 part) ≡ true) (λ e. is_le (row_cmp e.0 part) ≡ false) l count) rest
-    (c.partition_point-count.ensures.partitioned (λ e. is_le (row_cmp e.0 part)) (always_returns_same _ _ _ (λ a r f k. search (rules, of_calls)))
-    (no_higher_first row_cmp_total (λ e. e.0) _ part (subst (Ascend row_cmp_total (λ e. e.0)) (sym rest) (rest_ascends row_cmp_total (λ e. e.0) index start c.partition_point-start.ensures.bound up)))))
+    (subst (λ l. IsPartitionPoint (λ e. is_le (row_cmp e.0 part) ≡ true) (λ e. is_le (row_cmp e.0 part) ≡ false) l count) rest c.not_above-count.ensures.partitioned)

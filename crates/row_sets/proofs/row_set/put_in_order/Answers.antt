@@ -9,6 +9,11 @@ pub returns-then-rise-clause-members : goal.returns-then-rise-clause-members
 returns-then-rise-clause-members c row =
     moved_alike row_cmp_total c.args.rows.items _ c.order_nearly.new.rows _ c.deref_mut.ensures.value c.order_nearly.ensures.rows (take_at c.order_nearly.new.rows _ c.args.rows.len (c.order_nearly.ensures.len ∙ c.deref_mut.ensures.len)) row
 
+pub returns-then-ascend-clause-members : goal.returns-then-ascend-clause-members
+returns-then-ascend-clause-members c row =
+    c.each_once.ensures.members row
+    ∙ moved_alike row_cmp_total c.args.rows.items _ c.order_nearly.new.rows _ c.deref_mut.ensures.value c.order_nearly.ensures.rows (take_at c.order_nearly.new.rows _ c.args.rows.len (c.order_nearly.ensures.len ∙ c.deref_mut.ensures.len)) row
+
 pub returns-clause-members : goal.returns-clause-members
 returns-clause-members c =
     IfOk-weaker c.sorted.result _ _ (λ rows members row.

@@ -14,12 +14,18 @@ use Rattle.select_delta.proofs.Carried.{added_fit, apart, carried, is_difference
 use Rattle.select_delta.proofs.Counted.{looks_are}
 use Rattle.select_delta.proofs.editing.select_delta.Goals as goal
 
-pub revise_touched-requires-clause-fit : goal.revise_touched-requires-clause-fit
-revise_touched-requires-clause-fit g c = λ row there.
+pub revise_touched-requires : goal.revise_touched-requires
+revise_touched-requires g c =
     let R = g.S.Look.relation c.args.source.now in
     let q = c.requires in
-    added_fit R.columns c.args.tree.now c.args.pred.now R.rows c.args.delta.now c.is_tree.ensures c.rows_fit.ensures q.meets q.applies q.view row
-    (ap (λ N. has N row) (sym c.add.ensures) ∙ there)
+    record {
+      asked = q.asked;
+      columns = q.columns;
+      meets = q.meets;
+      fit = λ row there.
+          added_fit R.columns c.args.tree.now c.args.pred.now R.rows c.args.delta.now c.is_tree.ensures c.rows_fit.ensures q.meets q.applies q.view row
+          (ap (λ N. has N row) (sym c.add.ensures) ∙ there);
+    }
 
 pub new-requires : goal.new-requires
 new-requires g c =

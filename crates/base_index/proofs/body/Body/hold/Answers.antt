@@ -1,7 +1,8 @@
 use Rattle.std.proofs.Common.{ap, ◌∙◌}
 use Rattle.std.specs.Prelude.{Some}
 use Rattle.base_index.specs.Parts.{parts_of}
-use Rattle.base_index.proofs.Bodies.{holding_held, holding_whole}
+use Rattle.base_index.proofs.Settled.{holding_held}
+use Rattle.base_index.proofs.Settled.{holding_whole}
 use Rattle.base_index.proofs.body.Body.hold.Goals as goal
 
 pub returns-clause-whole : goal.returns-clause-whole

@@ -52,3 +52,17 @@ returns-clause-next c =
 
 pub returns-clause-kept : goal.returns-clause-kept
 returns-clause-kept c = kept_twice _ _ _ c.in_ok-hide_each.ensures.kept c.add_each.ensures.kept
+
+pub add_first-requires-clause-fits : goal.add_first-requires-clause-fits
+add_first-requires-clause-fits c = λ row there.
+    subst (λ d. Fits d row) (sym c.in_ok-hide_each.ensures.kept.columns) (c.requires.fits row (ap (λ s. has s row) (sym c.add-then-count-eq0.ensures) ∙ there))
+
+pub returns-then-count-eq0-clause-next : goal.returns-then-count-eq0-clause-next
+returns-then-count-eq0-clause-next c =
+    let gone : set_of c.rows-remove.result.now ≡ c.args.delta.now.remove =
+    ap set_of (c.rows-remove.ensures ∙ ap set.items c.remove.ensures) ∙ listed_whole c.args.delta.now.remove in
+    on_ok c.add_first.result (λ is. is ∙ (λ i. set.union ((c.in_ok-hide_each.ensures.next ∙ (λ j. set.difference (c.requires.quiet j) (gone j))) i) (c.add-then-count-eq0.ensures i))
+    ∙ changed_next (rows_seen (parts_of c.args.self.now)) c.args.delta.now) c.add_first.ensures.next
+
+pub returns-then-count-eq0-clause-kept : goal.returns-then-count-eq0-clause-kept
+returns-then-count-eq0-clause-kept c = kept_twice _ _ _ c.in_ok-hide_each.ensures.kept c.add_first.ensures.kept

@@ -1,6 +1,6 @@
 use Rattle.std.proofs.Common.{ap, arith}
 use Rattle.lens_specs.specs.Relation.{has}
-use Rattle.base_index.proofs.Bodies.{none_behind, none_back_of}
+use Rattle.base_index.proofs.Fronts.{none_behind, none_back_of}
 use Rattle.base_index.proofs.Listed.{never}
 use Rattle.base_index.proofs.RowSets.{contained, same_rows}
 use Rattle.base_index.proofs.Whole.{no_indexes, none_keyed}
@@ -8,20 +8,21 @@ use Rattle.base_index.proofs.body.Body.new.Goals as goal
 
 pub returns-clause-body : goal.returns-clause-body
 returns-clause-body c = record {
-  index = no_indexes c.new.result c.new-3.result.items c.new-3.ensures.items;
+  index = no_indexes c.new.result c.new-4.result.items c.new-4.ensures.items;
   fits = λ x there. let e = ap (λ s. has s x) c.new.ensures in absurd (never (grind (arith, contained, e, there)));
-  add = none_keyed c.new-3.result.items c.new-4.result.items c.new-4.ensures.items;
-  remove = none_keyed c.new-3.result.items c.new-5.result.items c.new-5.ensures.items;
+  add = none_keyed c.new-4.result.items c.new-5.result.items c.new-5.ensures.items;
+  remove = none_keyed c.new-4.result.items c.new-6.result.items c.new-6.ensures.items;
   added = omega arith;
   removed = omega arith;
   hidden_there = λ x there. let e = ap (λ s. has s x) c.new-2.ensures in grind (arith, contained, e, there);
   hidden_old = λ x there. let e = ap (λ s. has s x) c.new-2.ensures in grind (arith, contained, e, there);
   hidden_listed = λ x there. let e = ap (λ s. has s x) c.new-2.ensures in grind (arith, contained, e, there);
-  going_there = λ x there. grind (arith, there, none_behind c.new-5.result.items 0 x (omega arith));
-  going_old = λ x there. grind (arith, there, none_behind c.new-5.result.items 0 x (omega arith));
-  going_hidden = λ _ x there. grind (arith, there, none_behind c.new-5.result.items 0 x (omega arith));
-  back_hidden = λ x there. grind (arith, there, none_back_of c.new-6.result.items x c.new-6.ensures.items);
-  back_stays = λ x there. grind (arith, there, none_back_of c.new-6.result.items x c.new-6.ensures.items);
+  hidden_marked = λ x there. let e = ap (λ s. has s x) c.new-2.ensures in absurd (never (grind (arith, contained, e, there)));
+  going_there = λ x there. grind (arith, there, none_behind c.new-6.result.items 0 x (omega arith));
+  going_old = λ x there. grind (arith, there, none_behind c.new-6.result.items 0 x (omega arith));
+  going_hidden = λ _ x there. grind (arith, there, none_behind c.new-6.result.items 0 x (omega arith));
+  back_hidden = λ x there. grind (arith, there, none_back_of c.new-7.result.items x c.new-7.ensures.items);
+  back_stays = λ x there. grind (arith, there, none_back_of c.new-7.result.items x c.new-7.ensures.items);
   free = λ _. record { hidden = c.new-2.ensures; added = omega arith; removed = omega arith };
 }
 

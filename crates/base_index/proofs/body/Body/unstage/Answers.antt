@@ -1,6 +1,7 @@
 use Rattle.std.proofs.Common.{sym, ◌∙◌, subst}
 use Rattle.base_index.specs.Parts.{IsWhole, parts_of, rows_held, rows_next, rows_seen}
-use Rattle.base_index.proofs.Bodies.{dropped, dropped_held, dropped_next, dropped_seen, dropped_whole, kept_itself}
+use Rattle.base_index.proofs.Bodies.{kept_itself}
+use Rattle.base_index.proofs.Staging.{dropped, dropped_held, dropped_next, dropped_seen, dropped_whole}
 use Rattle.base_index.proofs.body.Body.unstage.Goals as goal
 
 pub returns-clause-whole : goal.returns-clause-whole

@@ -4,7 +4,8 @@ use Rattle.std.specs.Prelude.{Some}
 use Rattle.base_index.specs.Held.{Held}
 use Rattle.base_index.specs.HeldFields.{held_in, next_in, present_in}
 use Rattle.base_index.specs.Several.{AreApart, AreHeld, AreIndexed, AreQuiet, holding, names_of}
-use Rattle.base_index.proofs.Fields.{all_quiet, free_part, front_count, front_held, held_holding, holding_held, holding_same, names_holding, next_holding, next_unstaged, present_holding, present_unstaged, unstaged_apart, unstaged_held, unstaged_same_indexes}
+use Rattle.base_index.proofs.Fields.{all_quiet, front_count, next_unstaged, present_unstaged, unstaged_apart}
+use Rattle.base_index.proofs.Holding.{free_part, front_held, held_holding, holding_held, holding_same, names_holding, next_holding, present_holding, unstaged_held, unstaged_same_indexes}
 use Rattle.base_index.proofs.tables.Tables.hold.Goals as goal
 
 pub hold_each-requires-clause-quiet : goal.hold_each-requires-clause-quiet

@@ -9,7 +9,7 @@ use Rattle.lens_values.specs.Row.{row_cmp}
 use Rattle.lens_values.specs.declared.row.Row.{Row}
 use Rattle.row_sets.specs.Members.{is_in}
 use Rattle.lens_probe.specs.KnownRows.{marked}
-use Rattle.lens_probe.specs.Untested.{passes}
+use Rattle.lens_probe.specs.Unfiltered.{passes}
 use Rattle.lens_probe.proofs.PartLists.{image_more, none_marked, passing_more, passing_same}
 use Rattle.lens_probe.proofs.differing.Parts.of.Goals as goal
 
@@ -29,7 +29,7 @@ pub loop-row-preserved-in_ok-add : goal.loop-row-preserved-in_ok-add
 loop-row-preserved-in_ok-add c =
     let known = c.args.known.now in
     let part : Row → Row = restrict c.args.cols.now in
-    let test : Row → Bool = passes (option_map (λ p. p.now) c.args.untested.pred) in
+    let test : Row → Bool = passes (option_map (λ p. p.now) c.args.unfiltered.pred) in
     let before = c.loop-row.yielded in
     let r = c.in-Some.row in
     record {
@@ -45,7 +45,7 @@ loop-row-preserved-in_ok-add c =
 pub loop-row-preserved : goal.loop-row-preserved
 loop-row-preserved c =
     let part : Row → Row = restrict c.args.cols.now in
-    let test : Row → Bool = passes (option_map (λ p. p.now) c.args.untested.pred) in
+    let test : Row → Bool = passes (option_map (λ p. p.now) c.args.unfiltered.pred) in
     let before = c.loop-row.yielded in
     let r = c.in-Some.row in
     record {

@@ -3,11 +3,11 @@ use Rattle.std.specs.Prelude.{option_map}
 use Rattle.std.specs.Vec.Iter.{into_iter_items}
 use Rattle.lens_values.specs.Part.{restrict}
 use Rattle.lens_probe.specs.KnownRows.{AreParts}
-use Rattle.lens_probe.specs.Untested.{passes}
+use Rattle.lens_probe.specs.Unfiltered.{passes}
 use Rattle.lens_probe.proofs.differing.Parts.of.Given as goal
 
 abbrev pub invariant-loop-row : goal.invariant-loop-row
 invariant-loop-row l = record {
-  seam : l.fn.untested.rows.items ≡ l.yielded ++ into_iter_items l.row-iterator;
-  parts : AreParts l.known l.parts (map (restrict l.cols) (filter (passes (option_map (λ p. p.now) l.fn.untested.pred)) l.yielded));
+  seam : l.fn.unfiltered.rows.items ≡ l.yielded ++ into_iter_items l.row-iterator;
+  parts : AreParts l.known l.parts (map (restrict l.cols) (filter (passes (option_map (λ p. p.now) l.fn.unfiltered.pred)) l.yielded));
 }

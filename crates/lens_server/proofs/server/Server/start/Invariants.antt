@@ -1,4 +1,4 @@
 use Rattle.lens_server.proofs.server.Server.start.Given as goal
 
-abbrev pub ghosts-store_counted : goal.ghosts-store_counted
-ghosts-store_counted g a = record { name = a.blank.name; parts = a.blank.parts }
+abbrev pub ghosts-database_counted : goal.ghosts-database_counted
+ghosts-database_counted g a = record { name = a.blank.name; parts = a.blank.parts }

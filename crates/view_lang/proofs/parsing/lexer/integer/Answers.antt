@@ -21,3 +21,8 @@ pub returns-clause-value : goal.returns-clause-value
 returns-clause-value c =
     let text = c.args.text.now in
     integer_front text c.requires.begins c.requires.no_arrow c.digit_len-len.result (digits_behind text c.digit_len-len.result c.digit_len-len.ensures) (Some c.in_ok-integer_token.field-0) c.in_ok-integer_token.ensures
+
+pub returns-clause-within : goal.returns-clause-within
+returns-clause-within c =
+    let text = c.args.text.now in
+    (omega arith, integer_within text c.requires.begins c.digit_len-len.result (digits_behind text c.digit_len-len.result c.digit_len-len.ensures))

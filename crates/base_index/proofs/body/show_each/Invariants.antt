@@ -1,7 +1,0 @@
-use Rattle.std.proofs.Common.{◌≡◌, take}
-use Rattle.lens_values.specs.SortedSet as set
-use Rattle.base_index.specs.Lists.{set_of}
-use Rattle.base_index.proofs.body.show_each.Given as goal
-
-abbrev pub invariant-loop-row : goal.invariant-loop-row
-invariant-loop-row l = l.hidden ≡ set.difference l.fn.hidden (set_of (take l.row-index l.list))

@@ -1,8 +1,0 @@
-use Rattle.std.proofs.Common.{◌∙◌, ap}
-use Rattle.lens_specs.specs.Columns.{names}
-use Rattle.lens_specs.specs.Sort.{Sort}
-use Rattle.lens_laws.proofs.Rules.{given_is}
-use Rattle.lens_probe.proofs.columns.columns_of.Goals as goal
-
-pub returns : goal.returns
-returns c = ap names (c.cols.ensures.value ∙ ap (λ (s : Sort). s.columns) (given_is c.args.lens.now c.sort.result.now c.sort.ensures.typed c.sort.ensures.given))

@@ -1,7 +1,0 @@
-use Rattle.std.proofs.Common.{◌∙◌}
-use Rattle.lens_values.specs.Value.{same_value}
-use Rattle.lens_values.proofs.ValueLemmas.{eq-value_cmp}
-use Rattle.lens_probe.proofs.columns.same_at.Goals as goal
-
-pub returns-in-Some-Some : goal.returns-in-Some-Some
-returns-in-Some-Some c = c.eq.ensures ∙ eq-value_cmp c.in-Some-Some.value.now c.in-Some-Some.another.now ∙ (λ i. same_value (c.in-Some-Some.ensures i) (c.in-Some-Some.ensures' i))

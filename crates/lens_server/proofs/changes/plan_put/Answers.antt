@@ -1,0 +1,49 @@
+use Rattle.std.proofs.Common.{◌≤◌, ◌+◌, ◌*◌, subst, sym}
+use Rattle.std.specs.FinMap as finmap
+use Rattle.base_index.specs.Held.{Held}
+use Rattle.catalog_specs.specs.Catalogue.{catalogue}
+use Rattle.lens_chain.specs.Edits.{over}
+use Rattle.lens_laws.specs.Work.{fan, work}
+use Rattle.lens_server.specs.Counting.{changed_by, put_looks}
+use Rattle.lens_server.proofs.Looked.{at_lens, twice}
+use Rattle.lens_server.specs.Keyed.{IsOpen}
+use Rattle.lens_server.specs.Premises.{CanChange}
+use Rattle.lens_server.proofs.Counted.{read_few}
+use Rattle.lens_server.proofs.Keyed.{open_lens}
+use Rattle.lens_server.proofs.changes.plan_put.Goals as goal
+
+pub view_of-view-requires : goal.view_of-view-requires
+view_of-view-requires g c = open_lens c.args.database.now c.requires.valid c.requires.keyed c.args.view.now c.in-Some.lens.now (sym c.in-Some.ensures)
+
+pub plan_asked-requires-clause-can : goal.plan_asked-requires-clause-can
+plan_asked-requires-clause-can g c =
+    subst (CanChange c.args.database.now) (sym c.view_of-view.ensures.lens)
+    (record { valid = c.requires.valid; opened = open_lens c.args.database.now c.requires.valid c.requires.keyed c.args.view.now c.in-Some.lens.now (sym c.in-Some.ensures); room = c.requires.room })
+
+pub asked_by_put-asked-requires-clause-open : goal.asked_by_put-asked-requires-clause-open
+asked_by_put-asked-requires-clause-open g c =
+    subst (IsOpen c.args.database.now) (sym c.view_of-view.ensures.lens)
+    (open_lens c.args.database.now c.requires.valid c.requires.keyed c.args.view.now c.in-Some.lens.now (sym c.in-Some.ensures))
+
+pub returns-in-Some-clause-walked : goal.returns-in-Some-clause-walked
+returns-in-Some-clause-walked g c =
+    read_few c.args.database.now c.in-Some.lens.now c.view_of-view.result.lens c.view_of-view.result.tables c.args.walked.now c.asked_by_put-asked.new.walked
+    (open_lens c.args.database.now c.requires.valid c.requires.keyed c.args.view.now c.in-Some.lens.now (sym c.in-Some.ensures))
+    c.view_of-view.ensures.lens c.view_of-view.ensures.tables c.asked_by_put-asked.ensures.walked
+
+pub returns-in-Some-clause-looked : goal.returns-in-Some-clause-looked
+returns-in-Some-clause-looked g c =
+    let database = c.args.database.now in
+    let db = database.tables.present.relations in
+    let L = c.in-Some.lens.now in
+    let v = c.view_of-view.result in
+    let w = fan L db in
+    let finds = c.view_of-view.ensures.finds in
+    let old = c.args.looked.now in
+    let new = c.plan_asked.new.looked in
+    let d = changed_by (over v) v.lens c.args.rows in
+    let all = twice (work v.lens d w) old c.asked_by_put-asked.new.looked new
+    (c.asked_by_put-asked.ensures.looks w finds) (c.plan_asked.ensures.looks w d finds c.asked_by_put-asked.ensures.few) in
+    at_lens (put_looks db c.args.rows) (finmap.get (catalogue database.catalog.texts) c.args.view.now) L old new c.in-Some.ensures
+    (subst (λ (t : Held). new ≤ old + 2 * work L (changed_by t.present.relations L c.args.rows) w) c.view_of-view.ensures.tables
+    (subst (λ M. new ≤ old + 2 * work M (changed_by (over v) M c.args.rows) w) c.view_of-view.ensures.lens all))

@@ -1,0 +1,81 @@
+//! Definitions of tables and views.
+ghost use Rattle.std.specs.Prelude.{◌≡◌, ◌<◌, ◌-◌, ◌^◌, IfOk, length};
+ghost use Rattle.catalog_specs.specs.Catalogue.{is_table_of};
+ghost use Rattle.server_specs.specs.Defining.{define_answer};
+ghost use Rattle.server_specs.specs.Validity.{Valid};
+ghost use Rattle.view_catalog.specs.Admissions.{IsAdmissible};
+ghost use Rattle.lens_server.specs.Defining.{last_with};
+ghost use Rattle.lens_server.specs.Keyed.{IsSame};
+ghost use Rattle.lens_server.specs.Plans.{IsPlan};
+ghost use Rattle.lens_server.specs.States.{state_of};
+
+use crate::database::Database;
+use crate::last_changes::LastChanges;
+use crate::plan::{PastStep, Plan, Staged};
+use crate::refusals::refusal;
+use lens_values::{Name, NoMemory, Text};
+use request_text::Answer;
+use std::alloc::Global;
+use table_keeper::Change;
+use view_catalog::Prepared;
+
+/// Plans what `define` is answered. The catalogue reserves the memory for the definition.
+pub fn plan_definition(alloc: Global, database: &mut Database, text: Text) -> Result<Plan, NoMemory>
+    requires valid { Valid (state_of database.old) }
+    requires room { database.old.version < 2 ^ 64 - 1 }
+    ensures same { IsSame database.old database.new }
+    ensures plan { IfOk result (λ plan.
+        IsPlan plan (define_answer text (state_of database.old)) database.new) }
+{
+    match database.catalog.prepare(alloc, text) {
+        Ok(prepared) => plan_prepared(alloc, database, prepared),
+        Err(fault) => Ok(Plan::unchanged(refusal(fault)?)),
+    }
+}
+
+/// Plans that the catalogue takes the definition.
+fn plan_prepared(alloc: Global, database: &Database, prepared: Prepared) -> Result<Plan, NoMemory>
+    requires valid { Valid (state_of database.now) }
+    requires room { 0 < database.now.catalog.room }
+    requires versions { database.now.version < 2 ^ 64 - 1 }
+    requires admissible { IsAdmissible database.now.catalog.texts prepared }
+    ensures { IfOk result (λ plan.
+        IsPlan plan (define_answer prepared.text (state_of database.now)) database.now) }
+{
+    let version = database.version + 1;
+    let table = prepared.table();
+    let last = last_with(alloc, &database.last, &table, version)?;
+    let text = prepared.text().copy(alloc)?;
+    is_short(prepared.text());
+    Ok(Plan {
+        answer: Answer::Defined { version },
+        staged: Some(Staged {
+            change: Change::Define { text, table },
+            definition: Some(prepared),
+            last,
+            past: PastStep::Stays,
+        }),
+    })
+}
+
+/// Does nothing, and tells a proof that the text is short.
+pub fn is_short(text: &Text)
+    ensures { length text.now < 2 ^ 64 }
+{
+    let _length = text.as_str().len();
+}
+
+/// The last changes once the version made the table, if there is one.
+fn last_with(
+    alloc: Global,
+    last: &LastChanges,
+    table: &Option<Name>,
+    version: u64,
+) -> Result<LastChanges, NoMemory>
+    ensures { IfOk result (λ after. after ≡ last_with table.now version last.now) }
+{
+    match table {
+        Some(name) => last.with(alloc, name, version),
+        None => last.copy(alloc),
+    }
+}

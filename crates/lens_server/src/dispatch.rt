@@ -1,0 +1,159 @@
+//! One line, one answer.
+ghost use Rattle.std.specs.Prelude.{◌≡◌, ◌<◌, ◌+◌, ◌-◌, ◌^◌, ◌≤◌, IfOk, Ok};
+ghost use Rattle.io_specs.specs.Lines.{line as short};
+ghost use Rattle.request_text.specs.Requests.{request_view};
+ghost use Rattle.server_specs.specs.Answering.{answer_request};
+ghost use Rattle.server_specs.specs.Request.{request};
+ghost use Rattle.lens_server.specs.Counting.{Walks, most_looked, most_walked};
+ghost use Rattle.lens_server.specs.Exports.{ExportReadsBack};
+ghost use Rattle.lens_server.specs.Keyed.{IsKeyed, IsSame};
+ghost use Rattle.lens_server.specs.Outcomes.{IsReady, Outcome};
+ghost use Rattle.lens_server.specs.Plans.{IsPlan};
+ghost use Rattle.lens_server.specs.Premises.{CanAnswer};
+ghost use Rattle.lens_server.specs.States.{state_of};
+
+use crate::batches::plan_batch;
+use crate::changes::{plan_edit, plan_put, preview_answer};
+use crate::commit::settle;
+use crate::database::Database;
+use crate::definitions::plan_definition;
+use crate::exports::export_answer;
+use crate::imports::{Import, plan_import};
+use crate::plan::Plan;
+use crate::questions::{find_answer, list_answer, read_answer, type_answer};
+use crate::undo::plan_undo;
+use json::Scratch;
+use lens_values::NoMemory;
+use request_text::{Answer, Reply, Request, RequestFault, read_request};
+use std::alloc::Global;
+use std::sync::ledger::Ledger;
+use step_counter::Steps;
+use table_keeper::Keeper;
+
+/// Answers a line that is not too long. An edit, a preview, a batch, an undo and a find by the left
+/// side of a dependency walk no table. The scratch is what reading the line needs.
+pub fn answer_line<K: Keeper, L: Ledger, M: Ledger>(
+    alloc: Global,
+    database: &mut Database,
+    scratch: &mut Scratch,
+    keeper: &mut K,
+    line: &[u8],
+    walked: &mut Steps<L>,
+    looked: &mut Steps<M>,
+) -> Result<Reply, NoMemory>
+    requires { IsReady database.old (K.contents keeper.old) }
+    ensures outcome { Outcome (answer_request (request (short line.now)) (state_of database.old))
+        (state_of database.old) (state_of database.new) (K.faults keeper.old) (K.faults keeper.new)
+        (K.contents keeper.old) (K.contents keeper.new) (K.calls keeper.old) (K.calls keeper.new)
+        result }
+    ensures untouched { (answer_request (request (short line.now)) (state_of database.old)).1
+        ≡ state_of database.old → keeper.new ≡ keeper.old }
+    ensures back { IfOk result (λ _.
+        ExportReadsBack (request (short line.now)) (state_of database.old)) }
+    ensures keyed { IsKeyed database.new }
+    ensures place { K.place keeper.new ≡ K.place keeper.old }
+    ensures walked { walked.new
+        ≤ walked.old + most_walked (request (short line.now)) (state_of database.old) }
+    ensures looked { looked.new
+        ≤ looked.old + most_looked (request (short line.now)) (state_of database.old) }
+    ensures walks_on { walked.old ≤ walked.new }
+{
+    let plan = plan_line(alloc, database, scratch, line, walked, looked)?;
+    settle(alloc, database, keeper, plan, walked)
+}
+
+/// Plans the answer to a line.
+fn plan_line<L: Ledger, M: Ledger>(
+    alloc: Global,
+    database: &mut Database,
+    scratch: &mut Scratch,
+    line: &[u8],
+    walked: &mut Steps<L>,
+    looked: &mut Steps<M>,
+) -> Result<Plan, NoMemory>
+    requires { CanAnswer database.old }
+    ensures same { IsSame database.old database.new }
+    ensures plan { IfOk result (λ plan. IsPlan plan
+        (answer_request (request (short line.now)) (state_of database.old)) database.new) }
+    ensures back { IfOk result (λ _.
+        ExportReadsBack (request (short line.now)) (state_of database.old)) }
+    ensures walked { Walks result database.new walked.old walked.new
+        (most_walked (request (short line.now)) (state_of database.old)) }
+    ensures looked { looked.new
+        ≤ looked.old + most_looked (request (short line.now)) (state_of database.old) }
+    ensures walks_on { walked.old ≤ walked.new }
+{
+    match read_request(alloc, line, scratch) {
+        Ok(request) => plan_request(alloc, database, request, walked, looked),
+        Err(RequestFault::NotJson) => Ok(Plan::unchanged(Answer::NotJson)),
+        Err(RequestFault::BadRequest { member }) => {
+            Ok(Plan::unchanged(Answer::BadRequest { member }))
+        }
+        Err(RequestFault::NoMemory) => Err(NoMemory),
+    }
+}
+
+/// Plans the answer to a request.
+fn plan_request<L: Ledger, M: Ledger>(
+    alloc: Global,
+    database: &mut Database,
+    request: Request<'_>,
+    walked: &mut Steps<L>,
+    looked: &mut Steps<M>,
+) -> Result<Plan, NoMemory>
+    requires { CanAnswer database.old }
+    ensures same { IsSame database.old database.new }
+    ensures plan { IfOk result (λ plan. IsPlan plan
+        (answer_request (Ok (request_view request.entry)) (state_of database.old)) database.new) }
+    ensures back { IfOk result (λ _.
+        ExportReadsBack (Ok (request_view request.entry)) (state_of database.old)) }
+    ensures walked { Walks result database.new walked.old walked.new
+        (most_walked (Ok (request_view request.entry)) (state_of database.old)) }
+    ensures looked { looked.new
+        ≤ looked.old + most_looked (Ok (request_view request.entry)) (state_of database.old) }
+    ensures walks_on { walked.old ≤ walked.new }
+{
+    match request {
+        Request::Define { text } => plan_definition(alloc, database, text),
+        Request::Read { view } => {
+            Ok(Plan::unchanged(read_answer(alloc, database, &view, walked)?))
+        }
+        Request::Find {
+            view,
+            column,
+            value,
+        } => {
+            let found = find_answer(alloc, database, &view, &column, &value, walked, looked)?;
+            Ok(Plan::unchanged(found))
+        }
+        Request::Put { view, rows, on } => {
+            plan_put(alloc, database, &view, rows, on, walked, looked)
+        }
+        Request::Edit {
+            view,
+            remove,
+            add,
+            on,
+        } => plan_edit(alloc, database, &view, remove, add, on, looked),
+        Request::Preview {
+            view,
+            remove,
+            add,
+            on,
+        } => {
+            let answer = preview_answer(alloc, database, &view, remove, add, on, looked)?;
+            Ok(Plan::unchanged(answer))
+        }
+        Request::Describe { view } => Ok(Plan::unchanged(type_answer(alloc, database, &view)?)),
+        Request::List => Ok(Plan::unchanged(list_answer(alloc, database)?)),
+        Request::Batch { edits, on } => plan_batch(alloc, database, edits, on, looked),
+        Request::Undo => plan_undo(alloc, database),
+        Request::Export { view } => {
+            Ok(Plan::unchanged(export_answer(alloc, database, &view, walked)?))
+        }
+        Request::Import { view, csv, on } => {
+            let import = Import { csv: &csv, on };
+            plan_import(alloc, database, &view, &import, walked, looked)
+        }
+    }
+}

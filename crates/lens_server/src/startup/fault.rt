@@ -1,0 +1,45 @@
+//! Why a server is not started.
+
+use crate::startup::damage::Damage;
+use lens_values::NoMemory;
+use table_keeper::KeepFault;
+use thiserror::Error;
+
+/// Why a server is not started.
+#[derive(Debug, Drop, Error)]
+pub enum StartFault {
+    /// The keeper failed, and its count of faults rose.
+    #[error("the keeper failed")]
+    StoreFault,
+    /// What is kept is damaged.
+    #[error("what is kept is damaged")]
+    Damaged { damage: Damage },
+    /// Memory ran out.
+    #[error("memory ran out")]
+    NoMemory,
+}
+
+impl From<NoMemory> for StartFault {
+    ghost use Rattle.std.specs.Prelude.{◌≡◌};
+    ghost use Rattle.lens_server.specs.declared.startup.fault.StartFault.TheVariants as fault;
+
+    ghost from_gives = { λ _ why. why ≡ fault.NoMemory };
+
+    fn from(_: NoMemory) -> StartFault {
+        StartFault::NoMemory
+    }
+}
+
+impl From<KeepFault> for StartFault {
+    ghost use Rattle.std.specs.Prelude.{◌≡◌};
+    ghost use Rattle.lens_server.specs.StartFaults.{of_keeper};
+
+    ghost from_gives = { λ fault why. why ≡ of_keeper fault };
+
+    fn from(fault: KeepFault) -> StartFault {
+        match fault {
+            KeepFault::Failed => StartFault::StoreFault,
+            KeepFault::NoMemory => StartFault::NoMemory,
+        }
+    }
+}

@@ -1,0 +1,58 @@
+//! Calls of a keeper by themselves.
+ghost use Rattle.lens_specs.specs.Keeping.{Tells, nothing};
+
+use crate::runs::expect;
+use lens_values::{Name, Row, Text, Value};
+use row_sets::RowSet;
+use signed_delta::{Delta, TableDelta};
+use sqlite_keeper::SqliteKeeper;
+use std::alloc::Global;
+use std::test::Fail;
+use table_keeper::{Change, Keeper, Kept, SureKeeper};
+
+const TABLE: &str = "table n (k int)";
+
+// The row k 1.
+fn row(alloc: Global) -> Result<Row, Fail> {
+    let pairs = vec![in alloc; (Name::new("k")?, Value::Int(1))]?;
+    Ok(Row::new(alloc, pairs)?)
+}
+
+// What a keeper of nothing gives once it has the table n and the row in it.
+fn table_with_a_row<K: Keeper>(alloc: Global, keeper: &mut K) -> Result<Kept, Fail>
+    requires nothing { Tells (K.contents keeper.old) nothing }
+{
+    let table = Name::new("n")?;
+    let text = Text::new(alloc, TABLE)?;
+    let definition = Change::Define {
+        text,
+        table: Some(table),
+    };
+    keeper.commit(alloc, &definition)?;
+    let rows = RowSet::new(alloc, vec![in alloc; row(alloc)?]?)?;
+    let delta = Delta::new(RowSet::empty(alloc), rows);
+    let deltas = vec![in alloc; TableDelta { table, delta }]?;
+    keeper.commit(alloc, &Change::Rows { deltas })?;
+    Ok(keeper.load(alloc)?)
+}
+
+// Fails where this is not the table with the row.
+fn is_that(alloc: Global, kept: &Kept) -> Result<(), Fail> {
+    let ([text], [found]) = (kept.definitions.as_slice(), kept.tables.as_slice()) else {
+        return Err(Fail::from("how many"));
+    };
+    expect(text.as_str() == TABLE, "the definition")?;
+    expect(found.table == Name::new("n")?, "the table")?;
+    expect(found.rows.rows() == [row(alloc)?].as_slice(), "the row")
+}
+
+#[test]
+fn keepers_keep_a_row(rt: HostRuntime) -> Result<(), Fail> {
+    let alloc = rt.alloc();
+    let mut sure = SureKeeper::holding(Kept::nothing(alloc));
+    is_that(alloc, &table_with_a_row(alloc, &mut sure)?)?;
+    sure.attach(alloc, "x")?;
+    is_that(alloc, &sure.load(alloc)?)?;
+    let mut stored = SqliteKeeper::new(&rt);
+    is_that(alloc, &table_with_a_row(alloc, &mut stored)?)
+}
