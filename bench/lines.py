@@ -1,0 +1,74 @@
+#!/usr/bin/env python3
+"""Measures how long lines of one row take at tables of several sizes: medians of many lines, each from the first byte of the line to the
+last of its reply. Tables and lines are those of bench/instructions.py. Behind the table stands the most memory at each size.
+
+Usage: bench/lines.py [PROGRAM]    (without the word, the program that ./serve builds)
+"""
+import statistics
+import sys
+import tempfile
+
+from bench import TOP, UNDO, Server
+from instructions import OF_ONE_ROW, filled
+
+SIZES = (1_000, 10_000, 100_000, 1_000_000)
+# With a store up to so many rows.
+STORED = 100_000
+LINES, STORED_LINES, UNDOS = 200, 50, 16
+DONE = b'"ok":true'
+
+
+def asked(server, lines):
+    """The median in ms."""
+    taken = []
+    for line in lines:
+        reply, seconds = server.ask(line)
+        if DONE not in reply:
+            raise SystemExit(f"not accepted: {reply[:200]!r}")
+        taken.append(seconds * 1000)
+    return statistics.median(taken)
+
+
+def lines_of(name, rows, number):
+    return [OF_ONE_ROW[name](i, rows).encode() for i in range(number)]
+
+
+def filled_server(program, rows, *words):
+    server = Server(program, *words)
+    asked(server, [line.encode() for line in filled(rows)])
+    return server
+
+
+def in_memory(program, rows):
+    """The medians by what is asked, and the most memory in MB."""
+    server = filled_server(program, rows)
+    found = {name: asked(server, lines_of(name, rows, LINES)) for name in ("one preview of it", "one find of it by its key", "one edit of one row")}
+    found["the undo of such an edit"] = asked(server, [UNDO] * UNDOS)
+    peak = server.peak()
+    server.end()
+    return found, peak
+
+
+def in_a_file(program, rows):
+    with tempfile.TemporaryDirectory() as folder:
+        server = filled_server(program, rows, "--store", f"{folder}/store.db")
+        found = asked(server, lines_of("one edit of one row", rows, STORED_LINES))
+        server.end()
+    return {"the edit with --store": found}
+
+
+def main():
+    program = sys.argv[1] if len(sys.argv) > 1 else f"{TOP}/crates/view_program/out/view_program"
+    measured = [in_memory(program, rows) for rows in SIZES]
+    stored = [in_a_file(program, rows) for rows in SIZES if rows <= STORED]
+    print(f"| ms | {' | '.join(f'{rows:,} tracks' for rows in SIZES)} |")
+    print("|---" * (len(SIZES) + 1) + "|")
+    for name in measured[0][0]:
+        print(f"| {name} | {' | '.join(f'{found[name]:.3f}' for found, _ in measured)} |")
+    for name in stored[0]:
+        print(f"| {name} | {' | '.join(f'{found[name]:.2f}' for found in stored)} | |")
+    print(f"| most memory, MB | {' | '.join(f'{peak:.0f}' for _, peak in measured)} |")
+
+
+if __name__ == "__main__":
+    main()
