@@ -2,10 +2,10 @@
 ghost use Rattle.std.specs.Prelude.{◌≡◌};
 
 use crate::samples::{
-    are_rows, columns, cut, in_four, is_relation, names, relation, row, row_list, rows,
+    are_rows, columns, cut, in_four, is_relation, is_row, names, relation, row, row_list, rows,
 };
 use lens_values::Columns;
-use row_sets::{Relation, RowSet, RowTree};
+use row_sets::{Relation, RowSet, RowTree, pasted_part};
 use signed_delta::diff;
 use std::alloc::Global;
 use std::process::Abort;
@@ -17,7 +17,8 @@ copy | k=2; k=1; k=2 | | k=1; k=2
 copy | a=x; a=; a=null; a=true; a=0; a=-9223372036854775808; a=null; a=false | | a=null; a=-9223372036854775808; a=0; a=; a=x; a=false; a=true
 union | k=1; k=2 | k=2; k=3 | k=1; k=2; k=3
 minus | k=1; k=2 | k=2; k=3 | k=1
-tree | k=2; k=1; k=3; k=1 | k=2 | k=1; k=3";
+tree | k=2; k=1; k=3; k=1 | k=2 | k=1; k=3
+tree_of | k=2; k=1; k=2 | | k=1; k=2";
 
 // Relations of the columns: an operation, what it is given, and what it gives.
 const RELATIONS: &str = "\
@@ -55,8 +56,15 @@ fn of_sets(alloc: Global, op: &str, first: &RowSet, second: &RowSet) -> Option<R
         "copy" => first.copy(alloc).ok(),
         "union" => first.union(alloc, second).ok(),
         "minus" => first.minus(alloc, second).ok(),
+        "tree_of" => tree_of(alloc, first),
         _ => None,
     }
+}
+
+// What the tree of the rows has.
+fn tree_of(alloc: Global, all: &RowSet) -> Option<RowSet> {
+    let all = all.copy(alloc).ok()?;
+    RowTree::of(alloc, all).ok()?.rows(alloc).ok()
 }
 
 // What a tree of the rows has without one of them.
@@ -139,4 +147,37 @@ fn join_of(rt: &impl Abort, alloc: Global, left: &Relation, right: &Relation) ->
         .union(alloc, right.columns())
         .expect(rt, "a union");
     left.join(alloc, right).expect(rt, "memory")
+}
+
+#[test]
+fn parts_of_joins_are_made(rt: HostRuntime) {
+    let alloc = rt.alloc();
+    let left = rows(&rt, alloc, "a=1 b=2; a=2 b=null; a=3 b=4");
+    let right = rows(&rt, alloc, "b=2 c=3; b=null c=5");
+    let on = names(&rt, alloc, "b");
+    let kept = names(&rt, alloc, "a c");
+    let parts = left.joined_parts(alloc, &right, &on, &kept);
+    let parts = RowSet::new(alloc, parts.expect(&rt, "memory"));
+    are_rows(&rt, alloc, parts.ok(), "a=1 c=3; a=2 c=5");
+}
+
+#[test]
+fn part_of_a_pasted_row(rt: HostRuntime) {
+    let alloc = rt.alloc();
+    let old = row(&rt, alloc, "a=1 b=2");
+    let new = row(&rt, alloc, "b=3 c=4");
+    let part = pasted_part(alloc, &old, &new, &names(&rt, alloc, "a b"));
+    is_row(&rt, alloc, part.ok(), "a=1 b=3");
+}
+
+#[test]
+fn differences_have_two_sides(rt: HostRuntime) {
+    let alloc = rt.alloc();
+    let cols = columns(&rt, alloc, "k:int");
+    let old = relation(&rt, alloc, &cols, "k=1; k=3");
+    let new = relation(&rt, alloc, &cols, "k=2; k=3");
+    let delta = diff(alloc, &old, &new).expect(&rt, "memory");
+    let (remove, add) = delta.sides();
+    are_rows(&rt, alloc, remove.copy(alloc).ok(), "k=1");
+    are_rows(&rt, alloc, add.copy(alloc).ok(), "k=2");
 }
