@@ -3,6 +3,7 @@ ghost use Rattle.std.specs.Prelude.{◌≡◌, ◌==◌, IfOk, OnOk, OnErr, leng
 ghost use Rattle.std.specs.declared.cmp.Ordering.TheVariants.{Less};
 ghost use Rattle.lens_values.specs.Row.{row_cmp};
 ghost use Rattle.lens_values.specs.SortedSet as set;
+ghost use Rattle.lens_values.specs.contracts.row.Row as contract;
 ghost use Rattle.base_index.specs.Group.{pair, rows_in, singleton};
 
 use lens_values::{NoMemory, Row};
@@ -29,11 +30,6 @@ enum Members {
 }
 
 impl Model for Group {
-    ghost use Rattle.lens_values.specs.Row.{row_cmp};
-    ghost use Rattle.lens_values.specs.SortedSet as set;
-    ghost use Rattle.lens_values.specs.contracts.row.Row as contract;
-    ghost use Rattle.base_index.specs.Group.{rows_in};
-
     ghost Value = { set.SortedSet row_cmp };
 
     ghost coded = { set.code contract.the_row.coded };

@@ -1,6 +1,11 @@
 //! Rows as keys of a tree.
-ghost use Rattle.std.specs.Prelude.{◌≡◌, IfOk, fold};
-ghost use Rattle.base_index.specs.Key.{hash_row, hash_number, hash_value};
+ghost use Rattle.std.specs.Prelude.{◌≡◌, IfOk, fold, refl};
+ghost use Rattle.std.specs.Cmp.{eq_by_cmp_equiv, partial_equiv_from_equiv, partial_order_from_agreeing_total};
+ghost use Rattle.std.specs.Ordering.{as_partial_cmp, eq_by_cmp};
+ghost use Rattle.lens_values.specs.contracts.row.Row as contract;
+ghost use Rattle.lens_values.specs.declared.row.Row as declared;
+ghost use Rattle.base_index.specs.Key.{hash_number, hash_row, hash_value, key_cmp};
+ghost use Rattle.base_index.specs.KeyOrder.{key_cmp_total};
 
 use lens_values::{NoMemory, Row, Value};
 use std::alloc::Global;
@@ -22,14 +27,7 @@ pub struct Key {
 }
 
 impl Model for Key {
-    ghost use Rattle.std.specs.Prelude.{◌≡◌};
-    ghost use Rattle.std.specs.FinMap as map;
-    ghost use Rattle.lens_values.specs.Order.{bytes_cmp};
-    ghost use Rattle.lens_values.specs.contracts.row.Row as contract;
-    ghost use Rattle.lens_values.specs.declared.value.Value as declared;
-    ghost use Rattle.base_index.specs.Key.{hash_row};
-
-    ghost Value = { map.FinMap bytes_cmp declared.Value };
+    ghost Value = { declared.Row };
 
     ghost coded = { contract.the_row.coded };
 
@@ -68,11 +66,6 @@ impl Key {
 }
 
 impl PartialEq for Key {
-    ghost use Rattle.std.specs.Ordering.{eq_by_cmp};
-    ghost use Rattle.std.specs.Cmp.{partial_equiv_from_equiv, eq_by_cmp_equiv};
-    ghost use Rattle.base_index.specs.Key.{key_cmp};
-    ghost use Rattle.base_index.specs.KeyOrder.{key_cmp_total};
-
     ghost eq = { eq_by_cmp key_cmp };
 
     ghost laws = { partial_equiv_from_equiv (eq_by_cmp_equiv key_cmp_total) };
@@ -83,19 +76,10 @@ impl PartialEq for Key {
 }
 
 impl Eq for Key {
-    ghost use Rattle.std.specs.Cmp.{eq_by_cmp_equiv};
-    ghost use Rattle.base_index.specs.KeyOrder.{key_cmp_total};
-
     ghost laws = { eq_by_cmp_equiv key_cmp_total };
 }
 
 impl PartialOrd for Key {
-    ghost use Rattle.std.specs.Prelude.{refl};
-    ghost use Rattle.std.specs.Ordering.{as_partial_cmp};
-    ghost use Rattle.std.specs.Cmp.{partial_order_from_agreeing_total};
-    ghost use Rattle.base_index.specs.Key.{key_cmp};
-    ghost use Rattle.base_index.specs.KeyOrder.{key_cmp_total};
-
     ghost partial_cmp = { as_partial_cmp key_cmp };
 
     ghost laws = { partial_order_from_agreeing_total key_cmp key_cmp_total (λ _ _. refl) (λ _ _. refl) };
@@ -106,10 +90,6 @@ impl PartialOrd for Key {
 }
 
 impl Ord for Key {
-    ghost use Rattle.std.specs.Prelude.{refl};
-    ghost use Rattle.base_index.specs.Key.{key_cmp};
-    ghost use Rattle.base_index.specs.KeyOrder.{key_cmp_total};
-
     ghost cmp = { key_cmp };
 
     ghost total = { key_cmp_total };

@@ -2,7 +2,7 @@
 ghost use Rattle.std.specs.Prelude.{◌≡◌, ◌+◌, ◌≤◌, length, true, IfOk, OnOk, OnErr, IsTrue, None, Some};
 ghost use Rattle.lens_values.specs.SortedSet as set;
 ghost use Rattle.lens_specs.specs.Delta.{AppliesTo, new_view};
-ghost use Rattle.lens_specs.specs.Relation.{Fits};
+ghost use Rattle.lens_specs.specs.Relation.{IsRelation};
 ghost use Rattle.lens_specs.specs.Rows.{agree};
 ghost use Rattle.signed_delta.specs.Keys.{IsKey};
 ghost use Rattle.base_index.specs.Need.{has_cols, rows_walked, with_needs};
@@ -78,13 +78,6 @@ impl Table {
         self.count
     }
 
-    /// Does nothing, and tells a proof that each row has the columns.
-    pub fn rows_fit(&self)
-        ensures { (row : _) → set.contains self.now.rows row ≡ true → Fits self.now.columns row }
-    {
-        let _ = &self.body;
-    }
-
     /// Whether readers see the row.
     pub fn has(&self, row: &Row) -> bool
         ensures { result ≡ set.contains self.now.rows row.now }
@@ -109,9 +102,10 @@ impl Table {
         self.body.find(alloc, cols, key)
     }
 
-    /// All rows that readers see.
+    /// All rows that readers see, each with the columns.
     pub fn all_rows(&self, alloc: Global) -> Result<RowSet, NoMemory>
-        ensures { IfOk result (λ rows. rows ≡ self.now.rows) }
+        ensures rows { IfOk result (λ rows. rows ≡ self.now.rows) }
+        ensures fit { IsRelation (shown_of self.now) }
     {
         self.body.all_rows(alloc)
     }

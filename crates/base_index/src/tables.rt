@@ -3,12 +3,8 @@ ghost use Rattle.std.specs.Prelude.{◌≡◌, ◌+◌, ◌≤◌, map, length, 
 ghost use Rattle.std.specs.Prelude.{Some, None};
 ghost use Rattle.std.specs.FinMap as finmap;
 ghost use Rattle.lens_values.specs.SortedSet as set;
-ghost use Rattle.lens_specs.specs.Relation.{IsRelation, has, those};
-ghost use Rattle.lens_specs.specs.Rows.{agree};
-ghost use Rattle.signed_delta.specs.Keys.{IsKey};
-ghost use Rattle.signed_delta.specs.Tables.{table_delta};
-ghost use Rattle.base_index.specs.Held.{AllApply, IsNew, IsQuiet, IsThere, defined, is_indexed};
-ghost use Rattle.base_index.specs.Held.{no_tables, relation_in, walked_for, with_deltas};
+ghost use Rattle.base_index.specs.Held.{AllApply, IsKey, IsNew, IsQuiet, IsRelation, IsThere, agree, defined, has};
+ghost use Rattle.base_index.specs.Held.{is_indexed, no_tables, relation_in, table_delta, those, walked_for, with_deltas};
 ghost use Rattle.base_index.specs.Stored.{shown_of};
 
 use crate::need::Need;
@@ -184,14 +180,6 @@ impl Tables {
         self.table(table).count()
     }
 
-    /// Does nothing, and tells a proof that each row of the table has its columns.
-    pub fn rows_fit(&self, table: &Name)
-        requires { IsThere self.now.present table.now }
-        ensures { IsRelation (relation_in self.now.present.relations table.now) }
-    {
-        self.table(table).rows_fit();
-    }
-
     /// Whether the table may be asked by the columns of the need.
     pub fn has_index(&self, need: &Need) -> bool
         requires { IsThere self.now.present need.now.table }
@@ -224,11 +212,12 @@ impl Tables {
         Ok(found)
     }
 
-    /// All rows of the table, in a step a row.
+    /// All rows of the table, each with its columns, in a step a row.
     pub fn walk<L: Ledger>(&self, table: &Name, walked: &mut Steps<L>) -> Result<RowSet, NoMemory>
         requires { IsThere self.now.present table.now }
         ensures ok { IfOk result (λ rows.
             rows ≡ (relation_in self.now.present.relations table.now).rows) }
+        ensures fit { IsRelation (relation_in self.now.present.relations table.now) }
         ensures walked { IfOk result (λ rows. walked.new ≡ walked.old + length (set.items rows)) }
         ensures walked_in_vain { OnErr result (walked.new ≡ walked.old) }
         ensures walks_on { walked.old ≤ walked.new }

@@ -1,4 +1,7 @@
 //! Why a text is not read.
+ghost use Rattle.std.specs.Prelude.{◌≡◌};
+ghost use Rattle.borrowed_json.specs.declared.fault.Fault.TheVariants as fault;
+
 use json::Invalid;
 use no_memory::NoMemory;
 use std::alloc::{AllocError, AllocFailed};
@@ -13,10 +16,7 @@ pub(crate) enum Fault {
 }
 
 impl From<Invalid> for Fault {
-    ghost use Rattle.std.specs.Prelude.{◌≡◌};
-    ghost use Rattle.borrowed_json.specs.declared.fault.Fault.TheVariants.{NotJson};
-
-    ghost from_gives = { λ _ e. e ≡ NotJson };
+    ghost from_gives = { λ _ e. e ≡ fault.NotJson };
 
     fn from(_: Invalid) -> Fault {
         Fault::NotJson
@@ -24,9 +24,6 @@ impl From<Invalid> for Fault {
 }
 
 impl From<NoMemory> for Fault {
-    ghost use Rattle.std.specs.Prelude.{◌≡◌};
-    ghost use Rattle.borrowed_json.specs.declared.fault.Fault.TheVariants as fault;
-
     ghost from_gives = { λ _ e. e ≡ fault.NoMemory };
 
     fn from(_: NoMemory) -> Fault {
@@ -35,10 +32,7 @@ impl From<NoMemory> for Fault {
 }
 
 impl From<AllocError> for Fault {
-    ghost use Rattle.std.specs.Prelude.{◌≡◌};
-    ghost use Rattle.borrowed_json.specs.declared.fault.Fault.TheVariants.{NoMemory};
-
-    ghost from_gives = { λ _ e. e ≡ NoMemory };
+    ghost from_gives = { λ _ e. e ≡ fault.NoMemory };
 
     fn from(_: AllocError) -> Fault {
         Fault::NoMemory
@@ -46,10 +40,7 @@ impl From<AllocError> for Fault {
 }
 
 impl<T: Drop> From<AllocFailed<T>> for Fault {
-    ghost use Rattle.std.specs.Prelude.{◌≡◌};
-    ghost use Rattle.borrowed_json.specs.declared.fault.Fault.TheVariants.{NoMemory};
-
-    ghost from_gives = { λ _ e. e ≡ NoMemory };
+    ghost from_gives = { λ _ e. e ≡ fault.NoMemory };
 
     fn from(_: AllocFailed<T>) -> Fault {
         Fault::NoMemory

@@ -1,18 +1,20 @@
 //! Edits whose premises are tested first.
-ghost use Rattle.std.specs.Prelude.{◌≡◌, IfOk, None};
+ghost use Rattle.std.specs.Prelude.{◌≡◌, IfOk, None, OnOk};
 ghost use Rattle.lens_specs.specs.Columns.{both_columns, kinds_differ, names, without_column};
 ghost use Rattle.lens_specs.specs.Delta as spec;
 ghost use Rattle.lens_specs.specs.Nodes.{drop_get, select_get};
 ghost use Rattle.lens_specs.specs.Predicate.{holds};
+ghost use Rattle.lens_specs.specs.Relation.{IsRelation};
 ghost use Rattle.join_delta.specs.Joined as join;
 
 use crate::held::Held;
-use crate::kinds::join_change;
 use crate::premises::{
     all_hold, can_be_joined, has_key, is_determined, is_met, is_over, share_key,
 };
 use crate::samples::{are_rows, is_delta, rows};
 use drop_delta::drop_delta;
+use join_delta::Source;
+use join_others::join_change;
 use lens_pred::Pred;
 use lens_values::{JoinKind, Name, Row, Value};
 use revision::{Touched, afters, befores, revise_touched};
@@ -37,8 +39,6 @@ pub(crate) fn changed<L: Ledger>(
     requires remove { remove.now.columns ≡ look.now.relation.columns }
     requires add { add.now.columns ≡ look.now.relation.columns }
 {
-    remove.rows_fit();
-    add.rows_fit();
     let delta = of_touched(alloc, remove.rows(), add.rows(), look, looked)?;
     is_delta(alloc, &delta, answer)
 }
@@ -53,7 +53,6 @@ pub(crate) fn told_apart<L: Ledger>(
 ) -> Result<bool, Fail>
     requires { rows.now.columns ≡ look.now.relation.columns }
 {
-    rows.rows_fit();
     let some = present(alloc, rows.rows(), look, looked)?;
     let others = absent(alloc, rows.rows(), look, looked)?;
     Ok(are_rows(alloc, &some, answer[0])? && are_rows(alloc, &others, answer[1])?)
@@ -69,7 +68,6 @@ pub(crate) fn agreeing<L: Ledger>(
 ) -> Result<bool, Fail>
     requires { rows.now.columns ≡ look.now.relation.columns }
 {
-    rows.rows_fit();
     if !has_key(alloc, look)? {
         return Err(Fail::from("no key"));
     }
@@ -88,7 +86,6 @@ pub(crate) fn touched<L: Ledger>(
 ) -> Result<bool, Fail>
     requires { plus.now.columns ≡ look.now.relation.columns }
 {
-    plus.rows_fit();
     if !is_over(alloc, &look.tree, &look.relation)? {
         return Err(Fail::from("an edge outside the columns"));
     }
@@ -124,7 +121,6 @@ pub(crate) fn selected<L: Ledger>(
 ) -> Result<bool, Fail>
     requires { view.now.columns ≡ look.now.relation.columns }
 {
-    view.rows_fit();
     if !is_over(alloc, &look.tree, &look.relation)? || !all_hold(view.rows(), pred) {
         return Err(Fail::from("rows of another sort"));
     }
@@ -144,11 +140,12 @@ fn edit_of_selection(
     view: &Relation,
 ) -> Result<Delta, Fail>
     requires { view.now.columns ≡ relation.now.columns }
-    ensures { IfOk result (λ delta.
+    ensures delta { IfOk result (λ delta.
         delta ≡ spec.diff (select_get (holds pred.now) relation.now.rows) view.now.rows) }
+    ensures fit { OnOk result (IsRelation view.now) }
 {
     let old = get_select(alloc, pred, relation)?;
-    Ok(diff(alloc, &old, view)?)
+    edit_between(alloc, &old, view)
 }
 
 /// Whether putting these rows changes this in the relation, where they lack the column that its
@@ -164,7 +161,6 @@ pub(crate) fn dropped<L: Ledger>(
 ) -> Result<bool, Fail>
     requires { view.now.columns ≡ without_column look.now.relation.columns col.now }
 {
-    view.rows_fit();
     if !has_key(alloc, look)? || look.key.has(col) {
         return Err(Fail::from("no key"));
     }
@@ -187,11 +183,12 @@ fn edit_of_projection(
     view: &Relation,
 ) -> Result<Delta, Fail>
     requires { view.now.columns ≡ without_column relation.now.columns col.now }
-    ensures { let U = names relation.now.columns in IfOk result (λ delta.
+    ensures delta { let U = names relation.now.columns in IfOk result (λ delta.
         delta ≡ spec.diff (drop_get U col.now relation.now.rows) view.now.rows) }
+    ensures fit { OnOk result (IsRelation view.now) }
 {
     let old = get_drop(alloc, col, relation)?;
-    Ok(diff(alloc, &old, view)?)
+    edit_between(alloc, &old, view)
 }
 
 /// What putting these rows to the join of this kind changes in both relations.
@@ -207,7 +204,6 @@ pub(crate) fn joined<L: Ledger>(
     requires columns { let U = left.now.relation.columns in
         view.now.columns ≡ both_columns U right.now.relation.columns }
 {
-    view.rows_fit();
     if !share_key(alloc, left, right)? || !can_be_joined(alloc, left, right)? {
         return Err(Fail::from("relations that cannot be joined"));
     }
@@ -220,16 +216,15 @@ pub(crate) fn joined<L: Ledger>(
         return Err(Fail::from("joined rows that clash"));
     }
     let delta = edit_of_join(alloc, &left.relation, &right.relation, view)?;
-    let changes = join_change(
-        alloc,
-        kind,
-        left,
-        &left.tree,
-        right,
-        &right.tree,
-        &delta,
-        looked,
-    )?;
+    let left = Source {
+        look: left,
+        tree: &left.tree,
+    };
+    let right = Source {
+        look: right,
+        tree: &right.tree,
+    };
+    let changes = join_change(alloc, kind, &left, &right, &delta, looked)?;
     Ok(changes)
 }
 
@@ -242,9 +237,24 @@ fn edit_of_join(
 ) -> Result<Delta, Fail>
     requires kinds { kinds_differ left.now.columns right.now.columns ≡ None }
     requires columns { view.now.columns ≡ both_columns left.now.columns right.now.columns }
-    ensures { IfOk result (λ delta.
+    ensures delta { IfOk result (λ delta.
         delta ≡ spec.diff (join.joined left.now right.now) view.now.rows) }
+    ensures fit { OnOk result (IsRelation view.now) }
 {
     let old = get_join(alloc, left, right)?;
-    Ok(diff(alloc, &old, view)?)
+    edit_between(alloc, &old, view)
+}
+
+// The edit that leads from the old rows to the new ones.
+fn edit_between(alloc: Global, old: &Relation, new: &Relation) -> Result<Delta, Fail>
+    requires { new.now.columns ≡ old.now.columns }
+    ensures delta { IfOk result (λ delta. delta ≡ spec.diff old.now.rows new.now.rows) }
+    ensures fit { OnOk result (IsRelation new.now) }
+{
+    let delta = diff(alloc, old, new)?;
+    let after = delta.apply_to(alloc, old.rows())?;
+    if after.rows() != new.rows().rows() {
+        return Err(Fail::from("an edit that leads to other rows"));
+    }
+    Ok(delta)
 }

@@ -1,6 +1,7 @@
 //! A relation in memory that is asked by key.
 ghost use Rattle.std.specs.Prelude.{◌≡◌, ◌≤◌, ◌+◌, ◌∷◌, length, map};
 ghost use Rattle.lens_values.specs.SortedSet as set;
+ghost use Rattle.lens_specs.specs.Relation.{IsRelation};
 
 use crate::samples::{columns, names, relation, tree};
 use fd_tree::Tree;
@@ -21,6 +22,8 @@ pub(crate) struct Held {
     pub(crate) tree: Tree,
     /// The other columns by which it may be asked.
     pub(crate) key: Names,
+
+    ghost fit: { IsRelation relation },
 }
 
 /// A relation as texts, as `a:int b:int`, `a -> b`, `a b` and `a=1 b=2; a=2 b=2`.
@@ -41,6 +44,9 @@ pub(crate) fn hold(alloc: Global, source: &Source<'_>) -> Result<Held, Fail> {
     let relation = rows_over(alloc, source.columns, source.rows)?;
     let tree = tree(alloc, source.tree)?;
     let key = names(alloc, source.key)?;
+    if relation.rows().rows().is_empty() {
+        return Err(Fail::from("no rows to ask"));
+    }
     Ok(Held {
         relation,
         tree,
@@ -62,7 +68,6 @@ impl Look for Held {
     ghost within = { λ h n. length (set.items h.relation.rows) + 1 ≤ n };
 
     fn columns(&self) -> &Columns {
-        self.relation.rows_fit();
         self.relation.columns()
     }
 

@@ -10,8 +10,6 @@ mod held;
 #[cfg(test)]
 mod joins;
 #[cfg(test)]
-mod kinds;
-#[cfg(test)]
 mod premises;
 #[cfg(test)]
 mod samples;

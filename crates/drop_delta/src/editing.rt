@@ -15,7 +15,7 @@ ghost use Rattle.drop_delta.specs.Dropped.{BothFill, Fills, edited_source, fille
 use fd_tree::Edge;
 use lens_values::{Name, Names, NoMemory, Row, Value};
 use row_sets::RowSet;
-use signed_delta::{Delta, Look, finds_are_few, rows_fit};
+use signed_delta::{Delta, Look};
 use std::alloc::Global;
 use std::sync::ledger::Ledger;
 use step_counter::Steps;
@@ -55,13 +55,12 @@ pub fn drop_delta<S: Look, L: Ledger>(
     ensures few { IfOk result (λ change. (n : ℕ) → S.within source.now n
         → rows_of change ≤ rows_down (rows_of delta.now) n) }
 {
-    rows_fit(source);
-    finds_are_few(source);
+    let names = source.columns().name_set();
     let left = by.copy(alloc)?;
     let right = Names::single(alloc, col)?;
     let edge = Edge { left, right };
     let default = default_row(alloc, col, fill)?;
-    let filled = filled_sides(alloc, source, &edge, &default, delta, looked)?;
+    let filled = filled_sides(alloc, source, &edge, &default, names, delta, looked)?;
     Ok(Delta::new(filled.remove, filled.add))
 }
 
@@ -81,14 +80,15 @@ struct FilledSides {
     add: RowSet,
 }
 
-// The rows to remove and those to add, each with the edge's right side filled in. They are walked
-// turn by turn: mostly a removed row and the added row at its place have the same key, and the
-// source is then asked for it once.
+// The rows to remove and those to add, each with the edge's right side filled in. They share the
+// names of the source's columns. They are walked turn by turn: mostly a removed row and the added
+// row at its place have the same key, and the source is then asked for it once.
 fn filled_sides<S: Look, L: Ledger>(
     alloc: Global,
     source: &S,
     edge: &Edge,
     default: &Row,
+    names: &Names,
     delta: &Delta,
     looked: &mut Steps<L>,
 ) -> Result<FilledSides, NoMemory>
@@ -112,7 +112,7 @@ fn filled_sides<S: Look, L: Ledger>(
     let mut fillings = Fillings {
         last: None,
         earlier: None,
-        names: None,
+        names,
     };
     for place in 0..removed.len().max(added.len()) {
         if let Some(row) = removed.get(place) {
@@ -137,11 +137,11 @@ struct Filling {
 // What filled in the last rows, for up to two keys: where rows are moved from one key to another,
 // the removed rows have the one, and the added rows that come between them the other.
 #[derive(Debug, Drop)]
-struct Fillings {
+struct Fillings<'a> {
     last: Option<Filling>,
     earlier: Option<Filling>,
-    // The names of the last row that was filled in, which the next one shares.
-    names: Option<Names>,
+    // The names of the source's columns, which the rows that are filled in share.
+    names: &'a Names,
 }
 
 // The row with the edge's right side filled in. What fills it in becomes the last filling.
@@ -151,7 +151,7 @@ fn filled_row<S: Look, L: Ledger>(
     edge: &Edge,
     default: &Row,
     row: &Row,
-    fillings: &mut Fillings,
+    fillings: &mut Fillings<'_>,
     looked: &mut Steps<L>,
 ) -> Result<Row, NoMemory>
     requires some { length (set.items edge.now.left) ≢ 0 }
@@ -170,11 +170,7 @@ fn filled_row<S: Look, L: Ledger>(
         _ => fillings.earlier.take(),
     };
     let filling = filling_of(alloc, source, edge, default, row, known, looked)?;
-    let filled = match &fillings.names {
-        Some(names) => row.paste_like(alloc, &filling.part, names)?,
-        None => row.paste(alloc, &filling.part)?,
-    };
-    fillings.names = Some(filled.names().copy(alloc)?);
+    let filled = row.paste_like(alloc, &filling.part, fillings.names)?;
     if let Some(before) = fillings.last.replace(filling) {
         fillings.earlier = Some(before);
     }

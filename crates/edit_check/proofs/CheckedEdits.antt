@@ -34,10 +34,14 @@ use Rattle.fd_tree.specs.declared.clash.Clash.{Clash}
 use Rattle.signed_delta.specs.Keys.{IsKey}
 
 -- what holds of each edge holds of the one at a place
-pub edge_at : (P : Edge → Type 0) (T : List Edge) (i : ℕ) (e : Edge) → AllEdges P T → i < length T → e ≡ get_or T i e → P e
+edge_at : (P : Edge → Type 0) (T : List Edge) (i : ℕ) (e : Edge) → AllEdges P T → i < length T → e ≡ get_or T i e → P e
 edge_at P [] i e all below here = absurd (omega arith)
 edge_at P (k ∷ ks) zero e all below here = subst P (sym here) all.0
 edge_at P (k ∷ ks) (suc i) e all below here = edge_at P ks i e all.1 (omega arith) here
+
+-- also where the list is another name for the tree
+pub edge_of : (P : Edge → Type 0) (T es : List Edge) (i : ℕ) (e : Edge) → AllEdges P T → es ≡ T → i < length es → e ≡ get_or es i e → P e
+edge_of P T es i e all same below here = edge_at P es i e (subst (AllEdges P) (sym same) all) below here
 
 -- a row over the columns has a value in each column of a side within them
 pub side_there : (U : Columns) (C : Names) (r : Row) → Within C (names U) → Fits U r → (c : Name) → set.contains C c ≡ true → is_some (at r c) ≡ true

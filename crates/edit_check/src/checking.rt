@@ -91,7 +91,6 @@ fn clash_of_edit<K: Look, L: Ledger>(
     ensures looks { (n : ℕ) → K.within view.now n
         → looked.new ≤ looked.old + n * length (set.items delta.now.add) * length tree.now }
 {
-    tree.lefts_are_full();
     for (place, edge) in tree.edges().iter().enumerate() {
         let pair = pair_of_edit(alloc, edge, view, delta, looked)?;
         if let Some((first, second)) = pair {

@@ -1,30 +1,33 @@
 //! Trees of functional dependencies.
-ghost use Rattle.std.specs.Prelude.{◌≡◌, ◌≢◌, ◌++◌, IfOk, false};
+ghost use Rattle.std.specs.Prelude.{◌≡◌, ◌++◌, List, IfOk, false};
+ghost use Rattle.std.specs.Coded.{coded_list};
 ghost use Rattle.no_memory.specs.Gives.{Gives};
 ghost use Rattle.lens_values.specs.SortedSet as set;
 ghost use Rattle.lens_specs.specs.Names.{one};
 ghost use Rattle.lens_specs.specs.Dependencies as dependencies;
-ghost use Rattle.lens_specs.specs.Dependencies.{AllEdges};
+ghost use Rattle.lens_specs.specs.Dependencies.{AllEdges, Edge as EdgeOf};
 ghost use Rattle.lens_specs.specs.Rename.{renamed_tree};
 ghost use Rattle.lens_specs.specs.TreeForm as spec;
 ghost use Rattle.lens_specs.specs.TreeForm.{tree_of, tree_without};
 ghost use Rattle.lens_specs.specs.Sort.{clash};
 ghost use Rattle.fd_laws.specs.Trees.{IsTree};
+ghost use Rattle.fd_closure.specs.Sides.{coded_edge};
 ghost use Rattle.fd_tree.specs.ClashView.{shown_clash};
 ghost use Rattle.fd_tree.specs.Form.{form_of};
 ghost use Rattle.fd_tree.specs.Sides.{HasLeft};
-ghost use Rattle.fd_tree.specs.declared.tree.TreeFault.TheVariants as fault;
+ghost use Rattle.fd_tree.specs.declared.fault.TreeFault.TheVariants as fault;
 
 use crate::checking::first_fault;
 use crate::clash::{Clash, first_clash};
 use crate::cleaning::grouped;
 use crate::edge::{Edge, edges_of};
+use crate::fault::TreeFault;
 use crate::ordering::ordered;
 use crate::reducing::{full, reduced};
 use fd_closure::{Dep, closure};
 use lens_values::{Name, Names, NoMemory, append, copied};
 use row_sets::Relation;
-use std::alloc::{AllocError, AllocFailed, Global};
+use std::alloc::Global;
 use std::marker::Model;
 
 /// An ordered list of edges in tree form. A contract sees the edges.
@@ -35,14 +38,6 @@ pub struct Tree {
 }
 
 impl Model for Tree {
-    ghost use Rattle.std.specs.Prelude.{◌≡◌, List};
-    ghost use Rattle.std.specs.Coded.{coded_list};
-    ghost use Rattle.lens_specs.specs.Dependencies.{AllEdges, Edge as EdgeOf};
-    ghost use Rattle.lens_specs.specs.TreeForm as spec;
-    ghost use Rattle.fd_laws.specs.Trees.{IsTree};
-    ghost use Rattle.fd_closure.specs.Sides.{coded_edge};
-    ghost use Rattle.fd_tree.specs.Sides.{HasLeft};
-
     ghost Value = { List EdgeOf };
 
     ghost coded = { coded_list coded_edge };
@@ -50,72 +45,6 @@ impl Model for Tree {
     ghost view = { λ t. t.edges.items };
 
     ghost invariant = { λ t. (t.outputs ≡ spec.outputs t.edges.items) × AllEdges HasLeft t.edges.items × IsTree t.edges.items };
-}
-
-/// Why no tree was made.
-#[derive(Debug, Drop)]
-pub enum TreeFault {
-    /// The dependencies have no tree form, because two of their sides overlap.
-    NotTree {
-        /// A side of one edge.
-        a: Names,
-        /// A side of another.
-        b: Names,
-    },
-    /// Memory ran out.
-    NoMemory,
-}
-
-impl From<AllocError> for TreeFault {
-    ghost use Rattle.std.specs.Prelude.{◌≡◌};
-    ghost use Rattle.fd_tree.specs.declared.tree.TreeFault.TheVariants.{NoMemory};
-
-    ghost from_gives = { λ _ e. e ≡ NoMemory };
-
-    fn from(_: AllocError) -> TreeFault {
-        TreeFault::NoMemory
-    }
-}
-
-impl<T: Drop> From<AllocFailed<T>> for TreeFault {
-    ghost use Rattle.std.specs.Prelude.{◌≡◌};
-    ghost use Rattle.fd_tree.specs.declared.tree.TreeFault.TheVariants.{NoMemory};
-
-    ghost from_gives = { λ _ e. e ≡ NoMemory };
-
-    fn from(_: AllocFailed<T>) -> TreeFault {
-        TreeFault::NoMemory
-    }
-}
-
-impl From<NoMemory> for TreeFault {
-    ghost use Rattle.std.specs.Prelude.{◌≡◌};
-    ghost use Rattle.fd_tree.specs.declared.tree.TreeFault.TheVariants.{NoMemory};
-
-    ghost from_gives = { λ _ e. e ≡ NoMemory };
-
-    fn from(_: NoMemory) -> TreeFault {
-        TreeFault::NoMemory
-    }
-}
-
-impl TreeFault {
-    /// The fault of two sides that overlap, or want of memory to copy them.
-    pub(crate) fn of_sides(alloc: Global, a: &Names, b: &Names) -> TreeFault
-        ensures { result ≢ fault.NoMemory → result ≡ fault.NotTree a.now b.now }
-    {
-        match both(alloc, a, b) {
-            Ok((a, b)) => TreeFault::NotTree { a, b },
-            Err(_) => TreeFault::NoMemory,
-        }
-    }
-}
-
-// Copies of both.
-fn both(alloc: Global, a: &Names, b: &Names) -> Result<(Names, Names), NoMemory>
-    ensures { IfOk result (λ copies. copies ≡ (a.now, b.now)) }
-{
-    Ok((a.copy(alloc)?, b.copy(alloc)?))
 }
 
 impl Tree {
@@ -127,9 +56,11 @@ impl Tree {
         Tree::form(alloc, edges_of(alloc, deps)?)
     }
 
-    /// The edges in their order.
+    /// The edges in their order. They are in tree form, and each has a column on its left side.
     pub fn edges(&self) -> &[Edge]
-        ensures { result.now ≡ self.now }
+        ensures edges { result.now ≡ self.now }
+        ensures tree { IsTree self.now }
+        ensures lefts { AllEdges HasLeft self.now }
     {
         &self.edges
     }
@@ -147,20 +78,6 @@ impl Tree {
     {
         let deps = full(alloc, copied(alloc, &self.edges)?)?;
         closure(alloc, cols, &deps)
-    }
-
-    /// Does nothing, and tells a proof that the edges form a tree.
-    pub fn is_tree(&self)
-        ensures { IsTree self.now }
-    {
-        let _ = &self.edges;
-    }
-
-    /// Does nothing, and tells a proof that each edge has a column on its left side.
-    pub fn lefts_are_full(&self)
-        ensures { AllEdges HasLeft self.now }
-    {
-        let _ = &self.edges;
     }
 
     /// An equal tree.

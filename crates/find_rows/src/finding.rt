@@ -12,7 +12,7 @@ ghost use Rattle.find_rows.specs.Found.{rows_with};
 use lens_probe::View;
 use lens_values::{Name, Names, NoMemory, Row, Value};
 use row_sets::{Relation, RowSet};
-use signed_delta::{Look, rows_fit};
+use signed_delta::Look;
 use std::alloc::Global;
 use std::sync::ledger::Ledger;
 use step_counter::Steps;
@@ -40,7 +40,6 @@ pub fn find_rows<J: Ledger, K: Ledger>(
         walked.new ≤ walked.old + rows_under view.now.lens db }
     ensures walks_on { walked.old ≤ walked.new }
 {
-    rows_fit(view);
     let cols = Names::single(alloc, col)?;
     let rows = rows_found(alloc, view, &cols, col, value, looked, walked)?;
     let columns = view.columns().copy(alloc)?;

@@ -1,5 +1,6 @@
 //! Values that tests write as texts.
 ghost use Rattle.std.specs.Prelude.{◌≡◌, IfOk, OnOk};
+ghost use Rattle.lens_specs.specs.Relation.{IsRelation};
 
 use lens_values::{Columns, Kind, Name, Row, Text, Value};
 use row_sets::{Relation, RowSet};
@@ -68,7 +69,8 @@ fn rows(alloc: Global, text: &str) -> Result<Vec<Row>, Fail> {
 
 /// The relation over the columns that has the rows of the text.
 pub(crate) fn relation(alloc: Global, columns: &Columns, text: &str) -> Result<Relation, Fail>
-    ensures { IfOk result (λ made. made.columns ≡ columns.now) }
+    ensures columns { IfOk result (λ made. made.columns ≡ columns.now) }
+    ensures fit { IfOk result IsRelation }
 {
     let mut made = Relation::empty(alloc, columns.copy(alloc)?);
     for row in rows(alloc, text)? {
@@ -79,7 +81,9 @@ pub(crate) fn relation(alloc: Global, columns: &Columns, text: &str) -> Result<R
 
 // Adds the row, if it fits.
 fn add(relation: &mut Relation, row: Row) -> Result<(), Fail>
-    ensures { OnOk result (relation.new.columns ≡ relation.old.columns) }
+    requires { IsRelation relation.old }
+    ensures columns { OnOk result (relation.new.columns ≡ relation.old.columns) }
+    ensures fit { OnOk result (IsRelation relation.new) }
 {
     if !row.fits(relation.columns()) {
         return Err(Fail::from("a row of other columns"));

@@ -80,7 +80,6 @@ impl<L: Ledger> Trial<L> {
     pub(crate) fn stages(&mut self, rows: &str) -> Result<bool, Fail> {
         let old = shown(self.alloc, &self.tables, &self.name, &mut self.steps)?;
         let new = relation(self.alloc, old.columns(), rows)?;
-        new.rows_fit();
         let delta = diff(self.alloc, &old, &new)?;
         self.tables.unstage();
         self.tables.stage(&[TableDelta {
@@ -193,6 +192,5 @@ fn shown<L: Ledger>(
 {
     let columns = tables.columns(table).copy(alloc)?;
     let rows = tables.walk(table, steps)?;
-    tables.rows_fit(table);
     Ok(Relation::with_rows(columns, rows))
 }

@@ -17,11 +17,11 @@ use Rattle.fd_laws.specs.Trees.{EdgesWithin, IsTree}
 use Rattle.lens_laws.specs.Shapes.{CanJoin, IsIn, Shape, join_shape}
 use Rattle.fd_laws.proofs.Closures.{closure_is, implies_sound}
 use Rattle.lens_laws.proofs.Deltas.{diff_leads, from_found_each, from_touched, in_new_view_added, merge_adds, merge_delta_is}
-use Rattle.lens_laws.proofs.Join.{from_natural, from_over, in_over, in_put_left, left_sort, natural_paste, not_over, part_left, part_right, right_sort, view_left}
+use Rattle.lens_laws.proofs.Join.{from_natural, from_over, in_over, in_put_left, left_sort, natural_paste, not_over, part_left, parts_fit, right_sort, view_left}
 use Rattle.lens_laws.proofs.JoinDelta.{from_suspects, in_suspects, join_delta_left_is, join_delta_right_is, split_left, sub_left}
 use Rattle.lens_laws.proofs.JoinKindDeltas.{over_pair}
 use Rattle.fd_laws.proofs.Lists.{absurd_false, any_at, false_from}
-use Rattle.fd_laws.proofs.Relations.{from_join, from_minus, from_project, from_those, from_union, in_join, in_minus, in_project, in_those, in_union_left, in_union_right, same_rel, sets}
+use Rattle.fd_laws.proofs.Relations.{from_join, from_minus, from_project, from_those, from_union, in_join, in_minus, in_those, in_union_left, in_union_right, same_rel, sets}
 use Rattle.fd_laws.proofs.Rows.{row_itself, tied_row}
 use Rattle.fd_laws.proofs.TreeForms.{all_append, append_parts}
 use Rattle.fd_laws.proofs.Trees.{each_edge}
@@ -89,6 +89,19 @@ join_edit p fit_left fit_right tree_left tree_right = record {
   view = p.view;
 }
 
+-- the parts of added rows have the columns
+pub left_parts_fit : {K L : List Names} {A B : Relation} {F G : List Edge} {d : Delta} → CanEdit K L A B F G d → (r : Row) → has (project (names A.columns) d.add) r ≡ true → Fits A.columns r
+unfolding cut
+left_parts_fit {A = A} {B = B} {d = d} p r i =
+    let w = from_project (names A.columns) d.add r i in
+    subst (Fits A.columns) (sym w.2) (parts_fit A.columns B.columns p.can.kinds w.0 (p.view.columns w.0 (in_new_view_added (joined A B) d w.0 w.1))).0
+
+pub right_parts_fit : {K L : List Names} {A B : Relation} {F G : List Edge} {d : Delta} → CanEdit K L A B F G d → (r : Row) → has (project (names B.columns) d.add) r ≡ true → Fits B.columns r
+unfolding cut
+right_parts_fit {A = A} {B = B} {d = d} p r i =
+    let w = from_project (names B.columns) d.add r i in
+    subst (Fits B.columns) (sym w.2) (parts_fit A.columns B.columns p.can.kinds w.0 (p.view.columns w.0 (in_new_view_added (joined A B) d w.0 w.1))).1
+
 module _ {A B : Relation} {F G : List Edge} {d : Delta} (q : IsJoinEdit A B F G d) where
   abbrev U : Names
   U = names A.columns
@@ -136,17 +149,6 @@ module _ {A B : Relation} {F G : List Edge} {d : Delta} (q : IsJoinEdit A B F G 
 
   pub of_view : IsIn (edited A B d) (join_shape s t (F ++ G))
   of_view = record { columns = q.view.columns; holds = λ r i. refl; meets = all_append (λ e. Meets (edited A B d) e.left e.right) F G q.view.left q.view.right }
-
-  -- the parts of added rows have the columns
-  pub left_parts_fit : (r : Row) → has (project U d.add) r ≡ true → Fits A.columns r
-  left_parts_fit r i =
-      let w = from_project U d.add r i in
-      (part_left s t (F ++ G) passes (edited A B d) of_view).columns r (ap (has _) w.2 ∙ in_project U (edited A B d) w.0 (in_new_view_added (joined A B) d w.0 w.1))
-
-  pub right_parts_fit : (r : Row) → has (project V d.add) r ≡ true → Fits B.columns r
-  right_parts_fit r i =
-      let w = from_project V d.add r i in
-      (part_right s t (F ++ G) passes (edited A B d) of_view).columns r (ap (has _) w.2 ∙ in_project V (edited A B d) w.0 (in_new_view_added (joined A B) d w.0 w.1))
 
   pub suspects_fit : (added : Rows) (r : Row) → has (suspects S U A.rows d added) r ≡ true → Fits A.columns r
   unfolding suspects

@@ -194,9 +194,9 @@ module _ (a b : ℕ) (some_a : 1 ≤ a) (some_b : 1 ≤ b) where
       → l4 ≤ old + 582 * (d * (a * b) * (a * b))
   after_tests d old l1 l2 l3 l4 h i j k = in_all d old l4 (omega arith)
 
-  -- within the work of the node
-  pub in_work : (d k old now : ℕ) → k ≤ 32768 → now ≤ old + k * (d * (a * b) * (a * b)) → now ≤ old + node_work d (2 * a * b)
-  in_work d k old now few h =
-      let p : k * (d * (a * b) * (a * b)) ≤ 32768 * (d * (a * b) * (a * b)) = mul-le k (d * (a * b) * (a * b)) 32768 (d * (a * b) * (a * b)) few (omega arith) in
-      let s : 8192 * d * (2 * a * b) * (2 * a * b) ≡ 32768 * (d * (a * b) * (a * b)) = grind arith in
-      omega arith
+-- within the work of the node
+pub in_work : (a b d k old now : ℕ) → k ≤ 32768 → now ≤ old + k * (d * (a * b) * (a * b)) → now ≤ old + node_work d (2 * a * b)
+in_work a b d k old now few h =
+    let p : k * (d * (a * b) * (a * b)) ≤ 32768 * (d * (a * b) * (a * b)) = mul-le k (d * (a * b) * (a * b)) 32768 (d * (a * b) * (a * b)) few (omega arith) in
+    let s : 8192 * d * (2 * a * b) * (2 * a * b) ≡ 32768 * (d * (a * b) * (a * b)) = grind arith in
+    omega arith

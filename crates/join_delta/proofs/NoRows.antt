@@ -10,7 +10,7 @@ use Rattle.lens_specs.specs.Delta.{Delta, is_empty, new_view}
 use Rattle.lens_specs.specs.Dependencies.{Edge, MeetsTree}
 use Rattle.lens_specs.specs.Names.{Names}
 use Rattle.lens_specs.specs.Relation.{Rows, has, minus, union}
-use Rattle.lens_specs.specs.Revision.{revise}
+use Rattle.lens_specs.specs.Revision.{revise, revise_row}
 use Rattle.lens_laws.specs.KeyedDeltas.{found_each, merge_delta, touched}
 use Rattle.lens_laws.proofs.Deltas.{from_touched}
 use Rattle.fd_laws.proofs.Lists.{absurd_false}
@@ -45,17 +45,11 @@ unchanged M d none =
     let w = and_parts _ _ none in
     union_none (minus M d.remove) d.add (eqb-true _ _ w.1) ∙ minus_none M d.remove (eqb-true _ _ w.0)
 
--- a merge with rows that are all there changes nothing
-pub nothing_new : (F : List Edge) (M A gone new : Rows) → MeetsTree M F → new ≡ minus A M → length (set.items new) ≡ 0 → gone ≡ set.empty
+-- a merge that revises no row adds those that are not there
+none_touched : (F : List Edge) (M A gone new : Rows) → ((m : Row) → has (touched F M A) m ≡ true → ⊥) → new ≡ minus A M → gone ≡ set.empty
     → ◌≡◌ {A = Delta} (record { remove = gone; add = new }) (merge_delta F M A)
 unfolding merge_delta
-nothing_new F M A gone new meets rest none is =
-    let lacks : (a : Row) → has (minus A M) a ≡ false = λ a. ap (λ N. has N a) (sym rest) ∙ has_none new a none in
-    let there : (a : Row) → has A a ≡ true → has M a ≡ true = λ a i. elim (cases_Bool (has M a)) [
-      | inl t ↦ t
-      | inr f ↦ absurd_false _ (in_minus A M a i f) (lacks a)
-    ] in
-    let same : (m : Row) → has (touched F M A) m ≡ true → ⊥ = λ m i. let w = from_touched F M A m i in w.1 (revise_own F M A m meets there w.0) in
+none_touched F M A gone new same rest is =
     let removed : gone ≡ touched F M A = is ∙ same_rel _ _ (λ r i. absurd_false _ i (set.contains-empty _ r)) (λ r i. absurd (same r i)) in
     let added : new ≡ union (revise F (touched F M A) A) (minus A M) = rest ∙ same_rel _ _
     (λ r i. in_union_right _ (minus A M) r i)
@@ -64,6 +58,24 @@ nothing_new F M A gone new meets rest none is =
       | inr j ↦ j
     ]) in
     λ i. record { remove = removed i; add = added i }
+
+-- a merge with rows that are all there changes nothing
+pub nothing_new : (F : List Edge) (M A gone new : Rows) → MeetsTree M F → new ≡ minus A M → length (set.items new) ≡ 0 → gone ≡ set.empty
+    → ◌≡◌ {A = Delta} (record { remove = gone; add = new }) (merge_delta F M A)
+nothing_new F M A gone new meets rest none is =
+    let lacks : (a : Row) → has (minus A M) a ≡ false = λ a. ap (λ N. has N a) (sym rest) ∙ has_none new a none in
+    let there : (a : Row) → has A a ≡ true → has M a ≡ true = λ a i. elim (cases_Bool (has M a)) [
+      | inl t ↦ t
+      | inr f ↦ absurd_false _ (in_minus A M a i f) (lacks a)
+    ] in
+    none_touched F M A gone new (λ m i. let w = from_touched F M A m i in w.1 (revise_own F M A m meets there w.0)) rest is
+
+-- a merge without dependencies revises no row
+pub no_edges : (F : List Edge) (M A gone new : Rows) → length F ≡ 0 → new ≡ minus A M → gone ≡ set.empty
+    → ◌≡◌ {A = Delta} (record { remove = gone; add = new }) (merge_delta F M A)
+unfolding revise_row
+no_edges [] M A gone new none rest is = none_touched [] M A gone new (λ m i. (from_touched [] M A m i).1 refl) rest is
+no_edges (e ∷ F) M A gone new none rest is = absurd (omega arith)
 
 -- no rows, nothing found by them
 pub union_found : (C : Names) (M P : Rows) (ls : List Row) → length ls ≡ 0 → union P (found_each C M ls) ≡ P

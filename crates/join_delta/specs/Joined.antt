@@ -3,15 +3,17 @@ use Rattle.std.specs.Prelude.{◌≡◌, ◌≢◌, ◌≤◌, ◌*◌, ℕ, Lis
 use Rattle.std.specs.FinMap as finmap
 use Rattle.std.specs.List.{Contains}
 use Rattle.lens_values.specs.SortedSet as set
+use Rattle.lens_values.specs.declared.join_kind.JoinKind.{JoinKind}
 use Rattle.lens_values.specs.declared.row.Row.{Row}
 use Rattle.lens_specs.specs.Columns.{Columns, Fits, both_columns, names}
-use Rattle.lens_specs.specs.Delta.{Applies, Delta, new_view}
+use Rattle.lens_specs.specs.Delta.{Applies, Delta, diff, new_view}
 use Rattle.lens_specs.specs.Dependencies.{AllEdges, Edge, MeetsTree, closure}
 use Rattle.lens_specs.specs.Names.{Name, Names, Within}
-use Rattle.lens_specs.specs.Nodes.{join_get, join_put_left, join_right}
-use Rattle.lens_specs.specs.Relation.{Relation, Rows, has}
+use Rattle.lens_specs.specs.Nodes.{join_get, join_left_after, join_right_after}
+use Rattle.lens_specs.specs.Relation.{IsRelation, Relation, Rows, has}
 use Rattle.lens_specs.specs.Rows.{agree}
-use Rattle.fd_laws.specs.Trees.{EdgesWithin}
+use Rattle.fd_laws.specs.Trees.{EdgesWithin, IsTree}
+use Rattle.lens_laws.specs.Work.{GivesAtMost, rows_down, rows_of}
 
 -- the shared columns
 abbrev pub shared_names : Columns → Columns → Names
@@ -43,14 +45,15 @@ joined A B = join_get (names A.columns) (names B.columns) A.rows B.rows
 abbrev pub edited : Relation → Relation → Delta → Rows
 edited A B d = new_view (joined A B) d
 
--- the left source after a put of the edited join
-abbrev pub edited_left : Relation → List Edge → Relation → List Edge → Delta → Rows
-edited_left A F B G d =
-    join_put_left (names A.columns) (names B.columns) F G (edited A B d) A.rows B.rows
+-- the left source after a put of the edited join, which deletes on this side
+abbrev pub left_after : JoinKind → Relation → List Edge → Relation → List Edge → Delta → Rows
+left_after k A F B G d =
+    join_left_after k (names A.columns) (names B.columns) F G (edited A B d) A.rows B.rows
 
 -- the right source after the same put
-abbrev pub edited_right : Relation → Relation → List Edge → Delta → Rows
-edited_right A B G d = join_right (names B.columns) G (edited A B d) B.rows
+abbrev pub right_after : JoinKind → Relation → List Edge → Relation → List Edge → Delta → Rows
+right_after k A F B G d =
+    join_right_after k (names A.columns) (names B.columns) F G (edited A B d) A.rows B.rows
 
 -- an edit d of the join of A, which may be asked by the sets K, and of B, which may be asked by L
 pub record CanEdit (K L : List Names) (A B : Relation) (F G : List Edge) (d : Delta) : Type 0 where
@@ -75,3 +78,19 @@ AreKeyed S N = (m n : Row) → has N m ≡ true → has N n ≡ true → agree S
 abbrev pub AtSizes : (ℕ → Type 0) → (ℕ → Type 0) → List Edge → List Edge → (ℕ → Type 0) → Type 0
 AtSizes within_left within_right F G P =
     (a b : ℕ) → within_left a → within_right b → length F ≤ 64 → length G ≤ 64 → P (2 * a * b)
+
+-- what an edit d of the join of A and B, which deletes on this side, changes in them, where each finds so many rows within a question
+pub record IsJoinChange (k : JoinKind) (within_left within_right : ℕ → Type 0) (A B : Relation) (F G : List Edge) (d : Delta) (changes : Delta × Delta) : Type 0 where
+  pub left : changes.0 ≡ diff A.rows (left_after k A F B G d)
+  pub right : changes.1 ≡ diff B.rows (right_after k A F B G d)
+  -- neither has many rows
+  pub left_few : AtSizes within_left within_right F G (λ n. rows_of changes.0 ≤ rows_down (rows_of d) n)
+  pub right_few : AtSizes within_left within_right F G (λ n. rows_of changes.1 ≤ rows_down (rows_of d) n)
+
+-- what holds of each source, which may be asked by the sets K, and of its tree
+pub record IsSource (K : List Names) (within : ℕ → Type 0) (A : Relation) (F : List Edge) : Type 0 where
+  pub fit : IsRelation A
+  pub tree : IsTree F
+  -- a question looks at one row at least, and finds no more rows than it looks at
+  pub some : (n : ℕ) → within n → 1 ≤ n
+  pub gives : (n : ℕ) → within n → GivesAtMost n K A.rows

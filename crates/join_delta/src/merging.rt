@@ -1,13 +1,14 @@
 //! What a merge changes, by rows found by key.
-ghost use Rattle.std.specs.Prelude.{◌≡◌, ◌≤◌, ◌+◌, ◌*◌, ℕ, true, length, Contains, IfOk};
+ghost use Rattle.std.specs.Prelude.{◌≡◌, ◌≤◌, ◌+◌, ◌*◌, ℕ, true, length, Contains, IfOk, OnOk};
 ghost use Rattle.lens_values.specs.SortedSet as set;
 ghost use Rattle.lens_specs.specs.Delta.{diff};
 ghost use Rattle.lens_specs.specs.Relation.{Rows, has, minus};
+ghost use Rattle.fd_laws.specs.Trees.{IsTree};
 ghost use Rattle.lens_laws.specs.KeyedDeltas.{merge_delta};
 ghost use Rattle.signed_delta.specs.Disjoint.{AreApart};
 ghost use Rattle.revision.specs.Near.{CanRevise};
 
-use fd_tree::Tree;
+use crate::source::Source;
 use lens_values::NoMemory;
 use revision::{afters, befores, near_and_new, touched_among};
 use row_sets::RowSet;
@@ -25,24 +26,27 @@ pub struct Change {
     pub add: RowSet,
 }
 
-/// What a merge with these rows changes in the relation: the rows that they revise become what
+/// What a merge with these rows changes in the source: the rows that they revise become what
 /// they are revised to, and those of them that are new come.
 pub fn merge_change<K: Look, L: Ledger>(
     alloc: Global,
-    tree: &Tree,
-    look: &K,
+    source: &Source<'_, K>,
     rows: &RowSet,
     looked: &mut Steps<L>,
 ) -> Result<Change, NoMemory>
-    requires { CanRevise (K.asked look.now) (K.relation look.now) tree.now rows.now }
-    ensures change { IfOk result (λ change. record { remove = change.remove; add = change.add }
-        ≡ merge_delta tree.now (K.relation look.now).rows rows.now) }
-    ensures looks { (n : ℕ) → K.within look.now n → looked.new ≤ looked.old
-        + n * length (set.items rows.now) * (length tree.now + 1) }
+    requires { let a = source.now.look.now in
+        CanRevise (K.asked a) (K.relation a) source.now.tree.now rows.now }
+    ensures change { let M = (K.relation source.now.look.now).rows in
+        IfOk result (λ change. record { remove = change.remove; add = change.add }
+        ≡ merge_delta source.now.tree.now M rows.now) }
+    ensures looks { (n : ℕ) → K.within source.now.look.now n → looked.new ≤ looked.old
+        + n * length (set.items rows.now) * (length source.now.tree.now + 1) }
+    ensures tree { OnOk result (IsTree source.now.tree.now) }
 {
-    let near = near_and_new(alloc, tree, look, rows, looked)?;
-    // Rows that are all there revise nothing.
-    if near.new.rows().is_empty() {
+    let tree = source.tree;
+    let near = near_and_new(alloc, tree, source.look, rows, looked)?;
+    // Without dependencies no row is revised, nor is one by rows that are all there.
+    if tree.edges().is_empty() || near.new.rows().is_empty() {
         let remove = RowSet::empty(alloc);
         return Ok(Change {
             remove,

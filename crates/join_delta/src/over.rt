@@ -5,14 +5,14 @@ ghost use Rattle.lens_values.specs.SortedSet as set;
 ghost use Rattle.lens_specs.specs.Columns.{Fits, names};
 ghost use Rattle.lens_specs.specs.Delta.{new_view};
 ghost use Rattle.lens_specs.specs.Nodes.{join_get};
-ghost use Rattle.lens_specs.specs.Relation.{minus, those};
+ghost use Rattle.lens_specs.specs.Relation.{IsRelation, minus, those};
 ghost use Rattle.join_delta.specs.Joined.{AreKeyed, edited, shared_names};
 ghost use Rattle.join_delta.specs.Pairs.{AreSides, has_parts, shows};
 
 use crate::sides::Sides;
 use lens_values::{NoMemory, Row};
 use row_sets::RowSet;
-use signed_delta::{Delta, Look, find_each, rows_fit};
+use signed_delta::{Delta, Look, find_each};
 use std::alloc::Global;
 use std::sync::ledger::Ledger;
 use step_counter::Steps;
@@ -29,6 +29,8 @@ pub fn over_pairs<A: Look, B: Look, L: Ledger>(
     delta: &Delta,
     looked: &mut Steps<L>,
 ) -> Result<RowSet, NoMemory>
+    requires left { IsRelation (A.relation left.now) }
+    requires right { IsRelation (B.relation right.now) }
     requires sides { let U = (A.relation left.now).columns in
         AreSides U (B.relation right.now).columns sides.now }
     requires shared { let U = (A.relation left.now).columns in
@@ -53,8 +55,6 @@ pub fn over_pairs<A: Look, B: Look, L: Ledger>(
     if rows.rows().is_empty() {
         return Ok(RowSet::empty(alloc));
     }
-    rows_fit(left);
-    rows_fit(right);
     let found = find_each(alloc, &sides.shared, rows, right, looked)?;
     let near = changed(alloc, found, change)?;
     let pairs = rows.join(alloc, &near, &sides.shared)?;

@@ -1,20 +1,20 @@
 //! Both sources of a join, merged with an edit of it.
-ghost use Rattle.std.specs.Prelude.{◌≡◌, ◌≢◌, ◌≤◌, ◌+◌, ◌*◌, ℕ, true, length, Contains, IfOk, is_some};
+ghost use Rattle.std.specs.Prelude.{◌≡◌, ◌≢◌, ◌≤◌, ◌+◌, ◌*◌, ℕ, true, length, Contains, IfOk, OnOk, is_some};
 ghost use Rattle.lens_values.specs.SortedSet as set;
 ghost use Rattle.lens_specs.specs.Relation.{minus, union};
 ghost use Rattle.lens_specs.specs.Rows.{at};
 ghost use Rattle.lens_laws.specs.KeyedDeltas.{suspects as suspects_of};
 ghost use Rattle.lens_laws.specs.Work.{rows_of};
-ghost use Rattle.join_delta.specs.Joined.{CanEdit};
+ghost use Rattle.join_delta.specs.Joined.{CanEdit, IsSource};
 ghost use Rattle.join_delta.specs.Surplus.{IsMerged};
 
 use crate::merging::{Change, merge_change};
 use crate::over::over_pairs;
 use crate::sides::{Sides, sides_of};
-use fd_tree::Tree;
+use crate::source::Source;
 use lens_values::NoMemory;
 use row_sets::RowSet;
-use signed_delta::{Delta, Look, find_each, finds_are_few, rows_fit};
+use signed_delta::{Delta, Look, find_each};
 use std::alloc::Global;
 use std::sync::ledger::Ledger;
 use step_counter::Steps;
@@ -41,45 +41,43 @@ pub struct Merged {
 /// removes, nor the parts of added rows, which join to the added rows alone.
 pub fn merge_sources<A: Look, B: Look, L: Ledger>(
     alloc: Global,
-    left: &A,
-    left_tree: &Tree,
-    right: &B,
-    right_tree: &Tree,
+    left: &Source<'_, A>,
+    right: &Source<'_, B>,
     delta: &Delta,
     looked: &mut Steps<L>,
 ) -> Result<Merged, NoMemory>
-    requires { let R = A.relation left.now in let Q = B.relation right.now in
-        CanEdit (A.asked left.now) (B.asked right.now) R Q left_tree.now right_tree.now delta.now }
-    ensures merged { let R = A.relation left.now in let Q = B.relation right.now in
-        IfOk result (IsMerged R Q left_tree.now right_tree.now delta.now) }
-    ensures looks { (a b : ℕ) → A.within left.now a → B.within right.now b
-        → length left_tree.now ≤ 64 → length right_tree.now ≤ 64
+    requires { let a = left.now.look.now in let b = right.now.look.now in
+        CanEdit (A.asked a) (B.asked b) (A.relation a) (B.relation b)
+        left.now.tree.now right.now.tree.now delta.now }
+    ensures merged { let R = A.relation left.now.look.now in
+        IfOk result (IsMerged R (B.relation right.now.look.now)
+        left.now.tree.now right.now.tree.now delta.now) }
+    ensures left { let a = left.now.look.now in
+        OnOk result (IsSource (A.asked a) (A.within a) (A.relation a) left.now.tree.now) }
+    ensures right { let b = right.now.look.now in
+        OnOk result (IsSource (B.asked b) (B.within b) (B.relation b) right.now.tree.now) }
+    ensures looks { (a b : ℕ) → A.within left.now.look.now a → B.within right.now.look.now b
+        → length left.now.tree.now ≤ 64 → length right.now.tree.now ≤ 64
         → looked.new ≤ looked.old + 582 * (rows_of delta.now * (a * b) * (a * b)) }
     ensures few { IfOk result (λ merged.
-        (a b : ℕ) → A.within left.now a → B.within right.now b
-        → length left_tree.now ≤ 64 → length right_tree.now ≤ 64
+        (a b : ℕ) → A.within left.now.look.now a → B.within right.now.look.now b
+        → length left.now.tree.now ≤ 64 → length right.now.tree.now ≤ 64
         → length (set.items merged.over) ≤ 129 * (rows_of delta.now * (a * b))) }
 {
-    rows_fit(left);
-    rows_fit(right);
-    finds_are_few(left);
-    finds_are_few(right);
-    left_tree.is_tree();
-    right_tree.is_tree();
-    let sides = sides_of(alloc, left.columns(), right.columns())?;
+    let sides = sides_of(alloc, left.look.columns(), right.look.columns())?;
     let right_rows = delta.add().project(alloc, &sides.right)?;
-    let change = merge_change(alloc, right_tree, right, &right_rows, looked)?;
-    let right_change = Delta::new(change.remove, change.add);
+    let change = merge_change(alloc, right, &right_rows, looked)?;
     let left_rows = delta.add().project(alloc, &sides.left)?;
-    let merged = merge_change(alloc, left_tree, left, &left_rows, looked)?;
-    let suspects = suspects(alloc, &sides, left, &right_change, delta, looked)?;
+    let merged = merge_change(alloc, left, &left_rows, looked)?;
+    let right_change = Delta::new(change.remove, change.add);
+    let suspects = suspects(alloc, &sides, left.look, &right_change, delta, looked)?;
     let tested = tested(alloc, &suspects, &merged, &left_rows)?;
     let over = over_pairs(
         alloc,
         &tested,
         &sides,
-        left,
-        right,
+        left.look,
+        right.look,
         &right_change,
         delta,
         looked,

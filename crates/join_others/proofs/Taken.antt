@@ -1,8 +1,7 @@
 -- An edit of a join that deletes on the right, or on both sides, carried down to both sources.
-use Rattle.std.proofs.Common.{◌≡◌, ◌≤◌, ◌*◌, [], ◌∷◌, ℕ, List, ◌++◌, arith, length, not, sym, ap, ◌∙◌, refl, subst, true, false, inl, inr}
+use Rattle.std.proofs.Common.{◌≡◌, ◌≢◌, ◌≤◌, ◌*◌, ◌∷◌, ℕ, List, ◌++◌, length, not, sym, ap, ◌∙◌, refl, subst, true, false, inl, inr}
 use Rattle.std.proofs.lemmas.Bool.{cases_Bool, not-true, not_from_false}
 use Rattle.lens_values.specs.Part.{restrict}
-use Rattle.lens_values.specs.SortedSet as set
 use Rattle.lens_values.specs.declared.join_kind.JoinKind.{JoinKind}
 use Rattle.lens_values.specs.declared.join_kind.JoinKind.TheVariants.{DeleteBoth, DeleteLeft, DeleteRight}
 use Rattle.lens_values.specs.declared.row.Row.{Row}
@@ -17,16 +16,14 @@ use Rattle.lens_laws.specs.JoinKinds.{join_delta_left_kept, join_delta_right_fre
 use Rattle.lens_laws.specs.Asked.{left_sides}
 use Rattle.lens_laws.specs.Shapes.{Shape}
 use Rattle.lens_laws.specs.Work.{GivesAtMost, rows_down, rows_of}
-use Rattle.lens_laws.proofs.DeltaCounts.{left_delta_small, left_kept_small, right_delta_small, right_free_small}
+use Rattle.lens_laws.proofs.DeltaCounts.{left_delta_small, left_kept_small, right_free_small}
 use Rattle.lens_laws.proofs.Deltas.{diff_applies, diff_leads}
 use Rattle.lens_laws.proofs.JoinKindDeltas.{left_kept_is, right_free_is}
 use Rattle.fd_laws.proofs.Lists.{absurd_false, false_from}
 use Rattle.fd_laws.proofs.Relations.{from_minus, from_project, from_those, in_minus, in_project, in_those, same_rel}
-use Rattle.signed_delta.proofs.Counts.{listed_len}
 use Rattle.join_delta.specs.Joined.{edited, shared_names}
-use Rattle.join_delta.proofs.NoRows.{has_none, minus_none}
-use Rattle.join_others.specs.Edited.{left_deleted, right_deleted}
-use Rattle.join_delta.proofs.Carried.{IsJoinEdit, left_is, merged_left, merged_right, of_left, of_right, of_view, over_left, over_right, passes, right_is}
+use Rattle.join_others.specs.Deleted.{left_deleted}
+use Rattle.join_delta.proofs.Carried.{IsJoinEdit, left_is, merged_left, merged_right, of_left, of_right, of_view, over_left, over_right, passes}
 
 -- ---- what is joined too much, by whether the view has the right part
 module _ (U V : Names) (F G : List Edge) (O M N : Rows) where
@@ -127,38 +124,31 @@ module _ {A B : Relation} {F G : List Edge} {d : Delta} (q : IsJoinEdit A B F G 
   abbrev over_of : Rows
   over_of = join_over U V F G (edited A B d) A.rows B.rows
 
-  pub left_without : (k : JoinKind) (gone : Rows) → gone ≡ left_deleted k U V over_of (right_deleted k V over_of (edited A B d))
+  -- the right parts that the edited view lacks
+  abbrev pub freed : Rows
+  freed = minus (project (names B.columns) (join_over (names A.columns) (names B.columns) F G (edited A B d) A.rows B.rows)) (project (names B.columns) (edited A B d))
+
+  pub left_without : (k : JoinKind) (gone : Rows) → gone ≡ left_deleted k U V over_of freed
       → minus (merged_left q) gone ≡ join_left_after k U V F G (edited A B d) A.rows B.rows
   unfolding join_put_left join_put_left_kept
   left_without DeleteLeft gone is = ap (minus (merged_left q)) is
-  left_without DeleteRight gone is = ap (minus (merged_left q)) (is ∙ ap (project U) (kept_is U V F G (edited A B d) A.rows B.rows (right_deleted DeleteRight V over_of (edited A B d)) refl))
+  left_without DeleteRight gone is = ap (minus (merged_left q)) (is ∙ ap (project U) (kept_is U V F G (edited A B d) A.rows B.rows freed refl))
   left_without DeleteBoth gone is = ap (minus (merged_left q)) is
 
-  pub left_there : (k : JoinKind) (gone : Rows) → gone ≡ left_deleted k U V over_of (right_deleted k V over_of (edited A B d))
-      → (r : Row) → has gone r ≡ true → has (merged_left q) r ≡ true
+  pub left_there : (k : JoinKind) (gone : Rows) → gone ≡ left_deleted k U V over_of freed → (r : Row) → has gone r ≡ true → has (merged_left q) r ≡ true
   left_there DeleteLeft gone is r i = over_left q r (ap (λ M. has M r) (sym is) ∙ i)
   left_there DeleteRight gone is r i =
-      kept_left r (ap (λ M. has M r) (sym (is ∙ ap (project U) (kept_is U V F G (edited A B d) A.rows B.rows (right_deleted DeleteRight V over_of (edited A B d)) refl))) ∙ i)
+      kept_left r (ap (λ M. has M r) (sym (is ∙ ap (project U) (kept_is U V F G (edited A B d) A.rows B.rows freed refl))) ∙ i)
   left_there DeleteBoth gone is r i = over_left q r (ap (λ M. has M r) (sym is) ∙ i)
 
-  no_rows : (N : Rows) → N ≡ set.empty → length (set.items N) ≡ 0
-  no_rows N is =
-      let same = ap (λ s. length (set.items s)) is in
-      let none = listed_len [] in
-      omega (arith, same, none)
-
-  pub right_without : (k : JoinKind) (gone : Rows) → gone ≡ right_deleted k V over_of (edited A B d)
-      → minus (merged_right q) gone ≡ join_right_after k U V F G (edited A B d) A.rows B.rows
+  pub right_without : (k : JoinKind) → k ≢ DeleteLeft → (gone : Rows) → gone ≡ freed → minus (merged_right q) gone ≡ join_right_after k U V F G (edited A B d) A.rows B.rows
   unfolding join_put_right
-  right_without DeleteLeft gone is = minus_none (merged_right q) gone (no_rows gone is)
-  right_without DeleteRight gone is = ap (minus (merged_right q)) (is ∙ free_is U V F G (edited A B d) A.rows B.rows)
-  right_without DeleteBoth gone is = ap (minus (merged_right q)) (is ∙ free_is U V F G (edited A B d) A.rows B.rows)
+  right_without DeleteLeft other gone is = absurd (other refl)
+  right_without DeleteRight other gone is = ap (minus (merged_right q)) (is ∙ free_is U V F G (edited A B d) A.rows B.rows)
+  right_without DeleteBoth other gone is = ap (minus (merged_right q)) (is ∙ free_is U V F G (edited A B d) A.rows B.rows)
 
-  pub right_there : (k : JoinKind) (gone : Rows) → gone ≡ right_deleted k V over_of (edited A B d)
-      → (r : Row) → has gone r ≡ true → has (merged_right q) r ≡ true
-  right_there DeleteLeft gone is r i = absurd_false _ i (has_none gone r (no_rows gone is))
-  right_there DeleteRight gone is r i = free_right r (ap (λ M. has M r) (sym (is ∙ free_is U V F G (edited A B d) A.rows B.rows)) ∙ i)
-  right_there DeleteBoth gone is r i = free_right r (ap (λ M. has M r) (sym (is ∙ free_is U V F G (edited A B d) A.rows B.rows)) ∙ i)
+  pub right_there : (gone : Rows) → gone ≡ freed → (r : Row) → has gone r ≡ true → has (merged_right q) r ≡ true
+  right_there gone is r i = free_right r (ap (λ M. has M r) (sym (is ∙ free_is U V F G (edited A B d) A.rows B.rows)) ∙ i)
 
   -- ---- how many rows change, where a and b bound one question on the left and on the right
   module _ (a b : ℕ) (edges : length F ≤ 64) (more : length G ≤ 64) (some_a : 1 ≤ a) (some_b : 1 ≤ b)
@@ -181,9 +171,7 @@ module _ {A B : Relation} {F G : List Edge} {d : Delta} (q : IsJoinEdit A B F G 
         (left_kept_small U V F G A.rows B.rows (edited A B d) d a b edges more some_a some_b gives_left edges_right)
     left_few DeleteBoth = few_by_left
 
-    pub right_few : (k : JoinKind) → rows_of (diff B.rows (join_right_after k U V F G (edited A B d) A.rows B.rows)) ≤ rows_down (rows_of d) (2 * a * b)
-    right_few DeleteLeft =
-        subst (λ (x : Delta). rows_of x ≤ rows_down (rows_of d) (2 * a * b)) (right_is q)
-        (right_delta_small V G B.rows d a b more some_a some_b edges_right)
-    right_few DeleteRight = few_by_right
-    right_few DeleteBoth = few_by_right
+    pub right_few : (k : JoinKind) → k ≢ DeleteLeft → rows_of (diff B.rows (join_right_after k U V F G (edited A B d) A.rows B.rows)) ≤ rows_down (rows_of d) (2 * a * b)
+    right_few DeleteLeft other = absurd (other refl)
+    right_few DeleteRight other = few_by_right
+    right_few DeleteBoth other = few_by_right

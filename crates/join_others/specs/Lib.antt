@@ -1,2 +1,2 @@
-pub mod Edited
+pub mod Deleted
 pub mod Shown

@@ -1,8 +1,7 @@
-//! What an edit of a join changes in its two sources, where the join deletes on the right, or on
-//! both sides.
+//! What an edit of a join changes in its two sources, by the side on which the join deletes.
 #![tactic(auto)]
 
 pub mod editing;
 mod parts;
 
-pub use editing::{join_both_delta, join_dr_delta};
+pub use editing::join_change;

@@ -2,45 +2,41 @@
 ghost use Rattle.std.specs.Prelude.{◌≡◌, ◌≢◌, ◌≤◌, ◌+◌, ◌*◌, ℕ, true, length, not, Contains, IfOk, is_some};
 ghost use Rattle.lens_values.specs.Part.{restrict};
 ghost use Rattle.lens_values.specs.SortedSet as set;
-ghost use Rattle.lens_specs.specs.Columns.{names};
-ghost use Rattle.lens_specs.specs.Relation.{has, minus, project, those};
+ghost use Rattle.lens_specs.specs.Relation.{has, project, those};
 ghost use Rattle.lens_specs.specs.Rows.{at};
-ghost use Rattle.join_delta.specs.Joined.{edited};
-ghost use Rattle.join_others.specs.Edited.{left_deleted, right_deleted};
+ghost use Rattle.join_others.specs.Deleted.{CanAsk, free_of, left_deleted};
 ghost use Rattle.join_others.specs.Shown as spec;
-ghost use Rattle.join_others.specs.Shown.{IsMergeOf};
 
 use join_delta::Merged;
 use lens_values::{JoinKind, Names, NoMemory, Row};
 use row_sets::RowSet;
-use signed_delta::{Delta, Look, rows_fit};
+use signed_delta::Look;
 use std::alloc::Global;
 use std::sync::ledger::Ledger;
 use step_counter::Steps;
 
-/// The right parts that are deleted: none where the join deletes on the left.
-pub fn right_parts<A: Look, B: Look, L: Ledger>(
+/// The right parts of the rows that are joined too much, those that the edited view lacks.
+///
+/// The view has the parts of the added rows. Of the others it has those that stood in the right
+/// source and that join a left row to a row that is not removed.
+pub fn free_parts<A: Look, L: Ledger>(
     alloc: Global,
-    kind: JoinKind,
     merged: &Merged,
     left: &A,
-    right: &B,
-    delta: &Delta,
+    removed: &RowSet,
     looked: &mut Steps<L>,
 ) -> Result<RowSet, NoMemory>
-    requires { let R = A.relation left.now in let Q = B.relation right.now in
-        IsMergeOf (A.asked left.now) R Q delta.now merged.now }
-    ensures gone { let R = A.relation left.now in let Q = B.relation right.now in
-        let view = edited R Q delta.now in
-        IfOk result (λ gone. gone ≡ right_deleted kind (names Q.columns) merged.now.over view) }
+    requires { CanAsk (A.asked left.now) merged.now }
+    ensures free { let M = (A.relation left.now).rows in
+        IfOk result (λ free. free ≡ free_of merged.now M removed.now) }
     ensures looks { (n : ℕ) → A.within left.now n → looked.new
         ≤ looked.old + n * length (set.items merged.now.over) }
 {
-    match kind {
-        JoinKind::DeleteLeft => Ok(RowSet::empty(alloc)),
-        JoinKind::DeleteRight => free_parts(alloc, merged, left, right, delta, looked),
-        JoinKind::DeleteBoth => free_parts(alloc, merged, left, right, delta, looked),
-    }
+    let parts = merged.over.project(alloc, &merged.sides.right)?;
+    let others = parts.minus(alloc, &merged.parts)?;
+    let old = others.minus(alloc, merged.right.add())?;
+    let shown = shown_parts(alloc, &merged.sides.shared, &old, left, removed, looked)?;
+    others.minus(alloc, &shown)
 }
 
 /// The left parts that are deleted beside these right parts: where the join deletes on the right,
@@ -59,42 +55,6 @@ pub fn left_parts(
         JoinKind::DeleteLeft => merged.over.project(alloc, &merged.sides.left),
         JoinKind::DeleteBoth => merged.over.project(alloc, &merged.sides.left),
     }
-}
-
-// The right parts of the rows that are joined too much, those that the edited view lacks.
-//
-// The view has the parts of the added rows. Of the others it has those that stood in the right
-// source and that join a left row to a row that is not removed.
-fn free_parts<A: Look, B: Look, L: Ledger>(
-    alloc: Global,
-    merged: &Merged,
-    left: &A,
-    right: &B,
-    delta: &Delta,
-    looked: &mut Steps<L>,
-) -> Result<RowSet, NoMemory>
-    requires { let R = A.relation left.now in let Q = B.relation right.now in
-        IsMergeOf (A.asked left.now) R Q delta.now merged.now }
-    ensures free { let V = names (B.relation right.now).columns in
-        let view = edited (A.relation left.now) (B.relation right.now) delta.now in
-        IfOk result (λ free. free ≡ minus (project V merged.now.over) (project V view)) }
-    ensures looks { (n : ℕ) → A.within left.now n → looked.new
-        ≤ looked.old + n * length (set.items merged.now.over) }
-{
-    rows_fit(left);
-    rows_fit(right);
-    let parts = merged.over.project(alloc, &merged.sides.right)?;
-    let others = parts.minus(alloc, &merged.parts)?;
-    let old = others.minus(alloc, merged.right.add())?;
-    let shown = shown_parts(
-        alloc,
-        &merged.sides.shared,
-        &old,
-        left,
-        delta.remove(),
-        looked,
-    )?;
-    others.minus(alloc, &shown)
 }
 
 // Those of the right parts that the view still shows.

@@ -2,7 +2,6 @@
 #![tactic(auto)]
 
 mod changes;
-mod kinds;
 mod nodes;
 mod putting;
 

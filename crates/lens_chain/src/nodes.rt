@@ -9,11 +9,12 @@ ghost use Rattle.lens_laws.specs.KeyedDeltas as keyed;
 ghost use Rattle.lens_laws.specs.Lenses.{IsTyped};
 ghost use Rattle.lens_laws.specs.Rename.{rename_delta};
 ghost use Rattle.lens_laws.specs.Work.{node_work, rows_down, rows_of, size};
-ghost use Rattle.lens_probe.specs.Viewed.{FindsAtMost, asked_by};
+ghost use Rattle.lens_probe.specs.Viewed.{FindsAtMost, IsViewed, asked_by};
 ghost use Rattle.lens_chain.specs.Edits.{IsEdit, edited, over};
 
-use crate::kinds::join_change;
 use drop_delta::drop_delta;
+use join_delta::Source;
+use join_others::join_change;
 use lens_pred::Pred;
 use lens_probe::View;
 use lens_types::rename_set;
@@ -57,6 +58,7 @@ pub fn under_drop<L: Ledger>(
     delta: &Delta,
     looked: &mut Steps<L>,
 ) -> Result<Delta, NoMemory>
+    requires viewed { IsViewed source.now }
     requires typed { IsTyped (spec.drop col.now by.now fill.now source.now.lens) }
     requires asked { Contains (asked_by source.now) by.now }
     requires edit { let C = source.now.lens in
@@ -70,8 +72,6 @@ pub fn under_drop<L: Ledger>(
     ensures few { IfOk result (λ change. (w : ℕ) → FindsAtMost source.now w
         → rows_of change ≤ rows_down (rows_of delta.now) (size source.now.lens w)) }
 {
-    // The source has to be of its sort, as it is for each view.
-    let _ = source.lens();
     drop_delta(alloc, source, col, by, fill, delta, looked)
 }
 
@@ -83,14 +83,13 @@ pub fn under_rename(
     source: &View<'_>,
     delta: &Delta,
 ) -> Result<Delta, NoMemory>
+    requires viewed { IsViewed source.now }
     requires typed { IsTyped (spec.rename col.now to.now source.now.lens) }
     requires edit { let C = source.now.lens in
         IsEdit (spec.rename col.now to.now C) (over source.now) delta.now }
     ensures change { IfOk result (λ change. change ≡ rename_delta col.now to.now delta.now) }
     ensures edit { IfOk result (λ change. IsEdit source.now.lens (over source.now) change) }
 {
-    // The source has to be of its sort, as it is for each view.
-    let _ = source.lens();
     let names = source.columns().names(alloc)?;
     let shown = names.rename(alloc, col, to)?;
     let remove = rename_set(alloc, delta.remove(), &shown, to, col)?;
@@ -138,9 +137,13 @@ pub fn under_join<L: Ledger>(
         → let n = size (spec.join kind left.now.lens right.now.lens) w in
         rows_of changes.1 ≤ rows_down (rows_of delta.now) n) }
 {
-    let left_tree = left.lens().sort().tree();
-    let right_tree = right.lens().sort().tree();
-    join_change(
-        alloc, kind, left, left_tree, right, right_tree, delta, looked,
-    )
+    let left = Source {
+        look: left,
+        tree: left.lens().sort().tree(),
+    };
+    let right = Source {
+        look: right,
+        tree: right.lens().sort().tree(),
+    };
+    join_change(alloc, kind, &left, &right, delta, looked)
 }

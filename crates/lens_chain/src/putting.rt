@@ -4,7 +4,7 @@ ghost use Rattle.lens_specs.specs.Delta.{changes};
 ghost use Rattle.lens_laws.specs.Edits.{table_deltas};
 ghost use Rattle.lens_laws.specs.Work.{rows_of, work};
 ghost use Rattle.signed_delta.specs.Tables.{table_delta};
-ghost use Rattle.lens_probe.specs.Viewed.{FindsAtMost};
+ghost use Rattle.lens_probe.specs.Viewed.{FindsAtMost, IsViewed};
 ghost use Rattle.lens_chain.specs.Changed.{with_changes};
 ghost use Rattle.lens_chain.specs.Edits.{IsEdit, edited, over};
 
@@ -32,8 +32,6 @@ pub fn put_delta<L: Ledger>(
     ensures looks { (w : ℕ) → FindsAtMost view.now w
         → looked.new ≤ looked.old + work view.now.lens (rows_of delta.now) w }
 {
-    // The lens has to be typed and the tables of their sorts, as they are for each view.
-    let _ = view.lens();
     let mut changes = Changes::new(alloc);
     carry_down(alloc, view, delta.copy(alloc)?, &mut changes, looked)?;
     changes.in_order(alloc)
@@ -52,6 +50,7 @@ fn carry_down<L: Ledger>(
         ≡ with_changes (table_deltas view.now.lens delta (over view.now)) changes.old) }
     ensures looks { (w : ℕ) → FindsAtMost view.now w
         → looked.new ≤ looked.old + work view.now.lens (rows_of delta) w }
+    ensures viewed { IsViewed view.now }
 {
     match view.lens().lens() {
         Lens::Base { table, .. } => changes.add(*table, delta),

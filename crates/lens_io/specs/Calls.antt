@@ -1,8 +1,11 @@
--- The calls of a source and of a sink.
+-- The calls of a source and of a sink, with the words that say what one call does.
 use Rattle.std.specs.Prelude.{◌≡◌, ◌≢◌, ◌-◌, ℕ, List, [], ◌∷◌, take, length, map, Vec, Option, None, Some, Result, MatchResult}
 use Rattle.std.specs.declared.alloc.Global.{Global}
-use Rattle.io_specs.specs.Calls.{Adds}
-use Rattle.lens_io.specs.declared.told.Offer.{Offer}
+pub use Rattle.std.specs.Io.{ReadsAtMost}
+pub use Rattle.std.specs.Io.KnownBytes.{ReadConsumes, WriteAppends}
+pub use Rattle.io_specs.specs.Calls.{Adds}
+pub use Rattle.io_specs.specs.Faults.{Rose}
+pub use Rattle.lens_io.specs.declared.told.Offer.{Offer}
 use Rattle.lens_io.specs.declared.told.Take.{Take}
 
 -- One call of a source: the room that it was given, and the bytes that came; none come at the end of the input and at a fault.

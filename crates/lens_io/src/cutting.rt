@@ -1,8 +1,10 @@
 //! Lines of a source.
-ghost use Rattle.std.specs.Prelude.{◌≡◌, ◌≤◌, ◌^◌, false, [], IfOk};
-ghost use Rattle.io_specs.specs.Faults.{Rose};
-ghost use Rattle.io_specs.specs.Calls.{Adds};
+ghost use Rattle.std.specs.Prelude.{◌≡◌, ◌≤◌, ◌^◌, false, [], IfOk, slice_range};
+ghost use Rattle.lens_io.specs.Calls.{Adds, Rose};
+ghost use Rattle.lens_io.specs.CutterCode.{coded_cutter};
+ghost use Rattle.lens_io.specs.Cutting as spec;
 ghost use Rattle.lens_io.specs.Cutting.{AskInNeed, NeedsNone, Step, is_last};
+ghost use Rattle.lens_io.specs.Within.{Holds};
 
 mod found;
 mod gathering;
@@ -44,15 +46,9 @@ pub struct LineCutter {
 }
 
 impl Model for LineCutter {
-    ghost use Rattle.std.specs.Prelude.{slice_range};
-    ghost use Rattle.lens_io.specs.Cutting as spec;
-    ghost use Rattle.lens_io.specs.CutterCode.{coded_cutter};
-
     ghost Value = { spec.Cutter };
 
     ghost coded = { coded_cutter };
-
-    ghost use Rattle.lens_io.specs.Within.{Holds};
 
     ghost view = { λ c. record { pending = slice_range c.bytes.items c.found.start c.found.end; line = slice_range c.bytes.items c.found.line_start c.found.line_end; taken = c.found.taken; limit = c.limit; ended = c.found.ended; done = c.done } };
 

@@ -1,10 +1,8 @@
 //! Sources and sinks in memory, for tests: exactly the calls that are listed fail.
-ghost use Rattle.std.specs.Prelude.{◌≡◌, ◌≤◌, ◌<◌, ◌⊎◌, true, false, [], length, map, take, drop, min, None, Some, IfOk, OnErr, MatchOption, MatchResult};
-ghost use Rattle.std.specs.Io.{ReadsAtMost};
-ghost use Rattle.std.specs.Io.KnownBytes.{ReadConsumes, WriteAppends};
-ghost use Rattle.io_specs.specs.Faults.{Rose};
-ghost use Rattle.lens_io.specs.Calls.{AddsGive, AddsTake, call_of, calls_kept, offers_kept};
-ghost use Rattle.lens_io.specs.InMemory.{one_more, is_failing, given_count, after_giving, after_refusing, taken_count, after_taking, after_declining};
+ghost use Rattle.std.specs.Prelude.{◌≡◌, ◌≤◌, ◌<◌, ◌⊎◌, true, false, ℕ, List, [], length, map, take, drop, min, None, Some, IfOk, OnErr, MatchOption, MatchResult};
+ghost use Rattle.lens_io.specs.Calls.{AddsGive, AddsTake, ReadConsumes, ReadsAtMost, Rose, WriteAppends, call_of, calls_kept, offers_kept};
+ghost use Rattle.lens_io.specs.InMemory.{PiecewiseSink, PiecewiseSource, one_more, is_failing, given_count, after_giving, after_refusing, taken_count, after_taking, after_declining};
+ghost use Rattle.lens_io.specs.Within.{HasRoom};
 
 use crate::input_output::{Failed, Sink, Source};
 use crate::told::{Offer, Take, add_offer, add_take};
@@ -20,8 +18,6 @@ pub struct SureSource {
 }
 
 impl Model for SureSource {
-    ghost use Rattle.std.specs.Prelude.{List, ℕ, drop};
-
     ghost Value = { List ℕ };
 
     ghost view = { λ s. drop s.at s.bytes.items };
@@ -37,8 +33,6 @@ impl SureSource {
 }
 
 impl Source for SureSource {
-    ghost use Rattle.std.specs.Prelude.{None, Some};
-
     ghost left = { λ s. Some s };
 
     ghost faults = { λ _. 0 };
@@ -114,10 +108,6 @@ pub struct MemorySource {
 }
 
 impl Model for MemorySource {
-    ghost use Rattle.std.specs.Prelude.{◌≤◌};
-    ghost use Rattle.lens_io.specs.Calls.{calls_kept};
-    ghost use Rattle.lens_io.specs.InMemory.{PiecewiseSource};
-
     ghost Value = { PiecewiseSource };
 
     ghost view = { λ s. record {
@@ -193,8 +183,6 @@ impl MemorySource {
 }
 
 impl Source for MemorySource {
-    ghost use Rattle.std.specs.Prelude.{None, Some};
-
     ghost left = { λ s. Some s.left };
 
     ghost faults = { λ s. s.faults };
@@ -240,9 +228,6 @@ pub struct MemorySink {
 }
 
 impl Model for MemorySink {
-    ghost use Rattle.lens_io.specs.Calls.{offers_kept};
-    ghost use Rattle.lens_io.specs.InMemory.{PiecewiseSink};
-
     ghost Value = { PiecewiseSink };
 
     ghost view = { λ s. record {
@@ -254,8 +239,6 @@ impl Model for MemorySink {
       faults = s.calls.faults;
       offered = offers_kept s.kept;
     } };
-
-    ghost use Rattle.lens_io.specs.Within.{HasRoom};
 
     ghost invariant = { HasRoom };
 }
@@ -342,8 +325,6 @@ impl MemorySink {
 }
 
 impl Sink for MemorySink {
-    ghost use Rattle.std.specs.Prelude.{Some};
-
     ghost taken = { λ s. Some s.taken };
 
     ghost faults = { λ s. s.faults };

@@ -1,13 +1,9 @@
 //! Sources and sinks of bytes, which count their faults.
 ghost use Rattle.std.specs.Prelude.{◌≡◌, ◌≤◌, ◌<◌, ℕ, List, length, OnOk, OnErr, IfOk};
 ghost use Rattle.std.specs.declared.option.Option.{Option};
-ghost use Rattle.std.specs.Io.{ReadsAtMost};
-ghost use Rattle.std.specs.Io.KnownBytes.{Appends, Keeps, ReadConsumes, WriteAppends};
-ghost use Rattle.io_specs.specs.Faults.{Rose};
+ghost use Rattle.std.specs.Io.KnownBytes.{Appends, Keeps};
 ghost use Rattle.lens_io.specs.Bytes.{AppendsFront};
-ghost use Rattle.io_specs.specs.Calls.{Adds};
-ghost use Rattle.lens_io.specs.Calls.{AddsGive, AddsTake, Call, OffersRest};
-ghost use Rattle.lens_io.specs.declared.told.Offer.{Offer};
+ghost use Rattle.lens_io.specs.Calls.{Adds, AddsGive, AddsTake, Call, Offer, OffersRest, ReadConsumes, ReadsAtMost, Rose, WriteAppends};
 
 /// A source or a sink failed, and has counted it.
 #[derive(Clone, Copy, Debug, PartialEq, Eq)]

@@ -1,5 +1,5 @@
 //! Sources and sinks over std's readers and writers.
-ghost use Rattle.std.specs.Prelude.{◌≡◌};
+ghost use Rattle.std.specs.Prelude.{◌≡◌, None};
 
 use crate::input_output::{Failed, Sink, Source};
 use std::io::{Read, Write};
@@ -22,8 +22,6 @@ impl<R: Read> StreamSource<R> {
 }
 
 impl<R: Read> Source for StreamSource<R> {
-    ghost use Rattle.std.specs.Prelude.{None};
-
     ghost left = { λ s. R.remaining s.reader };
 
     ghost faults = { λ s. s.faults };
@@ -60,8 +58,6 @@ impl<W: Write> StreamSink<W> {
 }
 
 impl<W: Write> Sink for StreamSink<W> {
-    ghost use Rattle.std.specs.Prelude.{None};
-
     ghost taken = { λ s. W.contents s.writer };
 
     ghost faults = { λ s. s.faults };

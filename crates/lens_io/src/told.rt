@@ -26,12 +26,10 @@ pub struct Offer {
 pub(crate) fn add_take(kept: &mut Option<Vec<Take>>, room: usize, came: &[u8])
     ensures { AddsCall (calls_kept kept.old) (calls_kept kept.new) room came.now }
 {
-    let added = match kept {
-        Some(takes) => push_take(takes, room, came).is_ok(),
-        None => false,
-    };
-    if !added {
-        *kept = None;
+    if let Some(takes) = kept {
+        if push_take(takes, room, came).is_err() {
+            *kept = None;
+        }
     }
 }
 
@@ -48,11 +46,9 @@ fn push_take(takes: &mut Vec<Take>, room: usize, came: &[u8]) -> Result<(), NoMe
 pub(crate) fn add_offer(kept: &mut Option<Vec<Offer>>, size: usize, took: usize)
     ensures { AddsOffer (offers_kept kept.old) (offers_kept kept.new) size took }
 {
-    let added = match kept {
-        Some(offers) => offers.push(Offer { size, took }).is_ok(),
-        None => false,
-    };
-    if !added {
-        *kept = None;
+    if let Some(offers) = kept {
+        if offers.push(Offer { size, took }).is_err() {
+            *kept = None;
+        }
     }
 }

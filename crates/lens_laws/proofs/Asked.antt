@@ -1,7 +1,7 @@
 -- The sets by which the nodes are asked: each has a column, and each that is handed down is one of the child's.
 use Rattle.std.proofs.Common.{◌≡◌, Bool, true, false, cond, ℕ, zero, suc, ◌<◌, List, [], ◌∷◌, ◌++◌, length, map, refl, sym, ap, ◌∙◌, subst, ◌⊎◌, inl, inr, arith, nat_eq}
 use Rattle.std.proofs.lemmas.Bool.{or_cases, true≢false}
-use Rattle.std.proofs.lemmas.List.Elements.{Contains-append_left, Contains-append_right, Contains-append_cases}
+use Rattle.std.proofs.lemmas.List.Elements.{Contains-append_left, Contains-append_cases}
 use Rattle.std.specs.List.{Contains, list_any, filter, slice_index_or}
 use Rattle.std.specs.Ordering.{eq_by_cmp}
 use Rattle.lens_values.specs.SortedSet as set
@@ -208,11 +208,6 @@ rights_keyed (drop A X a L) h k = rights_filled _ (rights_without (one A) (sort_
 rights_keyed (rename A B L) h k = rights_renamed A B (sort_of L).tree (rights_keyed L h.0 k)
 rights_keyed (join kind A B) h k = rights_filled _ (tree_of_rights ((sort_of A).tree ++ (sort_of B).tree) (sort_of (join kind A B)).tree h.2.form)
 
-pub edges_keyed : (L : Lens) → IsTyped L → HasKeys L → IsFilled (view_names L) × AllEdges (λ e. IsFilled e.left × IsFilled e.right) (sort_of L).tree
-edges_keyed L h k =
-    let w = keyed L h k in
-    (w.0, both_edges (λ e. IsFilled e.left) (λ e. IsFilled e.right) (λ e. IsFilled e.left × IsFilled e.right) (λ e l r. (l, r)) (sort_of L).tree w.1 (rights_keyed L h k))
-
 -- a table that a definition gives
 pub form_keyed : (F T : List Edge) → tree_of F ≡ is_tree T → AllEdges (λ e. IsFilled e.left) F → AllEdges (λ e. IsFilled e.left × IsFilled e.right) T
 form_keyed F T is h = both_edges (λ e. IsFilled e.left) (λ e. IsFilled e.right) (λ e. IsFilled e.left × IsFilled e.right) (λ e l r. (l, r)) T
@@ -314,14 +309,3 @@ reaches (join kind A B) K h k keys C i =
 
 pub keys_reach : (L : Lens) (K : List Names) → IsTyped L → HasKeys L → AreKeys (view_names L) K → (C : Names) → Contains (keys_at L K) C → Reaches L K C
 keys_reach L K h k keys C i = reaches L K h k (keys_are L K h k keys) C i
-
-in_left_sides : (T : List Edge) (K : List Names) → ((e : Edge) → Contains T e → Contains K e.left) → AllEdges (λ e. Contains K e.left) T
-in_left_sides [] K h = tt
-in_left_sides (e ∷ es) K h = (h e (contains_head e es), in_left_sides es K (λ k i. h k (contains_tail k e es i)))
-
-pub edges_may_be_asked : (L : Lens) (K : List Names) → IsTyped L → HasKeys L → AreKeys (view_names L) K → AllEdges (λ e. MayBeAsked L K e.left) (sort_of L).tree
-edges_may_be_asked L K h k keys =
-    let T = (sort_of L).tree in
-    let all = keys_are L K h k keys in
-    each_edge (λ e. Contains (keys_at L K) e.left) (λ e. MayBeAsked L K e.left) (λ e i. let u = all e.left i in (i, u.0, u.1)) T
-    (in_left_sides T (keys_at L K) (λ e i. Contains-append_right K (left_sides T) e.left (contains_map (λ e. e.left) T e i)))

@@ -1,25 +1,23 @@
 -- How many rows the differences at the nodes have.
-use Rattle.std.proofs.Common.{◌≡◌, ℕ, suc, ◌+◌, ◌*◌, ◌≤◌, Bool, not, List, [], ◌∷◌, ◌++◌, length, arith, Some}
+use Rattle.std.proofs.Common.{◌≡◌, ℕ, suc, ◌+◌, ◌*◌, ◌≤◌, Bool, not, List, [], ◌∷◌, ◌++◌, length, arith}
 use Rattle.std.proofs.lemmas.List.{length-append}
 use Rattle.std.proofs.lemmas.Nat.{mul-le}
 use Rattle.lens_values.specs.SortedSet as set
-use Rattle.lens_values.specs.declared.value.Value.{Value}
 use Rattle.lens_values.specs.declared.row.Row.{Row}
 use Rattle.lens_laws.proofs.Asked.{contains_head, contains_tail}
 use Rattle.lens_laws.proofs.Counts.{count-from_list, count-none, count-those, count-within, count-image, count-project}
 use Rattle.fd_laws.proofs.Relations.{from_minus}
 use Rattle.lens_specs.specs.Delta.{Delta, new_view}
-use Rattle.lens_specs.specs.Dependencies.{Edge, edge}
-use Rattle.lens_specs.specs.Names.{Name, Names, one}
+use Rattle.lens_specs.specs.Dependencies.{Edge}
+use Rattle.lens_specs.specs.Names.{Name, Names}
 use Rattle.lens_specs.specs.Rename.{renamed_row}
-use Rattle.lens_specs.specs.Nodes.{drop_put, rename_put}
-use Rattle.lens_specs.specs.Relation.{Rows, those, union, minus, image, project}
+use Rattle.lens_specs.specs.Nodes.{rename_put}
+use Rattle.lens_specs.specs.Relation.{Rows, those, union, minus, project}
 use Rattle.lens_specs.specs.Revision.{revise, revise_row}
-use Rattle.lens_specs.specs.Rows.{with_at}
 use Rattle.lens_laws.specs.Asked.{left_sides}
 use Rattle.lens_laws.specs.Rename.{rename_delta}
 use Rattle.lens_laws.specs.JoinKinds.{is_kept, is_free, less_delta, join_delta_left_kept, join_delta_right_free}
-use Rattle.lens_laws.specs.KeyedDeltas.{find_by, found_each, found, is_changed, touched, select_touched, select_delta, drop_delta, merge_delta, join_delta_right, suspects, is_over, join_delta_left}
+use Rattle.lens_laws.specs.KeyedDeltas.{find_by, found_each, found, is_changed, touched, select_touched, select_delta, merge_delta, join_delta_right, suspects, is_over, join_delta_left}
 use Rattle.lens_laws.specs.Work.{count_of, rows_of, rows_down, GivesAtMost}
 
 count-union : (M N : Rows) → count_of (union M N) ≤ count_of M + count_of N
@@ -85,17 +83,6 @@ select_delta_small F P M d n few some h =
     let e = count-those (λ r. not (P r)) (revise F T d.add) in
     let f = count-union d.add (those (λ r. not (P r)) (revise F T d.add)) in
     within_down (count_of d.remove) (count_of d.add) n (count_of T) _ _ some (omega arith) b (omega arith)
-
-drop_put_small : (A : Name) (X : Names) (a : Value) (N M : Rows) → count_of (drop_put A X a N M) ≤ count_of N
-unfolding drop_put
-drop_put_small A X a N M =
-    let h = count-image (λ n. with_at n A (Some a)) N in
-    let i = count-revise (edge X (one A) ∷ []) (image (λ n. with_at n A (Some a)) N) M in
-    omega arith
-
-pub drop_delta_small : (A : Name) (X : Names) (a : Value) (M : Rows) (d : Delta) → rows_of (drop_delta A X a M d) ≤ rows_of d
-unfolding drop_delta
-drop_delta_small A X a M d = let h = drop_put_small A X a d.remove M in let i = drop_put_small A X a d.add M in omega arith
 
 pub rename_delta_small : (A B : Name) (d : Delta) → rows_of (rename_delta A B d) ≤ rows_of d
 unfolding rename_delta rename_put

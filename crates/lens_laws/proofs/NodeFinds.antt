@@ -1,35 +1,30 @@
 -- What the nodes find by look-ups in their sources is what a look-up in the whole gives.
-use Rattle.std.proofs.Common.{◌≡◌, Bool, true, false, cond, List, map, refl, sym, ap, ◌∙◌, is_some, Option, None, inl, inr, [], ◌∷◌, arith}
-use Rattle.std.proofs.lemmas.Bool.{cases_Bool}
+use Rattle.std.proofs.Common.{◌≡◌, ◌&&◌, Bool, true, false, cond, List, map, refl, sym, ap, ◌∙◌, is_some, Option, None, inl, inr, [], ◌∷◌, arith}
+use Rattle.std.proofs.lemmas.Bool.{and_from, and_parts, cases_Bool}
 use Rattle.std.specs.List.{Contains, list_any, filter, flat_map}
-use Rattle.std.specs.Prelude.{if◌then◌else◌}
 use Rattle.std.specs.Ordering.{eq_by_cmp}
 use Rattle.lens_values.specs.SortedSet as set
 use Rattle.lens_values.specs.Row.{row_cmp}
 use Rattle.lens_values.specs.declared.row.Row.{Row}
 use Rattle.lens_values.specs.Order.{bytes_cmp}
 use Rattle.lens_values.specs.declared.value.Value.{Value}
-use Rattle.lens_laws.proofs.Asked.{contains_head, contains_cases, contains_map, part_goes_down, shares_other}
+use Rattle.lens_laws.proofs.Asked.{contains_cases}
 use Rattle.fd_laws.proofs.Renames.{in_renamed, from_renamed}
-use Rattle.lens_laws.proofs.Rename.{at-renamed, not_old, find_rename}
+use Rattle.lens_laws.proofs.Rename.{at-renamed}
 use Rattle.fd_laws.proofs.Columns.{fits_names}
-use Rattle.lens_laws.proofs.Finds.{find_select, find_project}
-use Rattle.lens_laws.proofs.Join.{from_natural, natural_paste}
+use Rattle.lens_laws.proofs.Join.{from_natural, in_natural, natural_paste}
 use Rattle.fd_laws.proofs.Lists.{left_true, right_true, in_filter, from_filter, in_map, from_map, in_flat_map, from_flat_map, any_at, any_from, both_ways, false_from, absurd_false}
 use Rattle.fd_laws.proofs.Names.{name_itself, tied_name, from_shared}
 use Rattle.fd_laws.proofs.Relations.{same_rel, in_those, from_those, in_project, from_project, in_join}
 use Rattle.fd_laws.proofs.Rows.{row_total, tied_row, row_itself, agree_at, agree_from, agree_back, agree_on, agree_within, agree_alike, agree-cut, at-cut, cut_column}
-use Rattle.lens_specs.specs.Columns.{Columns, Fits, names}
-use Rattle.lens_specs.specs.Names.{Name, Names, Within, share}
+use Rattle.lens_specs.specs.Columns.{Columns, Fits, both_columns, names}
+use Rattle.lens_specs.specs.Names.{Name, Names, Within}
 use Rattle.lens_specs.specs.Rename.{renamed_names, renamed_row}
-use Rattle.lens_specs.specs.Nodes.{join_get, select_get, rename_get}
+use Rattle.lens_specs.specs.Nodes.{join_get}
 use Rattle.lens_specs.specs.Relation.{Rows, has, those, project}
 use Rattle.lens_specs.specs.Rows.{at, agree, paste, cut}
-use Rattle.lens_laws.specs.Asked.{parts, side_keys, AreKeys}
-use Rattle.lens_laws.specs.Finds.{Look, IsOver, Answers, find_selected, find_projected, find_renamed, matched, find_left_first, find_right_first, find_joined, has_projected}
+use Rattle.lens_laws.specs.Finds.{IsOver, matched}
 use Rattle.lens_laws.specs.KeyedDeltas.{find_by}
-use Rattle.lens_laws.specs.Rename.{CanRename}
-use Rattle.lens_laws.specs.Shapes.{Shape, IsIn}
 
 -- ---- keys
 
@@ -73,12 +68,6 @@ from_matched f look M w h =
     let v = from_map (eq_by_cmp row_cmp) tied_row row_itself (eq_by_cmp row_cmp) tied_row row_itself (f u.0) (set.items (look u.0)) w u.2 in
     (u.0, v.0, set.contains-items M u.0 ∙ u.1, set.contains-items (look u.0) v.0 ∙ v.1, v.2)
 
--- look-ups that give the same for each row of M
-pub matched_alike : (f : Row → Row → Row) (look ask : Row → Rows) (M : Rows) → ((r : Row) → has M r ≡ true → look r ≡ ask r) → matched f look M ≡ matched f ask M
-matched_alike f look ask M h = same_rel _ _
-    (λ w i. let u = from_matched f look M w i in ap (has _) u.4 ∙ in_matched f ask M u.0 u.1 u.2 (ap (λ N. has N u.1) (sym (h u.0 u.2)) ∙ u.3))
-    (λ w i. let u = from_matched f ask M w i in ap (has _) u.4 ∙ in_matched f look M u.0 u.1 u.2 (ap (λ N. has N u.1) (h u.0 u.2) ∙ u.3))
-
 -- pairs put together by another function that gives the same
 pub matched_same : (f g : Row → Row → Row) (look : Row → Rows) (M : Rows) → ((r q : Row) → has M r ≡ true → has (look r) q ≡ true → f r q ≡ g r q) → matched f look M ≡ matched g look M
 matched_same f g look M h = same_rel _ _
@@ -116,14 +105,6 @@ matched_kept p f look M =
     in_those p (matched f look M) w (ap (has (matched f look M)) v.2 ∙ j) v.3)
 
 -- ---- one node
-pub select_answers : (P : Row → Bool) (look : Look) (K : List Names) (M : Rows) → Answers look K M → Answers (find_selected P look) K (select_get P M)
-unfolding find_selected
-select_answers P look K M h C k i o = ap (those P) (h C k i o) ∙ sym (find_select P C k M)
-
-pub project_answers : (D : Names) (look : Look) (K : List Names) (M : Rows) → ((C : Names) → Contains K C → Within C D) → Answers look K M → Answers (find_projected D look) K (project D M)
-unfolding find_projected
-project_answers D look K M w h C k i o = ap (project D) (h C k i o) ∙ sym (find_project C D k M (w C i))
-
 -- the set under the old name has what the set has: A where it has B, and no B
 contains-old : (A B : Name) (C : Names) → ((c : Name) → set.contains C c ≡ true → eq_by_cmp bytes_cmp c A ≡ false) → (c : Name)
     → set.contains (renamed_names B A C) c ≡ cond (eq_by_cmp bytes_cmp c A) (set.contains C B) (cond (eq_by_cmp bytes_cmp c B) false (set.contains C c))
@@ -175,13 +156,6 @@ over_renamed A B C k apart o c =
     ∙ ap (λ x. cond a x (cond b false (is_some (at k c)))) (o B) ∙ ap (λ x. cond a (set.contains C B) (cond b false x)) (o c)
     ∙ sym (contains-old A B C apart c)
 
-pub rename_answers : (s : Shape) (A B : Name) → CanRename s A B → (M : Rows) → IsIn M s → (look : Look) (K : List Names) → ((C : Names) → Contains K C → Within C (renamed_names A B (names s.columns)))
-    → Answers look (map (renamed_names B A) K) M → Answers (find_renamed A B look) K (rename_get A B M)
-unfolding find_renamed
-rename_answers s A B can M m look K w h C k i o =
-    ap (rename_get A B) (h (renamed_names B A C) (renamed_row B A k) (contains_map (renamed_names B A) K C i) (over_renamed A B C k (λ c j. not_old s A B can c (w C i c j)) o))
-    ∙ sym (find_rename s A B can M m C (w C i) k)
-
 -- a row of the source by a key within the part is one whose part is the row
 pub has_part : (D X : Names) (M : Rows) (r : Row) → Within X D → list_any (λ m. eq_by_cmp row_cmp r (cut D m)) (set.items (find_by X (cut X r) M)) ≡ has (project D M) r
 has_part D X M r w = both_ways _ _
@@ -195,9 +169,12 @@ has_part D X M r w = both_ways _ _
     (sym (set.contains-items _ u.0) ∙ in_those (agree X (cut X r)) M u.0 u.1 g)
     (ap (λ z. eq_by_cmp row_cmp z (cut D u.0)) u.2 ∙ row_itself (cut D u.0)))
 
-pub has_projected_is : (D X : Names) (M : Rows) (r : Row) → Within X D → has_projected D X (λ C k. find_by C k M) r ≡ has (project D M) r
-unfolding has_projected
-has_projected_is D X M r w = has_part D X M r w
+-- a join has a row that fits where each side has its part
+pub has_in_join : (U V : Columns) (M N : Rows) → ((m : Row) → has M m ≡ true → Fits U m) → ((n : Row) → has N n ≡ true → Fits V n) → (r : Row) → Fits (both_columns U V) r
+    → (has M (cut (names U) r) && has N (cut (names V) r)) ≡ has (join_get (names U) (names V) M N) r
+has_in_join U V M N hM hN r o = both_ways _ _
+    (λ h. let b = and_parts _ _ h in in_natural U V M N hM hN r o b.0 b.1)
+    (λ i. let u = from_natural U V M N hM hN r i in and_from _ _ u.0 u.1)
 
 module _ (UC VC : Columns) (M N : Rows) (hM : (m : Row) → has M m ≡ true → Fits UC m) (hN : (n : Row) → has N n ≡ true → Fits VC n) where
   abbrev U : Names
@@ -219,8 +196,9 @@ module _ (UC VC : Columns) (M N : Rows) (hM : (m : Row) → has M m ≡ true →
   unfolding join_get
   in_both C k w m n g i j a is = in_those (agree C k) _ w (ap (has _) is ∙ in_join S V M N m n i j a) g
 
-  pub left_first_is : (C : Names) (k : Row) → find_left_first U V (λ D q. find_by D q M) (λ D q. find_by D q N) C k ≡ find_by C k (join_get U V M N)
-  unfolding find_left_first
+  -- the left side is asked by its part of the key, and for each row found the right side by the shared columns
+  pub left_first_is : (C : Names) (k : Row) → let P = set.intersection C U in
+      those (agree C k) (matched (λ m n. paste m V n) (λ m. find_by S (cut S m) N) (find_by P (cut P k) M)) ≡ find_by C k (join_get U V M N)
   left_first_is C k =
       let P = set.intersection C U in
       same_rel _ _
@@ -238,8 +216,9 @@ module _ (UC VC : Columns) (M N : Rows) (hM : (m : Row) → has M m ≡ true →
       (in_those (agree P (cut P k)) M _ e.0 (agree_on P _ k _ (agree-cut P k) (part C U k w v.1)))
       (in_those (agree S (cut S (cut U w))) N _ e.1 (agree_on S _ (cut U w) _ (agree-cut S (cut U w)) p.1))) v.1)
 
-  pub right_first_is : (C : Names) (k : Row) → find_right_first U V (λ D q. find_by D q M) (λ D q. find_by D q N) C k ≡ find_by C k (join_get U V M N)
-  unfolding find_right_first
+  -- the right side is asked by its part of the key, and for each row found the left side by the shared columns
+  pub right_first_is : (C : Names) (k : Row) → let P = set.intersection C V in
+      those (agree C k) (matched (λ n m. paste m V n) (λ n. find_by S (cut S n) M) (find_by P (cut P k) N)) ≡ find_by C k (join_get U V M N)
   right_first_is C k =
       let P = set.intersection C V in
       same_rel _ _
@@ -256,31 +235,3 @@ module _ (UC VC : Columns) (M N : Rows) (hM : (m : Row) → has M m ≡ true →
       in_those (agree C k) _ w (ap (has _) (sym p.0) ∙ in_matched (λ n m. paste m V n) (λ n. find_by S (cut S n) M) (find_by P (cut P k) N) (cut V w) (cut U w)
       (in_those (agree P (cut P k)) N _ e.1 (agree_on P _ k _ (agree-cut P k) (part C V k w v.1)))
       (in_those (agree S (cut S (cut V w))) M _ e.0 (agree_on S _ (cut V w) _ (agree-cut S (cut V w)) (agree_back S _ _ p.1)))) v.1)
-
-  -- a side that answers for what a join hands down to it is asked in place of its relation
-  module _ (left right : Look) (K : List Names) (hl : Answers left (side_keys S U K) M) (hr : Answers right (side_keys S V K) N) where
-    left_first_alike : (C : Names) (k : Row) → Contains K C → IsOver C k → share C U ≡ true → find_left_first U V left right C k ≡ find_left_first U V (λ D q. find_by D q M) (λ D q. find_by D q N) C k
-    unfolding find_left_first
-    left_first_alike C k i o s =
-        let P = set.intersection C U in
-        ap (λ R. those (agree C k) (matched (λ m n. paste m V n) (λ m. right S (cut S m)) R))
-        (hl P (cut P k) (part_goes_down S U K C i s) (cut_is_over C P k o (λ c j. (from_shared C U c j).0)))
-        ∙ ap (those (agree C k)) (matched_alike (λ m n. paste m V n) (λ m. right S (cut S m)) (λ m. find_by S (cut S m) N) (find_by P (cut P k) M)
-        (λ m j. hr S (cut S m) (contains_head S (parts V K)) (cut_is_over U S m (fits_is_over UC m (hM m (from_those (agree P (cut P k)) M m j).0)) (λ c l. (from_shared U V c l).0))))
-
-    right_first_alike : (C : Names) (k : Row) → Contains K C → IsOver C k → share C V ≡ true → find_right_first U V left right C k ≡ find_right_first U V (λ D q. find_by D q M) (λ D q. find_by D q N) C k
-    unfolding find_right_first
-    right_first_alike C k i o s =
-        let P = set.intersection C V in
-        ap (λ R. those (agree C k) (matched (λ n m. paste m V n) (λ n. left S (cut S n)) R))
-        (hr P (cut P k) (part_goes_down S V K C i s) (cut_is_over C P k o (λ c j. (from_shared C V c j).0)))
-        ∙ ap (those (agree C k)) (matched_alike (λ n m. paste m V n) (λ n. left S (cut S n)) (λ n. find_by S (cut S n) M) (find_by P (cut P k) N)
-        (λ n j. hl S (cut S n) (contains_head S (parts U K)) (cut_is_over V S n (fits_is_over VC n (hN n (from_those (agree P (cut P k)) N n j).0)) (λ c l. (from_shared U V c l).1))))
-
-    pub join_answers : AreKeys (set.union U V) K → Answers (find_joined U V left right) K (join_get U V M N)
-    unfolding find_joined
-    join_answers keys C k i o =
-        elim (share C U) as (λ b. share C U ≡ b → (if b then find_left_first U V left right C k else find_right_first U V left right C k) ≡ find_by C k (join_get U V M N)) [
-          | true ↦ λ s. left_first_alike C k i o s ∙ left_first_is C k
-          | false ↦ λ s. let u = keys C i in right_first_alike C k i o (shares_other C U V u.0 u.1 s) ∙ right_first_is C k
-        ] refl

@@ -17,7 +17,7 @@ use Rattle.lens_specs.specs.Names.{Names, Within}
 use Rattle.lens_specs.specs.Nodes.{join_get}
 use Rattle.lens_specs.specs.Relation.{Rows, those}
 use Rattle.lens_specs.specs.Rows.{at, agree, paste, cut}
-use Rattle.lens_laws.specs.Finds.{AllFit, IsOver, find_left_first, find_right_first}
+use Rattle.lens_laws.specs.Finds.{AllFit, IsOver}
 use Rattle.lens_laws.specs.KeyedDeltas.{find_by}
 
 at-both : (n m : Row) (c : _) → at (override n m) c ≡ cond (is_some (at n c)) (at n c) (at m c)
@@ -41,7 +41,6 @@ module _ (UC VC : Columns) (M N : Rows) (hM : AllFit UC M) (hN : AllFit VC N) (C
 
   pub left_list_is : let P = set.intersection C U in
       set.from_list (flat_map (λ m. filter (agree C k) (map (λ n. override n m) (set.items (find_by S (cut S m) N)))) (set.items (find_by P (cut P k) M))) ≡ find_by C k (join_get U V M N)
-  unfolding find_left_first
   left_list_is =
       let P = set.intersection C U in
       let found = find_by P (cut P k) M in
@@ -52,7 +51,6 @@ module _ (UC VC : Columns) (M N : Rows) (hM : AllFit UC M) (hN : AllFit VC N) (C
 
   pub right_list_is : let P = set.intersection C V in
       set.from_list (flat_map (λ n. filter (agree C k) (map (λ m. override n m) (set.items (find_by S (cut S n) M)))) (set.items (find_by P (cut P k) N))) ≡ find_by C k (join_get U V M N)
-  unfolding find_right_first
   right_list_is =
       let P = set.intersection C V in
       let found = find_by P (cut P k) N in

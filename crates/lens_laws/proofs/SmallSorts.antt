@@ -1,22 +1,15 @@
 -- The sorts that the rule gives have at most 64 columns, and a table's sort has keys.
-use Rattle.std.proofs.Common.{◌≡◌, true, cond, is_some, inl, inr, length, ap, sym, ◌∙◌, arith, ℕ, ◌+◌, ◌-◌, ◌≤◌, not, List, ◌++◌, refl, subst, Option, Some, None, option_map, Result, Ok, Err}
+use Rattle.std.proofs.Common.{◌≡◌, true, cond, is_some, inl, inr, ap, ◌∙◌, arith, ℕ, ◌+◌, ◌-◌, ◌≤◌, not, List, ◌++◌, refl, subst, Option, Some, None, option_map, Result, Ok, Err}
 use Rattle.std.proofs.lemmas.Bool.{cases_Bool, leb-true}
-use Rattle.std.proofs.lemmas.List.{length-map}
 use Rattle.std.specs.Prelude.{nat_le}
 use Rattle.std.specs.FinMap as finmap
-use Rattle.std.specs.Cmp.Lexicographic.{nat_list_cmp_total}
-use Rattle.lens_values.specs.SortedSet as set
-use Rattle.lens_values.specs.Order.{bytes_cmp}
-use Rattle.lens_values.specs.SortedMap.{keys_rise}
 use Rattle.fd_laws.proofs.Names.{name_total}
 use Rattle.lens_laws.proofs.Asked.{form_keyed}
-use Rattle.lens_laws.proofs.Work.{view_edges_few}
-use Rattle.lens_laws.specs.Rules.{BasesAreSound}
-use Rattle.lens_laws.proofs.Rules.{sort_is_typed, got, unrefused, neither, never}
+use Rattle.lens_laws.proofs.Rules.{got, unrefused, neither, never}
 use Rattle.lens_specs.specs.Columns.{Columns, names, fits_at, least_outside, kinds_differ}
 use Rattle.lens_values.specs.declared.value.Value.{Value}
 use Rattle.lens_specs.specs.Dependencies.{Edge, AllEdges}
-use Rattle.lens_specs.specs.Lens.{sort_of, view_names, Lens, base, select, drop, rename, join, nodes_of, select_sort, drop_sort, rename_sort, join_sort, tables_of}
+use Rattle.lens_specs.specs.Lens.{Lens, base, select, drop, rename, join, nodes_of, select_sort, drop_sort, rename_sort, join_sort, tables_of}
 use Rattle.lens_specs.specs.Names.{Name, Names}
 use Rattle.lens_specs.specs.Predicate.{Predicate}
 use Rattle.lens_specs.specs.Rename.{renamed_columns, with_kind}
@@ -123,18 +116,3 @@ chosen U F P s None c h e = formed U F P s (tree_of F) refl c h e
 pub table_has_keys : (t : Name) (U : Columns) (F : List Edge) (P : Predicate) (s : Sort) → IsFilled (names U) → AllEdges (λ e. IsFilled e.left) F → table_sort U F P ≡ Ok s → HasKeys (base t s) × BasesAreSmall (base t s)
 unfolding table_sort
 table_has_keys t U F P s c h e = let w = chosen U F P s _ c h e in ((w.1, w.2), w.0)
-
--- as many names as columns
-names_columns : (U : Columns) → length (set.items (names U)) ≡ finmap.len U
-unfolding names
-names_columns U = ap length (set.items-from_list nat_list_cmp_total (finmap.keys U) (keys_rise bytes_cmp U)) ∙ length-map (finmap.entries U) (λ e. e.0) ∙ sym (finmap.len-entries U)
-
-pub sort_edges_few : (L : Lens) (s : Sort) → BasesAreSound L → BasesAreSmall L → HasKeys L → sort L ≡ Ok s → length s.tree ≤ 64
-sort_edges_few L s sound small keys e =
-    let t = sort_is_typed L s sound e in
-    let a = view_edges_few L t.1 keys in
-    let b = sort_is_small L s small e in
-    let c = names_columns s.columns in
-    let d : length s.tree ≡ length (sort_of L).tree = ap (λ z. length z.tree) t.0 in
-    let f : length (set.items (names s.columns)) ≡ length (set.items (view_names L)) = ap (λ z. length (set.items (names z.columns))) t.0 in
-    omega arith

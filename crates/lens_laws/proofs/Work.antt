@@ -37,7 +37,7 @@ use Rattle.fd_laws.proofs.Trees.{both_edges, each_edge}
 use Rattle.lens_specs.specs.Relation.{Rows, has, those, project}
 use Rattle.lens_specs.specs.Rows.{agree, paste, cut}
 use Rattle.lens_laws.specs.Asked.{IsFilled, keys_at, side_keys, asked, AreKeys, HasKeys}
-use Rattle.lens_laws.specs.Finds.{find_left_first, find_right_first, matched}
+use Rattle.lens_laws.specs.Finds.{matched}
 use Rattle.lens_laws.specs.KeyedDeltas.{find_by}
 use Rattle.lens_laws.specs.Lenses.{IsTyped, AreOf}
 use Rattle.lens_laws.specs.Rename.{CanRename}
@@ -82,10 +82,6 @@ fan_bounds L db t C k i =
     let g = greatest_of (λ p. largest_group p.1 (table db p.0)) (asked L []) (t, C) i in
     omega arith
 
-pub fan_some : (L : Lens) (db : Tables) → 1 ≤ fan L db
-unfolding fan
-fan_some L db = omega arith
-
 -- ---- sizes
 both_some : (a b : ℕ) → 1 ≤ a → 1 ≤ b → 1 ≤ a * b
 both_some a b h k = mul-le 1 1 a b h k
@@ -98,7 +94,7 @@ size_some (drop A X a L) w = size_some L w
 size_some (rename A B L) w = size_some L w
 size_some (join kind A B) w = both_some (2 * size A w) (size B w) (let h = size_some A w in omega arith) (size_some B w)
 
-pub size_grows : (L : Lens) (v w : ℕ) → v ≤ w → size L v ≤ size L w
+size_grows : (L : Lens) (v w : ℕ) → v ≤ w → size L v ≤ size L w
 unfolding size
 size_grows (base t s) v w h = omega arith
 size_grows (select P L) v w h = size_grows L v w h
@@ -116,10 +112,9 @@ join_looks a b ha hb =
     (omega arith, omega arith, omega arith)
 
 -- ---- what a view finds is within its size
-pub finds_in_join : (UC VC : Columns) (M N : Rows) → ((m : Row) → has M m ≡ true → Fits UC m) → ((n : Row) → has N n ≡ true → Fits VC n) → (K : List Names) (a b : ℕ) → AreKeys (set.union (names UC) (names VC)) K
+finds_in_join : (UC VC : Columns) (M N : Rows) → ((m : Row) → has M m ≡ true → Fits UC m) → ((n : Row) → has N n ≡ true → Fits VC n) → (K : List Names) (a b : ℕ) → AreKeys (set.union (names UC) (names VC)) K
     → let S = set.intersection (names UC) (names VC) in
     GivesAtMost a (side_keys S (names UC) K) M → GivesAtMost b (side_keys S (names VC) K) N → GivesAtMost (a * b) K (join_get (names UC) (names VC) M N)
-unfolding find_left_first find_right_first
 finds_in_join UC VC M N hM hN K a b keys ha hb C k i =
     let U = names UC in let V = names VC in let S = set.intersection U V in
     elim (cases_Bool (share C U)) [
@@ -141,21 +136,21 @@ finds_in_join UC VC M N hM hN K a b keys ha hb C k i =
           omega arith
     ]
 
-pub finds_in_select : (P : Row → Bool) (M : Rows) (K : List Names) (n : ℕ) → GivesAtMost n K M → GivesAtMost n K (select_get P M)
+finds_in_select : (P : Row → Bool) (M : Rows) (K : List Names) (n : ℕ) → GivesAtMost n K M → GivesAtMost n K (select_get P M)
 finds_in_select P M K n h C k i =
     let e : count_of (find_by C k (select_get P M)) ≡ count_of (those P (find_by C k M)) = ap count_of (find_select P C k M) in
     let c = count-those P (find_by C k M) in
     let d = h C k i in
     omega arith
 
-pub finds_in_project : (D : Names) (M : Rows) (K : List Names) (n : ℕ) → ((C : Names) → Contains K C → Within C D) → GivesAtMost n K M → GivesAtMost n K (project D M)
+finds_in_project : (D : Names) (M : Rows) (K : List Names) (n : ℕ) → ((C : Names) → Contains K C → Within C D) → GivesAtMost n K M → GivesAtMost n K (project D M)
 finds_in_project D M K n w h C k i =
     let e : count_of (find_by C k (project D M)) ≡ count_of (project D (find_by C k M)) = ap count_of (find_project C D k M (w C i)) in
     let c = count-project D (find_by C k M) in
     let d = h C k i in
     omega arith
 
-pub finds_in_rename : (s : Shape) (A B : Name) → CanRename s A B → (M : Rows) → IsIn M s → (K : List Names) (n : ℕ) → ((C : Names) → Contains K C → Within C (renamed_names A B (names s.columns)))
+finds_in_rename : (s : Shape) (A B : Name) → CanRename s A B → (M : Rows) → IsIn M s → (K : List Names) (n : ℕ) → ((C : Names) → Contains K C → Within C (renamed_names A B (names s.columns)))
     → GivesAtMost n (map (renamed_names B A) K) M → GivesAtMost n K (rename_get A B M)
 unfolding rename_get
 finds_in_rename s A B can M m K n w h C k i =
@@ -228,15 +223,6 @@ work_is (join kind A B) d w = let n = size (join kind A B) w in
     ap (λ z. 8192 * d * n * n + z + work B (512 * d * n) w) (work_is A (512 * d * n) w)
     ∙ ap (λ z. 8192 * d * n * n + 512 * d * n * per_row A w + z) (work_is B (512 * d * n) w)
     ∙ with_children d n (per_row A w) (per_row B w)
-
-pub work_adds : (L : Lens) (d e w : ℕ) → work L (d + e) w ≡ work L d w + work L e w
-work_adds L d e w =
-    let x = work_is L (d + e) w in let y = work_is L d w in let z = work_is L e w in
-    let r : (d + e) * per_row L w ≡ d * per_row L w + e * per_row L w = grind arith in
-    omega arith
-
-pub work_none : (L : Lens) (w : ℕ) → work L 0 w ≡ 0
-work_none L w = let x = work_is L 0 w in let r : 0 * per_row L w ≡ 0 = grind arith in omega arith
 
 mul-le_3 : (k : ℕ) (a b m n : ℕ) → a ≤ m → b ≤ n → k * a * b ≤ k * m * n
 mul-le_3 k a b m n h i = mul-le (k * a) b (k * m) n (mul-le k a k m (omega arith) h) i
@@ -322,7 +308,7 @@ one_less U c i =
     let h = filled_from U c i in
     omega arith
 
-pub edges_few : (T : List Edge) (U : Names) → IsTree T → AllEdges (λ e. IsFilled e.right) T → AllEdges (λ e. Within e.right U) T → length T ≤ length (set.items U)
+edges_few : (T : List Edge) (U : Names) → IsTree T → AllEdges (λ e. IsFilled e.right) T → AllEdges (λ e. Within e.right U) T → length T ≤ length (set.items U)
 edges_few [] U tree full within = omega arith
 edges_few (e ∷ es) U tree full within =
     let c = filled_has e.right full.0 in

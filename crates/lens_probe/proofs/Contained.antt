@@ -29,7 +29,7 @@ use Rattle.lens_laws.proofs.Asked.{contains_head, drop_key}
 use Rattle.lens_laws.proofs.Join.{parts_fit}
 use Rattle.lens_laws.proofs.Lenses.{get_sort}
 use Rattle.lens_laws.proofs.NodeFinds.{cut_is_over, fits_is_over, has_part}
-use Rattle.lens_laws.proofs.Views.{has_in_join}
+use Rattle.lens_laws.proofs.NodeFinds.{has_in_join}
 use Rattle.base_index.specs.Held.{State, relation_in}
 use Rattle.lens_probe.specs.Looking.{MayFind, MayLook}
 use Rattle.lens_probe.proofs.Found.{rows_shown}

@@ -34,7 +34,7 @@ use Rattle.lens_laws.proofs.NodeFinds.{find_alike, find_cut, fits_is_over}
 use Rattle.lens_laws.proofs.PastedFinds.{found_are_over, left_pairs_are, right_pairs_are, shared_within}
 use Rattle.signed_delta.proofs.Looks.{passed_are}
 use Rattle.base_index.specs.Held.{State, is_indexed, no_relation, relation_in}
-use Rattle.lens_probe.specs.Looking.{MayFind, both_of, pairs_of}
+use Rattle.lens_probe.specs.Looking.{MayFind, both_of, find_part, pairs_of}
 use Rattle.lens_probe.proofs.Listed.{own_parts, parts}
 use Rattle.lens_probe.proofs.Viewing.{under_drop, under_left, under_right, under_select}
 
@@ -181,40 +181,40 @@ module _ (kind : JoinKind) (A B : Lens) (st : State) (C : Names) (typed : IsType
   right_fit : AllFit (sort_of B).columns (get B st.relations)
   right_fit = (get_sort B st.relations typed.1 may.1.tables.1).columns
 
-  module _ (k : Row) (S : Names) (F : Rows) (rows : List Row) (shared : S ≡ set.intersection (view_names A) (view_names B)) (listed : rows ≡ set.items F) where
-    -- what a look-up by the part of the key in some columns gives
-    abbrev by_part : Names → Rows → Rows
-    by_part U M = find_by (set.intersection C U) (restrict (set.intersection C U) k) M
+  -- the shared columns are those of both sides
+  pub shared_in : (S : Names) → S ≡ set.intersection (view_names A) (view_names B) → Within S (view_names A) × Within S (view_names B)
+  shared_in S shared = shared_within (sort_of A).columns (sort_of B).columns (view_names A) (view_names B) S refl refl shared
 
-    within : Within S (view_names A) × Within S (view_names B)
-    within = shared_within (sort_of A).columns (sort_of B).columns (view_names A) (view_names B) S refl refl shared
+  -- what is kept of the pairs of rows found on both sides is what is kept of what the join finds
+  module _ (k : Row) (S K : Names) (shared : S ≡ set.intersection (view_names A) (view_names B)) (within : Within C K) (r : Result Rows NoMemory) where
+    pub left_finds : IfOk r (λ all. all ≡ set.from_list (pairs_of true S K C k (get B st.relations) (set.items (find_part C k (view_names A) (get A st.relations)))))
+        → IfOk r (λ all. all ≡ project K (find_by C k (get (join kind A B) st.relations)))
+    unfolding get
+    left_finds =
+        let P = set.intersection C (view_names A) in
+        let F = find_part C k (view_names A) (get A st.relations) in
+        let all = flat_map (λ m. filter (agree C k) (map (λ n. override n m) (set.items (find_by S (restrict S m) (get B st.relations))))) (set.items F) in
+        subst (λ M. IfOk r (λ all. all ≡ M))
+        (ap set.from_list (left_cut C K k within S (get B st.relations) (set.items F))
+        ∙ parts K all _ (left_pairs_are (sort_of A).columns (sort_of B).columns (get A st.relations) (get B st.relations) left_fit right_fit C k (view_names A) (view_names B) S P (restrict P k) F (set.items F) all refl refl shared refl refl refl refl refl))
 
-    -- each row found has the shared columns
-    pub left_over : F ≡ by_part (view_names A) (get A st.relations) → (m : Row) → Contains rows m → IsOver S (restrict S m)
-    left_over found = let P = set.intersection C (view_names A) in found_are_over (sort_of A).columns S P (restrict P k) (get A st.relations) F rows left_fit within.0 found listed
+    pub right_finds : IfOk r (λ all. all ≡ set.from_list (pairs_of false S K C k (get A st.relations) (set.items (find_part C k (view_names B) (get B st.relations)))))
+        → IfOk r (λ all. all ≡ project K (find_by C k (get (join kind A B) st.relations)))
+    unfolding get
+    right_finds =
+        let P = set.intersection C (view_names B) in
+        let F = find_part C k (view_names B) (get B st.relations) in
+        let all = flat_map (λ n. filter (agree C k) (map (λ m. override n m) (set.items (find_by S (restrict S n) (get A st.relations))))) (set.items F) in
+        subst (λ M. IfOk r (λ all. all ≡ M))
+        (ap set.from_list (right_cut C K k within S (get A st.relations) (set.items F))
+        ∙ parts K all _ (right_pairs_are (sort_of A).columns (sort_of B).columns (get A st.relations) (get B st.relations) left_fit right_fit C k (view_names A) (view_names B) S P (restrict P k) F (set.items F) all refl refl shared refl refl refl refl refl))
 
-    pub right_over : F ≡ by_part (view_names B) (get B st.relations) → (m : Row) → Contains rows m → IsOver S (restrict S m)
-    right_over found = let P = set.intersection C (view_names B) in found_are_over (sort_of B).columns S P (restrict P k) (get B st.relations) F rows right_fit within.1 found listed
-
-    module _ (K : Names) (within_kept : Within C K) (r : Result Rows NoMemory) (pairs : List Row) (made : IfOk r (λ all. all ≡ set.from_list pairs)) where
-      -- what is kept of the pairs of rows found on both sides is what is kept of what the join finds
-      pub left_finds : F ≡ by_part (view_names A) (get A st.relations) → pairs ≡ pairs_of true S K C k (get B st.relations) rows → IfOk r (λ all. all ≡ project K (find_by C k (get (join kind A B) st.relations)))
-      unfolding get
-      left_finds found paired =
-          let P = set.intersection C (view_names A) in
-          let all = flat_map (λ m. filter (agree C k) (map (λ n. override n m) (set.items (find_by S (restrict S m) (get B st.relations))))) rows in
-          subst (λ M. IfOk r (λ all. all ≡ M))
-          (ap set.from_list (paired ∙ left_cut C K k within_kept S (get B st.relations) rows)
-          ∙ parts K all _ (left_pairs_are (sort_of A).columns (sort_of B).columns (get A st.relations) (get B st.relations) left_fit right_fit C k (view_names A) (view_names B) S P (restrict P k) F rows all refl refl shared refl listed refl found refl)) made
-
-      pub right_finds : F ≡ by_part (view_names B) (get B st.relations) → pairs ≡ pairs_of false S K C k (get A st.relations) rows → IfOk r (λ all. all ≡ project K (find_by C k (get (join kind A B) st.relations)))
-      unfolding get
-      right_finds found paired =
-          let P = set.intersection C (view_names B) in
-          let all = flat_map (λ n. filter (agree C k) (map (λ m. override n m) (set.items (find_by S (restrict S n) (get A st.relations))))) rows in
-          subst (λ M. IfOk r (λ all. all ≡ M))
-          (ap set.from_list (paired ∙ right_cut C K k within_kept S (get A st.relations) rows)
-          ∙ parts K all _ (right_pairs_are (sort_of A).columns (sort_of B).columns (get A st.relations) (get B st.relations) left_fit right_fit C k (view_names A) (view_names B) S P (restrict P k) F rows all refl refl shared refl listed refl found refl)) made
+-- each row that a side finds has the shared columns
+pub rows_over : (A : Lens) (st : State) (C S : Names) (k : Row) (F : Rows) (rows : List Row) → IsTyped A → AreOf A st.relations → Within S (view_names A) → F ≡ find_part C k (view_names A) (get A st.relations) → rows ≡ set.items F
+    → (m : Row) → Contains rows m → IsOver S (restrict S m)
+rows_over A st C S k F rows typed are within found listed =
+    let P = set.intersection C (view_names A) in
+    found_are_over (sort_of A).columns S P (restrict P k) (get A st.relations) F rows (get_sort A st.relations typed are).columns within found listed
 
 -- columns that are all among others are what both have
 pub whole_part : (C U : Names) → set.is_subset C U ≡ true → set.intersection C U ≡ C

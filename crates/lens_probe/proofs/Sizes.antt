@@ -24,7 +24,7 @@ use Rattle.lens_laws.specs.Work.{GivesAtMost, count_of, size}
 use Rattle.lens_laws.proofs.Asked.{contains_head, contains_map, contains_tail, keys_reach}
 use Rattle.lens_laws.proofs.Work.{join_looks, size_some, view_gives}
 use Rattle.base_index.specs.Held.{State, relation_in}
-use Rattle.lens_probe.specs.Looking.{FindsWithin, LooksWithin}
+use Rattle.lens_probe.specs.Looking.{FindsWithin, LooksWithin, find_part}
 use Rattle.lens_probe.specs.Viewed.{FindsAtMost, IsViewed, IsWithin, Viewed, asked_by, is_left_side, shown}
 use Rattle.fd_tree.specs.Sides.{HasLeft}
 use Rattle.lens_values.proofs.NamesLemmas.{same_is}
@@ -121,14 +121,8 @@ unfolding size
 join_size kind A B w = λ i. 2 * size A w * size B w
 
 -- what is asked of each side alone is within the size of the join
-pub left_within : (kind : JoinKind) (A B : Lens) (w old new : ℕ) → new ≤ old + size A w → new ≤ old + size (join kind A B) w
+left_within : (kind : JoinKind) (A B : Lens) (w old new : ℕ) → new ≤ old + size A w → new ≤ old + size (join kind A B) w
 left_within kind A B w old new h =
-    let s = join_size kind A B w in
-    let j = (join_looks (size A w) (size B w) (size_some A w) (size_some B w)).2 in
-    omega (arith, s, j, h)
-
-pub right_within : (kind : JoinKind) (A B : Lens) (w old new : ℕ) → new ≤ old + size B w → new ≤ old + size (join kind A B) w
-right_within kind A B w old new h =
     let s = join_size kind A B w in
     let j = (join_looks (size A w) (size B w) (size_some A w) (size_some B w)).2 in
     omega (arith, s, j, h)
@@ -139,23 +133,33 @@ both_within kind A B w old mid new h k =
     let j = (join_looks (size A w) (size B w) (size_some A w) (size_some B w)).2 in
     omega (arith, s, j, h, k)
 
--- one look-up on the left, and one on the right for each row found
-pub left_first : (kind : JoinKind) (A B : Lens) (w n old mid new : ℕ) → n ≤ size A w → mid ≤ old + size A w → new ≤ mid + size B w * n → new ≤ old + size (join kind A B) w
-left_first kind A B w n old mid new few h k =
+-- so is a look-up on one side, and one on the other for each row found
+pub left_first : (kind : JoinKind) (A B : Lens) (w old new : ℕ) → new ≤ old + (size A w + size A w * size B w) → new ≤ old + size (join kind A B) w
+left_first kind A B w old new h =
     let s = join_size kind A B w in
     let j = (join_looks (size A w) (size B w) (size_some A w) (size_some B w)).0 in
-    let m : size B w * n ≤ size B w * size A w = mul-le (size B w) n (size B w) (size A w) (omega arith) few in
-    let e : size B w * size A w ≡ size A w * size B w = grind arith in
-    omega (arith, s, j, h, k, m, e)
+    omega (arith, s, j, h)
 
--- or the other way round
-pub right_first : (kind : JoinKind) (A B : Lens) (w n old mid new : ℕ) → n ≤ size B w → mid ≤ old + size B w → new ≤ mid + size A w * n → new ≤ old + size (join kind A B) w
-right_first kind A B w n old mid new few h k =
+pub right_first : (kind : JoinKind) (A B : Lens) (w old new : ℕ) → new ≤ old + (size B w + size B w * size A w) → new ≤ old + size (join kind A B) w
+right_first kind A B w old new h =
     let s = join_size kind A B w in
     let j = (join_looks (size A w) (size B w) (size_some A w) (size_some B w)).1 in
-    let m : size A w * n ≤ size A w * size B w = mul-le (size A w) n (size A w) (size B w) (omega arith) few in
-    let e : size B w * size A w ≡ size A w * size B w = grind arith in
-    omega (arith, s, j, h, k, m, e)
+    omega (arith, s, j, h)
+
+pub pairs_looks : (a b n old mid new : ℕ) → n ≤ a → mid ≤ old + a → new ≤ mid + b * n → new ≤ old + (a + a * b)
+pairs_looks a b n old mid new few h k =
+    let m : b * n ≤ b * a = mul-le b n b a (omega arith) few in
+    let e : b * a ≡ a * b = grind arith in
+    omega (arith, h, k, m, e)
+
+-- few rows are found on the side that is asked first
+pub part_few : (A : Lens) (st : State) (C : Names) (k : Row) (w : ℕ) (F : Rows) (rows : List Row) → IsTyped A → FindsWithin A st (set.intersection C (view_names A)) w → F ≡ find_part C k (view_names A) (get A st.relations)
+    → rows ≡ set.items F → length rows ≤ size A w
+part_few A st C k w F rows typed within found listed =
+    let P = set.intersection C (view_names A) in
+    let few = gives A st P (restrict P k) w typed within in
+    let same = ap length listed ∙ ap count_of found in
+    omega (arith, few, same)
 
 module _ (kind : JoinKind) (A B : Lens) (st : State) (C : Names) (w : ℕ) (typed : IsTyped (join kind A B)) (f : FindsWithin (join kind A B) st C w) where
   reach : Reaches (join kind A B) f.0 C
@@ -172,23 +176,6 @@ module _ (kind : JoinKind) (A B : Lens) (st : State) (C : Names) (w : ℕ) (type
 
   pub right_shared : (S : Names) → S ≡ set.intersection (view_names A) (view_names B) → FindsWithin B st S w
   right_shared S shared = subst (λ D. FindsWithin B st D w) (sym shared) (_, under_right kind A B f.0 st typed f.1, reach.3.0, λ t D k i. f.3 t D k (Contains-append_right _ _ (t, D) i))
-
-  -- so few rows are found on the side that is asked first
-  pub left_few : (k : Row) (F : Rows) (rows : List Row) → share C (view_names A) ≡ true → F ≡ (let P = set.intersection C (view_names A) in find_by P (restrict P k) (get A st.relations)) → rows ≡ set.items F
-      → length rows ≤ size A w
-  left_few k F rows meets found listed =
-      let P = set.intersection C (view_names A) in
-      let few = gives A st P (restrict P k) w typed.0 (left_part meets) in
-      let same = ap length listed ∙ ap count_of found in
-      omega (arith, few, same)
-
-  pub right_few : (k : Row) (F : Rows) (rows : List Row) → share C (view_names A) ≡ false → F ≡ (let P = set.intersection C (view_names B) in find_by P (restrict P k) (get B st.relations)) → rows ≡ set.items F
-      → length rows ≤ size B w
-  right_few k F rows apart found listed =
-      let P = set.intersection C (view_names B) in
-      let few = gives B st P (restrict P k) w typed.1 (right_part apart) in
-      let same = ap length listed ∙ ap count_of found in
-      omega (arith, few, same)
 
 join_looks_left : (kind : JoinKind) (A B : Lens) (st : State) (w : ℕ) → IsTyped (join kind A B) → LooksWithin (join kind A B) st w → LooksWithin A st w
 join_looks_left kind A B st w typed f = (_, under_left kind A B f.0 st typed f.1, λ t D k i. f.2 t D k (Contains-append_left _ _ (t, D) i))

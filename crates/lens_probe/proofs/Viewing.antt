@@ -56,44 +56,39 @@ under_right kind A B K st typed can = record {
 same_value : {T : Type 0} (x y : T) → Some x ≡ Some y → x ≡ y
 same_value x y e = cc
 
-source_at : (L C : Lens) (K : List Names) (st : State) → only_source L ≡ Some C → IsTyped L → CanAsk L K st → IsTyped C × CanAsk C (to_first L K) st
+source_at : (L C : Lens) (K : List Names) (st : State) → only_source L ≡ Some C → IsTyped L → CanAsk L K st → CanAsk C (to_first L K) st
 source_at (base t s) C K st e typed can = cc
-source_at (select P D) C K st e typed can =
-    subst (λ Z. IsTyped Z × CanAsk Z (keys_at (select P D) K) st) (same_value D C e) (typed.0, under_select P D K st typed can)
-source_at (drop A X v D) C K st e typed can =
-    subst (λ Z. IsTyped Z × CanAsk Z (X ∷ keys_at (drop A X v D) K) st) (same_value D C e) (typed.0, under_drop A X v D K st typed can)
-source_at (rename A B D) C K st e typed can =
-    subst (λ Z. IsTyped Z × CanAsk Z (to_first (rename A B D) K) st) (same_value D C e) (typed.0, under_rename A B D K st typed can)
+source_at (select P D) C K st e typed can = subst (λ Z. CanAsk Z (keys_at (select P D) K) st) (same_value D C e) (under_select P D K st typed can)
+source_at (drop A X v D) C K st e typed can = subst (λ Z. CanAsk Z (X ∷ keys_at (drop A X v D) K) st) (same_value D C e) (under_drop A X v D K st typed can)
+source_at (rename A B D) C K st e typed can = subst (λ Z. CanAsk Z (to_first (rename A B D) K) st) (same_value D C e) (under_rename A B D K st typed can)
 source_at (join kind A B) C K st e typed can = cc
 
 -- no set is handed down to a whole lens
-pub whole_viewed : (L : Lens) (K : List Names) (st : State) → K ≡ [] → IsTyped L → HasKeys L → AreOf L st.relations → AreIndexed (asked L []) st → IsTyped L × CanAsk L K st
-whole_viewed L K st none typed keys tables indexed =
-    subst (λ H. IsTyped L × CanAsk L H st) (sym none) (typed, record { keys = keys; tables = tables; sets = λ C i. absurd (omega (arith, i.1)); indexed = indexed })
+pub whole_asks : (L : Lens) (K : List Names) (st : State) → K ≡ [] → HasKeys L → AreOf L st.relations → AreIndexed (asked L []) st → CanAsk L K st
+whole_asks L K st none keys tables indexed =
+    subst (λ H. CanAsk L H st) (sym none) (record { keys = keys; tables = tables; sets = λ C i. absurd (omega (arith, i.1)); indexed = indexed })
 
--- the view of the source is a view
-pub source_viewed : (v : Viewed) (C : Lens) (sets : List Names) → IsViewed v → only_source v.lens ≡ Some C → sets ≡ to_first v.lens v.sets → IsViewed (record v { lens = C; sets = sets })
-source_viewed v C sets is e handed = subst (λ K. IsTyped C × CanAsk C K v.tables.present) (sym handed) (source_at v.lens C v.sets v.tables.present e is.0 is.1)
+-- the source is asked by what is handed down to it
+pub source_asks : (v : Viewed) (C : Lens) (sets : List Names) → IsViewed v → only_source v.lens ≡ Some C → sets ≡ to_first v.lens v.sets → CanAsk C sets v.tables.present
+source_asks v C sets is e handed = subst (λ K. CanAsk C K v.tables.present) (sym handed) (source_at v.lens C v.sets v.tables.present e is.0 is.1)
 
-left_at : (L A B : Lens) (K : List Names) (st : State) → both_sides L ≡ Some (A, B) → IsTyped L → CanAsk L K st → IsTyped A × CanAsk A (to_first L K) st
+left_at : (L A B : Lens) (K : List Names) (st : State) → both_sides L ≡ Some (A, B) → IsTyped L → CanAsk L K st → CanAsk A (to_first L K) st
 left_at (base t s) A B K st e typed can = cc
 left_at (select P D) A B K st e typed can = cc
 left_at (drop C X v D) A B K st e typed can = cc
 left_at (rename C X D) A B K st e typed can = cc
-left_at (join kind C D) A B K st e typed can =
-    subst (λ Z. IsTyped Z × CanAsk Z (to_first (join kind C D) K) st) (ap (λ p. p.0) (same_value (C, D) (A, B) e)) (typed.0, under_left kind C D K st typed can)
+left_at (join kind C D) A B K st e typed can = subst (λ Z. CanAsk Z (to_first (join kind C D) K) st) (ap (λ p. p.0) (same_value (C, D) (A, B) e)) (under_left kind C D K st typed can)
 
-right_at : (L A B : Lens) (K : List Names) (st : State) → both_sides L ≡ Some (A, B) → IsTyped L → CanAsk L K st → IsTyped B × CanAsk B (to_second L K) st
+right_at : (L A B : Lens) (K : List Names) (st : State) → both_sides L ≡ Some (A, B) → IsTyped L → CanAsk L K st → CanAsk B (to_second L K) st
 right_at (base t s) A B K st e typed can = cc
 right_at (select P D) A B K st e typed can = cc
 right_at (drop C X v D) A B K st e typed can = cc
 right_at (rename C X D) A B K st e typed can = cc
-right_at (join kind C D) A B K st e typed can =
-    subst (λ Z. IsTyped Z × CanAsk Z (to_second (join kind C D) K) st) (ap (λ p. p.1) (same_value (C, D) (A, B) e)) (typed.1, under_right kind C D K st typed can)
+right_at (join kind C D) A B K st e typed can = subst (λ Z. CanAsk Z (to_second (join kind C D) K) st) (ap (λ p. p.1) (same_value (C, D) (A, B) e)) (under_right kind C D K st typed can)
 
--- and so is the view of each side
-pub left_viewed : (v : Viewed) (A B : Lens) (sets : List Names) → IsViewed v → both_sides v.lens ≡ Some (A, B) → sets ≡ to_first v.lens v.sets → IsViewed (record v { lens = A; sets = sets })
-left_viewed v A B sets is e handed = subst (λ K. IsTyped A × CanAsk A K v.tables.present) (sym handed) (left_at v.lens A B v.sets v.tables.present e is.0 is.1)
+-- and so is each side
+pub left_asks : (v : Viewed) (A B : Lens) (sets : List Names) → IsViewed v → both_sides v.lens ≡ Some (A, B) → sets ≡ to_first v.lens v.sets → CanAsk A sets v.tables.present
+left_asks v A B sets is e handed = subst (λ K. CanAsk A K v.tables.present) (sym handed) (left_at v.lens A B v.sets v.tables.present e is.0 is.1)
 
-pub right_viewed : (v : Viewed) (A B : Lens) (sets : List Names) → IsViewed v → both_sides v.lens ≡ Some (A, B) → sets ≡ to_second v.lens v.sets → IsViewed (record v { lens = B; sets = sets })
-right_viewed v A B sets is e handed = subst (λ K. IsTyped B × CanAsk B K v.tables.present) (sym handed) (right_at v.lens A B v.sets v.tables.present e is.0 is.1)
+pub right_asks : (v : Viewed) (A B : Lens) (sets : List Names) → IsViewed v → both_sides v.lens ≡ Some (A, B) → sets ≡ to_second v.lens v.sets → CanAsk B sets v.tables.present
+right_asks v A B sets is e handed = subst (λ K. CanAsk B K v.tables.present) (sym handed) (right_at v.lens A B v.sets v.tables.present e is.0 is.1)

@@ -32,6 +32,10 @@ abbrev pub FindsWithin : Lens → State → Names → ℕ → Type 0
 FindsWithin L st C w =
     (K : List Names) × CanAsk L K st × Contains (keys_at L K) C × TablesGiveAtMost w (asked L K) st.relations
 
+-- the rows of M that agree with the part of the key in U
+abbrev pub find_part : Names → Row → Names → Rows → Rows
+find_part C k U M = let P = set.intersection C U in find_by P (restrict P k) M
+
 -- the rows are those of N that agree with the key on S
 abbrev pub ArePartners : Names → Rows → Partners → Type 0
 ArePartners S N found = found.rows ≡ find_by S found.key N

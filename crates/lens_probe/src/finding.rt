@@ -1,24 +1,21 @@
 //! Rows of a view by key.
 ghost use Rattle.std.specs.Prelude.{◌≡◌, ◌≤◌, ◌+◌, ◌*◌, ℕ, Contains, IfOk, IfSome, length};
-ghost use Rattle.std.specs.Prelude.{false, true};
-ghost use Rattle.std.specs.List.{list_all};
 ghost use Rattle.lens_values.specs.Part.{restrict};
 ghost use Rattle.lens_values.specs.SortedSet as set;
 ghost use Rattle.lens_specs.specs.Lens.{get, join, rename, view_names};
-ghost use Rattle.lens_specs.specs.Names.{Within, share};
-ghost use Rattle.lens_specs.specs.Predicate.{holds};
-ghost use Rattle.lens_specs.specs.Relation.{project, those};
+ghost use Rattle.lens_specs.specs.Names.{Within};
+ghost use Rattle.lens_specs.specs.Relation.{project};
 ghost use Rattle.lens_specs.specs.Rows.{agree};
 ghost use Rattle.lens_laws.specs.KeyedDeltas.{find_by};
 ghost use Rattle.lens_laws.specs.Lenses.{IsTyped};
 ghost use Rattle.lens_laws.specs.Work.{size};
 ghost use Rattle.signed_delta.specs.Keys.{IsKey};
-ghost use Rattle.lens_probe.specs.Looking.{ArePartners, FindsWithin, MayFind, pairs_of};
+ghost use Rattle.lens_probe.specs.Looking.{ArePartners, FindsWithin, MayFind, find_part, pairs_of};
 
 use crate::columns::{names_of, shared_names};
 use crate::pairing::add_pairs;
+use crate::selecting::selected;
 use base_index::Tables;
-use lens_pred::Pred;
 use lens_types::{JoinKind, Lens, TypedLens, rename_row, rename_set};
 use lens_values::{Name, Names, NoMemory, Row};
 use row_sets::RowSet;
@@ -146,103 +143,70 @@ fn find_renamed<L: Ledger>(
 #[cycle(find)]
 fn find_joined<L: Ledger>(
     alloc: Global,
-    kind: JoinKind,
+    _kind: JoinKind,
     left: &TypedLens,
     right: &TypedLens,
     kept: &Names,
     query: &Query<'_>,
     looked: &mut Steps<L>,
 ) -> Result<RowSet, NoMemory>
-    requires typed { IsTyped (join kind left.now right.now) }
+    requires typed { IsTyped (join _kind left.now right.now) }
     requires kept { Within query.now.cols.now kept.now }
     requires asked { let st = query.now.tables.now.present in
-        MayFind (join kind left.now right.now) st query.now.cols.now }
+        MayFind (join _kind left.now right.now) st query.now.cols.now }
     requires key { IsKey query.now.cols.now query.now.key.now }
-    ensures found { let shown = get (join kind left.now right.now) query.now.tables.now.present.relations in
+    ensures found { let shown = get (join _kind left.now right.now) query.now.tables.now.present.relations in
         IfOk result (λ found.
         found ≡ project kept.now (find_by query.now.cols.now query.now.key.now shown)) }
-    ensures looks { (w : ℕ) → let L = join kind left.now right.now in
+    ensures looks { (w : ℕ) → let L = join _kind left.now right.now in
         FindsWithin L query.now.tables.now.present query.now.cols.now w
         → looked.new ≤ looked.old + size L w }
 {
+    let shared = shared_names(alloc, left, right)?;
     if query.cols.meets(names_of(left)) {
-        find_from_left(alloc, kind, left, right, kept, query, looked)
+        pairs_from(alloc, left, true, right, &shared, kept, query, looked)
     } else {
-        find_from_right(alloc, kind, left, right, kept, query, looked)
+        pairs_from(alloc, right, false, left, &shared, kept, query, looked)
     }
 }
 
-// The left side is asked by its part of the key, and the right side for each row found.
+// What is kept of the pairs of rows of both sides of a join that agree with the key: one side, which
+// is the left one or the right one, is asked by its part of the key, and the other side by the
+// shared columns for each row found.
 #[cycle(find)]
-fn find_from_left<L: Ledger>(
+fn pairs_from<L: Ledger>(
     alloc: Global,
-    _kind: JoinKind,
-    left: &TypedLens,
-    right: &TypedLens,
+    side: &TypedLens,
+    is_left: bool,
+    other: &TypedLens,
+    shared: &Names,
     kept: &Names,
     query: &Query<'_>,
     looked: &mut Steps<L>,
 ) -> Result<RowSet, NoMemory>
-    requires typed { IsTyped (join _kind left.now right.now) }
-    requires kept { Within query.now.cols.now kept.now }
+    requires typed { IsTyped side.now }
     requires asked { let st = query.now.tables.now.present in
-        MayFind (join _kind left.now right.now) st query.now.cols.now }
+        MayFind side.now st (set.intersection query.now.cols.now (view_names side.now)) }
+    requires other { MayFind other.now query.now.tables.now.present shared.now }
+    requires shared { Within shared.now (view_names side.now) }
     requires key { IsKey query.now.cols.now query.now.key.now }
-    requires meets { share query.now.cols.now (view_names left.now) ≡ true }
-    ensures found { let shown = get (join _kind left.now right.now) query.now.tables.now.present.relations in
-        IfOk result (λ found.
-        found ≡ project kept.now (find_by query.now.cols.now query.now.key.now shown)) }
-    ensures looks { (w : ℕ) → let L = join _kind left.now right.now in
-        FindsWithin L query.now.tables.now.present query.now.cols.now w
-        → looked.new ≤ looked.old + size L w }
+    ensures found { let db = query.now.tables.now.present.relations in
+        let C = query.now.cols.now in
+        let found = find_part C query.now.key.now (view_names side.now) (get side.now db) in
+        IfOk result (λ pairs. pairs ≡ set.from_list
+        (pairs_of is_left shared.now kept.now C query.now.key.now (get other.now db) (set.items found))) }
+    ensures looks { (w : ℕ) → let st = query.now.tables.now.present in
+        FindsWithin side.now st (set.intersection query.now.cols.now (view_names side.now)) w
+        → FindsWithin other.now st shared.now w
+        → looked.new ≤ looked.old + (size side.now w + size side.now w * size other.now w) }
 {
-    let found = find_by_part(alloc, left, query, looked)?;
-    let shared = shared_names(alloc, left, right)?;
+    let found = find_by_part(alloc, side, query, looked)?;
     let pairs = pair_each(
         alloc,
         found.rows(),
-        true,
-        right,
-        &shared,
-        kept,
-        query,
-        looked,
-    )?;
-    RowSet::new(alloc, pairs)
-}
-
-// The right side is asked by its part of the key, and the left side for each row found.
-#[cycle(find)]
-fn find_from_right<L: Ledger>(
-    alloc: Global,
-    _kind: JoinKind,
-    left: &TypedLens,
-    right: &TypedLens,
-    kept: &Names,
-    query: &Query<'_>,
-    looked: &mut Steps<L>,
-) -> Result<RowSet, NoMemory>
-    requires typed { IsTyped (join _kind left.now right.now) }
-    requires kept { Within query.now.cols.now kept.now }
-    requires asked { let st = query.now.tables.now.present in
-        MayFind (join _kind left.now right.now) st query.now.cols.now }
-    requires key { IsKey query.now.cols.now query.now.key.now }
-    requires meets { share query.now.cols.now (view_names left.now) ≡ false }
-    ensures found { let shown = get (join _kind left.now right.now) query.now.tables.now.present.relations in
-        IfOk result (λ found.
-        found ≡ project kept.now (find_by query.now.cols.now query.now.key.now shown)) }
-    ensures looks { (w : ℕ) → let L = join _kind left.now right.now in
-        FindsWithin L query.now.tables.now.present query.now.cols.now w
-        → looked.new ≤ looked.old + size L w }
-{
-    let found = find_by_part(alloc, right, query, looked)?;
-    let shared = shared_names(alloc, left, right)?;
-    let pairs = pair_each(
-        alloc,
-        found.rows(),
-        false,
-        left,
-        &shared,
+        is_left,
+        other,
+        shared,
         kept,
         query,
         looked,
@@ -263,8 +227,8 @@ fn find_by_part<L: Ledger>(
         MayFind side.now st (set.intersection query.now.cols.now (view_names side.now)) }
     requires key { IsKey query.now.cols.now query.now.key.now }
     ensures found { let shown = get side.now query.now.tables.now.present.relations in
-        let part = set.intersection query.now.cols.now (view_names side.now) in
-        IfOk result (λ found. found ≡ find_by part (restrict part query.now.key.now) shown) }
+        IfOk result (λ found.
+        found ≡ find_part query.now.cols.now query.now.key.now (view_names side.now) shown) }
     ensures looks { (w : ℕ)
         → let part = set.intersection query.now.cols.now (view_names side.now) in
         FindsWithin side.now query.now.tables.now.present part w
@@ -362,28 +326,4 @@ fn partners_of<L: Ledger>(
     };
     let rows = find_in(alloc, other, &asked, looked)?;
     Ok(Partners { key, rows })
-}
-
-// Those of the rows that the predicate holds on.
-fn selected(alloc: Global, pred: &Pred, rows: RowSet) -> Result<RowSet, NoMemory>
-    ensures { IfOk result (λ some. some ≡ those (holds pred.now) rows) }
-{
-    // Mostly it holds on each of them, and then nothing is allocated.
-    if all_hold(pred, rows.rows()) {
-        return Ok(rows);
-    }
-    let mut some = Vec::new(alloc);
-    for row in rows.rows() {
-        if pred.holds(row) {
-            some.push(row.copy(alloc)?)?;
-        }
-    }
-    Ok(RowSet::from_rising(some))
-}
-
-// Whether the predicate holds on each of the rows.
-fn all_hold(pred: &Pred, rows: &[Row]) -> bool
-    ensures { result ≡ list_all (holds pred.now) rows.now }
-{
-    rows.iter().all(|row| pred.holds(row))
 }

@@ -46,6 +46,16 @@ impl Cursor {
             return None;
         }
         self.steps = self.steps.saturating_add(STEPS_A_ROW);
+        self.search(row, known)
+    }
+
+    // The same, from the cursor's place on in strides that double, but never past the middle of the
+    // places where the part may still be.
+    fn search(&mut self, row: &Row, known: &[Row]) -> Option<usize>
+        ensures { (C : NameSet) → AreOver C known.now → MatchOption result (Unit {0})
+            (λ place. (place < length known.now)
+            × (slice_index_or known.now place (restrict C row.now) ≡ restrict C row.now)) }
+    {
         let mut low = 0;
         let mut high = known.len();
         let mut place = self.next.min(high.saturating_sub(1));

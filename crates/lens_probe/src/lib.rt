@@ -11,6 +11,7 @@ mod known;
 mod needed;
 mod pairing;
 mod reading;
+mod selecting;
 mod unfiltered;
 pub mod view;
 

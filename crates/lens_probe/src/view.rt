@@ -8,8 +8,8 @@ ghost use Rattle.lens_laws.specs.Asked.{HasKeys, asked};
 ghost use Rattle.lens_laws.specs.Finds.{AllFit};
 ghost use Rattle.lens_laws.specs.Lenses.{AreOf};
 ghost use Rattle.lens_probe.specs.Reading.{rows_under};
-ghost use Rattle.lens_probe.specs.Viewed.{AreIndexed, IsViewed, IsWithin, asked_by, is_left_side, shown};
-ghost use Rattle.lens_probe.specs.Viewed.{both_sides, only_source, sides_of, source_of};
+ghost use Rattle.lens_probe.specs.Viewed.{AreIndexed, CanAsk, IsViewed, IsWithin, Viewed, asked_by, both_sides};
+ghost use Rattle.lens_probe.specs.Viewed.{is_left_side, only_source, shown, sides_of, source_of, viewed, viewed_code};
 
 use crate::differing::difference_in;
 use crate::finding::{Query, find_in};
@@ -17,8 +17,8 @@ use crate::handed::HandedDown;
 use crate::having::has_in;
 use crate::reading::read_in;
 use base_index::Tables;
-use fd_tree::Tree;
-use lens_types::{Lens, TypedLens};
+use fd_tree::Edge;
+use lens_types::{Lens, Sort, TypedLens};
 use lens_values::{Columns, Names, NoMemory, Row};
 use row_sets::{Relation, RowSet};
 use signed_delta::{Delta, Look};
@@ -32,20 +32,19 @@ use step_counter::Steps;
 #[derive(Drop)]
 pub struct View<'a> {
     lens: &'a TypedLens,
+    sort: &'a Sort,
     tables: &'a Tables,
     handed: HandedDown,
 }
 
 impl<'a> Model for View<'a> {
-    ghost use Rattle.lens_probe.specs.Viewed as spec;
+    ghost Value = { Viewed };
 
-    ghost Value = { spec.Viewed };
+    ghost coded = { viewed_code };
 
-    ghost coded = { spec.viewed_code };
+    ghost view = { λ v. viewed v.lens.now v.handed.sets v.tables.now };
 
-    ghost view = { λ v. spec.viewed v.lens.now v.handed.sets v.tables.now };
-
-    ghost invariant = { λ v. spec.IsViewed (spec.viewed v.lens.now v.handed.sets v.tables.now) };
+    ghost invariant = { λ v. IsViewed (viewed v.lens.now v.handed.sets v.tables.now) × (v.sort.now ≡ sort_of v.lens.now) };
 }
 
 impl<'a> View<'a> {
@@ -57,12 +56,19 @@ impl<'a> View<'a> {
         requires indexed { AreIndexed (asked lens.now []) tables.now.present }
         ensures { result ≡ record { lens = lens.now; sets = []; tables = tables.now } }
     {
-        // The lens has to be typed, which each lens is.
-        let _ = lens.sort();
+        View::new(lens, tables, HandedDown::none())
+    }
+
+    // The view of a lens to which these sets were handed down.
+    fn new(lens: &'a TypedLens, tables: &'a Tables, handed: HandedDown) -> View<'a>
+        requires { CanAsk lens.now handed.sets tables.now.present }
+        ensures { result ≡ viewed lens.now handed.sets tables.now }
+    {
         View {
             lens,
+            sort: lens.sort(),
             tables,
-            handed: HandedDown::none(),
+            handed,
         }
     }
 
@@ -81,9 +87,7 @@ impl<'a> View<'a> {
         ensures asked { result ≡ true → Contains (asked_by self.now) cols.now }
         ensures some { result ≡ true → length (set.items cols.now) ≢ 0 }
     {
-        let tree = self.lens.sort().tree();
-        tree.lefts_are_full();
-        is_left_side(tree, cols)
+        is_left_side(self.sort.tree().edges(), cols)
     }
 
     /// The view of the only source, at a select, at a drop and at a rename.
@@ -146,11 +150,7 @@ impl<'a> View<'a> {
         requires { only_source self.now.lens ≡ Some source.now }
         ensures { Some result ≡ source_of self.now }
     {
-        View {
-            lens: source,
-            tables: self.tables,
-            handed: self.handed.to_first(self.lens),
-        }
+        View::new(source, self.tables, self.handed.to_first(self.lens))
     }
 
     /// The views of these sides of the lens, the left one first.
@@ -158,16 +158,8 @@ impl<'a> View<'a> {
         requires { both_sides self.now.lens ≡ Some (left.now, right.now) }
         ensures { Some result ≡ sides_of self.now }
     {
-        let over_left = View {
-            lens: left,
-            tables: self.tables,
-            handed: self.handed.to_first(self.lens),
-        };
-        let over_right = View {
-            lens: right,
-            tables: self.tables,
-            handed: self.handed.to_second(self.lens),
-        };
+        let over_left = View::new(left, self.tables, self.handed.to_first(self.lens));
+        let over_right = View::new(right, self.tables, self.handed.to_second(self.lens));
         (over_left, over_right)
     }
 }
@@ -180,7 +172,7 @@ impl<'a> Look for View<'a> {
     ghost within = { IsWithin };
 
     fn columns(&self) -> &Columns {
-        self.lens.sort().cols()
+        self.sort.cols()
     }
 
     fn has<L: Ledger>(
@@ -209,8 +201,8 @@ impl<'a> Look for View<'a> {
 }
 
 // Whether the columns are the left side of one of the edges.
-fn is_left_side(tree: &Tree, cols: &Names) -> bool
-    ensures { result ≡ is_left_side cols.now tree.now }
+fn is_left_side(edges: &[Edge], cols: &Names) -> bool
+    ensures { result ≡ is_left_side cols.now edges.now }
 {
-    tree.edges().iter().any(|edge| edge.left.same(cols))
+    edges.iter().any(|edge| edge.left.same(cols))
 }

@@ -10,18 +10,21 @@ use Rattle.lens_laws.specs.Finds.{AllFit}
 use Rattle.lens_specs.specs.Delta.{AppliesTo, Delta, diff, new_view}
 use Rattle.lens_specs.specs.Lens.{Lens, Tables, get, sort_of, view}
 use Rattle.lens_specs.specs.Relation.{Rows}
+use Rattle.request_text.specs.Answers.{edit_refusal_view}
 use Rattle.request_text.specs.RowFaults.{bad_row as bad_of, set_of}
 use Rattle.request_text.specs.Told.{RefusesBy}
 use Rattle.request_text.specs.declared.rows.RowsFault.{RowsFault}
 use Rattle.request_text.specs.declared.rows.RowsFault.TheVariants as rows_fault
+use Rattle.server_specs.specs.Answer.{Answer, told}
 use Rattle.server_specs.specs.Changing.{Sent, as_set, asked_view, changed_at, is_stale, of_sort, sent_view, set_in, tested, unless_stale, whole}
-use Rattle.server_specs.specs.EditRefusal.{Listed, bad_row, in_rows}
+use Rattle.server_specs.specs.EditRefusal.{EditRefusal, Listed, bad_row, in_rows}
 use Rattle.server_specs.specs.Sending.{BadRow, rows_in}
 use Rattle.server_specs.specs.State.{State}
 use Rattle.server_laws.proofs.Asked.{sent_fits}
 use Rattle.server_laws.proofs.Stored.{IsHere}
-use Rattle.lens_server.specs.Asking.{AsksBy}
+use Rattle.lens_server.specs.Asking.{AsksBy, TellsRefusal}
 use Rattle.lens_server.specs.declared.requested_edit.Refusal.{Refusal}
+use Rattle.lens_server.specs.declared.requested_edit.Refusal.TheVariants as refusal
 
 -- ---- lists of rows
 
@@ -69,3 +72,11 @@ difference_tested s L db on d N r fresh to h =
 pub difference_asked : (s : State) (L : Lens) (db : Tables) (sent : Sent) (on : Option ℕ) (d : Delta) (N : Rows) (r : Result Delta Refusal) → sent_view sent L s ≡ Ok N → is_stale s L on ≡ false
     → edited L db d ≡ N → AsksBy L db r (of_sort (sort_of L) (edited L db d)) → AsksBy L db r (asked_view s L sent on)
 difference_asked s L db sent on d N r is fresh to h = subst (λ x. AsksBy L db r (tested s L on x)) (sym is) (difference_tested s L db on d N r fresh to h)
+
+-- ---- refusals
+
+-- what is asked is refused for what the answer tells
+pub refused_so : (L : Lens) (db : Tables) (r : Refusal) (expected : Result Rows EditRefusal) (answer : Answer) → AsksBy L db (Err r) expected → TellsRefusal answer r
+    → (why : EditRefusal) × (expected ≡ Err why) × (answer ≡ told why)
+refused_so L db (refusal.Told why) expected answer asks tells = (edit_refusal_view why, asks, tells)
+refused_so L db refusal.NoMemory expected answer asks tells = absurd tells

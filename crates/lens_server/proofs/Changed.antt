@@ -1,7 +1,8 @@
 -- The plan of a change of tables.
 use Rattle.std.proofs.Common.{◌≡◌, ◌∙◌, ◌+◌, ◌-◌, ℕ, suc, true, false, List, [], ◌∷◌, Some, ap, sym, subst, refl, arith}
 use Rattle.std.proofs.lemmas.Bool.Decides.{nat_tests}
-use Rattle.std.specs.Prelude.{◌≢◌, ◌==◌, IfOk, Option, Result, Ok, Err, None, length, map, slice_get}
+use Rattle.std.specs.Prelude.{◌≢◌, ◌==◌, IfOk, Result, Ok, Err, None, Vec, length, map, slice_get}
+use Rattle.std.specs.declared.alloc.Global.{Global}
 use Rattle.no_memory.specs.declared.NoMemory.{NoMemory}
 use Rattle.lens_specs.specs.Delta.{TableDelta, changes}
 use Rattle.lens_specs.specs.Keeping.{rows}
@@ -24,50 +25,39 @@ use Rattle.server_laws.proofs.Valid.{undo_leads, valid_accept, valid_undone}
 use Rattle.signed_delta.specs.Tables.{table_delta}
 use Rattle.signed_delta.specs.declared.delta.TableDelta.{TableDelta as DeltaOf}
 use Rattle.table_keeper.specs.Changes.{change_view}
-use Rattle.table_keeper.specs.declared.keeper.Change.{Change}
-use Rattle.table_keeper.specs.declared.keeper.Change.TheVariants.{Define, Rows as RowsChange}
-use Rattle.view_catalog.specs.declared.prepared.Prepared.{Prepared}
-use Rattle.lens_server.specs.Plans.{CanStage, CanTake, IsChange, IsPlan, IsStaged, Leads, after, changed_tables, past_after, texts_with}
+use Rattle.table_keeper.specs.declared.keeper.Change.TheVariants.{Rows as RowsChange}
+use Rattle.lens_server.specs.Plans.{CanStage, CanTake, IsChange, IsPlan, IsStaged, Leads, after, change_of, changed_tables, definition_of, past_after, texts_with}
 use Rattle.lens_server.specs.States.{state_of}
 use Rattle.lens_server.specs.declared.plan.PastStep.{PastStep}
 use Rattle.lens_server.specs.declared.plan.PastStep.TheVariants.{Gains, Loses}
 use Rattle.lens_server.specs.declared.plan.Plan.{Plan}
 use Rattle.lens_server.specs.declared.database.Database.{Database}
 
--- what a change of rows makes of the tables, and that they can stage it
-rows_change : (change : Change) (o : Option Prepared) (cs : List TableDelta) (db : Tables) → change_view change ≡ rows cs → changed_tables change o db ≡ with_deltas cs db
-rows_change (RowsChange deltas) o cs db is = let same : map table_delta deltas.items ≡ cs = cc in ap (λ l. with_deltas l db) same
-rows_change (Define text table) o cs db is = cc
-
-rows_stage : (change : Change) (o : Option Prepared) (cs : List TableDelta) (db : Tables) → change_view change ≡ rows cs → AllApply cs db → CanStage change o db
-rows_stage (RowsChange deltas) o cs db is all = let same : map table_delta deltas.items ≡ cs = cc in subst (λ l. AllApply l db) (sym same) all
-rows_stage (Define text table) o cs db is all = cc
-
 -- the changes that can be undone gain it
-rows_gained : (change : Change) (cs : List TableDelta) (past : List (List TableDelta)) → change_view change ≡ rows cs → remember cs past ≡ past_after Gains change past
-rows_gained (RowsChange deltas) cs past is = let same : map table_delta deltas.items ≡ cs = cc in ap (λ l. remember l past) (sym same)
-rows_gained (Define text table) cs past is = cc
+rows_gained : (kept : Vec DeltaOf Global) (cs : List TableDelta) (past : List (List TableDelta)) → map table_delta kept.items ≡ cs → remember cs past ≡ past_after Gains (RowsChange kept) past
+rows_gained kept cs past are = ap (λ l. remember l past) (sym are)
 
 -- a plan of these differences leads to a valid state, where they lead to its tables, and its other parts are those after them
 led_planned : (database : Database) (plan : Plan) (step : PastStep) (ds : List TableDelta) (next : State) → IsChange ds step database plan → LeadTo ds database.tables.present.relations next.tables → Valid next
     → next.texts ≡ database.catalog.texts → next.version ≡ database.version + 1 → next.last ≡ with_last (database.version + 1) ds database.last
-    → ((change : Change) → change_view change ≡ rows ds → next.past ≡ past_after step change database.past)
+    → ((kept : Vec DeltaOf Global) → map table_delta kept.items ≡ ds → next.past ≡ past_after step (RowsChange kept) database.past)
     → IsPlan plan (answers.changed ds (database.version + 1), next) database
 led_planned database plan step ds next p leads valid texts version last past =
     let s = state_of database in
     let staged = p.staged in
     let is : next ≡ after staged s = (λ i. record {
-      texts = (texts ∙ ap (λ o. texts_with o s.texts) (sym p.definition)) i;
-      tables = (sym leads.1 ∙ sym (rows_change staged.change staged.definition ds s.tables p.change)) i;
+      texts = (texts ∙ ap (λ ch. texts_with (definition_of ch) s.texts) (sym p.change)) i;
+      tables = (sym leads.1 ∙ ap (λ l. with_deltas l s.tables) (sym p.are) ∙ ap (λ ch. changed_tables ch s.tables) (sym p.change)) i;
       version = version i;
       last = (last ∙ sym p.last) i;
-      past = (past staged.change p.change ∙ ap (λ q. past_after q staged.change s.past) (sym p.past)) i;
+      past = (past p.kept p.are ∙ ap (λ ch. past_after step (change_of ch) s.past) (sym p.change) ∙ ap (λ q. past_after q (change_of staged.change) s.past) (sym p.past)) i;
     }) in
-    let kept : KeptFollows (change_view staged.change) s (after staged s) =
-    subst (λ c. KeptFollows c s (after staged s)) (sym p.change) (subst (λ t. KeptFollows (rows ds) s t) is (led_is_kept s next ds leads texts)) in
+    let change : rows ds ≡ change_view (change_of staged.change) = ap rows (sym p.are) ∙ ap (λ ch. change_view (change_of ch)) (sym p.change) in
+    let kept : KeptFollows (change_view (change_of staged.change)) s (after staged s) =
+    subst (λ c. KeptFollows c s (after staged s)) change (subst (λ t. KeptFollows (rows ds) s t) is (led_is_kept s next ds leads texts)) in
     let ready : IsStaged staged database = record {
-      tables = rows_stage staged.change staged.definition ds s.tables p.change leads.0;
-      definition = subst (λ o. CanTake o database.catalog) (sym p.definition) tt;
+      tables = subst (λ ch. CanStage ch s.tables) (sym p.change) (subst (λ l. AllApply l s.tables) (sym p.are) leads.0);
+      definition = subst (λ ch. CanTake (definition_of ch) database.catalog) (sym p.change) tt;
       kept = kept;
       valid = subst Valid is valid;
     } in
@@ -85,7 +75,7 @@ change_planned : (database : Database) (db : Tables) (plan : Plan) (d : TableDel
     → IsPlan plan (accept db (d ∷ ds) (state_of database)) database
 change_planned database db plan d ds v to p =
     led_planned database plan Gains (d ∷ ds) (accept db (d ∷ ds) (state_of database)).1 p to.leads (valid_accept (state_of database) (d ∷ ds) db v to) refl refl refl
-    (λ change is. rows_gained change (d ∷ ds) database.past is)
+    (λ kept are. rows_gained kept (d ∷ ds) database.past are)
 
 -- what was found to change, by whether anything does
 pub changes_planned : (database : Database) (db : Tables) (ds : List TableDelta) (result : Result Plan NoMemory) → Valid (state_of database) → IsChangeTo (state_of database) ds db → ds ≢ []
@@ -108,7 +98,7 @@ undo_is : (database : Database) (cs : List TableDelta) (plan : Plan) → Valid (
     → IsPlan plan (undone (Some cs) (state_of database)) database
 undo_is database cs plan v is p =
     let s = state_of database in
-    led_planned database plan Loses (inverted cs) (undone (Some cs) s).1 p (undo_leads s cs v is) (valid_undone s v (Some cs) is) refl refl refl (λ change _. refl)
+    led_planned database plan Loses (inverted cs) (undone (Some cs) s).1 p (undo_leads s cs v is) (valid_undone s v (Some cs) is) refl refl refl (λ kept _. refl)
 
 -- the last change is taken back
 pub undo_planned : (database : Database) (cs ds : List TableDelta) (result : Result Plan NoMemory) → Valid (state_of database) → slice_get database.past (length database.past - 1) ≡ Some cs → ds ≡ inverted cs

@@ -30,15 +30,14 @@ use Rattle.base_index.specs.Held.{indexes_in, walked_for}
 use Rattle.base_index.specs.Need.{rows_walked}
 use Rattle.base_index.specs.declared.need.Need.{Need}
 use Rattle.lens_probe.specs.Reading.{rows_under}
-use Rattle.table_keeper.specs.declared.keeper.Change.{Change}
-use Rattle.table_keeper.specs.declared.keeper.Change.TheVariants.{Define, Rows as RowsChange}
-use Rattle.view_catalog.specs.declared.prepared.Prepared.{Prepared}
 use Rattle.lens_server.specs.Counting.{RisesBy, Walks, WalksTables, row_count}
 use Rattle.lens_server.specs.Keyed.{IsOpen}
-use Rattle.lens_server.specs.Plans.{IsPlan, Leads, texts_with}
+use Rattle.lens_server.specs.Plans.{IsPlan, Leads, definition_of, texts_with}
 use Rattle.lens_server.specs.Staging.{needs_of, steps_in, steps_of}
 use Rattle.lens_server.specs.declared.plan.Plan.{Plan}
 use Rattle.lens_server.specs.declared.plan.Staged.{Staged}
+use Rattle.lens_server.specs.declared.plan.StagedChange.{StagedChange}
+use Rattle.lens_server.specs.declared.plan.StagedChange.TheVariants.{Define, Rows as RowsChange}
 use Rattle.lens_server.specs.declared.database.Database.{Database}
 
 -- ---- sums
@@ -126,28 +125,26 @@ walked_few needs st =
     sum_less (λ e. rows_walked e.0 needs (indexes_in st e.0) e.1.rows) (λ e. count_of e.1.rows) (finmap.entries st.relations)
     (λ e. other_less _ (count_of e.1.rows))
 
-steps_in_few : (change : Change) (o : Option Prepared) (st : held.State) → steps_in change o st ≤ row_count st.relations
-steps_in_few (RowsChange deltas) o st = omega arith
-steps_in_few (Define text table) None st = omega arith
-steps_in_few (Define text table) (Some p) st = walked_few (needs_of p.lens) st
+steps_in_few : (change : StagedChange) (st : held.State) → steps_in change st ≤ row_count st.relations
+steps_in_few (Define text table p) st = walked_few (needs_of p.lens) st
+steps_in_few (RowsChange deltas) st = omega arith
 
 -- nor for what is staged
 pub steps_few : (o : Option Staged) (database : Database) → steps_of o database ≤ row_count database.tables.present.relations
 steps_few None database = omega arith
-steps_few (Some staged) database = steps_in_few staged.change staged.definition database.tables.present
+steps_few (Some staged) database = steps_in_few staged.change database.tables.present
 
-pub longer : (texts : List (List ℕ)) (text : List ℕ) → texts ++ text ∷ [] ≡ texts → ⊥
+longer : (texts : List (List ℕ)) (text : List ℕ) → texts ++ text ∷ [] ≡ texts → ⊥
 longer texts text e = let n = ap length e in let m = length-append texts (text ∷ []) in absurd (omega (arith, n, m))
 
-undefined_steps : (change : Change) (o : Option Prepared) (st : held.State) (texts : List (List ℕ)) → texts_with o texts ≡ texts → steps_in change o st ≡ 0
-undefined_steps (RowsChange deltas) o st texts e = refl
-undefined_steps (Define text table) None st texts e = refl
-undefined_steps (Define text table) (Some p) st texts e = absurd (longer texts p.text e)
+undefined_steps : (change : StagedChange) (st : held.State) (texts : List (List ℕ)) → texts_with (definition_of change) texts ≡ texts → steps_in change st ≡ 0
+undefined_steps (Define text table p) st texts e = absurd (longer texts p.text e)
+undefined_steps (RowsChange deltas) st texts e = refl
 
 -- none is walked where no text is added
 steps_none : (o : Option Staged) (next : State) (database : Database) → Leads o next database → next.texts ≡ database.catalog.texts → steps_of o database ≡ 0
 steps_none None next database l e = refl
-steps_none (Some staged) next database l e = undefined_steps staged.change staged.definition database.tables.present database.catalog.texts (sym (ap (λ s. s.texts) l.0) ∙ e)
+steps_none (Some staged) next database l e = undefined_steps staged.change database.tables.present database.catalog.texts (sym (ap (λ s. s.texts) l.0) ∙ e)
 
 -- ---- changes of views add no text
 

@@ -4,8 +4,7 @@ use Rattle.lens_specs.specs.Keeping.{CanChange}
 use Rattle.server_laws.proofs.Kept.{get-rows_of, is_some-rows}
 use Rattle.server_specs.specs.State.{kept as kept_of}
 use Rattle.table_keeper.specs.declared.keeper.Change.{Change}
-use Rattle.table_keeper.specs.declared.keeper.Change.TheVariants.{Define, Rows as RowsChange}
-use Rattle.lens_server.specs.Plans.{CanStage, IsFree, changed_tables, past_after}
+use Rattle.lens_server.specs.Plans.{CanStage, IsFree, change_of, changed_tables, definition_of, past_after}
 use Rattle.lens_server.specs.declared.plan.PastStep.{PastStep}
 use Rattle.lens_server.specs.declared.plan.PastStep.TheVariants.{Stays}
 use Rattle.std.proofs.Common.{◌≡◌, ◌∙◌, ◌+◌, ◌<◌, ℕ, false, List, [], ◌∷◌, ◌++◌, ap, sym, subst, refl}
@@ -41,6 +40,7 @@ use Rattle.lens_server.specs.Plans.{CanTake, IsPlan, IsStaged, Leads, after, tex
 use Rattle.lens_server.specs.States.{state_of}
 use Rattle.lens_server.specs.declared.plan.Plan.{Plan}
 use Rattle.lens_server.specs.declared.plan.Staged.{Staged}
+use Rattle.lens_server.specs.declared.plan.StagedChange.TheVariants.{Define}
 use Rattle.lens_server.specs.declared.database.Database.{Database}
 
 -- the tables, the last changes and the table's name are those of the definition
@@ -91,19 +91,6 @@ defined_is : (text : List ℕ) (d : Definition) (s : State)
 defined_is text (table name columns deps P) s = refl
 defined_is text (view name expr) s = refl
 
--- what a definition makes of the tables, and that they can stage it
-define_tables : (change : Change) (o : Option Prepared) (p : Prepared) (text : List ℕ) (name : Option Name) (db : Tables) → change_view change ≡ define text name → o ≡ Some p
-    → changed_tables change o db ≡ tables_with name p.lens db
-define_tables (Define t n) o p text name db is some = let same : n ≡ name = cc in ap (λ q. changed_tables (Define t n) q db) some ∙ ap (λ m. tables_with m p.lens db) same
-define_tables (RowsChange deltas) o p text name db is some = cc
-
-define_stage : (change : Change) (o : Option Prepared) (p : Prepared) (text : List ℕ) (name : Option Name) (db : Tables) → change_view change ≡ define text name → o ≡ Some p
-    → length p.text < 2 ^ 64 → IsFree name db → CanStage change o db
-define_stage (Define t n) o p text name db is some short free =
-    let same : n ≡ name = cc in
-    subst (λ q. CanStage (Define t n) q db) (sym some) (short, subst (λ m. IsFree m db) (sym same) free)
-define_stage (RowsChange deltas) o p text name db is some short free = cc
-
 -- a table that the kept contents can take is not there yet
 free_of : (text : List ℕ) (o : Option Name) (s : State) → CanChange (define text o) (kept_of s) → IsFree o s.tables
 free_of text None s h = tt
@@ -116,33 +103,31 @@ past_stays step change past e = ap (λ p. past_after p change past) e
 -- the plan that the catalogue takes a definition
 pub definition_planned : (database : Database) (prepared : Prepared) (plan : Plan) (staged : Staged) → Valid (state_of database) → 0 < database.catalog.room → IsAdmissible database.catalog.texts prepared
     → answer_view plan.answer ≡ defined (database.version + 1) → plan.staged ≡ Some staged
-    → change_view staged.change ≡ define prepared.text (table_in prepared.name prepared.lens) → staged.definition ≡ Some prepared
-    → length prepared.text < 2 ^ 64
+    → staged.change ≡ Define prepared.text (table_in prepared.name prepared.lens) prepared → length prepared.text < 2 ^ 64
     → staged.last ≡ last_with (table_in prepared.name prepared.lens) (database.version + 1) database.last → staged.past ≡ Stays
     → IsPlan plan (define_answer prepared.text (state_of database)) database
-definition_planned database prepared plan staged v room a answer is change definition short last past =
+definition_planned database prepared plan staged v room a answer is change short last past =
     let s = state_of database in
     let d = a.definition in
     let made = is_made s prepared d v a.taken a.named a.lens in
     let name = table_in prepared.name prepared.lens in
-    let tables : changed_tables staged.change staged.definition s.tables ≡ tables_with name prepared.lens s.tables =
-    define_tables staged.change staged.definition prepared prepared.text name s.tables change definition in
     let next : with_defined prepared.text d s ≡ after staged s =
     defined_is prepared.text d s ∙ (λ i. record {
-      texts = texts_with (sym definition i) s.texts;
-      tables = (sym made.tables ∙ sym tables) i;
+      texts = texts_with (definition_of (sym change i)) s.texts;
+      tables = (sym made.tables ∙ ap (λ ch. changed_tables ch s.tables) (sym change)) i;
       version = s.version + 1;
       last = (sym made.last ∙ sym last) i;
-      past = past_stays staged.past staged.change s.past (sym past) i;
+      past = past_stays staged.past (change_of staged.change) s.past (sym past) i;
     }) in
-    let changed : define prepared.text (table_made d) ≡ change_view staged.change = ap (define prepared.text) (sym made.table) ∙ sym change in
-    let follows : KeptFollows (change_view staged.change) s (after staged s) =
+    let defines : change_view (change_of staged.change) ≡ define prepared.text name = ap (λ ch. change_view (change_of ch)) change in
+    let changed : define prepared.text (table_made d) ≡ change_view (change_of staged.change) = ap (define prepared.text) (sym made.table) ∙ sym defines in
+    let follows : KeptFollows (change_view (change_of staged.change)) s (after staged s) =
     subst (λ c. KeptFollows c s (after staged s)) changed
     (subst (λ t. KeptFollows (define prepared.text (table_made d)) s t) next (definitions_kept s v prepared.text d a.taken)) in
-    let free : IsFree name s.tables = free_of prepared.text name s (subst (λ c. CanChange c (kept_of s)) change follows.1) in
+    let free : IsFree name s.tables = free_of prepared.text name s (subst (λ c. CanChange c (kept_of s)) defines follows.1) in
     let ready : IsStaged staged database = record {
-      tables = define_stage staged.change staged.definition prepared prepared.text name s.tables change definition short free;
-      definition = subst (λ o. CanTake o database.catalog) (sym definition) (room, a);
+      tables = subst (λ ch. CanStage ch s.tables) (sym change) (short, free);
+      definition = subst (λ ch. CanTake (definition_of ch) database.catalog) (sym change) (room, a);
       kept = follows;
       valid = subst Valid next (valid_taken s prepared.text d v a.taken (judged_ok (catalogue s.texts) (reading prepared.text) d a.taken).1);
     } in

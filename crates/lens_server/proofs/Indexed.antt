@@ -7,33 +7,29 @@ use Rattle.std.specs.Ordering.{eq_by_cmp}
 use Rattle.lens_values.specs.Order.{bytes_cmp}
 use Rattle.fd_laws.proofs.Names.{tied_name}
 use Rattle.lens_laws.specs.Asked.{asked}
-use Rattle.lens_specs.specs.Keeping.{Kept, changed}
 use Rattle.lens_specs.specs.Lens.{Lens, Tables}
 use Rattle.lens_specs.specs.Names.{Name, Names}
 use Rattle.catalog_specs.specs.Catalogue.{catalogue}
 use Rattle.server_laws.proofs.Stored.{AreStored}
 use Rattle.server_laws.proofs.Taken.{get-new, get-other}
 use Rattle.server_laws.specs.StateLaws.{AreShort}
-use Rattle.server_specs.specs.State.{kept}
 use Rattle.server_specs.specs.Validity.{Valid}
 use Rattle.base_index.proofs.Known.{still_indexed}
 use Rattle.base_index.specs.Held as held
 use Rattle.base_index.specs.Held.{Held, IsNew, IsQuiet, IsThere, is_indexed}
-use Rattle.table_keeper.specs.Changes.{change_view}
-use Rattle.table_keeper.specs.declared.keeper.Change.{Change}
-use Rattle.table_keeper.specs.declared.keeper.Change.TheVariants.{Define, Rows as RowsChange}
 use Rattle.view_catalog.proofs.Growth.{grown_by}
 use Rattle.view_catalog.specs.Admissions.{IsAdmissible}
 use Rattle.view_catalog.specs.Contents.{Contents}
 use Rattle.view_catalog.specs.declared.prepared.Prepared.{Prepared}
-use Rattle.lens_server.proofs.Counted.{longer}
 use Rattle.lens_server.proofs.Grown.{AllIndexed, asked_there, now_indexed}
 use Rattle.lens_server.specs.Defining.{tables_with}
 use Rattle.lens_server.specs.Keyed.{IsKeyed}
-use Rattle.lens_server.specs.Plans.{CanStage, CanTake, IsFree, IsStaged, after, changed_tables, past_after, texts_with}
+use Rattle.lens_server.specs.Plans.{CanStage, CanTake, IsFree, IsStaged, after, change_of, changed_tables, definition_of, past_after, texts_with}
 use Rattle.lens_server.specs.Staging.{defined_by, needs_of, next_state, table_of}
 use Rattle.lens_server.specs.States.{state_of}
 use Rattle.lens_server.specs.declared.plan.Staged.{Staged}
+use Rattle.lens_server.specs.declared.plan.StagedChange.{StagedChange}
+use Rattle.lens_server.specs.declared.plan.StagedChange.TheVariants.{Define, Rows as RowsChange}
 use Rattle.lens_server.specs.declared.database.Database.{Database}
 
 -- each table that a lens of the catalogue asks is there
@@ -70,63 +66,51 @@ definition_relations (Some name) L st = refl
 -- ---- changes
 
 -- the tables after a change
-pub next_relations : (change : Change) (o : Option Prepared) (st : held.State) → (next_state change o st).relations ≡ changed_tables change o st.relations
-next_relations (RowsChange deltas) o st = refl
-next_relations (Define text table) None st = refl
-next_relations (Define text table) (Some p) st = definition_relations table p.lens st
+pub next_relations : (change : StagedChange) (st : held.State) → (next_state change st).relations ≡ changed_tables change st.relations
+next_relations (Define text table p) st = definition_relations table p.lens st
+next_relations (RowsChange deltas) st = refl
 
 short_more : (texts : List (List ℕ)) (text : List ℕ) → AreShort texts → length text < 2 ^ 64 → AreShort (texts ++ text ∷ [])
 short_more [] text all h = (h, tt)
 short_more (first ∷ texts) text all h = (all.0, short_more texts text all.1 h)
 
--- a change that adds no text takes no definition
-no_text : (o : Option Prepared) (texts : List (List ℕ)) → texts_with o texts ≡ texts → o ≡ None
-no_text None texts e = refl
-no_text (Some p) texts e = absurd (longer texts p.text e)
-
 -- the texts after a change are short
-change_short : (change : Change) (o : Option Prepared) (texts : List (List ℕ)) (db : Tables) (k : Kept) → k.texts ≡ texts → CanStage change o db
-    → texts_with o texts ≡ (changed (change_view change) k).texts → AreShort texts → AreShort (texts_with o texts)
-change_short (RowsChange deltas) o texts db k is can told short = subst AreShort (sym (told ∙ is)) short
-change_short (Define text table) None texts db k is can told short = absurd can
-change_short (Define text table) (Some p) texts db k is can told short = short_more texts p.text short can.0
+change_short : (change : StagedChange) (texts : List (List ℕ)) (db : Tables) → CanStage change db → AreShort texts → AreShort (texts_with (definition_of change) texts)
+change_short (Define text table p) texts db can short = short_more texts p.text short can.0
+change_short (RowsChange deltas) texts db can short = short
 
 -- each lens has its indexes after a change
-change_indexed : (change : Change) (o : Option Prepared) (catalog : Contents) (st : held.State) (k : Kept) → k.texts ≡ catalog.texts → CanStage change o st.relations → CanTake o catalog
-    → texts_with o catalog.texts ≡ (changed (change_view change) k).texts → AllThere catalog.texts st
-    → AllThere (texts_with o catalog.texts) (next_state change o st) → AllIndexed (catalogue catalog.texts) st → AllIndexed (catalogue (texts_with o catalog.texts)) (next_state change o st)
-change_indexed (RowsChange deltas) o catalog st k is can take told there later all =
-    λ name L e. all name L (subst (λ ts. finmap.get (catalogue ts) name ≡ Some L) (told ∙ is) e)
-change_indexed (Define text table) None catalog st k is can take told there later all = absurd can
-change_indexed (Define text table) (Some p) catalog st k is can take told there later all =
-    definition_indexed catalog.texts p table st take.1 can.1 there later all
+change_indexed : (change : StagedChange) (catalog : Contents) (st : held.State) → CanStage change st.relations → CanTake (definition_of change) catalog → AllThere catalog.texts st
+    → AllThere (texts_with (definition_of change) catalog.texts) (next_state change st) → AllIndexed (catalogue catalog.texts) st
+    → AllIndexed (catalogue (texts_with (definition_of change) catalog.texts)) (next_state change st)
+change_indexed (Define text table p) catalog st can take there later all = definition_indexed catalog.texts p table st take.1 can.1 there later all
+change_indexed (RowsChange deltas) catalog st can take there later all = λ name L e. all name L e
 
 -- a change that was staged and settled leaves the lenses able to ask their tables
 pub keyed_after : (staged : Staged) (old new : Database) → Valid (state_of old) → IsKeyed old → IsStaged staged old
-    → new.catalog.texts ≡ texts_with staged.definition old.catalog.texts
-    → IsQuiet new.tables → new.tables.held ≡ old.tables.held → new.tables.present ≡ next_state staged.change staged.definition old.tables.present → IsKeyed new
+    → new.catalog.texts ≡ texts_with (definition_of staged.change) old.catalog.texts
+    → IsQuiet new.tables → new.tables.held ≡ old.tables.held → new.tables.present ≡ next_state staged.change old.tables.present → IsKeyed new
 keyed_after staged old new v keyed h texts quiet held present =
-    let s = state_of old in
-    let told : texts_with staged.definition old.catalog.texts ≡ (changed (change_view staged.change) (kept s)).texts = ap (λ k. k.texts) h.kept.0 in
-    let next = next_state staged.change staged.definition old.tables.present in
-    let stored : AreStored (catalogue (texts_with staged.definition old.catalog.texts)) next.relations =
-    subst (AreStored (catalogue (texts_with staged.definition old.catalog.texts))) (sym (next_relations staged.change staged.definition old.tables.present)) h.valid.tables in
-    let all = change_indexed staged.change staged.definition old.catalog old.tables.present (kept s) refl h.tables h.definition told
-    (asked_there old.catalog.texts old.tables.present v.definitions v.tables) (asked_there (texts_with staged.definition old.catalog.texts) next h.valid.definitions stored) keyed.indexed in
+    let more = texts_with (definition_of staged.change) old.catalog.texts in
+    let next = next_state staged.change old.tables.present in
+    let stored : AreStored (catalogue more) next.relations =
+    subst (AreStored (catalogue more)) (sym (next_relations staged.change old.tables.present)) h.valid.tables in
+    let all = change_indexed staged.change old.catalog old.tables.present h.tables h.definition
+    (asked_there old.catalog.texts old.tables.present v.definitions v.tables) (asked_there more next h.valid.definitions stored) keyed.indexed in
     record {
       quiet = quiet;
       free = held ∙ keyed.free;
-      short = subst AreShort (sym texts) (change_short staged.change staged.definition old.catalog.texts old.tables.present.relations (kept s) refl h.tables told keyed.short);
+      short = subst AreShort (sym texts) (change_short staged.change old.catalog.texts old.tables.present.relations h.tables keyed.short);
       indexed = subst (AllIndexed (catalogue new.catalog.texts)) (sym present) (subst (λ ts. AllIndexed (catalogue ts) next) (sym texts) all);
     }
 
 -- the state after it
-pub state_after : (staged : Staged) (old new : Database) → new.catalog.texts ≡ texts_with staged.definition old.catalog.texts
-    → new.tables.present ≡ next_state staged.change staged.definition old.tables.present → new.version ≡ old.version + 1 → new.last ≡ staged.last
-    → new.past ≡ past_after staged.past staged.change old.past → state_of new ≡ after staged (state_of old)
+pub state_after : (staged : Staged) (old new : Database) → new.catalog.texts ≡ texts_with (definition_of staged.change) old.catalog.texts
+    → new.tables.present ≡ next_state staged.change old.tables.present → new.version ≡ old.version + 1 → new.last ≡ staged.last
+    → new.past ≡ past_after staged.past (change_of staged.change) old.past → state_of new ≡ after staged (state_of old)
 state_after staged old new texts present version last past =
-    let tables : new.tables.present.relations ≡ changed_tables staged.change staged.definition old.tables.present.relations =
-    ap (λ st. st.relations) present ∙ next_relations staged.change staged.definition old.tables.present in
+    let tables : new.tables.present.relations ≡ changed_tables staged.change old.tables.present.relations =
+    ap (λ st. st.relations) present ∙ next_relations staged.change old.tables.present in
     (λ i. record { texts = texts i; tables = tables i; version = version i; last = last i; past = past i })
 
 -- ---- a change that is dropped

@@ -21,7 +21,7 @@ use Rattle.lens_server.proofs.Keyed.{same_keyed, same_state}
 use Rattle.lens_server.specs.Committing.{Commits, IsReply}
 use Rattle.lens_server.specs.Keyed.{IsSame}
 use Rattle.lens_server.specs.Outcomes.{IsReady, NotKept, Outcome}
-use Rattle.lens_server.specs.Plans.{IsStaged, after}
+use Rattle.lens_server.specs.Plans.{IsStaged, after, change_of}
 use Rattle.lens_server.specs.States.{state_of}
 use Rattle.lens_server.specs.declared.plan.Staged.{Staged}
 use Rattle.lens_server.specs.declared.database.Database.{Database}
@@ -33,8 +33,8 @@ can_commit change None k told can = tt
 can_commit change (Some t) k told can = subst (CanChange change) (sym told) can
 
 -- a change that is staged can be committed
-pub staged_can : (staged : Staged) (database : Database) (contents : Option Kept) → IsStaged staged database → Tells contents (kept (state_of database)) → CanCommit (change_view staged.change) contents
-staged_can staged database contents h told = can_commit (change_view staged.change) contents (kept (state_of database)) told h.kept.1
+pub staged_can : (staged : Staged) (database : Database) (contents : Option Kept) → IsStaged staged database → Tells contents (kept (state_of database)) → CanCommit (change_view (change_of staged.change)) contents
+staged_can staged database contents h told = can_commit (change_view (change_of staged.change)) contents (kept (state_of database)) told h.kept.1
 
 -- contents that follow the change are what is kept after it
 told_after : (change : Change) (contents contents' : Option Kept) (k k' : Kept) → Follows (λ a b. b ≡ changed change a) contents contents' → Tells contents k → changed change k ≡ k'
@@ -103,13 +103,13 @@ outcome_given_up answer s count contents calls (Err e) is v told =
 
 -- the change is made
 pub outcome_made : (staged : Staged) (database : Database) (answer : Answer × State) (count count' : ℕ) (contents contents' : Option Kept) (calls calls' : Option (List Call)) (reply : List ℕ) → IsStaged staged database
-    → Tells contents (kept (state_of database)) → Follows (λ a b. b ≡ changed (change_view staged.change) a) contents contents' → AddsEnded calls calls' Commit None count' → count ≤ count'
+    → Tells contents (kept (state_of database)) → Follows (λ a b. b ≡ changed (change_view (change_of staged.change)) a) contents contents' → AddsEnded calls calls' Commit None count' → count ≤ count'
     → reply ≡ text answer.0 → answer.1 ≡ after staged (state_of database) → (new : State) → new ≡ after staged (state_of database)
     → Outcome answer (state_of database) new count count' contents contents' calls calls' (Ok reply)
 outcome_made staged database answer count count' contents contents' calls calls' reply h told follows call later r is new became = record {
   valid = subst Valid (sym became) h.valid;
   later = later;
-  told = told_after (change_view staged.change) contents contents' (kept (state_of database)) (kept new) follows told (sym (ap kept became ∙ h.kept.0));
+  told = told_after (change_view (change_of staged.change)) contents contents' (kept (state_of database)) (kept new) follows told (sym (ap kept became ∙ h.kept.0));
   ok = answered r (became ∙ sym is);
   err = tt;
   commits = committed staged (state_of database) answer new count count' None reply calls calls' is ((λ _. became ∙ sym is), (λ _. refl)) r call;

@@ -10,13 +10,13 @@ use Rattle.base_index.specs.Held.{IsQuiet}
 use Rattle.lens_probe.specs.Viewed.{AreIndexed}
 use Rattle.catalog_specs.specs.Catalogue.{catalogue}
 use Rattle.catalog_specs.specs.Judging.{first_refused}
-use Rattle.edit_batches.specs.Chains.{Chain}
-use Rattle.edit_batches.specs.Histories.{deltas_of}
+pub use Rattle.edit_batches.specs.Chains.{Chain}
+pub use Rattle.edit_batches.specs.Histories.{deltas_of}
 use Rattle.edit_batches.specs.declared.entries.Entry.{Entry}
 use Rattle.request_text.specs.Answers.{edit_refusal_view}
 use Rattle.server_specs.specs.EditRefusal.{EditRefusal}
 use Rattle.server_specs.specs.Request.{BatchEdit}
-use Rattle.server_specs.specs.Validity.{AreStored}
+pub use Rattle.server_specs.specs.Validity.{AreStored}
 use Rattle.server_specs.specs.Batching.{edit_tables, edits_from}
 use Rattle.server_laws.specs.StateLaws.{AreShort}
 use Rattle.signed_delta.specs.Tables.{table_delta}

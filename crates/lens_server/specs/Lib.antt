@@ -13,3 +13,6 @@ pub mod StartFaults
 pub mod Starting
 pub mod Batches
 pub mod Exports
+pub mod Databases
+pub mod Views
+pub mod Sessions

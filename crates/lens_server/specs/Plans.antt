@@ -1,8 +1,8 @@
 -- Plans: the answer to a request, and the change that is made before it is given.
-use Rattle.std.specs.Prelude.{◌≡◌, ◌<◌, ◌+◌, ◌-◌, ◌^◌, ℕ, false, List, [], ◌∷◌, ◌++◌, length, map, take, Option, Some, None, is_some}
+use Rattle.std.specs.Prelude.{◌≡◌, ◌<◌, ◌+◌, ◌-◌, ◌^◌, ℕ, false, List, [], ◌∷◌, ◌++◌, length, map, take, Option, Some, None, is_some, Vec}
+use Rattle.std.specs.declared.alloc.Global.{Global}
 use Rattle.std.specs.FinMap as finmap
 use Rattle.lens_specs.specs.Delta.{TableDelta}
-use Rattle.lens_specs.specs.Keeping.{rows}
 use Rattle.lens_specs.specs.Lens.{Tables}
 use Rattle.lens_specs.specs.Names.{Name}
 use Rattle.base_index.specs.Held.{AllApply, with_deltas}
@@ -13,6 +13,7 @@ use Rattle.server_specs.specs.State.{State, remember}
 use Rattle.server_specs.specs.Validity.{Valid}
 use Rattle.server_laws.specs.KeptLaws.{KeptFollows}
 use Rattle.signed_delta.specs.Tables.{table_delta}
+use Rattle.signed_delta.specs.declared.delta.TableDelta.{TableDelta as DeltaOf}
 use Rattle.table_keeper.specs.Changes.{change_view}
 use Rattle.table_keeper.specs.declared.keeper.Change.{Change}
 use Rattle.table_keeper.specs.declared.keeper.Change.TheVariants.{Define, Rows}
@@ -25,18 +26,29 @@ use Rattle.lens_server.specs.declared.plan.PastStep.{PastStep}
 use Rattle.lens_server.specs.declared.plan.PastStep.TheVariants.{Stays, Gains, Loses}
 use Rattle.lens_server.specs.declared.plan.Plan.{Plan}
 use Rattle.lens_server.specs.declared.plan.Staged.{Staged}
+use Rattle.lens_server.specs.declared.plan.StagedChange.{StagedChange}
+use Rattle.lens_server.specs.declared.plan.StagedChange.TheVariants as staged_change
 use Rattle.lens_server.specs.declared.database.Database.{Database}
+
+-- what the keeper makes of its contents
+abbrev pub change_of : StagedChange → Change
+change_of (staged_change.Define text table prepared) = Define text table
+change_of (staged_change.Rows deltas) = Rows deltas
+
+-- the definition that the catalogue takes, if there is one
+abbrev pub definition_of : StagedChange → Option Prepared
+definition_of (staged_change.Define text table prepared) = Some prepared
+definition_of (staged_change.Rows deltas) = None
 
 -- the texts, and the definition's, if there is one
 abbrev pub texts_with : Option Prepared → List (List ℕ) → List (List ℕ)
 texts_with None texts = texts
 texts_with (Some prepared) texts = texts ++ prepared.text ∷ []
 
--- the tables after a change, which may be a definition
-abbrev pub changed_tables : Change → Option Prepared → Tables → Tables
-changed_tables (Rows deltas) definition tables = with_deltas (map table_delta deltas.items) tables
-changed_tables (Define text table) None tables = tables
-changed_tables (Define text table) (Some prepared) tables = tables_with table prepared.lens tables
+-- the tables after a change
+abbrev pub changed_tables : StagedChange → Tables → Tables
+changed_tables (staged_change.Define text table prepared) tables = tables_with table prepared.lens tables
+changed_tables (staged_change.Rows deltas) tables = with_deltas (map table_delta deltas.items) tables
 
 -- the changes that can be undone, after a change
 abbrev pub past_after : PastStep → Change → List (List TableDelta) → List (List TableDelta)
@@ -48,11 +60,11 @@ past_after Loses change past = take (length past - 1) past
 -- the state after a change
 abbrev pub after : Staged → State → State
 after staged s = record {
-  texts = texts_with staged.definition s.texts;
-  tables = changed_tables staged.change staged.definition s.tables;
+  texts = texts_with (definition_of staged.change) s.texts;
+  tables = changed_tables staged.change s.tables;
   version = s.version + 1;
   last = staged.last;
-  past = past_after staged.past staged.change s.past;
+  past = past_after staged.past (change_of staged.change) s.past;
 }
 
 -- the catalogue can take the definition, if there is one, without memory
@@ -65,18 +77,17 @@ abbrev pub IsFree : Option Name → Tables → Type 0
 IsFree None tables = Unit {0}
 IsFree (Some name) tables = is_some (finmap.get tables name) ≡ false
 
--- the tables can stage the change: the differences apply, or a definition's lens has keys and its table, if it is one, is new
-abbrev pub CanStage : Change → Option Prepared → Tables → Type 0
-CanStage (Rows deltas) definition tables = AllApply (map table_delta deltas.items) tables
-CanStage (Define text table) None tables = ⊥
-CanStage (Define text table) (Some prepared) tables = (length prepared.text < 2 ^ 64) × IsFree table tables
+-- the tables can stage the change: a definition's text is short and its table, if it is one, is new, or the differences apply
+abbrev pub CanStage : StagedChange → Tables → Type 0
+CanStage (staged_change.Define text table prepared) tables = (length prepared.text < 2 ^ 64) × IsFree table tables
+CanStage (staged_change.Rows deltas) tables = AllApply (map table_delta deltas.items) tables
 
 -- The change can be made: the tables can stage it, the catalogue can take the definition, the keeper's contents follow, and the
 -- state after it is valid.
 pub record IsStaged (staged : Staged) (database : Database) : Type 0 where
-  pub tables : CanStage staged.change staged.definition database.tables.present.relations
-  pub definition : CanTake staged.definition database.catalog
-  pub kept : KeptFollows (change_view staged.change) (state_of database) (after staged (state_of database))
+  pub tables : CanStage staged.change database.tables.present.relations
+  pub definition : CanTake (definition_of staged.change) database.catalog
+  pub kept : KeptFollows (change_view (change_of staged.change)) (state_of database) (after staged (state_of database))
   pub valid : Valid (after staged (state_of database))
 
 -- the change leads to the state, or there is none and the state is the present one
@@ -97,9 +108,10 @@ IsPlanned plan database = (expected : Answer × State) × IsPlan plan expected d
 -- changes that can be undone gain or lose it.
 pub record IsChange (deltas : List TableDelta) (step : PastStep) (database : Database) (plan : Plan) : Type 0 where
   pub answer : answer_view plan.answer ≡ changed deltas (database.version + 1)
+  pub kept : Vec DeltaOf Global
+  pub are : map table_delta kept.items ≡ deltas
   pub staged : Staged
   pub is : plan.staged ≡ Some staged
-  pub change : change_view staged.change ≡ rows deltas
-  pub definition : staged.definition ≡ None
+  pub change : staged.change ≡ staged_change.Rows kept
   pub last : staged.last ≡ with_last (database.version + 1) deltas database.last
   pub past : staged.past ≡ step

@@ -7,10 +7,9 @@ use Rattle.lens_laws.specs.Asked.{asked}
 use Rattle.base_index.specs.Held.{State, defined, walked_for, with_deltas}
 use Rattle.base_index.specs.declared.need.Need.{Need}
 use Rattle.signed_delta.specs.Tables.{table_delta}
-use Rattle.table_keeper.specs.declared.keeper.Change.{Change}
-use Rattle.table_keeper.specs.declared.keeper.Change.TheVariants.{Define, Rows}
-use Rattle.view_catalog.specs.declared.prepared.Prepared.{Prepared}
 use Rattle.lens_server.specs.declared.plan.Staged.{Staged}
+use Rattle.lens_server.specs.declared.plan.StagedChange.{StagedChange}
+use Rattle.lens_server.specs.declared.plan.StagedChange.TheVariants.{Define, Rows}
 use Rattle.lens_server.specs.declared.database.Database.{Database}
 
 -- the indexes that the lens needs
@@ -29,19 +28,17 @@ defined_by table L st = defined (table_of table L) (needs_of L) st
 abbrev pub walked_by : Lens → State → ℕ
 walked_by L st = walked_for (needs_of L) st
 
--- the tables and indexes after a change, which may be a definition
-abbrev pub next_state : Change → Option Prepared → State → State
-next_state (Rows deltas) definition st = record st { relations = with_deltas (map table_delta deltas.items) st.relations }
-next_state (Define text table) None st = st
-next_state (Define text table) (Some prepared) st = defined_by table prepared.lens st
+-- the tables and indexes after a change
+abbrev pub next_state : StagedChange → State → State
+next_state (Define text table prepared) st = defined_by table prepared.lens st
+next_state (Rows deltas) st = record st { relations = with_deltas (map table_delta deltas.items) st.relations }
 
 -- how many rows are walked for a change
-abbrev pub steps_in : Change → Option Prepared → State → ℕ
-steps_in (Rows deltas) definition st = 0
-steps_in (Define text table) None st = 0
-steps_in (Define text table) (Some prepared) st = walked_by prepared.lens st
+abbrev pub steps_in : StagedChange → State → ℕ
+steps_in (Define text table prepared) st = walked_by prepared.lens st
+steps_in (Rows deltas) st = 0
 
 -- how many rows are walked for what is staged, if anything is
 abbrev pub steps_of : Option Staged → Database → ℕ
 steps_of None database = 0
-steps_of (Some staged) database = steps_in staged.change staged.definition database.tables.present
+steps_of (Some staged) database = steps_in staged.change database.tables.present

@@ -1,19 +1,13 @@
 //! Batches: edits that are made one after another, or none of them.
-ghost use Rattle.std.specs.Prelude.{◌≡◌, ◌<◌, ◌+◌, ◌-◌, ◌^◌, ◌≤◌, IfOk, IsSome, None, Ok, Some, map};
+ghost use Rattle.std.specs.Prelude.{◌≡◌, ◌<◌, ◌+◌, ◌-◌, ◌≤◌, IfOk, IsSome, None, Ok, Some, map};
 ghost use Rattle.std.specs.FinMap as finmap;
 ghost use Rattle.lens_specs.specs.Lens as lenses;
-ghost use Rattle.catalog_specs.specs.Catalogue.{catalogue};
-ghost use Rattle.edit_batches.specs.Chains.{Chain};
-ghost use Rattle.edit_batches.specs.Histories.{deltas_of};
 ghost use Rattle.request_text.specs.Edits.{edit_view};
 ghost use Rattle.server_specs.specs.Batching.{batch_answer, batch_settled};
-ghost use Rattle.server_specs.specs.Validity.{AreStored};
-ghost use Rattle.lens_server.specs.Batches.{AreMade, CanEdit, Gives, IsHolding, IsMade, fault_at};
+ghost use Rattle.lens_server.specs.Batches.{AreMade, AreStored, CanEdit, Chain, Gives, IsHolding, IsMade, deltas_of, fault_at};
 ghost use Rattle.lens_server.specs.Counting.{batch_looks, edit_looks, of_lens};
-ghost use Rattle.lens_server.specs.Keyed.{IsSame};
-ghost use Rattle.lens_server.specs.Plans.{IsPlan};
-ghost use Rattle.lens_server.specs.Premises.{CanAnswer};
-ghost use Rattle.lens_server.specs.States.{state_of};
+ghost use Rattle.lens_server.specs.Databases.{CanAnswer, IsPlan, IsSame, catalogue, state_of};
+ghost use Rattle.lens_server.specs.declared.batches.BatchFault.TheVariants as variant;
 
 use crate::changes::{plan_tables, view_of};
 use crate::database::Database;
@@ -44,10 +38,7 @@ pub enum BatchFault {
 }
 
 impl<T: Drop> From<AllocFailed<T>> for BatchFault {
-    ghost use Rattle.std.specs.Prelude.{◌≡◌};
-    ghost use Rattle.lens_server.specs.declared.batches.BatchFault.TheVariants as fault;
-
-    ghost from_gives = { λ _ why. why ≡ fault.NoMemory };
+    ghost from_gives = { λ _ why. why ≡ variant.NoMemory };
 
     fn from(_: AllocFailed<T>) -> BatchFault {
         BatchFault::NoMemory

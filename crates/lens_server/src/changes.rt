@@ -1,14 +1,7 @@
 //! Changes of views.
 ghost use Rattle.std.specs.Prelude.{◌≡◌, ◌<◌, ◌+◌, ◌-◌, ◌^◌, ◌≤◌, ℕ, IfOk, Result, map};
 ghost use Rattle.std.specs.FinMap as finmap;
-ghost use Rattle.lens_specs.specs.Delta.{changes};
-ghost use Rattle.lens_specs.specs.Lens.{put};
-ghost use Rattle.lens_specs.specs.Relation.{Rows};
-ghost use Rattle.lens_laws.specs.Work.{fan, rows_of, work};
-ghost use Rattle.lens_probe.specs.Viewed.{FindsAtMost};
-ghost use Rattle.catalog_specs.specs.Catalogue.{catalogue};
 ghost use Rattle.request_text.specs.Answers.{answer_view};
-ghost use Rattle.lens_chain.specs.Edits.{IsEdit, edited, over};
 ghost use Rattle.server_specs.specs.Answer as answers;
 ghost use Rattle.server_specs.specs.EditRefusal.{EditRefusal};
 ghost use Rattle.server_specs.specs.Changing as spec;
@@ -16,24 +9,21 @@ ghost use Rattle.server_specs.specs.Changing.{accept, change_answer, foretold, s
 ghost use Rattle.signed_delta.specs.Tables.{table_delta};
 ghost use Rattle.lens_server.specs.Asking.{AsksBy};
 ghost use Rattle.lens_server.specs.Counting.{WalksTables, edit_looks, of_lens, put_looks};
-ghost use Rattle.lens_server.specs.Keyed.{IsOpen};
-ghost use Rattle.lens_server.specs.Plans.{IsChange, IsPlan};
-ghost use Rattle.lens_server.specs.Premises.{CanAnswer, CanChange, CanRead};
-ghost use Rattle.lens_server.specs.States.{state_of};
+ghost use Rattle.lens_server.specs.Databases.{CanAnswer, CanChange, CanRead, IsChange, IsOpen, IsPlan, catalogue, state_of};
+ghost use Rattle.lens_server.specs.Views.{FindsAtMost, IsEdit, Rows, changes, edited, fan, over, put, rows_of, work};
 
 use crate::database::Database;
-use crate::plan::{PastStep, Plan, Staged};
+use crate::plan::{PastStep, Plan, Staged, StagedChange};
 use crate::requested_edit::{Refusal, asked_by_edit, asked_by_put};
 use lens_chain::put_delta;
 use lens_probe::View;
 use lens_types::TypedLens;
-use lens_values::{Name, NoMemory};
+use lens_values::{Name, NoMemory, copied};
 use request_text::{Answer, Changes, JsonRows};
 use signed_delta::{Delta, TableDelta};
 use std::alloc::Global;
 use std::sync::ledger::Ledger;
 use step_counter::Steps;
-use table_keeper::Change;
 
 /// The view of a lens over the tables of the database.
 pub fn view_of<'a>(database: &'a Database, lens: &'a TypedLens) -> View<'a>
@@ -121,8 +111,7 @@ pub fn plan_asked<M: Ledger>(
 {
     match asked {
         Ok(delta) => plan_delta(alloc, database, view, &delta, looked),
-        Err(Refusal::Told { refusal }) => Ok(Plan::unchanged(refusal.into_answer())),
-        Err(Refusal::NoMemory) => Err(NoMemory),
+        Err(refusal) => Ok(Plan::unchanged(refusal.into_answer()?)),
     }
 }
 
@@ -166,30 +155,18 @@ pub fn plan_tables(
 {
     let version = database.version + 1;
     let last = database.last.with_all(alloc, deltas.as_slice(), version)?;
-    let kept = copies(alloc, deltas.as_slice())?;
+    let kept = copied(alloc, deltas.as_slice())?;
     Ok(Plan {
         answer: Answer::Changed {
             changed: Changes::new(deltas),
             version,
         },
         staged: Some(Staged {
-            change: Change::Rows { deltas: kept },
-            definition: None,
+            change: StagedChange::Rows { deltas: kept },
             last,
             past,
         }),
     })
-}
-
-/// Equal differences.
-fn copies(alloc: Global, deltas: &[TableDelta]) -> Result<Vec<TableDelta>, NoMemory>
-    ensures { IfOk result (λ copies. copies.items ≡ deltas.now) }
-{
-    let mut copies = Vec::with_capacity(alloc, deltas.len())?;
-    for delta in deltas {
-        copies.push(delta.copy(alloc)?)?;
-    }
-    Ok(copies)
 }
 
 /// What `preview` is answered: what the edit would change.
@@ -240,8 +217,7 @@ fn foretold<M: Ledger>(
 {
     match asked {
         Ok(delta) => changes_told(alloc, database, view, &delta, looked),
-        Err(Refusal::Told { refusal }) => Ok(refusal.into_answer()),
-        Err(Refusal::NoMemory) => Err(NoMemory),
+        Err(refusal) => refusal.into_answer(),
     }
 }
 

@@ -10,10 +10,10 @@ ghost use Rattle.lens_server.specs.Outcomes.{IsReady, NotKept, Outcome};
 ghost use Rattle.lens_server.specs.Plans.{CanStage, CanTake, IsFree, IsPlan, IsPlanned, IsStaged, Leads, past_after, texts_with};
 ghost use Rattle.lens_server.specs.Staging.{defined_by, next_state, steps_in, steps_of, table_of, walked_by};
 ghost use Rattle.lens_server.specs.States.{state_of};
-ghost use Rattle.lens_server.specs.declared.plan.PastStep.TheVariants.{Gains};
 
 use crate::database::Database;
-use crate::plan::{PastStep, Plan, Staged};
+use crate::last_changes::LastChanges;
+use crate::plan::{PastStep, Plan, Staged, StagedChange};
 use base_index::Tables;
 use edit_batches::{Deltas, Entry, History};
 use lens_probe::needs;
@@ -78,10 +78,12 @@ fn commit<K: Keeper, L: Ledger>(
     ensures walked { walked.new ≤ walked.old + steps_of (Some staged) database.old }
     ensures walks_on { walked.old ≤ walked.new }
 {
-    stage(alloc, &mut database.tables, &staged, walked)?;
-    match keeper.commit(alloc, &staged.change) {
+    stage(alloc, &mut database.tables, &staged.change, walked)?;
+    let Staged { change, last, past } = staged;
+    let (change, definition) = change.into_parts();
+    match keeper.commit(alloc, &change) {
         Ok(()) => {
-            make(database, staged);
+            make(database, change, definition, last, past);
             Ok(reply)
         }
         Err(fault) => {
@@ -105,26 +107,25 @@ fn not_kept(fault: KeepFault) -> Result<Reply, NoMemory>
 fn stage<L: Ledger>(
     alloc: Global,
     tables: &mut Tables,
-    staged: &Staged,
+    change: &StagedChange,
     walked: &mut Steps<L>,
 ) -> Result<(), NoMemory>
     requires quiet { IsQuiet tables.old }
     requires free { tables.old.held ≡ None }
-    requires can { CanStage staged.now.change staged.now.definition tables.old.present.relations }
-    ensures ok { OnOk result (tables.new ≡ record tables.old {
-      next = next_state staged.now.change staged.now.definition tables.old.present;
-    }) }
+    requires can { CanStage change.now tables.old.present.relations }
+    ensures ok { OnOk result (tables.new
+        ≡ record tables.old { next = next_state change.now tables.old.present }) }
     ensures err { OnErr result (tables.new ≡ tables.old) }
-    ensures walked { walked.new
-        ≤ walked.old + steps_in staged.now.change staged.now.definition tables.old.present }
+    ensures walked { walked.new ≤ walked.old + steps_in change.now tables.old.present }
     ensures walks_on { walked.old ≤ walked.new }
 {
-    match (&staged.change, &staged.definition) {
-        (Change::Rows { deltas }, _) => tables.stage(deltas.as_slice()),
-        (Change::Define { table, .. }, Some(prepared)) => {
-            stage_definition(alloc, tables, table, prepared.lens(), walked)
-        }
-        (Change::Define { .. }, None) => unreachable!(),
+    match change {
+        StagedChange::Define {
+            table,
+            prepared,
+            ..
+        } => stage_definition(alloc, tables, table, prepared.lens(), walked),
+        StagedChange::Rows { deltas } => tables.stage(deltas.as_slice()),
     }
 }
 
@@ -168,23 +169,23 @@ fn new_table(
 }
 
 /// Makes the change. It takes no memory.
-fn make(database: &mut Database, staged: Staged)
-    requires definition { CanTake staged.definition database.old.catalog }
+fn make(
+    database: &mut Database,
+    change: Change,
+    definition: Option<Prepared>,
+    last: LastChanges,
+    past: PastStep,
+)
+    requires definition { CanTake definition database.old.catalog }
     requires room { database.old.version < 2 ^ 64 - 1 }
     ensures catalog { database.new.catalog.texts
-        ≡ texts_with staged.definition database.old.catalog.texts }
+        ≡ texts_with definition database.old.catalog.texts }
     ensures tables { database.new.tables
         ≡ record database.old.tables { present = database.old.tables.next } }
     ensures version { database.new.version ≡ database.old.version + 1 }
-    ensures last { database.new.last ≡ staged.last }
-    ensures past { database.new.past ≡ past_after staged.past staged.change database.old.past }
+    ensures last { database.new.last ≡ last }
+    ensures past { database.new.past ≡ past_after past change database.old.past }
 {
-    let Staged {
-        change,
-        definition,
-        last,
-        past,
-    } = staged;
     admit(&mut database.catalog, definition);
     database.tables.settle();
     database.last = last;
@@ -207,7 +208,7 @@ fn remember(past: &mut History, step: PastStep, change: Change)
 
 /// Remembers the change, if it is one of rows. It takes no memory.
 fn gain(past: &mut History, change: Change)
-    ensures { past.new ≡ past_after Gains change past.old }
+    ensures { past.new ≡ past_after PastStep.Gains change past.old }
 {
     match change {
         Change::Rows { deltas } => {

@@ -11,12 +11,11 @@ ghost use Rattle.lens_server.specs.States.{state_of};
 
 use crate::database::Database;
 use crate::last_changes::LastChanges;
-use crate::plan::{PastStep, Plan, Staged};
+use crate::plan::{PastStep, Plan, Staged, StagedChange};
 use crate::refusals::refusal;
 use lens_values::{Name, NoMemory, Text};
 use request_text::Answer;
 use std::alloc::Global;
-use table_keeper::Change;
 use view_catalog::Prepared;
 
 /// Plans what `define` is answered. The catalogue reserves the memory for the definition.
@@ -39,6 +38,7 @@ fn plan_prepared(alloc: Global, database: &Database, prepared: Prepared) -> Resu
     requires room { 0 < database.now.catalog.room }
     requires versions { database.now.version < 2 ^ 64 - 1 }
     requires admissible { IsAdmissible database.now.catalog.texts prepared }
+    requires short { length prepared.text < 2 ^ 64 }
     ensures { IfOk result (λ plan.
         IsPlan plan (define_answer prepared.text (state_of database.now)) database.now) }
 {
@@ -46,23 +46,18 @@ fn plan_prepared(alloc: Global, database: &Database, prepared: Prepared) -> Resu
     let table = prepared.table();
     let last = last_with(alloc, &database.last, &table, version)?;
     let text = prepared.text().copy(alloc)?;
-    is_short(prepared.text());
     Ok(Plan {
         answer: Answer::Defined { version },
         staged: Some(Staged {
-            change: Change::Define { text, table },
-            definition: Some(prepared),
+            change: StagedChange::Define {
+                text,
+                table,
+                prepared,
+            },
             last,
             past: PastStep::Stays,
         }),
     })
-}
-
-/// Does nothing, and tells a proof that the text is short.
-pub fn is_short(text: &Text)
-    ensures { length text.now < 2 ^ 64 }
-{
-    let _length = text.as_str().len();
 }
 
 /// The last changes once the version made the table, if there is one.

@@ -1,16 +1,13 @@
 //! One line, one answer.
-ghost use Rattle.std.specs.Prelude.{◌≡◌, ◌<◌, ◌+◌, ◌-◌, ◌^◌, ◌≤◌, IfOk, Ok};
+ghost use Rattle.std.specs.Prelude.{◌≡◌, ◌+◌, ◌≤◌, IfOk, Ok};
 ghost use Rattle.io_specs.specs.Lines.{line as short};
 ghost use Rattle.request_text.specs.Requests.{request_view};
 ghost use Rattle.server_specs.specs.Answering.{answer_request};
 ghost use Rattle.server_specs.specs.Request.{request};
 ghost use Rattle.lens_server.specs.Counting.{Walks, most_looked, most_walked};
+ghost use Rattle.lens_server.specs.Databases.{CanAnswer, IsKeyed, IsPlan, IsSame, state_of};
 ghost use Rattle.lens_server.specs.Exports.{ExportReadsBack};
-ghost use Rattle.lens_server.specs.Keyed.{IsKeyed, IsSame};
 ghost use Rattle.lens_server.specs.Outcomes.{IsReady, Outcome};
-ghost use Rattle.lens_server.specs.Plans.{IsPlan};
-ghost use Rattle.lens_server.specs.Premises.{CanAnswer};
-ghost use Rattle.lens_server.specs.States.{state_of};
 
 use crate::batches::plan_batch;
 use crate::changes::{plan_edit, plan_put, preview_answer};

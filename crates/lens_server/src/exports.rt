@@ -1,18 +1,15 @@
 //! Exports: the rows of a view as CSV.
-ghost use Rattle.std.specs.Prelude.{◌≡◌, ◌+◌, ◌≤◌, IfOk, None, find, option_copied};
+ghost use Rattle.std.specs.Prelude.{◌≡◌, IfOk, None, find, option_copied};
 ghost use Rattle.std.specs.FinMap as finmap;
 ghost use Rattle.lens_values.specs.Value.{is_nullable};
-ghost use Rattle.lens_specs.specs.Lens.{sort_of};
-ghost use Rattle.catalog_specs.specs.Catalogue.{catalogue};
 ghost use Rattle.request_text.specs.Answers.{answer_view};
 ghost use Rattle.server_specs.specs.Exporting as spec;
 ghost use Rattle.server_specs.specs.Exporting.{first_nullable, sheet_told};
 ghost use Rattle.server_laws.specs.SheetLaws.{ReadsBack};
 ghost use Rattle.lens_server.specs.Counting.{WalksTables};
+ghost use Rattle.lens_server.specs.Databases.{CanRead, IsOpen, catalogue, state_of};
 ghost use Rattle.lens_server.specs.Exports.{NamedReadsBack, SheetReadsBack};
-ghost use Rattle.lens_server.specs.Keyed.{IsOpen};
-ghost use Rattle.lens_server.specs.Premises.{CanRead};
-ghost use Rattle.lens_server.specs.States.{state_of};
+ghost use Rattle.lens_server.specs.Views.{sort_of};
 
 use crate::changes::view_of;
 use crate::database::Database;

@@ -1,17 +1,12 @@
 //! Imports: the rows of a text as CSV become the rows of a view.
-ghost use Rattle.std.specs.Prelude.{◌≡◌, ◌<◌, ◌+◌, ◌*◌, ◌-◌, ◌^◌, ◌≤◌, IfOk, Ok};
+ghost use Rattle.std.specs.Prelude.{◌+◌, ◌*◌, ◌≤◌, IfOk, Ok};
 ghost use Rattle.std.specs.FinMap as finmap;
-ghost use Rattle.lens_specs.specs.Lens.{sort_of};
-ghost use Rattle.lens_laws.specs.Finds.{AllFit};
-ghost use Rattle.lens_laws.specs.Work.{fan, work};
-ghost use Rattle.catalog_specs.specs.Catalogue.{catalogue};
 ghost use Rattle.sheet_specs.specs.Sheets.{unsheet};
 ghost use Rattle.server_specs.specs.Changing.{settled, tested};
 ghost use Rattle.server_specs.specs.Exporting.{first_nullable, import_answer, import_settled, read_settled};
 ghost use Rattle.lens_server.specs.Counting.{WalksTables, differs_by, import_looks, of_lens};
-ghost use Rattle.lens_server.specs.Plans.{IsPlan};
-ghost use Rattle.lens_server.specs.Premises.{CanAnswer, CanChange};
-ghost use Rattle.lens_server.specs.States.{state_of};
+ghost use Rattle.lens_server.specs.Databases.{CanAnswer, CanChange, IsPlan, catalogue, state_of};
+ghost use Rattle.lens_server.specs.Views.{AllFit, fan, sort_of, work};
 
 use crate::changes::{plan_asked, view_of};
 use crate::database::Database;

@@ -1,6 +1,8 @@
 //! The version that changed each table last.
-ghost use Rattle.std.specs.Prelude.{◌≡◌, IfOk, OnErr, OnOk, map};
+ghost use Rattle.std.specs.Prelude.{◌≡◌, ℕ, IfOk, OnErr, OnOk, map};
+ghost use Rattle.std.specs.Coded.{coded_list, coded_ℕ};
 ghost use Rattle.std.specs.FinMap as finmap;
+ghost use Rattle.lens_values.specs.Order.{bytes_cmp};
 ghost use Rattle.server_specs.specs.Changing.{last_change, latest, with_last};
 ghost use Rattle.opening_specs.specs.Opening.{mapped};
 ghost use Rattle.signed_delta.specs.Tables.{table_delta};
@@ -20,11 +22,6 @@ pub struct LastChanges {
 }
 
 impl Model for LastChanges {
-    ghost use Rattle.std.specs.Prelude.{ℕ};
-    ghost use Rattle.std.specs.Coded.{coded_list, coded_ℕ};
-    ghost use Rattle.std.specs.FinMap as finmap;
-    ghost use Rattle.lens_values.specs.Order.{bytes_cmp};
-
     ghost Value = { finmap.FinMap bytes_cmp ℕ };
 
     ghost coded = { finmap.code (coded_list coded_ℕ) coded_ℕ };

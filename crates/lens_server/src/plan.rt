@@ -1,8 +1,11 @@
 //! What a request comes to: its answer, and the change to make.
 ghost use Rattle.std.specs.Prelude.{◌≡◌, None};
+ghost use Rattle.lens_server.specs.Plans.{change_of, definition_of};
 
 use crate::last_changes::LastChanges;
+use lens_values::{Name, Text};
 use request_text::Answer;
+use signed_delta::TableDelta;
 use table_keeper::Change;
 use view_catalog::Prepared;
 
@@ -17,13 +20,47 @@ pub enum PastStep {
     Loses,
 }
 
+/// What a change makes of the definitions or of the tables.
+#[derive(Drop)]
+pub enum StagedChange {
+    /// A definition is taken.
+    Define {
+        /// Its text, for the keeper.
+        text: Text,
+        /// The name of the table that it makes, if any.
+        table: Option<Name>,
+        /// What the catalogue takes.
+        prepared: Prepared,
+    },
+    /// Tables differ.
+    Rows {
+        /// The differences.
+        deltas: Vec<TableDelta>,
+    },
+}
+
+impl StagedChange {
+    /// What the keeper makes of its contents, and the definition that the catalogue takes, if any.
+    pub fn into_parts(self) -> (Change, Option<Prepared>)
+        ensures change { result.0 ≡ change_of self }
+        ensures definition { result.1 ≡ definition_of self }
+    {
+        match self {
+            StagedChange::Define {
+                text,
+                table,
+                prepared,
+            } => (Change::Define { text, table }, Some(prepared)),
+            StagedChange::Rows { deltas } => (Change::Rows { deltas }, None),
+        }
+    }
+}
+
 /// A change that is prepared. Once the tables have staged it, to make it takes no memory.
 #[derive(Drop)]
 pub struct Staged {
-    /// What the keeper makes of its contents, and the tables of theirs.
-    pub change: Change,
-    /// The definition that the catalogue takes, if any.
-    pub definition: Option<Prepared>,
+    /// What it makes of the definitions or of the tables.
+    pub change: StagedChange,
     /// The last change of each table after it.
     pub last: LastChanges,
     /// What it does to the changes that can be undone.

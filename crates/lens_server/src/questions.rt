@@ -1,25 +1,21 @@
 //! Questions: requests that only look.
 ghost use Rattle.std.specs.Prelude.{◌≡◌, ◌+◌, ◌≤◌, true, IfOk, Some};
 ghost use Rattle.std.specs.FinMap as finmap;
-ghost use Rattle.lens_specs.specs.Lens.{sort_of};
 ghost use Rattle.lens_specs.specs.Names.{one};
-ghost use Rattle.catalog_specs.specs.Catalogue.{catalogue};
-ghost use Rattle.lens_probe.specs.Viewed.{is_left_side};
 ghost use Rattle.lens_pred.specs.View.{predicate_view};
 ghost use Rattle.request_text.specs.Answers.{answer_view, conjuncts_view};
 ghost use Rattle.server_specs.specs.Questions as spec;
 ghost use Rattle.server_specs.specs.Questions.{finding_told, found_told, rows_told, sort_told};
 ghost use Rattle.lens_server.specs.Counting.{WalksTables, find_looks, is_asked_by, of_lens};
-ghost use Rattle.lens_server.specs.Keyed.{IsOpen};
-ghost use Rattle.lens_server.specs.Premises.{CanRead};
-ghost use Rattle.lens_server.specs.States.{state_of};
+ghost use Rattle.lens_server.specs.Databases.{CanRead, IsOpen, catalogue, state_of};
+ghost use Rattle.lens_server.specs.Views.{is_left_side, sort_of};
 
 use crate::changes::view_of;
 use crate::database::Database;
 use find_rows::find_rows;
 use lens_pred::{Formula, Formulas};
 use lens_types::TypedLens;
-use lens_values::{Name, NoMemory, Text, Value, copied};
+use lens_values::{Name, NoMemory, Value, copied};
 use request_text::{Answer, Edges, JsonValue, Texts};
 use std::alloc::Global;
 use std::sync::ledger::Ledger;
@@ -186,18 +182,7 @@ pub fn list_answer(alloc: Global, database: &Database) -> Result<Answer, NoMemor
         answer_view answer ≡ spec.list_answer (state_of database.now)) }
 {
     Ok(Answer::Listed {
-        definitions: Texts::new(texts(alloc, database.catalog.definitions())?),
+        definitions: Texts::new(copied(alloc, database.catalog.definitions())?),
         version: database.version,
     })
-}
-
-/// Equal texts.
-fn texts(alloc: Global, definitions: &[Text]) -> Result<Vec<Text>, NoMemory>
-    ensures { IfOk result (λ copies. copies.items ≡ definitions.now) }
-{
-    let mut copies = Vec::with_capacity(alloc, definitions.len())?;
-    for definition in definitions {
-        copies.push(definition.copy(alloc)?)?;
-    }
-    Ok(copies)
 }

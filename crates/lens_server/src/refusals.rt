@@ -1,24 +1,22 @@
 //! The answers that tell why a definition is refused.
 ghost use Rattle.std.specs.Prelude.{◌≡◌, ◌≢◌, IfOk, OnOk};
 ghost use Rattle.lens_types.specs.Faults as types;
-ghost use Rattle.request_text.specs.Answers as answers;
 ghost use Rattle.request_text.specs.Answers.{answer_view};
 ghost use Rattle.server_specs.specs.Answer.{refused};
 ghost use Rattle.server_specs.specs.Defining.{fault_answer};
 ghost use Rattle.view_catalog.specs.Faults.{fault_view, language_view};
-ghost use Rattle.view_catalog.specs.declared.fault.CatalogFault.TheVariants as faults;
 
-use lens_types::{Side as SideOfJoin, SizeLimit, TypeFault};
+use lens_types::TypeFault;
 use lens_values::NoMemory;
 use request_text::Answer;
 use view_catalog::CatalogFault;
-use view_lang::{LangFault, Limit, Side};
+use view_lang::LangFault;
 
 /// The answer that tells the fault. `NoMemory` where memory ran out.
 pub fn refusal(fault: CatalogFault) -> Result<Answer, NoMemory>
     ensures answer { IfOk result (λ answer.
         answer_view answer ≡ fault_answer (fault_view fault)) }
-    ensures told { OnOk result (fault ≢ faults.NoMemory) }
+    ensures told { OnOk result (fault ≢ CatalogFault.NoMemory) }
 {
     match fault {
         CatalogFault::Lang { fault } => text_refusal(fault),
@@ -54,35 +52,9 @@ fn rule_refusal(fault: TypeFault) -> Answer
         TypeFault::MixedConjunct { index } => Answer::MixedConjunct { index },
         TypeFault::DefaultRefused => Answer::DefaultRefused,
         TypeFault::NotDetermined { col } => Answer::NotDetermined { col },
-        TypeFault::SideMentionsOutput { side, col } => Answer::SideMentionsOutput {
-            side: side_of(side),
-            col,
-        },
+        TypeFault::SideMentionsOutput { side, col } => Answer::SideMentionsOutput { side, col },
         TypeFault::TableTwice { name } => Answer::TableTwice { name },
-        TypeFault::TooLarge { what } => Answer::TooLarge {
-            what: limit_of(what),
-        },
+        TypeFault::TooLarge { what } => Answer::TooLarge { what },
         TypeFault::ColumnTaken { name } => Answer::ColumnTaken { name },
-    }
-}
-
-/// The side of a join, as answers name it.
-fn side_of(side: SideOfJoin) -> Side
-    ensures { answers.side_view result ≡ types.side_view side }
-{
-    match side {
-        SideOfJoin::Left => Side::Left,
-        SideOfJoin::Right => Side::Right,
-    }
-}
-
-/// The limit, as answers name it.
-fn limit_of(limit: SizeLimit) -> Limit
-    ensures { answers.limit_view result ≡ types.limit_view limit }
-{
-    match limit {
-        SizeLimit::Columns => Limit::Columns,
-        SizeLimit::Lens => Limit::Lens,
-        SizeLimit::Predicate => Limit::Predicate,
     }
 }

@@ -1,19 +1,13 @@
 //! The difference of a view that a change asks for.
 ghost use Rattle.std.specs.Prelude.{◌≡◌, ◌<◌, ◌+◌, ◌*◌, ◌≤◌, ℕ, IfOk, Ok, length, slice_index_or};
-ghost use Rattle.lens_specs.specs.Delta.{AppliesTo};
-ghost use Rattle.lens_specs.specs.Lens.{sort_of};
-ghost use Rattle.lens_laws.specs.Finds.{AllFit};
-ghost use Rattle.lens_laws.specs.Work.{rows_of, work};
-ghost use Rattle.request_text.specs.Answers.{edit_refusal_view, list_view};
+ghost use Rattle.request_text.specs.Answers.{answer_view, edit_refusal_view, list_view};
 ghost use Rattle.server_specs.specs.EditRefusal as refusals;
 ghost use Rattle.server_specs.specs.Changing as spec;
-ghost use Rattle.lens_chain.specs.Edits.{edited, over};
-ghost use Rattle.lens_probe.specs.Reading.{rows_under};
-ghost use Rattle.lens_probe.specs.Viewed.{FindsAtMost, shown};
-ghost use Rattle.lens_server.specs.Asking.{Asks, AsksBy, IsFresh, is_outside};
+ghost use Rattle.lens_server.specs.Asking.{Asks, AsksBy, IsFresh, TellsRefusal, is_outside};
 ghost use Rattle.lens_server.specs.Counting.{RisesBy, changed_by, differs_by, sent_by};
-ghost use Rattle.lens_server.specs.Keyed.{IsOpen};
-ghost use Rattle.lens_server.specs.States.{state_of};
+ghost use Rattle.lens_server.specs.Databases.{IsOpen, state_of};
+ghost use Rattle.lens_server.specs.Views.{AllFit, AppliesTo, FindsAtMost, edited, over, rows_of, rows_under, shown, sort_of, work};
+ghost use Rattle.lens_server.specs.declared.requested_edit.Refusal.TheVariants as variant;
 
 use crate::database::Database;
 use edit_check::{EditFault, check_edit};
@@ -21,7 +15,7 @@ use fd_tree::{Clash, Edge};
 use lens_probe::View;
 use lens_types::TypedLens;
 use lens_values::NoMemory;
-use request_text::{EditRefusal, JsonRows, RowList, RowsFault, rows_of};
+use request_text::{Answer, EditRefusal, JsonRows, RowList, RowsFault, rows_of};
 use row_sets::RowSet;
 use signed_delta::{Delta, of_touched};
 use std::alloc::Global;
@@ -40,11 +34,20 @@ pub enum Refusal {
     NoMemory,
 }
 
-impl From<NoMemory> for Refusal {
-    ghost use Rattle.std.specs.Prelude.{◌≡◌};
-    ghost use Rattle.lens_server.specs.declared.requested_edit.Refusal.TheVariants as refusal;
+impl Refusal {
+    /// The answer that tells it. `NoMemory` where memory ran out.
+    pub fn into_answer(self) -> Result<Answer, NoMemory>
+        ensures { IfOk result (λ answer. TellsRefusal (answer_view answer) self) }
+    {
+        match self {
+            Refusal::Told { refusal } => Ok(refusal.into_answer()),
+            Refusal::NoMemory => Err(NoMemory),
+        }
+    }
+}
 
-    ghost from_gives = { λ _ why. why ≡ refusal.NoMemory };
+impl From<NoMemory> for Refusal {
+    ghost from_gives = { λ _ why. why ≡ variant.NoMemory };
 
     fn from(_: NoMemory) -> Refusal {
         Refusal::NoMemory
@@ -166,6 +169,9 @@ fn not_stale(
 ) -> Result<(), Refusal>
     ensures { IsFresh (state_of database.now) lens.now on result }
 {
+    let Some(on) = on else {
+        return Ok(());
+    };
     let changed_at = database.last.latest(lens.tables(alloc)?.as_slice());
     if is_outside(on, changed_at, database.version) {
         return Err(Refusal::Told {
@@ -179,13 +185,10 @@ fn not_stale(
 }
 
 /// Whether the version on which a change rests is before the last change or yet to come.
-fn is_outside(on: Option<u64>, changed_at: u64, version: u64) -> bool
+fn is_outside(on: u64, changed_at: u64, version: u64) -> bool
     ensures { result ≡ is_outside on changed_at version }
 {
-    match on {
-        Some(on) => on < changed_at || version < on,
-        None => false,
-    }
+    on < changed_at || version < on
 }
 
 /// The difference, where the view is of its sort after it.

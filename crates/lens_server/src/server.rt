@@ -1,23 +1,13 @@
 //! The state, and what it answers.
 ghost use Rattle.std.specs.Prelude.{◌≡◌, ◌⊎◌, ◌≤◌, ◌<◌, ◌+◌, ◌-◌, ◌^◌, Err, IfOk, MatchResult};
-ghost use Rattle.lens_specs.specs.Keeping.{Follows, Stays, Tells};
-ghost use Rattle.io_specs.specs.Faults.{Rose};
-ghost use Rattle.io_specs.specs.Lines.{line as short, marked};
-ghost use Rattle.server_specs.specs.Answer.{memory, text};
-ghost use Rattle.server_specs.specs.Answering.{answer, answer_request};
-ghost use Rattle.server_specs.specs.Request.{request};
-ghost use Rattle.server_specs.specs.Session.{Step};
 ghost use Rattle.server_specs.specs.State as state;
-ghost use Rattle.server_laws.specs.SheetLaws.{IsExportLine, ReadsBack};
-ghost use Rattle.io_specs.specs.Calls.{Adds};
-ghost use Rattle.lens_server.specs.Committing.{CommitsFor};
 ghost use Rattle.lens_server.specs.Counting.{most_looked, most_walked};
-ghost use Rattle.lens_server.specs.Keyed.{IsKeyed};
-ghost use Rattle.lens_server.specs.Outcomes.{IsReady, Outcome};
-ghost use Rattle.lens_server.specs.Starting.{IsLoad, IsDatabaseOf, Opens};
+ghost use Rattle.lens_server.specs.Databases.{IsKeyed, state_of};
+ghost use Rattle.lens_server.specs.Sessions.{Adds, CommitsFor, Follows, IsExportLine, ReadsBack, Rose, Stays, Step, Tells, Valid, answer, marked, memory, request, text};
+ghost use Rattle.lens_server.specs.Starting.{IsDatabaseOf, IsLoad, Opens};
+ghost use Rattle.lens_server.specs.StateCode.{coded_state};
 ghost use Rattle.table_keeper.specs.Changes.{kept_view};
 ghost use Rattle.table_keeper.specs.Places.{Rise};
-ghost use Rattle.lens_server.specs.States.{state_of};
 
 use crate::database::Database;
 use crate::dispatch::answer_line;
@@ -42,12 +32,6 @@ pub struct Server {
 }
 
 impl Model for Server {
-    ghost use Rattle.server_specs.specs.State as state;
-    ghost use Rattle.lens_server.specs.StateCode.{coded_state};
-    ghost use Rattle.server_specs.specs.Validity.{Valid};
-    ghost use Rattle.lens_server.specs.Keyed.{IsKeyed};
-    ghost use Rattle.lens_server.specs.States.{state_of};
-
     ghost Value = { state.State };
 
     ghost coded = { coded_state };

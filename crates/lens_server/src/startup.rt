@@ -1,13 +1,11 @@
 //! A database is opened over what is kept.
 ghost use Rattle.std.specs.Prelude.{◌≡◌, IfOk, None, map};
-ghost use Rattle.catalog_specs.specs.Catalogue.{catalogue};
 ghost use Rattle.opening_specs.specs.Opening as opening;
 ghost use Rattle.signed_delta.specs.Tables.{table_delta};
 ghost use Rattle.table_keeper.specs.Changes.{kept_view};
 ghost use Rattle.table_keeper.specs.Places.{Rise, rows_in};
-ghost use Rattle.lens_server.specs.Keyed.{IsKeyed};
+ghost use Rattle.lens_server.specs.Databases.{IsKeyed, catalogue, state_of};
 ghost use Rattle.lens_server.specs.Starting.{HasEmptyTables, IsDatabaseOf, damage_of_tables, filling};
-ghost use Rattle.lens_server.specs.States.{state_of};
 
 pub mod damage;
 mod definitions;

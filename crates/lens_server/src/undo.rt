@@ -1,9 +1,7 @@
 //! The last change is taken back.
-ghost use Rattle.std.specs.Prelude.{◌<◌, ◌-◌, ◌^◌, IfOk};
+ghost use Rattle.std.specs.Prelude.{IfOk};
 ghost use Rattle.server_specs.specs.Undoing.{undo_answer};
-ghost use Rattle.lens_server.specs.Plans.{IsPlan};
-ghost use Rattle.lens_server.specs.Premises.{CanAnswer};
-ghost use Rattle.lens_server.specs.States.{state_of};
+ghost use Rattle.lens_server.specs.Databases.{CanAnswer, IsPlan, state_of};
 
 use crate::changes::plan_tables;
 use crate::database::Database;

@@ -12,8 +12,8 @@ use Rattle.lens_specs.specs.TreeForm as form
 use Rattle.lens_specs.specs.TreeForm.{TreeForm, tree_of}
 use Rattle.lens_specs.specs.Typing.{table_sort, table_sort_with, unknown_in, unless_refused}
 use Rattle.fd_tree.specs.Form.{form_of}
-use Rattle.fd_tree.specs.declared.tree.TreeFault.{TreeFault}
-use Rattle.fd_tree.specs.declared.tree.TreeFault.TheVariants as tree_fault
+use Rattle.fd_tree.specs.declared.fault.TreeFault.{TreeFault}
+use Rattle.fd_tree.specs.declared.fault.TreeFault.TheVariants as tree_fault
 use Rattle.lens_pred.specs.Checked.{checked, fault_first}
 use Rattle.lens_pred.specs.declared.checking.PredFault.{PredFault}
 use Rattle.lens_pred.specs.declared.checking.PredFault.TheVariants as pred_fault

@@ -4,31 +4,17 @@ use Rattle.lens_specs.specs.Refusal as refusal
 use Rattle.lens_specs.specs.Refusal.{Refusal}
 use Rattle.lens_values.specs.declared.columns.ColumnsFault as columns
 use Rattle.lens_values.specs.declared.columns.ColumnsFault.TheVariants as columns_fault
-use Rattle.fd_tree.specs.declared.tree.TreeFault as tree
-use Rattle.fd_tree.specs.declared.tree.TreeFault.TheVariants as tree_fault
+use Rattle.fd_tree.specs.declared.fault.TreeFault as tree
+use Rattle.fd_tree.specs.declared.fault.TreeFault.TheVariants as tree_fault
 use Rattle.lens_pred.specs.declared.checking.PredFault as pred
 use Rattle.lens_pred.specs.declared.checking.PredFault.TheVariants as pred_fault
 use Rattle.lens_pred.specs.declared.splitting.SplitFault as split
 use Rattle.lens_pred.specs.declared.splitting.SplitFault.TheVariants as split_fault
-use Rattle.lens_types.specs.declared.fault.SizeLimit.{SizeLimit}
-use Rattle.lens_types.specs.declared.fault.SizeLimit.TheVariants.{Columns, Lens, Predicate}
-use Rattle.lens_types.specs.declared.fault.Side.{Side}
-use Rattle.lens_types.specs.declared.fault.Side.TheVariants.{Left, Right}
+use Rattle.view_limits.specs.Views.{limit_view, side_view}
 use Rattle.lens_types.specs.declared.fault.TypeFault.{TypeFault}
 use Rattle.lens_types.specs.declared.fault.TypeFault.TheVariants.{UnknownColumn, KindClash, NotTree, PredKind, SourceMentionsOutput, NoSuchDependency, MixedConjunct, DefaultRefused, NotDetermined, SideMentionsOutput, TableTwice, TooLarge, ColumnTaken}
 use Rattle.lens_types.specs.declared.fault.Refused.{Refused}
 use Rattle.lens_types.specs.declared.fault.Refused.TheVariants.{Rule, NoMemory}
-
--- what is too large
-abbrev pub limit_view : SizeLimit → refusal.Limit
-limit_view Columns = refusal.columns_limit
-limit_view Lens = refusal.lens_limit
-limit_view Predicate = refusal.predicate_limit
-
--- the side of a join
-abbrev pub side_view : Side → refusal.Side
-side_view Left = refusal.left_side
-side_view Right = refusal.right_side
 
 -- the refusal that a fault is
 abbrev pub fault_view : TypeFault → Refusal

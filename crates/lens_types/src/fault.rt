@@ -1,52 +1,13 @@
 //! Why a table or a lens has no sort.
 ghost use Rattle.std.specs.Prelude.{◌≡◌};
-ghost use Rattle.lens_types.specs.Faults.{with_inputs};
+ghost use Rattle.lens_types.specs.Faults.{of_columns, of_fault, of_pred, of_split, of_tree, with_inputs};
+ghost use Rattle.lens_types.specs.declared.fault.Refused.TheVariants as refused;
 
 use fd_tree::TreeFault;
 use lens_pred::{PredFault, SplitFault};
 use lens_values::{ColumnsFault, Name, Names, NoMemory};
 use thiserror::Error;
-
-/// The limit that is exceeded.
-#[derive(Clone, Copy, Debug, PartialEq, Eq)]
-pub enum SizeLimit {
-    /// More than 64 columns.
-    Columns,
-    /// More than 64 nodes of a lens.
-    Lens,
-    /// More than 256 nodes of a predicate.
-    Predicate,
-}
-
-impl SizeLimit {
-    /// A sentence that says what is exceeded.
-    pub fn sentence(self) -> &'static str {
-        match self {
-            SizeLimit::Columns => "there are more than 64 columns",
-            SizeLimit::Lens => "the lens has more than 64 nodes",
-            SizeLimit::Predicate => "the predicate has more than 256 nodes",
-        }
-    }
-}
-
-/// A side of a join.
-#[derive(Clone, Copy, Debug, PartialEq, Eq)]
-pub enum Side {
-    /// The left side.
-    Left,
-    /// The right side.
-    Right,
-}
-
-impl Side {
-    /// The name of the side.
-    pub fn word(self) -> &'static str {
-        match self {
-            Side::Left => "left",
-            Side::Right => "right",
-        }
-    }
-}
+use view_limits::{Limit, Side};
 
 /// Why the rules give no sort.
 #[derive(Debug, Drop, Error)]
@@ -125,7 +86,7 @@ pub enum TypeFault {
     #[error("{}", .what.sentence())]
     TooLarge {
         /// The limit.
-        what: SizeLimit,
+        what: Limit,
     },
     /// A column has the new name already.
     #[error("there is a column {} already", .name.as_str())]
@@ -162,9 +123,6 @@ impl Refused<()> {
 }
 
 impl From<TypeFault> for Refused<()> {
-    ghost use Rattle.std.specs.Prelude.{◌≡◌};
-    ghost use Rattle.lens_types.specs.Faults.{of_fault};
-
     ghost from_gives = { λ fault why. why ≡ of_fault fault };
 
     fn from(fault: TypeFault) -> Refused<()> {
@@ -173,9 +131,6 @@ impl From<TypeFault> for Refused<()> {
 }
 
 impl From<NoMemory> for Refused<()> {
-    ghost use Rattle.std.specs.Prelude.{◌≡◌};
-    ghost use Rattle.lens_types.specs.declared.fault.Refused.TheVariants as refused;
-
     ghost from_gives = { λ _ why. why ≡ refused.NoMemory };
 
     fn from(_: NoMemory) -> Refused<()> {
@@ -184,9 +139,6 @@ impl From<NoMemory> for Refused<()> {
 }
 
 impl From<ColumnsFault> for Refused<()> {
-    ghost use Rattle.std.specs.Prelude.{◌≡◌};
-    ghost use Rattle.lens_types.specs.Faults.{of_columns};
-
     ghost from_gives = { λ fault why. why ≡ of_columns fault };
 
     fn from(fault: ColumnsFault) -> Refused<()> {
@@ -200,9 +152,6 @@ impl From<ColumnsFault> for Refused<()> {
 }
 
 impl From<TreeFault> for Refused<()> {
-    ghost use Rattle.std.specs.Prelude.{◌≡◌};
-    ghost use Rattle.lens_types.specs.Faults.{of_tree};
-
     ghost from_gives = { λ fault why. why ≡ of_tree fault };
 
     fn from(fault: TreeFault) -> Refused<()> {
@@ -214,9 +163,6 @@ impl From<TreeFault> for Refused<()> {
 }
 
 impl From<PredFault> for Refused<()> {
-    ghost use Rattle.std.specs.Prelude.{◌≡◌};
-    ghost use Rattle.lens_types.specs.Faults.{of_pred};
-
     ghost from_gives = { λ fault why. why ≡ of_pred fault };
 
     fn from(fault: PredFault) -> Refused<()> {
@@ -228,9 +174,6 @@ impl From<PredFault> for Refused<()> {
 }
 
 impl From<SplitFault> for Refused<()> {
-    ghost use Rattle.std.specs.Prelude.{◌≡◌};
-    ghost use Rattle.lens_types.specs.Faults.{of_split};
-
     ghost from_gives = { λ fault why. why ≡ of_split fault };
 
     fn from(fault: SplitFault) -> Refused<()> {

@@ -10,7 +10,7 @@ ghost use Rattle.lens_types.specs.Faults.{Decides, fault_view};
 ghost use Rattle.lens_types.specs.Joins.{joined_columns, mention_fault, sides_fault};
 ghost use Rattle.lens_types.specs.Sorts.{sort_from, natural_join};
 
-use crate::fault::{Refused, Side, TypeFault};
+use crate::fault::{Refused, TypeFault};
 use crate::sizes::size_fault;
 use crate::sort::Sort;
 use crate::steadiness::unsteady;
@@ -18,6 +18,7 @@ use fd_tree::Tree;
 use lens_pred::Pred;
 use lens_values::{Columns, Name, Names, NoMemory};
 use std::alloc::Global;
+use view_limits::Side;
 
 /// The columns, the predicate and the tree of the join, or the first refusal. The lens has `nodes`
 /// nodes, and `twice` is the least table that both sides are over.

@@ -110,10 +110,8 @@ impl TypedLens {
     pub fn base(table: Name, sort: Sort) -> TypedLens
         ensures { result ≡ spec.base table sort }
     {
-        // The sort of a table has to be sound, which each sort is.
-        let _ = sort.cols();
         TypedLens {
-            lens: Lens::Base { table, sort },
+            lens: sort.of_table(table),
             nodes: 1,
         }
     }

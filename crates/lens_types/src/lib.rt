@@ -14,7 +14,7 @@ pub mod sort;
 pub mod steadiness;
 mod unknowns;
 
-pub use fault::{Refused, Side, SizeLimit, TypeFault};
+pub use fault::{Refused, TypeFault};
 pub use lens::{Lens, TypedLens};
 pub use lens_values::JoinKind;
 pub use renaming::rename_columns;

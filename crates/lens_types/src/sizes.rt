@@ -5,9 +5,10 @@ ghost use Rattle.lens_specs.specs.Refusal.{too_much};
 ghost use Rattle.lens_types.specs.Faults.{fault_view};
 ghost use Rattle.lens_types.specs.Sorts.{sort_from};
 
-use crate::fault::{SizeLimit, TypeFault};
+use crate::fault::TypeFault;
 use lens_pred::Pred;
 use lens_values::Columns;
+use view_limits::Limit;
 
 /// The greatest number of columns.
 pub const MAX_COLUMNS: usize = 64;
@@ -24,11 +25,11 @@ pub fn size_fault(nodes: usize, cols: &Columns, pred: &Pred) -> Option<TypeFault
         → option_map fault_view result ≡ too_much nodes (sort_from cols.now pred.now tree) }
 {
     let what = if cols.pairs().len() > MAX_COLUMNS {
-        SizeLimit::Columns
+        Limit::Columns
     } else if nodes > MAX_LENS {
-        SizeLimit::Lens
+        Limit::Lens
     } else if pred.nodes() > MAX_PREDICATE {
-        SizeLimit::Predicate
+        Limit::Predicate
     } else {
         return None;
     };

@@ -10,6 +10,7 @@ ghost use Rattle.lens_types.specs.Sorts.{sort_from, selection, projection, renam
 use crate::dropping::dropped_parts;
 use crate::fault::{Refused, TypeFault};
 use crate::joining::joined_parts;
+use crate::lens::Lens;
 use crate::renaming::renamed_parts;
 use crate::selecting::selected_pred;
 use crate::sizes::size_fault;
@@ -152,6 +153,14 @@ impl Sort {
     {
         let (cols, pred, tree) = joined_parts(alloc, self, other, nodes, twice)?;
         Ok(Sort { cols, pred, tree })
+    }
+
+    /// The root of the lens of a table of this sort.
+    pub(crate) fn of_table(self, table: Name) -> Lens
+        ensures lens { result ≡ Lens.Base table self }
+        ensures sound { IsSound self }
+    {
+        Lens::Base { table, sort: self }
     }
 
     /// An equal sort.

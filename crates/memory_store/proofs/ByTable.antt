@@ -19,11 +19,8 @@ use Rattle.signed_delta.specs.declared.delta.TableDelta as code
 use Rattle.table_keeper.specs.Changes.{names_of, rows_of}
 use Rattle.table_keeper.specs.declared.keeper.KeptTable.{KeptTable}
 use Rattle.table_keeper.proofs.ByName.{name_exact, name_total, one_name}
-use Rattle.memory_store.specs.InMemory.{Suits, is_changed}
+use Rattle.memory_store.specs.InMemory.{Suits, Tables, is_changed}
 use Rattle.memory_store.proofs.TreeRows.{added_first, both_true, left_true, right_true, taken_back}
-
-abbrev Tables : Type 0
-Tables = finmap.FinMap bytes_cmp Rows
 
 -- ---- the value at a name
 

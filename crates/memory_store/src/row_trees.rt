@@ -1,15 +1,10 @@
 //! The rows of tables in memory.
-ghost use Rattle.std.specs.Prelude.{◌≡◌, ◌↔◌, IfOk, IsTrue, OnErr, OnOk, is_some, map, nat_eq, true};
-ghost use Rattle.std.specs.Cmp.Lexicographic.{pointwise};
+ghost use Rattle.std.specs.Prelude.{◌≡◌, ◌↔◌, IfOk, IsTrue, OnErr, OnOk, is_some, map, true};
 ghost use Rattle.std.specs.FinMap as finmap;
-ghost use Rattle.std.specs.List.{list_any};
 ghost use Rattle.lens_values.specs.SortedSet as set;
-ghost use Rattle.lens_specs.specs.Keeping.{AllApply, rows_at, with_deltas};
-ghost use Rattle.lens_specs.specs.Relation.{minus, union};
-ghost use Rattle.signed_delta.specs.Disjoint.{AreApart};
-ghost use Rattle.signed_delta.specs.Tables.{table_delta};
 ghost use Rattle.table_keeper.specs.Places.{Rise, rows_in};
-ghost use Rattle.memory_store.specs.InMemory.{Suits};
+ghost use Rattle.memory_store.specs.InMemory.{AllApply, AreApart, Suits, Tables, coded_tables, is_changed};
+ghost use Rattle.memory_store.specs.InMemory.{minus, rows_at, table_delta, union, with_deltas};
 
 use crate::tree_rows::{insert_all, remove_all, suits};
 use lens_values::{Name, NoMemory};
@@ -27,15 +22,9 @@ pub struct RowTrees {
 }
 
 impl Model for RowTrees {
-    ghost use Rattle.std.specs.Coded.{coded_list, coded_ℕ};
-    ghost use Rattle.std.specs.FinMap as finmap;
-    ghost use Rattle.lens_values.specs.Order.{bytes_cmp};
-    ghost use Rattle.lens_specs.specs.Relation.{Rows};
-    ghost use Rattle.row_sets.specs.Codes.{coded_rows};
+    ghost Value = { Tables };
 
-    ghost Value = { finmap.FinMap bytes_cmp Rows };
-
-    ghost coded = { finmap.code (coded_list coded_ℕ) coded_rows };
+    ghost coded = { coded_tables };
 
     ghost view = { λ r. finmap.from_entries r.trees.entries };
 }
@@ -159,7 +148,7 @@ impl RowTrees {
 
 // Whether one of the differences is of this table.
 fn is_changed(changes: &[TableDelta], table: &Name) -> bool
-    ensures { result ≡ list_any (λ change. pointwise nat_eq change.table table.now) changes.now }
+    ensures { result ≡ is_changed table.now (map table_delta changes.now) }
 {
     changes.iter().any(|change| change.table == *table)
 }

@@ -3,7 +3,9 @@ ghost use Rattle.std.specs.Prelude.{◌≡◌, ◌↔◌, ◌++◌, ◌∷◌, [
 ghost use Rattle.lens_specs.specs.Keeping as keeping;
 ghost use Rattle.lens_specs.specs.Keeping.{CanChange, changed};
 ghost use Rattle.table_keeper.specs.Changes.{change_view, kept_view};
+ghost use Rattle.table_keeper.specs.Holding.{coded_kept};
 ghost use Rattle.table_keeper.specs.Places.{Rise};
+ghost use Rattle.memory_store.specs.declared.store.ChangeFault.TheVariants as fault;
 
 use crate::row_trees::RowTrees;
 use lens_values::{Name, NoMemory, Text, copied};
@@ -24,9 +26,6 @@ pub enum ChangeFault {
 }
 
 impl From<NoMemory> for ChangeFault {
-    ghost use Rattle.std.specs.Prelude.{◌≡◌};
-    ghost use Rattle.memory_store.specs.declared.store.ChangeFault.TheVariants as fault;
-
     ghost from_gives = { λ _ e. e ≡ fault.NoMemory };
 
     fn from(_: NoMemory) -> ChangeFault {
@@ -43,9 +42,6 @@ pub struct MemoryStore {
 }
 
 impl Model for MemoryStore {
-    ghost use Rattle.lens_specs.specs.Keeping as keeping;
-    ghost use Rattle.table_keeper.specs.Holding.{coded_kept};
-
     ghost Value = { keeping.Kept };
 
     ghost coded = { coded_kept };

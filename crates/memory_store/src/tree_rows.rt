@@ -3,9 +3,8 @@ ghost use Rattle.std.specs.Prelude.{◌≡◌, ◌↔◌, IsTrue, OnErr, OnOk, n
 ghost use Rattle.std.specs.List.{list_all};
 ghost use Rattle.lens_values.specs.SortedSet as set;
 ghost use Rattle.lens_specs.specs.Delta.{Applies};
-ghost use Rattle.lens_specs.specs.Relation.{has, minus, union};
-ghost use Rattle.signed_delta.specs.Disjoint.{AreApart};
-ghost use Rattle.memory_store.specs.InMemory.{with_rows, without_rows};
+ghost use Rattle.lens_specs.specs.Relation.{has};
+ghost use Rattle.memory_store.specs.InMemory.{AreApart, minus, union, with_rows, without_rows};
 
 use lens_values::{NoMemory, Row};
 use row_sets::{RowSet, RowTree};

@@ -4,7 +4,7 @@ use Rattle.std.specs.Prelude.{◌≢◌, ◌==◌, Err, IfOk, IsTrue, Ok, Result
 use Rattle.std.specs.FinMap as finmap
 use Rattle.std.specs.List.{Contains, list_all}
 use Rattle.std.specs.Ordering.{eq_by_cmp}
-use Rattle.std.proofs.lemmas.Bool.{and_parts}
+use Rattle.std.proofs.lemmas.Bool.{and_parts, true≢false}
 use Rattle.lens_values.specs.Columns.{ColumnsWithin}
 use Rattle.lens_values.specs.Order.{bytes_cmp}
 use Rattle.lens_values.specs.Row.{row_cmp}
@@ -17,18 +17,21 @@ use Rattle.lens_specs.specs.Dependencies.{AllEdges, Edge}
 use Rattle.lens_specs.specs.Lens.{Lens, Tables, base, sort_of}
 use Rattle.lens_specs.specs.Names.{Name, Names}
 use Rattle.lens_specs.specs.Predicate.{Predicate, holds}
-use Rattle.lens_specs.specs.Relation.{Fits, Relation, Rows, has}
+use Rattle.lens_specs.specs.Relation.{Fits, Relation, Rows, has, minus}
 use Rattle.lens_specs.specs.Sort as spec
 use Rattle.lens_specs.specs.Sort.{IsOfSort, Sort, off}
 use Rattle.fd_laws.proofs.Lists.{all_at}
 use Rattle.fd_laws.proofs.Names.{name_exact, name_itself, name_total}
+use Rattle.fd_laws.proofs.Relations.{sets}
 use Rattle.fd_laws.proofs.Rows.{row_itself, tied_row}
 use Rattle.lens_laws.specs.Asked.{IsFilled}
 use Rattle.lens_laws.specs.Lenses.{AreOf}
 use Rattle.lens_laws.proofs.Deltas.{diff_leads}
 use Rattle.lens_laws.proofs.Lenses.{get_sort}
+use Rattle.lens_laws.proofs.Moves.{same_rows}
 use Rattle.lens_laws.proofs.Sorts.{none_off}
 use Rattle.fd_tree.specs.ClashView.{shown_clash}
+use Rattle.signed_delta.specs.Disjoint.{AreApart}
 use Rattle.signed_delta.proofs.Differences.{diff_applies_to}
 use Rattle.base_index.specs.Held.{State, after, is_indexed, no_relation, relation_in, with_deltas}
 use Rattle.base_index.specs.declared.need.Need.{Need}
@@ -100,6 +103,18 @@ get_set m t M = finmap.get-insert name_total m t M t ∙ ap (λ b. cond b (Some 
 -- the relation of these columns with no row
 abbrev pub bare : Columns → Relation
 bare U = record { columns = U; rows = set.empty }
+
+-- all rows are new where there were none
+pub all_new : (N : Rows) → record { remove = set.empty; add = N } ≡ diff set.empty N
+unfolding diff
+all_new N =
+    let gone : set.empty ≡ minus set.empty N = same_rows _ _ (λ x. grind (arith, sets, set.contains-empty row_cmp x)) in
+    let new : N ≡ minus N set.empty = same_rows _ _ (λ x. grind (arith, sets, set.contains-empty row_cmp x)) in
+    λ i. record { remove = gone i; add = new i }
+
+-- and none is gone that is added
+pub apart_from_none : (M N : Rows) → M ≡ set.empty → AreApart M N
+apart_from_none M N none row i = absurd (true≢false (sym i ∙ ap (λ S. has S row) none ∙ set.contains-empty row_cmp row))
 
 -- a table of no row becomes the relation by its difference
 pub filled_is : (R : Tables) (t : Name) (M : Relation) (d : Delta) → finmap.get R t ≡ Some (bare M.columns) → d ≡ diff set.empty M.rows

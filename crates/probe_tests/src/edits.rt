@@ -80,6 +80,5 @@ fn difference<L: Ledger>(
     ensures is { IfOk result (λ delta. delta ≡ diff (shown view.now).rows rows.now.rows) }
     ensures applies { IfOk result (λ delta. AppliesTo delta (shown view.now)) }
 {
-    rows.rows_fit();
     Ok(view.difference(alloc, rows.rows(), looked)?)
 }

@@ -107,9 +107,7 @@ fn find<L: Ledger>(
     if !row.fits(view.columns()) {
         return Err(Fail::from("a row of other columns"));
     }
-    let tree = view.lens().sort().tree();
-    tree.lefts_are_full();
-    for edge in tree.edges() {
+    for edge in view.lens().sort().tree().edges() {
         if edge.left.same(left) {
             return Ok(found(alloc, view, &edge.left, row, looked)?);
         }

@@ -81,7 +81,6 @@ pub(crate) fn are_of(alloc: Global, lens: &TypedLens, db: &Db) -> Result<bool, N
 pub(crate) fn is_of(alloc: Global, sort: &Sort, relation: &Relation) -> Result<bool, NoMemory>
     ensures sort { IfOk result (λ so. so ≡ true → IsOfSort relation.now sort.now) }
 {
-    relation.rows_fit();
     if !are_same(relation.columns(), sort.cols()) || !all_hold(sort.pred(), relation.rows()) {
         return Ok(false);
     }

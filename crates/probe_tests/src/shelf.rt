@@ -2,7 +2,6 @@
 ghost use Rattle.std.specs.Prelude.{◌≡◌, false, is_some, IfOk, None, Some};
 ghost use Rattle.std.specs.FinMap as finmap;
 ghost use Rattle.lens_values.specs.SortedSet as set;
-ghost use Rattle.lens_specs.specs.Delta.{diff};
 ghost use Rattle.base_index.specs.Held.{IsQuiet};
 ghost use Rattle.probe_tests.specs.Shelves.{AreKeptTwice};
 
@@ -12,8 +11,8 @@ use base_index::{Need, Tables};
 use lens_probe::needs;
 use lens_types::TypedLens;
 use lens_values::{Columns, Name};
-use row_sets::Relation;
-use signed_delta::{Delta, TableDelta, diff};
+use row_sets::{Relation, RowSet};
+use signed_delta::{Delta, TableDelta};
 use std::alloc::Global;
 use std::sync::ledger::Ledger;
 use std::test::Fail;
@@ -161,18 +160,9 @@ fn with_rows(alloc: Global, tables: Tables, name: Name, relation: &Relation) -> 
     ensures filled { IfOk result (λ after. after.present.relations
         ≡ finmap.insert tables.present.relations name relation.now) }
 {
-    relation.rows_fit();
-    let delta = of_rows(alloc, relation)?;
+    let delta = Delta::new(RowSet::empty(alloc), relation.rows().copy(alloc)?);
     let mut made = tables;
     made.stage(&[TableDelta { table: name, delta }])?;
     made.settle();
     Ok(made)
-}
-
-// The difference that adds all rows of the relation.
-fn of_rows(alloc: Global, relation: &Relation) -> Result<Delta, Fail>
-    ensures { IfOk result (λ delta. delta ≡ diff set.empty relation.now.rows) }
-{
-    let empty = Relation::empty(alloc, relation.columns().copy(alloc)?);
-    Ok(diff(alloc, &empty, relation)?)
 }

@@ -2,7 +2,6 @@ pub mod Batched
 pub mod Columns
 pub mod Entries
 pub mod Faults
-pub mod FirstWrong
 pub mod Lines
 pub mod Members
 pub mod Objects
@@ -12,3 +11,4 @@ pub mod Rising
 pub mod Said
 pub mod Sending
 pub mod Tokens
+pub mod Wanted

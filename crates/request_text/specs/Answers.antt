@@ -6,10 +6,7 @@ use Rattle.server_specs.specs.Answer as spec
 use Rattle.server_specs.specs.EditRefusal as refusals
 use Rattle.lens_pred.specs.View.{predicate_view}
 use Rattle.lens_pred.specs.declared.formula.Formulas.{Formulas, out-Formulas}
-use Rattle.view_lang.specs.declared.definition.Side.{Side}
-use Rattle.view_lang.specs.declared.definition.Side.TheVariants.{Left, Right}
-use Rattle.view_lang.specs.declared.definition.Limit.{Limit}
-use Rattle.view_lang.specs.declared.definition.Limit.TheVariants.{Columns, Lens, Predicate as PredicateNodes, Nesting, Tables, Views}
+use Rattle.view_limits.specs.Views.{limit_view, side_view}
 use Rattle.request_text.specs.declared.answer.Answer.{Answer}
 use Rattle.request_text.specs.declared.answer.Answer.TheVariants.{Defined, Shown, Changed, Described, Listed, Memory, TooLong, NotJson, BadRequest, Syntax, NameTaken, UnknownName, UnknownColumn, KindClash, NotTree, PredKind, SourceMentionsOutput, NoSuchDependency, MixedConjunct, DefaultRefused, NotDetermined, SideMentionsOutput, TableTwice, ColumnTaken, TooLarge, BadRow, Stale, OffPredicate, Clash, InEdit, NothingToUndo, Exported, NullableColumn, BadRecord, StoreFault}
 use Rattle.request_text.specs.declared.answer.EditRefusal.{EditRefusal}
@@ -22,20 +19,6 @@ abbrev pub list_view : RowList → spec.Listed
 list_view Rows = spec.in_rows
 list_view Remove = spec.in_remove
 list_view Add = spec.in_add
-
--- the side of a join
-abbrev pub side_view : Side → refusal.Side
-side_view Left = refusal.left_side
-side_view Right = refusal.right_side
-
--- what is too large
-abbrev pub limit_view : Limit → refusal.Limit
-limit_view Columns = refusal.columns_limit
-limit_view Lens = refusal.lens_limit
-limit_view PredicateNodes = refusal.predicate_limit
-limit_view Nesting = refusal.nesting_limit
-limit_view Tables = refusal.tables_limit
-limit_view Views = refusal.views_limit
 
 -- the conjuncts that the list has, in its order
 abbrev pub conjuncts_view : Formulas → Predicate

@@ -1,17 +1,13 @@
 -- What the faults of members stand for.
-use Rattle.std.specs.Prelude.{◌≡◌, ℕ, List, Option, Some, None, Result, IfSome}
+use Rattle.std.specs.Prelude.{ℕ, List, Option, Some, None, Result}
 use Rattle.request_text.specs.declared.member.MemberFault.{MemberFault}
 use Rattle.request_text.specs.declared.member.MemberFault.TheVariants as fault
 use Rattle.request_text.specs.Told.{RefusesBy, GivesTold}
 
 -- the member that the fault says is wrong
 abbrev pub wrong_member : MemberFault → Option (List ℕ)
-wrong_member (fault.Wrong member) = Some member
+wrong_member (fault.Wrong member) = Some member.now
 wrong_member fault.NoMemory = None
-
--- the member of this name is wrong, or memory ran out
-abbrev pub Blames : MemberFault → List ℕ → Type 0
-Blames f name = IfSome (wrong_member f) (λ member. name ≡ member)
 
 -- the expected refusal names the wrong member
 abbrev pub Refuses : {B : Type 0} → MemberFault → Result B (List ℕ) → Type 0

@@ -1,6 +1,6 @@
 -- What the edits of a batch stand for.
 use Rattle.server_specs.specs.Request as spec
-use Rattle.request_text.specs.declared.lists.BatchEdit.{BatchEdit}
+use Rattle.request_text.specs.declared.batch_edits.BatchEdit.{BatchEdit}
 
 -- the edit that the definitions speak of
 abbrev pub edit_view : BatchEdit → spec.BatchEdit

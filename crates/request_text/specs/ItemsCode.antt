@@ -5,6 +5,8 @@ use Rattle.std.specs.Float.{Float, nan}
 use Rattle.std.specs.Coded.{Coded, code_by, coded×, coded_ℕ, coded_ℤ, coded_list}
 use base.Stored.{coded_float}
 use Rattle.serde_json.specs.Data.{Num, unsigned, negative, float, Data, null, boolean, number, string, array, object, Items, no_items, item, Members, no_members, member}
+use Rattle.lens_specs.specs.Names.{Name}
+use Rattle.server_specs.specs.Request.{BatchEdit}
 
 -- which mark it is, a whole number, a text, a signed number and a float
 abbrev Mark : Type 0
@@ -132,3 +134,7 @@ first_or_null (item d ds) = d
 -- one value is stored as items that have it alone
 abbrev pub coded_data : Coded Data
 coded_data = code_by Items coded_items (λ d. item d no_items) first_or_null (λ _. refl)
+
+-- the edits of a batch are stored as the names of their views and their lists of rows
+abbrev pub coded_edits : Coded (List BatchEdit)
+coded_edits = coded_list (code_by (Name × (Items × Items)) (coded× (coded_list coded_ℕ) (coded× coded_items coded_items)) (λ e. (e.view, (e.remove, e.add))) (λ p. record { view = p.0; remove = p.1.0; add = p.1.1 }) (λ _. refl))

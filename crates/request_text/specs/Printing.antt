@@ -1,10 +1,14 @@
 -- The tokens that a call adds to a writer, and the line of a JSON value.
 use Rattle.std.specs.Prelude.{◌≡◌, ℕ, List, [], ◌∷◌, ◌++◌, Option, Some, None, codes, decimal}
-use Rattle.json.specs.Token.{Token, key, number}
+use Rattle.json.specs.Token.{Token}
 use Rattle.json.specs.Tree.{json_tokens}
 use Rattle.json.specs.Written.{Written}
 use Rattle.serde_json.specs.Data.{Data}
 use Rattle.serde_json.specs.Written.{compact_text, outline}
+-- the words of tokens and of JSON that go with it
+pub use Rattle.json.specs.Print.{print}
+pub use Rattle.json.specs.Token.{begin_object, boolean, end_object, key, number, string}
+pub use Rattle.serde_json.specs.Data.{array, object}
 
 -- the tokens of the data
 abbrev pub data_tokens : Data → List Token

@@ -1,6 +1,7 @@
 -- What the requests of the code stand for.
-use Rattle.std.specs.Prelude.{ℕ, List, Option, Some, None, option_map, option_and_then, codes, Result}
-use Rattle.serde_json.specs.Data.{Items, Members}
+use Rattle.std.specs.Prelude.{ℕ, List, Option, Some, None, option_map, option_and_then, codes, Result, Ok, Err}
+use Rattle.std.specs.Option.{ok_or}
+use Rattle.serde_json.specs.Data.{Data, Items, Members}
 use Rattle.serde_json.specs.Find.{as_array, as_str, get_member}
 use Rattle.lens_specs.specs.Relation.{Name}
 use Rattle.server_specs.specs.Answer.{Answer, not_json, bad_request}
@@ -40,65 +41,97 @@ Tells f expected = RefusesBy refusal f expected
 abbrev pub Reads : Result Request RequestFault → Result spec.Request Answer → Type 0
 Reads read expected = GivesTold request_view refusal read expected
 
--- the name that is there
-abbrev pub view_in : Members → Option Name
-view_in ms = option_and_then spec.name_in (get_member (codes "view") ms)
+-- what follows a member that is right; a wrong member stays the first that is wrong
+abbrev pub and_then : {A B : Type 0} → (A → Result B (List ℕ)) → Result A (List ℕ) → Result B (List ℕ)
+and_then next (Ok a) = next a
+and_then next (Err name) = Err name
 
--- the name of the column that is there
-abbrev pub column_in : Members → Option Name
-column_in ms = option_and_then spec.name_in (get_member (codes "column") ms)
+-- the name that is there
+abbrev pub name_at : List ℕ → Members → Option Name
+name_at k ms = option_and_then spec.name_in (get_member k ms)
 
 -- the rows that are there
-abbrev pub rows_in : List ℕ → Members → Option Items
-rows_in k ms = option_and_then as_array (get_member k ms)
+abbrev pub rows_at : List ℕ → Members → Option Items
+rows_at k ms = option_and_then as_array (get_member k ms)
 
--- the rows to remove and the rows to add
-abbrev pub both_in : Members → Option (Items × Items)
-both_in ms = option_and_then (λ remove. option_map (λ add. (remove, add)) (rows_in (codes "add") ms)) (rows_in (codes "remove") ms)
+-- the same, or the member that is wrong
+abbrev pub name_in : List ℕ → Members → Result Name (List ℕ)
+name_in k ms = ok_or (name_at k ms) k
+
+abbrev pub rows_in : List ℕ → Members → Result Items (List ℕ)
+rows_in k ms = ok_or (rows_at k ms) k
+
+-- the text of the definition that is there
+abbrev pub text_in : Members → Result (List ℕ) (List ℕ)
+text_in ms = ok_or (option_and_then spec.text_in (get_member (codes "text") ms)) (codes "text")
 
 -- the CSV that is there
-abbrev pub csv_in : Members → Option (List ℕ)
-csv_in ms = option_and_then as_str (get_member (codes "csv") ms)
+abbrev pub csv_in : Members → Result (List ℕ) (List ℕ)
+csv_in ms = ok_or (option_and_then as_str (get_member (codes "csv") ms)) (codes "csv")
 
--- the version on which a change rests
-abbrev pub on_in : Members → Option ℕ
-on_in ms = spec.version_at (codes "on") ms
+-- the edits that are there
+abbrev pub edits_in : Members → Result (List spec.BatchEdit) (List ℕ)
+edits_in ms = ok_or (option_and_then spec.edits_in (get_member (codes "edits") ms)) (codes "edits")
 
--- the find, where its members are there
-abbrev pub find_in : Members → Option spec.Request
-find_in ms = option_and_then (λ view. option_and_then (λ column. option_map (λ value. spec.find_at view column value) (get_member (codes "value") ms)) (column_in ms)) (view_in ms)
+-- any value that is there
+abbrev pub value_in : Members → Result Data (List ℕ)
+value_in ms = ok_or (get_member (codes "value") ms) (codes "value")
 
--- the put, where its members are there
-abbrev pub put_in : Members → Option spec.Request
-put_in ms = option_and_then (λ view. option_map (λ rows. spec.put view rows (on_in ms)) (rows_in (codes "rows") ms)) (view_in ms)
+-- the version, if there is one
+abbrev pub on_from : Option Data → Result (Option ℕ) (List ℕ)
+on_from None = Ok None
+on_from (Some d) = ok_or (option_map Some (spec.version_in d)) (codes "on")
 
--- the edit, where its members are there
-abbrev pub edit_in : Members → Option spec.Request
-edit_in ms = option_and_then (λ view. option_map (λ both. spec.edit view both.0 both.1 (on_in ms)) (both_in ms)) (view_in ms)
+abbrev pub on_in : Members → Result (Option ℕ) (List ℕ)
+on_in ms = on_from (get_member (codes "on") ms)
 
--- the preview, where its members are there
-abbrev pub preview_in : Members → Option spec.Request
-preview_in ms = option_and_then (λ view. option_map (λ both. spec.preview view both.0 both.1 (on_in ms)) (both_in ms)) (view_in ms)
+-- the request that names a view and nothing more
+abbrev pub view_asked : (Name → spec.Request) → Members → Result spec.Request (List ℕ)
+view_asked asked ms = and_then (λ view. Ok (asked view)) (name_in (codes "view") ms)
 
--- the batch, where its edits are there
-abbrev pub batch_in : Members → Option spec.Request
-batch_in ms = option_map (λ edits. spec.batch edits (on_in ms)) (option_and_then spec.edits_in (get_member (codes "edits") ms))
+-- the find, or the first of its members that is wrong
+abbrev pub find_in : Members → Result spec.Request (List ℕ)
+find_in ms =
+    and_then (λ column. and_then (λ value. and_then (λ view. Ok (spec.find_at view column value))
+    (name_in (codes "view") ms)) (value_in ms)) (name_in (codes "column") ms)
 
--- the import, where its members are there
-abbrev pub import_in : Members → Option spec.Request
-import_in ms = option_and_then (λ view. option_map (λ text. spec.import view text (on_in ms)) (csv_in ms)) (view_in ms)
+-- the put, or the first of its members that is wrong
+abbrev pub put_in : Members → Result spec.Request (List ℕ)
+put_in ms =
+    and_then (λ on. and_then (λ rows. and_then (λ view. Ok (spec.put view rows on))
+    (name_in (codes "view") ms)) (rows_in (codes "rows") ms)) (on_in ms)
 
--- the request, where its members are there
-abbrev pub said_in : spec.Asked → Members → Option spec.Request
-said_in spec.to_define ms = option_map spec.define (option_and_then spec.text_in (get_member (codes "text") ms))
-said_in spec.to_read ms = option_map spec.read (view_in ms)
+-- an edit and the version that it rests on, or the first of their members that is wrong
+abbrev pub edit_sent : Members → Result (spec.BatchEdit × Option ℕ) (List ℕ)
+edit_sent ms =
+    and_then (λ add. and_then (λ on. and_then (λ remove. and_then (λ view. Ok (record { view = view; remove = remove; add = add }, on))
+    (name_in (codes "view") ms)) (rows_in (codes "remove") ms)) (on_in ms)) (rows_in (codes "add") ms)
+
+-- the edit, or its preview
+abbrev pub edit_in : (Name → Items → Items → Option ℕ → spec.Request) → Members → Result spec.Request (List ℕ)
+edit_in asked ms = and_then (λ sent. Ok (asked sent.0.view sent.0.remove sent.0.add sent.1)) (edit_sent ms)
+
+-- the batch, or the first of its members that is wrong
+abbrev pub batch_in : Members → Result spec.Request (List ℕ)
+batch_in ms = and_then (λ edits. and_then (λ on. Ok (spec.batch edits on)) (on_in ms)) (edits_in ms)
+
+-- the import, or the first of its members that is wrong
+abbrev pub import_in : Members → Result spec.Request (List ℕ)
+import_in ms =
+    and_then (λ csv. and_then (λ on. and_then (λ view. Ok (spec.import view csv on))
+    (name_in (codes "view") ms)) (on_in ms)) (csv_in ms)
+
+-- the request, or the first of its members that is wrong, of those beside `do`
+abbrev pub said_in : spec.Asked → Members → Result spec.Request (List ℕ)
+said_in spec.to_define ms = and_then (λ text. Ok (spec.define text)) (text_in ms)
+said_in spec.to_read ms = view_asked spec.read ms
 said_in spec.to_find ms = find_in ms
 said_in spec.to_put ms = put_in ms
-said_in spec.to_edit ms = edit_in ms
-said_in spec.to_preview ms = preview_in ms
-said_in spec.to_describe ms = option_map spec.describe (view_in ms)
-said_in spec.to_list ms = Some spec.list
+said_in spec.to_edit ms = edit_in spec.edit ms
+said_in spec.to_preview ms = edit_in spec.preview ms
+said_in spec.to_describe ms = view_asked spec.describe ms
+said_in spec.to_list ms = Ok spec.list
 said_in spec.to_batch ms = batch_in ms
-said_in spec.to_undo ms = Some spec.undo
-said_in spec.to_export ms = option_map spec.export (view_in ms)
+said_in spec.to_undo ms = Ok spec.undo
+said_in spec.to_export ms = view_asked spec.export ms
 said_in spec.to_import ms = import_in ms

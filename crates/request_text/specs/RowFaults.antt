@@ -1,13 +1,13 @@
 -- What the faults of rows stand for.
-use Rattle.std.specs.Prelude.{ℕ, List, Option, Some, None, Result, Ok, Err}
+use Rattle.std.specs.Prelude.{◌≡◌, ℕ, List, Option, Some, None, Result, Ok, Err, IfSome, option_map}
 use Rattle.lens_values.specs.SortedSet as set
 use Rattle.lens_values.specs.declared.row.Row.{Row}
 use Rattle.lens_specs.specs.Relation.{Rows}
 use Rattle.server_specs.specs.Sending.{BadRow}
 use Rattle.request_text.specs.declared.member.MemberFault.{MemberFault}
-use Rattle.request_text.specs.declared.member.MemberFault.TheVariants as member
 use Rattle.request_text.specs.declared.rows.RowsFault.{RowsFault}
 use Rattle.request_text.specs.declared.rows.RowsFault.TheVariants as fault
+use Rattle.request_text.specs.Blames.{wrong_member}
 use Rattle.request_text.specs.Told.{RefusesBy, GivesTold}
 
 -- the bad row that the fault tells: its index and its least wrong name
@@ -28,7 +28,6 @@ abbrev pub set_of : Result (List Row) BadRow → Result Rows BadRow
 set_of (Ok rows) = Ok (set.from_list rows)
 set_of (Err bad) = Err bad
 
--- the fault of the element at this place
-abbrev pub fault_at : ℕ → MemberFault → RowsFault
-fault_at index (member.Wrong name) = fault.BadRow index name
-fault_at index member.NoMemory = fault.NoMemory
+-- it is the fault of the element at this place, or memory ran out
+abbrev pub IsAt : RowsFault → ℕ → MemberFault → Type 0
+IsAt f index of_element = IfSome (bad_row f) (λ bad. Some bad ≡ option_map (λ name. (index, name)) (wrong_member of_element))

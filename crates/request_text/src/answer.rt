@@ -3,28 +3,28 @@ ghost use Rattle.std.specs.Prelude.{◌≡◌, IfOk, Some};
 ghost use Rattle.server_specs.specs.Answer.{text, told};
 ghost use Rattle.request_text.specs.Answers.{answer_view, edit_refusal_view, refused_in};
 
-use crate::changes::changed_text;
 use crate::definition_errors::{
     default_refused_text, mixed_conjunct_text, not_tree_text, refuse_column, refuse_name,
     side_mentions_output_text, syntax_text, too_large_text,
 };
-use crate::definitions::defined_text;
 use crate::lists::{Changes, CsvText, Edges, Texts};
 use crate::member::Member;
-use crate::questions::{described_text, listed_text, shown_text};
 use crate::reply::{
     Reply, long_reply, memory_reply, not_json_reply, nothing_to_undo_reply, store_fault_reply,
 };
 use crate::request_errors::{
-    bad_request_text, bad_row_text, clash_text, off_predicate_text, stale_text, unknown_name_text,
+    bad_record_text, bad_request_text, bad_row_text, clash_text, off_predicate_text, stale_text,
+    unknown_name_text,
 };
-use crate::sheets::{bad_record_text, exported_text};
+use crate::results::{
+    changed_text, defined_text, described_text, exported_text, listed_text, shown_text,
+};
 use fd_tree::Edge;
 use lens_pred::Formulas;
 use lens_values::{Columns, Name, Names, NoMemory, Row};
 use row_sets::RowSet;
 use std::alloc::Global;
-use view_lang::{Limit, Side};
+use view_limits::{Limit, Side};
 
 /// One of the lists of rows in a request.
 #[derive(Clone, Copy, Debug)]

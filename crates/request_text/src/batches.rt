@@ -1,81 +1,49 @@
 //! Batches of edits: the members of their requests.
-ghost use Rattle.std.specs.Prelude.{◌≡◌, IfOk, is_some, map, option_map};
+ghost use Rattle.std.specs.Prelude.{◌≡◌, ℕ, List, IfOk, codes, option_map};
+ghost use Rattle.serde_json.specs.Find.{get_member};
 ghost use Rattle.borrowed_json.specs.Meaning.{value_data, items_data, members_data};
 ghost use Rattle.server_specs.specs.Request as spec;
+ghost use Rattle.request_text.specs.Blames.{Finds};
 ghost use Rattle.request_text.specs.Edits.{edit_view};
-ghost use Rattle.request_text.specs.Requests.{batch_in, request_view, rows_in};
+ghost use Rattle.request_text.specs.Requests.{batch_in, edits_in, request_view};
 
-use crate::changes::both_in;
-use crate::fields::{ADD, DO, EDITS, Field, ON, REMOVE, VIEW, first_unknown};
-use crate::lists::{BatchEdit, BatchEdits};
+use crate::batch_edits::{BatchEdit, BatchEdits};
+use crate::member::MemberFault;
 use crate::request::Request;
-use crate::request_members::{on_in, view_in};
-use borrowed_json::{Entry, Value as Json, member, take_member};
+use crate::request_kind::first_unknown;
+use crate::request_members::{name_at, on_in, rows_at};
+use borrowed_json::{Entry, Value as Json, take_member};
 use lens_values::NoMemory;
 use std::alloc::Global;
 
-/// The members of a batch, in byte order of their names.
-pub(crate) const TO_BATCH: [Field; 3] = [DO, EDITS, ON];
-
-// The members of an edit of a batch, in byte order of their names.
-const OF_EDIT: [Field; 3] = [ADD, REMOVE, VIEW];
-
-/// Whether the value is an array of edits.
-pub(crate) fn is_edits(json: &Json<'_>) -> bool
-    ensures { result ≡ is_some (spec.edits_in (value_data json.now)) }
-{
-    match json {
-        Json::Array(list) => are_edits(list),
-        _ => false,
-    }
-}
-
-fn are_edits(list: &[Json<'_>]) -> bool
-    ensures { result ≡ is_some (spec.each_edit (items_data list.now)) }
-{
-    list.iter().all(|json| is_edit(json))
-}
-
-fn is_edit(json: &Json<'_>) -> bool
-    ensures { result ≡ is_some (spec.batch_edit_in (value_data json.now)) }
-{
-    match json {
-        Json::Object(members) => has_edit(members),
-        _ => false,
-    }
-}
-
-// Whether the members are exactly those of an edit, each of its shape.
-fn has_edit(members: &[Entry<'_>]) -> bool
-    ensures { result ≡ is_some (spec.edit_of_members (members_data members.now)) }
-{
-    first_unknown(&OF_EDIT, members).is_none()
-        && view_in(members).is_some()
-        && has_rows(members, "remove")
-        && has_rows(members, "add")
-}
-
-fn has_rows(members: &[Entry<'_>], name: &str) -> bool
-    ensures { result ≡ is_some (rows_in name.now (members_data members.now)) }
-{
-    matches!(member(members, name), Some(Json::Array(_)))
-}
-
-/// A batch, if its edits are there.
+/// A batch.
 pub(crate) fn batch_in<'a>(
     alloc: Global,
     mut members: Vec<Entry<'a>>,
-) -> Result<Option<Request<'a>>, NoMemory>
-    ensures { IfOk result (λ found.
-        option_map request_view found ≡ batch_in (members_data members.entry.items)) }
+) -> Result<Request<'a>, MemberFault<'static>>
+    ensures { Finds request_view result (batch_in (members_data members.entry.items)) }
 {
-    let on = on_in(&members);
-    let Some(json) = take_member(&mut members, "edits") else {
-        return Ok(None);
+    let edits = take_edits(alloc, &mut members)?;
+    let on = on_in(&members)?;
+    Ok(Request::Batch { edits, on })
+}
+
+// The edits, moved out of their object.
+fn take_edits<'a>(
+    alloc: Global,
+    members: &mut Vec<Entry<'a>>,
+) -> Result<BatchEdits<'a>, MemberFault<'static>>
+    ensures edits { Finds (λ edits. edits) result (edits_in (members_data members.old.items)) }
+    ensures others { (other : List ℕ) → (other ≡ codes "edits" → ⊥)
+        → get_member other (members_data members.new.items)
+        ≡ get_member other (members_data members.old.items) }
+{
+    let Some(json) = take_member(members, "edits") else {
+        return Err(MemberFault::Wrong { member: "edits" });
     };
     match edits_in(alloc, json)? {
-        Some(edits) => Ok(Some(Request::Batch { edits, on })),
-        None => Ok(None),
+        Some(edits) => Ok(edits),
+        None => Err(MemberFault::Wrong { member: "edits" }),
     }
 }
 
@@ -111,14 +79,16 @@ fn edit_of<'a>(json: Json<'a>) -> Option<BatchEdit<'a>>
     }
 }
 
-fn edit_of_members<'a>(members: Vec<Entry<'a>>) -> Option<BatchEdit<'a>>
+// The edit, if its members are exactly those of one, each of its shape.
+fn edit_of_members<'a>(mut members: Vec<Entry<'a>>) -> Option<BatchEdit<'a>>
     ensures { option_map edit_view result
         ≡ spec.edit_of_members (members_data members.entry.items) }
 {
-    if first_unknown(&OF_EDIT, &members).is_some() {
+    if first_unknown(&["add", "remove", "view"], &members).is_some() {
         return None;
     }
-    let view = view_in(&members)?;
-    let (remove, add) = both_in(members)?;
+    let view = name_at(&members, "view")?;
+    let remove = rows_at(&mut members, "remove")?;
+    let add = rows_at(&mut members, "add")?;
     Some(BatchEdit { view, remove, add })
 }

@@ -2,8 +2,8 @@
 ghost use Rattle.std.specs.Prelude.{◌≡◌, IfOk};
 ghost use Rattle.lens_specs.specs.Refusal as refusal;
 ghost use Rattle.server_specs.specs.Answer as spec;
-ghost use Rattle.request_text.specs.Answers.{limit_view, side_view};
 ghost use Rattle.request_text.specs.Printing.{json_line};
+ghost use Rattle.view_limits.specs.Views.{limit_view, side_view};
 
 use crate::printing::{
     begun, ended, print_flag, print_name, print_names, print_number, print_text,
@@ -11,7 +11,7 @@ use crate::printing::{
 use crate::reply::Reply;
 use lens_values::{Name, Names, NoMemory};
 use std::alloc::Global;
-use view_lang::{Limit, Side};
+use view_limits::{Limit, Side};
 
 /// The line that refuses a text that goes wrong at this byte, or ends there too early.
 pub(crate) fn syntax_text(alloc: Global, at: usize) -> Result<Reply, NoMemory>

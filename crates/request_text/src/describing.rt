@@ -1,12 +1,10 @@
 //! Descriptions of views and lists of definitions, printed token by token.
 ghost use Rattle.std.specs.Prelude.{◌≡◌, [], ◌∷◌, OnOk};
 ghost use Rattle.std.specs.FinMap as finmap;
-ghost use Rattle.json.specs.Token.{key, string};
-ghost use Rattle.serde_json.specs.Data.{array, object};
 ghost use Rattle.grammar_specs.specs.Printing.{printed_formula};
 ghost use Rattle.lens_pred.specs.View.{formula_view, predicate_view};
 ghost use Rattle.server_specs.specs.Answer.{columns_data, conjuncts_data, edges_data, kind_text, texts_data};
-ghost use Rattle.request_text.specs.Printing.{Adds, data_tokens};
+ghost use Rattle.request_text.specs.Printing.{Adds, array, data_tokens, key, object, string};
 
 use crate::printing::{print_sides, print_text};
 use fd_tree::Edge;

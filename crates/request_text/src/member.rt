@@ -1,7 +1,7 @@
 //! Names of members that are wrong.
-ghost use Rattle.std.specs.Prelude.{◌≡◌, IfOk, string_bytes, option_map};
-ghost use Rattle.server_specs.specs.Request.{least_of, lesser as lesser_of};
-ghost use Rattle.request_text.specs.Blames.{Blames};
+ghost use Rattle.std.specs.Prelude.{◌≡◌, ℕ, List, IfOk, string_bytes, option_map};
+ghost use Rattle.server_specs.specs.Request.{least_of};
+ghost use Rattle.request_text.specs.declared.member.MemberFault.TheVariants as fault;
 
 use lens_values::NoMemory;
 use std::alloc::{AllocError, AllocFailed, Global};
@@ -14,8 +14,6 @@ pub struct Member {
 }
 
 impl Model for Member {
-    ghost use Rattle.std.specs.Prelude.{List, ℕ, string_bytes};
-
     ghost Value = { List ℕ };
 
     ghost view = { λ m. string_bytes m.text };
@@ -23,40 +21,31 @@ impl Model for Member {
 
 /// Why members cannot be read: one of them is wrong, or memory ran out.
 #[derive(Debug, Drop)]
-pub(crate) enum MemberFault {
-    Wrong { member: Member },
+pub(crate) enum MemberFault<'a> {
+    Wrong { member: &'a str },
     NoMemory,
 }
 
-impl From<AllocError> for MemberFault {
-    ghost use Rattle.std.specs.Prelude.{◌≡◌};
-    ghost use Rattle.request_text.specs.declared.member.MemberFault.TheVariants.{NoMemory};
+impl From<AllocError> for MemberFault<'_> {
+    ghost from_gives = { λ _ e. e ≡ fault.NoMemory };
 
-    ghost from_gives = { λ _ e. e ≡ NoMemory };
-
-    fn from(_: AllocError) -> MemberFault {
+    fn from(_: AllocError) -> Self {
         MemberFault::NoMemory
     }
 }
 
-impl<T: Drop> From<AllocFailed<T>> for MemberFault {
-    ghost use Rattle.std.specs.Prelude.{◌≡◌};
-    ghost use Rattle.request_text.specs.declared.member.MemberFault.TheVariants.{NoMemory};
+impl<T: Drop> From<AllocFailed<T>> for MemberFault<'_> {
+    ghost from_gives = { λ _ e. e ≡ fault.NoMemory };
 
-    ghost from_gives = { λ _ e. e ≡ NoMemory };
-
-    fn from(_: AllocFailed<T>) -> MemberFault {
+    fn from(_: AllocFailed<T>) -> Self {
         MemberFault::NoMemory
     }
 }
 
-impl From<NoMemory> for MemberFault {
-    ghost use Rattle.std.specs.Prelude.{◌≡◌};
-    ghost use Rattle.request_text.specs.declared.member.MemberFault.TheVariants.{NoMemory};
+impl From<NoMemory> for MemberFault<'_> {
+    ghost from_gives = { λ _ e. e ≡ fault.NoMemory };
 
-    ghost from_gives = { λ _ e. e ≡ NoMemory };
-
-    fn from(_: NoMemory) -> MemberFault {
+    fn from(_: NoMemory) -> Self {
         MemberFault::NoMemory
     }
 }
@@ -84,37 +73,12 @@ impl Member {
     }
 }
 
-impl MemberFault {
-    /// The member of this name is wrong.
-    pub(crate) fn wrong(alloc: Global, name: &str) -> MemberFault
-        ensures { Blames result name.now }
-    {
-        match Member::copy_of(alloc, name) {
-            Ok(member) => MemberFault::Wrong { member },
-            Err(_) => MemberFault::NoMemory,
-        }
-    }
-
-    /// The lesser of the two members is wrong.
-    pub(crate) fn lesser(alloc: Global, member: Member, other: Option<&str>) -> MemberFault
-        ensures { Blames result (least_of member (option_map (λ text. text.now) other.entry)) }
-    {
-        match other {
-            Some(name) if name < member.as_str() => MemberFault::wrong(alloc, name),
-            _ => MemberFault::Wrong { member },
-        }
-    }
-}
-
-/// The lesser of two names, where both are there.
-pub(crate) fn lesser<'a>(name: Option<&'a str>, other: Option<&'a str>) -> Option<&'a str>
-    ensures { option_map (λ text. text.now) result
-        ≡ lesser_of (option_map (λ text. text.now) name.entry)
-        (option_map (λ text. text.now) other.entry) }
+/// The lesser of the name and the other, if there is one.
+pub(crate) fn least_of<'a>(name: &'a str, other: Option<&'a str>) -> &'a str
+    ensures { result.now ≡ least_of name.now (option_map (λ text. text.now) other.entry) }
 {
-    match (name, other) {
-        (Some(name), Some(other)) if other < name => Some(other),
-        (Some(name), _) => Some(name),
-        (None, other) => other,
+    match other {
+        Some(other) if other < name => other,
+        _ => name,
     }
 }

@@ -1,13 +1,10 @@
 //! Replies printed token by token.
 ghost use Rattle.std.specs.Prelude.{◌≡◌, [], ◌∷◌, ◌++◌, IfOk, OnOk, map, decimal};
 ghost use Rattle.std.specs.FinMap as finmap;
-ghost use Rattle.json.specs.Print.{print};
-ghost use Rattle.json.specs.Token.{begin_object, end_object, key, string, number, boolean};
-ghost use Rattle.serde_json.specs.Data.{array};
 ghost use Rattle.lens_values.specs.SortedSet as set;
 ghost use Rattle.server_specs.specs.Answer.{value_data, row_data, rows_data, pair_data, names_data, set_data, edge_data, change_data, changes_data};
 ghost use Rattle.signed_delta.specs.Tables.{table_delta};
-ghost use Rattle.request_text.specs.Printing.{Adds, data_tokens};
+ghost use Rattle.request_text.specs.Printing.{Adds, array, begin_object, boolean, data_tokens, end_object, key, number, print, string};
 
 use crate::reply::Reply;
 use fd_tree::Edge;

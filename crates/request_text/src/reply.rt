@@ -1,6 +1,7 @@
 //! Reply lines.
-ghost use Rattle.std.specs.Prelude.{◌≡◌, codes};
+ghost use Rattle.std.specs.Prelude.{◌≡◌, ℕ, List};
 ghost use Rattle.server_specs.specs.Answer.{long_line, memory, not_json, nothing_to_undo, store_fault, text};
+ghost use Rattle.request_text.specs.ReplyBytes.{bytes_of};
 
 use std::marker::Model;
 
@@ -17,11 +18,7 @@ enum Source {
 }
 
 impl Model for Reply {
-    ghost use Rattle.std.specs.Prelude.{List, ℕ};
-
     ghost Value = { List ℕ };
-
-    ghost use Rattle.request_text.specs.ReplyBytes.{bytes_of};
 
     ghost view = { λ r. bytes_of r.source };
 }

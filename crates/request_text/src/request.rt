@@ -1,24 +1,23 @@
 //! Requests, and how a line is read as one.
-ghost use Rattle.std.specs.Prelude.{◌≡◌, Err, None, IfOk, option_map};
+ghost use Rattle.std.specs.Prelude.{◌≡◌, Err, Some, option_map};
 ghost use Rattle.borrowed_json.specs.Meaning.{value_data, members_data};
 ghost use Rattle.io_specs.specs.Lines as lines;
-ghost use Rattle.server_specs.specs.Answer.{Answer as AnswerOf, bad_request};
+ghost use Rattle.server_specs.specs.Answer.{bad_request};
 ghost use Rattle.server_specs.specs.Request as spec;
-ghost use Rattle.request_text.specs.Requests.{Reads, Tells, request_view, said_in};
-ghost use Rattle.request_text.specs.RequestFields.{kind_view};
+ghost use Rattle.request_text.specs.Requests.{Reads, Tells};
+ghost use Rattle.request_text.specs.RequestKinds.{kind_view};
+ghost use Rattle.request_text.specs.declared.request.RequestFault.TheVariants as fault;
 
-use crate::batches::batch_in;
-use crate::changes::{edit_in, preview_in, put_in};
-use crate::definitions::define_in;
-use crate::fields::{RequestKind, least_wrong};
-use crate::lists::{BatchEdits, CsvText, JsonRows, JsonValue};
-use crate::member::Member;
-use crate::questions::{describe_in, find_in, read_in};
-use crate::sheets::{export_in, import_in};
+use crate::batch_edits::BatchEdits;
+use crate::by_kind::request_of_kind;
+use crate::lists::CsvText;
+use crate::member::{Member, MemberFault, least_of};
+use crate::request_kind::{RequestKind, first_unknown};
+use crate::sent::{JsonRows, JsonValue};
 use borrowed_json::{Entry, Value as Json, as_str, member, read_line};
 use json::Scratch;
 use lens_values::{Name, NoMemory, Text};
-use std::alloc::{AllocError, AllocFailed, Global};
+use std::alloc::Global;
 
 /// One of the twelve requests. Its rows and its value borrow the texts of its line.
 #[derive(Debug, Drop)]
@@ -96,33 +95,8 @@ pub enum RequestFault {
     NoMemory,
 }
 
-impl From<AllocError> for RequestFault {
-    ghost use Rattle.std.specs.Prelude.{◌≡◌};
-    ghost use Rattle.request_text.specs.declared.request.RequestFault.TheVariants.{NoMemory};
-
-    ghost from_gives = { λ _ e. e ≡ NoMemory };
-
-    fn from(_: AllocError) -> RequestFault {
-        RequestFault::NoMemory
-    }
-}
-
-impl<T: Drop> From<AllocFailed<T>> for RequestFault {
-    ghost use Rattle.std.specs.Prelude.{◌≡◌};
-    ghost use Rattle.request_text.specs.declared.request.RequestFault.TheVariants.{NoMemory};
-
-    ghost from_gives = { λ _ e. e ≡ NoMemory };
-
-    fn from(_: AllocFailed<T>) -> RequestFault {
-        RequestFault::NoMemory
-    }
-}
-
 impl From<NoMemory> for RequestFault {
-    ghost use Rattle.std.specs.Prelude.{◌≡◌};
-    ghost use Rattle.request_text.specs.declared.request.RequestFault.TheVariants.{NoMemory};
-
-    ghost from_gives = { λ _ e. e ≡ NoMemory };
+    ghost from_gives = { λ _ e. e ≡ fault.NoMemory };
 
     fn from(_: NoMemory) -> RequestFault {
         RequestFault::NoMemory
@@ -180,58 +154,26 @@ fn kind_in(members: &[Entry<'_>]) -> Option<RequestKind>
     RequestKind::by_word(as_str(member(members, "do")?)?)
 }
 
+// Makes the request, unless a member is wrong or unknown.
 fn request_for<'a>(
     alloc: Global,
     kind: RequestKind,
     members: Vec<Entry<'a>>,
 ) -> Result<Request<'a>, RequestFault>
+    requires { spec.asked_in (members_data members.items) ≡ Some (kind_view kind) }
     ensures { Reads result
         (spec.unless_wrong (spec.least_wrong (kind_view kind) (members_data members.entry.items))
         (kind_view kind) (members_data members.entry.items)) }
 {
-    match least_wrong(kind, &members) {
-        Some(name) => Err(RequestFault::bad_request(alloc, name)),
-        None => Ok(right_request(alloc, kind, members)?),
-    }
-}
-
-// Makes the request, where no member is wrong.
-fn right_request<'a>(
-    alloc: Global,
-    kind: RequestKind,
-    members: Vec<Entry<'a>>,
-) -> Result<Request<'a>, NoMemory>
-    requires { spec.least_wrong (kind_view kind) (members_data members.items) ≡ None }
-    ensures { IfOk result (λ request.
-        request_view request ≡ spec.said (kind_view kind) (members_data members.entry.items)) }
-{
-    match said(alloc, kind, members)? {
-        Some(request) => Ok(request),
-        None => unreachable!(),
-    }
-}
-
-// Makes the request, if its members are there.
-fn said<'a>(
-    alloc: Global,
-    kind: RequestKind,
-    members: Vec<Entry<'a>>,
-) -> Result<Option<Request<'a>>, NoMemory>
-    ensures { IfOk result (λ found.
-        option_map request_view found ≡ said_in (kind_view kind) (members_data members.entry.items)) }
-{
-    match kind {
-        RequestKind::Define => define_in(alloc, &members),
-        RequestKind::Read => Ok(read_in(&members)),
-        RequestKind::Find => Ok(find_in(members)),
-        RequestKind::Put => Ok(put_in(members)),
-        RequestKind::Edit => Ok(edit_in(members)),
-        RequestKind::Preview => Ok(preview_in(members)),
-        RequestKind::Describe => Ok(describe_in(&members)),
-        RequestKind::List => Ok(Some(Request::List)),
-        RequestKind::Batch => batch_in(alloc, members),
-        RequestKind::Undo => Ok(Some(Request::Undo)),
-        RequestKind::Export => Ok(export_in(&members)),
-        RequestKind::Import => import_in(alloc, &members),
+    let unknown = first_unknown(kind.member_names(), &members);
+    match request_of_kind(alloc, kind, members) {
+        Ok(request) => match unknown {
+            None => Ok(request),
+            Some(name) => Err(RequestFault::bad_request(alloc, name)),
+        },
+        Err(MemberFault::Wrong { member }) => {
+            Err(RequestFault::bad_request(alloc, least_of(member, unknown)))
+        }
+        Err(MemberFault::NoMemory) => Err(RequestFault::NoMemory),
     }
 }

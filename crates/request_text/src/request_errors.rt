@@ -133,6 +133,17 @@ pub(crate) fn clash_text(
     ended(out)
 }
 
+/// The line that refuses CSV of which the record at this place is wrong.
+pub(crate) fn bad_record_text(alloc: Global, place: usize) -> Result<Reply, NoMemory>
+    ensures { IfOk result (λ reply. reply ≡ spec.text (spec.bad_record place)) }
+{
+    let mut out = begun(alloc)?;
+    print_number(&mut out, "error", 45)?;
+    print_flag(&mut out, "ok", false)?;
+    print_number(&mut out, "record", place as u64)?;
+    ended(out)
+}
+
 // The member that holds the list.
 fn list_word(list: RowList) -> &'static str
     ensures { result.now ≡ spec.list_word (list_view list) }

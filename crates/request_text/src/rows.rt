@@ -1,21 +1,17 @@
 //! The rows of a request, read from JSON.
-ghost use Rattle.std.specs.Prelude.{◌≡◌, List, Ok, Err, IfOk, IsOk, length, map, option_map};
-ghost use Rattle.std.specs.FinMap as finmap;
-ghost use Rattle.std.specs.List.{list_any, zip};
+ghost use Rattle.std.specs.Prelude.{◌≡◌, Ok, IfOk, IfSome, IsOk, length, option_map};
+ghost use Rattle.std.specs.List.{zip};
 ghost use Rattle.borrowed_json.specs.Meaning.{value_data, items_data, members_data};
 ghost use Rattle.lens_values.specs.Paired.{AreAsMany, paired};
 ghost use Rattle.lens_values.specs.SortedMap.{keys_of};
-ghost use Rattle.lens_values.specs.SortedSet as set;
-ghost use Rattle.lens_values.specs.declared.row.Row.{Row as RowOf};
-ghost use Rattle.server_specs.specs.Request.{first_other, is_key};
 ghost use Rattle.server_specs.specs.Sending as spec;
-ghost use Rattle.request_text.specs.Blames.{Blames, Finds};
-ghost use Rattle.request_text.specs.RowFaults.{GivesRows, TellsRow, fault_at, set_of};
+ghost use Rattle.request_text.specs.SentRows.{AreNamesOf, Finds, GivesRows, IsAt, bad_row, is_among, pairs_of, set_of, strange_in};
+ghost use Rattle.request_text.specs.declared.rows.RowsFault.TheVariants as fault;
 
-use crate::lists::JsonRows;
-use crate::member::{Member, MemberFault, lesser};
-use crate::member_values::text_member;
-use borrowed_json::{Entry, Value as Json, as_i64, member};
+use crate::member::{Member, MemberFault, least_of};
+use crate::member_values::value_in;
+use crate::sent::JsonRows;
+use borrowed_json::{Entry, Value as Json, member};
 use lens_values::{Columns, Kind, Name, Names, NoMemory, Row, Value};
 use row_sets::RowSet;
 use std::alloc::{AllocError, AllocFailed, Global};
@@ -36,10 +32,7 @@ pub enum RowsFault {
 }
 
 impl From<AllocError> for RowsFault {
-    ghost use Rattle.std.specs.Prelude.{◌≡◌};
-    ghost use Rattle.request_text.specs.declared.rows.RowsFault.TheVariants.{NoMemory};
-
-    ghost from_gives = { λ _ e. e ≡ NoMemory };
+    ghost from_gives = { λ _ e. e ≡ fault.NoMemory };
 
     fn from(_: AllocError) -> RowsFault {
         RowsFault::NoMemory
@@ -47,10 +40,7 @@ impl From<AllocError> for RowsFault {
 }
 
 impl<T: Drop> From<AllocFailed<T>> for RowsFault {
-    ghost use Rattle.std.specs.Prelude.{◌≡◌};
-    ghost use Rattle.request_text.specs.declared.rows.RowsFault.TheVariants.{NoMemory};
-
-    ghost from_gives = { λ _ e. e ≡ NoMemory };
+    ghost from_gives = { λ _ e. e ≡ fault.NoMemory };
 
     fn from(_: AllocFailed<T>) -> RowsFault {
         RowsFault::NoMemory
@@ -58,10 +48,7 @@ impl<T: Drop> From<AllocFailed<T>> for RowsFault {
 }
 
 impl From<NoMemory> for RowsFault {
-    ghost use Rattle.std.specs.Prelude.{◌≡◌};
-    ghost use Rattle.request_text.specs.declared.rows.RowsFault.TheVariants.{NoMemory};
-
-    ghost from_gives = { λ _ e. e ≡ NoMemory };
+    ghost from_gives = { λ _ e. e ≡ fault.NoMemory };
 
     fn from(_: NoMemory) -> RowsFault {
         RowsFault::NoMemory
@@ -70,12 +57,21 @@ impl From<NoMemory> for RowsFault {
 
 impl RowsFault {
     // The fault of the element at this place.
-    fn at(index: usize, fault: MemberFault) -> RowsFault
-        ensures { result ≡ fault_at index fault }
+    fn at(alloc: Global, index: usize, fault: MemberFault<'_>) -> RowsFault
+        ensures { IsAt result index fault.entry }
     {
         match fault {
-            MemberFault::Wrong { member } => RowsFault::BadRow { index, col: member },
+            MemberFault::Wrong { member } => RowsFault::bad_row(alloc, index, member),
             MemberFault::NoMemory => RowsFault::NoMemory,
+        }
+    }
+
+    fn bad_row(alloc: Global, index: usize, col: &str) -> RowsFault
+        ensures { IfSome (bad_row result) (λ bad. bad ≡ (index, col.now)) }
+    {
+        match Member::copy_of(alloc, col) {
+            Ok(col) => RowsFault::BadRow { index, col },
+            Err(_) => RowsFault::NoMemory,
         }
     }
 }
@@ -98,7 +94,7 @@ fn rows_in(
     names: &Names,
     items: Vec<Json<'_>>,
 ) -> Result<Vec<Row>, RowsFault>
-    requires { set.items names.now ≡ finmap.keys columns.now }
+    requires { AreNamesOf names.now columns.now }
     ensures { GivesRows (λ list. list.items) result
         (spec.rows_in columns.now (items_data items.entry.items)) }
 {
@@ -106,24 +102,26 @@ fn rows_in(
     for item in items {
         match row_in(alloc, columns, names, item) {
             Ok(row) => rows.push(row)?,
-            Err(fault) => return Err(RowsFault::at(rows.len(), fault)),
+            Err(fault) => return Err(RowsFault::at(alloc, rows.len(), fault)),
         }
     }
     Ok(rows)
 }
 
-fn row_in(
+fn row_in<'a, 'm: 'a>(
     alloc: Global,
-    columns: &Columns,
+    columns: &'a Columns,
     names: &Names,
-    json: Json<'_>,
-) -> Result<Row, MemberFault>
-    requires { set.items names.now ≡ finmap.keys columns.now }
+    json: Json<'m>,
+) -> Result<Row, MemberFault<'a>>
+    requires { AreNamesOf names.now columns.now }
     ensures { Finds (λ row. row) result (spec.row_in columns.now (value_data json.entry)) }
 {
     match json {
         Json::Object(members) => row_of_members(alloc, columns, names, &members),
-        _ => Err(MemberFault::wrong(alloc, first_column(columns.pairs()))),
+        _ => Err(MemberFault::Wrong {
+            member: first_column(columns.pairs()),
+        }),
     }
 }
 
@@ -136,13 +134,13 @@ fn first_column(columns: &[(Name, Kind)]) -> &str
     }
 }
 
-fn row_of_members(
+fn row_of_members<'a, 'm: 'a>(
     alloc: Global,
-    columns: &Columns,
+    columns: &'a Columns,
     names: &Names,
-    members: &[Entry<'_>],
-) -> Result<Row, MemberFault>
-    requires { set.items names.now ≡ finmap.keys columns.now }
+    members: &[Entry<'m>],
+) -> Result<Row, MemberFault<'a>>
+    requires { AreNamesOf names.now columns.now }
     ensures { Finds (λ row. row) result
         (spec.row_of_members columns.now (members_data members.now)) }
 {
@@ -150,28 +148,30 @@ fn row_of_members(
         Ok(values) => row_of_values(alloc, columns, names, members, values),
         Err(MemberFault::Wrong { member }) => {
             let strange = first_strange(columns, members);
-            Err(MemberFault::lesser(alloc, member, strange))
+            Err(MemberFault::Wrong {
+                member: least_of(member, strange),
+            })
         }
         Err(MemberFault::NoMemory) => Err(MemberFault::NoMemory),
     }
 }
 
 // Makes the row, unless a member is no column.
-fn row_of_values(
+fn row_of_values<'a>(
     alloc: Global,
     columns: &Columns,
     names: &Names,
-    members: &[Entry<'_>],
+    members: &[Entry<'a>],
     values: Vec<Value>,
-) -> Result<Row, MemberFault>
+) -> Result<Row, MemberFault<'a>>
     requires as_many { AreAsMany names.now values.items }
-    requires pairs { spec.pairs_in (finmap.entries columns.now) (members_data members.now)
+    requires pairs { pairs_of columns.now (members_data members.now)
         ≡ Ok (paired names.now values.items) }
     ensures { Finds (λ row. row) result
         (spec.row_of_members columns.now (members_data members.now)) }
 {
     match strange_beside(columns, members) {
-        Some(name) => Err(MemberFault::wrong(alloc, name)),
+        Some(member) => Err(MemberFault::Wrong { member }),
         None => Ok(Row::from_values(alloc, names.copy(alloc)?, values)?),
     }
 }
@@ -179,10 +179,9 @@ fn row_of_values(
 // The first member that is not a column, where each column has a member. If the counts are equal,
 // there is none.
 fn strange_beside<'a>(columns: &Columns, members: &[Entry<'a>]) -> Option<&'a str>
-    requires { IsOk (spec.pairs_in (finmap.entries columns.now)
-        (members_data members.now)) }
+    requires { IsOk (pairs_of columns.now (members_data members.now)) }
     ensures { option_map (λ name. name.now) result
-        ≡ first_other (spec.is_column_of columns.now) (members_data members.now) }
+        ≡ strange_in columns.now (members_data members.now) }
 {
     if members.len() == columns.pairs().len() {
         return None;
@@ -192,29 +191,29 @@ fn strange_beside<'a>(columns: &Columns, members: &[Entry<'a>]) -> Option<&'a st
 
 fn first_strange<'a>(columns: &Columns, members: &[Entry<'a>]) -> Option<&'a str>
     ensures { option_map (λ name. name.now) result
-        ≡ first_other (spec.is_column_of columns.now) (members_data members.now) }
+        ≡ strange_in columns.now (members_data members.now) }
 {
     let mut first = None;
     for member in members {
         if !is_column(columns.pairs(), member.0) {
-            first = lesser(Some(member.0), first);
+            first = Some(least_of(member.0, first));
         }
     }
     first
 }
 
 fn is_column(columns: &[(Name, Kind)], name: &str) -> bool
-    ensures { result ≡ list_any (is_key name.now) (keys_of columns.now) }
+    ensures { result ≡ is_among (keys_of columns.now) name.now }
 {
     columns.iter().any(|column| name == column.0.as_str())
 }
 
 // The values of the columns, in the order of the columns.
-fn values_in(
+fn values_in<'a>(
     alloc: Global,
-    columns: &[(Name, Kind)],
+    columns: &'a [(Name, Kind)],
     members: &[Entry<'_>],
-) -> Result<Vec<Value>, MemberFault>
+) -> Result<Vec<Value>, MemberFault<'a>>
     ensures as_many { IfOk result (λ values. length (keys_of columns.now) ≡ length values.items) }
     ensures finds { Finds (λ values. zip (keys_of columns.now) values.items) result
         (spec.pairs_in columns.now (members_data members.now)) }
@@ -223,7 +222,11 @@ fn values_in(
     for column in columns {
         match value_at(alloc, members, column)? {
             Some(value) => values.push(value)?,
-            None => return Err(MemberFault::wrong(alloc, column.0.as_str())),
+            None => {
+                return Err(MemberFault::Wrong {
+                    member: column.0.as_str(),
+                });
+            }
         }
     }
     Ok(values)
@@ -240,32 +243,5 @@ fn value_at(
     match member(members, column.0.as_str()) {
         Some(json) => value_in(alloc, column.1, json),
         None => Ok(None),
-    }
-}
-
-/// The value that the JSON says, if it fits the kind.
-pub(crate) fn value_in(
-    alloc: Global,
-    kind: Kind,
-    json: &Json<'_>,
-) -> Result<Option<Value>, NoMemory>
-    ensures { IfOk result (λ found. found ≡ spec.value_in kind (value_data json.now)) }
-{
-    match value_of(alloc, json)? {
-        Some(value) if value.fits(kind) => Ok(Some(value)),
-        _ => Ok(None),
-    }
-}
-
-// The value that the JSON says: null, a number of 64 bits, a text or a truth value.
-fn value_of(alloc: Global, json: &Json<'_>) -> Result<Option<Value>, NoMemory>
-    ensures { IfOk result (λ found. found ≡ spec.value_of (value_data json.now)) }
-{
-    match json {
-        Json::Bool(flag) => Ok(Some(Value::Flag(*flag))),
-        Json::Number(_) => Ok(as_i64(json).map(Value::Int)),
-        Json::String(_) => Ok(text_member(alloc, json)?.map(Value::Text)),
-        Json::Null => Ok(Some(Value::Null)),
-        Json::Array(_) | Json::Object(_) => Ok(None),
     }
 }

@@ -83,7 +83,6 @@ fn near_by_edges<K: Look, L: Ledger>(
     ensures few { IfOk result (λ near. (n : ℕ) → K.within look.now n
         → length (set.items near) ≤ near_work tree.now plus.now n) }
 {
-    tree.lefts_are_full();
     let mut near = RowSet::empty(alloc);
     for edge in tree.edges() {
         let unlike = unlike_rows(alloc, edge, &near, plus)?;
@@ -114,7 +113,6 @@ fn near_row<K: Look, L: Ledger>(
     ensures few { IfOk result (λ near. (n : ℕ) → K.within look.now n
         → length near.items ≤ n * length tree.now) }
 {
-    tree.lefts_are_full();
     let mut near = Vec::new(alloc);
     for edge in tree.edges() {
         near = with_near(alloc, edge, look, row, near, looked)?;

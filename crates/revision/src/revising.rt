@@ -3,15 +3,16 @@ ghost use Rattle.std.specs.Prelude.{◌≡◌, IfOk, map, true};
 ghost use Rattle.lens_values.specs.SortedSet as set;
 ghost use Rattle.lens_specs.specs.Dependencies.{MeetsTree};
 ghost use Rattle.lens_specs.specs.Predicate.{Predicate, holds};
-ghost use Rattle.lens_specs.specs.Relation.{Fits};
+ghost use Rattle.lens_specs.specs.Relation.{Fits, IsRelation};
 ghost use Rattle.lens_specs.specs.Revision as spec;
 ghost use Rattle.lens_specs.specs.TreeForm.{outputs};
+ghost use Rattle.fd_laws.specs.Trees.{IsTree};
 ghost use Rattle.lens_laws.specs.Passes.{AllFormulas, IsSteady};
 ghost use Rattle.lens_laws.specs.Shapes.{HoldsOn};
 ghost use Rattle.revision.specs.Changes.{ChangesOnly, SameOutside};
 
 use crate::steps::{all_along, one_along};
-use fd_tree::Tree;
+use fd_tree::{Edge, Tree};
 use lens_values::{NoMemory, Row, copied};
 use row_sets::{Relation, RowSet};
 use std::alloc::Global;
@@ -29,18 +30,18 @@ pub fn revise_row(alloc: Global, tree: &Tree, row: &Row, by: &RowSet) -> Result<
     Ok(revised)
 }
 
-/// Each of the rows revised, in their order.
+/// Each of the rows revised along each edge in turn, in their order.
 pub fn revised_rows(
     alloc: Global,
-    tree: &Tree,
+    edges: &[Edge],
     rows: &[Row],
     by: &RowSet,
 ) -> Result<Vec<Row>, NoMemory>
     ensures { IfOk result (λ revised. revised.items ≡ map (λ m.
-        spec.revise_row tree.now m by.now) rows.now) }
+        spec.revise_row edges.now m by.now) rows.now) }
 {
     let mut revised = copied(alloc, rows)?;
-    for edge in tree.edges() {
+    for edge in edges {
         revised = all_along(alloc, edge, &revised, by)?;
     }
     Ok(revised)
@@ -61,10 +62,10 @@ pub fn revise(
         ChangesOnly (outputs tree.now) relation.now.rows revised.rows) }
     ensures as_many { IfOk result (λ revised. MeetsTree relation.now.rows tree.now
         → set.len revised.rows ≡ set.len relation.now.rows) }
+    ensures fit { IsRelation relation.now }
+    ensures tree { IsTree tree.now }
 {
-    relation.rows_fit();
-    tree.is_tree();
-    let rows = revised_rows(alloc, tree, relation.rows().rows(), by)?;
+    let rows = revised_rows(alloc, tree.edges(), relation.rows().rows(), by)?;
     let columns = relation.columns().copy(alloc)?;
     Ok(Relation::with_rows(columns, RowSet::new(alloc, rows)?))
 }
@@ -86,9 +87,9 @@ pub fn merge(
     ensures steady { IfOk result (λ merged. (pred : Predicate) → AllFormulas (IsSteady tree.now) pred
         → HoldsOn (holds pred) relation.now.rows → HoldsOn (holds pred) by.now.rows
         → HoldsOn (holds pred) merged.rows) }
+    ensures fit { IsRelation relation.now }
+    ensures tree { IsTree tree.now }
 {
-    by.rows_fit();
-    tree.is_tree();
     let revised = revise(alloc, tree, relation, by.rows())?;
     revised.union(alloc, by)
 }

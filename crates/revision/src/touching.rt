@@ -1,7 +1,8 @@
 //! The rows that revision changes, found by key.
-ghost use Rattle.std.specs.Prelude.{◌≡◌, ◌≤◌, ◌+◌, ◌*◌, ℕ, length, map, IfOk};
+ghost use Rattle.std.specs.Prelude.{◌≡◌, ◌≤◌, ◌+◌, ◌*◌, ℕ, length, map, IfOk, OnOk};
 ghost use Rattle.lens_values.specs.SortedSet as set;
 ghost use Rattle.lens_specs.specs.Relation.{Rows, minus};
+ghost use Rattle.fd_laws.specs.Trees.{IsTree};
 ghost use Rattle.revision.specs.Near.{CanRevise, HasChanged, near_work};
 ghost use Rattle.revision.specs.Touching.{all_touched, differing};
 
@@ -71,8 +72,9 @@ pub fn touched_among(
     ensures touched { IfOk result (λ touched. (M : Rows) → HasChanged tree.now M plus.now near.now
         → touched.items ≡ all_touched tree.now M plus.now) }
     ensures few { IfOk result (λ touched. length touched.items ≤ length (set.items near.now)) }
+    ensures tree { IsTree tree.now }
 {
-    let revised = revised_rows(alloc, tree, near.rows(), plus)?;
+    let revised = revised_rows(alloc, tree.edges(), near.rows(), plus)?;
     let touched = changed(alloc, near.rows(), &revised)?;
     Ok(touched)
 }
@@ -94,6 +96,7 @@ pub fn revise_touched<K: Look, L: Ledger>(
         → looked.new ≤ looked.old + near_work tree.now plus.now n }
     ensures few { IfOk result (λ touched. (n : ℕ) → K.within look.now n
         → length touched.items ≤ near_work tree.now plus.now n) }
+    ensures tree { OnOk result (IsTree tree.now) }
 {
     let near = near_rows(alloc, tree, look, plus, looked)?;
     let touched = touched_among(alloc, tree, &near, plus)?;

@@ -3,7 +3,7 @@ ghost use Rattle.std.specs.Prelude.{◌≡◌, IfOk, OnOk, OnErr, not, true, Non
 ghost use Rattle.lens_values.specs.Columns.{kinds_differ, names};
 ghost use Rattle.lens_values.specs.Part.{override};
 ghost use Rattle.lens_values.specs.SortedSet as set;
-ghost use Rattle.lens_specs.specs.Relation.{Fits, join_relations, project_relation};
+ghost use Rattle.lens_specs.specs.Relation.{Fits, IsRelation, join_relations, project_relation};
 
 use crate::row_set::RowSet;
 use lens_values::{Columns, Names, NoMemory, Row};
@@ -58,7 +58,8 @@ impl Relation {
 
     /// The rows of the relation.
     pub fn rows(&self) -> &RowSet
-        ensures { result.now ≡ self.now.rows }
+        ensures rows { result.now ≡ self.now.rows }
+        ensures fit { IsRelation self.now }
     {
         &self.rows
     }
@@ -68,13 +69,6 @@ impl Relation {
         ensures { result ≡ self.rows }
     {
         self.rows
-    }
-
-    /// Does nothing; its contract says that each row of the relation fits its columns.
-    pub fn rows_fit(&self)
-        ensures { (row : _) → set.contains self.now.rows row ≡ true → Fits self.now.columns row }
-    {
-        let _ = &self.rows;
     }
 
     /// Whether the row is in the relation.

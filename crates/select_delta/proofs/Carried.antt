@@ -65,11 +65,11 @@ module _ (F : List Edge) (M : Rows) (P : Predicate) (d : Delta) (changes hidden 
 
 -- ---- the law, for an edit that leads to rows of the selection
 
+pub added_fit : (U : Columns) (F : List Edge) (P : Predicate) (M : Rows) (d : Delta) → AreSelected U F P (edited P M d) → (r : Row) → has d.add r ≡ true → Fits U r
+added_fit U F P M d view r i = view.columns r (in_new_view_added (select_get (holds P) M) d r i)
+
 module _ (U : Columns) (F : List Edge) (P : Predicate) (M : Rows) (d : Delta) (tree : IsTree F) (fit : (r : Row) → has M r ≡ true → Fits U r) (meets : MeetsTree M F)
     (applies : Applies d (select_get (holds P) M)) (view : AreSelected U F P (edited P M d)) where
-  pub added_fit : (r : Row) → has d.add r ≡ true → Fits U r
-  added_fit r i = view.columns r (in_new_view_added (select_get (holds P) M) d r i)
-
   pub is_difference : select_delta F (holds P) M d ≡ diff M (edited_source F P M d)
   unfolding select_get
   is_difference = select_delta_is (record { columns = U; holds = λ _. true; tree = F }) (holds P) tree M d (record { columns = fit; holds = λ r i. refl; meets = meets }) applies view

@@ -15,7 +15,7 @@ use lens_pred::Pred;
 use lens_values::NoMemory;
 use revision::{Touched, afters, befores, revise_touched};
 use row_sets::RowSet;
-use signed_delta::{Delta, Look, finds_are_few, rows_fit};
+use signed_delta::{Delta, Look};
 use std::alloc::Global;
 use std::sync::ledger::Ledger;
 use step_counter::Steps;
@@ -49,9 +49,8 @@ pub fn select_delta<S: Look, L: Ledger>(
     ensures few { IfOk result (λ change. (n : ℕ) → S.within source.now n → length tree.now ≤ 64
         → rows_of change ≤ rows_down (rows_of delta.now) n) }
 {
-    rows_fit(source);
-    finds_are_few(source);
-    tree.is_tree();
+    // Called for its contract: each row has these columns, and a question looks at one row or more.
+    let _columns = source.columns();
     let touched = revise_touched(alloc, tree, source, delta.add(), looked)?;
     let hidden = hidden(alloc, touched, pred)?;
     let gone = befores(alloc, &hidden)?;

@@ -1,5 +1,5 @@
 -- What follows from the opening of a store.
-use Rattle.std.proofs.Common.{◌≡◌, ◌≤◌, ℕ, Bool, true, false, List, Option, Some, None, is_some, Result, Ok, Err, refl, sym, ap, subst, ◌∙◌}
+use Rattle.std.proofs.Common.{◌≡◌, ◌≢◌, ◌≤◌, ℕ, Bool, true, false, List, Option, Some, None, is_some, Result, Ok, Err, refl, sym, ap, subst, ◌∙◌}
 use Rattle.std.specs.Prelude.{◌↔◌, IfOk}
 use Rattle.io_specs.specs.Calls.{Adds}
 use Rattle.lens_specs.specs.Keeping.{Kept, Follows, Stays, Tells}
@@ -172,3 +172,9 @@ refused s stays contents contents' count start (fault.Damaged damage) given give
     record { damage = _; start = start; loads = opens.0; still_kept = opens.1; opened_by = opened_by; told = told }
 refused s stays contents contents' count start fault.StoreFault given given' failures failures' calls calls' opens opened_by told = absurd told
 refused s stays contents contents' count start fault.NoMemory given given' failures failures' calls calls' opens opened_by told = absurd told
+
+-- what holds unless the keeper failed or memory ran out holds at a damage
+pub at_damage : (e : StartFault) (status : ℕ) (Q : Damage → Type 0) (P : Type 0) → status ≡ 7 → (status ≡ 7 → IsDamage e Q) → (e ≢ fault.StoreFault → e ≢ fault.NoMemory → P) → P
+at_damage (fault.Damaged damage) status Q P seven damaged p = p (λ e. cc) (λ e. cc)
+at_damage fault.StoreFault status Q P seven damaged p = absurd (damaged seven)
+at_damage fault.NoMemory status Q P seven damaged p = absurd (damaged seven)

@@ -112,6 +112,10 @@ promised_input s stays status old new none serves damaged exactly exactly_now fa
 
 -- ---- a rehearsal
 
+pub summarized : (status : ℕ) → (status ≡ 0) ⊎ (status ≡ 5) → IsServed status
+summarized status (inl zero) = inl zero
+summarized status (inr five) = inr (inr (inl five))
+
 pub promised_rehearsal : (s : Settings) (n : ℕ) (stays : Bool) (status : ℕ) (old new : Told) → s.rehearse ≡ Some n
     → ((status ≡ 0) ⊎ (status ≡ 5) → RehearsesBy s n stays status old new)
     → (status ≡ 3 → StopsShortBy s n stays old new)

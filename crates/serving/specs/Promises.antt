@@ -1,14 +1,15 @@
 -- What a run promises, by its status. `asked` is what the words ask for, if they are right.
 use Rattle.std.specs.Prelude.{◌≡◌, ◌≢◌, ◌≤◌, ◌<◌, ◌↔◌, ◌⊎◌, ℕ, Bool, List, length, Option, None, Some, IfSome}
 use Rattle.lens_specs.specs.Keeping.{Kept}
-use Rattle.io_specs.specs.Calls.{Adds}
-use Rattle.io_specs.specs.Faults.{Rose}
+pub use Rattle.io_specs.specs.Calls.{Adds}
+pub use Rattle.io_specs.specs.Faults.{Rose}
 use Rattle.lens_io.specs.Bytes.{GivesUnlessFailed}
 use Rattle.command_words.specs.Settings.{Settings}
 use Rattle.table_keeper.specs.declared.calls.Call.{Call}
 use Rattle.table_keeper.specs.declared.keeper.KeepFault.TheVariants as keep
-use Rattle.serving.specs.Opening.{IsUnserved}
-use Rattle.serving.specs.Running.{FailsBy, IsAtEntry, IsDamaged, IsServed, LacksMemoryBy, Refuses, Rehearses, Runs, StaysAtEntry, StopsShort, opening_fault, place_after, usage}
+pub use Rattle.serving.specs.Opening.{IsUnserved}
+pub use Rattle.serving.specs.Running.{IsServed}
+use Rattle.serving.specs.Running.{FailsBy, IsAtEntry, IsDamaged, LacksMemoryBy, Refuses, Rehearses, Runs, StaysAtEntry, StopsShort, opening_fault, place_after, usage}
 
 -- What the devices tell at one moment: what the source has left, what the sink has taken, what the keeper has, what it was asked and
 -- where it keeps, where they tell it; how often each of them failed; and how many rows were walked.

@@ -1,20 +1,17 @@
 //! The lines of the source are answered, one after another.
-ghost use Rattle.std.specs.Prelude.{◌≡◌, ◌≢◌, ◌≤◌, ◌<◌, ◌↔◌, ◌⊎◌, ◌+◌, ◌-◌, ◌^◌, [], false, length, Some, IfSome};
-ghost use Rattle.io_specs.specs.Calls.{Adds};
-ghost use Rattle.io_specs.specs.Faults.{Rose};
+ghost use Rattle.std.specs.Prelude.{◌≡◌, ◌≤◌, ◌<◌, ◌⊎◌, ◌+◌, ◌-◌, ◌^◌, [], false, length, None, Some};
 ghost use Rattle.lens_specs.specs.Keeping.{Follows, Tells};
 ghost use Rattle.server_specs.specs.Answer.{memory, text};
-ghost use Rattle.server_specs.specs.Request.{request};
 ghost use Rattle.server_specs.specs.Answering.{answer};
+ghost use Rattle.server_specs.specs.Request.{request};
 ghost use Rattle.server_specs.specs.Session.{Step};
 ghost use Rattle.server_specs.specs.State as state;
 ghost use Rattle.server_laws.specs.SheetLaws.{IsExportLine, ReadsBack};
 ghost use Rattle.lens_server.specs.Committing.{CommitsFor};
 ghost use Rattle.lens_server.specs.Counting.{most_walked};
 ghost use Rattle.command_words.specs.Views.{settings_view};
-ghost use Rattle.serving.specs.Running.{FailsBy, IsAtEntry, IsDamaged, IsServed, LacksMemoryBy, Refuses, Runs, Serves, StaysAtEntry, line_of, opening_fault, place_after, status_of};
-ghost use Rattle.serving.specs.Opening.{IsUnserved};
-ghost use Rattle.table_keeper.specs.declared.keeper.KeepFault.TheVariants as keep;
+ghost use Rattle.serving.specs.Promises.{Adds, IsServed, IsUnserved, Promises, Rose};
+ghost use Rattle.serving.specs.Running.{Serves, line_of, status_of};
 
 use crate::giving::give_reply;
 use crate::opening::{open, refuse};
@@ -27,7 +24,7 @@ use std::sync::ledger::{Blank, Ledger};
 use step_counter::Steps;
 use table_keeper::Keeper;
 
-/// Serves the lines of the source over the store.
+/// Serves the lines of the source over the store, where no rehearsal is asked for.
 pub fn serve_input<S: Source, W: Sink, K: Keeper, L: Ledger, M: Ledger>(
     alloc: Global,
     settings: &Settings<'_>,
@@ -40,40 +37,33 @@ pub fn serve_input<S: Source, W: Sink, K: Keeper, L: Ledger, M: Ledger>(
     requires name { blank.name ≡ M.name }
     requires parts { blank.parts ≡ M.parts }
     requires one { blank.parts ≡ 1 }
-    ensures serves { IsServed result → Runs (settings_view settings.now) K.stays result
-        (S.left source.old) (S.left source.new) (W.taken sink.old) (W.taken sink.new)
-        (K.faults keeper.old) (K.faults keeper.new) (K.contents keeper.old)
-        (K.contents keeper.new) (K.calls keeper.old) (K.calls keeper.new) walked.old walked.new }
-    ensures damaged { result ≡ 7 → Refuses (settings_view settings.now) K.stays
-        (W.taken sink.old) (W.taken sink.new) (W.faults sink.old) (W.faults sink.new)
-        (K.faults keeper.old) (K.contents keeper.old) (K.contents keeper.new)
-        (K.calls keeper.old) (K.calls keeper.new) }
-    ensures damaged_exactly { result ≢ 3 → result ≢ 6
-        → IsAtEntry (settings_view settings.now).store K.stays
-        → IfSome (K.contents keeper.old) (λ kept. (result ≡ 7) ↔ IsDamaged kept) }
-    ensures damaged_exactly_now { result ≢ 3 → result ≢ 6
-        → IfSome (K.contents keeper.new) (λ kept. (result ≡ 7) ↔ IsDamaged kept) }
-    ensures store_calls { result ≡ 6 → Adds (FailsBy (settings_view settings.now).store)
-        (K.calls keeper.old) (K.calls keeper.new) }
-    ensures store_exactly { Adds (λ calls. (result ≡ 6)
-        ↔ (opening_fault (settings_view settings.now).store calls ≡ Some keep.Failed))
-        (K.calls keeper.old) (K.calls keeper.new) }
-    ensures memory_calls { result ≡ 3 → Adds (LacksMemoryBy (settings_view settings.now).store)
-        (K.calls keeper.old) (K.calls keeper.new) }
-    ensures takes_nothing { IsUnserved result → source.new ≡ source.old }
-    ensures changes_nothing { IsUnserved result → StaysAtEntry (settings_view settings.now).store
-        K.stays (K.contents keeper.old) (K.contents keeper.new) }
-    ensures gives_nothing { (result ≡ 3) ⊎ (result ≡ 6) → sink.new ≡ sink.old }
+    requires asked { (settings_view settings.now).rehearse ≡ None }
+    ensures promises { Promises (Some (settings_view settings.now)) K.stays result
+        (record {
+          left = S.left source.old;
+          given = W.taken sink.old;
+          contents = K.contents keeper.old;
+          calls = K.calls keeper.old;
+          place = K.place keeper.old;
+          source_faults = S.faults source.old;
+          sink_faults = W.faults sink.old;
+          keeper_faults = K.faults keeper.old;
+          walked = walked.old;
+        })
+        (record {
+          left = S.left source.new;
+          given = W.taken sink.new;
+          contents = K.contents keeper.new;
+          calls = K.calls keeper.new;
+          place = K.place keeper.new;
+          source_faults = S.faults source.new;
+          sink_faults = W.faults sink.new;
+          keeper_faults = K.faults keeper.new;
+          walked = walked.new;
+        }) }
     ensures ends { IsServed result ⊎ IsUnserved result }
-    ensures read { result ≡ 4 → Rose (S.faults source.old) (S.faults source.new) }
-    ensures write { result ≡ 5 → Rose (W.faults sink.old) (W.faults sink.new) }
-    ensures store { result ≡ 6 → Rose (K.faults keeper.old) (K.faults keeper.new) }
-    ensures source_later { S.faults source.old ≤ S.faults source.new }
-    ensures sink_later { W.faults sink.old ≤ W.faults sink.new }
-    ensures keeper_later { K.faults keeper.old ≤ K.faults keeper.new }
-    ensures place { IsServed result ⊎ (result ≡ 7) → K.place keeper.new
-        ≡ place_after (settings_view settings.now).store (K.place keeper.old) }
-    ensures walks_nothing { IsUnserved result → walked.new ≡ walked.old }
+    ensures takes_nothing { IsUnserved result → source.new ≡ source.old }
+    ensures gives_nothing { (result ≡ 3) ⊎ (result ≡ 6) → sink.new ≡ sink.old }
 {
     let Ok(mut cutter) = LineCutter::new(alloc, settings.max_input) else {
         return 3;

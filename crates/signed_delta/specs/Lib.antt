@@ -1,3 +1,4 @@
+pub mod Chosen
 pub mod Disjoint
 pub mod DeltaCode
 pub mod Keys

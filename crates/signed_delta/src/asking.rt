@@ -4,6 +4,7 @@ ghost use Rattle.lens_values.specs.SortedSet as set;
 ghost use Rattle.lens_specs.specs.Relation.{Fits, has, minus, those};
 ghost use Rattle.lens_specs.specs.Rows.{at};
 ghost use Rattle.lens_laws.specs.KeyedDeltas.{found_each};
+ghost use Rattle.signed_delta.specs.Chosen.{is_chosen};
 
 use crate::look::Look;
 use lens_values::{Names, NoMemory, append};
@@ -25,13 +26,7 @@ pub fn present<K: Look, L: Ledger>(
     ensures looks { (n : ℕ) → K.within look.now n → looked.new ≤ looked.old
         + n * length (set.items rows.now) }
 {
-    let mut some = Vec::new(alloc);
-    for row in rows.rows() {
-        if look.has(alloc, row, looked)? {
-            some.push(row.copy(alloc)?)?;
-        }
-    }
-    Ok(RowSet::from_rising(some))
+    chosen(alloc, rows, look, true, looked)
 }
 
 /// Those of the rows that are not in the relation.
@@ -47,9 +42,27 @@ pub fn absent<K: Look, L: Ledger>(
     ensures looks { (n : ℕ) → K.within look.now n → looked.new ≤ looked.old
         + n * length (set.items rows.now) }
 {
+    chosen(alloc, rows, look, false, looked)
+}
+
+// Those of the rows that are in the relation, or the others.
+fn chosen<K: Look, L: Ledger>(
+    alloc: Global,
+    rows: &RowSet,
+    look: &K,
+    present: bool,
+    looked: &mut Steps<L>,
+) -> Result<RowSet, NoMemory>
+    requires { (row : _) → set.contains rows.now row ≡ true
+        → Fits (K.relation look.now).columns row }
+    ensures rows { let M = (K.relation look.now).rows in
+        IfOk result (λ some. some ≡ those (is_chosen M present) rows.now) }
+    ensures looks { (n : ℕ) → K.within look.now n → looked.new ≤ looked.old
+        + n * length (set.items rows.now) }
+{
     let mut some = Vec::new(alloc);
     for row in rows.rows() {
-        if !look.has(alloc, row, looked)? {
+        if look.has(alloc, row, looked)? == present {
             some.push(row.copy(alloc)?)?;
         }
     }

@@ -111,7 +111,6 @@ impl Delta {
         ensures { IfOk result (λ after.
             after ≡ record relation.now { rows = spec.new_view relation.now.rows self.now }) }
     {
-        relation.rows_fit();
         let columns = relation.columns().copy(alloc)?;
         let rows = self.apply_to(alloc, relation.rows())?;
         Ok(Relation::with_rows(columns, rows))

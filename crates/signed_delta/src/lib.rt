@@ -8,4 +8,4 @@ mod sides;
 
 pub use asking::{absent, find_each, present};
 pub use delta::{Delta, TableDelta, diff, of_touched};
-pub use look::{Look, finds_are_few, rows_fit};
+pub use look::Look;

@@ -61,20 +61,3 @@ pub trait Look {
         ensures few { IfOk result (λ found. (n : ℕ) → within self.now n
             → length (set.items found) ≤ n) };
 }
-
-/// Does nothing, and tells a proof that each row of the look's relation has its columns.
-pub fn rows_fit<K: Look>(look: &K)
-    ensures { spec.IsRelation (K.relation look.now) }
-{
-    let _columns = look.columns();
-}
-
-/// Does nothing, and tells a proof that a question looks at one row at least, and that no look-up
-/// finds more rows than a question may look at.
-pub fn finds_are_few<K: Look>(look: &K)
-    ensures some { (n : ℕ) → K.within look.now n → 1 ≤ n }
-    ensures gives { (n : ℕ) → K.within look.now n
-        → GivesAtMost n (K.asked look.now) (K.relation look.now).rows }
-{
-    let _columns = look.columns();
-}

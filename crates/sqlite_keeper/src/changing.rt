@@ -111,55 +111,24 @@ fn change_tables<S: Alter>(
     Ok(())
 }
 
-// Makes the difference of a table with these columns.
+// Makes the difference of a table with these columns. A side with no row needs no statement.
 fn change_table<S: Alter>(
     alloc: Global,
     transaction: &mut Transaction<'_, S>,
     columns: &Columns,
     change: &TableDelta,
 ) -> Result<(), Refusal> {
-    remove_rows(
-        alloc,
-        transaction,
-        &change.table,
-        columns,
-        change.delta.remove().rows(),
-    )?;
-    add_rows(
-        alloc,
-        transaction,
-        &change.table,
-        columns,
-        change.delta.add().rows(),
-    )
-}
-
-fn remove_rows<S: Alter>(
-    alloc: Global,
-    transaction: &mut Transaction<'_, S>,
-    table: &Name,
-    columns: &Columns,
-    rows: &[Row],
-) -> Result<(), Refusal> {
-    if rows.is_empty() {
-        return Ok(());
+    let remove = change.delta.remove().rows();
+    if !remove.is_empty() {
+        let text = delete_text(alloc, &change.table, columns.pairs())?;
+        run_for_each(alloc, transaction, text.as_str(), columns, remove)?;
     }
-    let text = delete_text(alloc, table, columns.pairs())?;
-    run_for_each(alloc, transaction, text.as_str(), columns, rows)
-}
-
-fn add_rows<S: Alter>(
-    alloc: Global,
-    transaction: &mut Transaction<'_, S>,
-    table: &Name,
-    columns: &Columns,
-    rows: &[Row],
-) -> Result<(), Refusal> {
-    if rows.is_empty() {
-        return Ok(());
+    let add = change.delta.add().rows();
+    if !add.is_empty() {
+        let text = insert_text(alloc, &change.table, columns.pairs())?;
+        run_for_each(alloc, transaction, text.as_str(), columns, add)?;
     }
-    let text = insert_text(alloc, table, columns.pairs())?;
-    run_for_each(alloc, transaction, text.as_str(), columns, rows)
+    Ok(())
 }
 
 // Runs the statement for each of the rows, which are to fit the columns. Each time it is to change

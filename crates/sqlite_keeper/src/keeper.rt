@@ -1,7 +1,8 @@
 //! The keeper.
-ghost use Rattle.std.specs.Prelude.{◌≡◌, ◌≤◌};
+ghost use Rattle.std.specs.Prelude.{◌≡◌, ◌≤◌, None, false};
 ghost use Rattle.io_specs.specs.Faults.{Rose};
 ghost use Rattle.sqlite_keeper.specs.Refusals.{fault_of};
+ghost use Rattle.sqlite_keeper.specs.Shown.{faults_of, place_of};
 
 use crate::database::Database;
 use crate::refusal::Refusal;
@@ -23,9 +24,6 @@ pub struct SqliteKeeper<'a> {
 }
 
 impl<'a> SqliteKeeper<'a> {
-    ghost use Rattle.std.specs.Prelude.{None};
-    ghost use Rattle.sqlite_keeper.specs.Shown.{faults_of, place_of};
-
     /// A keeper with nothing attached. It opens nothing, and takes no memory.
     pub fn new(rt: &'a HostRuntime) -> SqliteKeeper<'a>
         ensures nowhere { place_of result ≡ None }
@@ -58,9 +56,6 @@ impl<'a> SqliteKeeper<'a> {
 }
 
 impl Keeper for SqliteKeeper<'_> {
-    ghost use Rattle.std.specs.Prelude.{None, false};
-    ghost use Rattle.sqlite_keeper.specs.Shown.{faults_of, place_of};
-
     ghost contents = { λ _. None };
 
     ghost place = { place_of };

@@ -1,24 +1,12 @@
 //! Tables in rising order of names.
-ghost use Rattle.std.specs.Prelude.{◌≡◌, OnErr, OnOk, length};
-ghost use Rattle.std.specs.List.Sorted.{IsBinarySearchResult, IsSearchInRange};
-ghost use Rattle.lens_values.specs.Order.{bytes_cmp};
-ghost use Rattle.table_keeper.specs.Changes.{names_of};
+ghost use Rattle.std.specs.Prelude.{◌≡◌, OnErr, OnOk};
 ghost use Rattle.table_keeper.specs.Places.{Rise, rows_in};
 ghost use Rattle.sqlite_keeper.specs.Placing.{with_new};
 
 use crate::refusal::Refusal;
 use lens_values::Name;
 use row_sets::RowSet;
-use table_keeper::KeptTable;
-
-/// Where the table of this name is, or where it would go.
-pub fn search(tables: &[KeptTable], name: &Name) -> Result<usize, usize>
-    ensures bound { IsSearchInRange result (length tables.now) }
-    ensures position { IsBinarySearchResult (λ other. bytes_cmp other name.now)
-        (names_of tables.now) result }
-{
-    tables.binary_search_by_key(name, |kept| kept.table)
-}
+use table_keeper::{KeptTable, search};
 
 /// Puts the rows of a table in their place. Rows that are there under the name stay.
 pub fn put(tables: &mut Vec<KeptTable>, table: Name, rows: RowSet) -> Result<(), Refusal>

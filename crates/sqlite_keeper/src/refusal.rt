@@ -1,4 +1,10 @@
 //! Why a database is not read or changed.
+ghost use Rattle.std.specs.IoError.{error_kind};
+ghost use Rattle.std.specs.declared.io.ErrorKind.TheVariants as kind;
+ghost use Rattle.lens_values.specs.declared.text.TextFault.TheVariants as text;
+ghost use Rattle.memory_store.specs.declared.store.ChangeFault.TheVariants as change;
+ghost use Rattle.view_lang.specs.declared.definition.LangFault.TheVariants as lang;
+ghost use Rattle.sqlite_keeper.specs.Refusals.{IsWantOfMemory, KeepsWantOfMemory, out_of_memory};
 
 use lens_values::{NoMemory, TextFault};
 use memory_store::ChangeFault;
@@ -17,11 +23,7 @@ pub enum Refusal {
 }
 
 impl From<Error> for Refusal {
-    ghost use Rattle.sqlite.specs.declared.error.Error.TheVariants.{SqliteFailure};
-    ghost use Rattle.sqlite.specs.declared.error.ErrorCode.TheVariants.{OutOfMemory};
-    ghost use Rattle.sqlite_keeper.specs.Refusals.{KeepsWantOfMemory};
-
-    ghost from_gives = { KeepsWantOfMemory (SqliteFailure OutOfMemory) };
+    ghost from_gives = { KeepsWantOfMemory out_of_memory };
 
     fn from(error: Error) -> Refusal {
         match error {
@@ -32,12 +34,7 @@ impl From<Error> for Refusal {
 }
 
 impl From<io::Error> for Refusal {
-    ghost use Rattle.std.specs.Prelude.{◌≡◌, ◌↔◌};
-    ghost use Rattle.std.specs.IoError.{error_kind};
-    ghost use Rattle.std.specs.declared.io.ErrorKind.TheVariants.{OutOfMemory};
-    ghost use Rattle.sqlite_keeper.specs.declared.refusal.Refusal.TheVariants as refusal;
-
-    ghost from_gives = { λ e r. (r ≡ refusal.NoMemory) ↔ (error_kind e ≡ OutOfMemory) };
+    ghost from_gives = { λ e. KeepsWantOfMemory kind.OutOfMemory (error_kind e) };
 
     fn from(error: io::Error) -> Refusal {
         match error.kind() {
@@ -48,10 +45,7 @@ impl From<io::Error> for Refusal {
 }
 
 impl From<AllocError> for Refusal {
-    ghost use Rattle.std.specs.Prelude.{◌≡◌};
-    ghost use Rattle.sqlite_keeper.specs.declared.refusal.Refusal.TheVariants as refusal;
-
-    ghost from_gives = { λ _ r. r ≡ refusal.NoMemory };
+    ghost from_gives = { IsWantOfMemory };
 
     fn from(_: AllocError) -> Refusal {
         Refusal::NoMemory
@@ -59,10 +53,7 @@ impl From<AllocError> for Refusal {
 }
 
 impl<T: Drop> From<AllocFailed<T>> for Refusal {
-    ghost use Rattle.std.specs.Prelude.{◌≡◌};
-    ghost use Rattle.sqlite_keeper.specs.declared.refusal.Refusal.TheVariants as refusal;
-
-    ghost from_gives = { λ _ r. r ≡ refusal.NoMemory };
+    ghost from_gives = { IsWantOfMemory };
 
     fn from(_: AllocFailed<T>) -> Refusal {
         Refusal::NoMemory
@@ -70,10 +61,7 @@ impl<T: Drop> From<AllocFailed<T>> for Refusal {
 }
 
 impl From<NoMemory> for Refusal {
-    ghost use Rattle.std.specs.Prelude.{◌≡◌};
-    ghost use Rattle.sqlite_keeper.specs.declared.refusal.Refusal.TheVariants as refusal;
-
-    ghost from_gives = { λ _ r. r ≡ refusal.NoMemory };
+    ghost from_gives = { IsWantOfMemory };
 
     fn from(_: NoMemory) -> Refusal {
         Refusal::NoMemory
@@ -81,10 +69,7 @@ impl From<NoMemory> for Refusal {
 }
 
 impl From<TextFault> for Refusal {
-    ghost use Rattle.lens_values.specs.declared.text.TextFault.TheVariants as fault;
-    ghost use Rattle.sqlite_keeper.specs.Refusals.{KeepsWantOfMemory};
-
-    ghost from_gives = { KeepsWantOfMemory fault.NoMemory };
+    ghost from_gives = { KeepsWantOfMemory text.NoMemory };
 
     fn from(fault: TextFault) -> Refusal {
         match fault {
@@ -95,10 +80,7 @@ impl From<TextFault> for Refusal {
 }
 
 impl From<LangFault> for Refusal {
-    ghost use Rattle.view_lang.specs.declared.definition.LangFault.TheVariants as fault;
-    ghost use Rattle.sqlite_keeper.specs.Refusals.{KeepsWantOfMemory};
-
-    ghost from_gives = { KeepsWantOfMemory fault.NoMemory };
+    ghost from_gives = { KeepsWantOfMemory lang.NoMemory };
 
     fn from(fault: LangFault) -> Refusal {
         match fault {
@@ -109,10 +91,7 @@ impl From<LangFault> for Refusal {
 }
 
 impl From<ChangeFault> for Refusal {
-    ghost use Rattle.memory_store.specs.declared.store.ChangeFault.TheVariants as fault;
-    ghost use Rattle.sqlite_keeper.specs.Refusals.{KeepsWantOfMemory};
-
-    ghost from_gives = { KeepsWantOfMemory fault.NoMemory };
+    ghost from_gives = { KeepsWantOfMemory change.NoMemory };
 
     fn from(fault: ChangeFault) -> Refusal {
         match fault {

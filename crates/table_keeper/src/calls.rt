@@ -42,11 +42,9 @@ pub(crate) fn fault_of<T>(answer: &Result<T, KeepFault>) -> Option<KeepFault>
 pub(crate) fn add_call(kept: &mut Option<Vec<Call>>, call: Call)
     ensures { Adds (λ more. more ≡ call ∷ []) (calls_kept kept.old) (calls_kept kept.new) }
 {
-    let added = match kept {
-        Some(calls) => calls.push(call).is_ok(),
-        None => false,
-    };
-    if !added {
-        *kept = None;
+    if let Some(calls) = kept {
+        if calls.push(call).is_err() {
+            *kept = None;
+        }
     }
 }

@@ -7,8 +7,8 @@ ghost use Rattle.table_keeper.specs.Changes.{change_view, kept_view};
 ghost use Rattle.table_keeper.specs.Places.{Rise};
 
 use crate::keeper::{Change, Kept};
-use crate::tables::{add_table, change_tables, copied};
-use lens_values::{Name, NoMemory, Text};
+use crate::tables::{add_table, change_tables};
+use lens_values::{Name, NoMemory, Text, copied};
 use std::alloc::Global;
 
 /// Makes a change, whole or not at all.
@@ -66,22 +66,12 @@ fn define_table(kept: &mut Kept, alloc: Global, text: &Text, name: Name) -> Resu
     Ok(())
 }
 
-fn copied_texts(alloc: Global, texts: &[Text]) -> Result<Vec<Text>, NoMemory>
-    ensures { IfOk result (λ copies. copies.items ≡ texts.now) }
-{
-    let mut copies = Vec::with_capacity(alloc, texts.len())?;
-    for text in texts {
-        copies.push(text.copy(alloc)?)?;
-    }
-    Ok(copies)
-}
-
 /// A copy of the contents.
 pub fn copied_contents(alloc: Global, kept: &Kept) -> Result<Kept, NoMemory>
     ensures texts { IfOk result (λ copy. copy.definitions.items ≡ kept.now.definitions.items) }
     ensures tables { IfOk result (λ copy. copy.tables.items ≡ kept.now.tables.items) }
 {
-    let definitions = copied_texts(alloc, &kept.definitions)?;
+    let definitions = copied(alloc, &kept.definitions)?;
     let tables = copied(alloc, &kept.tables)?;
     Ok(Kept {
         definitions,

@@ -10,8 +10,9 @@ ghost use Rattle.table_keeper.specs.Asking.{AddsCall};
 ghost use Rattle.table_keeper.specs.Changes.{change_view, kept_view, names_of};
 ghost use Rattle.table_keeper.specs.declared.calls.Asked.TheVariants.{Attach, Commit, Load};
 ghost use Rattle.table_keeper.specs.declared.calls.Call.{Call};
+ghost use Rattle.table_keeper.specs.declared.keeper.KeepFault.TheVariants as fault;
 
-use lens_values::{Name, NoMemory, Text};
+use lens_values::{Name, NoMemory, Text, TryClone};
 use row_sets::RowSet;
 use signed_delta::TableDelta;
 use std::alloc::Global;
@@ -29,9 +30,6 @@ pub enum KeepFault {
 }
 
 impl From<NoMemory> for KeepFault {
-    ghost use Rattle.std.specs.Prelude.{◌≡◌};
-    ghost use Rattle.table_keeper.specs.declared.keeper.KeepFault.TheVariants as fault;
-
     ghost from_gives = { λ _ e. e ≡ fault.NoMemory };
 
     fn from(_: NoMemory) -> KeepFault {
@@ -55,6 +53,16 @@ pub struct KeptTable {
     pub table: Name,
     /// Its rows.
     pub rows: RowSet,
+}
+
+impl TryClone for KeptTable {
+    fn try_clone(&self, alloc: Global) -> Result<KeptTable, NoMemory> {
+        let rows = self.rows.copy(alloc)?;
+        Ok(KeptTable {
+            table: self.table,
+            rows,
+        })
+    }
 }
 
 /// All that is kept.

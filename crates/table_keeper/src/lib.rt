@@ -11,3 +11,4 @@ mod tables;
 pub use calls::{Asked, Call};
 pub use keeper::{Change, KeepFault, Keeper, Kept, KeptTable};
 pub use memory::{MemoryKeeper, SureKeeper};
+pub use tables::search;

@@ -2,7 +2,7 @@
 ghost use Rattle.std.specs.Prelude.{◌≡◌, ◌≤◌, [], IfOk, OnOk, OnErr, MatchOption, None, Some, false, true, is_some};
 ghost use Rattle.io_specs.specs.Faults.{Rose};
 ghost use Rattle.lens_specs.specs.Keeping.{CanChange, changed};
-ghost use Rattle.table_keeper.specs.Asking.{AddsCall, AddsEnded};
+ghost use Rattle.table_keeper.specs.Asking.{AddsCall, AddsEnded, calls_kept};
 ghost use Rattle.table_keeper.specs.Calls.{after_call, calls_of, calls_told, calls_told_surely, fails, held, held_surely};
 ghost use Rattle.table_keeper.specs.Changes.{change_view, kept_view};
 ghost use Rattle.table_keeper.specs.Places.{Rise};
@@ -69,9 +69,6 @@ impl SureKeeper {
 }
 
 impl Keeper for SureKeeper {
-    ghost use Rattle.std.specs.Prelude.{Some, true};
-    ghost use Rattle.table_keeper.specs.Asking.{calls_kept};
-
     ghost contents = { λ k. Some k.store.kept };
 
     ghost place = { λ k. k.store.place };
@@ -235,9 +232,6 @@ impl MemoryKeeper {
 }
 
 impl Keeper for MemoryKeeper {
-    ghost use Rattle.std.specs.Prelude.{Some, true};
-    ghost use Rattle.table_keeper.specs.Asking.{calls_kept};
-
     ghost contents = { λ k. Some k.store.kept };
 
     ghost place = { λ k. k.store.place };

@@ -1,7 +1,8 @@
 //! What a keeper in memory holds.
-ghost use Rattle.std.specs.Prelude.{◌≡◌, Err, IfOk, OnOk, OnErr, None, Some};
+ghost use Rattle.std.specs.Prelude.{◌≡◌, Err, IfOk, OnOk, OnErr, None, Some, option_map, string_bytes};
 ghost use Rattle.lens_specs.specs.Keeping.{CanChange, changed};
 ghost use Rattle.table_keeper.specs.Changes.{change_view, kept_view};
+ghost use Rattle.table_keeper.specs.Holding.{Holding, coded_holding};
 ghost use Rattle.table_keeper.specs.Places.{Rise};
 
 use crate::contents::{copied_contents, make};
@@ -18,11 +19,6 @@ pub struct Store {
 }
 
 impl Model for Store {
-    ghost use Rattle.std.specs.Prelude.{option_map, string_bytes};
-    ghost use Rattle.table_keeper.specs.Changes.{kept_view};
-    ghost use Rattle.table_keeper.specs.Holding.{Holding, coded_holding};
-    ghost use Rattle.table_keeper.specs.Places.{Rise};
-
     ghost Value = { Holding };
 
     ghost coded = { coded_holding };

@@ -25,8 +25,8 @@ pub struct Placed {
     pub table: KeptTable,
 }
 
-// The place of the table with this name, or the place for a new one.
-fn search(tables: &[KeptTable], name: &Name) -> Result<usize, usize>
+/// The place of the table with this name, or the place for a new one.
+pub fn search(tables: &[KeptTable], name: &Name) -> Result<usize, usize>
     ensures bound { IsSearchInRange result (length tables.now) }
     ensures position { IsBinarySearchResult (λ other. bytes_cmp other name.now)
         (names_of tables.now) result }
@@ -155,19 +155,4 @@ pub fn change_tables(
     let all = tables_after(alloc, tables, changes)?;
     put_all(tables, all);
     Ok(())
-}
-
-/// Copies of the tables.
-pub fn copied(alloc: Global, tables: &[KeptTable]) -> Result<Vec<KeptTable>, NoMemory>
-    ensures { IfOk result (λ copies. copies.items ≡ tables.now) }
-{
-    let mut copies = Vec::with_capacity(alloc, tables.len())?;
-    for kept in tables {
-        let rows = kept.rows.copy(alloc)?;
-        copies.push(KeptTable {
-            table: kept.table,
-            rows,
-        })?;
-    }
-    Ok(copies)
 }

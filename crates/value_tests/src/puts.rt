@@ -168,7 +168,6 @@ fn of_sort(rt: &impl Abort, alloc: Global, sort: &Sort, text: &str) -> Relation
     ensures { IsOfSort result sort.now }
 {
     let made = relation(rt, alloc, sort.cols(), text);
-    made.rows_fit();
     if refused(sort.pred(), made.rows()).is_some() {
         panic!(rt; "a refused row");
     }

@@ -119,9 +119,11 @@ fn of_relations(
 fn applied(rt: &impl Abort, alloc: Global, old: &Relation, new: &Relation) -> Option<Relation>
     requires { new.now.columns ≡ old.now.columns }
 {
-    new.rows_fit();
+    let count = new.rows().rows().len();
     let delta = diff(alloc, old, new).expect(rt, "memory");
-    delta.apply(alloc, old).ok()
+    let made = delta.apply(alloc, old).expect(rt, "memory");
+    assert_eq!(rt; made.rows().rows().len(), count);
+    Some(made)
 }
 
 // Null is equal to null.

@@ -74,7 +74,6 @@ fn make(
 {
     let [revised, merged] = results;
     let tree = tree(rt, alloc, under);
-    by.rows_fit();
     let found = revise(alloc, &tree, old, by.rows());
     is_relation(rt, alloc, found.ok(), SALES, revised);
     is_relation(rt, alloc, merge(alloc, &tree, old, by).ok(), SALES, merged);

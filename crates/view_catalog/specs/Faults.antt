@@ -8,8 +8,8 @@ use Rattle.lens_types.specs.declared.fault.Refused.{Refused}
 use Rattle.lens_types.specs.declared.fault.Refused.TheVariants as refused
 use Rattle.view_lang.specs.declared.definition.LangFault as lang
 use Rattle.view_lang.specs.declared.definition.LangFault.TheVariants as lang_fault
-use Rattle.view_lang.specs.declared.definition.Limit.{Limit}
-use Rattle.view_lang.specs.declared.definition.Limit.TheVariants.{Columns, Lens, Predicate, Nesting, Tables, Views}
+use Rattle.view_limits.specs.declared.limit.Limit.{Limit}
+use Rattle.view_limits.specs.declared.limit.Limit.TheVariants.{Columns, Lens, Predicate, Nesting, Tables, Views}
 use Rattle.view_catalog.specs.declared.fault.CatalogFault.{CatalogFault}
 use Rattle.view_catalog.specs.declared.fault.CatalogFault.TheVariants.{Lang, NameTaken, UnknownName, Rule, NoMemory}
 

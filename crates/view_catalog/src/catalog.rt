@@ -1,5 +1,5 @@
 //! The definitions that were taken, and the lens of each name.
-ghost use Rattle.std.specs.Prelude.{◌≡◌, ◌+◌, ◌^◌, ◌<◌, ◌≤◌, ◌++◌, ◌∷◌, [], None, OnOk, option_copied};
+ghost use Rattle.std.specs.Prelude.{◌≡◌, ◌+◌, ◌^◌, ◌<◌, ◌≤◌, ◌++◌, ◌∷◌, [], None, OnOk, length, option_copied};
 ghost use Rattle.std.specs.FinMap as finmap;
 ghost use Rattle.catalog_specs.specs.Catalogue.{catalogue};
 ghost use Rattle.catalog_specs.specs.Judging.{first_refused, is_taken, table_count, view_count};
@@ -94,6 +94,7 @@ impl Catalog {
     /// there are 64 tables or 256 views; or `NoMemory`.
     pub fn prepare(&mut self, alloc: Global, text: Text) -> Result<Prepared, CatalogFault>
         ensures prepared { IsPrepared result text self.old.texts }
+        ensures short { length text < 2 ^ 64 }
         ensures texts { self.new.texts ≡ self.old.texts }
         ensures room { OnOk result (0 < self.new.room) }
         ensures kept { self.old.room ≤ self.new.room }

@@ -1,4 +1,7 @@
 //! Why a definition is refused.
+ghost use Rattle.std.specs.Prelude.{◌≡◌};
+ghost use Rattle.view_catalog.specs.Faults.{of_refused, of_text};
+ghost use Rattle.view_catalog.specs.declared.fault.CatalogFault.TheVariants as faults;
 
 use lens_types::{Refused, TypeFault};
 use lens_values::{Name, NoMemory};
@@ -38,10 +41,7 @@ pub enum CatalogFault {
 }
 
 impl From<NoMemory> for CatalogFault {
-    ghost use Rattle.std.specs.Prelude.{◌≡◌};
-    ghost use Rattle.view_catalog.specs.declared.fault.CatalogFault.TheVariants as fault;
-
-    ghost from_gives = { λ _ why. why ≡ fault.NoMemory };
+    ghost from_gives = { λ _ why. why ≡ faults.NoMemory };
 
     fn from(_: NoMemory) -> CatalogFault {
         CatalogFault::NoMemory
@@ -49,9 +49,6 @@ impl From<NoMemory> for CatalogFault {
 }
 
 impl From<LangFault> for CatalogFault {
-    ghost use Rattle.std.specs.Prelude.{◌≡◌};
-    ghost use Rattle.view_catalog.specs.Faults.{of_text};
-
     ghost from_gives = { λ fault why. why ≡ of_text fault };
 
     fn from(fault: LangFault) -> CatalogFault {
@@ -68,9 +65,6 @@ impl From<LangFault> for CatalogFault {
 }
 
 impl<T: Drop> From<Refused<T>> for CatalogFault {
-    ghost use Rattle.std.specs.Prelude.{◌≡◌};
-    ghost use Rattle.view_catalog.specs.Faults.{of_refused};
-
     ghost from_gives = { λ refused why. why ≡ of_refused refused };
 
     fn from(refused: Refused<T>) -> CatalogFault {

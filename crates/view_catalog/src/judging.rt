@@ -1,5 +1,5 @@
 //! Which definitions are taken.
-ghost use Rattle.std.specs.Prelude.{◌≡◌, Ok};
+ghost use Rattle.std.specs.Prelude.{◌≡◌, ◌<◌, ◌^◌, Ok, length};
 ghost use Rattle.std.specs.FinMap as finmap;
 ghost use Rattle.grammar_laws.specs.Reading.{reading};
 ghost use Rattle.lens_specs.specs.Lens.{drop, join, rename, select};
@@ -17,7 +17,8 @@ use lens_pred::Pred;
 use lens_types::{Sort, TypedLens};
 use lens_values::{Columns, Name, Names, Text, Value};
 use std::alloc::Global;
-use view_lang::{Definition, Expr, JoinKind, LangFault, Limit, parse};
+use view_lang::{Definition, Expr, JoinKind, LangFault, parse};
+use view_limits::Limit;
 
 /// The greatest number of tables.
 pub const MAX_TABLES: usize = 64;
@@ -36,8 +37,9 @@ pub struct Named {
 
 /// The name and the lens that the text defines, or why it is refused.
 pub fn judge(alloc: Global, catalog: &Catalog, text: &Text) -> Result<Named, CatalogFault>
-    ensures { IsJudged result (judged (catalogue catalog.now.texts) (reading text.now))
+    ensures judged { IsJudged result (judged (catalogue catalog.now.texts) (reading text.now))
         (catalogue catalog.now.texts) }
+    ensures short { length text.now < 2 ^ 64 }
 {
     let definition = parse(alloc, text)?;
     judge_definition(alloc, catalog, definition)

@@ -1,4 +1,7 @@
 //! Why a text is no sheet of rows.
+ghost use Rattle.std.specs.Prelude.{◌≡◌};
+ghost use Rattle.view_csv.specs.declared.fault.CsvFault.TheVariants as fault;
+
 use no_memory::NoMemory;
 use std::alloc::AllocFailed;
 
@@ -12,10 +15,7 @@ pub enum CsvFault {
 }
 
 impl From<NoMemory> for CsvFault {
-    ghost use Rattle.std.specs.Prelude.{◌≡◌};
-    ghost use Rattle.view_csv.specs.declared.fault.CsvFault.TheVariants.{NoMemory};
-
-    ghost from_gives = { λ _ e. e ≡ NoMemory };
+    ghost from_gives = { λ _ e. e ≡ fault.NoMemory };
 
     fn from(_: NoMemory) -> CsvFault {
         CsvFault::NoMemory
@@ -23,10 +23,7 @@ impl From<NoMemory> for CsvFault {
 }
 
 impl<T: Drop> From<AllocFailed<T>> for CsvFault {
-    ghost use Rattle.std.specs.Prelude.{◌≡◌};
-    ghost use Rattle.view_csv.specs.declared.fault.CsvFault.TheVariants.{NoMemory};
-
-    ghost from_gives = { λ _ e. e ≡ NoMemory };
+    ghost from_gives = { λ _ e. e ≡ fault.NoMemory };
 
     fn from(_: AllocFailed<T>) -> CsvFault {
         CsvFault::NoMemory

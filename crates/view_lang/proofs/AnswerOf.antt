@@ -8,7 +8,7 @@ use Rattle.grammar_laws.proofs.Reading.{reading_answers}
 use Rattle.view_lang.specs.declared.definition.Definition as code
 use Rattle.view_lang.specs.declared.definition.LangFault.{LangFault}
 use Rattle.view_lang.specs.declared.definition.LangFault.TheVariants.{Syntax, TooLarge, NoMemory}
-use Rattle.view_lang.specs.declared.definition.Limit.TheVariants.{Columns, Lens, Predicate, Nesting, Tables, Views}
+use Rattle.view_limits.specs.declared.limit.Limit.TheVariants.{Columns, Lens, Predicate, Nesting, Tables, Views}
 use Rattle.view_lang.specs.Reads.{Reads, IsAnswerOf}
 
 as_answer : (text : List ℕ) (answer : Result meaning.Definition Fault) (r : Result code.Definition LangFault) → Answers text answer → Reads r answer → IsAnswerOf text r

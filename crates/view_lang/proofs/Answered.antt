@@ -7,7 +7,7 @@ use Rattle.grammar_laws.specs.Reading.{limited}
 use Rattle.view_lang.specs.declared.definition.Definition as code
 use Rattle.view_lang.specs.declared.definition.LangFault.{LangFault}
 use Rattle.view_lang.specs.declared.definition.LangFault.TheVariants.{TooLarge}
-use Rattle.view_lang.specs.declared.definition.Limit.TheVariants.{Columns, Predicate}
+use Rattle.view_limits.specs.declared.limit.Limit.TheVariants.{Columns, Predicate}
 use Rattle.view_lang.specs.DefViews.{definition_view}
 use Rattle.view_lang.specs.Reads.{Reads}
 

@@ -1,8 +1,6 @@
 -- Columns with distinct names.
 use Rattle.std.proofs.Common.{◌≡◌, ℕ, suc, ◌+◌, ◌≤◌, Bool, true, false, cond, List, [], ◌∷◌, ◌++◌, refl, sym, ap, subst, ◌∙◌, arith}
-use Rattle.std.specs.Prelude.{not, ◌≢◌, ◌&&◌, ◌||◌, nat_eq, count_by, Result, Err}
-use Rattle.lens_values.specs.declared.columns.ColumnsFault.{ColumnsFault}
-use Rattle.lens_values.specs.declared.columns.ColumnsFault.TheVariants.{Twice, KindClash, NoMemory}
+use Rattle.std.specs.Prelude.{not, ◌&&◌, ◌||◌, nat_eq, count_by}
 use Rattle.std.specs.Cmp.Lexicographic.{pointwise, texts_ties}
 use Rattle.std.specs.Ordering.{eq_by_cmp}
 use Rattle.std.proofs.lemmas.List.Folds.{list_any-append}
@@ -78,13 +76,6 @@ one_at_most front (c ∷ cs) name h =
 -- no two columns have the same name
 pub no_repeat : (cs : Cols) → are_columns [] cs ≡ true → (name : List ℕ) → IsLeastRepeated name (keys_of cs) → ⊥
 no_repeat cs h name r = omega (arith, one_at_most [] cs name h, r.twice)
-
--- columns with distinct names fail only where memory runs out
-pub only_memory : {T : Type 0} (ks : List (List ℕ)) (r : Result T ColumnsFault) (f : ColumnsFault) → r ≡ Err f → ((f ≡ NoMemory) → ⊥)
-    → ((name : List ℕ) → r ≡ Err (Twice name) → IsLeastRepeated name ks) → ((name : List ℕ) → r ≢ Err (KindClash name)) → ((name : List ℕ) → IsLeastRepeated name ks → ⊥) → ⊥
-only_memory ks r (Twice name) is no_memory twice clash distinct = distinct name (twice name is)
-only_memory ks r (KindClash name) is no_memory twice clash distinct = clash name is
-only_memory ks r NoMemory is no_memory twice clash distinct = no_memory refl
 
 either : (b h : Bool) → cond b true h ≡ (h || (b || false))
 either true true = refl

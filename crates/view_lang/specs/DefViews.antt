@@ -1,5 +1,5 @@
 -- What a definition of the code stands for, whole or while it is being read.
-use Rattle.std.specs.Prelude.{◌≡◌, [], ◌∷◌, ◌++◌}
+use Rattle.std.specs.Prelude.{◌≡◌, [], ◌∷◌, ◌++◌, Option, Some, None}
 use Rattle.lens_specs.specs.Dependencies.{Edge}
 use Rattle.grammar_specs.specs.Meaning as meaning
 use Rattle.view_lang.specs.declared.definition.Definition as code
@@ -43,3 +43,8 @@ parse_view (InView n e) = in_view n (exprs_view e)
 -- the table has one dependency more
 abbrev pub HasDep : code_table.Table → code_table.Table → Edge → Type 0
 HasDep old new e = (new.head ≡ old.head) × (new.deps.items ≡ old.deps.items ++ e ∷ [])
+
+-- the table has this dependency more, or there is none
+abbrev pub TakesDep : code_table.Table → Option code_table.Table → Option Edge → Type 0
+TakesDep old (Some new) found = (e : Edge) × (found ≡ Some e) × HasDep old new e
+TakesDep old None found = found ≡ None

@@ -1,7 +1,7 @@
 -- What holds of a predicate while it is read.
 use Rattle.std.specs.Prelude.{◌≡◌, ◌≤◌, true, Some}
 use Rattle.std.specs.List.{list_all}
-use Rattle.lens_specs.specs.Predicate.{Formula}
+use Rattle.lens_specs.specs.Predicate.{Formula, Predicate}
 use Rattle.grammar_specs.specs.Meaning.{conjuncts}
 use Rattle.lens_pred.specs.NormalForm.{is_conjunct}
 use Rattle.grammar_laws.specs.PredParse.{Preds, inside, behind, ended}
@@ -12,9 +12,13 @@ abbrev pub HasFewNots : Preds → Type 0
 HasFewNots (inside qs o place) = o.nots ≤ 32
 HasFewNots (behind qs ors ands) = Unit {0}
 
+-- they are in normal form
+abbrev pub AreNormal : Predicate → Type 0
+AreNormal conjuncts = list_all is_conjunct conjuncts ≡ true
+
 -- its conjuncts are in normal form
 abbrev pub IsNormal : Formula → Type 0
-IsNormal f = list_all is_conjunct (conjuncts f) ≡ true
+IsNormal f = AreNormal (conjuncts f)
 
 -- few "not"s are open, and a predicate that ends here is in normal form
 abbrev pub IsReady : Preds → Type 0

@@ -5,7 +5,7 @@ use Rattle.grammar_specs.specs.Faults.{Fault, Answers, syntax_at, too_large, col
 use Rattle.view_lang.specs.declared.definition.Definition as code
 use Rattle.view_lang.specs.declared.definition.LangFault.{LangFault}
 use Rattle.view_lang.specs.declared.definition.LangFault.TheVariants.{Syntax, TooLarge, NoMemory}
-use Rattle.view_lang.specs.declared.definition.Limit.TheVariants.{Columns, Lens, Predicate, Nesting, Tables, Views}
+use Rattle.view_limits.specs.declared.limit.Limit.TheVariants.{Columns, Lens, Predicate, Nesting, Tables, Views}
 use Rattle.view_lang.specs.DefViews.{definition_view}
 
 -- the code's answer is this one, or memory ran out

@@ -1,5 +1,6 @@
 //! Definitions of tables and views, and why a text gives none.
 ghost use Rattle.std.specs.Prelude.{◌≡◌};
+ghost use Rattle.view_lang.specs.declared.definition.LangFault.TheVariants as faults;
 
 use crate::expr::Expr;
 use fd_closure::Dep;
@@ -8,6 +9,7 @@ use lens_values::{Columns, Name, NoMemory};
 use std::alloc::AllocError;
 use std::marker::Model;
 use thiserror::Error;
+use view_limits::Limit;
 
 /// Dependencies, in order. A contract sees the list of their edges.
 #[derive(Debug, Drop)]
@@ -67,46 +69,6 @@ pub enum Definition {
     },
 }
 
-/// The limits of a definition and of a server.
-#[derive(Clone, Copy, Debug, PartialEq, Eq)]
-pub enum Limit {
-    /// The columns of a table.
-    Columns,
-    /// The nodes of a lens.
-    Lens,
-    /// The nodes of a predicate.
-    Predicate,
-    /// The parentheses and "not"s that are open at once.
-    Nesting,
-    /// The tables.
-    Tables,
-    /// The views.
-    Views,
-}
-
-impl Limit {
-    /// A sentence that says what is exceeded.
-    pub fn sentence(self) -> &'static str {
-        match self {
-            Limit::Columns => "there are more than 64 columns",
-            Limit::Lens => "the lens has more than 64 nodes",
-            Limit::Predicate => "the predicate has more than 256 nodes",
-            Limit::Nesting => "more than 32 parentheses and \"not\"s are open at once",
-            Limit::Tables => "there are 64 tables already",
-            Limit::Views => "there are 256 views already",
-        }
-    }
-}
-
-/// A side of a join.
-#[derive(Clone, Copy, Debug, PartialEq, Eq)]
-pub enum Side {
-    /// The left side.
-    Left,
-    /// The right side.
-    Right,
-}
-
 /// Why a text gives no definition.
 #[derive(Debug, PartialEq, Eq, Drop, Error)]
 pub enum LangFault {
@@ -128,10 +90,7 @@ pub enum LangFault {
 }
 
 impl From<AllocError> for LangFault {
-    ghost use Rattle.std.specs.Prelude.{◌≡◌};
-    ghost use Rattle.view_lang.specs.declared.definition.LangFault.TheVariants.{NoMemory};
-
-    ghost from_gives = { λ _ e. e ≡ NoMemory };
+    ghost from_gives = { λ _ why. why ≡ faults.NoMemory };
 
     fn from(_: AllocError) -> LangFault {
         LangFault::NoMemory
@@ -139,10 +98,7 @@ impl From<AllocError> for LangFault {
 }
 
 impl From<NoMemory> for LangFault {
-    ghost use Rattle.std.specs.Prelude.{◌≡◌};
-    ghost use Rattle.view_lang.specs.declared.definition.LangFault.TheVariants as fault;
-
-    ghost from_gives = { λ _ e. e ≡ fault.NoMemory };
+    ghost from_gives = { λ _ why. why ≡ faults.NoMemory };
 
     fn from(_: NoMemory) -> LangFault {
         LangFault::NoMemory

@@ -6,7 +6,7 @@ pub mod expr;
 pub mod parsing;
 pub mod printing;
 
-pub use definition::{Definition, Deps, LangFault, Limit, Side};
+pub use definition::{Definition, Deps, LangFault};
 pub use expr::Expr;
 pub use lens_values::JoinKind;
 pub use parsing::parse;

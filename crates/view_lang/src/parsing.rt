@@ -1,5 +1,5 @@
 //! Reads a definition from its text, one token after another.
-ghost use Rattle.std.specs.Prelude.{◌≡◌, ◌≤◌, ◌+◌, length, drop, Err, IfErr, OnOk};
+ghost use Rattle.std.specs.Prelude.{◌≡◌, ◌<◌, ◌≤◌, ◌+◌, ◌^◌, length, drop, Err, IfErr, OnOk};
 ghost use Rattle.std.specs.List.{prefix_len};
 ghost use Rattle.grammar_specs.specs.Tokens as language;
 ghost use Rattle.grammar_laws.specs.DefParse as def;
@@ -16,12 +16,13 @@ mod limits;
 mod predicates;
 mod token;
 
-use crate::definition::{Definition, LangFault, Limit};
+use crate::definition::{Definition, LangFault};
 use crate::parsing::definitions::{Parse, begun_definition};
 use crate::parsing::lexer::{blank_len, token_at};
 use crate::parsing::limits::limited;
 use lens_values::Text;
 use std::alloc::Global;
+use view_limits::Limit;
 
 /// The most parentheses and "not"s that may be open at once.
 const MAX_NESTING: usize = 32;
@@ -81,6 +82,9 @@ pub fn parse(alloc: Global, text: &Text) -> Result<Definition, LangFault>
     ensures reads { Reads result (reading text.now) }
     // The same in the words of the grammar.
     ensures answers { IsAnswerOf text.now result }
+
+    // A text that is in memory has fewer bytes than there are addresses.
+    ensures short { length text.now < 2 ^ 64 }
 {
     read(alloc, text.as_str())
 }

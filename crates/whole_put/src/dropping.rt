@@ -47,8 +47,6 @@ pub fn put_drop(
     ensures get_put { let shown = drop_get (names source.now.columns) col.now source.now.rows in
         IfOk result (λ after. view.now.rows ≡ shown → after ≡ source.now) }
 {
-    view.rows_fit();
-    source.rows_fit();
     let left = by.copy(alloc)?;
     let right = Names::single(alloc, col)?;
     let edge = Edge { left, right };

@@ -5,7 +5,7 @@ ghost use Rattle.lens_values.specs.declared.row.Row.{Row as OneRow};
 ghost use Rattle.lens_specs.specs.Columns.{both_columns, columns_in, kinds_differ, names};
 ghost use Rattle.lens_specs.specs.Dependencies.{MeetsTree};
 ghost use Rattle.lens_specs.specs.Nodes.{join_get, join_left_after, join_right_after};
-ghost use Rattle.lens_specs.specs.Relation.{has, minus, project, those};
+ghost use Rattle.lens_specs.specs.Relation.{IsRelation, has, minus, project, those};
 ghost use Rattle.lens_specs.specs.Rows.{cut};
 ghost use Rattle.whole_put.specs.Joinable.{CanBePut};
 ghost use Rattle.whole_put.specs.Lost.{kept_of, left_without, right_without, surplus_of};
@@ -61,11 +61,6 @@ pub fn put_join(
     ensures get_put { let shown = join_get (names left.now.columns) (names right.now.columns) left.now.rows right.now.rows in
         IfOk result (λ after. view.now.rows ≡ shown → after ≡ (left.now, right.now)) }
 {
-    view.rows_fit();
-    left.rows_fit();
-    right.rows_fit();
-    left_tree.is_tree();
-    right_tree.is_tree();
     let left_part = part(alloc, view, left.columns())?;
     let right_part = part(alloc, view, right.columns())?;
     let merged = merge(alloc, left_tree, left, &left_part)?;
@@ -110,10 +105,12 @@ fn without_surplus(
 // The rows in these columns, which are among theirs.
 fn part(alloc: Global, relation: &Relation, columns: &Columns) -> Result<Relation, NoMemory>
     requires { columns_in relation.now.columns (names columns.now) ≡ columns.now }
-    ensures { let rows = project (names columns.now) relation.now.rows in
+    ensures value { let rows = project (names columns.now) relation.now.rows in
         IfOk result (λ part. part ≡ record { columns = columns.now; rows = rows }) }
+    ensures fit { IsRelation relation.now }
 {
-    relation.project(alloc, &columns.names(alloc)?)
+    let rows = relation.rows().project(alloc, &columns.names(alloc)?)?;
+    Ok(Relation::with_rows(columns.copy(alloc)?, rows))
 }
 
 // The joined rows that the view lacks.
@@ -142,7 +139,6 @@ fn joined_to(alloc: Global, rows: &Relation, parts: &Relation) -> Result<Relatio
 {
     let cols = parts.columns().names(alloc)?;
     let kept = RowSet::from_rising(with_part(alloc, rows.rows().rows(), &cols, parts.rows())?);
-    rows.rows_fit();
     Ok(Relation::with_rows(rows.columns().copy(alloc)?, kept))
 }
 

@@ -7,6 +7,7 @@ pub mod dropping;
 pub mod getting;
 pub mod joining;
 pub mod putting;
+mod relations;
 pub mod renaming;
 pub mod selecting;
 mod sources;

@@ -31,8 +31,6 @@ pub fn put(alloc: Global, lens: &TypedLens, view: &Relation, db: &Db) -> Result<
         view.now.rows ≡ spec.get lens.now db.now → after ≡ db.now) }
     ensures sorts { IfOk result (λ after. AreOf lens.now after) }
 {
-    // The lens has to be typed, which each lens is.
-    let _ = lens.sort();
     let under = Sources::of(alloc, lens, db)?;
     let mut after = db.copy(alloc)?;
     write(alloc, lens, &under, view.copy(alloc)?, &mut after)?;

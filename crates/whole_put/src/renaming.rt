@@ -5,6 +5,7 @@ ghost use Rattle.lens_specs.specs.Columns.{names};
 ghost use Rattle.lens_specs.specs.Nodes.{rename_get, rename_put};
 ghost use Rattle.lens_specs.specs.Rename.{renamed_columns};
 
+use crate::relations::columns_and_rows;
 use lens_types::{rename_columns, rename_set};
 use lens_values::{Name, NoMemory};
 use row_sets::Relation;
@@ -24,10 +25,10 @@ pub fn get_rename(
           rows = rename_get col.now to.now source.now.rows;
         }) }
 {
-    source.rows_fit();
-    let names = source.columns().names(alloc)?;
-    let columns = rename_columns(alloc, source.columns(), col, to)?;
-    let rows = rename_set(alloc, source.rows(), &names, col, to)?;
+    let (old, rows) = columns_and_rows(source);
+    let names = old.names(alloc)?;
+    let columns = rename_columns(alloc, old, col, to)?;
+    let rows = rename_set(alloc, rows, &names, col, to)?;
     Ok(Relation::with_rows(columns, rows))
 }
 
@@ -50,10 +51,8 @@ pub fn put_rename(
     ensures get_put { let shown = rename_get col.now to.now source.now.rows in
         IfOk result (λ after. view.now.rows ≡ shown → after ≡ source.now) }
 {
-    view.rows_fit();
-    source.rows_fit();
+    let (columns, _) = columns_and_rows(source);
     let names = view.columns().names(alloc)?;
     let rows = rename_set(alloc, view.rows(), &names, to, col)?;
-    let columns = source.columns().copy(alloc)?;
-    Ok(Relation::with_rows(columns, rows))
+    Ok(Relation::with_rows(columns.copy(alloc)?, rows))
 }

@@ -4,8 +4,9 @@ ghost use Rattle.lens_values.specs.declared.row.Row.{Row};
 ghost use Rattle.lens_specs.specs.Dependencies.{MeetsTree};
 ghost use Rattle.lens_specs.specs.Nodes.{select_get, select_put};
 ghost use Rattle.lens_specs.specs.Predicate.{holds};
-ghost use Rattle.lens_specs.specs.Relation.{has, those};
+ghost use Rattle.lens_specs.specs.Relation.{IsRelation, has, those};
 ghost use Rattle.lens_specs.specs.Revision as spec;
+ghost use Rattle.fd_laws.specs.Trees.{IsTree};
 ghost use Rattle.whole_put.specs.Shows.{is_shown};
 
 use fd_tree::Tree;
@@ -46,8 +47,6 @@ pub fn put_select(
     ensures get_put { IfOk result (λ after. MeetsTree source.now.rows tree.now
         → view.now.rows ≡ select_get (holds pred.now) source.now.rows → after ≡ source.now) }
 {
-    source.rows_fit();
-    tree.is_tree();
     let hidden = part(alloc, pred, false, source)?;
     let still_hidden = hidden_after(alloc, tree, pred, hidden, view)?;
     still_hidden.union(alloc, view)
@@ -64,27 +63,27 @@ fn hidden_after(
     requires columns { view.now.columns ≡ hidden.columns }
     requires hidden { (row : Row) → has hidden.rows row ≡ true
         → is_shown pred.now false row ≡ true }
-    ensures { IfOk result (λ rest.
+    ensures value { IfOk result (λ rest.
         rest ≡ record hidden {
           rows = those (is_shown pred.now false)
               (spec.revise tree.now hidden.rows view.now.rows);
         }) }
+    ensures tree { IsTree tree.now }
 {
     if tree.edges().is_empty() {
         return Ok(hidden);
     }
-    view.rows_fit();
     let revised = revise(alloc, tree, &hidden, view.rows())?;
     part(alloc, pred, false, &revised)
 }
 
 /// The rows that the predicate holds on, or the others.
 fn part(alloc: Global, pred: &Pred, shown: bool, relation: &Relation) -> Result<Relation, NoMemory>
-    ensures { IfOk result (λ some.
+    ensures value { IfOk result (λ some.
         some ≡ record relation.now { rows = those (is_shown pred.now shown) relation.now.rows }) }
+    ensures fit { IsRelation relation.now }
 {
     let rows = chosen(alloc, pred, shown, relation.rows())?;
-    relation.rows_fit();
     Ok(Relation::with_rows(relation.columns().copy(alloc)?, rows))
 }
 

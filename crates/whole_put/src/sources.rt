@@ -1,7 +1,7 @@
 //! What the sources of a lens show, each asked once.
 ghost use Rattle.std.specs.Prelude.{◌≡◌, IfOk, Some, is_some, true};
 ghost use Rattle.lens_specs.specs.Lens as spec;
-ghost use Rattle.lens_laws.specs.Lenses.{AreOf};
+ghost use Rattle.lens_laws.specs.Lenses.{AreOf, IsTyped};
 ghost use Rattle.whole_put.specs.Sources.{AreShown, both_of, only_of};
 
 use crate::db::Db;
@@ -43,7 +43,8 @@ impl Sources {
     /// What the sources of the lens show.
     pub fn of(alloc: Global, lens: &TypedLens, db: &Db) -> Result<Sources, NoMemory>
         requires { AreOf lens.now db.now }
-        ensures { IfOk result (λ sources. AreShown lens.now db.now sources) }
+        ensures shown { IfOk result (λ sources. AreShown lens.now db.now sources) }
+        ensures typed { IsTyped lens.now }
     {
         match lens.lens() {
             Lens::Base { .. } => Ok(Sources::Table),

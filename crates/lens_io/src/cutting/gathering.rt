@@ -1,9 +1,7 @@
 //! The search for a line's end, among the bytes that wait and then by asking the source.
 ghost use Rattle.std.specs.Prelude.{◌≡◌, ◌≤◌, ◌<◌, ◌^◌, ◌+◌, ◌-◌, false, length, [], take, min, vec_len, vec_capacity, slice_range, slice_index, IfOk, OnErr, MatchOption};
 ghost use Rattle.std.specs.Io.KnownBytes.{Consumes, IsAtEnd, Keeps};
-ghost use Rattle.io_specs.specs.Faults.{Rose};
-ghost use Rattle.io_specs.specs.Calls.{Adds};
-ghost use Rattle.lens_io.specs.Calls.{AddsCall};
+ghost use Rattle.lens_io.specs.Calls.{Adds, AddsCall, Rose};
 ghost use Rattle.lens_io.specs.Cutting.{AskInNeed, HasNoNewline, NeedsNone, Passed};
 ghost use Rattle.lens_io.specs.Within.{FoundStep, IsWithin};
 

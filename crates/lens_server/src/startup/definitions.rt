@@ -8,7 +8,6 @@ ghost use Rattle.view_catalog.specs.Faults.{IsRefused};
 ghost use Rattle.lens_server.specs.Starting.{AreAdmitted, HasEmptyTables, HasTables, IsRefusedAt};
 
 use crate::commit::stage_definition;
-use crate::definitions::is_short;
 use crate::startup::damage::Damage;
 use crate::startup::fault::StartFault;
 use base_index::Tables;
@@ -71,7 +70,6 @@ fn admit<L: Ledger>(
     ensures err { IfErr result (λ why. IsRefused why
         (judged (catalogue admitted.old.catalog.texts) (reading text))) }
 {
-    is_short(&text);
     let prepared = admitted.catalog.prepare(alloc, text)?;
     let table = prepared.table();
     stage_definition(alloc, &mut admitted.tables, &table, prepared.lens(), walked)?;

@@ -1,4 +1,7 @@
 //! Why a server is not started.
+ghost use Rattle.std.specs.Prelude.{◌≡◌};
+ghost use Rattle.lens_server.specs.StartFaults.{of_keeper};
+ghost use Rattle.lens_server.specs.declared.startup.fault.StartFault.TheVariants as variant;
 
 use crate::startup::damage::Damage;
 use lens_values::NoMemory;
@@ -20,10 +23,7 @@ pub enum StartFault {
 }
 
 impl From<NoMemory> for StartFault {
-    ghost use Rattle.std.specs.Prelude.{◌≡◌};
-    ghost use Rattle.lens_server.specs.declared.startup.fault.StartFault.TheVariants as fault;
-
-    ghost from_gives = { λ _ why. why ≡ fault.NoMemory };
+    ghost from_gives = { λ _ why. why ≡ variant.NoMemory };
 
     fn from(_: NoMemory) -> StartFault {
         StartFault::NoMemory
@@ -31,9 +31,6 @@ impl From<NoMemory> for StartFault {
 }
 
 impl From<KeepFault> for StartFault {
-    ghost use Rattle.std.specs.Prelude.{◌≡◌};
-    ghost use Rattle.lens_server.specs.StartFaults.{of_keeper};
-
     ghost from_gives = { λ fault why. why ≡ of_keeper fault };
 
     fn from(fault: KeepFault) -> StartFault {

@@ -4,9 +4,8 @@ ghost use Rattle.grammar_specs.specs.Meaning as meaning;
 ghost use Rattle.lens_pred.specs.NormalForm.{is_all_of, is_any_of};
 ghost use Rattle.lens_pred.specs.View.{formula_view, predicate_view};
 ghost use Rattle.grammar_laws.specs.PredParse.{with_nots as with_nots_of, alternatives as alternatives_of};
-ghost use Rattle.view_lang.specs.PredBounds.{IsNormal};
 
-use lens_pred::{Formula, Formulas, Pred};
+use lens_pred::{Formula, Formulas};
 use lens_values::NoMemory;
 use std::alloc::Global;
 
@@ -128,15 +127,12 @@ pub fn alternatives(
     Ok(list)
 }
 
-/// The conjuncts of the formula, as a predicate.
-pub fn pred_of(alloc: Global, formula: Formula) -> Result<Pred, NoMemory>
-    requires { IsNormal (formula_view formula) }
-    ensures { IfOk result (λ pred. pred ≡ meaning.conjuncts (formula_view formula)) }
+/// The conjuncts of the formula.
+pub fn conjuncts_of(alloc: Global, formula: Formula) -> Result<Vec<Formula>, NoMemory>
+    ensures { IfOk result (λ list.
+        predicate_view list.items ≡ meaning.conjuncts (formula_view formula)) }
 {
-    let mut conjuncts = Vec::new(alloc);
-    push_conjuncts(alloc, &mut conjuncts, formula)?;
-    match Pred::new(conjuncts) {
-        Ok(pred) => Ok(pred),
-        Err(_) => unreachable!(),
-    }
+    let mut list = Vec::new(alloc);
+    push_conjuncts(alloc, &mut list, formula)?;
+    Ok(list)
 }

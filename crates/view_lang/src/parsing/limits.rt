@@ -5,10 +5,11 @@ ghost use Rattle.grammar_specs.specs.Faults as faults;
 ghost use Rattle.view_lang.specs.DefViews.{definition_view};
 ghost use Rattle.view_lang.specs.ExprViews.{expr_view};
 
-use crate::definition::{Definition, LangFault, Limit};
+use crate::definition::{Definition, LangFault};
 use crate::expr::Expr;
 use lens_pred::Pred;
 use lens_values::Columns;
+use view_limits::Limit;
 
 /// The most columns of a table.
 const MAX_COLUMNS: usize = 64;

@@ -13,6 +13,6 @@ returns c = record {
       let is : e ≡ edge c.args.by.now (one c.args.col.now) = λ i. edge (c.in_ok-left.ensures i) (c.in_ok-right.ensures i) in
       let list : c.push.new.self.items ≡ e ∷ [] = search rules in
       let shown : c.in_ok-clash.clash ≡ shown_clash (clash (edge c.args.by.now (one c.args.col.now) ∷ []) c.args.relation.now.rows) =
-      c.in_ok-clash.ensures ∙ (λ i. shown_clash (clash ((c.deref.ensures.value ∙ list ∙ ap (λ k. k ∷ []) is) i) (c.rows.ensures i))) in
+      c.in_ok-clash.ensures ∙ (λ i. shown_clash (clash ((c.deref.ensures.value ∙ list ∙ ap (λ k. k ∷ []) is) i) (c.rows.ensures.rows i))) in
       (met (edge c.args.by.now (one c.args.col.now) ∷ []) c.args.relation.now.rows c.is_none.result (ap is_some (sym shown) ∙ c.is_none.ensures) so).0;
 }

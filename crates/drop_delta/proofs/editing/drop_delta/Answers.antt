@@ -12,15 +12,15 @@ pub filled_sides-requires-clause-removed : goal.filled_sides-requires-clause-rem
 filled_sides-requires-clause-removed g c = λ row there k i.
     let R = g.S.Look.relation c.args.source.now in
     let q = c.requires in
-    have R.columns c.args.col.now c.args.by.now c.args.fill.now R.rows c.args.delta.now q.column q.within q.apart c.rows_fit.ensures q.decides q.applies q.fit row
-    (removed_fit R.columns c.args.col.now c.args.by.now c.args.fill.now R.rows c.args.delta.now q.column q.within q.apart c.rows_fit.ensures q.decides q.applies q.fit row there)
+    have R.columns c.args.col.now c.args.by.now c.args.fill.now R.rows c.args.delta.now q.column q.within q.apart c.columns.ensures.fit q.decides q.applies q.fit row
+    (removed_fit R.columns c.args.col.now c.args.by.now c.args.fill.now R.rows c.args.delta.now q.column q.within q.apart c.columns.ensures.fit q.decides q.applies q.fit row there)
     k (ap (λ C. set.contains C k) (sym c.in_ok-left.ensures) ∙ i)
 
 pub filled_sides-requires-clause-added : goal.filled_sides-requires-clause-added
 filled_sides-requires-clause-added g c = λ row there k i.
     let R = g.S.Look.relation c.args.source.now in
     let q = c.requires in
-    have R.columns c.args.col.now c.args.by.now c.args.fill.now R.rows c.args.delta.now q.column q.within q.apart c.rows_fit.ensures q.decides q.applies q.fit row
+    have R.columns c.args.col.now c.args.by.now c.args.fill.now R.rows c.args.delta.now q.column q.within q.apart c.columns.ensures.fit q.decides q.applies q.fit row
     (q.fit row there)
     k (ap (λ C. set.contains C k) (sym c.in_ok-left.ensures) ∙ i)
 
@@ -37,7 +37,7 @@ new-requires g c =
     let remove = c.in_ok-filled.filled.remove in
     let add = c.in_ok-filled.filled.add in
     let is : ◌≡◌ {A = Delta} (record { remove = remove; add = add }) (diff R.rows (edited_source R.columns A X a R.rows d)) =
-    carried R.columns A X a R.rows d q.column q.within q.apart c.rows_fit.ensures q.decides q.applies q.fit default e remove add c.in_ok-default.ensures
+    carried R.columns A X a R.rows d q.column q.within q.apart c.columns.ensures.fit q.decides q.applies q.fit default e remove add c.in_ok-default.ensures
     (λ i. edge (c.in_ok-left.ensures i) (c.in_ok-right.ensures i))
     c.in_ok-filled.ensures.remove c.in_ok-filled.ensures.add in
     apart R.rows (edited_source R.columns A X a R.rows d) remove add is
@@ -55,15 +55,15 @@ returns g c =
     let remove = c.in_ok-filled.filled.remove in
     let add = c.in_ok-filled.filled.add in
     let is : ◌≡◌ {A = Delta} (record { remove = remove; add = add }) (diff R.rows (edited_source R.columns A X a R.rows d)) =
-    carried R.columns A X a R.rows d q.column q.within q.apart c.rows_fit.ensures q.decides q.applies q.fit default e remove add c.in_ok-default.ensures
+    carried R.columns A X a R.rows d q.column q.within q.apart c.columns.ensures.fit q.decides q.applies q.fit default e remove add c.in_ok-default.ensures
     (λ i. edge (c.in_ok-left.ensures i) (c.in_ok-right.ensures i))
     c.in_ok-filled.ensures.remove c.in_ok-filled.ensures.add in
     record {
       delta = c.new.ensures ∙ is;
-      looks = λ n w. looks_are (rows_of d) n c.args.looked.now c.filled_sides.new.looked (c.finds_are_few.ensures.some n w) (c.filled_sides.ensures.looks n w);
-      few = λ n w. few_are d c.new.result (filled_in e default R.rows) remove add n c.new.ensures c.in_ok-filled.ensures.remove c.in_ok-filled.ensures.add (c.finds_are_few.ensures.some n w);
+      looks = λ n w. looks_are (rows_of d) n c.args.looked.now c.filled_sides.new.looked (c.columns.ensures.some n w) (c.filled_sides.ensures.looks n w);
+      few = λ n w. few_are d c.new.result (filled_in e default R.rows) remove add n c.new.ensures c.in_ok-filled.ensures.remove c.in_ok-filled.ensures.add (c.columns.ensures.some n w);
     }
 
 pub returns-in_err-filled-clause-looks : goal.returns-in_err-filled-clause-looks
 returns-in_err-filled-clause-looks g c = λ n w.
-    looks_are (rows_of c.args.delta.now) n c.args.looked.now c.filled_sides.new.looked (c.finds_are_few.ensures.some n w) (c.filled_sides.ensures.looks n w)
+    looks_are (rows_of c.args.delta.now) n c.args.looked.now c.filled_sides.new.looked (c.columns.ensures.some n w) (c.filled_sides.ensures.looks n w)

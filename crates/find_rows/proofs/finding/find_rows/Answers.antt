@@ -8,4 +8,4 @@ pub with_rows-requires : goal.with_rows-requires
 with_rows-requires g c =
     let R = shown c.args.view.now in
     with_fit c.args.col.now c.args.value.now R.rows c.in_ok-rows.rows c.in_ok-columns.columns c.in_ok-rows.ensures.found
-    (λ r i. subst (λ U. Fits U r) (sym (c.in_ok-columns.ensures ∙ c.columns.ensures.columns)) (c.rows_fit.ensures r i))
+    (λ r i. subst (λ U. Fits U r) (sym (c.in_ok-columns.ensures ∙ c.columns.ensures.columns)) (c.columns.ensures.fit r i))

@@ -40,7 +40,7 @@ pub lacking-requires-clause-left : goal.lacking-requires-clause-left
 lacking-requires-clause-left g c =
     let R = g.A.Look.relation c.args.left.now in
     let Q = g.B.Look.relation c.args.right.now in
-    left_fits R.columns Q.columns R.rows Q.rows c.args.rows.now c.args.change.now c.args.delta.now c.rows_fit.ensures c.rows_fit-2.ensures c.requires.rows c.requires.change
+    left_fits R.columns Q.columns R.rows Q.rows c.args.rows.now c.args.change.now c.args.delta.now c.requires.left c.requires.right c.requires.rows c.requires.change
     c.args.sides.now.shared c.args.sides.now.left c.args.sides.now.right c.in_ok-found.found c.in_ok-near.near c.in_ok-pairs.pairs
     c.requires.sides.shared c.requires.sides.left c.requires.sides.right c.in_ok-found.ensures.found c.in_ok-near.ensures c.in_ok-pairs.ensures
 
@@ -48,7 +48,7 @@ pub lacking-requires-clause-right : goal.lacking-requires-clause-right
 lacking-requires-clause-right g c =
     let R = g.A.Look.relation c.args.left.now in
     let Q = g.B.Look.relation c.args.right.now in
-    right_fits R.columns Q.columns R.rows Q.rows c.args.rows.now c.args.change.now c.args.delta.now c.rows_fit.ensures c.rows_fit-2.ensures c.requires.rows c.requires.change
+    right_fits R.columns Q.columns R.rows Q.rows c.args.rows.now c.args.change.now c.args.delta.now c.requires.left c.requires.right c.requires.rows c.requires.change
     c.args.sides.now.shared c.args.sides.now.left c.args.sides.now.right c.in_ok-found.found c.in_ok-near.near c.in_ok-pairs.pairs
     c.requires.sides.shared c.requires.sides.left c.requires.sides.right c.in_ok-found.ensures.found c.in_ok-near.ensures c.in_ok-pairs.ensures
 
@@ -63,7 +63,7 @@ pub returns : goal.returns
 returns g c =
     let R = g.A.Look.relation c.args.left.now in
     let Q = g.B.Look.relation c.args.right.now in
-    let is = over_made R.columns Q.columns R.rows Q.rows c.args.rows.now c.args.change.now c.args.delta.now c.rows_fit.ensures c.rows_fit-2.ensures c.requires.rows c.requires.change
+    let is = over_made R.columns Q.columns R.rows Q.rows c.args.rows.now c.args.change.now c.args.delta.now c.requires.left c.requires.right c.requires.rows c.requires.change
     c.args.sides.now.shared c.args.sides.now.left c.args.sides.now.right c.in_ok-found.found c.in_ok-near.near c.in_ok-pairs.pairs
     c.requires.sides.shared c.requires.sides.left c.requires.sides.right c.in_ok-found.ensures.found c.in_ok-near.ensures c.in_ok-pairs.ensures in
     let e = goal.at.returns g c in

@@ -1,30 +1,24 @@
 use Rattle.std.proofs.Common.{◌≡◌, ◌∙◌, ◌+◌, ◌*◌, ◌≤◌, ℕ, IfOk, ap, arith, length, subst, sym}
 use Rattle.std.proofs.lemmas.Nat.{mul-le}
 use Rattle.lens_values.specs.SortedSet as set
-use Rattle.lens_specs.specs.Columns.{names}
 use Rattle.lens_specs.specs.Relation.{Rows, has, minus, project, those}
 use Rattle.fd_laws.proofs.Relations.{from_minus}
 use Rattle.signed_delta.proofs.Counts.{minus_len, project_len}
-use Rattle.join_delta.proofs.Near.{shared_right}
+use Rattle.join_others.specs.Deleted.{free_of}
 use Rattle.join_others.specs.Shown.{is_shown}
-use Rattle.join_others.proofs.Freed.{free_made, parts_stand}
 use Rattle.join_others.proofs.parts.free_parts.Given.{Over}
 use Rattle.join_others.proofs.parts.free_parts.Goals.{After-shown_parts}
 use Rattle.join_others.proofs.parts.free_parts.Goals as goal
 
 pub shown_parts-requires-clause-have : goal.shown_parts-requires-clause-have
 shown_parts-requires-clause-have g c =
-    let R = g.A.Look.relation c.args.left.now in
-    let Q = g.B.Look.relation c.args.right.now in
-    let q = c.requires in
-    let parts : c.in_ok-parts.parts ≡ project (names Q.columns) c.args.merged.now.over = c.in_ok-parts.ensures ∙ ap (λ C. project C c.args.merged.now.over) q.sides.right in
-    let others : c.in_ok-others.others ≡ minus c.in_ok-parts.parts (project (names Q.columns) c.args.delta.now.add) = c.in_ok-others.ensures ∙ ap (minus c.in_ok-parts.parts) q.parts in
-    let old : c.in_ok-old.old ≡ minus c.in_ok-others.others c.args.merged.now.right.add = c.in_ok-old.ensures ∙ ap (minus c.in_ok-others.others) c.add.ensures in
-    λ row there k i.
-    let v = from_minus c.in_ok-others.others c.args.merged.now.right.add row (ap (λ M. has M row) (sym old) ∙ there) in
-    let w = from_minus c.in_ok-parts.parts (project (names Q.columns) c.args.delta.now.add) row (ap (λ M. has M row) (sym others) ∙ v.0) in
-    let stands = parts_stand (names Q.columns) Q.rows c.args.merged.now.over c.args.merged.now.right q.over row (ap (λ M. has M row) (sym parts) ∙ w.0) v.1 in
-    shared_right R.columns Q.columns row (c.rows_fit-2.ensures row stands) k (ap (λ C. set.contains C k) (sym q.sides.shared) ∙ i)
+    let m = c.args.merged.now in
+    let others : c.in_ok-others.others ≡ minus (project m.sides.right m.over) m.parts = c.in_ok-others.ensures ∙ ap (λ (M : Rows). minus M m.parts) c.in_ok-parts.ensures in
+    let old : c.in_ok-old.old ≡ minus c.in_ok-others.others m.right.add = c.in_ok-old.ensures ∙ ap (minus c.in_ok-others.others) c.add.ensures in
+    λ row there.
+    let v = from_minus c.in_ok-others.others m.right.add row (ap (λ (M : Rows). has M row) (sym old) ∙ there) in
+    let w = from_minus (project m.sides.right m.over) m.parts row (ap (λ (M : Rows). has M row) (sym others) ∙ v.0) in
+    c.requires.have row w.0 v.1
 
 few_asked : (g : Over) (c : After-shown_parts g) (n : ℕ) → g.A.Look.within c.args.left.now n → c.shown_parts.new.looked ≤ c.args.looked.now + n * length (set.items c.args.merged.now.over)
 few_asked g c n w =
@@ -41,20 +35,14 @@ few_asked g c n w =
 
 pub returns : goal.returns
 returns g c =
-    let R = g.A.Look.relation c.args.left.now in
-    let Q = g.B.Look.relation c.args.right.now in
-    let q = c.requires in
-    let d = c.args.delta.now in
+    let M = (g.A.Look.relation c.args.left.now).rows in
     let m = c.args.merged.now in
-    let parts : c.in_ok-parts.parts ≡ project (names Q.columns) m.over = c.in_ok-parts.ensures ∙ ap (λ C. project C m.over) q.sides.right in
-    let others : c.in_ok-others.others ≡ minus c.in_ok-parts.parts (project (names Q.columns) d.add) = c.in_ok-others.ensures ∙ ap (minus c.in_ok-parts.parts) q.parts in
+    let others : c.in_ok-others.others ≡ minus (project m.sides.right m.over) m.parts = c.in_ok-others.ensures ∙ ap (λ (N : Rows). minus N m.parts) c.in_ok-parts.ensures in
     let old : c.in_ok-old.old ≡ minus c.in_ok-others.others m.right.add = c.in_ok-old.ensures ∙ ap (minus c.in_ok-others.others) c.add.ensures in
-    let shown : c.in_ok-shown.shown ≡ those (is_shown m.sides.shared R.rows d.remove) c.in_ok-old.old =
-    c.in_ok-shown.ensures.shown ∙ ap (λ (X : Rows). those (is_shown m.sides.shared R.rows X) c.in_ok-old.old) c.remove.ensures in
-    let is = free_made R.columns Q.columns R.rows Q.rows d (project (names Q.columns) m.over) m.right.add c.rows_fit.ensures c.rows_fit-2.ensures q.new
-    (parts_stand (names Q.columns) Q.rows m.over m.right q.over)
-    m.sides.shared c.in_ok-parts.parts c.in_ok-others.others c.in_ok-old.old c.in_ok-shown.shown
-    q.sides.shared parts others old shown in
+    let shown : c.in_ok-shown.shown ≡ those (is_shown m.sides.shared M c.args.removed.now) (minus c.in_ok-others.others m.right.add) =
+    c.in_ok-shown.ensures.shown ∙ ap (those (is_shown m.sides.shared M c.args.removed.now)) old in
+    let is : minus c.in_ok-others.others c.in_ok-shown.shown ≡ free_of m M c.args.removed.now =
+    ap (minus c.in_ok-others.others) shown ∙ ap (λ (N : Rows). minus N (those (is_shown m.sides.shared M c.args.removed.now) (minus N m.right.add))) others in
     let e = goal.at.returns g c in
     record {
       free = subst (λ (s : Rows). IfOk c.minus-3.result (λ free. free ≡ s)) is c.minus-3.ensures;

@@ -12,7 +12,7 @@ use Rattle.lens_chain.proofs.Premises.{drop_applies, drop_apart, drop_carried, d
 use Rattle.lens_chain.proofs.nodes.under_drop.Goals as goal
 
 pub drop_delta-requires-clause-some : goal.drop_delta-requires-clause-some
-drop_delta-requires-clause-some g c = drop_some c.args.col.now c.args.by.now c.args.fill.now c.args.source.now.lens c.requires.typed c.lens.ensures.viewed.1.keys
+drop_delta-requires-clause-some g c = drop_some c.args.col.now c.args.by.now c.args.fill.now c.args.source.now.lens c.requires.typed c.requires.viewed.1.keys
 
 pub drop_delta-requires-clause-within : goal.drop_delta-requires-clause-within
 drop_delta-requires-clause-within g c = drop_within c.args.col.now c.args.by.now c.args.fill.now c.args.source.now.lens c.requires.typed
@@ -23,17 +23,17 @@ drop_delta-requires-clause-apart g c = drop_apart c.args.col.now c.args.by.now c
 pub drop_delta-requires-clause-decides : goal.drop_delta-requires-clause-decides
 drop_delta-requires-clause-decides g c =
     let v = c.args.source.now in
-    drop_decides c.args.col.now c.args.by.now c.args.fill.now v.lens c.requires.typed (over v) c.lens.ensures.viewed.1.tables
+    drop_decides c.args.col.now c.args.by.now c.args.fill.now v.lens c.requires.typed (over v) c.requires.viewed.1.tables
 
 pub drop_delta-requires-clause-applies : goal.drop_delta-requires-clause-applies
 drop_delta-requires-clause-applies g c =
     let v = c.args.source.now in
-    drop_applies c.args.col.now c.args.by.now c.args.fill.now v.lens c.requires.typed (over v) c.args.delta.now c.lens.ensures.viewed.1.tables c.requires.edit
+    drop_applies c.args.col.now c.args.by.now c.args.fill.now v.lens c.requires.typed (over v) c.args.delta.now c.requires.viewed.1.tables c.requires.edit
 
 pub drop_delta-requires-clause-fit : goal.drop_delta-requires-clause-fit
 drop_delta-requires-clause-fit g c =
     let v = c.args.source.now in
-    drop_fit c.args.col.now c.args.by.now c.args.fill.now v.lens c.requires.typed (over v) c.args.delta.now c.lens.ensures.viewed.1.tables c.requires.edit
+    drop_fit c.args.col.now c.args.by.now c.args.fill.now v.lens c.requires.typed (over v) c.args.delta.now c.requires.viewed.1.tables c.requires.edit
 
 pub returns-clause-change : goal.returns-clause-change
 returns-clause-change g c =
@@ -41,7 +41,7 @@ returns-clause-change g c =
     let A = c.args.col.now in let X = c.args.by.now in let a = c.args.fill.now in
     let M = get v.lens (over v) in
     IfOk-weaker c.drop_delta.result (λ change. change ≡ diff M (drop_put A X a (new_view (drop_get (view_names v.lens) A M) c.args.delta.now) M)) (λ change. change ≡ keyed.drop_delta A X a M c.args.delta.now)
-    (λ change is. (drop_carried A X a v.lens c.requires.typed (over v) c.args.delta.now c.lens.ensures.viewed.1.tables c.requires.edit change is).0)
+    (λ change is. (drop_carried A X a v.lens c.requires.typed (over v) c.args.delta.now c.requires.viewed.1.tables c.requires.edit change is).0)
     c.drop_delta.ensures.delta
 
 pub returns-clause-edit : goal.returns-clause-edit
@@ -50,7 +50,7 @@ returns-clause-edit g c =
     let A = c.args.col.now in let X = c.args.by.now in let a = c.args.fill.now in
     let M = get v.lens (over v) in
     IfOk-weaker c.drop_delta.result (λ change. change ≡ diff M (drop_put A X a (new_view (drop_get (view_names v.lens) A M) c.args.delta.now) M)) (λ change. IsEdit v.lens (over v) change)
-    (λ change is. (drop_carried A X a v.lens c.requires.typed (over v) c.args.delta.now c.lens.ensures.viewed.1.tables c.requires.edit change is).1)
+    (λ change is. (drop_carried A X a v.lens c.requires.typed (over v) c.args.delta.now c.requires.viewed.1.tables c.requires.edit change is).1)
     c.drop_delta.ensures.delta
 
 pub returns-clause-looks : goal.returns-clause-looks

@@ -17,7 +17,7 @@ returns g c =
     let gathered : c.carry_down.new.changes ≡ with_changes (table_deltas v.lens d (over v)) finmap.empty =
     c.in_ok-carry_down.ensures.changes ∙ (λ i. with_changes (table_deltas v.lens (c.in_ok-copy.ensures i) (over v)) (c.new-changes.ensures i)) in
     let whole = IfOk-weaker c.in_order.result (λ list. map table_delta list.items ≡ in_order c.carry_down.new.changes) (λ list. map table_delta list.items ≡ changes v.lens (edited v.lens (over v) d) (over v))
-    (λ list is. is ∙ ap in_order gathered ∙ changes_gathered v.lens (over v) c.lens.ensures.viewed.0 c.lens.ensures.viewed.1.tables d c.requires.edit)
+    (λ list is. is ∙ ap in_order gathered ∙ changes_gathered v.lens (over v) c.carry_down.ensures.viewed.0 c.carry_down.ensures.viewed.1.tables d c.requires.edit)
     c.in_order.ensures in
     record {
       changes = whole;

@@ -13,10 +13,10 @@ use Rattle.lens_laws.specs.Lenses.{IsTyped}
 use Rattle.lens_types.specs.Lenses.{lens_view}
 use Rattle.lens_laws.specs.Work.{size}
 use Rattle.signed_delta.proofs.Counts.{at_end, next, one_more}
-use Rattle.lens_probe.specs.Looking.{ArePartners, FindsWithin, MayFind}
-use Rattle.lens_probe.proofs.Found.{drop_finds, found_by_whole, left_asked, left_finds, left_matches, left_over, next_pairs, partners_again, right_asked, right_finds, right_matches, right_over, select_finds, shown_to, found_whole, source_of_drop, source_of_select, table_finds, whole_part}
+use Rattle.lens_probe.specs.Looking.{ArePartners, FindsWithin, MayFind, pairs_of}
+use Rattle.lens_probe.proofs.Found.{drop_finds, found_by_whole, left_asked, left_finds, left_matches, next_pairs, partners_again, right_asked, right_finds, right_matches, rows_over, select_finds, shared_in, shown_to, found_whole, source_of_drop, source_of_select, table_finds, whole_part}
 use Rattle.lens_probe.proofs.RenamedViews.{found_there, key_lacks, names_are, old_asked, old_finds, old_over, new_is_free, rename_size, renamed_finds, source_over}
-use Rattle.lens_probe.proofs.Sizes.{dropped_size, left_few, left_first, left_part, left_shared, left_within, right_few, right_first, right_part, right_shared, right_within, selected_size, table_looks, under_dropped, under_selected}
+use Rattle.lens_probe.proofs.Sizes.{dropped_size, left_first, left_part, left_shared, pairs_looks, part_few, right_first, right_part, right_shared, selected_size, table_looks, under_dropped, under_selected}
 use Rattle.lens_probe.proofs.finding.+find.Goals as goal
 
 pub find_in-find_in-requires : goal.find_in-find_in-requires
@@ -171,53 +171,56 @@ find_renamed-returns-clause-found g t c =
 
 -- ---- a join
 
-pub find_from_left-find_by_part-requires : goal.find_from_left-find_by_part-requires
-find_from_left-find_by_part-requires g t c κs within =
-    let asked = left_asked c.args._kind c.args.left.now c.args.right.now c.args.query.now.tables.now.present c.args.query.now.cols.now c.requires.typed c.requires.asked c.requires.meets in
-    (omega (arith, c.decreases), (within, (asked, c.requires.key)))
-
-pub find_from_left-pair_each-requires : goal.find_from_left-pair_each-requires
-find_from_left-pair_each-requires g t c κs within =
-    let A = c.args.left.now in
-    let B = c.args.right.now in
+pub find_joined-pairs_from-requires : goal.find_joined-pairs_from-requires
+find_joined-pairs_from-requires g t c κs within =
+    let k = c.args._kind in let A = c.args.left.now in let B = c.args.right.now in
     let st = c.args.query.now.tables.now.present in
     let C = c.args.query.now.cols.now in
     let S = c.in_ok-shared.shared in
-    let asked = right_matches c.args._kind A B st C c.requires.typed c.requires.asked S c.in_ok-shared.ensures in
-    let over = left_over c.args._kind A B st C c.requires.typed c.requires.asked c.args.query.now.key.now S c.in_ok-found.found c.rows.result.now c.in_ok-shared.ensures c.rows.ensures c.in_ok-found.ensures.found in
-    (omega (arith, c.decreases), (within, (asked, over)))
+    let meets = sym (c.meets.ensures ∙ ap (share C) c.names_of.ensures) ∙ c.if-meets.true in
+    let asked = left_asked k A B st C c.requires.typed c.requires.asked meets in
+    let other = right_matches k A B st C c.requires.typed c.requires.asked S c.in_ok-shared.ensures in
+    let shared = (shared_in k A B st C c.requires.typed c.requires.asked S c.in_ok-shared.ensures).0 in
+    (omega (arith, c.decreases), (within, (c.requires.typed.0, (asked, (other, (shared, c.requires.key))))))
 
-pub find_from_left-returns-clause-found : goal.find_from_left-returns-clause-found
-find_from_left-returns-clause-found g t c =
-    left_finds c.args._kind c.args.left.now c.args.right.now c.args.query.now.tables.now.present c.args.query.now.cols.now c.requires.typed c.requires.asked c.args.query.now.key.now c.in_ok-shared.shared c.in_ok-found.found c.rows.result.now c.in_ok-shared.ensures
-    c.rows.ensures c.args.kept.now c.requires.kept c.new.result c.in_ok-pairs.pairs.items c.new.ensures c.in_ok-found.ensures.found c.in_ok-pairs.ensures.pairs
-
-pub find_from_right-find_by_part-requires : goal.find_from_right-find_by_part-requires
-find_from_right-find_by_part-requires g t c κs within =
-    let asked = right_asked c.args._kind c.args.left.now c.args.right.now c.args.query.now.tables.now.present c.args.query.now.cols.now c.requires.typed c.requires.asked c.requires.meets in
-    (omega (arith, c.decreases), (within, (asked, c.requires.key)))
-
-pub find_from_right-pair_each-requires : goal.find_from_right-pair_each-requires
-find_from_right-pair_each-requires g t c κs within =
-    let A = c.args.left.now in
-    let B = c.args.right.now in
+pub find_joined-pairs_from-requires-else-meets : goal.find_joined-pairs_from-requires-else-meets
+find_joined-pairs_from-requires-else-meets g t c κs within =
+    let k = c.args._kind in let A = c.args.left.now in let B = c.args.right.now in
     let st = c.args.query.now.tables.now.present in
     let C = c.args.query.now.cols.now in
     let S = c.in_ok-shared.shared in
-    let asked = left_matches c.args._kind A B st C c.requires.typed c.requires.asked S c.in_ok-shared.ensures in
-    let over = right_over c.args._kind A B st C c.requires.typed c.requires.asked c.args.query.now.key.now S c.in_ok-found.found c.rows.result.now c.in_ok-shared.ensures c.rows.ensures c.in_ok-found.ensures.found in
-    (omega (arith, c.decreases), (within, (asked, over)))
+    let apart = sym (c.meets.ensures ∙ ap (share C) c.names_of.ensures) ∙ c.if-meets.false in
+    let asked = right_asked k A B st C c.requires.typed c.requires.asked apart in
+    let other = left_matches k A B st C c.requires.typed c.requires.asked S c.in_ok-shared.ensures in
+    let shared = (shared_in k A B st C c.requires.typed c.requires.asked S c.in_ok-shared.ensures).1 in
+    (omega (arith, c.decreases), (within, (c.requires.typed.1, (asked, (other, (shared, c.requires.key))))))
 
-pub find_from_right-returns-clause-found : goal.find_from_right-returns-clause-found
-find_from_right-returns-clause-found g t c =
-    right_finds c.args._kind c.args.left.now c.args.right.now c.args.query.now.tables.now.present c.args.query.now.cols.now c.requires.typed c.requires.asked c.args.query.now.key.now c.in_ok-shared.shared c.in_ok-found.found c.rows.result.now c.in_ok-shared.ensures
-    c.rows.ensures c.args.kept.now c.requires.kept c.new.result c.in_ok-pairs.pairs.items c.new.ensures c.in_ok-found.ensures.found c.in_ok-pairs.ensures.pairs
+pub find_joined-returns-then-meets-clause-found : goal.find_joined-returns-then-meets-clause-found
+find_joined-returns-then-meets-clause-found g t c =
+    left_finds c.args._kind c.args.left.now c.args.right.now c.args.query.now.tables.now.present c.args.query.now.cols.now c.requires.typed c.requires.asked c.args.query.now.key.now c.in_ok-shared.shared c.args.kept.now
+    c.in_ok-shared.ensures c.requires.kept c.pairs_from.result c.pairs_from.ensures.found
 
-pub find_joined-find_from_left-requires : goal.find_joined-find_from_left-requires
-find_joined-find_from_left-requires g t c κs within = (omega (arith, c.decreases), (within, (c.requires.typed, (c.requires.kept, (c.requires.asked, (c.requires.key, sym (c.meets.ensures ∙ ap (share c.args.query.now.cols.now) c.names_of.ensures) ∙ c.if-meets.true))))))
+pub find_joined-returns-clause-found : goal.find_joined-returns-clause-found
+find_joined-returns-clause-found g t c =
+    right_finds c.args._kind c.args.left.now c.args.right.now c.args.query.now.tables.now.present c.args.query.now.cols.now c.requires.typed c.requires.asked c.args.query.now.key.now c.in_ok-shared.shared c.args.kept.now
+    c.in_ok-shared.ensures c.requires.kept c.pairs_from-else-meets.result c.pairs_from-else-meets.ensures.found
 
-pub find_joined-find_from_right-requires : goal.find_joined-find_from_right-requires
-find_joined-find_from_right-requires g t c κs within = (omega (arith, c.decreases), (within, (c.requires.typed, (c.requires.kept, (c.requires.asked, (c.requires.key, sym (c.meets.ensures ∙ ap (share c.args.query.now.cols.now) c.names_of.ensures) ∙ c.if-meets.false))))))
+pub pairs_from-find_by_part-requires : goal.pairs_from-find_by_part-requires
+pairs_from-find_by_part-requires g t c κs within = (omega (arith, c.decreases), (within, (c.requires.asked, c.requires.key)))
+
+pub pairs_from-pair_each-requires : goal.pairs_from-pair_each-requires
+pairs_from-pair_each-requires g t c κs within =
+    let over = rows_over c.args.side.now c.args.query.now.tables.now.present c.args.query.now.cols.now c.args.shared.now c.args.query.now.key.now c.in_ok-found.found c.rows.result.now
+    c.requires.typed c.requires.asked.1.tables c.requires.shared c.in_ok-found.ensures.found c.rows.ensures in
+    (omega (arith, c.decreases), (within, (c.requires.other, over)))
+
+pub pairs_from-returns-clause-found : goal.pairs_from-returns-clause-found
+pairs_from-returns-clause-found g t c =
+    let others = get c.args.other.now c.args.query.now.tables.now.present.relations in
+    subst (λ l. IfOk c.new.result (λ pairs. pairs ≡ set.from_list l))
+    (c.in_ok-pairs.ensures.pairs
+    ∙ ap (pairs_of c.args.is_left c.args.shared.now c.args.kept.now c.args.query.now.cols.now c.args.query.now.key.now others) (c.rows.ensures ∙ ap set.items c.in_ok-found.ensures.found))
+    c.new.ensures
 
 -- ---- a part of the key
 
@@ -331,49 +334,40 @@ find_renamed-returns-clause-looks g t c = λ w few.
     subst (λ n. c.find_in.new.looked ≤ c.args.looked.now + n) (rename_size A B S c.requires.typed w)
     (c.find_in.ensures.looks w (old_finds A B S c.requires.typed c.args.query.now.tables.now.present C c.in_ok-cols.cols w cols few))
 
-pub find_from_left-returns-in_err-found-clause-looks : goal.find_from_left-returns-in_err-found-clause-looks
-find_from_left-returns-in_err-found-clause-looks g t c = λ w few.
-    left_within c.args._kind c.args.left.now c.args.right.now w c.args.looked.now c.find_by_part.new.looked (c.find_by_part.ensures.looks w (left_part c.args._kind c.args.left.now c.args.right.now c.args.query.now.tables.now.present c.args.query.now.cols.now w c.requires.typed few c.requires.meets))
+pub find_joined-returns-then-meets-clause-looks : goal.find_joined-returns-then-meets-clause-looks
+find_joined-returns-then-meets-clause-looks g t c = λ w few.
+    let k = c.args._kind in let A = c.args.left.now in let B = c.args.right.now in
+    let st = c.args.query.now.tables.now.present in
+    let C = c.args.query.now.cols.now in
+    let meets = sym (c.meets.ensures ∙ ap (share C) c.names_of.ensures) ∙ c.if-meets.true in
+    left_first k A B w c.args.looked.now c.pairs_from.new.looked
+    (c.pairs_from.ensures.looks w (left_part k A B st C w c.requires.typed few meets) (right_shared k A B st C w c.requires.typed few c.in_ok-shared.shared c.in_ok-shared.ensures))
 
-pub find_from_left-returns-in_err-shared-clause-looks : goal.find_from_left-returns-in_err-shared-clause-looks
-find_from_left-returns-in_err-shared-clause-looks g t c = λ w few.
-    left_within c.args._kind c.args.left.now c.args.right.now w c.args.looked.now c.find_by_part.new.looked (c.find_by_part.ensures.looks w (left_part c.args._kind c.args.left.now c.args.right.now c.args.query.now.tables.now.present c.args.query.now.cols.now w c.requires.typed few c.requires.meets))
+pub find_joined-returns-clause-looks : goal.find_joined-returns-clause-looks
+find_joined-returns-clause-looks g t c = λ w few.
+    let k = c.args._kind in let A = c.args.left.now in let B = c.args.right.now in
+    let st = c.args.query.now.tables.now.present in
+    let C = c.args.query.now.cols.now in
+    let apart = sym (c.meets.ensures ∙ ap (share C) c.names_of.ensures) ∙ c.if-meets.false in
+    right_first k A B w c.args.looked.now c.pairs_from-else-meets.new.looked
+    (c.pairs_from-else-meets.ensures.looks w (right_part k A B st C w c.requires.typed few apart) (left_shared k A B st C w c.requires.typed few c.in_ok-shared.shared c.in_ok-shared.ensures))
 
-pub find_from_left-returns-in_err-pairs-clause-looks : goal.find_from_left-returns-in_err-pairs-clause-looks
-find_from_left-returns-in_err-pairs-clause-looks g t c = λ w few.
-    let rows = left_few c.args._kind c.args.left.now c.args.right.now c.args.query.now.tables.now.present c.args.query.now.cols.now w c.requires.typed few c.args.query.now.key.now c.in_ok-found.found c.rows.result.now c.requires.meets c.in_ok-found.ensures.found c.rows.ensures in
-    left_first c.args._kind c.args.left.now c.args.right.now w (length c.rows.result.now) c.args.looked.now c.find_by_part.new.looked c.pair_each.new.looked rows
-    (c.find_by_part.ensures.looks w (left_part c.args._kind c.args.left.now c.args.right.now c.args.query.now.tables.now.present c.args.query.now.cols.now w c.requires.typed few c.requires.meets))
-    (c.pair_each.ensures.looks w (right_shared c.args._kind c.args.left.now c.args.right.now c.args.query.now.tables.now.present c.args.query.now.cols.now w c.requires.typed few c.in_ok-shared.shared c.in_ok-shared.ensures))
+pub pairs_from-returns-in_err-found-clause-looks : goal.pairs_from-returns-in_err-found-clause-looks
+pairs_from-returns-in_err-found-clause-looks g t c = λ w few _. let looks = c.find_by_part.ensures.looks w few in omega (arith, looks)
 
-pub find_from_left-returns-clause-looks : goal.find_from_left-returns-clause-looks
-find_from_left-returns-clause-looks g t c = λ w few.
-    let rows = left_few c.args._kind c.args.left.now c.args.right.now c.args.query.now.tables.now.present c.args.query.now.cols.now w c.requires.typed few c.args.query.now.key.now c.in_ok-found.found c.rows.result.now c.requires.meets c.in_ok-found.ensures.found c.rows.ensures in
-    left_first c.args._kind c.args.left.now c.args.right.now w (length c.rows.result.now) c.args.looked.now c.find_by_part.new.looked c.pair_each.new.looked rows
-    (c.find_by_part.ensures.looks w (left_part c.args._kind c.args.left.now c.args.right.now c.args.query.now.tables.now.present c.args.query.now.cols.now w c.requires.typed few c.requires.meets))
-    (c.pair_each.ensures.looks w (right_shared c.args._kind c.args.left.now c.args.right.now c.args.query.now.tables.now.present c.args.query.now.cols.now w c.requires.typed few c.in_ok-shared.shared c.in_ok-shared.ensures))
+pub pairs_from-returns-in_err-pairs-clause-looks : goal.pairs_from-returns-in_err-pairs-clause-looks
+pairs_from-returns-in_err-pairs-clause-looks g t c = λ w few matches.
+    let A = c.args.side.now in
+    let rows = c.rows.result.now in
+    let here = part_few A c.args.query.now.tables.now.present c.args.query.now.cols.now c.args.query.now.key.now w c.in_ok-found.found rows c.requires.typed few c.in_ok-found.ensures.found c.rows.ensures in
+    pairs_looks (size A w) (size c.args.other.now w) (length rows) c.args.looked.now c.find_by_part.new.looked c.pair_each.new.looked here (c.find_by_part.ensures.looks w few) (c.pair_each.ensures.looks w matches)
 
-pub find_from_right-returns-in_err-found-clause-looks : goal.find_from_right-returns-in_err-found-clause-looks
-find_from_right-returns-in_err-found-clause-looks g t c = λ w few.
-    right_within c.args._kind c.args.left.now c.args.right.now w c.args.looked.now c.find_by_part.new.looked (c.find_by_part.ensures.looks w (right_part c.args._kind c.args.left.now c.args.right.now c.args.query.now.tables.now.present c.args.query.now.cols.now w c.requires.typed few c.requires.meets))
-
-pub find_from_right-returns-in_err-shared-clause-looks : goal.find_from_right-returns-in_err-shared-clause-looks
-find_from_right-returns-in_err-shared-clause-looks g t c = λ w few.
-    right_within c.args._kind c.args.left.now c.args.right.now w c.args.looked.now c.find_by_part.new.looked (c.find_by_part.ensures.looks w (right_part c.args._kind c.args.left.now c.args.right.now c.args.query.now.tables.now.present c.args.query.now.cols.now w c.requires.typed few c.requires.meets))
-
-pub find_from_right-returns-in_err-pairs-clause-looks : goal.find_from_right-returns-in_err-pairs-clause-looks
-find_from_right-returns-in_err-pairs-clause-looks g t c = λ w few.
-    let rows = right_few c.args._kind c.args.left.now c.args.right.now c.args.query.now.tables.now.present c.args.query.now.cols.now w c.requires.typed few c.args.query.now.key.now c.in_ok-found.found c.rows.result.now c.requires.meets c.in_ok-found.ensures.found c.rows.ensures in
-    right_first c.args._kind c.args.left.now c.args.right.now w (length c.rows.result.now) c.args.looked.now c.find_by_part.new.looked c.pair_each.new.looked rows
-    (c.find_by_part.ensures.looks w (right_part c.args._kind c.args.left.now c.args.right.now c.args.query.now.tables.now.present c.args.query.now.cols.now w c.requires.typed few c.requires.meets))
-    (c.pair_each.ensures.looks w (left_shared c.args._kind c.args.left.now c.args.right.now c.args.query.now.tables.now.present c.args.query.now.cols.now w c.requires.typed few c.in_ok-shared.shared c.in_ok-shared.ensures))
-
-pub find_from_right-returns-clause-looks : goal.find_from_right-returns-clause-looks
-find_from_right-returns-clause-looks g t c = λ w few.
-    let rows = right_few c.args._kind c.args.left.now c.args.right.now c.args.query.now.tables.now.present c.args.query.now.cols.now w c.requires.typed few c.args.query.now.key.now c.in_ok-found.found c.rows.result.now c.requires.meets c.in_ok-found.ensures.found c.rows.ensures in
-    right_first c.args._kind c.args.left.now c.args.right.now w (length c.rows.result.now) c.args.looked.now c.find_by_part.new.looked c.pair_each.new.looked rows
-    (c.find_by_part.ensures.looks w (right_part c.args._kind c.args.left.now c.args.right.now c.args.query.now.tables.now.present c.args.query.now.cols.now w c.requires.typed few c.requires.meets))
-    (c.pair_each.ensures.looks w (left_shared c.args._kind c.args.left.now c.args.right.now c.args.query.now.tables.now.present c.args.query.now.cols.now w c.requires.typed few c.in_ok-shared.shared c.in_ok-shared.ensures))
+pub pairs_from-returns-clause-looks : goal.pairs_from-returns-clause-looks
+pairs_from-returns-clause-looks g t c = λ w few matches.
+    let A = c.args.side.now in
+    let rows = c.rows.result.now in
+    let here = part_few A c.args.query.now.tables.now.present c.args.query.now.cols.now c.args.query.now.key.now w c.in_ok-found.found rows c.requires.typed few c.in_ok-found.ensures.found c.rows.ensures in
+    pairs_looks (size A w) (size c.args.other.now w) (length rows) c.args.looked.now c.find_by_part.new.looked c.pair_each.new.looked here (c.find_by_part.ensures.looks w few) (c.pair_each.ensures.looks w matches)
 
 pub find_by_part-returns-then-within-clause-looks : goal.find_by_part-returns-then-within-clause-looks
 find_by_part-returns-then-within-clause-looks g t c = λ w few.

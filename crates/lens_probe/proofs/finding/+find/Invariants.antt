@@ -18,11 +18,8 @@ decreases-find_renamed g l = 5 * nodes_of l.of.now + 1
 abbrev pub decreases-find_joined : goal.decreases-find_joined
 decreases-find_joined g l = 5 * (nodes_of l.left.now + nodes_of l.right.now) + 4
 
-abbrev pub decreases-find_from_left : goal.decreases-find_from_left
-decreases-find_from_left g l = 5 * (nodes_of l.left.now + nodes_of l.right.now) + 3
-
-abbrev pub decreases-find_from_right : goal.decreases-find_from_right
-decreases-find_from_right g l = 5 * (nodes_of l.left.now + nodes_of l.right.now) + 3
+abbrev pub decreases-pairs_from : goal.decreases-pairs_from
+decreases-pairs_from g l = 5 * (nodes_of l.side.now + nodes_of l.other.now) + 3
 
 abbrev pub decreases-find_by_part : goal.decreases-find_by_part
 decreases-find_by_part g l = 5 * nodes_of l.side.now + 1

@@ -3,13 +3,21 @@ use Rattle.base_index.specs.Held.{Held, IsQuiet}
 use Rattle.lens_server.proofs.Indexed.{keyed_after, state_after, unstaged_same}
 use Rattle.lens_server.proofs.Keyed.{same_keyed}
 use Rattle.lens_server.proofs.Settled.{outcome_failed, outcome_given_up, outcome_made, staged_can}
+use Rattle.lens_specs.specs.Keeping.{CanCommit, Follows, changed}
+use Rattle.table_keeper.specs.Changes.{change_view}
 use Rattle.lens_server.specs.Outcomes.{Outcome}
+use Rattle.lens_server.specs.Plans.{CanTake, change_of, definition_of, past_after, texts_with}
 use Rattle.lens_server.specs.Staging.{next_state}
 use Rattle.lens_server.specs.States.{state_of}
 use Rattle.lens_server.proofs.commit.commit.Goals as goal
 
 pub commit-requires : goal.commit-requires
-commit-requires g c = staged_can c.args.staged c.args.database.now (g.K.Keeper.contents c.args.keeper.now) c.requires.staged c.requires.ready.told
+commit-requires g c =
+    let contents = g.K.Keeper.contents c.args.keeper.now in
+    subst (λ change. CanCommit (change_view change) contents) (sym c.into_parts-change.ensures.change) (staged_can c.args.staged c.args.database.now contents c.requires.staged c.requires.ready.told)
+
+pub make-requires-clause-definition : goal.make-requires-clause-definition
+make-requires-clause-definition g c = subst (λ o. CanTake o c.args.database.now.catalog) (sym c.into_parts-change.ensures.definition) c.requires.staged.definition
 
 pub returns-in_err-stage-clause-outcome : goal.returns-in_err-stage-clause-outcome
 returns-in_err-stage-clause-outcome g c =
@@ -28,27 +36,35 @@ returns-in_err-stage-clause-keyed g c =
 pub returns-in-Ok-clause-outcome : goal.returns-in-Ok-clause-outcome
 returns-in-Ok-clause-outcome g c =
     let staged = c.args.staged in let database = c.args.database.now in
-    let present : c.make.new.database.tables.present ≡ next_state staged.change staged.definition database.tables.present =
+    let present : c.make.new.database.tables.present ≡ next_state staged.change database.tables.present =
     ap (λ t. t.present) c.make.ensures.tables ∙ ap (λ t. t.next) c.in_ok-stage.ensures.ok in
+    let catalog : c.make.new.database.catalog.texts ≡ texts_with (definition_of staged.change) database.catalog.texts =
+    c.make.ensures.catalog ∙ ap (λ o. texts_with o database.catalog.texts) c.into_parts-change.ensures.definition in
+    let past : c.make.new.database.past ≡ past_after staged.past (change_of staged.change) database.past =
+    c.make.ensures.past ∙ ap (λ change. past_after staged.past change database.past) c.into_parts-change.ensures.change in
+    let follows : Follows (λ a b. b ≡ changed (change_view (change_of staged.change)) a) (g.K.Keeper.contents c.args.keeper.now) (g.K.Keeper.contents c.commit.new.self) =
+    subst (λ change. Follows (λ a b. b ≡ changed (change_view change) a) (g.K.Keeper.contents c.args.keeper.now) (g.K.Keeper.contents c.commit.new.self)) c.into_parts-change.ensures.change c.in-Ok.ensures.ok in
     λ answer leads said. outcome_made staged database answer (g.K.Keeper.faults c.args.keeper.now) (g.K.Keeper.faults c.commit.new.self) (g.K.Keeper.contents c.args.keeper.now)
-    (g.K.Keeper.contents c.commit.new.self) (g.K.Keeper.calls c.args.keeper.now) (g.K.Keeper.calls c.commit.new.self) c.args.reply c.requires.staged c.requires.ready.told c.in-Ok.ensures.ok c.in-Ok.ensures.call c.commit.ensures.later said leads.0 (state_of c.make.new.database)
-    (state_after staged database c.make.new.database c.make.ensures.catalog present c.make.ensures.version c.make.ensures.last c.make.ensures.past)
+    (g.K.Keeper.contents c.commit.new.self) (g.K.Keeper.calls c.args.keeper.now) (g.K.Keeper.calls c.commit.new.self) c.args.reply c.requires.staged c.requires.ready.told follows c.in-Ok.ensures.call c.commit.ensures.later said leads.0 (state_of c.make.new.database)
+    (state_after staged database c.make.new.database catalog present c.make.ensures.version c.make.ensures.last past)
 
 pub returns-in-Ok-clause-keyed : goal.returns-in-Ok-clause-keyed
 returns-in-Ok-clause-keyed g c =
     let staged = c.args.staged in let database = c.args.database.now in
     let made = c.make.ensures.tables in
-    let present : c.make.new.database.tables.present ≡ next_state staged.change staged.definition database.tables.present = ap (λ t. t.present) made ∙ ap (λ t. t.next) c.in_ok-stage.ensures.ok in
+    let present : c.make.new.database.tables.present ≡ next_state staged.change database.tables.present = ap (λ t. t.present) made ∙ ap (λ t. t.next) c.in_ok-stage.ensures.ok in
+    let catalog : c.make.new.database.catalog.texts ≡ texts_with (definition_of staged.change) database.catalog.texts =
+    c.make.ensures.catalog ∙ ap (λ o. texts_with o database.catalog.texts) c.into_parts-change.ensures.definition in
     let quiet : IsQuiet c.make.new.database.tables = ap (λ t. t.next) made ∙ sym (ap (λ t. t.present) made) in
     let held : c.make.new.database.tables.held ≡ database.tables.held = ap (λ t. t.held) made ∙ ap (λ t. t.held) c.in_ok-stage.ensures.ok in
-    keyed_after staged database c.make.new.database c.requires.ready.can.valid c.requires.ready.can.keyed c.requires.staged c.make.ensures.catalog quiet held present
+    keyed_after staged database c.make.new.database c.requires.ready.can.valid c.requires.ready.can.keyed c.requires.staged catalog quiet held present
 
 pub returns-in-Err-clause-outcome : goal.returns-in-Err-clause-outcome
 returns-in-Err-clause-outcome g c =
     let staged = c.args.staged in let database = c.args.database.now in
     let same : c.unstage.new.self ≡ database.tables =
     c.unstage.ensures ∙ ap {A = Held} (λ t. record t { next = t.present }) c.in_ok-stage.ensures.ok
-    ∙ unstaged_same database.tables (next_state staged.change staged.definition database.tables.present) c.requires.ready.can.keyed.quiet in
+    ∙ unstaged_same database.tables (next_state staged.change database.tables.present) c.requires.ready.can.keyed.quiet in
     λ answer leads said. outcome_failed c.in-Err.fault c.not_kept.result staged database answer (g.K.Keeper.faults c.args.keeper.now) (g.K.Keeper.faults c.commit.new.self)
     (g.K.Keeper.contents c.args.keeper.now) (g.K.Keeper.contents c.commit.new.self) (g.K.Keeper.calls c.args.keeper.now) (g.K.Keeper.calls c.commit.new.self) c.not_kept.ensures
     c.requires.ready.can.valid c.requires.ready.told c.in-Err.ensures.err c.in-Err.ensures.call c.commit.ensures.later
@@ -59,5 +75,5 @@ returns-in-Err-clause-keyed g c =
     let staged = c.args.staged in let database = c.args.database.now in
     let same : c.unstage.new.self ≡ database.tables =
     c.unstage.ensures ∙ ap {A = Held} (λ t. record t { next = t.present }) c.in_ok-stage.ensures.ok
-    ∙ unstaged_same database.tables (next_state staged.change staged.definition database.tables.present) c.requires.ready.can.keyed.quiet in
+    ∙ unstaged_same database.tables (next_state staged.change database.tables.present) c.requires.ready.can.keyed.quiet in
     same_keyed database _ (record { texts = refl; tables = same; version = refl; last = refl; past = refl }) c.requires.ready.can.keyed

@@ -1,8 +1,6 @@
-use Rattle.std.proofs.Common.{◌∙◌, ◌<◌, ap, length, refl, subst}
-use Rattle.std.specs.Prelude.{◌^◌}
-use Rattle.std.proofs.Common.{◌+◌}
-use Rattle.lens_specs.specs.Keeping.{define}
+use Rattle.std.proofs.Common.{◌∙◌, ◌+◌, ap, refl}
 use Rattle.lens_server.specs.Defining.{last_with}
+use Rattle.lens_server.specs.declared.plan.StagedChange.TheVariants.{Define}
 use Rattle.lens_server.proofs.Defined.{definition_planned}
 use Rattle.lens_server.proofs.definitions.plan_prepared.Goals as goal
 
@@ -11,6 +9,6 @@ returns c =
     let database = c.args.database.now in
     let p = c.args.prepared in
     definition_planned database p _ _ c.requires.valid c.requires.room c.requires.admissible refl refl
-    (λ i. define ((c.in_ok-text.ensures ∙ c.text.ensures) i) (c.table-table.ensures i)) refl
-    (subst (λ t. length t < 2 ^ 64) c.text-2.ensures c.is_short.ensures)
+    (λ i. Define ((c.in_ok-text.ensures ∙ c.text.ensures) i) (c.table-table.ensures i) p)
+    c.requires.short
     (c.in_ok-last.ensures ∙ ap (λ o. last_with o (database.version + 1) database.last) c.table-table.ensures) refl

@@ -52,7 +52,7 @@ pub clash_refusal-requires : goal.clash_refusal-requires
 clash_refusal-requires g c =
     let v = c.args.view.now in
     let N = edited v.lens (over v) c.args.delta in
-    let edges : c.edges-edges.result.now ≡ c.sort-sort.result.now.tree = c.edges-edges.ensures ∙ c.tree.ensures.value in
+    let edges : c.edges-edges.result.now ≡ c.sort-sort.result.now.tree = c.edges-edges.ensures.edges ∙ c.tree.ensures.value in
     (found_clash c.edges-edges.result.now N c.in-Err-Clash.clash (sym (ap (λ T. shown_clash (clash T N)) edges ∙ (subst (λ e. IsChecked c.sort-sort.result.now N (Err e)) c.in-Err-Clash.field-0-is c.in-Err-Clash.ensures.checked).1))).below
 
 pub returns-in-Err-Clash-clause-asks : goal.returns-in-Err-Clash-clause-asks
@@ -61,7 +61,7 @@ returns-in-Err-Clash-clause-asks g c =
     let s = sort_of v.lens in
     let N = edited v.lens (over v) c.args.delta in
     let sort : c.sort-sort.result.now ≡ s = given_is c.lens.result.now c.sort-sort.result.now c.sort-sort.ensures.typed c.sort-sort.ensures.given ∙ ap sort_of c.lens.ensures.lens in
-    let edges : c.edges-edges.result.now ≡ c.sort-sort.result.now.tree = c.edges-edges.ensures ∙ c.tree.ensures.value in
+    let edges : c.edges-edges.result.now ≡ c.sort-sort.result.now.tree = c.edges-edges.ensures.edges ∙ c.tree.ensures.value in
     let T = c.edges-edges.result.now in
     let w : IsFoundClash T N c.in-Err-Clash.clash = found_clash T N c.in-Err-Clash.clash (sym (ap (λ T. shown_clash (clash T N)) edges ∙ (subst (λ e. IsChecked c.sort-sort.result.now N (Err e)) c.in-Err-Clash.field-0-is c.in-Err-Clash.ensures.checked).1)) in
     let fits : off s.predicate N ≡ None = ap (λ (t : Sort). off t.predicate N) (sym sort) ∙ (subst (λ e. IsChecked c.sort-sort.result.now N (Err e)) c.in-Err-Clash.field-0-is c.in-Err-Clash.ensures.checked).0 in

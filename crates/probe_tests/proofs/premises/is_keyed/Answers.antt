@@ -6,4 +6,4 @@ use Rattle.probe_tests.proofs.premises.is_keyed.Goals as goal
 
 pub returns-clause-edges : goal.returns-clause-edges
 returns-clause-edges c = λ so.
-    subst (AllEdges (λ e. IsFilled e.left × IsFilled e.right)) (c.edges.ensures ∙ c.tree.ensures.value) (sides_filled c.edges.result.now (sym c.have_sides.ensures ∙ so))
+    subst (AllEdges (λ e. IsFilled e.left × IsFilled e.right)) (c.edges.ensures.edges ∙ c.tree.ensures.value) (sides_filled c.edges.result.now (sym c.have_sides.ensures ∙ so))

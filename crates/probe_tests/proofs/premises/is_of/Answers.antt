@@ -14,14 +14,14 @@ returns c =
     let M = c.args.relation.now in
     let columns : M.columns ≡ s.columns = sym c.columns.ensures ∙ c.are_same.ensures c.if-not-are_same.false ∙ c.cols.ensures.value in
     let all : list_all (holds s.predicate) (set.items M.rows) ≡ true =
-    (λ i. list_all (holds (sym c.pred.ensures.value i)) (set.items (sym c.rows.ensures i))) ∙ sym c.all_hold.ensures ∙ c.if-not-all_hold.false in
+    (λ i. list_all (holds (sym c.pred.ensures.value i)) (set.items (sym c.rows.ensures.rows i))) ∙ sym c.all_hold.ensures ∙ c.if-not-all_hold.false in
     let none : is_some (shown_clash (clash s.tree M.rows)) ≡ not c.is_none.result =
     ap is_some (sym (c.in_ok-clash.ensures ∙ ap (λ T. shown_clash (clash T M.rows)) c.tree.ensures.value)) ∙ c.is_none.ensures in
     record {
       sort = λ so. (
         columns,
         record {
-          columns = λ r i. subst (λ U. Fits U r) columns (c.rows_fit.ensures r i);
+          columns = λ r i. subst (λ U. Fits U r) columns (c.rows.ensures.fit r i);
           off = none_refused s.predicate M.rows all;
           clash = none_clash (clash s.tree M.rows) c.is_none.result none so;
         },

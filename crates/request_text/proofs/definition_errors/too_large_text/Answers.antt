@@ -1,6 +1,6 @@
 use Rattle.std.proofs.Common.{◌≡◌, IfOk, subst, refl}
 use Rattle.lens_specs.specs.Refusal as refusal
-use Rattle.request_text.specs.Answers.{limit_view}
+use Rattle.view_limits.specs.Views.{limit_view}
 use Rattle.server_specs.specs.Answer as spec
 use Rattle.request_text.proofs.Lines.{line_is}
 use Rattle.request_text.proofs.Tokens.{follow, text_same}

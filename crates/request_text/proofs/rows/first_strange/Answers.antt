@@ -1,5 +1,5 @@
 use Rattle.std.proofs.Common.{◌≡◌, ◌∙◌, ap, sym, cond, option_map, take, Some, Bool, true, false, refl}
-use Rattle.server_specs.specs.Request.{first_other, lesser}
+use Rattle.server_specs.specs.Request.{first_other, least_of}
 use Rattle.server_specs.specs.Sending.{is_column_of}
 use Rattle.borrowed_json.specs.Meaning.{members_data}
 use Rattle.request_text.proofs.Columns.{column_told}
@@ -19,9 +19,9 @@ loop-member-preserved c =
     λ b is. column_told c.args.columns.now c.pairs.result.now here.0.now here.0.now c.is_column.result b c.pairs.ensures refl c.is_column.ensures is in
     elim c.if-not-is_column.branch [
       | then-not-is_column w ↦
-          ap (option_map (λ name. name.now)) w.first-is ∙ w.lesser-first.ensures ∙ ap (lesser (Some here.0.now)) c.loop-member.invariant
-          ∙ sym (more ∙ ap (λ b. cond b before (lesser (Some here.0.now) before)) (told false w.if-not-is_column.true))
+          ap (option_map (λ name. name.now)) w.first-is ∙ ap Some (w.least_of.ensures ∙ ap (least_of here.0.now) c.loop-member.invariant)
+          ∙ sym (more ∙ ap (λ b. cond b before (Some (least_of here.0.now before))) (told false w.if-not-is_column.true))
       | else-not-is_column w ↦
           ap (option_map (λ name. name.now)) w.first-is ∙ c.loop-member.invariant
-          ∙ sym (more ∙ ap (λ b. cond b before (lesser (Some here.0.now) before)) (told true w.if-not-is_column.false))
+          ∙ sym (more ∙ ap (λ b. cond b before (Some (least_of here.0.now before))) (told true w.if-not-is_column.false))
     ]

@@ -3,17 +3,14 @@ use Rattle.std.specs.Prelude.{Err}
 use Rattle.std.specs.List.{zip}
 use Rattle.borrowed_json.specs.Meaning.{members_data}
 use Rattle.lens_values.specs.SortedMap.{keys_of}
-use Rattle.server_specs.specs.Sending as spec
-use Rattle.request_text.proofs.Faults.{refused}
 use Rattle.request_text.proofs.Sending.{pairs_wrong, values_more}
 use Rattle.request_text.proofs.rows.values_in.Goals as goal
 
 pub returns-in-None-clause-finds : goal.returns-in-None-clause-finds
 returns-in-None-clause-finds c =
     let i = c.loop-column.column-index in
-    refused c.wrong.result c.as_str.result.now (spec.pairs_in c.args.columns.now (members_data c.args.members.now)) c.wrong.ensures
-    (pairs_wrong (members_data c.args.members.now) c.args.columns.now i c.column-item.result c.loop-column-test.true c.column-item.is
-    (sym c.in_ok-value.ensures ∙ c.in-None.is) (zip (keys_of (take i c.args.columns.now)) c.loop-column.values.items) c.loop-column.invariant.so_far ∙ ap Err (sym c.as_str.ensures))
+    pairs_wrong (members_data c.args.members.now) c.args.columns.now i c.column-item.result c.loop-column-test.true c.column-item.is
+    (sym c.in_ok-value.ensures ∙ c.in-None.is) (zip (keys_of (take i c.args.columns.now)) c.loop-column.values.items) c.loop-column.invariant.so_far ∙ ap Err (sym c.as_str.ensures)
 
 pub loop-column-preserved : goal.loop-column-preserved
 loop-column-preserved c = record {

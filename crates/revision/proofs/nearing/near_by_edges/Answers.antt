@@ -37,8 +37,8 @@ find_each-requires-clause-have g c = λ row there k in_left.
     let U = (g.K.Look.relation c.args.look.now).columns in
     let i = c.loop-edge.edge-index in
     let e = c.edge-item.result in
-    let below : i < length T = omega (arith, c.loop-edge-test.true, ap length c.edges-edge-items.ensures) in
-    let here : e ≡ get_or T i e = c.edge-item.is ∙ ap (λ es. get_or es i e) c.edges-edge-items.ensures in
+    let below : i < length T = omega (arith, c.loop-edge-test.true, ap length c.edges-edge-items.ensures.edges) in
+    let here : e ≡ get_or T i e = c.edge-item.is ∙ ap (λ es. get_or es i e) c.edges-edge-items.ensures.edges in
     let within : Within e.left (names U) = edge_at (λ k. Within k.left (names U)) T i e c.requires.columns below here in
     let new = (from_those (λ p. not (is_like_first e c.loop-edge.near p)) c.args.plus.now row (ap (λ N. has N row) (sym c.in_ok-unlike.ensures) ∙ there)).0 in
     side_there U e.left row within (c.requires.fit row new) k (ap (λ x. set.contains x.left k) (sym c.edge.view_is) ∙ in_left)
@@ -52,8 +52,8 @@ loop-edge-preserved g c =
     let e = c.edge-item.result in
     let N = c.loop-edge.near in
     let unlike_now = c.in_ok-unlike.unlike in
-    let below : i < length T = omega (arith, c.loop-edge-test.true, ap length c.edges-edge-items.ensures) in
-    let here : e ≡ get_or T i e = c.edge-item.is ∙ ap (λ es. get_or es i e) c.edges-edge-items.ensures in
+    let below : i < length T = omega (arith, c.loop-edge-test.true, ap length c.edges-edge-items.ensures.edges) in
+    let here : e ≡ get_or T i e = c.edge-item.is ∙ ap (λ es. get_or es i e) c.edges-edge-items.ensures.edges in
     let some : c.in_ok-some.some ≡ found_each e.left M (set.items (unlike e N L)) =
     c.in_ok-some.ensures.found ∙ ap (λ x. found_each x.left M (set.items unlike_now)) c.edge.view_is ∙ ap (λ R. found_each e.left M (set.items R)) c.in_ok-unlike.ensures in
     let P = length (set.items L) in (
@@ -74,14 +74,14 @@ loop-edge-preserved g c =
 pub returns-in_err-unlike-clause-looks : goal.returns-in_err-unlike-clause-looks
 returns-in_err-unlike-clause-looks g c = λ n w.
     let T = c.args.tree.now in
-    let edges = ap length c.edges-edge-items.ensures in
+    let edges = ap length c.edges-edge-items.ensures.edges in
     let end : c.loop-edge.edge-index ≤ length T = omega (arith, c.loop-edge.auto.edge-index-end, edges) in
     at_end (n * length (set.items c.args.plus.now)) c.loop-edge.edge-index (length T) c.args.looked.now c.loop-edge.looked end (c.loop-edge.invariant.1 n w)
 
 pub returns-in_err-some-clause-looks : goal.returns-in_err-some-clause-looks
 returns-in_err-some-clause-looks g c = λ n w.
     let T = c.args.tree.now in
-    let edges = ap length c.edges-edge-items.ensures in
+    let edges = ap length c.edges-edge-items.ensures.edges in
     let few = fewer n c.edge-item.result c.loop-edge.near c.args.plus.now c.in_ok-unlike.unlike c.in_ok-unlike.ensures in
     let now = c.find_each.ensures.looks n w in
     one_more (n * length (set.items c.args.plus.now)) c.loop-edge.edge-index (length T) c.args.looked.now c.loop-edge.looked c.find_each.new.looked (omega (arith, c.loop-edge-test.true, edges))
@@ -90,7 +90,7 @@ returns-in_err-some-clause-looks g c = λ n w.
 pub returns-in_err-near-clause-looks : goal.returns-in_err-near-clause-looks
 returns-in_err-near-clause-looks g c = λ n w.
     let T = c.args.tree.now in
-    let edges = ap length c.edges-edge-items.ensures in
+    let edges = ap length c.edges-edge-items.ensures.edges in
     let few = fewer n c.edge-item.result c.loop-edge.near c.args.plus.now c.in_ok-unlike.unlike c.in_ok-unlike.ensures in
     let now = c.find_each.ensures.looks n w in
     one_more (n * length (set.items c.args.plus.now)) c.loop-edge.edge-index (length T) c.args.looked.now c.loop-edge.looked c.find_each.new.looked (omega (arith, c.loop-edge-test.true, edges))
@@ -102,7 +102,7 @@ returns g c =
     let M = (g.K.Look.relation c.args.look.now).rows in
     let i = c.loop-edge.edge-index in
     let P = length (set.items c.args.plus.now) in
-    let edges = ap length c.edges-edge-items.ensures in
+    let edges = ap length c.edges-edge-items.ensures.edges in
     let past : length T ≤ i = omega (arith, c.loop-edge-test.false, edges) in
     let end : i ≤ length T = omega (arith, c.loop-edge.auto.edge-index-end, edges) in
     record {

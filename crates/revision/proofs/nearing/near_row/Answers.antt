@@ -14,8 +14,8 @@ with_near-requires-clause-have g c =
     let U = (g.K.Look.relation c.args.look.now).columns in
     let i = c.loop-edge.edge-index in
     let e = c.edge-item.result in
-    let below : i < length T = omega (arith, c.loop-edge-test.true, ap length c.edges-edge-items.ensures) in
-    let here : e ≡ get_or T i e = c.edge-item.is ∙ ap (λ es. get_or es i e) c.edges-edge-items.ensures in
+    let below : i < length T = omega (arith, c.loop-edge-test.true, ap length c.edges-edge-items.ensures.edges) in
+    let here : e ≡ get_or T i e = c.edge-item.is ∙ ap (λ es. get_or es i e) c.edges-edge-items.ensures.edges in
     let within : Within e.left (names U) = edge_at (λ k. Within k.left (names U)) T i e c.requires.columns below here in
     side_there U e.left c.args.row.now within c.requires.fit
 
@@ -26,8 +26,8 @@ loop-edge-preserved g c =
     let p = c.args.row.now in
     let i = c.loop-edge.edge-index in
     let e = c.edge-item.result in
-    let below : i < length T = omega (arith, c.loop-edge-test.true, ap length c.edges-edge-items.ensures) in
-    let here : e ≡ get_or T i e = c.edge-item.is ∙ ap (λ es. get_or es i e) c.edges-edge-items.ensures in (
+    let below : i < length T = omega (arith, c.loop-edge-test.true, ap length c.edges-edge-items.ensures.edges) in
+    let here : e ≡ get_or T i e = c.edge-item.is ∙ ap (λ es. get_or es i e) c.edges-edge-items.ensures.edges in (
       ap (near_from (drop (i + 1) T) M p) c.in_ok-near.ensures.near
           ∙ near_more T i e M p c.loop-edge.near.items below here ∙ c.loop-edge.invariant.0,
       λ n w. next n i c.args.looked.now c.loop-edge.looked c.with_near.new.looked (c.loop-edge.invariant.1 n w) (c.with_near.ensures.looks n w),
@@ -37,7 +37,7 @@ loop-edge-preserved g c =
 pub returns-in_err-near-clause-looks : goal.returns-in_err-near-clause-looks
 returns-in_err-near-clause-looks g c = λ n w.
     let T = c.args.tree.now in
-    let edges = ap length c.edges-edge-items.ensures in
+    let edges = ap length c.edges-edge-items.ensures.edges in
     one_more n c.loop-edge.edge-index (length T) c.args.looked.now c.loop-edge.looked c.with_near.new.looked (omega (arith, c.loop-edge-test.true, edges))
     (c.loop-edge.invariant.1 n w) (c.with_near.ensures.looks n w)
 
@@ -45,7 +45,7 @@ pub returns : goal.returns
 returns g c =
     let T = c.args.tree.now in
     let i = c.loop-edge.edge-index in
-    let edges = ap length c.edges-edge-items.ensures in
+    let edges = ap length c.edges-edge-items.ensures.edges in
     let past : length T ≤ i = omega (arith, c.loop-edge-test.false, edges) in
     let end : i ≤ length T = omega (arith, c.loop-edge.auto.edge-index-end, edges) in
     record {

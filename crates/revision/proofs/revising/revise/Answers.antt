@@ -12,13 +12,13 @@ use Rattle.revision.proofs.revising.revise.Goals.{In_ok-new}
 made : (c : In_ok-new) → c.in_ok-new.field-0 ≡ spec.revise c.args.tree.now c.args.relation.now.rows c.args.by.now
 made c =
     revised_set c.args.tree.now c.args.relation.now.rows c.args.by.now c.in_ok-rows.rows.items c.in_ok-new.field-0 c.in_ok-new.ensures
-    (c.in_ok-rows.ensures ∙ ap (map (λ m. spec.revise_row c.args.tree.now m c.args.by.now)) (c.rows-2.ensures ∙ ap set.items c.rows.ensures))
+    (c.in_ok-rows.ensures ∙ (λ i. map (λ m. spec.revise_row (c.edges.ensures.edges i) m c.args.by.now) ((c.rows-2.ensures ∙ ap set.items c.rows.ensures.rows) i)))
 
 pub with_rows-requires : goal.with_rows-requires
 with_rows-requires c = λ row there.
     let columns = c.in_ok-columns.ensures ∙ c.columns.ensures in
     subst (λ U. Fits U row) (sym columns)
-    (revised_fit c.args.relation.now.columns c.args.tree.now c.args.relation.now.rows c.args.by.now c.requires c.rows_fit.ensures row
+    (revised_fit c.args.relation.now.columns c.args.tree.now c.args.relation.now.rows c.args.by.now c.requires c.rows.ensures.fit row
     (ap (λ s. set.contains s row) (sym (made (goal.at.with_rows-requires c).In_ok-new)) ∙ there))
 
 pub returns-clause-value : goal.returns-clause-value
@@ -35,4 +35,4 @@ returns-clause-keeps c =
 pub returns-clause-as_many : goal.returns-clause-as_many
 returns-clause-as_many c = λ meets.
     let rows = made (goal.at.returns-clause-as_many c).In_ok-new in
-    ap (λ r. set.len r.rows) c.with_rows.ensures ∙ ap set.len rows ∙ revised_len c.args.tree.now c.args.relation.now.rows c.args.by.now c.is_tree.ensures meets
+    ap (λ r. set.len r.rows) c.with_rows.ensures ∙ ap set.len rows ∙ revised_len c.args.tree.now c.args.relation.now.rows c.args.by.now c.edges.ensures.tree meets

@@ -26,7 +26,7 @@ pub returns-then-is_empty : goal.returns-then-is_empty
 returns-then-is_empty g c =
     let T = c.args.tree.now in
     let M = (g.K.Look.relation c.args.look.now).rows in
-    let none : length T ≡ 0 = ap length (sym c.edges.ensures) ∙ eqb-true _ _ (sym c.is_empty.ensures ∙ c.if-is_empty.true) in
+    let none : length T ≡ 0 = ap length (sym c.edges.ensures.edges) ∙ eqb-true _ _ (sym c.is_empty.ensures ∙ c.if-is_empty.true) in
     record {
       rows = through_enough T M c.args.plus.now c.empty-rows.result c.requires.meets
           (through_all T M c.args.plus.now c.empty-rows.result (no_edge T none) ∙ ap (near_through T M c.args.plus.now) c.empty-rows.ensures);
@@ -45,7 +45,7 @@ returns-in_err-rows-clause-looks g c = λ n w.
 pub returns : goal.returns
 returns g c =
     let T = c.args.tree.now in
-    let some : length T ≢ 0 = λ none. eqb-false _ _ (sym c.is_empty.ensures ∙ c.if-is_empty.false) (ap length c.edges.ensures ∙ none) in
+    let some : length T ≢ 0 = λ none. eqb-false _ _ (sym c.is_empty.ensures ∙ c.if-is_empty.false) (ap length c.edges.ensures.edges ∙ none) in
     record {
       rows = c.in_ok-rows.ensures.near;
       new = c.in_ok-new-2.ensures ∙ new_among T (g.K.Look.relation c.args.look.now).rows c.args.plus.now c.in_ok-rows.rows c.in_ok-rows.ensures.near some;

@@ -23,7 +23,7 @@ revise_touched-requires g c =
       columns = q.columns;
       meets = q.meets;
       fit = λ row there.
-          added_fit R.columns c.args.tree.now c.args.pred.now R.rows c.args.delta.now c.is_tree.ensures c.rows_fit.ensures q.meets q.applies q.view row
+          added_fit R.columns c.args.tree.now c.args.pred.now R.rows c.args.delta.now q.view row
           (ap (λ N. has N row) (sym c.add.ensures) ∙ there);
     }
 
@@ -44,7 +44,7 @@ new-requires g c =
     c.in_ok-new.ensures
     (c.in_ok-remove.ensures ∙ ap (λ N. union N c.in_ok-gone.gone) c.remove.ensures)
     (c.in_ok-add.ensures ∙ ap (λ N. union N c.in_ok-new.new) c.add-2.ensures)
-    ∙ is_difference R.columns F P M d c.is_tree.ensures c.rows_fit.ensures q.meets q.applies q.view in
+    ∙ is_difference R.columns F P M d c.in_ok-touched.ensures.tree c.columns-columns.ensures.fit q.meets q.applies q.view in
     apart M (edited_source F P M d) c.in_ok-remove.remove c.in_ok-add.add is
 
 pub returns : goal.returns
@@ -64,40 +64,40 @@ returns g c =
     c.in_ok-new.ensures
     (c.in_ok-remove.ensures ∙ ap (λ N. union N c.in_ok-gone.gone) c.remove.ensures)
     (c.in_ok-add.ensures ∙ ap (λ N. union N c.in_ok-new.new) c.add-2.ensures) in
-    let is = made ∙ is_difference R.columns F P M d c.is_tree.ensures c.rows_fit.ensures q.meets q.applies q.view in
+    let is = made ∙ is_difference R.columns F P M d c.in_ok-touched.ensures.tree c.columns-columns.ensures.fit q.meets q.applies q.view in
     record {
       delta = c.new-2.ensures ∙ is;
-      looks = λ n w edges. looks_are c.args.delta.now c.add.result.now (length c.args.tree.now) n c.args.looked.now c.revise_touched.new.looked c.add.ensures (c.revise_touched.ensures.looks n w) edges (c.finds_are_few.ensures.some n w);
+      looks = λ n w edges. looks_are c.args.delta.now c.add.result.now (length c.args.tree.now) n c.args.looked.now c.revise_touched.new.looked c.add.ensures (c.revise_touched.ensures.looks n w) edges (c.columns-columns.ensures.some n w);
       few = λ n w edges.
           subst (λ (x : Delta). rows_of x ≤ rows_down (rows_of d) n) (sym (c.new-2.ensures ∙ made))
-          (select_delta_small F (holds P) M d n edges (c.finds_are_few.ensures.some n w)
-          (gives_by_edges (g.S.Look.asked c.args.source.now) F M n (c.finds_are_few.ensures.gives n w) q.asked));
+          (select_delta_small F (holds P) M d n edges (c.columns-columns.ensures.some n w)
+          (gives_by_edges (g.S.Look.asked c.args.source.now) F M n (c.columns-columns.ensures.gives n w) q.asked));
     }
 
 pub returns-in_err-touched-clause-looks : goal.returns-in_err-touched-clause-looks
 returns-in_err-touched-clause-looks g c = λ n w edges.
-    looks_are c.args.delta.now c.add.result.now (length c.args.tree.now) n c.args.looked.now c.revise_touched.new.looked c.add.ensures (c.revise_touched.ensures.looks n w) edges (c.finds_are_few.ensures.some n w)
+    looks_are c.args.delta.now c.add.result.now (length c.args.tree.now) n c.args.looked.now c.revise_touched.new.looked c.add.ensures (c.revise_touched.ensures.looks n w) edges (c.columns-columns.ensures.some n w)
 
 pub returns-in_err-hidden-clause-looks : goal.returns-in_err-hidden-clause-looks
 returns-in_err-hidden-clause-looks g c = λ n w edges.
-    looks_are c.args.delta.now c.add.result.now (length c.args.tree.now) n c.args.looked.now c.revise_touched.new.looked c.add.ensures (c.revise_touched.ensures.looks n w) edges (c.finds_are_few.ensures.some n w)
+    looks_are c.args.delta.now c.add.result.now (length c.args.tree.now) n c.args.looked.now c.revise_touched.new.looked c.add.ensures (c.revise_touched.ensures.looks n w) edges (c.columns-columns.ensures.some n w)
 
 pub returns-in_err-gone-clause-looks : goal.returns-in_err-gone-clause-looks
 returns-in_err-gone-clause-looks g c = λ n w edges.
-    looks_are c.args.delta.now c.add.result.now (length c.args.tree.now) n c.args.looked.now c.revise_touched.new.looked c.add.ensures (c.revise_touched.ensures.looks n w) edges (c.finds_are_few.ensures.some n w)
+    looks_are c.args.delta.now c.add.result.now (length c.args.tree.now) n c.args.looked.now c.revise_touched.new.looked c.add.ensures (c.revise_touched.ensures.looks n w) edges (c.columns-columns.ensures.some n w)
 
 pub returns-in_err-revised-clause-looks : goal.returns-in_err-revised-clause-looks
 returns-in_err-revised-clause-looks g c = λ n w edges.
-    looks_are c.args.delta.now c.add.result.now (length c.args.tree.now) n c.args.looked.now c.revise_touched.new.looked c.add.ensures (c.revise_touched.ensures.looks n w) edges (c.finds_are_few.ensures.some n w)
+    looks_are c.args.delta.now c.add.result.now (length c.args.tree.now) n c.args.looked.now c.revise_touched.new.looked c.add.ensures (c.revise_touched.ensures.looks n w) edges (c.columns-columns.ensures.some n w)
 
 pub returns-in_err-new-clause-looks : goal.returns-in_err-new-clause-looks
 returns-in_err-new-clause-looks g c = λ n w edges.
-    looks_are c.args.delta.now c.add.result.now (length c.args.tree.now) n c.args.looked.now c.revise_touched.new.looked c.add.ensures (c.revise_touched.ensures.looks n w) edges (c.finds_are_few.ensures.some n w)
+    looks_are c.args.delta.now c.add.result.now (length c.args.tree.now) n c.args.looked.now c.revise_touched.new.looked c.add.ensures (c.revise_touched.ensures.looks n w) edges (c.columns-columns.ensures.some n w)
 
 pub returns-in_err-remove-clause-looks : goal.returns-in_err-remove-clause-looks
 returns-in_err-remove-clause-looks g c = λ n w edges.
-    looks_are c.args.delta.now c.add.result.now (length c.args.tree.now) n c.args.looked.now c.revise_touched.new.looked c.add.ensures (c.revise_touched.ensures.looks n w) edges (c.finds_are_few.ensures.some n w)
+    looks_are c.args.delta.now c.add.result.now (length c.args.tree.now) n c.args.looked.now c.revise_touched.new.looked c.add.ensures (c.revise_touched.ensures.looks n w) edges (c.columns-columns.ensures.some n w)
 
 pub returns-in_err-add-clause-looks : goal.returns-in_err-add-clause-looks
 returns-in_err-add-clause-looks g c = λ n w edges.
-    looks_are c.args.delta.now c.add.result.now (length c.args.tree.now) n c.args.looked.now c.revise_touched.new.looked c.add.ensures (c.revise_touched.ensures.looks n w) edges (c.finds_are_few.ensures.some n w)
+    looks_are c.args.delta.now c.add.result.now (length c.args.tree.now) n c.args.looked.now c.revise_touched.new.looked c.add.ensures (c.revise_touched.ensures.looks n w) edges (c.columns-columns.ensures.some n w)

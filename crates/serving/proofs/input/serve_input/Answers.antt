@@ -1,59 +1,59 @@
-use Rattle.std.proofs.Common.{◌≡◌, arith, rules}
+use Rattle.std.proofs.Common.{◌≡◌, ◌∙◌, Err, ap, arith, inl, inr, refl, rules}
 use Rattle.command_words.specs.Views.{settings_view}
-use Rattle.serving.proofs.Calls.{fails_by, lacks_by, lacks_unasked, refused_exactly, refused_exactly_now, refused_tells, served_tells, unasked_tells, undamaged, undamaged_now}
+use Rattle.lens_server.specs.declared.startup.fault.StartFault.TheVariants as fault
 use Rattle.server_specs.specs.State.{kept}
-use Rattle.serving.proofs.Opened.{follows_from, refused, runs}
+use Rattle.serving.proofs.Calls.{fails_by, lacks_by, refused_exactly, refused_exactly_now, refused_tells, served_tells, undamaged, undamaged_now}
+use Rattle.serving.proofs.Opened.{at_damage, follows_from, refused, runs}
+use Rattle.serving.proofs.Promised.{promised_input, promised_nothing}
 use Rattle.serving.proofs.input.serve_input.Goals as goal
 
--- ---- no room for lines: nothing is asked
+-- no room for lines: nothing is asked
+pub returns-in_default-clause-promises : goal.returns-in_default-clause-promises
+returns-in_default-clause-promises g c = promised_nothing _ g.K.Keeper.stays _
 
-pub returns-in_default-clause-memory_calls : goal.returns-in_default-clause-memory_calls
-returns-in_default-clause-memory_calls g c = λ _. lacks_unasked _ _
-
-pub returns-in_default-clause-store_exactly : goal.returns-in_default-clause-store_exactly
-returns-in_default-clause-store_exactly g c = unasked_tells _ 3 _ (omega arith)
-
--- ---- served
-
-pub returns-in-Ok-open-clause-serves : goal.returns-in-Ok-open-clause-serves
-returns-in-Ok-open-clause-serves g c = λ _.
+-- served
+pub returns-in-Ok-open-clause-promises : goal.returns-in-Ok-open-clause-promises
+returns-in-Ok-open-clause-promises g c =
+    let opened = c.in-Ok-open.ensures in
+    let told = c.serve.ensures in
     let limit : c.in-Ok.cutter.limit ≡ c.args.settings.now.max_input = search rules in
-    runs (settings_view c.args.settings.now) _ c.in-Ok-open.server c.in-Ok.cutter.limit _ _ _ _ _ _ (g.K.Keeper.faults c.open.new.keeper) _ _ (g.K.Keeper.contents c.open.new.keeper) _
+    promised_input (settings_view c.args.settings.now) g.K.Keeper.stays c.serve.result _ _ c.requires.asked
+    (λ _. runs (settings_view c.args.settings.now) _ c.in-Ok-open.server c.in-Ok.cutter.limit _ _ _ _ _ _ (g.K.Keeper.faults c.open.new.keeper) _ _ (g.K.Keeper.contents c.open.new.keeper) _
     _ (g.K.Keeper.calls c.open.new.keeper) _ _ _
-    c.in-Ok-open.ensures.opens c.in-Ok-open.ensures.calls c.in-Ok-open.ensures.as_told limit c.serve.ensures.serves
+    opened.opens opened.calls opened.as_told limit told.serves)
+    (λ seven. absurd (omega (arith, seven, told.ends)))
+    (λ _ _. undamaged _ _ _ _ _ _ c.in-Ok-open.server (λ seven. omega (arith, seven, told.ends)) opened.opens)
+    (λ _ _. undamaged_now _ _ _ (g.K.Keeper.contents c.serve.new.keeper) _ _ c.serve.result c.in-Ok-open.server (λ seven. omega (arith, seven, told.ends)) opened.opens
+    _ _ _ _ _ told.serves.session (follows_from (λ now. now ≡ kept told.serves.last) _ (g.K.Keeper.contents c.open.new.keeper) _ opened.as_told told.serves.stored))
+    (λ six. absurd (omega (arith, six, told.ends)))
+    (served_tells _ c.serve.result (g.K.Keeper.faults c.open.new.keeper) _ _ _ _ (λ six. omega (arith, six, told.ends)) opened.calls told.serves.commits)
+    (λ three. absurd (omega (arith, three, told.ends)))
+    (λ unserved. absurd (omega (arith, unserved, told.ends)))
+    (inl told.ends) told.read told.write
+    (λ six. absurd (omega (arith, six, told.ends)))
+    told.source_later told.sink_later (omega (arith, opened.later, told.keeper_later))
+    (λ _. told.place ∙ opened.place (λ e. cc) (λ e. cc))
+    (λ unserved. absurd (omega (arith, unserved, told.ends)))
 
-pub returns-in-Ok-open-clause-damaged_exactly : goal.returns-in-Ok-open-clause-damaged_exactly
-returns-in-Ok-open-clause-damaged_exactly g c = λ _ _. undamaged _ _ _ _ _ _ c.in-Ok-open.server (λ seven. omega (arith, seven, c.serve.ensures.ends)) c.in-Ok-open.ensures.opens
-
-pub returns-in-Ok-open-clause-damaged_exactly_now : goal.returns-in-Ok-open-clause-damaged_exactly_now
-returns-in-Ok-open-clause-damaged_exactly_now g c = λ _ _.
-    let serves = c.serve.ensures.serves in
-    undamaged_now _ _ _ (g.K.Keeper.contents c.serve.new.keeper) _ _ c.serve.result c.in-Ok-open.server (λ seven. omega (arith, seven, c.serve.ensures.ends)) c.in-Ok-open.ensures.opens
-    _ _ _ _ _ serves.session (follows_from (λ now. now ≡ kept serves.last) _ (g.K.Keeper.contents c.open.new.keeper) _ c.in-Ok-open.ensures.as_told serves.stored)
-
-pub returns-in-Ok-open-clause-store_exactly : goal.returns-in-Ok-open-clause-store_exactly
-returns-in-Ok-open-clause-store_exactly g c =
-    served_tells _ c.serve.result (g.K.Keeper.faults c.open.new.keeper) _ _ _ _ (λ six. omega (arith, six, c.serve.ensures.ends)) c.in-Ok-open.ensures.calls c.serve.ensures.serves.commits
-
--- ---- refused
-
-pub returns-in-Err-clause-damaged : goal.returns-in-Err-clause-damaged
-returns-in-Err-clause-damaged g c = λ seven.
-    refused (settings_view c.args.settings.now) _ _ _ _ _ c.in-Err.fault _ _ _ _ _ _ c.in-Err.ensures.opens c.in-Err.ensures.calls (c.refuse.ensures.damaged seven)
-
-pub returns-in-Err-clause-damaged_exactly : goal.returns-in-Err-clause-damaged_exactly
-returns-in-Err-clause-damaged_exactly g c = λ not_memory not_store.
-    refused_exactly _ _ _ _ _ _ c.refuse.result c.in-Err.fault not_memory not_store c.refuse.ensures.ends _ c.refuse.ensures.damaged c.in-Err.ensures.opens
-
-pub returns-in-Err-clause-damaged_exactly_now : goal.returns-in-Err-clause-damaged_exactly_now
-returns-in-Err-clause-damaged_exactly_now g c = λ not_memory not_store.
-    refused_exactly_now _ _ _ _ _ _ c.refuse.result c.in-Err.fault not_memory not_store c.refuse.ensures.ends _ c.refuse.ensures.damaged c.in-Err.ensures.opens
-
-pub returns-in-Err-clause-store_calls : goal.returns-in-Err-clause-store_calls
-returns-in-Err-clause-store_calls g c = fails_by _ c.refuse.result (g.K.Keeper.faults c.open.new.keeper) c.in-Err.fault _ _ c.refuse.ensures.store c.in-Err.ensures.calls
-
-pub returns-in-Err-clause-store_exactly : goal.returns-in-Err-clause-store_exactly
-returns-in-Err-clause-store_exactly g c = refused_tells _ c.refuse.result (g.K.Keeper.faults c.open.new.keeper) c.in-Err.fault _ _ c.refuse.ensures.store c.in-Err.ensures.calls
-
-pub returns-in-Err-clause-memory_calls : goal.returns-in-Err-clause-memory_calls
-returns-in-Err-clause-memory_calls g c = lacks_by _ c.refuse.result (g.K.Keeper.faults c.open.new.keeper) c.in-Err.fault _ _ c.refuse.ensures.store c.in-Err.ensures.calls
+-- refused
+pub returns-in-Err-clause-promises : goal.returns-in-Err-clause-promises
+returns-in-Err-clause-promises g c =
+    let opened = c.in-Err.ensures in
+    let told = c.refuse.ensures in
+    promised_input (settings_view c.args.settings.now) g.K.Keeper.stays c.refuse.result _ _ c.requires.asked
+    (λ served. absurd (omega (arith, served, told.ends)))
+    (λ seven. refused (settings_view c.args.settings.now) _ _ _ _ _ c.in-Err.fault _ _ _ _ _ _ opened.opens opened.calls (told.damaged seven))
+    (λ not_memory not_store. refused_exactly _ _ _ _ _ _ c.refuse.result c.in-Err.fault not_memory not_store told.ends _ told.damaged opened.opens)
+    (λ not_memory not_store. refused_exactly_now _ _ _ _ _ _ c.refuse.result c.in-Err.fault not_memory not_store told.ends _ told.damaged opened.opens)
+    (fails_by _ c.refuse.result (g.K.Keeper.faults c.open.new.keeper) c.in-Err.fault _ _ told.store opened.calls)
+    (refused_tells _ c.refuse.result (g.K.Keeper.faults c.open.new.keeper) c.in-Err.fault _ _ told.store opened.calls)
+    (lacks_by _ c.refuse.result (g.K.Keeper.faults c.open.new.keeper) c.in-Err.fault _ _ told.store opened.calls)
+    (λ _. opened.stays)
+    (inr told.ends)
+    (λ four. absurd (omega (arith, four, told.ends)))
+    (λ five. absurd (omega (arith, five, told.ends)))
+    (λ six. opened.failed (ap Err (told.store.0 six)))
+    (omega arith) told.later opened.later
+    (λ h. at_damage c.in-Err.fault c.refuse.result _ _ (omega (arith, h, told.ends)) told.damaged
+    (λ store memory. opened.place (λ e. let same : c.in-Err.fault ≡ fault.StoreFault = cc in store same) (λ e. let same : c.in-Err.fault ≡ fault.NoMemory = cc in memory same)))
+    (λ _. refl)

@@ -1,64 +1,82 @@
-use Rattle.std.proofs.Common.{◌≡◌, arith, refl}
+use Rattle.std.proofs.Common.{◌≡◌, ◌∙◌, Err, ap, arith, inl, inr, refl}
 use Rattle.command_words.specs.Views.{settings_view}
-use Rattle.serving.proofs.Calls.{fails_by, refused_exactly, refused_exactly_now, refused_tells, served_tells, undamaged, undamaged_now}
+use Rattle.lens_server.specs.declared.startup.fault.StartFault.TheVariants as fault
 use Rattle.server_specs.specs.State.{kept}
-use Rattle.serving.proofs.Opened.{follows_from, refused, rehearses, stops, stops_early}
+use Rattle.serving.proofs.Calls.{fails_by, refused_exactly, refused_exactly_now, refused_tells, served_tells, undamaged, undamaged_now}
+use Rattle.serving.proofs.Opened.{at_damage, follows_from, refused, rehearses, stops, stops_early}
+use Rattle.serving.proofs.Promised.{promised_rehearsal, summarized}
 use Rattle.serving.proofs.rehearsals.rehearse_over.Goals as goal
 
--- ---- the summary was given
-
-pub returns-in-Ok-rehearse-clause-rehearses : goal.returns-in-Ok-rehearse-clause-rehearses
-returns-in-Ok-rehearse-clause-rehearses g c = λ _.
-    rehearses (settings_view c.args.settings.now) c.args.number _ c.in-Ok.server c.rehearse.new.server _ c.in-Ok-rehearse.summary.items _ _ _ (g.K.Keeper.faults c.open.new.keeper) _ _ (g.K.Keeper.contents c.open.new.keeper) _
+-- the summary was given
+pub returns-in-Ok-rehearse-clause-promises : goal.returns-in-Ok-rehearse-clause-promises
+returns-in-Ok-rehearse-clause-promises g c = λ left faults.
+    let opened = c.in-Ok.ensures in
+    let done = c.in-Ok-rehearse.ensures in
+    let told = c.give_summary.ensures in
+    promised_rehearsal (settings_view c.args.settings.now) c.args.number g.K.Keeper.stays c.give_summary.result _ _ c.requires.asked
+    (λ _. rehearses (settings_view c.args.settings.now) c.args.number _ c.in-Ok.server c.rehearse.new.server _ c.in-Ok-rehearse.summary.items _ _ _ (g.K.Keeper.faults c.open.new.keeper) _ _ (g.K.Keeper.contents c.open.new.keeper) _
     _ (g.K.Keeper.calls c.open.new.keeper) _ _ _
-    c.in-Ok.ensures.opens c.in-Ok.ensures.calls c.in-Ok.ensures.as_told c.in-Ok-rehearse.ensures.done c.in-Ok-rehearse.ensures.told
-    (λ zero. rw c.deref.ensures.value at (c.give_summary.ensures.all zero)) (λ five. rw c.deref.ensures.value at (c.give_summary.ensures.front five))
+    opened.opens opened.calls opened.as_told done.done done.told
+    (λ zero. rw c.deref.ensures.value at (told.all zero)) (λ five. rw c.deref.ensures.value at (told.front five)))
+    (λ three. absurd (omega (arith, three, told.ends)))
+    (λ seven. absurd (omega (arith, seven, told.ends)))
+    (λ _ _. undamaged _ _ _ _ _ _ c.in-Ok.server (λ seven. omega (arith, seven, told.ends)) opened.opens)
+    (λ _ _. undamaged_now _ _ _ (g.K.Keeper.contents c.rehearse.new.keeper) _ _ c.give_summary.result c.in-Ok.server (λ seven. omega (arith, seven, told.ends)) opened.opens
+    _ _ _ c.rehearse.new.server _ done.done.session (follows_from (λ now. now ≡ kept c.rehearse.new.server) _ (g.K.Keeper.contents c.open.new.keeper) _ opened.as_told done.told))
+    (λ six. absurd (omega (arith, six, told.ends)))
+    (served_tells _ c.give_summary.result (g.K.Keeper.faults c.open.new.keeper) _ _ _ _ (λ six. omega (arith, six, told.ends)) opened.calls done.done.commits)
+    (λ h. absurd (omega (arith, h, told.ends)))
+    (inl (summarized c.give_summary.result told.ends))
+    ((λ four. omega (arith, four, told.ends)), (λ eight. omega (arith, eight, told.ends)))
+    told.write
+    (λ six. absurd (omega (arith, six, told.ends)))
+    (omega arith) told.later (omega (arith, opened.later, done.later))
+    (λ _. done.place ∙ opened.place (λ e. cc) (λ e. cc))
+    (λ h. absurd (omega (arith, h, told.ends)))
 
-pub returns-in-Ok-rehearse-clause-damaged_exactly : goal.returns-in-Ok-rehearse-clause-damaged_exactly
-returns-in-Ok-rehearse-clause-damaged_exactly g c = λ _ _. undamaged _ _ _ _ _ _ c.in-Ok.server (λ seven. omega (arith, seven, c.give_summary.ensures.ends)) c.in-Ok.ensures.opens
-
-pub returns-in-Ok-rehearse-clause-damaged_exactly_now : goal.returns-in-Ok-rehearse-clause-damaged_exactly_now
-returns-in-Ok-rehearse-clause-damaged_exactly_now g c = λ _ _.
-    undamaged_now _ _ _ (g.K.Keeper.contents c.rehearse.new.keeper) _ _ c.give_summary.result c.in-Ok.server (λ seven. omega (arith, seven, c.give_summary.ensures.ends)) c.in-Ok.ensures.opens
-    _ _ _ c.rehearse.new.server _ c.in-Ok-rehearse.ensures.done.session
-    (follows_from (λ now. now ≡ kept c.rehearse.new.server) _ (g.K.Keeper.contents c.open.new.keeper) _ c.in-Ok.ensures.as_told c.in-Ok-rehearse.ensures.told)
-
-pub returns-in-Ok-rehearse-clause-store_exactly : goal.returns-in-Ok-rehearse-clause-store_exactly
-returns-in-Ok-rehearse-clause-store_exactly g c =
-    served_tells _ c.give_summary.result (g.K.Keeper.faults c.open.new.keeper) _ _ _ _ (λ six. omega (arith, six, c.give_summary.ensures.ends)) c.in-Ok.ensures.calls c.in-Ok-rehearse.ensures.done.commits
-
--- ---- memory ran out in it
-
-pub returns-in-Ok-clause-stops : goal.returns-in-Ok-clause-stops
-returns-in-Ok-clause-stops g c = λ _.
-    stops (settings_view c.args.settings.now) c.args.number _ c.in-Ok.server c.rehearse.new.server _ (g.K.Keeper.faults c.open.new.keeper) _ _ (g.K.Keeper.contents c.open.new.keeper) _
+-- memory ran out in it
+pub returns-in-Ok-clause-promises : goal.returns-in-Ok-clause-promises
+returns-in-Ok-clause-promises g c = λ left faults.
+    let opened = c.in-Ok.ensures in
+    let told = c.in-Err-rehearse.ensures in
+    promised_rehearsal (settings_view c.args.settings.now) c.args.number g.K.Keeper.stays 3 _ _ c.requires.asked
+    (λ h. absurd (omega (arith, h)))
+    (λ _. stops (settings_view c.args.settings.now) c.args.number _ c.in-Ok.server c.rehearse.new.server _ (g.K.Keeper.faults c.open.new.keeper) _ _ (g.K.Keeper.contents c.open.new.keeper) _
     _ (g.K.Keeper.calls c.open.new.keeper) _ _ _
-    c.in-Ok.ensures.opens c.in-Ok.ensures.calls c.in-Ok.ensures.as_told c.in-Err-rehearse.ensures.stopped c.in-Err-rehearse.ensures.told
+    opened.opens opened.calls opened.as_told told.stopped told.told)
+    (λ seven. absurd (omega (arith, seven)))
+    (λ not_memory. absurd (not_memory refl))
+    (λ not_memory. absurd (not_memory refl))
+    (λ six. absurd (omega (arith, six)))
+    (served_tells _ 3 (g.K.Keeper.faults c.open.new.keeper) _ _ _ _ (omega arith) opened.calls told.stopped.commits)
+    (λ h. absurd (omega (arith, h)))
+    (inr (inl refl))
+    ((λ four. omega (arith, four)), (λ eight. omega (arith, eight)))
+    (λ five. absurd (omega (arith, five)))
+    (λ six. absurd (omega (arith, six)))
+    (omega arith) (omega arith) (omega (arith, opened.later, told.later))
+    (λ h. absurd (omega (arith, h)))
+    (λ h. absurd (omega (arith, h)))
 
-pub returns-in-Ok-clause-store_exactly : goal.returns-in-Ok-clause-store_exactly
-returns-in-Ok-clause-store_exactly g c =
-    served_tells _ 3 (g.K.Keeper.faults c.open.new.keeper) _ _ _ _ (omega arith) c.in-Ok.ensures.calls c.in-Err-rehearse.ensures.stopped.commits
-
--- ---- refused
-
-pub returns-clause-stops : goal.returns-clause-stops
-returns-clause-stops g c = λ three.
-    stops_early (settings_view c.args.settings.now) c.args.number _ c.refuse.result (g.K.Keeper.faults c.open.new.keeper) c.in-Err.fault _ _ _ _ _ _ _ _ c.in-Err.ensures.stays c.refuse.ensures.store c.in-Err.ensures.calls three refl
-
-pub returns-clause-damaged : goal.returns-clause-damaged
-returns-clause-damaged g c = λ seven.
-    refused (settings_view c.args.settings.now) _ _ _ _ _ c.in-Err.fault _ _ _ _ _ _ c.in-Err.ensures.opens c.in-Err.ensures.calls (c.refuse.ensures.damaged seven)
-
-pub returns-clause-damaged_exactly : goal.returns-clause-damaged_exactly
-returns-clause-damaged_exactly g c = λ not_memory not_store.
-    refused_exactly _ _ _ _ _ _ c.refuse.result c.in-Err.fault not_memory not_store c.refuse.ensures.ends _ c.refuse.ensures.damaged c.in-Err.ensures.opens
-
-pub returns-clause-damaged_exactly_now : goal.returns-clause-damaged_exactly_now
-returns-clause-damaged_exactly_now g c = λ not_memory not_store.
-    refused_exactly_now _ _ _ _ _ _ c.refuse.result c.in-Err.fault not_memory not_store c.refuse.ensures.ends _ c.refuse.ensures.damaged c.in-Err.ensures.opens
-
-pub returns-clause-store_calls : goal.returns-clause-store_calls
-returns-clause-store_calls g c = fails_by _ c.refuse.result (g.K.Keeper.faults c.open.new.keeper) c.in-Err.fault _ _ c.refuse.ensures.store c.in-Err.ensures.calls
-
-pub returns-clause-store_exactly : goal.returns-clause-store_exactly
-returns-clause-store_exactly g c = refused_tells _ c.refuse.result (g.K.Keeper.faults c.open.new.keeper) c.in-Err.fault _ _ c.refuse.ensures.store c.in-Err.ensures.calls
+-- refused
+pub returns-clause-promises : goal.returns-clause-promises
+returns-clause-promises g c = λ left faults.
+    let opened = c.in-Err.ensures in
+    let told = c.refuse.ensures in
+    promised_rehearsal (settings_view c.args.settings.now) c.args.number g.K.Keeper.stays c.refuse.result _ _ c.requires.asked
+    (λ h. absurd (omega (arith, h, told.ends)))
+    (λ three. stops_early (settings_view c.args.settings.now) c.args.number _ c.refuse.result (g.K.Keeper.faults c.open.new.keeper) c.in-Err.fault _ _ _ _ _ _ _ _ opened.stays told.store opened.calls three refl)
+    (λ seven. refused (settings_view c.args.settings.now) _ _ _ _ _ c.in-Err.fault _ _ _ _ _ _ opened.opens opened.calls (told.damaged seven))
+    (λ not_memory not_store. refused_exactly _ _ _ _ _ _ c.refuse.result c.in-Err.fault not_memory not_store told.ends _ told.damaged opened.opens)
+    (λ not_memory not_store. refused_exactly_now _ _ _ _ _ _ c.refuse.result c.in-Err.fault not_memory not_store told.ends _ told.damaged opened.opens)
+    (fails_by _ c.refuse.result (g.K.Keeper.faults c.open.new.keeper) c.in-Err.fault _ _ told.store opened.calls)
+    (refused_tells _ c.refuse.result (g.K.Keeper.faults c.open.new.keeper) c.in-Err.fault _ _ told.store opened.calls)
+    (λ _. opened.stays)
+    (inr told.ends)
+    ((λ four. omega (arith, four, told.ends)), (λ eight. omega (arith, eight, told.ends)))
+    (λ five. absurd (omega (arith, five, told.ends)))
+    (λ six. opened.failed (ap Err (told.store.0 six)))
+    (omega arith) told.later opened.later
+    (λ h. at_damage c.in-Err.fault c.refuse.result _ _ (omega (arith, h, told.ends)) told.damaged
+    (λ store memory. opened.place (λ e. let same : c.in-Err.fault ≡ fault.StoreFault = cc in store same) (λ e. let same : c.in-Err.fault ≡ fault.NoMemory = cc in memory same)))
+    (λ _. refl)

@@ -9,4 +9,4 @@ apply-requires g c =
     let old = c.args.old.now in
     let new = c.args.new.now in
     subst (λ (d : Delta). AppliesTo d old) (sym (IfOk-at_ok (λ delta. delta ≡ diff old.rows new.rows) c.expect-delta.ensures c.diff.ensures))
-    (diff_applies_to old new c.requires c.rows_fit.ensures)
+    (diff_applies_to old new c.requires c.rows.ensures.fit)

@@ -1,10 +1,11 @@
 //! The dependencies of a table.
 ghost use Rattle.std.specs.Prelude.{◌≡◌, true, IfOk, option_map};
+ghost use Rattle.std.specs.Bool.{then_some};
 ghost use Rattle.grammar_specs.specs.Written.{is_some_list};
 ghost use Rattle.grammar_specs.specs.Meaning as meaning;
 ghost use Rattle.view_lang.specs.TokenViews.{token_view};
 ghost use Rattle.grammar_laws.specs.DefParse as def;
-ghost use Rattle.view_lang.specs.DefViews.{parse_view, HasDep};
+ghost use Rattle.view_lang.specs.DefViews.{parse_view, TakesDep};
 
 use crate::parsing::definitions::{Opening, Parse, Table};
 use crate::parsing::predicates::begun;
@@ -38,36 +39,37 @@ pub fn next_left(
     Ok(None)
 }
 
-/// The dependency of these sides.
-fn dep_of(alloc: Global, left: Vec<Name>, right: Vec<Name>) -> Result<Dep, NoMemory>
-    requires left { is_some_list left.items ≡ true }
-    requires right { is_some_list right.items ≡ true }
-    ensures { IfOk result (λ dep. dep ≡ meaning.dep_meaning (left.items, right.items)) }
+/// The dependency of these sides, if the right one has a column.
+fn dep_of(alloc: Global, left: Vec<Name>, right: Vec<Name>) -> Result<Option<Dep>, NoMemory>
+    requires { is_some_list left.items ≡ true }
+    ensures { IfOk result (λ found.
+        found
+        ≡ then_some (is_some_list right.items) (meaning.dep_meaning (left.items, right.items))) }
 {
     let left = Names::new(alloc, left)?;
     let right = Names::new(alloc, right)?;
-    match Dep::new(left, right) {
-        Ok(dep) => Ok(dep),
-        Err(_) => unreachable!(),
-    }
+    Ok(Dep::new(left, right).ok())
 }
 
-/// Adds a dependency to the table.
+/// Adds a dependency to the table, if its right side has a column.
 pub fn with_dep(
     alloc: Global,
     table: Table,
     left: Vec<Name>,
     right: Vec<Name>,
-) -> Result<Table, NoMemory>
-    requires left { is_some_list left.items ≡ true }
-    requires right { is_some_list right.items ≡ true }
-    ensures { IfOk result (λ more.
-        HasDep table more (meaning.dep_meaning (left.items, right.items))) }
+) -> Result<Option<Table>, NoMemory>
+    requires { is_some_list left.items ≡ true }
+    ensures { IfOk result (λ found.
+        TakesDep table found
+        (then_some (is_some_list right.items) (meaning.dep_meaning (left.items, right.items)))) }
 {
+    let Some(dep) = dep_of(alloc, left, right)? else {
+        return Ok(None);
+    };
     let Table { head, deps } = table;
     let mut deps = deps;
-    deps.push(dep_of(alloc, left, right)?)?;
-    Ok(Table { head, deps })
+    deps.push(dep)?;
+    Ok(Some(Table { head, deps }))
 }
 
 /// Reads the comma or the word that follows a dependency.
@@ -87,7 +89,6 @@ fn end_dep(alloc: Global, table: Table, token: &Token) -> Option<Parse>
 }
 
 /// Reads a column of the right side of a dependency, or the token that follows it.
-#[tactic(auto, using(crate::proofs::Holes::some_keys, crate::proofs::Holes::no_keys))]
 pub fn next_right(
     alloc: Global,
     table: Table,
@@ -106,9 +107,8 @@ pub fn next_right(
         right.push(name)?;
         return Ok(Some(Parse::Before(Opening::InRight { table, left, right })));
     }
-    if right.is_empty() {
-        return Ok(None);
+    match with_dep(alloc, table, left, right)? {
+        Some(table) => Ok(end_dep(alloc, table, token)),
+        None => Ok(None),
     }
-    let table = with_dep(alloc, table, left, right)?;
-    Ok(end_dep(alloc, table, token))
 }

@@ -1,12 +1,13 @@
 //! Definitions that were read to their end.
-ghost use Rattle.std.specs.Prelude.{◌≡◌, [], true, IfOk, option_map};
+ghost use Rattle.std.specs.Prelude.{◌≡◌, true, IfOk, Some, option_map};
 ghost use Rattle.std.specs.FinMap as map_of;
+ghost use Rattle.lens_pred.specs.View.{predicate_view};
 ghost use Rattle.grammar_specs.specs.Written.{is_some_list};
 ghost use Rattle.grammar_specs.specs.Meaning as meaning;
 ghost use Rattle.grammar_laws.specs.DefParse as def;
 ghost use Rattle.view_lang.specs.DefViews.{definition_view};
 ghost use Rattle.view_lang.specs.DefBounds.{HasNoRepeat};
-ghost use Rattle.view_lang.specs.PredBounds.{IsReady, IsReadyExprs};
+ghost use Rattle.view_lang.specs.PredBounds.{AreNormal, IsReady, IsReadyExprs};
 ghost use Rattle.view_lang.specs.PredViews.{preds_view};
 ghost use Rattle.view_lang.specs.ExprsViews.{exprs_view};
 
@@ -14,46 +15,43 @@ use crate::definition::{Definition, Deps};
 use crate::parsing::definitions::dependencies::with_dep;
 use crate::parsing::definitions::{Head, Table};
 use crate::parsing::expressions::Exprs;
-use crate::parsing::joining::pred_of;
+use crate::parsing::joining::conjuncts_of;
 use crate::parsing::predicates::Preds;
-use lens_pred::Pred;
+use lens_pred::{Formula, Pred};
 use lens_values::{Columns, ColumnsFault, Name, NoMemory};
 use std::alloc::Global;
 
-/// Makes a table of these parts.
-fn table_of(alloc: Global, table: Table, pred: Pred) -> Result<Definition, NoMemory>
-    requires { HasNoRepeat table.head.cols }
-    ensures { IfOk result (λ d.
-        definition_view d
-        ≡ meaning.table table.head.name
-        (map_of.from_entries table.head.cols) table.deps.items pred) }
+/// The table of these parts, if no two columns have one name and the conjuncts are in normal form.
+fn table_of(
+    alloc: Global,
+    table: Table,
+    conjuncts: Vec<Formula>,
+) -> Result<Option<Definition>, NoMemory>
+    requires cols { HasNoRepeat table.head.cols }
+    requires normal { AreNormal (predicate_view conjuncts.items) }
+    ensures { IfOk result (λ found.
+        option_map definition_view found
+        ≡ Some (meaning.table table.head.name (map_of.from_entries table.head.cols)
+        table.deps.items (predicate_view conjuncts.items))) }
 {
     let Table { head, deps } = table;
     let Head { name, cols } = head;
+    let Ok(pred) = Pred::new(conjuncts) else {
+        return Ok(None);
+    };
     match Columns::new(alloc, cols.into_list()) {
         Ok(cols) => {
             let deps = Deps::new(deps);
-            Ok(Definition::Table {
+            Ok(Some(Definition::Table {
                 name,
                 cols,
                 deps,
                 pred,
-            })
+            }))
         }
-        Err(fault) => match fault {
-            ColumnsFault::NoMemory => Err(NoMemory),
-            _ => unreachable!(),
-        },
-    }
-}
-
-/// A predicate that always holds.
-fn no_condition(alloc: Global) -> Pred
-    ensures { result ≡ [] }
-{
-    match Pred::new(Vec::new(alloc)) {
-        Ok(pred) => pred,
-        Err(_) => unreachable!(),
+        Err(ColumnsFault::Twice { .. }) => Ok(None),
+        Err(ColumnsFault::KindClash { .. }) => Ok(None),
+        Err(ColumnsFault::NoMemory) => Err(NoMemory),
     }
 }
 
@@ -65,11 +63,10 @@ pub fn bare_table(alloc: Global, head: Head) -> Result<Option<Definition>, NoMem
 {
     let deps = Vec::new(alloc);
     let table = Table { head, deps };
-    Ok(Some(table_of(alloc, table, no_condition(alloc))?))
+    table_of(alloc, table, Vec::new(alloc))
 }
 
 /// The table that ends behind the right side of a dependency.
-#[tactic(auto, using(crate::proofs::Holes::some_keys, crate::proofs::Holes::no_keys))]
 pub fn table_with_dep(
     alloc: Global,
     table: Table,
@@ -83,11 +80,10 @@ pub fn table_with_dep(
         ≡ def.ended (def.in_right table.head.name table.head.cols table.deps.items left.items
         right.items)) }
 {
-    if right.is_empty() {
-        return Ok(None);
+    match with_dep(alloc, table, left, right)? {
+        Some(table) => table_of(alloc, table, Vec::new(alloc)),
+        None => Ok(None),
     }
-    let table = with_dep(alloc, table, left, right)?;
-    Ok(Some(table_of(alloc, table, no_condition(alloc))?))
 }
 
 /// The table that ends behind its predicate.
@@ -106,8 +102,7 @@ pub fn table_with_condition(
     let Some(formula) = preds.ended(alloc)? else {
         return Ok(None);
     };
-    let pred = pred_of(alloc, formula)?;
-    Ok(Some(table_of(alloc, table, pred)?))
+    table_of(alloc, table, conjuncts_of(alloc, formula)?)
 }
 
 /// The view that ends behind its expression.

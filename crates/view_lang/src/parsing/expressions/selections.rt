@@ -1,5 +1,5 @@
 //! The predicate of a selection.
-ghost use Rattle.std.specs.Prelude.{◌≡◌, IfOk, option_map, option_and_then};
+ghost use Rattle.std.specs.Prelude.{◌≡◌, IfOk, Some, option_map, option_and_then};
 ghost use Rattle.std.specs.Bool.{then_some};
 ghost use Rattle.lens_pred.specs.View.{formula_view};
 ghost use Rattle.grammar_specs.specs.Meaning as meaning;
@@ -12,22 +12,24 @@ ghost use Rattle.view_lang.specs.PredViews.{preds_view};
 
 use crate::expr::Expr;
 use crate::parsing::expressions::{Exprs, Selection, Spot};
-use crate::parsing::joining::pred_of;
+use crate::parsing::joining::conjuncts_of;
 use crate::parsing::predicates::begun;
 use crate::parsing::token::Token;
-use lens_pred::Formula;
+use lens_pred::{Formula, Pred};
 use lens_values::NoMemory;
 use std::alloc::Global;
 
-/// Makes a selection by this formula.
-fn select_of(alloc: Global, of: Box<Expr>, formula: Formula) -> Result<Expr, NoMemory>
+/// Makes a selection by this formula, if its conjuncts are in normal form.
+fn select_of(alloc: Global, of: Box<Expr>, formula: Formula) -> Result<Option<Expr>, NoMemory>
     requires { IsNormal (formula_view formula) }
-    ensures { IfOk result (λ e.
-        expr_view e ≡ meaning.select (meaning.conjuncts (formula_view formula))
-        (expr_view of.value)) }
+    ensures { IfOk result (λ found.
+        option_map expr_view found
+        ≡ Some (meaning.select (meaning.conjuncts (formula_view formula)) (expr_view of.value))) }
 {
-    let pred = pred_of(alloc, formula)?;
-    Ok(Expr::Select { pred, of })
+    match Pred::new(conjuncts_of(alloc, formula)?) {
+        Ok(pred) => Ok(Some(Expr::Select { pred, of })),
+        Err(_) => Ok(None),
+    }
 }
 
 /// The selection, if its predicate can end here.
@@ -39,7 +41,7 @@ pub fn selected(alloc: Global, selection: Box<Selection>) -> Result<Option<Expr>
 {
     let Selection { of, preds } = Box::into_inner(selection);
     match preds.ended(alloc)? {
-        Some(formula) => Ok(Some(select_of(alloc, of, formula)?)),
+        Some(formula) => select_of(alloc, of, formula),
         None => Ok(None),
     }
 }

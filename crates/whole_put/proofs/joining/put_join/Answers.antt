@@ -15,18 +15,18 @@ left_value : (c : In_ok-new_left) → c.in_ok-new_left.new_left ≡ record c.arg
 unfolding part_of
 left_value c = left_made c.args.kind c.args.left.now c.args.right.now c.args.left_tree.now c.args.right_tree.now c.args.view.now c.in_ok-left_part.left_part c.in_ok-right_part.right_part
     c.in_ok-merged.merged c.in_ok-merged_right.merged_right c.in_ok-new_left.new_left c.in_ok-new_left.new_right
-    (c.in_ok-left_part.ensures ∙ ap (λ U. part_of U c.args.view.now) c.columns.ensures) (c.in_ok-right_part.ensures ∙ ap (λ U. part_of U c.args.view.now) c.columns-2.ensures)
+    (c.in_ok-left_part.ensures.value ∙ ap (λ U. part_of U c.args.view.now) c.columns.ensures) (c.in_ok-right_part.ensures.value ∙ ap (λ U. part_of U c.args.view.now) c.columns-2.ensures)
     c.in_ok-merged.ensures.value c.in_ok-merged_right.ensures.value c.in_ok-new_left.ensures.left c.in_ok-new_left.ensures.right
 
 right_value : (c : In_ok-new_left) → c.in_ok-new_left.new_right ≡ record c.args.right.now { rows = join_right_after c.args.kind (names c.args.left.now.columns) (names c.args.right.now.columns) c.args.left_tree.now c.args.right_tree.now c.args.view.now.rows c.args.left.now.rows c.args.right.now.rows }
 unfolding part_of
 right_value c = right_made c.args.kind c.args.left.now c.args.right.now c.args.left_tree.now c.args.right_tree.now c.args.view.now c.in_ok-left_part.left_part c.in_ok-right_part.right_part
     c.in_ok-merged.merged c.in_ok-merged_right.merged_right c.in_ok-new_left.new_left c.in_ok-new_left.new_right
-    (c.in_ok-left_part.ensures ∙ ap (λ U. part_of U c.args.view.now) c.columns.ensures) (c.in_ok-right_part.ensures ∙ ap (λ U. part_of U c.args.view.now) c.columns-2.ensures)
+    (c.in_ok-left_part.ensures.value ∙ ap (λ U. part_of U c.args.view.now) c.columns.ensures) (c.in_ok-right_part.ensures.value ∙ ap (λ U. part_of U c.args.view.now) c.columns-2.ensures)
     c.in_ok-merged.ensures.value c.in_ok-merged_right.ensures.value c.in_ok-new_left.ensures.left c.in_ok-new_left.ensures.right
 
 view_fits : (c : In_ok-new_left) → (r : Row) → has c.args.view.now.rows r ≡ true → Fits (both_columns c.args.left.now.columns c.args.right.now.columns) r
-view_fits c r i = subst (λ U. Fits U r) c.requires.columns (c.rows_fit.ensures r i)
+view_fits c r i = subst (λ U. Fits U r) c.requires.columns (c.part.ensures.fit r i)
 
 pub part-requires : goal.part-requires
 part-requires c =
@@ -49,7 +49,7 @@ returns-clause-put_get c =
     let B = c.args.right.now in
     let q = c.requires in
     (λ i. join_get (names A.columns) (names B.columns) (left_value d i).rows (right_value d i).rows)
-    ∙ put_get c.args.kind A B c.args.left_tree.now c.args.right_tree.now c.args.view.now.rows c.is_tree.ensures c.is_tree-2.ensures q.can c.rows_fit-2.ensures c.rows_fit-3.ensures q.left_meets q.right_meets (view_fits d) q.view_left q.view_right
+    ∙ put_get c.args.kind A B c.args.left_tree.now c.args.right_tree.now c.args.view.now.rows c.merge.ensures.tree c.merge-2.ensures.tree q.can c.merge.ensures.fit c.merge-2.ensures.fit q.left_meets q.right_meets (view_fits d) q.view_left q.view_right
 
 pub returns-clause-get_put : goal.returns-clause-get_put
 returns-clause-get_put c = λ same.
@@ -57,17 +57,17 @@ returns-clause-get_put c = λ same.
     let A = c.args.left.now in
     let B = c.args.right.now in
     let q = c.requires in
-    let left = get_put_left c.args.kind A B c.args.left_tree.now c.args.right_tree.now c.args.view.now.rows c.is_tree.ensures c.is_tree-2.ensures q.can c.rows_fit-2.ensures c.rows_fit-3.ensures q.left_meets q.right_meets (view_fits d) q.view_left q.view_right same in
-    let right = get_put_right c.args.kind A B c.args.left_tree.now c.args.right_tree.now c.args.view.now.rows c.is_tree.ensures c.is_tree-2.ensures q.can c.rows_fit-2.ensures c.rows_fit-3.ensures q.left_meets q.right_meets (view_fits d) q.view_left q.view_right same in
+    let left = get_put_left c.args.kind A B c.args.left_tree.now c.args.right_tree.now c.args.view.now.rows c.merge.ensures.tree c.merge-2.ensures.tree q.can c.merge.ensures.fit c.merge-2.ensures.fit q.left_meets q.right_meets (view_fits d) q.view_left q.view_right same in
+    let right = get_put_right c.args.kind A B c.args.left_tree.now c.args.right_tree.now c.args.view.now.rows c.merge.ensures.tree c.merge-2.ensures.tree q.can c.merge.ensures.fit c.merge-2.ensures.fit q.left_meets q.right_meets (view_fits d) q.view_left q.view_right same in
     let new_left : c.in_ok-new_left.new_left ≡ A = left_value d ∙ (λ i. record A { rows = left i }) in
     let new_right : c.in_ok-new_left.new_right ≡ B = right_value d ∙ (λ i. record B { rows = right i }) in
     λ i. (new_left i, new_right i)
 
 pub merge-requires : goal.merge-requires
-merge-requires c = ap (λ (R : Relation). R.columns) c.in_ok-left_part.ensures ∙ c.columns.ensures
+merge-requires c = ap (λ (R : Relation). R.columns) c.in_ok-left_part.ensures.value ∙ c.columns.ensures
 
 pub merge-requires-2 : goal.merge-requires-2
-merge-requires-2 c = ap (λ (R : Relation). R.columns) c.in_ok-right_part.ensures ∙ c.columns-2.ensures
+merge-requires-2 c = ap (λ (R : Relation). R.columns) c.in_ok-right_part.ensures.value ∙ c.columns-2.ensures
 
 pub without_surplus-requires-clause-kinds : goal.without_surplus-requires-clause-kinds
 without_surplus-requires-clause-kinds c =

@@ -3,4 +3,4 @@ use Rattle.whole_put.proofs.selecting.get_select.Goals as goal
 
 pub returns : goal.returns
 unfolding select_get
-returns c = c.part.ensures
+returns c = c.part.ensures.value

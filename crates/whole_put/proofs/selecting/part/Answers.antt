@@ -11,4 +11,4 @@ with_rows-requires c = λ row there.
     let p = is_shown c.args.pred.now c.args.shown in
     let M = c.args.relation.now.rows in
     subst (λ U. Fits U row) (sym (c.in_ok-copy.ensures ∙ c.columns.ensures))
-    (c.rows_fit.ensures row (kept_is p M row (ap (λ R. set.contains R row) (sym (c.in_ok-rows.ensures ∙ ap (those p) c.rows.ensures)) ∙ there)).0)
+    (c.rows.ensures.fit row (kept_is p M row (ap (λ R. set.contains R row) (sym (c.in_ok-rows.ensures ∙ ap (those p) c.rows.ensures.rows)) ∙ there)).0)

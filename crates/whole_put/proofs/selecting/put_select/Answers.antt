@@ -15,7 +15,7 @@ use Rattle.whole_put.proofs.selecting.put_select.Goals.{After-union}
 
 pub hidden_after-requires-clause-hidden : goal.hidden_after-requires-clause-hidden
 hidden_after-requires-clause-hidden c = λ row there.
-    (kept_is (is_shown c.args.pred.now false) c.args.source.now.rows row (ap (λ r. has r.rows row) (sym c.in_ok-hidden.ensures) ∙ there)).1
+    (kept_is (is_shown c.args.pred.now false) c.args.source.now.rows row (ap (λ r. has r.rows row) (sym c.in_ok-hidden.ensures.value) ∙ there)).1
 
 -- the rows that are still hidden, and the view
 made : (c : After-union) → IfOk c.union.result (λ after. after ≡ record c.args.source.now { rows = put_rows c.args.tree.now (holds c.args.pred.now) c.args.view.now.rows c.args.source.now.rows })
@@ -24,7 +24,7 @@ made c =
     let T = c.args.tree.now in
     let N = c.args.view.now.rows in
     let still : c.in_ok-still_hidden.still_hidden ≡ record c.args.source.now { rows = those p (spec.revise T (those p c.args.source.now.rows) N) } =
-    c.in_ok-still_hidden.ensures ∙ (λ i. record { columns = (c.in_ok-hidden.ensures i).columns; rows = those p (spec.revise T (c.in_ok-hidden.ensures i).rows N) }) in
+    c.in_ok-still_hidden.ensures.value ∙ (λ i. record { columns = (c.in_ok-hidden.ensures.value i).columns; rows = those p (spec.revise T (c.in_ok-hidden.ensures.value i).rows N) }) in
     subst (λ u. IfOk c.union.result (λ after. after ≡ u)) (λ i. record { columns = (still i).columns; rows = set.union (still i).rows N }) c.union.ensures
 
 pub returns-clause-value : goal.returns-clause-value
@@ -51,5 +51,5 @@ returns-clause-get_put c =
     let M = c.args.source.now in
     IfOk-weaker c.union.result (λ after. after ≡ record M { rows = put_rows T P N M.rows })
     (λ after. MeetsTree M.rows T → N ≡ select_get P M.rows → after ≡ M)
-    (λ after is meets shown. is ∙ (λ i. record { columns = M.columns; rows = (ap (λ V. put_rows T P V M.rows) shown ∙ put_back T P M.columns M.rows c.is_tree.ensures meets c.rows_fit.ensures) i }))
+    (λ after is meets shown. is ∙ (λ i. record { columns = M.columns; rows = (ap (λ V. put_rows T P V M.rows) shown ∙ put_back T P M.columns M.rows c.hidden_after.ensures.tree meets c.part.ensures.fit) i }))
     (made (goal.at.returns-clause-get_put c).After-union)

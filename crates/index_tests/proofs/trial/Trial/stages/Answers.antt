@@ -15,7 +15,7 @@ stage-requires-clause-apply g c =
       ap (λ m. is_some (finmap.get m t)) tables ∙ c.self.invariant.present,
       subst (AppliesTo c.in_ok-delta.delta) (c.in_ok-old.ensures ∙ sym (ap (λ m. relation_in m t) tables))
           (subst (λ d. AppliesTo d old) (sym c.in_ok-delta.ensures)
-          (diff_applies_to old c.in_ok-new.new (c.in_ok-new.ensures ∙ c.columns.ensures) c.rows_fit.ensures)),
+          (diff_applies_to old c.in_ok-new.new (c.in_ok-new.ensures.columns ∙ c.columns.ensures) c.in_ok-new.ensures.fit)),
       refl,
       tt,
     )

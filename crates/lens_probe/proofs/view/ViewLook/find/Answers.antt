@@ -10,7 +10,7 @@ returns-clause-looks g c = λ n within.
     let v = viewed c.self.inside.lens.now c.self.inside.handed.sets c.self.inside.tables.now in
     let here : IsWithin v n = subst (λ (x : Viewed). IsWithin x n) (sym c.self.view_is) within in
     let asked : Contains (asked_by v) c.args.cols.now = subst (λ (x : Viewed). Contains (asked_by x) c.args.cols.now) (sym c.self.view_is) c.requires.asked in
-    let looks = c.find_in.ensures.looks here.0 (viewed_finds v c.args.cols.now here.0 c.self.invariant asked here.1) in
+    let looks = c.find_in.ensures.looks here.0 (viewed_finds v c.args.cols.now here.0 c.self.invariant.0 asked here.1) in
     let le = here.2 in
     omega (arith, looks, le)
 
@@ -19,4 +19,4 @@ returns-clause-few g c =
     let v = viewed c.self.inside.lens.now c.self.inside.handed.sets c.self.inside.tables.now in
     let asked : Contains (asked_by v) c.args.cols.now = subst (λ (x : Viewed). Contains (asked_by x) c.args.cols.now) (sym c.self.view_is) c.requires.asked in
     found_few c.find_in.result (find_by c.args.cols.now c.args.key.now (shown v).rows) (IsWithin c.args.self.now) c.find_in.ensures.found
-    (λ n within. viewed_gives v n c.self.invariant (subst (λ (x : Viewed). IsWithin x n) (sym c.self.view_is) within) c.args.cols.now c.args.key.now asked)
+    (λ n within. viewed_gives v n c.self.invariant.0 (subst (λ (x : Viewed). IsWithin x n) (sym c.self.view_is) within) c.args.cols.now c.args.key.now asked)

@@ -34,6 +34,6 @@ returns-clause-empty g c =
     let tables : c.settle.new.self.present ≡ defined_by (table_in p.name p.lens) p.lens old.tables.present =
     ap (λ t. t.present) c.settle.ensures ∙ ap (λ t. t.next) c.in_ok-stage_definition.ensures.ok ∙ (λ i. defined_by (c.table-table.ensures i) (c.lens.ensures i) old.tables.present) in
     let quiet : IsQuiet c.settle.new.self = ap (λ t. t.next) c.settle.ensures ∙ sym (ap (λ t. t.present) c.settle.ensures) in
-    empty_after old _ p c.requires.empty says.1 (subst (λ t. length t < 2 ^ 64) (sym says.0) c.is_short.ensures)
+    empty_after old _ p c.requires.empty says.1 (subst (λ t. length t < 2 ^ 64) (sym says.0) c.prepare.ensures.short)
     (c.admit.ensures.texts ∙ ap (λ ts. ts ++ p.text ∷ []) c.prepare.ensures.texts) tables quiet
     (ap (λ t. t.held) c.settle.ensures ∙ ap (λ t. t.held) c.in_ok-stage_definition.ensures.ok)

@@ -1,6 +1,0 @@
-use Rattle.std.proofs.Common.{◌≡◌, filter, take}
-use Rattle.lens_specs.specs.Predicate.{holds}
-use Rattle.lens_probe.proofs.finding.selected.Given as goal
-
-abbrev pub invariant-loop-row : goal.invariant-loop-row
-invariant-loop-row l = l.some.items ≡ filter (holds l.pred) (take l.row-index l.row-items)

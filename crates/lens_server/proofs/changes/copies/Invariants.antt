@@ -1,5 +1,0 @@
-use Rattle.std.proofs.Common.{◌≡◌, take}
-use Rattle.lens_server.proofs.changes.copies.Given as goal
-
-abbrev pub invariant-loop-delta : goal.invariant-loop-delta
-invariant-loop-delta l = l.copies.items ≡ take l.delta-index l.deltas
