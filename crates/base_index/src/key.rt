@@ -1,22 +1,16 @@
 //! Rows as keys of a tree.
-ghost use Rattle.std.specs.Prelude.{◌≡◌, IfOk, fold, refl};
+ghost use Rattle.std.specs.Prelude.{◌≡◌, IfOk, refl};
 ghost use Rattle.std.specs.Cmp.{eq_by_cmp_equiv, partial_equiv_from_equiv, partial_order_from_agreeing_total};
 ghost use Rattle.std.specs.Ordering.{as_partial_cmp, eq_by_cmp};
 ghost use Rattle.lens_values.specs.contracts.row.Row as contract;
 ghost use Rattle.lens_values.specs.declared.row.Row as declared;
-ghost use Rattle.base_index.specs.Key.{hash_number, hash_row, hash_value, key_cmp};
+ghost use Rattle.base_index.specs.Key.{hash_row, key_cmp};
 ghost use Rattle.base_index.specs.KeyOrder.{key_cmp_total};
 
-use lens_values::{NoMemory, Row, Value};
+use lens_values::{NoMemory, Row, hash_value};
 use std::alloc::Global;
 use std::cmp::Ordering;
 use std::marker::Model;
-
-// What a hash is multiplied by for each number that it takes in: the prime 2^40 + 435.
-const FACTOR: u64 = 1_099_511_628_211;
-
-// What null adds to a hash: the number of the least `i64`, which few columns have.
-const NULL: u64 = 1 << 63;
 
 /// The values of a row in the columns of an index, in the order of their hashes. A contract sees
 /// them as a row.
@@ -116,35 +110,4 @@ fn hash_row(row: &Row) -> u64
         hash = hash_value(hash, value);
     }
     hash
-}
-
-// The hash after one more value.
-fn hash_value(hash: u64, value: &Value) -> u64
-    ensures { result ≡ hash_value hash value.now }
-{
-    match value {
-        Value::Null => hash_number(hash, NULL),
-        Value::Int(number) => hash_number(hash, number.cast_unsigned()),
-        Value::Text(text) => hash_bytes(hash, text.as_str().as_bytes()),
-        Value::Flag(flag) => hash_number(hash, u64::from(*flag)),
-    }
-}
-
-// The hash after each of the bytes.
-fn hash_bytes(hash: u64, bytes: &[u8]) -> u64
-    ensures { result ≡ fold hash_number hash bytes.now }
-{
-    let mut hash = hash;
-    for byte in bytes {
-        hash = hash_number(hash, u64::from(*byte));
-    }
-    hash
-}
-
-// The hash after one more number.
-#[tactic(auto, unfolding(crate::specs::Key::hash_number))]
-fn hash_number(hash: u64, number: u64) -> u64
-    ensures { result ≡ hash_number hash number }
-{
-    hash.wrapping_mul(FACTOR).wrapping_add(number)
 }

@@ -11,7 +11,6 @@ use crate::held::Held;
 use crate::premises::{
     all_hold, can_be_joined, has_key, is_determined, is_met, is_over, share_key,
 };
-use crate::samples::{are_rows, is_delta, rows};
 use drop_delta::drop_delta;
 use join_delta::Source;
 use join_others::join_change;
@@ -19,6 +18,7 @@ use lens_pred::Pred;
 use lens_values::{JoinKind, Name, Row, Value};
 use revision::{Touched, afters, befores, revise_touched};
 use row_sets::Relation;
+use sample_rows::{are_rows, is_delta, rows};
 use select_delta::select_delta;
 use signed_delta::{Delta, absent, diff, find_each, of_touched, present};
 use std::alloc::Global;

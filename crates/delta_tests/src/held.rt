@@ -3,10 +3,10 @@ ghost use Rattle.std.specs.Prelude.{◌≡◌, ◌≤◌, ◌+◌, ◌∷◌, le
 ghost use Rattle.lens_values.specs.SortedSet as set;
 ghost use Rattle.lens_specs.specs.Relation.{IsRelation};
 
-use crate::samples::{columns, names, relation, tree};
 use fd_tree::Tree;
 use lens_values::{Columns, Names, NoMemory, Row};
 use row_sets::{Relation, RowSet};
+use sample_rows::{columns, names, relation, tree};
 use signed_delta::Look;
 use std::alloc::Global;
 use std::sync::ledger::Ledger;

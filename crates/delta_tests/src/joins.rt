@@ -4,9 +4,9 @@ ghost use Rattle.lens_specs.specs.Columns.{both_columns, kinds_differ};
 
 use crate::edits::joined;
 use crate::held::{Held, Source, hold};
-use crate::samples::{is_delta, parts, relation};
 use lens_values::JoinKind;
 use row_sets::Relation;
+use sample_rows::{is_delta, parts, relation};
 use signed_delta::Delta;
 use std::alloc::Global;
 use std::sync::ledger::Ledger;

@@ -11,5 +11,3 @@ mod held;
 mod joins;
 #[cfg(test)]
 mod premises;
-#[cfg(test)]
-mod samples;

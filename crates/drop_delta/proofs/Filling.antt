@@ -4,7 +4,6 @@ use Rattle.std.specs.Prelude.{filter, slice_get}
 use Rattle.std.specs.List.{find}
 use Rattle.std.specs.FinMap as finmap
 use Rattle.std.specs.Cmp.Lexicographic.{nat_list_cmp_total}
-use Rattle.std.specs.List.Sorted.{IsStrictlySortedBy}
 use Rattle.std.specs.Ordering.{eq_by_cmp}
 use Rattle.std.proofs.lemmas.Bool.{cases_Bool, true≢false}
 use Rattle.std.proofs.lemmas.List.{map_more, take_all}
@@ -40,11 +39,6 @@ use Rattle.revision.proofs.Changed.{items_those}
 use Rattle.drop_delta.specs.Dropped.{edited, edited_source, filled_in, filling_for, right_of}
 
 -- ---- one row
-
--- a list of one rises
-pub one_rises : (n : Name) → IsStrictlySortedBy bytes_cmp (n ∷ [])
-unfolding IsStrictlySortedBy
-one_rises n = (tt, tt)
 
 -- a row's part is a key
 pub part_key : (C : Names) (row key : Row) → ((c : Name) → set.contains C c ≡ true → is_some (at row c) ≡ true) → key ≡ restrict C row → IsKey C key

@@ -1,5 +1,5 @@
 //! The edit of a relation without one of its columns, taken to the relation.
-ghost use Rattle.std.specs.Prelude.{◌≡◌, ◌≢◌, ◌≤◌, ◌+◌, ◌*◌, ℕ, ◌∷◌, [], true, false, length, slice_get, Contains, IfOk, IfSome, Some, is_some};
+ghost use Rattle.std.specs.Prelude.{◌≡◌, ◌≢◌, ◌≤◌, ◌+◌, ◌*◌, ℕ, true, false, length, slice_get, Contains, IfOk, IfSome, Some, is_some};
 ghost use Rattle.std.specs.FinMap as finmap;
 ghost use Rattle.lens_values.specs.SortedSet as set;
 ghost use Rattle.lens_specs.specs.Columns.{Fits, fits_at, names, without_column};
@@ -59,18 +59,9 @@ pub fn drop_delta<S: Look, L: Ledger>(
     let left = by.copy(alloc)?;
     let right = Names::single(alloc, col)?;
     let edge = Edge { left, right };
-    let default = default_row(alloc, col, fill)?;
+    let default = Row::single(alloc, col, fill)?;
     let filled = filled_sides(alloc, source, &edge, &default, names, delta, looked)?;
     Ok(Delta::new(filled.remove, filled.add))
-}
-
-// The row with this value in one column.
-fn default_row(alloc: Global, name: &Name, value: &Value) -> Result<Row, NoMemory>
-    ensures { IfOk result (λ row. row ≡ finmap.from_entries ((name.now, value.now) ∷ [])) }
-{
-    let mut pairs = Vec::new(alloc);
-    pairs.push((*name, value.copy(alloc)?))?;
-    Row::from_rising(alloc, pairs)
 }
 
 // The two sides of an edit, with each row filled in.

@@ -183,18 +183,7 @@ fn replaces_alike(edge: &Edge, row: &Row, removed: &RowSet) -> bool
         agree edge.now.left row.now other && agree edge.now.right row.now other)
         (set.items removed.now) }
 {
-    removed
-        .rows()
-        .iter()
-        .any(|other| are_alike(edge, row, other))
-}
-
-// Whether the rows agree on both sides of the edge.
-fn are_alike(edge: &Edge, row: &Row, other: &Row) -> bool
-    ensures { result
-        ≡ (agree edge.now.left row.now other.now && agree edge.now.right row.now other.now) }
-{
-    row.agree_on(other, &edge.left) && row.agree_on(other, &edge.right)
+    removed.rows().iter().any(|other| edge.alike(row, other))
 }
 
 // Whether each found row that is not removed agrees with the row on the right side of the edge.

@@ -3,7 +3,6 @@ use Rattle.std.proofs.Common.{◌≡◌, ◌∙◌, ◌∷◌, [], Some, ap, con
 use Rattle.std.specs.Prelude.{None}
 use Rattle.std.specs.FinMap as finmap
 use Rattle.std.specs.Cmp.Lexicographic.{nat_list_cmp_total}
-use Rattle.std.specs.List.Sorted.{IsStrictlySortedBy}
 use Rattle.std.specs.Ordering.{eq_by_cmp}
 use Rattle.std.proofs.lemmas.Bool.{cases_Bool}
 use Rattle.lens_values.specs.Order.{bytes_cmp}
@@ -21,11 +20,6 @@ use Rattle.fd_laws.proofs.Rows.{agree_at, agree_from, same_value-is, same_value-
 use Rattle.lens_laws.specs.KeyedDeltas.{find_by}
 use Rattle.signed_delta.specs.Keys.{IsKey}
 use Rattle.find_rows.specs.Found.{rows_with}
-
--- a list of one rises
-pub one_rises : (n : Name) → IsStrictlySortedBy bytes_cmp (n ∷ [])
-unfolding IsStrictlySortedBy
-one_rises n = (tt, tt)
 
 module _ (c : Name) (v : Value) (key : Row) (is : key ≡ finmap.from_entries ((c, v) ∷ [])) where
   at_key : (d : Name) → at key d ≡ cond (eq_by_cmp bytes_cmp d c) (Some v) None

@@ -1,6 +1,5 @@
 //! Rows of a view by the value in one column.
-ghost use Rattle.std.specs.Prelude.{◌≡◌, ◌≤◌, ◌+◌, ◌∷◌, [], ℕ, true, false, filter, IfOk, Some};
-ghost use Rattle.std.specs.FinMap as map;
+ghost use Rattle.std.specs.Prelude.{◌≡◌, ◌≤◌, ◌+◌, ℕ, true, false, filter, IfOk, Some};
 ghost use Rattle.lens_specs.specs.Lens.{sort_of};
 ghost use Rattle.lens_specs.specs.Names.{one};
 ghost use Rattle.lens_specs.specs.Rows.{at, same_value};
@@ -70,20 +69,11 @@ fn rows_found<J: Ledger, K: Ledger>(
     ensures walks_on { walked.old ≤ walked.new }
 {
     if view.asked_by(cols) {
-        let key = key_of(alloc, col, value)?;
+        let key = Row::single(alloc, col, value)?;
         return view.find(alloc, cols, &key, looked);
     }
     let all = view.read(alloc, walked)?.into_rows();
     with_value(alloc, all, col, value)
-}
-
-// The row with this value in one column.
-fn key_of(alloc: Global, col: &Name, value: &Value) -> Result<Row, NoMemory>
-    ensures { IfOk result (λ key. key ≡ map.from_entries ((col.now, value.now) ∷ [])) }
-{
-    let mut pairs = Vec::new(alloc);
-    pairs.push((*col, value.copy(alloc)?))?;
-    Row::from_rising(alloc, pairs)
 }
 
 // Those of the rows that have the value in the column.

@@ -1,9 +1,9 @@
 //! What is seen of a change, of an index, of tables that are held, and of keys that collide.
 ghost use Rattle.std.specs.Prelude.{◌≡◌};
 
-use crate::samples::{columns, row};
 use crate::trial::Trial;
 use lens_values::Columns;
+use sample_rows::{columns, row};
 use std::alloc::Global;
 use std::marker::Brand;
 use std::sync::ledger::{Blank, Ledger};
@@ -58,17 +58,17 @@ const STEPS: &str = "
     settle
     shows album=Heroes title=Moss year=1977; album=Heroes title=Neukoln year=1977
 
-    stage album=a title=bc year=2; album=ab title=c year=1
+    stage album=x title=a year=1099511628211; album=y title=b year=0
     settle
-    index album:text title:text
-    unindexed album:text title:text
+    index title:text year:int?
+    unindexed title:text year:int?
     settle
-    finds album:text title:text | album=ab title=c | album=ab title=c year=1
-    finds album:text title:text | album=a title=bc | album=a title=bc year=2
-    stage album=a title=bc year=2
+    finds title:text year:int? | title=b year=0 | album=y title=b year=0
+    finds title:text year:int? | title=a year=1099511628211 | album=x title=a year=1099511628211
+    stage album=x title=a year=1099511628211
     settle
-    finds album:text title:text | album=ab title=c |
-    finds album:text title:text | album=a title=bc | album=a title=bc year=2
+    finds title:text year:int? | title=b year=0 |
+    finds title:text year:int? | title=a year=1099511628211 | album=x title=a year=1099511628211
 
     index year:int?
     settle

@@ -5,6 +5,4 @@
 #[cfg(test)]
 mod cases;
 #[cfg(test)]
-mod samples;
-#[cfg(test)]
 mod trial;

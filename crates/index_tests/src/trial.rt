@@ -3,10 +3,10 @@ ghost use Rattle.std.specs.Prelude.{◌≡◌, IfOk};
 ghost use Rattle.lens_specs.specs.Columns.{names};
 ghost use Rattle.base_index.specs.Held.{IsThere, relation_in};
 
-use crate::samples::{are_rows, columns, relation};
 use base_index::{Need, Tables};
 use lens_values::{Columns, Name, Row};
 use row_sets::Relation;
+use sample_rows::{are_rows, columns, relation};
 use signed_delta::{TableDelta, diff};
 use std::alloc::Global;
 use std::marker::Model;

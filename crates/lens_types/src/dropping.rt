@@ -114,9 +114,7 @@ fn holds_alone(alloc: Global, pred: &Pred, col: &Name, value: &Value) -> Result<
     ensures { IfOk result (λ met.
         met ≡ holds pred.now (with_at map.empty col.now (Some value.now))) }
 {
-    let mut pairs = Vec::with_capacity(alloc, 1)?;
-    pairs.push((*col, value.copy(alloc)?))?;
-    let row = Row::from_rising(alloc, pairs)?;
+    let row = Row::single(alloc, col, value)?;
     Ok(pred.holds(&row))
 }
 

@@ -1,5 +1,6 @@
 pub mod Bytes
 pub mod Columns
+pub mod Hash
 pub mod Keys
 pub mod Name
 pub mod NameBytes

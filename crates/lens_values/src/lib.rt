@@ -3,6 +3,7 @@
 
 pub mod columns;
 pub mod copying;
+pub mod hash;
 pub mod join_kind;
 pub mod merging;
 pub mod name;
@@ -17,6 +18,7 @@ pub mod value;
 
 pub use columns::{Columns, ColumnsFault};
 pub use copying::{TryClone, append, copied};
+pub use hash::{hash_number, hash_value};
 pub use join_kind::JoinKind;
 pub use merging::{Keyed, difference, intersection, union};
 pub use name::{BadName, Name};

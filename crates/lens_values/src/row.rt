@@ -1,5 +1,5 @@
 //! A row: a finite map from names to values.
-ghost use Rattle.std.specs.Prelude.{◌≡◌, ◌↔◌, IsTrue, IfOk, OnOk, option_copied, refl};
+ghost use Rattle.std.specs.Prelude.{◌≡◌, ◌↔◌, [], ◌∷◌, IsTrue, IfOk, OnOk, option_copied, refl};
 ghost use Rattle.std.specs.Cmp.{eq_by_cmp_equiv, partial_equiv_from_equiv, partial_order_from_agreeing_total};
 ghost use Rattle.std.specs.FinMap as map;
 ghost use Rattle.std.specs.List.Sorted.{IsStrictlySortedBy};
@@ -120,6 +120,15 @@ impl Row {
         Ok(Row {
             cells: Rc::new(alloc, cells)?,
         })
+    }
+
+    /// The row that has this value in one column.
+    pub fn single(alloc: Global, name: &Name, value: &Value) -> Result<Row, NoMemory>
+        ensures { IfOk result (λ row. row ≡ map.from_entries ((name.now, value.now) ∷ [])) }
+    {
+        let mut values = Vec::with_capacity(alloc, 1)?;
+        values.push(value.copy(alloc)?)?;
+        Row::from_values(alloc, Names::single(alloc, name)?, values)
     }
 
     /// The names of the columns.

@@ -1,9 +1,9 @@
 //! The check of an edit against the sort of its view.
 use crate::edits::fault_of;
-use crate::samples::row;
 use edit_check::EditFault;
 use fd_tree::Clash;
 use lens_probe::View;
+use sample_rows::row;
 use std::alloc::Global;
 use std::sync::ledger::Ledger;
 use std::test::Fail;

@@ -7,11 +7,11 @@ ghost use Rattle.lens_probe.specs.Viewed.{shown};
 ghost use Rattle.lens_chain.specs.Edits.{over};
 
 use crate::premises::is_of;
-use crate::samples::relation;
 use edit_check::{EditFault, check_edit};
 use lens_chain::put_delta;
 use lens_probe::View;
 use row_sets::Relation;
+use sample_rows::relation;
 use signed_delta::{Delta, Look, TableDelta};
 use std::alloc::Global;
 use std::sync::ledger::Ledger;

@@ -1,10 +1,10 @@
 //! Rows of a view by the value in one column.
 ghost use Rattle.std.specs.Prelude.{◌≡◌};
 
-use crate::samples::{are_rows, value};
 use find_rows::find_rows;
 use lens_probe::View;
 use lens_values::Name;
+use sample_rows::{are_rows, value};
 use std::alloc::Global;
 use std::marker::Brand;
 use std::sync::ledger::{Blank, Ledger};

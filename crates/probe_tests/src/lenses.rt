@@ -1,8 +1,8 @@
 //! Tables and lenses that tests write as texts.
-use crate::samples::{columns, deps, names, value};
 use lens_pred::{Formula, Op, Pred};
 use lens_types::{JoinKind, Sort, TypedLens};
 use lens_values::{Name, Names, Value};
+use sample_rows::{columns, deps, names, value};
 use std::alloc::Global;
 use std::test::Fail;
 

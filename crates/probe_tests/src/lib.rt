@@ -18,8 +18,6 @@ mod premises;
 #[cfg(test)]
 mod puts;
 #[cfg(test)]
-mod samples;
-#[cfg(test)]
 mod shelf;
 #[cfg(test)]
 mod trials;

@@ -9,13 +9,13 @@ ghost use Rattle.lens_chain.specs.Edits.{over};
 ghost use Rattle.probe_tests.specs.Shelves.{AreKeptTwice, is_met};
 
 use crate::premises::{are_of, has_keys};
-use crate::samples::{are_rows, names, row};
 use crate::shelf::Shelf;
 use base_index::Need;
 use lens_probe::{View, needs};
 use lens_types::TypedLens;
 use lens_values::{Names, NoMemory, Row};
 use row_sets::RowSet;
+use sample_rows::{are_rows, names, row};
 use signed_delta::Look;
 use std::alloc::Global;
 use std::sync::ledger::Ledger;

@@ -1,8 +1,8 @@
 //! What an edit of the stock changes in its tables.
 use crate::edits::{changes_of, rows_of};
-use crate::samples::is_delta;
 use lens_probe::View;
 use lens_values::Name;
+use sample_rows::is_delta;
 use signed_delta::TableDelta;
 use std::alloc::Global;
 use std::sync::ledger::Ledger;
@@ -55,5 +55,5 @@ fn is_change(
     table: &str,
     rows: [&str; 2],
 ) -> Result<bool, Fail> {
-    Ok(change.table == Name::new(table)? && is_delta(alloc, &change.delta, rows[0], rows[1])?)
+    Ok(change.table == Name::new(table)? && is_delta(alloc, &change.delta, [rows[0], rows[1]])?)
 }

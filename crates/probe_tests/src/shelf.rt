@@ -6,12 +6,12 @@ ghost use Rattle.base_index.specs.Held.{IsQuiet};
 ghost use Rattle.probe_tests.specs.Shelves.{AreKeptTwice};
 
 use crate::lenses::table_named;
-use crate::samples::{columns, relation};
 use base_index::{Need, Tables};
 use lens_probe::needs;
 use lens_types::TypedLens;
 use lens_values::{Columns, Name};
 use row_sets::{Relation, RowSet};
+use sample_rows::{columns, relation};
 use signed_delta::{Delta, TableDelta};
 use std::alloc::Global;
 use std::sync::ledger::Ledger;

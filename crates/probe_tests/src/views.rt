@@ -1,9 +1,9 @@
 //! What the view of a lens of five nodes needs, what it shows, and what it is made of.
 use crate::looks::{finds, has};
-use crate::samples::{are_rows, names};
 use base_index::Need;
 use lens_probe::{View, needs};
 use lens_values::Name;
+use sample_rows::{are_rows, names};
 use std::alloc::Global;
 use std::sync::ledger::Ledger;
 use std::test::Fail;

@@ -153,5 +153,5 @@ fn with_near<K: Look, L: Ledger>(
 fn has_like(edge: &Edge, row: &Row, rows: &[Row]) -> bool
     ensures { result ≡ list_any (is_like edge.now row.now) rows.now }
 {
-    rows.iter().any(|other| other.agree_on(row, &edge.left) && other.agree_on(row, &edge.right))
+    rows.iter().any(|other| edge.alike(other, row))
 }

@@ -6,8 +6,8 @@ use std::process::Abort;
 
 // Dependencies, rows and their first clash, which is the place of its edge and two rows: the first
 // edge decides, then the least row that has one, then the least of the rows that it clashes with. In
-// the last four, one number stands for the rows at 0 and 65,599 and at 1 and 0, and for those at null
-// and at the least number.
+// the last four, one number stands for the rows at 0 and 2^40 + 435 and at 1 and 0, and for those at
+// null and at the least number.
 const CLASHES: &str = "\
 a -> b | | none
 a -> b | a=1 b=1 c=0; a=1 b=1 c=5; a=2 b=2 c=0 | none
@@ -20,8 +20,8 @@ a -> b, b -> c | a=1 b=1 c=1; a=2 b=1 c=2; a=2 b=2 c=2 | 0: a=2 b=1 c=2; a=2 b=2
 a b -> c | a=1 b=1 c=1; a=1 b=2 c=2; a=2 b=1 c=3 | none
 a b -> c | a=x b=true c=1; a=x b=false c=2; a=y b=true c=-1 | none
 a b -> c | a=x b=true c=1; a=y b=true c=-1; a=y b=true c=-2 | 0: a=y b=true c=-2; a=y b=true c=-1
-a b -> c | a=0 b=65599 c=1; a=1 b=0 c=2 | none
-a b -> c | a=0 b=65599 c=1; a=1 b=0 c=2; a=0 b=65599 c=3 | 0: a=0 b=65599 c=1; a=0 b=65599 c=3
+a b -> c | a=0 b=1099511628211 c=1; a=1 b=0 c=2 | none
+a b -> c | a=0 b=1099511628211 c=1; a=1 b=0 c=2; a=0 b=1099511628211 c=3 | 0: a=0 b=1099511628211 c=1; a=0 b=1099511628211 c=3
 a -> b | a=null b=1; a=-9223372036854775808 b=2 | none
 a -> b | a=null b=1; a=-9223372036854775808 b=2; a=null b=3 | 0: a=null b=1; a=null b=3";
 

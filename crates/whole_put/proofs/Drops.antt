@@ -2,7 +2,6 @@
 use Rattle.std.proofs.Common.{◌≡◌, List, [], ◌∷◌, map, refl, sym, ap, ◌∙◌, Bool, true, false, cond, Option, Some, None, inl}
 use Rattle.std.specs.FinMap as finmap
 use Rattle.std.specs.Cmp.Lexicographic.{nat_list_cmp_total}
-use Rattle.std.specs.List.Sorted.{IsStrictlySortedBy}
 use Rattle.std.specs.Ordering.{eq_by_cmp}
 use Rattle.std.proofs.lemmas.Bool.{true≢false}
 use Rattle.lens_values.specs.Order.{bytes_cmp}
@@ -27,11 +26,6 @@ use Rattle.fd_laws.proofs.Rows.{agree_from, at-with_at, same_row}
 use Rattle.fd_laws.proofs.Trees.{to_tree_without}
 use Rattle.row_sets.proofs.Natural.{first_of, get-both}
 use Rattle.whole_put.proofs.Cuts.{other_columns}
-
--- a list of one rises
-pub one_rises : (n : Name) → IsStrictlySortedBy bytes_cmp (n ∷ [])
-unfolding IsStrictlySortedBy
-one_rises n = (tt, tt)
 
 -- the relation without the column is the view
 pub dropped : (A : Name) (source : Relation) (all out kept : Names) → all ≡ names source.columns → out ≡ one A → kept ≡ set.difference all out

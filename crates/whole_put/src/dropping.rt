@@ -1,5 +1,5 @@
 //! Projections: the rows of a source without one of its columns.
-ghost use Rattle.std.specs.Prelude.{◌≡◌, ◌∷◌, [], false, true, IfOk, Some, map};
+ghost use Rattle.std.specs.Prelude.{◌≡◌, false, true, IfOk, Some, map};
 ghost use Rattle.std.specs.FinMap as finmap;
 ghost use Rattle.lens_values.specs.Part.{override};
 ghost use Rattle.lens_values.specs.SortedSet as set;
@@ -50,21 +50,12 @@ pub fn put_drop(
     let left = by.copy(alloc)?;
     let right = Names::single(alloc, col)?;
     let edge = Edge { left, right };
-    let default = default_row(alloc, col, fill)?;
+    let default = Row::single(alloc, col, fill)?;
     let filled = with_default(alloc, &default, view.rows().rows())?;
     let moved = all_along(alloc, &edge, &filled, source.rows())?;
     let rows = RowSet::new(alloc, moved)?;
     let columns = source.columns().copy(alloc)?;
     Ok(Relation::with_rows(columns, rows))
-}
-
-// The row with this value in one column.
-fn default_row(alloc: Global, name: &Name, value: &Value) -> Result<Row, NoMemory>
-    ensures { IfOk result (λ row. row ≡ finmap.from_entries ((name.now, value.now) ∷ [])) }
-{
-    let mut pairs = Vec::new(alloc);
-    pairs.push((*name, value.copy(alloc)?))?;
-    Row::from_rising(alloc, pairs)
 }
 
 // Each of the rows, with the value of the default in its column. All get the same columns, so each

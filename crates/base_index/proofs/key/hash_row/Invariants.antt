@@ -1,5 +1,5 @@
 use Rattle.std.proofs.Common.{◌≡◌, fold, take}
-use Rattle.base_index.specs.Key.{hash_value}
+use Rattle.lens_values.specs.Hash.{hash_value}
 use Rattle.base_index.proofs.key.hash_row.Given as goal
 
 -- the hash is that of the values so far

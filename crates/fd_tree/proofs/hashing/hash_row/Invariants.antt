@@ -2,8 +2,8 @@ use Rattle.std.proofs.Common.{◌≡◌, take}
 use Rattle.std.specs.List.{fold}
 use Rattle.lens_values.specs.SortedSet as set
 use Rattle.lens_specs.specs.Rows.{at}
-use Rattle.fd_tree.specs.RowHash.{hash_value}
+use Rattle.fd_tree.specs.RowHash.{hash_at}
 use Rattle.fd_tree.proofs.hashing.hash_row.Given as goal
 
 abbrev pub invariant-loop-name : goal.invariant-loop-name
-invariant-loop-name l = l.hash ≡ fold (λ hash c. hash_value hash (at l.row c)) 0 (take l.name-index (set.items l.cols))
+invariant-loop-name l = l.hash ≡ fold (λ hash c. hash_at hash (at l.row c)) 0 (take l.name-index (set.items l.cols))

@@ -1,7 +1,9 @@
 //! Values that tests write as texts, and whether rows are what a text says.
 ghost use Rattle.std.specs.Prelude.{◌≡◌, IfOk, OnOk};
+ghost use Rattle.lens_specs.specs.Relation.{IsRelation};
 
 use fd_closure::Dep;
+use fd_tree::Tree;
 use lens_values::{Columns, Kind, Name, Names, Row, Text, Value};
 use row_sets::{Relation, RowSet};
 use signed_delta::Delta;
@@ -9,12 +11,21 @@ use std::alloc::Global;
 use std::test::Fail;
 
 /// Fails, with the case, where something does not hold of it.
-pub(crate) fn expect(holds: bool, case: &str) -> Result<(), Fail> {
+pub fn expect(holds: bool, case: &str) -> Result<(), Fail> {
     if holds { Ok(()) } else { Err(Fail::from(case)) }
 }
 
+/// What stands between the bars of the text.
+pub fn parts(alloc: Global, text: &str) -> Result<Vec<&str>, Fail> {
+    let mut list = Vec::new(alloc);
+    for part in text.split('|') {
+        list.push(part.trim())?;
+    }
+    Ok(list)
+}
+
 /// The names that the text lists, as `a b`.
-pub(crate) fn names(alloc: Global, text: &str) -> Result<Names, Fail> {
+pub fn names(alloc: Global, text: &str) -> Result<Names, Fail> {
     let mut list = Vec::new(alloc);
     for word in text.split_whitespace() {
         list.push(Name::new(word)?)?;
@@ -26,6 +37,7 @@ pub(crate) fn names(alloc: Global, text: &str) -> Result<Names, Fail> {
 fn kind(word: &str) -> Result<Kind, Fail> {
     match word {
         "int" => Ok(Kind::Int),
+        "int?" => Ok(Kind::IntOrNull),
         "text" => Ok(Kind::Text),
         "text?" => Ok(Kind::TextOrNull),
         _ => Err(Fail::from("no kind")),
@@ -38,8 +50,8 @@ fn column(word: &str) -> Result<(Name, Kind), Fail> {
     Ok((Name::new(name)?, kind(of)?))
 }
 
-/// The columns that the text lists, as `a:int b:text c:text?`.
-pub(crate) fn columns(alloc: Global, text: &str) -> Result<Columns, Fail> {
+/// The columns that the text lists, as `a:int b:int? c:text d:text?`.
+pub fn columns(alloc: Global, text: &str) -> Result<Columns, Fail> {
     let mut pairs = Vec::new(alloc);
     for word in text.split_whitespace() {
         pairs.push(column(word)?)?;
@@ -48,7 +60,7 @@ pub(crate) fn columns(alloc: Global, text: &str) -> Result<Columns, Fail> {
 }
 
 /// Null, a number, or else a text.
-pub(crate) fn value(alloc: Global, word: &str) -> Result<Value, Fail> {
+pub fn value(alloc: Global, word: &str) -> Result<Value, Fail> {
     if word == "null" {
         return Ok(Value::Null);
     }
@@ -65,7 +77,7 @@ fn cell(alloc: Global, word: &str) -> Result<(Name, Value), Fail> {
 }
 
 /// The row that the text lists, as `a=1 b=x`.
-pub(crate) fn row(alloc: Global, text: &str) -> Result<Row, Fail> {
+pub fn row(alloc: Global, text: &str) -> Result<Row, Fail> {
     let mut pairs = Vec::new(alloc);
     for word in text.split_whitespace() {
         pairs.push(cell(alloc, word)?)?;
@@ -73,8 +85,8 @@ pub(crate) fn row(alloc: Global, text: &str) -> Result<Row, Fail> {
     Ok(Row::new(alloc, pairs)?)
 }
 
-// The rows that the text lists, as `a=1 b=x; a=2 b=y`.
-fn rows(alloc: Global, text: &str) -> Result<Vec<Row>, Fail> {
+/// The rows that the text lists, as `a=1 b=x; a=2 b=y`.
+pub fn rows(alloc: Global, text: &str) -> Result<Vec<Row>, Fail> {
     let mut list = Vec::new(alloc);
     for part in text.split_terminator(';') {
         list.push(row(alloc, part)?)?;
@@ -83,8 +95,9 @@ fn rows(alloc: Global, text: &str) -> Result<Vec<Row>, Fail> {
 }
 
 /// The relation over the columns that has the rows of the text.
-pub(crate) fn relation(alloc: Global, columns: &Columns, text: &str) -> Result<Relation, Fail>
+pub fn relation(alloc: Global, columns: &Columns, text: &str) -> Result<Relation, Fail>
     ensures columns { IfOk result (λ made. made.columns ≡ columns.now) }
+    ensures fit { IfOk result IsRelation }
 {
     let mut made = Relation::empty(alloc, columns.copy(alloc)?);
     for row in rows(alloc, text)? {
@@ -95,7 +108,9 @@ pub(crate) fn relation(alloc: Global, columns: &Columns, text: &str) -> Result<R
 
 // Adds the row, if it fits.
 fn add(relation: &mut Relation, row: Row) -> Result<(), Fail>
+    requires { IsRelation relation.old }
     ensures columns { OnOk result (relation.new.columns ≡ relation.old.columns) }
+    ensures fit { OnOk result (IsRelation relation.new) }
 {
     if !row.fits(relation.columns()) {
         return Err(Fail::from("a row of other columns"));
@@ -104,8 +119,13 @@ fn add(relation: &mut Relation, row: Row) -> Result<(), Fail>
     Ok(())
 }
 
+/// The tree form of the dependencies that the text lists.
+pub fn tree(alloc: Global, text: &str) -> Result<Tree, Fail> {
+    Ok(Tree::of(alloc, &deps(alloc, text)?)?)
+}
+
 /// The dependencies that the text lists, as `a -> b, b -> c`.
-pub(crate) fn deps(alloc: Global, text: &str) -> Result<Vec<Dep>, Fail> {
+pub fn deps(alloc: Global, text: &str) -> Result<Vec<Dep>, Fail> {
     let mut list = Vec::new(alloc);
     for part in text.split_terminator(',') {
         list.push(dep(alloc, part)?)?;
@@ -120,16 +140,11 @@ fn dep(alloc: Global, text: &str) -> Result<Dep, Fail> {
 }
 
 /// Whether the set has the rows that the text lists, in this order, and no other.
-pub(crate) fn are_rows(alloc: Global, found: &RowSet, text: &str) -> Result<bool, Fail> {
+pub fn are_rows(alloc: Global, found: &RowSet, text: &str) -> Result<bool, Fail> {
     Ok(found.rows() == rows(alloc, text)?.as_slice())
 }
 
-/// Whether the difference removes these rows and adds those.
-pub(crate) fn is_delta(
-    alloc: Global,
-    delta: &Delta,
-    remove: &str,
-    add: &str,
-) -> Result<bool, Fail> {
+/// Whether the difference removes the first rows and adds the second.
+pub fn is_delta(alloc: Global, delta: &Delta, [remove, add]: [&str; 2]) -> Result<bool, Fail> {
     Ok(are_rows(alloc, delta.remove(), remove)? && are_rows(alloc, delta.add(), add)?)
 }

@@ -1,7 +1,7 @@
 use Rattle.std.proofs.Common.{rules, subst, sym}
 use Rattle.lens_specs.specs.Relation.{Fits, IsRelation}
 use Rattle.row_sets.proofs.Fitting.{still_fits}
-use Rattle.index_tests.proofs.samples.add.Goals as goal
+use Rattle.sample_rows.proofs.samples.add.Goals as goal
 
 pub returns-clause-fit : goal.returns-clause-fit
 returns-clause-fit c =
