@@ -1,4 +1,4 @@
--- Short texts compared by the numbers that their bytes spell, eight for each number.
+-- Short texts compared by the numbers that their bytes spell: eight for each of the first two, and six for the last.
 use Rattle.std.proofs.Common.{[], ◌∷◌, ◌<◌, ◌≤◌, ◌+◌, ◌-◌, ◌*◌, zero, suc, ◌≡◌, sym, ap, subst, refl, ◌∙◌, length, List, ◌++◌, ℕ, IsTrue, Bool, true, false, arith, take, drop, replicate, get_or, length-append, length-drop}
 use Rattle.std.specs.Prelude.{◌&&◌, ◌||◌, ◌==◌, ◌≢◌, not, nat_le}
 use Rattle.std.specs.List.{list_all, list_any}
@@ -30,11 +30,11 @@ text_bytes (b ∷ v) l h =
     let parts = neither (b == 0) (list_any (λ x. x == 0) v) h in
     ap (λ t. t && list_all is_text_byte v) (text_byte b parts.0 (l 0)) ∙ text_bytes v (λ k. l (suc k)) parts.1
 
-pub keeps_short : (text : List ℕ) → ((k : ℕ) → get_or text k 0 < 256) → IsTrue (is_text text) → IsUtf8 text → length text ≤ 24
-    → KeepsShort (text ++ drop (length text) (replicate 24 0)) (length text)
+pub keeps_short : (text : List ℕ) → ((k : ℕ) → get_or text k 0 < 256) → IsTrue (is_text text) → IsUtf8 text → length text ≤ 22
+    → KeepsShort (text ++ drop (length text) (replicate 22 0)) (length text)
 keeps_short text small h utf8 short =
-    let front : take (length text) (text ++ drop (length text) (replicate 24 0)) ≡ text = take_at text (drop (length text) (replicate 24 0)) (length text) refl in
-    let long : length (text ++ drop (length text) (replicate 24 0)) ≡ 24 = rw length-append (rw length-drop (omega (arith, short))) in
+    let front : take (length text) (text ++ drop (length text) (replicate 22 0)) ≡ text = take_at text (drop (length text) (replicate 22 0)) (length text) refl in
+    let long : length (text ++ drop (length text) (replicate 22 0)) ≡ 22 = rw length-append (rw length-drop (omega (arith, short))) in
     record {
       text = subst (λ t. IsTrue (list_all is_text_byte t)) (sym front) (text_bytes text small (second_holds (nat_le (length text) 4096) (not (list_any (λ b. b == 0) text)) h));
       utf8 = ∣ subst IsUtf8 (sym front) utf8 ∣₁;
@@ -105,28 +105,28 @@ module _ (b d : List ℕ) (m n : ℕ) (g : KeepsShort b m) (h : KeepsShort d n) 
   abbrev w : List ℕ
   w = take n d
 
-  -- how the eight bytes from this place on compare, by their number
-  abbrev pub numbers_cmp : ℕ → Ordering
-  numbers_cmp at = nat_cmp (spelt 8 0 (drop at b)) (spelt 8 0 (drop at d))
+  -- how so many bytes from a place on compare, by their number
+  abbrev pub numbers_cmp : ℕ → ℕ → Ordering
+  numbers_cmp k at = nat_cmp (spelt k 0 (drop at b)) (spelt k 0 (drop at d))
 
-  by_number : (at : ℕ) → numbers_cmp at ≡ bytes_cmp (take 8 (drop at v)) (take 8 (drop at w))
-  by_number at =
-      (λ i. nat_cmp (spelt 8 0 (drop at (g.whole i))) (spelt 8 0 (drop at (h.whole i))))
-      ∙ (λ i. nat_cmp (spelt_behind at 8 0 v (24 - length v) i) (spelt_behind at 8 0 w (24 - length w) i))
-      ∙ number_cmp 8 0 (drop at v) (drop at w) (text_behind at v g.text) (text_behind at w h.text)
+  by_number : (k at : ℕ) → numbers_cmp k at ≡ bytes_cmp (take k (drop at v)) (take k (drop at w))
+  by_number k at =
+      (λ i. nat_cmp (spelt k 0 (drop at (g.whole i))) (spelt k 0 (drop at (h.whole i))))
+      ∙ (λ i. nat_cmp (spelt_behind at k 0 v (22 - length v) i) (spelt_behind at k 0 w (22 - length w) i))
+      ∙ number_cmp k 0 (drop at v) (drop at w) (text_behind at v g.text) (text_behind at w h.text)
 
-  -- by three numbers, since there are at most 24 bytes
-  pub by_numbers : bytes_cmp v w ≡ ordering_then (numbers_cmp 0) (ordering_then (numbers_cmp 8) (numbers_cmp 16))
+  -- by three numbers, since there are at most 22 bytes
+  pub by_numbers : bytes_cmp v w ≡ ordering_then (numbers_cmp 8 0) (ordering_then (numbers_cmp 8 8) (numbers_cmp 6 16))
   by_numbers =
-      let long : length v ≤ 24 = omega (arith, length-take-le m b g.within, g.within, g.full) in
-      let wide : length w ≤ 24 = omega (arith, length-take-le n d h.within, h.within, h.full) in
-      let end : bytes_cmp (drop 16 v) (drop 16 w) ≡ numbers_cmp 16 =
-      (λ i. bytes_cmp (sym (all_of 8 (drop 16 v) (omega (arith, long, length-drop 16 v))) i) (sym (all_of 8 (drop 16 w) (omega (arith, wide, length-drop 16 w))) i)) ∙ sym (by_number 16)
+      let long : length v ≤ 22 = omega (arith, length-take-le m b g.within, g.within, g.full) in
+      let wide : length w ≤ 22 = omega (arith, length-take-le n d h.within, h.within, h.full) in
+      let end : bytes_cmp (drop 16 v) (drop 16 w) ≡ numbers_cmp 6 16 =
+      (λ i. bytes_cmp (sym (all_of 6 (drop 16 v) (omega (arith, long, length-drop 16 v))) i) (sym (all_of 6 (drop 16 w) (omega (arith, wide, length-drop 16 w))) i)) ∙ sym (by_number 6 16)
       in
-      let middle : bytes_cmp (drop 8 v) (drop 8 w) ≡ ordering_then (numbers_cmp 8) (numbers_cmp 16) =
-      cut 8 (drop 8 v) (drop 8 w) ∙ (λ i. ordering_then (sym (by_number 8) i) (bytes_cmp (drop-drop 8 8 v i) (drop-drop 8 8 w i))) ∙ ap (ordering_then (numbers_cmp 8)) end
+      let middle : bytes_cmp (drop 8 v) (drop 8 w) ≡ ordering_then (numbers_cmp 8 8) (numbers_cmp 6 16) =
+      cut 8 (drop 8 v) (drop 8 w) ∙ (λ i. ordering_then (sym (by_number 8 8) i) (bytes_cmp (drop-drop 8 8 v i) (drop-drop 8 8 w i))) ∙ ap (ordering_then (numbers_cmp 8 8)) end
       in
-      cut 8 v w ∙ (λ i. ordering_then (sym (by_number 0) i) (middle i))
+      cut 8 v w ∙ (λ i. ordering_then (sym (by_number 8 0) i) (middle i))
 
 -- ---- which of the comparisons decides
 

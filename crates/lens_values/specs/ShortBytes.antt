@@ -6,14 +6,14 @@ use Rattle.std.specs.List.{list_all}
 abbrev pub is_text_byte : ℕ → Bool
 is_text_byte b = not (b == 0) && nat_le b 255
 
--- the bytes with zeros after them, 24 in all
+-- the bytes with zeros after them, 22 in all
 abbrev pub padded : List ℕ → List ℕ
-padded v = v ++ replicate (24 - length v) 0
+padded v = v ++ replicate (22 - length v) 0
 
 -- the first `len` bytes are a text, and zeros follow
 pub record KeepsShort (bytes : List ℕ) (len : ℕ) : Type 0 where
   pub text : IsTrue (list_all is_text_byte (take len bytes))
   pub utf8 : ∥ IsUtf8 (take len bytes) ∥₁
   pub within : len ≤ length bytes
-  pub full : length bytes ≡ 24
+  pub full : length bytes ≡ 22
   pub whole : bytes ≡ padded (take len bytes)

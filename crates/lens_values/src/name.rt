@@ -113,6 +113,7 @@ impl Name {
     }
 
     // The number that the first bytes spell.
+    #[inline]
     fn front(&self) -> u64
         ensures value { result ≡ spelt 8 0 self.now }
         ensures name { IsTrue (spec.is_name self.now) }
@@ -121,6 +122,7 @@ impl Name {
     }
 
     // Whether the name has no more bytes than those.
+    #[inline]
     fn is_short(&self) -> bool
         ensures { result ≡ nat_le (length self.now) 8 }
     {
@@ -164,6 +166,7 @@ impl PartialEq for Name {
 
     ghost laws = { partial_equiv_from_equiv nat_list_eq_equiv };
 
+    #[inline]
     fn eq(&self, other: &Name) -> bool {
         self.front() == other.front() && self.equals_rest(other)
     }
@@ -192,6 +195,7 @@ impl Ord for Name {
 
     ghost matches_eq = { texts_ties };
 
+    #[inline]
     fn cmp(&self, other: &Name) -> Ordering {
         match self.front().cmp(&other.front()) {
             Ordering::Equal => self.cmp_rest(other),

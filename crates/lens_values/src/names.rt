@@ -18,6 +18,9 @@ use std::cmp::Ordering;
 use std::marker::Model;
 use std::rc::Rc;
 
+// Up to so many names are compared one after another, which takes less time than a binary search.
+const MOST_IN_TURN: usize = 8;
+
 /// A finite set of names, kept as their rising list. Copies share it.
 #[derive(Debug, Drop)]
 pub struct Names {
@@ -86,7 +89,11 @@ impl Names {
     pub fn has(&self, name: &Name) -> bool
         ensures { result ≡ set.contains self.now name.now }
     {
-        self.as_slice().binary_search(name).is_ok()
+        let own = self.as_slice();
+        if own.len() <= MOST_IN_TURN {
+            return is_one_of(own, name);
+        }
+        own.binary_search(name).is_ok()
     }
 
     /// The place of the name among the names, from 0, or `None` where it is not there.
@@ -98,6 +105,7 @@ impl Names {
 
     // The same, where the name may stand at the place `near` or behind it. A walk that takes rising
     // names one after another so meets each with few steps.
+    #[inline]
     pub(crate) fn place_near(&self, name: &Name, near: usize) -> Option<usize>
         ensures { result ≡ position (eq_by_cmp bytes_cmp name.now) (set.items self.now) }
     {
@@ -164,15 +172,26 @@ impl Names {
     }
 }
 
+// Whether the name is in the list.
+fn is_one_of(list: &[Name], name: &Name) -> bool
+    ensures { result ≡ is_among bytes_cmp list.now name.now }
+{
+    list.iter().any(|own| name.cmp(own).is_eq())
+}
+
 // The place of the name in the list.
 fn place_in(list: &[Name], name: &Name) -> Option<usize>
     requires { IsStrictlySortedBy bytes_cmp list.now }
     ensures { result ≡ position (eq_by_cmp bytes_cmp name.now) list.now }
 {
+    if list.len() <= MOST_IN_TURN {
+        return list.iter().position(|own| name.cmp(own).is_eq());
+    }
     list.binary_search(name).ok()
 }
 
 // The place of the name from `near` on, or the first place there that has no lesser name.
+#[inline]
 fn place_from(list: &[Name], name: &Name, near: usize) -> Result<usize, usize>
     ensures found { IfOk result (λ place.
         (place < length list.now) × HoldsAt (λ own. bytes_cmp own name.now ≡ Equal) list.now place) }

@@ -196,9 +196,15 @@ impl Row {
     pub fn agree_on(&self, other: &Row, cols: &Names) -> bool
         ensures { result ≡ agree cols.now self.now other.now }
     {
-        cols.as_slice()
-            .iter()
-            .all(|name| self.agrees_at(other, name))
+        let names = cols.as_slice();
+        let mut near = 0;
+        let mut others_near = 0;
+        for name in names {
+            if !self.agrees_at(other, name, &mut near, &mut others_near) {
+                return false;
+            }
+        }
+        true
     }
 
     /// Whether the row has exactly these columns, with a value that fits in each.
@@ -217,16 +223,13 @@ impl Row {
         })
     }
 
-    // Whether both rows have the same value, or none, in this column.
-    fn agrees_at(&self, other: &Row, name: &Name) -> bool
+    // Whether both rows have the same value, or none, in this column, whose places `value_near` knows.
+    fn agrees_at(&self, other: &Row, name: &Name, near: &mut usize, others_near: &mut usize) -> bool
         ensures { result ≡ same_value (map.get self.now name.now) (map.get other.now name.now) }
     {
-        // Rows with the same names have it at the same place.
-        let mut place = self.names().place_of(name).unwrap_or(0);
-        let mut others_place = place;
         match (
-            self.value_near(name, &mut place),
-            other.value_near(name, &mut others_place),
+            self.value_near(name, near),
+            other.value_near(name, others_near),
         ) {
             (Some(mine), Some(others)) => mine == others,
             (None, None) => true,
@@ -235,6 +238,7 @@ impl Row {
     }
 
     // The value under a name, which may stand at the place `near`. Then `near` is the next place.
+    #[inline]
     fn value_near(&self, name: &Name, near: &mut usize) -> Option<&Value>
         ensures { option_copied result ≡ map.get self.now name.now }
     {
@@ -262,8 +266,13 @@ impl Row {
         Ok(found)
     }
 
-    // The values that the row with the other pasted over it has under the names.
-    fn values_with(&self, alloc: Global, over: &Row, names: &Names) -> Result<Vec<Value>, NoMemory>
+    /// The values that the row with the other pasted over it has under the names, in their order.
+    pub fn values_with(
+        &self,
+        alloc: Global,
+        over: &Row,
+        names: &Names,
+    ) -> Result<Vec<Value>, NoMemory>
         ensures { IfOk result (λ found.
             found.items ≡ filter_map (map.get (override over.now self.now)) (set.items names.now)) }
     {

@@ -8,14 +8,15 @@ use std::cmp::Ordering;
 use std::marker::Model;
 
 /// The greatest number of bytes of a short text.
-pub const SHORT: usize = 24;
+pub const SHORT: usize = 22;
 
-/// At most 24 bytes of UTF-8, without U+0000. A contract sees its bytes.
+/// At most 22 bytes of UTF-8, without U+0000. A contract sees its bytes. With them and their number
+/// a value takes 32 bytes.
 #[derive(Clone, Copy, Debug)]
 pub struct ShortText {
     // The bytes of the text, and zeros after them.
-    bytes: [u8; 24],
-    len: usize,
+    bytes: [u8; 22],
+    len: u8,
 }
 
 impl Model for ShortText {
@@ -36,21 +37,21 @@ impl Model for ShortText {
 }
 
 impl ShortText {
-    /// The short text of the bytes of a text, or `None` where there are more than 24.
+    /// The short text of the bytes of a text, or `None` if there are more than 22.
     pub fn new(s: &str) -> Option<ShortText>
         requires { IsTrue (is_text s.now) }
         ensures some { IfSome result (λ short. short ≡ s.now) }
-        ensures none { IfNone result (24 < length s.now) }
+        ensures none { IfNone result (22 < length s.now) }
     {
         let text = s.as_bytes();
         if text.len() > SHORT {
             return None;
         }
-        let mut bytes = [0; 24];
+        let mut bytes = [0; 22];
         bytes[..text.len()].copy_from_slice(text);
         Some(ShortText {
             bytes,
-            len: text.len(),
+            len: text.len() as u8,
         })
     }
 
@@ -58,7 +59,7 @@ impl ShortText {
     pub fn as_str(&self) -> &str
         ensures { result.now ≡ self.now }
     {
-        unsafe { str::from_utf8_unchecked(&self.bytes[..self.len]) }
+        unsafe { str::from_utf8_unchecked(&self.bytes[..self.len as usize]) }
     }
 
     /// How the texts stand to one another.
@@ -68,7 +69,7 @@ impl ShortText {
         let (mine, others) = (&self.bytes, &other.bytes);
         match number(mine, 0).cmp(&number(others, 0)) {
             Ordering::Equal => match number(mine, 8).cmp(&number(others, 8)) {
-                Ordering::Equal => number(mine, 16).cmp(&number(others, 16)),
+                Ordering::Equal => last_number(mine).cmp(&last_number(others)),
                 order => order,
             },
             order => order,
@@ -77,8 +78,8 @@ impl ShortText {
 }
 
 // The number that eight of the bytes spell, the greatest first.
-fn number(bytes: &[u8; 24], start: usize) -> u64
-    requires { start + 8 ≤ 24 }
+fn number(bytes: &[u8; 22], start: usize) -> u64
+    requires { start + 8 ≤ 22 }
     ensures { result ≡ spelt 8 0 (drop start bytes.now) }
 {
     u64::from_be_bytes([
@@ -90,5 +91,14 @@ fn number(bytes: &[u8; 24], start: usize) -> u64
         bytes[start + 5],
         bytes[start + 6],
         bytes[start + 7],
+    ])
+}
+
+// The number that the last six of the bytes spell, the greatest first.
+fn last_number(bytes: &[u8; 22]) -> u64
+    ensures { result ≡ spelt 6 0 (drop 16 bytes.now) }
+{
+    u64::from_be_bytes([
+        0, 0, bytes[16], bytes[17], bytes[18], bytes[19], bytes[20], bytes[21],
     ])
 }

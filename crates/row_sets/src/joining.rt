@@ -1,15 +1,13 @@
 //! Pairs of rows that agree on some columns, found by an index.
 ghost use Rattle.std.specs.Prelude.{◌≡◌, ◌≤◌, ◌++◌, IfOk, IfSome, OnOk, false, filter, flat_map, length, map, option_map, true};
-ghost use Rattle.std.specs.FinMap as finmap;
-ghost use Rattle.std.specs.List.{filter_map, list_any};
+ghost use Rattle.std.specs.List.{list_any};
 ghost use Rattle.std.specs.List.Sorted.{IsPartitionPoint, IsPartitionedBy, IsStrictlySortedBy};
 ghost use Rattle.std.specs.Ordering.{eq_by_cmp, is_eq, is_le};
 ghost use Rattle.lens_values.specs.Part.{override, restrict};
 ghost use Rattle.lens_values.specs.Row.{row_cmp};
-ghost use Rattle.lens_values.specs.SortedSet as set;
 ghost use Rattle.row_sets.specs.Joins.{entry_cmp, kept_of, with_key};
 
-use lens_values::{Names, NoMemory, Row, Value, into_sorted};
+use lens_values::{Names, NoMemory, Row, into_sorted};
 use std::alloc::Global;
 
 /// The index of the rows by these columns: each row after its part in the columns, in rising order
@@ -127,30 +125,11 @@ fn pasted(
 pub fn pasted_part(alloc: Global, row: &Row, over: &Row, cols: &Names) -> Result<Row, NoMemory>
     ensures { IfOk result (λ part. part ≡ restrict cols.now (override over.now row.now)) }
 {
-    let values = pasted_values(alloc, row, over, cols)?;
+    let values = row.values_with(alloc, over, cols)?;
     if values.len() == cols.len() {
         return Row::from_values(alloc, cols.copy(alloc)?, values);
     }
     row.paste(alloc, over)?.project(alloc, cols)
-}
-
-// The values that the row with the other pasted over it has in these columns.
-fn pasted_values(alloc: Global, row: &Row, over: &Row, cols: &Names) -> Result<Vec<Value>, NoMemory>
-    ensures { IfOk result (λ values.
-        values.items
-        ≡ filter_map (finmap.get (override over.now row.now)) (set.items cols.now)) }
-{
-    let mut values = Vec::with_capacity(alloc, cols.len())?;
-    for name in cols.as_slice() {
-        let found = match over.value(name) {
-            Some(value) => Some(value),
-            None => row.value(name),
-        };
-        if let Some(value) = found {
-            values.push(value.copy(alloc)?)?;
-        }
-    }
-    Ok(values)
 }
 
 // The entries with this part, which are neighbours.
