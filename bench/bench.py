@@ -1,19 +1,16 @@
 #!/usr/bin/env python3
-"""Measures the built program, and prints the table of docs/SPEED.md: the time of each line, and peak memory.
-
-Usage: bench/bench.py [PROGRAM]    (without the word, the program that ./serve builds)
-"""
+"""Measures the program, and prints the table of docs/SPEED.md: the time of each line, and peak memory."""
 import json
 import os
 import re
 import sqlite3
 import string
 import subprocess
-import sys
 import tempfile
 import time
 
-TOP = os.path.dirname(os.path.dirname(os.path.abspath(__file__)))
+from program import UNDO, Server, arguments, batch, define, edit, find, must_begin, options, put
+
 ROWS = 100_000
 HIDING = 125_000
 PUTS = 1_000
@@ -21,81 +18,14 @@ ROUNDS = 8
 COMMITS = 250
 HUGE = 300_000
 LONGEST = 16_777_216
-# The program is started as ./serve starts it.
-AS_SERVED = {"GLIBC_TUNABLES": "glibc.malloc.hugetlb=1:glibc.malloc.tcache_count=1000", **os.environ}
-
-
-UNDO = b'{"do":"undo"}\n'
 TRACKS = "table tracks (album text, date int, rating int, track text)"
 DEPENDENCIES = " with track -> album date, date -> rating"
-
-
-class Server:
-    """The program, asked a line at a time."""
-
-    def __init__(self, program, *words):
-        self.process = subprocess.Popen([program, *words], stdin=subprocess.PIPE, stdout=subprocess.PIPE, bufsize=0, env=AS_SERVED)
-
-    def ask(self, line):
-        """The reply to a line, and how long it took, in seconds."""
-        begin = time.perf_counter()
-        view = memoryview(line)
-        sink = self.process.stdin.fileno()
-        source = self.process.stdout.fileno()
-        while view:
-            view = view[os.write(sink, view):]
-        pieces = []
-        while not pieces or not pieces[-1].endswith(b"\n"):
-            piece = os.read(source, 1 << 20)
-            if not piece:
-                raise SystemExit("the program ended")
-            pieces.append(piece)
-        return b"".join(pieces), time.perf_counter() - begin
-
-    def stream(self, lines):
-        """The replies to lines that are sent at once. They have to fit the pipe, as some hundred short ones do."""
-        os.write(self.process.stdin.fileno(), b"".join(lines))
-        replies = b""
-        while replies.count(b"\n") < len(lines):
-            piece = os.read(self.process.stdout.fileno(), 1 << 20)
-            if not piece:
-                raise SystemExit("the program ended")
-            replies += piece
-        return replies.splitlines()
-
-    def peak(self):
-        """The most memory that the program held so far, in MB."""
-        with open(f"/proc/{self.process.pid}/status", encoding="ascii") as status:
-            for line in status:
-                if line.startswith("VmHWM:"):
-                    return int(line.split()[1]) / 1024
-        return 0.0
-
-    def end(self):
-        self.process.stdin.close()
-        if self.process.wait() != 0:
-            raise SystemExit(f"the program ended with status {self.process.returncode}")
 
 
 def row(number, rating=None):
     """A row of four columns, two of them texts."""
     rating = number % 5 if rating is None else rating
     return f'{{"album":"album{number // 10}","date":{1950 + number % 70},"rating":{rating},"track":"track{number}"}}'
-
-
-def put(rows, view="tracks"):
-    return (f'{{"do":"put","view":"{view}","rows":[' + ",".join(rows) + "]}\n").encode()
-
-
-def edit(view, remove, add, do="edit", on=None):
-    rests = "" if on is None else f',"on":{on}'
-    return (f'{{"do":"{do}","view":"{view}","remove":[' + ",".join(remove) + '],"add":[' + ",".join(add) + f"]{rests}}}\n").encode()
-
-
-def batch(edits):
-    """A batch of edits, each a view, rows to remove and rows to add."""
-    members = (f'{{"view":"{view}","remove":[{",".join(remove)}],"add":[{",".join(add)}]}}' for view, remove, add in edits)
-    return (f'{{"do":"batch","edits":[{",".join(members)}]}}\n').encode()
 
 
 def csv_of(rows):
@@ -106,15 +36,6 @@ def csv_of(rows):
 
 def imported(rows, view="tracks"):
     return (json.dumps({"do": "import", "view": view, "csv": csv_of(rows)}) + "\n").encode()
-
-
-def find(view, column, value):
-    return f'{{"do":"find","view":"{view}","column":"{column}","value":{value}}}\n'.encode()
-
-
-def must_begin(reply, start):
-    if not reply.startswith(start):
-        raise SystemExit(f"not what was expected: {reply[:200]!r}")
 
 
 def in_ms(seconds):
@@ -135,10 +56,6 @@ def timed(server, steps, times=1):
         table.append((name, len(line), in_ms(total / times), f"{server.peak():,.0f} MB"))
     server.end()
     return table
-
-
-def define(text):
-    return ('{"do":"define","text":"' + text + '"}\n').encode()
 
 
 def defined(program, *texts, words=()):
@@ -558,7 +475,7 @@ def stores(program):
 
 
 def main():
-    program = sys.argv[1] if len(sys.argv) > 1 else os.path.join(TOP, "crates/view_program/out/view_program")
+    program = options(arguments(__doc__)).program
     print("| What | Bytes of input | Time | Peak memory |")
     print("|---|---|---|---|")
     for part in (large, remembered, views, questions, drops, joins, streams, dependent, chains, long_texts, longest, small, stores):

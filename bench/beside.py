@@ -5,18 +5,15 @@
 The three get the same lines, in turn, and have to give the same replies, byte for byte. The view is a selection over a drop over a join
 of tracks with a tenth as many albums; of 100,000 tracks it shows 57,130 rows. First come the medians of several runs in time, and the
 most memory; then instructions, by valgrind. Those of lines of one row are counted as bench/instructions.py does, over its tables.
-
-Usage: bench/beside.py [PROGRAM [RUNS [ROWS]]]    (without the words, the program that ./serve builds, 5 runs and 100,000 tracks)
 """
 import json
-import os
 import statistics
-import sys
 import tempfile
 
-from bench import PUTS, TOP, Server, edit, must_begin
+from bench import PUTS
 from growth import built, counts, join
 from instructions import OF_ONE_ROW, of_one_row
+from program import Server, arguments, edit, options
 
 EDITED = (1_000, 100_000, 1_000_000)
 OTHERS = ("by_hand", "by_sqlite")
@@ -76,9 +73,11 @@ def tell(name, figures):
 
 
 def main():
-    words = sys.argv[1:]
-    program = words[0] if words else f"{TOP}/crates/view_program/out/view_program"
-    runs, rows = int(words[1]) if len(words) > 1 else 5, int(words[2]) if len(words) > 2 else 100_000
+    parser = arguments(__doc__)
+    parser.add_argument("--runs", type=int, default=5, help="how many runs are timed (5)")
+    parser.add_argument("--rows", type=int, default=100_000, help="how many tracks there are (100,000)")
+    given = options(parser)
+    program, runs, rows = given.program, given.runs, given.rows
     case = join(rows)
     with tempfile.TemporaryDirectory() as folder:
         programs = [program, *(built(name, folder) for name in OTHERS)]

@@ -4,16 +4,13 @@ one line that memory ran out and goes on as if that line had not been sent.
 
 The allocations are those of malloc, calloc and realloc, counted by a small library that is loaded before the C library. A
 first run counts them; then there is one run for each.
-
-Usage: bench/failing_memory.py [--step N] [REQUESTS [PROGRAM [WORDS..]]]
-(each N-th allocation, 1 without the word; the stored run, the program that ./serve builds, and no words)
 """
 import os
 import subprocess
-import sys
 import tempfile
 
-TOP = os.path.dirname(os.path.dirname(os.path.abspath(__file__)))
+from program import TOP, arguments, options
+
 MEMORY = '{"error":1,"ok":false}\n'
 LIBRARY = r"""
 #define _GNU_SOURCE
@@ -66,14 +63,13 @@ def is_right(done, lines, whole, without):
 
 
 def main():
-    words = sys.argv[1:]
-    step = 1
-    if words[:1] == ["--step"]:
-        step, words = int(words[1]), words[2:]
-    requests = words[0] if words else f"{TOP}/crates/view_program/stdin"
-    program = words[1] if len(words) > 1 else f"{TOP}/crates/view_program/out/view_program"
-    given = words[2:]
-    with open(requests) as file:
+    parser = arguments(__doc__)
+    parser.add_argument("--step", type=int, default=1, help="only each N-th allocation fails (1)")
+    parser.add_argument("--requests", default=f"{TOP}/crates/view_program/stdin", help="a file of requests (the stored run)")
+    parser.add_argument("--word", action="append", default=[], help="an argument for the program, as --word=--rehearse")
+    found = options(parser)
+    program, step, given = found.program, found.step, found.word
+    with open(found.requests) as file:
         lines = file.readlines()
     whole = run(program, given, lines).stdout.splitlines(keepends=True)
     shorter = {}

@@ -7,21 +7,18 @@ times in brackets. Where rustc is installed, two lines of each size are of bench
 
 In instructions: at 5,000, 10,000 and 100,000 rows, by valgrind's callgrind, which counts the line alone. Times is
 the last of these over the one before. Of what goes over a whole view the table has the instructions for each of its rows, too.
-
-Usage: bench/growth.py [PROGRAM [RUNS]]            (without the words, the program that ./serve builds, and 6 runs)
-       bench/growth.py --instructions [PROGRAM]
 """
 import os
 import re
 import shutil
 import statistics
 import subprocess
-import sys
 import tempfile
 from typing import NamedTuple
 
-from bench import TOP, TRACKS, Server, define, edit, find, must_begin, put, quantity, row, without_date
+from bench import TRACKS, quantity, row, without_date
 from instructions import instructions
+from program import TOP, Server, arguments, define, edit, find, must_begin, options, put
 
 SIZES = (1_000, 10_000, 25_000)
 COUNTED = (5_000, 10_000, 100_000)
@@ -205,8 +202,8 @@ def measure(program, by_hand, runs):
 
 def counts(program, case):
     """The instructions that each measured line takes, alone after the lines that make its tables."""
-    begin = [line.decode() for line, _ in case.begin]
-    return [instructions(program, begin, [measured.line.decode()]) for measured in case.measured]
+    begin = [line for line, _ in case.begin]
+    return [instructions(program, begin, [measured.line]) for measured in case.measured]
 
 
 def in_millions(count):
@@ -225,17 +222,15 @@ def count_instructions(program):
 
 
 def main():
-    words = sys.argv[1:]
-    counted = words[:1] == ["--instructions"]
-    if counted:
-        words = words[1:]
-    program = words[0] if words else os.path.join(TOP, "crates", "view_program", "out", "view_program")
-    if counted:
-        count_instructions(program)
+    parser = arguments(__doc__)
+    parser.add_argument("--instructions", action="store_true", help="count instructions instead")
+    parser.add_argument("--runs", type=int, default=6, help="how many runs are timed (6)")
+    given = options(parser)
+    if given.instructions:
+        count_instructions(given.program)
         return
-    runs = int(words[1]) if len(words) > 1 else 6
     with tempfile.TemporaryDirectory() as folder:
-        measure(program, built("by_hand", folder), runs)
+        measure(given.program, built("by_hand", folder), given.runs)
 
 
 if __name__ == "__main__":

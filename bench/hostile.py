@@ -1,16 +1,12 @@
 #!/usr/bin/env python3
 """Sends the program lines of up to 16 MiB that are costly to read, and prints for each its reply, its time and the peak memory; then
 the same lines under a limit of the address space. After each line a request for the definitions must be answered.
-
-Usage: bench/hostile.py [PROGRAM]    (without the word, the program that ./serve builds)
 """
-import os
 import resource
 import string
-import subprocess
-import sys
 
-from bench import LONGEST, TOP, Server, define, must_begin
+from bench import LONGEST
+from program import Server, arguments, define, must_begin, options
 
 LIST = b'{"do":"list"}\n'
 LIMIT = 128 << 20
@@ -76,8 +72,7 @@ class Limited(Server):
     """The program under a limit of its address space."""
 
     def __init__(self, program):
-        limit = lambda: resource.setrlimit(resource.RLIMIT_AS, (LIMIT, LIMIT))
-        self.process = subprocess.Popen([program], stdin=subprocess.PIPE, stdout=subprocess.PIPE, bufsize=0, preexec_fn=limit)
+        super().__init__(program, preexec_fn=lambda: resource.setrlimit(resource.RLIMIT_AS, (LIMIT, LIMIT)))
 
 
 def asked(make, program, line):
@@ -94,7 +89,7 @@ def asked(make, program, line):
 
 
 def main():
-    program = sys.argv[1] if len(sys.argv) > 1 else os.path.join(TOP, "crates/view_program/out/view_program")
+    program = options(arguments(__doc__)).program
     slow = []
     print(f"| Line of up to 16 MiB | Bytes | Reply | Time | Peak memory | Reply under {LIMIT >> 20} MB |")
     print("|---|---|---|---|---|---|")

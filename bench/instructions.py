@@ -11,16 +11,12 @@ an export and an import of as many rows as there are tracks with a read and a pu
 
 With --kinds each line is one edit of one row, one that changes it and one that removes it, through each kind of join, through a
 rename, and with columns that may be null, of which none is.
-
-Usage: bench/instructions.py [--kinds|--changes] [PROGRAM [ROWS..]]    (ROWS: tracks; without these words 1,000, 100,000 and 1,000,000,
-and with --changes 100,000)
 """
 import json
 import re
 import subprocess
-import sys
 
-from bench import AS_SERVED, TOP, UNDO
+from program import UNDO, Server, arguments, batch, define, edit, options
 
 DEFINITIONS = [
     "table albums (album text, quantity int) with album -> quantity",
@@ -34,26 +30,34 @@ FEW, MANY = 20, 220
 EMPTY = "none"
 
 
+VALGRIND = ["valgrind", "--tool=callgrind", "--instr-atstart=no", "--callgrind-out-file=/dev/null"]
+
+
+def text(thing):
+    """A row or a request as JSON."""
+    return json.dumps(thing, separators=(",", ":"))
+
+
 def line(request):
-    return json.dumps(request, separators=(",", ":")) + "\n"
+    return f"{text(request)}\n".encode()
 
 
-def edit(view, remove, add, do="edit"):
-    return line({"add": add, "do": do, "remove": remove, "view": view})
+def texts(rows):
+    return [text(row) for row in rows]
 
 
 def filled(rows, definitions=DEFINITIONS):
     """The lines that make the tables, with so many tracks."""
     albums = max(rows // 10, 1)
-    lines = [line({"do": "define", "text": text}) for text in definitions]
+    lines = [define(definition) for definition in definitions]
     for first in range(0, albums, FILLING):
-        lines.append(edit("albums", [], [{"album": f"a{i}", "quantity": 5} for i in range(first, min(first + FILLING, albums))]))
+        lines.append(edit("albums", [], texts({"album": f"a{i}", "quantity": 5} for i in range(first, min(first + FILLING, albums)))))
     for first in range(0, rows, FILLING):
-        lines.append(edit("tracks", [], [
+        lines.append(edit("tracks", [], texts(
             {"album": f"a{i % albums}", "date": 1980 + i % 40, "rating": 3, "track": f"t{i}"}
             for i in range(first, min(first + FILLING, rows))
-        ]))
-    lines.append(edit("albums", [], [{"album": EMPTY, "quantity": 5}]))
+        )))
+    lines.append(edit("albums", [], texts([{"album": EMPTY, "quantity": 5}])))
     return lines
 
 
@@ -63,12 +67,12 @@ def shown(i, rows, rating):
 
 def rated(numbers, rows, do="edit"):
     """The request that gives the tracks of these numbers another rating, by the view."""
-    return edit("stock", [shown(i, rows, 3) for i in numbers], [shown(i, rows, 4) for i in numbers], do)
+    return edit("stock", texts(shown(i, rows, 3) for i in numbers), texts(shown(i, rows, 4) for i in numbers), do)
 
 
 def added(i, rows, album):
     """The preview of a new track on this album, by the view."""
-    return edit("stock", [], [{**shown(i, rows, 3), "album": album, "track": f"n{i}"}], "preview")
+    return edit("stock", [], texts([{**shown(i, rows, 3), "album": album, "track": f"n{i}"}]), "preview")
 
 
 def found(i):
@@ -88,25 +92,26 @@ OF_ONE_ROW = {
 
 def instructions(program, begin, lines):
     """The instructions of these lines, after others that are not counted. Each line has to be accepted."""
-    words = ["valgrind", "--tool=callgrind", "--instr-atstart=no", "--callgrind-out-file=/dev/null", program]
-    run = subprocess.Popen(words, stdin=subprocess.PIPE, stdout=subprocess.PIPE, stderr=subprocess.PIPE, text=True, env=AS_SERVED)
-    for line in begin:
-        ask(run, line)
-    subprocess.run(["callgrind_control", "--instr=on", str(run.pid)], capture_output=True, check=True)
-    for line in lines:
-        ask(run, line)
-    # Before the end, where the program lets the tables go.
-    subprocess.run(["callgrind_control", "--instr=off", str(run.pid)], capture_output=True, check=True)
-    _, said = run.communicate()
-    return int(re.search(r"Collected : (\d+)", said).group(1))
+    server = Server(program, under=VALGRIND, stderr=subprocess.PIPE)
+    accepted(server, begin)
+    count(server, "on")
+    accepted(server, lines)
+    # Before the end, at which the program frees the tables.
+    count(server, "off")
+    _, said = server.process.communicate()
+    return int(re.search(rb"Collected : (\d+)", said).group(1))
 
 
-def ask(run, line):
-    run.stdin.write(line)
-    run.stdin.flush()
-    reply = run.stdout.readline()
-    if '"ok":true' not in reply:
-        raise SystemExit(f"not accepted: {reply[:200]}")
+def count(server, whether):
+    """Lets valgrind begin to count, or cease to."""
+    subprocess.run(["callgrind_control", f"--instr={whether}", str(server.process.pid)], capture_output=True, check=True)
+
+
+def accepted(server, lines):
+    for request in lines:
+        reply, _ = server.ask(request)
+        if b'"ok":true' not in reply:
+            raise SystemExit(f"not accepted: {reply[:200]!r}")
 
 
 def each(program, begin, ask_for):
@@ -150,15 +155,14 @@ def by_kinds(program, sizes):
             def named(i, rating):
                 return {name if column == "track" else column: value for column, value in shown(i, rows, rating).items()}
 
-            changed = each(program, begin, lambda i: edit("stock", [named(i, 3)], [named(i, 4)]))
-            removed = each(program, begin, lambda i: edit("stock", [named(i, 3)], []))
+            changed = each(program, begin, lambda i: edit("stock", texts([named(i, 3)]), texts([named(i, 4)])))
+            removed = each(program, begin, lambda i: edit("stock", texts([named(i, 3)]), []))
             print(f"| {rows:,} | {kind} | {changed:,} | {removed:,} |", flush=True)
 
 
-def batch(numbers, rows):
+def rated_in_turn(numbers, rows):
     """The batch of edits that each give one track another rating, by the view."""
-    edits = [{"view": "stock", "remove": [shown(i, rows, 3)], "add": [shown(i, rows, 4)]} for i in numbers]
-    return line({"do": "batch", "edits": edits})
+    return batch(("stock", texts([shown(i, rows, 3)]), texts([shown(i, rows, 4)])) for i in numbers)
 
 
 def csv_line(tracks):
@@ -170,23 +174,23 @@ def changes(program, sizes):
     print("| Tracks | What | Instructions | Beside | Instructions | Times |")
     print("|---|---|---|---|---|---|")
     for rows in sizes:
-        begin, undo = filled(rows), UNDO.decode()
+        begin = filled(rows)
         some, many = min(1_000, rows // 10), min(10_000, rows)
 
         def cost(lines, before=()):
             return instructions(program, [*begin, *before], lines)
 
-        few, batched = batch(range(some), rows), cost([batch(range(some), rows)])
+        few, batched = rated_in_turn(range(some), rows), cost([rated_in_turn(range(some), rows)])
         one = cost([rated([0], rows)])
         tracks = [{"album": f"a{i % max(rows // 10, 1)}", "date": 1980 + i % 40, "rating": 3, "track": f"t{i}"} for i in range(rows)]
         others = line({"do": "put", "view": "tracks", "rows": [{**track, "rating": 4} for track in tracks]})
         tracks[-1]["rating"] = 5
         found = [
             (f"a batch of {some:,} edits", batched, f"{some:,} lines", cost([rated([i], rows) for i in range(some)])),
-            (f"a batch of {many:,} edits", cost([batch(range(many), rows)]), f"a batch of {some:,}", batched),
-            ("its undo", cost([undo], [few]), f"a batch of {some:,}", batched),
-            ("an undo of an edit of one row", cost([undo], [rated([0], rows)]), "the edit", one),
-            (f"an undo of a put of {rows:,} other rows", cost([undo], [others]), "the put", cost([others])),
+            (f"a batch of {many:,} edits", cost([rated_in_turn(range(many), rows)]), f"a batch of {some:,}", batched),
+            ("its undo", cost([UNDO], [few]), f"a batch of {some:,}", batched),
+            ("an undo of an edit of one row", cost([UNDO], [rated([0], rows)]), "the edit", one),
+            (f"an undo of a put of {rows:,} other rows", cost([UNDO], [others]), "the put", cost([others])),
             (f"an export of {rows:,} rows", cost([line({"do": "export", "view": "tracks"})]), "a read", cost([line({"do": "read", "view": "tracks"})])),
             ("an import of them, one row changed", cost([csv_line(tracks)]), "a put", cost([line({"do": "put", "view": "tracks", "rows": tracks})])),
         ]
@@ -195,13 +199,17 @@ def changes(program, sizes):
 
 
 def main():
-    words = [word for word in sys.argv[1:] if word not in ("--kinds", "--changes")]
-    program = words[0] if words else f"{TOP}/crates/view_program/out/view_program"
-    sizes = [int(word) for word in words[1:]] or ([100_000] if "--changes" in sys.argv else [1_000, 100_000, 1_000_000])
-    if "--changes" in sys.argv:
-        changes(program, sizes)
+    parser = arguments(__doc__)
+    parser.add_argument("--kinds", action="store_true", help="edits through each kind of join, a rename and null")
+    parser.add_argument("--changes", action="store_true", help="batches, undos and CSV beside the lines that do the same")
+    parser.add_argument("--rows", type=int, nargs="+", help="how many tracks there are (1,000, 100,000 and 1,000,000; with --changes 100,000)")
+    given = options(parser)
+    program = given.program
+    if given.changes:
+        changes(program, given.rows or [100_000])
         return
-    if "--kinds" in sys.argv:
+    sizes = given.rows or [1_000, 100_000, 1_000_000]
+    if given.kinds:
         by_kinds(program, sizes)
         return
     print(f"| Tracks | {' | '.join(OF_ONE_ROW)} | one edit of 1,000 rows |")

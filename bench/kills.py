@@ -1,18 +1,15 @@
 #!/usr/bin/env python3
-"""Kills the program at random moments of a stream of changes to a store in a file, and tests that no change whose reply came is lost.
-
-Usage: bench/kills.py [TIMES [PROGRAM]]    (100 times, and the program that ./serve builds, without the words)
-"""
+"""Kills the program at random moments of a stream of changes to a store in a file, and tests that no change whose reply came is lost."""
 import json
 import os
 import random
 import subprocess
-import sys
 import tempfile
 import threading
 import time
 
-TOP = os.path.dirname(os.path.dirname(os.path.abspath(__file__)))
+from program import arguments, options
+
 DEFINE = '{"do":"define","text":"table counts (key int)"}\n'
 READ = '{"do":"read","view":"counts"}\n'
 LONGEST = 0.5
@@ -58,10 +55,12 @@ def found(program, path):
 
 
 def main():
-    times = int(sys.argv[1]) if len(sys.argv) > 1 else 100
-    program = sys.argv[2] if len(sys.argv) > 2 else os.path.join(TOP, "crates/view_program/out/view_program")
+    parser = arguments(__doc__)
+    parser.add_argument("--times", type=int, default=100, help="how often the program is killed (100)")
+    given = options(parser)
+    program, times = given.program, given.times
     begin = time.perf_counter()
-    with tempfile.TemporaryDirectory(dir=os.path.dirname(os.path.abspath(program))) as folder:
+    with tempfile.TemporaryDirectory(dir=os.path.dirname(program)) as folder:
         path = os.path.join(folder, "kills.db")
         subprocess.run([program, "--store", path], input=DEFINE, capture_output=True, text=True, check=True)
         kept, total, unanswered, first = set(), 0, 0, 0
@@ -78,4 +77,5 @@ def main():
     print(f"{times} kills, {total:,} changes answered, none lost; {unanswered} made and not answered; {time.perf_counter() - begin:.0f} s")
 
 
-main()
+if __name__ == "__main__":
+    main()

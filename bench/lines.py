@@ -1,15 +1,12 @@
 #!/usr/bin/env python3
 """Measures how long lines of one row take at tables of several sizes: medians of many lines, each from the first byte of the line to the
-last of its reply. Tables and lines are those of bench/instructions.py. Behind the table stands the most memory at each size.
-
-Usage: bench/lines.py [PROGRAM]    (without the word, the program that ./serve builds)
+last of its reply. Tables and lines are those of bench/instructions.py. The last line of the table is the most memory at each size.
 """
 import statistics
-import sys
 import tempfile
 
-from bench import TOP, UNDO, Server
 from instructions import OF_ONE_ROW, filled
+from program import UNDO, Server, arguments, options
 
 SIZES = (1_000, 10_000, 100_000, 1_000_000)
 # With a store up to so many rows.
@@ -30,12 +27,12 @@ def asked(server, lines):
 
 
 def lines_of(name, rows, number):
-    return [OF_ONE_ROW[name](i, rows).encode() for i in range(number)]
+    return [OF_ONE_ROW[name](i, rows) for i in range(number)]
 
 
 def filled_server(program, rows, *words):
     server = Server(program, *words)
-    asked(server, [line.encode() for line in filled(rows)])
+    asked(server, filled(rows))
     return server
 
 
@@ -58,7 +55,7 @@ def in_a_file(program, rows):
 
 
 def main():
-    program = sys.argv[1] if len(sys.argv) > 1 else f"{TOP}/crates/view_program/out/view_program"
+    program = options(arguments(__doc__)).program
     measured = [in_memory(program, rows) for rows in SIZES]
     stored = [in_a_file(program, rows) for rows in SIZES if rows <= STORED]
     print(f"| ms | {' | '.join(f'{rows:,} tracks' for rows in SIZES)} |")

@@ -1,8 +1,6 @@
 #!/usr/bin/env python3
 """Starts the program over files that are no store, or that may not be opened, and tests that it ends with status 6, that it
 writes nothing, and that the file stays as it was. Run it as root: the file that may only be read is opened as nobody.
-
-Usage: bench/stores.py [PROGRAM]    (without the word, the program that ./serve builds)
 """
 import os
 import random
@@ -13,7 +11,8 @@ import subprocess
 import sys
 import tempfile
 
-TOP = os.path.dirname(os.path.dirname(os.path.abspath(__file__)))
+from program import arguments, options
+
 DEFINE = '{"do":"define","text":"table goods (name text, quantity int)"}\n'
 ADD = '{"do":"edit","view":"goods","remove":[],"add":[{"name":"axe","quantity":7}]}\n'
 READ = '{"do":"read","view":"goods"}\n'
@@ -172,7 +171,7 @@ def after_a_kill(program, folder):
 
 
 def main():
-    program = os.path.abspath(sys.argv[1] if len(sys.argv) > 1 else os.path.join(TOP, "crates/view_program/out/view_program"))
+    program = options(arguments(__doc__)).program
     with tempfile.TemporaryDirectory() as folder:
         results = [refusals(program, folder), locked(program, folder), held(program, folder), read_only(program, folder), after_a_kill(program, folder)]
     if not all(results):
