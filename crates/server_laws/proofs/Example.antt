@@ -48,7 +48,7 @@ use Rattle.server_laws.specs.Witness.{PutsCanChange}
 
 -- ---- the definitions
 
-abbrev t : Name
+abbrev pub t : Name
 t = codes "t"
 
 abbrev pub v : Name
@@ -63,7 +63,7 @@ listing = (a, kind.Int) ∷ []
 abbrev pub U : Columns
 U = finmap.from_entries listing
 
-abbrev P : Predicate
+abbrev pub P : Predicate
 P = compare a gt (Int (pos 0)) ∷ []
 
 abbrev first_text : List ℕ
@@ -214,7 +214,7 @@ row_fits c = fits_same _ _ _ _ (sym (finmap.get-from_entries name_total ((a, Int
 pub all_fit : AllFit U N
 all_fit r i = subst (Fits U) (sym (only r i)) row_fits
 
-row_holds : holds P row ≡ true
+pub row_holds : holds P row ≡ true
 row_holds = ap (λ o. compared gt o (Some (Int (pos 0))) && true) (finmap.get-from_entries name_total ((a, Int (pos 1)) ∷ []) a)
 
 rows_put : IsPut state v V N

@@ -30,6 +30,7 @@ pub mod Example
 pub mod OneEdge
 pub mod DropExample
 pub mod UpdateExample
+mod BatchExample
 pub mod Finding
 pub mod UndoExample
 pub mod ExportExample

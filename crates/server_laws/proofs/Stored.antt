@@ -8,7 +8,7 @@ use Rattle.lens_values.specs.SortedSet as set
 use Rattle.lens_laws.proofs.Lenses.{put_leaves}
 use Rattle.fd_laws.proofs.Names.{name_total, name_itself, one_is}
 use Rattle.lens_laws.proofs.Rules.{sort_is_typed}
-use Rattle.lens_laws.specs.Lenses.{IsTyped, AreOf}
+use Rattle.lens_laws.specs.Lenses.{AreOf}
 use Rattle.lens_specs.specs.Names.{Name}
 use Rattle.lens_specs.specs.Columns.{Fits}
 use Rattle.lens_specs.specs.Relation.{Relation, Rows}
@@ -22,7 +22,7 @@ pub use Rattle.server_specs.specs.Validity.{AreStored}
 pub use Rattle.server_laws.specs.Known.{IsHere}
 use Rattle.server_laws.proofs.Kept.{AreThere, put_keeps}
 use Rattle.server_laws.proofs.Leading.{IsAlike}
-use Rattle.server_laws.proofs.Taken.{BasesAre, IsKnown, all_known}
+use Rattle.server_laws.proofs.Taken.{BasesAre, all_known}
 
 -- a name is the same as itself
 pub name_same : (t : Name) → pointwise nat_eq t t ≡ true

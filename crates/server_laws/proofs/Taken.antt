@@ -19,7 +19,7 @@ use Rattle.lens_specs.specs.Refusal.{Refusal, Limit, unknown_column, predicate_k
 use Rattle.lens_specs.specs.Columns.{Columns}
 use Rattle.lens_specs.specs.Predicate.{Predicate}
 use Rattle.lens_values.specs.declared.join_kind.JoinKind.{JoinKind}
-use Rattle.lens_specs.specs.Lens.{Lens, base, select, drop, rename, join, sort_of, tree_or_none}
+use Rattle.lens_specs.specs.Lens.{Lens, base, select, drop, rename, join, tree_or_none}
 use Rattle.lens_specs.specs.Typing.{sort, table_sort, table_sort_with, unknown_in, unless_refused}
 use Rattle.grammar_specs.specs.Meaning.{Definition, table, view, Expr, named}
 use Rattle.grammar_specs.specs.Meaning as language

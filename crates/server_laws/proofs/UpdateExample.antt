@@ -42,10 +42,10 @@ read_line = line (codes "{\"do\":\"read\",\"view\":\"v\"}")
 abbrev pub put_line : Line
 put_line = line (codes "{\"do\":\"put\",\"on\":2,\"rows\":[{\"a\":1}],\"view\":\"v\"}")
 
-abbrev members : Members
+abbrev pub members : Members
 members = member a (number (unsigned 1)) no_members
 
-abbrev items : Items
+abbrev pub items : Items
 items = item (object members) no_items
 
 read_asked : request read_line ≡ Ok (read v)
@@ -63,7 +63,7 @@ one_entry = finmap.entries-insert name_total (finmap.empty {X = Kind} {R = bytes
     ∙ ap (listed.put bytes_cmp a kind.Int) (nothing (finmap.entries (finmap.empty {X = Kind} {R = bytes_cmp}))
     (sym (finmap.len-entries (finmap.empty {X = Kind} {R = bytes_cmp})) ∙ finmap.len-empty bytes_cmp Kind))
 
-rows_are : rows_in U items ≡ Ok (row ∷ [])
+pub rows_are : rows_in U items ≡ Ok (row ∷ [])
 rows_are =
     ap (λ es. with_row (row_from (pairs_in es members) (cond (is_some (finmap.get U a)) None (Some a))) (Ok [])) one_entry
     ∙ ap (λ o. with_row (row_from (pairs_in listing members) (cond (is_some o) None (Some a))) (Ok [])) column

@@ -1,4 +1,4 @@
--- That the premises of the laws of puts, of updates, of undo and of exports can be met.
+-- That the premises of the laws of puts, of batches, of updates, of undo and of exports can be met.
 use Rattle.std.specs.Prelude.{◌≡◌, ℕ, true, false, List, [], ◌∷◌, Option, Some}
 use Rattle.std.specs.FinMap as finmap
 use Rattle.lens_values.specs.declared.value.Value.{Value}
@@ -11,10 +11,13 @@ use Rattle.lens_specs.specs.Lens.{Lens, base, select, drop, get}
 use Rattle.io_specs.specs.Lines.{Line}
 use Rattle.catalog_specs.specs.Catalogue.{catalogue, is_table_of}
 use Rattle.server_specs.specs.State.{State}
+use Rattle.server_specs.specs.Answer.{text}
 use Rattle.server_specs.specs.Answering.{answer}
+use Rattle.server_specs.specs.Request.{BatchEdit}
 use Rattle.server_specs.specs.Session.{Exchange, Session}
 use Rattle.server_specs.specs.Validity.{Valid}
 use Rattle.server_laws.specs.Answers.{IsAccepted, IsChange}
+use Rattle.server_laws.specs.BatchLaws.{IsBatchLine}
 use Rattle.server_laws.specs.PutLaws.{IsPut, put_set}
 use Rattle.server_laws.specs.SheetLaws.{ImportsExport}
 use Rattle.server_laws.specs.UndoLaws.{move, taken_back}
@@ -43,6 +46,23 @@ pub record DropsCanChange : Type 0 where
   pub table : Name
   pub sort : Sort
   pub drops : change.lens ≡ drop column by fill (select predicate (base table sort))
+
+-- A session from a valid state: its line sends edits as a batch, which is accepted and changes a table.
+pub record BatchesCanChange : Type 0 where
+  pub state : State
+  pub valid : Valid state
+  pub lines : List Line
+  pub replies : List (List ℕ)
+  pub last : State
+  pub session : Session state 0 lines replies last 0
+  pub changing : Exchange
+  pub exchanges : session.exchanges ≡ changing ∷ []
+  pub edits : List BatchEdit
+  pub on : Option ℕ
+  pub sends : IsBatchLine changing.line edits on
+  pub accepted : IsAccepted (answer state changing.line).0
+  pub told : changing.reply ≡ text (answer state changing.line).0
+  pub changes : IsChange (answer state changing.line).0
 
 -- A session from a valid state in which no change can be undone: the first line changes a table, and the next one undoes that.
 pub record UndosCanRestore : Type 0 where

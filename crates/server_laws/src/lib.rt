@@ -15,7 +15,7 @@ ghost use Rattle.server_laws.specs.StateLaws.{AnswersStayValid, FreshIsValid, Le
 ghost use Rattle.server_laws.specs.UndoLaws.{NothingIsTold, UndoneAtOnce, UndoRestores};
 ghost use Rattle.server_laws.specs.UpdateLaws.{NoExportIsLost, NoUpdateIsLost};
 ghost use Rattle.server_laws.specs.ViewLaws.{FullIsTold, RulesAreTold, TakenWhereSorted, TypedIsTaken, UnknownIsTold};
-ghost use Rattle.server_laws.specs.Witness.{DropsCanChange, ExportsCanComeBack, PutsCanChange, UndosCanRestore, UpdatesCanRest};
+ghost use Rattle.server_laws.specs.Witness.{BatchesCanChange, DropsCanChange, ExportsCanComeBack, PutsCanChange, UndosCanRestore, UpdatesCanRest};
 
 /// Every state that the server reaches is valid, and in a valid state each lens has a sort, keys and
 /// its tables, and keeps the laws of lenses over them.
@@ -189,11 +189,12 @@ pub fn kept_follows()
 {}
 
 /// The premises of the laws of puts can be met, over a view, by a put that changes something; also
-/// over a view that drops a column of a selection. Those of the laws of updates, of undo and of
-/// imports of exports can be met by sessions.
+/// over a view that drops a column of a selection. Those of the laws of batches, of updates, of
+/// undo and of imports of exports can be met by sessions.
 pub fn premises_can_be_met()
     ensures puts { PutsCanChange }
     ensures drops { DropsCanChange }
+    ensures batches { BatchesCanChange }
     ensures updates { UpdatesCanRest }
     ensures undos { UndosCanRestore }
     ensures exports { ExportsCanComeBack }
