@@ -1,5 +1,5 @@
 //! The last changes, which can be taken back.
-ghost use Rattle.std.specs.Prelude.{◌≡◌, ◌-◌, ◌++◌, ◌∷◌, [], IfOk, take, length};
+ghost use Rattle.std.specs.Prelude.{◌≡◌, ◌-◌, ◌++◌, ◌∷◌, [], IfOk, None, take, length, nat_lt, slice_get, if◌then◌else◌};
 ghost use Rattle.std.specs.Option.{option_map};
 ghost use Rattle.circular_buffer.specs.Buffer.{keep_last, last_item};
 ghost use Rattle.edit_batches.specs.Histories.{deltas_of};
@@ -47,7 +47,9 @@ impl History {
     /// Adds a change, and gives the oldest one where there were as many as there may be. It takes no
     /// memory.
     pub fn push(&mut self, entry: Entry) -> Option<Entry>
-        ensures { self.new ≡ keep_last 16 (self.old ++ entry.deltas ∷ []) }
+        ensures list { self.new ≡ keep_last 16 (self.old ++ entry.deltas ∷ []) }
+        ensures oldest { option_map deltas_of result
+            ≡ (if nat_lt (length self.old) 16 then None else slice_get self.old 0) }
     {
         self.ring.push_back(entry)
     }
