@@ -12,8 +12,7 @@ use crate::premises::{
     all_hold, can_be_joined, has_key, is_determined, is_met, is_over, share_key,
 };
 use drop_delta::drop_delta;
-use join_delta::Source;
-use join_others::join_change;
+use join_delta::{Source, join_change};
 use lens_pred::Pred;
 use lens_values::{JoinKind, Name, Row, Value};
 use revision::{Touched, afters, befores, revise_touched};

@@ -13,8 +13,7 @@ ghost use Rattle.lens_probe.specs.Viewed.{FindsAtMost, IsViewed, asked_by};
 ghost use Rattle.lens_chain.specs.Edits.{IsEdit, edited, over};
 
 use drop_delta::drop_delta;
-use join_delta::Source;
-use join_others::join_change;
+use join_delta::{Source, join_change};
 use lens_pred::Pred;
 use lens_probe::View;
 use lens_types::rename_set;

@@ -4,6 +4,7 @@ pub mod Joins
 pub mod Kept
 pub mod LensCode
 pub mod Lenses
+pub mod Nodes
 pub mod SortCode
 pub mod Sorts
 pub mod Unknown

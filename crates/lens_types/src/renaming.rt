@@ -1,7 +1,7 @@
 //! Tests of a rename, and the parts of its sort.
 ghost use Rattle.std.specs.Prelude.{◌≡◌, ◌≤◌, IfOk, None, map, option_map};
 ghost use Rattle.std.specs.FinMap as finmap;
-ghost use Rattle.lens_specs.specs.Rename.{renamed, renamed_columns};
+ghost use Rattle.lens_specs.specs.Rename.{renamed, renamed_columns, renamed_predicate};
 ghost use Rattle.lens_specs.specs.Typing.{rename_fault};
 ghost use Rattle.lens_laws.specs.Passes.{IsSound};
 ghost use Rattle.lens_types.specs.Faults.{Decides, fault_view};
@@ -34,7 +34,7 @@ pub fn renamed_parts(
         return Err(Refused::from(fault));
     }
     let cols = rename_columns(alloc, source.cols(), col, to)?;
-    let pred = source.pred().rename(alloc, col, to)?;
+    let pred = rename_pred(alloc, source.pred(), col, to)?;
     let tree = source.tree().rename(alloc, col, to)?;
     Ok((cols, pred, tree))
 }
@@ -70,6 +70,13 @@ pub fn rename_columns(
         Ok(columns) => Ok(columns),
         Err(_) => Err(NoMemory),
     }
+}
+
+/// The predicate with the new name, which it does not mention.
+pub fn rename_pred(alloc: Global, pred: &Pred, col: &Name, to: &Name) -> Result<Pred, NoMemory>
+    ensures { IfOk result (λ renamed. renamed ≡ renamed_predicate col.now to.now pred.now) }
+{
+    pred.rename(alloc, col, to)
 }
 
 /// The pairs with the new name, in their order.

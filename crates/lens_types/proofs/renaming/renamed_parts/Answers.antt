@@ -21,8 +21,8 @@ rename_columns-requires c =
     let none : None ≡ rename_fault c.args.nodes s c.args.col.now c.args.to.now = ap (option_map fault_view) (sym c.in_default.is) ∙ c.rename_fault.ensures in
     no_column c.cols.result.now c.args.to.now (ap (λ U. set.contains (names U) c.args.to.now) c.cols.ensures.value ∙ new_name c.args.nodes s c.args.col.now c.args.to.now c.cols.ensures.sound none)
 
-pub rename-requires-2 : goal.rename-requires-2
-rename-requires-2 c =
+pub rename-requires : goal.rename-requires
+rename-requires c =
     let s = c.args.source.now in
     let none : None ≡ rename_fault c.args.nodes s c.args.col.now c.args.to.now = ap (option_map fault_view) (sym c.in_default.is) ∙ c.rename_fault.ensures in
     subst (AllEdges (Lacks c.args.to.now)) (sym c.tree.ensures.value)

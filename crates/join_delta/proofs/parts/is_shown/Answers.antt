@@ -1,7 +1,7 @@
 use Rattle.std.proofs.Common.{◌∙◌, ap, is_some}
 use Rattle.lens_specs.specs.Rows.{at, cut}
 use Rattle.fd_laws.proofs.Rows.{at-cut, cut_column}
-use Rattle.join_others.proofs.parts.is_shown.Goals as goal
+use Rattle.join_delta.proofs.parts.is_shown.Goals as goal
 
 pub find-requires-clause-key : goal.find-requires-clause-key
 unfolding cut

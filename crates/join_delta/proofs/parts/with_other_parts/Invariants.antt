@@ -3,7 +3,7 @@ use Rattle.std.specs.Prelude.{filter}
 use Rattle.lens_values.specs.Part.{restrict}
 use Rattle.lens_values.specs.SortedSet as set
 use Rattle.lens_specs.specs.Relation.{has}
-use Rattle.join_others.proofs.parts.with_other_parts.Given as goal
+use Rattle.join_delta.proofs.parts.with_other_parts.Given as goal
 
 abbrev pub invariant-loop-row : goal.invariant-loop-row
 invariant-loop-row l = l.some.items ≡ filter (λ row. not (has l.parts (restrict l.columns row))) (take l.row-index (set.items l.rows))

@@ -10,7 +10,7 @@ use Rattle.lens_specs.specs.Names.{Name, Names}
 use Rattle.lens_specs.specs.Relation.{Rows, has, minus, project, those}
 use Rattle.lens_specs.specs.Rows.{at}
 use Rattle.join_delta.specs.declared.sources.Merged.{Merged}
-use Rattle.join_others.specs.Shown.{is_shown}
+use Rattle.join_delta.specs.Shown.{is_shown}
 
 -- a merge whose left source may be asked by the sets K
 pub record CanAsk (K : List Names) (m : Merged) : Type 0 where
@@ -26,6 +26,12 @@ abbrev pub free_of : Merged → Rows → Rows → Rows
 free_of m M removed =
     let others = minus (project m.sides.right m.over) m.parts in
     minus others (those (is_shown m.sides.shared M removed) (minus others m.right.add))
+
+-- the right parts that are deleted, of these that the edited view lacks
+abbrev pub right_deleted : JoinKind → Rows → Rows
+right_deleted DeleteLeft free = set.empty
+right_deleted DeleteRight free = free
+right_deleted DeleteBoth free = free
 
 -- the left parts that are deleted beside these right ones
 abbrev pub left_deleted : JoinKind → Names → Names → Rows → Rows → Rows

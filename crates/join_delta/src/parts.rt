@@ -1,13 +1,13 @@
-//! The parts of rows that are joined too much, by whether the view has the right one.
+//! The parts of rows that are joined too much, by the side on which the join deletes.
 ghost use Rattle.std.specs.Prelude.{◌≡◌, ◌≢◌, ◌≤◌, ◌+◌, ◌*◌, ℕ, true, length, not, Contains, IfOk, is_some};
 ghost use Rattle.lens_values.specs.Part.{restrict};
 ghost use Rattle.lens_values.specs.SortedSet as set;
 ghost use Rattle.lens_specs.specs.Relation.{has, project, those};
 ghost use Rattle.lens_specs.specs.Rows.{at};
-ghost use Rattle.join_others.specs.Deleted.{CanAsk, free_of, left_deleted};
-ghost use Rattle.join_others.specs.Shown as spec;
+ghost use Rattle.join_delta.specs.Deleted.{CanAsk, free_of, left_deleted, right_deleted};
+ghost use Rattle.join_delta.specs.Shown as spec;
 
-use join_delta::Merged;
+use crate::sources::Merged;
 use lens_values::{JoinKind, Names, NoMemory, Row};
 use row_sets::RowSet;
 use signed_delta::Look;
@@ -15,11 +15,34 @@ use std::alloc::Global;
 use std::sync::ledger::Ledger;
 use step_counter::Steps;
 
-/// The right parts of the rows that are joined too much, those that the edited view lacks.
-///
-/// The view has the parts of the added rows. Of the others it has those that stood in the right
-/// source and that join a left row to a row that is not removed.
-pub fn free_parts<A: Look, L: Ledger>(
+/// The right parts that are deleted: where the join deletes on the right, those of the rows that are
+/// joined too much that the edited view lacks.
+pub fn right_parts<A: Look, L: Ledger>(
+    alloc: Global,
+    kind: JoinKind,
+    merged: &Merged,
+    left: &A,
+    removed: &RowSet,
+    looked: &mut Steps<L>,
+) -> Result<RowSet, NoMemory>
+    requires { CanAsk (A.asked left.now) merged.now }
+    ensures parts { let M = (A.relation left.now).rows in
+        IfOk result (λ parts. parts ≡ right_deleted kind (free_of merged.now M removed.now)) }
+    ensures looks { (n : ℕ) → A.within left.now n → looked.new
+        ≤ looked.old + n * length (set.items merged.now.over) }
+{
+    match kind {
+        JoinKind::DeleteLeft => Ok(RowSet::empty(alloc)),
+        JoinKind::DeleteRight => free_parts(alloc, merged, left, removed, looked),
+        JoinKind::DeleteBoth => free_parts(alloc, merged, left, removed, looked),
+    }
+}
+
+// The right parts of the rows that are joined too much, those that the edited view lacks.
+//
+// The view has the parts of the added rows. Of the others it has those that stood in the right
+// source and that join a left row to a row that is not removed.
+fn free_parts<A: Look, L: Ledger>(
     alloc: Global,
     merged: &Merged,
     left: &A,
@@ -39,8 +62,8 @@ pub fn free_parts<A: Look, L: Ledger>(
     others.minus(alloc, &shown)
 }
 
-/// The left parts that are deleted beside these right parts: where the join deletes on the right,
-/// those of the rows whose right part is kept.
+/// The left parts that are deleted beside these right parts: where the join deletes on the right
+/// alone, those of the rows whose right part is kept, and else all of them.
 pub fn left_parts(
     alloc: Global,
     kind: JoinKind,

@@ -4,11 +4,11 @@ use Rattle.lens_values.specs.SortedSet as set
 use Rattle.lens_specs.specs.Relation.{Rows, has, minus, project, those}
 use Rattle.fd_laws.proofs.Relations.{from_minus}
 use Rattle.signed_delta.proofs.Counts.{minus_len, project_len}
-use Rattle.join_others.specs.Deleted.{free_of}
-use Rattle.join_others.specs.Shown.{is_shown}
-use Rattle.join_others.proofs.parts.free_parts.Given.{Over}
-use Rattle.join_others.proofs.parts.free_parts.Goals.{After-shown_parts}
-use Rattle.join_others.proofs.parts.free_parts.Goals as goal
+use Rattle.join_delta.specs.Deleted.{free_of}
+use Rattle.join_delta.specs.Shown.{is_shown}
+use Rattle.join_delta.proofs.parts.free_parts.Given.{Over}
+use Rattle.join_delta.proofs.parts.free_parts.Goals.{After-shown_parts}
+use Rattle.join_delta.proofs.parts.free_parts.Goals as goal
 
 pub shown_parts-requires-clause-have : goal.shown_parts-requires-clause-have
 shown_parts-requires-clause-have g c =

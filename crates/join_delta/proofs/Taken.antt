@@ -1,7 +1,9 @@
--- An edit of a join that deletes on the right, or on both sides, carried down to both sources.
-use Rattle.std.proofs.Common.{◌≡◌, ◌≢◌, ◌≤◌, ◌*◌, ◌∷◌, ℕ, List, ◌++◌, length, not, sym, ap, ◌∙◌, refl, subst, true, false, inl, inr}
+-- An edit of a join, carried down to both sources by the side on which the join deletes.
+use Rattle.std.proofs.Common.{◌≡◌, ◌≤◌, ◌*◌, ◌∷◌, ℕ, List, ◌++◌, length, not, sym, ap, ◌∙◌, refl, subst, true, false, inl, inr}
 use Rattle.std.proofs.lemmas.Bool.{cases_Bool, not-true, not_from_false}
 use Rattle.lens_values.specs.Part.{restrict}
+use Rattle.lens_values.specs.Row.{row_cmp}
+use Rattle.lens_values.specs.SortedSet as set
 use Rattle.lens_values.specs.declared.join_kind.JoinKind.{JoinKind}
 use Rattle.lens_values.specs.declared.join_kind.JoinKind.TheVariants.{DeleteBoth, DeleteLeft, DeleteRight}
 use Rattle.lens_values.specs.declared.row.Row.{Row}
@@ -9,21 +11,21 @@ use Rattle.lens_specs.specs.Columns.{names}
 use Rattle.lens_specs.specs.Delta.{Applies, Delta, diff, new_view}
 use Rattle.lens_specs.specs.Dependencies.{Edge}
 use Rattle.lens_specs.specs.Names.{Names}
-use Rattle.lens_specs.specs.Nodes.{join_free, join_kept, join_left_after, join_over, join_put_left, join_put_left_kept, join_put_right, join_right_after}
+use Rattle.lens_specs.specs.Nodes.{join_free, join_kept, join_left_after, join_over, join_put_left, join_put_left_kept, join_put_right, join_right, join_right_after}
 use Rattle.lens_specs.specs.Relation.{Relation, Rows, has, minus, project, those}
 use Rattle.lens_specs.specs.Rows.{cut}
 use Rattle.lens_laws.specs.JoinKinds.{join_delta_left_kept, join_delta_right_free}
 use Rattle.lens_laws.specs.Asked.{left_sides}
 use Rattle.lens_laws.specs.Shapes.{Shape}
 use Rattle.lens_laws.specs.Work.{GivesAtMost, rows_down, rows_of}
-use Rattle.lens_laws.proofs.DeltaCounts.{left_delta_small, left_kept_small, right_free_small}
+use Rattle.lens_laws.proofs.DeltaCounts.{left_delta_small, left_kept_small, right_delta_small, right_free_small}
 use Rattle.lens_laws.proofs.Deltas.{diff_applies, diff_leads}
 use Rattle.lens_laws.proofs.JoinKindDeltas.{left_kept_is, right_free_is}
 use Rattle.fd_laws.proofs.Lists.{absurd_false, false_from}
 use Rattle.fd_laws.proofs.Relations.{from_minus, from_project, from_those, in_minus, in_project, in_those, same_rel}
 use Rattle.join_delta.specs.Joined.{edited, shared_names}
-use Rattle.join_others.specs.Deleted.{left_deleted}
-use Rattle.join_delta.proofs.Carried.{IsJoinEdit, left_is, merged_left, merged_right, of_left, of_right, of_view, over_left, over_right, passes}
+use Rattle.join_delta.specs.Deleted.{left_deleted, right_deleted}
+use Rattle.join_delta.proofs.Carried.{IsJoinEdit, left_is, merged_left, merged_right, of_left, of_right, of_view, over_left, over_right, passes, right_is}
 
 -- ---- what is joined too much, by whether the view has the right part
 module _ (U V : Names) (F G : List Edge) (O M N : Rows) where
@@ -60,6 +62,12 @@ module _ (U V : Names) (F G : List Edge) (O M N : Rows) where
       let v = from_those (λ r. has (project V O) (cut V r)) over w i in
       in_those (λ r. not (has free (restrict V r))) over w v.0
       (not_from_false _ (false_from _ (λ h. absurd_false _ v.1 (from_minus (project V over) (project V O) (cut V w) (ap (λ X. has X (cut V w)) (sym is) ∙ h)).1))))
+
+-- the left parts are the same beside the right ones that the kind deletes
+pub left_beside : (k : JoinKind) (C D : Names) (pairs free : Rows) → left_deleted k C D pairs (right_deleted k free) ≡ left_deleted k C D pairs free
+left_beside DeleteLeft C D pairs free = refl
+left_beside DeleteRight C D pairs free = refl
+left_beside DeleteBoth C D pairs free = refl
 
 -- ---- the edit of two sources
 module _ {A B : Relation} {F G : List Edge} {d : Delta} (q : IsJoinEdit A B F G d) where
@@ -141,14 +149,21 @@ module _ {A B : Relation} {F G : List Edge} {d : Delta} (q : IsJoinEdit A B F G 
       kept_left r (ap (λ M. has M r) (sym (is ∙ ap (project U) (kept_is U V F G (edited A B d) A.rows B.rows freed refl))) ∙ i)
   left_there DeleteBoth gone is r i = over_left q r (ap (λ M. has M r) (sym is) ∙ i)
 
-  pub right_without : (k : JoinKind) → k ≢ DeleteLeft → (gone : Rows) → gone ≡ freed → minus (merged_right q) gone ≡ join_right_after k U V F G (edited A B d) A.rows B.rows
+  pub right_without : (k : JoinKind) (gone : Rows) → gone ≡ right_deleted k freed → minus (merged_right q) gone ≡ join_right_after k U V F G (edited A B d) A.rows B.rows
   unfolding join_put_right
-  right_without DeleteLeft other gone is = absurd (other refl)
-  right_without DeleteRight other gone is = ap (minus (merged_right q)) (is ∙ free_is U V F G (edited A B d) A.rows B.rows)
-  right_without DeleteBoth other gone is = ap (minus (merged_right q)) (is ∙ free_is U V F G (edited A B d) A.rows B.rows)
+  right_without DeleteLeft gone is =
+      same_rel _ (merged_right q) (λ r i. (from_minus (merged_right q) gone r i).0)
+      (λ r i. in_minus (merged_right q) gone r i (ap (λ X. has X r) is ∙ set.contains-empty row_cmp r))
+  right_without DeleteRight gone is = ap (minus (merged_right q)) (is ∙ free_is U V F G (edited A B d) A.rows B.rows)
+  right_without DeleteBoth gone is = ap (minus (merged_right q)) (is ∙ free_is U V F G (edited A B d) A.rows B.rows)
 
-  pub right_there : (gone : Rows) → gone ≡ freed → (r : Row) → has gone r ≡ true → has (merged_right q) r ≡ true
-  right_there gone is r i = free_right r (ap (λ M. has M r) (sym (is ∙ free_is U V F G (edited A B d) A.rows B.rows)) ∙ i)
+  free_there : (gone : Rows) → gone ≡ freed → (r : Row) → has gone r ≡ true → has (merged_right q) r ≡ true
+  free_there gone is r i = free_right r (ap (λ M. has M r) (sym (is ∙ free_is U V F G (edited A B d) A.rows B.rows)) ∙ i)
+
+  pub right_there : (k : JoinKind) (gone : Rows) → gone ≡ right_deleted k freed → (r : Row) → has gone r ≡ true → has (merged_right q) r ≡ true
+  right_there DeleteLeft gone is r i = absurd_false _ i (ap (λ X. has X r) is ∙ set.contains-empty row_cmp r)
+  right_there DeleteRight gone is r i = free_there gone is r i
+  right_there DeleteBoth gone is r i = free_there gone is r i
 
   -- ---- how many rows change, where a and b bound one question on the left and on the right
   module _ (a b : ℕ) (edges : length F ≤ 64) (more : length G ≤ 64) (some_a : 1 ≤ a) (some_b : 1 ≤ b)
@@ -171,7 +186,13 @@ module _ {A B : Relation} {F G : List Edge} {d : Delta} (q : IsJoinEdit A B F G 
         (left_kept_small U V F G A.rows B.rows (edited A B d) d a b edges more some_a some_b gives_left edges_right)
     left_few DeleteBoth = few_by_left
 
-    pub right_few : (k : JoinKind) → k ≢ DeleteLeft → rows_of (diff B.rows (join_right_after k U V F G (edited A B d) A.rows B.rows)) ≤ rows_down (rows_of d) (2 * a * b)
-    right_few DeleteLeft other = absurd (other refl)
-    right_few DeleteRight other = few_by_right
-    right_few DeleteBoth other = few_by_right
+    -- the right source merged alone
+    few_merged : rows_of (diff B.rows (join_right V G (edited A B d) B.rows)) ≤ rows_down (rows_of d) (2 * a * b)
+    few_merged =
+        subst (λ (x : Delta). rows_of x ≤ rows_down (rows_of d) (2 * a * b)) (right_is q)
+        (right_delta_small V G B.rows d a b more some_a some_b edges_right)
+
+    pub right_few : (k : JoinKind) → rows_of (diff B.rows (join_right_after k U V F G (edited A B d) A.rows B.rows)) ≤ rows_down (rows_of d) (2 * a * b)
+    right_few DeleteLeft = few_merged
+    right_few DeleteRight = few_by_right
+    right_few DeleteBoth = few_by_right

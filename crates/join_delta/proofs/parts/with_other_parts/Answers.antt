@@ -3,7 +3,7 @@ use Rattle.lens_values.specs.Part.{restrict}
 use Rattle.lens_values.specs.declared.row.Row.{Row}
 use Rattle.lens_specs.specs.Relation.{has}
 use Rattle.signed_delta.proofs.Looks.{passed_are, passed_rise}
-use Rattle.join_others.proofs.parts.with_other_parts.Goals as goal
+use Rattle.join_delta.proofs.parts.with_other_parts.Goals as goal
 
 pub from_rising-requires : goal.from_rising-requires
 from_rising-requires c =

@@ -2,8 +2,8 @@ use Rattle.std.proofs.Common.{ap, ◌∙◌, length, arith}
 use Rattle.lens_values.specs.SortedSet as set
 use Rattle.signed_delta.proofs.Counts.{at_end}
 use Rattle.signed_delta.proofs.Looks.{listed_at, passed_are, passed_rise}
-use Rattle.join_others.specs.Shown.{is_shown}
-use Rattle.join_others.proofs.parts.shown_parts.Goals as goal
+use Rattle.join_delta.specs.Shown.{is_shown}
+use Rattle.join_delta.proofs.parts.shown_parts.Goals as goal
 
 pub is_shown-requires-clause-have : goal.is_shown-requires-clause-have
 is_shown-requires-clause-have g c = c.requires.have c.part-item.result

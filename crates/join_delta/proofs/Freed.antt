@@ -20,7 +20,7 @@ use Rattle.fd_laws.proofs.Lists.{absurd_false, any_at, any_from, false_from}
 use Rattle.fd_laws.proofs.Relations.{from_minus, from_project, from_those, in_join, in_minus, in_project, in_those, same_rel}
 use Rattle.fd_laws.proofs.Rows.{agree-cut, agree_back, agree_on, row_itself, tied_row}
 use Rattle.join_delta.specs.Joined.{shared_names}
-use Rattle.join_others.specs.Shown.{is_shown}
+use Rattle.join_delta.specs.Shown.{is_shown}
 
 -- parts of rows that are of a changed source stand in the old one, if they are not added
 pub parts_stand : (C : Names) (N over : Rows) (right : Delta) → ((w : Row) → has over w ≡ true → has (new_view N right) (restrict C w) ≡ true)

@@ -1,8 +1,8 @@
 use Rattle.std.proofs.Common.{◌≡◌, ◌≤◌, ◌+◌, ◌*◌, ℕ, take}
 use Rattle.std.specs.Prelude.{filter}
 use Rattle.lens_values.specs.SortedSet as set
-use Rattle.join_others.specs.Shown.{is_shown}
-use Rattle.join_others.proofs.parts.shown_parts.Given as goal
+use Rattle.join_delta.specs.Shown.{is_shown}
+use Rattle.join_delta.proofs.parts.shown_parts.Given as goal
 
 abbrev pub invariant-loop-part : goal.invariant-loop-part
 invariant-loop-part g l =

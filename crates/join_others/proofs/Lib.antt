@@ -1,3 +1,0 @@
-pub mod Freed
-pub mod Taken
-pub mod Looked
