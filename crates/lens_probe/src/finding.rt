@@ -16,7 +16,7 @@ use crate::columns::{names_of, shared_names};
 use crate::pairing::add_pairs;
 use crate::selecting::selected;
 use base_index::Tables;
-use lens_types::{JoinKind, Lens, TypedLens, rename_row, rename_set};
+use lens_types::{JoinKind, Node, TypedLens, rename_row, rename_set};
 use lens_values::{Name, Names, NoMemory, Row};
 use row_sets::RowSet;
 use std::alloc::Global;
@@ -55,20 +55,23 @@ pub(crate) fn find_in<L: Ledger>(
         → FindsWithin lens.now query.now.tables.now.present query.now.cols.now w
         → looked.new ≤ looked.old + size lens.now w }
 {
-    match lens.lens() {
-        Lens::Base { table, .. } => query.tables.find(table, query.cols, query.key, looked),
-        Lens::Select { pred, of, .. } => {
+    match lens.node() {
+        Node::Base { table, .. } => query.tables.find(table, query.cols, query.key, looked),
+        Node::Select { pred, of } => {
             let found = find_in(alloc, of, query, looked)?;
             selected(alloc, pred, found)
         }
-        Lens::Drop { of, .. } => find_parts(alloc, names_of(lens), of, query, looked),
-        Lens::Rename { col, to, of, .. } => find_renamed(alloc, col, to, of, query, looked),
-        Lens::Join {
+        Node::Drop { of, .. } => find_parts(alloc, names_of(lens), of, query, looked),
+        Node::Rename { col, to, of } => find_renamed(alloc, col, to, of, query, looked),
+        Node::Join { kind, left, right } => find_joined(
+            alloc,
             kind,
             left,
             right,
-            ..
-        } => find_joined(alloc, *kind, left, right, names_of(lens), query, looked),
+            names_of(lens),
+            query,
+            looked,
+        ),
     }
 }
 
@@ -92,14 +95,11 @@ fn find_parts<L: Ledger>(
         → FindsWithin lens.now query.now.tables.now.present query.now.cols.now w
         → looked.new ≤ looked.old + size lens.now w }
 {
-    match lens.lens() {
-        Lens::Join {
-            kind,
-            left,
-            right,
-            ..
-        } => find_joined(alloc, *kind, left, right, kept, query, looked),
-        Lens::Base { .. } | Lens::Select { .. } | Lens::Drop { .. } | Lens::Rename { .. } => {
+    match lens.node() {
+        Node::Join { kind, left, right } => find_joined(
+            alloc, kind, left, right, kept, query, looked,
+        ),
+        Node::Base { .. } | Node::Select { .. } | Node::Drop { .. } | Node::Rename { .. } => {
             let found = find_in(alloc, lens, query, looked)?;
             found.project(alloc, kept)
         }

@@ -11,7 +11,7 @@ ghost use Rattle.lens_probe.specs.Looking.{LooksWithin, MayLook};
 use crate::columns::names_of;
 use crate::finding::{Query, find_in};
 use base_index::Tables;
-use lens_types::{Lens, TypedLens, rename_row};
+use lens_types::{Node, TypedLens, rename_row};
 use lens_values::{NoMemory, Row};
 use std::alloc::Global;
 use std::sync::ledger::Ledger;
@@ -32,15 +32,15 @@ pub(crate) fn has_in<L: Ledger>(
     ensures looks { (w : ℕ) → LooksWithin lens.now tables.now.present w
         → looked.new ≤ looked.old + size lens.now w }
 {
-    match lens.lens() {
-        Lens::Base { table, .. } => Ok(tables.has(table, row, looked)),
-        Lens::Select { pred, of, .. } => {
+    match lens.node() {
+        Node::Base { table, .. } => Ok(tables.has(table, row, looked)),
+        Node::Select { pred, of } => {
             if !pred.holds(row) {
                 return Ok(false);
             }
             has_in(alloc, of, tables, row, looked)
         }
-        Lens::Drop { by, of, .. } => {
+        Node::Drop { by, of, .. } => {
             let key = row.project(alloc, by)?;
             let query = Query {
                 tables,
@@ -50,11 +50,11 @@ pub(crate) fn has_in<L: Ledger>(
             let found = find_in(alloc, of, &query, looked)?;
             Ok(any_agrees(lens, found.rows(), row))
         }
-        Lens::Rename { col, to, of, .. } => {
+        Node::Rename { col, to, of } => {
             let old_row = rename_row(alloc, row, to, col)?;
             has_in(alloc, of, tables, &old_row, looked)
         }
-        Lens::Join { left, right, .. } => {
+        Node::Join { left, right, .. } => {
             let left_row = row.project(alloc, names_of(left))?;
             if !has_in(alloc, left, tables, &left_row, looked)? {
                 return Ok(false);

@@ -8,7 +8,7 @@ ghost use Rattle.lens_probe.specs.Needs.{pair_of};
 
 use crate::columns::{names_of, shared_names};
 use base_index::Need;
-use lens_types::{Lens, TypedLens};
+use lens_types::{Node, TypedLens};
 use lens_values::{Name, Names, NoMemory};
 use std::alloc::Global;
 
@@ -33,18 +33,18 @@ fn add_needs(
         OnOk result (map pair_of all.new.items ≡ before ++ asked lens.now handed.items) }
 {
     let keys = with_left_sides(alloc, handed, lens)?;
-    match lens.lens() {
-        Lens::Base { table, .. } => add_each(table, keys, all),
-        Lens::Select { of, .. } => add_needs(alloc, of, keys, all),
-        Lens::Drop { by, of, .. } => {
+    match lens.node() {
+        Node::Base { table, .. } => add_each(table, keys, all),
+        Node::Select { of, .. } => add_needs(alloc, of, keys, all),
+        Node::Drop { by, of, .. } => {
             let under = before(alloc, by.copy(alloc)?, &keys)?;
             add_needs(alloc, of, under, all)
         }
-        Lens::Rename { col, to, of, .. } => {
+        Node::Rename { col, to, of } => {
             let under = renamed_each(alloc, &keys, to, col)?;
             add_needs(alloc, of, under, all)
         }
-        Lens::Join { left, right, .. } => {
+        Node::Join { left, right, .. } => {
             let (under_left, under_right) = handed_to_sides(alloc, left, right, &keys)?;
             add_needs(alloc, left, under_left, all)?;
             add_needs(alloc, right, under_right, all)

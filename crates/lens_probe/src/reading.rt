@@ -14,7 +14,7 @@ ghost use Rattle.lens_probe.specs.Reading.{rows_for, rows_under};
 use crate::columns::{names_of, shared_names};
 use base_index::Tables;
 use lens_pred::Pred;
-use lens_types::{Lens, TypedLens, rename_rows};
+use lens_types::{Node, TypedLens, rename_rows};
 use lens_values::{Names, NoMemory, Row};
 use row_sets::{Relation, RowSet};
 use std::alloc::Global;
@@ -53,9 +53,9 @@ fn row_set_in<L: Ledger>(
     ensures walked { walked.new ≤ walked.old + rows_under lens.now tables.now.present.relations }
     ensures walks_on { walked.old ≤ walked.new }
 {
-    match lens.lens() {
-        Lens::Base { table, .. } => tables.walk(table, walked),
-        Lens::Select { .. } | Lens::Drop { .. } | Lens::Rename { .. } | Lens::Join { .. } => {
+    match lens.node() {
+        Node::Base { table, .. } => tables.walk(table, walked),
+        Node::Select { .. } | Node::Drop { .. } | Node::Rename { .. } | Node::Join { .. } => {
             RowSet::new(alloc, rows_in(alloc, lens, tables, walked)?)
         }
     }
@@ -76,15 +76,15 @@ pub(crate) fn rows_in<L: Ledger>(
     ensures walked { walked.new ≤ walked.old + rows_under lens.now tables.now.present.relations }
     ensures walks_on { walked.old ≤ walked.new }
 {
-    match lens.lens() {
-        Lens::Base { table, .. } => Ok(tables.walk(table, walked)?.into_rows()),
-        Lens::Select { pred, of, .. } => selected_in(alloc, pred, of, tables, walked),
-        Lens::Drop { of, .. } => parts_in(alloc, names_of(lens), of, tables, walked),
-        Lens::Rename { col, to, of, .. } => {
+    match lens.node() {
+        Node::Base { table, .. } => Ok(tables.walk(table, walked)?.into_rows()),
+        Node::Select { pred, of } => selected_in(alloc, pred, of, tables, walked),
+        Node::Drop { of, .. } => parts_in(alloc, names_of(lens), of, tables, walked),
+        Node::Rename { col, to, of } => {
             let rows = rows_in(alloc, of, tables, walked)?;
             rename_rows(alloc, &rows, names_of(of), col, to)
         }
-        Lens::Join { left, right, .. } => {
+        Node::Join { left, right, .. } => {
             pair_parts_in(alloc, names_of(lens), left, right, tables, walked)
         }
     }
@@ -106,11 +106,11 @@ fn parts_in<L: Ledger>(
     ensures walked { walked.new ≤ walked.old + rows_under lens.now tables.now.present.relations }
     ensures walks_on { walked.old ≤ walked.new }
 {
-    match lens.lens() {
-        Lens::Join { left, right, .. } => {
+    match lens.node() {
+        Node::Join { left, right, .. } => {
             pair_parts_in(alloc, kept, left, right, tables, walked)
         }
-        Lens::Base { .. } | Lens::Select { .. } | Lens::Drop { .. } | Lens::Rename { .. } => {
+        Node::Base { .. } | Node::Select { .. } | Node::Drop { .. } | Node::Rename { .. } => {
             let rows = rows_in(alloc, lens, tables, walked)?;
             parts(alloc, kept, rows)
         }
@@ -162,14 +162,14 @@ pub(crate) fn selected_in<L: Ledger>(
     ensures walked { walked.new ≤ walked.old + rows_under of.now tables.now.present.relations }
     ensures walks_on { walked.old ≤ walked.new }
 {
-    match of.lens() {
-        Lens::Drop { of: source, .. } => {
+    match of.node() {
+        Node::Drop { of: source, .. } => {
             selected_parts_in(alloc, pred, names_of(of), source, tables, walked)
         }
-        Lens::Join { left, right, .. } => {
+        Node::Join { left, right, .. } => {
             selected_pairs_in(alloc, pred, names_of(of), left, right, tables, walked)
         }
-        Lens::Base { .. } | Lens::Select { .. } | Lens::Rename { .. } => {
+        Node::Base { .. } | Node::Select { .. } | Node::Rename { .. } => {
             Ok(selected(pred, rows_in(alloc, of, tables, walked)?))
         }
     }
@@ -194,11 +194,11 @@ fn selected_parts_in<L: Ledger>(
     ensures walked { walked.new ≤ walked.old + rows_under lens.now tables.now.present.relations }
     ensures walks_on { walked.old ≤ walked.new }
 {
-    match lens.lens() {
-        Lens::Join { left, right, .. } => {
+    match lens.node() {
+        Node::Join { left, right, .. } => {
             selected_pairs_in(alloc, pred, kept, left, right, tables, walked)
         }
-        Lens::Base { .. } | Lens::Select { .. } | Lens::Drop { .. } | Lens::Rename { .. } => {
+        Node::Base { .. } | Node::Select { .. } | Node::Drop { .. } | Node::Rename { .. } => {
             let rows = selected_in(alloc, pred, lens, tables, walked)?;
             parts(alloc, kept, rows)
         }

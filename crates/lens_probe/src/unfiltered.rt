@@ -11,7 +11,7 @@ ghost use Rattle.lens_probe.specs.Unfiltered.{passes, passing};
 use crate::reading::{rows_in, selected_in};
 use base_index::Tables;
 use lens_pred::Pred;
-use lens_types::{Lens, TypedLens};
+use lens_types::{Node, TypedLens};
 use lens_values::{NoMemory, Row};
 use std::alloc::Global;
 use std::sync::ledger::Ledger;
@@ -42,10 +42,10 @@ pub(crate) fn unfiltered_rows<'a, L: Ledger>(
     ensures walked { walked.new ≤ walked.old + rows_under lens.now tables.now.present.relations }
     ensures walks_on { walked.old ≤ walked.new }
 {
-    match lens.lens() {
-        Lens::Select { pred, of, .. } => unfiltered_selection(alloc, pred, of, tables, walked),
-        Lens::Drop { of, .. } if !is_join(of) => unfiltered_source(alloc, of, tables, walked),
-        Lens::Base { .. } | Lens::Drop { .. } | Lens::Rename { .. } | Lens::Join { .. } => {
+    match lens.node() {
+        Node::Select { pred, of } => unfiltered_selection(alloc, pred, of, tables, walked),
+        Node::Drop { of, .. } if !is_join(of) => unfiltered_source(alloc, of, tables, walked),
+        Node::Base { .. } | Node::Drop { .. } | Node::Rename { .. } | Node::Join { .. } => {
             Ok(Unfiltered {
                 rows: rows_in(alloc, lens, tables, walked)?,
                 pred: None,
@@ -70,22 +70,22 @@ fn unfiltered_selection<'a, L: Ledger>(
     ensures walked { walked.new ≤ walked.old + rows_under of.now tables.now.present.relations }
     ensures walks_on { walked.old ≤ walked.new }
 {
-    match of.lens() {
-        Lens::Drop { of: source, .. } if !is_join(source) => {
+    match of.node() {
+        Node::Drop { of: source, .. } if !is_join(source) => {
             unfiltered_in(alloc, pred, source, tables, walked)
         }
-        Lens::Base { .. }
-        | Lens::Select { .. }
-        | Lens::Drop { .. }
-        | Lens::Rename { .. }
-        | Lens::Join { .. } => unfiltered_in(alloc, pred, of, tables, walked),
+        Node::Base { .. }
+        | Node::Select { .. }
+        | Node::Drop { .. }
+        | Node::Rename { .. }
+        | Node::Join { .. } => unfiltered_in(alloc, pred, of, tables, walked),
     }
 }
 
 // Whether the lens is a join. Of its pairs the parts alone are made where a column is dropped, so
 // that there is nothing to cut.
 fn is_join(lens: &TypedLens) -> bool {
-    matches!(lens.lens(), Lens::Join { .. })
+    matches!(lens.node(), Node::Join { .. })
 }
 
 // Rows of which those that pass the test are the rows that the lens shows.
@@ -101,9 +101,9 @@ fn unfiltered_source<'a, L: Ledger>(
     ensures walked { walked.new ≤ walked.old + rows_under lens.now tables.now.present.relations }
     ensures walks_on { walked.old ≤ walked.new }
 {
-    match lens.lens() {
-        Lens::Select { pred, of, .. } => unfiltered_in(alloc, pred, of, tables, walked),
-        Lens::Base { .. } | Lens::Drop { .. } | Lens::Rename { .. } | Lens::Join { .. } => {
+    match lens.node() {
+        Node::Select { pred, of } => unfiltered_in(alloc, pred, of, tables, walked),
+        Node::Base { .. } | Node::Drop { .. } | Node::Rename { .. } | Node::Join { .. } => {
             Ok(Unfiltered {
                 rows: rows_in(alloc, lens, tables, walked)?,
                 pred: None,
@@ -128,12 +128,12 @@ fn unfiltered_in<'a, L: Ledger>(
     ensures walked { walked.new ≤ walked.old + rows_under of.now tables.now.present.relations }
     ensures walks_on { walked.old ≤ walked.new }
 {
-    match of.lens() {
-        Lens::Base { .. } => Ok(Unfiltered {
+    match of.node() {
+        Node::Base { .. } => Ok(Unfiltered {
             rows: rows_in(alloc, of, tables, walked)?,
             pred: Some(pred),
         }),
-        Lens::Select { .. } | Lens::Drop { .. } | Lens::Rename { .. } | Lens::Join { .. } => {
+        Node::Select { .. } | Node::Drop { .. } | Node::Rename { .. } | Node::Join { .. } => {
             Ok(Unfiltered {
                 rows: selected_in(alloc, pred, of, tables, walked)?,
                 pred: None,

@@ -18,7 +18,7 @@ use crate::having::has_in;
 use crate::reading::read_in;
 use base_index::Tables;
 use fd_tree::Edge;
-use lens_types::{Lens, Sort, TypedLens};
+use lens_types::{Node, Sort, TypedLens};
 use lens_values::{Columns, Names, NoMemory, Row};
 use row_sets::{Relation, RowSet};
 use signed_delta::{Delta, Look};
@@ -94,11 +94,11 @@ impl<'a> View<'a> {
     pub fn source(&self) -> Option<View<'a>>
         ensures { result ≡ source_of self.now }
     {
-        match self.lens.lens() {
-            Lens::Select { of, .. } => Some(self.over(of)),
-            Lens::Drop { of, .. } => Some(self.over(of)),
-            Lens::Rename { of, .. } => Some(self.over(of)),
-            Lens::Base { .. } | Lens::Join { .. } => None,
+        match self.lens.node() {
+            Node::Select { of, .. } => Some(self.over(of)),
+            Node::Drop { of, .. } => Some(self.over(of)),
+            Node::Rename { of, .. } => Some(self.over(of)),
+            Node::Base { .. } | Node::Join { .. } => None,
         }
     }
 
@@ -106,9 +106,9 @@ impl<'a> View<'a> {
     pub fn sides(&self) -> Option<(View<'a>, View<'a>)>
         ensures { result ≡ sides_of self.now }
     {
-        match self.lens.lens() {
-            Lens::Join { left, right, .. } => Some(self.over_sides(left, right)),
-            Lens::Base { .. } | Lens::Select { .. } | Lens::Drop { .. } | Lens::Rename { .. } =>
+        match self.lens.node() {
+            Node::Join { left, right, .. } => Some(self.over_sides(left, right)),
+            Node::Base { .. } | Node::Select { .. } | Node::Drop { .. } | Node::Rename { .. } =>
                 None,
         }
     }

@@ -3,7 +3,7 @@ ghost use Rattle.std.specs.Prelude.{◌≡◌};
 ghost use Rattle.catalog_specs.specs.Catalogue.{is_table_of};
 ghost use Rattle.view_catalog.specs.Admissions.{table_in};
 
-use lens_types::{Lens, TypedLens};
+use lens_types::{Node, TypedLens};
 use lens_values::{Name, Text};
 
 /// A definition that was judged, with the lens that it makes.
@@ -52,8 +52,8 @@ impl Prepared {
 pub(crate) fn is_table(lens: &TypedLens, name: &Name) -> bool
     ensures { result ≡ is_table_of name.now lens.now }
 {
-    match lens.lens() {
-        Lens::Base { table, .. } => table == name,
-        Lens::Select { .. } | Lens::Drop { .. } | Lens::Rename { .. } | Lens::Join { .. } => false,
+    match lens.node() {
+        Node::Base { table, .. } => table == name,
+        Node::Select { .. } | Node::Drop { .. } | Node::Rename { .. } | Node::Join { .. } => false,
     }
 }

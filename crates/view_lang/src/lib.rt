@@ -11,3 +11,4 @@ pub use expr::Expr;
 pub use lens_values::JoinKind;
 pub use parsing::parse;
 pub use printing::{print, print_formula};
+pub use view_limits::{Limit, Side};

@@ -1,6 +1,5 @@
 -- A rename and its put.
 use Rattle.std.proofs.Common.{◌≡◌, true, false, [], refl, sym, ap, ◌∙◌, subst}
-use Rattle.std.specs.FinMap as finmap
 use Rattle.lens_values.specs.SortedSet as set
 use Rattle.lens_values.specs.declared.row.Row.{Row}
 use Rattle.fd_laws.proofs.Lists.{false_from, absurd_false}

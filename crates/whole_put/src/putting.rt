@@ -15,7 +15,7 @@ use crate::renaming::put_rename;
 use crate::selecting::put_select;
 use crate::sources::Sources;
 use lens_pred::Pred;
-use lens_types::{Lens, TypedLens};
+use lens_types::{Node, TypedLens};
 use lens_values::{JoinKind, Name, Names, NoMemory, Value};
 use row_sets::Relation;
 use std::alloc::Global;
@@ -50,37 +50,26 @@ fn write(
     requires view { IsOfSort view (sort_of lens.now) }
     ensures { OnOk result (db.new ≡ spec.put lens.now view.rows db.old) }
 {
-    match lens.lens() {
-        Lens::Base { table, .. } => db.set(alloc, *table, view),
-        Lens::Select { pred, of, .. } => {
+    match lens.node() {
+        Node::Base { table, .. } => db.set(alloc, *table, view),
+        Node::Select { pred, of } => {
             let (shown, rest) = under.only();
             let source = under_select(alloc, pred, of, &view, shown)?;
             write(alloc, of, rest, source, db)
         }
-        Lens::Drop {
-            col,
-            by,
-            fill,
-            of,
-            ..
-        } => {
+        Node::Drop { col, by, fill, of } => {
             let (shown, rest) = under.only();
             let source = under_drop(alloc, col, by, fill, of, &view, shown)?;
             write(alloc, of, rest, source, db)
         }
-        Lens::Rename { col, to, of, .. } => {
+        Node::Rename { col, to, of } => {
             let (shown, rest) = under.only();
             let source = under_rename(alloc, col, to, of, &view, shown)?;
             write(alloc, of, rest, source, db)
         }
-        Lens::Join {
-            kind,
-            left,
-            right,
-            ..
-        } => {
+        Node::Join { kind, left, right } => {
             let (left_now, right_now) = under.both();
-            let sources = under_join(alloc, *kind, left, right, &view, left_now.0, right_now.0)?;
+            let sources = under_join(alloc, kind, left, right, &view, left_now.0, right_now.0)?;
             write(alloc, left, left_now.1, sources.0, db)?;
             write(alloc, right, right_now.1, sources.1, db)
         }

@@ -9,7 +9,7 @@ use crate::dropping::get_drop;
 use crate::joining::get_join;
 use crate::renaming::get_rename;
 use crate::selecting::get_select;
-use lens_types::{Lens, TypedLens};
+use lens_types::{Node, TypedLens};
 use lens_values::NoMemory;
 use row_sets::Relation;
 use std::alloc::Global;
@@ -46,14 +46,14 @@ impl Sources {
         ensures shown { IfOk result (λ sources. AreShown lens.now db.now sources) }
         ensures typed { IsTyped lens.now }
     {
-        match lens.lens() {
-            Lens::Base { .. } => Ok(Sources::Table),
-            Lens::Select { of, .. } | Lens::Drop { of, .. } | Lens::Rename { of, .. } => {
+        match lens.node() {
+            Node::Base { .. } => Ok(Sources::Table),
+            Node::Select { of, .. } | Node::Drop { of, .. } | Node::Rename { of, .. } => {
                 let under = Sources::of(alloc, of, db)?;
                 let shown = shown_over(alloc, of, &under, db)?;
                 Sources::one(alloc, shown, under)
             }
-            Lens::Join { left, right, .. } => {
+            Node::Join { left, right, .. } => {
                 let under_left = Sources::of(alloc, left, db)?;
                 let under_right = Sources::of(alloc, right, db)?;
                 let left_shown = shown_over(alloc, left, &under_left, db)?;
@@ -131,12 +131,12 @@ fn shown_over(
     requires under { AreShown lens.now db.now under.now }
     ensures { IfOk result (λ shown. shown ≡ spec.view lens.now db.now) }
 {
-    match lens.lens() {
-        Lens::Base { table, .. } => db.at(table).copy(alloc),
-        Lens::Select { pred, .. } => get_select(alloc, pred, under.only().0),
-        Lens::Drop { col, .. } => get_drop(alloc, col, under.only().0),
-        Lens::Rename { col, to, .. } => get_rename(alloc, col, to, under.only().0),
-        Lens::Join { .. } => {
+    match lens.node() {
+        Node::Base { table, .. } => db.at(table).copy(alloc),
+        Node::Select { pred, .. } => get_select(alloc, pred, under.only().0),
+        Node::Drop { col, .. } => get_drop(alloc, col, under.only().0),
+        Node::Rename { col, to, .. } => get_rename(alloc, col, to, under.only().0),
+        Node::Join { .. } => {
             let (left, right) = under.both();
             get_join(alloc, left.0, right.0)
         }

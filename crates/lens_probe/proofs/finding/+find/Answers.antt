@@ -4,13 +4,12 @@ use Rattle.std.proofs.lemmas.Result.{IfOk-weaker}
 use Rattle.lens_values.specs.Part.{restrict}
 use Rattle.lens_values.specs.SortedSet as set
 use Rattle.lens_specs.specs.Names.{Within, share}
-use Rattle.lens_specs.specs.Lens.{drop, get, join, nodes_of, rename, select, view_names}
+use Rattle.lens_specs.specs.Lens.{get, join, nodes_of, rename, view_names}
 use Rattle.lens_specs.specs.Relation.{project}
 use Rattle.lens_laws.proofs.PastedFinds.{key_is_over}
 use Rattle.lens_laws.specs.Finds.{IsOver}
 use Rattle.lens_laws.specs.KeyedDeltas.{find_by}
 use Rattle.lens_laws.specs.Lenses.{IsTyped}
-use Rattle.lens_types.specs.Lenses.{lens_view}
 use Rattle.lens_laws.specs.Work.{size}
 use Rattle.signed_delta.proofs.Counts.{at_end, next, one_more}
 use Rattle.lens_probe.specs.Looking.{ArePartners, FindsWithin, MayFind, pairs_of}
@@ -21,45 +20,45 @@ use Rattle.lens_probe.proofs.finding.+find.Goals as goal
 
 pub find_in-find_in-requires : goal.find_in-find_in-requires
 find_in-find_in-requires g t c κs within =
-    let is = (λ i. select c.in-Select.pred (c.deref.ensures i)) ∙ sym (ap lens_view c.in-Select.is) ∙ c.lens.ensures.view in
-    (omega (arith, c.decreases, ap nodes_of is), (within, (source_of_select c.args.lens.now c.deref.result.now c.in-Select.pred c.args.query.now.tables.now.present c.args.query.now.cols.now is c.lens.ensures.typed c.requires.asked, c.requires.key)))
+    let is = c.in-Select.ensures.is in
+    (omega (arith, c.decreases, ap nodes_of is), (within, (source_of_select c.args.lens.now c.in-Select.of.now c.in-Select.pred.now c.args.query.now.tables.now.present c.args.query.now.cols.now is c.node.ensures.typed c.requires.asked, c.requires.key)))
 
 pub find_in-find_parts-requires : goal.find_in-find_parts-requires
 find_in-find_parts-requires g t c κs within =
     let L = c.args.lens.now in
     let st = c.args.query.now.tables.now.present in
     let C = c.args.query.now.cols.now in
-    let is = (λ i. drop c.in-Drop.col c.in-Drop.by c.in-Drop.fill (c.deref-in-Drop.ensures i)) ∙ sym (ap lens_view c.in-Drop.is) ∙ c.lens.ensures.view in (
+    let is = c.in-Drop.ensures.is in (
       omega (arith, c.decreases, ap nodes_of is),
       (
         within,
         (
-          subst (Within C) (sym c.names_of.ensures) (shown_to L st C c.lens.ensures.typed c.requires.asked),
-          (source_of_drop L c.deref-in-Drop.result.now c.in-Drop.col c.in-Drop.by c.in-Drop.fill st C is c.lens.ensures.typed c.requires.asked, c.requires.key),
+          subst (Within C) (sym c.names_of.ensures) (shown_to L st C c.node.ensures.typed c.requires.asked),
+          (source_of_drop L c.in-Drop.of.now c.in-Drop.col.now c.in-Drop.by.now c.in-Drop.fill.now st C is c.node.ensures.typed c.requires.asked, c.requires.key),
         ),
       ),
     )
 
 pub find_in-returns-in-Base-clause-found : goal.find_in-returns-in-Base-clause-found
 find_in-returns-in-Base-clause-found g t c =
-    let is = sym (ap lens_view c.in-Base.is) ∙ c.lens.ensures.view in
-    table_finds c.find.result c.args.lens.now c.in-Base.table c.in-Base.sort c.args.query.now.tables.now.present.relations c.args.query.now.cols.now c.args.query.now.key.now is c.find.ensures.ok
+    let is = c.in-Base.ensures.is in
+    table_finds c.find.result c.args.lens.now c.in-Base.table.now c.in-Base.sort.now c.args.query.now.tables.now.present.relations c.args.query.now.cols.now c.args.query.now.key.now is c.find.ensures.ok
 
 pub find_in-returns-in_ok-found-in-Select-clause-found : goal.find_in-returns-in_ok-found-in-Select-clause-found
 find_in-returns-in_ok-found-in-Select-clause-found g t c =
-    let is = (λ i. select c.in-Select.pred (c.deref.ensures i)) ∙ sym (ap lens_view c.in-Select.is) ∙ c.lens.ensures.view in
-    select_finds c.selected.result c.args.lens.now c.deref.result.now c.in-Select.pred c.args.query.now.tables.now.present.relations c.args.query.now.cols.now c.args.query.now.key.now c.in_ok-found-in-Select.found is
+    let is = c.in-Select.ensures.is in
+    select_finds c.selected.result c.args.lens.now c.in-Select.of.now c.in-Select.pred.now c.args.query.now.tables.now.present.relations c.args.query.now.cols.now c.args.query.now.key.now c.in_ok-found-in-Select.found is
     c.in_ok-found-in-Select.ensures.found c.selected.ensures
 
 pub find_in-returns-in-Drop-clause-found : goal.find_in-returns-in-Drop-clause-found
 find_in-returns-in-Drop-clause-found g t c =
-    let S = c.deref-in-Drop.result.now in
+    let S = c.in-Drop.of.now in
     let st = c.args.query.now.tables.now.present in
     let C = c.args.query.now.cols.now in
     let k = c.args.query.now.key.now in
-    let is = (λ i. drop c.in-Drop.col c.in-Drop.by c.in-Drop.fill (c.deref-in-Drop.ensures i)) ∙ sym (ap lens_view c.in-Drop.is) ∙ c.lens.ensures.view in
-    drop_finds c.find_parts.result c.args.lens.now S c.in-Drop.col c.in-Drop.by c.in-Drop.fill st C c.names_of.result.now k (find_by C k (get S st.relations)) is
-    c.lens.ensures.typed c.requires.asked c.names_of.ensures refl c.find_parts.ensures.found
+    let is = c.in-Drop.ensures.is in
+    drop_finds c.find_parts.result c.args.lens.now S c.in-Drop.col.now c.in-Drop.by.now c.in-Drop.fill.now st C c.names_of.result.now k (find_by C k (get S st.relations)) is
+    c.node.ensures.typed c.requires.asked c.names_of.ensures refl c.find_parts.ensures.found
 
 pub find_in-returns-in-Join-clause-found : goal.find_in-returns-in-Join-clause-found
 find_in-returns-in-Join-clause-found g t c =
@@ -67,21 +66,21 @@ find_in-returns-in-Join-clause-found g t c =
     let st = c.args.query.now.tables.now.present in
     let C = c.args.query.now.cols.now in
     let k = c.args.query.now.key.now in
-    let is = (λ i. join c.in-Join.kind (c.deref-in-Join.ensures i) (c.deref-in-Join-2.ensures i)) ∙ sym (ap lens_view c.in-Join.is) ∙ c.lens.ensures.view in
+    let is = c.in-Join.ensures.is in
     IfOk-weaker c.find_joined.result _ _
     (λ found made. made
     ∙ (λ i. project (c.names_of-in-Join.ensures i) (find_by C k (get (is i) st.relations)))
-    ∙ found_whole L st C k c.lens.ensures.typed c.requires.asked.1.tables)
+    ∙ found_whole L st C k c.node.ensures.typed c.requires.asked.1.tables)
     c.find_joined.ensures.found
 
 pub find_parts-find_joined-requires : goal.find_parts-find_joined-requires
 find_parts-find_joined-requires g t c κs within =
-    let is = (λ i. join c.in-Join.kind (c.deref.ensures i) (c.deref-in-Join.ensures i)) ∙ sym (ap lens_view c.in-Join.is) ∙ c.lens.ensures.view in (
+    let is = c.in-Join.ensures.is in (
       omega (arith, c.decreases, ap nodes_of is),
       (
         within,
         (
-          subst IsTyped (sym is) c.lens.ensures.typed,
+          subst IsTyped (sym is) c.node.ensures.typed,
           (c.requires.kept, (subst (λ L. MayFind L c.args.query.now.tables.now.present c.args.query.now.cols.now) (sym is) c.requires.asked, c.requires.key)),
         ),
       ),
@@ -89,7 +88,7 @@ find_parts-find_joined-requires g t c κs within =
 
 pub find_parts-returns-in-Join-clause-found : goal.find_parts-returns-in-Join-clause-found
 find_parts-returns-in-Join-clause-found g t c =
-    let is = (λ i. join c.in-Join.kind (c.deref.ensures i) (c.deref-in-Join.ensures i)) ∙ sym (ap lens_view c.in-Join.is) ∙ c.lens.ensures.view in
+    let is = c.in-Join.ensures.is in
     IfOk-weaker c.find_joined.result _ _
     (λ found made. made ∙ (λ i. project c.args.kept.now (find_by c.args.query.now.cols.now c.args.query.now.key.now (get (is i) c.args.query.now.tables.now.present.relations))))
     c.find_joined.ensures.found
@@ -103,14 +102,14 @@ find_in-find_joined-requires g t c κs within =
     let L = c.args.lens.now in
     let st = c.args.query.now.tables.now.present in
     let C = c.args.query.now.cols.now in
-    let is = (λ i. join c.in-Join.kind (c.deref-in-Join.ensures i) (c.deref-in-Join-2.ensures i)) ∙ sym (ap lens_view c.in-Join.is) ∙ c.lens.ensures.view in (
+    let is = c.in-Join.ensures.is in (
       omega (arith, c.decreases, ap nodes_of is),
       (
         within,
         (
-          subst IsTyped (sym is) c.lens.ensures.typed,
+          subst IsTyped (sym is) c.node.ensures.typed,
           (
-            subst (Within C) (sym c.names_of-in-Join.ensures) (shown_to L st C c.lens.ensures.typed c.requires.asked),
+            subst (Within C) (sym c.names_of-in-Join.ensures) (shown_to L st C c.node.ensures.typed c.requires.asked),
             (subst (λ L. MayFind L st C) (sym is) c.requires.asked, c.requires.key),
           ),
         ),
@@ -121,12 +120,12 @@ find_in-find_joined-requires g t c κs within =
 
 pub find_in-find_renamed-requires : goal.find_in-find_renamed-requires
 find_in-find_renamed-requires g t c κs within =
-    let is = (λ i. rename c.in-Rename.col c.in-Rename.to (c.deref-in-Rename.ensures i)) ∙ sym (ap lens_view c.in-Rename.is) ∙ c.lens.ensures.view in (
+    let is = c.in-Rename.ensures.is in (
       omega (arith, c.decreases, ap nodes_of is),
       (
         within,
         (
-          subst IsTyped (sym is) c.lens.ensures.typed,
+          subst IsTyped (sym is) c.node.ensures.typed,
           (subst (λ L. MayFind L c.args.query.now.tables.now.present c.args.query.now.cols.now) (sym is) c.requires.asked, c.requires.key),
         ),
       ),
@@ -134,7 +133,7 @@ find_in-find_renamed-requires g t c κs within =
 
 pub find_in-returns-in-Rename-clause-looks : goal.find_in-returns-in-Rename-clause-looks
 find_in-returns-in-Rename-clause-looks g t c = λ w few.
-    let is = (λ i. rename c.in-Rename.col c.in-Rename.to (c.deref-in-Rename.ensures i)) ∙ sym (ap lens_view c.in-Rename.is) ∙ c.lens.ensures.view in
+    let is = c.in-Rename.ensures.is in
     subst (λ L. c.find_renamed.new.looked ≤ c.args.looked.now + size L w) is (c.find_renamed.ensures.looks w (subst (λ L. FindsWithin L c.args.query.now.tables.now.present c.args.query.now.cols.now w) (sym is) few))
 
 pub find_renamed-rename_row-requires : goal.find_renamed-rename_row-requires
@@ -283,35 +282,35 @@ partners_of-returns-then-agree_on-clause-rows g t c =
 
 pub find_in-returns-in-Base-clause-looks : goal.find_in-returns-in-Base-clause-looks
 find_in-returns-in-Base-clause-looks g t c = λ w few.
-    let is = sym (ap lens_view c.in-Base.is) ∙ c.lens.ensures.view in
-    table_looks c.find.result c.args.lens.now c.in-Base.table c.in-Base.sort c.args.query.now.tables.now.present c.args.query.now.cols.now c.args.query.now.key.now w c.args.looked.now c.find.new.looked is few c.find.ensures.ok c.find.ensures.looked c.find.ensures.looked_in_vain
+    let is = c.in-Base.ensures.is in
+    table_looks c.find.result c.args.lens.now c.in-Base.table.now c.in-Base.sort.now c.args.query.now.tables.now.present c.args.query.now.cols.now c.args.query.now.key.now w c.args.looked.now c.find.new.looked is few c.find.ensures.ok c.find.ensures.looked c.find.ensures.looked_in_vain
 
 pub find_in-returns-in_ok-found-in-Select-clause-looks : goal.find_in-returns-in_ok-found-in-Select-clause-looks
 find_in-returns-in_ok-found-in-Select-clause-looks g t c = λ w few.
-    let is = (λ i. select c.in-Select.pred (c.deref.ensures i)) ∙ sym (ap lens_view c.in-Select.is) ∙ c.lens.ensures.view in
-    subst (λ n. c.find_in.new.looked ≤ c.args.looked.now + n) (selected_size c.args.lens.now c.deref.result.now c.in-Select.pred w is)
-    (c.find_in.ensures.looks w (under_selected c.args.lens.now c.deref.result.now c.in-Select.pred c.args.query.now.tables.now.present c.args.query.now.cols.now w is c.lens.ensures.typed few))
+    let is = c.in-Select.ensures.is in
+    subst (λ n. c.find_in.new.looked ≤ c.args.looked.now + n) (selected_size c.args.lens.now c.in-Select.of.now c.in-Select.pred.now w is)
+    (c.find_in.ensures.looks w (under_selected c.args.lens.now c.in-Select.of.now c.in-Select.pred.now c.args.query.now.tables.now.present c.args.query.now.cols.now w is c.node.ensures.typed few))
 
 pub find_in-returns-in_err-found-in-Select-clause-looks : goal.find_in-returns-in_err-found-in-Select-clause-looks
 find_in-returns-in_err-found-in-Select-clause-looks g t c = λ w few.
-    let is = (λ i. select c.in-Select.pred (c.deref.ensures i)) ∙ sym (ap lens_view c.in-Select.is) ∙ c.lens.ensures.view in
-    subst (λ n. c.find_in.new.looked ≤ c.args.looked.now + n) (selected_size c.args.lens.now c.deref.result.now c.in-Select.pred w is)
-    (c.find_in.ensures.looks w (under_selected c.args.lens.now c.deref.result.now c.in-Select.pred c.args.query.now.tables.now.present c.args.query.now.cols.now w is c.lens.ensures.typed few))
+    let is = c.in-Select.ensures.is in
+    subst (λ n. c.find_in.new.looked ≤ c.args.looked.now + n) (selected_size c.args.lens.now c.in-Select.of.now c.in-Select.pred.now w is)
+    (c.find_in.ensures.looks w (under_selected c.args.lens.now c.in-Select.of.now c.in-Select.pred.now c.args.query.now.tables.now.present c.args.query.now.cols.now w is c.node.ensures.typed few))
 
 pub find_in-returns-in-Drop-clause-looks : goal.find_in-returns-in-Drop-clause-looks
 find_in-returns-in-Drop-clause-looks g t c = λ w few.
-    let is = (λ i. drop c.in-Drop.col c.in-Drop.by c.in-Drop.fill (c.deref-in-Drop.ensures i)) ∙ sym (ap lens_view c.in-Drop.is) ∙ c.lens.ensures.view in
-    subst (λ n. c.find_parts.new.looked ≤ c.args.looked.now + n) (dropped_size c.args.lens.now c.deref-in-Drop.result.now c.in-Drop.col c.in-Drop.by c.in-Drop.fill w is)
-    (c.find_parts.ensures.looks w (under_dropped c.args.lens.now c.deref-in-Drop.result.now c.in-Drop.col c.in-Drop.by c.in-Drop.fill c.args.query.now.tables.now.present c.args.query.now.cols.now w is c.lens.ensures.typed few))
+    let is = c.in-Drop.ensures.is in
+    subst (λ n. c.find_parts.new.looked ≤ c.args.looked.now + n) (dropped_size c.args.lens.now c.in-Drop.of.now c.in-Drop.col.now c.in-Drop.by.now c.in-Drop.fill.now w is)
+    (c.find_parts.ensures.looks w (under_dropped c.args.lens.now c.in-Drop.of.now c.in-Drop.col.now c.in-Drop.by.now c.in-Drop.fill.now c.args.query.now.tables.now.present c.args.query.now.cols.now w is c.node.ensures.typed few))
 
 pub find_parts-returns-in-Join-clause-looks : goal.find_parts-returns-in-Join-clause-looks
 find_parts-returns-in-Join-clause-looks g t c = λ w few.
-    let is = (λ i. join c.in-Join.kind (c.deref.ensures i) (c.deref-in-Join.ensures i)) ∙ sym (ap lens_view c.in-Join.is) ∙ c.lens.ensures.view in
+    let is = c.in-Join.ensures.is in
     subst (λ L. c.find_joined.new.looked ≤ c.args.looked.now + size L w) is (c.find_joined.ensures.looks w (subst (λ L. FindsWithin L c.args.query.now.tables.now.present c.args.query.now.cols.now w) (sym is) few))
 
 pub find_in-returns-in-Join-clause-looks : goal.find_in-returns-in-Join-clause-looks
 find_in-returns-in-Join-clause-looks g t c = λ w few.
-    let is = (λ i. join c.in-Join.kind (c.deref-in-Join.ensures i) (c.deref-in-Join-2.ensures i)) ∙ sym (ap lens_view c.in-Join.is) ∙ c.lens.ensures.view in
+    let is = c.in-Join.ensures.is in
     subst (λ L. c.find_joined.new.looked ≤ c.args.looked.now + size L w) is (c.find_joined.ensures.looks w (subst (λ L. FindsWithin L c.args.query.now.tables.now.present c.args.query.now.cols.now w) (sym is) few))
 
 pub find_renamed-returns-in_err-found-clause-looks : goal.find_renamed-returns-in_err-found-clause-looks

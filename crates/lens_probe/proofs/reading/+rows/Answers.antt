@@ -9,7 +9,6 @@ use Rattle.lens_specs.specs.Rename.{renamed_row}
 use Rattle.fd_laws.proofs.Rows.{row_exact, row_total}
 use Rattle.lens_laws.specs.Lenses.{AreOf}
 use Rattle.lens_laws.specs.Passes.{PredWithin}
-use Rattle.lens_types.specs.Lenses.{lens_view}
 use Rattle.row_sets.specs.Joins.{pairs_on}
 use Rattle.lens_probe.specs.Reading.{rows_for}
 use Rattle.lens_probe.proofs.Found.{rows_shown}
@@ -22,15 +21,15 @@ use Rattle.lens_probe.proofs.reading.+rows.Goals as goal
 pub row_set_in-returns-in-Base-clause-value : goal.row_set_in-returns-in-Base-clause-value
 row_set_in-returns-in-Base-clause-value g t c =
     let L = c.args.lens.now in
-    let is : base c.in-Base.table c.in-Base.sort ≡ L = sym (ap lens_view c.in-Base.is) ∙ c.lens.ensures.view in
-    subst (λ M. IfOk c.walk.result (λ rows. rows ≡ M)) (rows_shown L c.in-Base.table c.in-Base.sort c.args.tables.now.present.relations is) c.walk.ensures.ok
+    let is : base c.in-Base.table.now c.in-Base.sort.now ≡ L = c.in-Base.ensures.is in
+    subst (λ M. IfOk c.walk.result (λ rows. rows ≡ M)) (rows_shown L c.in-Base.table.now c.in-Base.sort.now c.args.tables.now.present.relations is) c.walk.ensures.ok
 
 pub rows_in-returns-in_ok-walk-in-Base-clause-value : goal.rows_in-returns-in_ok-walk-in-Base-clause-value
 rows_in-returns-in_ok-walk-in-Base-clause-value g t c =
     let L = c.args.lens.now in
-    let is : base c.in-Base.table c.in-Base.sort ≡ L = sym (ap lens_view c.in-Base.is) ∙ c.lens.ensures.view in
+    let is : base c.in-Base.table.now c.in-Base.sort.now ≡ L = c.in-Base.ensures.is in
     ap set.from_list c.into_rows.ensures ∙ set.from_list-items row_total row_exact c.in_ok-walk-in-Base.field-0
-    ∙ c.in_ok-walk-in-Base.ensures.ok ∙ rows_shown L c.in-Base.table c.in-Base.sort c.args.tables.now.present.relations is
+    ∙ c.in_ok-walk-in-Base.ensures.ok ∙ rows_shown L c.in-Base.table.now c.in-Base.sort.now c.args.tables.now.present.relations is
 
 -- ---- a projection
 
@@ -38,10 +37,10 @@ pub rows_in-returns-in-Drop-clause-value : goal.rows_in-returns-in-Drop-clause-v
 rows_in-returns-in-Drop-clause-value g t c =
     let L = c.args.lens.now in
     let db = c.args.tables.now.present.relations in
-    let C = c.deref-in-Drop.result.now in
-    let is : drop c.in-Drop.col c.in-Drop.by c.in-Drop.fill C ≡ L = (λ i. drop c.in-Drop.col c.in-Drop.by c.in-Drop.fill (c.deref-in-Drop.ensures i)) ∙ sym (ap lens_view c.in-Drop.is) ∙ c.lens.ensures.view in
+    let C = c.in-Drop.of.now in
+    let is : drop c.in-Drop.col.now c.in-Drop.by.now c.in-Drop.fill.now C ≡ L = c.in-Drop.ensures.is in
     IfOk-weaker c.parts_in.result _ _
-    (λ parts made. made ∙ ap (λ D. project D (get C db)) c.names_of.ensures ∙ dropped_shown L C c.in-Drop.col c.in-Drop.by c.in-Drop.fill db is)
+    (λ parts made. made ∙ ap (λ D. project D (get C db)) c.names_of.ensures ∙ dropped_shown L C c.in-Drop.col.now c.in-Drop.by.now c.in-Drop.fill.now db is)
     c.parts_in.ensures.value
 
 pub parts_in-returns-in_ok-rows-in-Base-clause-value : goal.parts_in-returns-in_ok-rows-in-Base-clause-value
@@ -55,27 +54,27 @@ pub rows_in-rename_rows-requires-clause-over : goal.rows_in-rename_rows-requires
 rows_in-rename_rows-requires-clause-over g t c =
     let L = c.args.lens.now in
     let db = c.args.tables.now.present.relations in
-    let S = c.in-Rename.of.value in
-    let is : rename c.in-Rename.col c.in-Rename.to S ≡ L = sym (ap lens_view c.in-Rename.is) ∙ c.lens.ensures.view in
-    let source = c.in_ok-rows-in-Rename.ensures.value ∙ ap (λ K. get K db) c.deref-in-Rename.ensures in
-    λ row i. listed_over L S c.in-Rename.col c.in-Rename.to is c.lens.ensures.typed db c.names_of-in-Rename.result.now c.in_ok-rows-in-Rename.rows.items c.requires
-    (c.names_of-in-Rename.ensures ∙ ap view_names c.deref-in-Rename-3.ensures) source row (subst (λ rows. Contains rows row) c.deref-in-Rename-2.ensures.value i)
+    let S = c.in-Rename.of.now in
+    let is : rename c.in-Rename.col.now c.in-Rename.to.now S ≡ L = c.in-Rename.ensures.is in
+    let source = c.in_ok-rows-in-Rename.ensures.value in
+    λ row i. listed_over L S c.in-Rename.col.now c.in-Rename.to.now is c.node.ensures.typed db c.names_of-in-Rename.result.now c.in_ok-rows-in-Rename.rows.items c.requires
+    (c.names_of-in-Rename.ensures) source row (subst (λ rows. Contains rows row) c.deref.ensures.value i)
 
 pub rows_in-rename_rows-requires-clause-free : goal.rows_in-rename_rows-requires-clause-free
 rows_in-rename_rows-requires-clause-free g t c =
-    let is = sym (ap lens_view c.in-Rename.is) ∙ c.lens.ensures.view in
-    free_in c.args.lens.now c.in-Rename.of.value c.in-Rename.col c.in-Rename.to is c.lens.ensures.typed c.names_of-in-Rename.result.now (c.names_of-in-Rename.ensures ∙ ap view_names c.deref-in-Rename-3.ensures)
+    let is = c.in-Rename.ensures.is in
+    free_in c.args.lens.now c.in-Rename.of.now c.in-Rename.col.now c.in-Rename.to.now is c.node.ensures.typed c.names_of-in-Rename.result.now (c.names_of-in-Rename.ensures)
 
 pub rows_in-returns-in_ok-rows-in-Rename-clause-value : goal.rows_in-returns-in_ok-rows-in-Rename-clause-value
 rows_in-returns-in_ok-rows-in-Rename-clause-value g t c =
     let L = c.args.lens.now in
     let db = c.args.tables.now.present.relations in
-    let S = c.in-Rename.of.value in
-    let is : rename c.in-Rename.col c.in-Rename.to S ≡ L = sym (ap lens_view c.in-Rename.is) ∙ c.lens.ensures.view in
-    let source = c.in_ok-rows-in-Rename.ensures.value ∙ ap (λ K. get K db) c.deref-in-Rename.ensures in
+    let S = c.in-Rename.of.now in
+    let is : rename c.in-Rename.col.now c.in-Rename.to.now S ≡ L = c.in-Rename.ensures.is in
+    let source = c.in_ok-rows-in-Rename.ensures.value in
     IfOk-weaker c.rename_rows.result _ _
-    (λ rows made. ap set.from_list (made ∙ ap (map (renamed_row c.in-Rename.col c.in-Rename.to)) c.deref-in-Rename-2.ensures.value)
-    ∙ renamed_listed L S c.in-Rename.col c.in-Rename.to db c.in_ok-rows-in-Rename.rows.items is source)
+    (λ rows made. ap set.from_list (made ∙ ap (map (renamed_row c.in-Rename.col.now c.in-Rename.to.now)) c.deref.ensures.value)
+    ∙ renamed_listed L S c.in-Rename.col.now c.in-Rename.to.now db c.in_ok-rows-in-Rename.rows.items is source)
     c.rename_rows.ensures
 
 -- ---- a join
@@ -84,22 +83,22 @@ pub rows_in-returns-in-Join-clause-value : goal.rows_in-returns-in-Join-clause-v
 rows_in-returns-in-Join-clause-value g t c =
     let L = c.args.lens.now in
     let db = c.args.tables.now.present.relations in
-    let A = c.deref-in-Join.result.now in
-    let B = c.deref-in-Join-2.result.now in
-    let is : join c.in-Join.kind A B ≡ L = (λ i. join c.in-Join.kind (c.deref-in-Join.ensures i) (c.deref-in-Join-2.ensures i)) ∙ sym (ap lens_view c.in-Join.is) ∙ c.lens.ensures.view in
+    let A = c.in-Join.left.now in
+    let B = c.in-Join.right.now in
+    let is : join c.in-Join.kind A B ≡ L = c.in-Join.ensures.is in
     IfOk-weaker c.pair_parts_in.result _ _
-    (λ parts made. made ∙ ap (λ D. project D (pairs_shown A B (get A db) (get B db))) c.names_of-in-Join.ensures ∙ joined_whole c.in-Join.kind L A B db is c.lens.ensures.typed c.requires)
+    (λ parts made. made ∙ ap (λ D. project D (pairs_shown A B (get A db) (get B db))) c.names_of-in-Join.ensures ∙ joined_whole c.in-Join.kind L A B db is c.node.ensures.typed c.requires)
     c.pair_parts_in.ensures.value
 
 pub parts_in-returns-in-Join-clause-value : goal.parts_in-returns-in-Join-clause-value
 parts_in-returns-in-Join-clause-value g t c =
     let L = c.args.lens.now in
     let db = c.args.tables.now.present.relations in
-    let A = c.deref.result.now in
-    let B = c.deref-in-Join.result.now in
-    let is : join c.in-Join.kind A B ≡ L = (λ i. join c.in-Join.kind (c.deref.ensures i) (c.deref-in-Join.ensures i)) ∙ sym (ap lens_view c.in-Join.is) ∙ c.lens.ensures.view in
+    let A = c.in-Join.left.now in
+    let B = c.in-Join.right.now in
+    let is : join c.in-Join.kind A B ≡ L = c.in-Join.ensures.is in
     IfOk-weaker c.pair_parts_in.result _ _
-    (λ parts made. made ∙ ap (project c.args.kept.now) (joined_shown c.in-Join.kind L A B db is c.lens.ensures.typed c.requires))
+    (λ parts made. made ∙ ap (project c.args.kept.now) (joined_shown c.in-Join.kind L A B db is c.node.ensures.typed c.requires))
     c.pair_parts_in.ensures.value
 
 -- ---- a selection
@@ -108,10 +107,10 @@ pub selected_in-selected_parts_in-requires : goal.selected_in-selected_parts_in-
 selected_in-selected_parts_in-requires g t c κs within =
     let P = c.args.pred.now in
     let L = c.args.of.now in
-    let C = c.deref.result.now in
-    let is : drop c.in-Drop.col c.in-Drop.by c.in-Drop.fill C ≡ L = (λ i. drop c.in-Drop.col c.in-Drop.by c.in-Drop.fill (c.deref.ensures i)) ∙ sym (ap lens_view c.in-Drop.is) ∙ c.lens.ensures.view in
+    let C = c.in-Drop.source.now in
+    let is : drop c.in-Drop.col.now c.in-Drop.by.now c.in-Drop.fill.now C ≡ L = c.in-Drop.ensures.is in
     let kept = subst (PredWithin P) (sym c.names_of.ensures) c.requires.columns in
-    let shown = shown_before P L C c.in-Drop.col c.in-Drop.by c.in-Drop.fill is c.requires.columns in
+    let shown = shown_before P L C c.in-Drop.col.now c.in-Drop.by.now c.in-Drop.fill.now is c.requires.columns in
     (omega (arith, c.decreases, ap nodes_of is), (within, (kept, (shown, subst (λ K. AreOf K c.args.tables.now.present.relations) (sym is) c.requires.tables))))
 
 pub selected_in-returns-in-Drop-clause-value : goal.selected_in-returns-in-Drop-clause-value
@@ -119,10 +118,10 @@ selected_in-returns-in-Drop-clause-value g t c =
     let P = c.args.pred.now in
     let L = c.args.of.now in
     let db = c.args.tables.now.present.relations in
-    let C = c.deref.result.now in
-    let is : drop c.in-Drop.col c.in-Drop.by c.in-Drop.fill C ≡ L = (λ i. drop c.in-Drop.col c.in-Drop.by c.in-Drop.fill (c.deref.ensures i)) ∙ sym (ap lens_view c.in-Drop.is) ∙ c.lens.ensures.view in
+    let C = c.in-Drop.source.now in
+    let is : drop c.in-Drop.col.now c.in-Drop.by.now c.in-Drop.fill.now C ≡ L = c.in-Drop.ensures.is in
     IfOk-weaker c.selected_parts_in.result _ _
-    (λ parts made. made ∙ ap (λ D. project D (get (select P C) db)) c.names_of.ensures ∙ selected_shown P L C c.in-Drop.col c.in-Drop.by c.in-Drop.fill db is c.requires.columns)
+    (λ parts made. made ∙ ap (λ D. project D (get (select P C) db)) c.names_of.ensures ∙ selected_shown P L C c.in-Drop.col.now c.in-Drop.by.now c.in-Drop.fill.now db is c.requires.columns)
     c.selected_parts_in.ensures.value
 
 pub selected_in-returns-in-Join-clause-value : goal.selected_in-returns-in-Join-clause-value
@@ -130,12 +129,12 @@ selected_in-returns-in-Join-clause-value g t c =
     let P = c.args.pred.now in
     let L = c.args.of.now in
     let db = c.args.tables.now.present.relations in
-    let A = c.deref-in-Join.result.now in
-    let B = c.deref-in-Join-2.result.now in
-    let is : join c.in-Join.kind A B ≡ L = (λ i. join c.in-Join.kind (c.deref-in-Join.ensures i) (c.deref-in-Join-2.ensures i)) ∙ sym (ap lens_view c.in-Join.is) ∙ c.lens.ensures.view in
+    let A = c.in-Join.left.now in
+    let B = c.in-Join.right.now in
+    let is : join c.in-Join.kind A B ≡ L = c.in-Join.ensures.is in
     IfOk-weaker c.selected_pairs_in.result _ _
     (λ parts made. made ∙ ap (λ D. those (holds P) (project D (pairs_shown A B (rows_for P A db) (rows_for P B db)))) c.names_of-in-Join.ensures
-    ∙ selected_whole c.in-Join.kind P L A B db is c.lens.ensures.typed c.requires.tables c.requires.columns)
+    ∙ selected_whole c.in-Join.kind P L A B db is c.node.ensures.typed c.requires.tables c.requires.columns)
     c.selected_pairs_in.ensures.value
 
 pub selected_in-returns-in_ok-rows_in-in-Base-clause-value : goal.selected_in-returns-in_ok-rows_in-in-Base-clause-value
@@ -150,11 +149,11 @@ selected_parts_in-returns-in-Join-clause-value g t c =
     let P = c.args.pred.now in
     let L = c.args.lens.now in
     let db = c.args.tables.now.present.relations in
-    let A = c.deref.result.now in
-    let B = c.deref-in-Join.result.now in
-    let is : join c.in-Join.kind A B ≡ L = (λ i. join c.in-Join.kind (c.deref.ensures i) (c.deref-in-Join.ensures i)) ∙ sym (ap lens_view c.in-Join.is) ∙ c.lens.ensures.view in
+    let A = c.in-Join.left.now in
+    let B = c.in-Join.right.now in
+    let is : join c.in-Join.kind A B ≡ L = c.in-Join.ensures.is in
     IfOk-weaker c.selected_pairs_in.result _ _
-    (λ parts made. made ∙ selected_pairs c.in-Join.kind P c.args.kept.now L A B db is c.lens.ensures.typed c.requires.tables c.requires.kept)
+    (λ parts made. made ∙ selected_pairs c.in-Join.kind P c.args.kept.now L A B db is c.node.ensures.typed c.requires.tables c.requires.kept)
     c.selected_pairs_in.ensures.value
 
 pub selected_parts_in-returns-in_ok-rows-in-Base-clause-value : goal.selected_parts_in-returns-in_ok-rows-in-Base-clause-value

@@ -1,23 +1,22 @@
-use Rattle.std.proofs.Common.{◌≡◌, ◌∙◌, ap, map, sym}
+use Rattle.std.proofs.Common.{◌≡◌, ◌∙◌, ap, map}
 use Rattle.std.proofs.lemmas.Result.{IfOk-weaker}
 use Rattle.lens_values.specs.Part.{restrict}
 use Rattle.lens_values.specs.SortedSet as set
 use Rattle.lens_specs.specs.Lens.{drop, view_names}
-use Rattle.lens_types.specs.Lenses.{lens_view}
 use Rattle.lens_probe.specs.Unfiltered.{passing}
 use Rattle.lens_probe.proofs.Listed.{all_pass, dropped_listed, whole_listed}
 use Rattle.lens_probe.proofs.unfiltered.unfiltered_rows.Goals as goal
 
 pub returns-in-Drop-clause-value : goal.returns-in-Drop-clause-value
 returns-in-Drop-clause-value g c =
-    let C = c.deref-in-Drop.result.now in
-    let is : drop c.in-Drop.col c.in-Drop.by c.in-Drop.fill C ≡ c.args.lens.now =
-    (λ i. drop c.in-Drop.col c.in-Drop.by c.in-Drop.fill (c.deref-in-Drop.ensures i)) ∙ sym (ap lens_view c.in-Drop.is) ∙ c.lens.ensures.view in
+    let C = c.in-Drop.of.now in
+    let is : drop c.in-Drop.col.now c.in-Drop.by.now c.in-Drop.fill.now C ≡ c.args.lens.now =
+    c.in-Drop.ensures.is in
     IfOk-weaker c.unfiltered_source.result _ _
-    (λ rows shown. dropped_listed c.args.lens.now C c.in-Drop.col c.in-Drop.by c.in-Drop.fill c.args.tables.now.present.relations (passing rows) is shown) c.unfiltered_source.ensures.value
+    (λ rows shown. dropped_listed c.args.lens.now C c.in-Drop.col.now c.in-Drop.by.now c.in-Drop.fill.now c.args.tables.now.present.relations (passing rows) is shown) c.unfiltered_source.ensures.value
 
 pub returns-in_ok-rows_in-in-Base-clause-value : goal.returns-in_ok-rows_in-in-Base-clause-value
 returns-in_ok-rows_in-in-Base-clause-value g c =
     let rows = c.in_ok-rows_in-in-Base.field-0.items in
     ap (λ l. set.from_list (map (restrict (view_names c.args.lens.now)) l)) (all_pass rows)
-    ∙ whole_listed c.args.lens.now c.args.tables.now.present.relations rows c.lens.ensures.typed c.requires c.in_ok-rows_in-in-Base.ensures.value
+    ∙ whole_listed c.args.lens.now c.args.tables.now.present.relations rows c.node.ensures.typed c.requires c.in_ok-rows_in-in-Base.ensures.value

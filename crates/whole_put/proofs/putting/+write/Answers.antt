@@ -1,165 +1,163 @@
-use Rattle.std.proofs.Common.{◌≡◌, ◌∙◌, ℕ, ap, subst, sym, rules}
+use Rattle.std.proofs.Common.{◌≡◌, ◌∙◌, ℕ, subst, sym, rules}
 use Rattle.std.specs.Prelude.{OnOk}
 use Rattle.lens_specs.specs.Lens.{base, select, drop, rename, join, put, sort_of, view}
 use Rattle.lens_specs.specs.Nodes.{drop_put, select_put}
 use Rattle.lens_specs.specs.Predicate.{holds}
-use Rattle.lens_specs.specs.Sort.{IsOfSort}
 use Rattle.lens_laws.specs.Lenses.{AreOf, IsTyped}
-use Rattle.lens_types.specs.Lenses.{lens_view}
 use Rattle.whole_put.specs.Sources.{AreShown}
 use Rattle.whole_put.proofs.JoinedLenses.{left_after, put_joined, right_after, right_sources, right_tables}
 use Rattle.lens_laws.proofs.Lenses.{view_is_of_sort}
 use Rattle.whole_put.proofs.Lenses.{put_dropped, put_renamed, put_selected, put_table}
 use Rattle.whole_put.proofs.Shown.{left_shown, only_shown, right_shown, right_under}
 use Rattle.whole_put.proofs.putting.+write.Goals as goal
-use Rattle.whole_put.proofs.putting.+write.Goals.{After-deref, After-deref-in-Drop, After-deref-in-Rename, After-deref-in-Join-2, In_ok-write-in-Join}
+use Rattle.whole_put.proofs.putting.+write.Goals.{After-only, After-only-in-Drop, After-only-in-Rename, After-both, In_ok-write-in-Join}
 
 pub returns-in-Base : goal.returns-in-Base
 returns-in-Base t c =
     let L = c.args.lens.now in
-    let is : base c.in-Base.table c.in-Base.sort ≡ L = sym (ap lens_view c.in-Base.is) ∙ c.lens.ensures.view in
-    let same = put_table L c.in-Base.table c.in-Base.sort c.args.db.now c.args.view is c.requires.view in
+    let is : base c.in-Base.table.now c.in-Base.sort.now ≡ L = c.in-Base.ensures.is in
+    let same = put_table L c.in-Base.table.now c.in-Base.sort.now c.args.db.now c.args.view is c.requires.view in
     subst (λ u. OnOk c.set.result (c.set.new.self ≡ u)) same c.set.ensures.ok
 
 -- ---- a selection
 
-is_select : (t : ℕ) (c : After-deref t) → select c.in-Select.pred c.in-Select.of.value ≡ c.args.lens.now
-is_select t c = sym (ap lens_view c.in-Select.is) ∙ c.lens.ensures.view
+is_select : (t : ℕ) (c : After-only t) → select c.in-Select.pred.now c.in-Select.of.now ≡ c.args.lens.now
+is_select t c = c.in-Select.ensures.is
 
 -- the source shows what it is to show
-selected : (t : ℕ) (c : After-deref t) → c.only.result.0.now ≡ view c.in-Select.of.value c.args.db.now
+selected : (t : ℕ) (c : After-only t) → c.only.result.0.now ≡ view c.in-Select.of.now c.args.db.now
 selected t c =
     let S = c.args.under.now in
     let under = subst (λ K. AreShown K c.args.db.now S) (sym (is_select t c)) c.requires.under in
-    only_shown c.in-Select.of.value c.args.db.now S c.only.result.1.now c.only.result.0.now under c.only.ensures
+    only_shown c.in-Select.of.now c.args.db.now S c.only.result.1.now c.only.result.0.now under c.only.ensures
 
 pub under_select-requires-clause-source : goal.under_select-requires-clause-source
 under_select-requires-clause-source t c =
-    let d = (goal.at.under_select-requires-clause-source t c).After-deref in
+    let d = (goal.at.under_select-requires-clause-source t c).After-only in
     let M = c.only.result.0.now in
-    let typed = subst IsTyped (sym (is_select t d)) c.lens.ensures.typed in
+    let typed = subst IsTyped (sym (is_select t d)) c.node.ensures.typed in
     let are = subst (λ K. AreOf K c.args.db.now) (sym (is_select t d)) c.requires.tables in
-    subst (λ K. IsOfSort M (sort_of K)) (sym c.deref.ensures) (view_is_of_sort c.in-Select.of.value c.args.db.now M typed.0 are (selected t d))
+    view_is_of_sort c.in-Select.of.now c.args.db.now M typed.0 are (selected t d)
 
 pub returns-in_ok-source-in-Select : goal.returns-in_ok-source-in-Select
 returns-in_ok-source-in-Select t c =
-    let d = (goal.at.returns-in_ok-source-in-Select t c).After-deref in
-    let C = c.in-Select.of.value in
-    let P = c.in-Select.pred in
+    let d = (goal.at.returns-in_ok-source-in-Select t c).After-only in
+    let C = c.in-Select.of.now in
+    let P = c.in-Select.pred.now in
     let N = c.args.view.rows in
     let db = c.args.db.now in
     let S = c.in_ok-source-in-Select.source.rows in
-    let rows = c.in_ok-source-in-Select.ensures.rows ∙ (λ i. select_put (sort_of (c.deref.ensures i)).tree (holds P) N (selected t d i).rows) in
-    let same = ap (λ K. put K S db) c.deref-in-Select.ensures ∙ put_selected c.args.lens.now C P db N S (is_select t d) rows in
+    let rows = c.in_ok-source-in-Select.ensures.rows ∙ (λ i. select_put (sort_of C).tree (holds P) N (selected t d i).rows) in
+    let same = put_selected c.args.lens.now C P db N S (is_select t d) rows in
     subst (λ u. OnOk c.write.result (c.write.new.db ≡ u)) same c.write.ensures
 
 -- ---- a drop
 
-is_drop : (t : ℕ) (c : After-deref-in-Drop t) → drop c.in-Drop.col c.in-Drop.by c.in-Drop.fill c.in-Drop.of.value ≡ c.args.lens.now
-is_drop t c = sym (ap lens_view c.in-Drop.is) ∙ c.lens.ensures.view
+is_drop : (t : ℕ) (c : After-only-in-Drop t) → drop c.in-Drop.col.now c.in-Drop.by.now c.in-Drop.fill.now c.in-Drop.of.now ≡ c.args.lens.now
+is_drop t c = c.in-Drop.ensures.is
 
 -- the source shows what it is to show
-dropped : (t : ℕ) (c : After-deref-in-Drop t) → c.only-in-Drop.result.0.now ≡ view c.in-Drop.of.value c.args.db.now
+dropped : (t : ℕ) (c : After-only-in-Drop t) → c.only-in-Drop.result.0.now ≡ view c.in-Drop.of.now c.args.db.now
 dropped t c =
     let S = c.args.under.now in
     let under = subst (λ K. AreShown K c.args.db.now S) (sym (is_drop t c)) c.requires.under in
-    only_shown c.in-Drop.of.value c.args.db.now S c.only-in-Drop.result.1.now c.only-in-Drop.result.0.now under c.only-in-Drop.ensures
+    only_shown c.in-Drop.of.now c.args.db.now S c.only-in-Drop.result.1.now c.only-in-Drop.result.0.now under c.only-in-Drop.ensures
 
 pub under_drop-requires-clause-source : goal.under_drop-requires-clause-source
 under_drop-requires-clause-source t c =
-    let d = (goal.at.under_drop-requires-clause-source t c).After-deref-in-Drop in
+    let d = (goal.at.under_drop-requires-clause-source t c).After-only-in-Drop in
     let M = c.only-in-Drop.result.0.now in
-    let typed = subst IsTyped (sym (is_drop t d)) c.lens.ensures.typed in
+    let typed = subst IsTyped (sym (is_drop t d)) c.node.ensures.typed in
     let are = subst (λ K. AreOf K c.args.db.now) (sym (is_drop t d)) c.requires.tables in
-    subst (λ K. IsOfSort M (sort_of K)) (sym c.deref-in-Drop.ensures) (view_is_of_sort c.in-Drop.of.value c.args.db.now M typed.0 are (dropped t d))
+    view_is_of_sort c.in-Drop.of.now c.args.db.now M typed.0 are (dropped t d)
 
 pub returns-in_ok-source-in-Drop : goal.returns-in_ok-source-in-Drop
 returns-in_ok-source-in-Drop t c =
-    let d = (goal.at.returns-in_ok-source-in-Drop t c).After-deref-in-Drop in
-    let C = c.in-Drop.of.value in
+    let d = (goal.at.returns-in_ok-source-in-Drop t c).After-only-in-Drop in
+    let C = c.in-Drop.of.now in
     let N = c.args.view.rows in
     let db = c.args.db.now in
     let S = c.in_ok-source-in-Drop.source.rows in
-    let rows = c.in_ok-source-in-Drop.ensures.rows ∙ (λ i. drop_put c.in-Drop.col c.in-Drop.by c.in-Drop.fill N (dropped t d i).rows) in
-    let same = ap (λ K. put K S db) c.deref-in-Drop-2.ensures ∙ put_dropped c.args.lens.now C c.in-Drop.col c.in-Drop.by c.in-Drop.fill db N S (is_drop t d) rows in
+    let rows = c.in_ok-source-in-Drop.ensures.rows ∙ (λ i. drop_put c.in-Drop.col.now c.in-Drop.by.now c.in-Drop.fill.now N (dropped t d i).rows) in
+    let same = put_dropped c.args.lens.now C c.in-Drop.col.now c.in-Drop.by.now c.in-Drop.fill.now db N S (is_drop t d) rows in
     subst (λ u. OnOk c.write-in-Drop.result (c.write-in-Drop.new.db ≡ u)) same c.write-in-Drop.ensures
 
 -- ---- a rename
 
-is_rename : (t : ℕ) (c : After-deref-in-Rename t) → rename c.in-Rename.col c.in-Rename.to c.in-Rename.of.value ≡ c.args.lens.now
-is_rename t c = sym (ap lens_view c.in-Rename.is) ∙ c.lens.ensures.view
+is_rename : (t : ℕ) (c : After-only-in-Rename t) → rename c.in-Rename.col.now c.in-Rename.to.now c.in-Rename.of.now ≡ c.args.lens.now
+is_rename t c = c.in-Rename.ensures.is
 
 -- the source shows what it is to show
-renamed : (t : ℕ) (c : After-deref-in-Rename t) → c.only-in-Rename.result.0.now ≡ view c.in-Rename.of.value c.args.db.now
+renamed : (t : ℕ) (c : After-only-in-Rename t) → c.only-in-Rename.result.0.now ≡ view c.in-Rename.of.now c.args.db.now
 renamed t c =
     let S = c.args.under.now in
     let under = subst (λ K. AreShown K c.args.db.now S) (sym (is_rename t c)) c.requires.under in
-    only_shown c.in-Rename.of.value c.args.db.now S c.only-in-Rename.result.1.now c.only-in-Rename.result.0.now under c.only-in-Rename.ensures
+    only_shown c.in-Rename.of.now c.args.db.now S c.only-in-Rename.result.1.now c.only-in-Rename.result.0.now under c.only-in-Rename.ensures
 
 pub under_rename-requires-clause-source : goal.under_rename-requires-clause-source
 under_rename-requires-clause-source t c =
-    let d = (goal.at.under_rename-requires-clause-source t c).After-deref-in-Rename in
+    let d = (goal.at.under_rename-requires-clause-source t c).After-only-in-Rename in
     let M = c.only-in-Rename.result.0.now in
-    let typed = subst IsTyped (sym (is_rename t d)) c.lens.ensures.typed in
+    let typed = subst IsTyped (sym (is_rename t d)) c.node.ensures.typed in
     let are = subst (λ K. AreOf K c.args.db.now) (sym (is_rename t d)) c.requires.tables in
-    subst (λ K. IsOfSort M (sort_of K)) (sym c.deref-in-Rename.ensures) (view_is_of_sort c.in-Rename.of.value c.args.db.now M typed.0 are (renamed t d))
+    view_is_of_sort c.in-Rename.of.now c.args.db.now M typed.0 are (renamed t d)
 
 pub returns-in_ok-source-in-Rename : goal.returns-in_ok-source-in-Rename
 returns-in_ok-source-in-Rename t c =
-    let d = (goal.at.returns-in_ok-source-in-Rename t c).After-deref-in-Rename in
-    let C = c.in-Rename.of.value in
+    let d = (goal.at.returns-in_ok-source-in-Rename t c).After-only-in-Rename in
+    let C = c.in-Rename.of.now in
     let N = c.args.view.rows in
     let db = c.args.db.now in
     let S = c.in_ok-source-in-Rename.source.rows in
     let rows = c.in_ok-source-in-Rename.ensures.rows in
-    let same = ap (λ K. put K S db) c.deref-in-Rename-2.ensures ∙ put_renamed c.args.lens.now C c.in-Rename.col c.in-Rename.to db N S (is_rename t d) rows in
+    let same = put_renamed c.args.lens.now C c.in-Rename.col.now c.in-Rename.to.now db N S (is_rename t d) rows in
     subst (λ u. OnOk c.write-in-Rename.result (c.write-in-Rename.new.db ≡ u)) same c.write-in-Rename.ensures
 
 -- ---- a join
 
-is_join : (t : ℕ) (c : After-deref-in-Join-2 t) → join c.in-Join.kind c.in-Join.left.value c.in-Join.right.value ≡ c.args.lens.now
-is_join t c = sym (ap lens_view c.in-Join.is) ∙ c.lens.ensures.view
+is_join : (t : ℕ) (c : After-both t) → join c.in-Join.kind c.in-Join.left.now c.in-Join.right.now ≡ c.args.lens.now
+is_join t c = c.in-Join.ensures.is
 
-under : (t : ℕ) (c : After-deref-in-Join-2 t) → AreShown (join c.in-Join.kind c.in-Join.left.value c.in-Join.right.value) c.args.db.now c.args.under.now
+under : (t : ℕ) (c : After-both t) → AreShown (join c.in-Join.kind c.in-Join.left.now c.in-Join.right.now) c.args.db.now c.args.under.now
 under t c = subst (λ K. AreShown K c.args.db.now c.args.under.now) (sym (is_join t c)) c.requires.under
 
-typed : (t : ℕ) (c : After-deref-in-Join-2 t) → IsTyped (join c.in-Join.kind c.in-Join.left.value c.in-Join.right.value)
-typed t c = subst IsTyped (sym (is_join t c)) c.lens.ensures.typed
+typed : (t : ℕ) (c : After-both t) → IsTyped (join c.in-Join.kind c.in-Join.left.now c.in-Join.right.now)
+typed t c = subst IsTyped (sym (is_join t c)) c.node.ensures.typed
 
-are : (t : ℕ) (c : After-deref-in-Join-2 t) → AreOf (join c.in-Join.kind c.in-Join.left.value c.in-Join.right.value) c.args.db.now
+are : (t : ℕ) (c : After-both t) → AreOf (join c.in-Join.kind c.in-Join.left.now c.in-Join.right.now) c.args.db.now
 are t c = subst (λ K. AreOf K c.args.db.now) (sym (is_join t c)) c.requires.tables
 
 -- the sources show what they are to show
-left_is : (t : ℕ) (c : After-deref-in-Join-2 t) → c.both.result.0.0.now ≡ view c.in-Join.left.value c.args.db.now
+left_is : (t : ℕ) (c : After-both t) → c.both.result.0.0.now ≡ view c.in-Join.left.now c.args.db.now
 left_is t c =
-    left_shown c.in-Join.left.value c.in-Join.right.value c.args.db.now c.args.under.now c.both.result.0.1.now c.both.result.1.1.now c.both.result.0.0.now c.both.result.1.0.now (under t c) c.both.ensures
+    left_shown c.in-Join.left.now c.in-Join.right.now c.args.db.now c.args.under.now c.both.result.0.1.now c.both.result.1.1.now c.both.result.0.0.now c.both.result.1.0.now (under t c) c.both.ensures
 
-right_is : (t : ℕ) (c : After-deref-in-Join-2 t) → c.both.result.1.0.now ≡ view c.in-Join.right.value c.args.db.now
+right_is : (t : ℕ) (c : After-both t) → c.both.result.1.0.now ≡ view c.in-Join.right.now c.args.db.now
 right_is t c =
-    right_shown c.in-Join.left.value c.in-Join.right.value c.args.db.now c.args.under.now c.both.result.0.1.now c.both.result.1.1.now c.both.result.0.0.now c.both.result.1.0.now (under t c) c.both.ensures
+    right_shown c.in-Join.left.now c.in-Join.right.now c.args.db.now c.args.under.now c.both.result.0.1.now c.both.result.1.1.now c.both.result.0.0.now c.both.result.1.0.now (under t c) c.both.ensures
 
 pub under_join-requires-clause-left : goal.under_join-requires-clause-left
 under_join-requires-clause-left t c =
-    let d = (goal.at.under_join-requires-clause-left t c).After-deref-in-Join-2 in
+    let d = (goal.at.under_join-requires-clause-left t c).After-both in
     let M = c.both.result.0.0.now in
-    subst (λ K. IsOfSort M (sort_of K)) (sym c.deref-in-Join.ensures) (view_is_of_sort c.in-Join.left.value c.args.db.now M (typed t d).0 (are t d).0 (left_is t d))
+    view_is_of_sort c.in-Join.left.now c.args.db.now M (typed t d).0 (are t d).0 (left_is t d)
 
 pub under_join-requires-clause-right : goal.under_join-requires-clause-right
 under_join-requires-clause-right t c =
-    let d = (goal.at.under_join-requires-clause-right t c).After-deref-in-Join-2 in
+    let d = (goal.at.under_join-requires-clause-right t c).After-both in
     let N = c.both.result.1.0.now in
-    subst (λ K. IsOfSort N (sort_of K)) (sym c.deref-in-Join-2.ensures) (view_is_of_sort c.in-Join.right.value c.args.db.now N (typed t d).1 (are t d).1 (right_is t d))
+    view_is_of_sort c.in-Join.right.now c.args.db.now N (typed t d).1 (are t d).1 (right_is t d)
 
 -- the tables after the put to the left side
-left_put : (t : ℕ) (c : In_ok-write-in-Join t) → c.write-in-Join.new.db ≡ put c.in-Join.left.value c.in_ok-sources-in-Join.sources.0.rows c.args.db.now
-left_put t c = c.in_ok-write-in-Join.ensures ∙ ap (λ K. put K c.in_ok-sources-in-Join.sources.0.rows c.args.db.now) c.deref-in-Join-3.ensures
+left_put : (t : ℕ) (c : In_ok-write-in-Join t) → c.write-in-Join.new.db ≡ put c.in-Join.left.now c.in_ok-sources-in-Join.sources.0.rows c.args.db.now
+left_put t c = c.in_ok-write-in-Join.ensures
 
 pub write-requires-in-Join-2 : goal.write-requires-in-Join-2
 write-requires-in-Join-2 t c =
-    let d = (goal.at.write-requires-in-Join-2 t c).After-deref-in-Join-2 in
+    let d = (goal.at.write-requires-in-Join-2 t c).After-both in
     let e = (goal.at.write-requires-in-Join-2 t c).In_ok-write-in-Join in
-    let A = c.in-Join.left.value in
-    let B = c.in-Join.right.value in
+    let A = c.in-Join.left.now in
+    let B = c.in-Join.right.now in
     let db = c.args.db.now in
     let S = c.in_ok-sources-in-Join.sources.0.rows in
     let M = c.both.result.0.0.now in
@@ -167,26 +165,26 @@ write-requires-in-Join-2 t c =
     let rest = right_under A B db c.args.under.now c.both.result.0.1.now c.both.result.1.1.now M N (under t d) c.both.ensures in
     let tables = right_tables c.in-Join.kind A B (typed t d) db c.write-in-Join.new.db S (left_put t e) (are t d).1 in
     let shown = right_sources c.in-Join.kind A B (typed t d) db c.write-in-Join.new.db S c.both.result.1.1.now (left_put t e) rest in
-    let sort = subst (λ K. IsOfSort c.in_ok-sources-in-Join.sources.1 (sort_of K)) (c.deref-in-Join-2.ensures ∙ sym c.deref-in-Join-4.ensures) c.in_ok-sources-in-Join.ensures.right_sort in (
+    let sort = c.in_ok-sources-in-Join.ensures.right_sort in (
       search rules,
       (
-        subst (λ K. AreOf K c.write-in-Join.new.db) (sym c.deref-in-Join-4.ensures) tables,
-        (subst (λ K. AreShown K c.write-in-Join.new.db c.both.result.1.1.now) (sym c.deref-in-Join-4.ensures) shown, sort),
+        tables,
+        (shown, sort),
       ),
     )
 
 -- a put to a join is the puts to its sides
 pub returns-in_ok-write-in-Join : goal.returns-in_ok-write-in-Join
 returns-in_ok-write-in-Join t c =
-    let d = (goal.at.returns-in_ok-write-in-Join t c).After-deref-in-Join-2 in
+    let d = (goal.at.returns-in_ok-write-in-Join t c).After-both in
     let e = (goal.at.returns-in_ok-write-in-Join t c).In_ok-write-in-Join in
-    let A = c.in-Join.left.value in
-    let B = c.in-Join.right.value in
+    let A = c.in-Join.left.now in
+    let B = c.in-Join.right.now in
     let db = c.args.db.now in
     let O = c.args.view.rows in
     let S = c.in_ok-sources-in-Join.sources.0.rows in
     let T = c.in_ok-sources-in-Join.sources.1.rows in
-    let left = c.in_ok-sources-in-Join.ensures.left_rows ∙ (λ i. left_after c.in-Join.kind (c.deref-in-Join.ensures i) (c.deref-in-Join-2.ensures i) O (left_is t d i).rows (right_is t d i).rows) in
-    let right = c.in_ok-sources-in-Join.ensures.right_rows ∙ (λ i. right_after c.in-Join.kind (c.deref-in-Join.ensures i) (c.deref-in-Join-2.ensures i) O (left_is t d i).rows (right_is t d i).rows) in
-    let same = ap (λ K. put K T c.write-in-Join.new.db) c.deref-in-Join-4.ensures ∙ put_joined c.in-Join.kind c.args.lens.now A B db c.write-in-Join.new.db O S T (is_join t d) left right (left_put t e) in
+    let left = c.in_ok-sources-in-Join.ensures.left_rows ∙ (λ i. left_after c.in-Join.kind A B O (left_is t d i).rows (right_is t d i).rows) in
+    let right = c.in_ok-sources-in-Join.ensures.right_rows ∙ (λ i. right_after c.in-Join.kind A B O (left_is t d i).rows (right_is t d i).rows) in
+    let same = put_joined c.in-Join.kind c.args.lens.now A B db c.write-in-Join.new.db O S T (is_join t d) left right (left_put t e) in
     subst (λ u. OnOk c.write-in-Join-2.result (c.write-in-Join-2.new.db ≡ u)) same c.write-in-Join-2.ensures
