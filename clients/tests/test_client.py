@@ -504,7 +504,7 @@ class UnderWay(InMemory):
                 raise KeyboardInterrupt
 
             for request in ({"do": "read", "view": "goods"}, {"do": "edit", "view": "goods", "remove": [], "add": [AXE]}):
-                with unittest.mock.patch.object(cigrelk.os, call, broken), self.assertRaises(KeyboardInterrupt):
+                with unittest.mock.patch.object(os, call, broken), self.assertRaises(KeyboardInterrupt):
                     self.server.ask(request)
                 self.assertFalse(program.sure)
                 self.assertEqual(self.server.list(), [GOODS, BIG])

@@ -3,8 +3,6 @@ import base64
 import contextlib
 import hashlib
 import http.client
-import importlib.machinery
-import importlib.util
 import io
 import json
 import os
@@ -24,7 +22,8 @@ CLIENTS = os.path.dirname(HERE)
 sys.path[:0] = [CLIENTS, HERE]
 import browser
 from browser import ALT, CONTROL
-from cigrelk import Server
+from cigrelk import TOP, Server
+from cigrelk.command import main
 
 DEFINITIONS = [
     "table tracks (track text, date int, rating int, album text) with track -> date rating",
@@ -39,19 +38,11 @@ ROWS = {
 ODD_TEXTS = ["\x1b[31mred", "abc\u202edef", "one\ntwo\r\nthree", "\U0010ffff", "  two  ", "<b>bold</b>", "", "x" * 4096, "\u2028"]
 
 
-def load_editor():
-    """The program of the editor as a module, so that what ends it at once needs no process."""
-    spec = importlib.util.spec_from_loader("editor", importlib.machinery.SourceFileLoader("editor", f"{CLIENTS}/editor"))
-    module = importlib.util.module_from_spec(spec)
-    spec.loader.exec_module(module)
-    return module
-
-
 class Editor:
     """An editor over a store, or in memory."""
 
     def __init__(self, *words):
-        self.process = subprocess.Popen([f"{CLIENTS}/editor", "--quiet", *words], stdout=subprocess.PIPE, text=True)
+        self.process = subprocess.Popen([f"{TOP}/cigrelk", "edit", "--quiet", *words], stdout=subprocess.PIPE, text=True)
         self.address = self.process.stdout.readline().strip()
         self.host, self.path = urlsplit(self.address).netloc, urlsplit(self.address).path
 
@@ -193,14 +184,14 @@ class Starting(unittest.TestCase):
     def setUp(self):
         room = tempfile.TemporaryDirectory()
         self.addCleanup(room.cleanup)
-        self.room, self.program = room.name, load_editor()
+        self.room = room.name
         before = signal.getsignal(signal.SIGTERM)
         self.addCleanup(signal.signal, signal.SIGTERM, before)
 
     def told(self, *words):
         """The status and the message of an editor that ends at once."""
         with contextlib.redirect_stderr(io.StringIO()) as message, contextlib.redirect_stdout(io.StringIO()):
-            return self.program.main(["--quiet", *words]), message.getvalue()
+            return main(["edit", "--quiet", *words]), message.getvalue()
 
     def assert_told(self, words, status, text):
         found, message = self.told(*words)
@@ -213,7 +204,7 @@ class Starting(unittest.TestCase):
 
     def test_a_program_that_is_missing(self):
         with unittest.mock.patch.dict(os.environ, CIGRELK=f"{self.room}/nothing"):
-            self.assert_told([], 127, "cannot be started")
+            self.assert_told([], 1, "cannot be started")
 
     def test_a_port_that_is_taken(self):
         with socket.create_server(("127.0.0.1", 0)) as other:
@@ -223,22 +214,22 @@ class Starting(unittest.TestCase):
 
     def test_a_store_in_use(self):
         with Server(f"{self.room}/a.db"):
-            self.assert_told([f"{self.room}/a.db"], 6, "another program has it open")
+            self.assert_told([f"{self.room}/a.db"], 1, "another program has it open")
 
     def test_a_folder_that_is_missing(self):
-        self.assert_told([f"{self.room}/b/a.db"], 6, "its folder is not there")
+        self.assert_told([f"{self.room}/b/a.db"], 1, "its folder is not there")
 
     def test_a_file_that_is_no_store(self):
         with open(f"{self.room}/a.db", "w") as file:
             file.write("this is no store at all\n" * 50)
-        self.assert_told([f"{self.room}/a.db"], 6, "no store")
+        self.assert_told([f"{self.room}/a.db"], 1, "no store")
 
     def test_a_store_that_is_damaged(self):
         with Server(f"{self.room}/a.db") as server:
             server.define(DEFINITIONS[1])
         with contextlib.closing(sqlite3.connect(f"{self.room}/a.db")) as store, store:
             store.execute("DROP TABLE t_albums")
-        self.assert_told([f"{self.room}/a.db"], 7, "albums")
+        self.assert_told([f"{self.room}/a.db"], 1, "albums")
 
     def test_a_new_store_is_readable_by_its_owner_alone(self):
         editor = Editor(f"{self.room}/new.db")

@@ -9,6 +9,7 @@ import unittest
 HERE = os.path.dirname(os.path.abspath(__file__))
 CLIENTS = os.path.dirname(HERE)
 sys.path[:0] = [CLIENTS, HERE]
+from cigrelk import TOP
 from run import said
 
 try:
@@ -42,17 +43,17 @@ class Readme(unittest.TestCase):
         self.assertEqual((done.stdout, said(done.stderr)), (f"{told}\n", ""))
 
     def test_shell(self):
-        _, *lines = block("$ clients/shell").splitlines()
+        _, *lines = block("$ ./cigrelk shell").splitlines()
         commands = [line[2:] for line in lines if line.startswith("> ")]
-        done = self.run_it([f"{CLIENTS}/shell", "shop.db"], "".join(f"{line}\n" for line in commands))
+        done = self.run_it([f"{TOP}/cigrelk", "shell", "shop.db"], "".join(f"{line}\n" for line in commands))
         self.assertEqual(done.stdout.splitlines(), [line for line in lines if not line.startswith("> ")])
 
     def test_rebuild(self):
-        self.run_it([f"{CLIENTS}/shell", "old.db"], 'table albums (album text, quantity int)\nadd albums album=Show quantity=3\n')
+        self.run_it([f"{TOP}/cigrelk", "shell", "old.db"], 'table albums (album text, quantity int)\nadd albums album=Show quantity=3\n')
         with open(f"{self.room}/definitions.txt", "w") as file:
             file.write("table stock (title text, quantity int, price int)\n")
-        words = block("clients/rebuild").split()
-        done = self.run_it([f"{CLIENTS}/rebuild", *words[1:]])
+        words = block("./cigrelk rebuild").split()
+        done = self.run_it([f"{TOP}/cigrelk", *words[1:]])
         self.assertEqual((done.stdout, said(done.stderr)), ("stock: 1 rows of 1\n", ""))
 
 

@@ -9,7 +9,7 @@ import unittest
 HERE = os.path.dirname(os.path.abspath(__file__))
 CLIENTS = os.path.dirname(HERE)
 sys.path[:0] = [CLIENTS, HERE]
-from cigrelk import Server
+from cigrelk import TOP, Server
 from run import said
 
 FAULTS = """track,rating,album,quantity
@@ -25,7 +25,7 @@ Lullaby,1,Galore,"9"
 
 def run(program, *words, text=""):
     """The finished run of a client, with what it printed."""
-    return subprocess.run([f"{CLIENTS}/{program}", *words], input=text, capture_output=True, text=True)
+    return subprocess.run([f"{TOP}/cigrelk", program, *words], input=text, capture_output=True, text=True)
 
 
 class Room(unittest.TestCase):
@@ -101,9 +101,9 @@ class Shell(Room):
             ("undo", '- goods: name "axe", quantity 7\n- goods: name "saw", quantity 4\n'), ("goods", "(0 rows, version 4)\n")]), 0)
         for lines, told in (
             ([("batch", ""), add, ("add big name=nail quantity=1", "kept as edit 1\n"), ("done", 'OffPredicate: edit 1, counted from 0, of big: the view does not show such a row: name "nail", quantity 1\n')], "(0 rows, version 2)"),
-            ([("batch", ""), ("add goods name=axe", "kept as edit 0\n"), ("add goods prize=9", "'prize=9' is no COLUMN=VALUE"), ("done", "Wrong: a line of this batch was refused, so nothing of it is done\n")], "(0 rows, version 2)"),
-            ([("done", "Wrong: there is no batch"), ("batch", ""), ("batch", "Wrong: a batch is under way"), ("drop", ""), ("drop", "Wrong: there is no batch"), ("undo", "NothingToUndo")], "(0 rows, version 2)"),
-            ([("batch", ""), add], "(0 rows, version 2)\nWrong: the batch was not done\n"),
+            ([("batch", ""), ("add goods name=axe", "kept as edit 0\n"), ("add goods prize=9", "'prize=9' is no COLUMN=VALUE"), ("done", "a line of this batch was refused, so nothing of it is done\n")], "(0 rows, version 2)"),
+            ([("done", "there is no batch"), ("batch", ""), ("batch", "a batch is under way"), ("drop", ""), ("drop", "there is no batch"), ("undo", "NothingToUndo")], "(0 rows, version 2)"),
+            ([("batch", ""), add], "(0 rows, version 2)\nthe batch was not done\n"),
         ):
             self.assertEqual(self.in_turn([table, *lines, ("goods", told)]), 1)
 
@@ -133,7 +133,7 @@ class Shell(Room):
     def test_how_it_ends(self):
         for store, told in (("/nowhere/shop.db", "its folder is not there"), (self.room, "it is a folder"), (self.file("text.db", "a text and no store"), "the file is no store")):
             done = run("shell", store)
-            self.assertEqual((done.returncode, told in done.stderr, "Traceback" in done.stderr), (6, True, False), done.stderr)
+            self.assertEqual((done.returncode, told in done.stderr, "Traceback" in done.stderr), (1, True, False), done.stderr)
 
 
 class Rebuild(Room):

@@ -1,8 +1,4 @@
-#!/usr/bin/env python3
 """Keeps the tables and views of a store in a PostgreSQL too.
-
-Usage: clients/to_sql STORE ADDRESS [--wait SECONDS]
-       clients/to_sql STORE --schema
 
 ADDRESS is what psql takes, as postgresql://shop@db.example/shop. Give a password by PGPASSWORD or ~/.pgpass, since everyone on a
 machine sees the words of a command.
@@ -14,129 +10,41 @@ changed and run beforehand. Then each change of the tables is one transaction th
 it. Where the database goes away, the reply waits for it for --wait seconds (60). The store leads: what else changes those tables
 in the database is undone at the next start.
 """
+import argparse
 import collections
 import hashlib
 import itertools
 import json
-import os
 import re
-import subprocess
 import sys
 import time
 
-sys.path.insert(0, os.path.dirname(os.path.realpath(__file__)))
-from cigrelk import (All, Among, Any, Column, Compare, Drop, Ended, IsNull, Join, Named, Not, Rename, Select, Server, Truth, UnknownForm, base, defined,
-                     is_nullable, parsed, values)
+from .errors import CommandError
+from .kinds import base, is_nullable
+from .language import All, Among, Any, Column, Compare, Drop, IsNull, Join, Named, Not, Rename, Select, Truth, UnknownForm, defined, parsed
+from .postgres import Database, Failed, literal, names_of, quoted
+from .rows import values
+from .server import Server
 
+SUMMARY = "keeps the tables and views of a store in PostgreSQL too"
 # How many rows one statement names at most.
 MOST_ROWS = 500
-# What psql prints behind the output of a message.
-DONE = "cigrelk-done"
 TYPES = {"int": "bigint", "text": 'text COLLATE "C"', "bool": "boolean"}
 NEUTRAL = {"int": "0", "text": "''", "bool": "false"}
-# One bridge serves a schema at a time: a second one waits for the first one's connection, and for the statement that it runs.
-ALONE = ["SET lock_timeout = '30s'", "SELECT pg_advisory_lock(hashtext('cigrelk ' || current_schema()))", "SET lock_timeout = 0"]
-# The beginnings of those SQLSTATEs that pass by themselves: a connection, also between two servers, a conflict, a want of room, an
-# operator, a standby that does not write yet, a lock.
-PASSING = ("08", "40", "53", "57", "58", "HV", "25006", "55P03")
 
 
-class Failed(Exception):
-    """The database refused statements, or cannot be reached, or went away; psql says more on standard error. `passes` tells
-    whether it is worth trying again."""
-
-    def __init__(self, text, passes):
-        self.passes = passes
-        super().__init__(text)
-
-
-class Database:
-    """A connection, by psql. Raises Failed."""
-
-    def __init__(self, address):
-        words = ["psql", "-X", "-q", "-t", "-A", "-d", address]
-        settings = {**os.environ, "PGCLIENTENCODING": "UTF8", "PGAPPNAME": "cigrelk"}
-        try:
-            # In a session of its own, so that Ctrl-C at a terminal does not end a statement in the middle.
-            self.process = subprocess.Popen(words, stdin=subprocess.PIPE, stdout=subprocess.PIPE, env=settings, start_new_session=True)
-        except OSError as error:
-            raise Failed(f"psql cannot be started ({error.strerror})", False) from None
-        try:
-            # In literals a backslash means itself.
-            self.ask("SET client_min_messages = warning", "SET standard_conforming_strings = on", *ALONE)
-        except Failed as error:
-            if "55P03" in str(error):
-                raise Failed("another bridge serves this schema of the database, or what it did last still runs", True) from None
-            raise
-        self.schema = self.rows("SELECT current_schema() AS name")[0]["name"]
-        if self.schema is None:
-            raise Failed("there is no schema to make tables in", False)
-
-    def ask(self, *statements):
-        """The lines that statements give. They go as one message, which is one transaction."""
-        text = " \\; ".join(statements)
-        try:
-            self.process.stdin.write(f"{text};\n\\echo {DONE} :SQLSTATE\n".encode())
-            self.process.stdin.flush()
-        except BrokenPipeError:
-            # psql has ended, which the next lines find.
-            pass
-        found = []
-        while True:
-            line = self.process.stdout.readline().decode()
-            if line.startswith(DONE):
-                break
-            if not line:
-                self.process.wait()
-                raise Failed("the database cannot be reached, or went away", True)
-            found.append(line)
-        # psql tells no state where the connection broke.
-        state = line[len(DONE) :].strip() or "08006"
-        if state != "00000":
-            raise Failed(f"the database refused it (SQLSTATE {state})", state.startswith(PASSING))
-        return found
-
-    def rows(self, query):
-        """The rows of a query as dicts. By COPY, which gives all characters as they are; psql's own output loses some."""
-        lines = self.ask(f'COPY (SELECT row_to_json("IT") FROM ({query}) AS "IT") TO STDOUT')
-        return [json.loads(line.replace("\\\\", "\\")) for line in lines]
-
-    def change(self, statements):
-        """Does statements as one transaction. BEGIN and COMMIT, since a message of which only a part was sent must do nothing."""
-        if statements:
-            self.ask("BEGIN", *statements, "COMMIT")
-
-    def name(self, name):
-        """A name with its schema: without it pg_class would be a table of the catalogue."""
-        return f"{quoted(self.schema)}.{quoted(name)}"
-
-    def close(self):
-        try:
-            self.process.stdin.close()
-        except BrokenPipeError:
-            pass
-        self.process.wait()
-        self.process.stdout.close()
-
-
-# ---- Statements ----
-
-
-def quoted(name):
-    return '"' + name.replace('"', '""') + '"'
-
-
-def names_of(columns):
-    return ", ".join(map(quoted, columns))
-
-
-def literal(value):
-    """A value in quotes, which PostgreSQL reads as one of the column's kind."""
-    if value is None:
-        return "NULL"
-    if isinstance(value, bool):
-        return "true" if value else "false"
-    return "'" + str(value).replace("'", "''") + "'"
+def key_of(columns, edges):
+    """The left side of the first dependency by which all columns are decided, or None."""
+    for edge in edges:
+        found, before = set(edge["left"]), None
+        while found != before:
+            before = set(found)
+            for other in edges:
+                if set(other["left"]) <= found:
+                    found |= set(other["right"])
+        if found == set(columns):
+            return edge["left"]
+    return None
 
 
 def equal(row, columns):
@@ -158,20 +66,6 @@ def difference(name, columns, key, remove, add):
     for at in range(0, len(add), MOST_ROWS):
         rows = ", ".join("(" + ", ".join(map(literal, values(row, columns))) + ")" for row in add[at : at + MOST_ROWS])
         yield f"INSERT INTO {name} ({names_of(columns)}) VALUES {rows}"
-
-
-def key_of(columns, edges):
-    """The left side of the first dependency by which all columns are decided, or None."""
-    for edge in edges:
-        found, before = set(edge["left"]), None
-        while found != before:
-            before = set(found)
-            for other in edges:
-                if set(other["left"]) <= found:
-                    found |= set(other["right"])
-        if found == set(columns):
-            return edge["left"]
-    return None
 
 
 def table_statement(name, columns, edges):
@@ -254,9 +148,6 @@ def predicate(node, kinds):
     return word.join(f"({predicate(part, kinds)})" for part in node.parts)
 
 
-# ---- A sum of hashes, to see whether two tables have the same rows ----
-
-
 def hash_query(name, columns):
     """A query for the number of rows, and for the sum of the first 64 bits of a hash of each."""
     row = " || ',' || ".join(itertools.starmap(hashed, columns.items()))
@@ -279,9 +170,6 @@ def hash_sum(rows, columns):
         text = ",".join(["null" if row[name] is None else write(row[name]) for name, write in parts])
         total += int.from_bytes(hashlib.sha256(text.encode()).digest()[:8], "big", signed=True)
     return str(total)
-
-
-# ---- The bridge ----
 
 
 class Bridge:
@@ -362,10 +250,6 @@ class Bridge:
         self.database.change(statements)
 
 
-def tell(text):
-    print(f"clients/to_sql: {text}", file=sys.stderr)
-
-
 def print_schema(store):
     with Server(store) as server:
         for name, kind in server.names().items():
@@ -382,52 +266,36 @@ def serve(store, address, wait):
         bridge.database.close()
 
 
-def words_of(words):
-    """The store, the address and the seconds to wait, or None where the words are refused."""
-    wait = "60"
-    if "--wait" in words[:-1]:
-        at = words.index("--wait")
-        wait = words[at + 1]
-        words = words[:at] + words[at + 2 :]
-    right = len(words) == 2 and not any(word.startswith("-") for word in words) and re.fullmatch("[0-9]{1,6}", wait)
-    return (words[0], words[1], int(wait)) if right else None
+def address(text):
+    """An address without a password."""
+    if re.search(r"//[^/@]*:[^/@]+@|\bpassword\s*=", text):
+        raise argparse.ArgumentTypeError("give the password by PGPASSWORD or ~/.pgpass, and not in the address: everyone on this machine sees the words of a command")
+    return text
 
 
-def run(words):
-    """Does what the words say, and gives the status."""
-    if len(words) == 2 and words[1] == "--schema":
-        print_schema(words[0])
+def seconds(text):
+    """A number of seconds."""
+    if not re.fullmatch("[0-9]{1,6}", text):
+        raise argparse.ArgumentTypeError(f"a number of seconds is wanted, and not {text}")
+    return int(text)
+
+
+def add_arguments(parser: argparse.ArgumentParser) -> None:
+    parser.add_argument("store", metavar="STORE", help="the file of the store")
+    where = parser.add_mutually_exclusive_group(required=True)
+    where.add_argument("address", nargs="?", type=address, metavar="ADDRESS", help="the database, as psql takes it")
+    where.add_argument("--schema", action="store_true", help="prints the statements that make the tables")
+    parser.add_argument("--wait", type=seconds, default=60, metavar="SECONDS", help="how long a reply waits for a database that went away (60)")
+
+
+def run(options: argparse.Namespace) -> int:
+    if options.schema:
+        print_schema(options.store)
         return 0
-    asked = words_of(words)
-    if not asked:
-        print(__doc__.strip())
-        return 0 if words == ["--help"] else 2
-    if re.search(r"//[^/@]*:[^/@]+@|\bpassword\s*=", asked[1]):
-        tell("give the password by PGPASSWORD or ~/.pgpass, and not in the address: everyone on this machine sees the words of a command")
-        return 2
-    serve(*asked)
-    return 0
-
-
-def main(words):
     try:
-        return run(words)
+        serve(options.store, options.address, options.wait)
     except Failed as error:
-        tell(f"{error}; the store has what was accepted, and the next start brings it to the database")
-        return 1
+        raise CommandError(f"{error}; the store has what was accepted, and the next start brings it to the database") from None
     except UnknownForm as error:
-        tell(error)
-        return 1
-    except Ended as error:
-        tell(error)
-        return max(error.status, 1)
-    except BrokenPipeError:
-        # Nobody reads the replies.
-        os.dup2(os.open(os.devnull, os.O_WRONLY), 1)
-        return 5
-    except KeyboardInterrupt:
-        return 130
-
-
-if __name__ == "__main__":
-    sys.exit(main(sys.argv[1:]))
+        raise CommandError(str(error)) from None
+    return 0

@@ -1,4 +1,4 @@
-"""The bridge to SQL, over PostgreSQL servers that are started for it: after each step both sides hold the same rows."""
+"""The mirror in PostgreSQL, over servers that are started for it: after each step both sides hold the same rows."""
 import glob
 import json
 import os
@@ -84,7 +84,7 @@ class Servers:
 
 
 @unittest.skipUnless(BIN and shutil.which("psql"), "there is no PostgreSQL")
-class ToSql(unittest.TestCase):
+class Mirror(unittest.TestCase):
     @classmethod
     def setUpClass(cls):
         cls.servers = Servers()
@@ -102,7 +102,7 @@ class ToSql(unittest.TestCase):
 
     def bridge(self, requests):
         lines = "".join(f"{one if isinstance(one, str) else json.dumps(one)}\n" for one in requests)
-        done = subprocess.run([f"{CLIENTS}/to_sql", self.store, self.address], input=lines, capture_output=True, text=True)
+        done = subprocess.run([f"{TOP}/cigrelk", "mirror", self.store, self.address], input=lines, capture_output=True, text=True)
         self.assertEqual(done.returncode, 0, done.stderr)
         return done.stdout
 
@@ -251,10 +251,10 @@ class ToSql(unittest.TestCase):
         self.bridge([{"do": "define", "text": "table k (a text, b int) with a -> b"}])
 
         def run(address, lines="", store=self.store):
-            return subprocess.run([f"{CLIENTS}/to_sql", store, address, "--wait", "0"], input=lines, capture_output=True, text=True)
+            return subprocess.run([f"{TOP}/cigrelk", "mirror", store, address, "--wait", "0"], input=lines, capture_output=True, text=True)
 
         self.assertEqual(run("postgresql://shop:secret@/postgres").returncode, 2)
-        for done, status in ((run("postgresql:///nothing?host=/nowhere"), 1), (run(self.address, store="/nowhere/shop.db"), 6)):
+        for done, status in ((run("postgresql:///nothing?host=/nowhere"), 1), (run(self.address, store="/nowhere/shop.db"), 1)):
             self.assertEqual((done.returncode, done.stdout, "Traceback" in done.stderr), (status, "", False), done.stderr)
         # a key that is too long for the database's index: the store has it, and a table without that index takes it
         chance = random.Random(2)
@@ -278,7 +278,7 @@ class Running:
     """A bridge that is asked line by line."""
 
     def __init__(self, store, address):
-        words = [f"{CLIENTS}/to_sql", store, address]
+        words = [f"{TOP}/cigrelk", "mirror", store, address]
         self.process = subprocess.Popen(words, stdin=subprocess.PIPE, stdout=subprocess.PIPE, stderr=subprocess.DEVNULL, text=True)
 
     def ask(self, request):

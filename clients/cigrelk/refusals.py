@@ -1,0 +1,237 @@
+"""Refusals: an exception class for each number of the program, with a sentence for people."""
+import csv
+import re
+
+from .csv_files import is_field, records_of
+from .kinds import MOST_TEXT, WANTED
+from .texts import listing, short, sides, words_of
+
+
+class Refused(Exception):
+    """The program refused a request, and nothing was changed. `error` is the number of the refusal, `reply` the whole reply, and
+    `request` the request, where it is known. Where an edit of a batch is refused, `edit` is its place among the edits, from 0, and
+    `request` is that edit; else `edit` is None."""
+
+    says = "refused"
+
+    def __init__(self, reply, request=None):
+        self.reply, self.error, self.edit = reply, reply["error"], reply.get("edit")
+        self.request = request["edits"][self.edit] if request and self.edit is not None else request
+        super().__init__(f"{self.place()}{self.text()}")
+
+    def place(self):
+        """Which edit of a batch it is, in words."""
+        if self.edit is None:
+            return ""
+        return f"edit {self.edit}, counted from 0{', of ' + self.request['view'] if self.request else ''}: "
+
+    def text(self):
+        return self.says.format_map(self.reply)
+
+
+class OutOfMemory(Refused):
+    says = "memory ran out; the request may be sent again"
+
+
+class TooLong(Refused):
+    says = "the request is longer than 16 MiB: send fewer rows at once"
+
+
+class NotJson(Refused):
+    says = "the line is no JSON"
+
+
+class BadRequest(Refused):
+    says = "the member '{member}' of the request is missing, unknown or of the wrong shape"
+
+
+class Syntax(Refused):
+    # What people who know SQL write at the place of the fault, and what stands for it here.
+    habits = [
+        (re.compile(form), hint)
+        for form, hint in (
+            (r"(?i)(create|insert|update|delete|alter)\b", "a definition begins with 'table' or 'view'"),
+            (r"(?i)(varchar|char|string)\b", "the kind of a text is 'text'"),
+            (r"(?i)(integer|bigint|smallint|number)\b", "the kind of a number is 'int'"),
+            (r"(?i)(boolean|flag)\b", "the kind of a truth value is 'bool'"),
+            (r"(?i)(float|double|real|decimal|numeric|date|time|timestamp|json|uuid)\b", "the kinds are int, text and bool"),
+            (r"(?i)(?<=is )not\b", "rows with a value are asked for by 'not NAME is null'"),
+            (r"(?i)not\s+null\b", "a column takes null only where its kind says so, as 'int null'"),
+            (r"(?i)null\b", "rows without a value are asked for by 'NAME is null'"),
+            (r"(?i)(primary|unique|key|references|foreign)\b", "a key is written behind the columns, as 'with id -> name price'"),
+            (r"(?i)(inner|left|right|natural|join|group|order|union|distinct|limit)\b", "views are made of select, drop, rename, join_dl, join_dr and join_both"),
+            (r"[A-Z]\w*", "names and words are written in lower case"),
+            (r";", "no semicolon stands behind a definition"),
+            (r'"', "a text stands in single quotes, as 'axe'"),
+            (r"(?<=<)>", "not equal is written !="),
+            (r"\*", "a selection shows all columns: 'select from NAME where ..'"),
+            (r"(?<==)=", "equal is written ="),
+        )
+    ]
+
+    def text(self):
+        whole, at = (self.request or {}).get("text", "").encode(errors="replace"), self.reply["at"]
+        if at >= len(whole):
+            return "the definition ends too early"
+        place, text = len(whole[:at].decode(errors="replace")), whole.decode(errors="replace")
+        hint = next((f": {hint}" for form, hint in self.habits if form.match(text, place)), "")
+        return f"the definition goes wrong at {text[place : place + 20]!r} (byte {at}){hint}"
+
+
+class NameTaken(Refused):
+    says = "there is a table or a view '{name}' already"
+
+
+class UnknownName(Refused):
+    says = "there is no table and no view '{name}'"
+
+
+class UnknownColumn(Refused):
+    says = "there is no column '{name}'"
+
+
+class KindClash(Refused):
+    def text(self):
+        name, request = self.reply["name"], self.request or {}
+        if "value" in request:
+            return f"the column '{name}' has values of another kind than {short(request['value'])}"
+        return f"the column '{name}' has two kinds, in the two sides of the join or in the column and its default"
+
+
+class NotTree(Refused):
+    def text(self):
+        left, right = (listing(self.reply[side]) for side in "ab")
+        return f"the dependencies do not form a tree: those of '{left}' and '{right}' cross"
+
+
+class PredicateKind(Refused):
+    says = "the column '{name}' is compared with something of another kind"
+
+
+class SourceMentionsOutput(Refused):
+    says = "what is selected from has a condition on '{col}', which another column decides, and on a column that is not decided with it: write both conditions in one selection"
+
+
+class NoSuchDependency(Refused):
+    says = "the column '{col}' cannot be dropped: it is not decided by exactly the columns that were named, or it decides others"
+
+
+class MixedConjunct(Refused):
+    says = "the column cannot be dropped: condition {index} of the predicate, counted from 0, compares it with another column"
+
+
+class DefaultRefused(Refused):
+    says = "the predicate does not hold on the default of the dropped column"
+
+
+class NotDetermined(Refused):
+    says = "the shared columns of the join do not decide the column '{col}' of its right side"
+
+
+class SideMentionsOutput(Refused):
+    says = "the {side} side of the join has a condition on '{col}', which another column decides, and on a column that is not decided with it: the join could not be edited"
+
+
+class TableTwice(Refused):
+    says = "the table '{name}' is under both sides of the join"
+
+
+class TooLarge(Refused):
+    limits = {
+        "nesting": "more than 32 parentheses stand open at once",
+        "columns": "there are more than 64 columns",
+        "predicate": "the predicate has more than 256 parts",
+        "lens": "the view is made of more than 64 parts",
+        "tables": "there are 64 tables already",
+        "views": "there are 256 views already",
+    }
+
+    def text(self):
+        return f"too large: {self.limits.get(self.reply['what'], self.reply['what'])}"
+
+
+class ColumnTaken(Refused):
+    says = "there is a column '{name}' already"
+
+
+class BadRow(Refused):
+    def text(self):
+        which, index, name = (self.reply[member] for member in ("list", "index", "col"))
+        rows = (self.request or {}).get(which, [])[index : index + 1]
+        if rows and isinstance(rows[0], dict) and name in rows[0]:
+            return f"row {index} of '{which}': {value_fault(name, rows[0][name])}"
+        return f"row {index} of '{which}': the column '{name}' is missing"
+
+
+class Stale(Refused):
+    says = "the tables were changed since the rows were read: read them again"
+
+
+class OffPredicate(Refused):
+    def text(self):
+        return f"the view does not show such a row: {words_of(self.reply['row'])}"
+
+
+class Clash(Refused):
+    def text(self):
+        one, other = map(words_of, self.reply["rows"])
+        return f"{sides(self.reply['edge'])}, and these rows differ in it: {one} / {other}"
+
+
+class NothingToUndo(Refused):
+    says = "no change is left to undo: only changes of rows since the program was started can be undone, and only the last 16 of them"
+
+
+class BadRecord(Refused):
+    def text(self, columns=None):
+        """What is wrong, as far as it can be told; `columns` has the kind of each column of the view by its name."""
+        number = self.reply["record"]
+        if number == 0:
+            return f"the first record of the CSV is not the names of the columns, each once{': ' + ', '.join(columns) if columns else ''}"
+        try:
+            records = list(records_of((self.request or {}).get("csv", "")))
+        except csv.Error:
+            records = []
+        if number >= len(records):
+            return f"record {number} of the CSV, the header counted as 0, is no row"
+        (_, header), (line, fields) = records[0], records[number]
+        place = f"line {line} of the CSV, its record {number}"
+        if len(fields) != len(header):
+            return f"{place}, has another number of fields than the header: {len(fields)} and {len(header)}"
+        for name, field in zip(header, fields):
+            if columns and not is_field(field, columns.get(name)):
+                return f"{place}: {name} wants {WANTED[columns[name]]}, and not {short(field)}"
+        return f"{place}, is no row"
+
+
+class NullableColumn(Refused):
+    says = "the column '{col}' may be null, for which CSV has no word: export a view that drops it"
+
+
+class StoreFault(Refused):
+    says = "the store could not be written (a full disk?): nothing was changed, and the request may be sent again"
+
+
+REFUSALS = {
+    1: OutOfMemory, 10: TooLong, 11: NotJson, 12: BadRequest, 20: Syntax, 21: NameTaken, 22: UnknownName, 23: UnknownColumn,
+    24: KindClash, 25: NotTree, 26: PredicateKind, 27: SourceMentionsOutput, 28: NoSuchDependency, 29: MixedConjunct,
+    30: DefaultRefused, 31: NotDetermined, 32: SideMentionsOutput, 33: TableTwice, 34: TooLarge, 35: ColumnTaken, 40: BadRow, 41: Stale,
+    42: OffPredicate, 43: Clash, 44: NothingToUndo, 45: BadRecord, 46: NullableColumn, 90: StoreFault,
+}
+
+
+def refusal(reply, request=None):
+    """The exception for a reply whose `ok` is false."""
+    return REFUSALS.get(reply["error"], Refused)(reply, request)
+
+
+def stale():
+    """The refusal that the client gives by itself."""
+    return Stale({"ok": False, "error": 41, "changed_at": 0, "version": 0})
+
+
+def value_fault(name, value):
+    """Why a value does not fit its column, as far as it can be told without the column's kind."""
+    if isinstance(value, str) and ("\0" in value or len(value.encode(errors="replace")) > MOST_TEXT):
+        return f"a text has at most 4,096 bytes and no U+0000, and '{name}' has another: {short(value)}"
+    return f"'{name}' is no column, or {short(value)} is not of its kind"
