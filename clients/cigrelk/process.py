@@ -42,9 +42,18 @@ class Ended(Exception):
 class NotStarted(Ended):
     """The program cannot be started."""
 
-    def __init__(self, program, reason):
+    def __init__(self, sentence):
         self.status, self.damage = 127, None
-        Exception.__init__(self, f"the program {program} cannot be started ({reason}); CIGRELK in the environment names another")
+        Exception.__init__(self, sentence)
+
+
+def default_program():
+    """The path of the program: the one that CIGRELK names in the environment, or else `serve` of the clone that this package lies in.
+    Raises NotStarted if there is neither."""
+    named, of_clone = os.environ.get("CIGRELK"), f"{TOP}/serve"
+    if not named and not os.path.exists(of_clone):
+        raise NotStarted("there is no program: set CIGRELK to the path of one, since this package lies in no clone that has `serve`")
+    return named or of_clone
 
 
 def damage_text(damage):

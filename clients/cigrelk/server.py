@@ -6,7 +6,7 @@ import uuid
 import weakref
 
 from .language import Named, UnknownForm, columns_of, condition_of, defined, expanded, path_to, shown_columns
-from .process import MOST_INPUT, TOP, Ended, NotStarted, Program, encoded, line_of
+from .process import MOST_INPUT, Ended, NotStarted, Program, default_program, encoded, line_of
 from .reasons import Reasons
 from .refusals import BadRecord, Refused, Stale, refusal, stale
 from .rows import Change, Fault, Rows, Sheet, in_order, listed, shape_fault, values
@@ -168,7 +168,7 @@ class Server:
     cannot be opened (status 6) or is damaged (7)."""
 
     def __init__(self, store=None, program=None):
-        words = [program] if isinstance(program, str) else list(program or [os.environ.get("CIGRELK") or f"{TOP}/serve"])
+        words = [program] if isinstance(program, str) else list(program or [default_program()])
         words += ["--max-input", str(MOST_INPUT)]
         # By `=`, since a store may have the name of an option.
         words += [] if store is None else [f"--store={os.fspath(store)}"]
@@ -185,7 +185,7 @@ class Server:
         try:
             self.program = Program(words)
         except OSError as error:
-            raise NotStarted(words[0], error.strerror) from None
+            raise NotStarted(f"the program {words[0]} cannot be started ({error.strerror}); CIGRELK in the environment names another") from None
         # A server that is dropped without `close` ends its program too.
         self.closes = weakref.finalize(self, self.program.close)
         try:
@@ -199,7 +199,7 @@ class Server:
         except (ValueError, TypeError, KeyError, Refused):
             self.program.process.kill()
             self.closes()
-            raise NotStarted(words[0], "it answers as another program does") from None
+            raise NotStarted(f"the program {words[0]} answers as another program does; CIGRELK in the environment names another") from None
 
     def __enter__(self):
         return self

@@ -11,10 +11,11 @@ import unittest
 import unittest.mock
 
 HERE = os.path.dirname(os.path.abspath(__file__))
-sys.path.insert(0, os.path.dirname(HERE))
+sys.path[:0] = [os.path.dirname(HERE), HERE]
 import cigrelk
 from cigrelk import (TOP, BadRecord, BadRow, Clash, Ended, KindClash, NotProposal, NothingToUndo, NotStarted, NullableColumn, OffPredicate, Refused, Server, Stale,
                      Syntax, UnknownColumn, UnknownName)
+from packages import wants
 
 try:
     import pandas
@@ -178,7 +179,7 @@ class Requests(InMemory):
         goods.put([{"name": "\x1b[31m\u202e\n", "quantity": 1}, {"name": "日本", "quantity": 2}])
         self.assertEqual(str(goods.read()).splitlines()[2:], [r"\x1b[31m\u202e\n         1", "日本                     2"])
 
-    @unittest.skipUnless(pandas, "there is no pandas")
+    @wants("python3-pandas")
     def test_frames_of_pandas(self):
         goods, _ = self.shop()
         goods.put([AXE, SAW])
@@ -385,7 +386,7 @@ class Nulls(InMemory):
         self.assertEqual([(table, side, row["album"], row.get("track")) for table, side, row, _ in found], [("shops", "remove", "G", None), ("shops", "add", "G", None), ("sold", "remove", "G", "b")])
         self.assertIn("it would be shown now, since album decides price, and was not sent", found[2][3][0])
 
-    @unittest.skipUnless(pandas, "there is no pandas")
+    @wants("python3-pandas")
     def test_frames_of_pandas(self):
         people = self.people()
         before = people.read()

@@ -24,6 +24,7 @@ import browser
 from browser import ALT, CONTROL
 from cigrelk import TOP, Server
 from cigrelk.command import main
+from packages import wants
 
 DEFINITIONS = [
     "table tracks (track text, date int, rating int, album text) with track -> date rating",
@@ -351,7 +352,7 @@ class ReadOnly(unittest.TestCase):
         self.assertEqual(editor.ask("list")["definitions"], [])
 
 
-@unittest.skipUnless(browser.found(), "there is no Chromium")
+@wants("chromium")
 class Page(OverStore):
     """The page, as a person uses it."""
 

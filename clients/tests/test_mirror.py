@@ -1,5 +1,4 @@
 """The mirror in PostgreSQL, over servers that are started for it: after each step both sides hold the same rows."""
-import glob
 import json
 import os
 import pwd
@@ -14,10 +13,11 @@ import unittest
 
 HERE = os.path.dirname(os.path.abspath(__file__))
 CLIENTS = os.path.dirname(HERE)
-sys.path.insert(0, CLIENTS)
+sys.path[:0] = [CLIENTS, HERE]
 from cigrelk import TOP, Server
+from packages import postgresql, wants
 
-BIN = next(iter(sorted(glob.glob("/usr/lib/postgresql/*/bin"), reverse=True)), None) or os.path.dirname(shutil.which("initdb") or "")
+BIN = postgresql()
 # The coordinator, which is also the one server of the tests that want one, and three servers below it.
 SERVERS = ("base", "s0", "s1", "s2")
 
@@ -83,7 +83,7 @@ class Servers:
         shutil.rmtree(self.room)
 
 
-@unittest.skipUnless(BIN and shutil.which("psql"), "there is no PostgreSQL")
+@wants("postgresql")
 class Mirror(unittest.TestCase):
     @classmethod
     def setUpClass(cls):
