@@ -16,6 +16,7 @@ It starts the program, sends it requests, and gives rows, changes, and refusals 
 
 The program is the one that CIGRELK names in the environment, or else `serve` of the clone that this package lies in.
 """
+from .completion import Completion
 from .csv_files import is_field, records_of
 from .errors import CommandError
 from .kinds import LEAST_INT, MOST_INT, MOST_TEXT, WANTED, base, fits, is_nullable, value_of, without_quotes
@@ -28,7 +29,7 @@ from .proposals import NotProposal, Proposal, Review, proposals
 from .reasons import Reasons
 from .refusals import (
     REFUSALS, BadRecord, BadRequest, BadRow, Clash, ColumnTaken, DefaultRefused, KindClash, MixedConjunct, NameTaken, NoSuchDependency,
-    NotDetermined, NothingToUndo, NotJson, NotTree, NullableColumn, OffPredicate, OutOfMemory, PredicateKind, Refused,
+    NotDetermined, NothingToUndo, NotJson, NotTree, NullableColumn, OffPredicate, OtherTable, OutOfMemory, PredicateKind, Refused,
     SideMentionsOutput, SourceMentionsOutput, Stale, StoreFault, Syntax, TableTwice, TooLarge, TooLong, UnknownColumn, UnknownName,
     refusal, stale,
 )

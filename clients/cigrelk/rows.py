@@ -139,19 +139,21 @@ def shape_fault(row, columns):
     return None, None
 
 
-def key_of(columns, dependencies):
-    """The columns that are left when each that the others decide is taken away."""
-    def closure(names):
-        found = set(names)
-        while True:
-            more = {name for it in dependencies if found.issuperset(it["left"]) for name in it["right"]} - found
-            if not more:
-                return found
-            found |= more
+def closure(names, dependencies):
+    """All columns that some columns determine, these among them."""
+    found = set(names)
+    while True:
+        more = {name for it in dependencies if found.issuperset(it["left"]) for name in it["right"]} - found
+        if not more:
+            return found
+        found |= more
 
+
+def key_of(columns, dependencies):
+    """The columns that are left when each that the others determine is taken away."""
     key = list(columns)
     for name in reversed(columns):
         rest = [it for it in key if it != name]
-        if name in closure(rest):
+        if name in closure(rest, dependencies):
             key = rest
     return key

@@ -5,6 +5,8 @@ import os
 import uuid
 import weakref
 
+from .completion import Completer
+from .effects import refuse_others
 from .language import Named, UnknownForm, columns_of, condition_of, defined, expanded, path_to, shown_columns
 from .process import MOST_INPUT, Ended, NotStarted, Program, default_program, encoded, line_of
 from .reasons import Reasons
@@ -66,13 +68,37 @@ class View:
         since. Raises OffPredicate, Clash and BadRow where a row is refused."""
         return Change(self.server, self.ask("put", rows=listed(rows), **self.server.rests(on)))
 
-    def edit(self, remove=(), add=(), on=None):
-        """Removes and adds rows. `on` and the exceptions are those of `put`."""
-        return Change(self.server, self.ask("edit", remove=listed(remove), add=listed(add), **self.server.rests(on)))
+    def edit(self, remove=(), add=(), on=None, only=None, tries=10):
+        """Removes and adds rows. `on` and the exceptions are those of `put`.
 
-    def preview(self, remove=(), add=(), on=None):
+        `only` takes names of tables: then a preview comes first, OtherTable is raised where it changes another table, and the edit
+        is made on the version of the preview. Where another change came between, and no `on` was given, both are done again."""
+        remove, add = listed(remove), listed(add)
+        if only is None:
+            return Change(self.server, self.ask("edit", remove=remove, add=add, **self.server.rests(on)))
+        while True:
+            preview, tries = self.preview(remove, add, on, only), tries - 1
+            try:
+                return self.edit(remove, add, on=preview)
+            except Stale:
+                if on is not None or tries <= 0:
+                    raise
+
+    def preview(self, remove=(), add=(), on=None, only=None):
         """What the same edit would change. Nothing is changed."""
-        return Change(self.server, self.ask("preview", remove=listed(remove), add=listed(add), **self.server.rests(on)))
+        remove, add = listed(remove), listed(add)
+        change = Change(self.server, self.ask("preview", remove=remove, add=add, **self.server.rests(on)))
+        if only is not None:
+            refuse_others(self, remove, change, only)
+        return change
+
+    def complete(self, row, typed, among=()):
+        """A row with what its keys determine, as a Completion. `row` has the columns as they were, and none for a new row; `typed`
+        has the values that were typed. Those stay. The columns that they determine are taken from the row that has the key, first
+        of the rows `among`, which are not sent yet, and then of the table under this view; so on to the end of a chain of keys.
+        Where no row has a key, typed values stay, those that came with the old key go, and what is missing is told. Raises
+        UnknownColumn, and KindClash where a key is no value of its column."""
+        return Completer(self).complete(row, typed, among)
 
     def export_csv(self):
         """The rows as CSV: a text whose first record has the names of the columns. Raises NullableColumn where a column may be
