@@ -2,7 +2,7 @@
 from typing import NamedTuple
 
 from .refusals import refusal
-from .rows import in_order, key_of
+from .rows import in_order
 from .sources import sources_of
 
 
@@ -35,7 +35,7 @@ class Completer:
     def __init__(self, view):
         self.server, self.columns = view.server, view.columns()
         self.dependencies = view.type()["dependencies"]
-        key = set(key_of(list(self.columns), self.dependencies))
+        key = set(view.key())
         self.steps = in_turn([
             Step(edge["left"], edge["right"], source.table, {name: column for column, name in source.names.items()},
                  source.joined_in or not key.issuperset(edge["left"]))

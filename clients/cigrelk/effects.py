@@ -3,7 +3,7 @@ from typing import NamedTuple
 
 from .language import Join, columns_of, path_to, shown_columns, tables_in
 from .refusals import OtherTable
-from .rows import key_of, values
+from .rows import values
 from .sources import sources_of
 from .texts import counted, words_of
 
@@ -26,19 +26,11 @@ class Effects:
         self.view, self.server, self.change = view, view.server, change
         self.sources = {source.table: source for source in sources_of(view)}
         self.removed = {table: {values(row, source.names.values()) for row in remove} for table, source in self.sources.items()}
-        self.keys = {}
-
-    def key(self, table):
-        """The columns by which rows of a table are named."""
-        if table not in self.keys:
-            view = self.server[table]
-            self.keys[table] = key_of(list(view.columns()), view.type()["dependencies"])
-        return self.keys[table]
 
     def of(self, table):
         """The effects on one table."""
-        removed, added = self.change.tables.get(table, ([], []))
-        before, after = ({values(row, self.key(table)): row for row in rows} for rows in (removed, added))
+        key = self.server[table].key()
+        before, after = ({values(row, key): row for row in rows} for rows in self.change.tables.get(table, ([], [])))
         return [Effect(table, before.get(key), after.get(key)) for key in {**before, **after}]
 
     def hides(self, effect):
@@ -55,7 +47,7 @@ class Effects:
         """An effect in words, as `changes product_id 236 of products for everyone: 14 rows of order_lines show it`."""
         table, before, after = effect
         does, of = ("adds", "to") if before is None else ("deletes", "of") if after is None else ("changes", "of")
-        told = f"{does} {words_of({name: (after or before)[name] for name in self.key(table)})} {of} {table}"
+        told = f"{does} {words_of({name: (after or before)[name] for name in self.server[table].key()})} {of} {table}"
         if self.hides(effect):
             told += f", which {self.view.name} hides"
         if before is None or not self.sources[table].joined_in:

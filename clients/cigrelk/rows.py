@@ -1,5 +1,6 @@
 """Rows, the changes of them, and what is wrong with one."""
 import html
+import operator
 from collections.abc import Mapping
 from typing import NamedTuple
 
@@ -28,6 +29,13 @@ def values(row, columns):
 def in_order(row, columns):
     """A row with its columns in this order: replies have them by name."""
     return {name: row[name] for name in columns}
+
+
+def by_key(rows, key, columns):
+    """Rows in the order of their key; null comes first. `columns` has the kind of each column."""
+    if any(is_nullable(columns[name]) for name in key):
+        return sorted(rows, key=lambda row: [(row[name] is not None, row[name]) for name in key])
+    return sorted(rows, key=operator.itemgetter(*key)) if key else rows
 
 
 class Rows(list):

@@ -11,7 +11,7 @@ from .language import Named, UnknownForm, columns_of, condition_of, defined, exp
 from .process import MOST_INPUT, Ended, NotStarted, Program, default_program, encoded, line_of
 from .reasons import Reasons
 from .refusals import BadRecord, Refused, Stale, refusal, stale
-from .rows import Change, Fault, Rows, Sheet, in_order, listed, shape_fault, values
+from .rows import Change, Fault, Rows, Sheet, by_key, in_order, key_of, listed, shape_fault, values
 from .store_files import make_private, why_closed
 from .texts import listing, sides
 
@@ -38,8 +38,14 @@ class View:
             self.server.kinds[self.name] = self.server.in_order(self.name, self.type()["columns"])
         return dict(self.server.kinds[self.name])
 
+    def key(self) -> list:
+        """The columns that determine all others, in the order of the definition. (They never change, so they are asked once.)"""
+        if self.name not in self.server.keys:
+            self.server.keys[self.name] = key_of(list(self.columns()), self.type()["dependencies"])
+        return self.server.keys[self.name]
+
     def read(self):
-        """The rows."""
+        """The rows, in the order of the key."""
         return self.rows_of(self.ask("read"))
 
     def find(self, column, value):
@@ -49,7 +55,8 @@ class View:
 
     def rows_of(self, reply):
         columns = self.columns()
-        return Rows([in_order(row, columns) for row in reply["rows"]], columns, reply["version"], self.server.session)
+        rows = by_key([in_order(row, columns) for row in reply["rows"]], self.key(), columns)
+        return Rows(rows, columns, reply["version"], self.server.session)
 
     def current(self):
         """The rows as `read` gives them, but read anew only where a table under them was changed since."""
@@ -198,7 +205,7 @@ class Server:
         words += ["--max-input", str(MOST_INPUT)]
         # By `=`, since a store may have the name of an option.
         words += [] if store is None else [f"--store={os.fspath(store)}"]
-        self.session, self.kinds, self.kept = uuid.uuid4().hex, {}, {}
+        self.session, self.kinds, self.keys, self.kept = uuid.uuid4().hex, {}, {}, {}
         made = store is not None and make_private(store)
         try:
             self.start(words, store)

@@ -324,9 +324,9 @@ class Nulls(InMemory):
         people = self.people()
         self.assertEqual(people.columns(), {"name": "text", "boss": "text null", "age": "int null", "paid": "bool null"})
         self.assertEqual([tuple(row.values()) for row in people.read()], [
-            ("ann", None, None, None), ("cy", "null", 0, False), ("di", '"null"', 7, None), ("bob", "ann", 2**63 - 1, True)])
+            ("ann", None, None, None), ("bob", "ann", 2**63 - 1, True), ("cy", "null", 0, False), ("di", '"null"', 7, None)])
         self.assertEqual(str(people.read()).splitlines()[2:], [
-            "ann   null                     null  null", 'cy    "null"                      0  false', 'di    ""null""                    7  null', "bob   ann       9223372036854775807  true"])
+            "ann   null                     null  null", "bob   ann       9223372036854775807  true", 'cy    "null"                      0  false', 'di    ""null""                    7  null'])
         self.assertIn("<td>ann</td><td>null</td><td>null</td>", people.read()._repr_html_())
         change = people.edit([person("ann")], [person("ann", age=5)])
         self.assertEqual(str(change), '- people: name "ann", boss null, age null, paid null\n+ people: name "ann", boss null, age 5, paid null')

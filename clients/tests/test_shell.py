@@ -118,7 +118,7 @@ class Shell(Room):
             self.assertEqual((file.read(), os.path.exists(f"{path}2")), ("name,quantity\nan axe,7\n", False))
 
     def test_nulls(self):
-        path = self.file("people.csv", 'name,boss,age\r\nann,null,null\r\ncy,"""""null""""",0\r\nbob,"""null""",7\r\n')
+        path = self.file("people.csv", 'name,boss,age\r\nann,null,null\r\nbob,"""null""",7\r\ncy,"""""null""""",0\r\n')
         lines = [
             ("table people (name text, boss text null, age int null) with name -> boss age", ""), (f"load people {path}", '+ people: name "cy", boss "\\"null\\"", age 0'),
             ("read people where boss=null", "ann   null  null"), ("read people where boss='\"null\"'", 'bob   "null"    7'), ("add people name=di boss=null age=x", "age wants a whole number of 64 bits or null"),
@@ -173,7 +173,7 @@ class Rebuild(Room):
         self.assertEqual((done.returncode, done.stdout), (0, "people: 2 rows of 2\n"), done.stderr)
         with Server(new) as server:
             rest = {"age": None, "flag": None, "town": "null"}
-            self.assertEqual(list(server["people"].read()), [{"name": "bob", "boss": "ann", **rest}, {"name": "ann", "boss": "null", **rest}])
+            self.assertEqual(list(server["people"].read()), [{"name": "ann", "boss": "null", **rest}, {"name": "bob", "boss": "ann", **rest}])
         plain = self.file("plain", "table people (name text, age int, town text)\n")
         for more, told in (((), "row 0 of 'add': 'age' is no column, or null is not of its kind"), (("people.age=null",), "people.age=null"), (("people.age=3", "people.town=null"), "")):
             done = run("rebuild", new, newer, plain, *more)
