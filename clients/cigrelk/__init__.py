@@ -35,4 +35,5 @@ from .refusals import (
 )
 from .rows import Change, Fault, Rows, Sheet, key_of, values
 from .server import Server, View
+from .store_files import InUse, NotStore, private_copy
 from .texts import cell, counted, listing, plain, short, sides, table, words_of

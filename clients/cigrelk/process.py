@@ -19,7 +19,7 @@ MOST_READ = 1 << 16
 
 class Ended(Exception):
     """The program ended with `status`. A request under way got no reply; it may have been done or not. `damage` has what is wrong
-    with a store that is damaged."""
+    with a store that is damaged. `cause` is the sentence for people, where more is known than the status tells."""
 
     causes = {
         2: "the words of the command line are refused",
@@ -33,10 +33,12 @@ class Ended(Exception):
 
     def __init__(self, status, damage=None, cause=None):
         self.status, self.damage = status, damage
+        if cause:
+            super().__init__(cause)
+            return
         unknown = "it was stopped" if status < 0 else "it was closed" if status == 0 else "the cause is not known"
-        cause = cause or self.causes.get(status, unknown)
         told = "" if damage is None else f": {damage_text(damage)}"
-        super().__init__(f"the program ended with status {status}: {cause}{told}")
+        super().__init__(f"the program ended with status {status}: {self.causes.get(status, unknown)}{told}")
 
 
 class NotStarted(Ended):

@@ -12,7 +12,7 @@ from .process import MOST_INPUT, Ended, NotStarted, Program, default_program, en
 from .reasons import Reasons
 from .refusals import BadRecord, Refused, Stale, refusal, stale
 from .rows import Change, Fault, Rows, Sheet, by_key, in_order, key_of, listed, shape_fault, values
-from .store_files import make_private, why_closed
+from .store_files import make_private, refuse_other_files, why_closed
 from .texts import listing, sides
 
 # How many requests of a series may be under way, and the length of a reply from which on they become fewer.
@@ -197,8 +197,9 @@ class View:
 class Server:
     """The program, started over a store or in memory. Use it in a `with`, or call `close`. Any thread may use it.
 
-    A store that is not there is made, for its owner alone. Raises NotStarted where there is no program, and Ended where the store
-    cannot be opened (status 6) or is damaged (7)."""
+    A store that is not there is made, for its owner alone. Raises NotStarted if there is no program, NotStore if the
+    file is another one than a store (the program never sees it then), and Ended if the store cannot be opened (status 6) or is
+    damaged (7)."""
 
     def __init__(self, store=None, program=None):
         words = [program] if isinstance(program, str) else list(program or [default_program()])
@@ -206,7 +207,10 @@ class Server:
         # By `=`, since a store may have the name of an option.
         words += [] if store is None else [f"--store={os.fspath(store)}"]
         self.session, self.kinds, self.keys, self.kept = uuid.uuid4().hex, {}, {}, {}
-        made = store is not None and make_private(store)
+        made = False
+        if store is not None:
+            refuse_other_files(store)
+            made = make_private(store)
         try:
             self.start(words, store)
         except Ended:

@@ -131,7 +131,7 @@ class Shell(Room):
             self.assertEqual(one.read(), other.read())
 
     def test_how_it_ends(self):
-        for store, told in (("/nowhere/shop.db", "its folder is not there"), (self.room, "it is a folder"), (self.file("text.db", "a text and no store"), "the file is no store")):
+        for store, told in (("/nowhere/shop.db", "its folder is not there"), (self.room, "it is a folder"), (self.file("text.db", "a text and no store"), "is no store: it is no database of SQLite")):
             done = run("shell", store)
             self.assertEqual((done.returncode, told in done.stderr, "Traceback" in done.stderr), (1, True, False), done.stderr)
 
