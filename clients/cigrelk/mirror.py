@@ -34,7 +34,7 @@ NEUTRAL = {"int": "0", "text": "''", "bool": "false"}
 
 
 def key_of(columns, edges):
-    """The left side of the first dependency by which all columns are decided, or None."""
+    """The left side of the first dependency by which all columns are determined, or None."""
     for edge in edges:
         found, before = set(edge["left"]), None
         while found != before:

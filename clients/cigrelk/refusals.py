@@ -112,11 +112,11 @@ class PredicateKind(Refused):
 
 
 class SourceMentionsOutput(Refused):
-    says = "what is selected from has a condition on '{col}', which another column decides, and on a column that is not decided with it: write both conditions in one selection"
+    says = "what is selected from has a condition on '{col}', which another column determines, and on a column that is not determined with it: write both conditions in one selection"
 
 
 class NoSuchDependency(Refused):
-    says = "the column '{col}' cannot be dropped: it is not decided by exactly the columns that were named, or it decides others"
+    says = "the column '{col}' cannot be dropped: it is not determined by exactly the columns that were named, or it determines others"
 
 
 class MixedConjunct(Refused):
@@ -128,11 +128,11 @@ class DefaultRefused(Refused):
 
 
 class NotDetermined(Refused):
-    says = "the shared columns of the join do not decide the column '{col}' of its right side"
+    says = "the shared columns of the join do not determine the column '{col}' of its right side"
 
 
 class SideMentionsOutput(Refused):
-    says = "the {side} side of the join has a condition on '{col}', which another column decides, and on a column that is not decided with it: the join could not be edited"
+    says = "the {side} side of the join has a condition on '{col}', which another column determines, and on a column that is not determined with it: the join could not be edited"
 
 
 class TableTwice(Refused):

@@ -43,7 +43,7 @@ def enumeration(numbers):
 
 def sides(edge):
     """A dependency in words."""
-    return f"{listing(edge['left'])} {'decides' if len(edge['left']) == 1 else 'decide'} {listing(edge['right'])}"
+    return f"{listing(edge['left'])} {'determines' if len(edge['left']) == 1 else 'determine'} {listing(edge['right'])}"
 
 
 def cell(value, kind):

@@ -272,7 +272,7 @@ class Answers(OverStore):
                                  [["Lullaby", "4", "Show", "3"], ["Disco", "2", "Wish", "5"]], do="preview")
         (tracks,) = reply["changed"]
         why = {(it["rows"][1] or it["rows"][0])[0] + " " + (it["rows"][1] or it["rows"][0])[3]: "; ".join(it["why"]) for it in tracks["lines"]}
-        self.assertIn("track decides", why["Lullaby Galore"])
+        self.assertIn("track determines", why["Lullaby Galore"])
         self.assertIn("hidden", why["Lullaby Galore"])
         self.assertIn("the join deletes", why["Lovesong Paris"])
         self.assertIn("default of the drop", why["Disco Wish"])
@@ -290,7 +290,7 @@ class Answers(OverStore):
         add = [["Low", "1", "Nowhere", "1"], ["New", "5", "Wish", "9"], ["Lullaby", "9", "Show", "3"]]
         found = self.editor.ask("faults", view="stock", remove=[], add=add)["faults"]
         self.assertEqual([(it["places"], it["short"]) for it in found],
-                         [([0], "not quantity > 2"), ([1], "album decides quantity"), ([2], "track decides rating")])
+                         [([0], "not quantity > 2"), ([1], "album determines quantity"), ([2], "track determines rating")])
         self.assertEqual(found[1]["others"], [["Trust", "4", "Wish", "5"]])
 
     def test_the_views_that_show_a_row_of_a_table(self):
@@ -402,7 +402,7 @@ class Page(OverStore):
         self.open("stock")
         self.put(1, 1, "4")
         self.settled()
-        for text in ("Saving changes this table", "tracks 2 rows", "Galore", "track decides"):
+        for text in ("Saving changes this table", "tracks 2 rows", "Galore", "track determines"):
             self.assertIn(text, self.below())
 
     def test_save_and_undo(self):
@@ -429,7 +429,7 @@ class Page(OverStore):
         self.open("stock")
         self.paste("Low\t1\tNowhere\t1\nNew\t5\tWish\t9\nLullaby\t9\tShow\t3\nbad\tx\tWish\t5\ngood\t1\tShow\t3\n")
         self.page.wait("state.faults.length === 4")
-        for text in ("Refused: 4 faults", "not quantity > 2", "album decides quantity", "track decides rating", "rating wants a whole number"):
+        for text in ("Refused: 4 faults", "not quantity > 2", "album determines quantity", "track determines rating", "rating wants a whole number"):
             self.assertIn(text, self.below())
         reasons = self.page.run("[...document.querySelectorAll('tr.bad')].map((row) => [row.cells[1].innerText, row.querySelector('.why').innerText])")
         self.assertIn(["bad", "rating wants a whole number of 64 bits"], reasons)
