@@ -1,14 +1,7 @@
 """Why a change changes what it changes."""
-import functools
-
 from .language import Drop, Join, path_to, shown_columns, tables_in
 from .rows import values
-from .texts import listing, short, sides, words_of
-
-
-def altering(before, after, edge):
-    """A dependency with the columns of its right side in which two rows differ."""
-    return {"left": edge["left"], "right": [name for name in edge["right"] if before[name] != after[name]]}
+from .texts import differing, listing, short, sides, words_of
 
 
 def gives(edge, sent, row):
@@ -81,7 +74,7 @@ class Reasons:
 
     def determining(self, before, after):
         """The dependencies by which a row takes other values."""
-        return listing(sides(edge) for edge in map(functools.partial(altering, before, after), self.edges) if edge["right"])
+        return listing(sides(edge) for edge in (differing(edge, [before, after]) for edge in self.edges) if edge["right"])
 
     def joins_above(self):
         """The joins over the table, each with the side that the table is under and the other one."""

@@ -4,7 +4,7 @@ import re
 
 from .csv_files import is_field, records_of
 from .kinds import MOST_TEXT, WANTED
-from .texts import listing, short, sides, words_of
+from .texts import differing, listing, short, sides, words_of
 
 # The number of the refusal that this client gives by itself; those of the program lie below.
 OTHER_TABLE = 110
@@ -158,12 +158,15 @@ class ColumnTaken(Refused):
 
 
 class BadRow(Refused):
+    lists = {"add": " of those to add", "remove": " of those to remove"}
+
     def text(self):
         which, index, name = (self.reply[member] for member in ("list", "index", "col"))
-        rows = (self.request or {}).get(which, [])[index : index + 1]
-        if rows and isinstance(rows[0], dict) and name in rows[0]:
-            return f"row {index} of '{which}': {value_fault(name, rows[0][name])}"
-        return f"row {index} of '{which}': the column '{name}' is missing"
+        rows = (self.request or {}).get(which, [])
+        place = "" if len(rows) == 1 else f"row {index + 1}{self.lists.get(which, '')}: "
+        if index < len(rows) and isinstance(rows[index], dict) and name in rows[index]:
+            return f"{place}{value_fault(name, rows[index][name])}"
+        return f"{place}the column '{name}' is missing"
 
 
 class Stale(Refused):
@@ -177,8 +180,9 @@ class OffPredicate(Refused):
 
 class Clash(Refused):
     def text(self):
-        one, other = map(words_of, self.reply["rows"])
-        return f"{sides(self.reply['edge'])}, and these rows differ in it: {one} / {other}"
+        edge = differing(self.reply["edge"], self.reply["rows"])
+        one, other = (words_of({name: row[name] for name in (*edge["left"], *edge["right"])}) for row in self.reply["rows"])
+        return f"{sides(edge)}, and these rows differ in it: {one} / {other}"
 
 
 class NothingToUndo(Refused):

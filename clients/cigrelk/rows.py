@@ -120,7 +120,8 @@ class Fault(NamedTuple):
     """One reason for which an edit is refused.
 
     `error` is 40 for what is no row of the columns, 42 for a row that the predicate refuses, and 43 for rows that break a
-    dependency together. `places` are places in the list of added rows, from 0. `others` are rows that the view has and keeps, and
+    dependency together. `places` are places in the list of added rows, from 0. `columns` are those by which it is one: the column
+    that is no value, those that the predicate compares, or those that differ. `others` are rows that the view has and keeps, and
     that break the dependency `edge` with them.
     """
 
@@ -130,6 +131,7 @@ class Fault(NamedTuple):
     column: str = None
     edge: dict = None
     others: list = ()
+    columns: list = ()
 
 
 def shape_fault(row, columns):

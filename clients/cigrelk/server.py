@@ -7,13 +7,13 @@ import weakref
 
 from .completion import Completer
 from .effects import refuse_others
-from .language import Named, UnknownForm, columns_of, condition_of, defined, expanded, path_to, shown_columns
+from .language import Named, UnknownForm, columns_compared, columns_of, condition_of, defined, expanded, path_to, shown_columns
 from .process import MOST_INPUT, Ended, NotStarted, Program, default_program, encoded, line_of
 from .reasons import Reasons
 from .refusals import BadRecord, Refused, Stale, refusal, stale
 from .rows import Change, Fault, Rows, Sheet, by_key, in_order, key_of, listed, shape_fault, values
 from .store_files import make_private, refuse_other_files, why_closed
-from .texts import listing, sides
+from .texts import differing, listing, sides
 
 # How many requests of a series may be under way, and the length of a reply from which on they become fewer.
 MOST_UNDER_WAY, LONG_REPLY = 256, 1 << 16
@@ -140,7 +140,7 @@ class View:
         remove, add = listed(remove), listed(add)
         said, columns = self.type(), self.columns()
         bad = {place: shape_fault(row, columns) for place, row in enumerate(add)}
-        found = [Fault(40, [place], text, column) for place, (column, text) in bad.items() if text]
+        found = [Fault(40, [place], text, column, columns=[column] if column else []) for place, (column, text) in bad.items() if text]
         whole = [place for place in bad if not bad[place][1]]
         found += self.off_predicate(add, whole, said)
         for edge in said["dependencies"]:
@@ -156,15 +156,17 @@ class View:
         found = []
         for place, (request, reply) in zip(places, self.server.exchange(previews)):
             if reply.get("error") == 42:
-                failed = [f"not {text}" for text, condition in conditions if condition and not condition.holds(add[place])]
-                found.append(Fault(42, [place], listing(failed) or "the predicate refuses it"))
+                failed = [(text, condition) for text, condition in conditions if condition and not condition.holds(add[place])]
+                compared = {name for _, condition in failed for name in columns_compared(condition)}
+                text = listing(f"not {text}" for text, _ in failed) or "the predicate refuses it"
+                found.append(Fault(42, [place], text, columns=[name for name in self.columns() if name in compared]))
             elif reply.get("error") not in (None, 43):
                 raise refusal(reply, request)
         return found
 
     def clashes(self, remove, add, places, edge):
         """The faults of one dependency: rows that agree on its left side, and do not all agree on its right side."""
-        left, right = edge["left"], edge["right"]
+        left = edge["left"]
         groups = collections.defaultdict(list)
         for place in places:
             groups[values(add[place], left)].append(place)
@@ -176,8 +178,9 @@ class View:
                 stays[values(row, left)].append(row)
         found = []
         for key, group in groups.items():
-            if len({values(row, right) for row in [*(add[place] for place in group), *stays[key]]}) > 1:
-                found.append(Fault(43, group, f"{sides(edge)}, and these rows differ in it", None, edge, stays[key]))
+            apart = differing(edge, [*(add[place] for place in group), *stays[key]])
+            if apart["right"]:
+                found.append(Fault(43, group, f"{sides(apart)}, and these rows differ in it", None, edge, stays[key], apart["right"]))
         return found
 
     def why(self, remove=(), add=(), change=None, most=None):

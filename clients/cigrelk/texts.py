@@ -46,6 +46,11 @@ def sides(edge):
     return f"{listing(edge['left'])} {'determines' if len(edge['left']) == 1 else 'determine'} {listing(edge['right'])}"
 
 
+def differing(edge, rows):
+    """A dependency with those columns of its right side in which some of the rows differ."""
+    return {"left": edge["left"], "right": [name for name in edge["right"] if any(row[name] != rows[0][name] for row in rows[1:])]}
+
+
 def cell(value, kind):
     """A value as it stands in a cell: a text as it is, and any other as JSON. In a column that may be null the text null stands in
     quotes."""

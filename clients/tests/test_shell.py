@@ -175,7 +175,7 @@ class Rebuild(Room):
             rest = {"age": None, "flag": None, "town": "null"}
             self.assertEqual(list(server["people"].read()), [{"name": "ann", "boss": "null", **rest}, {"name": "bob", "boss": "ann", **rest}])
         plain = self.file("plain", "table people (name text, age int, town text)\n")
-        for more, told in (((), "row 0 of 'add': 'age' is no column, or null is not of its kind"), (("people.age=null",), "people.age=null"), (("people.age=3", "people.town=null"), "")):
+        for more, told in (((), "row 1 of those to add: 'age' is no column, or null is not of its kind"), (("people.age=null",), "people.age=null"), (("people.age=3", "people.town=null"), "")):
             done = run("rebuild", new, newer, plain, *more)
             self.assertEqual((done.returncode, told in done.stderr), (int(bool(told)), True), done.stderr)
         with Server(newer) as server:
