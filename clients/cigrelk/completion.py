@@ -2,7 +2,7 @@
 from typing import NamedTuple
 
 from .refusals import refusal
-from .rows import in_order
+from .rows import in_order, values
 from .sources import sources_of
 
 
@@ -30,10 +30,12 @@ class Step(NamedTuple):
 
 
 class Completer:
-    """Completes rows of one view."""
+    """Completes rows of one view, over the rows of now and some that are not sent yet."""
 
-    def __init__(self, view):
-        self.server, self.columns = view.server, view.columns()
+    def __init__(self, view, among=()):
+        self.server, self.columns, self.among = view.server, view.columns(), among
+        # Rows that were looked up, by a dependency and its left side.
+        self.known, self.ahead = {}, {}
         self.dependencies = view.type()["dependencies"]
         key = set(view.key())
         self.steps = in_turn([
@@ -42,7 +44,7 @@ class Completer:
             for source in sources_of(view) for edge in source.dependencies
         ])
 
-    def complete(self, row, typed, among=()) -> Completion:
+    def complete(self, row, typed) -> Completion:
         """See View.complete."""
         for name in (*row, *typed):
             if name not in self.columns:
@@ -52,12 +54,12 @@ class Completer:
             if moved.isdisjoint(step.left):
                 continue
             wanted = [name for name in step.right if name not in typed]
-            source = self.row_with(step, found, among)
+            source = self.row_with(step, found)
             if source:
                 found.update({name: source[name] for name in wanted})
                 moved.update(wanted)
             elif step.repoints:
-                went = self.came_along(step, row, wanted, among)
+                went = self.came_along(step, row, wanted)
                 for name in went:
                     del found[name]
                 moved.update(went)
@@ -65,23 +67,34 @@ class Completer:
         follow = {name for edge in self.dependencies if not set(edge["left"]).isdisjoint(missing) for name in edge["right"]}
         return Completion(in_order(found, [name for name in self.columns if name in found]), missing, [it for it in missing if it not in follow])
 
-    def row_with(self, step, row, among):
+    def row_with(self, step, row):
         """The right side of a dependency, of a row that has the left side of this one; None where there is no such row."""
         if not row.keys() >= set(step.left):
             return None
-        key = {name: row[name] for name in step.left}
-        for other in among:
-            if other.keys() >= {*step.left, *step.right} and all(other[name] == value for name, value in key.items()):
-                return other
-        first = step.left[0]
-        for other in self.server[step.table].find(step.columns[first], key[first]):
-            if all(other[step.columns[name]] == value for name, value in key.items()):
-                return {name: other[step.columns[name]] for name in step.right}
+        known, key = self.known.setdefault((step.table, *step.left), {}), values(row, step.left)
+        if key not in known:
+            known[key] = self.unsent(step).get(key) or self.stored(step, row)
+        return known[key]
+
+    def unsent(self, step):
+        """The right sides in the rows that are not sent yet, by the left sides."""
+        sides = *step.left, *step.right
+        if sides not in self.ahead:
+            self.ahead[sides] = {values(row, step.left): row for row in self.among if row.keys() >= set(sides)}
+        return self.ahead[sides]
+
+    def stored(self, step, row):
+        """The right side in the table."""
+        wanted = {step.columns[name]: row[name] for name in step.left}
+        first = step.columns[step.left[0]]
+        for found in self.server[step.table].find(first, wanted[first]):
+            if all(found[column] == value for column, value in wanted.items()):
+                return {name: found[step.columns[name]] for name in step.right}
         return None
 
-    def came_along(self, step, row, names, among):
+    def came_along(self, step, row, names):
         """Those of some columns that a row has by its old key, and not since somebody typed them."""
-        old = self.row_with(step, row, among)
+        old = self.row_with(step, row)
         return [name for name in names if old and name in row and row[name] == old[name]]
 
 

@@ -6,9 +6,6 @@ from .csv_files import is_field, records_of
 from .kinds import MOST_TEXT, WANTED
 from .texts import differing, listing, short, sides, words_of
 
-# The number of the refusal that this client gives by itself; those of the program lie below.
-OTHER_TABLE = 110
-
 
 class Refused(Exception):
     """The program refused a request, and nothing was changed. `error` is the number of the refusal, `reply` the whole reply, and
@@ -223,9 +220,12 @@ class OtherTable(Refused):
     """An edit that is limited to some tables would change another; the client refuses it by itself, before it is made. `tables`
     names those others, and `effects` says row by row what would happen to them."""
 
+    # The numbers of the program lie below.
+    error = 110
+
     def __init__(self, tables, effects, only):
         self.tables, self.effects, self.only = list(tables), list(effects), sorted(only)
-        super().__init__({"ok": False, "error": OTHER_TABLE})
+        super().__init__({"ok": False, "error": self.error})
 
     def text(self):
         more = f", and {len(self.effects) - 1:,} more rows" if len(self.effects) > 2 else ", and one more row" if len(self.effects) == 2 else ""

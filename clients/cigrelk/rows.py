@@ -122,7 +122,7 @@ class Fault(NamedTuple):
     `error` is 40 for what is no row of the columns, 42 for a row that the predicate refuses, and 43 for rows that break a
     dependency together. `places` are places in the list of added rows, from 0. `columns` are those by which it is one: the column
     that is no value, those that the predicate compares, or those that differ. `others` are rows that the view has and keeps, and
-    that break the dependency `edge` with them.
+    that break the dependency `edge` with them. `condition` is the part of the predicate that refuses a row.
     """
 
     error: int
@@ -132,6 +132,7 @@ class Fault(NamedTuple):
     edge: dict = None
     others: list = ()
     columns: list = ()
+    condition: str = None
 
 
 def shape_fault(row, columns):

@@ -13,7 +13,7 @@ from .reasons import Reasons
 from .refusals import BadRecord, Refused, Stale, refusal, stale
 from .rows import Change, Fault, Rows, Sheet, by_key, in_order, key_of, listed, shape_fault, values
 from .store_files import make_private, refuse_other_files, why_closed
-from .texts import differing, listing, sides
+from .texts import differing, listing, sides, words_of
 
 # How many requests of a series may be under way, and the length of a reply from which on they become fewer.
 MOST_UNDER_WAY, LONG_REPLY = 256, 1 << 16
@@ -105,7 +105,7 @@ class View:
         of the rows `among`, which are not sent yet, and then of the table under this view; so on to the end of a chain of keys.
         Where no row has a key, typed values stay, those that came with the old key go, and what is missing is told. Raises
         UnknownColumn, and KindClash where a key is no value of its column."""
-        return Completer(self).complete(row, typed, among)
+        return Completer(self, among).complete(row, typed)
 
     def export_csv(self):
         """The rows as CSV: a text whose first record has the names of the columns. Raises NullableColumn where a column may be
@@ -157,12 +157,17 @@ class View:
         for place, (request, reply) in zip(places, self.server.exchange(previews)):
             if reply.get("error") == 42:
                 failed = [(text, condition) for text, condition in conditions if condition and not condition.holds(add[place])]
-                compared = {name for _, condition in failed for name in columns_compared(condition)}
-                text = listing(f"not {text}" for text, _ in failed) or "the predicate refuses it"
-                found.append(Fault(42, [place], text, columns=[name for name in self.columns() if name in compared]))
+                found.append(self.off(add[place], place, failed or conditions))
             elif reply.get("error") not in (None, 43):
                 raise refusal(reply, request)
         return found
+
+    def off(self, row, place, failed):
+        """The fault of a row for which these conditions do not hold."""
+        compared = set().union(*(columns_compared(condition) for _, condition in failed if condition))
+        columns, condition = [name for name in self.columns() if name in compared], listing(text for text, _ in failed)
+        text = f"{self.name} shows only rows where {condition}, and this one has {words_of(in_order(row, columns))}"
+        return Fault(42, [place], text, columns=columns, condition=condition)
 
     def clashes(self, remove, add, places, edge):
         """The faults of one dependency: rows that agree on its left side, and do not all agree on its right side."""

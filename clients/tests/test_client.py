@@ -351,7 +351,8 @@ class Nulls(InMemory):
         top = self.server.define("view top = select from people where boss is null and (not age < 3 or paid = true)")
         self.assertEqual([(fault.error, fault.places, fault.text) for fault in top.faults(add=[
             person("x", "ann"), person("y", None, 2), {**person("z"), "name": None}, {**person("u"), "age": "x"}, person("v", None, None), person("ann", None, 9)])], [
-            (42, [0], "not boss is null"), (42, [1], "not not age < 3 or paid = true"), (40, [2], "name wants a text of at most 4,096 bytes without U+0000, and not null"),
+            (42, [0], 'top shows only rows where boss is null, and this one has boss "ann"'),
+            (42, [1], "top shows only rows where not age < 3 or paid = true, and this one has age 2, paid null"), (40, [2], "name wants a text of at most 4,096 bytes without U+0000, and not null"),
             (40, [3], 'age wants a whole number of 64 bits or null, and not "x"'), (43, [5], "name determines age, and these rows differ in it")])
 
     def test_predicates_as_the_program_has_them(self):
@@ -530,7 +531,7 @@ class Faults(InMemory):
         self.assertEqual(self.told(stock, [], [
             {**show, "rating": 4}, {**show, "quantity": 2}, {"track": "x"}, {**show, "rating": "3"}, stocked("New", 1, "Blue", 9), stocked("Old", 1, "Blue", 8), {**show, "price": 1}, 7,
         ]), [
-            (43, [0, 1], determines("track", "rating"), [show]), (43, [0, 1], determines("album", "quantity"), [show]), (42, [1], "not quantity > 2", []),
+            (43, [0, 1], determines("track", "rating"), [show]), (43, [0, 1], determines("album", "quantity"), [show]), (42, [1], "stock shows only rows where quantity > 2, and this one has quantity 2", []),
             (40, [2], "the column 'rating' is missing", []), (40, [3], 'rating wants a whole number of 64 bits, and not "3"', []), (43, [4, 5], determines("album", "quantity"), []),
             (40, [6], 'there is no column "price"', []), (40, [7], "7 is no row", []),
         ])

@@ -79,6 +79,8 @@ class Completion(InTheShop):
         self.server["tracks"].edit(add=[{"track": "Trust", "date": 1992, "rating": 4, "album": "Wish"}])
         found = self.server["tracks"].complete({}, {"track": "Trust"})
         self.assertEqual((found.row, found.asked), ({"track": "Trust", "date": 1992, "rating": 4}, ["album"]))
+        self.server.define("table steps (a int, b int, c int) with a -> b, b -> c").put([{"a": 5, "b": 5, "c": 6}])
+        self.assertEqual(self.server["steps"].complete({}, {"a": 5}).row, {"a": 5, "b": 5, "c": 6})
 
     def test_a_key_of_two_columns(self):
         self.server.define("table prices (sort text, size int, price int, note text) with sort size -> price note")

@@ -14,10 +14,11 @@ import webbrowser
 from ..errors import CommandError
 from ..server import Server
 from ..store_files import private_copy
-from .application import Application
+from .application import Application, all_rights
 from .web import WebServer, handler
 
 SUMMARY = "edits the tables and views of a store in the browser"
+READ_ONLY = "this editor was started with --read-only, so it changes nothing"
 
 
 def port_number(text):
@@ -34,6 +35,10 @@ def add_arguments(parser: argparse.ArgumentParser) -> None:
     parser.add_argument("--read-only", action="store_true", help="refuses every change, and serves a private copy: no byte of the store and of its folder changes")
 
 
+def read_alone(_):
+    return ("read",)
+
+
 def interrupt(*_):
     raise KeyboardInterrupt
 
@@ -41,7 +46,8 @@ def interrupt(*_):
 def serve(web: WebServer, options: argparse.Namespace) -> None:
     with contextlib.ExitStack() as room:
         store = room.enter_context(private_copy(options.store)) if options.read_only and options.store is not None else options.store
-        application = Application(lambda: Server(store), store is not None, options.read_only)
+        rights, denied = (read_alone, READ_ONLY) if options.read_only else (all_rights, "")
+        application = Application(lambda: Server(store), store is not None, rights, denied)
         room.callback(application.close)
         secret, port = secrets.token_urlsafe(16), web.server_address[1]
         web.RequestHandlerClass = handler(application, secret, port)
