@@ -38,6 +38,10 @@ class View:
             self.server.kinds[self.name] = self.server.in_order(self.name, self.type()["columns"])
         return dict(self.server.kinds[self.name])
 
+    def dependencies(self) -> list:
+        """The dependencies, each with the columns of its `left` and its `right` side in the order of the definition."""
+        return [{side: [name for name in self.columns() if name in edge[side]] for side in ("left", "right")} for edge in self.type()["dependencies"]]
+
     def key(self) -> list:
         """The columns that determine all others, in the order of the definition. (They never change, so they are asked once.)"""
         if self.name not in self.server.keys:
@@ -143,7 +147,7 @@ class View:
         found = [Fault(40, [place], text, column, columns=[column] if column else []) for place, (column, text) in bad.items() if text]
         whole = [place for place in bad if not bad[place][1]]
         found += self.off_predicate(add, whole, said)
-        for edge in said["dependencies"]:
+        for edge in self.dependencies():
             found += self.clashes(remove, add, whole, edge)
         return sorted(found, key=lambda fault: fault.places[0])
 

@@ -429,7 +429,7 @@ class Page(OverStore):
         self.open("stock")
         self.paste("Low\t1\tNowhere\t1\nNew\t5\tWish\t9\nLullaby\t9\tShow\t3\nbad\tx\tWish\t5\ngood\t1\tShow\t3\n")
         self.page.wait("state.faults.length === 4")
-        for text in ("Refused: 4 faults", "not quantity > 2", "album determines quantity", "track determines rating", "rating wants a whole number"):
+        for text in ("Refused: 4 faults", "stock shows only rows where quantity > 2, and this one has quantity 1", "album determines quantity", "track determines rating", "rating wants a whole number"):
             self.assertIn(text, self.below())
         reasons = self.page.run("[...document.querySelectorAll('tr.bad')].map((row) => [row.cells[1].innerText, row.querySelector('.why').innerText])")
         self.assertIn(["bad", "rating wants a whole number of 64 bits"], reasons)
@@ -499,13 +499,15 @@ class Page(OverStore):
             self.page.wait("!busy && !editedRows().length")
             self.assertEqual(self.page.run("state.rows.map((row) => row.old)"), self.editor.read("albums")["rows"])
 
-    def test_what_a_key_decides_is_filled_in(self):
+    def test_what_a_key_determines_is_filled_in(self):
         self.open("tracks")
         self.page.click("#add")
         self.page.wait("editing")
         self.page.type("Trust")
         self.page.key("Enter")
-        self.assertEqual(self.edited(), [["Trust", "1992", "4", ""]])
+        self.page.wait("document.querySelector('tr.asks')")
+        self.assertEqual(self.edited(), [["Trust", "1992", "4", None]])
+        self.assertIn("type album", self.below())
         self.page.click("#discard")
         self.page.wait("!editedRows().length")
         self.put(0, 2, "1")
