@@ -2,10 +2,8 @@
 import json
 import unicodedata
 
-from .kinds import SAYS_NULL, base, is_nullable
+from .kinds import MOST_SHOWN, SAYS_NULL, base, is_nullable
 
-# How many characters of a value stand in a message.
-MOST_SHOWN = 80
 
 
 def plain(text):
