@@ -78,6 +78,14 @@ def table(rows, columns):
     return "\n".join([printed[0], "  ".join("-" * places for places in widths), *printed[1:]])
 
 
+def marked_table(rows, marked):
+    """Rows of the same columns as lines of text, with the cells of some columns between stars."""
+    names = list(rows[0])
+    lines = [names] + [[f"*{short(row[name])}*" if name in marked else short(row[name]) for name in names] for row in rows]
+    widths = [max(map(width, column)) for column in zip(*lines)]
+    return "\n".join("    " + "  ".join(padded(text, places, "text") for text, places in zip(line, widths)).rstrip() for line in lines)
+
+
 def safe_json(value):
     """JSON in which what steers a terminal is escaped."""
     text = json.dumps(value, ensure_ascii=False)

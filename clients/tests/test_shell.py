@@ -90,7 +90,7 @@ class Shell(Room):
             (paths["other.csv"], "Add --columns 'number=quantity'"), (paths["short.csv"], "line 3: it has 1 cell,"), (paths["long.csv"], "line 2: it has 3 cells,"), (paths["word.csv"], "line 2: quantity wants"),
             (paths["empty.csv"], "it is empty"), (paths["open.csv"], "line 2 is no CSV"), (paths["bytes.csv"], "--encoding latin-1"), (paths["zero.csv"], "NUL" if sys.version_info < (3, 11) else "without U+0000"), ("/nowhere.csv", "/nowhere.csv: No such file"))]
         lines = loads + [
-            ('{"do":', "JSONDecodeError"), ('add goods name="open', "No closing quotation"), ("load goods", "the following arguments are required: file"), ("read goods where", "the word where and a condition"),
+            ('{"do":', "this is no JSON"), ('add goods name="open', "No closing quotation"), ("load goods", "the following arguments are required: file"), ("read goods where", "the word where and a condition"),
             ("read goods were name=a", "the word where and a condition"), ("delete goods", "so that a slip"), ("change goods name=a", "the word set is missing"), ("preview list", "add, change or delete"),
             ("add goods name=a quantity=x", "a whole number"), ("add goods name=a quantity=1.5", "a whole number"), ("add goods name=a quantity=99999999999999999999", "a whole number"),
             ("add goods name=a quantity=9999999999999999999", "a whole number of 64 bits"), ("add goods name=a number=1", "which has name, quantity"), ("shows goods2", "is no table"),
@@ -123,13 +123,13 @@ class Shell(Room):
 
     def test_batches_and_undo(self):
         table = ("table goods (name text, quantity int) with name -> quantity\nview big = select from goods where quantity > 2", "")
-        add = ("add goods name=axe quantity=7", "kept as edit 0\n")
+        add = ("add goods name=axe quantity=7", "kept as edit 1\n")
         self.assertEqual(self.in_turn([
-            table, ("batch", ""), add, ("change goods name=nothing set quantity=1", "kept as edit 1\n"), ("add big name=saw quantity=4", "kept as edit 2\n"), ("preview add big name=nail quantity=9", '+ goods: name "nail"'),
+            table, ("batch", ""), add, ("change goods name=nothing set quantity=1", "kept as edit 2\n"), ("add big name=saw quantity=4", "kept as edit 3\n"), ("preview add big name=nail quantity=9", '+ goods: name "nail"'),
             ("done", '+ goods: name "axe", quantity 7\n+ goods: name "saw", quantity 4\n'), ("goods", "(2 rows, version 3)\n"), ("batch", ""), add, ("drop", ""),
             ("undo", '- goods: name "axe", quantity 7\n- goods: name "saw", quantity 4\n'), ("goods", "(0 rows, version 4)\n")]), 0)
         for lines, told in (
-            ([("batch", ""), add, ("add big name=nail quantity=1", "kept as edit 1\n"), ("done", 'OffPredicate: edit 1, counted from 0, of big: the view does not show such a row: name "nail", quantity 1\n')], "(0 rows, version 2)"),
+            ([("batch", ""), add, ("add big name=nail quantity=1", "kept as edit 2\n"), ("done", 'OffPredicate: edit 2, of big: the view does not show such a row: name "nail", quantity 1\n')], "(0 rows, version 2)"),
             ([("batch", ""), add, ("add goods prize=9", "'prize=9' is no COLUMN=VALUE"), ("done", "a line of this batch was refused, so nothing of it is done\n")], "(0 rows, version 2)"),
             ([("done", "there is no batch"), ("batch", ""), ("batch", "a batch is under way"), ("drop", ""), ("drop", "there is no batch"), ("undo", "NothingToUndo")], "(0 rows, version 2)"),
             ([("batch", ""), add], "(0 rows, version 2)\nthe batch was not done\n"),
@@ -205,6 +205,9 @@ class Rebuild(Room):
             before = file.read()
         file = self.file("definitions", "# with a price\ntable stock (title text, quantity int, price int) with title -> quantity price\n\nview few = select from stock where quantity < 4\n")
         self.assertEqual(run("rebuild", f"{self.room}/olt.db", new, file).returncode, 1)
+        printed = run("rebuild", old)
+        self.assertEqual((printed.returncode, printed.stdout), (0, "table albums (album text, quantity int)\nview few = select from albums where quantity < 4\n"))
+        self.assertEqual(run("rebuild", old, new).returncode, 2)
         self.assertFalse(os.path.exists(f"{self.room}/olt.db"))
         words = (old, new, file, "stock=albums", "stock.title=.album")
         for more, told in (((), "new column price"), (("stock.price=x",), "stock.price=x"), (("stock.price=1", "stock.prize=1"), "stock.prize=1"),
