@@ -3,8 +3,6 @@ import base64
 import contextlib
 import hashlib
 import http.client
-import importlib.machinery
-import importlib.util
 import io
 import json
 import os
@@ -24,7 +22,9 @@ CLIENTS = os.path.dirname(HERE)
 sys.path[:0] = [CLIENTS, HERE]
 import browser
 from browser import ALT, CONTROL
-from cigrelk import Server
+from cigrelk import TOP, Server
+from cigrelk.command import main
+from packages import wants
 
 DEFINITIONS = [
     "table tracks (track text, date int, rating int, album text) with track -> date rating",
@@ -39,19 +39,11 @@ ROWS = {
 ODD_TEXTS = ["\x1b[31mred", "abc\u202edef", "one\ntwo\r\nthree", "\U0010ffff", "  two  ", "<b>bold</b>", "", "x" * 4096, "\u2028"]
 
 
-def load_editor():
-    """The program of the editor as a module, so that what ends it at once needs no process."""
-    spec = importlib.util.spec_from_loader("editor", importlib.machinery.SourceFileLoader("editor", f"{CLIENTS}/editor"))
-    module = importlib.util.module_from_spec(spec)
-    spec.loader.exec_module(module)
-    return module
-
-
 class Editor:
     """An editor over a store, or in memory."""
 
     def __init__(self, *words):
-        self.process = subprocess.Popen([f"{CLIENTS}/editor", "--quiet", *words], stdout=subprocess.PIPE, text=True)
+        self.process = subprocess.Popen([f"{TOP}/cigrelk", "edit", "--quiet", *words], stdout=subprocess.PIPE, text=True)
         self.address = self.process.stdout.readline().strip()
         self.host, self.path = urlsplit(self.address).netloc, urlsplit(self.address).path
 
@@ -193,14 +185,14 @@ class Starting(unittest.TestCase):
     def setUp(self):
         room = tempfile.TemporaryDirectory()
         self.addCleanup(room.cleanup)
-        self.room, self.program = room.name, load_editor()
+        self.room = room.name
         before = signal.getsignal(signal.SIGTERM)
         self.addCleanup(signal.signal, signal.SIGTERM, before)
 
     def told(self, *words):
         """The status and the message of an editor that ends at once."""
         with contextlib.redirect_stderr(io.StringIO()) as message, contextlib.redirect_stdout(io.StringIO()):
-            return self.program.main(["--quiet", *words]), message.getvalue()
+            return main(["edit", "--quiet", *words]), message.getvalue()
 
     def assert_told(self, words, status, text):
         found, message = self.told(*words)
@@ -213,7 +205,7 @@ class Starting(unittest.TestCase):
 
     def test_a_program_that_is_missing(self):
         with unittest.mock.patch.dict(os.environ, CIGRELK=f"{self.room}/nothing"):
-            self.assert_told([], 127, "cannot be started")
+            self.assert_told([], 1, "cannot be started")
 
     def test_a_port_that_is_taken(self):
         with socket.create_server(("127.0.0.1", 0)) as other:
@@ -223,22 +215,22 @@ class Starting(unittest.TestCase):
 
     def test_a_store_in_use(self):
         with Server(f"{self.room}/a.db"):
-            self.assert_told([f"{self.room}/a.db"], 6, "another program has it open")
+            self.assert_told([f"{self.room}/a.db"], 1, "another program has it open")
 
     def test_a_folder_that_is_missing(self):
-        self.assert_told([f"{self.room}/b/a.db"], 6, "its folder is not there")
+        self.assert_told([f"{self.room}/b/a.db"], 1, "its folder is not there")
 
     def test_a_file_that_is_no_store(self):
         with open(f"{self.room}/a.db", "w") as file:
             file.write("this is no store at all\n" * 50)
-        self.assert_told([f"{self.room}/a.db"], 6, "no store")
+        self.assert_told([f"{self.room}/a.db"], 1, "no store")
 
     def test_a_store_that_is_damaged(self):
         with Server(f"{self.room}/a.db") as server:
             server.define(DEFINITIONS[1])
         with contextlib.closing(sqlite3.connect(f"{self.room}/a.db")) as store, store:
             store.execute("DROP TABLE t_albums")
-        self.assert_told([f"{self.room}/a.db"], 7, "albums")
+        self.assert_told([f"{self.room}/a.db"], 1, "albums")
 
     def test_a_new_store_is_readable_by_its_owner_alone(self):
         editor = Editor(f"{self.room}/new.db")
@@ -280,7 +272,7 @@ class Answers(OverStore):
                                  [["Lullaby", "4", "Show", "3"], ["Disco", "2", "Wish", "5"]], do="preview")
         (tracks,) = reply["changed"]
         why = {(it["rows"][1] or it["rows"][0])[0] + " " + (it["rows"][1] or it["rows"][0])[3]: "; ".join(it["why"]) for it in tracks["lines"]}
-        self.assertIn("track decides", why["Lullaby Galore"])
+        self.assertIn("track determines", why["Lullaby Galore"])
         self.assertIn("hidden", why["Lullaby Galore"])
         self.assertIn("the join deletes", why["Lovesong Paris"])
         self.assertIn("default of the drop", why["Disco Wish"])
@@ -298,7 +290,7 @@ class Answers(OverStore):
         add = [["Low", "1", "Nowhere", "1"], ["New", "5", "Wish", "9"], ["Lullaby", "9", "Show", "3"]]
         found = self.editor.ask("faults", view="stock", remove=[], add=add)["faults"]
         self.assertEqual([(it["places"], it["short"]) for it in found],
-                         [([0], "not quantity > 2"), ([1], "album decides quantity"), ([2], "track decides rating")])
+                         [([0], "not quantity > 2"), ([1], "album determines quantity"), ([2], "track determines rating")])
         self.assertEqual(found[1]["others"], [["Trust", "4", "Wish", "5"]])
 
     def test_the_views_that_show_a_row_of_a_table(self):
@@ -360,7 +352,7 @@ class ReadOnly(unittest.TestCase):
         self.assertEqual(editor.ask("list")["definitions"], [])
 
 
-@unittest.skipUnless(browser.found(), "there is no Chromium")
+@wants("chromium")
 class Page(OverStore):
     """The page, as a person uses it."""
 
@@ -410,7 +402,7 @@ class Page(OverStore):
         self.open("stock")
         self.put(1, 1, "4")
         self.settled()
-        for text in ("Saving changes this table", "tracks 2 rows", "Galore", "track decides"):
+        for text in ("Saving changes this table", "tracks 2 rows", "Galore", "track determines"):
             self.assertIn(text, self.below())
 
     def test_save_and_undo(self):
@@ -437,7 +429,7 @@ class Page(OverStore):
         self.open("stock")
         self.paste("Low\t1\tNowhere\t1\nNew\t5\tWish\t9\nLullaby\t9\tShow\t3\nbad\tx\tWish\t5\ngood\t1\tShow\t3\n")
         self.page.wait("state.faults.length === 4")
-        for text in ("Refused: 4 faults", "not quantity > 2", "album decides quantity", "track decides rating", "rating wants a whole number"):
+        for text in ("Refused: 4 faults", "stock shows only rows where quantity > 2, and this one has quantity 1", "album determines quantity", "track determines rating", "rating wants a whole number"):
             self.assertIn(text, self.below())
         reasons = self.page.run("[...document.querySelectorAll('tr.bad')].map((row) => [row.cells[1].innerText, row.querySelector('.why').innerText])")
         self.assertIn(["bad", "rating wants a whole number of 64 bits"], reasons)
@@ -507,13 +499,15 @@ class Page(OverStore):
             self.page.wait("!busy && !editedRows().length")
             self.assertEqual(self.page.run("state.rows.map((row) => row.old)"), self.editor.read("albums")["rows"])
 
-    def test_what_a_key_decides_is_filled_in(self):
+    def test_what_a_key_determines_is_filled_in(self):
         self.open("tracks")
         self.page.click("#add")
         self.page.wait("editing")
         self.page.type("Trust")
         self.page.key("Enter")
-        self.assertEqual(self.edited(), [["Trust", "1992", "4", ""]])
+        self.page.wait("document.querySelector('tr.asks')")
+        self.assertEqual(self.edited(), [["Trust", "1992", "4", None]])
+        self.assertIn("type album", self.below())
         self.page.click("#discard")
         self.page.wait("!editedRows().length")
         self.put(0, 2, "1")

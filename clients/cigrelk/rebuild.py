@@ -1,7 +1,6 @@
-#!/usr/bin/env python3
 """Makes a new store with other definitions, and gives it the rows of an old one. The old one stays as it is.
 
-Usage: clients/rebuild OLD NEW DEFINITIONS [TABLE=OLD_TABLE] [TABLE.COLUMN=.OLD_COLUMN] [TABLE.COLUMN=VALUE] ..
+`cigrelk rebuild OLD > definitions` writes the definitions of OLD, a line each, to be edited.
 
 DEFINITIONS is a file with a table or a view a line; a line that begins with # is passed over. A table there that OLD has too
 gets its rows. A column that is gone is dropped, and one that is new takes the VALUE that is given, as 7, true, axe or "an axe",
@@ -11,54 +10,31 @@ Where OLD's table has another name, write TABLE=OLD_TABLE, and where a column ha
 NEW is for its owner alone. It gets its name once it is whole. OLD is copied and the copy is read, since the program that opens a
 store may write to it; it may not be open elsewhere.
 """
-import fcntl
-import json
+import argparse
 import os
 import re
-import shutil
-import sys
 import tempfile
 
-sys.path.insert(0, os.path.dirname(os.path.realpath(__file__)))
-from cigrelk import Ended, Refused, Server, base, defined, fits, is_nullable, plain
+from .errors import CommandError
+from .kinds import is_nullable, value_of
+from .language import defined
+from .server import Server
+from .store_files import copy_store, private_copy
 
+SUMMARY = "makes a new store with other definitions and the rows of an old one"
 # How many rows one request adds at most.
 MOST_ROWS = 10_000
-# The bytes of a database of SQLite that a reader locks, as their number and the first of them.
-LOCKED_BYTES = (510, 0x40000002)
-
-
-class Wrong(Exception):
-    """Words or definitions that cannot be taken."""
-
-
-def main(words):
-    if len(words) < 3 or any("=" not in word for word in words[3:]):
-        print(__doc__.strip())
-        return 0 if words == ["--help"] else 2
-    old, new, definitions = words[:3]
-    try:
-        rebuild(old, new, definitions, dict(word.split("=", 1) for word in words[3:]))
-    except (Refused, Ended, Wrong, OSError, ValueError) as error:
-        print(f"clients/rebuild: {plain(str(error))}", file=sys.stderr)
-        return 1
-    except KeyboardInterrupt:
-        return 130
-    return 0
 
 
 def rebuild(old, new, definitions, given):
-    """Makes the new store. Raises Wrong, Refused, Ended or OSError, and leaves no new store then."""
-    if not os.path.isfile(old):
-        # The program would make it.
-        raise Wrong(f"there is no store {old}")
+    """Makes the new store. Raises CommandError, Refused, Ended or OSError, and leaves no new store then."""
     if os.path.lexists(new):
-        raise Wrong(f"{new} is there already")
+        raise CommandError(f"{new} is there already")
     with open(definitions, encoding="utf-8") as file:
         texts = [line.strip() for line in file if line.strip() and not line.startswith("#")]
     for text in texts:
         if not re.match(r"(table|view)[ \t]+[a-z_]", text):
-            raise Wrong(f"a definition begins with 'table' or 'view', and this does not: {text[:80]}")
+            raise CommandError(f"a definition begins with 'table' or 'view', and this does not: {text[:80]}")
     # Beside the new store, so that the last step is a change of name. The folder is for its owner alone.
     with tempfile.TemporaryDirectory(prefix=".rebuild-", dir=os.path.dirname(os.path.abspath(new))) as room:
         copy, made = f"{room}/old.db", f"{room}/new.db"
@@ -70,18 +46,6 @@ def rebuild(old, new, definitions, given):
     print(*told, sep="\n")
 
 
-def copy_store(old, copy):
-    """Copies a store with its log. Raises Wrong where another program has it open."""
-    with open(old, "rb") as file:
-        try:
-            fcntl.lockf(file, fcntl.LOCK_SH | fcntl.LOCK_NB, *LOCKED_BYTES)
-        except OSError:
-            raise Wrong(f"the store {old} is open in another program, which has to end first") from None
-        for tail in ("", "-wal"):
-            if os.path.exists(old + tail):
-                shutil.copyfile(old + tail, copy + tail)
-
-
 def fill_all(source, target, texts, given):
     """Defines all, and fills the tables; gives a line for each table."""
     told, used = [], set()
@@ -91,7 +55,7 @@ def fill_all(source, target, texts, given):
             told += fill(source, view, given, used)
     unused = sorted(set(given) - used)
     if unused:
-        raise Wrong(f"{unused[0]}={given[unused[0]]}: the new store has no such table or column, or the old one has no rows for it")
+        raise CommandError(f"{unused[0]}={given[unused[0]]}: the new store has no such table or column, or the old one has no rows for it")
     return told
 
 
@@ -119,21 +83,43 @@ def source_of(table, column, kind, rows, given, used):
     if said is None and is_nullable(kind):
         return None, None
     if said is None:
-        raise Wrong(f"the table {table} has a new column {column}: give {place}=VALUE")
-    value = value_of(said, kind)
-    if not fits(value, kind):
-        raise Wrong(f"{place}={said}: the column is of the kind {kind}, and this is no value of it and no old column")
-    return None, value
-
-
-def value_of(text, kind):
-    """The value that is given for a column: a text may stand as it is, and all else is JSON, as null is."""
+        raise CommandError(f"the table {table} has a new column {column}: give {place}=VALUE")
     try:
-        value = json.loads(text)
-    except ValueError:
-        return text
-    return value if base(kind) != "text" or isinstance(value, str) or (value is None and is_nullable(kind)) else text
+        return None, value_of(said, column, kind)
+    except CommandError as error:
+        raise CommandError(f"{place}={said}: {error}") from None
 
 
-if __name__ == "__main__":
-    sys.exit(main(sys.argv[1:]))
+def print_definitions(old: str) -> None:
+    with private_copy(old) as copy, Server(copy) as server:
+        for text in server.list():
+            print(text)
+
+
+def assignment(text):
+    """A pair of the two sides of TARGET=SOURCE."""
+    target, equals, source = text.partition("=")
+    if not equals:
+        raise argparse.ArgumentTypeError(f"{text} has no =")
+    return target, source
+
+
+def add_arguments(parser: argparse.ArgumentParser) -> None:
+    parser.add_argument("old", metavar="OLD", help="the store that is there")
+    parser.add_argument("new", nargs="?", metavar="NEW", help="the store that is made; without it the definitions of OLD are printed")
+    parser.add_argument("definitions", nargs="?", metavar="DEFINITIONS", help="a file with a table or a view a line")
+    parser.set_defaults(wrong_usage=parser.error)
+    parser.add_argument("given", nargs="*", type=assignment, metavar="TARGET=SOURCE", help="where rows and values come from: TABLE=OLD_TABLE, TABLE.COLUMN=.OLD_COLUMN or TABLE.COLUMN=VALUE")
+
+
+def run(options: argparse.Namespace) -> int:
+    if options.new is None:
+        print_definitions(options.old)
+        return 0
+    if options.definitions is None:
+        options.wrong_usage("a file with the definitions of the new store is wanted behind its name")
+    try:
+        rebuild(options.old, options.new, options.definitions, dict(options.given))
+    except UnicodeDecodeError as error:
+        raise CommandError(f"{options.definitions} is no text in UTF-8: {error}") from None
+    return 0

@@ -1,0 +1,1 @@
+"""The editor: tables and views in the browser."""
