@@ -843,6 +843,42 @@ class Shop(OnPage):
         self.assertIn("products and people are joined by id, which both have", self.below())
         self.assertIn("(rename id to people_id from people)", self.below())
 
+    def drop(self, name, data):
+        """Drops a file on the page."""
+        script = """(() => {
+            const data = new DataTransfer();
+            data.items.add(new File([new Uint8Array(%s)], %s));
+            document.dispatchEvent(new DragEvent('drop', { dataTransfer: data, cancelable: true }));
+        })()"""
+        self.page.run(script % (json.dumps(list(data)), json.dumps(name)))
+
+    def test_a_file_is_imported_and_exported(self):
+        self.open("lines")
+        text = self.editor.ask("export_csv", view="lines")["csv"]
+        self.assertEqual(text.splitlines()[:3], ["line_id,order_id,product_id,note", "1,100,1,null", "2,100,2,as a gift"])
+        # A file of a German Excel, with another name, empty fields that may be null, a changed row, a new one, and one that is missing.
+        sheet = "Line ID;order_id;product_id;note\r\n1;100;1;\r\n2;100;2;für Ada\r\n3;101;2;\r\n4;101;4;\r\n5;102;1;\r\n7;101;1;red\r\n"
+        self.drop("lines.csv", sheet.encode("latin-1"))
+        self.page.wait("state.refusal?.choices")
+        self.assertIn("lines.csv is not imported yet: note is empty in 4 rows, and may be null", self.below())
+        self.page.click("#below button")
+        self.page.wait("state.said && state.preview")
+        self.assertEqual(self.edited(), [["2", "100", "2", "für Ada"], None, ["7", "101", "1", "red"]])
+        for told in ("lines.csv deletes 1 row, changes 1 row and adds 1 row.", "most likely in Latin-1", "Its columns stand between semicolons.", "'Line ID' is taken as line_id.", "Keep the 1 row that the file lacks"):
+            self.assertIn(told, self.below())
+        self.page.click("#below .notice button")
+        self.page.wait("state.preview")
+        self.save()
+        self.assertEqual(self.table("lines"), [["1", "100", "1", None], ["2", "100", "2", "für Ada"], *self.rows["lines"][2:], ["7", "101", "1", "red"]])
+
+    def test_a_file_that_cannot_be_imported(self):
+        for text, told in (("line_id,order_id\n1,2\n", "it lacks product_id and note"), ("line_id,order_id,product_id,note\n1,x,1,null\n", "line 2: order_id wants a whole number"),
+                           ("", "it is empty")):
+            reply = self.editor.ask("import_csv", view="lines", data=base64.b64encode(text.encode()).decode(), null=None)
+            self.assertFalse(reply["ok"])
+            self.assertIn(told, reply["text"])
+            self.assertNotIn("--", reply["text"])
+
     def test_what_a_person_may_not_do_is_not_shown(self):
         hidden = "['add', 'save', 'undo', 'discard', 'propose', 'defining', 'tables'].filter((id) => $(id).hidden)"
         given = "rights = %s, definitions.forEach((it) => { it.rights = %s; }), drawNames(), drawHead(), draw()"
