@@ -48,6 +48,19 @@ class Form(NamedTuple):
         return NULL if self.null is None else self.null
 
 
+class OtherForm(CommandError):
+    """A file is in another form than was said. `told` says what it is, without the arguments that would tell so; `form` is the form
+    that it is in, or None if only a person can say."""
+
+    def __init__(self, told: str, cure: str, form: Optional[Form] = None):
+        super().__init__(told + cure)
+        self.told, self.form = told, form
+
+
+class EmptyFields(OtherForm):
+    """A file has empty fields in columns that may be null, and it was not said whether they are."""
+
+
 class FileOfRows(NamedTuple):
     """The rows of a file of CSV with the lines at which they begin, and a pair of a line and a sentence for each line that is no row."""
 
@@ -81,7 +94,7 @@ def rows_of_text(text: str, view, form: Form = Form(), told: Callable[[int, int]
     except csv.Error as error:
         raise CommandError(f"line {lines.line_num} is no CSV: {error}") from None
     if empty and form.null is None:
-        raise CommandError(ambiguous(empty))
+        raise ambiguous(empty)
     told(len(text), len(text))
     return found
 
@@ -101,14 +114,14 @@ def add_line(found, begins, cells, names, kinds, form):
 def ambiguous(empty):
     """What is told of a file with empty fields that may be null or not."""
     told = listing(f"{name} is empty in {counted(number, 'row')}" for name, number in sorted(empty.items()))
-    return f"{told}, and may be null: add --null '' if an empty field is null, or --null null if only the word null is"
+    return EmptyFields(f"{told}, and may be null", ": add --null '' if an empty field is null, or --null null if only the word null is")
 
 
 def text_of(data: bytes, form: Form) -> str:
     """The text of a file. Raises CommandError, with the encoding that it most likely has."""
     is_utf8 = form.encoding.lower().replace("_", "-") in ("utf-8", "utf8")
     if is_utf8 and (data[:2] in (b"\xff\xfe", b"\xfe\xff") or b"\0" in data[:2]):
-        raise CommandError("the file is in UTF-16: add --encoding utf-16, or save it as UTF-8")
+        raise OtherForm("the file is in UTF-16", ": add --encoding utf-16, or save it as UTF-8", form._replace(encoding="utf-16"))
     try:
         return data.decode("utf-8-sig" if is_utf8 else form.encoding)
     except UnicodeDecodeError as error:
@@ -116,7 +129,8 @@ def text_of(data: bytes, form: Form) -> str:
         if not is_utf8:
             raise CommandError(f"line {line} is not in {form.encoding}: {error.reason}") from None
         likely, name = ("windows-1252", "Windows-1252") if re.search(rb"[\x80-\x9f]", data) else ("latin-1", "Latin-1")
-        raise CommandError(f"line {line} is not in UTF-8, and the file is most likely in {name}: add --encoding {likely}, or save it as UTF-8") from None
+        told = f"line {line} is not in UTF-8, and the file is most likely in {name}"
+        raise OtherForm(told, f": add --encoding {likely}, or save it as UTF-8", form._replace(encoding=likely)) from None
     except LookupError:
         raise CommandError(f"there is no encoding {form.encoding}; common ones are utf-8, utf-16, latin-1 and windows-1252") from None
 
@@ -133,13 +147,14 @@ def names_in(header, text, name, kinds, form):
         return names
     other = other_separator(header, text, form)
     if other:
-        raise CommandError(f"its columns stand between {SEPARATORS[other]}: add --separator '{other if other != chr(9) else 'tab'}'")
+        raise OtherForm(f"its columns stand between {SEPARATORS[other]}", f": add --separator '{other if other != chr(9) else 'tab'}'", form._replace(separator=other))
     if not header:
         raise CommandError(f"it is empty: the first line has to name the columns, {', '.join(kinds)}")
     twice = sorted({column for column in used if used.count(column) > 1})
     if twice:
         raise CommandError(f"its first line names the column {plain(twice[0])} twice")
-    raise CommandError(other_names([told for told, column in zip(header, names) if column and column not in kinds], [column for column in kinds if column not in names], name, kinds))
+    more, lacking = [told for told, column in zip(header, names) if column and column not in kinds], [column for column in kinds if column not in names]
+    raise other_names(more, lacking, name, kinds, form)
 
 
 def other_separator(header, text, form):
@@ -150,19 +165,19 @@ def other_separator(header, text, form):
     return best if counts[best] > max(1, len(header)) else None
 
 
-def other_names(more, lacking, name, kinds):
+def other_names(more, lacking, name, kinds, form):
     """What is told of a first line that has columns which the view has not, and lacks some that it has."""
     told = [f"its first line has {listing(map(repr, more))}, which {name} has not"] if more else []
     told += [f"it lacks {listing(lacking)}, which {name} has"] if lacking else []
-    cure = f"; {name} has {', '.join(kinds)}"
+    told, cure, sure = f"{'; '.join(told)}; {name} has {', '.join(kinds)}", "", {}
     if more:
         bare = {re.sub("[^a-z0-9]+", "_", column.lower()).strip("_"): column for column in more}
-        pairs = {bare[column]: column for column in lacking if column in bare}
+        pairs = sure = {bare[column]: column for column in lacking if column in bare}
         if len(more) == len(lacking) == 1:
             pairs = {more[0]: lacking[0]}
         mapped = " ".join(f"'{told}={pairs.get(told, 'COLUMN' if lacking else '')}'" for told in more)
-        cure += f". Add --columns {mapped}{'' if lacking else ' to leave them out'}"
-    return "; ".join(told) + cure
+        cure = f". Add --columns {mapped}{'' if lacking else ' to leave them out'}"
+    return OtherForm(told, cure, form._replace(columns={**form.columns, **sure}) if len(sure) == len(more) == len(lacking) else None)
 
 
 def write_rows(file, rows, kinds: Dict[str, str], form: Form = Form()) -> None:
