@@ -11,7 +11,7 @@ ghost use Rattle.lens_chain.specs.Edits.{IsEdit, edited, over};
 use crate::changes::Changes;
 use crate::nodes::{under_drop, under_join, under_rename, under_select};
 use lens_probe::View;
-use lens_types::Lens;
+use lens_types::Node;
 use lens_values::NoMemory;
 use signed_delta::{Delta, TableDelta};
 use std::alloc::Global;
@@ -52,37 +52,26 @@ fn carry_down<L: Ledger>(
         → looked.new ≤ looked.old + work view.now.lens (rows_of delta) w }
     ensures viewed { IsViewed view.now }
 {
-    match view.lens().lens() {
-        Lens::Base { table, .. } => changes.add(*table, delta),
-        Lens::Select { pred, of, .. } => {
+    match view.lens().node() {
+        Node::Base { table, .. } => changes.add(*table, delta),
+        Node::Select { pred, of } => {
             let source = view.over(of);
             let change = under_select(alloc, pred, &source, &delta, looked)?;
             carry_down(alloc, &source, change, changes, looked)
         }
-        Lens::Drop {
-            col,
-            by,
-            fill,
-            of,
-            ..
-        } => {
+        Node::Drop { col, by, fill, of } => {
             let source = view.over(of);
             let filled = under_drop(alloc, col, by, fill, &source, &delta, looked)?;
             carry_down(alloc, &source, filled, changes, looked)
         }
-        Lens::Rename { col, to, of, .. } => {
+        Node::Rename { col, to, of } => {
             let source = view.over(of);
             let renamed = under_rename(alloc, col, to, &source, &delta)?;
             carry_down(alloc, &source, renamed, changes, looked)
         }
-        Lens::Join {
-            kind,
-            left,
-            right,
-            ..
-        } => {
+        Node::Join { kind, left, right } => {
             let (left, right) = view.over_sides(left, right);
-            let (to_left, to_right) = under_join(alloc, *kind, &left, &right, &delta, looked)?;
+            let (to_left, to_right) = under_join(alloc, kind, &left, &right, &delta, looked)?;
             carry_down(alloc, &left, to_left, changes, looked)?;
             carry_down(alloc, &right, to_right, changes, looked)
         }

@@ -1,6 +1,5 @@
-use Rattle.std.proofs.Common.{◌≡◌, ◌∙◌, Some, ap, subst, sym}
+use Rattle.std.proofs.Common.{◌≡◌, ◌∙◌, ap, subst, sym}
 use Rattle.std.specs.Prelude.{OnOk}
-use Rattle.lens_types.specs.Lenses.{lens_view}
 use Rattle.lens_specs.specs.Lens.{base, select, drop, rename, join}
 use Rattle.lens_probe.specs.Viewed.{Viewed, both_sides, only_source}
 use Rattle.lens_chain.specs.Edits.{over}
@@ -12,51 +11,50 @@ use Rattle.lens_chain.proofs.putting.+carry_down.Goals as goal
 pub returns-in-Base-clause-changes : goal.returns-in-Base-clause-changes
 returns-in-Base-clause-changes g t c =
     let L = c.args.view.now.lens in
-    let is : base c.in-Base.table c.in-Base.sort ≡ L = sym (ap lens_view c.in-Base.is) ∙ c.lens-2.ensures.view ∙ c.lens.ensures.lens in
-    subst (λ m. OnOk c.add.result (c.add.new.self ≡ m)) (in_table L c.in-Base.table c.in-Base.sort c.args.delta (over c.args.view.now) c.args.changes.now is) c.add.ensures
+    let is : base c.in-Base.table.now c.in-Base.sort.now ≡ L = c.in-Base.ensures.is ∙ c.lens.ensures.lens in
+    subst (λ m. OnOk c.add.result (c.add.new.self ≡ m)) (in_table L c.in-Base.table.now c.in-Base.sort.now c.args.delta (over c.args.view.now) c.args.changes.now is) c.add.ensures
 
 -- the handed lens is a source of the view's
 pub over-source-requires : goal.over-source-requires
-over-source-requires g t c = ap only_source (sym (sym (ap lens_view c.in-Select.is) ∙ c.lens-2.ensures.view ∙ c.lens.ensures.lens)) ∙ ap Some (sym c.deref.ensures)
+over-source-requires g t c = ap only_source (sym (c.in-Select.ensures.is ∙ c.lens.ensures.lens))
 
 pub over-source-requires-in-Drop : goal.over-source-requires-in-Drop
-over-source-requires-in-Drop g t c = ap only_source (sym (sym (ap lens_view c.in-Drop.is) ∙ c.lens-2.ensures.view ∙ c.lens.ensures.lens)) ∙ ap Some (sym c.deref-in-Drop.ensures)
+over-source-requires-in-Drop g t c = ap only_source (sym (c.in-Drop.ensures.is ∙ c.lens.ensures.lens))
 
 pub over-source-requires-in-Rename : goal.over-source-requires-in-Rename
-over-source-requires-in-Rename g t c = ap only_source (sym (sym (ap lens_view c.in-Rename.is) ∙ c.lens-2.ensures.view ∙ c.lens.ensures.lens)) ∙ ap Some (sym c.deref-in-Rename.ensures)
+over-source-requires-in-Rename g t c = ap only_source (sym (c.in-Rename.ensures.is ∙ c.lens.ensures.lens))
 
 pub over_sides-left-requires : goal.over_sides-left-requires
 over_sides-left-requires g t c =
-    ap both_sides (sym (sym (ap lens_view c.in-Join.is) ∙ c.lens-2.ensures.view ∙ c.lens.ensures.lens))
-    ∙ (λ i. Some (sym c.deref-in-Join.ensures i, sym c.deref-in-Join-2.ensures i))
+    ap both_sides (sym (c.in-Join.ensures.is ∙ c.lens.ensures.lens))
 
 pub returns-in_ok-change-in-Select-clause-changes : goal.returns-in_ok-change-in-Select-clause-changes
 returns-in_ok-change-in-Select-clause-changes g t c =
     let v = c.args.view.now in
-    let is : select c.in-Select.pred c.in-Select.of.value ≡ v.lens = sym (ap lens_view c.in-Select.is) ∙ c.lens-2.ensures.view ∙ c.lens.ensures.lens in
-    let same = select_chain v c.in-Select.pred c.in-Select.of.value is c.over-source.result c.over-source.ensures c.args.delta c.in_ok-change-in-Select.change c.args.changes.now c.in_ok-change-in-Select.ensures.change in
+    let is : select c.in-Select.pred.now c.in-Select.of.now ≡ v.lens = c.in-Select.ensures.is ∙ c.lens.ensures.lens in
+    let same = select_chain v c.in-Select.pred.now c.in-Select.of.now is c.over-source.result c.over-source.ensures c.args.delta c.in_ok-change-in-Select.change c.args.changes.now c.in_ok-change-in-Select.ensures.change in
     subst (λ m. OnOk c.carry_down.result (c.carry_down.new.changes ≡ m)) same c.carry_down.ensures.changes
 
 pub returns-in_ok-filled-in-Drop-clause-changes : goal.returns-in_ok-filled-in-Drop-clause-changes
 returns-in_ok-filled-in-Drop-clause-changes g t c =
     let v = c.args.view.now in
-    let is : drop c.in-Drop.col c.in-Drop.by c.in-Drop.fill c.in-Drop.of.value ≡ v.lens = sym (ap lens_view c.in-Drop.is) ∙ c.lens-2.ensures.view ∙ c.lens.ensures.lens in
-    let same = drop_chain v c.in-Drop.col c.in-Drop.by c.in-Drop.fill c.in-Drop.of.value is c.over-source-in-Drop.result c.over-source-in-Drop.ensures c.args.delta c.in_ok-filled-in-Drop.filled c.args.changes.now c.in_ok-filled-in-Drop.ensures.change in
+    let is : drop c.in-Drop.col.now c.in-Drop.by.now c.in-Drop.fill.now c.in-Drop.of.now ≡ v.lens = c.in-Drop.ensures.is ∙ c.lens.ensures.lens in
+    let same = drop_chain v c.in-Drop.col.now c.in-Drop.by.now c.in-Drop.fill.now c.in-Drop.of.now is c.over-source-in-Drop.result c.over-source-in-Drop.ensures c.args.delta c.in_ok-filled-in-Drop.filled c.args.changes.now c.in_ok-filled-in-Drop.ensures.change in
     subst (λ m. OnOk c.carry_down-in-Drop.result (c.carry_down-in-Drop.new.changes ≡ m)) same c.carry_down-in-Drop.ensures.changes
 
 pub returns-in_ok-renamed-in-Rename-clause-changes : goal.returns-in_ok-renamed-in-Rename-clause-changes
 returns-in_ok-renamed-in-Rename-clause-changes g t c =
     let v = c.args.view.now in
-    let is : rename c.in-Rename.col c.in-Rename.to c.in-Rename.of.value ≡ v.lens = sym (ap lens_view c.in-Rename.is) ∙ c.lens-2.ensures.view ∙ c.lens.ensures.lens in
-    let same = rename_chain v c.in-Rename.col c.in-Rename.to c.in-Rename.of.value is c.over-source-in-Rename.result c.over-source-in-Rename.ensures c.args.delta c.in_ok-renamed-in-Rename.renamed c.args.changes.now c.in_ok-renamed-in-Rename.ensures.change in
+    let is : rename c.in-Rename.col.now c.in-Rename.to.now c.in-Rename.of.now ≡ v.lens = c.in-Rename.ensures.is ∙ c.lens.ensures.lens in
+    let same = rename_chain v c.in-Rename.col.now c.in-Rename.to.now c.in-Rename.of.now is c.over-source-in-Rename.result c.over-source-in-Rename.ensures c.args.delta c.in_ok-renamed-in-Rename.renamed c.args.changes.now c.in_ok-renamed-in-Rename.ensures.change in
     subst (λ m. OnOk c.carry_down-in-Rename.result (c.carry_down-in-Rename.new.changes ≡ m)) same c.carry_down-in-Rename.ensures.changes
 
 pub returns-in_ok-carry_down-in-Join-clause-changes : goal.returns-in_ok-carry_down-in-Join-clause-changes
 returns-in_ok-carry_down-in-Join-clause-changes g t c =
     let v = c.args.view.now in
-    let is : join c.in-Join.kind c.in-Join.left.value c.in-Join.right.value ≡ v.lens = sym (ap lens_view c.in-Join.is) ∙ c.lens-2.ensures.view ∙ c.lens.ensures.lens in
+    let is : join c.in-Join.kind c.in-Join.left.now c.in-Join.right.now ≡ v.lens = c.in-Join.ensures.is ∙ c.lens.ensures.lens in
     let made = c.in_ok-to_left-in-Join in
-    let same = join_chain v c.in-Join.kind c.in-Join.left.value c.in-Join.right.value is c.over_sides-left.result c.over_sides-left.ensures c.args.delta made.to_left made.to_right c.args.changes.now c.carry_down-in-Join.new.changes made.ensures.left made.ensures.right c.in_ok-carry_down-in-Join.ensures.changes in
+    let same = join_chain v c.in-Join.kind c.in-Join.left.now c.in-Join.right.now is c.over_sides-left.result c.over_sides-left.ensures c.args.delta made.to_left made.to_right c.args.changes.now c.carry_down-in-Join.new.changes made.ensures.left made.ensures.right c.in_ok-carry_down-in-Join.ensures.changes in
     subst (λ m. OnOk c.carry_down-in-Join-2.result (c.carry_down-in-Join-2.new.changes ≡ m)) same c.carry_down-in-Join-2.ensures.changes
 
 -- ---- how many looks it takes
@@ -64,26 +62,26 @@ returns-in_ok-carry_down-in-Join-clause-changes g t c =
 pub returns-in_err-change-in-Select-clause-looks : goal.returns-in_err-change-in-Select-clause-looks
 returns-in_err-change-in-Select-clause-looks g t c = λ w few.
     let v = c.args.view.now in
-    let is : select c.in-Select.pred c.in-Select.of.value ≡ v.lens = sym (ap lens_view c.in-Select.is) ∙ c.lens-2.ensures.view ∙ c.lens.ensures.lens in
-    let at = select_is v c.in-Select.pred c.in-Select.of.value is c.over-source.result c.over-source.ensures in
-    let finds = selected_finds v c.in-Select.pred c.in-Select.of.value is c.over-source.result at w few in
-    selected_alone v c.in-Select.pred c.in-Select.of.value is c.over-source.result at (rows_of c.args.delta) w c.args.looked.now c.under_select.new.looked (c.under_select.ensures.looks w finds)
+    let is : select c.in-Select.pred.now c.in-Select.of.now ≡ v.lens = c.in-Select.ensures.is ∙ c.lens.ensures.lens in
+    let at = select_is v c.in-Select.pred.now c.in-Select.of.now is c.over-source.result c.over-source.ensures in
+    let finds = selected_finds v c.in-Select.pred.now c.in-Select.of.now is c.over-source.result at w few in
+    selected_alone v c.in-Select.pred.now c.in-Select.of.now is c.over-source.result at (rows_of c.args.delta) w c.args.looked.now c.under_select.new.looked (c.under_select.ensures.looks w finds)
 
 pub returns-in_ok-change-in-Select-clause-looks : goal.returns-in_ok-change-in-Select-clause-looks
 returns-in_ok-change-in-Select-clause-looks g t c = λ w few.
     let v = c.args.view.now in
-    let is : select c.in-Select.pred c.in-Select.of.value ≡ v.lens = sym (ap lens_view c.in-Select.is) ∙ c.lens-2.ensures.view ∙ c.lens.ensures.lens in
-    let at = select_is v c.in-Select.pred c.in-Select.of.value is c.over-source.result c.over-source.ensures in
-    let finds = selected_finds v c.in-Select.pred c.in-Select.of.value is c.over-source.result at w few in
+    let is : select c.in-Select.pred.now c.in-Select.of.now ≡ v.lens = c.in-Select.ensures.is ∙ c.lens.ensures.lens in
+    let at = select_is v c.in-Select.pred.now c.in-Select.of.now is c.over-source.result c.over-source.ensures in
+    let finds = selected_finds v c.in-Select.pred.now c.in-Select.of.now is c.over-source.result at w few in
     let change = c.in_ok-change-in-Select.change in
-    selected_looks v c.in-Select.pred c.in-Select.of.value is c.over-source.result at (rows_of c.args.delta) (rows_of change) w c.args.looked.now c.under_select.new.looked c.carry_down.new.looked
+    selected_looks v c.in-Select.pred.now c.in-Select.of.now is c.over-source.result at (rows_of c.args.delta) (rows_of change) w c.args.looked.now c.under_select.new.looked c.carry_down.new.looked
     (c.under_select.ensures.looks w finds) (c.in_ok-change-in-Select.ensures.few w finds) (c.carry_down.ensures.looks w finds)
 
 pub returns-in_err-filled-in-Drop-clause-looks : goal.returns-in_err-filled-in-Drop-clause-looks
 returns-in_err-filled-in-Drop-clause-looks g t c = λ w few.
     let v = c.args.view.now in
-    let A = c.in-Drop.col in let X = c.in-Drop.by in let a = c.in-Drop.fill in let C = c.in-Drop.of.value in
-    let is : drop A X a C ≡ v.lens = sym (ap lens_view c.in-Drop.is) ∙ c.lens-2.ensures.view ∙ c.lens.ensures.lens in
+    let A = c.in-Drop.col.now in let X = c.in-Drop.by.now in let a = c.in-Drop.fill.now in let C = c.in-Drop.of.now in
+    let is : drop A X a C ≡ v.lens = c.in-Drop.ensures.is ∙ c.lens.ensures.lens in
     let s = c.over-source-in-Drop.result in
     let at = drop_is v A X a C is s c.over-source-in-Drop.ensures in
     let finds = dropped_finds v A X a C is s at w few in
@@ -92,8 +90,8 @@ returns-in_err-filled-in-Drop-clause-looks g t c = λ w few.
 pub returns-in_ok-filled-in-Drop-clause-looks : goal.returns-in_ok-filled-in-Drop-clause-looks
 returns-in_ok-filled-in-Drop-clause-looks g t c = λ w few.
     let v = c.args.view.now in
-    let A = c.in-Drop.col in let X = c.in-Drop.by in let a = c.in-Drop.fill in let C = c.in-Drop.of.value in
-    let is : drop A X a C ≡ v.lens = sym (ap lens_view c.in-Drop.is) ∙ c.lens-2.ensures.view ∙ c.lens.ensures.lens in
+    let A = c.in-Drop.col.now in let X = c.in-Drop.by.now in let a = c.in-Drop.fill.now in let C = c.in-Drop.of.now in
+    let is : drop A X a C ≡ v.lens = c.in-Drop.ensures.is ∙ c.lens.ensures.lens in
     let s = c.over-source-in-Drop.result in
     let at = drop_is v A X a C is s c.over-source-in-Drop.ensures in
     let finds = dropped_finds v A X a C is s at w few in
@@ -103,8 +101,8 @@ returns-in_ok-filled-in-Drop-clause-looks g t c = λ w few.
 pub returns-in_ok-renamed-in-Rename-clause-looks : goal.returns-in_ok-renamed-in-Rename-clause-looks
 returns-in_ok-renamed-in-Rename-clause-looks g t c = λ w few.
     let v = c.args.view.now in
-    let A = c.in-Rename.col in let B = c.in-Rename.to in let C = c.in-Rename.of.value in
-    let is : rename A B C ≡ v.lens = sym (ap lens_view c.in-Rename.is) ∙ c.lens-2.ensures.view ∙ c.lens.ensures.lens in
+    let A = c.in-Rename.col.now in let B = c.in-Rename.to.now in let C = c.in-Rename.of.now in
+    let is : rename A B C ≡ v.lens = c.in-Rename.ensures.is ∙ c.lens.ensures.lens in
     let s = c.over-source-in-Rename.result in
     let at = rename_is v A B C is s c.over-source-in-Rename.ensures in
     let finds = renamed_finds v A B C is s at w few in
@@ -113,8 +111,8 @@ returns-in_ok-renamed-in-Rename-clause-looks g t c = λ w few.
 pub returns-in_err-to_left-in-Join-clause-looks : goal.returns-in_err-to_left-in-Join-clause-looks
 returns-in_err-to_left-in-Join-clause-looks g t c = λ w few.
     let v = c.args.view.now in
-    let A = c.in-Join.left.value in let B = c.in-Join.right.value in
-    let is : join c.in-Join.kind A B ≡ v.lens = sym (ap lens_view c.in-Join.is) ∙ c.lens-2.ensures.view ∙ c.lens.ensures.lens in
+    let A = c.in-Join.left.now in let B = c.in-Join.right.now in
+    let is : join c.in-Join.kind A B ≡ v.lens = c.in-Join.ensures.is ∙ c.lens.ensures.lens in
     let s : Viewed × Viewed = c.over_sides-left.result in
     let at = join_is v c.in-Join.kind A B is s c.over_sides-left.ensures in
     let finds = joined_finds v c.in-Join.kind A B is s at w few in
@@ -124,8 +122,8 @@ returns-in_err-to_left-in-Join-clause-looks g t c = λ w few.
 pub returns-in_err-carry_down-in-Join-clause-looks : goal.returns-in_err-carry_down-in-Join-clause-looks
 returns-in_err-carry_down-in-Join-clause-looks g t c = λ w few.
     let v = c.args.view.now in
-    let A = c.in-Join.left.value in let B = c.in-Join.right.value in
-    let is : join c.in-Join.kind A B ≡ v.lens = sym (ap lens_view c.in-Join.is) ∙ c.lens-2.ensures.view ∙ c.lens.ensures.lens in
+    let A = c.in-Join.left.now in let B = c.in-Join.right.now in
+    let is : join c.in-Join.kind A B ≡ v.lens = c.in-Join.ensures.is ∙ c.lens.ensures.lens in
     let s : Viewed × Viewed = c.over_sides-left.result in
     let at = join_is v c.in-Join.kind A B is s c.over_sides-left.ensures in
     let finds = joined_finds v c.in-Join.kind A B is s at w few in
@@ -137,8 +135,8 @@ returns-in_err-carry_down-in-Join-clause-looks g t c = λ w few.
 pub returns-in_ok-carry_down-in-Join-clause-looks : goal.returns-in_ok-carry_down-in-Join-clause-looks
 returns-in_ok-carry_down-in-Join-clause-looks g t c = λ w few.
     let v = c.args.view.now in
-    let A = c.in-Join.left.value in let B = c.in-Join.right.value in
-    let is : join c.in-Join.kind A B ≡ v.lens = sym (ap lens_view c.in-Join.is) ∙ c.lens-2.ensures.view ∙ c.lens.ensures.lens in
+    let A = c.in-Join.left.now in let B = c.in-Join.right.now in
+    let is : join c.in-Join.kind A B ≡ v.lens = c.in-Join.ensures.is ∙ c.lens.ensures.lens in
     let s : Viewed × Viewed = c.over_sides-left.result in
     let at = join_is v c.in-Join.kind A B is s c.over_sides-left.ensures in
     let finds = joined_finds v c.in-Join.kind A B is s at w few in
