@@ -23,16 +23,16 @@ NULL = "null"
 SAYS_NULL = re.compile('("*)null\\1')
 
 
-def base(kind):
+def base(kind: str) -> str:
     """A kind of column without its null: int, text or bool."""
     return kind.partition(" ")[0]
 
 
-def is_nullable(kind):
+def is_nullable(kind: str) -> bool:
     return kind != base(kind)
 
 
-def fits(value, kind):
+def fits(value: object, kind: str) -> bool:
     """Whether a value is of a kind."""
     if value is None:
         return is_nullable(kind)
@@ -46,7 +46,7 @@ def fits(value, kind):
         return False
 
 
-def without_quotes(text, kind):
+def without_quotes(text: str, kind: str) -> Optional[str]:
     """A text out of a cell in which `cell` wrote it, or None where the cell says null."""
     if is_nullable(kind) and SAYS_NULL.fullmatch(text):
         return None if text == "null" else text[1:-1]
