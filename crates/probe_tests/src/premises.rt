@@ -12,7 +12,7 @@ ghost use Rattle.probe_tests.specs.Sides.{has_sides};
 
 use fd_tree::Edge;
 use lens_pred::Pred;
-use lens_types::{Lens, Sort, TypedLens};
+use lens_types::{Node, Sort, TypedLens};
 use lens_values::{Columns, NoMemory};
 use row_sets::{Relation, RowSet};
 use std::alloc::Global;
@@ -22,12 +22,12 @@ use whole_put::Db;
 pub(crate) fn has_keys(alloc: Global, lens: &TypedLens) -> Result<bool, NoMemory>
     ensures keys { IfOk result (λ so. so ≡ true → HasKeys lens.now) }
 {
-    match lens.lens() {
-        Lens::Base { sort, .. } => is_keyed(alloc, sort),
-        Lens::Select { of, .. } | Lens::Drop { of, .. } | Lens::Rename { of, .. } => {
+    match lens.node() {
+        Node::Base { sort, .. } => is_keyed(alloc, sort),
+        Node::Select { of, .. } | Node::Drop { of, .. } | Node::Rename { of, .. } => {
             has_keys(alloc, of)
         }
-        Lens::Join { left, right, .. } => {
+        Node::Join { left, right, .. } => {
             if !has_keys(alloc, left)? {
                 return Ok(false);
             }
@@ -60,15 +60,15 @@ fn have_sides(edges: &[Edge]) -> bool
 pub(crate) fn are_of(alloc: Global, lens: &TypedLens, db: &Db) -> Result<bool, NoMemory>
     ensures tables { IfOk result (λ so. so ≡ true → AreOf lens.now db.now) }
 {
-    match lens.lens() {
-        Lens::Base { table, sort } => match db.table(table) {
+    match lens.node() {
+        Node::Base { table, sort } => match db.table(table) {
             Some(relation) => is_of(alloc, sort, relation),
             None => Ok(false),
         },
-        Lens::Select { of, .. } | Lens::Drop { of, .. } | Lens::Rename { of, .. } => {
+        Node::Select { of, .. } | Node::Drop { of, .. } | Node::Rename { of, .. } => {
             are_of(alloc, of, db)
         }
-        Lens::Join { left, right, .. } => {
+        Node::Join { left, right, .. } => {
             if !are_of(alloc, left, db)? {
                 return Ok(false);
             }

@@ -1,9 +1,11 @@
 //! Catalogues of definitions, and why a definition is refused, in words.
 use crate::samples::expect;
+use lens_types::TypeFault;
 use lens_values::Text;
 use std::alloc::Global;
 use std::test::Fail;
-use view_catalog::Catalog;
+use view_catalog::{Catalog, CatalogFault};
+use view_lang::{LangFault, Limit};
 
 // Takes the definition and says nothing, or says why it is refused.
 fn told(alloc: Global, catalog: &mut Catalog, text: &str) -> Result<String, Fail> {
@@ -85,6 +87,98 @@ const DEFINITIONS: [(&str, &str); 21] = [
         "more than 32 parentheses and \"not\"s are open at once",
     ),
 ];
+
+// The definitions of the stored script, which are taken, and one after them.
+const SCRIPT: [(&str, &str); 4] = [
+    (
+        "table tracks (track text, date int, rating int, album text) with track -> date rating",
+        "",
+    ),
+    (
+        "table albums (album text, quantity int) with album -> quantity",
+        "",
+    ),
+    (
+        "view stock = select from (drop date determined by (track, 2018) from (join_dl tracks with albums)) where quantity > 2",
+        "",
+    ),
+    ("table tracks (k int)", "the name tracks is taken"),
+];
+
+#[test]
+fn script_is_taken(rt: HostRuntime) -> Result<(), Fail> {
+    let mut catalog = Catalog::new(rt.alloc());
+    for (text, why) in SCRIPT {
+        expect(told(rt.alloc(), &mut catalog, text)?.as_str() == why, text)?;
+    }
+    expect(catalog.tables() == 2 && catalog.views() == 1, "counts")
+}
+
+// The limit that the definition exceeds, and whether a rule of the lens says so. It is taken if it
+// exceeds none.
+fn exceeded(
+    alloc: Global,
+    catalog: &mut Catalog,
+    text: &str,
+) -> Result<Option<(Limit, bool)>, Fail> {
+    match catalog.prepare(alloc, Text::new(alloc, text)?) {
+        Ok(prepared) => {
+            catalog.admit(prepared);
+            Ok(None)
+        }
+        Err(
+            CatalogFault::Lang {
+                fault: LangFault::TooLarge { what },
+            },
+        ) => Ok(Some((what, false))),
+        Err(
+            CatalogFault::Rule {
+                fault: TypeFault::TooLarge { what },
+            },
+        ) => Ok(Some((what, true))),
+        Err(_) => Err(Fail::from(text)),
+    }
+}
+
+// The definition of so many selections of a lens, one over another.
+fn selections(alloc: Global, name: &str, of: &str, count: usize) -> Result<String, Fail> {
+    let mut opened = format!(in alloc; "view {name} = ")?;
+    for _ in 1..count {
+        opened.push_str("select from (")?;
+    }
+    opened.push_str("select from ")?;
+    opened.push_str(of)?;
+    opened.push_str(" where true")?;
+    for _ in 1..count {
+        opened.push_str(") where true")?;
+    }
+    Ok(opened)
+}
+
+// A lens may have 64 nodes, and a catalogue 64 tables and 256 views.
+#[test]
+fn limits_are_told_by_lenses_and_by_catalogues(rt: HostRuntime) -> Result<(), Fail> {
+    let alloc = rt.alloc();
+    let mut catalog = Catalog::new(alloc);
+    for number in 0..64 {
+        let text = format!(in alloc; "table t{number} (a int)")?;
+        expect(exceeded(alloc, &mut catalog, &text)?.is_none(), &text)?;
+    }
+    let found = exceeded(alloc, &mut catalog, "table t64 (a int)")?;
+    expect(found == Some((Limit::Tables, false)), "tables")?;
+    for (name, of, count) in [("a", "t0", 30), ("b", "a", 30), ("c", "b", 3)] {
+        let text = selections(alloc, name, of, count)?;
+        expect(exceeded(alloc, &mut catalog, &text)?.is_none(), &text)?;
+    }
+    let found = exceeded(alloc, &mut catalog, &selections(alloc, "d", "b", 4)?)?;
+    expect(found == Some((Limit::Lens, true)), "nodes")?;
+    for number in 3..256 {
+        let text = format!(in alloc; "view v{number} = t0")?;
+        expect(exceeded(alloc, &mut catalog, &text)?.is_none(), &text)?;
+    }
+    let found = exceeded(alloc, &mut catalog, "view v256 = t0")?;
+    expect(found == Some((Limit::Views, false)), "views")
+}
 
 #[test]
 fn definitions_are_taken_or_refused(rt: HostRuntime) -> Result<(), Fail> {

@@ -53,6 +53,9 @@ t: -> k=1; k=2 / t: k=1 -> / t: -> k=2
 u: -> k=1 / t: k=2 -> / t: k=2 -> | u: -> k=1
 / t: k=1 -> k=2 / t: k=1 -> k=2";
 
+// So many that the cost of each with all before it would end the test.
+const MANY: usize = 65_536;
+
 // The same of as many differences as there are before the last slash.
 const ALL: &str = "\
 t: k=1 -> k=2 / t: k=1 -> k=2
@@ -120,6 +123,20 @@ fn is_addition(rt: &impl Abort, alloc: Global, change: Option<&Entry>, number: u
     let text = addition(rt, alloc, number);
     let change = change.expect(rt, &text);
     are_deltas(rt, alloc, change.deltas.as_slice(), &text);
+}
+
+// The cost of so many differences is not that of each with all before it.
+#[test]
+fn many_differences_are_composed(rt: HostRuntime) {
+    let alloc = rt.alloc();
+    let mut entries = Vec::new(alloc);
+    for number in 0..MANY {
+        let text = addition(&rt, alloc, number);
+        entries.push(entry(&rt, alloc, &text)).expect(&rt, "memory");
+    }
+    let found = compose_all(alloc, &entries).expect(&rt, "memory");
+    let added = found.first().expect(&rt, "one table").delta.add();
+    assert!(rt; found.len() == 1 && added.rows().len() == MANY);
 }
 
 #[test]

@@ -7,7 +7,7 @@ ghost use Rattle.value_tests.specs.Filled.{Fills};
 use crate::lenses::lens;
 use crate::samples::{are_rows, cut, in_four, relation};
 use lens_pred::Pred;
-use lens_types::{Lens, Sort, TypedLens};
+use lens_types::{Node, Sort, TypedLens};
 use lens_values::Row;
 use row_sets::{Relation, RowSet};
 use std::alloc::Global;
@@ -183,15 +183,15 @@ fn of_sort(rt: &impl Abort, alloc: Global, sort: &Sort, text: &str) -> Relation
 fn fill(rt: &impl Abort, alloc: Global, lens: &TypedLens, text: &str, db: &mut Db)
     ensures { Fills lens.now db.old db.new }
 {
-    match lens.lens() {
-        Lens::Base { table, sort } => {
+    match lens.node() {
+        Node::Base { table, sort } => {
             let rows = of_sort(rt, alloc, sort, text);
             db.set(alloc, *table, rows).expect(rt, "memory");
         }
-        Lens::Select { of, .. } => fill(rt, alloc, of, text, db),
-        Lens::Drop { of, .. } => fill(rt, alloc, of, text, db),
-        Lens::Rename { of, .. } => fill(rt, alloc, of, text, db),
-        Lens::Join { left, right, .. } => {
+        Node::Select { of, .. } => fill(rt, alloc, of, text, db),
+        Node::Drop { of, .. } => fill(rt, alloc, of, text, db),
+        Node::Rename { of, .. } => fill(rt, alloc, of, text, db),
+        Node::Join { left, right, .. } => {
             let (rows, others) = text.split_once('+').expect(rt, text);
             fill(rt, alloc, left, rows, db);
             fill(rt, alloc, right, others, db);
@@ -201,15 +201,15 @@ fn fill(rt: &impl Abort, alloc: Global, lens: &TypedLens, text: &str, db: &mut D
 
 // Checks that the tables of the lens have these rows.
 fn are_tables(rt: &impl Abort, alloc: Global, lens: &TypedLens, db: &Db, text: &str) {
-    match lens.lens() {
-        Lens::Base { table, .. } => {
+    match lens.node() {
+        Node::Base { table, .. } => {
             let relation = db.table(table).expect(rt, "a table");
             are_rows(rt, alloc, relation.rows().copy(alloc).ok(), text);
         }
-        Lens::Select { of, .. } | Lens::Drop { of, .. } | Lens::Rename { of, .. } => {
+        Node::Select { of, .. } | Node::Drop { of, .. } | Node::Rename { of, .. } => {
             are_tables(rt, alloc, of, db, text)
         }
-        Lens::Join { left, right, .. } => {
+        Node::Join { left, right, .. } => {
             let (rows, others) = text.split_once('+').expect(rt, text);
             are_tables(rt, alloc, left, db, rows);
             are_tables(rt, alloc, right, db, others);

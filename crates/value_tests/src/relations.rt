@@ -126,6 +126,26 @@ fn applied(rt: &impl Abort, alloc: Global, old: &Relation, new: &Relation) -> Op
     Some(made)
 }
 
+#[test]
+fn row_is_added_once(rt: HostRuntime) {
+    let alloc = rt.alloc();
+    let mut found = over(&rt, alloc, "k:int", "");
+    for is_new in [true, false] {
+        let one = row(&rt, alloc, "k=1");
+        assert!(rt; one.fits(found.columns()));
+        assert_eq!(rt; found.add(one).expect(&rt, "memory"), is_new);
+    }
+    is_relation(&rt, alloc, Some(found), "k:int", "k=1");
+}
+
+#[test]
+fn rows_with_one_part_are_projected_to_one(rt: HostRuntime) {
+    let alloc = rt.alloc();
+    let rows = over(&rt, alloc, "a:int b:int", "a=1 b=2; a=1 b=3");
+    let part = rows.project(alloc, &names(&rt, alloc, "a"));
+    is_relation(&rt, alloc, part.ok(), "a:int", "a=1");
+}
+
 // Null is equal to null.
 #[test]
 fn relations_are_joined_and_projected(rt: HostRuntime) {
