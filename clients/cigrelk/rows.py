@@ -33,10 +33,15 @@ def in_order(row, columns):
     return {name: row[name] for name in columns}
 
 
+def in_row_order(row, key):
+    """By what rows are sorted that have this key; null comes first."""
+    return [(row[name] is not None, row[name]) for name in key]
+
+
 def by_key(rows, key, columns):
-    """Rows in the order of their key; null comes first. `columns` has the kind of each column."""
+    """Rows in the order of their key. `columns` has the kind of each column."""
     if any(is_nullable(columns[name]) for name in key):
-        return sorted(rows, key=lambda row: [(row[name] is not None, row[name]) for name in key])
+        return sorted(rows, key=lambda row: in_row_order(row, key))
     return sorted(rows, key=operator.itemgetter(*key)) if key else rows
 
 
