@@ -224,7 +224,7 @@ class Batches(InMemory):
         # each edit rests on the version before the batch
         change = self.server.batch([(goods, [], [AXE]), (big, [AXE], [SAW])], on=rows)
         self.assertEqual((change.tables, list(goods.read())), ({"goods": ([], [SAW])}, [SAW]))
-        with self.assertRaisesRegex(Stale, "^edit 0, .* read them again$"):
+        with self.assertRaisesRegex(Stale, "^edit 1, .* read them again$"):
             self.server.batch([(goods, [], [AXE])], on=rows)
 
     def test_undo(self):
