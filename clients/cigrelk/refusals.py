@@ -218,7 +218,10 @@ class Clash(Refused):
         return f"{sides(edge)}, and these two rows have the same {listing(edge['left'])} and differ in {listing(edge['right'])}"
 
     def text(self):
-        edge = self.edge
+        if len(self.reply["rows"]) < 2:
+            # (a hub keeps back rows that the user may not read)
+            return f"{sides(self.reply['edge'])}, and the rows differ in it from others that you may not read"
+        edge = differing(self.reply["edge"], self.reply["rows"])
         one, other = (words_of({name: row[name] for name in (*edge["left"], *edge["right"])}) for row in self.reply["rows"])
         return f"{sides(edge)}, and these rows differ in it: {one} / {other}"
 
