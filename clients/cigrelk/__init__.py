@@ -27,11 +27,12 @@ from .process import TOP, Ended, NotStarted, Program, ReplyLost
 from .proposals import NotProposal, Proposal, Review, proposals
 from .reasons import Reasons
 from .refusals import (
-    REFUSALS, BadRecord, BadRequest, BadRow, Clash, ColumnTaken, DefaultRefused, KindClash, MixedConjunct, NameTaken, NoSuchDependency,
-    NotDetermined, NothingToUndo, NotJson, NotTree, NullableColumn, OffPredicate, OutOfMemory, PredicateKind, Refused,
-    SideMentionsOutput, SourceMentionsOutput, Stale, StoreFault, Syntax, TableTwice, TooLarge, TooLong, UnknownColumn, UnknownName,
+    REFUSALS, BadRecord, BadRequest, BadRow, Busy, ChangedSince, Clash, ColumnTaken, DefaultRefused, HubClosing, KindClash, MixedConjunct,
+    NameTaken, NoJournal, NoRight, NoSuchDependency, NotDetermined, NothingToUndo, NotJson, NotThrough, NoToken, NotTree, NullableColumn,
+    OffPredicate, OutcomeUnknown, OutOfMemory, PredicateKind, Refused, SideMentionsOutput, SourceMentionsOutput, Stale, StoreFault, Syntax, TableTwice, TooLarge, TooLong, UnknownColumn, UnknownName,
     refusal, stale,
 )
+from .remote import Remote, Unreachable
 from .rows import Change, Fault, Rows, Sheet, key_of, values
 from .server import Server, View
 from .texts import cell, counted, listing, plain, short, sides, table, words_of

@@ -9,7 +9,7 @@ import os
 import sys
 
 from .errors import CommandError
-from .process import Ended
+from .process import Ended, ReplyLost
 from .refusals import Refused
 from .texts import plain
 
@@ -24,6 +24,7 @@ COMMANDS = {
     "shell": "cigrelk.shell",
     "mirror": "cigrelk.mirror",
     "rebuild": "cigrelk.rebuild",
+    "hub": "cigrelk.hub.command",
 }
 DONE, FAILED, WRONG_USAGE, INTERRUPTED = 0, 1, 2, 130
 
@@ -57,7 +58,7 @@ def status_of(name, run, options):
             os.dup2(os.open(os.devnull, os.O_WRONLY), sys.stdout.fileno())
             return FAILED
         sentence = f"{error.filename}: {error.strerror}" if error.filename else str(error)
-    except (CommandError, Refused, Ended) as error:
+    except (CommandError, Refused, Ended, ReplyLost) as error:
         sentence = str(error)
     except KeyboardInterrupt:
         return INTERRUPTED
