@@ -16,6 +16,7 @@ It starts the program, sends it requests, and gives rows, changes, and refusals 
 
 The program is the one that CIGRELK names in the environment, or else `serve` of the clone that this package lies in.
 """
+from .completion import Completion
 from .csv_files import is_field, records_of
 from .errors import CommandError
 from .kinds import LEAST_INT, MOST_INT, MOST_TEXT, WANTED, base, fits, is_nullable, value_of, without_quotes
@@ -29,10 +30,12 @@ from .reasons import Reasons
 from .refusals import (
     REFUSALS, BadRecord, BadRequest, BadRow, Busy, ChangedSince, Clash, ColumnTaken, DefaultRefused, HubClosing, KindClash, MixedConjunct,
     NameTaken, NoJournal, NoRight, NoSuchDependency, NotDetermined, NothingToUndo, NotJson, NotThrough, NoToken, NotTree, NullableColumn,
-    OffPredicate, OutcomeUnknown, OutOfMemory, PredicateKind, Refused, SideMentionsOutput, SourceMentionsOutput, Stale, StoreFault, Syntax, TableTwice, TooLarge, TooLong, UnknownColumn, UnknownName,
+    OffPredicate, OtherTable, OutcomeUnknown, OutOfMemory, PredicateKind, Refused, SideMentionsOutput, SourceMentionsOutput, Stale,
+    StoreFault, Syntax, TableTwice, TooLarge, TooLong, UnknownColumn, UnknownName,
     refusal, stale,
 )
 from .remote import Remote, Unreachable
 from .rows import Change, Fault, Rows, Sheet, key_of, values
 from .server import Server, View
+from .store_files import InUse, NotStore, private_copy
 from .texts import cell, counted, listing, plain, short, sides, table, words_of

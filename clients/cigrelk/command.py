@@ -7,6 +7,7 @@ import argparse
 import importlib
 import os
 import sys
+from typing import List, Optional
 
 from .errors import CommandError
 from .process import Ended, ReplyLost
@@ -48,15 +49,32 @@ def parser_of(name):
     return parser
 
 
-def status_of(name, run, options):
-    """The status of a command that is run with its options. What it could not do is told on standard error."""
+def carry_out(name, arguments):
+    """Does what a command is asked, and gives its status."""
+    if name in COMMANDS:
+        return module_of(name).run(parser_of(name).parse_args(arguments))
+    if name in ("-h", "--help", "help"):
+        print(overview(), flush=True)
+        return DONE
+    told = "a command is wanted" if name is None else f"there is no command {plain(name)}"
+    print(f"cigrelk: {told}\n\n{overview()}", file=sys.stderr)
+    return WRONG_USAGE
+
+
+def main(arguments: Optional[List[str]] = None) -> int:
+    """Runs the command that the arguments name, or those of the command line, and gives its status. What a command could not do is
+    told on standard error."""
+    name, *rest = (sys.argv[1:] if arguments is None else arguments) or [None]
     try:
-        return run(options)
+        return carry_out(name, rest)
+    except SystemExit as end:
+        # This is how argparse ends: it printed its help, or what is wrong.
+        return end.code
+    except BrokenPipeError:
+        # Nobody reads what is printed. What is left of it goes nowhere, so that the interpreter does not tell of it at its end.
+        os.dup2(os.open(os.devnull, os.O_WRONLY), sys.stdout.fileno())
+        return FAILED
     except OSError as error:
-        if isinstance(error, BrokenPipeError):
-            # Nobody reads what is printed. What is left of it goes nowhere, so that the interpreter does not tell of it at its end.
-            os.dup2(os.open(os.devnull, os.O_WRONLY), sys.stdout.fileno())
-            return FAILED
         sentence = f"{error.filename}: {error.strerror}" if error.filename else str(error)
     except (CommandError, Refused, Ended, ReplyLost) as error:
         sentence = str(error)
@@ -64,21 +82,3 @@ def status_of(name, run, options):
         return INTERRUPTED
     print(f"cigrelk {name}: {plain(sentence)}", file=sys.stderr)
     return FAILED
-
-
-def main(arguments=None):
-    """Runs the command that the arguments name, or those of the command line, and gives its status."""
-    name, *rest = (sys.argv[1:] if arguments is None else arguments) or [None]
-    if name in COMMANDS:
-        try:
-            options = parser_of(name).parse_args(rest)
-        except SystemExit as end:
-            # This is how argparse ends: it printed its help, or what is wrong.
-            return end.code
-        return status_of(name, module_of(name).run, options)
-    if name in ("-h", "--help", "help"):
-        print(overview())
-        return DONE
-    told = "a command is wanted" if name is None else f"there is no command {plain(name)}"
-    print(f"cigrelk: {told}\n\n{overview()}", file=sys.stderr)
-    return WRONG_USAGE

@@ -5,7 +5,7 @@ import re
 
 from .errors import CommandError
 from .kinds import LEAST_INT, MOST_INT, fits, value_of
-from .texts import counted
+from .texts import cell, counted
 
 
 def records_of(text):
@@ -43,6 +43,13 @@ def rows_of_file(path, view):
                     faults.append((begins, f"line {begins}: {fault}"))
             begins = lines.line_num + 1
     return numbers, rows, faults
+
+
+def write_rows(file, rows, kinds):
+    """Writes rows to a file of CSV, so that `rows_of_file` reads them as they were."""
+    writer = csv.writer(file)
+    writer.writerow(kinds)
+    writer.writerows([cell(row[name], kind) for name, kind in kinds.items()] for row in rows)
 
 
 def row_of(cells, names, kinds):

@@ -273,6 +273,17 @@ def condition_of(text):
         return None
 
 
+def columns_compared(part):
+    """The columns that a predicate asks about."""
+    if isinstance(part, (All, Any)):
+        return set().union(*map(columns_compared, part.parts))
+    if isinstance(part, Not):
+        return columns_compared(part.part)
+    if isinstance(part, Truth):
+        return set()
+    return {part.column, part.right.name} if isinstance(part, Compare) and isinstance(part.right, Column) else {part.column}
+
+
 def expanded(node, texts):
     """An expression with tables in place of names. `texts` has each definition by its name."""
     if isinstance(node, Named):

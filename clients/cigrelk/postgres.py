@@ -11,6 +11,8 @@ DONE = "cigrelk-done"
 ALONE = ["SET lock_timeout = '30s'", "SELECT pg_advisory_lock(hashtext('cigrelk ' || current_schema()))", "SET lock_timeout = 0"]
 # The beginnings of those SQLSTATEs that pass by themselves: a connection, also between two servers, a conflict, a want of room, an
 # operator, a standby that does not write yet, a lock.
+# What the catalogue calls tables (plain, partitioned and foreign ones) and views.
+KINDS = {"r": "table", "p": "table", "f": "table", "v": "view", "m": "materialized view", "S": "sequence", "i": "index", "I": "index"}
 PASSING = ("08", "40", "53", "57", "58", "HV", "25006", "55P03")
 
 
@@ -82,6 +84,17 @@ class Database:
     def name(self, name):
         """A name with its schema: without it pg_class would be a table of the catalogue."""
         return f"{quoted(self.schema)}.{quoted(name)}"
+
+    def kind_of(self, name):
+        """What stands under a name in the schema, as 'table' or 'view'; None if nothing does."""
+        found = self.rows(f"SELECT relkind FROM pg_class WHERE oid = to_regclass({literal(self.name(name))})")
+        return KINDS.get(found[0]["relkind"], "thing of another kind") if found else None
+
+    def columns(self, name):
+        """The type of each column of a table by its name, without those that the database computes; empty if there is no table."""
+        rows = self.rows("SELECT attname AS name, format_type(atttypid, atttypmod) AS type FROM pg_attribute "
+                         f"WHERE attrelid = to_regclass({literal(self.name(name))}) AND attnum > 0 AND NOT attisdropped AND coalesce(to_jsonb(pg_attribute)->>'attgenerated', '') = '' ORDER BY attnum")
+        return {row["name"]: row["type"] for row in rows}
 
     def close(self):
         try:

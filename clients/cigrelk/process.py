@@ -19,7 +19,7 @@ MOST_READ = 1 << 16
 
 class Ended(Exception):
     """The program ended with `status`. A request under way got no reply; it may have been done or not. `damage` has what is wrong
-    with a store that is damaged."""
+    with a store that is damaged. `cause` is the sentence for people, where more is known than the status tells."""
 
     causes = {
         2: "the words of the command line are refused",
@@ -33,18 +33,29 @@ class Ended(Exception):
 
     def __init__(self, status, damage=None, cause=None):
         self.status, self.damage = status, damage
+        if cause:
+            super().__init__(cause)
+            return
         unknown = "it was stopped" if status < 0 else "it was closed" if status == 0 else "the cause is not known"
-        cause = cause or self.causes.get(status, unknown)
         told = "" if damage is None else f": {damage_text(damage)}"
-        super().__init__(f"the program ended with status {status}: {cause}{told}")
+        super().__init__(f"the program ended with status {status}: {self.causes.get(status, unknown)}{told}")
 
 
 class NotStarted(Ended):
     """The program cannot be started."""
 
-    def __init__(self, program, reason):
+    def __init__(self, sentence):
         self.status, self.damage = 127, None
-        Exception.__init__(self, f"the program {program} cannot be started ({reason}); CIGRELK in the environment names another")
+        Exception.__init__(self, sentence)
+
+
+def default_program():
+    """The path of the program: the one that CIGRELK names in the environment, or else `serve` of the clone that this package lies in.
+    Raises NotStarted if there is neither."""
+    named, of_clone = os.environ.get("CIGRELK"), f"{TOP}/serve"
+    if not named and not os.path.exists(of_clone):
+        raise NotStarted("there is no program: set CIGRELK to the path of one, since this package lies in no clone that has `serve`")
+    return named or of_clone
 
 
 def damage_text(damage):

@@ -1,14 +1,7 @@
 """Why a change changes what it changes."""
-import functools
-
 from .language import Drop, Join, path_to, shown_columns, tables_in
 from .rows import values
-from .texts import listing, short, sides, words_of
-
-
-def altering(before, after, edge):
-    """A dependency with the columns of its right side in which two rows differ."""
-    return {"left": edge["left"], "right": [name for name in edge["right"] if before[name] != after[name]]}
+from .texts import differing, listing, short, sides, words_of
 
 
 def gives(edge, sent, row):
@@ -35,12 +28,12 @@ class Reasons:
         self.sent_to_add = {values(row, self.shown.values()) for row in add}
         edges = {below: self.server[below].type()["dependencies"] for below in tables_in(self.path[0])}
         self.edges = edges[name]
-        decided = {column for edge in self.edges for column in edge["right"]}
-        # A row that is removed and one that is added are one row that changes, where they differ in decided columns alone.
-        self.undecided = [column for column in self.path[-1].kinds if column not in decided]
+        determined = {column for edge in self.edges for column in edge["right"]}
+        # A row that is removed and one that is added are one row that changes, where they differ in determined columns alone.
+        self.undetermined = [column for column in self.path[-1].kinds if column not in determined]
         self.removed, self.added = changed
-        self.before = {values(row, self.undecided): row for row in self.removed} if decided else {}
-        self.after = {values(row, self.undecided): row for row in self.added} if decided else {}
+        self.before = {values(row, self.undetermined): row for row in self.removed} if determined else {}
+        self.after = {values(row, self.undetermined): row for row in self.added} if determined else {}
         self.known = {}
         # For each dependency by which a row that was sent can give values to one of this table, in the names of the view, the rows
         # sent by its left side. (They agree on the right side, or the edit would be refused.)
@@ -56,32 +49,32 @@ class Reasons:
                 yield {"left": [names[column] for column in edge["left"]], "right": right}
 
     def of_removed(self, row):
-        after = self.after.get(values(row, self.undecided))
+        after = self.after.get(values(row, self.undetermined))
         if after and values(row, self.shown) in self.sent_to_remove and values(after, self.shown) in self.sent_to_add:
             return [f"changed in {self.view.name}"]
         if not after and values(row, self.shown) in self.sent_to_remove:
             return [f"removed from {self.view.name}{self.join_keeps()}"]
         if after:
             # (a row that the view hides may be named among those to remove, which does nothing)
-            return [f"hidden in {self.view.name}; follows, since {self.deciding(row, after)}"]
+            return [f"hidden in {self.view.name}; follows, since {self.determining(row, after)}"]
         return [self.deletion(row)]
 
     def of_added(self, row):
-        before = self.before.get(values(row, self.undecided))
+        before = self.before.get(values(row, self.undetermined))
         if values(row, self.shown) not in self.sent_to_add:
-            return [f"hidden in {self.view.name}; follows, since {self.deciding(before, row)}" if before else f"hidden in {self.view.name}"]
+            return [f"hidden in {self.view.name}; follows, since {self.determining(before, row)}" if before else f"hidden in {self.view.name}"]
         if not before:
             reason = f"added to {self.view.name}"
         elif values(before, self.shown) in self.sent_to_remove:
             reason = f"changed in {self.view.name}"
         else:
-            reason = f"added to {self.view.name}; {self.name} had this row already, hidden there, and {self.deciding(before, row)}"
+            reason = f"added to {self.view.name}; {self.name} had this row already, hidden there, and {self.determining(before, row)}"
         drops = [place for place, node in enumerate(self.path) if isinstance(node, Drop)]
         return [reason, *filter(None, (self.origin(row, before, place) for place in drops))]
 
-    def deciding(self, before, after):
+    def determining(self, before, after):
         """The dependencies by which a row takes other values."""
-        return listing(sides(edge) for edge in map(functools.partial(altering, before, after), self.edges) if edge["right"])
+        return listing(sides(edge) for edge in (differing(edge, [before, after]) for edge in self.edges) if edge["right"])
 
     def joins_above(self):
         """The joins over the table, each with the side that the table is under and the other one."""
@@ -124,7 +117,7 @@ class Reasons:
         return f"{dropped} {short(value)}: {words_of({name: row[name] for name in by})} has it already"
 
     def known_beside(self, column, by):
-        """The values that the table has in a column, each with those of the columns that decide it."""
+        """The values that the table has in a column, each with those of the columns that determine it."""
         if column not in self.known:
             self.known[column] = {(values(row, by), row[column]) for row in self.server[self.name].current()}
         return self.known[column]

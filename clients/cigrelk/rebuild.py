@@ -9,30 +9,24 @@ NEW is for its owner alone. It gets its name once it is whole. OLD is copied and
 store may write to it; it may not be open elsewhere.
 """
 import argparse
-import fcntl
 import json
 import os
 import re
-import shutil
 import tempfile
 
 from .errors import CommandError
 from .kinds import base, fits, is_nullable
 from .language import defined
 from .server import Server
+from .store_files import copy_store
 
 SUMMARY = "makes a new store with other definitions and the rows of an old one"
 # How many rows one request adds at most.
 MOST_ROWS = 10_000
-# The bytes of a database of SQLite that a reader locks, as their number and the first of them.
-LOCKED_BYTES = (510, 0x40000002)
 
 
 def rebuild(old, new, definitions, given):
     """Makes the new store. Raises CommandError, Refused, Ended or OSError, and leaves no new store then."""
-    if not os.path.isfile(old):
-        # The program would make it.
-        raise CommandError(f"there is no store {old}")
     if os.path.lexists(new):
         raise CommandError(f"{new} is there already")
     with open(definitions, encoding="utf-8") as file:
@@ -49,18 +43,6 @@ def rebuild(old, new, definitions, given):
         # A link fails where someone made the new store meanwhile.
         os.link(made, new)
     print(*told, sep="\n")
-
-
-def copy_store(old, copy):
-    """Copies a store with its log. Raises CommandError where another program has it open."""
-    with open(old, "rb") as file:
-        try:
-            fcntl.lockf(file, fcntl.LOCK_SH | fcntl.LOCK_NB, *LOCKED_BYTES)
-        except OSError:
-            raise CommandError(f"the store {old} is open in another program, which has to end first") from None
-        for tail in ("", "-wal"):
-            if os.path.exists(old + tail):
-                shutil.copyfile(old + tail, copy + tail)
 
 
 def fill_all(source, target, texts, given):

@@ -4,7 +4,7 @@ import re
 
 from .csv_files import is_field, records_of
 from .kinds import MOST_TEXT, WANTED
-from .texts import listing, short, sides, words_of
+from .texts import differing, listing, short, sides, words_of
 
 
 class Refused(Exception):
@@ -109,11 +109,11 @@ class PredicateKind(Refused):
 
 
 class SourceMentionsOutput(Refused):
-    says = "what is selected from has a condition on '{col}', which another column decides, and on a column that is not decided with it: write both conditions in one selection"
+    says = "what is selected from has a condition on '{col}', which another column determines, and on a column that is not determined with it: write both conditions in one selection"
 
 
 class NoSuchDependency(Refused):
-    says = "the column '{col}' cannot be dropped: it is not decided by exactly the columns that were named, or it decides others"
+    says = "the column '{col}' cannot be dropped: it is not determined by exactly the columns that were named, or it determines others"
 
 
 class MixedConjunct(Refused):
@@ -125,11 +125,11 @@ class DefaultRefused(Refused):
 
 
 class NotDetermined(Refused):
-    says = "the shared columns of the join do not decide the column '{col}' of its right side"
+    says = "the shared columns of the join do not determine the column '{col}' of its right side"
 
 
 class SideMentionsOutput(Refused):
-    says = "the {side} side of the join has a condition on '{col}', which another column decides, and on a column that is not decided with it: the join could not be edited"
+    says = "the {side} side of the join has a condition on '{col}', which another column determines, and on a column that is not determined with it: the join could not be edited"
 
 
 class TableTwice(Refused):
@@ -155,12 +155,15 @@ class ColumnTaken(Refused):
 
 
 class BadRow(Refused):
+    lists = {"add": " of those to add", "remove": " of those to remove"}
+
     def text(self):
         which, index, name = (self.reply[member] for member in ("list", "index", "col"))
-        rows = (self.request or {}).get(which, [])[index : index + 1]
-        if rows and isinstance(rows[0], dict) and name in rows[0]:
-            return f"row {index} of '{which}': {value_fault(name, rows[0][name])}"
-        return f"row {index} of '{which}': the column '{name}' is missing"
+        rows = (self.request or {}).get(which, [])
+        place = "" if len(rows) == 1 else f"row {index + 1}{self.lists.get(which, '')}: "
+        if index < len(rows) and isinstance(rows[index], dict) and name in rows[index]:
+            return f"{place}{value_fault(name, rows[index][name])}"
+        return f"{place}the column '{name}' is missing"
 
 
 class Stale(Refused):
@@ -174,9 +177,12 @@ class OffPredicate(Refused):
 
 class Clash(Refused):
     def text(self):
-        # (a hub keeps back a row that the user may not read)
-        one, other = [*map(words_of, self.reply["rows"]), *2 * ["a row that you may not read"]][:2]
-        return f"{sides(self.reply['edge'])}, and these rows differ in it: {one} / {other}"
+        if len(self.reply["rows"]) < 2:
+            # (a hub keeps back rows that the user may not read)
+            return f"{sides(self.reply['edge'])}, and the rows differ in it from others that you may not read"
+        edge = differing(self.reply["edge"], self.reply["rows"])
+        one, other = (words_of({name: row[name] for name in (*edge["left"], *edge["right"])}) for row in self.reply["rows"])
+        return f"{sides(edge)}, and these rows differ in it: {one} / {other}"
 
 
 class NothingToUndo(Refused):
@@ -248,6 +254,23 @@ class NotThrough(Refused):
             return f"send the edits of {view} one at a time: you may change only some tables through it, and what edits change together is known too late"
         named = f": {listing(self.reply['tables'])}" if self.reply["tables"] else ""
         return f"this would change a table that you may not change through {view}{named}; nothing was done"
+
+
+class OtherTable(Refused):
+    """An edit that is limited to some tables would change another; the client refuses it by itself, before it is made. `tables`
+    names those others, and `effects` says row by row what would happen to them."""
+
+    # The numbers of the program lie below.
+    error = 110
+
+    def __init__(self, tables, effects, only):
+        self.tables, self.effects, self.only = list(tables), list(effects), sorted(only)
+        super().__init__({"ok": False, "error": self.error})
+
+    def text(self):
+        more = f", and {len(self.effects) - 1:,} more rows" if len(self.effects) > 2 else ", and one more row" if len(self.effects) == 2 else ""
+        may = f"only {listing(self.only)} may change here" if self.only else "no table may change here"
+        return f"this {self.effects[0]}{more}; {may}"
 
 
 REFUSALS = {

@@ -1,5 +1,6 @@
 """Rows, the changes of them, and what is wrong with one."""
 import html
+import operator
 from collections.abc import Mapping
 from typing import NamedTuple
 
@@ -28,6 +29,13 @@ def values(row, columns):
 def in_order(row, columns):
     """A row with its columns in this order: replies have them by name."""
     return {name: row[name] for name in columns}
+
+
+def by_key(rows, key, columns):
+    """Rows in the order of their key; null comes first. `columns` has the kind of each column."""
+    if any(is_nullable(columns[name]) for name in key):
+        return sorted(rows, key=lambda row: [(row[name] is not None, row[name]) for name in key])
+    return sorted(rows, key=operator.itemgetter(*key)) if key else rows
 
 
 class Rows(list):
@@ -112,8 +120,9 @@ class Fault(NamedTuple):
     """One reason for which an edit is refused.
 
     `error` is 40 for what is no row of the columns, 42 for a row that the predicate refuses, and 43 for rows that break a
-    dependency together. `places` are places in the list of added rows, from 0. `others` are rows that the view has and keeps, and
-    that break the dependency `edge` with them.
+    dependency together. `places` are places in the list of added rows, from 0. `columns` are those by which it is one: the column
+    that is no value, those that the predicate compares, or those that differ. `others` are rows that the view has and keeps, and
+    that break the dependency `edge` with them. `condition` is the part of the predicate that refuses a row.
     """
 
     error: int
@@ -122,6 +131,8 @@ class Fault(NamedTuple):
     column: str = None
     edge: dict = None
     others: list = ()
+    columns: list = ()
+    condition: str = None
 
 
 def shape_fault(row, columns):
@@ -139,19 +150,21 @@ def shape_fault(row, columns):
     return None, None
 
 
-def key_of(columns, dependencies):
-    """The columns that are left when each that the others decide is taken away."""
-    def closure(names):
-        found = set(names)
-        while True:
-            more = {name for it in dependencies if found.issuperset(it["left"]) for name in it["right"]} - found
-            if not more:
-                return found
-            found |= more
+def closure(names, dependencies):
+    """All columns that some columns determine, these among them."""
+    found = set(names)
+    while True:
+        more = {name for it in dependencies if found.issuperset(it["left"]) for name in it["right"]} - found
+        if not more:
+            return found
+        found |= more
 
+
+def key_of(columns, dependencies):
+    """The columns that are left when each that the others determine is taken away."""
     key = list(columns)
     for name in reversed(columns):
         rest = [it for it in key if it != name]
-        if name in closure(rest):
+        if name in closure(rest, dependencies):
             key = rest
     return key

@@ -5,14 +5,16 @@ import os
 import uuid
 import weakref
 
-from .language import Named, UnknownForm, columns_of, condition_of, defined, expanded, path_to, shown_columns
-from .process import MOST_INPUT, TOP, Ended, NotStarted, Program, encoded, line_of
+from .completion import Completer
+from .effects import refuse_others
+from .language import Named, UnknownForm, columns_compared, columns_of, condition_of, defined, expanded, path_to, shown_columns
+from .process import MOST_INPUT, Ended, NotStarted, Program, default_program, encoded, line_of
 from .reasons import Reasons
 from .refusals import BadRecord, Refused, Stale, refusal, stale
 from .remote import Remote, is_address
-from .rows import Change, Fault, Rows, Sheet, in_order, listed, shape_fault, values
-from .store_files import make_private, why_closed
-from .texts import listing, sides
+from .rows import Change, Fault, Rows, Sheet, by_key, in_order, key_of, listed, shape_fault, values
+from .store_files import make_private, refuse_other_files, why_closed
+from .texts import differing, listing, sides, words_of
 
 # How many requests of a series may be under way, and the length of a reply from which on they become fewer.
 MOST_UNDER_WAY, LONG_REPLY = 256, 1 << 16
@@ -37,8 +39,18 @@ class View:
             self.server.kinds[self.name] = self.server.in_order(self.name, self.type()["columns"])
         return dict(self.server.kinds[self.name])
 
+    def dependencies(self) -> list:
+        """The dependencies, each with the columns of its `left` and its `right` side in the order of the definition."""
+        return [{side: [name for name in self.columns() if name in edge[side]] for side in ("left", "right")} for edge in self.type()["dependencies"]]
+
+    def key(self) -> list:
+        """The columns that determine all others, in the order of the definition. (They never change, so they are asked once.)"""
+        if self.name not in self.server.keys:
+            self.server.keys[self.name] = key_of(list(self.columns()), self.type()["dependencies"])
+        return self.server.keys[self.name]
+
     def read(self):
-        """The rows."""
+        """The rows, in the order of the key."""
         return self.rows_of(self.ask("read"))
 
     def find(self, column, value):
@@ -48,7 +60,8 @@ class View:
 
     def rows_of(self, reply):
         columns = self.columns()
-        return Rows([in_order(row, columns) for row in reply["rows"]], columns, reply["version"], reply.get("session", self.server.session))
+        rows = by_key([in_order(row, columns) for row in reply["rows"]], self.key(), columns)
+        return Rows(rows, columns, reply["version"], reply.get("session", self.server.session))
 
     def current(self):
         """The rows as `read` gives them, but read anew only where a table under them was changed since."""
@@ -67,13 +80,37 @@ class View:
         since. Raises OffPredicate, Clash and BadRow where a row is refused."""
         return Change(self.server, self.ask("put", rows=listed(rows), **self.server.rests(on)))
 
-    def edit(self, remove=(), add=(), on=None):
-        """Removes and adds rows. `on` and the exceptions are those of `put`."""
-        return Change(self.server, self.ask("edit", remove=listed(remove), add=listed(add), **self.server.rests(on)))
+    def edit(self, remove=(), add=(), on=None, only=None, tries=10):
+        """Removes and adds rows. `on` and the exceptions are those of `put`.
 
-    def preview(self, remove=(), add=(), on=None):
+        `only` takes names of tables: then a preview comes first, OtherTable is raised where it changes another table, and the edit
+        is made on the version of the preview. Where another change came between, and no `on` was given, both are done again."""
+        remove, add = listed(remove), listed(add)
+        if only is None:
+            return Change(self.server, self.ask("edit", remove=remove, add=add, **self.server.rests(on)))
+        while True:
+            preview, tries = self.preview(remove, add, on, only), tries - 1
+            try:
+                return self.edit(remove, add, on=preview)
+            except Stale:
+                if on is not None or tries <= 0:
+                    raise
+
+    def preview(self, remove=(), add=(), on=None, only=None):
         """What the same edit would change. Nothing is changed."""
-        return Change(self.server, self.ask("preview", remove=listed(remove), add=listed(add), **self.server.rests(on)))
+        remove, add = listed(remove), listed(add)
+        change = Change(self.server, self.ask("preview", remove=remove, add=add, **self.server.rests(on)))
+        if only is not None:
+            refuse_others(self, remove, change, only)
+        return change
+
+    def complete(self, row, typed, among=()):
+        """A row with what its keys determine, as a Completion. `row` has the columns as they were, and none for a new row; `typed`
+        has the values that were typed. Those stay. The columns that they determine are taken from the row that has the key, first
+        of the rows `among`, which are not sent yet, and then of the table under this view; so on to the end of a chain of keys.
+        Where no row has a key, typed values stay, those that came with the old key go, and what is missing is told. Raises
+        UnknownColumn, and KindClash where a key is no value of its column."""
+        return Completer(self, among).complete(row, typed)
 
     def export_csv(self):
         """The rows as CSV: a text whose first record has the names of the columns. Raises NullableColumn where a column may be
@@ -108,10 +145,10 @@ class View:
         remove, add = listed(remove), listed(add)
         said, columns = self.type(), self.columns()
         bad = {place: shape_fault(row, columns) for place, row in enumerate(add)}
-        found = [Fault(40, [place], text, column) for place, (column, text) in bad.items() if text]
+        found = [Fault(40, [place], text, column, columns=[column] if column else []) for place, (column, text) in bad.items() if text]
         whole = [place for place in bad if not bad[place][1]]
         found += self.off_predicate(add, whole, said)
-        for edge in said["dependencies"]:
+        for edge in self.dependencies():
             found += self.clashes(remove, add, whole, edge)
         return sorted(found, key=lambda fault: fault.places[0])
 
@@ -124,15 +161,22 @@ class View:
         found = []
         for place, (request, reply) in zip(places, self.server.exchange(previews)):
             if reply.get("error") == 42:
-                failed = [f"not {text}" for text, condition in conditions if condition and not condition.holds(add[place])]
-                found.append(Fault(42, [place], listing(failed) or "the predicate refuses it"))
+                failed = [(text, condition) for text, condition in conditions if condition and not condition.holds(add[place])]
+                found.append(self.off(add[place], place, failed or conditions))
             elif reply.get("error") not in (None, 43):
                 raise refusal(reply, request)
         return found
 
+    def off(self, row, place, failed):
+        """The fault of a row for which these conditions do not hold."""
+        compared = set().union(*(columns_compared(condition) for _, condition in failed if condition))
+        columns, condition = [name for name in self.columns() if name in compared], listing(text for text, _ in failed)
+        text = f"{self.name} shows only rows where {condition}, and this one has {words_of(in_order(row, columns))}"
+        return Fault(42, [place], text, columns=columns, condition=condition)
+
     def clashes(self, remove, add, places, edge):
         """The faults of one dependency: rows that agree on its left side, and do not all agree on its right side."""
-        left, right = edge["left"], edge["right"]
+        left = edge["left"]
         groups = collections.defaultdict(list)
         for place in places:
             groups[values(add[place], left)].append(place)
@@ -144,8 +188,9 @@ class View:
                 stays[values(row, left)].append(row)
         found = []
         for key, group in groups.items():
-            if len({values(row, right) for row in [*(add[place] for place in group), *stays[key]]}) > 1:
-                found.append(Fault(43, group, f"{sides(edge)}, and these rows differ in it", None, edge, stays[key]))
+            apart = differing(edge, [*(add[place] for place in group), *stays[key]])
+            if apart["right"]:
+                found.append(Fault(43, group, f"{sides(apart)}, and these rows differ in it", None, edge, stays[key], apart["right"]))
         return found
 
     def why(self, remove=(), add=(), change=None, most=None):
@@ -166,18 +211,22 @@ class Server:
     """The program, started over a store or in memory; or a hub that has it, by its address (`https://..`) and a token, or that of
     CIGRELK_TOKEN in the environment. Use it in a `with`, or call `close`. Any thread may use it.
 
-    A store that is not there is made, for its owner alone. Raises NotStarted where there is no program, and Ended where the store
-    cannot be opened (status 6) or is damaged (7). Of a hub it raises NoToken, and Unreachable if it gives no reply."""
+    A store that is not there is made, for its owner alone. Raises NotStarted if there is no program, NotStore if the
+    file is another one than a store (the program never sees it then), and Ended if the store cannot be opened (status 6) or is
+    damaged (7). Of a hub it raises NoToken, and Unreachable if it gives no reply."""
 
     def __init__(self, store=None, program=None, token=None):
         if isinstance(store, str) and is_address(store):
             return self.connect(Remote(store, token or os.environ.get("CIGRELK_TOKEN", "")))
-        words = [program] if isinstance(program, str) else list(program or [os.environ.get("CIGRELK") or f"{TOP}/serve"])
+        words = [program] if isinstance(program, str) else list(program or [default_program()])
         words += ["--max-input", str(MOST_INPUT)]
         # By `=`, since a store may have the name of an option.
         words += [] if store is None else [f"--store={os.fspath(store)}"]
-        self.session, self.kinds, self.kept, self.is_shared = uuid.uuid4().hex, {}, {}, False
-        made = store is not None and make_private(store)
+        self.session, self.kinds, self.keys, self.kept, self.is_shared = uuid.uuid4().hex, {}, {}, {}, False
+        made = False
+        if store is not None:
+            refuse_other_files(store)
+            made = make_private(store)
         try:
             self.start(words, store)
         except Ended:
@@ -194,7 +243,7 @@ class Server:
 
     def connect(self, program):
         # The session is the hub's. It comes with each reply, since the hub may start its program again.
-        self.session, self.kinds, self.kept, self.is_shared, self.program = None, {}, {}, True, program
+        self.session, self.kinds, self.keys, self.kept, self.is_shared, self.program = None, {}, {}, {}, True, program
         self.closes = weakref.finalize(self, program.close)
         self.list()
 
@@ -202,7 +251,7 @@ class Server:
         try:
             self.program = Program(words)
         except OSError as error:
-            raise NotStarted(words[0], error.strerror) from None
+            raise NotStarted(f"the program {words[0]} cannot be started ({error.strerror}); CIGRELK in the environment names another") from None
         # A server that is dropped without `close` ends its program too.
         self.closes = weakref.finalize(self, self.program.close)
         try:
@@ -216,7 +265,7 @@ class Server:
         except (ValueError, TypeError, KeyError, Refused):
             self.program.process.kill()
             self.closes()
-            raise NotStarted(words[0], "it answers as another program does") from None
+            raise NotStarted(f"the program {words[0]} answers as another program does; CIGRELK in the environment names another") from None
 
     def __enter__(self):
         return self

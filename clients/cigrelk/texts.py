@@ -43,7 +43,12 @@ def enumeration(numbers):
 
 def sides(edge):
     """A dependency in words."""
-    return f"{listing(edge['left'])} {'decides' if len(edge['left']) == 1 else 'decide'} {listing(edge['right'])}"
+    return f"{listing(edge['left'])} {'determines' if len(edge['left']) == 1 else 'determine'} {listing(edge['right'])}"
+
+
+def differing(edge, rows):
+    """A dependency with those columns of its right side in which some of the rows differ."""
+    return {"left": edge["left"], "right": [name for name in edge["right"] if any(row[name] != rows[0][name] for row in rows[1:])]}
 
 
 def cell(value, kind):

@@ -1,12 +1,24 @@
-"""Runs the tests of this folder, prints a line for each, and tells at the end what was left out."""
+"""Runs the tests of this folder, several files at once, prints a line for each test, and tells at the end what was left out."""
+import argparse
+import concurrent.futures
 import glob
+import json
 import os
 import signal
+import subprocess
 import sys
+import tempfile
+import threading
 import time
 import unittest
 
+from packages import is_installed, lacking_in
+
 HERE = os.path.dirname(os.path.abspath(__file__))
+# The files that take longest begin first, so that none of them is left alone at the end.
+LONGEST = ("test_mirror", "test_hub", "test_sql", "test_editor")
+# How many tests that were wrong are tried once more: a busy machine may be too slow for a test that waits.
+MOST_AGAIN = 3
 
 
 def said(errors):
@@ -24,14 +36,19 @@ class Lines(unittest.TestResult):
     def tell(self, test, how):
         # (a class whose tests are left out has no test that began)
         seconds = time.monotonic() - getattr(self, "began", time.monotonic())
-        print(f"{test.id() if hasattr(test, 'id') else test}: {how}, {seconds:.1f} s", flush=True)
+        print(f"{name_of(test)}: {how}, {seconds:.1f} s", flush=True)
 
     def addSuccess(self, test):
         self.tell(test, "right")
 
     def addSkip(self, test, reason):
         super().addSkip(test, reason)
-        self.tell(test, f"left out, since {reason}")
+        package = lacking_in(reason)
+        if package and is_installed(package):
+            self.failures.append((test, f"It was left out, though Debian's package {package} is installed.\n"))
+            self.tell(test, "WRONG")
+        else:
+            self.tell(test, f"left out, since {reason}")
 
     def addFailure(self, test, error):
         super().addFailure(test, error)
@@ -41,29 +58,97 @@ class Lines(unittest.TestResult):
         super().addError(test, error)
         self.tell(test, "WRONG")
 
+    def addSubTest(self, test, subtest, error):
+        super().addSubTest(test, subtest, error)
+        if error:
+            self.tell(test, "WRONG")
 
-def main(files):
+    def addExpectedFailure(self, test, error):
+        super().addExpectedFailure(test, error)
+        self.tell(test, "fails as expected")
+
+
+def name_of(test):
+    return test.id() if hasattr(test, "id") else str(test)
+
+
+def run_here(names, report):
+    """Runs the tests of these names in this process, and writes to a file how they went."""
     # A shell that starts this in the background lets it ignore interrupts, and so would the programs that tests end by one.
     signal.signal(signal.SIGINT, signal.default_int_handler)
-    sys.path.insert(0, HERE)
-    names = [os.path.basename(path)[:-3] for path in files or sorted(glob.glob(f"{HERE}/test_*.py"))]
-    result, began = Lines(), time.monotonic()
-    load = unittest.defaultTestLoader.loadTestsFromName
+    result, load = Lines(), unittest.defaultTestLoader.loadTestsFromName
     unittest.TestSuite(load(name) for name in names).run(result)
-    # A busy machine may be too slow for a test that waits: what is wrong is tried once more, and both are told.
-    wrong = [test for test, _ in result.failures + result.errors]
-    if 0 < len(wrong) <= 3 and all(isinstance(test, unittest.TestCase) for test in wrong):
-        for test, text in result.failures + result.errors:
-            print(f"\n{test}\n{text}\ntried once more:")
-        result.failures, result.errors = [], []
-        unittest.TestSuite(load(test.id()) for test in wrong).run(result)
-    for test, text in result.failures + result.errors:
-        print(f"\n{test}\n{text}")
-    print(f"{result.testsRun} tests in {time.monotonic() - began:.0f} s: {len(result.failures) + len(result.errors)} wrong, {len(result.skipped)} left out")
-    for reason in sorted({reason for _, reason in result.skipped}):
+    wrong = [(name_of(test), text) for test, text in result.failures + result.errors]
+    with open(report, "w", encoding="utf-8") as file:
+        json.dump({"run": result.testsRun, "wrong": wrong, "left_out": [reason for _, reason in result.skipped]}, file)
+
+
+class Runs:
+    """Runs of tests in processes of their own. Their lines are printed as they come, whole."""
+
+    def __init__(self, room):
+        self.room, self.turn, self.count = room, threading.Lock(), 0
+
+    def run(self, names):
+        """How the tests of these names went."""
+        with self.turn:
+            self.count += 1
+            report = f"{self.room}/{self.count}"
+        words = [sys.executable, "-W", "error", os.path.abspath(__file__), "--report", report, *names]
+        with subprocess.Popen(words, stdout=subprocess.PIPE, stderr=subprocess.STDOUT, text=True, errors="replace") as process:
+            for line in process.stdout:
+                with self.turn:
+                    print(line, end="", flush=True)
+        try:
+            with open(report, encoding="utf-8") as file:
+                return json.load(file)
+        except (OSError, ValueError):
+            ended = f"The tests did not come to their end: status {process.returncode}.\n"
+            return {"run": 0, "wrong": [(", ".join(names), ended)], "left_out": []}
+
+
+def names_of(files):
+    """The names of the files' modules, those first that take longest."""
+    names = [os.path.basename(path)[:-3] for path in files or sorted(glob.glob(f"{HERE}/test_*.py"))]
+    return sorted(names, key=lambda name: LONGEST.index(name) if name in LONGEST else len(LONGEST))
+
+
+def tell_wrong(wrong):
+    for name, text in wrong:
+        print(f"\n{name}\n{text}")
+
+
+def run_all(names, processes):
+    """Runs the tests of each of these modules, and gives the status."""
+    began = time.monotonic()
+    with tempfile.TemporaryDirectory() as room, concurrent.futures.ThreadPoolExecutor(processes) as pool:
+        runs = Runs(room)
+        found = list(pool.map(runs.run, [[name] for name in names]))
+        wrong = [tuple(one) for result in found for one in result["wrong"]]
+        again = sorted({name for name, _ in wrong})
+        if 0 < len(again) <= MOST_AGAIN and all(name.startswith("test_") and " " not in name for name in again):
+            tell_wrong(wrong)
+            print("\ntried once more:", flush=True)
+            wrong = runs.run(again)["wrong"]
+    tell_wrong(wrong)
+    left_out = [reason for result in found for reason in result["left_out"]]
+    print(f"{sum(result['run'] for result in found)} tests in {time.monotonic() - began:.0f} s: {len(wrong)} wrong, {len(left_out)} left out")
+    for reason in sorted(set(left_out)):
         print(f"left out: {reason}")
-    return int(not result.wasSuccessful())
+    return int(bool(wrong))
+
+
+def main():
+    parser = argparse.ArgumentParser(description=__doc__)
+    parser.add_argument("files", nargs="*", metavar="FILE", help="files of this folder; all of them if none is named")
+    parser.add_argument("--processes", type=int, default=max(2, min(4, os.cpu_count() or 2)), help="how many files at once")
+    parser.add_argument("--report", help=argparse.SUPPRESS)
+    options = parser.parse_args()
+    if options.report:
+        run_here(options.files, options.report)
+        return 0
+    return run_all(names_of(options.files), options.processes)
 
 
 if __name__ == "__main__":
-    sys.exit(main(sys.argv[1:]))
+    sys.exit(main())

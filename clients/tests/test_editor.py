@@ -24,6 +24,7 @@ import browser
 from browser import ALT, CONTROL
 from cigrelk import TOP, Server
 from cigrelk.command import main
+from packages import wants
 
 DEFINITIONS = [
     "table tracks (track text, date int, rating int, album text) with track -> date rating",
@@ -271,7 +272,7 @@ class Answers(OverStore):
                                  [["Lullaby", "4", "Show", "3"], ["Disco", "2", "Wish", "5"]], do="preview")
         (tracks,) = reply["changed"]
         why = {(it["rows"][1] or it["rows"][0])[0] + " " + (it["rows"][1] or it["rows"][0])[3]: "; ".join(it["why"]) for it in tracks["lines"]}
-        self.assertIn("track decides", why["Lullaby Galore"])
+        self.assertIn("track determines", why["Lullaby Galore"])
         self.assertIn("hidden", why["Lullaby Galore"])
         self.assertIn("the join deletes", why["Lovesong Paris"])
         self.assertIn("default of the drop", why["Disco Wish"])
@@ -289,7 +290,7 @@ class Answers(OverStore):
         add = [["Low", "1", "Nowhere", "1"], ["New", "5", "Wish", "9"], ["Lullaby", "9", "Show", "3"]]
         found = self.editor.ask("faults", view="stock", remove=[], add=add)["faults"]
         self.assertEqual([(it["places"], it["short"]) for it in found],
-                         [([0], "not quantity > 2"), ([1], "album decides quantity"), ([2], "track decides rating")])
+                         [([0], "not quantity > 2"), ([1], "album determines quantity"), ([2], "track determines rating")])
         self.assertEqual(found[1]["others"], [["Trust", "4", "Wish", "5"]])
 
     def test_the_views_that_show_a_row_of_a_table(self):
@@ -351,7 +352,7 @@ class ReadOnly(unittest.TestCase):
         self.assertEqual(editor.ask("list")["definitions"], [])
 
 
-@unittest.skipUnless(browser.found(), "there is no Chromium")
+@wants("chromium")
 class Page(OverStore):
     """The page, as a person uses it."""
 
@@ -401,7 +402,7 @@ class Page(OverStore):
         self.open("stock")
         self.put(1, 1, "4")
         self.settled()
-        for text in ("Saving changes this table", "tracks 2 rows", "Galore", "track decides"):
+        for text in ("Saving changes this table", "tracks 2 rows", "Galore", "track determines"):
             self.assertIn(text, self.below())
 
     def test_save_and_undo(self):
@@ -428,7 +429,7 @@ class Page(OverStore):
         self.open("stock")
         self.paste("Low\t1\tNowhere\t1\nNew\t5\tWish\t9\nLullaby\t9\tShow\t3\nbad\tx\tWish\t5\ngood\t1\tShow\t3\n")
         self.page.wait("state.faults.length === 4")
-        for text in ("Refused: 4 faults", "not quantity > 2", "album decides quantity", "track decides rating", "rating wants a whole number"):
+        for text in ("Refused: 4 faults", "stock shows only rows where quantity > 2, and this one has quantity 1", "album determines quantity", "track determines rating", "rating wants a whole number"):
             self.assertIn(text, self.below())
         reasons = self.page.run("[...document.querySelectorAll('tr.bad')].map((row) => [row.cells[1].innerText, row.querySelector('.why').innerText])")
         self.assertIn(["bad", "rating wants a whole number of 64 bits"], reasons)
@@ -498,13 +499,15 @@ class Page(OverStore):
             self.page.wait("!busy && !editedRows().length")
             self.assertEqual(self.page.run("state.rows.map((row) => row.old)"), self.editor.read("albums")["rows"])
 
-    def test_what_a_key_decides_is_filled_in(self):
+    def test_what_a_key_determines_is_filled_in(self):
         self.open("tracks")
         self.page.click("#add")
         self.page.wait("editing")
         self.page.type("Trust")
         self.page.key("Enter")
-        self.assertEqual(self.edited(), [["Trust", "1992", "4", ""]])
+        self.page.wait("document.querySelector('tr.asks')")
+        self.assertEqual(self.edited(), [["Trust", "1992", "4", None]])
+        self.assertIn("type album", self.below())
         self.page.click("#discard")
         self.page.wait("!editedRows().length")
         self.put(0, 2, "1")

@@ -1,5 +1,6 @@
 """The shell, and the program that makes a store with other definitions."""
 import os
+import shlex
 import stat
 import subprocess
 import sys
@@ -9,6 +10,7 @@ import unittest
 HERE = os.path.dirname(os.path.abspath(__file__))
 CLIENTS = os.path.dirname(HERE)
 sys.path[:0] = [CLIENTS, HERE]
+import shops
 from cigrelk import TOP, Server
 from run import said
 
@@ -101,11 +103,23 @@ class Shell(Room):
             ("undo", '- goods: name "axe", quantity 7\n- goods: name "saw", quantity 4\n'), ("goods", "(0 rows, version 4)\n")]), 0)
         for lines, told in (
             ([("batch", ""), add, ("add big name=nail quantity=1", "kept as edit 1\n"), ("done", 'OffPredicate: edit 1, counted from 0, of big: the view does not show such a row: name "nail", quantity 1\n')], "(0 rows, version 2)"),
-            ([("batch", ""), ("add goods name=axe", "kept as edit 0\n"), ("add goods prize=9", "'prize=9' is no COLUMN=VALUE"), ("done", "a line of this batch was refused, so nothing of it is done\n")], "(0 rows, version 2)"),
+            ([("batch", ""), add, ("add goods prize=9", "'prize=9' is no COLUMN=VALUE"), ("done", "a line of this batch was refused, so nothing of it is done\n")], "(0 rows, version 2)"),
             ([("done", "there is no batch"), ("batch", ""), ("batch", "a batch is under way"), ("drop", ""), ("drop", "there is no batch"), ("undo", "NothingToUndo")], "(0 rows, version 2)"),
             ([("batch", ""), add], "(0 rows, version 2)\nthe batch was not done\n"),
         ):
             self.assertEqual(self.in_turn([table, *lines, ("goods", told)]), 1)
+
+    def test_what_keys_determine_need_not_be_given(self):
+        definitions = "".join(f"{text}\n" for text in shops.DEFINITIONS)
+        rows = [(f"add {table} " + " ".join(f"{name}={shlex.quote('null' if it is None else str(it))}" for name, it in zip(shops.COLUMNS[table], row)), f"+ {table}: ")
+                for table, rows in shops.ROWS.items() for row in rows]
+        self.assertEqual(self.in_turn([
+            (definitions.strip(), ""), *rows, ("add open_sales line_id=7 order_id=100 product_id=3", "+ lines: line_id 7, order_id 100, product_id 3, note null\n"),
+            ("preview change open_sales line_id=4 set product_id=3", "- lines: line_id 4, order_id 101, product_id 4, note null\n    changed in open_sales\n+ lines: line_id 4, order_id 101, product_id 3, note null\n"),
+            ("add open_sales line_id=8 product_id=3", "give order_id too: nothing determines it\n"), ("change open_sales line_id=4 set order_id=9", "give customer_id, placed and status too: nothing determines them\n"),
+            ("type open_sales", "joins:        lines with orders by order_id, orders with customers by customer_id, lines with products by product_id\n"),
+            ("table people (id int, age int) with id -> age", ""), ("view odd = join_dl products with people", "warning: products and people are joined by id, which both have."),
+            ("open_sales", "(5 rows, ")]), 1)
 
     def test_a_file_that_is_exported_and_imported(self):
         path, other = f"{self.room}/goods.csv", self.file("other.csv", "\ufeffquantity,name\r\n9,axe\r\n")
@@ -118,11 +132,11 @@ class Shell(Room):
             self.assertEqual((file.read(), os.path.exists(f"{path}2")), ("name,quantity\nan axe,7\n", False))
 
     def test_nulls(self):
-        path = self.file("people.csv", 'name,boss,age\r\nann,null,null\r\ncy,"""""null""""",0\r\nbob,"""null""",7\r\n')
+        path = self.file("people.csv", 'name,boss,age\r\nann,null,null\r\nbob,"""null""",7\r\ncy,"""""null""""",0\r\n')
         lines = [
             ("table people (name text, boss text null, age int null) with name -> boss age", ""), (f"load people {path}", '+ people: name "cy", boss "\\"null\\"", age 0'),
             ("read people where boss=null", "ann   null  null"), ("read people where boss='\"null\"'", 'bob   "null"    7'), ("add people name=di boss=null age=x", "age wants a whole number of 64 bits or null"),
-            ("add people name=null boss=ann age=null", '+ people: name "null", boss "ann", age null'), ("add people name=ed boss=ann", "the column 'age' is missing"),
+            ("add people name=null boss=ann age=null", '+ people: name "null", boss "ann", age null'), ("add people name=ed boss=ann", '+ people: name "ed", boss "ann", age null'), ("delete people name=ed", "- people"),
             ("change people boss=null set boss=ann age=1", '+ people: name "ann", boss "ann", age 1'), ("undo", '+ people: name "ann", boss null, age null'), ("type people", "name text, boss text null, age int null"),
             ("delete people name=null", '- people: name "null", boss "ann", age null'), (f"save people {path}2", ""), (f"check people {path}2", "(0 faults)"),
         ]
@@ -131,7 +145,7 @@ class Shell(Room):
             self.assertEqual(one.read(), other.read())
 
     def test_how_it_ends(self):
-        for store, told in (("/nowhere/shop.db", "its folder is not there"), (self.room, "it is a folder"), (self.file("text.db", "a text and no store"), "the file is no store")):
+        for store, told in (("/nowhere/shop.db", "its folder is not there"), (self.room, "it is a folder"), (self.file("text.db", "a text and no store"), "is no store: it is no database of SQLite")):
             done = run("shell", store)
             self.assertEqual((done.returncode, told in done.stderr, "Traceback" in done.stderr), (1, True, False), done.stderr)
 
@@ -173,9 +187,9 @@ class Rebuild(Room):
         self.assertEqual((done.returncode, done.stdout), (0, "people: 2 rows of 2\n"), done.stderr)
         with Server(new) as server:
             rest = {"age": None, "flag": None, "town": "null"}
-            self.assertEqual(list(server["people"].read()), [{"name": "bob", "boss": "ann", **rest}, {"name": "ann", "boss": "null", **rest}])
+            self.assertEqual(list(server["people"].read()), [{"name": "ann", "boss": "null", **rest}, {"name": "bob", "boss": "ann", **rest}])
         plain = self.file("plain", "table people (name text, age int, town text)\n")
-        for more, told in (((), "row 0 of 'add': 'age' is no column, or null is not of its kind"), (("people.age=null",), "people.age=null"), (("people.age=3", "people.town=null"), "")):
+        for more, told in (((), "row 1 of those to add: 'age' is no column, or null is not of its kind"), (("people.age=null",), "people.age=null"), (("people.age=3", "people.town=null"), "")):
             done = run("rebuild", new, newer, plain, *more)
             self.assertEqual((done.returncode, told in done.stderr), (int(bool(told)), True), done.stderr)
         with Server(newer) as server:

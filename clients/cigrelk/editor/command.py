@@ -5,6 +5,7 @@ address has a secret, and only programs of the user who started the editor are a
 and without --read-only change everything. A store that is made here is readable by this user alone. Ctrl-C ends it.
 """
 import argparse
+import contextlib
 import re
 import secrets
 import signal
@@ -12,10 +13,12 @@ import webbrowser
 
 from ..errors import CommandError
 from ..server import Server
-from .application import Application
+from ..store_files import private_copy
+from .application import Application, all_rights
 from .web import WebServer, handler
 
 SUMMARY = "edits the tables and views of a store in the browser"
+READ_ONLY = "this editor was started with --read-only, so it changes nothing"
 
 
 def port_number(text):
@@ -29,7 +32,11 @@ def add_arguments(parser: argparse.ArgumentParser) -> None:
     parser.add_argument("store", nargs="?", metavar="STORE", help="the file of the store; without it the tables are in memory alone")
     parser.add_argument("--port", type=port_number, default=0, metavar="N", help="the port of the page; without it one that is free")
     parser.add_argument("--quiet", action="store_true", help="opens no browser")
-    parser.add_argument("--read-only", action="store_true", help="refuses every change")
+    parser.add_argument("--read-only", action="store_true", help="refuses every change, and serves a private copy: no byte of the store and of its folder changes")
+
+
+def read_alone(_):
+    return ("read",)
 
 
 def interrupt(*_):
@@ -37,8 +44,11 @@ def interrupt(*_):
 
 
 def serve(web: WebServer, options: argparse.Namespace) -> None:
-    application = Application(lambda: Server(options.store), options.store is not None, options.read_only)
-    try:
+    with contextlib.ExitStack() as room:
+        store = room.enter_context(private_copy(options.store)) if options.read_only and options.store is not None else options.store
+        rights, denied = (read_alone, READ_ONLY) if options.read_only else (all_rights, "")
+        application = Application(lambda: Server(store), store is not None, rights, denied)
+        room.callback(application.close)
         secret, port = secrets.token_urlsafe(16), web.server_address[1]
         web.RequestHandlerClass = handler(application, secret, port)
         address = f"http://127.0.0.1:{port}/{secret}/"
@@ -46,8 +56,6 @@ def serve(web: WebServer, options: argparse.Namespace) -> None:
         if not options.quiet:
             webbrowser.open(address)
         web.serve_forever()
-    finally:
-        application.close()
 
 
 def run(options: argparse.Namespace) -> int:

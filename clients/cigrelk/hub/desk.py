@@ -191,7 +191,9 @@ class Desk:
         return encoded({"definitions": texts, "ok": True, "session": self.engine.session, "version": scope.version()}).encode()
 
     async def preview(self, user: User, scope: Scope, request: dict) -> bytes:
-        entry = scope.need(request["view"], "preview")
+        # An empty preview says whether rows that were read are those of now, which is for who may read them.
+        is_empty = not request["remove"] and not request["add"] and "read" in scope.rights.get(request["view"], ())
+        entry = scope.need(request["view"], "read" if is_empty else "preview")
         watch = None if entry.name in scope.open else Watch({entry.name: request["remove"] + request["add"]})
         lines = [*watch.lines, line_of(request)] if watch else [line_of(request)]
         if "on" in request:

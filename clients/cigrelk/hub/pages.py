@@ -9,7 +9,7 @@ import collections
 import concurrent.futures
 import json
 import os
-from typing import Dict
+from typing import Dict, List, Optional
 
 from aiohttp import web
 
@@ -87,11 +87,15 @@ class EditorPages:
         """The application of a user. One whose rights were changed gets another."""
         found = self.people.pop(user.name, None)
         if found is None or found[0] is not user:
-            found = (user, Application(lambda: Server.over(AtDesk(self.hub, self.loop, user)), False))
+            found = (user, Application(lambda: Server.over(AtDesk(self.hub, self.loop, user)), False, lambda name: self.rights(user, name)))
         self.people[user.name] = found
         while len(self.people) > MOST_PEOPLE:
             self.people.pop(next(iter(self.people)))
         return found[1]
+
+    def rights(self, user: User, name: Optional[str]) -> List[str]:
+        """What a user may do with a table or a view, and for None what he may do at all."""
+        return [power for power in ("define", "undo") if user.can(power)] if name is None else sorted(user.on(name))
 
 
 def with_script(page: str, script: str) -> str:

@@ -11,8 +11,8 @@ from typing import Optional
 from aiohttp import web
 
 from ..errors import CommandError
-from ..process import MOST_INPUT, TOP
-from ..store_files import make_private
+from ..process import MOST_INPUT, default_program
+from ..store_files import make_private, refuse_other_files
 from .desk import Desk
 from .engine import Closing
 from .journal import Journal
@@ -47,10 +47,11 @@ def loop_factory():
 
 
 async def serve(options: argparse.Namespace) -> int:
-    store, program = options.store, os.environ.get("CIGRELK") or f"{TOP}/serve"
+    store = options.store
+    refuse_other_files(store)
     make_private(store)
     desk = Desk(Users(f"{store}.users"), Journal(f"{store}.journal"))
-    await desk.start([program, "--max-input", str(MOST_INPUT), f"--store={store}"])
+    await desk.start([default_program(), "--max-input", str(MOST_INPUT), f"--store={store}"])
     hub = Hub(desk, host_names(options))
     add_routes(hub, (*ROUTES, ROUTE))
     EditorPages(hub).add_routes()
