@@ -1,8 +1,4 @@
-"""Starts hubs for the tests, and asks them.
-
-The hub needs aiohttp. Where the interpreter of the tests does not have it, the hub is run by that of Debian, and where that does not
-have it either the tests of the hub are left out.
-"""
+"""Starts hubs for the tests, asks them, and puts each reply to what the OpenAPI document of the hub says of it."""
 import http.client
 import json
 import os
@@ -20,10 +16,13 @@ TOP = os.path.dirname(os.path.dirname(HERE))
 sys.path.insert(0, os.path.dirname(HERE))
 from cigrelk.hub.rights import Users
 
-PYTHONS = (sys.executable, "/usr/bin/python3")
-PYTHON = next((it for it in PYTHONS if subprocess.run([it, "-c", "import aiohttp"], capture_output=True).returncode == 0), None)
-WHY_LEFT_OUT = "aiohttp is not installed (Debian: python3-aiohttp)"
-HUB = [PYTHON, f"{TOP}/cigrelk", "hub"]
+try:
+    import jsonschema
+except ImportError:
+    jsonschema = None
+# A longer body is not put to the document: that takes longer than the test.
+MOST_CHECKED = 1 << 17
+HUB = [sys.executable, f"{TOP}/cigrelk", "hub"]
 SHELL = [sys.executable, f"{TOP}/cigrelk", "shell"]
 EXAMPLES = f"{TOP}/examples"
 PROGRAM = os.environ.get("CIGRELK") or f"{TOP}/serve"
@@ -54,7 +53,7 @@ def free_port():
 def with_constants(constants):
     """The words that start the command `cigrelk` with other constants: values by module of the hub and name."""
     changes = "\n".join(f"import cigrelk.hub.{name.partition('.')[0]}; cigrelk.hub.{name} = {value!r}" for name, value in constants.items())
-    return [PYTHON, "-c", CHANGED.format(clients=os.path.dirname(HERE), changes=changes), "hub"]
+    return [sys.executable, "-c", CHANGED.format(clients=os.path.dirname(HERE), changes=changes), "hub"]
 
 
 class HubAt:
@@ -63,7 +62,7 @@ class HubAt:
     def __init__(self, users=None, requests=SHOP, constants=None, folder=MEMORY, **environment):
         self.folder = tempfile.mkdtemp(prefix="hub-", dir=folder)
         self.words = with_constants(constants) if constants else HUB
-        self.store, self.port, self.tokens = f"{self.folder}/shop.db", free_port(), {}
+        self.store, self.port, self.tokens, self.document = f"{self.folder}/shop.db", free_port(), {}, None
         self.environment = {**os.environ, "PYTHONDONTWRITEBYTECODE": "1", **environment}
         self.users = Users(f"{self.store}.users")
         for name, words in {"root": ["admin"], **(users or {})}.items():
@@ -132,7 +131,17 @@ class HubAt:
         if connection is None:
             mine.close()
         kind = answer.headers.get("Content-Type", "")
-        return answer.status, dict(answer.getheaders()), json.loads(found) if found and "json" in kind and "ndjson" not in kind else found.decode()
+        told = json.loads(found) if found and "json" in kind and "ndjson" not in kind else found.decode()
+        self.check(method, path, answer.status, kind, told if len(found) < MOST_CHECKED else None)
+        return answer.status, dict(answer.getheaders()), told
+
+    def check(self, method, path, status, kind, told):
+        """Raises AssertionError if a reply is another than the document says."""
+        if jsonschema is None:
+            return
+        if self.document is None:
+            self.document = Document(self)
+        self.document.check(method, path, status, kind, told)
 
     def raw_lines(self, who, lines):
         return self.ask(who, "POST", "/lines", b"".join(line + b"\n" for line in lines), Content_Type="application/x-ndjson")[2].encode().split(b"\n")[:-1]
@@ -156,6 +165,44 @@ class HubAt:
                 return found, False
             except ConnectionResetError:
                 return found, True
+
+
+class Document:
+    """The OpenAPI document of a hub."""
+
+    def __init__(self, hub):
+        connection = hub.connect()
+        connection.request("GET", "/openapi.json", headers={"Authorization": f"Bearer {hub.tokens['root']}"})
+        self.told = json.loads(connection.getresponse().read())
+        connection.close()
+        self.validators = {}
+
+    def operation(self, method, path):
+        """What the document says of a request, or None if it knows none."""
+        path = path.partition("?")[0]
+        template = re.sub("^/views/[^/]+", "/views/{name}", path)
+        return self.told["paths"].get(template, {}).get(method.lower())
+
+    def check(self, method, path, status, kind, told):
+        operation = self.operation(method, path)
+        if operation is None:
+            return
+        response = operation["responses"].get(str(status))
+        assert response, f"{method} {path} is answered with {status}, which the document does not have"
+        if method == "HEAD" or status == 304:
+            return
+        content = response["content"].get(kind.partition(";")[0])
+        assert content is not None, f"{method} {path} is answered as {kind}, which the document does not have"
+        if "schema" in content and told is not None:
+            self.validator(content["schema"]).validate(told)
+
+    def validator(self, schema):
+        name = json.dumps(schema)
+        if name not in self.validators:
+            whole = {**schema, "components": self.told["components"]}
+            jsonschema.Draft202012Validator.check_schema(whole)
+            self.validators[name] = jsonschema.Draft202012Validator(whole)
+        return self.validators[name]
 
 
 class Events:

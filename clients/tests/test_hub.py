@@ -12,7 +12,8 @@ import time
 import unittest
 import zlib
 
-from hubs import HERE, HUB, PROGRAM, PYTHON, SHELL, SHOP, WHY_LEFT_OUT, Events, HubAt
+from hubs import HERE, HUB, PROGRAM, SHELL, SHOP, Events, HubAt
+from packages import wants
 
 import cigrelk
 
@@ -23,7 +24,7 @@ KEYS = [{"do": "define", "text": "table pairs (k int, v int, w text) with k -> v
 ALL = ["*=read,preview,edit", "undo"]
 
 
-@unittest.skipUnless(PYTHON, WHY_LEFT_OUT)
+@wants("python3-aiohttp")
 class Web(unittest.TestCase):
     @classmethod
     def setUpClass(cls):
@@ -100,8 +101,9 @@ class Web(unittest.TestCase):
         self.assertIn('"stock":', again.next("change"))
         [it.close() for it in (events, blind, again)]
 
+    @wants("python3-jsonschema")
     def test_the_document_is_true(self):
-        """Each operation of the document is there, and each status that tests see is in it."""
+        """Each operation of the document is there. (Each reply that a test of the hub gets is put to it, in `hubs.Document`.)"""
         _, _, told = self.hub.ask("ann", "GET", "/openapi.json")
         self.assertEqual(sorted(told["components"]["schemas"]), ["Change", "Health", "Problem", "Row", "Rows", "View", "Views", "row_of_stock"])
         for path, operations in told["paths"].items():
@@ -186,7 +188,7 @@ class Web(unittest.TestCase):
         self.assertEqual(self.hub.ask("ann", "POST", "/undo", {"change": hers})[2]["error"], 44)
 
 
-@unittest.skipUnless(PYTHON, WHY_LEFT_OUT)
+@wants("python3-aiohttp")
 class Clients(unittest.TestCase):
     def test_python(self):
         with HubAt({"ann": ["stock=read,preview,edit", "undo"], "all": ALL}) as hub:
@@ -289,7 +291,7 @@ class Clients(unittest.TestCase):
             print(f"{len(accepted)} updates accepted, {len(refused)} refused as stale", file=sys.stderr)
 
 
-@unittest.skipUnless(PYTHON, WHY_LEFT_OUT)
+@wants("python3-aiohttp")
 class Ends(unittest.TestCase):
     def edits(self, hub, seconds, told):
         """Edits that each add a row of their own; those that were answered are noted."""
@@ -393,7 +395,7 @@ class Ends(unittest.TestCase):
             self.assertEqual(hub.ask("all", "GET", "/views/pairs?k=6000")[2], [])
 
 
-@unittest.skipUnless(PYTHON, WHY_LEFT_OUT)
+@wants("python3-aiohttp")
 class Load(unittest.TestCase):
     def test_one_who_floods_delays_others_little(self):
         with HubAt({"all": ALL, "flood": ALL}, KEYS) as hub:

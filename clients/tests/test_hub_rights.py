@@ -6,7 +6,8 @@ import random
 import subprocess
 import unittest
 
-from hubs import EXAMPLES, PROGRAM, PYTHON, SHOP, WHY_LEFT_OUT, HubAt
+from hubs import EXAMPLES, PROGRAM, SHOP, HubAt
+from packages import wants
 
 ROW = {"track": "Trust", "rating": 4, "album": "Wish", "quantity": 5}
 OTHER = {**ROW, "rating": 3}
@@ -40,7 +41,7 @@ def name_of(rights, powers):
     return "u_" + "_".join(sorted(rights | powers))
 
 
-@unittest.skipUnless(PYTHON, WHY_LEFT_OUT)
+@wants("python3-aiohttp")
 class Rights(unittest.TestCase):
     def test_every_request_against_every_right(self):
         users = {name_of(rights, powers): [f"stock={','.join(rights)}", *powers] for rights in SETS for powers in POWERS}
@@ -102,7 +103,7 @@ class Rights(unittest.TestCase):
                     self.assertEqual(one, other)
 
 
-@unittest.skipUnless(PYTHON, WHY_LEFT_OUT)
+@wants("python3-aiohttp")
 class Windows(unittest.TestCase):
     ASKED = [
         {"do": "list"}, {"do": "type", "view": "stock"}, {"do": "type", "view": "tracks"}, {"do": "read", "view": "stock"},

@@ -3,7 +3,8 @@ import socket
 import time
 import unittest
 
-from hubs import PYTHON, WHY_LEFT_OUT, HubAt
+from hubs import HubAt
+from packages import wants
 
 # Limits of time, in seconds.
 SHORT = {"web.MOST_IDLE": 3, "web.MOST_UNKNOWN": 3, "web.MOST_SENDING": 3, "web.MOST_STALLED": 3, "events.HEARTBEAT": 1}
@@ -13,7 +14,7 @@ def quick():
     return HubAt({"all": ["*=read,preview,edit"]}, constants=SHORT)
 
 
-@unittest.skipUnless(PYTHON, WHY_LEFT_OUT)
+@wants("python3-aiohttp")
 class Slow(unittest.TestCase):
     def closed_after(self, it, seconds, trickle=b""):
         began = time.monotonic()

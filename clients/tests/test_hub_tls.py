@@ -5,10 +5,11 @@ import ssl
 import subprocess
 import unittest
 
-from hubs import HUB, PYTHON, WHY_LEFT_OUT, HubAt
+from hubs import HUB, HubAt
+from packages import wants
 
 
-@unittest.skipUnless(PYTHON, WHY_LEFT_OUT)
+@wants("python3-aiohttp")
 class Tls(unittest.TestCase):
     def test_https(self):
         with HubAt() as hub:

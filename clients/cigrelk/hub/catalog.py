@@ -97,6 +97,8 @@ class Catalog:
 
     def __init__(self):
         self.entries: Dict[str, Entry] = {}
+        # (by view what `changed_at` has reckoned since the last change)
+        self.reckoned: Dict[str, int] = {}
         self.changed: Dict[str, int] = {}
         self.changed_in_program: Dict[str, int] = {}
         self.version = self.program_version = 0
@@ -129,13 +131,17 @@ class Catalog:
         return self.touch(tables)
 
     def touch(self, tables: List[str]) -> List[str]:
+        self.reckoned.clear()
         for table in tables:
             self.changed[table], self.changed_in_program[table] = self.version, self.program_version
         return tables
 
     def changed_at(self, name: str) -> int:
         """The last change of the tables under a name."""
-        return max(self.changed[table] for table in self.entries[name].tables)
+        found = self.reckoned.get(name)
+        if found is None:
+            found = self.reckoned[name] = max(self.changed[table] for table in self.entries[name].tables)
+        return found
 
     def on_in_program(self, views: Iterable[str], on: int) -> int:
         """What a change that rests on a version of the hub rests on in the program: its present version, or one by which it is
@@ -163,12 +169,17 @@ class Scope:
             if user.is_admin or ("read" in user.on(name) and entry.made_of is not None and self.open.issuperset(entry.made_of)):
                 self.open.add(name)
         self.tables = {table for name in self.rights for table in catalog.entries[name].tables}
+        # (a version of the catalogue, and what `version` gave at it)
+        self.reckoned = (-1, 0)
 
     def version(self) -> int:
         """The version that the user is told: the last change of the tables under what he may see. An admin is told that of all."""
+        now = self.catalog.version
         if self.user.is_admin:
-            return self.catalog.version
-        return max((self.catalog.changed[table] for table in self.tables), default=0)
+            return now
+        if self.reckoned[0] != now:
+            self.reckoned = now, max((self.catalog.changed[table] for table in self.tables), default=0)
+        return self.reckoned[1]
 
     def need(self, name: str, *rights: str) -> Entry:
         """The table or view. Raises No if it is hidden (22), or if a right on it is missing."""

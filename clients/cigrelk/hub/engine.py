@@ -21,6 +21,8 @@ MOST_JOBS, MOST_BYTES, MOST_TIME = 16, 1 << 18, 0.005
 MOST_WAITING, MOST_HELD = 4096, 64 << 20
 # How many edits may share one turn, and how many bytes their lines may have.
 MOST_SHARED, MOST_SHARED_BYTES = 128, 1 << 18
+# How long (in seconds) a turn waits for changes of those who had one in the last turn: they ask again when they have their replies.
+MOMENT = 0.001
 # A program that ends so often within a minute is not started again.
 MOST_STARTS = 5
 # How long (in seconds) a start waits for a store that an older program still lets go of, and the status of a store that is held.
@@ -57,8 +59,6 @@ class Job:
         self.lines, self.then, self.session, self.on = lines, then, session, on
         self.replies: List[bytes] = []
         self.done = asyncio.get_running_loop().create_future()
-        # (whoever waits may be gone when it fails)
-        self.done.add_done_callback(was_noticed)
         self.lane: Optional[Lane] = None
         self.cost = self.took = 0.0
         self.sent, self.stamped, self.size = False, None, 0
@@ -68,12 +68,15 @@ class Job:
             self.done.set_result(self.replies)
 
     def fail(self, error: Exception) -> None:
-        if not self.done.done():
-            self.done.set_exception(error)
+        fail(self.done, error)
 
 
-def was_noticed(done: asyncio.Future) -> None:
-    done.cancelled() or done.exception()
+def fail(done: asyncio.Future, error: Exception) -> None:
+    """Ends a future that is not ended yet by an exception."""
+    if not done.done():
+        done.set_exception(error)
+        # Whoever waits may be gone. Then nobody is to be told that nobody looked at it.
+        done.exception()
 
 
 class Change:
@@ -85,7 +88,6 @@ class Change:
     def __init__(self, record, session: Optional[str], size: int, may_share: bool):
         self.record, self.session, self.size, self.may_share = record, session, size, may_share
         self.done = asyncio.get_running_loop().create_future()
-        self.done.add_done_callback(was_noticed)
         self.lane: Optional[Lane] = None
         self.cost = 0.0
 
@@ -94,8 +96,7 @@ class Change:
             self.done.set_result(None)
 
     def fail(self, error: Exception) -> None:
-        if not self.done.done():
-            self.done.set_exception(error)
+        fail(self.done, error)
 
 
 class Gathered:
@@ -128,17 +129,27 @@ class Lane:
 
 class Lanes:
     """Whose turn it is: of those who wait, who has had least of the program's time. Who comes back after a pause begins where the
-    others are, so a pause is no credit."""
+    others are, so a pause is no credit. `changes` is how many changes wait."""
 
     def __init__(self):
-        self.lanes, self.heap, self.clock, self.number = collections.defaultdict(Lane), [], 0.0, 0
+        self.lanes, self.heap, self.clock, self.number, self.changes = collections.defaultdict(Lane), [], 0.0, 0, 0
 
     def add(self, user: str, job) -> None:
         lane = job.lane = self.lanes[user]
         if len(lane.jobs) >= MOST_WAITING:
             raise Busy
         lane.jobs.append(job)
+        self.changes += job.is_change
         self.enlist(lane)
+
+    def may_pass(self, user: str, job: Job) -> bool:
+        """Whether nobody waits, and a question of a user need not wait either. Then it is charged at once."""
+        lane = self.lanes[user]
+        if self.heap or lane.jobs or lane.is_held or lane.unread > MOST_HELD:
+            return False
+        job.lane, job.cost = lane, lane.usual
+        lane.spent = max(lane.spent, self.clock) + job.cost
+        return True
 
     def enlist(self, lane: Lane) -> None:
         if lane.jobs and not lane.is_listed and lane.unread <= MOST_HELD:
@@ -159,6 +170,7 @@ class Lanes:
                 lane.is_listed, self.clock, found = False, max(self.clock, lane.spent), lane.jobs.popleft()
                 found.cost = lane.usual
                 lane.spent += found.cost
+                self.changes -= found.is_change
                 self.enlist(lane)
             else:
                 passed.append(place)
@@ -170,6 +182,7 @@ class Lanes:
         """Gives jobs their place at the front again."""
         for job in reversed(jobs):
             job.lane.jobs.appendleft(job)
+            self.changes += job.is_change
             self.enlist(job.lane)
 
     def charge(self, lane: Optional[Lane], expected: float, took: float) -> None:
@@ -187,6 +200,7 @@ class Lanes:
         for lane in self.lanes.values():
             while lane.jobs:
                 yield lane.jobs.popleft()
+        self.changes = 0
 
 
 class Program(asyncio.SubprocessProtocol):
@@ -195,11 +209,13 @@ class Program(asyncio.SubprocessProtocol):
     def __init__(self, reply: Callable, end: Callable):
         self.reply, self.end, self.session = reply, end, uuid.uuid4().hex[:12]
         self.sent: collections.deque = collections.deque()
+        # What goes to the program with the next write: jobs that come together share it.
+        self.unsent: List[bytes] = []
         self.pieces, self.size, self.cost, self.since, self.damage, self.is_open = [], 0, 0.0, 0.0, None, True
 
     async def start(self, words: List[str]) -> None:
         # In a session of its own, since Ctrl-C at a terminal is for the hub. It ends when its input ends.
-        loop = asyncio.get_running_loop()
+        loop = self.loop = asyncio.get_running_loop()
         self.ended = loop.create_future()
         self.process, _ = await loop.subprocess_exec(lambda: self, *words, stderr=None, start_new_session=True)
         self.input = self.process.get_pipe_transport(0)
@@ -212,11 +228,18 @@ class Program(asyncio.SubprocessProtocol):
             self.since = time.monotonic()
         if callable(job.lines):
             job.lines = job.lines()
-        data = b"\n".join([*job.lines, b""])
+        if not self.unsent:
+            self.loop.call_soon(self.write)
+        data = b"%b\n" % b"\n".join(job.lines)
+        self.unsent.append(data)
         job.sent, job.size = True, len(data)
         self.sent.append(job)
         self.size += job.size
         self.cost += job.cost
+
+    def write(self) -> None:
+        """Writes what was sent."""
+        data, self.unsent = b"".join(self.unsent), []
         try:
             self.input.write(data)
         except RuntimeError:
@@ -274,6 +297,8 @@ class Engine:
         self.lanes, self.program, self.starts, self.is_closing, self.failed = Lanes(), None, collections.deque(), False, None
         # The turn of changes that is under way, what waits beside it for its end, and its time in the program.
         self.turn, self.turn_took, self.idle = None, 0.0, asyncio.Event()
+        # How many changes the last two turns had, and the moment that the next one waits for as many: its timer, and whether it is over.
+        self.last_turns, self.moment, self.is_moment_over = (0, 0), None, False
 
     @property
     def session(self) -> str:
@@ -313,8 +338,11 @@ class Engine:
         and Stale, and OSError if the journal cannot be written."""
         if self.is_closing or self.failed:
             raise Closing(self.failed or "the hub is being shut down")
-        self.lanes.add(user, job)
-        self.pump()
+        if not job.is_change and job.session is None and self.program and self.program.has_room() and self.lanes.may_pass(user, job):
+            self.program.send(job)
+        else:
+            self.lanes.add(user, job)
+            self.pump()
         return job.done
 
     def exchange(self, job: Job) -> asyncio.Future:
@@ -340,16 +368,30 @@ class Engine:
                 job.lane.is_held = True
                 gathered.add(job)
         if gathered.changes:
+            self.last_turns, self.is_moment_over = (len(gathered.changes), self.last_turns[0]), False
+            self.moment = self.moment and self.moment.cancel()
             self.turn = asyncio.ensure_future(self.make(gathered.changes))
 
     def accepts(self, job: Union[Job, Change], lane: Lane, gathered: Gathered) -> bool:
         """Whether a job may be sent now, beside the changes that are gathered for the next turn."""
         if job.is_change:
-            return not self.turn and gathered.has_room(job)
+            return not self.turn and not self.waits_for_more(gathered) and gathered.has_room(job)
         if lane.is_held:
             return False
         # A version that is not there yet may come with the turn that is under way.
         return job.on is None or not (self.turn or gathered.changes) or self.knows(job.on)
+
+    def waits_for_more(self, gathered: Gathered) -> bool:
+        """Whether the next turn waits a moment for more changes."""
+        expected = max(self.last_turns)
+        if gathered.changes or self.is_moment_over or self.lanes.changes >= expected or expected < 2:
+            return False
+        self.moment = self.moment or asyncio.get_running_loop().call_later(MOMENT, self.end_moment)
+        return True
+
+    def end_moment(self) -> None:
+        self.moment, self.is_moment_over = None, True
+        self.pump()
 
     async def make(self, changes: List[Change]) -> None:
         """A turn. What has to wait for the next one keeps its place."""

@@ -81,9 +81,10 @@ class Pieces:
 
 def encode(value: Any) -> bytes:
     """A value as compact JSON in UTF-8. Raises ValueError for a float that is no number and for half of a surrogate pair."""
-    if not isinstance(value, dict) or not any(isinstance(it, list) and len(it) > ROWS_AT_ONCE for it in value.values()):
-        return encoded(value).encode()
-    return b"{%b}" % b",".join(encoded(name).encode() + b":" + b"".join(pieces(it)) for name, it in value.items())
+    for it in value.values() if isinstance(value, dict) else ():
+        if isinstance(it, list) and len(it) > ROWS_AT_ONCE:
+            return b"{%b}" % b",".join(encoded(name).encode() + b":" + b"".join(pieces(part)) for name, part in value.items())
+    return encoded(value).encode()
 
 
 def pieces(value: Any) -> Iterator[bytes]:

@@ -94,4 +94,6 @@ def named(request: dict) -> List[str]:
 def line_of(request: dict) -> bytes:
     """A request as a line for the program. The members `on` and `session` are the hub's: versions of the hub are others than those
     of the program."""
-    return long_json.encode({name: it for name, it in request.items() if name not in ("on", "session")})
+    if "on" in request or "session" in request:
+        request = {name: it for name, it in request.items() if name not in ("on", "session")}
+    return long_json.encode(request)

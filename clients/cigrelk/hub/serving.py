@@ -1,6 +1,7 @@
 """The start of a hub, and its end."""
 import argparse
 import asyncio
+import gc
 import os
 import resource
 import signal
@@ -24,6 +25,8 @@ from .web import MOST_CONNECTIONS, MOST_IDLE, Connection, Hub, close_silent
 
 # How long (in seconds) answers have to go out when the hub ends.
 LAST_ANSWERS = 3
+# After how many new objects garbage is looked for. Requests leave next to none that has to be looked for.
+GARBAGE = (20_000, 20, 20)
 
 
 def run(options: argparse.Namespace) -> int:
@@ -61,6 +64,9 @@ async def serve(options: argparse.Namespace) -> int:
                                          ssl=tls(options), backlog=1024)
     watcher = asyncio.ensure_future(close_silent(server))
     print(f"http{'s' if options.cert else ''}://{options.listen}:{listening.sockets[0].getsockname()[1]}/", flush=True)
+    # What is there now stays: it need not be looked through for garbage, nor need that be done so often.
+    gc.freeze()
+    gc.set_threshold(*GARBAGE)
     await until_stopped(desk)
     # What is under way is answered, streams of events end, and nothing new is taken.
     listening.close()

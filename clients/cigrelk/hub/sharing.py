@@ -99,6 +99,9 @@ async def previews(desk, changes: list) -> List[bytes]:
 def is_over(desk, change, line: bytes, written: Written, told: List[Told]) -> bool:
     """Whether an edit is over with this turn. What it changes, or how it is refused, is put to what the edits before it are told."""
     entry, request = desk.catalog.entries.get(change.request["view"]), change.request
+    if change.on is not None and change.on > desk.catalog.version and written.keys:
+        # The version that it is based on may come with the edits before it.
+        return False
     if not line.startswith(CHANGED):
         # It is refused in the same way behind the edits before it, if they change nothing under its view.
         if entry is None or written.is_apart(entry):
