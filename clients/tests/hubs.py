@@ -44,6 +44,32 @@ SHOP = [
 ]
 
 
+KINDS = ("edit", "edit", "preview", "put", "batch", "undo", "read", "import", "find")
+
+
+def some_row(chance):
+    """A row of the view of the shop."""
+    return {"track": chance.choice(("Lullaby", "Trust", "Cold", "Lovesong", "New")), "rating": chance.randrange(1, 5),
+            "album": chance.choice(("Show", "Wish", "Paris", "Push", "Other")), "quantity": chance.randrange(1, 6)}
+
+
+def some_request(chance, kinds=KINDS):
+    """A request over the view of the shop."""
+    rows = [some_row(chance) for _ in range(chance.randrange(3))]
+    do = chance.choice(kinds)
+    if do in ("edit", "preview"):
+        return {"do": do, "view": "stock", "remove": [some_row(chance)], "add": rows}
+    if do == "put":
+        return {"do": do, "view": "stock", "rows": rows}
+    if do == "import":
+        return {"do": do, "view": "stock", "csv": "track,rating,album,quantity\n" + "".join("{track},{rating},{album},{quantity}\n".format(**row) for row in rows)}
+    if do == "batch":
+        return {"do": do, "edits": [{"view": "stock", "remove": [some_row(chance)], "add": rows}, {"view": "stock", "remove": rows, "add": [some_row(chance)]}]}
+    if do == "find":
+        return {"do": do, "view": "stock", "column": "track", "value": chance.choice(("Trust", "Cold"))}
+    return {"do": do} if do == "undo" else {"do": do, "view": "stock"}
+
+
 def free_port():
     with socket.socket() as it:
         it.bind(("127.0.0.1", 0))

@@ -6,7 +6,7 @@ import random
 import subprocess
 import unittest
 
-from hubs import EXAMPLES, PROGRAM, SHOP, HubAt
+from hubs import EXAMPLES, PROGRAM, SHOP, HubAt, some_request
 from packages import wants
 
 ROW = {"track": "Trust", "rating": 4, "album": "Wish", "quantity": 5}
@@ -133,55 +133,13 @@ class Windows(unittest.TestCase):
                 for secret in SECRETS:
                     self.assertNotIn(f'"{secret}"', json.dumps(told))
 
-    def test_two_shops_that_differ_in_hidden_rows_are_one_to_a_window(self):
-        """The same requests, at random and of all kinds but undo, over stores whose windows are equal: the replies are equal.
-
-        (An undo is refused where a row that the change touched was changed since, a hidden one too: so it tells of hidden rows.)"""
-        random.seed(7)
-        hidden = [{"do": "edit", "view": "albums", "remove": [], "add": [{"album": "Push", "quantity": 2}]},
-                  {"do": "edit", "view": "tracks", "remove": [], "add": [{"track": "Cold", "date": 1, "rating": 2, "album": "Push"}, {"track": "Lullaby", "date": 1989, "rating": 3, "album": "Push"}]}]
-        same = [{"do": "edit", "view": "albums", "remove": [], "add": [{"album": "Zero", "quantity": 0}]},
-                {"do": "edit", "view": "tracks", "remove": [], "add": [{"track": "Zero", "date": 1, "rating": 2, "album": "Zero"}]}]
-        users = {"ann": ["stock=read,preview,edit", "undo"], "box": ["stock=edit,preview"]}
-        with HubAt(users, SHOP + hidden) as one, HubAt(users, SHOP + same) as other:
-            for number in range(600):
-                request, who = self.some_request(("edit", "edit", "preview", "put", "batch", "read", "import", "find")), random.choice(("ann", "ann", "box"))
-                pair = [hub.lines(who, [request])[0] for hub in (one, other)]
-                for reply in pair:
-                    reply.pop("session", None)
-                self.assertEqual(*pair, (number, who, request))
-                if number % 40 == 0:
-                    for hub in (one, other):
-                        hub.lines("root", SHOP[3:])
-                    # (what was hidden before is hidden again)
-                    one.lines("root", hidden), other.lines("root", same)
-
-    def some_row(self):
-        return {"track": random.choice(("Lullaby", "Trust", "Cold", "Lovesong", "New")), "rating": random.randrange(1, 5),
-                "album": random.choice(("Show", "Wish", "Paris", "Push", "Other")), "quantity": random.randrange(1, 6)}
-
-    def some_request(self, kinds=("edit", "edit", "preview", "put", "batch", "undo", "read", "import", "find")):
-        rows = [self.some_row() for _ in range(random.randrange(3))]
-        do = random.choice(kinds)
-        if do in ("edit", "preview"):
-            return {"do": do, "view": "stock", "remove": [self.some_row()], "add": rows}
-        if do == "put":
-            return {"do": do, "view": "stock", "rows": rows}
-        if do == "import":
-            return {"do": do, "view": "stock", "csv": "track,rating,album,quantity\n" + "".join("{track},{rating},{album},{quantity}\n".format(**row) for row in rows)}
-        if do == "batch":
-            return {"do": do, "edits": [{"view": "stock", "remove": [self.some_row()], "add": rows}, {"view": "stock", "remove": rows, "add": [self.some_row()]}]}
-        if do == "find":
-            return {"do": do, "view": "stock", "column": "track", "value": random.choice(("Trust", "Cold"))}
-        return {"do": do} if do == "undo" else {"do": do, "view": "stock"}
-
     def test_a_window_tells_its_changes_rightly(self):
         """What replies tell of a window is how its rows differ before and after."""
-        random.seed(3)
+        chance = random.Random(3)
         with HubAt({"ann": ["stock=read,preview,edit", "undo"]}) as hub:
             read = lambda: {json.dumps(row, sort_keys=True) for row in hub.lines("root", [{"do": "read", "view": "stock"}])[0]["rows"]}
             for number in range(150):
-                request, before = self.some_request(), read()
+                request, before = some_request(chance), read()
                 reply, = hub.lines("ann", [request])
                 after = read()
                 if not reply["ok"] or request["do"] in ("read", "find", "preview"):

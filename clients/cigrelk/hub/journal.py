@@ -23,7 +23,7 @@ import json
 import os
 import re
 import threading
-from typing import Dict, Iterator, List, NamedTuple, Optional, Set, Tuple
+from typing import Dict, Iterator, List, NamedTuple, Optional, Tuple
 
 from .requests import encoded
 
@@ -73,7 +73,8 @@ class Journal:
     def __init__(self, path: str):
         self.path, self.number, self.part, self.size, self.fault = path, 0, 1, 0, None
         self.undoable: Dict[str, collections.deque] = collections.defaultdict(collections.deque)
-        self.under_way: Set[str] = set()
+        # By its id the user and the names of each change that is under way.
+        self.under_way: Dict[str, Tuple[str, List[str]]] = {}
         self.waiting, self.flushing, self.is_cut = [], None, False
         self.disk, self.turn = concurrent.futures.ThreadPoolExecutor(1), threading.Lock()
         self.open()
@@ -107,7 +108,7 @@ class Journal:
         self.file = os.open(self.path, os.O_RDWR | os.O_APPEND | os.O_CREAT, 0o600)
         self.size, self.is_cut = 0, False
         undoable = [list(done) for all_of in self.undoable.values() for done in all_of]
-        self.append(encoded({"part": self.part, "at": now(), "undoable": undoable, "under_way": sorted(self.under_way)}).encode() + b"\n")
+        self.append(encoded({"part": self.part, "at": now(), "undoable": undoable, "under_way": self.under_way}).encode() + b"\n")
         os.fsync(self.file)
         folder = os.open(os.path.dirname(os.path.abspath(self.path)), os.O_RDONLY)
         os.fsync(folder)
@@ -123,7 +124,6 @@ class Journal:
 
     def recover(self, path: str) -> None:
         """Takes from a part which changes can be taken back, and which were under way."""
-        begun = {}
         for at, line in lines_of(path):
             entry = entry_of(line)
             if "part" in entry:
@@ -131,13 +131,11 @@ class Journal:
                     self.remember(Done(*told))
                 self.under_way.update(entry["under_way"])
             elif "request" in entry:
-                begun[entry["id"]] = entry
-                self.under_way.add(entry["id"])
+                self.under_way[entry["id"]] = entry["user"], entry["views"]
             elif "id" in entry:
-                self.under_way.discard(entry["id"])
-                first = begun.pop(entry["id"], None)
+                first = self.under_way.pop(entry["id"], None)
                 if first and entry.get("changed"):
-                    self.settle_undo(Done(entry["id"], first["user"], first["views"], self.part, at, len(line)), entry.get("undoes"))
+                    self.settle_undo(Done(entry["id"], *first, self.part, at, len(line)), entry.get("undoes"))
 
     # What can be taken back
 
@@ -197,7 +195,7 @@ class Journal:
                          % (at, record.id.encode(), encoded(record.user).encode(), encoded(record.views).encode(), record.request()))
         with self.turn:
             self.append(b"".join(lines))
-            self.under_way.update(record.id for record in records)
+            self.under_way.update((record.id, (record.user, record.views)) for record in records)
 
     def outcome(self, change, line: bytes) -> None:
         """Notes the reply to a change, and settles the change when the note is on the disk."""
@@ -218,7 +216,7 @@ class Journal:
         except OSError as error:
             self.fault = error
         with self.turn:
-            self.under_way.discard(entry["id"])
+            self.under_way.pop(entry["id"], None)
 
     async def flush(self) -> None:
         loop = asyncio.get_running_loop()
@@ -244,7 +242,8 @@ class Journal:
             self.rotate()
         with self.turn:
             at, file = self.append(b"".join(lines)), self.file
-            self.under_way.difference_update(record.id for record in records)
+            for record in records:
+                self.under_way.pop(record.id, None)
         os.fdatasync(file)
         return at
 
