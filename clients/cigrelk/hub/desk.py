@@ -33,10 +33,18 @@ from .windows import Watch, by_key, difference, edited, in_order, key_of
 
 # From this length on a request or a reply is read beside the loop.
 LONG = 1 << 17
+# How many bytes a row has, as a guess.
+ROW_SIZE = 64
 LOG = logging.getLogger("cigrelk.hub")
 # A byte that begins no token: a definition that ends with it is refused, at its first fault.
 NO_TOKEN_BYTE = "\x01"
 FAULTS = {Busy: BUSY, Unknown: UNKNOWN, Closing: CLOSING}
+
+
+async def line_for(request: dict) -> bytes:
+    """The line of a request, which is made beside the loop if it has many rows."""
+    rows = sum(len(it) for it in request.values() if isinstance(it, list)) + sum(len(it["add"]) for it in request.get("edits", ()))
+    return await aside(rows * ROW_SIZE, line_of, request)
 
 
 async def aside(size: int, work, *given):
@@ -51,8 +59,9 @@ class Making(Change):
     before it, and behind it if `also_after` says so. When it is made, `line` is the program's
     reply in versions of the hub, `stamp` says when it came, and `before` and `after` are the replies to what was watched."""
 
-    def __init__(self, user: User, request: dict, make, may_share: bool = False, watch: Optional[Watch] = None, also_after: bool = False):
-        self.bare, self.on = line_of(request), request.get("on")
+    def __init__(self, user: User, request: dict, make, bare: bytes, may_share: bool = False, watch: Optional[Watch] = None,
+                 also_after: bool = False):
+        self.bare, self.on = bare, request.get("on")
         record = Record(user.name, with_on(self.bare, self.on), named(request) if request["do"] in CHANGING else [])
         super().__init__(record, request.get("session"), len(self.bare), may_share)
         self.user, self.request, self.make, self.watch, self.also_after = user, request, make, watch, also_after
@@ -147,7 +156,7 @@ class Desk:
 
     async def ask(self, user: User, request: dict, lines=None) -> Job:
         """A question with its replies. It is asked by its line, or by these lines."""
-        job = self.job(user, lines or [line_of(request)], request)
+        job = self.job(user, lines or [await line_for(request)], request)
         await self.engine.submit(user.name, job)
         return job
 
@@ -195,7 +204,7 @@ class Desk:
         is_empty = not request["remove"] and not request["add"] and "read" in scope.rights.get(request["view"], ())
         entry = scope.need(request["view"], "read" if is_empty else "preview")
         watch = None if entry.name in scope.open else Watch({entry.name: request["remove"] + request["add"]})
-        lines = [*watch.lines, line_of(request)] if watch else [line_of(request)]
+        lines = [*(watch.lines if watch else ()), await line_for(request)]
         if "on" in request:
             # The version of the program is known when the lines are sent.
             lines = self.resting(lines, entry.name, request["on"])
@@ -207,8 +216,7 @@ class Desk:
             return self.told(line, job.stamped)
         if not line.startswith(CHANGED):
             return self.refused(scope, request, line, job.stamped)
-        before = await aside(sum(map(len, job.replies)), watch.shown, job.replies[:-1])
-        return window_reply(job.stamped, {entry.name: edited(before[entry.name], request["remove"], request["add"])})
+        return await self.edited(request, job.stamped, watch, job.replies[:-1])
 
     def resting(self, lines: List[bytes], view: str, on: int):
         *before, line = lines
@@ -226,13 +234,20 @@ class Desk:
         is_open = entry.name in scope.open
         watch = None if is_open else Watch({entry.name: request["remove"] + request["add"]})
         request = {"do": "edit", **{name: it for name, it in request.items() if name != "do"}}
-        change = await self.made(Making(user, request, self.make, entry.root is not None, watch))
+        change = await self.made(Making(user, request, self.make, await line_for(request), entry.root is not None, watch))
         if is_open:
             return self.told(change.line, change.stamp)
         if not change.line.startswith(CHANGED):
             return self.refused(scope, request, change.line, change.stamp)
-        before = await aside(sum(map(len, change.before)), watch.shown, change.before)
-        return window_reply(change.stamp, {entry.name: edited(before[entry.name], request["remove"], request["add"])})
+        return await self.edited(request, change.stamp, watch, change.before)
+
+    async def edited(self, request: dict, stamp: Stamp, watch: Watch, replies: List[bytes]) -> bytes:
+        """What an accepted edit or preview is told to change in its window, out of what the window showed before."""
+        def reply():
+            before = watch.shown(replies)[request["view"]]
+            return window_reply(stamp, {request["view"]: edited(before, request["remove"], request["add"])})
+
+        return await aside(sum(map(len, replies)) + (len(request["remove"]) + len(request["add"])) * ROW_SIZE, reply)
 
     async def put(self, user: User, scope: Scope, request: dict) -> bytes:
         entry = scope.need(request["view"], "read", "edit")
@@ -252,20 +267,21 @@ class Desk:
     async def around(self, user: User, scope: Scope, request: dict, views) -> bytes:
         """A change of these views. What windows show is asked before it and behind it. `views` may have the rows to watch."""
         if scope.open.issuperset(views):
-            change = await self.made(Making(user, request, self.make))
+            change = await self.made(Making(user, request, self.make, await line_for(request)))
             return self.told(change.line, change.stamp)
         watch = Watch(views if isinstance(views, dict) else {view: None for view in views})
-        change = await self.made(Making(user, request, self.make, watch=watch, also_after=True))
+        change = await self.made(Making(user, request, self.make, await line_for(request), watch=watch, also_after=True))
         if not change.line.startswith(CHANGED):
             return self.refused(scope, request, change.line, change.stamp)
         return await self.differences(change)
 
     async def differences(self, change: Making) -> bytes:
         """What a change is told to have changed in the windows that were watched."""
-        size = sum(map(len, change.before + change.after))
-        before = await aside(size, change.watch.shown, change.before)
-        after = await aside(size, change.watch.shown, change.after)
-        return window_reply(change.stamp, {view: difference(before[view], after[view]) for view in before})
+        def reply():
+            before, after = change.watch.shown(change.before), change.watch.shown(change.after)
+            return window_reply(change.stamp, {view: difference(before[view], after[view]) for view in before})
+
+        return await aside(sum(map(len, change.before + change.after)), reply)
 
     def refused(self, scope: Scope, request: dict, line: bytes, stamp: Stamp) -> bytes:
         """A refusal through a window. Rows of it that the user did not send are for who may read it."""
@@ -381,11 +397,7 @@ class Desk:
             return None
         add = request["rows"] if do == "put" else await aside(len(request["csv"]), rows_of_csv, request["csv"], entry.columns)
         line, = await self.engine.exchange(Job([encoded({"do": "read", "view": entry.name}).encode()]))
-        there = long_json.loads(line.decode())["rows"]
-        kept = by_key(add).keys()
-        known = by_key(there)
-        remove = [row for key, row in known.items() if key not in kept]
-        return long_json.encode({"do": "preview", "view": entry.name, "remove": remove, "add": [row for row in add if key_of(row) not in known]})
+        return await aside(len(line) + len(add) * ROW_SIZE, preview_of_put, entry.name, line, add)
 
     # Definitions
 
@@ -396,7 +408,7 @@ class Desk:
         name, operands = read_definition(request["text"])
         if operands is None and not user.is_admin:
             return await self.fault_of(user, request["text"])
-        change = await self.made(Making(user, request, lambda change: self.make_definition(change, name, operands)))
+        change = await self.made(Making(user, request, lambda change: self.make_definition(change, name, operands), line_of(request)))
         return self.told(change.line, change.stamp)
 
     async def make_definition(self, change: Making, name: str, operands: Optional[List[str]]) -> None:
@@ -438,7 +450,7 @@ class Desk:
         """Takes a change back by its differences, as an edit of the tables, if no one changed the same rows since: the user's last
         one, or the one that is named. An admin may name anyone's."""
         scope.power("undo")
-        change = await self.made(Making(user, request, self.make_undo, also_after=True))
+        change = await self.made(Making(user, request, self.make_undo, line_of(request), also_after=True))
         if change.watch is None or not change.line.startswith(CHANGED):
             return self.told(change.line, change.stamp)
         return await self.differences(change)
@@ -504,6 +516,13 @@ def read_definition(text: str):
     except AttributeError:
         # It begins with no word and no name.
         return "x", None
+
+
+def preview_of_put(view: str, line: bytes, rows: List) -> bytes:
+    """The preview of the edit that makes these the rows of a view, whose reply to a read is there."""
+    there, come = by_key(long_json.loads(line.decode())["rows"]), by_key(rows)
+    remove, add = difference(there, come)
+    return long_json.encode({"do": "preview", "view": view, "remove": remove, "add": add})
 
 
 def rows_of_csv(text: str, columns: Dict[str, str]) -> List[dict]:

@@ -5,7 +5,7 @@ from typing import AsyncIterator, Optional
 
 from aiohttp import web
 
-from .desk import aside
+from .desk import LONG, aside
 from .refusing import NO_TOKEN, No
 from .replies import line_of_no
 from .requests import IN_SERIES, MOST_LINE, read_request
@@ -73,7 +73,8 @@ class Series:
         user = self.hub.desk.users.by_hash.get(self.key)
         if user is None:
             return self.begin(refuse(No(NO_TOKEN)))
-        if request["do"] in IN_SERIES:
+        # (a long request takes its place only when its line is made)
+        if request["do"] in IN_SERIES and len(line) <= LONG:
             return self.begin(self.hub.desk.answer(user, request))
         if self.waiting:
             await asyncio.wait(self.waiting)
