@@ -226,7 +226,7 @@ class Clients(unittest.TestCase):
 
     def test_each_reply_goes_to_who_asked(self):
         """Clients that go away in the middle, at any place, beside clients that check each reply."""
-        with HubAt({"all": ALL}, KEYS) as hub:
+        with HubAt({"all": ALL, "rude": ALL}, KEYS) as hub:
             stop, wrong, asked = time.monotonic() + 8, [], [0]
 
             def honest(number):
@@ -246,7 +246,7 @@ class Clients(unittest.TestCase):
                 chance = random.Random(1000 + number)
                 while time.monotonic() < stop:
                     lines = "".join(json.dumps({"do": "find", "view": "pairs", "column": "k", "value": chance.randrange(2000)}) + "\n" for _ in range(chance.randrange(1, 400)))
-                    head = f"POST /lines HTTP/1.1\r\nHost: 127.0.0.1:{hub.port}\r\nAuthorization: Bearer {hub.tokens['all']}\r\nContent-Type: application/x-ndjson\r\nContent-Length: {len(lines)}\r\n\r\n"
+                    head = f"POST /lines HTTP/1.1\r\nHost: 127.0.0.1:{hub.port}\r\nAuthorization: Bearer {hub.tokens['rude']}\r\nContent-Type: application/x-ndjson\r\nContent-Length: {len(lines)}\r\n\r\n"
                     with socket.create_connection(("127.0.0.1", hub.port)) as it:
                         data = (head + lines).encode()
                         it.sendall(data[: chance.randrange(1, len(data) + 1)])
