@@ -252,6 +252,8 @@ class Clients(unittest.TestCase):
                         it.sendall(data[: chance.randrange(1, len(data) + 1)])
                         if chance.random() < 0.5:
                             it.setsockopt(socket.SOL_SOCKET, socket.SO_LINGER, b"\1\0\0\0\0\0\0\0")
+                    # (or the threads of this test leave each other no time)
+                    time.sleep(0.02)
 
             threads = [threading.Thread(target=work, args=(number,)) for number in range(12) for work in (honest, rude)]
             [it.start() for it in threads], [it.join() for it in threads]
