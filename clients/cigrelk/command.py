@@ -25,6 +25,7 @@ COMMANDS = {
     "shell": "cigrelk.shell",
     "mirror": "cigrelk.mirror",
     "rebuild": "cigrelk.rebuild",
+    "compile": "cigrelk.sql.command",
 }
 DONE, FAILED, WRONG_USAGE, INTERRUPTED = 0, 1, 2, 130
 

@@ -1,94 +1,30 @@
 """The mirror in PostgreSQL, over servers that are started for it: after each step both sides hold the same rows."""
 import json
 import os
-import pwd
 import random
 import re
-import shutil
 import subprocess
 import sys
 import tempfile
 import threading
-import time
 import unittest
 
 HERE = os.path.dirname(os.path.abspath(__file__))
 CLIENTS = os.path.dirname(HERE)
 sys.path[:0] = [CLIENTS, HERE]
 from cigrelk import TOP, Server
-from packages import postgresql, wants
+from packages import wants
+from postgres_servers import Servers
 
-BIN = postgresql()
 # The coordinator, which is also the one server of the tests that want one, and three servers below it.
 SERVERS = ("base", "s0", "s1", "s2")
-
-
-def other_user():
-    """Who runs PostgreSQL, which does not run as root: a user and a group, or None for oneself."""
-    if os.geteuid():
-        return None
-    names = {one.pw_name for one in pwd.getpwall()}
-    found = pwd.getpwnam("postgres" if "postgres" in names else "nobody")
-    return found.pw_uid, found.pw_gid
-
-
-class Servers:
-    """Four PostgreSQL servers in a folder, each on a socket of its own."""
-
-    def __init__(self):
-        self.room, self.user = tempfile.mkdtemp(prefix="cigrelk-sql-"), other_user()
-        os.chmod(self.room, 0o755)
-        for name in SERVERS:
-            os.mkdir(f"{self.room}/{name}")
-            if self.user:
-                os.chown(f"{self.room}/{name}", *self.user)
-        self.run("initdb", "base", "-A", "trust", "-U", "shop", "-N", "-E", "UTF8", "--locale=C")
-        with open(f"{self.room}/base/data/postgresql.conf", "a") as settings:
-            settings.write("fsync = off\nlisten_addresses = ''\nmax_connections = 20\nshared_buffers = 16MB\nlog_statement = all\n")
-        for name in SERVERS[1:]:
-            subprocess.run(["cp", "-a", f"{self.room}/base/data", f"{self.room}/{name}"], check=True)
-        for name in SERVERS:
-            self.start(name, "-W")
-        for name in SERVERS:
-            self.wait(name)
-
-    def run(self, program, name, *words):
-        as_user = ["setpriv", f"--reuid={self.user[0]}", f"--regid={self.user[1]}", "--clear-groups", "env", "HOME=/tmp"] if self.user else []
-        subprocess.run([*as_user, f"{BIN}/{program}", "-D", f"{self.room}/{name}/data", *words], check=True, stdout=subprocess.DEVNULL, cwd="/")
-
-    def start(self, name, waits="-w"):
-        self.run("pg_ctl", name, waits, "-o", f"-k {self.room}/{name}", "-l", f"{self.room}/{name}/log", "start")
-
-    def stop(self, name, mode="fast"):
-        self.run("pg_ctl", name, "-w", "-m", mode, "stop")
-
-    def wait(self, name):
-        for _ in range(600):
-            if subprocess.run([f"{BIN}/pg_isready", "-q", "-h", f"{self.room}/{name}"]).returncode == 0:
-                return
-            time.sleep(0.05)
-        raise SystemExit(f"the PostgreSQL {name} does not start")
-
-    def address(self, name, database="postgres"):
-        return f"postgresql:///{database}?host={self.room}/{name}&user=shop"
-
-    def sql(self, address, text):
-        """The lines that statements give."""
-        settings = {**os.environ, "PGCLIENTENCODING": "UTF8"}
-        done = subprocess.run(["psql", "-X", "-q", "-t", "-A", "-v", "ON_ERROR_STOP=1", "-d", address, "-c", text], check=True, stdout=subprocess.PIPE, env=settings)
-        return done.stdout.decode().replace("\\\\", "\\").split("\n")[:-1]
-
-    def close(self):
-        for name in SERVERS:
-            self.stop(name, "immediate")
-        shutil.rmtree(self.room)
 
 
 @wants("postgresql")
 class Mirror(unittest.TestCase):
     @classmethod
     def setUpClass(cls):
-        cls.servers = Servers()
+        cls.servers = Servers(*SERVERS)
         cls.addClassCleanup(cls.servers.close)
 
     def setUp(self):

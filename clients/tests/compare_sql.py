@@ -1,0 +1,114 @@
+"""Random definitions and edits, given to the program and to PostgreSQL: the same replies, and the same rows everywhere."""
+import collections
+import json
+import random
+
+from cigrelk import Server
+from cigrelk.sql.edits import Compiling
+from cigrelk.sql.nodes import Catalogue
+from cigrelk.sql.script import script
+from cigrelk.sql.words import value_literal
+from random_views import Definitions, Edits
+from sql_session import ANSWER, Failed, comparable, in_order, key
+
+STATES = {None: "00000", 42: "44000", 43: "23P01"}
+CASTS = {"int": "bigint", "text": "text", "bool": "boolean"}
+
+
+class Differ(AssertionError):
+    """The program and PostgreSQL differ."""
+
+
+class Stream:
+    """A set of random definitions in a schema of its own, and edits of it. A part `by_statement` of the edits is made by statements
+    of SQL."""
+
+    def __init__(self, session, seed, by_statement=0.3, isolation="locks"):
+        self.session, self.by_statement, self.schema = session, by_statement, f"s{seed}"
+        self.counts, self.random, self.done = collections.Counter(), random.Random(f"{seed} statements"), []
+        self.program = Server()
+        self.texts = Definitions(self.program, f"{seed} definitions").texts
+        self.edits = Edits(self.program, f"{seed} edits")
+        self.orders = {}
+        session.ask(f'DROP SCHEMA IF EXISTS {self.schema} CASCADE', f'DROP SCHEMA IF EXISTS "{self.schema}:cigrelk" CASCADE', f"CREATE SCHEMA {self.schema}")
+        self.script = script(Compiling(Catalogue(self.texts, self.schema), isolation))
+        session.script(self.script)
+        session.ask(ANSWER.format(schema=self.schema))
+
+    def __enter__(self):
+        return self
+
+    def __exit__(self, *_):
+        self.program.close()
+
+    def run(self, count):
+        """Makes edits, and compares all tables and views after every fifth of them. Raises Differ."""
+        for number in range(count):
+            self.edit()
+            if number % 5 == 4 or number == count - 1:
+                self.compare()
+        self.session.ask(f"DROP SCHEMA {self.schema} CASCADE", f'DROP SCHEMA "{self.schema}:cigrelk" CASCADE')
+
+    def edit(self):
+        name, remove, add = self.edits.next()
+        request = {"do": "edit", "view": name, "remove": remove, "add": add}
+        statements = self.statements(name, remove, add) if self.random.random() < self.by_statement else None
+        line = json.dumps(request, ensure_ascii=False)
+        reply = json.loads(self.program.pass_on(line.encode()))
+        self.counts["edits"] += 1
+        self.counts["accepted" if reply["ok"] else f"rejected by {reply['error']}"] += 1
+        self.counts["with a change"] += bool(reply["ok"] and reply["changed"])
+        self.done.append(line)
+        try:
+            if statements:
+                self.counts["made by statements"] += 1
+                try:
+                    self.session.ask(*statements)
+                    state = "00000"
+                except Failed as error:
+                    state = error.state
+                    self.session.ask("ROLLBACK")
+                if state != STATES[reply.get("error")]:
+                    self.differ(f"{statements}\nprogram: {key(reply)}\nPostgreSQL: {state}")
+            else:
+                found = self.session.answer(self.schema, name, remove, add)
+                if comparable(found) != comparable(reply):
+                    self.differ(f"program:    {key(comparable(reply))}\nPostgreSQL: {key(comparable(found))}")
+        except Failed as error:
+            self.differ(f"program: {key(reply)}\nPostgreSQL: {error}")
+
+    def differ(self, text):
+        raise Differ("\n".join([text, *self.texts, *self.done[-8:]]))
+
+    def statements(self, name, remove, add):
+        """One edit as statements of SQL, or None if it is none: a table is edited by its functions alone."""
+        if self.program.names()[name] == "table":
+            return None
+        kinds = self.program[name].columns()
+        view, columns = f'{self.schema}."{name}"', list(kinds)
+        there = {key(row) for row in self.program[name].read()}
+        gone = [row for row in remove if key(row) in there]
+        typed = lambda row, start: ", ".join(f'{value_literal(row[column])}::{CASTS[kinds[column].split()[0]]} AS "{start}{column}"' for column in columns)
+        same = " AND ".join(f'"V"."{column}" IS NOT DISTINCT FROM "O"."O{column}"' for column in columns)
+        picked = " UNION ALL ".join(f"SELECT {typed(row, 'O')}" for row in remove)
+        delete = f'DELETE FROM {view} "V" USING ({picked}) "O" WHERE {same}'
+        rows = ", ".join("(" + ", ".join(f"({value_literal(row[column])})" for column in columns) + ")" for row in add)
+        insert = f"INSERT INTO {view} ({', '.join(columns)}) VALUES {rows}"
+        if self.random.random() < 0.3 or (remove and add and len(gone) != len(add)):
+            # All statements of a transaction are one edit.
+            parts = [part for part, rows in ((delete, remove), (insert, add)) if rows]
+            return ["BEGIN", "SET LOCAL cigrelk.at = 'commit'", *parts, "COMMIT"]
+        if remove and not add:
+            return [delete]
+        if add and not gone:
+            return [insert]
+        picked = " UNION ALL ".join(f"SELECT {typed(old, 'O')}, {typed(new, 'W')}" for old, new in zip(gone, add))
+        changes = ", ".join(f'"{column}" = "O"."W{column}"' for column in columns)
+        return [f'UPDATE {view} "V" SET {changes} FROM ({picked}) "O" WHERE {same}']
+
+    def compare(self):
+        for name in self.program.names():
+            has, found = in_order(self.program[name].read()), in_order(self.session.relation(self.schema, name))
+            if has != found:
+                self.differ(f"rows of {name}\nprogram:    {has}\nPostgreSQL: {found}")
+            self.counts["relations compared"] += 1
