@@ -1,22 +1,18 @@
 """Random definitions and edits, given to the program and to PostgreSQL: the same replies, and the same rows everywhere."""
 import collections
-import json
 import random
 
 from cigrelk import Server
+from cigrelk.postgres import Failed
 from cigrelk.sql.edits import Compiling
+from cigrelk.sql.judge import Differ, Judge, key, run_script
 from cigrelk.sql.nodes import Catalogue
 from cigrelk.sql.script import script
 from cigrelk.sql.words import value_literal
-from random_views import Definitions, Edits
-from sql_session import ANSWER, Failed, comparable, in_order, key
+from random_views import Definitions, edits
 
 STATES = {None: "00000", 42: "44000", 43: "23P01"}
 CASTS = {"int": "bigint", "text": "text", "bool": "boolean"}
-
-
-class Differ(AssertionError):
-    """The program and PostgreSQL differ."""
 
 
 class Stream:
@@ -25,15 +21,14 @@ class Stream:
 
     def __init__(self, session, seed, by_statement=0.3, isolation="locks"):
         self.session, self.by_statement, self.schema = session, by_statement, f"s{seed}"
-        self.counts, self.random, self.done = collections.Counter(), random.Random(f"{seed} statements"), []
+        self.counts, self.random = collections.Counter(), random.Random(f"{seed} statements")
         self.program = Server()
         self.texts = Definitions(self.program, f"{seed} definitions").texts
-        self.edits = Edits(self.program, f"{seed} edits")
-        self.orders = {}
-        session.ask(f'DROP SCHEMA IF EXISTS {self.schema} CASCADE', f'DROP SCHEMA IF EXISTS "{self.schema}:cigrelk" CASCADE', f"CREATE SCHEMA {self.schema}")
-        self.script = script(Compiling(Catalogue(self.texts, self.schema), isolation))
-        session.script(self.script)
-        session.ask(ANSWER.format(schema=self.schema))
+        self.edits = edits(self.program, f"{seed} edits")
+        self.drop()
+        session.ask(f"CREATE SCHEMA {self.schema}")
+        run_script(session, script(Compiling(Catalogue(self.texts, self.schema), isolation)))
+        self.judge = Judge(session, self.program, self.schema)
 
     def __enter__(self):
         return self
@@ -41,44 +36,40 @@ class Stream:
     def __exit__(self, *_):
         self.program.close()
 
+    def drop(self):
+        self.session.ask(f"DROP SCHEMA IF EXISTS {self.schema} CASCADE", f'DROP SCHEMA IF EXISTS "{self.schema}:cigrelk" CASCADE')
+
     def run(self, count):
         """Makes edits, and compares all tables and views after every fifth of them. Raises Differ."""
-        for number in range(count):
-            self.edit()
-            if number % 5 == 4 or number == count - 1:
-                self.compare()
-        self.session.ask(f"DROP SCHEMA {self.schema} CASCADE", f'DROP SCHEMA "{self.schema}:cigrelk" CASCADE')
+        try:
+            for number in range(count):
+                self.edit()
+                if number % 5 == 4 or number == count - 1:
+                    self.counts["relations compared"] += self.judge.compare()
+        except Differ as difference:
+            raise Differ("\n".join([str(difference), *self.texts, *self.judge.lines[-8:]])) from None
+        self.drop()
 
     def edit(self):
         name, remove, add = self.edits.next()
-        request = {"do": "edit", "view": name, "remove": remove, "add": add}
         statements = self.statements(name, remove, add) if self.random.random() < self.by_statement else None
-        line = json.dumps(request, ensure_ascii=False)
-        reply = json.loads(self.program.pass_on(line.encode()))
+        reply = self.by_statements(name, remove, add, statements) if statements else self.judge.edit(name, remove, add)
         self.counts["edits"] += 1
+        self.counts["made by statements"] += bool(statements)
         self.counts["accepted" if reply["ok"] else f"rejected by {reply['error']}"] += 1
         self.counts["with a change"] += bool(reply["ok"] and reply["changed"])
-        self.done.append(line)
-        try:
-            if statements:
-                self.counts["made by statements"] += 1
-                try:
-                    self.session.ask(*statements)
-                    state = "00000"
-                except Failed as error:
-                    state = error.state
-                    self.session.ask("ROLLBACK")
-                if state != STATES[reply.get("error")]:
-                    self.differ(f"{statements}\nprogram: {key(reply)}\nPostgreSQL: {state}")
-            else:
-                found = self.session.answer(self.schema, name, remove, add)
-                if comparable(found) != comparable(reply):
-                    self.differ(f"program:    {key(comparable(reply))}\nPostgreSQL: {key(comparable(found))}")
-        except Failed as error:
-            self.differ(f"program: {key(reply)}\nPostgreSQL: {error}")
 
-    def differ(self, text):
-        raise Differ("\n".join([text, *self.texts, *self.done[-8:]]))
+    def by_statements(self, name, remove, add, statements):
+        reply = self.judge.request({"do": "edit", "view": name, "remove": remove, "add": add})
+        try:
+            self.session.ask(*statements)
+            state = "00000"
+        except Failed as error:
+            state = error.state
+            self.session.ask("ROLLBACK")
+        if state != STATES[reply.get("error")]:
+            raise Differ(f"{statements}\nprogram: {key(reply)}\nPostgreSQL: {state}")
+        return reply
 
     def statements(self, name, remove, add):
         """One edit as statements of SQL, or None if it is none: a table is edited by its functions alone."""
@@ -105,10 +96,3 @@ class Stream:
         picked = " UNION ALL ".join(f"SELECT {typed(old, 'O')}, {typed(new, 'W')}" for old, new in zip(gone, add))
         changes = ", ".join(f'"{column}" = "O"."W{column}"' for column in columns)
         return [f'UPDATE {view} "V" SET {changes} FROM ({picked}) "O" WHERE {same}']
-
-    def compare(self):
-        for name in self.program.names():
-            has, found = in_order(self.program[name].read()), in_order(self.session.relation(self.schema, name))
-            if has != found:
-                self.differ(f"rows of {name}\nprogram:    {has}\nPostgreSQL: {found}")
-            self.counts["relations compared"] += 1

@@ -6,10 +6,12 @@ import re
 import threading
 
 from cigrelk import Server
+from cigrelk.postgres import Failed
 from cigrelk.sql.edits import Compiling
+from cigrelk.sql.judge import Judge, comparable, in_order, run_script
 from cigrelk.sql.nodes import Catalogue
 from cigrelk.sql.script import script
-from sql_session import ANSWER, Failed, Session, comparable, in_order
+from sql_session import Session
 
 MUSIC = (
     "table albums (album text, quantity int) with album -> quantity",
@@ -26,8 +28,7 @@ BROKEN = (
 def make(address, isolation):
     """The tables and the view of music in an empty database."""
     session = Session(address)
-    session.script(script(Compiling(Catalogue(MUSIC), isolation)))
-    session.ask(ANSWER.format(schema="public"))
+    run_script(session, script(Compiling(Catalogue(MUSIC), isolation)))
     return session
 
 
@@ -113,6 +114,7 @@ class Editor(threading.Thread):
     def __init__(self, address, number, count):
         super().__init__()
         self.session, self.done = Session(address), []
+        self.judge = Judge(self.session, None, "public")
         chance = random.Random(number)
         self.edits = [random_edit(chance) for _ in range(count)]
 
@@ -121,7 +123,7 @@ class Editor(threading.Thread):
             while True:
                 try:
                     self.session.ask("BEGIN")
-                    reply = self.session.answer("public", view, remove, add)
+                    reply = self.judge.answer(view, remove, add)
                     (turn,) = self.session.values("SELECT nextval('turns')")
                     self.session.ask("COMMIT")
                     self.done.append((turn, {"do": "edit", "view": view, "remove": remove, "add": add}, reply))
@@ -153,7 +155,7 @@ def replay(address, clients, count):
     for editor in editors:
         editor.join()
     accepted = sorted((one for editor in editors for one in editor.done if one[2]["ok"]), key=lambda one: one[0])
-    wrong = []
+    wrong, there = [], Judge(session, None, "public")
     with Server() as program:
         for text in MUSIC:
             program.define(text)
@@ -162,7 +164,7 @@ def replay(address, clients, count):
             if comparable(wanted) != comparable(reply):
                 wrong.append(f"turn {turn}: {edit}\nprogram:    {wanted}\nPostgreSQL: {reply}")
         for name in program.names():
-            if in_order(program[name].read()) != in_order(session.relation("public", name)):
+            if in_order(program[name].read()) != in_order(there.relation(name)):
                 wrong.append(f"rows of {name}")
     session.close()
     return wrong, len(accepted)

@@ -1,4 +1,5 @@
 """Views compiled to SQL, in a PostgreSQL that is started for it: they mean the same as in the program, for several writers too."""
+import json
 import os
 import subprocess
 import sys
@@ -8,10 +9,11 @@ import unittest
 HERE = os.path.dirname(os.path.abspath(__file__))
 sys.path[:0] = [os.path.dirname(HERE), HERE]
 from cigrelk import TOP
+from cigrelk.postgres import Failed
 from compare_sql import Stream
 from packages import wants
 from postgres_servers import BIN, Servers
-from sql_session import Failed, Session
+from sql_session import Session
 from sql_writers import MUSIC, replay, write_at_once
 
 
@@ -82,6 +84,21 @@ class SameMeaning(WithPostgreSQL):
 
     def test_random_edits_in_serializable_transactions(self):
         self.compare((9,), 40, "serializable")
+
+
+    def test_the_program_as_the_judge(self):
+        """It finds no difference over tables as they are, and a wrong body of the compiler at once."""
+        self.sql('CREATE TABLE albums (album text PRIMARY KEY, "Quantity" bigint NOT NULL); CREATE TABLE tracks (track text, date date NOT NULL, rating int NOT NULL, album text, PRIMARY KEY (track, album)); '
+                 "INSERT INTO albums SELECT 'a' || i, i % 5 FROM generate_series(1, 9) i; INSERT INTO tracks SELECT 't' || i, date '2026-01-01' + i, i, 'a' || j FROM generate_series(1, 9) i, generate_series(1, 5) j")
+        types = {"albums": {"table": "albums", "columns": {"album": {"name": "album", "native": None, "default": None}, "quantity": {"name": "Quantity", "native": None, "default": None}}},
+                 "tracks": {"table": "tracks", "columns": {"date": {"name": "date", "native": "date", "default": None}}}}
+        with open(f"{self.room}/types.json", "w", encoding="utf-8") as file:
+            json.dump(types, file)
+        texts = [MUSIC[0], MUSIC[1].replace("date int", "date text"), MUSIC[2].replace("2018", "'2018-01-01'")]
+        before = self.dump()
+        said = self.compile(*texts, options=["--check", self.address, "--types", f"{self.room}/types.json", "--edits", "60"])
+        self.assertRegex(said, "60 edits, [0-9]+ of them accepted: the same replies and the same rows")
+        self.assertEqual(self.dump(), before)
 
 
 @wants("postgresql")

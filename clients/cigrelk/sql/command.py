@@ -11,6 +11,9 @@ DEFINITIONS is a file with a definition on each line; a line that begins with # 
 be run again, with other definitions too: in one transaction it makes what is new, drops what is gone, and leaves what is the same. A
 table stays, with its rows, when its definition goes. --remove drops all but the tables.
 
+--check plays random edits on a copy of some rows of the tables that are in the database, to the program and to PostgreSQL, and prints the
+first difference with the requests that repeat it. Nothing else in the database changes.
+
 With --existing the tables are those that are there, with their keys. --types takes the file that `cigrelk take --types` wrote, with the
 types of their columns that the language does not have. --foreign is --existing for tables with partitions on other servers.
 """
@@ -21,6 +24,7 @@ import sys
 from ..errors import CommandError
 from ..server import Server
 from .edits import Compiling
+from .judge import Differ, check
 from .nodes import Catalogue, TableTypes
 from .script import removing_script, script
 from .words import name_within
@@ -52,7 +56,17 @@ def table_types(types):
     """What the file says of a table, as the compiler takes it."""
     columns = types["columns"]
     return TableTypes(types["table"], {name: one["name"] for name, one in columns.items() if one["name"] != name},
-                      {name: one["native"] for name, one in columns.items() if one["native"]}, {name: one["default"] for name, one in columns.items() if one["default"]})
+                      {name: one["native"] for name, one in columns.items() if one["native"]}, {name: one["default"] for name, one in columns.items() if one["default"]},
+                      tuple(name for name, one in columns.items() if one.get("fixed")))
+
+
+def checked(options, texts):
+    try:
+        print(check(texts, options.check, options.schema, read_types(options.types), options.edits, options.seed))
+    except Differ as difference:
+        print(difference)
+        raise CommandError("PostgreSQL and the program differ in the last of these requests") from None
+    return 0
 
 
 def names_of_roles(text):
@@ -71,6 +85,9 @@ def add_arguments(parser: argparse.ArgumentParser) -> None:
     parser.add_argument("--owner", metavar="ROLE", help="who owns what is made, and with whose rights the views are edited: else who runs the script")
     parser.add_argument("--readers", type=names_of_roles, default=[], metavar="ROLE,..", help="who may read the views")
     parser.add_argument("--editors", type=names_of_roles, default=[], metavar="ROLE,..", help="who may read and edit the views")
+    parser.add_argument("--check", metavar="ADDRESS", help="has the program judge the compiled views over the tables of a database, as postgresql://..")
+    parser.add_argument("--edits", type=int, default=500, metavar="NUMBER", help="how many edits --check plays")
+    parser.add_argument("--seed", default="1", help="the seed of these edits")
     parser.add_argument("--remove", action="store_true", help="prints a script that drops all that was made; tables stay, with their rows")
 
 
@@ -87,6 +104,8 @@ def run(options: argparse.Namespace) -> int:
         texts = read_definitions(options.definitions)
     if not texts:
         raise CommandError("there is no definition")
+    if options.check:
+        return checked(options, texts)
     catalogue = Catalogue(texts, options.schema, read_types(options.types))
     compiling = Compiling(catalogue, options.isolation, options.existing, options.foreign, options.exclude)
     sys.stdout.write(script(compiling, options.readers, options.editors, options.owner))

@@ -13,7 +13,7 @@ from ..postgres import quoted
 from . import objects
 from .deltas import A, CHANGED_SINCE, K, N, R, Body, Looks, Many, One, check, down, exact, is_one, some, unnested
 from .plain import Plain
-from .words import NEUTRAL, columns_at, same, text_literal
+from .words import NEUTRAL, columns_at, differ, same, text_literal
 
 PATH = "SET search_path = pg_catalog, pg_temp"
 COMMON = "SET plan_cache_mode = force_generic_plan SET jit = off SET enable_seqscan = off"
@@ -130,6 +130,7 @@ def inner_edit(subject):
         for leaf in reversed(subject.leaves):
             add_lines(body, subject, leaf)
 
+    reject_new_values(body, subject)
     editing(change)
     return inner_function(subject, "edit", body, "", "makes an edit")
 
@@ -144,7 +145,18 @@ def key_of(leaf, one, other):
 
 
 def assignments(leaf, source):
-    return ", ".join(f"{leaf.column(name)} = {source}.{quoted(name)}" for name in leaf.rest)
+    return ", ".join(f"{leaf.column(name)} = {source}.{quoted(name)}" for name in leaf.updated)
+
+
+def reject_new_values(body, subject):
+    """Rejects an edit that would change a fixed column of a row whose key stays."""
+    for leaf in subject.leaves:
+        fixed = [name for name in leaf.rest if name in leaf.fixed]
+        if fixed:
+            remove, add = body.variable("Remove", leaf), body.variable("Add", leaf)
+            body.when(f"EXISTS (SELECT FROM unnest({remove}) {R} JOIN {unnested(add)} ON {key_of(leaf, R, A)} WHERE {differ(fixed, R, A)})")
+            body.say(f"RAISE EXCEPTION USING ERRCODE = '428C9', MESSAGE = {text_literal(f'{fixed[0]} of {leaf.name} is given by the database, and does not change')};")
+            body.end()
 
 
 def remove_lines(body, subject, leaf):
@@ -170,9 +182,9 @@ def add_lines(body, subject, leaf):
     body.when(f"cardinality({add}) = 1 AND cardinality({remove}) > 1 IS NOT TRUE")
     if leaf.rest:
         body.when(f"cardinality({remove}) = 1 AND {key_of(leaf, one, other)}")
-        body.say(f"UPDATE {leaf.place} {N} SET {assignments(leaf, other)} WHERE {leaf.key_agrees(N, other)};")
+        body.say(f"UPDATE {leaf.place} {N} SET {assignments(leaf, other)} WHERE {leaf.key_agrees(N, other)};" if leaf.updated else "NULL;")
         body.otherwise()
-    body.say(f"INSERT INTO {leaf.place} ({columns}) VALUES ({columns_at(other, leaf.kinds)});")
+    body.say(f"INSERT INTO {leaf.place} ({columns}){leaf.overriding} VALUES ({columns_at(other, leaf.kinds)});")
     if leaf.rest:
         body.end()
     body.otherwise(some(add))
@@ -198,11 +210,11 @@ def many_rows_functions(compiling, leaf):
     columns = ", ".join(map(leaf.column, leaf.kinds))
     if compiling.foreign:
         remove = [f'  FOR "Row" IN {gone} LOOP', f'    DELETE FROM {leaf.place} {N} WHERE {leaf.key_agrees(N, chr(34) + "Row" + chr(34))};', "  END LOOP;"]
-        add = [f'  FOR "Row" IN {come} LOOP', f'    UPDATE {leaf.place} {N} SET {assignments(leaf, chr(34) + "Row" + chr(34))} WHERE {leaf.key_agrees(N, chr(34) + "Row" + chr(34))};', "  END LOOP;"] if leaf.rest else []
+        add = [f'  FOR "Row" IN {come} LOOP', f'    UPDATE {leaf.place} {N} SET {assignments(leaf, chr(34) + "Row" + chr(34))} WHERE {leaf.key_agrees(N, chr(34) + "Row" + chr(34))};', "  END LOOP;"] if leaf.updated else []
     else:
         remove = [f"  DELETE FROM {leaf.place} {N} USING ({gone}) {K} WHERE {leaf.key_agrees(N, K)};"]
-        add = [f"  UPDATE {leaf.place} {N} SET {assignments(leaf, K)} FROM ({come}) {K} WHERE {leaf.key_agrees(N, K)};"] if leaf.rest else []
-    add += [f"  INSERT INTO {leaf.place} ({columns}) SELECT {columns_at(A, leaf.kinds)} FROM ({new}) {A};"]
+        add = [f"  UPDATE {leaf.place} {N} SET {assignments(leaf, K)} FROM ({come}) {K} WHERE {leaf.key_agrees(N, K)};"] if leaf.updated else []
+    add += [f"  INSERT INTO {leaf.place} ({columns}){leaf.overriding} SELECT {columns_at(A, leaf.kinds)} FROM ({new}) {A};"]
     declares = 'DECLARE "Row" record;\n' if compiling.foreign else ""
     for word, lines in (("remove", remove), ("add", add)):
         name = compiling.catalogue.own(f"{word}:rows:{leaf.name}")

@@ -113,11 +113,21 @@ class Node:
 
 
 class Leaf(Node):
-    """A table. `place` is its name in SQL; `stored` has the names of its columns there."""
+    """A table. `place` is its name in SQL; `stored` has the names of its columns there, and `fixed` those that no UPDATE may name."""
 
-    def __init__(self, name, place, kinds, tree, conditions, stored):
+    def __init__(self, name, place, kinds, tree, conditions, stored, fixed):
         super().__init__(None, kinds, tree, conditions)
-        self.name, self.place, self.stored = name, place, stored
+        self.name, self.place, self.stored, self.fixed = name, place, stored, fixed
+
+    @property
+    def updated(self):
+        """The columns that an UPDATE sets."""
+        return [name for name in self.rest if name not in self.fixed]
+
+    @property
+    def overriding(self):
+        """What an INSERT says if it gives values of fixed columns."""
+        return " OVERRIDING SYSTEM VALUE" if self.fixed else ""
 
     def column(self, name):
         """The name that a column has in the table, in SQL."""
@@ -157,12 +167,14 @@ class Alias:
 
 class TableTypes(NamedTuple):
     """What `cigrelk take` found of a table that is there: the name of the table and of columns in SQL, where they have others than
-    in the definition, the native types of columns that the definition calls text, and defaults."""
+    in the definition, the native types of columns that the definition calls text, defaults, and the columns that are GENERATED ALWAYS AS
+    IDENTITY, which no UPDATE may name."""
 
     table: str = None
     stored: dict = {}
     native: dict = {}
     defaults: dict = {}
+    fixed: tuple = ()
 
 
 class Catalogue:
@@ -194,7 +206,7 @@ class Catalogue:
         types = self.types_of(name)
         for column, native in types.native.items():
             kinds[column] = kinds[column].replace("text", f"text:{native}", 1)
-        leaf = Leaf(name, self.place(types.table or name), kinds, tree, conditions, types.stored)
+        leaf = Leaf(name, self.place(types.table or name), kinds, tree, conditions, types.stored, types.fixed)
         leaf.row_type = self.own(name)
         return leaf
 

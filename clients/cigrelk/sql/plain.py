@@ -302,12 +302,12 @@ class Plain:
     def insert(self, body, leaf, place):
         body.when(f'"IsNew{place}"')
         values = self.values(leaf, COME, leaf.kinds)
-        body.say(f"INSERT INTO {leaf.place} ({', '.join(map(leaf.column, values))}) VALUES ({', '.join(values.values())});")
+        body.say(f"INSERT INTO {leaf.place} ({', '.join(map(leaf.column, values))}){leaf.overriding} VALUES ({', '.join(values.values())});")
         self.report(body, leaf, "add", COME)
         body.end()
 
     def update(self, body, leaf):
-        values = self.values(leaf, COME, leaf.rest)
+        values = self.values(leaf, COME, leaf.updated)
         body.say(f"UPDATE {leaf.place} {N} SET {', '.join(f'{leaf.column(name)} = {value}' for name, value in values.items())} "
                  f"WHERE {leaf.agrees(leaf.key, N, self.values(leaf, COME, leaf.key))};")
         self.report(body, leaf, "remove", GONE)
@@ -370,6 +370,9 @@ class Plain:
         body.say(f"{NOT_PLAIN} WHEN {GONE} = {COME};")
         self.say_predicate(body)
         self.find_gone(body)
+        fixed = [name for name in self.shown(self.first, self.first.rest) if name in self.first.fixed]
+        if fixed:
+            body.say(f"{NOT_PLAIN} WHEN {self.differ(self.first, fixed, GONE, COME)};")
         body.set(self.flag(body, SAME[1:-1]), self.agree(self.first, self.first.key))
         for place, leaf in enumerate(self.leaves):
             if leaf is not self.first and self.shown(leaf, leaf.kinds):
@@ -392,7 +395,7 @@ class Plain:
 
         def change():
             body.when(SAME)
-            if self.first.rest:
+            if self.first.updated:
                 body.when(self.differ(self.first, self.first.rest, GONE, COME))
                 self.update(body, self.first)
                 body.end()
