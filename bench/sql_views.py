@@ -122,29 +122,33 @@ MUTANTS = {
 }
 
 
-def mutants(address, most=20_000):
+# Definitions in which each form stands over another, with nulls and rows that are hidden or wait.
+FORMS = (
+    "table t (a int, b int, c int, d text) with a -> b c", "table u (d text, e int null) with d -> e", "table w (e int null, f int) with e -> f",
+    "view left_of = join_dl t with u", "view right_of = join_dr t with u", "view both_of = join_both t with u", "view of_nulls = join_dl u with w",
+    "view narrow = drop c determined by (a, 0) from left_of", "view some = select from narrow where b > 1", "view others = select from t where not b = 1",
+    "view low = select from u where not (e > 1)",
+)
+
+
+def mutants(address, most=3_000):
     """Compiles with one wrong body after another, and prints after how many edits it was found."""
     missed = 0
-    for name, changes in MUTANTS.items():
+    for number, (name, changes) in enumerate(MUTANTS.items()):
         before = [(place, word, getattr(place, word)) for place, word, _ in changes]
         for place, word, body in changes:
             setattr(place, word, body)
-        done, seed = 0, 1
+        session = Session(address)
         try:
-            while done < most:
-                session = Session(address)
-                with Stream(session, seed) as stream:
-                    try:
-                        stream.run(100)
-                    finally:
-                        done += len(stream.judge.lines)
-                session.close()
-                seed += 1
-            missed += 1
-            print(f"{name}: NOT found in {done:,} edits", flush=True)
-        except Differ:
-            print(f"{name}: found after {done:,} edits", flush=True)
+            with Stream(session, f"mutant{number}", by_statement=0, texts=FORMS) as stream:
+                try:
+                    stream.run(most)
+                    missed += 1
+                    print(f"{name}: NOT found in {most:,} edits", flush=True)
+                except Differ:
+                    print(f"{name}: found after {len(stream.judge.lines):,} edits", flush=True)
         finally:
+            session.close()
             for place, word, body in before:
                 setattr(place, word, body)
     return missed

@@ -67,8 +67,9 @@ class Connection:
 
     def values(self, query):
         """The JSON values of a query of one column. By COPY, which gives all characters as they are; psql's own output loses some. A
-        COPY that fails in the middle is no error for psql, so a last line tells that it came to its end."""
-        *lines, last = self.ask(f"COPY (SELECT \"IT\".\"IT\"::text FROM ({query}) AS \"IT\"(\"IT\") UNION ALL SELECT '{LAST}') TO STDOUT") or [""]
+        COPY that fails in the middle is no error for psql, so a last line tells that it came to its end. (It is the last since the
+        query is materialized: of a query over other servers the parts come as they are there.)"""
+        *lines, last = self.ask(f'COPY (WITH "IT"("IT") AS MATERIALIZED ({query}) SELECT "IT"::text FROM "IT" UNION ALL SELECT \'{LAST}\') TO STDOUT') or [""]
         if last.rstrip("\n") != LAST:
             raise Failed("the database rejected a query while it ran", False)
         return [json.loads(line.replace("\\\\", "\\")) for line in lines]

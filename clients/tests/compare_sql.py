@@ -17,13 +17,15 @@ CASTS = {"int": "bigint", "text": "text", "bool": "boolean"}
 
 class Stream:
     """A set of random definitions in a schema of its own, and edits of it. A part `by_statement` of the edits is made by statements
-    of SQL."""
+    of SQL. `texts` has the definitions, if they are not random."""
 
-    def __init__(self, session, seed, by_statement=0.3, isolation="locks"):
+    def __init__(self, session, seed, by_statement=0.3, isolation="locks", texts=()):
         self.session, self.by_statement, self.schema = session, by_statement, f"s{seed}"
         self.counts, self.random = collections.Counter(), random.Random(f"{seed} statements")
         self.program = Server()
-        self.texts = Definitions(self.program, f"{seed} definitions").texts
+        for text in texts:
+            self.program.define(text)
+        self.texts = texts or Definitions(self.program, f"{seed} definitions").texts
         self.edits = edits(self.program, f"{seed} edits")
         self.drop()
         session.ask(f"CREATE SCHEMA {self.schema}")

@@ -11,7 +11,7 @@ These run with the rights of who ran the script, with a fixed search_path. Who e
 from ..kinds import base, is_nullable
 from ..postgres import quoted
 from . import objects
-from .deltas import A, CHANGED_SINCE, K, N, R, Body, Looks, Many, One, check, down, exact, is_one, some, unnested
+from .deltas import A, CHANGED_SINCE, K, N, R, Body, Looks, Many, One, check, down, exact, some, unnested
 from .plain import Plain
 from .words import NEUTRAL, columns_at, differ, same, text_literal
 
@@ -95,7 +95,10 @@ def inner_function(subject, word, body, settings, comment):
 
 
 def change_functions(subject, word):
-    if word != "edit":
+    """The functions that one of the inner functions calls."""
+    if word == "edit":
+        return (inner_name(subject, "whole"),)
+    if word != "whole":
         return ()
     return tuple(f"function {change_name(subject, leaf, which)}({leaf.row_type}[], {leaf.row_type}[])" for leaf in subject.leaves for which in ("remove", "add"))
 
@@ -106,21 +109,9 @@ def inner_preview(subject):
     return inner_function(subject, "preview", body, "STABLE", "what an edit would change in each table")
 
 
-def inner_edit(subject):
+def whole_edit(subject):
+    """Makes any edit, once the tables are locked."""
     body = Body()
-    for line in lock_lines(subject.compiling, subject.leaves):
-        body.say(line)
-    body.types[SETTING] = "text"
-
-    def editing(change):
-        # An assignment calls a function without a query.
-        body.set(SETTING, "set_config('cigrelk.editing', 'on', true)")
-        change()
-        body.set(SETTING, "set_config('cigrelk.editing', '', true)")
-
-    plain = Plain(subject.root, subject.looks)
-    if plain.is_possible():
-        plain.say(body, editing)
     changed_lines(subject, body)
 
     def change():
@@ -131,8 +122,30 @@ def inner_edit(subject):
             add_lines(body, subject, leaf)
 
     reject_new_values(body, subject)
-    editing(change)
+    editing(body, change)
+    return inner_function(subject, "whole", body, "", "makes any edit")
+
+
+def inner_edit(subject):
+    """Locks the tables, and makes an edit. What most edits need stands here, so that a session reads no more than that."""
+    body = Body()
+    for line in lock_lines(subject.compiling, subject.leaves):
+        body.say(line)
+    plain = Plain(subject.root, subject.looks)
+    if plain.is_possible():
+        plain.say(body, lambda change: editing(body, change))
+    outs = ", ".join(name for name, _ in subject.outs())
+    body.say(f"SELECT * INTO {outs} FROM {subject.inner('whole')}($1, $2, $3, $4);")
     return inner_function(subject, "edit", body, "", "makes an edit")
+
+
+def editing(body, change):
+    """Says the statements of a change between those that mark it as one of an edit."""
+    # An assignment calls a function without a query.
+    body.types[SETTING] = "text"
+    body.set(SETTING, "set_config('cigrelk.editing', 'on', true)")
+    change()
+    body.set(SETTING, "set_config('cigrelk.editing', '', true)")
 
 
 def change_name(subject, leaf, word):
@@ -299,7 +312,7 @@ def own_table_lines(place, make):
     """Makes a temporary table if it is not there, and rejects one that another role has made."""
     return [f"IF to_regclass({text_literal(place)}) IS NULL THEN", *(f"  {line}" for line in make),
             f"ELSIF NOT EXISTS (SELECT FROM pg_class WHERE oid = to_regclass({text_literal(place)}) AND relowner = current_user::regrole) THEN",
-            f"  RAISE EXCEPTION USING ERRCODE = '42501', MESSAGE = 'a temporary table of another role has the name that the view needs';", "END IF;"]
+            "  RAISE EXCEPTION USING ERRCODE = '42501', MESSAGE = 'a temporary table of another role has the name that the view needs';", "END IF;"]
 
 
 def row_function(subject):
@@ -388,6 +401,7 @@ def trigger_objects(subject):
 def edit_objects(subject):
     """All functions and triggers of a table or a view."""
     yield inner_preview(subject)
+    yield whole_edit(subject)
     yield inner_edit(subject)
     yield public_function(subject, "preview", "what an edit would change in each table", "STABLE")
     yield public_function(subject, "edit", "makes an edit, and returns what it changed in each table")

@@ -9,7 +9,6 @@ import hashlib
 from ..postgres import quoted
 from . import objects
 from .edits import Subject, edit_objects, many_rows_functions
-from .nodes import Leaf
 from .tables import EXCLUDE_MESSAGE, check_objects, columns_statement, guard_objects, holds_now_statements, index_objects, row_view, table_object
 from .words import dollar_quoted, text_literal
 
@@ -61,11 +60,6 @@ def guarded(statement, subject):
     """A statement that is passed over if the view or a function is gone."""
     text = f"BEGIN {statement} EXCEPTION WHEN undefined_table OR undefined_function OR undefined_object THEN NULL; END "
     return f"DO {dollar_quoted(text)};"
-
-
-def schema_grants(catalogue, readers, editors):
-    """Roles that may read a view have to find it in its schema."""
-    return []
 
 
 def all_objects(compiling, readers=(), editors=()):
@@ -124,7 +118,7 @@ def script(compiling, readers=(), editors=(), role=None):
               f"COMMENT ON TABLE {installed} IS 'what cigrelk compile has made, in the order in which it was made';",
               f"COMMENT ON TABLE {compiled} IS 'the definitions that cigrelk compile has compiled, and how often they were changed';"]
     if compiling.exclude:
-        lines.append(f"DO {dollar_quoted(f'BEGIN IF NOT EXISTS (SELECT FROM pg_catalog.pg_extension WHERE extname = {text_literal(chr(98) + chr(116) + chr(114) + chr(101) + chr(101) + chr(95) + chr(103) + chr(105) + chr(115) + chr(116))}) THEN RAISE EXCEPTION USING MESSAGE = {text_literal(EXCLUDE_MESSAGE)}; END IF; END ')};")
+        lines.append(f"DO {dollar_quoted(needs_extension())};")
     lines.append('CREATE TEMPORARY TABLE "cigrelk:wanted" ("Place" integer, "Name" text PRIMARY KEY, "Mark" text, "Make" text, "Drop" text, "There" text) ON COMMIT DROP;')
     for place, (made, mark) in enumerate(found):
         lines.append(f'INSERT INTO pg_temp."cigrelk:wanted" VALUES ({place}, {text_literal(made.name)}, {text_literal(mark)}, {dollar_quoted(made.make)}, {dollar_quoted(made.drop)}, {dollar_quoted(made.there)});')
@@ -135,10 +129,14 @@ def script(compiling, readers=(), editors=(), role=None):
         lines.append(columns_statement(leaf, compiling.existing))
     tests = " ".join(statement for leaf in catalogue.leaves.values() for statement in holds_now_statements(leaf))
     definitions = "ARRAY[" + ", ".join(map(text_literal, catalogue.texts.values())) + "]::text[]"
-    analyze = " ".join(f"ANALYZE {leaf.place};" for leaf in catalogue.leaves.values())
     lines.append(f"DO {dollar_quoted(changing_text(installed, compiled, tests, definitions, compiling.isolation))};")
     lines.append("COMMIT;")
     return "\n".join(lines) + "\n"
+
+
+def needs_extension():
+    found = "SELECT FROM pg_catalog.pg_extension WHERE extname = 'btree_gist'"
+    return f"BEGIN IF NOT EXISTS ({found}) THEN RAISE EXCEPTION USING MESSAGE = {text_literal(EXCLUDE_MESSAGE)}; END IF; END "
 
 
 def changing_text(installed, compiled, tests, definitions, isolation):
