@@ -26,6 +26,9 @@ COMMANDS = {
     "mirror": "cigrelk.mirror",
     "rebuild": "cigrelk.rebuild",
     "hub": "cigrelk.hub.command",
+    "compile": "cigrelk.sql.command",
+    "take": "cigrelk.take.command",
+    "give": "cigrelk.take.giving",
 }
 DONE, FAILED, WRONG_USAGE, INTERRUPTED = 0, 1, 2, 130
 
