@@ -33,7 +33,7 @@ class Completer:
     """Completes rows of one view, over the rows of now and some that are not sent yet."""
 
     def __init__(self, view, among=()):
-        self.server, self.columns, self.among = view.server, view.columns(), among
+        self.server, self.columns, self.among = view.server, view.columns(), list(among)
         # Rows that were looked up, by a dependency and its left side.
         self.known, self.ahead = {}, {}
         self.dependencies = view.type()["dependencies"]

@@ -7,7 +7,7 @@ from .rows import in_row_order, values
 from .sources import sources_of
 from .texts import counted, words_of
 
-# How many effects on each table a refusal tells.
+# How many effects a refusal tells.
 MOST_TOLD = 20
 
 
@@ -81,11 +81,18 @@ def columns_by_name(path):
     return {name: column for column, name in shown_columns(path).items()}
 
 
-def refuse_others(view, remove, change, only) -> None:
-    """Raises OtherTable where an edit changes a table that is not among `only`, as its preview tells."""
+def names_of(only) -> frozenset:
+    """The names of tables that an edit is limited to."""
     if isinstance(only, str):
         raise TypeError("only is a set of tables, and this is the name of one")
-    others = [table for table in change.tables if table not in only]
+    return frozenset(only)
+
+
+def refuse_others(view, remove, change, only) -> None:
+    """Raises OtherTable where an edit changes a table that is not among `only`, as its preview tells."""
+    allowed = names_of(only)
+    others = [table for table in change.tables if table not in allowed]
     if others:
         effects = Effects(view, remove, change)
-        raise OtherTable(others, [effects.text(effect) for table in others for effect in effects.of(table)[:MOST_TOLD]], only)
+        found = [effect for table in others for effect in effects.of(table)]
+        raise OtherTable(others, [effects.text(effect) for effect in found[:MOST_TOLD]], len(found), allowed)

@@ -4,7 +4,7 @@ import re
 
 from .csv_files import is_field, records_of
 from .kinds import MOST_TEXT, WANTED, cure_for
-from .texts import differing, listing, short, sides, words_of
+from .texts import counted, differing, listing, short, sides, words_of
 
 
 class Refused(Exception):
@@ -218,7 +218,10 @@ class Clash(Refused):
         return f"{sides(edge)}, and these two rows have the same {listing(edge['left'])} and differ in {listing(edge['right'])}"
 
     def text(self):
-        edge = self.edge
+        if len(self.reply["rows"]) < 2:
+            # (a hub keeps back rows that the user may not read)
+            return f"{sides(self.reply['edge'])}, and the rows differ in it from others that you may not read"
+        edge = differing(self.reply["edge"], self.reply["rows"])
         one, other = (words_of({name: row[name] for name in (*edge["left"], *edge["right"])}) for row in self.reply["rows"])
         return f"{sides(edge)}, and these rows differ in it: {one} / {other}"
 
@@ -260,17 +263,17 @@ class StoreFault(Refused):
 
 class OtherTable(Refused):
     """An edit that is limited to some tables would change another; the client refuses it by itself, before it is made. `tables`
-    names those others, and `effects` says row by row what would happen to them."""
+    names those others, and `effects` says of the first rows of them what would happen to each."""
 
     # The numbers of the program lie below.
     error = 110
 
-    def __init__(self, tables, effects, only):
-        self.tables, self.effects, self.only = list(tables), list(effects), sorted(only)
+    def __init__(self, tables, effects, rows, only):
+        self.tables, self.effects, self.rows, self.only = list(tables), list(effects), rows, sorted(only)
         super().__init__({"ok": False, "error": self.error})
 
     def text(self):
-        more = f", and {len(self.effects) - 1:,} more rows" if len(self.effects) > 2 else ", and one more row" if len(self.effects) == 2 else ""
+        more = f", and {counted(self.rows - 1, 'more row')}" if self.rows > 1 else ""
         may = f"only {listing(self.only)} may change here" if self.only else "no table may change here"
         return f"this {self.effects[0]}{more}; {may}"
 

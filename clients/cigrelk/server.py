@@ -7,7 +7,7 @@ import weakref
 from typing import Callable, Dict, Iterable, Iterator, List, Mapping, Optional, Tuple, Union
 
 from .completion import Completer, Completion
-from .effects import refuse_others
+from .effects import names_of, refuse_others
 from .language import Named, UnknownForm, columns_compared, columns_of, condition_of, defined, expanded, path_to, shown_columns
 from .process import MOST_INPUT, Ended, NotStarted, Program, default_program, encoded, line_of
 from .reasons import Reasons
@@ -92,6 +92,7 @@ class View:
         remove, add = listed(remove), listed(add)
         if only is None:
             return Change(self.server, self.ask("edit", remove=remove, add=add, **self.server.rests(on)))
+        only = names_of(only)
         while True:
             preview, tries = self.preview(remove, add, on, only), tries - 1
             try:

@@ -132,6 +132,9 @@ class Reach(InTheShop):
                                                     "only lines and orders may change here")
             self.assertEqual(caught.exception.tables, ["products"])
         self.assertEqual(self.server["products"].find("id", 3)[0]["name"], "oak tray")
+        moving = [line(1), line(2)]
+        with self.assertRaisesRegex(OtherTable, "^this changes customer_id 1 of customers for everyone: 1 row of orders shows it, and 1 more row; only lines may change here$"):
+            self.view.edit(moving, [{**row, "city": "Bonn"} for row in moving], only=(name for name in ["lines"]))
         self.assertEqual(list(self.view.edit([line(4)], overwriting, only={"lines", "products"}).tables), ["lines", "products"])
 
     def test_a_limited_edit_that_is_refused_anyway(self):

@@ -860,6 +860,7 @@ class Shop(OnPage):
         sheet = "Line ID;order_id;product_id;note\r\n1;100;1;\r\n2;100;2;für Ada\r\n3;101;2;\r\n4;101;4;\r\n5;102;1;\r\n7;101;1;red\r\n"
         self.drop("lines.csv", sheet.encode("latin-1"))
         self.page.wait("state.refusal?.choices")
+        self.page.run("look()")
         self.assertIn("lines.csv is not imported yet: note is empty in 4 rows, and may be null", self.below())
         self.page.click("#below button")
         self.page.wait("state.said && state.preview")

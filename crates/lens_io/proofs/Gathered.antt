@@ -8,7 +8,10 @@ use Rattle.std.proofs.lemmas.List.{take-take, nil_from_length}
 use Rattle.std.proofs.lemmas.Bool.{ltb-true, ltb-false, eqb-true, eqb-false}
 use Rattle.lens_io.specs.declared.cutting.Cut.{Cut}
 use Rattle.lens_io.specs.declared.cutting.Cut.TheVariants.{Line, TooLong, End, Failed, Spent}
-use Rattle.lens_io.specs.Cutting.{HasNoNewline, IsNeeded, NeedsNone, CutsOff, Says, SaysPassed, Step, Passed, sized, unended}
+use Rattle.io_specs.specs.Calls.{Adds}
+use Rattle.lens_io.specs.Calls.{Call}
+use Rattle.lens_io.specs.Cutting.{Asks, HasNoNewline, IsNeeded, NeedsNone, Cuts, CutsOff, Says, SaysPassed, Passed, sized, unended}
+use Rattle.lens_io.proofs.Asking.{Asking, Asking-passed, asks_none}
 use Rattle.lens_io.proofs.Pieces.{clear-append, take_join, range_of, range_join, range_at, length-range}
 
 -- the buffer still begins with what waited at first, and the rest came since
@@ -28,12 +31,16 @@ range_front xs ys i j p is = range_of xs i j p ∙ ap (drop i) is ∙ sym (range
 take_front : (xs ys : List ℕ) (i j : ℕ) → i ≤ j → take j xs ≡ take j ys → take i xs ≡ take i ys
 take_front xs ys i j p is = sym (take-take i j xs p) ∙ ap (take i) is ∙ take-take i j ys p
 
+-- what came before and the last piece are one part of the buffer
+pub grown : (first : ℕ) (items items' : List ℕ) (end n : ℕ) → first ≤ end → take end items' ≡ take end items → slice_range items first end ++ slice_range items' end (end + n) ≡ slice_range items' first (end + n)
+grown first items items' end n p is = ap (λ v. v ++ slice_range items' end (end + n)) (sym (range_front items' items first end p is)) ∙ sym (range_join items' first end (end + n) p (omega arith))
+
 pub Gathered-more : (first : ℕ) (items0 items items' : List ℕ) (end n : ℕ) (left0 left left' : Option (List ℕ)) → first ≤ end → take end items' ≡ take end items
     → Gathered first items0 items end left0 left → Consumes left left' (slice_range items' end (end + n)) → Gathered first items0 items' (end + n) left0 left'
 Gathered-more first items0 items items' end n left0 left left' p is g consumed = record {
   front = take_front items' items first end p is ∙ g.front;
   consumed = subst (Consumes left0 left')
-      (ap (λ v. v ++ slice_range items' end (end + n)) (sym (range_front items' items first end p is)) ∙ sym (range_join items' first end (end + n) p (omega arith)))
+      (grown first items items' end n p is)
       (Consumes-trans left0 left left' _ _ g.consumed consumed);
 }
 
@@ -86,22 +93,26 @@ needed_last first items0 items items' end count left0 left p inside small same c
 )
 
 -- the source failed
-pub step_failed : (items0 items items' : List ℕ) (first end before taken limit : ℕ) (left0 left left' : Option (List ℕ))
+pub step_failed : (items0 items items' : List ℕ) (first end before taken limit : ℕ) (left0 left left' : Option (List ℕ)) (asked0 asked : Option (List Call))
     → first ≤ end → end ≤ length items' → taken + first ≡ before + end → taken ≤ limit → HasNoNewline (take end items) → Gathered first items0 items end left0 left
     → take end items' ≡ take end items → Keeps left left'
-    → Step Failed (take first items0) (slice_range items' 0 0) (slice_range items' 0 0) before taken limit false false left0 left'
-step_failed items0 items items' first end before taken limit left0 left left' p inside counted few clear g same kept =
+    → Adds (Asks (take first items0) before limit false (slice_range items first end ++ [])) asked0 asked
+    → Cuts Failed (take first items0) (slice_range items' 0 0) (slice_range items' 0 0) before taken limit false false left0 left' asked0 asked
+step_failed items0 items items' first end before taken limit left0 left left' asked0 asked p inside counted few clear g same kept asks =
     let g' : Gathered first items0 items' end left0 left' = Gathered-kept first items0 items items' end left0 left left' p same g kept in
     record {
-      came = slice_range items' first end;
-      consumed = g'.consumed;
-      counted = omega (arith, length-range items' first end p inside);
-      says = (subst HasNoNewline (sym same ∙ sym (whole first items0 items' end left0 left' p g')) clear, refl, refl);
-      needed = needed_all _ _ _ (whole first items0 items' end left0 left' p g' ∙ same) clear;
-      within = omega arith;
-      most = omega arith;
-      at_end = false_end left0 left';
-      once = false_once Failed;
+      step = record {
+        came = slice_range items' first end;
+        consumed = g'.consumed;
+        counted = omega (arith, length-range items' first end p inside);
+        says = (subst HasNoNewline (sym same ∙ sym (whole first items0 items' end left0 left' p g')) clear, refl, refl);
+        needed = needed_all _ _ _ (whole first items0 items' end left0 left' p g' ∙ same) clear;
+        within = omega arith;
+        most = omega arith;
+        at_end = false_end left0 left';
+        once = false_once Failed;
+      };
+      asks = subst (λ v. Adds (Asks (take first items0) before limit false v) asked0 asked) (append-nil (slice_range items first end) ∙ sym (range_front items' items first end p same)) asks;
     }
 
 says_unended : (bytes line rest : List ℕ) (size taken limit : ℕ) → bytes ≡ line → length line ≡ size → size ≤ 16777216 → HasNoNewline line → rest ≡ [] → Says (unended size) bytes line rest taken limit true
@@ -114,36 +125,41 @@ says_unended bytes line rest size taken limit same is few clear none =
     both (nat_eq size 0) refl
 
 -- the source is at its end
-pub step_last : (items0 items items' : List ℕ) (first end count before taken limit : ℕ) (left0 left left' : Option (List ℕ))
+pub step_last : (items0 items items' : List ℕ) (first end count before taken limit : ℕ) (left0 left left' : Option (List ℕ)) (asked0 asked : Option (List Call))
     → first ≤ end → end ≤ length items' → taken + first ≡ before + end → taken ≤ limit → HasNoNewline (take end items) → Gathered first items0 items end left0 left
     → take end items' ≡ take end items → Consumes left left' (slice_range items' end (end + count)) → count ≡ 0 → IsAtEnd left' → end ≤ 16777216
-    → Step (unended end) (take first items0) (slice_range items' 0 end) (slice_range items' end end) before taken limit false true left0 left'
-step_last items0 items items' first end count before taken limit left0 left left' p inside counted few clear g same consumed none last short =
+    → Adds (Asks (take first items0) before limit false (slice_range items first end ++ slice_range items' end (end + count))) asked0 asked
+    → Cuts (unended end) (take first items0) (slice_range items' 0 end) (slice_range items' end end) before taken limit false true left0 left' asked0 asked
+step_last items0 items items' first end count before taken limit left0 left left' asked0 asked p inside counted few clear g same consumed none last short asks =
     let at : end + count ≡ end = omega arith in
     let g' : Gathered first items0 items' end left0 left' =
     subst (λ n. Gathered first items0 items' n left0 left') at (Gathered-more first items0 items items' end count left0 left left' p same g consumed) in
     let bytes : take first items0 ++ slice_range items' first end ≡ slice_range items' 0 end = whole first items0 items' end left0 left' p g' ∙ sym (range_zero items' end) in
     record {
-      came = slice_range items' first end;
-      consumed = g'.consumed;
-      counted = omega (arith, length-range items' first end p inside);
-      says = says_unended (take first items0 ++ slice_range items' first end) (slice_range items' 0 end) (slice_range items' end end) end taken limit bytes
-          (length-range items' 0 end (omega arith) inside ∙ omega arith) short
-          (subst HasNoNewline (sym same ∙ sym (range_zero items' end)) clear) (range_none items' end);
-      needed = needed_all _ _ _ (whole first items0 items' end left0 left' p g' ∙ same) clear;
-      within = omega arith;
-      most = omega arith;
-      at_end = λ _. inr last;
-      once = false_once (unended end);
+      step = record {
+        came = slice_range items' first end;
+        consumed = g'.consumed;
+        counted = omega (arith, length-range items' first end p inside);
+        says = says_unended (take first items0 ++ slice_range items' first end) (slice_range items' 0 end) (slice_range items' end end) end taken limit bytes
+            (length-range items' 0 end (omega arith) inside ∙ omega arith) short
+            (subst HasNoNewline (sym same ∙ sym (range_zero items' end)) clear) (range_none items' end);
+        needed = needed_all _ _ _ (whole first items0 items' end left0 left' p g' ∙ same) clear;
+        within = omega arith;
+        most = omega arith;
+        at_end = λ _. inr last;
+        once = false_once (unended end);
+      };
+      asks = subst (λ v. Adds (Asks (take first items0) before limit false v) asked0 asked) (grown first items items' end count p same ∙ ap (slice_range items' first) at) asks;
     }
 
 -- a newline came
-pub step_cut : (items0 items items' slice : List ℕ) (first end count before taken limit stop at : ℕ) (left0 left left' : Option (List ℕ))
+pub step_cut : (items0 items items' slice : List ℕ) (first end count before taken limit stop at : ℕ) (left0 left left' : Option (List ℕ)) (asked0 asked : Option (List Call))
     → first ≤ end → end + count ≤ length items' → taken + first ≡ before + end → taken + count ≤ limit + 1 → count ≤ 65536 → HasNoNewline (take end items) → Gathered first items0 items end left0 left
     → take end items' ≡ take end items → Consumes left left' (slice_range items' end (end + count)) → slice ≡ items' → stop ≡ end + count - (taken + count - limit)
     → end ≤ at → at < stop → HasNoNewline (slice_range slice end at) → get_or slice at 0 ≡ 10
-    → Step (sized (at - 0)) (take first items0) (slice_range items' 0 at) (slice_range items' (at + 1) (end + count)) before (taken + count) limit false false left0 left'
-step_cut items0 items items' slice first end count before taken limit stop at left0 left left' p inside counted few small clear g same consumed is stops low high before_it newline =
+    → Adds (Asks (take first items0) before limit false (slice_range items first end ++ slice_range items' end (end + count))) asked0 asked
+    → Cuts (sized (at - 0)) (take first items0) (slice_range items' 0 at) (slice_range items' (at + 1) (end + count)) before (taken + count) limit false false left0 left' asked0 asked
+step_cut items0 items items' slice first end count before taken limit stop at left0 left left' asked0 asked p inside counted few small clear g same consumed is stops low high before_it newline asks =
     let g' : Gathered first items0 items' (end + count) left0 left' = Gathered-more first items0 items items' end count left0 left left' p same g consumed in
     let bytes : take first items0 ++ slice_range items' first (end + count) ≡ slice_range items' 0 at ++ 10 ∷ slice_range items' (at + 1) (end + count) =
     whole first items0 items' (end + count) left0 left' (omega arith) g' ∙ sym (range_zero items' (end + count))
@@ -152,25 +168,29 @@ step_cut items0 items items' slice first end count before taken limit stop at le
     let line_clear : HasNoNewline (slice_range items' 0 at) =
     subst HasNoNewline (sym line ∙ sym (range_zero items' at)) (clear-append _ _ (subst HasNoNewline (sym same) clear) (subst (λ v. HasNoNewline (slice_range v end at)) is before_it)) in
     record {
-      came = slice_range items' first (end + count);
-      consumed = g'.consumed;
-      counted = omega (arith, length-range items' first (end + count) (omega arith) inside);
-      says = says_sized _ (slice_range items' 0 at) (slice_range items' (at + 1) (end + count)) (at - 0) _ _ (length-range items' 0 at (omega arith) (omega arith)) (line_clear, inl (bytes, refl));
-      needed = needed_last first items0 items items' end count left0 left p inside small same clear g;
-      within = omega (arith, length-range items' (at + 1) (end + count) (omega arith) inside);
-      most = few;
-      at_end = false_end left0 left';
-      once = false_once (sized (at - 0));
+      step = record {
+        came = slice_range items' first (end + count);
+        consumed = g'.consumed;
+        counted = omega (arith, length-range items' first (end + count) (omega arith) inside);
+        says = says_sized _ (slice_range items' 0 at) (slice_range items' (at + 1) (end + count)) (at - 0) _ _ (length-range items' 0 at (omega arith) (omega arith)) (line_clear, inl (bytes, refl));
+        needed = needed_last first items0 items items' end count left0 left p inside small same clear g;
+        within = omega (arith, length-range items' (at + 1) (end + count) (omega arith) inside);
+        most = few;
+        at_end = false_end left0 left';
+        once = false_once (sized (at - 0));
+      };
+      asks = subst (λ v. Adds (Asks (take first items0) before limit false v) asked0 asked) (grown first items items' end count p same) asks;
     }
 
 -- the byte beyond the limit came
-pub step_spent : (items0 items items' slice : List ℕ) (first end count before taken limit stop : ℕ) (left0 left left' : Option (List ℕ))
+pub step_spent : (items0 items items' slice : List ℕ) (first end count before taken limit stop : ℕ) (left0 left left' : Option (List ℕ)) (asked0 asked : Option (List Call))
     → first ≤ end → end + count ≤ length items' → taken + first ≡ before + end → taken + count ≤ limit + 1 → count ≤ 65536 → limit < taken + count → taken ≤ limit
     → HasNoNewline (take end items) → Gathered first items0 items end left0 left
     → take end items' ≡ take end items → Consumes left left' (slice_range items' end (end + count)) → slice ≡ items' → stop ≡ end + count - (taken + count - limit)
     → HasNoNewline (slice_range slice end stop)
-    → Step Spent (take first items0) (slice_range items' 0 0) (slice_range items' (end + count - 1) (end + count)) before (taken + count) limit false false left0 left'
-step_spent items0 items items' slice first end count before taken limit stop left0 left left' p inside counted few small over most clear g same consumed is stops after =
+    → Adds (Asks (take first items0) before limit false (slice_range items first end ++ slice_range items' end (end + count))) asked0 asked
+    → Cuts Spent (take first items0) (slice_range items' 0 0) (slice_range items' (end + count - 1) (end + count)) before (taken + count) limit false false left0 left' asked0 asked
+step_spent items0 items items' slice first end count before taken limit stop left0 left left' asked0 asked p inside counted few small over most clear g same consumed is stops after asks =
     let g' : Gathered first items0 items' (end + count) left0 left' = Gathered-more first items0 items items' end count left0 left left' p same g consumed in
     let at : stop ≡ end + count - 1 = omega arith in
     let bytes : take first items0 ++ slice_range items' first (end + count) ≡ take (end + count - 1) items' ++ slice_range items' (end + count - 1) (end + count) =
@@ -181,15 +201,18 @@ step_spent items0 items items' slice first end count before taken limit stop lef
     subst HasNoNewline (sym piece) (clear-append _ _ (subst HasNoNewline (sym same) clear)
     (subst (λ n. HasNoNewline (slice_range items' end n)) at (subst (λ v. HasNoNewline (slice_range v end stop)) is after))) in
     record {
-      came = slice_range items' first (end + count);
-      consumed = g'.consumed;
-      counted = omega (arith, length-range items' first (end + count) (omega arith) inside);
-      says = (take (end + count - 1) items', piece_clear, bytes, one, omega arith, refl);
-      needed = needed_last first items0 items items' end count left0 left p inside small same clear g;
-      within = omega arith;
-      most = few;
-      at_end = false_end left0 left';
-      once = false_once Spent;
+      step = record {
+        came = slice_range items' first (end + count);
+        consumed = g'.consumed;
+        counted = omega (arith, length-range items' first (end + count) (omega arith) inside);
+        says = (take (end + count - 1) items', piece_clear, bytes, one, omega arith, refl);
+        needed = needed_last first items0 items items' end count left0 left p inside small same clear g;
+        within = omega arith;
+        most = few;
+        at_end = false_end left0 left';
+        once = false_once Spent;
+      };
+      asks = subst (λ v. Adds (Asks (take first items0) before limit false v) asked0 asked) (grown first items items' end count p same) asks;
     }
 
 says_passed : (cut : Cut) (front came bytes line rest : List ℕ) (taken limit : ℕ) (ended : Bool) → bytes ≡ front ++ came → HasNoNewline front → 16777216 < length front
@@ -230,71 +253,100 @@ needed_passed pending front came clear needed = elim needed [
 ]
 
 -- the line was too long, and the rest of it was passed over
-pub step_passed : (cut : Cut) (items0 items line rest : List ℕ) (first end before taken taken' limit : ℕ) (ended : Bool) (left0 left left' : Option (List ℕ))
+pub step_passed : (cut : Cut) (items0 items line rest : List ℕ) (first end before taken taken' limit : ℕ) (ended : Bool) (left0 left left' : Option (List ℕ)) (asked0 asked asked' : Option (List Call))
     → first ≤ end → end ≤ length items → 16777216 < end → taken + first ≡ before + end → HasNoNewline (take end items) → Gathered first items0 items end left0 left
-    → Passed cut rest taken taken' limit ended left left'
-    → Step cut (take first items0) line rest before taken' limit false ended left0 left'
-step_passed cut items0 items line rest first end before taken taken' limit ended left0 left left' p inside long counted clear g passed =
+    → Asking (take first items0) before taken limit (slice_range items first end) asked0 asked → Passed cut rest taken taken' limit ended left left' asked asked'
+    → Cuts cut (take first items0) line rest before taken' limit false ended left0 left' asked0 asked'
+step_passed cut items0 items line rest first end before taken taken' limit ended left0 left left' asked0 asked asked' p inside long counted clear g asking passed =
     let bytes : take first items0 ++ (slice_range items first end ++ passed.came) ≡ take end items ++ passed.came =
     sym (append_assoc (take first items0) (slice_range items first end) passed.came) ∙ ap (λ v. v ++ passed.came) (whole first items0 items end left0 left p g) in
     let size : length (take end items) ≡ end = length-take-le end items inside in
     record {
-      came = slice_range items first end ++ passed.came;
-      consumed = Consumes-trans left0 left left' _ _ g.consumed passed.consumed;
-      counted = omega (arith, passed.counted, length-append (slice_range items first end) passed.came, length-range items first end p inside);
-      says = says_passed cut (take end items) passed.came _ line rest taken' limit ended bytes clear (omega arith) passed.says;
-      needed = needed_passed (take first items0) (slice_range items first end) passed.came (subst HasNoNewline (sym (whole first items0 items end left0 left p g)) clear) passed.needed;
-      within = passed.within;
-      most = passed.most;
-      at_end = λ h. inr (passed.at_end h);
-      once = false_once cut;
+      step = record {
+        came = slice_range items first end ++ passed.came;
+        consumed = Consumes-trans left0 left left' _ _ g.consumed passed.consumed;
+        counted = omega (arith, passed.counted, length-append (slice_range items first end) passed.came, length-range items first end p inside);
+        says = says_passed cut (take end items) passed.came _ line rest taken' limit ended bytes clear (omega arith) passed.says;
+        needed = needed_passed (take first items0) (slice_range items first end) passed.came (subst HasNoNewline (sym (whole first items0 items end left0 left p g)) clear) passed.needed;
+        within = passed.within;
+        most = passed.most;
+        at_end = λ h. inr (passed.at_end h);
+        once = false_once cut;
+      };
+      asks = Asking-passed (take first items0) before taken limit (slice_range items first end) asked0 asked asked' passed.came asking passed.asks;
     }
 
 -- a newline waited
-pub step_now : (items slice : List ℕ) (start end taken limit stop at : ℕ) (ended : Bool) (left : Option (List ℕ))
+pub step_now : (items slice : List ℕ) (start end taken limit stop at : ℕ) (ended : Bool) (left : Option (List ℕ)) (asked : Option (List Call))
     → end ≤ length items → taken ≤ limit + 1 → taken + start ≤ limit + end → slice ≡ items → stop ≡ end - (taken - limit)
     → start ≤ at → at < stop → HasNoNewline (slice_range slice start at) → get_or slice at 0 ≡ 10 → ended ≡ false
-    → Step (sized (at - start)) (slice_range items start end) (slice_range items start at) (slice_range items (at + 1) end) taken taken limit ended false left left
-step_now items slice start end taken limit stop at ended left inside most given is stops low high clear newline more = record {
-  came = [];
-  consumed = Consumes-nil left;
-  counted = omega arith;
-  says = says_sized _ (slice_range items start at) (slice_range items (at + 1) end) (at - start) _ _ (length-range items start at low (omega arith)) (
-    subst (λ v. HasNoNewline (slice_range v start at)) is clear,
-    inl (append-nil (slice_range items start end) ∙ range_at items start at end low (omega arith) inside (ap (λ v. get_or v at 0) (sym is) ∙ newline), refl),
-  );
-  needed = inl refl;
-  within = omega (arith, length-range items (at + 1) end (omega arith) inside);
-  most = most;
-  at_end = λ h. cc;
-  once = λ h. cc;
+    → Cuts (sized (at - start)) (slice_range items start end) (slice_range items start at) (slice_range items (at + 1) end) taken taken limit ended false left left asked asked
+step_now items slice start end taken limit stop at ended left asked inside most given is stops low high clear newline more = record {
+  step = record {
+    came = [];
+    consumed = Consumes-nil left;
+    counted = omega arith;
+    says = says_sized _ (slice_range items start at) (slice_range items (at + 1) end) (at - start) _ _ (length-range items start at low (omega arith)) (
+      subst (λ v. HasNoNewline (slice_range v start at)) is clear,
+      inl (append-nil (slice_range items start end) ∙ range_at items start at end low (omega arith) inside (ap (λ v. get_or v at 0) (sym is) ∙ newline), refl),
+    );
+    needed = inl refl;
+    within = omega (arith, length-range items (at + 1) end (omega arith) inside);
+    most = most;
+    at_end = λ h. cc;
+    once = λ h. cc;
+  };
+  asks = asks_none (slice_range items start end) taken limit ended asked;
 }
 
+-- the end was told
+pub step_ended : (items new : List ℕ) (start end taken limit : ℕ) (ended : Bool) (left : Option (List ℕ)) (asked : Option (List Call)) → taken + start ≤ limit + end → taken ≤ limit + 1 → (ended ≡ true → start ≡ end) → ended ≡ true
+    → Cuts End (slice_range items start end) (slice_range new 0 0) (slice_range new 0 0) taken taken limit ended true left left asked asked
+step_ended items new start end taken limit ended left asked given most same told =
+    let at : start ≡ end = same told in
+    record {
+      step = record {
+        came = [];
+        consumed = Consumes-nil left;
+        counted = omega arith;
+        says = (append-nil (slice_range items start end) ∙ ap (slice_range items start) (sym at) ∙ range_none items start, refl, refl);
+        needed = inl refl;
+        within = omega arith;
+        most = most;
+        at_end = λ _. inl (told, refl);
+        once = λ _. refl;
+      };
+      asks = asks_none (slice_range items start end) taken limit ended asked;
+    }
+
 -- the byte beyond the limit is all that waits
-pub step_over : (items slice : List ℕ) (start end taken limit stop : ℕ) (ended : Bool) (left : Option (List ℕ))
+pub step_over : (items slice : List ℕ) (start end taken limit stop : ℕ) (ended : Bool) (left : Option (List ℕ)) (asked : Option (List Call))
     → end ≤ length items → taken ≤ limit + 1 → limit < taken → taken + start ≤ limit + end → slice ≡ items → stop ≡ end - (taken - limit)
     → HasNoNewline (slice_range slice start stop) → ended ≡ false
-    → Step Spent (slice_range items start end) (slice_range items 0 0) (slice_range items (end - 1) end) taken taken limit ended false left left
-step_over items slice start end taken limit stop ended left inside most over given is stops clear more =
+    → Cuts Spent (slice_range items start end) (slice_range items 0 0) (slice_range items (end - 1) end) taken taken limit ended false left left asked asked
+step_over items slice start end taken limit stop ended left asked inside most over given is stops clear more =
     let at : stop ≡ end - 1 = omega arith in
     let one : length (slice_range items (end - 1) end) ≡ 1 = length-range items (end - 1) end (omega arith) inside ∙ omega arith in
     record {
-      came = [];
-      consumed = Consumes-nil left;
-      counted = omega arith;
-      says = (
-        slice_range items start (end - 1),
-        subst (λ n. HasNoNewline (slice_range items start n)) at (subst (λ v. HasNoNewline (slice_range v start stop)) is clear),
-        append-nil (slice_range items start end) ∙ range_join items start (end - 1) end (omega arith) (omega arith),
-        one,
-        omega arith,
-        refl,
-      );
-      needed = inl refl;
-      within = omega arith;
-      most = most;
-      at_end = λ h. cc;
-      once = λ h. cc;
+      step = record {
+        came = [];
+        consumed = Consumes-nil left;
+        counted = omega arith;
+        says = (
+          slice_range items start (end - 1),
+          subst (λ n. HasNoNewline (slice_range items start n)) at (subst (λ v. HasNoNewline (slice_range v start stop)) is clear),
+          append-nil (slice_range items start end) ∙ range_join items start (end - 1) end (omega arith) (omega arith),
+          one,
+          omega arith,
+          refl,
+        );
+        needed = inl refl;
+        within = omega arith;
+        most = most;
+        at_end = λ h. cc;
+        once = λ h. cc;
+      };
+      asks = asks_none (slice_range items start end) taken limit ended asked;
     }
 
 -- within the limit the search went to the end of what came

@@ -1,47 +1,84 @@
 -- The rest of a line that is too long, passed over, one call of the source after another.
-use Rattle.std.proofs.Common.{◌≡◌, ◌≤◌, ◌<◌, ◌+◌, ◌-◌, ℕ, false, List, [], ◌∷◌, ◌++◌, length, get_or, ap, sym, subst, ◌∙◌, refl, arith, append_assoc, length-append, slice_range, inl, inr}
+use Rattle.std.proofs.Common.{◌≡◌, ◌≢◌, ◌≤◌, ◌<◌, ◌+◌, ◌-◌, ℕ, true, false, List, [], ◌∷◌, ◌++◌, length, get_or, ap, sym, subst, ◌∙◌, refl, arith, append_assoc, append-nil, length-append, slice_range, inl, inr}
 use Rattle.std.specs.declared.option.Option.{Option}
-use Rattle.std.specs.Io.KnownBytes.{Consumes}
-use Rattle.std.proofs.KnownBytes.{Consumes-nil, Consumes-trans}
-use Rattle.lens_io.specs.declared.cutting.Cut.TheVariants.{TooLong, Spent}
-use Rattle.lens_io.specs.Cutting.{HasNoNewline, Passed}
+use Rattle.std.specs.Io.KnownBytes.{Consumes, IsAtEnd, Keeps}
+use Rattle.std.proofs.KnownBytes.{Consumes-kept, Consumes-nil, Consumes-trans}
+use Rattle.lens_io.specs.declared.cutting.Cut.TheVariants.{Failed, TooLong, Spent}
+use Rattle.std.specs.Prelude.{min}
+use Rattle.io_specs.specs.Calls.{Adds}
+use Rattle.lens_io.specs.Calls.{Call, AddsCall}
+use Rattle.lens_io.specs.Cutting.{Asks, HasNoNewline, Passed}
+use Rattle.lens_io.proofs.Asking.{Asking, Asking-last, Asking-nil, asked_more}
 use Rattle.lens_io.proofs.Pieces.{clear-append, range_join, range_at, length-range}
 
 -- some bytes without a newline came
-pub record PassedOver (before taken : ℕ) (left0 left : Option (List ℕ)) : Type 0 where
+pub record PassedOver (before taken limit : ℕ) (left0 left : Option (List ℕ)) (asked0 asked : Option (List Call)) : Type 0 where
   pub came : List ℕ
   pub clear : HasNoNewline came
   pub consumed : Consumes left0 left came
   pub counted : taken ≡ before + length came
+  pub asking : Asking [] before taken limit came asked0 asked
 
-pub PassedOver-nil : (before : ℕ) (left : Option (List ℕ)) → PassedOver before before left left
-PassedOver-nil before left = record { came = []; clear = tt; consumed = Consumes-nil left; counted = omega arith }
-
-pub PassedOver-more : (before taken taken' : ℕ) (left0 left left' : Option (List ℕ)) (more : List ℕ)
-    → PassedOver before taken left0 left → HasNoNewline more → Consumes left left' more → taken' ≡ taken + length more → PassedOver before taken' left0 left'
-PassedOver-more before taken taken' left0 left left' more p clear consumed counted = record {
-  came = p.came ++ more;
-  clear = clear-append p.came more p.clear clear;
-  consumed = Consumes-trans left0 left left' p.came more p.consumed consumed;
-  counted = omega (arith, p.counted, length-append p.came more);
-}
+pub PassedOver-nil : (before limit : ℕ) (left : Option (List ℕ)) (asked : Option (List Call)) → PassedOver before before limit left left asked asked
+PassedOver-nil before limit left asked = record { came = []; clear = tt; consumed = Consumes-nil left; counted = omega arith; asking = Asking-nil [] before limit asked tt }
 
 -- a piece of the rest of a line that is too long
-pub pass_more : (items slice : List ℕ) (before taken count stop limit : ℕ) (left0 left left' : Option (List ℕ))
-    → slice ≡ items → stop ≡ count - (taken + count - limit) → taken + count ≤ limit → count ≤ length items → PassedOver before taken left0 left
-    → HasNoNewline (slice_range slice 0 stop) → Consumes left left' (slice_range items 0 (0 + count)) → PassedOver before (taken + count) left0 left'
-pass_more items slice before taken count stop limit left0 left left' same is few inside p clear consumed =
+pub pass_more : (items slice : List ℕ) (before taken count stop limit : ℕ) (left0 left left' : Option (List ℕ)) (asked0 asked asked' : Option (List Call))
+    → slice ≡ items → stop ≡ count - (taken + count - limit) → taken + count ≤ limit → count ≤ length items → PassedOver before taken limit left0 left asked0 asked
+    → HasNoNewline (slice_range slice 0 stop) → Consumes left left' (slice_range items 0 (0 + count)) → count ≢ 0 → AddsCall asked asked' (min 65536 (limit + 1 - taken)) (slice_range items 0 (0 + count))
+    → PassedOver before (taken + count) limit left0 left' asked0 asked'
+pass_more items slice before taken count stop limit left0 left left' asked0 asked asked' same is few inside p clear consumed some call =
     let at : stop ≡ 0 + count = omega arith in
-    PassedOver-more before taken (taken + count) left0 left left' (slice_range items 0 (0 + count)) p
-    (subst (λ n. HasNoNewline (slice_range items 0 n)) at (subst (λ v. HasNoNewline (slice_range v 0 stop)) same clear)) consumed
-    (omega (arith, length-range items 0 (0 + count) (omega arith) (omega arith)))
+    let more_clear : HasNoNewline (slice_range items 0 (0 + count)) =
+    subst (λ n. HasNoNewline (slice_range items 0 n)) at (subst (λ v. HasNoNewline (slice_range v 0 stop)) same clear) in
+    record {
+      came = p.came ++ slice_range items 0 (0 + count);
+      clear = clear-append p.came _ p.clear more_clear;
+      consumed = Consumes-trans left0 left left' p.came _ p.consumed consumed;
+      counted = omega (arith, p.counted, length-append p.came (slice_range items 0 (0 + count)), length-range items 0 (0 + count) (omega arith) (omega arith));
+      asking = asked_more [] before taken limit p.came asked0 asked asked' items 0 count (omega arith) some p.asking call more_clear;
+    }
+
+-- the source failed
+pub pass_failed : (before taken limit : ℕ) (left0 left left' : Option (List ℕ)) (asked0 asked asked' : Option (List Call)) → PassedOver before taken limit left0 left asked0 asked → taken ≤ limit
+    → Keeps left left' → AddsCall asked asked' (min 65536 (limit + 1 - taken)) [] → Passed Failed [] before taken limit false left0 left' asked0 asked'
+pass_failed before taken limit left0 left left' asked0 asked asked' p few kept call = record {
+  came = p.came;
+  consumed = Consumes-kept left0 left left' p.came p.consumed kept;
+  counted = p.counted;
+  says = (p.clear, refl, refl);
+  needed = inr (p.came, [], sym (append-nil p.came), omega arith, p.clear);
+  within = omega arith;
+  most = omega arith;
+  at_end = λ h. cc;
+  asks = subst (λ v. Adds (Asks [] before limit false v) asked0 asked') (append-nil p.came) (Asking-last [] before taken limit _ p.came asked0 asked asked' [] p.asking call refl);
+}
+
+-- the source is at its end
+pub pass_last : (items : List ℕ) (before taken count limit : ℕ) (left0 left left' : Option (List ℕ)) (asked0 asked asked' : Option (List Call)) → PassedOver before taken limit left0 left asked0 asked → taken ≤ limit
+    → Consumes left left' (slice_range items 0 (0 + count)) → count ≡ 0 → IsAtEnd left' → AddsCall asked asked' (min 65536 (limit + 1 - taken)) (slice_range items 0 (0 + count))
+    → Passed TooLong [] before taken limit true left0 left' asked0 asked'
+pass_last items before taken count limit left0 left left' asked0 asked asked' p few consumed zero last call =
+    let none : slice_range items 0 (0 + count) ≡ [] = (let e : 0 + count ≡ 0 = omega arith in ap (slice_range items 0) e) in
+    let all : p.came ++ slice_range items 0 (0 + count) ≡ p.came = ap (λ v. p.came ++ v) none ∙ append-nil p.came in
+    record {
+      came = p.came;
+      consumed = subst (Consumes left0 left') all (Consumes-trans left0 left left' p.came _ p.consumed consumed);
+      counted = p.counted;
+      says = (p.came, (p.clear, inr (refl, refl, refl)));
+      needed = inr (p.came, [], sym (append-nil p.came), omega arith, p.clear);
+      within = omega arith;
+      most = omega arith;
+      at_end = λ _. last;
+      asks = subst (λ v. Adds (Asks [] before limit false v) asked0 asked') all (Asking-last [] before taken limit _ p.came asked0 asked asked' (slice_range items 0 (0 + count)) p.asking call refl);
+    }
 
 -- its newline came
-pub pass_cut : (items slice : List ℕ) (before taken count stop limit at : ℕ) (left0 left left' : Option (List ℕ))
-    → slice ≡ items → stop ≡ count - (taken + count - limit) → taken + count ≤ limit + 1 → count ≤ 65536 → count ≤ length items → PassedOver before taken left0 left
+pub pass_cut : (items slice : List ℕ) (before taken count stop limit at : ℕ) (left0 left left' : Option (List ℕ)) (asked0 asked asked' : Option (List Call))
+    → slice ≡ items → stop ≡ count - (taken + count - limit) → taken + count ≤ limit + 1 → count ≤ 65536 → count ≤ length items → PassedOver before taken limit left0 left asked0 asked
     → at < stop → HasNoNewline (slice_range slice 0 at) → get_or slice at 0 ≡ 10 → Consumes left left' (slice_range items 0 (0 + count))
-    → Passed TooLong (slice_range items (at + 1) count) before (taken + count) limit false left0 left'
-pass_cut items slice before taken count stop limit at left0 left left' same is most small inside p below clear newline consumed =
+    → AddsCall asked asked' (min 65536 (limit + 1 - taken)) (slice_range items 0 (0 + count)) → Passed TooLong (slice_range items (at + 1) count) before (taken + count) limit false left0 left' asked0 asked'
+pass_cut items slice before taken count stop limit at left0 left left' asked0 asked asked' same is most small inside p below clear newline consumed call =
     let size : length (slice_range items 0 (0 + count)) ≡ count = length-range items 0 (0 + count) (omega arith) (omega arith) ∙ omega arith in
     let rest : length (slice_range items (at + 1) count) ≡ count - (at + 1) = length-range items (at + 1) count (omega arith) inside in
     let parts : slice_range items 0 (0 + count) ≡ slice_range items 0 at ++ 10 ∷ slice_range items (at + 1) count =
@@ -61,14 +98,15 @@ pass_cut items slice before taken count stop limit at left0 left left' same is m
       within = omega arith;
       most = most;
       at_end = λ h. cc;
+      asks = Asking-last [] before taken limit _ p.came asked0 asked asked' (slice_range items 0 (0 + count)) p.asking call refl;
     }
 
 -- the byte beyond the limit came
-pub pass_spent : (items slice : List ℕ) (before taken count stop limit : ℕ) (left0 left left' : Option (List ℕ))
-    → slice ≡ items → stop ≡ count - (taken + count - limit) → taken + count ≤ limit + 1 → limit < taken + count → taken ≤ limit → count ≤ 65536 → count ≤ length items → PassedOver before taken left0 left
+pub pass_spent : (items slice : List ℕ) (before taken count stop limit : ℕ) (left0 left left' : Option (List ℕ)) (asked0 asked asked' : Option (List Call))
+    → slice ≡ items → stop ≡ count - (taken + count - limit) → taken + count ≤ limit + 1 → limit < taken + count → taken ≤ limit → count ≤ 65536 → count ≤ length items → PassedOver before taken limit left0 left asked0 asked
     → HasNoNewline (slice_range slice 0 stop) → Consumes left left' (slice_range items 0 (0 + count))
-    → Passed Spent (slice_range items (count - 1) count) before (taken + count) limit false left0 left'
-pass_spent items slice before taken count stop limit left0 left left' same is most over few small inside p clear consumed =
+    → AddsCall asked asked' (min 65536 (limit + 1 - taken)) (slice_range items 0 (0 + count)) → Passed Spent (slice_range items (count - 1) count) before (taken + count) limit false left0 left' asked0 asked'
+pass_spent items slice before taken count stop limit left0 left left' asked0 asked asked' same is most over few small inside p clear consumed call =
     let size : length (slice_range items 0 (0 + count)) ≡ count = length-range items 0 (0 + count) (omega arith) (omega arith) ∙ omega arith in
     let rest : length (slice_range items (count - 1) count) ≡ 1 = length-range items (count - 1) count (omega arith) inside ∙ omega arith in
     let at : stop ≡ count - 1 = omega arith in
@@ -90,4 +128,5 @@ pass_spent items slice before taken count stop limit left0 left left' same is mo
       within = omega arith;
       most = most;
       at_end = λ h. cc;
+      asks = Asking-last [] before taken limit _ p.came asked0 asked asked' (slice_range items 0 (0 + count)) p.asking call refl;
     }

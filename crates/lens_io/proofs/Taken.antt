@@ -28,71 +28,83 @@ Taken-nil left = record {
   at_end = λ h. cc;
 }
 
+pub nil_all : (left : Option (List ℕ)) → [] ≡ (Taken-nil left).all
+unfolding Taken-nil
+nil_all left = refl
+
 one_longer : (given : List Line) (l : Line) (more : List Line) → given ++ l ∷ more ≡ (given ++ l ∷ []) ++ more
 one_longer given l more = sym (append_assoc given (l ∷ []) more)
 
+-- the lines were given, and these are the bytes that were taken
+abbrev pub TakenOf : List Line → List ℕ → ℕ → Bool → Option (List ℕ) → Option (List ℕ) → List ℕ → Type 0
+TakenOf given pending taken ended left0 left all = (t : Taken given pending taken ended left0 left) × (t.all ≡ all)
+
 -- what came last was needed, so the lines before were given
-in_time : (given : List Line) (pending came : List ℕ) (taken : ℕ) (left0 left : Option (List ℕ)) → (t : Taken given pending taken false left0 left) → IsNeeded pending came
+in_time : (given : List Line) (pending came : List ℕ) (taken : ℕ) (ended : Bool) (left0 left : Option (List ℕ)) → (t : Taken given pending taken ended left0 left) → ended ≡ false → IsNeeded pending came
     → ComesInTime (length given) (t.all ++ came)
-in_time given pending came taken left0 left t needed = elim needed [
+in_time given pending came taken ended left0 left t open_still needed = elim needed [
   | inl none ↦
       let last = t.in_time in
       (last.0, last.1, ap (λ v. t.all ++ v) none ∙ append-nil t.all ∙ last.2, last.3, omega (arith, last.4))
   | inr e ↦
       let parts : t.all ++ e.0 ≡ t.front ++ (pending ++ e.0) = ap (λ v. v ++ e.0) t.parts ∙ append_assoc t.front pending e.0 in
       let lines_of : whole (t.all ++ e.0) ≡ given =
-      ap whole parts ∙ t.whole_are refl (pending ++ e.0) ∙ ap (λ v. given ++ v) (whole_clear (pending ++ e.0) e.4) ∙ append-nil given in
+      ap whole parts ∙ t.whole_are open_still (pending ++ e.0) ∙ ap (λ v. given ++ v) (whole_clear (pending ++ e.0) e.4) ∙ append-nil given in
       (t.all ++ e.0, e.1, ap (λ v. t.all ++ v) e.2 ∙ sym (append_assoc t.all e.0 e.1), e.3, omega (arith, ap length lines_of))
 ]
 
 -- a line was cut off
-pub Taken-cut : (given : List Line) (pending came piece rest : List ℕ) (taken taken' : ℕ) (ended : Bool) (left0 left left' : Option (List ℕ))
-    → Taken given pending taken false left0 left → Consumes left left' came → taken' ≡ taken + length came → CutsOff (pending ++ came) piece rest ended
+taken_cut : (given : List Line) (pending came piece rest : List ℕ) (taken taken' : ℕ) (before ended : Bool) (left0 left left' : Option (List ℕ))
+    → (t : Taken given pending taken before left0 left) → before ≡ false → Consumes left left' came → taken' ≡ taken + length came → CutsOff (pending ++ came) piece rest ended
     → IsNeeded pending came → (ended ≡ true → piece ≢ []) → (ended ≡ true → IsAtEnd left')
-    → Taken (given ++ marked piece ∷ []) rest taken' ended left0 left'
-Taken-cut given pending came piece rest taken taken' ended left0 left left' t consumed counted cuts needed some last =
+    → TakenOf (given ++ marked piece ∷ []) rest taken' ended left0 left' (t.all ++ came)
+taken_cut given pending came piece rest taken taken' before ended left0 left left' t open_still consumed counted cuts needed some last =
     let grown : t.all ++ came ≡ t.front ++ (pending ++ came) = ap (λ v. v ++ came) t.parts ∙ append_assoc t.front pending came in
     let size : length (given ++ marked piece ∷ []) ≡ length given + 1 = length-append given (marked piece ∷ []) in
     let before_last : length given ≡ length (given ++ marked piece ∷ []) - 1 = omega arith in
     let timely : ComesInTime (length (given ++ marked piece ∷ []) - 1) (t.all ++ came) =
-    subst (λ n. ComesInTime n (t.all ++ came)) before_last (in_time given pending came taken left0 left t needed) in
+    subst (λ n. ComesInTime n (t.all ++ came)) before_last (in_time given pending came taken before left0 left t open_still needed) in
     elim cuts.1 [
       | inl e ↦
           let ender : List ℕ = piece ++ 10 ∷ [] in
           let on : (r : List ℕ) → (t.front ++ ender) ++ r ≡ t.front ++ (piece ++ 10 ∷ r) =
-          λ r. append_assoc t.front ender r ∙ ap (λ v. t.front ++ v) (append_assoc piece (10 ∷ []) r) in
-          record {
-            all = t.all ++ came;
-            front = t.front ++ ender;
-            consumed = Consumes-trans left0 left left' t.all came t.consumed consumed;
-            counted = omega (arith, t.counted, length-append t.all came);
-            parts = grown ∙ ap (λ v. t.front ++ v) e.0 ∙ sym (on rest);
-            few = omega (arith, t.few, size, length-append t.front ender, length-append piece (10 ∷ []));
-            in_time = timely;
-            lines_are = λ _ r. ap lines (on r) ∙ t.lines_are refl (piece ++ 10 ∷ r) ∙ ap (λ v. given ++ v) (lines_at piece r cuts.0) ∙ one_longer given (marked piece) (lines r);
-            whole_are = λ _ r. ap whole (on r) ∙ t.whole_are refl (piece ++ 10 ∷ r) ∙ ap (λ v. given ++ v) (whole_at piece r cuts.0) ∙ one_longer given (marked piece) (whole r);
-            at_end = λ h. cc;
-          }
+          λ r. append_assoc t.front ender r ∙ ap (λ v. t.front ++ v) (append_assoc piece (10 ∷ []) r) in (
+            record {
+              all = t.all ++ came;
+              front = t.front ++ ender;
+              consumed = Consumes-trans left0 left left' t.all came t.consumed consumed;
+              counted = omega (arith, t.counted, length-append t.all came);
+              parts = grown ∙ ap (λ v. t.front ++ v) e.0 ∙ sym (on rest);
+              few = omega (arith, t.few, size, length-append t.front ender, length-append piece (10 ∷ []));
+              in_time = timely;
+              lines_are = λ _ r. ap lines (on r) ∙ t.lines_are open_still (piece ++ 10 ∷ r) ∙ ap (λ v. given ++ v) (lines_at piece r cuts.0) ∙ one_longer given (marked piece) (lines r);
+              whole_are = λ _ r. ap whole (on r) ∙ t.whole_are open_still (piece ++ 10 ∷ r) ∙ ap (λ v. given ++ v) (whole_at piece r cuts.0) ∙ one_longer given (marked piece) (whole r);
+              at_end = λ h. cc;
+            },
+            refl,
+          )
       | inr e ↦
           let here : t.all ++ came ≡ t.front ++ piece = grown ∙ ap (λ v. t.front ++ v) e.0 in
           let not_none : piece ≢ [] = some e.2 in
-          let long : length piece ≢ 0 = λ z. not_none (nil_from_length piece z) in
-          record {
-            all = t.all ++ came;
-            front = t.all ++ came;
-            consumed = Consumes-trans left0 left left' t.all came t.consumed consumed;
-            counted = omega (arith, t.counted, length-append t.all came);
-            parts = sym (append-nil (t.all ++ came)) ∙ ap (λ v. (t.all ++ came) ++ v) (sym e.1);
-            few = omega (arith, t.few, size, ap length here, length-append t.front piece);
-            in_time = timely;
-            lines_are = λ h. absurd (let no : true ≡ false = sym e.2 ∙ h in cc);
-            whole_are = λ h. absurd (let no : true ≡ false = sym e.2 ∙ h in cc);
-            at_end = λ h. (e.1, ap lines here ∙ t.lines_are refl piece ∙ ap (λ v. given ++ v) (lines_clear piece cuts.0 not_none), last h);
-          }
+          let long : length piece ≢ 0 = λ z. not_none (nil_from_length piece z) in (
+            record {
+              all = t.all ++ came;
+              front = t.all ++ came;
+              consumed = Consumes-trans left0 left left' t.all came t.consumed consumed;
+              counted = omega (arith, t.counted, length-append t.all came);
+              parts = sym (append-nil (t.all ++ came)) ∙ ap (λ v. (t.all ++ came) ++ v) (sym e.1);
+              few = omega (arith, t.few, size, ap length here, length-append t.front piece);
+              in_time = timely;
+              lines_are = λ h. absurd (let no : true ≡ false = sym e.2 ∙ h in cc);
+              whole_are = λ h. absurd (let no : true ≡ false = sym e.2 ∙ h in cc);
+              at_end = λ h. (e.1, ap lines here ∙ t.lines_are open_still piece ∙ ap (λ v. given ++ v) (lines_clear piece cuts.0 not_none), last h);
+            },
+            refl,
+          )
     ]
 
 -- the end was not told before
-step_open : (c : Cut) (pending text rest : List ℕ) (taken taken' limit : ℕ) (ended ended' : Bool) (left left' : Option (List ℕ))
+pub step_open : (c : Cut) (pending text rest : List ℕ) (taken taken' limit : ℕ) (ended ended' : Bool) (left left' : Option (List ℕ))
     → Step c pending text rest taken taken' limit ended ended' left left' → c ≢ cut.End → ended ≡ false
 step_open c pending text rest taken taken' limit true ended' left left' s other = absurd (other (s.once refl))
 step_open c pending text rest taken taken' limit false ended' left left' s other = refl
@@ -102,27 +114,37 @@ step_last : (c : Cut) (pending text rest : List ℕ) (taken taken' limit : ℕ) 
 step_last c pending text rest taken taken' limit ended ended' left left' s before_end h = elim (s.at_end h) [ inl e ↦ absurd (let no : true ≡ false = sym e.0 ∙ before_end in cc) | inr e ↦ e ]
 
 -- The next line was given.
+pub taken_line : (given : List Line) (pending text rest : List ℕ) (taken taken' limit : ℕ) (ended ended' : Bool) (left0 left left' : Option (List ℕ))
+    → (t : Taken given pending taken ended left0 left) → (s : Step cut.Line pending text rest taken taken' limit ended ended' left left')
+    → TakenOf (given ++ line text ∷ []) rest taken' ended' left0 left' (t.all ++ s.came)
+taken_line given pending text rest taken taken' limit ended ended' left0 left left' t s =
+    let before_end : ended ≡ false = step_open cut.Line pending text rest taken taken' limit ended ended' left left' s (λ e. cc) in
+    subst (λ l. TakenOf (given ++ l ∷ []) rest taken' ended' left0 left' (t.all ++ s.came)) (marked_short text s.says.0)
+    (taken_cut given pending s.came text rest taken taken' ended ended' left0 left left' t before_end s.consumed s.counted s.says.1 s.needed s.says.2
+    (step_last cut.Line pending text rest taken taken' limit ended ended' left left' s before_end))
+
 pub Taken-line : (given : List Line) (pending text rest : List ℕ) (taken taken' limit : ℕ) (ended ended' : Bool) (left0 left left' : Option (List ℕ))
     → Taken given pending taken ended left0 left → Step cut.Line pending text rest taken taken' limit ended ended' left left'
     → Taken (given ++ line text ∷ []) rest taken' ended' left0 left'
-Taken-line given pending text rest taken taken' limit ended ended' left0 left left' t s =
-    let before_end : ended ≡ false = step_open cut.Line pending text rest taken taken' limit ended ended' left left' s (λ e. cc) in
-    subst (λ l. Taken (given ++ l ∷ []) rest taken' ended' left0 left') (marked_short text s.says.0)
-    (Taken-cut given pending s.came text rest taken taken' ended' left0 left left' (subst (λ b. Taken given pending taken b left0 left) before_end t) s.consumed s.counted s.says.1 s.needed s.says.2
-    (step_last cut.Line pending text rest taken taken' limit ended ended' left left' s before_end))
+Taken-line given pending text rest taken taken' limit ended ended' left0 left left' t s = (taken_line given pending text rest taken taken' limit ended ended' left0 left left' t s).0
 
 -- The next line was too long.
-pub Taken-too_long : (given : List Line) (pending text rest : List ℕ) (taken taken' limit : ℕ) (ended ended' : Bool) (left0 left left' : Option (List ℕ))
-    → Taken given pending taken ended left0 left → Step cut.TooLong pending text rest taken taken' limit ended ended' left left'
-    → Taken (given ++ too_long ∷ []) rest taken' ended' left0 left'
-Taken-too_long given pending text rest taken taken' limit ended ended' left0 left left' t s =
+pub taken_too_long : (given : List Line) (pending text rest : List ℕ) (taken taken' limit : ℕ) (ended ended' : Bool) (left0 left left' : Option (List ℕ))
+    → (t : Taken given pending taken ended left0 left) → (s : Step cut.TooLong pending text rest taken taken' limit ended ended' left left')
+    → TakenOf (given ++ too_long ∷ []) rest taken' ended' left0 left' (t.all ++ s.came)
+taken_too_long given pending text rest taken taken' limit ended ended' left0 left left' t s =
     let before_end : ended ≡ false = step_open cut.TooLong pending text rest taken taken' limit ended ended' left left' s (λ e. cc) in
     let piece : List ℕ = s.says.0 in
     let long : 16777216 < length piece = s.says.1 in
-    subst (λ l. Taken (given ++ l ∷ []) rest taken' ended' left0 left') (marked_long piece long)
-    (Taken-cut given pending s.came piece rest taken taken' ended' left0 left left' (subst (λ b. Taken given pending taken b left0 left) before_end t) s.consumed s.counted s.says.2 s.needed
+    subst (λ l. TakenOf (given ++ l ∷ []) rest taken' ended' left0 left' (t.all ++ s.came)) (marked_long piece long)
+    (taken_cut given pending s.came piece rest taken taken' ended ended' left0 left left' t before_end s.consumed s.counted s.says.2 s.needed
     (λ _ e. absurd (omega (arith, long, ap length e)))
     (step_last cut.TooLong pending text rest taken taken' limit ended ended' left left' s before_end))
+
+pub Taken-too_long : (given : List Line) (pending text rest : List ℕ) (taken taken' limit : ℕ) (ended ended' : Bool) (left0 left left' : Option (List ℕ))
+    → Taken given pending taken ended left0 left → Step cut.TooLong pending text rest taken taken' limit ended ended' left left'
+    → Taken (given ++ too_long ∷ []) rest taken' ended' left0 left'
+Taken-too_long given pending text rest taken taken' limit ended ended' left0 left left' t s = (taken_too_long given pending text rest taken taken' limit ended ended' left0 left left' t s).0
 
 -- Call by call, the lines of a run are those of the bytes that it has taken.
 pub Taken-run : (limit : ℕ) (given : List Line) (pending : List ℕ) (taken : ℕ) (ended : Bool) (left0 left : Option (List ℕ)) → Run limit given pending taken ended left0 left
@@ -162,6 +184,14 @@ Taken-ended given pending text rest taken taken' limit false ended' left0 left l
   sym (ap lines (ap (λ v. v ++ s.came) t.parts ∙ append_assoc t.front pending s.came ∙ ap (λ v. t.front ++ v) s.says.0) ∙ t.lines_are refl [] ∙ ap (λ v. given ++ v) lines-nil ∙ append-nil given),
   step_last cut.End pending text rest taken taken' limit false ended' left left' s refl s.says.2,
 )
+
+-- these are the bytes that were taken before, and those that came
+pub ended_all : (given : List Line) (pending text rest : List ℕ) (taken taken' limit : ℕ) (ended ended' : Bool) (left0 left left' : Option (List ℕ))
+    → (t : Taken given pending taken ended left0 left) → (s : Step cut.End pending text rest taken taken' limit ended ended' left left')
+    → (Taken-ended given pending text rest taken taken' limit ended ended' left0 left left' t s).0 ≡ t.all ++ s.came
+unfolding Taken-ended
+ended_all given pending text rest taken taken' limit true ended' left0 left left' t s = refl
+ended_all given pending text rest taken taken' limit false ended' left0 left left' t s = refl
 
 -- At the end they are the lines of all bytes that there were.
 pub Taken-end : (given : List Line) (pending text rest : List ℕ) (taken taken' limit : ℕ) (ended ended' : Bool) (left0 left left' : Option (List ℕ))
@@ -218,3 +248,15 @@ Taken-spent given pending text rest taken taken' limit ended ended' left0 left l
       size,
       sym (append-nil given) ∙ ap (λ v. given ++ v) (sym (whole_clear piece s.says.1)) ∙ sym (t.whole_are before_end piece) ∙ ap whole (sym first),
     )
+
+pub failed_all : (given : List Line) (pending text rest : List ℕ) (taken taken' limit : ℕ) (ended ended' : Bool) (left0 left left' : Option (List ℕ))
+    → (t : Taken given pending taken ended left0 left) → (s : Step cut.Failed pending text rest taken taken' limit ended ended' left left')
+    → (Taken-failed given pending text rest taken taken' limit ended ended' left0 left left' t s).0 ≡ t.all ++ s.came
+unfolding Taken-failed
+failed_all given pending text rest taken taken' limit ended ended' left0 left left' t s = refl
+
+pub spent_all : (given : List Line) (pending text rest : List ℕ) (taken taken' limit : ℕ) (ended ended' : Bool) (left0 left left' : Option (List ℕ))
+    → (t : Taken given pending taken ended left0 left) → (s : Step cut.Spent pending text rest taken taken' limit ended ended' left left')
+    → (Taken-spent given pending text rest taken taken' limit ended ended' left0 left left' t s).0 ≡ t.all ++ s.came
+unfolding Taken-spent
+spent_all given pending text rest taken taken' limit ended ended' left0 left left' t s = refl

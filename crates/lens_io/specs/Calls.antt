@@ -1,5 +1,5 @@
 -- The calls of a source and of a sink, with the words that say what one call does.
-use Rattle.std.specs.Prelude.{◌≡◌, ◌≢◌, ◌-◌, ℕ, List, [], ◌∷◌, take, length, map, Vec, Option, None, Some, Result, MatchResult}
+use Rattle.std.specs.Prelude.{◌≡◌, ◌≢◌, ◌-◌, ℕ, List, [], ◌∷◌, take, length, map, flat_map, Vec, Option, None, Some, Result, MatchResult}
 use Rattle.std.specs.declared.alloc.Global.{Global}
 pub use Rattle.std.specs.Io.{ReadsAtMost}
 pub use Rattle.std.specs.Io.KnownBytes.{ReadConsumes, WriteAppends}
@@ -12,6 +12,10 @@ use Rattle.lens_io.specs.declared.told.Take.{Take}
 pub record Call : Type 0 where
   pub room : ℕ
   pub came : List ℕ
+
+-- the bytes that these calls brought, one after another
+abbrev pub brought : List Call → List ℕ
+brought calls = flat_map (λ call. call.came) calls
 
 -- known calls are followed by this one
 abbrev pub AddsCall : Option (List Call) → Option (List Call) → ℕ → List ℕ → Type 0
@@ -33,6 +37,11 @@ AddsGive old new result piece = MatchResult result (λ n. AddsOffer old new (len
 abbrev pub OffersRest : ℕ → List Offer → Type 0
 OffersRest left [] = Unit {0}
 OffersRest left (offer ∷ offers) = (offer.size ≡ left) × (offers ≢ [] → offer.took ≢ 0) × OffersRest (left - offer.took) offers
+
+-- So many bytes were left, each call was handed all that were left then and took some of them, and none is left in the end.
+abbrev pub OffersAll : ℕ → List Offer → Type 0
+OffersAll left [] = left ≡ 0
+OffersAll left (offer ∷ offers) = (offer.size ≡ left) × (offer.took ≢ 0) × OffersAll (left - offer.took) offers
 
 -- ---- lists of calls in memory
 

@@ -2,7 +2,7 @@
 use Rattle.std.specs.Prelude.{◌≡◌, ◌≢◌, ◌≤◌, ◌<◌, ◌+◌, ◌-◌, min, ℕ, Bool, true, false, List, [], ◌∷◌, ◌++◌, ◌⊎◌, length, nat_lt, nat_eq, if◌then◌else◌}
 use Rattle.std.specs.declared.option.Option.{Option}
 use Rattle.std.specs.Io.KnownBytes.{Consumes, IsAtEnd}
-use Rattle.lens_io.specs.Calls.{Call}
+use Rattle.lens_io.specs.Calls.{Adds, Call, brought as brought_by}
 use Rattle.lens_io.specs.declared.cutting.Cut.{Cut}
 use Rattle.lens_io.specs.declared.cutting.Cut.TheVariants.{Line, TooLong, End, Failed, Spent}
 
@@ -60,6 +60,25 @@ pub record Step (cut : Cut) (pending line rest : List ℕ) (taken taken' limit :
   pub at_end : ended' ≡ true → ((ended ≡ true) × (left' ≡ left)) ⊎ IsAtEnd left'
   pub once : ended ≡ true → cut ≡ End
 
+-- These calls were made only while no whole line waited, and one after another only where bytes came;
+-- each had room for 65,536 bytes, or up to one byte beyond the limit where that is fewer.
+abbrev pub AskInNeed : List ℕ → ℕ → ℕ → List Call → Type 0
+AskInNeed waiting taken limit [] = Unit {0}
+AskInNeed waiting taken limit (call ∷ calls) =
+    HasNoNewline waiting × (call.room ≡ min 65536 (limit + 1 - taken)) × (calls ≢ [] → call.came ≢ [])
+    × AskInNeed (waiting ++ call.came) (taken + length call.came) limit calls
+
+-- The calls of a source that one call of a cutter made: in need, and none once the end was told; and the bytes that came are those that they brought.
+pub record Asks (waiting : List ℕ) (taken limit : ℕ) (ended : Bool) (came : List ℕ) (calls : List Call) : Type 0 where
+  pub need : AskInNeed waiting taken limit calls
+  pub none : ended ≡ true → calls ≡ []
+  pub brought : brought_by calls ≡ came
+
+-- One call, and what it asked of the source, where that tells it.
+pub record Cuts (cut : Cut) (pending line rest : List ℕ) (taken taken' limit : ℕ) (ended ended' : Bool) (left left' : Option (List ℕ)) (asked asked' : Option (List Call)) : Type 0 where
+  pub step : Step cut pending line rest taken taken' limit ended ended' left left'
+  pub asks : Adds (Asks pending taken limit ended step.came) asked asked'
+
 -- the answer to a line of that length
 abbrev pub sized : ℕ → Cut
 sized size = if nat_lt 16777216 size then TooLong else Line
@@ -77,7 +96,7 @@ SaysPassed Failed came rest taken limit ended = HasNoNewline came × (rest ≡ [
 SaysPassed Spent came rest taken limit ended = (piece : List ℕ) × HasNoNewline piece × (came ≡ piece ++ rest) × (length rest ≡ 1) × (taken ≡ limit + 1) × (ended ≡ false)
 
 -- the rest of a line that is too long was passed over
-pub record Passed (cut : Cut) (rest : List ℕ) (taken taken' limit : ℕ) (ended' : Bool) (left left' : Option (List ℕ)) : Type 0 where
+pub record Passed (cut : Cut) (rest : List ℕ) (taken taken' limit : ℕ) (ended' : Bool) (left left' : Option (List ℕ)) (asked asked' : Option (List Call)) : Type 0 where
   pub came : List ℕ
   pub consumed : Consumes left left' came
   pub counted : taken' ≡ taken + length came
@@ -86,6 +105,7 @@ pub record Passed (cut : Cut) (rest : List ℕ) (taken taken' limit : ℕ) (ende
   pub within : taken' ≤ limit + length rest
   pub most : taken' ≤ limit + 1
   pub at_end : ended' ≡ true → IsAtEnd left'
+  pub asks : Adds (Asks [] taken limit false came) asked asked'
 
 -- the piece is the next line of the bytes, or all of them where they have no newline
 abbrev pub IsNext : List ℕ → List ℕ → Type 0
@@ -94,11 +114,3 @@ IsNext bytes piece = HasNoNewline piece × (((tail : List ℕ) × (bytes ≡ pie
 -- No byte more is needed: a whole line waits, or the byte beyond the limit, or the end was told.
 abbrev pub NeedsNone : List ℕ → ℕ → ℕ → Bool → Type 0
 NeedsNone pending taken limit ended = ((piece : List ℕ) × (rest : List ℕ) × (pending ≡ piece ++ 10 ∷ rest)) ⊎ ((limit < taken) ⊎ (ended ≡ true))
-
--- These calls were made only while no whole line waited, and one after another only where bytes came;
--- each had room for 65,536 bytes, or up to one byte beyond the limit where that is fewer.
-abbrev pub AskInNeed : List ℕ → ℕ → ℕ → List Call → Type 0
-AskInNeed waiting taken limit [] = Unit {0}
-AskInNeed waiting taken limit (call ∷ calls) =
-    HasNoNewline waiting × (call.room ≡ min 65536 (limit + 1 - taken)) × (calls ≢ [] → call.came ≢ [])
-    × AskInNeed (waiting ++ call.came) (taken + length call.came) limit calls

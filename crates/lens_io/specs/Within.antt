@@ -4,7 +4,8 @@ use Rattle.std.specs.declared.option.Option.{Option}
 use Rattle.lens_io.specs.declared.cutting.found.Found.{Found}
 use Rattle.lens_io.specs.declared.cutting.LineCutter.TheInside.{Inside}
 use Rattle.lens_io.specs.declared.in_memory.MemorySink.TheInside.{Inside as Sunk}
-use Rattle.lens_io.specs.Cutting.{Step}
+use Rattle.lens_io.specs.Calls.{Call}
+use Rattle.lens_io.specs.Cutting.{Cuts}
 
 -- The places lie in a buffer of that size, and at most one byte beyond the limit was taken, which still waits.
 pub record IsWithin (found : Found) (limit size : ℕ) : Type 0 where
@@ -23,9 +24,9 @@ pub record Holds (c : Inside) : Type 0 where
   pub found : IsWithin c.found c.limit (vec_len c.bytes)
 
 -- one call, by the places in the buffer
-abbrev pub FoundStep : Found → List ℕ → List ℕ → ℕ → ℕ → Bool → Option (List ℕ) → Option (List ℕ) → Type 0
-FoundStep found items pending taken limit ended left left' =
-    Step found.cut pending (slice_range items found.line_start found.line_end) (slice_range items found.start found.end) taken found.taken limit ended found.ended left left'
+abbrev pub FoundCuts : Found → List ℕ → List ℕ → ℕ → ℕ → Bool → Option (List ℕ) → Option (List ℕ) → Option (List Call) → Option (List Call) → Type 0
+FoundCuts found items pending taken limit ended left left' asked asked' =
+    Cuts found.cut pending (slice_range items found.line_start found.line_end) (slice_range items found.start found.end) taken found.taken limit ended found.ended left left' asked asked'
 
 -- A sink in memory has the room that it was made with, and takes some bytes in each call.
 pub record HasRoom (s : Sunk) : Type 0 where

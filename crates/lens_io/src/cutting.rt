@@ -1,9 +1,9 @@
 //! Lines of a source.
 ghost use Rattle.std.specs.Prelude.{◌≡◌, ◌≤◌, ◌^◌, false, [], IfOk, slice_range};
-ghost use Rattle.lens_io.specs.Calls.{Adds, Rose};
+ghost use Rattle.lens_io.specs.Calls.{Rose};
 ghost use Rattle.lens_io.specs.CutterCode.{coded_cutter};
 ghost use Rattle.lens_io.specs.Cutting as spec;
-ghost use Rattle.lens_io.specs.Cutting.{AskInNeed, NeedsNone, Step, is_last};
+ghost use Rattle.lens_io.specs.Cutting.{Cuts, NeedsNone, is_last};
 ghost use Rattle.lens_io.specs.Within.{Holds};
 
 mod found;
@@ -82,15 +82,13 @@ impl LineCutter {
     /// Finds the next line. It asks the source only where no whole line waits.
     pub fn next<S: Source>(&mut self, source: &mut S) -> Cut
         requires { self.old.done ≡ false }
-        ensures step { Step result self.old.pending self.new.line self.new.pending self.old.taken self.new.taken
-            self.old.limit self.old.ended self.new.ended (S.left source.old) (S.left source.new) }
+        ensures cuts { Cuts result self.old.pending self.new.line self.new.pending self.old.taken self.new.taken
+            self.old.limit self.old.ended self.new.ended (S.left source.old) (S.left source.new)
+            (S.asked source.old) (S.asked source.new) }
 
-        // The source is not asked where a whole line waits, and it is asked again only until one
-        // does.
+        // The source is not asked where a whole line waits.
         ensures asks { NeedsNone self.old.pending self.old.taken self.old.limit self.old.ended
             → source.new ≡ source.old }
-        ensures calls { Adds (AskInNeed self.old.pending self.old.taken self.old.limit)
-            (S.asked source.old) (S.asked source.new) }
 
         ensures limit { self.new.limit ≡ self.old.limit }
         ensures done { self.new.done ≡ is_last result }

@@ -3,7 +3,7 @@ ghost use Rattle.std.specs.Prelude.{◌≡◌, ◌≤◌, ◌<◌, ℕ, List, le
 ghost use Rattle.std.specs.declared.option.Option.{Option};
 ghost use Rattle.std.specs.Io.KnownBytes.{Appends, Keeps};
 ghost use Rattle.lens_io.specs.Bytes.{AppendsFront};
-ghost use Rattle.lens_io.specs.Calls.{Adds, AddsGive, AddsTake, Call, Offer, OffersRest, ReadConsumes, ReadsAtMost, Rose, WriteAppends};
+ghost use Rattle.lens_io.specs.Calls.{Adds, AddsGive, AddsTake, Call, Offer, OffersAll, OffersRest, ReadConsumes, ReadsAtMost, Rose, WriteAppends};
 
 /// A source or a sink failed, and has counted it.
 #[derive(Clone, Copy, Debug, PartialEq, Eq)]
@@ -61,6 +61,8 @@ pub fn give_all<W: Sink>(sink: &mut W, bytes: &[u8]) -> Result<(), Failed>
     ensures front { OnErr result (AppendsFront (W.taken sink.old) (W.taken sink.new) bytes.now) }
     // Each call is handed all bytes that are left, and no call follows one that failed.
     ensures calls { Adds (OffersRest (length bytes.now)) (W.offered sink.old) (W.offered sink.new) }
+    ensures all { OnOk result (Adds (OffersAll (length bytes.now))
+        (W.offered sink.old) (W.offered sink.new)) }
     ensures later { W.faults sink.old ≤ W.faults sink.new }
     ensures failed { OnErr result (Rose (W.faults sink.old) (W.faults sink.new)) }
 {

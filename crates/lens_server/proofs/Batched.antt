@@ -1,46 +1,44 @@
 -- The edits of a batch, made one after another in tables that are held.
 use Rattle.std.proofs.Common.{◌≡◌, ◌∙◌, ◌+◌, ◌*◌, ◌≤◌, ℕ, suc, true, List, [], ◌∷◌, ◌++◌, map, length, Option, None, Some, is_some, Result, Ok, Err, ap, subst, sym, refl, arith}
 use Rattle.std.proofs.lemmas.List.{length-append, map-append}
-use Rattle.std.specs.Prelude.{unwrap_or}
+use Rattle.std.specs.Prelude.{Vec, unwrap_or}
+use Rattle.std.specs.declared.alloc.Global.{Global}
+use Rattle.signed_delta.specs.Tables.{table_delta}
+use Rattle.signed_delta.specs.declared.delta.TableDelta.{TableDelta as DeltaOf}
+use Rattle.view_changes.specs.Puts.{IsPut}
+use Rattle.database.specs.Opening.{CanOpen}
 use Rattle.std.specs.FinMap as finmap
-use Rattle.serde_json.specs.Data.{Items}
-use Rattle.lens_specs.specs.Delta.{Delta, TableDelta, changes}
+use Rattle.lens_specs.specs.Delta.{TableDelta, changes}
 use Rattle.lens_specs.specs.Lens.{Lens, Tables, put, sort_of}
 use Rattle.lens_specs.specs.Names.{Name}
 use Rattle.lens_specs.specs.Relation.{Rows}
 use Rattle.lens_specs.specs.Sort.{IsOf}
-use Rattle.lens_specs.specs.TableDeltas.{AreDeltas, LeadTo, inverted}
-use Rattle.lens_laws.proofs.Alone.{are_differences}
+use Rattle.lens_specs.specs.TableDeltas.{LeadTo}
 use Rattle.lens_laws.proofs.Lenses.{get_after}
-use Rattle.lens_laws.specs.Work.{fan, work}
 use Rattle.base_index.specs.Held as held_tables
 use Rattle.base_index.specs.Held.{Held, IsQuiet}
 use Rattle.base_index.specs.Need.{has_cols}
-use Rattle.lens_probe.specs.Viewed.{FindsAtMost, Viewed}
-use Rattle.lens_chain.specs.Edits.{over}
 use Rattle.catalog_specs.specs.Catalogue.{catalogue}
 use Rattle.edit_batches.specs.Chains.{Chain}
 use Rattle.edit_batches.specs.Histories.{deltas_of}
 use Rattle.edit_batches.specs.declared.entries.Entry.{Entry}
 use Rattle.request_text.specs.Answers.{edit_refusal_view}
 use Rattle.server_specs.specs.Batching.{at_tables, edit_tables, edits_from, put_in, then_edits}
-use Rattle.server_specs.specs.Changing.{Sent, asked_view, edited}
+use Rattle.server_specs.specs.Changing.{asked_view, edited}
 use Rattle.server_specs.specs.EditRefusal.{EditRefusal, unknown_name}
 use Rattle.server_specs.specs.Request.{BatchEdit}
 use Rattle.server_specs.specs.State.{State}
 use Rattle.server_specs.specs.Validity.{AreStored, Valid}
-use Rattle.server_laws.proofs.Led.{IsChangeTo, put_leads_to, tables_change}
+use Rattle.server_laws.proofs.Led.{put_leads_to}
 use Rattle.server_laws.proofs.Stored.{lens_over, stored_put}
-use Rattle.lens_server.proofs.Looked.{at_lens, fewer_rows, thrice}
-use Rattle.lens_server.specs.Asking.{AsksBy}
 use Rattle.lens_server.specs.Batches.{AreMade, CanEdit, Gives, IsHolding, IsMade, edit_on, fault_at}
-use Rattle.lens_server.specs.Counting.{batch_looks, edit_looks, of_lens, sent_by, then_looks}
-use Rattle.lens_server.specs.Keyed.{IsKeyed, IsSame}
-use Rattle.lens_server.specs.States.{state_of}
-use Rattle.lens_server.specs.declared.requested_edit.Refusal.{Refusal}
-use Rattle.lens_server.specs.declared.requested_edit.Refusal.TheVariants as refusal
+use Rattle.lens_server.specs.Counting.{batch_looks, edit_looks, of_lens, then_looks}
+use Rattle.database.specs.Keyed.{IsKeyed, IsSame}
+use Rattle.database.specs.States.{state_of}
+use Rattle.view_changes.specs.declared.refusal.Refusal.{Refusal}
+use Rattle.view_changes.specs.declared.refusal.Refusal.TheVariants as refusal
 use Rattle.lens_server.specs.declared.batches.BatchFault.{BatchFault}
-use Rattle.lens_server.specs.declared.database.Database.{Database}
+use Rattle.database.specs.declared.database.Database.{Database}
 
 -- ---- one edit
 
@@ -49,23 +47,6 @@ known_is : (database : Database) (e : BatchEdit) (on : Option ℕ) (L : Lens) (r
     → asked_view (state_of database) L (edited e.remove e.add) on ≡ r → edit_on database on e ≡ put_in r L database.tables.present.relations
 known_is database e on L r known asked =
     let s = state_of database in ap (λ o. edit_tables e on o s s.tables) known ∙ ap (λ q. put_in q L s.tables) asked
-
--- what is asked of a view is asked of its lens
-pub asked_over : (s : State) (L : Lens) (v : Viewed) (t : Held) (r : Result Delta Refusal) (sent : Sent) (on : Option ℕ) → v.lens ≡ L → v.tables ≡ t → AsksBy v.lens (over v) r (asked_view s v.lens sent on)
-    → AsksBy L t.present.relations r (asked_view s L sent on)
-asked_over s L v t r sent on lens tables h = subst (λ u. AsksBy L u.present.relations r (asked_view s L sent on)) tables (subst (λ M. AsksBy M (over v) r (asked_view s M sent on)) lens h)
-
--- the looks of one edit
-pub edit_within : (database : Database) (name : Name) (remove add : Items) (L : Lens) (v : Viewed) (d old mid new : ℕ) → Some L ≡ finmap.get (catalogue database.catalog.texts) name → v.lens ≡ L
-    → FindsAtMost v (fan L database.tables.present.relations) → d ≤ sent_by v.lens remove add → ((w : ℕ) → FindsAtMost v w → mid ≤ old + 2 * work v.lens (sent_by v.lens remove add) w)
-    → ((w : ℕ) → FindsAtMost v w → new ≤ mid + work v.lens d w)
-    → new ≤ old + of_lens (edit_looks database.tables.present.relations remove add) (finmap.get (catalogue database.catalog.texts) name)
-edit_within database name remove add L v d old mid new known lens finds few asked carried =
-    let db = database.tables.present.relations in
-    let w = fan L db in
-    let r = sent_by v.lens remove add in
-    let all = thrice (work v.lens r w) old mid new (asked w finds) (fewer_rows v.lens d r w mid new few (carried w finds)) in
-    at_lens (edit_looks db remove add) (finmap.get (catalogue database.catalog.texts) name) L old new known (subst (λ M. new ≤ old + 3 * work M (sent_by M remove add) w) lens all)
 
 -- the changes of a new view lead to the tables after the edit, which are the catalogue's
 pub edit_given : (database : Database) (e : BatchEdit) (on : Option ℕ) (L : Lens) (N : Rows) (ds : List TableDelta) → CanEdit database → finmap.get (catalogue database.catalog.texts) e.view ≡ Some L
@@ -80,11 +61,16 @@ edit_given database e on L N ds can known asked typed is =
       stored_put (catalogue s.texts) s.tables L N can.stored here.known.bases (get_after L s.tables here.typed here.are N typed).0,
     )
 
--- a refusal of the view is that of the edit
-pub edit_refused : (database : Database) (e : BatchEdit) (on : Option ℕ) (L : Lens) (db : Tables) (why : Refusal) → finmap.get (catalogue database.catalog.texts) e.view ≡ Some L
-    → AsksBy L db (Err why) (asked_view (state_of database) L (edited e.remove e.add) on) → Gives database on e (Err why)
-edit_refused database e on L db (refusal.Told told) known asked = known_is database e on L (Err (edit_refusal_view told)) known asked
-edit_refused database e on L db refusal.NoMemory known asked = tt
+-- what is put in the view of its lens is what the edit gives
+pub edit_gives : (database : Database) (e : BatchEdit) (on : Option ℕ) (L : Lens) (r : Result (Vec DeltaOf Global) Refusal) → CanEdit database → Some L ≡ finmap.get (catalogue database.catalog.texts) e.view
+    → IsPut L database.tables.present.relations r (asked_view (state_of database) L (edited e.remove e.add) on) → Gives database on e r
+edit_gives database e on L (Ok deltas) can known h = edit_given database e on L h.0 (map table_delta deltas.items) can (sym known) h.1 h.2 h.3
+edit_gives database e on L (Err (refusal.Told told)) can known h = known_is database e on L (Err (edit_refusal_view told)) (sym known) h
+edit_gives database e on L (Err refusal.NoMemory) can known h = tt
+
+-- a database whose tables are held can open its views
+pub edit_opens : (database : Database) → CanEdit database → CanOpen database
+edit_opens database can = record { taken = can.taken; stored = can.stored; short = can.short; indexed = can.indexed }
 
 -- a name without a lens
 pub edit_unknown : (database : Database) (e : BatchEdit) (on : Option ℕ) → finmap.get (catalogue database.catalog.texts) e.view ≡ None → edit_on database on e ≡ Err (unknown_name e.view)
@@ -225,14 +211,3 @@ pub looks_within : (old now : Database) (on : Option ℕ) (e : BatchEdit) (edits
 looks_within old now on e edits mid new most h left looked =
     part_within mid new _ _ (then_looks (batch_looks on (state_of old) edits) (edit_tables e on (finmap.get (catalogue old.catalog.texts) e.view) (state_of old) now.tables.present.relations)) most
     (looks_here old now e now.tables.present.relations h) left looked
-
--- ---- what they come to
-
--- differences by rising names, none of them empty, that lead to other tables of the catalogue
-pub change_to : (s : State) (db : Tables) (ds : List TableDelta) → Valid s → AreStored (catalogue s.texts) db → AreDeltas ds → LeadTo ds s.tables db → IsChangeTo s ds db
-change_to s db ds v stored deltas leads = record {
-  stored = stored;
-  deltas = deltas;
-  leads = leads;
-  back = subst (λ l. LeadTo (inverted l) db s.tables) (sym (are_differences ds s.tables db deltas leads)) (tables_change s db v stored).back;
-}

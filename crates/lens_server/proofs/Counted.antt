@@ -14,31 +14,32 @@ use Rattle.fd_laws.proofs.Rows.{row_total}
 use Rattle.lens_laws.specs.Lenses.{IsTyped}
 use Rattle.lens_laws.specs.Work.{count_of}
 use Rattle.lens_specs.specs.Delta.{TableDelta, changes, differences}
-use Rattle.lens_specs.specs.Lens.{Lens, Tables, base, drop, join, put, rename, rows_or_none, select, tables_of}
+use Rattle.lens_specs.specs.Lens.{Lens, Tables, base, drop, join, put, rename, rows_or_none, select, sort_of, tables_of}
 use Rattle.lens_specs.specs.Names.{Name, Names, one}
 use Rattle.lens_specs.specs.Relation.{Relation, Rows}
 use Rattle.catalog_specs.specs.Catalogue.{catalogue}
 use Rattle.server_specs.specs.Answer.{Answer}
+use Rattle.sheet_specs.specs.Sheets.{unsheet}
+use Rattle.server_specs.specs.Exporting.{import_settled, read_settled}
 use Rattle.server_specs.specs.Batching.{batch_answer, batch_settled, edits_from}
-use Rattle.server_specs.specs.Changing.{Sent, accept, asked_view, change_answer, changed_by, settled}
+use Rattle.server_specs.specs.Changing.{accept, settled, tested}
 use Rattle.server_specs.specs.EditRefusal.{EditRefusal}
 use Rattle.server_specs.specs.Request.{BatchEdit}
 use Rattle.server_specs.specs.State.{State}
 use Rattle.server_specs.specs.Undoing.{undo_answer, undone}
 use Rattle.base_index.specs.Held as held
-use Rattle.base_index.specs.Held.{indexes_in, walked_for}
-use Rattle.base_index.specs.Need.{rows_walked}
-use Rattle.base_index.specs.declared.need.Need.{Need}
 use Rattle.lens_probe.specs.Reading.{rows_under}
-use Rattle.lens_server.specs.Counting.{RisesBy, Walks, WalksTables, row_count}
-use Rattle.lens_server.specs.Keyed.{IsOpen}
-use Rattle.lens_server.specs.Plans.{IsPlan, Leads, definition_of, texts_with}
-use Rattle.lens_server.specs.Staging.{needs_of, steps_in, steps_of}
-use Rattle.lens_server.specs.declared.plan.Plan.{Plan}
-use Rattle.lens_server.specs.declared.plan.Staged.{Staged}
-use Rattle.lens_server.specs.declared.plan.StagedChange.{StagedChange}
-use Rattle.lens_server.specs.declared.plan.StagedChange.TheVariants.{Define, Rows as RowsChange}
-use Rattle.lens_server.specs.declared.database.Database.{Database}
+use Rattle.lens_server.specs.Counting.{RisesBy, Walks, row_count}
+use Rattle.lens_server.specs.Databases.{IsOpened, lens_of, tables_under}
+use Rattle.opened_view.specs.declared.opened.Opened.{Opened}
+use Rattle.database.specs.Plans.{IsPlan, Leads, definition_of, texts_with}
+use Rattle.database.specs.Staging.{steps_in, steps_of}
+use Rattle.database.proofs.Walked.{steps_few}
+use Rattle.database.specs.declared.plan.Plan.{Plan}
+use Rattle.database.specs.declared.plan.Staged.{Staged}
+use Rattle.database.specs.declared.plan.StagedChange.{StagedChange}
+use Rattle.database.specs.declared.plan.StagedChange.TheVariants.{Define, Rows as RowsChange}
+use Rattle.database.specs.declared.database.Database.{Database}
 
 -- ---- sums
 
@@ -109,30 +110,13 @@ under_few L db h =
     omega (arith, under_less L db h, few)
 
 -- to read a view of the database walks no more
-pub read_few : (database : Database) (L M : Lens) (tables : held.Held) (old new : ℕ) → IsOpen database L → M ≡ L → tables ≡ database.tables → RisesBy (rows_under M tables.present.relations) old new
-    → WalksTables database old new
-read_few database L M tables old new opened same is h =
-    let few = under_few L database.tables.present.relations opened.here.typed in
-    let there : new ≤ old + rows_under L database.tables.present.relations =
-    subst (λ t. new ≤ old + rows_under L t.present.relations) is (subst (λ N. new ≤ old + rows_under N tables.present.relations) same h.1) in
-    (h.0, omega (arith, few, there))
+pub read_few : (database : Database) (opened : Opened) (old new : ℕ) → IsOpened opened database → RisesBy (rows_under (lens_of opened) (tables_under opened)) old new → RisesBy (row_count database.tables.present.relations) old new
+read_few database opened old new h walked =
+    let few = under_few (lens_of opened) database.tables.present.relations h.here.here.typed in
+    let there : new ≤ old + rows_under (lens_of opened) database.tables.present.relations = subst (λ t. new ≤ old + rows_under (lens_of opened) t.present.relations) h.tables walked.1 in
+    (walked.0, omega (arith, few, there))
 
 -- ---- rows that are walked for a change
-
--- for needs no more rows are walked than all tables have
-walked_few : (needs : List Need) (st : held.State) → walked_for needs st ≤ row_count st.relations
-walked_few needs st =
-    sum_less (λ e. rows_walked e.0 needs (indexes_in st e.0) e.1.rows) (λ e. count_of e.1.rows) (finmap.entries st.relations)
-    (λ e. other_less _ (count_of e.1.rows))
-
-steps_in_few : (change : StagedChange) (st : held.State) → steps_in change st ≤ row_count st.relations
-steps_in_few (Define text table p) st = walked_few (needs_of p.lens) st
-steps_in_few (RowsChange deltas) st = omega arith
-
--- nor for what is staged
-pub steps_few : (o : Option Staged) (database : Database) → steps_of o database ≤ row_count database.tables.present.relations
-steps_few None database = omega arith
-steps_few (Some staged) database = steps_in_few staged.change database.tables.present
 
 longer : (texts : List (List ℕ)) (text : List ℕ) → texts ++ text ∷ [] ≡ texts → ⊥
 longer texts text e = let n = ap length e in let m = length-append texts (text ∷ []) in absurd (omega (arith, n, m))
@@ -156,12 +140,14 @@ pub settled_texts : (r : Result Rows EditRefusal) (L : Lens) (s : State) → (se
 settled_texts (Err why) L s = refl
 settled_texts (Ok rows) L s = accept_texts (put L rows s.tables) (changes L rows s.tables) s
 
-by_texts : (sent : Sent) (on : Option ℕ) (name : Name) (o : Option Lens) (s : State) → (changed_by sent on name o s).1.texts ≡ s.texts
-by_texts sent on name None s = refl
-by_texts sent on name (Some L) s = settled_texts (asked_view s L sent on) L s
+read_texts : (r : Result Rows ℕ) (on : Option ℕ) (L : Lens) (s : State) → (read_settled r on L s).1.texts ≡ s.texts
+read_texts (Err place) on L s = refl
+read_texts (Ok rows) on L s = settled_texts (tested s L on (Ok rows)) L s
 
-pub change_texts : (sent : Sent) (on : Option ℕ) (name : Name) (s : State) → (change_answer sent on name s).1.texts ≡ s.texts
-change_texts sent on name s = by_texts sent on name (finmap.get (catalogue s.texts) name) s
+-- nor does an import
+pub import_texts : (o : Option Name) (text : List ℕ) (on : Option ℕ) (L : Lens) (s : State) → (import_settled o text on L s).1.texts ≡ s.texts
+import_texts (Some name) text on L s = refl
+import_texts None text on L s = read_texts (unsheet (sort_of L).columns text) on L s
 
 settled_batch_texts : (r : Result Tables (ℕ × EditRefusal)) (s : State) → (batch_settled r s).1.texts ≡ s.texts
 settled_batch_texts (Err refused) s = refl

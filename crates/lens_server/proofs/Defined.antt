@@ -4,9 +4,9 @@ use Rattle.lens_specs.specs.Keeping.{CanChange}
 use Rattle.server_laws.proofs.Kept.{get-rows_of, is_some-rows}
 use Rattle.server_specs.specs.State.{kept as kept_of}
 use Rattle.table_keeper.specs.declared.keeper.Change.{Change}
-use Rattle.lens_server.specs.Plans.{CanStage, IsFree, change_of, changed_tables, definition_of, past_after}
-use Rattle.lens_server.specs.declared.plan.PastStep.{PastStep}
-use Rattle.lens_server.specs.declared.plan.PastStep.TheVariants.{Stays}
+use Rattle.database.specs.Plans.{CanStage, IsFree, change_of, changed_tables, definition_of, past_after}
+use Rattle.database.specs.declared.plan.PastStep.{PastStep}
+use Rattle.database.specs.declared.plan.PastStep.TheVariants.{Stays}
 use Rattle.std.proofs.Common.{◌≡◌, ◌∙◌, ◌+◌, ◌<◌, ℕ, false, List, [], ◌∷◌, ◌++◌, ap, sym, subst, refl}
 use Rattle.std.specs.Prelude.{Some, None, Ok, if◌then◌else◌}
 use Rattle.std.specs.FinMap as finmap
@@ -35,13 +35,13 @@ use Rattle.table_keeper.specs.Changes.{change_view}
 use Rattle.view_catalog.specs.Admissions.{IsAdmissible, table_in}
 use Rattle.view_catalog.specs.Judgements.{name_in}
 use Rattle.view_catalog.specs.declared.prepared.Prepared.{Prepared}
-use Rattle.lens_server.specs.Defining.{last_with, tables_with}
-use Rattle.lens_server.specs.Plans.{CanTake, IsPlan, IsStaged, Leads, after, texts_with}
-use Rattle.lens_server.specs.States.{state_of}
-use Rattle.lens_server.specs.declared.plan.Plan.{Plan}
-use Rattle.lens_server.specs.declared.plan.Staged.{Staged}
-use Rattle.lens_server.specs.declared.plan.StagedChange.TheVariants.{Define}
-use Rattle.lens_server.specs.declared.database.Database.{Database}
+use Rattle.database.specs.Defining.{last_with, tables_with}
+use Rattle.database.specs.Plans.{CanTake, IsPlan, IsStaged, Leads, after, texts_with}
+use Rattle.database.specs.States.{state_of}
+use Rattle.database.specs.declared.plan.Plan.{Plan}
+use Rattle.database.specs.declared.plan.Staged.{Staged}
+use Rattle.database.specs.declared.plan.StagedChange.TheVariants.{Define}
+use Rattle.database.specs.declared.database.Database.{Database}
 
 -- the tables, the last changes and the table's name are those of the definition
 record IsMade (s : State) (prepared : Prepared) (d : Definition) : Type 0 where

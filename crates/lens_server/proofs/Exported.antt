@@ -1,4 +1,4 @@
--- Exports: a view has a column, none that may be null, and its text reads back.
+-- Lines that export a view: the text reads back.
 use Rattle.std.proofs.Common.{◌≡◌, ◌∙◌, ◌<◌, ◌≤◌, ◌&&◌, ℕ, Bool, true, false, cond, List, [], ◌∷◌, length, Option, Some, None, Result, Ok, Err, ap, subst, refl, inl, inr}
 use Rattle.std.specs.Prelude.{◌≢◌, ◌⊎◌, IfOk, MatchResult, find, not, option_map}
 use Rattle.std.specs.List.{list_all}
@@ -22,34 +22,8 @@ use Rattle.server_specs.specs.State.{State}
 use Rattle.server_laws.specs.SheetLaws.{IsExportLine, ReadsBack}
 use Rattle.lens_server.proofs.Stepping.{marked_short}
 use Rattle.lens_server.specs.Exports.{ExportReadsBack, NamedReadsBack}
-use Rattle.lens_server.specs.Keyed.{IsOpen}
-use Rattle.lens_server.specs.declared.database.Database.{Database}
-
--- ---- columns
-
-no_names : (U : Columns) → finmap.keys U ≡ [] → length (set.items (names U)) ≡ 0
-unfolding names
-no_names U e = ap (λ ks. length (set.items (set.from_list {R = bytes_cmp} ks))) e ∙ ap length (set.items-from_list name_total [] (set.nothing_rises name_total))
-
--- a view that may be asked has a column
-pub has_columns : (database : Database) (L : Lens) → IsOpen database L → finmap.keys (sort_of L).columns ≢ []
-has_columns database L opened e = (keyed L opened.here.typed opened.keys).0 (no_names (sort_of L).columns e)
-
--- where none is found that passes, all fail
-none_passes : {X : Type 0} (p : X → Bool) (xs : List X) → find p xs ≡ None → list_all (λ x. not (p x)) xs ≡ true
-none_passes p [] e = refl
-none_passes p (x ∷ xs) e = elim (p x) as (λ b. cond b (Some x) (find p xs) ≡ None → (not b && list_all (λ y. not (p y)) xs) ≡ true) [
-  | true ↦ λ f. cc
-  | false ↦ λ f. none_passes p xs f
-] e
-
-unmapped : {X Y : Type 0} (f : X → Y) (o : Option X) → option_map f o ≡ None → o ≡ None
-unmapped f None e = refl
-unmapped f (Some x) e = cc
-
--- no column may be null where none is the least that may
-pub all_plain : (U : Columns) → first_nullable U ≡ None → list_all (λ c. not (is_nullable c.1)) (finmap.entries U) ≡ true
-all_plain U e = none_passes (λ c. is_nullable c.1) (finmap.entries U) (unmapped (λ c. c.0) (find (λ c. is_nullable c.1) (finmap.entries U)) e)
+use Rattle.database.specs.Keyed.{IsOpen}
+use Rattle.database.specs.declared.database.Database.{Database}
 
 -- ---- lines
 

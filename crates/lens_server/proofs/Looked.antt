@@ -1,64 +1,8 @@
--- How many rows are looked at by key, at each step of a change.
-use Rattle.std.specs.Prelude.{Result, Ok, Err, if◌then◌else◌}
-use Rattle.serde_json.specs.Data.{Items}
-use Rattle.lens_specs.specs.Relation.{Rows}
-use Rattle.server_specs.specs.Changing.{set_in}
-use Rattle.server_specs.specs.EditRefusal.{EditRefusal, Listed, in_rows}
-use Rattle.std.proofs.Common.{◌≡◌, Bool, true, false, ℕ, ◌+◌, ◌*◌, ◌≤◌, Option, Some, ap, arith, refl, subst}
-use Rattle.std.proofs.lemmas.Nat.{mul-le}
-use Rattle.lens_specs.specs.Delta.{Delta, diff}
-use Rattle.lens_specs.specs.Lens.{Lens, Tables, get, sort_of}
-use Rattle.lens_laws.specs.Work.{count_of, rows_of, size, work}
-use Rattle.lens_laws.proofs.Work.{keyed_work, work_grows}
-use Rattle.lens_server.specs.Counting.{changed_by, of_lens, sent_of}
-
--- a test of the edges, for each added row
-pub check_within : (L : Lens) (d : Delta) (e w old new : ℕ) → e ≤ 64 → new ≤ old + size L w * count_of d.add * e → new ≤ old + work L (rows_of d) w
-check_within L d e w old new edges h =
-    let n = size L w in
-    let a : n * count_of d.add ≤ n * rows_of d = mul-le n (count_of d.add) n (rows_of d) (omega arith) (omega arith) in
-    let p : n * count_of d.add * e ≤ n * rows_of d * e = mul-le (n * count_of d.add) e (n * rows_of d) e a (omega arith) in
-    let q : n * rows_of d * e ≡ e * rows_of d * n = grind arith in
-    let k = keyed_work L (rows_of d) e w (omega arith) in
-    omega (arith, h, p, q, k)
-
--- one look-up for each row that is sent
-pub touched_within : (L : Lens) (r w old new : ℕ) → new ≤ old + size L w * r → new ≤ old + work L r w
-touched_within L r w old new h =
-    let k = keyed_work L r 1 w (omega arith) in
-    let q : size L w * r ≡ 1 * r * size L w = grind arith in
-    omega (arith, h, q, k)
-
--- work for fewer rows
-pub fewer_rows : (L : Lens) (d r w old new : ℕ) → d ≤ r → new ≤ old + work L d w → new ≤ old + work L r w
-fewer_rows L d r w old new few h = let g = work_grows L d r w w few (omega arith) in omega (arith, h, g)
-
-pub once_of_two : (x old new : ℕ) → new ≤ old + x → new ≤ old + 2 * x
-once_of_two x old new h = omega (arith, h)
-
-pub twice : (x old mid new : ℕ) → mid ≤ old + x → new ≤ mid + x → new ≤ old + 2 * x
-twice x old mid new h k = omega (arith, h, k)
-
-pub thrice : (x old mid new : ℕ) → mid ≤ old + 2 * x → new ≤ mid + x → new ≤ old + 3 * x
-thrice x old mid new h k = omega (arith, h, k)
-
-pub twice_of_three : (x old new : ℕ) → new ≤ old + 2 * x → new ≤ old + 3 * x
-twice_of_three x old new h = omega (arith, h)
+-- How many rows are looked at by key, at the lens of a name.
+use Rattle.std.proofs.Common.{◌≡◌, ◌+◌, ◌≤◌, ℕ, Option, Some, subst, sym}
+use Rattle.lens_specs.specs.Lens.{Lens}
+use Rattle.lens_server.specs.Counting.{of_lens}
 
 -- the lens of the name is there
-pub at_lens : (f : Lens → ℕ) (o : Option Lens) (L : Lens) (old new : ℕ) → Some L ≡ o → new ≤ old + f L → new ≤ old + of_lens f o
-at_lens f o L old new is h = subst (λ p. new ≤ old + of_lens f p) is h
-
--- ---- rows that are sent
-
-pub sent_is : (which : Listed) (L : Lens) (items : Items) (rows : Rows) → set_in which (sort_of L).columns items ≡ Ok rows → sent_of which L items ≡ count_of rows
-sent_is which L items rows e = ap (λ (r : Result Rows EditRefusal). elim r as (λ _. ℕ) [ Ok rows ↦ count_of rows | Err bad ↦ 0 ]) e
-
-pub changed_is : (db : Tables) (L : Lens) (items : Items) (rows : Rows) → set_in in_rows (sort_of L).columns items ≡ Ok rows → changed_by db L items ≡ rows_of (diff (get L db) rows)
-changed_is db L items rows e = ap (λ (r : Result Rows EditRefusal). elim r as (λ _. ℕ) [ Ok rows ↦ rows_of (diff (get L db) rows) | Err bad ↦ 0 ]) e
-
--- ---- finds
-
-pub found_within : (b : Bool) (n old new : ℕ) → new ≤ old + n → (b ≡ false → new ≡ old) → new ≤ old + (if b then n else 0)
-found_within true n old new h k = h
-found_within false n old new h k = let e = k refl in omega (arith, e)
+pub at_lens : (f : Lens → ℕ) (o : Option Lens) (L : Lens) (old new : ℕ) → o ≡ Some L → new ≤ old + f L → new ≤ old + of_lens f o
+at_lens f o L old new is h = subst (λ p. new ≤ old + of_lens f p) (sym is) h

@@ -14,7 +14,7 @@ use Rattle.server_specs.specs.Session.{Step, Becomes, Replies, found_memory, out
 use Rattle.server_specs.specs.State.{State}
 use Rattle.table_keeper.specs.declared.calls.Call.{Call}
 use Rattle.lens_server.specs.Committing.{Commits, CommitsFor}
-use Rattle.lens_server.specs.Outcomes.{Outcome, reply_of}
+use Rattle.database.specs.Outcomes.{Outcome, reply_of}
 
 becomes : (old new : State) (count count' : ℕ) (bytes reply : List ℕ) → Becomes (answer_request (request (line bytes)) old) old count reply new count' → Replies old count (line bytes) reply new count'
 unfolding answer

@@ -21,12 +21,12 @@ use Rattle.server_specs.specs.Batching.{edit_tables, edits_from}
 use Rattle.server_laws.specs.StateLaws.{AreShort}
 use Rattle.signed_delta.specs.Tables.{table_delta}
 use Rattle.signed_delta.specs.declared.delta.TableDelta.{TableDelta}
-use Rattle.lens_server.specs.States.{state_of}
-use Rattle.lens_server.specs.declared.requested_edit.Refusal.{Refusal}
-use Rattle.lens_server.specs.declared.requested_edit.Refusal.TheVariants as refusal
+use Rattle.database.specs.States.{state_of}
+use Rattle.view_changes.specs.declared.refusal.Refusal.{Refusal}
+use Rattle.view_changes.specs.declared.refusal.Refusal.TheVariants as refusal
 use Rattle.lens_server.specs.declared.batches.BatchFault.{BatchFault}
 use Rattle.lens_server.specs.declared.batches.BatchFault.TheVariants as fault
-use Rattle.lens_server.specs.declared.database.Database.{Database}
+use Rattle.database.specs.declared.database.Database.{Database}
 
 -- edits can be made in the tables of the database, which are held
 pub record CanEdit (database : Database) : Type 0 where

@@ -1,38 +1,24 @@
 -- How many rows a line may walk, and how many it may look at by key.
 use Rattle.std.specs.Prelude.{ℕ, ◌+◌, ◌*◌, ◌≤◌, Bool, true, false, List, [], ◌∷◌, Option, None, Some, if◌then◌else◌, Result, Ok, Err}
-use Rattle.std.specs.List.{sum_by}
 use Rattle.std.specs.FinMap as finmap
 use Rattle.no_memory.specs.declared.NoMemory.{NoMemory}
 use Rattle.serde_json.specs.Data.{Items}
-use Rattle.lens_specs.specs.Delta.{diff}
-use Rattle.lens_specs.specs.Lens.{Lens, Tables, get, sort_of}
+use Rattle.lens_specs.specs.Lens.{Lens, Tables, sort_of}
 use Rattle.lens_specs.specs.Names.{Name, one}
-use Rattle.lens_specs.specs.Relation.{Rows}
-use Rattle.sheet_specs.specs.Sheets.{unsheet}
 use Rattle.catalog_specs.specs.Catalogue.{catalogue}
 use Rattle.lens_probe.specs.Viewed.{is_left_side}
-use Rattle.lens_laws.specs.Work.{count_of, fan, rows_of, size, work}
-use Rattle.server_specs.specs.Answer.{Answer, Listed, in_add, in_remove, in_rows}
+use Rattle.lens_laws.specs.Work.{fan, work}
+use Rattle.server_specs.specs.Answer.{Answer}
 use Rattle.server_specs.specs.Batching.{edit_tables}
-use Rattle.server_specs.specs.Changing.{set_in}
 use Rattle.server_specs.specs.EditRefusal.{EditRefusal}
 use Rattle.server_specs.specs.Request.{BatchEdit, Request, define, read, find_at, put, edit, preview, describe, list, batch, undo, export, import}
 use Rattle.server_specs.specs.State.{State}
-use Rattle.lens_server.specs.Staging.{steps_of}
-use Rattle.lens_server.specs.declared.plan.Plan.{Plan}
-use Rattle.lens_server.specs.declared.database.Database.{Database}
-
--- the number of rows of all tables
-abbrev pub row_count : Tables → ℕ
-row_count db = sum_by (λ e. count_of e.1.rows) (finmap.entries db)
-
--- a counter goes on, by so many at most
-abbrev pub RisesBy : ℕ → ℕ → ℕ → Type 0
-RisesBy most old new = (old ≤ new) × (new ≤ old + most)
-
--- rows are walked: as many at most as the tables have
-abbrev pub WalksTables : Database → ℕ → ℕ → Type 0
-WalksTables database old new = RisesBy (row_count database.tables.present.relations) old new
+use Rattle.database.specs.Staging.{steps_of}
+pub use Rattle.opened_view.specs.Counters.{RisesBy, row_count}
+use Rattle.view_answers.specs.Looks.{looks_by}
+pub use Rattle.view_changes.specs.Sizes.{changed_by, differs_by, imported_by, sent_by, sent_of}
+use Rattle.database.specs.declared.plan.Plan.{Plan}
+use Rattle.database.specs.declared.database.Database.{Database}
 
 -- whether the lens of the name, if it has one, is asked by the column alone
 abbrev pub is_asked_by : Name → Option Lens → Bool
@@ -66,26 +52,6 @@ Walks (Err e) database old new most = new ≤ old + most
 
 -- ---- rows that are looked at by key
 
--- how many rows a list sends, each once; none where one of them is bad
-abbrev pub sent_of : Listed → Lens → Items → ℕ
-sent_of which L items = elim (set_in which (sort_of L).columns items) [ Ok rows ↦ count_of rows | Err bad ↦ 0 ]
-
--- the rows of an edit, to remove and to add
-abbrev pub sent_by : Lens → Items → Items → ℕ
-sent_by L remove add = sent_of in_remove L remove + sent_of in_add L add
-
--- the rows by which these differ from what the view shows
-abbrev pub differs_by : Tables → Lens → Rows → ℕ
-differs_by db L rows = rows_of (diff (get L db) rows)
-
--- the rows by which a put differs from what the view shows
-abbrev pub changed_by : Tables → Lens → Items → ℕ
-changed_by db L items = elim (set_in in_rows (sort_of L).columns items) [ Ok rows ↦ differs_by db L rows | Err bad ↦ 0 ]
-
--- the rows by which those of a text do; none where a record is wrong
-abbrev pub imported_by : Tables → Lens → List ℕ → ℕ
-imported_by db L text = elim (unsheet (sort_of L).columns text) [ Ok rows ↦ differs_by db L rows | Err place ↦ 0 ]
-
 -- a number for the lens, if there is one
 abbrev pub of_lens : (Lens → ℕ) → Option Lens → ℕ
 of_lens f None = 0
@@ -102,7 +68,7 @@ abbrev pub edit_looks : Tables → Items → Items → Lens → ℕ
 edit_looks db remove add L = 3 * work L (sent_by L remove add) (fan L db)
 
 abbrev pub find_looks : Tables → Name → Lens → ℕ
-find_looks db column L = if is_left_side (one column) (sort_of L).tree then size L (fan L db) else 0
+find_looks db column L = looks_by column (fan L db) L
 
 -- the looks behind an edit that gave these tables, and none behind one that is refused
 abbrev pub then_looks : (Tables → ℕ) → Result Tables EditRefusal → ℕ

@@ -1,6 +1,4 @@
 -- The words of a database: the state that it stands for, its lenses, what a request needs of it, and what it comes to.
-pub use Rattle.lens_server.specs.States.{state_of}
-pub use Rattle.lens_server.specs.Keyed.{IsKeyed, IsOpen, IsSame}
-pub use Rattle.lens_server.specs.Premises.{CanAnswer, CanChange, CanRead}
-pub use Rattle.lens_server.specs.Plans.{IsChange, IsPlan}
-pub use Rattle.catalog_specs.specs.Catalogue.{catalogue}
+pub use Rattle.opened_view.specs.Seen.{lens_of, tables_under}
+pub use Rattle.database.specs.Databases.{CanAccept, CanAnswer, CanRead, IsChange, IsKeyed, IsOpen, IsPlan, IsSame, catalogue, state_of}
+pub use Rattle.database.specs.Opening.{CanOpen, IsOpened}

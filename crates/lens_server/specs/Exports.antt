@@ -1,19 +1,14 @@
 -- What is exported reads back.
-use Rattle.std.specs.Prelude.{◌≡◌, Option, Some, None, Result, Ok, Err}
+use Rattle.std.specs.Prelude.{Option, Some, None, Result, Ok, Err}
 use Rattle.std.specs.FinMap as finmap
-use Rattle.lens_specs.specs.Lens.{Lens, Tables, sort_of}
+use Rattle.lens_specs.specs.Lens.{Lens, Tables}
 use Rattle.catalog_specs.specs.Catalogue.{catalogue}
 use Rattle.server_specs.specs.Answer.{Answer}
-use Rattle.server_specs.specs.Exporting.{first_nullable}
 use Rattle.server_specs.specs.Request.{Request, define, read, find_at, put, edit, preview, describe, list, batch, undo, export, import}
 use Rattle.server_specs.specs.State.{State}
-use Rattle.server_laws.specs.SheetLaws.{ReadsBack}
+use Rattle.view_answers.specs.Sheets.{SheetReadsBack}
 
--- where no column of the view may be null, its text reads back as its rows
-abbrev pub SheetReadsBack : Lens → Tables → Type 0
-SheetReadsBack L db = first_nullable (sort_of L).columns ≡ None → ReadsBack L db
-
--- so it is with the lens of a name, if there is one
+-- what is exported of the lens of a name, if there is one, reads back
 abbrev pub NamedReadsBack : Option Lens → Tables → Type 0
 NamedReadsBack None db = Unit {0}
 NamedReadsBack (Some L) db = SheetReadsBack L db

@@ -9,19 +9,16 @@ ghost use Rattle.lens_server.specs.Counting.{batch_looks, edit_looks, of_lens};
 ghost use Rattle.lens_server.specs.Databases.{CanAnswer, IsPlan, IsSame, catalogue, state_of};
 ghost use Rattle.lens_server.specs.declared.batches.BatchFault.TheVariants as variant;
 
-use crate::changes::{plan_tables, view_of};
-use crate::database::Database;
-use crate::plan::{PastStep, Plan};
-use crate::requested_edit::{Refusal, asked_by_edit};
 use base_index::Tables;
+use database::{Database, Plan, plan_changes};
 use edit_batches::{Deltas, Entry, compose_all};
-use lens_chain::put_delta;
 use lens_values::NoMemory;
-use request_text::{Answer, BatchEdit, BatchEdits, Changes, EditRefusal};
+use request_text::{Answer, BatchEdit, BatchEdits, EditRefusal};
 use signed_delta::TableDelta;
 use std::alloc::{AllocFailed, Global};
 use std::sync::ledger::Ledger;
 use step_counter::Steps;
+use view_changes::Refusal;
 
 /// Why the edits of a batch were not made.
 #[derive(Debug, Drop)]
@@ -154,13 +151,8 @@ fn edit_deltas<M: Ledger>(
         (finmap.get (catalogue s.texts) edit.entry.view) }
 {
     let BatchEdit { view, remove, add } = edit;
-    match database.catalog.lens(&view) {
-        Some(lens) => {
-            let view = view_of(database, lens);
-            let delta = asked_by_edit(alloc, database, &view, remove, add, on, looked)?;
-            let deltas = put_delta(alloc, &view, &delta, looked)?;
-            Ok(deltas)
-        }
+    match database.open_view(&view) {
+        Some(opened) => view_changes::edit(alloc, &opened, remove, add, on, looked),
         None => Err(Refusal::Told {
             refusal: EditRefusal::UnknownName { name: view },
         }),
@@ -176,11 +168,5 @@ fn plan_all(alloc: Global, database: &Database, entries: &[Entry]) -> Result<Pla
         IsPlan plan (batch_settled (Ok db) (state_of database.now)) database.now) }
 {
     let deltas = compose_all(alloc, entries)?;
-    if deltas.as_slice().is_empty() {
-        return Ok(Plan::unchanged(Answer::Changed {
-            changed: Changes::new(deltas),
-            version: database.version,
-        }));
-    }
-    plan_tables(alloc, database, deltas, PastStep::Gains)
+    plan_changes(alloc, database, deltas)
 }

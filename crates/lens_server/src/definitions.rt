@@ -1,20 +1,19 @@
 //! Definitions of tables and views.
 ghost use Rattle.std.specs.Prelude.{◌≡◌, ◌<◌, ◌-◌, ◌^◌, IfOk, length};
 ghost use Rattle.catalog_specs.specs.Catalogue.{is_table_of};
+ghost use Rattle.request_text.specs.Answers.{answer_view};
 ghost use Rattle.server_specs.specs.Defining.{define_answer};
+ghost use Rattle.server_specs.specs.Questions.{list_answer};
 ghost use Rattle.server_specs.specs.Validity.{Valid};
 ghost use Rattle.view_catalog.specs.Admissions.{IsAdmissible};
-ghost use Rattle.lens_server.specs.Defining.{last_with};
-ghost use Rattle.lens_server.specs.Keyed.{IsSame};
-ghost use Rattle.lens_server.specs.Plans.{IsPlan};
-ghost use Rattle.lens_server.specs.States.{state_of};
+ghost use Rattle.database.specs.Defining.{last_with};
+ghost use Rattle.lens_server.specs.Databases.{IsPlan, IsSame, state_of};
 
-use crate::database::Database;
-use crate::last_changes::LastChanges;
-use crate::plan::{PastStep, Plan, Staged, StagedChange};
 use crate::refusals::refusal;
-use lens_values::{Name, NoMemory, Text};
-use request_text::Answer;
+use database::{Database, PastStep, Plan, Staged, StagedChange};
+use lens_values::{Name, NoMemory, Text, copied};
+use opened_view::LastChanges;
+use request_text::{Answer, Texts};
 use std::alloc::Global;
 use view_catalog::Prepared;
 
@@ -73,4 +72,14 @@ fn last_with(
         Some(name) => last.with(alloc, name, version),
         None => last.copy(alloc),
     }
+}
+
+/// What `list` is answered.
+pub fn list_answer(alloc: Global, database: &Database) -> Result<Answer, NoMemory>
+    ensures { IfOk result (λ answer. answer_view answer ≡ list_answer (state_of database.now)) }
+{
+    Ok(Answer::Listed {
+        definitions: Texts::new(copied(alloc, database.catalog.definitions())?),
+        version: database.version,
+    })
 }

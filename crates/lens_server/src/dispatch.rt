@@ -7,18 +7,13 @@ ghost use Rattle.server_specs.specs.Request.{request};
 ghost use Rattle.lens_server.specs.Counting.{Walks, most_looked, most_walked};
 ghost use Rattle.lens_server.specs.Databases.{CanAnswer, IsKeyed, IsPlan, IsSame, state_of};
 ghost use Rattle.lens_server.specs.Exports.{ExportReadsBack};
-ghost use Rattle.lens_server.specs.Outcomes.{IsReady, Outcome};
+ghost use Rattle.database.specs.Outcomes.{IsReady, Outcome};
 
 use crate::batches::plan_batch;
-use crate::changes::{plan_edit, plan_put, preview_answer};
-use crate::commit::settle;
-use crate::database::Database;
-use crate::definitions::plan_definition;
-use crate::exports::export_answer;
-use crate::imports::{Import, plan_import};
-use crate::plan::Plan;
-use crate::questions::{find_answer, list_answer, read_answer, type_answer};
+use crate::definitions::{list_answer, plan_definition};
 use crate::undo::plan_undo;
+use crate::views::{ViewRequest, plan_view};
+use database::{Database, Plan, settle};
 use json::Scratch;
 use lens_values::NoMemory;
 use request_text::{Answer, Reply, Request, RequestFault, read_request};
@@ -112,45 +107,58 @@ fn plan_request<L: Ledger, M: Ledger>(
 {
     match request {
         Request::Define { text } => plan_definition(alloc, database, text),
+        Request::List => Ok(Plan::unchanged(list_answer(alloc, database)?)),
+        Request::Batch { edits, on } => plan_batch(alloc, database, edits, on, looked),
+        Request::Undo => plan_undo(alloc, database),
         Request::Read { view } => {
-            Ok(Plan::unchanged(read_answer(alloc, database, &view, walked)?))
+            plan_view(alloc, database, &view, ViewRequest::Read, walked, looked)
         }
         Request::Find {
             view,
             column,
             value,
         } => {
-            let found = find_answer(alloc, database, &view, &column, &value, walked, looked)?;
-            Ok(Plan::unchanged(found))
+            let asked = ViewRequest::Find { column, value };
+            plan_view(alloc, database, &view, asked, walked, looked)
         }
         Request::Put { view, rows, on } => {
-            plan_put(alloc, database, &view, rows, on, walked, looked)
+            let asked = ViewRequest::Put { rows, on };
+            plan_view(alloc, database, &view, asked, walked, looked)
         }
         Request::Edit {
             view,
             remove,
             add,
             on,
-        } => plan_edit(alloc, database, &view, remove, add, on, looked),
+        } => {
+            let asked = ViewRequest::Edit { remove, add, on };
+            plan_view(alloc, database, &view, asked, walked, looked)
+        }
         Request::Preview {
             view,
             remove,
             add,
             on,
         } => {
-            let answer = preview_answer(alloc, database, &view, remove, add, on, looked)?;
-            Ok(Plan::unchanged(answer))
+            let asked = ViewRequest::Preview { remove, add, on };
+            plan_view(alloc, database, &view, asked, walked, looked)
         }
-        Request::Describe { view } => Ok(Plan::unchanged(type_answer(alloc, database, &view)?)),
-        Request::List => Ok(Plan::unchanged(list_answer(alloc, database)?)),
-        Request::Batch { edits, on } => plan_batch(alloc, database, edits, on, looked),
-        Request::Undo => plan_undo(alloc, database),
+        Request::Describe { view } => {
+            plan_view(
+                alloc,
+                database,
+                &view,
+                ViewRequest::Describe,
+                walked,
+                looked,
+            )
+        }
         Request::Export { view } => {
-            Ok(Plan::unchanged(export_answer(alloc, database, &view, walked)?))
+            plan_view(alloc, database, &view, ViewRequest::Export, walked, looked)
         }
         Request::Import { view, csv, on } => {
-            let import = Import { csv: &csv, on };
-            plan_import(alloc, database, &view, &import, walked, looked)
+            let asked = ViewRequest::Import { csv, on };
+            plan_view(alloc, database, &view, asked, walked, looked)
         }
     }
 }

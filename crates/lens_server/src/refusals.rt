@@ -1,15 +1,17 @@
-//! The answers that tell why a definition is refused.
+//! The answers that tell why a definition or a text is refused.
 ghost use Rattle.std.specs.Prelude.{◌≡◌, ◌≢◌, IfOk, OnOk};
 ghost use Rattle.lens_types.specs.Faults as types;
 ghost use Rattle.request_text.specs.Answers.{answer_view};
 ghost use Rattle.server_specs.specs.Answer.{refused};
 ghost use Rattle.server_specs.specs.Defining.{fault_answer};
 ghost use Rattle.view_catalog.specs.Faults.{fault_view, language_view};
+ghost use Rattle.lens_server.specs.SheetFaults.{TellsSheet};
 
 use lens_types::TypeFault;
 use lens_values::NoMemory;
 use request_text::Answer;
 use view_catalog::CatalogFault;
+use view_changes::SheetFault;
 use view_lang::LangFault;
 
 /// The answer that tells the fault. `NoMemory` where memory ran out.
@@ -56,5 +58,16 @@ fn rule_refusal(fault: TypeFault) -> Answer
         TypeFault::TableTwice { name } => Answer::TableTwice { name },
         TypeFault::TooLarge { what } => Answer::TooLarge { what },
         TypeFault::ColumnTaken { name } => Answer::ColumnTaken { name },
+    }
+}
+
+/// The answer that tells why a text gives no rows. `NoMemory` where memory ran out.
+pub fn sheet_refusal(fault: SheetFault) -> Result<Answer, NoMemory>
+    ensures { IfOk result (λ answer. TellsSheet (answer_view answer) fault) }
+{
+    match fault {
+        SheetFault::NullableColumn { col } => Ok(Answer::NullableColumn { col }),
+        SheetFault::BadRecord { place } => Ok(Answer::BadRecord { place }),
+        SheetFault::NoMemory => Err(NoMemory),
     }
 }

@@ -4,15 +4,16 @@ ghost use Rattle.server_specs.specs.State as state;
 ghost use Rattle.lens_server.specs.Counting.{most_looked, most_walked};
 ghost use Rattle.lens_server.specs.Databases.{IsKeyed, state_of};
 ghost use Rattle.lens_server.specs.Sessions.{Adds, CommitsFor, Follows, IsExportLine, ReadsBack, Rose, Stays, Step, Tells, Valid, answer, marked, memory, request, text};
-ghost use Rattle.lens_server.specs.Starting.{IsDatabaseOf, IsLoad, Opens};
+ghost use Rattle.database_opening.specs.Openings.{IsDatabaseOf};
+ghost use Rattle.lens_server.specs.Starting.{IsLoad, Opens};
 ghost use Rattle.lens_server.specs.StateCode.{coded_state};
 ghost use Rattle.table_keeper.specs.Changes.{kept_view};
 ghost use Rattle.table_keeper.specs.Places.{Rise};
 
-use crate::database::Database;
 use crate::dispatch::answer_line;
-use crate::startup::database_of;
 use crate::startup::fault::StartFault;
+use database::Database;
+use database_opening::{OpenFault, database_of};
 use io_specs::LONGEST_LINE;
 use json::Scratch;
 use lens_values::{NoMemory, Text};
@@ -145,7 +146,7 @@ fn database_counted<L: Ledger>(
     alloc: Global,
     kept: Kept,
     blank: Blank,
-) -> Result<Database, StartFault>
+) -> Result<Database, OpenFault>
     requires name { blank.name ≡ L.name }
     requires parts { blank.parts ≡ L.parts }
     requires one { blank.parts ≡ 1 }

@@ -3,9 +3,7 @@ ghost use Rattle.std.specs.Prelude.{IfOk};
 ghost use Rattle.server_specs.specs.Undoing.{undo_answer};
 ghost use Rattle.lens_server.specs.Databases.{CanAnswer, IsPlan, state_of};
 
-use crate::changes::plan_tables;
-use crate::database::Database;
-use crate::plan::{PastStep, Plan};
+use database::{Database, PastStep, Plan, plan_tables};
 use edit_batches::inverted;
 use lens_values::NoMemory;
 use request_text::Answer;

@@ -1,18 +1,18 @@
 -- One session after another.
 use Rattle.std.proofs.Common.{◌≡◌, ◌≤◌, ◌+◌, ℕ, List, [], ◌∷◌, ◌++◌, map, length, refl, ap, sym, subst, ◌∙◌, arith, append-nil, append_assoc}
-use Rattle.std.specs.Prelude.{Option}
+use Rattle.std.specs.Prelude.{Option, Result}
 use Rattle.std.proofs.lemmas.List.{map-append, length-map}
 use Rattle.io_specs.specs.Calls.{Adds}
 use Rattle.io_specs.specs.Lines.{Line}
 use Rattle.io_specs.proofs.Calls.{Adds-then, Adds-weaker}
 use Rattle.server_specs.specs.State.{State}
-use Rattle.server_specs.specs.Request.{request}
+use Rattle.server_specs.specs.Answer.{Answer}
+use Rattle.server_specs.specs.Request.{Request, request}
 use Rattle.server_specs.specs.Session.{Exchange, Chain, Step, last_state, last_count, Session}
 use Rattle.server_specs.proofs.Versions.{version-step}
 use Rattle.table_keeper.specs.declared.calls.Call.{Call}
 use Rattle.lens_server.specs.Committing.{CommitsFor, CommitsForAll}
-use Rattle.lens_server.specs.Counting.{most_walked}
-use Rattle.rehearsal.specs.Walking.{most_walked_in}
+use Rattle.rehearsal.specs.Walking.{most_in}
 
 Chain-append : (s : State) (count : ℕ) (es fs : List Exchange) → Chain s count es → Chain (last_state s es) (last_count count es) fs → Chain s count (es ++ fs)
 Chain-append s count [] fs p q = q
@@ -60,26 +60,27 @@ pub exchanges-more : (s : State) (count : ℕ) (lines : List Line) (replies : Li
 unfolding Session-append Session-one
 exchanges-more s count lines replies mid between p l reply last after step = refl
 
--- ---- rows that are walked
+-- ---- rows that are walked, or looked at by key
 
--- exchanges after others walk what both may
-most_walked_in-append : (s : State) (es fs : List Exchange) → most_walked_in s (es ++ fs) ≡ most_walked_in s es + most_walked_in (last_state s es) fs
-most_walked_in-append s [] fs = omega arith
-most_walked_in-append s (e ∷ es) fs = omega (arith, most_walked_in-append e.state es fs)
+module _ (most : Result Request Answer → State → ℕ) where
+  -- exchanges after others may count what both may
+  most_in-append : (s : State) (es fs : List Exchange) → most_in most s (es ++ fs) ≡ most_in most s es + most_in most (last_state s es) fs
+  most_in-append s [] fs = omega arith
+  most_in-append s (e ∷ es) fs = omega (arith, most_in-append e.state es fs)
 
--- a session after another walks no more than both may
-pub few-append : (s : State) (count : ℕ) (lines : List Line) (replies : List (List ℕ)) (mid : State) (between : ℕ) (lines' : List Line) (replies' : List (List ℕ)) (last : State) (after : ℕ)
-    → (p : Session s count lines replies mid between) (q : Session mid between lines' replies' last after) (walked amid walked' : ℕ) → amid ≤ walked + most_walked_in s p.exchanges
-    → walked' ≤ amid + most_walked_in mid q.exchanges → walked' ≤ walked + most_walked_in s (Session-append s count lines replies mid between lines' replies' last after p q).exchanges
-unfolding Session-append
-few-append s count lines replies mid between lines' replies' last after p q walked amid walked' few few' =
-    omega (arith, few, few', most_walked_in-append s p.exchanges q.exchanges, ap (λ t. most_walked_in t q.exchanges) p.last_is)
+  -- a session after another counts no more than both may
+  pub few-append : (s : State) (count : ℕ) (lines : List Line) (replies : List (List ℕ)) (mid : State) (between : ℕ) (lines' : List Line) (replies' : List (List ℕ)) (last : State) (after : ℕ)
+      → (p : Session s count lines replies mid between) (q : Session mid between lines' replies' last after) (old amid new : ℕ) → amid ≤ old + most_in most s p.exchanges
+      → new ≤ amid + most_in most mid q.exchanges → new ≤ old + most_in most s (Session-append s count lines replies mid between lines' replies' last after p q).exchanges
+  unfolding Session-append
+  few-append s count lines replies mid between lines' replies' last after p q old amid new few few' =
+      omega (arith, few, few', most_in-append s p.exchanges q.exchanges, ap (λ t. most_in most t q.exchanges) p.last_is)
 
--- a line walks no more than it may
-pub few-one : (s : State) (count : ℕ) (l : Line) (reply : List ℕ) (last : State) (after : ℕ) (step : Step s count l reply last after) (walked walked' : ℕ) → walked' ≤ walked + most_walked (request l) s
-    → walked' ≤ walked + most_walked_in s (Session-one s count l reply last after step).exchanges
-unfolding Session-one
-few-one s count l reply last after step walked walked' few = omega (arith, few)
+  -- a line counts no more than it may
+  pub few-one : (s : State) (count : ℕ) (l : Line) (reply : List ℕ) (last : State) (after : ℕ) (step : Step s count l reply last after) (old new : ℕ) → new ≤ old + most (request l) s
+      → new ≤ old + most_in most s (Session-one s count l reply last after step).exchanges
+  unfolding Session-one
+  few-one s count l reply last after step old new few = omega (arith, few)
 
 -- ---- commits
 

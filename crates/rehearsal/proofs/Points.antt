@@ -13,10 +13,11 @@ use Rattle.server_specs.specs.Session.{Step}
 use Rattle.server_specs.specs.Request.{request}
 use Rattle.server_specs.proofs.Sessions.{Session-nil}
 use Rattle.lens_server.specs.Committing.{CommitsFor}
-use Rattle.lens_server.specs.Counting.{most_walked}
+use Rattle.lens_server.specs.Counting.{most_looked, most_walked}
 use Rattle.rehearsal.specs.Summary.{is_ok, is_refusal}
-use Rattle.rehearsal.specs.Rehearsed.{Stopped}
+use Rattle.rehearsal.specs.Rehearsed.{EndsAtMemory, Stopped}
 use Rattle.rehearsal.specs.Stages.{Point, Passed, Halted, HasRoom, counted}
+use Rattle.rehearsal.specs.Walking.{most_looked_in}
 use Rattle.rehearsal.specs.declared.tally.Tally.{Tally}
 use Rattle.rehearsal.proofs.Joined.{Session-append, Session-one, commits-append, commits-one, few-append, few-one, version-session, later-session, length-replies}
 
@@ -74,7 +75,7 @@ counted-one t t' accepts reply is same =
 
 -- nothing was answered yet
 pub Passed-nil : (p : Point) → Tells p.contents (kept p.state) → Passed p [] [] p
-Passed-nil p told = record { session = Session-nil p.state p.faults; found_memory = tt; counted_are = counted-nil p.tally; stored = stored_same p.state p.contents told; commits = Adds-none _ p.calls refl; few = omega arith }
+Passed-nil p told = record { session = Session-nil p.state p.faults; found_memory = tt; counted_are = counted-nil p.tally; stored = stored_same p.state p.contents told; commits = Adds-none _ p.calls refl; few = omega arith; few_looked = omega arith }
 
 -- a stage after another
 pub Passed-append : (a b c : Point) (lines lines' : List Line) (replies replies' : List (List ℕ)) → Passed a lines replies b → Passed b lines' replies' c → Passed a (lines ++ lines') (replies ++ replies') c
@@ -84,20 +85,22 @@ Passed-append a b c lines lines' replies replies' p q = record {
   counted_are = q.counted_are ∙ ap (λ t. counted t replies') p.counted_are ∙ counted-append a.tally replies replies';
   stored = stored_next b.state c.state a.contents b.contents c.contents p.stored q.stored;
   commits = commits-append a.state a.faults lines replies b.state b.faults lines' replies' c.state c.faults p.session q.session a.calls b.calls c.calls p.commits q.commits;
-  few = few-append a.state a.faults lines replies b.state b.faults lines' replies' c.state c.faults p.session q.session a.walked b.walked c.walked p.few q.few;
+  few = few-append most_walked a.state a.faults lines replies b.state b.faults lines' replies' c.state c.faults p.session q.session a.walked b.walked c.walked p.few q.few;
+  few_looked = few-append most_looked a.state a.faults lines replies b.state b.faults lines' replies' c.state c.faults p.session q.session a.looked b.looked c.looked p.few_looked q.few_looked;
 }
 
 -- a line was answered, and its reply was counted
 pub Passed-step : (a b : Point) (l : Line) (reply : List ℕ) → Step a.state a.faults l reply b.state b.faults → reply ≢ text memory → b.tally ≡ counted a.tally (reply ∷ [])
     → IsStored b.state a.contents b.contents → Adds (CommitsFor a.state a.faults (record { line = l; reply = reply; state = b.state; count = b.faults })) a.calls b.calls → b.walked ≤ a.walked + most_walked (request l) a.state
-    → Passed a (l ∷ []) (reply ∷ []) b
-Passed-step a b l reply step found count stored commits few = record {
+    → b.looked ≤ a.looked + most_looked (request l) a.state → Passed a (l ∷ []) (reply ∷ []) b
+Passed-step a b l reply step found count stored commits few few_looked = record {
   session = Session-one a.state a.faults l reply b.state b.faults step;
   found_memory = (found, tt);
   counted_are = count;
   stored = stored;
   commits = commits-one a.state a.faults l reply b.state b.faults step a.calls b.calls commits;
-  few = few-one a.state a.faults l reply b.state b.faults step a.walked b.walked few;
+  few = few-one most_walked a.state a.faults l reply b.state b.faults step a.walked b.walked few;
+  few_looked = few-one most_looked a.state a.faults l reply b.state b.faults step a.looked b.looked few_looked;
 }
 
 pub told-Passed : (a b : Point) (lines : List Line) (replies : List (List ℕ)) → Passed a lines replies b → Tells b.contents (kept b.state)
@@ -127,26 +130,38 @@ pub on_err : {T E : Type 0} (r : Result T E) (P : Type 0) → P → OnErr r P
 on_err (Ok x) P p = tt
 on_err (Err e) P p = p
 
+-- replies that none of which tells want of memory, and others behind them
+ends-after : (xs ys : List (List ℕ)) → AllByRecursion (λ reply. reply ≢ text memory) xs → EndsAtMemory ys → EndsAtMemory (xs ++ ys)
+ends-after [] ys p q = q
+ends-after (x ∷ xs) ys p q = (λ _. p.0, ends-after xs ys p.1 q)
+
+ends-none : (xs : List (List ℕ)) → AllByRecursion (λ reply. reply ≢ text memory) xs → EndsAtMemory xs
+ends-none [] p = tt
+ends-none (x ∷ xs) p = (λ _. p.0, ends-none xs p.1)
+
 -- before the first line
 pub Halted-first : (p : Point) (lines : List Line) → Tells p.contents (kept p.state) → Halted p lines p
-Halted-first p lines told = record { taken = []; rest = lines; front = refl; replies = []; session = Session-nil p.state p.faults; stored = stored_same p.state p.contents told; commits = Adds-none _ p.calls refl; few = omega arith }
+Halted-first p lines told = record { taken = []; rest = lines; front = refl; replies = []; session = Session-nil p.state p.faults; ends = tt; stored = stored_same p.state p.contents told; commits = Adds-none _ p.calls refl; few = omega arith; few_looked = omega arith }
 
 -- after the last line
 pub Halted-last : (a b : Point) (lines : List Line) (replies : List (List ℕ)) → Passed a lines replies b → Halted a lines b
-Halted-last a b lines replies p = record { taken = lines; rest = []; front = append-nil lines; replies = replies; session = p.session; stored = p.stored; commits = p.commits; few = p.few }
+Halted-last a b lines replies p = record { taken = lines; rest = []; front = append-nil lines; replies = replies; session = p.session; ends = ends-none replies p.found_memory; stored = p.stored; commits = p.commits; few = p.few; few_looked = p.few_looked }
 
 -- at a line that was answered
 pub Halted-step : (a b : Point) (l : Line) (reply : List ℕ) → Step a.state a.faults l reply b.state b.faults → IsStored b.state a.contents b.contents
-    → Adds (CommitsFor a.state a.faults (record { line = l; reply = reply; state = b.state; count = b.faults })) a.calls b.calls → b.walked ≤ a.walked + most_walked (request l) a.state → Halted a (l ∷ []) b
-Halted-step a b l reply step stored commits few = record {
+    → Adds (CommitsFor a.state a.faults (record { line = l; reply = reply; state = b.state; count = b.faults })) a.calls b.calls → b.walked ≤ a.walked + most_walked (request l) a.state
+    → b.looked ≤ a.looked + most_looked (request l) a.state → Halted a (l ∷ []) b
+Halted-step a b l reply step stored commits few few_looked = record {
   taken = l ∷ [];
   rest = [];
   front = refl;
   replies = reply ∷ [];
   session = Session-one a.state a.faults l reply b.state b.faults step;
+  ends = ((λ some. absurd (some refl)), tt);
   stored = stored;
   commits = commits-one a.state a.faults l reply b.state b.faults step a.calls b.calls commits;
-  few = few-one a.state a.faults l reply b.state b.faults step a.walked b.walked few;
+  few = few-one most_walked a.state a.faults l reply b.state b.faults step a.walked b.walked few;
+  few_looked = few-one most_looked a.state a.faults l reply b.state b.faults step a.looked b.looked few_looked;
 }
 
 -- before lines that were still to come
@@ -157,9 +172,11 @@ Halted-early a b lines later h = record {
   front = sym (append_assoc h.taken h.rest later) ∙ ap (λ ls. ls ++ later) h.front;
   replies = h.replies;
   session = h.session;
+  ends = h.ends;
   stored = h.stored;
   commits = h.commits;
   few = h.few;
+  few_looked = h.few_looked;
 }
 
 -- after a stage that went through
@@ -170,13 +187,16 @@ Halted-after a b c lines lines' replies p h = record {
   front = append_assoc lines h.taken h.rest ∙ ap (λ ls. lines ++ ls) h.front;
   replies = replies ++ h.replies;
   session = Session-append a.state a.faults lines replies b.state b.faults h.taken h.replies c.state c.faults p.session h.session;
+  ends = ends-after replies h.replies p.found_memory h.ends;
   stored = stored_next b.state c.state a.contents b.contents c.contents p.stored h.stored;
   commits = commits-append a.state a.faults lines replies b.state b.faults h.taken h.replies c.state c.faults p.session h.session a.calls b.calls c.calls p.commits h.commits;
-  few = few-append a.state a.faults lines replies b.state b.faults h.taken h.replies c.state c.faults p.session h.session a.walked b.walked c.walked p.few h.few;
+  few = few-append most_walked a.state a.faults lines replies b.state b.faults h.taken h.replies c.state c.faults p.session h.session a.walked b.walked c.walked p.few h.few;
+  few_looked = few-append most_looked a.state a.faults lines replies b.state b.faults h.taken h.replies c.state c.faults p.session h.session a.looked b.looked c.looked p.few_looked h.few_looked;
 }
 
-pub Stopped-Halted : (a b : Point) (lines : List Line) → Halted a lines b → Stopped a.state a.faults lines b.state b.faults a.calls b.calls a.walked b.walked
-Stopped-Halted a b lines h = record { taken = h.taken; rest = h.rest; front = h.front; replies = h.replies; session = h.session; commits = h.commits; few = h.few }
+pub Stopped-Halted : (a b : Point) (lines : List Line) → Halted a lines b
+    → (stopped : Stopped a.state a.faults lines b.state b.faults a.calls b.calls a.walked b.walked) × (b.looked ≤ a.looked + most_looked_in a.state stopped.session.exchanges)
+Stopped-Halted a b lines h = (record { taken = h.taken; rest = h.rest; front = h.front; replies = h.replies; session = h.session; ends = h.ends; commits = h.commits; few = h.few }, h.few_looked)
 
 pub later-Passed : (a b : Point) (lines : List Line) (replies : List (List ℕ)) → Passed a lines replies b → a.faults ≤ b.faults
 later-Passed a b lines replies p = later-session a.state a.faults lines replies b.state b.faults p.session

@@ -1,11 +1,12 @@
 -- The four stages of a rehearsal, one after another.
-use Rattle.std.proofs.Common.{◌≡◌, ◌<◌, ◌+◌, ◌-◌, ◌*◌, ◌^◌, ℕ, List, ◌++◌, ap, arith, length-append}
+use Rattle.std.proofs.Common.{◌≡◌, ◌≤◌, ◌<◌, ◌+◌, ◌-◌, ◌*◌, ◌^◌, ℕ, List, ◌++◌, ap, arith, length-append}
 use Rattle.std.specs.Prelude.{flat_map}
 use Rattle.io_specs.specs.Lines.{Line}
 use Rattle.rehearsal.specs.Rehearsal.{below, definition_lines, read_lines, rehearsal, table_lines, view_lines}
 use Rattle.rehearsal.specs.Rehearsed.{Rehearsed}
 use Rattle.rehearsal.specs.Stages.{Point, Passes, Halted, HasRoom, Shows}
 use Rattle.rehearsal.specs.Summary.{rows_data, summary_line}
+use Rattle.rehearsal.specs.Walking.{most_looked_in}
 use Rattle.rehearsal.specs.declared.tally.Tally.{Tally}
 use Rattle.rehearsal.specs.declared.tally.Shown.{Shown}
 use Rattle.rehearsal.proofs.Last.{Rehearsed-Passed}
@@ -84,7 +85,7 @@ Halted-summary a b c d e n shown p q r s = Halted-reads a b c d e n p q r (Halte
 
 pub Rehearsed-reads : (a b c d e : Point) (n : ℕ) (shown : Shown) (told : List ℕ) → a.tally ≡ record { accepted = 0; refused = 0 } → Passes a definition_lines b → Passes b (tables n) c → Passes c (views n) d
     → Shows d read_lines shown e → told ≡ summary_line e.tally.accepted e.tally.refused (rows_data shown.albums shown.tracks shown.stock) e.state.version
-    → Rehearsed a.state a.faults (rehearsal n) told e.state e.faults a.calls e.calls a.walked e.walked
+    → (done : Rehearsed a.state a.faults (rehearsal n) told e.state e.faults a.calls e.calls a.walked e.walked) × (e.looked ≤ a.looked + most_looked_in a.state done.session.exchanges)
 unfolding rehearsal
 Rehearsed-reads a b c d e n shown told zero p q r s is =
     let three = Passes-three a b c d n p q r in

@@ -1,5 +1,5 @@
 -- What becomes of a rehearsal.
-use Rattle.std.specs.Prelude.{◌≡◌, ◌≢◌, ◌≤◌, ◌+◌, ℕ, List, ◌++◌, Option}
+use Rattle.std.specs.Prelude.{◌≡◌, ◌≢◌, ◌≤◌, ◌+◌, ℕ, List, [], ◌∷◌, ◌++◌, Option}
 use Rattle.std.specs.List.{AllByRecursion}
 use Rattle.io_specs.specs.Calls.{Adds}
 use Rattle.io_specs.specs.Lines.{Line}
@@ -21,7 +21,12 @@ pub record Rehearsed (first : State) (count : ℕ) (lines : List Line) (told : L
   pub commits : Adds (CommitsForAll first count session.exchanges) calls calls'
   pub few : walked' ≤ walked + most_walked_in first session.exchanges
 
--- The first of the lines were answered one after another, until memory ran out. The keeper was asked for their commits alone, and no
+-- a reply that says that memory ran out is the last
+abbrev pub EndsAtMemory : List (List ℕ) → Type 0
+EndsAtMemory [] = Unit {0}
+EndsAtMemory (reply ∷ replies) = (replies ≢ [] → reply ≢ text memory) × EndsAtMemory replies
+
+-- The first of the lines were answered one after another, until memory ran out: at a reply that says so, which was the last, or elsewhere. The keeper was asked for their commits alone, and no
 -- more rows were walked than they may walk.
 pub record Stopped (first : State) (count : ℕ) (lines : List Line) (last : State) (count' : ℕ) (calls calls' : Option (List Call)) (walked walked' : ℕ) : Type 0 where
   pub taken : List Line
@@ -29,5 +34,6 @@ pub record Stopped (first : State) (count : ℕ) (lines : List Line) (last : Sta
   pub front : taken ++ rest ≡ lines
   pub replies : List (List ℕ)
   pub session : Session first count taken replies last count'
+  pub ends : EndsAtMemory replies
   pub commits : Adds (CommitsForAll first count session.exchanges) calls calls'
   pub few : walked' ≤ walked + most_walked_in first session.exchanges

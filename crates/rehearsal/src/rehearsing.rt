@@ -7,6 +7,7 @@ ghost use Rattle.server_specs.specs.State as state;
 ghost use Rattle.rehearsal.specs.Rehearsal.{below, definition_lines, read_line, read_lines, rehearsal, table_lines, view_lines};
 ghost use Rattle.rehearsal.specs.Rehearsed.{Rehearsed, Stopped};
 ghost use Rattle.rehearsal.specs.Stages.{Answers, Halted, HasRoom, Passes, Shows, at};
+ghost use Rattle.rehearsal.specs.Walking.{most_looked_in};
 
 use crate::lines::{definition_lines, read_line, table_lines, view_lines};
 use crate::replies::{read_reply, tells_no_memory};
@@ -21,7 +22,7 @@ use table_keeper::Keeper;
 
 /// Answers the lines of the rehearsal of this number, one after another, and gives the line of
 /// their summary. Want of memory, in a reply or elsewhere, ends it: the lines before that were
-/// answered.
+/// answered. No more rows are walked, and looked at by key, than the lines may.
 pub fn rehearse<K: Keeper, L: Ledger, M: Ledger>(
     alloc: Global,
     server: &mut Server,
@@ -32,12 +33,14 @@ pub fn rehearse<K: Keeper, L: Ledger, M: Ledger>(
 ) -> Result<Vec<u8>, NoMemory>
     requires room { server.old.version + 3 * number + 6 < 2 ^ 64 - 1 }
     requires told { Tells (K.contents keeper.old) (state.kept server.old) }
-    ensures done { IfOk result (λ line. Rehearsed server.old (K.faults keeper.old)
+    ensures done { IfOk result (λ line. (done : Rehearsed server.old (K.faults keeper.old)
         (rehearsal number) line.items server.new (K.faults keeper.new) (K.calls keeper.old)
-        (K.calls keeper.new) walked.old walked.new) }
-    ensures stopped { OnErr result (Stopped server.old (K.faults keeper.old)
+        (K.calls keeper.new) walked.old walked.new)
+        × (looked.new ≤ looked.old + most_looked_in server.old done.session.exchanges)) }
+    ensures stopped { OnErr result ((stopped : Stopped server.old (K.faults keeper.old)
         (rehearsal number) server.new (K.faults keeper.new) (K.calls keeper.old)
-        (K.calls keeper.new) walked.old walked.new) }
+        (K.calls keeper.new) walked.old walked.new)
+        × (looked.new ≤ looked.old + most_looked_in server.old stopped.session.exchanges)) }
     ensures told { Follows (λ _ now. now ≡ state.kept server.new) (K.contents keeper.old)
         (K.contents keeper.new) }
     ensures later { K.faults keeper.old ≤ K.faults keeper.new }
@@ -64,16 +67,16 @@ fn define<K: Keeper, L: Ledger, M: Ledger>(
     requires told { Tells (K.contents keeper.old) (state.kept server.old) }
     ensures done { OnOk result (Passes
         (at server.old (K.faults keeper.old) (K.contents keeper.old)
-        (K.calls keeper.old) tally.old walked.old)
+        (K.calls keeper.old) tally.old walked.old looked.old)
         definition_lines
         (at server.new (K.faults keeper.new) (K.contents keeper.new)
-        (K.calls keeper.new) tally.new walked.new)) }
+        (K.calls keeper.new) tally.new walked.new looked.new)) }
     ensures halted { OnErr result (Halted
         (at server.old (K.faults keeper.old) (K.contents keeper.old)
-        (K.calls keeper.old) tally.old walked.old)
+        (K.calls keeper.old) tally.old walked.old looked.old)
         definition_lines
         (at server.new (K.faults keeper.new) (K.contents keeper.new)
-        (K.calls keeper.new) tally.new walked.new)) }
+        (K.calls keeper.new) tally.new walked.new looked.new)) }
     ensures place { K.place keeper.new ≡ K.place keeper.old }
 {
     let lines = definition_lines(alloc)?;
@@ -102,16 +105,16 @@ fn fill_tables<K: Keeper, L: Ledger, M: Ledger>(
     requires told { Tells (K.contents keeper.old) (state.kept server.old) }
     ensures done { OnOk result (Passes
         (at server.old (K.faults keeper.old) (K.contents keeper.old)
-        (K.calls keeper.old) tally.old walked.old)
+        (K.calls keeper.old) tally.old walked.old looked.old)
         (flat_map (table_lines number) (below number))
         (at server.new (K.faults keeper.new) (K.contents keeper.new)
-        (K.calls keeper.new) tally.new walked.new)) }
+        (K.calls keeper.new) tally.new walked.new looked.new)) }
     ensures halted { OnErr result (Halted
         (at server.old (K.faults keeper.old) (K.contents keeper.old)
-        (K.calls keeper.old) tally.old walked.old)
+        (K.calls keeper.old) tally.old walked.old looked.old)
         (flat_map (table_lines number) (below number))
         (at server.new (K.faults keeper.new) (K.contents keeper.new)
-        (K.calls keeper.new) tally.new walked.new)) }
+        (K.calls keeper.new) tally.new walked.new looked.new)) }
     ensures place { K.place keeper.new ≡ K.place keeper.old }
 {
     for i in 0..number {
@@ -143,16 +146,16 @@ fn edit_view<K: Keeper, L: Ledger, M: Ledger>(
     requires told { Tells (K.contents keeper.old) (state.kept server.old) }
     ensures done { OnOk result (Passes
         (at server.old (K.faults keeper.old) (K.contents keeper.old)
-        (K.calls keeper.old) tally.old walked.old)
+        (K.calls keeper.old) tally.old walked.old looked.old)
         (flat_map view_lines (below number))
         (at server.new (K.faults keeper.new) (K.contents keeper.new)
-        (K.calls keeper.new) tally.new walked.new)) }
+        (K.calls keeper.new) tally.new walked.new looked.new)) }
     ensures halted { OnErr result (Halted
         (at server.old (K.faults keeper.old) (K.contents keeper.old)
-        (K.calls keeper.old) tally.old walked.old)
+        (K.calls keeper.old) tally.old walked.old looked.old)
         (flat_map view_lines (below number))
         (at server.new (K.faults keeper.new) (K.contents keeper.new)
-        (K.calls keeper.new) tally.new walked.new)) }
+        (K.calls keeper.new) tally.new walked.new looked.new)) }
     ensures place { K.place keeper.new ≡ K.place keeper.old }
 {
     for i in 0..number {
@@ -183,16 +186,16 @@ fn read_all<K: Keeper, L: Ledger, M: Ledger>(
     requires told { Tells (K.contents keeper.old) (state.kept server.old) }
     ensures done { IfOk result (λ shown. Shows
         (at server.old (K.faults keeper.old) (K.contents keeper.old)
-        (K.calls keeper.old) tally.old walked.old)
+        (K.calls keeper.old) tally.old walked.old looked.old)
         read_lines shown
         (at server.new (K.faults keeper.new) (K.contents keeper.new)
-        (K.calls keeper.new) tally.new walked.new)) }
+        (K.calls keeper.new) tally.new walked.new looked.new)) }
     ensures halted { OnErr result (Halted
         (at server.old (K.faults keeper.old) (K.contents keeper.old)
-        (K.calls keeper.old) tally.old walked.old)
+        (K.calls keeper.old) tally.old walked.old looked.old)
         read_lines
         (at server.new (K.faults keeper.new) (K.contents keeper.new)
-        (K.calls keeper.new) tally.new walked.new)) }
+        (K.calls keeper.new) tally.new walked.new looked.new)) }
     ensures place { K.place keeper.new ≡ K.place keeper.old }
 {
     let albums = read(alloc, server, keeper, "albums", walked, looked, tally)?;
@@ -220,16 +223,16 @@ fn read<K: Keeper, L: Ledger, M: Ledger>(
     requires told { Tells (K.contents keeper.old) (state.kept server.old) }
     ensures done { IfOk result (λ rows. Answers
         (at server.old (K.faults keeper.old) (K.contents keeper.old)
-        (K.calls keeper.old) tally.old walked.old)
+        (K.calls keeper.old) tally.old walked.old looked.old)
         (read_line view.now) rows
         (at server.new (K.faults keeper.new) (K.contents keeper.new)
-        (K.calls keeper.new) tally.new walked.new)) }
+        (K.calls keeper.new) tally.new walked.new looked.new)) }
     ensures halted { OnErr result (Halted
         (at server.old (K.faults keeper.old) (K.contents keeper.old)
-        (K.calls keeper.old) tally.old walked.old)
+        (K.calls keeper.old) tally.old walked.old looked.old)
         (read_line view.now ∷ [])
         (at server.new (K.faults keeper.new) (K.contents keeper.new)
-        (K.calls keeper.new) tally.new walked.new)) }
+        (K.calls keeper.new) tally.new walked.new looked.new)) }
     ensures place { K.place keeper.new ≡ K.place keeper.old }
 {
     let line = read_line(alloc, view)?;
@@ -258,16 +261,16 @@ fn ask_each<K: Keeper, L: Ledger, M: Ledger>(
     requires told { Tells (K.contents keeper.old) (state.kept server.old) }
     ensures done { OnOk result (Passes
         (at server.old (K.faults keeper.old) (K.contents keeper.old)
-        (K.calls keeper.old) tally.old walked.old)
+        (K.calls keeper.old) tally.old walked.old looked.old)
         (map (λ line. marked (string_bytes line)) lines.now)
         (at server.new (K.faults keeper.new) (K.contents keeper.new)
-        (K.calls keeper.new) tally.new walked.new)) }
+        (K.calls keeper.new) tally.new walked.new looked.new)) }
     ensures halted { OnErr result (Halted
         (at server.old (K.faults keeper.old) (K.contents keeper.old)
-        (K.calls keeper.old) tally.old walked.old)
+        (K.calls keeper.old) tally.old walked.old looked.old)
         (map (λ line. marked (string_bytes line)) lines.now)
         (at server.new (K.faults keeper.new) (K.contents keeper.new)
-        (K.calls keeper.new) tally.new walked.new)) }
+        (K.calls keeper.new) tally.new walked.new looked.new)) }
     ensures place { K.place keeper.new ≡ K.place keeper.old }
 {
     for line in lines {
@@ -298,16 +301,16 @@ fn ask<K: Keeper, L: Ledger, M: Ledger>(
     requires told { Tells (K.contents keeper.old) (state.kept server.old) }
     ensures done { IfOk result (λ rows. Answers
         (at server.old (K.faults keeper.old) (K.contents keeper.old)
-        (K.calls keeper.old) tally.old walked.old)
+        (K.calls keeper.old) tally.old walked.old looked.old)
         (marked line.now) rows
         (at server.new (K.faults keeper.new) (K.contents keeper.new)
-        (K.calls keeper.new) tally.new walked.new)) }
+        (K.calls keeper.new) tally.new walked.new looked.new)) }
     ensures halted { OnErr result (Halted
         (at server.old (K.faults keeper.old) (K.contents keeper.old)
-        (K.calls keeper.old) tally.old walked.old)
+        (K.calls keeper.old) tally.old walked.old looked.old)
         (marked line.now ∷ [])
         (at server.new (K.faults keeper.new) (K.contents keeper.new)
-        (K.calls keeper.new) tally.new walked.new)) }
+        (K.calls keeper.new) tally.new walked.new looked.new)) }
     ensures place { K.place keeper.new ≡ K.place keeper.old }
 {
     let reply = server.answer(alloc, keeper, line, walked, looked);

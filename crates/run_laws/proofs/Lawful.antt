@@ -4,25 +4,34 @@ use Rattle.std.specs.Prelude.{Option, None, Some, Ok, IfSome, flat_map, min}
 use Rattle.std.specs.FinMap as finmap
 use Rattle.std.specs.Io.KnownBytes.{Appends, Consumes, IsAtEnd}
 use Rattle.lens_specs.specs.Delta.{TableDelta, changes, differences}
-use Rattle.lens_specs.specs.Lens.{Lens, Tables, get}
-use Rattle.lens_specs.specs.Relation.{Name}
+use Rattle.lens_specs.specs.Lens.{Lens, Tables, get, put}
+use Rattle.lens_specs.specs.Relation.{Name, Rows}
 use Rattle.lens_specs.specs.TableDeltas.{AreDeltas, LeadTo}
 use Rattle.lens_laws.specs.Edits.{AreDiffs}
 use Rattle.io_specs.specs.Lines.{Line, lines}
-use Rattle.server_specs.specs.Answer.{Answer, changed, text}
-use Rattle.server_specs.specs.Answering.{answer}
+use Rattle.catalog_specs.specs.Catalogue.{catalogue}
+use Rattle.server_specs.specs.Answer.{Answer, changed, shown, text}
+use Rattle.server_specs.specs.Answering.{answer, answer_request}
 use Rattle.server_specs.specs.Batching.{edits_from}
 use Rattle.server_specs.specs.Changing.{accept}
+use Rattle.server_specs.specs.Questions.{about, find_told, finding_told, found_told, rows_with}
 use Rattle.server_specs.specs.Request.{BatchEdit}
 use Rattle.server_specs.specs.Session.{Chain, Exchange, Replies, Session, Step, answered, found_memory, last_state, not_stored, out_of_memory}
 use Rattle.server_specs.specs.State.{State}
 use Rattle.server_specs.specs.Validity.{Valid}
 use Rattle.server_laws.specs.Answers.{IsAccepted}
 use Rattle.server_laws.specs.BatchLaws.{IsBatchLine}
+use Rattle.server_laws.specs.ChangeLaws.{SendsView, by_rows, by_text}
+use Rattle.server_laws.specs.PutLaws.{put_set}
 use Rattle.server_laws.specs.SessionLaws.{answers}
 use Rattle.server_laws.specs.SheetLaws.{IsExportLine, ReadsBack}
+use Rattle.server_laws.proofs.AnswerFacts.{said}
 use Rattle.server_laws.proofs.Batches.{accepted_tables, batch_is, batch_leads, batch_made, edits_lawful, nothing_made}
-use Rattle.server_laws.proofs.Changes.{accepted_fresh, accepted_shows, lines_accepted, lines_differ, lines_tell, nothing_changed}
+use Rattle.server_laws.proofs.Changes.{accepted_fresh, accepted_shows, lines_accepted, lines_differ, lines_tell, nothing_changed, puts_set}
+use Rattle.server_laws.proofs.Led.{put_change, with_tables}
+use Rattle.server_laws.proofs.NoLost.{no_export_lost, no_update_lost}
+use Rattle.server_laws.proofs.Puts.{accepted_is}
+use Rattle.server_laws.proofs.Stored.{lens_here}
 use Rattle.server_laws.proofs.Recalled.{undo_restores}
 use Rattle.server_laws.proofs.Returned.{exports_come_back}
 use Rattle.server_laws.proofs.Sessions.{complete, read_otherwise}
@@ -30,13 +39,29 @@ use Rattle.server_laws.proofs.Valid.{valid_chain, valid_step}
 use Rattle.opening_laws.proofs.Opened.{opened_at_start, opened_is_valid}
 use Rattle.serving.specs.Exports.{AreReadBack, IsReadBack}
 use Rattle.serving.specs.Running.{joined}
-use Rattle.run_laws.specs.RunLaws.{EachFrom, ExportsComeBack, IsLawful, IsLawfulBatch, RunsAreLawful}
+use Rattle.run_laws.specs.RunLaws.{EachFrom, ExportsComeBack, FindsFilter, IsLawful, IsLawfulBatch, RefusesAlone, RunsAreLawful}
 
 -- a reply that reads as the answer left the answer's state
 left_by : (s : State) (count : ℕ) (e : Exchange) → Replies s count e.line e.reply e.state e.count → e.reply ≡ text (answer s e.line).0 → e.state ≡ (answer s e.line).1
 left_by s count e (found_memory (answered told is)) same = is
 left_by s count e (found_memory (not_stored told is moved rose)) same = absurd ((read_otherwise s e.line).1 (sym same ∙ told))
 left_by s count e (out_of_memory short told is) same = absurd ((read_otherwise s e.line).0 (sym same ∙ told))
+
+lens_sent : (s : State) (l : Line) (name : Name) (L : Lens) (on : Option ℕ) (N : Rows) → SendsView s l name L on N → finmap.get (catalogue s.texts) name ≡ Some L
+lens_sent s l name L on N (by_rows sent h view) = h.lens
+lens_sent s l name L on N (by_text csv h rows) = h.lens
+
+-- the changes of an accepted line are differences by rising names, none of them empty, that lead to the tables after it
+changes_lead : (s : State) (l : Line) (name : Name) (L : Lens) (on : Option ℕ) (N : Rows) → Valid s → SendsView s l name L on N → IsAccepted (answer s l).0
+    → AreDeltas (changes L N s.tables) × LeadTo (changes L N s.tables) s.tables (answer s l).1.tables
+changes_lead s l name L on N v sends accepted =
+    let fresh = accepted_fresh s l name L on N sends accepted in
+    let puts : answer s l ≡ put_set N L s = puts_set s l name L on N sends fresh in
+    let here = lens_here s v name L (lens_sent s l name L on N sends) in
+    let change = put_change s L N v here ((lines_accepted s l name L on N sends v fresh).0 accepted) in
+    let is : answer s l ≡ accept (put L N s.tables) (changes L N s.tables) s = puts ∙ accepted_is L N s (subst (λ r. IsAccepted r.0) puts accepted) in
+    let tables : (answer s l).1.tables ≡ put L N s.tables = ap (λ r. r.1.tables) is ∙ with_tables s (changes L N s.tables) (put L N s.tables) change.leads in
+    (change.deltas, subst (LeadTo (changes L N s.tables) s.tables) (sym tables) change.leads)
 
 lawful : (s : State) (count : ℕ) (e : Exchange) → Valid s → Step s count e.line e.reply e.state e.count → IsLawful s count e
 lawful s count e v step = record {
@@ -46,7 +71,10 @@ lawful s count e v step = record {
       h.told ∙ ap text (lines_tell s e.line name L on N h.sends h.accepted)
       ∙ ap (λ t. text (changed (changes L N s.tables) t.version)) (sym (left_by s count e step.replied h.told));
   exact = λ name L on N h.
-      subst (λ t. AreDiffs s.tables t.tables (changes L N s.tables)) (sym (left_by s count e step.replied h.told)) (lines_differ s e.line name L on N h.sends h.accepted).1;
+      let left = left_by s count e step.replied h.told in
+      let leads = changes_lead s e.line name L on N v h.sends h.accepted in
+      subst (λ t. AreDeltas (changes L N s.tables) × LeadTo (changes L N s.tables) s.tables t.tables × AreDiffs s.tables t.tables (changes L N s.tables)) (sym left)
+      (leads.0, leads.1, (lines_differ s e.line name L on N h.sends h.accepted).1);
   get_put = λ name L on h.
       let same : (answer s e.line).1 ≡ s = ap (λ r. r.1) (nothing_changed s v e.line name L on h.sends (accepted_fresh s e.line name L on (get L s.tables) h.sends h.accepted)) in
       (left_by s count e step.replied h.told ∙ same, step.still same);
@@ -83,6 +111,28 @@ lawful_batch s count e v step = record {
       let stays : (answer s e.line).1 ≡ s = batch_still s e.line edits on (h.sends, h.accepted) (sym (ap (λ t. t.tables) left) ∙ same) in
       (left ∙ stays, step.still stays);
 }
+
+-- ---- finds, and what changes nothing
+
+-- a line whose answer leaves the state leaves it, whatever its reply
+left_alone : (s : State) (count : ℕ) (e : Exchange) → Replies s count e.line e.reply e.state e.count → (answer s e.line).1 ≡ s → e.state ≡ s
+left_alone s count e (found_memory (answered told is)) stays = is ∙ stays
+left_alone s count e (found_memory (not_stored told is moved rose)) stays = is
+left_alone s count e (out_of_memory short told is) stays = is
+
+finds_filter : (s : State) (count : ℕ) (e : Exchange) → Valid s → Step s count e.line e.reply e.state e.count → FindsFilter s count e
+unfolding answer
+finds_filter s count e v step name column json L finds kind column_is value value_is told =
+    let filters : answer s e.line ≡ (shown (rows_with column value (get L s.tables)) s.version, s) =
+    ap (λ r. answer_request r s) finds.asked ∙ ap (λ o. (about (finding_told s column json) name o, s)) finds.named
+    ∙ ap (λ o. (find_told s L column json o, s)) column_is ∙ ap (λ o. (found_told s L column o, s)) value_is in
+    let stays : (answer s e.line).1 ≡ s = ap (λ r. r.1) filters in
+    (told ∙ ap (λ r. text r.0) filters, left_alone s count e step.replied stays, step.still stays)
+
+refuses_alone : (s : State) (count : ℕ) (e : Exchange) → Valid s → Step s count e.line e.reply e.state e.count → RefusesAlone s count e
+refuses_alone s count e v step h =
+    let stays : (answer s e.line).1 ≡ s = elim h [ inl refuses ↦ (said s e.line).refusal refuses | inr asks ↦ (said s e.line).asked asks ] in
+    (left_alone s count e step.replied stays, step.still stays)
 
 -- ---- sessions
 
@@ -139,7 +189,7 @@ rose_since : (top count start count' : ℕ) → count ≤ start → min (start +
 rose_since top count start count' h r = omega arith
 
 pub runs_are_lawful : RunsAreLawful
-runs_are_lawful s stays status left left' given given' count count' contents contents' calls calls' walked walked' run =
+runs_are_lawful s stays status left left' given given' asked asked' offered offered' count count' contents contents' calls calls' walked walked' run =
     let serves = run.serves in
     let session = serves.session in
     let v : Valid run.first = opened_is_valid run.loads.loaded run.first run.loads.opens in
@@ -149,6 +199,10 @@ runs_are_lawful s stays status left left' given given' count count' contents con
         valid = (valid_chain run.first run.start session.exchanges v session.chain).0;
         lawful = each_from IsLawful lawful run.first run.start session.exchanges v session.chain;
         batches = each_from IsLawfulBatch lawful_batch run.first run.start session.exchanges v session.chain;
+        finds = each_from FindsFilter finds_filter run.first run.start session.exchanges v session.chain;
+        refusals = each_from RefusesAlone refuses_alone run.first run.start session.exchanges v session.chain;
+        updates = no_update_lost run.first run.start serves.taken serves.replies serves.last count' v session;
+        updates_of_exports = no_export_lost run.first run.start serves.taken serves.replies serves.last count' v session;
         undos = λ before after e parts taken. undo_restores run.first run.start serves.taken serves.replies serves.last count' v new session before after e parts taken;
         exports = come_back run.first run.start serves.taken serves.replies serves.last count' v session serves.exports;
       },

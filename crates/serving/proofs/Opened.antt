@@ -1,5 +1,5 @@
 -- What follows from the opening of a store.
-use Rattle.std.proofs.Common.{◌≡◌, ◌≢◌, ◌≤◌, ℕ, Bool, true, false, List, Option, Some, None, is_some, Result, Ok, Err, refl, sym, ap, subst, ◌∙◌}
+use Rattle.std.proofs.Common.{◌≡◌, ◌≢◌, ◌≤◌, ℕ, Bool, true, false, List, length, Option, Some, None, is_some, Result, Ok, Err, refl, sym, ap, subst, ◌∙◌}
 use Rattle.std.specs.Prelude.{◌↔◌, IfOk}
 use Rattle.io_specs.specs.Calls.{Adds}
 use Rattle.lens_specs.specs.Keeping.{Kept, Follows, Stays, Tells}
@@ -8,6 +8,8 @@ use Rattle.opening_specs.specs.Opening.{Damage, IsOpened, damage_text}
 use Rattle.opening_laws.proofs.Opened.{opened_is_kept, opened_at_start}
 use Rattle.std.specs.Io.KnownBytes.{Appends}
 use Rattle.lens_io.specs.Bytes.{AppendsFront, GivesUnlessFailed}
+use Rattle.lens_io.specs.Calls.{Call as Take, OffersRest}
+use Rattle.lens_io.specs.declared.told.Offer.{Offer}
 use Rattle.command_words.specs.Settings.{Settings}
 use Rattle.lens_server.specs.Starting.{Opens}
 use Rattle.lens_server.specs.declared.startup.fault.StartFault.{StartFault}
@@ -93,9 +95,9 @@ told_kept chosen now (Err e) w stays = tt
 
 -- ---- a run from the state that was started
 
-from_entry : (first : State) (limit status : ℕ) (left left' given given' : Option (List ℕ)) (count count' : ℕ) (contents chosen contents' : Option Kept) (calls calls' : Option (List Call)) (walked walked' : ℕ) → is_some chosen ≡ is_some contents
-    → Serves first limit status left left' given given' count count' chosen contents' calls calls' walked walked' → Serves first limit status left left' given given' count count' contents contents' calls calls' walked walked'
-from_entry first limit status left left' given given' count count' contents chosen contents' calls calls' walked walked' told w = record {
+from_entry : (first : State) (limit status : ℕ) (left left' given given' : Option (List ℕ)) (asked asked' : Option (List Take)) (offered offered' : Option (List Offer)) (count count' : ℕ) (contents chosen contents' : Option Kept) (calls calls' : Option (List Call)) (walked walked' : ℕ) → is_some chosen ≡ is_some contents
+    → Serves first limit status left left' given given' asked asked' offered offered' count count' chosen contents' calls calls' walked walked' → Serves first limit status left left' given given' asked asked' offered offered' count count' contents contents' calls calls' walked walked'
+from_entry first limit status left left' given given' asked asked' offered offered' count count' contents chosen contents' calls calls' walked walked' told w = record {
   came = w.came;
   consumed = w.consumed;
   most = w.most;
@@ -114,27 +116,31 @@ from_entry first limit status left left' given given' count count' contents chos
   all_replies = w.all_replies;
   some_replies = w.some_replies;
   in_time = w.in_time;
+  asks = w.asks;
+  asks_in_time = w.asks_in_time;
+  offers = w.offers;
+  offers_until = w.offers_until;
 }
 
 -- lines that were served over the chosen contents are a run
-pub runs : (s : Settings) (stays : Bool) (first : State) (limit status : ℕ) (left left' given given' : Option (List ℕ)) (count start count' : ℕ) (contents chosen contents' : Option Kept) (calls middle calls' : Option (List Call)) (walked walked' : ℕ)
+pub runs : (s : Settings) (stays : Bool) (first : State) (limit status : ℕ) (left left' given given' : Option (List ℕ)) (asked asked' : Option (List Take)) (offered offered' : Option (List Offer)) (count start count' : ℕ) (contents chosen contents' : Option Kept) (calls middle calls' : Option (List Call)) (walked walked' : ℕ)
     → Loads s.store stays contents count start (Ok first) → Adds (OpensBy s.store start) calls middle → is_some chosen ≡ is_some contents → limit ≡ s.max_input
-    → Serves first limit status left left' given given' start count' chosen contents' middle calls' walked walked' → Runs s stays status left left' given given' count count' contents contents' calls calls' walked walked'
-runs s stays first limit status left left' given given' count start count' contents chosen contents' calls middle calls' walked walked' loaded opened_by told same w = record {
+    → Serves first limit status left left' given given' asked asked' offered offered' start count' chosen contents' middle calls' walked walked' → Runs s stays status left left' given given' asked asked' offered offered' count count' contents contents' calls calls' walked walked'
+runs s stays first limit status left left' given given' asked asked' offered offered' count start count' contents chosen contents' calls middle calls' walked walked' loaded opened_by told same w = record {
   first = first;
   start = start;
   loads = loaded;
   middle = middle;
   opened_by = opened_by;
-  serves = subst (λ n. Serves first n status left left' given given' start count' contents contents' middle calls' walked walked') same
-      (from_entry first limit status left left' given given' start count' contents chosen contents' middle calls' walked walked' told w);
+  serves = subst (λ n. Serves first n status left left' given given' asked asked' offered offered' start count' contents contents' middle calls' walked walked') same
+      (from_entry first limit status left left' given given' asked asked' offered offered' start count' contents chosen contents' middle calls' walked walked' told w);
 }
 
 -- and so is a rehearsal
-pub rehearses : (s : Settings) (n : ℕ) (stays : Bool) (first last : State) (status : ℕ) (line : List ℕ) (given given' : Option (List ℕ)) (count start count' : ℕ) (contents chosen contents' : Option Kept) (calls middle calls' : Option (List Call)) (walked walked' : ℕ)
+pub rehearses : (s : Settings) (n : ℕ) (stays : Bool) (first last : State) (status : ℕ) (line : List ℕ) (given given' : Option (List ℕ)) (offered offered' : Option (List Offer)) (count start count' : ℕ) (contents chosen contents' : Option Kept) (calls middle calls' : Option (List Call)) (walked walked' : ℕ)
     → Loads s.store stays contents count start (Ok first) → Adds (OpensBy s.store start) calls middle → is_some chosen ≡ is_some contents → Rehearsed first start (rehearsal n) line last count' middle calls' walked walked' → Follows (λ _ now. now ≡ kept last) chosen contents'
-    → (status ≡ 0 → Appends given given' line) → (status ≡ 5 → AppendsFront given given' line) → Rehearses s n stays status given given' count count' contents contents' calls calls' walked walked'
-rehearses s n stays first last status line given given' count start count' contents chosen contents' calls middle calls' walked walked' loaded opened_by told rehearsed stored all some = record {
+    → (status ≡ 0 → Appends given given' line) → (status ≡ 5 → AppendsFront given given' line) → Adds (OffersRest (length line)) offered offered' → Rehearses s n stays status given given' offered offered' count count' contents contents' calls calls' walked walked'
+rehearses s n stays first last status line given given' offered offered' count start count' contents chosen contents' calls middle calls' walked walked' loaded opened_by told rehearsed stored all some offers = record {
   first = first;
   start = start;
   loads = loaded;
@@ -146,6 +152,7 @@ rehearses s n stays first last status line given given' count start count' conte
   stored = follows_from (λ now. now ≡ kept last) contents chosen contents' told stored;
   all = all;
   some = some;
+  offers = offers;
 }
 
 -- one that stopped for want of memory
@@ -165,13 +172,13 @@ stops_early s n stays status start e count count' contents contents' calls calls
 -- ---- a start that failed
 
 -- a damage whose line was given is refused
-pub refused : (s : Settings) (stays : Bool) (contents contents' : Option Kept) (count start : ℕ) (e : StartFault) (given given' : Option (List ℕ)) (failures failures' : ℕ) (calls calls' : Option (List Call))
-    → OpensTo s.store stays contents contents' count start (Err e) → Adds (IsOpening s.store (Err e) start) calls calls' → IsDamage e (λ damage. GivesUnlessFailed given given' failures failures' (damage_text damage))
-    → Refuses s stays given given' failures failures' count contents contents' calls calls'
-refused s stays contents contents' count start (fault.Damaged damage) given given' failures failures' calls calls' opens opened_by told =
-    record { damage = _; start = start; loads = opens.0; still_kept = opens.1; opened_by = opened_by; told = told }
-refused s stays contents contents' count start fault.StoreFault given given' failures failures' calls calls' opens opened_by told = absurd told
-refused s stays contents contents' count start fault.NoMemory given given' failures failures' calls calls' opens opened_by told = absurd told
+pub refused : (s : Settings) (stays : Bool) (contents contents' : Option Kept) (count start : ℕ) (e : StartFault) (given given' : Option (List ℕ)) (offered offered' : Option (List Offer)) (failures failures' : ℕ) (calls calls' : Option (List Call))
+    → OpensTo s.store stays contents contents' count start (Err e) → Adds (IsOpening s.store (Err e) start) calls calls' → IsDamage e (λ damage. GivesUnlessFailed given given' failures failures' (damage_text damage) × Adds (OffersRest (length (damage_text damage))) offered offered')
+    → Refuses s stays given given' offered offered' failures failures' count contents contents' calls calls'
+refused s stays contents contents' count start (fault.Damaged damage) given given' offered offered' failures failures' calls calls' opens opened_by told =
+    record { damage = _; start = start; loads = opens.0; still_kept = opens.1; opened_by = opened_by; told = told.0; offers = told.1 }
+refused s stays contents contents' count start fault.StoreFault given given' offered offered' failures failures' calls calls' opens opened_by told = absurd told
+refused s stays contents contents' count start fault.NoMemory given given' offered offered' failures failures' calls calls' opens opened_by told = absurd told
 
 -- what holds unless the keeper failed or memory ran out holds at a damage
 pub at_damage : (e : StartFault) (status : ℕ) (Q : Damage → Type 0) (P : Type 0) → status ≡ 7 → (status ≡ 7 → IsDamage e Q) → (e ≢ fault.StoreFault → e ≢ fault.NoMemory → P) → P

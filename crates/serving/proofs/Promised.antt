@@ -4,6 +4,7 @@ use Rattle.std.specs.Prelude.{◌↔◌, Option, None, Some, IfSome}
 use Rattle.io_specs.specs.Calls.{Adds}
 use Rattle.io_specs.specs.Faults.{Rose}
 use Rattle.lens_io.specs.Bytes.{GivesUnlessFailed}
+use Rattle.lens_io.specs.Calls.{OffersRest}
 use Rattle.command_words.specs.Settings.{Settings}
 use Rattle.table_keeper.specs.declared.keeper.KeepFault.TheVariants as keep
 use Rattle.serving.specs.Opening.{IsUnserved}
@@ -61,13 +62,13 @@ pub promised_input : (s : Settings) (stays : Bool) (status : ℕ) (old new : Tol
     → IsServed status ⊎ IsUnserved status
     → (status ≡ 4 → Rose old.source_faults new.source_faults) → (status ≡ 5 → Rose old.sink_faults new.sink_faults) → (status ≡ 6 → Rose old.keeper_faults new.keeper_faults)
     → old.source_faults ≤ new.source_faults → old.sink_faults ≤ new.sink_faults → old.keeper_faults ≤ new.keeper_faults
-    → (IsServed status ⊎ (status ≡ 7) → new.place ≡ place_after s.store old.place)
+    → (IsServed status ⊎ (status ≡ 7) → new.place ≡ place_after s.store old.place) → (s.store ≡ None → new.place ≡ old.place)
     → (IsUnserved status → new.walked ≡ old.walked)
     → Promises (Some s) stays status old new
-promised_input s stays status old new none serves damaged exactly exactly_now fails fails_exactly lacks untouched ends read write store source_later sink_later keeper_later place walks =
+promised_input s stays status old new none serves damaged exactly exactly_now fails fails_exactly lacks untouched ends read write store source_later sink_later keeper_later place place_stays walks =
     let input : status ≡ 8 → IfSome old.left (λ bytes. s.max_input < length bytes) = λ eight.
     let run = serves (inr (inr (inr eight))) in
-    spent_input run.first s.max_input s.max_input status old.left new.left old.given new.given run.start new.keeper_faults old.contents new.contents run.middle new.calls old.walked new.walked refl run.serves eight in
+    spent_input run.first s.max_input s.max_input status old.left new.left old.given new.given old.asked new.asked old.offered new.offered run.start new.keeper_faults old.contents new.contents run.middle new.calls old.walked new.walked refl run.serves eight in
     record {
       lines = record {
         serves = λ _ served. serves served;
@@ -80,6 +81,7 @@ promised_input s stays status old new none serves damaged exactly exactly_now fa
       usage = record {
         words = λ _. ((λ two. absurd (omega (arith, two, ends))), (λ no. cc));
         usage = λ two. absurd (omega (arith, two, ends));
+        usage_offers = λ two. absurd (omega (arith, two, ends));
       };
       memory = record {
         memory_changes_nothing = λ three _. untouched (inl three);
@@ -103,6 +105,7 @@ promised_input s stays status old new none serves damaged exactly exactly_now fa
         complete = λ none_failed. completed status old new ends read write store none_failed;
         complete_told = λ none_failed. completed_told status s.max_input old.left (completed status old new ends read write store none_failed) input;
         place = place;
+        place_stays = place_stays;
         source_later = source_later;
         sink_later = sink_later;
         keeper_later = keeper_later;
@@ -129,10 +132,10 @@ pub promised_rehearsal : (s : Settings) (n : ℕ) (stays : Bool) (status : ℕ) 
     → (status ≢ 4) × (status ≢ 8)
     → (status ≡ 5 → Rose old.sink_faults new.sink_faults) → (status ≡ 6 → Rose old.keeper_faults new.keeper_faults)
     → old.source_faults ≤ new.source_faults → old.sink_faults ≤ new.sink_faults → old.keeper_faults ≤ new.keeper_faults
-    → (IsServed status ⊎ (status ≡ 7) → new.place ≡ place_after s.store old.place)
+    → (IsServed status ⊎ (status ≡ 7) → new.place ≡ place_after s.store old.place) → (s.store ≡ None → new.place ≡ old.place)
     → ((status ≡ 6) ⊎ (status ≡ 7) → new.walked ≡ old.walked)
     → Promises (Some s) stays status old new
-promised_rehearsal s n stays status old new some rehearses stops damaged exactly exactly_now fails fails_exactly untouched ends no_input write store source_later sink_later keeper_later place walks =
+promised_rehearsal s n stays status old new some rehearses stops damaged exactly exactly_now fails fails_exactly untouched ends no_input write store source_later sink_later keeper_later place place_stays walks =
     let other : s.rehearse ≡ None → ⊥ = λ none. let no : Some n ≡ None = sym some ∙ none in cc in
     let read : status ≡ 4 → Rose old.source_faults new.source_faults = λ four. absurd (no_input.0 four) in
     let input : status ≡ 8 → IfSome old.left (λ bytes. s.max_input < length bytes) = λ eight. absurd (no_input.1 eight) in
@@ -148,6 +151,7 @@ promised_rehearsal s n stays status old new some rehearses stops damaged exactly
       usage = record {
         words = λ _. ((λ two. absurd (omega (arith, two, ends))), (λ no. cc));
         usage = λ two. absurd (omega (arith, two, ends));
+        usage_offers = λ two. absurd (omega (arith, two, ends));
       };
       memory = record {
         memory_changes_nothing = λ three none. absurd (other none);
@@ -171,6 +175,7 @@ promised_rehearsal s n stays status old new some rehearses stops damaged exactly
         complete = λ none_failed. completed status old new ends read write store none_failed;
         complete_told = λ none_failed. completed_told status s.max_input old.left (completed status old new ends read write store none_failed) input;
         place = place;
+        place_stays = place_stays;
         source_later = source_later;
         sink_later = sink_later;
         keeper_later = keeper_later;
@@ -184,9 +189,9 @@ promised_rehearsal s n stays status old new some rehearses stops damaged exactly
 
 -- ---- words that are refused
 
-pub promised_usage : (stays : Bool) (old new : Told) → GivesUnlessFailed old.given new.given old.sink_faults new.sink_faults usage
+pub promised_usage : (stays : Bool) (old new : Told) → GivesUnlessFailed old.given new.given old.sink_faults new.sink_faults usage → Adds (OffersRest (length usage)) old.offered new.offered
     → old.source_faults ≤ new.source_faults → old.sink_faults ≤ new.sink_faults → old.keeper_faults ≤ new.keeper_faults → new.walked ≡ old.walked → Promises None stays 2 old new
-promised_usage stays old new gave source_later sink_later keeper_later walks = record {
+promised_usage stays old new gave offers source_later sink_later keeper_later walks = record {
   lines = record {
     serves = tt;
     rehearses = tt;
@@ -195,7 +200,7 @@ promised_usage stays old new gave source_later sink_later keeper_later walks = r
     write = λ five. absurd (omega (arith, five));
     input = λ eight. tt;
   };
-  usage = record { words = λ _. ((λ _. refl), (λ _. refl)); usage = λ _. gave };
+  usage = record { words = λ _. ((λ _. refl), (λ _. refl)); usage = λ _. gave; usage_offers = λ _. offers };
   memory = record { memory_changes_nothing = λ _. tt; memory_calls = λ _. tt; memory_stops = λ _. tt };
   store = record { store = λ six. absurd (omega (arith, six)); store_calls = λ _. tt; store_exactly = tt; store_changes_nothing = λ _. tt };
   damage = record { damaged = λ _. tt; damaged_exactly = λ _ _. tt; damaged_exactly_now = λ _ _. tt; damage_changes_nothing = λ _. tt };
@@ -204,6 +209,7 @@ promised_usage stays old new gave source_later sink_later keeper_later walks = r
     complete = tt;
     complete_told = tt;
     place = λ _. tt;
+    place_stays = tt;
     source_later = source_later;
     sink_later = sink_later;
     keeper_later = keeper_later;
@@ -225,7 +231,7 @@ promised_nothing asked stays t = record {
     write = λ five. absurd (omega (arith, five));
     input = λ eight. absurd (omega (arith, eight));
   };
-  usage = record { words = λ other. absurd (other refl); usage = λ two. absurd (omega (arith, two)) };
+  usage = record { words = λ other. absurd (other refl); usage = λ two. absurd (omega (arith, two)); usage_offers = λ two. absurd (omega (arith, two)) };
   memory = record {
     memory_changes_nothing = λ _. some_all asked (λ s. s.rehearse ≡ None → Untouched s stays t t) (λ s none at_entry. stays_same t.contents);
     memory_calls = λ _. some_all asked (λ s. s.rehearse ≡ None → Adds (LacksMemoryBy s.store) t.calls t.calls) (λ s none. lacks_unasked s.store t.calls);
@@ -250,6 +256,7 @@ promised_nothing asked stays t = record {
     complete_told = some_all asked (λ s. NoneFailed t t → IfSome t.left (λ bytes. length bytes ≤ s.max_input → (3 ≡ 0) ⊎ ((3 ≡ 3) ⊎ (3 ≡ 7))))
         (λ s none. some_all t.left (λ bytes. length bytes ≤ s.max_input → (3 ≡ 0) ⊎ ((3 ≡ 3) ⊎ (3 ≡ 7))) (λ bytes short. inr (inl refl)));
     place = λ h. absurd (omega (arith, h));
+    place_stays = some_all asked (λ s. s.store ≡ None → t.place ≡ t.place) (λ s none. refl);
     source_later = omega arith;
     sink_later = omega arith;
     keeper_later = omega arith;

@@ -1,4 +1,5 @@
 pub mod Exports
 pub mod Running
+pub mod Offering
 pub mod Opening
 pub mod Promises

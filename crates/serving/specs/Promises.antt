@@ -4,6 +4,8 @@ use Rattle.lens_specs.specs.Keeping.{Kept}
 pub use Rattle.io_specs.specs.Calls.{Adds}
 pub use Rattle.io_specs.specs.Faults.{Rose}
 use Rattle.lens_io.specs.Bytes.{GivesUnlessFailed}
+use Rattle.lens_io.specs.Calls.{Call as Take, OffersRest}
+use Rattle.lens_io.specs.declared.told.Offer.{Offer}
 use Rattle.command_words.specs.Settings.{Settings}
 use Rattle.table_keeper.specs.declared.calls.Call.{Call}
 use Rattle.table_keeper.specs.declared.keeper.KeepFault.TheVariants as keep
@@ -11,11 +13,13 @@ pub use Rattle.serving.specs.Opening.{IsUnserved}
 pub use Rattle.serving.specs.Running.{IsServed}
 use Rattle.serving.specs.Running.{FailsBy, IsAtEntry, IsDamaged, LacksMemoryBy, Refuses, Rehearses, Runs, StaysAtEntry, StopsShort, opening_fault, place_after, usage}
 
--- What the devices tell at one moment: what the source has left, what the sink has taken, what the keeper has, what it was asked and
--- where it keeps, where they tell it; how often each of them failed; and how many rows were walked.
+-- What the devices tell at one moment: what the source has left and what it was asked, what the sink has taken and what it was offered, what the keeper has, what it was
+-- asked and where it keeps, where they tell it; how often each of them failed; and how many rows were walked.
 pub record Told : Type 0 where
   pub left : Option (List ℕ)
+  pub asked : Option (List Take)
   pub given : Option (List ℕ)
+  pub offered : Option (List Offer)
   pub contents : Option Kept
   pub calls : Option (List Call)
   pub place : Option (List ℕ)
@@ -27,11 +31,11 @@ pub record Told : Type 0 where
 -- The lines of the source were served, without a rehearsal, or those of the rehearsal were.
 abbrev pub RunsBy : Settings → Bool → ℕ → Told → Told → Type 0
 RunsBy s stays status old new =
-    Runs s stays status old.left new.left old.given new.given old.keeper_faults new.keeper_faults old.contents new.contents old.calls new.calls old.walked new.walked
+    Runs s stays status old.left new.left old.given new.given old.asked new.asked old.offered new.offered old.keeper_faults new.keeper_faults old.contents new.contents old.calls new.calls old.walked new.walked
 
 abbrev pub RehearsesBy : Settings → ℕ → Bool → ℕ → Told → Told → Type 0
 RehearsesBy s n stays status old new =
-    Rehearses s n stays status old.given new.given old.keeper_faults new.keeper_faults old.contents new.contents old.calls new.calls old.walked new.walked
+    Rehearses s n stays status old.given new.given old.offered new.offered old.keeper_faults new.keeper_faults old.contents new.contents old.calls new.calls old.walked new.walked
 
 -- Memory ran out in a rehearsal.
 abbrev pub StopsShortBy : Settings → ℕ → Bool → Told → Told → Type 0
@@ -40,7 +44,7 @@ StopsShortBy s n stays old new = StopsShort s n stays old.keeper_faults new.keep
 -- What was loaded is damaged, and its first damage was told.
 abbrev pub RefusesBy : Settings → Bool → Told → Told → Type 0
 RefusesBy s stays old new =
-    Refuses s stays old.given new.given old.sink_faults new.sink_faults old.keeper_faults old.contents new.contents old.calls new.calls
+    Refuses s stays old.given new.given old.offered new.offered old.sink_faults new.sink_faults old.keeper_faults old.contents new.contents old.calls new.calls
 
 -- what is kept is as at entry, unless another place was chosen
 abbrev pub Untouched : Settings → Bool → Told → Told → Type 0
@@ -63,6 +67,7 @@ pub record AtLines (asked : Option Settings) (stays : Bool) (status : ℕ) (old 
 -- 2: exactly where the words are refused, unless memory ran out. The usage line is given; a front of it only where the sink failed.
 pub record AtWords (asked : Option Settings) (status : ℕ) (old new : Told) : Type 0 where
   pub words : status ≢ 3 → (status ≡ 2) ↔ (asked ≡ None)
+  pub usage_offers : status ≡ 2 → Adds (OffersRest (length usage)) old.offered new.offered
   pub usage : status ≡ 2 → GivesUnlessFailed old.given new.given old.sink_faults new.sink_faults usage
 
 -- 3: memory ran out, before the source was asked, or in a rehearsal.
@@ -98,8 +103,9 @@ pub record AtAny (asked : Option Settings) (status : ℕ) (old new : Told) : Typ
   -- with no fault and no damage the input is served to its end or to the limit; one that is told to be no longer, to its end
   pub complete : IfSome asked (λ _. NoneFailed old new → (status ≡ 0) ⊎ ((status ≡ 3) ⊎ ((status ≡ 7) ⊎ (status ≡ 8))))
   pub complete_told : IfSome asked (λ s. NoneFailed old new → IfSome old.left (λ bytes. length bytes ≤ s.max_input → (status ≡ 0) ⊎ ((status ≡ 3) ⊎ (status ≡ 7))))
-  -- where the words give a place, what is kept lies there
+  -- where the words give a place, what is kept lies there; where they give none, the place stays
   pub place : IsServed status ⊎ (status ≡ 7) → IfSome asked (λ s. new.place ≡ place_after s.store old.place)
+  pub place_stays : IfSome asked (λ s. s.store ≡ None → new.place ≡ old.place)
   -- no count falls
   pub source_later : old.source_faults ≤ new.source_faults
   pub sink_later : old.sink_faults ≤ new.sink_faults

@@ -17,11 +17,15 @@ use Rattle.table_keeper.specs.declared.keeper.KeepFault.TheVariants as keep
 use Rattle.rehearsal.specs.Rehearsal.{rehearsal}
 use Rattle.rehearsal.specs.Rehearsed.{Rehearsed, Stopped}
 use Rattle.rehearsal.specs.Walking.{most_walked_in}
+use Rattle.lens_io.specs.Asked.{AskedAfter, AsksFor}
 use Rattle.lens_io.specs.Bytes.{AppendsFront, GivesUnlessFailed}
+use Rattle.lens_io.specs.Calls.{Call as Take, OffersRest}
+use Rattle.lens_io.specs.declared.told.Offer.{Offer}
 use Rattle.lens_io.specs.Taken.{ComesInTime}
 use Rattle.lens_io.specs.declared.cutting.Cut.{Cut}
 use Rattle.lens_io.specs.declared.cutting.Cut.TheVariants as cut
 use Rattle.serving.specs.Exports.{AreReadBack}
+use Rattle.serving.specs.Offering.{OffersEach, OffersUntil}
 
 -- the line that a faulty command line is answered with
 abbrev pub usage : List ℕ
@@ -43,7 +47,7 @@ BreaksOff old new replies = (before : List (List ℕ)) × (reply : List ℕ) × 
 abbrev pub AreFirst : List Line → List ℕ → Option (List ℕ) → Type 0
 AreFirst taken came left = IsFront taken (whole came) ⊎ ((taken ≡ lines came) × IsAtEnd left)
 
--- what an answer of the cutter with a line says that the line is
+-- what an answer of the cutter with a line says that the line is; it is asked of no last answer
 abbrev pub line_of : Cut → List ℕ → Line
 line_of cut.Line bytes = line bytes
 line_of cut.TooLong bytes = too_long
@@ -51,18 +55,18 @@ line_of cut.End bytes = too_long
 line_of cut.Failed bytes = too_long
 line_of cut.Spent bytes = too_long
 
--- the status at the last answer of the cutter
-abbrev pub status_of : Cut → ℕ
-status_of cut.Line = 0
-status_of cut.TooLong = 0
-status_of cut.End = 0
-status_of cut.Failed = 4
-status_of cut.Spent = 8
+-- the status at the last answer of the cutter; a line has none
+abbrev pub status_of : Cut → Option ℕ
+status_of cut.Line = None
+status_of cut.TooLong = None
+status_of cut.End = Some 0
+status_of cut.Failed = Some 4
+status_of cut.Spent = Some 8
 
 -- From the first state on, some bytes came from the source, lines of them were replied to, and the replies were given.
--- `left` is what the source has left, before and after, `given` what the sink has taken, `contents` what the keeper has and `calls` what it was asked, where they tell
--- it; `count` is the keeper's, and `walked` counts the rows that were walked.
-pub record Serves (first : State) (limit status : ℕ) (left left' given given' : Option (List ℕ)) (count count' : ℕ) (contents contents' : Option Kept) (calls calls' : Option (List Call)) (walked walked' : ℕ) : Type 0 where
+-- `left` is what the source has left, before and after, and `asked` what it was asked; `given` is what the sink has taken, and `offered` what it was offered; `contents`
+-- is what the keeper has, and `calls` what it was asked, where they tell it; `count` is the keeper's, and `walked` counts the rows that were walked.
+pub record Serves (first : State) (limit status : ℕ) (left left' given given' : Option (List ℕ)) (asked asked' : Option (List Take)) (offered offered' : Option (List Offer)) (count count' : ℕ) (contents contents' : Option Kept) (calls calls' : Option (List Call)) (walked walked' : ℕ) : Type 0 where
   pub came : List ℕ
   pub consumed : Consumes left left' came
   -- at most one byte beyond the limit
@@ -92,6 +96,13 @@ pub record Serves (first : State) (limit status : ℕ) (left left' given given' 
   pub some_replies : status ≡ 5 → BreaksOff given given' replies
   -- where the sink failed at the last reply, each whole line but for those of the last 65,536 bytes had its reply before that
   pub in_time : status ≡ 5 → ComesInTime (length replies - 1) came
+  -- each call of the source had room for 65,536 bytes, or up to one byte beyond the limit; none followed one that brought nothing; and the bytes that came are theirs
+  pub asks : Adds (AsksFor limit came) asked asked'
+  -- where the sink failed at the last reply, each whole line of the calls before the last one had its reply before that
+  pub asks_in_time : status ≡ 5 → Adds (AskedAfter (length replies - 1)) asked asked'
+  -- each reply was offered whole, and then what was left of it; at the last one, where the sink failed, until it did
+  pub offers : status ≢ 5 → Adds (OffersEach replies) offered offered'
+  pub offers_until : status ≡ 5 → Adds (OffersUntil replies) offered offered'
 
 -- ---- the store
 
@@ -155,18 +166,18 @@ abbrev pub IsServed : ℕ → Type 0
 IsServed status = (status ≡ 0) ⊎ ((status ≡ 4) ⊎ ((status ≡ 5) ⊎ (status ≡ 8)))
 
 -- The lines of the source were served, from the state that was loaded on. The keeper was asked to open the store, and then for the commits of the lines.
-pub record Runs (s : Settings) (stays : Bool) (status : ℕ) (left left' given given' : Option (List ℕ)) (count count' : ℕ) (contents contents' : Option Kept) (calls calls' : Option (List Call)) (walked walked' : ℕ) : Type 0 where
+pub record Runs (s : Settings) (stays : Bool) (status : ℕ) (left left' given given' : Option (List ℕ)) (asked asked' : Option (List Take)) (offered offered' : Option (List Offer)) (count count' : ℕ) (contents contents' : Option Kept) (calls calls' : Option (List Call)) (walked walked' : ℕ) : Type 0 where
   pub first : State
   pub start : ℕ
   pub loads : Loads s.store stays contents count start (Ok first)
   -- the calls once the store was opened
   pub middle : Option (List Call)
   pub opened_by : Adds (OpensBy s.store start) calls middle
-  pub serves : Serves first s.max_input status left left' given given' start count' contents contents' middle calls' walked walked'
+  pub serves : Serves first s.max_input status left left' given given' asked asked' offered offered' start count' contents contents' middle calls' walked walked'
 
 -- The lines of the rehearsal of n were answered, from the state that was loaded on, and their summary was given; a front of it where
 -- the sink failed.
-pub record Rehearses (s : Settings) (n : ℕ) (stays : Bool) (status : ℕ) (given given' : Option (List ℕ)) (count count' : ℕ) (contents contents' : Option Kept) (calls calls' : Option (List Call)) (walked walked' : ℕ) : Type 0 where
+pub record Rehearses (s : Settings) (n : ℕ) (stays : Bool) (status : ℕ) (given given' : Option (List ℕ)) (offered offered' : Option (List Offer)) (count count' : ℕ) (contents contents' : Option Kept) (calls calls' : Option (List Call)) (walked walked' : ℕ) : Type 0 where
   pub first : State
   pub start : ℕ
   pub loads : Loads s.store stays contents count start (Ok first)
@@ -178,6 +189,7 @@ pub record Rehearses (s : Settings) (n : ℕ) (stays : Bool) (status : ℕ) (giv
   pub stored : Follows (λ _ now. now ≡ kept last) contents contents'
   pub all : status ≡ 0 → Appends given given' told
   pub some : status ≡ 5 → AppendsFront given given' told
+  pub offers : Adds (OffersRest (length told)) offered offered'
 
 -- Memory ran out in a rehearsal of n: before it began, and the contents are as at entry, and nothing was walked; or in it, and they are those of the last state.
 pub data StopsShort (s : Settings) (n : ℕ) (stays : Bool) (count count' : ℕ) (contents contents' : Option Kept) (calls calls' : Option (List Call)) (walked walked' : ℕ) : Type 0 where
@@ -188,13 +200,14 @@ pub data StopsShort (s : Settings) (n : ℕ) (stays : Bool) (count count' : ℕ)
 
 -- What was loaded is damaged, and the line that tells its first damage was given; a front of it where the sink failed. It is what is kept, where the keeper tells that in the end.
 -- The keeper was asked for nothing after it was loaded.
-pub record Refuses (s : Settings) (stays : Bool) (given given' : Option (List ℕ)) (failures failures' count : ℕ) (contents contents' : Option Kept) (calls calls' : Option (List Call)) : Type 0 where
+pub record Refuses (s : Settings) (stays : Bool) (given given' : Option (List ℕ)) (offered offered' : Option (List Offer)) (failures failures' count : ℕ) (contents contents' : Option Kept) (calls calls' : Option (List Call)) : Type 0 where
   pub damage : Damage
   pub start : ℕ
   pub loads : Loads s.store stays contents count start (Err damage)
   pub still_kept : Tells contents' loads.loaded
   pub opened_by : Adds (OpensBy s.store start) calls calls'
   pub told : GivesUnlessFailed given given' failures failures' (damage_text damage)
+  pub offers : Adds (OffersRest (length (damage_text damage))) offered offered'
 
 -- ---- when the status is 7
 

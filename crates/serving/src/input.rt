@@ -1,5 +1,5 @@
 //! The lines of the source are answered, one after another.
-ghost use Rattle.std.specs.Prelude.{◌≡◌, ◌≤◌, ◌<◌, ◌⊎◌, ◌+◌, ◌-◌, ◌^◌, [], false, length, None, Some};
+ghost use Rattle.std.specs.Prelude.{◌≡◌, ◌≤◌, ◌<◌, ◌⊎◌, ◌+◌, ◌-◌, ◌^◌, [], false, true, length, None, Some};
 ghost use Rattle.lens_specs.specs.Keeping.{Follows, Tells};
 ghost use Rattle.server_specs.specs.Answer.{memory, text};
 ghost use Rattle.server_specs.specs.Answering.{answer};
@@ -7,6 +7,7 @@ ghost use Rattle.server_specs.specs.Request.{request};
 ghost use Rattle.server_specs.specs.Session.{Step};
 ghost use Rattle.server_specs.specs.State as state;
 ghost use Rattle.server_laws.specs.SheetLaws.{IsExportLine, ReadsBack};
+ghost use Rattle.lens_io.specs.Cutting.{is_last};
 ghost use Rattle.lens_server.specs.Committing.{CommitsFor};
 ghost use Rattle.lens_server.specs.Counting.{most_walked};
 ghost use Rattle.command_words.specs.Views.{settings_view};
@@ -41,7 +42,9 @@ pub fn serve_input<S: Source, W: Sink, K: Keeper, L: Ledger, M: Ledger>(
     ensures promises { Promises (Some (settings_view settings.now)) K.stays result
         (record {
           left = S.left source.old;
+          asked = S.asked source.old;
           given = W.taken sink.old;
+          offered = W.offered sink.old;
           contents = K.contents keeper.old;
           calls = K.calls keeper.old;
           place = K.place keeper.old;
@@ -52,7 +55,9 @@ pub fn serve_input<S: Source, W: Sink, K: Keeper, L: Ledger, M: Ledger>(
         })
         (record {
           left = S.left source.new;
+          asked = S.asked source.new;
           given = W.taken sink.new;
+          offered = W.offered sink.new;
           contents = K.contents keeper.new;
           calls = K.calls keeper.new;
           place = K.place keeper.new;
@@ -108,7 +113,8 @@ fn serve<S: Source, W: Sink, K: Keeper, L: Ledger, M: Ledger>(
     requires room { server.old.version + cutter.old.limit + 1 < 2 ^ 64 - 1 }
     requires told { Tells (K.contents keeper.old) (state.kept server.old) }
     ensures serves { Serves server.old cutter.old.limit result (S.left source.old) (S.left source.new)
-        (W.taken sink.old) (W.taken sink.new) (K.faults keeper.old) (K.faults keeper.new)
+        (W.taken sink.old) (W.taken sink.new) (S.asked source.old) (S.asked source.new)
+        (W.offered sink.old) (W.offered sink.new) (K.faults keeper.old) (K.faults keeper.new)
         (K.contents keeper.old) (K.contents keeper.new) (K.calls keeper.old) (K.calls keeper.new)
         walked.old walked.new }
     ensures ends { (result ≡ 0) ⊎ ((result ≡ 4) ⊎ ((result ≡ 5) ⊎ (result ≡ 8))) }
@@ -134,7 +140,8 @@ fn serve<S: Source, W: Sink, K: Keeper, L: Ledger, M: Ledger>(
 
 /// The status after the last answer of a cutter.
 fn status_of(cut: Cut) -> u8
-    ensures { result ≡ status_of cut }
+    requires { is_last cut ≡ true }
+    ensures { status_of cut ≡ Some result }
 {
     match cut {
         Cut::Failed => 4,
@@ -155,6 +162,7 @@ fn reply_to<K: Keeper, L: Ledger, M: Ledger>(
 ) -> Reply
     requires room { server.old.version < 2 ^ 64 - 1 }
     requires told { Tells (K.contents keeper.old) (state.kept server.old) }
+    requires line { is_last cut ≡ false }
     requires short { cut ≡ Cut.Line → length line.now ≤ 16777216 }
     ensures step { Step server.old (K.faults keeper.old) (line_of cut line.now) result
         server.new (K.faults keeper.new) }

@@ -1,5 +1,5 @@
 //! The store of a run: a server is started over it, or the run is refused.
-ghost use Rattle.std.specs.Prelude.{◌≡◌, ◌≢◌, ◌≤◌, ◌↔◌, is_some, Err, IfOk, None, OnErr, OnOk};
+ghost use Rattle.std.specs.Prelude.{◌≡◌, ◌≢◌, ◌≤◌, ◌↔◌, is_some, length, Err, IfOk, None, OnErr, OnOk};
 ghost use Rattle.std.specs.Option.{option_copied};
 ghost use Rattle.io_specs.specs.Calls.{Adds};
 ghost use Rattle.io_specs.specs.Faults.{Rose};
@@ -7,6 +7,7 @@ ghost use Rattle.lens_specs.specs.Keeping.{Tells};
 ghost use Rattle.server_specs.specs.State.{kept};
 ghost use Rattle.opening_specs.specs.Opening.{damage_text};
 ghost use Rattle.lens_io.specs.Bytes.{GivesUnlessFailed};
+ghost use Rattle.lens_io.specs.Calls.{OffersRest};
 ghost use Rattle.serving.specs.Running.{StaysAtEntry, place_after};
 ghost use Rattle.serving.specs.Opening.{IsAttach, IsDamage, IsOpening, IsUnserved, OpensTo};
 
@@ -32,6 +33,8 @@ pub fn open<K: Keeper>(
         (K.contents keeper.new) }
     ensures place { result ≢ Err StartFault.StoreFault → result ≢ Err StartFault.NoMemory
         → K.place keeper.new ≡ place_after (option_copied place.entry) (K.place keeper.old) }
+    ensures place_stays { option_copied place.entry ≡ None
+        → K.place keeper.new ≡ K.place keeper.old }
 
     // The keeper is asked for an attach where a place is given, then for one load, and for nothing
     // else.
@@ -57,6 +60,8 @@ fn choose_place<K: Keeper>(
 ) -> Result<(), KeepFault>
     ensures chosen { OnOk result (K.place keeper.new
         ≡ place_after (option_copied place.entry) (K.place keeper.old)) }
+    ensures place_stays { option_copied place.entry ≡ None
+        → K.place keeper.new ≡ K.place keeper.old }
     ensures stays { StaysAtEntry (option_copied place.entry) K.stays (K.contents keeper.old)
         (K.contents keeper.new) }
     ensures as_told { is_some (K.contents keeper.new) ≡ is_some (K.contents keeper.old) }
@@ -77,7 +82,8 @@ fn choose_place<K: Keeper>(
 pub fn refuse<W: Sink>(alloc: Global, sink: &mut W, fault: StartFault) -> u8
     ensures damaged { result ≡ 7 → IsDamage fault (λ damage.
         GivesUnlessFailed (W.taken sink.old) (W.taken sink.new) (W.faults sink.old)
-        (W.faults sink.new) (damage_text damage)) }
+        (W.faults sink.new) (damage_text damage)
+        × Adds (OffersRest (length (damage_text damage))) (W.offered sink.old) (W.offered sink.new)) }
     ensures store { (result ≡ 6) ↔ (fault ≡ StartFault.StoreFault) }
     ensures gives_nothing { result ≢ 7 → sink.new ≡ sink.old }
     ensures ends { IsUnserved result }

@@ -29,12 +29,14 @@ pub fn rehearse_over<W: Sink, K: Keeper, L: Ledger, M: Ledger>(
     requires one { blank.parts ≡ 1 }
     requires few { number ≤ 100000 }
     requires asked { (settings_view settings.now).rehearse ≡ Some number }
-    // Whatever the source has left, and however often it has failed.
-    ensures promises { (left : _) (faults : _) → Promises (Some (settings_view settings.now)) K.stays
+    // Whatever the source has left and was asked, and however often it has failed.
+    ensures promises { (left : _) (asked : _) (faults : _) → Promises (Some (settings_view settings.now)) K.stays
         result
         (record {
           left = left;
+          asked = asked;
           given = W.taken sink.old;
+          offered = W.offered sink.old;
           contents = K.contents keeper.old;
           calls = K.calls keeper.old;
           place = K.place keeper.old;
@@ -45,7 +47,9 @@ pub fn rehearse_over<W: Sink, K: Keeper, L: Ledger, M: Ledger>(
         })
         (record {
           left = left;
+          asked = asked;
           given = W.taken sink.new;
+          offered = W.offered sink.new;
           contents = K.contents keeper.new;
           calls = K.calls keeper.new;
           place = K.place keeper.new;

@@ -37,7 +37,9 @@ pub fn run<S: Source, W: Sink, K: Keeper, L: Ledger>(
     ensures promises { Promises (settings (map string_bytes words.now)) K.stays result
         (record {
           left = S.left source.old;
+          asked = S.asked source.old;
           given = W.taken sink.old;
+          offered = W.offered sink.old;
           contents = K.contents keeper.old;
           calls = K.calls keeper.old;
           place = K.place keeper.old;
@@ -48,7 +50,9 @@ pub fn run<S: Source, W: Sink, K: Keeper, L: Ledger>(
         })
         (record {
           left = S.left source.new;
+          asked = S.asked source.new;
           given = W.taken sink.new;
+          offered = W.offered sink.new;
           contents = K.contents keeper.new;
           calls = K.calls keeper.new;
           place = K.place keeper.new;

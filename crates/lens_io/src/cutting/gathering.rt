@@ -1,9 +1,9 @@
 //! The search for a line's end, among the bytes that wait and then by asking the source.
 ghost use Rattle.std.specs.Prelude.{◌≡◌, ◌≤◌, ◌<◌, ◌^◌, ◌+◌, ◌-◌, false, length, [], take, min, vec_len, vec_capacity, slice_range, slice_index, IfOk, OnErr, MatchOption};
 ghost use Rattle.std.specs.Io.KnownBytes.{Consumes, IsAtEnd, Keeps};
-ghost use Rattle.lens_io.specs.Calls.{Adds, AddsCall, Rose};
-ghost use Rattle.lens_io.specs.Cutting.{AskInNeed, HasNoNewline, NeedsNone, Passed};
-ghost use Rattle.lens_io.specs.Within.{FoundStep, IsWithin};
+ghost use Rattle.lens_io.specs.Calls.{AddsCall, Rose};
+ghost use Rattle.lens_io.specs.Cutting.{HasNoNewline, NeedsNone, Passed};
+ghost use Rattle.lens_io.specs.Within.{FoundCuts, IsWithin};
 
 use crate::cutting::found::{Found, cut_at, last_line, spent, stopped};
 use crate::cutting::{Cut, ROOM};
@@ -16,12 +16,11 @@ pub(super) fn find<S: Source>(source: &mut S, bytes: &mut Vec<u8>, last: Found, 
     requires limit { limit ≤ 2 ^ 40 }
     requires last { IsWithin last limit (vec_len bytes.old) }
     ensures capacity { LONGEST_LINE + ROOM ≤ vec_capacity bytes.new }
-    ensures step { FoundStep result bytes.new.items (slice_range bytes.old.items last.start last.end)
-        last.taken limit last.ended (S.left source.old) (S.left source.new) }
+    ensures cuts { FoundCuts result bytes.new.items (slice_range bytes.old.items last.start last.end)
+        last.taken limit last.ended (S.left source.old) (S.left source.new)
+        (S.asked source.old) (S.asked source.new) }
     ensures asks { NeedsNone (slice_range bytes.old.items last.start last.end) last.taken limit last.ended
         → source.new ≡ source.old }
-    ensures calls { Adds (AskInNeed (slice_range bytes.old.items last.start last.end) last.taken limit)
-        (S.asked source.old) (S.asked source.new) }
     ensures within { IsWithin result limit (vec_len bytes.new) }
     ensures later { S.faults source.old ≤ S.faults source.new }
     ensures failed { result.cut ≡ Cut.Failed → Rose (S.faults source.old) (S.faults source.new) }
@@ -55,10 +54,8 @@ fn gather<S: Source>(
     requires first { first ≤ vec_len bytes.old }
     requires clear { HasNoNewline (take first bytes.old.items) }
     ensures capacity { LONGEST_LINE + ROOM ≤ vec_capacity bytes.new }
-    ensures step { FoundStep result bytes.new.items (take first bytes.old.items) before limit false
-        (S.left source.old) (S.left source.new) }
-    ensures calls { Adds (AskInNeed (take first bytes.old.items) before limit)
-        (S.asked source.old) (S.asked source.new) }
+    ensures cuts { FoundCuts result bytes.new.items (take first bytes.old.items) before limit false
+        (S.left source.old) (S.left source.new) (S.asked source.old) (S.asked source.new) }
     ensures within { IsWithin result limit (vec_len bytes.new) }
     ensures later { S.faults source.old ≤ S.faults source.new }
     ensures failed { result.cut ≡ Cut.Failed → Rose (S.faults source.old) (S.faults source.new) }
@@ -93,8 +90,8 @@ fn pass_over<S: Source>(source: &mut S, bytes: &mut Vec<u8>, before: u64, limit:
     requires before { before ≤ limit }
     ensures capacity { LONGEST_LINE + ROOM ≤ vec_capacity bytes.new }
     ensures passed { Passed result.cut (slice_range bytes.new.items result.start result.end)
-        before result.taken limit result.ended (S.left source.old) (S.left source.new) }
-    ensures calls { Adds (AskInNeed [] before limit) (S.asked source.old) (S.asked source.new) }
+        before result.taken limit result.ended (S.left source.old) (S.left source.new)
+        (S.asked source.old) (S.asked source.new) }
     ensures within { IsWithin result limit (vec_len bytes.new) }
     ensures later { S.faults source.old ≤ S.faults source.new }
     ensures failed { result.cut ≡ Cut.Failed → Rose (S.faults source.old) (S.faults source.new) }

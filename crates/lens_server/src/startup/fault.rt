@@ -1,9 +1,9 @@
 //! Why a server is not started.
 ghost use Rattle.std.specs.Prelude.{◌≡◌};
-ghost use Rattle.lens_server.specs.StartFaults.{of_keeper};
+ghost use Rattle.lens_server.specs.StartFaults.{of_keeper, of_opening};
 ghost use Rattle.lens_server.specs.declared.startup.fault.StartFault.TheVariants as variant;
 
-use crate::startup::damage::Damage;
+use database_opening::{Damage, OpenFault};
 use lens_values::NoMemory;
 use table_keeper::KeepFault;
 use thiserror::Error;
@@ -37,6 +37,17 @@ impl From<KeepFault> for StartFault {
         match fault {
             KeepFault::Failed => StartFault::StoreFault,
             KeepFault::NoMemory => StartFault::NoMemory,
+        }
+    }
+}
+
+impl From<OpenFault> for StartFault {
+    ghost from_gives = { λ fault why. why ≡ of_opening fault };
+
+    fn from(fault: OpenFault) -> StartFault {
+        match fault {
+            OpenFault::Damaged { damage } => StartFault::Damaged { damage },
+            OpenFault::NoMemory => StartFault::NoMemory,
         }
     }
 }

@@ -2,7 +2,7 @@ use Rattle.std.proofs.Common.{arith, ap, length, subst, take, drop, length-drop,
 use Rattle.std.specs.Io.KnownBytes.{Appends}
 use Rattle.lens_io.specs.Calls.{AddsOffer}
 use Rattle.lens_io.proofs.Fronts.{Appends-more, Appends-nil, rest_is, within_rest}
-use Rattle.lens_io.proofs.Offering.{Offering-nil, Offering-more, Offering-last, Offering-end}
+use Rattle.lens_io.proofs.Offering.{Offering-all, Offering-nil, Offering-more, Offering-last, Offering-end}
 use Rattle.lens_io.proofs.input_output.give_all.Goals as goal
 
 -- what a call is handed is all that is left
@@ -32,3 +32,6 @@ returns-in_err-at-clause-calls g c =
 
 pub returns-clause-calls : goal.returns-clause-calls
 returns-clause-calls g c = Offering-end _ _ _ _ c.loop-at.invariant.offering
+
+pub returns-clause-all : goal.returns-clause-all
+returns-clause-all g c = Offering-all _ _ _ _ c.loop-at.invariant.offering (omega arith)

@@ -6,7 +6,7 @@ use Rattle.request_text.specs.Edits.{edit_view}
 use Rattle.server_specs.specs.Batching.{edits_from}
 use Rattle.lens_server.specs.Batches.{IsHolding}
 use Rattle.lens_server.specs.Counting.{batch_looks}
-use Rattle.lens_server.specs.States.{state_of}
+use Rattle.database.specs.States.{state_of}
 use Rattle.lens_server.proofs.batches.make_edits.Given as goal
 
 -- the entries lead to the tables now, from which the edits that are left come to what all of them come to

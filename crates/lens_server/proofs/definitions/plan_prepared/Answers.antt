@@ -1,6 +1,6 @@
 use Rattle.std.proofs.Common.{◌∙◌, ◌+◌, ap, refl}
-use Rattle.lens_server.specs.Defining.{last_with}
-use Rattle.lens_server.specs.declared.plan.StagedChange.TheVariants.{Define}
+use Rattle.database.specs.Defining.{last_with}
+use Rattle.database.specs.declared.plan.StagedChange.TheVariants.{Define}
 use Rattle.lens_server.proofs.Defined.{definition_planned}
 use Rattle.lens_server.proofs.definitions.plan_prepared.Goals as goal
 

@@ -2,10 +2,10 @@ use Rattle.std.proofs.Common.{◌∙◌, refl, subst, sym}
 use Rattle.io_specs.specs.Lines.{line}
 use Rattle.server_specs.specs.Answering.{answer_request}
 use Rattle.server_specs.specs.Request.{request}
-use Rattle.lens_server.specs.Outcomes.{Outcome}
-use Rattle.lens_server.specs.States.{state_of}
-use Rattle.lens_server.proofs.Keyed.{same_state}
-use Rattle.lens_server.proofs.Settled.{outcome_given_up, still_ready}
+use Rattle.database.specs.Outcomes.{Outcome}
+use Rattle.database.specs.States.{state_of}
+use Rattle.database.proofs.Keyed.{same_state}
+use Rattle.database.proofs.Settled.{outcome_given_up, still_ready}
 use Rattle.lens_server.proofs.dispatch.answer_line.Goals as goal
 
 pub settle-requires-clause-ready : goal.settle-requires-clause-ready

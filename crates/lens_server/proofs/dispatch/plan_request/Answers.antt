@@ -1,10 +1,8 @@
 use Rattle.std.proofs.Common.{◌∙◌, ◌≤◌, ◌+◌, Ok, arith, subst, sym}
 use Rattle.request_text.specs.Requests.{request_view}
-use Rattle.server_specs.specs.Changing.{edited, whole}
-use Rattle.lens_server.proofs.Counted.{batch_texts, change_texts, change_walks, definition_walks, undo_texts}
+use Rattle.lens_server.proofs.Counted.{batch_texts, change_walks, definition_walks, undo_texts}
 use Rattle.lens_server.specs.Counting.{Walks, most_looked, most_walked, row_count}
-use Rattle.lens_server.specs.States.{state_of}
-use Rattle.lens_server.proofs.Imported.{import_texts}
+use Rattle.database.specs.States.{state_of}
 use Rattle.lens_server.proofs.dispatch.plan_request.Goals as goal
 
 pub returns-in-Define-clause-walked : goal.returns-in-Define-clause-walked
@@ -15,27 +13,6 @@ returns-in-Define-clause-walked g c =
     subst (λ t. row_count t.present.relations ≤ many) (sym c.plan_definition.ensures.same.tables) (omega arith) in
     subst (λ r. Walks c.plan_definition.result c.plan_definition.new.database c.args.walked.now c.args.walked.now (most_walked (Ok (request_view r)) (state_of database))) (sym c.in-Define.is)
     (definition_walks c.plan_definition.result c.plan_definition.new.database c.args.walked.now many few)
-
-pub returns-in-Put-clause-walked : goal.returns-in-Put-clause-walked
-returns-in-Put-clause-walked g c =
-    let database = c.args.database.now in
-    subst (λ r. Walks c.plan_put.result database c.args.walked.now c.plan_put.new.walked (most_walked (Ok (request_view r)) (state_of database))) (sym c.in-Put.is)
-    (change_walks c.plan_put.result _ database c.args.walked.now c.plan_put.new.walked (row_count database.tables.present.relations) c.plan_put.ensures.plan (change_texts (whole c.in-Put.rows) c.in-Put.on c.in-Put.view (state_of database))
-    c.plan_put.ensures.walked.1)
-
-pub returns-in-Edit-clause-walked : goal.returns-in-Edit-clause-walked
-returns-in-Edit-clause-walked g c =
-    let database = c.args.database.now in
-    subst (λ r. Walks c.plan_edit.result database c.args.walked.now c.args.walked.now (most_walked (Ok (request_view r)) (state_of database))) (sym c.in-Edit.is)
-    (change_walks c.plan_edit.result _ database c.args.walked.now c.args.walked.now 0 c.plan_edit.ensures.plan (change_texts (edited c.in-Edit.remove c.in-Edit.add) c.in-Edit.on c.in-Edit.view (state_of database)) (omega arith))
-
-pub returns-in-Put-clause-looked : goal.returns-in-Put-clause-looked
-returns-in-Put-clause-looked g c =
-    subst (λ r. c.plan_put.new.looked ≤ c.args.looked.now + most_looked (Ok (request_view r)) (state_of c.args.database.now)) (sym c.in-Put.is) c.plan_put.ensures.looked
-
-pub returns-in-Edit-clause-looked : goal.returns-in-Edit-clause-looked
-returns-in-Edit-clause-looked g c =
-    subst (λ r. c.plan_edit.new.looked ≤ c.args.looked.now + most_looked (Ok (request_view r)) (state_of c.args.database.now)) (sym c.in-Edit.is) c.plan_edit.ensures.looked
 
 pub returns-in-Batch-clause-walked : goal.returns-in-Batch-clause-walked
 returns-in-Batch-clause-walked g c =
@@ -54,13 +31,66 @@ returns-in-Undo-clause-walked g c =
     subst (λ r. Walks c.plan_undo.result database c.args.walked.now c.args.walked.now (most_walked (Ok (request_view r)) (state_of database))) (sym c.in-Undo.is)
     (change_walks c.plan_undo.result _ database c.args.walked.now c.args.walked.now 0 c.plan_undo.ensures (undo_texts (state_of database)) (omega arith))
 
+pub returns-in-Read-clause-walked : goal.returns-in-Read-clause-walked
+returns-in-Read-clause-walked g c =
+    subst (λ r. Walks c.plan_view.result c.args.database.now c.args.walked.now c.plan_view.new.walked (most_walked (Ok (request_view r)) (state_of c.args.database.now))) (sym c.in-Read.is) c.plan_view.ensures.walked
+
+pub returns-in-Read-clause-looked : goal.returns-in-Read-clause-looked
+returns-in-Read-clause-looked g c =
+    subst (λ r. c.plan_view.new.looked ≤ c.args.looked.now + most_looked (Ok (request_view r)) (state_of c.args.database.now)) (sym c.in-Read.is) c.plan_view.ensures.looked
+
+pub returns-in-Find-clause-walked : goal.returns-in-Find-clause-walked
+returns-in-Find-clause-walked g c =
+    subst (λ r. Walks c.plan_view-in-Find.result c.args.database.now c.args.walked.now c.plan_view-in-Find.new.walked (most_walked (Ok (request_view r)) (state_of c.args.database.now))) (sym c.in-Find.is) c.plan_view-in-Find.ensures.walked
+
+pub returns-in-Find-clause-looked : goal.returns-in-Find-clause-looked
+returns-in-Find-clause-looked g c =
+    subst (λ r. c.plan_view-in-Find.new.looked ≤ c.args.looked.now + most_looked (Ok (request_view r)) (state_of c.args.database.now)) (sym c.in-Find.is) c.plan_view-in-Find.ensures.looked
+
+pub returns-in-Put-clause-walked : goal.returns-in-Put-clause-walked
+returns-in-Put-clause-walked g c =
+    subst (λ r. Walks c.plan_view-in-Put.result c.args.database.now c.args.walked.now c.plan_view-in-Put.new.walked (most_walked (Ok (request_view r)) (state_of c.args.database.now))) (sym c.in-Put.is) c.plan_view-in-Put.ensures.walked
+
+pub returns-in-Put-clause-looked : goal.returns-in-Put-clause-looked
+returns-in-Put-clause-looked g c =
+    subst (λ r. c.plan_view-in-Put.new.looked ≤ c.args.looked.now + most_looked (Ok (request_view r)) (state_of c.args.database.now)) (sym c.in-Put.is) c.plan_view-in-Put.ensures.looked
+
+pub returns-in-Edit-clause-walked : goal.returns-in-Edit-clause-walked
+returns-in-Edit-clause-walked g c =
+    subst (λ r. Walks c.plan_view-in-Edit.result c.args.database.now c.args.walked.now c.plan_view-in-Edit.new.walked (most_walked (Ok (request_view r)) (state_of c.args.database.now))) (sym c.in-Edit.is) c.plan_view-in-Edit.ensures.walked
+
+pub returns-in-Edit-clause-looked : goal.returns-in-Edit-clause-looked
+returns-in-Edit-clause-looked g c =
+    subst (λ r. c.plan_view-in-Edit.new.looked ≤ c.args.looked.now + most_looked (Ok (request_view r)) (state_of c.args.database.now)) (sym c.in-Edit.is) c.plan_view-in-Edit.ensures.looked
+
+pub returns-in-Preview-clause-walked : goal.returns-in-Preview-clause-walked
+returns-in-Preview-clause-walked g c =
+    subst (λ r. Walks c.plan_view-in-Preview.result c.args.database.now c.args.walked.now c.plan_view-in-Preview.new.walked (most_walked (Ok (request_view r)) (state_of c.args.database.now))) (sym c.in-Preview.is) c.plan_view-in-Preview.ensures.walked
+
+pub returns-in-Preview-clause-looked : goal.returns-in-Preview-clause-looked
+returns-in-Preview-clause-looked g c =
+    subst (λ r. c.plan_view-in-Preview.new.looked ≤ c.args.looked.now + most_looked (Ok (request_view r)) (state_of c.args.database.now)) (sym c.in-Preview.is) c.plan_view-in-Preview.ensures.looked
+
+pub returns-in-Describe-clause-walked : goal.returns-in-Describe-clause-walked
+returns-in-Describe-clause-walked g c =
+    subst (λ r. Walks c.plan_view-in-Describe.result c.args.database.now c.args.walked.now c.plan_view-in-Describe.new.walked (most_walked (Ok (request_view r)) (state_of c.args.database.now))) (sym c.in-Describe.is) c.plan_view-in-Describe.ensures.walked
+
+pub returns-in-Describe-clause-looked : goal.returns-in-Describe-clause-looked
+returns-in-Describe-clause-looked g c =
+    subst (λ r. c.plan_view-in-Describe.new.looked ≤ c.args.looked.now + most_looked (Ok (request_view r)) (state_of c.args.database.now)) (sym c.in-Describe.is) c.plan_view-in-Describe.ensures.looked
+
+pub returns-in-Export-clause-walked : goal.returns-in-Export-clause-walked
+returns-in-Export-clause-walked g c =
+    subst (λ r. Walks c.plan_view-in-Export.result c.args.database.now c.args.walked.now c.plan_view-in-Export.new.walked (most_walked (Ok (request_view r)) (state_of c.args.database.now))) (sym c.in-Export.is) c.plan_view-in-Export.ensures.walked
+
+pub returns-in-Export-clause-looked : goal.returns-in-Export-clause-looked
+returns-in-Export-clause-looked g c =
+    subst (λ r. c.plan_view-in-Export.new.looked ≤ c.args.looked.now + most_looked (Ok (request_view r)) (state_of c.args.database.now)) (sym c.in-Export.is) c.plan_view-in-Export.ensures.looked
+
 pub returns-in-Import-clause-walked : goal.returns-in-Import-clause-walked
 returns-in-Import-clause-walked g c =
-    let database = c.args.database.now in
-    subst (λ r. Walks c.plan_import.result database c.args.walked.now c.plan_import.new.walked (most_walked (Ok (request_view r)) (state_of database))) (sym c.in-Import.is)
-    (change_walks c.plan_import.result _ database c.args.walked.now c.plan_import.new.walked (row_count database.tables.present.relations) c.plan_import.ensures.plan (import_texts c.in-Import.view c.in-Import.csv c.in-Import.on (state_of database))
-    c.plan_import.ensures.walked.1)
+    subst (λ r. Walks c.plan_view-in-Import.result c.args.database.now c.args.walked.now c.plan_view-in-Import.new.walked (most_walked (Ok (request_view r)) (state_of c.args.database.now))) (sym c.in-Import.is) c.plan_view-in-Import.ensures.walked
 
 pub returns-in-Import-clause-looked : goal.returns-in-Import-clause-looked
 returns-in-Import-clause-looked g c =
-    subst (λ r. c.plan_import.new.looked ≤ c.args.looked.now + most_looked (Ok (request_view r)) (state_of c.args.database.now)) (sym c.in-Import.is) c.plan_import.ensures.looked
+    subst (λ r. c.plan_view-in-Import.new.looked ≤ c.args.looked.now + most_looked (Ok (request_view r)) (state_of c.args.database.now)) (sym c.in-Import.is) c.plan_view-in-Import.ensures.looked

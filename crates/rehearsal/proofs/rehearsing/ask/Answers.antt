@@ -4,10 +4,10 @@ use Rattle.rehearsal.proofs.Points.{Halted-step, Passed-step, counted-one, on_er
 use Rattle.rehearsal.proofs.rehearsing.ask.Goals as goal
 
 pub returns-then-tells_no_memory-clause-halted : goal.returns-then-tells_no_memory-clause-halted
-returns-then-tells_no_memory-clause-halted g c = Halted-step _ _ _ _ c.answer-reply.ensures.step c.answer-reply.ensures.told c.answer-reply.ensures.commits c.answer-reply.ensures.walked
+returns-then-tells_no_memory-clause-halted g c = Halted-step _ _ _ _ c.answer-reply.ensures.step c.answer-reply.ensures.told c.answer-reply.ensures.commits c.answer-reply.ensures.walked c.answer-reply.ensures.looked
 
 pub returns-in_err-told-clause-halted : goal.returns-in_err-told-clause-halted
-returns-in_err-told-clause-halted g c = on_err c.from_residual.result _ (Halted-step _ _ _ _ c.answer-reply.ensures.step c.answer-reply.ensures.told c.answer-reply.ensures.commits c.answer-reply.ensures.walked)
+returns-in_err-told-clause-halted g c = on_err c.from_residual.result _ (Halted-step _ _ _ _ c.answer-reply.ensures.step c.answer-reply.ensures.told c.answer-reply.ensures.commits c.answer-reply.ensures.walked c.answer-reply.ensures.looked)
 
 pub returns-clause-done : goal.returns-clause-done
 returns-clause-done g c =
@@ -15,6 +15,6 @@ returns-clause-done g c =
       c.answer-reply.result,
       Passed-step _ _ _ c.answer-reply.result c.answer-reply.ensures.step
           (λ memory. let e : false ≡ true = sym c.if-tells_no_memory.false ∙ c.tells_no_memory.ensures.1 memory in cc)
-          counted c.answer-reply.ensures.told c.answer-reply.ensures.commits c.answer-reply.ensures.walked,
+          counted c.answer-reply.ensures.told c.answer-reply.ensures.commits c.answer-reply.ensures.walked c.answer-reply.ensures.looked,
       c.in_ok-told.ensures.rows ∙ ap rows_shown c.bytes.ensures,
     )

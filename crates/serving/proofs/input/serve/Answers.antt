@@ -12,20 +12,26 @@ use Rattle.serving.proofs.input.serve.Goals as goal
 
 pub lines-init : goal.lines-init
 lines-init g c = record {
-  served = rw c.requires.cutter (Served-nil _ _ _ _ _ _ _ _ c.requires.told);
+  served = rw c.requires.cutter (Served-nil _ _ _ _ _ _ _ _ _ _ c.requires.told);
   source = omega arith;
   sink = omega arith;
   keeper = omega arith;
   place = refl;
 }
 
+pub status_of-requires : goal.status_of-requires
+status_of-requires g c = sym c.next-cut.ensures.done ∙ sym c.done.ensures ∙ c.if-done.true
+
 pub returns-then-done-clause-serves : goal.returns-then-done-clause-serves
-returns-then-done-clause-serves g c = rw c.status_of.ensures
-    (finished _ _ c.next-cut.result c.lines.cutter c.next-cut.new.self c.lines.server _ _ _ _ _ _ _ _ _ _ _ _ _ c.lines.invariant.served c.next-cut.ensures.step
-    (sym c.next-cut.ensures.done ∙ sym c.done.ensures ∙ c.if-done.true))
+returns-then-done-clause-serves g c =
+    finished _ _ c.next-cut.result c.lines.cutter c.next-cut.new.self c.lines.server _ _ _ _ _ _ _ _ _ _ _ _ _ _ _ _ _ _ c.lines.invariant.served c.next-cut.ensures.cuts
+    (sym c.next-cut.ensures.done ∙ sym c.done.ensures ∙ c.if-done.true) c.status_of.result c.status_of.ensures
 
 pub returns-then-done-clause-ends : goal.returns-then-done-clause-ends
-returns-then-done-clause-ends g c = rw c.status_of.ensures (ends_of c.next-cut.result)
+returns-then-done-clause-ends g c = ends_of c.next-cut.result c.status_of.result c.status_of.ensures
+
+pub reply_to-reply-requires-clause-line : goal.reply_to-reply-requires-clause-line
+reply_to-reply-requires-clause-line g c = sym c.next-cut.ensures.done ∙ sym c.done.ensures ∙ c.if-done.false
 
 pub returns-in-Err-clause-serves : goal.returns-in-Err-clause-serves
 returns-in-Err-clause-serves g c =
@@ -47,14 +53,14 @@ returns-in-Err-clause-serves g c =
     rw (← c.line.ensures) c.reply_to-reply.ensures.back in
     let few : c.reply_to-reply.new.walked ≤ c.lines.walked + most_walked (request (line_of c.next-cut.result c.next-cut.new.self.line)) c.lines.server =
     rw (← c.line.ensures) c.reply_to-reply.ensures.walked in
-    unwritten _ _ c.next-cut.result c.lines.cutter c.next-cut.new.self c.lines.server c.reply_to-reply.new.server _ _ _ _ _ _ _ _ _ _ _ _ _ _ _ _ _ _ c.reply_to-reply.result
-    c.lines.invariant.served c.next-cut.ensures.step (sym c.next-cut.ensures.done ∙ sym c.done.ensures ∙ c.if-done.false) step c.reply_to-reply.ensures.told commits back c.in-Err.ensures.front few
+    unwritten _ _ c.next-cut.result c.lines.cutter c.next-cut.new.self c.lines.server c.reply_to-reply.new.server _ _ _ _ _ _ _ _ _ _ _ _ _ _ _ _ _ _ _ _ _ _ _ _ c.reply_to-reply.result
+    c.lines.invariant.served c.next-cut.ensures.cuts (sym c.next-cut.ensures.done ∙ sym c.done.ensures ∙ c.if-done.false) step c.reply_to-reply.ensures.told commits back c.in-Err.ensures.front c.in-Err.ensures.offers_until few
 
 pub lines-smaller : goal.lines-smaller
 lines-smaller g c =
     let less : c.lines.cutter.limit + 1 - c.next-cut.new.self.taken + length c.next-cut.new.self.pending < c.lines.cutter.limit + 1 - c.lines.cutter.taken + length c.lines.cutter.pending =
     shorter c.next-cut.result c.lines.cutter.pending c.next-cut.new.self.line c.next-cut.new.self.pending c.lines.cutter.taken c.next-cut.new.self.taken c.lines.cutter.limit _ _ _ _
-    c.next-cut.ensures.step (sym c.next-cut.ensures.done ∙ sym c.done.ensures ∙ c.if-done.false) in
+    c.next-cut.ensures.cuts.step (sym c.next-cut.ensures.done ∙ sym c.done.ensures ∙ c.if-done.false) in
     omega (arith, less, c.next-cut.ensures.limit)
 
 pub lines-preserved : goal.lines-preserved
@@ -78,9 +84,9 @@ lines-preserved g c =
     let few : c.reply_to-reply.new.walked ≤ c.lines.walked + most_walked (request (line_of c.next-cut.result c.next-cut.new.self.line)) c.lines.server =
     rw (← c.line.ensures) c.reply_to-reply.ensures.walked in
     record {
-      served = Served-more _ _ c.next-cut.result c.lines.cutter c.next-cut.new.self c.lines.server c.reply_to-reply.new.server _ _ _ _ _ _ _ _ _ _ _ _ _ _ _ _ _ _ c.reply_to-reply.result
-          c.lines.invariant.served c.next-cut.ensures.step (sym c.next-cut.ensures.done ∙ sym c.done.ensures ∙ c.if-done.false) c.next-cut.ensures.limit c.next-cut.ensures.done
-          step c.reply_to-reply.ensures.told commits back c.in-Ok.ensures.ok few;
+      served = Served-more _ _ c.next-cut.result c.lines.cutter c.next-cut.new.self c.lines.server c.reply_to-reply.new.server _ _ _ _ _ _ _ _ _ _ _ _ _ _ _ _ _ _ _ _ _ _ _ _ c.reply_to-reply.result
+          c.lines.invariant.served c.next-cut.ensures.cuts (sym c.next-cut.ensures.done ∙ sym c.done.ensures ∙ c.if-done.false) c.next-cut.ensures.limit c.next-cut.ensures.done
+          step c.reply_to-reply.ensures.told commits back c.in-Ok.ensures.ok c.in-Ok.ensures.offers few;
       source = omega (arith, c.next-cut.ensures.later);
       sink = omega (arith, c.in-Ok.ensures.later);
       keeper = omega (arith, step.later, c.lines.invariant.keeper);

@@ -18,7 +18,7 @@ returns-in-Ok-open-clause-promises g c =
     let told = c.serve.ensures in
     let limit : c.in-Ok.cutter.limit ≡ c.args.settings.now.max_input = search rules in
     promised_input (settings_view c.args.settings.now) g.K.Keeper.stays c.serve.result _ _ c.requires.asked
-    (λ _. runs (settings_view c.args.settings.now) _ c.in-Ok-open.server c.in-Ok.cutter.limit _ _ _ _ _ _ (g.K.Keeper.faults c.open.new.keeper) _ _ (g.K.Keeper.contents c.open.new.keeper) _
+    (λ _. runs (settings_view c.args.settings.now) _ c.in-Ok-open.server c.in-Ok.cutter.limit _ _ _ _ _ _ _ _ _ _ (g.K.Keeper.faults c.open.new.keeper) _ _ (g.K.Keeper.contents c.open.new.keeper) _
     _ (g.K.Keeper.calls c.open.new.keeper) _ _ _
     opened.opens opened.calls opened.as_told limit told.serves)
     (λ seven. absurd (omega (arith, seven, told.ends)))
@@ -32,7 +32,7 @@ returns-in-Ok-open-clause-promises g c =
     (inl told.ends) told.read told.write
     (λ six. absurd (omega (arith, six, told.ends)))
     told.source_later told.sink_later (omega (arith, opened.later, told.keeper_later))
-    (λ _. told.place ∙ opened.place (λ e. cc) (λ e. cc))
+    (λ _. told.place ∙ opened.place (λ e. cc) (λ e. cc)) (λ none. told.place ∙ opened.place_stays none)
     (λ unserved. absurd (omega (arith, unserved, told.ends)))
 
 -- refused
@@ -42,7 +42,7 @@ returns-in-Err-clause-promises g c =
     let told = c.refuse.ensures in
     promised_input (settings_view c.args.settings.now) g.K.Keeper.stays c.refuse.result _ _ c.requires.asked
     (λ served. absurd (omega (arith, served, told.ends)))
-    (λ seven. refused (settings_view c.args.settings.now) _ _ _ _ _ c.in-Err.fault _ _ _ _ _ _ opened.opens opened.calls (told.damaged seven))
+    (λ seven. refused (settings_view c.args.settings.now) _ _ _ _ _ c.in-Err.fault _ _ _ _ _ _ _ _ opened.opens opened.calls (told.damaged seven))
     (λ not_memory not_store. refused_exactly _ _ _ _ _ _ c.refuse.result c.in-Err.fault not_memory not_store told.ends _ told.damaged opened.opens)
     (λ not_memory not_store. refused_exactly_now _ _ _ _ _ _ c.refuse.result c.in-Err.fault not_memory not_store told.ends _ told.damaged opened.opens)
     (fails_by _ c.refuse.result (g.K.Keeper.faults c.open.new.keeper) c.in-Err.fault _ _ told.store opened.calls)
@@ -56,4 +56,4 @@ returns-in-Err-clause-promises g c =
     (omega arith) told.later opened.later
     (λ h. at_damage c.in-Err.fault c.refuse.result _ _ (omega (arith, h, told.ends)) told.damaged
     (λ store memory. opened.place (λ e. let same : c.in-Err.fault ≡ fault.StoreFault = cc in store same) (λ e. let same : c.in-Err.fault ≡ fault.NoMemory = cc in memory same)))
-    (λ _. refl)
+    opened.place_stays (λ _. refl)

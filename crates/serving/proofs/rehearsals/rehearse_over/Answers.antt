@@ -9,64 +9,65 @@ use Rattle.serving.proofs.rehearsals.rehearse_over.Goals as goal
 
 -- the summary was given
 pub returns-in-Ok-rehearse-clause-promises : goal.returns-in-Ok-rehearse-clause-promises
-returns-in-Ok-rehearse-clause-promises g c = λ left faults.
+returns-in-Ok-rehearse-clause-promises g c = λ left asked faults.
     let opened = c.in-Ok.ensures in
     let done = c.in-Ok-rehearse.ensures in
+    let rehearsed = done.done.0 in
     let told = c.give_summary.ensures in
     promised_rehearsal (settings_view c.args.settings.now) c.args.number g.K.Keeper.stays c.give_summary.result _ _ c.requires.asked
-    (λ _. rehearses (settings_view c.args.settings.now) c.args.number _ c.in-Ok.server c.rehearse.new.server _ c.in-Ok-rehearse.summary.items _ _ _ (g.K.Keeper.faults c.open.new.keeper) _ _ (g.K.Keeper.contents c.open.new.keeper) _
+    (λ _. rehearses (settings_view c.args.settings.now) c.args.number _ c.in-Ok.server c.rehearse.new.server _ c.in-Ok-rehearse.summary.items _ _ _ _ _ (g.K.Keeper.faults c.open.new.keeper) _ _ (g.K.Keeper.contents c.open.new.keeper) _
     _ (g.K.Keeper.calls c.open.new.keeper) _ _ _
-    opened.opens opened.calls opened.as_told done.done done.told
-    (λ zero. rw c.deref.ensures.value at (told.all zero)) (λ five. rw c.deref.ensures.value at (told.front five)))
+    opened.opens opened.calls opened.as_told rehearsed done.told
+    (λ zero. rw c.deref.ensures.value at (told.all zero)) (λ five. rw c.deref.ensures.value at (told.front five)) (rw c.deref.ensures.value at told.offers))
     (λ three. absurd (omega (arith, three, told.ends)))
     (λ seven. absurd (omega (arith, seven, told.ends)))
     (λ _ _. undamaged _ _ _ _ _ _ c.in-Ok.server (λ seven. omega (arith, seven, told.ends)) opened.opens)
     (λ _ _. undamaged_now _ _ _ (g.K.Keeper.contents c.rehearse.new.keeper) _ _ c.give_summary.result c.in-Ok.server (λ seven. omega (arith, seven, told.ends)) opened.opens
-    _ _ _ c.rehearse.new.server _ done.done.session (follows_from (λ now. now ≡ kept c.rehearse.new.server) _ (g.K.Keeper.contents c.open.new.keeper) _ opened.as_told done.told))
+    _ _ _ c.rehearse.new.server _ rehearsed.session (follows_from (λ now. now ≡ kept c.rehearse.new.server) _ (g.K.Keeper.contents c.open.new.keeper) _ opened.as_told done.told))
     (λ six. absurd (omega (arith, six, told.ends)))
-    (served_tells _ c.give_summary.result (g.K.Keeper.faults c.open.new.keeper) _ _ _ _ (λ six. omega (arith, six, told.ends)) opened.calls done.done.commits)
+    (served_tells _ c.give_summary.result (g.K.Keeper.faults c.open.new.keeper) _ _ _ _ (λ six. omega (arith, six, told.ends)) opened.calls rehearsed.commits)
     (λ h. absurd (omega (arith, h, told.ends)))
     (inl (summarized c.give_summary.result told.ends))
     ((λ four. omega (arith, four, told.ends)), (λ eight. omega (arith, eight, told.ends)))
     told.write
     (λ six. absurd (omega (arith, six, told.ends)))
     (omega arith) told.later (omega (arith, opened.later, done.later))
-    (λ _. done.place ∙ opened.place (λ e. cc) (λ e. cc))
+    (λ _. done.place ∙ opened.place (λ e. cc) (λ e. cc)) (λ none. done.place ∙ opened.place_stays none)
     (λ h. absurd (omega (arith, h, told.ends)))
 
 -- memory ran out in it
 pub returns-in-Ok-clause-promises : goal.returns-in-Ok-clause-promises
-returns-in-Ok-clause-promises g c = λ left faults.
+returns-in-Ok-clause-promises g c = λ left asked faults.
     let opened = c.in-Ok.ensures in
     let told = c.in-Err-rehearse.ensures in
     promised_rehearsal (settings_view c.args.settings.now) c.args.number g.K.Keeper.stays 3 _ _ c.requires.asked
     (λ h. absurd (omega (arith, h)))
     (λ _. stops (settings_view c.args.settings.now) c.args.number _ c.in-Ok.server c.rehearse.new.server _ (g.K.Keeper.faults c.open.new.keeper) _ _ (g.K.Keeper.contents c.open.new.keeper) _
     _ (g.K.Keeper.calls c.open.new.keeper) _ _ _
-    opened.opens opened.calls opened.as_told told.stopped told.told)
+    opened.opens opened.calls opened.as_told told.stopped.0 told.told)
     (λ seven. absurd (omega (arith, seven)))
     (λ not_memory. absurd (not_memory refl))
     (λ not_memory. absurd (not_memory refl))
     (λ six. absurd (omega (arith, six)))
-    (served_tells _ 3 (g.K.Keeper.faults c.open.new.keeper) _ _ _ _ (omega arith) opened.calls told.stopped.commits)
+    (served_tells _ 3 (g.K.Keeper.faults c.open.new.keeper) _ _ _ _ (omega arith) opened.calls told.stopped.0.commits)
     (λ h. absurd (omega (arith, h)))
     (inr (inl refl))
     ((λ four. omega (arith, four)), (λ eight. omega (arith, eight)))
     (λ five. absurd (omega (arith, five)))
     (λ six. absurd (omega (arith, six)))
     (omega arith) (omega arith) (omega (arith, opened.later, told.later))
-    (λ h. absurd (omega (arith, h)))
+    (λ h. absurd (omega (arith, h))) (λ none. told.place ∙ opened.place_stays none)
     (λ h. absurd (omega (arith, h)))
 
 -- refused
 pub returns-clause-promises : goal.returns-clause-promises
-returns-clause-promises g c = λ left faults.
+returns-clause-promises g c = λ left asked faults.
     let opened = c.in-Err.ensures in
     let told = c.refuse.ensures in
     promised_rehearsal (settings_view c.args.settings.now) c.args.number g.K.Keeper.stays c.refuse.result _ _ c.requires.asked
     (λ h. absurd (omega (arith, h, told.ends)))
     (λ three. stops_early (settings_view c.args.settings.now) c.args.number _ c.refuse.result (g.K.Keeper.faults c.open.new.keeper) c.in-Err.fault _ _ _ _ _ _ _ _ opened.stays told.store opened.calls three refl)
-    (λ seven. refused (settings_view c.args.settings.now) _ _ _ _ _ c.in-Err.fault _ _ _ _ _ _ opened.opens opened.calls (told.damaged seven))
+    (λ seven. refused (settings_view c.args.settings.now) _ _ _ _ _ c.in-Err.fault _ _ _ _ _ _ _ _ opened.opens opened.calls (told.damaged seven))
     (λ not_memory not_store. refused_exactly _ _ _ _ _ _ c.refuse.result c.in-Err.fault not_memory not_store told.ends _ told.damaged opened.opens)
     (λ not_memory not_store. refused_exactly_now _ _ _ _ _ _ c.refuse.result c.in-Err.fault not_memory not_store told.ends _ told.damaged opened.opens)
     (fails_by _ c.refuse.result (g.K.Keeper.faults c.open.new.keeper) c.in-Err.fault _ _ told.store opened.calls)
@@ -79,4 +80,4 @@ returns-clause-promises g c = λ left faults.
     (omega arith) told.later opened.later
     (λ h. at_damage c.in-Err.fault c.refuse.result _ _ (omega (arith, h, told.ends)) told.damaged
     (λ store memory. opened.place (λ e. let same : c.in-Err.fault ≡ fault.StoreFault = cc in store same) (λ e. let same : c.in-Err.fault ≡ fault.NoMemory = cc in memory same)))
-    (λ _. refl)
+    opened.place_stays (λ _. refl)

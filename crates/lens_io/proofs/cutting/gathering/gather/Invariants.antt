@@ -1,4 +1,4 @@
-use Rattle.std.proofs.Common.{◌≡◌, ◌≤◌, ◌+◌, ◌-◌, take, vec_len, vec_capacity}
+use Rattle.std.proofs.Common.{◌≡◌, ◌≤◌, ◌+◌, ◌-◌, slice_range, take, vec_len, vec_capacity}
 use Rattle.lens_io.specs.Cutting.{HasNoNewline}
 use Rattle.lens_io.proofs.Asking.{Asking}
 use Rattle.lens_io.proofs.Gathered.{Gathered}
@@ -13,7 +13,7 @@ invariant-gather g l = record {
   most : l.taken ≤ l.fn.limit;
   clear : HasNoNewline (take l.end l.bytes.items);
   gathered : Gathered l.fn.first l.fn.bytes.items l.bytes.items l.end (g.S.Source.left l.fn.source) (g.S.Source.left l.source);
-  asking : Asking (take l.fn.first l.fn.bytes.items) l.fn.before l.taken l.fn.limit (g.S.Source.asked l.fn.source) (g.S.Source.asked l.source);
+  asking : Asking (take l.fn.first l.fn.bytes.items) l.fn.before l.taken l.fn.limit (slice_range l.bytes.items l.fn.first l.end) (g.S.Source.asked l.fn.source) (g.S.Source.asked l.source);
   later : g.S.Source.faults l.fn.source ≤ g.S.Source.faults l.source;
 }
 

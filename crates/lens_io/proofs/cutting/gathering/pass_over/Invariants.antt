@@ -1,5 +1,4 @@
-use Rattle.std.proofs.Common.{[], ◌≤◌, ◌+◌, ◌-◌, vec_capacity}
-use Rattle.lens_io.proofs.Asking.{Asking}
+use Rattle.std.proofs.Common.{◌≤◌, ◌+◌, ◌-◌, vec_capacity}
 use Rattle.lens_io.proofs.PassedOver.{PassedOver}
 use Rattle.lens_io.proofs.cutting.gathering.pass_over.Given as goal
 
@@ -7,8 +6,7 @@ abbrev pub invariant-pass : goal.invariant-pass
 invariant-pass g l = record {
   capacity : 16777216 + 65536 ≤ vec_capacity l.bytes;
   most : l.taken ≤ l.fn.limit;
-  passed : PassedOver l.fn.before l.taken (g.S.Source.left l.fn.source) (g.S.Source.left l.source);
-  asking : Asking [] l.fn.before l.taken l.fn.limit (g.S.Source.asked l.fn.source) (g.S.Source.asked l.source);
+  passed : PassedOver l.fn.before l.taken l.fn.limit (g.S.Source.left l.fn.source) (g.S.Source.left l.source) (g.S.Source.asked l.fn.source) (g.S.Source.asked l.source);
   later : g.S.Source.faults l.fn.source ≤ g.S.Source.faults l.source;
 }
 

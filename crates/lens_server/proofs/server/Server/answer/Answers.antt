@@ -1,6 +1,6 @@
 use Rattle.std.proofs.Common.{ap}
 use Rattle.server_specs.proofs.Steps.{long_line}
-use Rattle.lens_server.specs.States.{state_of}
+use Rattle.database.specs.States.{state_of}
 use Rattle.lens_server.proofs.Exported.{line_back, long_exports_none}
 use Rattle.lens_server.proofs.Stepping.{committed_for, long_commits, stepped, untouched_by}
 use Rattle.lens_server.proofs.server.Server.answer.Goals as goal

@@ -2,9 +2,8 @@ use Rattle.std.proofs.lemmas.Result.{err_from_is_err_and}
 use Rattle.io_specs.proofs.Calls.{Adds-weaker}
 use Rattle.opening_laws.proofs.Opened.{opened_is_valid}
 use Rattle.table_keeper.specs.Changes.{kept_view}
-use Rattle.lens_server.specs.States.{state_of}
-use Rattle.lens_server.proofs.Loaded.{load_done, load_failed}
-use Rattle.lens_server.proofs.Stored.{start_told}
+use Rattle.database.specs.States.{state_of}
+use Rattle.lens_server.proofs.Loaded.{load_done, load_failed, start_told}
 use Rattle.lens_server.proofs.server.Server.start.Goals as goal
 
 pub returns-in_err-database-clause-opened : goal.returns-in_err-database-clause-opened
@@ -26,7 +25,7 @@ returns-in_err-kept-clause-calls g c =
 pub returns-in_err-database-clause-calls : goal.returns-in_err-database-clause-calls
 returns-in_err-database-clause-calls g c =
     let p = err_from_is_err_and c.from_residual-in_err-database.result c.from_residual-in_err-database.ensures.1 in
-    rw (p.1, p.2) (Adds-weaker _ _ _ _ (load_done c.in_err-database.field-0.0 (kept_view c.in_ok-kept.kept) (g.K.Keeper.faults c.load.new.self) c.in_err-database.ensures.database) c.in_ok-kept.ensures.call)
+    rw (p.1, p.2) (Adds-weaker _ _ _ _ (load_done c.in_err-database.field-0.0 (g.K.Keeper.faults c.load.new.self)) c.in_ok-kept.ensures.call)
 
 pub returns-clause-calls : goal.returns-clause-calls
 returns-clause-calls g c = c.in_ok-kept.ensures.call

@@ -1,0 +1,10 @@
+pub mod States
+pub mod Keyed
+pub mod Premises
+pub mod Defining
+pub mod Plans
+pub mod Staging
+pub mod Committing
+pub mod Outcomes
+pub mod Opening
+pub mod Databases

@@ -1,6 +1,0 @@
-use Rattle.std.proofs.Common.{sym}
-use Rattle.lens_server.proofs.Keyed.{open_lens}
-use Rattle.lens_server.proofs.questions.read_answer.Goals as goal
-
-pub rows_told-requires : goal.rows_told-requires
-rows_told-requires g c = open_lens c.args.database.now c.requires.valid c.requires.keyed c.args.view.now c.in-Some.lens.now (sym c.in-Some.ensures)

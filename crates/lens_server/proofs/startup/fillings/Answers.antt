@@ -1,9 +1,0 @@
-use Rattle.std.proofs.Common.{◌∙◌, ap, sym}
-use Rattle.std.proofs.lemmas.Bool.{true≢false}
-use Rattle.lens_values.specs.Row.{row_cmp}
-use Rattle.lens_values.specs.SortedSet as set
-use Rattle.lens_specs.specs.Relation.{has}
-use Rattle.lens_server.proofs.startup.fillings.Goals as goal
-
-pub new-delta-requires : goal.new-delta-requires
-new-delta-requires c = λ row there. absurd (true≢false (sym there ∙ ap (λ M. has M row) c.empty.ensures ∙ set.contains-empty row_cmp row))

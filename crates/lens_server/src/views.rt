@@ -1,0 +1,164 @@
+//! Requests that name a view: it is opened once.
+ghost use Rattle.std.specs.Prelude.{◌≡◌, ◌+◌, ◌≤◌, IfOk, Ok};
+ghost use Rattle.lens_specs.specs.Lens.{sort_of};
+ghost use Rattle.server_specs.specs.Answering.{answer_request};
+ghost use Rattle.server_specs.specs.Exporting.{first_nullable, import_settled};
+ghost use Rattle.lens_server.specs.Counting.{RisesBy, Walks, import_looks, most_looked, most_walked, row_count};
+ghost use Rattle.lens_server.specs.Databases.{CanAnswer, IsOpened, IsPlan, lens_of, state_of};
+ghost use Rattle.lens_server.specs.Exports.{ExportReadsBack};
+ghost use Rattle.lens_server.specs.ViewRequests.{IsToldBack, looks_of, request_of, told_of, walks_of};
+
+use crate::changes::{foretold, plan_change};
+use crate::refusals::sheet_refusal;
+use database::{Database, Plan};
+use lens_values::{Name, NoMemory};
+use opened_view::Opened;
+use request_text::{Answer, CsvText, JsonRows, JsonValue};
+use std::alloc::Global;
+use std::sync::ledger::Ledger;
+use step_counter::Steps;
+use view_answers::{export_answer, find_answer, read_answer, type_answer};
+use view_changes::{edit, put, put_rows, sheet_rows};
+
+/// What is asked of a view.
+#[derive(Debug, Drop)]
+pub enum ViewRequest<'a> {
+    /// Its rows.
+    Read,
+    /// Those with the value in the column.
+    Find {
+        column: Name,
+        value: JsonValue<'a>,
+    },
+    /// That these become all of its rows.
+    Put {
+        rows: JsonRows<'a>,
+        on: Option<u64>,
+    },
+    /// That rows are removed and others added.
+    Edit {
+        remove: JsonRows<'a>,
+        add: JsonRows<'a>,
+        on: Option<u64>,
+    },
+    /// What that would change.
+    Preview {
+        remove: JsonRows<'a>,
+        add: JsonRows<'a>,
+        on: Option<u64>,
+    },
+    /// Its sort and its tables.
+    Describe,
+    /// Its rows as CSV.
+    Export,
+    /// That the rows of the text become all of its rows.
+    Import {
+        csv: CsvText,
+        on: Option<u64>,
+    },
+}
+
+/// Plans the answer to what is asked of the view of the name.
+pub fn plan_view<L: Ledger, M: Ledger>(
+    alloc: Global,
+    database: &Database,
+    name: &Name,
+    asked: ViewRequest<'_>,
+    walked: &mut Steps<L>,
+    looked: &mut Steps<M>,
+) -> Result<Plan, NoMemory>
+    requires { CanAnswer database.now }
+    ensures plan { IfOk result (λ plan. IsPlan plan
+        (answer_request (Ok (request_of name.now asked.entry)) (state_of database.now))
+        database.now) }
+    ensures back { IfOk result (λ _.
+        ExportReadsBack (Ok (request_of name.now asked.entry)) (state_of database.now)) }
+    ensures walked { Walks result database.now walked.old walked.new
+        (most_walked (Ok (request_of name.now asked.entry)) (state_of database.now)) }
+    ensures looked { looked.new ≤ looked.old
+        + most_looked (Ok (request_of name.now asked.entry)) (state_of database.now) }
+    ensures walks_on { walked.old ≤ walked.new }
+{
+    match database.open_view(name) {
+        Some(opened) => plan_opened(alloc, database, &opened, asked, walked, looked),
+        None => Ok(Plan::unchanged(Answer::UnknownName { name: *name })),
+    }
+}
+
+/// Plans the answer to what is asked of a view of the database that is opened.
+fn plan_opened<L: Ledger, M: Ledger>(
+    alloc: Global,
+    database: &Database,
+    opened: &Opened<'_>,
+    asked: ViewRequest<'_>,
+    walked: &mut Steps<L>,
+    looked: &mut Steps<M>,
+) -> Result<Plan, NoMemory>
+    requires can { CanAnswer database.now }
+    requires opened { IsOpened opened.now database.now }
+    ensures plan { IfOk result (λ plan. IsPlan plan
+        (told_of asked.entry (lens_of opened.now) (state_of database.now)) database.now) }
+    ensures back { let s = state_of database.now in IfOk result (λ _.
+        IsToldBack asked.entry (lens_of opened.now) s.tables) }
+    ensures walked { let s = state_of database.now in
+        Walks result database.now walked.old walked.new
+        (walks_of asked.entry (lens_of opened.now) s.tables) }
+    ensures looked { let s = state_of database.now in
+        looked.new ≤ looked.old + looks_of asked.entry (lens_of opened.now) s.tables }
+    ensures walks_on { walked.old ≤ walked.new }
+{
+    match asked {
+        ViewRequest::Read => Ok(Plan::unchanged(read_answer(alloc, opened, walked)?)),
+        ViewRequest::Find { column, value } => {
+            let found = find_answer(alloc, opened, &column, &value, walked, looked)?;
+            Ok(Plan::unchanged(found))
+        }
+        ViewRequest::Put { rows, on } => {
+            let change = put(alloc, opened, rows, on, walked, looked);
+            plan_change(alloc, database, change)
+        }
+        ViewRequest::Edit { remove, add, on } => {
+            let change = edit(alloc, opened, remove, add, on, looked);
+            plan_change(alloc, database, change)
+        }
+        ViewRequest::Preview { remove, add, on } => {
+            let change = edit(alloc, opened, remove, add, on, looked);
+            Ok(Plan::unchanged(foretold(opened.version, change)?))
+        }
+        ViewRequest::Describe => Ok(Plan::unchanged(type_answer(alloc, opened)?)),
+        ViewRequest::Export => Ok(Plan::unchanged(export_answer(alloc, opened, walked)?)),
+        ViewRequest::Import { csv, on } => {
+            plan_import(alloc, database, opened, &csv, on, walked, looked)
+        }
+    }
+}
+
+/// Plans that the rows of the text become those of the view, unless a column may be null or a
+/// record is wrong.
+fn plan_import<L: Ledger, M: Ledger>(
+    alloc: Global,
+    database: &Database,
+    opened: &Opened<'_>,
+    csv: &CsvText,
+    on: Option<u64>,
+    walked: &mut Steps<L>,
+    looked: &mut Steps<M>,
+) -> Result<Plan, NoMemory>
+    requires can { CanAnswer database.now }
+    requires opened { IsOpened opened.now database.now }
+    ensures plan { let L = lens_of opened.now in IfOk result (λ plan. IsPlan plan
+        (import_settled (first_nullable (sort_of L).columns) csv.now on L (state_of database.now))
+        database.now) }
+    ensures walked { let s = state_of database.now in
+        RisesBy (row_count s.tables) walked.old walked.new }
+    ensures looked { let s = state_of database.now in
+        looked.new ≤ looked.old + import_looks s.tables csv.now (lens_of opened.now) }
+{
+    match sheet_rows(alloc, opened, csv) {
+        Ok(rows) => {
+            let change = put_rows(alloc, opened, &rows, on, walked, looked);
+            plan_change(alloc, database, change)
+        }
+        Err(fault) => Ok(Plan::unchanged(sheet_refusal(fault)?)),
+    }
+}

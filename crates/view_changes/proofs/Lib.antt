@@ -1,0 +1,4 @@
+pub mod Clashes
+pub mod Looks
+pub mod SentRows
+pub mod Tests
