@@ -4,6 +4,7 @@ import os
 import subprocess
 import sys
 import tempfile
+import time
 import unittest
 
 HERE = os.path.dirname(os.path.abspath(__file__))
@@ -14,6 +15,16 @@ from postgres_servers import Servers
 
 # The coordinator, which is also the one server of the tests that want one, and three servers below it.
 SERVERS = ("base", "s0", "s1", "s2")
+
+
+def wait_for_store(store):
+    """Waits until the program of a client that was killed has let go of the store."""
+    inode, deadline = os.stat(store).st_ino, time.monotonic() + 30
+    while time.monotonic() < deadline:
+        with open("/proc/locks", encoding="ascii") as file:
+            if f":{inode} " not in file.read():
+                return
+        time.sleep(0.01)
 
 
 class OverServers(unittest.TestCase):

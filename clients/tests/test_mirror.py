@@ -11,7 +11,7 @@ HERE = os.path.dirname(os.path.abspath(__file__))
 CLIENTS = os.path.dirname(HERE)
 sys.path[:0] = [CLIENTS, HERE]
 from cigrelk import TOP
-from databases import SERVERS, OverServers
+from databases import SERVERS, OverServers, wait_for_store
 from packages import wants
 
 
@@ -165,6 +165,7 @@ class Mirror(OverServers):
             self.restarts_under("base", bridge, {"do": "edit", "view": "k", "remove": [row], "add": []})
             self.assertTrue(bridge.ask({"do": "edit", "view": "k", "remove": [], "add": [{"a": "", "b": 2}]})["ok"])
             bridge.process.kill()
+        wait_for_store(self.store)
         self.bridge([])
         self.are_same()
 
