@@ -28,11 +28,13 @@ from .process import TOP, Ended, NotStarted, Program, ReplyLost
 from .proposals import NotProposal, Proposal, Review, proposals
 from .reasons import Reasons
 from .refusals import (
-    REFUSALS, BadRecord, BadRequest, BadRow, Clash, ColumnTaken, DefaultRefused, KindClash, MixedConjunct, NameTaken, NoSuchDependency,
-    NotDetermined, NothingToUndo, NotJson, NotTree, NullableColumn, OffPredicate, OtherTable, OutOfMemory, PredicateKind, Refused,
-    SideMentionsOutput, SourceMentionsOutput, Stale, StoreFault, Syntax, TableTwice, TooLarge, TooLong, UnknownColumn, UnknownName,
+    REFUSALS, BadRecord, BadRequest, BadRow, Busy, ChangedSince, Clash, ColumnTaken, DefaultRefused, HubClosing, KindClash, MixedConjunct,
+    NameTaken, NoJournal, NoRight, NoSuchDependency, NotDetermined, NothingToUndo, NotJson, NotThrough, NoToken, NotTree, NullableColumn,
+    OffPredicate, OtherTable, OutcomeUnknown, OutOfMemory, PredicateKind, Refused, SideMentionsOutput, SourceMentionsOutput, Stale,
+    StoreFault, Syntax, TableTwice, TooLarge, TooLong, UnknownColumn, UnknownName,
     refusal, stale,
 )
+from .remote import Remote, Unreachable
 from .rows import Change, Fault, Rows, Sheet, key_of, values
 from .server import Server, View
 from .store_files import InUse, NotStore, private_copy

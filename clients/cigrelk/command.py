@@ -10,7 +10,7 @@ import sys
 from typing import List, Optional
 
 from .errors import CommandError
-from .process import Ended
+from .process import Ended, ReplyLost
 from .refusals import Refused
 from .texts import plain
 
@@ -25,6 +25,10 @@ COMMANDS = {
     "shell": "cigrelk.shell",
     "mirror": "cigrelk.mirror",
     "rebuild": "cigrelk.rebuild",
+    "hub": "cigrelk.hub.command",
+    "compile": "cigrelk.sql.command",
+    "take": "cigrelk.take.command",
+    "give": "cigrelk.take.giving",
 }
 DONE, FAILED, WRONG_USAGE, INTERRUPTED = 0, 1, 2, 130
 
@@ -75,7 +79,7 @@ def main(arguments: Optional[List[str]] = None) -> int:
         return FAILED
     except OSError as error:
         sentence = f"{error.filename}: {error.strerror}" if error.filename else str(error)
-    except (CommandError, Refused, Ended) as error:
+    except (CommandError, Refused, Ended, ReplyLost) as error:
         sentence = str(error)
     except KeyboardInterrupt:
         return INTERRUPTED

@@ -1,4 +1,4 @@
-"""Refusals: an exception class for each number of the program, with a sentence for people."""
+"""Refusals: an exception class for each number of the program and of the hub (from 100 on), with a sentence for people."""
 import csv
 import re
 
@@ -261,6 +261,43 @@ class StoreFault(Refused):
             "program by this name; the request may be sent again")
 
 
+class NoRight(Refused):
+    says = "you do not have the right '{right}' that this needs"
+
+
+class NoToken(Refused):
+    says = "the hub does not know this token: it wants one as 'Authorization: Bearer TOKEN'"
+
+
+class Busy(Refused):
+    says = "too many of your requests wait at the hub: send the next one when replies have come"
+
+
+class OutcomeUnknown(Refused):
+    says = "the program of the hub ended while this was under way, and it was done or not: read, and see"
+
+
+class HubClosing(Refused):
+    says = "the hub is being shut down, or cannot start its program: nothing was done"
+
+
+class ChangedSince(Refused):
+    says = "this cannot be taken back: the same rows were changed since"
+
+
+class NoJournal(Refused):
+    says = "the hub cannot write its journal (a full disk?): nothing was done, and no change is made until it can"
+
+
+class NotThrough(Refused):
+    def text(self):
+        view = self.reply["view"]
+        if self.reply.get("is_batch"):
+            return f"send the edits of {view} one at a time: you may change only some tables through it, and what edits change together is known too late"
+        named = f": {listing(self.reply['tables'])}" if self.reply["tables"] else ""
+        return f"this would change a table that you may not change through {view}{named}; nothing was done"
+
+
 class OtherTable(Refused):
     """An edit that is limited to some tables would change another; the client refuses it by itself, before it is made. `tables`
     names those others, and `effects` says of the first rows of them what would happen to each."""
@@ -279,6 +316,7 @@ class OtherTable(Refused):
 
 
 REFUSALS = {
+    100: NoRight, 101: NoToken, 102: Busy, 103: OutcomeUnknown, 104: HubClosing, 105: ChangedSince, 106: NoJournal, 107: NotThrough,
     1: OutOfMemory, 10: TooLong, 11: NotJson, 12: BadRequest, 20: Syntax, 21: NameTaken, 22: UnknownName, 23: UnknownColumn,
     24: KindClash, 25: NotTree, 26: PredicateKind, 27: SourceMentionsOutput, 28: NoSuchDependency, 29: MixedConjunct,
     30: DefaultRefused, 31: NotDetermined, 32: SideMentionsOutput, 33: TableTwice, 34: TooLarge, 35: ColumnTaken, 40: BadRow, 41: Stale,

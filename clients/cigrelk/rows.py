@@ -90,7 +90,7 @@ class Change:
     where nothing changes."""
 
     def __init__(self, server, reply):
-        self.server, self.version, self.session = server, reply["version"], server.session
+        self.server, self.version, self.session = server, reply["version"], reply.get("session", server.session)
         self.tables = tables_of(reply["changed"])
 
     def __bool__(self):

@@ -12,6 +12,7 @@ from .language import Named, UnknownForm, columns_compared, columns_of, conditio
 from .process import MOST_INPUT, Ended, NotStarted, Program, default_program, encoded, line_of
 from .reasons import Reasons
 from .refusals import BadRecord, Refused, Stale, refusal, stale
+from .remote import Remote, is_address
 from .rows import Change, Fault, Rows, Sheet, by_key, in_order, key_of, listed, shape_fault, values
 from .store_files import make_private, refuse_other_files, why_closed
 from .texts import differing, listing, sides, words_of
@@ -65,7 +66,7 @@ class View:
     def rows_of(self, reply):
         columns = self.columns()
         rows = by_key([in_order(row, columns) for row in reply["rows"]], self.key(), columns)
-        return Rows(rows, columns, reply["version"], self.server.session)
+        return Rows(rows, columns, reply["version"], reply.get("session", self.server.session))
 
     def current(self) -> Rows:
         """The rows as `read` gives them, but read anew only where a table under them was changed since."""
@@ -121,7 +122,7 @@ class View:
         """The rows as CSV: a text whose first record has the names of the columns. Raises NullableColumn where a column may be
         null."""
         reply = self.ask("export")
-        return Sheet(reply["csv"], reply["version"], self.server.session)
+        return Sheet(reply["csv"], reply["version"], reply.get("session", self.server.session))
 
     def import_csv(self, text: str, on=None) -> Change:
         """Makes the rows of a text of CSV the rows, as `put` does; its columns stand in any order. `on` takes what `export_csv`
@@ -214,18 +215,21 @@ class View:
 
 
 class Server:
-    """The program, started over a store or in memory. Use it in a `with`, or call `close`. Any thread may use it.
+    """The program, started over a store or in memory; or a hub that has it, by its address (`https://..`) and a token, or that of
+    CIGRELK_TOKEN in the environment. Use it in a `with`, or call `close`. Any thread may use it.
 
     A store that is not there is made, for its owner alone. Raises NotStarted if there is no program, NotStore if the
     file is another one than a store (the program never sees it then), and Ended if the store cannot be opened (status 6) or is
-    damaged (7)."""
+    damaged (7). Of a hub it raises NoToken, and Unreachable if it gives no reply."""
 
-    def __init__(self, store=None, program=None):
+    def __init__(self, store=None, program=None, token=None):
+        if isinstance(store, str) and is_address(store):
+            return self.connect(Remote(store, token or os.environ.get("CIGRELK_TOKEN", "")))
         words = [program] if isinstance(program, str) else list(program or [default_program()])
         words += ["--max-input", str(MOST_INPUT)]
         # By `=`, since a store may have the name of an option.
         words += [] if store is None else [f"--store={os.fspath(store)}"]
-        self.session, self.kinds, self.keys, self.kept = uuid.uuid4().hex, {}, {}, {}
+        self.session, self.kinds, self.keys, self.kept, self.is_shared = uuid.uuid4().hex, {}, {}, {}, False
         made = False
         if store is not None:
             refuse_other_files(store)
@@ -236,6 +240,19 @@ class Server:
             if made and os.path.exists(store) and not os.path.getsize(store):
                 os.remove(store)
             raise
+
+    @classmethod
+    def over(cls, program):
+        """The server behind what answers lines as a hub does."""
+        server = cls.__new__(cls)
+        server.connect(program)
+        return server
+
+    def connect(self, program):
+        # The session is the hub's. It comes with each reply, since the hub may start its program again.
+        self.session, self.kinds, self.keys, self.kept, self.is_shared, self.program = None, {}, {}, {}, True, program
+        self.closes = weakref.finalize(self, program.close)
+        self.list()
 
     def start(self, words, store):
         try:
@@ -278,6 +295,7 @@ class Server:
         reply = json.loads(self.program.ask(line_of(request)))
         if not reply["ok"]:
             raise refusal(reply, request)
+        self.session = reply.get("session", self.session)
         return reply
 
     def ask_all(self, requests: Iterable[dict]) -> Iterator[dict]:
@@ -314,11 +332,13 @@ class Server:
     def rests(self, on):
         """The member `on` for rows that were read or exported, for a change, for a version, or for nothing. Raises Stale for rows
         of an earlier start of the program: versions count from each start, so the program may take theirs for one of now."""
+        session = self.session
         if isinstance(on, (Rows, Sheet, Change)):
-            if on.session != self.session:
+            if on.session != self.session and not self.is_shared:
                 raise stale()
-            on = on.version
-        return {} if on is None else {"on": on}
+            session, on = on.session, on.version
+        # (a hub may have started its program again since, so it is told which run this rests on)
+        return {} if on is None else {"on": on, "session": session} if self.is_shared else {"on": on}
 
     def batch(self, edits: Iterable[Tuple[Union[View, str], Iterable[Row], Iterable[Row]]], on=None) -> Change:
         """Does edits in order as one change, each on the rows that those before it gave: all of them, or none. Each is a table or a

@@ -33,6 +33,7 @@ PACKAGES = {
     "chromium": chromium,
     "postgresql": postgresql,
     "python3-aiohttp": module("aiohttp"),
+    "python3-jsonschema": module("jsonschema"),
     "python3-pandas": module("pandas"),
     "python3-pip": module("pip"),
     "python3-psycopg2": module("psycopg2"),

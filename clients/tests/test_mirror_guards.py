@@ -157,7 +157,7 @@ class Guards(OverServers):
             self.assertEqual(os.stat(path).st_mode & 0o777, 0o600)
         with Server(self.store) as server:
             server["tags"].edit(remove=[{"name": "t3", "n": 3}])
-        done = subprocess.run([f"{TOP}/cigrelk", "shell", self.store], input=f"load tags {paths['tags']}\nload people {paths['people']}\n", capture_output=True, text=True)
+        done = subprocess.run([f"{TOP}/cigrelk", "shell", self.store], input=f"load tags {paths['tags']}\nload people {paths['people']} --null null\n", capture_output=True, text=True)
         self.assertEqual(done.returncode, 0, done.stdout)
         with Server(self.store) as server:
             self.assertEqual([row for row in server["tags"].read() if row["n"] in (33, 4, 5)], [{"name": 'an odd, "one"', "n": 4}, {"name": "t3", "n": 33}, {"name": "t4", "n": 4}, {"name": "x", "n": 5}])

@@ -1,5 +1,5 @@
 -- Databases whose lenses ask their tables by key.
-use Rattle.std.proofs.Common.{◌≡◌, ◌∙◌, [], None, Some, ap, subst, sym}
+use Rattle.std.proofs.Common.{◌≡◌, ◌∙◌, [], Some, ap, subst, sym}
 use Rattle.std.specs.FinMap as finmap
 use Rattle.base_index.specs.Held.{IsQuiet}
 use Rattle.lens_laws.specs.Asked.{asked}

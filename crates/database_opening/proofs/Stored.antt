@@ -1,5 +1,5 @@
 -- Tables that are stored as they are kept.
-use Rattle.std.proofs.Common.{◌≡◌, ◌∙◌, ◌++◌, ◌||◌, ◌<◌, ℕ, Bool, zero, suc, List, [], ◌∷◌, length, get_or, map, Option, Some, None, Ok, Err, is_some, true, false, ap, sym, subst, refl, arith}
+use Rattle.std.proofs.Common.{◌≡◌, ◌∙◌, ◌++◌, ◌||◌, ◌<◌, ℕ, Bool, zero, suc, List, [], ◌∷◌, length, get_or, map, Some, None, Ok, Err, is_some, true, false, ap, sym, subst, refl, arith}
 use Rattle.std.specs.Prelude.{option_map}
 use Rattle.std.proofs.lemmas.List.{map_push}
 use Rattle.std.proofs.lemmas.List.Folds.{list_any-append}

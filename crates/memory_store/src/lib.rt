@@ -1,8 +1,10 @@
 //! Definitions and rows in memory.
 #![tactic(auto)]
 
+mod contents;
 mod row_trees;
+mod size;
 pub mod store;
 mod tree_rows;
 
-pub use store::{ChangeFault, MemoryStore};
+pub use store::MemoryStore;

@@ -1,14 +1,15 @@
 //! The rows of tables in memory.
-ghost use Rattle.std.specs.Prelude.{◌≡◌, ◌↔◌, IfOk, IsTrue, OnErr, OnOk, is_some, map, true};
+ghost use Rattle.std.specs.Prelude.{◌≡◌, IfOk, OnOk, map};
 ghost use Rattle.std.specs.FinMap as finmap;
 ghost use Rattle.lens_values.specs.SortedSet as set;
 ghost use Rattle.table_keeper.specs.Places.{Rise, rows_in};
-ghost use Rattle.memory_store.specs.InMemory.{AllApply, AreApart, Suits, Tables, coded_tables, is_changed};
-ghost use Rattle.memory_store.specs.InMemory.{minus, rows_at, table_delta, union, with_deltas};
+ghost use Rattle.lens_specs.specs.Keeping.{rows_at};
+ghost use Rattle.lens_specs.specs.Relation.{Rows};
+ghost use Rattle.memory_store.specs.InMemory.{Tables, coded_tables, table_after, table_delta, with_deltas};
 
-use crate::tree_rows::{insert_all, remove_all, suits};
+use crate::tree_rows::make;
 use lens_values::{Name, NoMemory};
-use row_sets::{RowSet, RowTree};
+use row_sets::RowTree;
 use signed_delta::TableDelta;
 use std::alloc::Global;
 use std::collections::BTreeMap;
@@ -30,8 +31,21 @@ impl Model for RowTrees {
 }
 
 impl RowTrees {
-    /// No table.
-    pub fn new(alloc: Global) -> RowTrees
+    /// The rows of these tables.
+    pub fn of(alloc: Global, tables: &[KeptTable]) -> Result<RowTrees, NoMemory>
+        requires { Rise tables.now }
+        ensures { IfOk result (λ trees. trees ≡ rows_in tables.now) }
+    {
+        let mut trees = RowTrees::new(alloc);
+        for kept in tables {
+            let tree = RowTree::of(alloc, kept.rows.copy(alloc)?)?;
+            trees.put(kept.table, tree)?;
+        }
+        Ok(trees)
+    }
+
+    // No table.
+    fn new(alloc: Global) -> RowTrees
         ensures { result ≡ finmap.empty }
     {
         RowTrees {
@@ -39,93 +53,49 @@ impl RowTrees {
         }
     }
 
-    /// Whether there is a table of this name.
-    pub fn has(&self, table: &Name) -> bool
-        ensures { result ≡ is_some (finmap.get self.now table.now) }
+    // Puts a table under a name, in place of the one that is there, if any.
+    fn put(&mut self, table: Name, tree: RowTree) -> Result<(), NoMemory>
+        ensures { OnOk result (self.new ≡ finmap.insert self.old table tree) }
     {
-        self.trees.contains_key(table)
-    }
-
-    /// Adds an empty table.
-    pub fn add_table(&mut self, alloc: Global, table: &Name) -> Result<(), NoMemory>
-        ensures ok { OnOk result (self.new ≡ finmap.insert self.old table.now set.empty) }
-        ensures err { OnErr result (self.new ≡ self.old) }
-    {
-        let _old = self.trees.insert(*table, RowTree::new(alloc))?;
+        let _old = self.trees.insert(table, tree)?;
         Ok(())
     }
 
-    /// Whether the differences can be made.
-    pub fn can_change(&self, changes: &[TableDelta]) -> bool
-        ensures { IsTrue result ↔ AllApply (map table_delta changes.now) self.now }
+    /// Puts an empty table under a name.
+    pub fn put_empty(&mut self, alloc: Global, table: Name) -> Result<(), NoMemory>
+        ensures { OnOk result (self.new ≡ finmap.insert self.old table set.empty) }
     {
-        match changes {
-            [] => true,
-            [first, rest @ ..] => {
-                self.suits(first) && !is_changed(rest, &first.table) && self.can_change(rest)
-            }
-        }
+        self.put(table, RowTree::new(alloc))
     }
 
-    // Whether the table of the difference is there, and the difference applies to its rows.
-    fn suits(&self, change: &TableDelta) -> bool
-        ensures { IsTrue result ↔ Suits self.now (table_delta change.now) }
-    {
-        match self.trees.get(&change.table) {
-            Some(tree) => suits(tree, &change.delta),
-            None => false,
-        }
-    }
-
-    /// Makes the differences, all or none. All rows are added before the first one is removed, since
-    /// only to add takes memory. It calls itself once for each table that changes.
+    /// Makes the differences, one after another. After `NoMemory` some of them are made.
     pub fn change(&mut self, alloc: Global, changes: &[TableDelta]) -> Result<(), NoMemory>
-        requires { AllApply (map table_delta changes.now) self.old }
-        ensures ok { OnOk result (self.new
-            ≡ with_deltas (map table_delta changes.now) self.old) }
-        ensures err { OnErr result (self.new ≡ self.old) }
+        ensures { OnOk result (self.new ≡ with_deltas (map table_delta changes.now) self.old) }
     {
-        match changes {
-            [] => Ok(()),
-            [first, rest @ ..] => {
-                self.add_rows(alloc, &first.table, first.delta.add())?;
-                match self.change(alloc, rest) {
-                    Ok(()) => {
-                        self.remove_rows(&first.table, first.delta.remove());
-                        Ok(())
-                    }
-                    Err(fault) => {
-                        self.remove_rows(&first.table, first.delta.add());
-                        Err(fault)
-                    }
-                }
-            }
+        for change in changes {
+            self.change_table(alloc, change)?;
         }
+        Ok(())
     }
 
-    // Adds new rows to a table, all or none.
-    fn add_rows(&mut self, alloc: Global, table: &Name, rows: &RowSet) -> Result<(), NoMemory>
-        requires there { is_some (finmap.get self.old table.now) ≡ true }
-        requires new { AreApart rows.now (rows_at self.old table.now) }
-        ensures ok { OnOk result (self.new ≡ finmap.insert self.old table.now
-            (union (rows_at self.old table.now) rows.now)) }
-        ensures err { OnErr result (self.new ≡ self.old) }
+    // Makes the difference of one table. A table that is not there is as one without rows.
+    fn change_table(&mut self, alloc: Global, change: &TableDelta) -> Result<(), NoMemory>
+        ensures { OnOk result (self.new ≡ table_after (table_delta change.now) self.old) }
     {
-        match self.trees.get_mut(table) {
-            Some(tree) => insert_all(tree, alloc, rows),
-            None => unreachable!(),
-        }
+        let mut tree = self.take(alloc, &change.table);
+        make(&mut tree, alloc, &change.delta)?;
+        self.put(change.table, tree)
     }
 
-    // Removes rows from a table. It takes no memory.
-    fn remove_rows(&mut self, table: &Name, rows: &RowSet)
-        requires there { is_some (finmap.get self.old table.now) ≡ true }
-        ensures { self.new ≡ finmap.insert self.old table.now
-            (minus (rows_at self.old table.now) rows.now) }
+    // Takes out the rows of a table, if it is there. The others stay.
+    fn take(&mut self, alloc: Global, table: &Name) -> RowTree
+        ensures rows { result ≡ rows_at self.old table.now }
+        ensures others { (rows : Rows) → finmap.insert self.new table.now rows
+            ≡ finmap.insert self.old table.now rows }
     {
-        match self.trees.get_mut(table) {
-            Some(tree) => remove_all(tree, rows),
-            None => unreachable!(),
+        match self.trees.remove(table) {
+            Some(tree) => tree,
+            None => RowTree::new(alloc),
         }
     }
 
@@ -144,11 +114,4 @@ impl RowTrees {
         }
         Ok(tables)
     }
-}
-
-// Whether one of the differences is of this table.
-fn is_changed(changes: &[TableDelta], table: &Name) -> bool
-    ensures { result ≡ is_changed table.now (map table_delta changes.now) }
-{
-    changes.iter().any(|change| change.table == *table)
 }

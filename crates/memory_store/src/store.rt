@@ -1,44 +1,28 @@
 //! Definitions and rows in memory, and the changes to them.
-ghost use Rattle.std.specs.Prelude.{◌≡◌, ◌↔◌, ◌++◌, ◌∷◌, [], Err, IfOk, IsTrue, OnErr, OnOk, Some};
+ghost use Rattle.std.specs.Prelude.{◌≡◌, IfOk, OnErr, OnOk, map};
 ghost use Rattle.lens_specs.specs.Keeping as keeping;
-ghost use Rattle.lens_specs.specs.Keeping.{CanChange, changed};
+ghost use Rattle.lens_specs.specs.Keeping.{changed};
 ghost use Rattle.table_keeper.specs.Changes.{change_view, kept_view};
 ghost use Rattle.table_keeper.specs.Holding.{coded_kept};
 ghost use Rattle.table_keeper.specs.Places.{Rise};
-ghost use Rattle.memory_store.specs.declared.store.ChangeFault.TheVariants as fault;
+ghost use Rattle.memory_store.specs.InMemory.{after};
 
-use crate::row_trees::RowTrees;
-use lens_values::{Name, NoMemory, Text, copied};
+use crate::contents::Contents;
+use crate::size::Size;
+use lens_values::{NoMemory, copied};
 use std::alloc::Global;
 use std::marker::Model;
 use table_keeper::{Change, Kept};
-use thiserror::Error;
 
-/// Why a change is not made.
-#[derive(Debug, PartialEq, Eq, Drop, Error)]
-pub enum ChangeFault {
-    /// What is kept does not allow the change.
-    #[error("what is kept does not allow the change")]
-    NotAllowed,
-    /// Memory ran out.
-    #[error("memory ran out")]
-    NoMemory,
-}
-
-impl From<NoMemory> for ChangeFault {
-    ghost from_gives = { λ _ e. e ≡ fault.NoMemory };
-
-    fn from(_: NoMemory) -> ChangeFault {
-        ChangeFault::NoMemory
-    }
-}
-
-/// Definitions and rows in memory. A change costs what it changes, and no walk along a table. A
-/// contract sees the contents.
+/// Definitions and rows in memory: contents, and the changes that were made to them since. A change
+/// costs a copy of itself, which shares its rows, and no look at other rows: whether what is kept
+/// allows the change is the caller's to know. Once the list of changes is long, it is folded into
+/// the contents. A contract sees what is kept after all changes.
 #[derive(Drop)]
 pub struct MemoryStore {
-    definitions: Vec<Text>,
-    tables: RowTrees,
+    folded: Kept,
+    changes: Vec<Change>,
+    size: Size,
 }
 
 impl Model for MemoryStore {
@@ -46,7 +30,9 @@ impl Model for MemoryStore {
 
     ghost coded = { coded_kept };
 
-    ghost view = { λ m. record { texts = m.definitions.items; rows = m.tables } };
+    ghost view = { λ m. after (map change_view m.changes.items) (kept_view m.folded) };
+
+    ghost invariant = { λ m. Rise m.folded.tables.items };
 }
 
 impl MemoryStore {
@@ -54,9 +40,12 @@ impl MemoryStore {
     pub fn new(alloc: Global) -> MemoryStore
         ensures { result ≡ keeping.nothing }
     {
+        let folded = Kept::nothing(alloc);
+        let size = Size::of(&folded);
         MemoryStore {
-            definitions: Vec::new(alloc),
-            tables: RowTrees::new(alloc),
+            folded,
+            changes: Vec::new(alloc),
+            size,
         }
     }
 
@@ -65,74 +54,53 @@ impl MemoryStore {
         ensures is { IfOk result (λ kept. kept_view kept ≡ self.now) }
         ensures rising { IfOk result (λ kept. Rise kept.tables.items) }
     {
-        let definitions = copied(alloc, &self.definitions)?;
-        let tables = self.tables.tables(alloc)?;
-        Ok(Kept {
-            definitions,
-            tables,
-        })
+        let mut contents = Contents::of(alloc, &self.folded)?;
+        contents.make_all(alloc, &self.changes)?;
+        contents.into_kept(alloc)
     }
 
-    /// Makes a change, whole or not at all. It fails where what is kept does not allow the change.
-    pub fn change(&mut self, alloc: Global, change: &Change) -> Result<(), ChangeFault>
+    /// Makes a change, whole or not at all. Rows to remove that are not there, rows to add that are
+    /// there, and a table that is not there are no faults: the change says what is there after it.
+    pub fn change(&mut self, alloc: Global, change: &Change) -> Result<(), NoMemory>
         ensures ok { OnOk result (self.new ≡ changed (change_view change.now) self.old) }
         ensures err { OnErr result (self.new ≡ self.old) }
-        ensures can { OnOk result (CanChange (change_view change.now) self.old) }
-        ensures failed { result ≡ Err ChangeFault.NotAllowed
-            → CanChange (change_view change.now) self.old → ⊥ }
-        ensures no_memory { result ≡ Err ChangeFault.NoMemory
-            → CanChange (change_view change.now) self.old }
     {
-        if !self.can_change(change) {
-            return Err(ChangeFault::NotAllowed);
+        let copy = copy_of(alloc, change)?;
+        self.changes.push(copy)?;
+        self.size = self.size.with(change);
+        if self.size.is_long() {
+            self.fold(alloc);
         }
-        self.make(alloc, change)?;
         Ok(())
     }
 
-    // Whether what is kept allows the change.
-    fn can_change(&self, change: &Change) -> bool
-        ensures { IsTrue result ↔ CanChange (change_view change.now) self.now }
+    // Folds the list, if there is memory for it. What is kept stays.
+    fn fold(&mut self, alloc: Global)
+        ensures { self.new ≡ self.old }
     {
-        match change {
-            Change::Define { table: None, .. } => true,
-            Change::Define {
-                table: Some(table),
-                ..
-            } => !self.tables.has(table),
-            Change::Rows { deltas } => self.tables.can_change(deltas),
+        if let Ok(kept) = self.kept(alloc) {
+            self.size = Size::of(&kept);
+            self.folded = kept;
+            self.changes = Vec::new(alloc);
         }
     }
+}
 
-    // Makes a change that is allowed.
-    fn make(&mut self, alloc: Global, change: &Change) -> Result<(), NoMemory>
-        requires { CanChange (change_view change.now) self.old }
-        ensures ok { OnOk result (self.new ≡ changed (change_view change.now) self.old) }
-        ensures err { OnErr result (self.new ≡ self.old) }
-    {
-        match change {
-            Change::Define { text, table: None } => {
-                self.definitions.push(text.copy(alloc)?)?;
-                Ok(())
-            }
-            Change::Define {
+// An equal change. It shares the rows.
+fn copy_of(alloc: Global, change: &Change) -> Result<Change, NoMemory>
+    ensures { IfOk result (λ copy. change_view copy ≡ change_view change.now) }
+{
+    match change {
+        Change::Define { text, table } => {
+            let text = text.copy(alloc)?;
+            Ok(Change::Define {
                 text,
-                table: Some(table),
-            } => self.define_table(alloc, text, table),
-            Change::Rows { deltas } => self.tables.change(alloc, deltas),
+                table: *table,
+            })
         }
-    }
-
-    // Adds a definition that makes a table. Memory for its text is reserved before the table is made.
-    fn define_table(&mut self, alloc: Global, text: &Text, table: &Name) -> Result<(), NoMemory>
-        ensures ok { OnOk result (self.new
-            ≡ changed (keeping.define text.now (Some table.now)) self.old) }
-        ensures err { OnErr result (self.new ≡ self.old) }
-    {
-        let text = text.copy(alloc)?;
-        self.definitions.reserve(1)?;
-        self.tables.add_table(alloc, table)?;
-        self.definitions.push_reserved(text);
-        Ok(())
+        Change::Rows { deltas } => {
+            let deltas = copied(alloc, deltas)?;
+            Ok(Change::Rows { deltas })
+        }
     }
 }

@@ -1,4 +1,7 @@
 pub mod CellsLemmas
 pub mod CellsListed
+pub mod InMemory
+pub mod KnownTables
 pub mod NamesAlike
+pub mod RowsRead
 pub mod Texts

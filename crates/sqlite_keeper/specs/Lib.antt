@@ -1,7 +1,11 @@
 pub mod Answers
 pub mod Cells
+pub mod Knowing
 pub mod Making
 pub mod Placing
 pub mod Refusals
+pub mod RowCells
 pub mod Shown
 pub mod TableNames
+pub mod Turns
+pub mod Unattached

@@ -1,5 +1,7 @@
 //! The first two tables: the format's number, and the texts of the definitions.
-ghost use Rattle.std.specs.Prelude.{◌≡◌};
+ghost use Rattle.std.specs.Prelude.{◌≡◌, ◌⊎◌, [], IsOk, Ok, OnOk, codes, pos};
+ghost use Rattle.sqlite.specs.Held.{state};
+ghost use Rattle.sqlite.specs.State.{Executes, HasCleanDisk};
 ghost use Rattle.sqlite_keeper.specs.TableNames.{is_of_store};
 
 use crate::refusal::Refusal;
@@ -41,7 +43,10 @@ fn take_format<S: Alter>(conn: &mut Connection<S>) -> Result<(), Refusal> {
 }
 
 // Takes a store with this number to format 2.
-fn take_number<S: Alter>(conn: &mut Connection<S>, number: i64) -> Result<(), Refusal> {
+fn take_number<S: Alter>(conn: &mut Connection<S>, number: i64) -> Result<(), Refusal>
+    ensures known { OnOk result ((number ≡ pos 1) ⊎ (number ≡ pos 2)) }
+    ensures stays { number ≡ pos 2 → IsOk result × (conn.new ≡ conn.old) }
+{
     match number {
         2 => Ok(()),
         1 => raise_number(conn),
@@ -50,7 +55,11 @@ fn take_number<S: Alter>(conn: &mut Connection<S>, number: i64) -> Result<(), Re
 }
 
 // Writes 2 in place of 1, which is to change the one row.
-fn raise_number<S: Alter>(conn: &mut Connection<S>) -> Result<(), Refusal> {
+fn raise_number<S: Alter>(conn: &mut Connection<S>) -> Result<(), Refusal>
+    ensures { HasCleanDisk (state S.Store conn.new)
+        → OnOk result (Executes (codes "UPDATE lens_format SET number = 2") []
+        (state S.Store conn.old) (state S.Store conn.new) (Ok 1)) }
+{
     if conn.execute("UPDATE lens_format SET number = 2", &[])? == 1 {
         Ok(())
     } else {

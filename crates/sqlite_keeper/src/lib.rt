@@ -7,6 +7,7 @@ mod database;
 mod format;
 pub mod keeper;
 mod known;
+mod laws;
 mod loading;
 mod logs;
 mod placing;
@@ -16,3 +17,4 @@ mod store;
 mod tables;
 
 pub use keeper::SqliteKeeper;
+pub use laws::memory_keeps_the_last_state;

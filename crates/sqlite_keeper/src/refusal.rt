@@ -2,12 +2,10 @@
 ghost use Rattle.std.specs.IoError.{error_kind};
 ghost use Rattle.std.specs.declared.io.ErrorKind.TheVariants as kind;
 ghost use Rattle.lens_values.specs.declared.text.TextFault.TheVariants as text;
-ghost use Rattle.memory_store.specs.declared.store.ChangeFault.TheVariants as change;
 ghost use Rattle.view_lang.specs.declared.definition.LangFault.TheVariants as lang;
 ghost use Rattle.sqlite_keeper.specs.Refusals.{IsWantOfMemory, KeepsWantOfMemory, out_of_memory};
 
 use lens_values::{NoMemory, TextFault};
-use memory_store::ChangeFault;
 use sqlite::{Error, ErrorCode};
 use std::alloc::{AllocError, AllocFailed};
 use std::io;
@@ -86,17 +84,6 @@ impl From<LangFault> for Refusal {
         match fault {
             LangFault::NoMemory => Refusal::NoMemory,
             LangFault::Syntax { .. } | LangFault::TooLarge { .. } => Refusal::Failed,
-        }
-    }
-}
-
-impl From<ChangeFault> for Refusal {
-    ghost from_gives = { KeepsWantOfMemory change.NoMemory };
-
-    fn from(fault: ChangeFault) -> Refusal {
-        match fault {
-            ChangeFault::NoMemory => Refusal::NoMemory,
-            ChangeFault::NotAllowed => Refusal::Failed,
         }
     }
 }

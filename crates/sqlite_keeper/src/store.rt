@@ -1,6 +1,9 @@
 //! Where definitions and rows are kept.
-ghost use Rattle.std.specs.Prelude.{IfOk};
+ghost use Rattle.std.specs.Prelude.{◌≡◌, Err, IfOk, IsSome, OnErr, OnOk};
+ghost use Rattle.lens_specs.specs.Keeping.{Follows, Tells, changed};
+ghost use Rattle.table_keeper.specs.Changes.{change_view, kept_view};
 ghost use Rattle.table_keeper.specs.Places.{Rise};
+ghost use Rattle.sqlite_keeper.specs.Unattached.{in_memory};
 
 use crate::database::{Answer, Database, Request};
 use crate::refusal::Refusal;
@@ -29,7 +32,11 @@ impl Drop for Store<'_> {
 impl Store<'_> {
     /// What is kept, with its tables in rising order of names.
     pub fn load(&mut self, alloc: Global) -> Result<Kept, Refusal>
-        ensures { IfOk result (λ kept. Rise kept.tables.items) }
+        ensures ok { IfOk result (λ kept. Tells (in_memory self.old) (kept_view kept)) }
+        ensures rising { IfOk result (λ kept. Rise kept.tables.items) }
+        ensures kept { in_memory self.new ≡ in_memory self.old }
+        // Memory has no other fault than to run out.
+        ensures faultless { IsSome (in_memory self.old) → result ≡ Err Refusal.Failed → ⊥ }
     {
         match self {
             Store::Memory(memory) => Ok(memory.kept(alloc)?),
@@ -38,7 +45,12 @@ impl Store<'_> {
     }
 
     /// Makes a change, whole or not at all.
-    pub fn commit(&mut self, alloc: Global, change: &Change) -> Result<(), Refusal> {
+    pub fn commit(&mut self, alloc: Global, change: &Change) -> Result<(), Refusal>
+        ensures ok { OnOk result (Follows (λ old new. new ≡ changed (change_view change.now) old)
+            (in_memory self.old) (in_memory self.new)) }
+        ensures err { OnErr result (in_memory self.new ≡ in_memory self.old) }
+        ensures faultless { IsSome (in_memory self.old) → result ≡ Err Refusal.Failed → ⊥ }
+    {
         match self {
             Store::Memory(memory) => Ok(memory.change(alloc, change)?),
             Store::File(database) => {

@@ -4,7 +4,7 @@ use Rattle.serde_json.specs.Data.{Items}
 use Rattle.lens_specs.specs.Relation.{Rows}
 use Rattle.server_specs.specs.Changing.{set_in}
 use Rattle.server_specs.specs.EditRefusal.{EditRefusal, Listed, in_rows}
-use Rattle.std.proofs.Common.{◌≡◌, Bool, true, false, ℕ, ◌+◌, ◌*◌, ◌≤◌, Option, Some, ap, arith, refl, subst}
+use Rattle.std.proofs.Common.{◌≡◌, ℕ, ◌+◌, ◌*◌, ◌≤◌, ap, arith}
 use Rattle.std.proofs.lemmas.Nat.{mul-le}
 use Rattle.lens_specs.specs.Delta.{Delta, diff}
 use Rattle.lens_specs.specs.Lens.{Lens, Tables, get, sort_of}

@@ -1,5 +1,5 @@
 -- Rows that are sent, and that they fit.
-use Rattle.std.proofs.Common.{◌≡◌, ◌∙◌, ℕ, List, Result, Ok, Err, ap, inl, inr, refl, subst}
+use Rattle.std.proofs.Common.{◌≡◌, ℕ, List, Result, Ok, Err, ap, inl, inr, refl, subst}
 use Rattle.serde_json.specs.Data.{Items}
 use Rattle.lens_values.specs.SortedSet as set
 use Rattle.lens_values.specs.declared.row.Row.{Row}
@@ -17,7 +17,7 @@ use Rattle.request_text.specs.declared.rows.RowsFault.{RowsFault}
 use Rattle.request_text.specs.declared.rows.RowsFault.TheVariants as rows_fault
 use Rattle.server_specs.proofs.Sent.{sent_fit}
 use Rattle.server_specs.specs.Changing.{as_set}
-use Rattle.server_specs.specs.EditRefusal.{EditRefusal, Listed, bad_row}
+use Rattle.server_specs.specs.EditRefusal.{Listed, bad_row}
 use Rattle.server_specs.specs.Sending.{BadRow, rows_in}
 
 -- ---- lists of rows

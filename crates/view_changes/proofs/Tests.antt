@@ -1,20 +1,17 @@
 -- A change through its tests: of its version, and of the sort of its view.
-use Rattle.std.proofs.Common.{◌≡◌, ◌∙◌, ℕ, true, false, Option, Result, Ok, Err, ap, refl, subst, sym}
-use Rattle.std.specs.Prelude.{Vec, map}
+use Rattle.std.proofs.Common.{◌≡◌, ◌∙◌, ℕ, false, Option, Result, Ok, Err, ap, subst, sym}
+use Rattle.std.specs.Prelude.{Vec}
 use Rattle.std.specs.declared.alloc.Global.{Global}
 use Rattle.lens_laws.proofs.Deltas.{diff_applies, diff_leads}
 use Rattle.lens_laws.specs.Finds.{AllFit}
-use Rattle.lens_specs.specs.Delta.{AppliesTo, Delta, changes, diff, new_view}
+use Rattle.lens_specs.specs.Delta.{AppliesTo, Delta, diff, new_view}
 use Rattle.lens_specs.specs.Lens.{Lens, Tables, get, sort_of, view}
 use Rattle.lens_specs.specs.Relation.{Rows}
-use Rattle.lens_specs.specs.Sort.{IsOf, Sort, clash, off}
+use Rattle.lens_specs.specs.Sort.{IsOf, Sort, clash}
 use Rattle.fd_laws.proofs.Relations.{from_minus}
 use Rattle.lens_chain.specs.Edits.{edited}
-use Rattle.request_text.specs.Answers.{edit_refusal_view}
 use Rattle.server_specs.specs.Changing.{changed_at, is_stale, of_sort, tested, unless_clash, unless_off, unless_stale}
-use Rattle.server_specs.specs.EditRefusal.{EditRefusal, stale}
 use Rattle.server_specs.specs.State.{State}
-use Rattle.signed_delta.specs.Tables.{table_delta}
 use Rattle.signed_delta.specs.declared.delta.TableDelta.{TableDelta}
 use Rattle.view_changes.specs.Puts.{IsFresh, IsPut, IsTested}
 use Rattle.view_changes.specs.declared.refusal.Refusal.{Refusal}

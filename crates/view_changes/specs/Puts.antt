@@ -1,5 +1,5 @@
 -- What a change of a view comes to, as the code has it.
-use Rattle.std.specs.Prelude.{◌≡◌, ℕ, Bool, true, false, ◌||◌, nat_lt, List, map, Option, Result, Ok, Err, Vec}
+use Rattle.std.specs.Prelude.{◌≡◌, ℕ, Bool, true, false, ◌||◌, nat_lt, map, Option, Result, Ok, Err, Vec}
 use Rattle.std.specs.declared.alloc.Global.{Global}
 use Rattle.lens_specs.specs.Columns.{Columns}
 use Rattle.lens_specs.specs.Delta.{changes}

@@ -1,4 +1,4 @@
-use Rattle.std.proofs.Common.{◌≡◌, ◌+◌, ◌*◌, ◌≤◌, Ok, subst, sym}
+use Rattle.std.proofs.Common.{◌+◌, ◌*◌, ◌≤◌, subst, sym}
 use Rattle.lens_laws.specs.Work.{work}
 use Rattle.opened_view.specs.Seen.{seen, tables_under}
 use Rattle.server_specs.specs.Changing.{tested}

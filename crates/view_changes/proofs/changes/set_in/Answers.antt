@@ -1,5 +1,4 @@
-use Rattle.std.proofs.Common.{◌≡◌, ◌∙◌, ap, subst, sym}
-use Rattle.lens_laws.specs.Finds.{AllFit}
+use Rattle.std.proofs.Common.{◌≡◌, ◌∙◌, ap, sym}
 use Rattle.lens_specs.specs.Lens.{sort_of}
 use Rattle.request_text.specs.Answers.{list_view}
 use Rattle.request_text.specs.RowFaults.{set_of}

@@ -1,4 +1,4 @@
-use Rattle.std.proofs.Common.{◌≡◌, ap, subst, sym}
+use Rattle.std.proofs.Common.{ap, subst, sym}
 use Rattle.lens_laws.proofs.Work.{fan_bounds}
 use Rattle.lens_laws.specs.Work.{fan}
 use Rattle.lens_probe.specs.Viewed.{FindsAtMost, Viewed}

@@ -1,0 +1,1 @@
+"""The way into Cigrelk and out of it: tables of PostgreSQL and SQLite, and files of CSV."""
