@@ -50,7 +50,7 @@ class InMemory(unittest.TestCase):
         return self.server.define(GOODS), self.server.define(BIG)
 
     def stock(self):
-        """The tables and the view of the guide, with its rows."""
+        """The tables and the view of examples/lessons, with their rows."""
         tracks, albums, stock = map(self.server.define, (TRACKS, ALBUMS, STOCK))
         tracks.put([track("Lullaby", 1989, 3, "Galore"), track("Lullaby", 1989, 3, "Show"), track("Lovesong", 1989, 5, "Galore"),
                     track("Lovesong", 1989, 5, "Paris"), track("Trust", 1992, 4, "Wish")])
