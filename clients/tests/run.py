@@ -16,9 +16,11 @@ from packages import is_installed, lacking_in
 
 HERE = os.path.dirname(os.path.abspath(__file__))
 # The files that take longest begin first, so that none of them is left alone at the end.
-LONGEST = ("test_mirror", "test_mirror_guards", "test_hub", "test_sql", "test_editor")
+LONGEST = ("test_hub", "test_sql_views", "test_editor", "test_mirror", "test_mirror_guards", "test_take")
 # How many tests that were wrong are tried once more: a busy machine may be too slow for a test that waits.
 MOST_AGAIN = 3
+# How long (in seconds) the tests of one file may take: a test that hangs is ended, and counts as wrong.
+MOST_SECONDS = 900
 
 
 def said(errors):
@@ -87,7 +89,7 @@ class Runs:
     """Runs of tests in processes of their own. Their lines are printed as they come, whole."""
 
     def __init__(self, room):
-        self.room, self.turn, self.count = room, threading.Lock(), 0
+        self.room, self.turn, self.count, self.running = room, threading.Lock(), 0, set()
 
     def run(self, names):
         """How the tests of these names went."""
@@ -95,16 +97,28 @@ class Runs:
             self.count += 1
             report = f"{self.room}/{self.count}"
         words = [sys.executable, "-W", "error", os.path.abspath(__file__), "--report", report, *names]
-        with subprocess.Popen(words, stdout=subprocess.PIPE, stderr=subprocess.STDOUT, text=True, errors="replace") as process:
+        # The run has a session of its own, so that all that it started can be ended with it.
+        how = {"stdout": subprocess.PIPE, "stderr": subprocess.STDOUT, "text": True, "errors": "replace", "start_new_session": True}
+        with subprocess.Popen(words, **how) as process:
+            self.running.add(process.pid)
+            timer = threading.Timer(MOST_SECONDS, os.killpg, (process.pid, signal.SIGKILL))
+            timer.start()
             for line in process.stdout:
                 with self.turn:
                     print(line, end="", flush=True)
+            timer.cancel()
+            self.running.remove(process.pid)
         try:
             with open(report, encoding="utf-8") as file:
                 return json.load(file)
         except (OSError, ValueError):
             ended = f"The tests did not come to their end: status {process.returncode}.\n"
             return {"run": 0, "wrong": [(", ".join(names), ended)], "left_out": []}
+
+    def interrupt(self):
+        """Hands an interrupt (Ctrl-C) on to all runs."""
+        for process in list(self.running):
+            os.killpg(process, signal.SIGINT)
 
 
 def names_of(files):
@@ -123,7 +137,11 @@ def run_all(names, processes):
     began = time.monotonic()
     with tempfile.TemporaryDirectory() as room, concurrent.futures.ThreadPoolExecutor(processes) as pool:
         runs = Runs(room)
-        found = list(pool.map(runs.run, [[name] for name in names]))
+        try:
+            found = list(pool.map(runs.run, [[name] for name in names]))
+        except KeyboardInterrupt:
+            runs.interrupt()
+            raise
         wrong = [tuple(one) for result in found for one in result["wrong"]]
         again = sorted({name for name, _ in wrong})
         if 0 < len(again) <= MOST_AGAIN and all(name.startswith("test_") and " " not in name for name in again):
