@@ -3,7 +3,7 @@ from typing import NamedTuple
 
 from .language import Join, columns_of, path_to, shown_columns, tables_in
 from .refusals import OtherTable
-from .rows import values
+from .rows import in_row_order, values
 from .sources import sources_of
 from .texts import counted, words_of
 
@@ -31,7 +31,8 @@ class Effects:
         """The effects on one table."""
         key = self.server[table].key()
         before, after = ({values(row, key): row for row in rows} for rows in self.change.tables.get(table, ([], [])))
-        return [Effect(table, before.get(key), after.get(key)) for key in {**before, **after}]
+        found = [Effect(table, before.get(cells), after.get(cells)) for cells in {**before, **after}]
+        return sorted(found, key=lambda effect: in_row_order(effect.before or effect.after, key))
 
     def hides(self, effect):
         """Whether the view hides the row as it was: an accepted edit removes exactly the rows that it names."""

@@ -252,7 +252,7 @@ class Reader:
         raise UnknownForm(f"this client does not know {token!r} in a definition")
 
 
-def defined(text):
+def defined(text: str) -> "tuple[str, str]":
     """The kind, 'table' or 'view', and the name that a definition begins with."""
     return tuple(re.match(r"[ \t\r\n]*(table|view)[ \t\r\n]+([a-z_][a-z0-9_]*)", text).groups())
 
@@ -293,7 +293,7 @@ def expanded(node, texts):
     return node if isinstance(node, Table) else node._replace(operand=expanded(node.operand, texts))
 
 
-def columns_of(node):
+def columns_of(node) -> "list[str]":
     """The columns that an expression shows, in the order of its definition."""
     if isinstance(node, Table):
         return list(node.kinds)
@@ -331,7 +331,7 @@ def shown_columns(path):
     return names
 
 
-def tables_in(node):
+def tables_in(node) -> "list[str]":
     """The names of the tables under an expression, from left to right."""
     if isinstance(node, Table):
         return [node.name]

@@ -7,6 +7,7 @@ import subprocess
 import threading
 import uuid
 
+from .kinds import cure_for
 from .texts import words_of
 
 # The folder that a clone of the repository is in, whose `serve` starts the program.
@@ -22,6 +23,7 @@ class Ended(Exception):
     with a store that is damaged. `cause` is the sentence for people, where more is known than the status tells."""
 
     causes = {
+        1: "it could not be started, or failed, as it told on standard error",
         2: "the words of the command line are refused",
         3: "memory ran out at the start",
         4: "its input failed",
@@ -61,7 +63,7 @@ def default_program():
 def damage_text(damage):
     """What is wrong with a store, in words."""
     if "definition" in damage:
-        return f"its definition {damage['definition']}, counted from 0, is refused"
+        return f"its definition number {damage['definition'] + 1} is refused"
     if "missing" in damage:
         return f"the table {damage['missing']} is defined and not there"
     if "strange" in damage:
@@ -256,5 +258,21 @@ encoded = json.JSONEncoder(ensure_ascii=False, allow_nan=False, separators=(",",
 
 
 def line_of(request):
-    """A request as a line of bytes. Raises ValueError or TypeError for what is no JSON or no text."""
-    return encoded(request).encode()
+    """A request as a line of bytes. Raises ValueError or TypeError for what is no JSON or no text, with the column that has it."""
+    try:
+        return encoded(request).encode()
+    except UnicodeEncodeError:
+        raise
+    except (TypeError, ValueError) as error:
+        raise type(error)(why_no_value(request) or str(error)) from None
+
+
+def why_no_value(request):
+    """What is told of the first value in the rows of a request that is none of any kind, or None."""
+    for edit in [request, *request.get("edits", ())]:
+        for member in ("rows", "remove", "add"):
+            for number, row in enumerate(edit.get(member, ()), 1):
+                for name, value in row.items() if isinstance(row, dict) else ():
+                    if not isinstance(value, (str, int, bool, type(None))) or value != value:
+                        return f"row {number}: '{name}' is {value!r}, of the type {type(value).__name__}, and not an int, a str, a bool or None{cure_for(value)}"
+    return None

@@ -15,7 +15,7 @@ class Proposal:
     def __init__(self, view, remove, add, tables):
         self.view, self.remove, self.add, self.tables = view, remove, add, tables
 
-    def review(self, server):
+    def review(self, server) -> "Review":
         """The Review of this edit over the rows of now."""
         try:
             return Review(self, server, server[self.view].preview(self.remove, self.add), None)
@@ -51,7 +51,7 @@ def table_difference(now, proposed):
     return found
 
 
-def proposals(text):
+def proposals(text: str) -> "list[Proposal]":
     """The proposals of a text that `propose` made. Raises NotProposal."""
     found, edit = [], None
     for number, line in enumerate(text.split("\n"), 1):

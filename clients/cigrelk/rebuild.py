@@ -1,5 +1,7 @@
 """Makes a new store with other definitions, and gives it the rows of an old one. The old one stays as it is.
 
+`cigrelk rebuild OLD > definitions` writes the definitions of OLD, a line each, to be edited.
+
 DEFINITIONS is a file with a table or a view a line; a line that begins with # is passed over. A table there that OLD has too
 gets its rows. A column that is gone is dropped, and one that is new takes the VALUE that is given, as 7, true, axe or "an axe",
 and null where none is given and the column may be null.
@@ -9,16 +11,15 @@ NEW is for its owner alone. It gets its name once it is whole. OLD is copied and
 store may write to it; it may not be open elsewhere.
 """
 import argparse
-import json
 import os
 import re
 import tempfile
 
 from .errors import CommandError
-from .kinds import base, fits, is_nullable
+from .kinds import is_nullable, value_of
 from .language import defined
 from .server import Server
-from .store_files import copy_store
+from .store_files import copy_store, private_copy
 
 SUMMARY = "makes a new store with other definitions and the rows of an old one"
 # How many rows one request adds at most.
@@ -83,19 +84,16 @@ def source_of(table, column, kind, rows, given, used):
         return None, None
     if said is None:
         raise CommandError(f"the table {table} has a new column {column}: give {place}=VALUE")
-    value = value_of(said, kind)
-    if not fits(value, kind):
-        raise CommandError(f"{place}={said}: the column is of the kind {kind}, and this is no value of it and no old column")
-    return None, value
-
-
-def value_of(text, kind):
-    """The value that is given for a column: a text may stand as it is, and all else is JSON, as null is."""
     try:
-        value = json.loads(text)
-    except ValueError:
-        return text
-    return value if base(kind) != "text" or isinstance(value, str) or (value is None and is_nullable(kind)) else text
+        return None, value_of(said, column, kind)
+    except CommandError as error:
+        raise CommandError(f"{place}={said}: {error}") from None
+
+
+def print_definitions(old: str) -> None:
+    with private_copy(old) as copy, Server(copy) as server:
+        for text in server.list():
+            print(text)
 
 
 def assignment(text):
@@ -108,12 +106,18 @@ def assignment(text):
 
 def add_arguments(parser: argparse.ArgumentParser) -> None:
     parser.add_argument("old", metavar="OLD", help="the store that is there")
-    parser.add_argument("new", metavar="NEW", help="the store that is made")
-    parser.add_argument("definitions", metavar="DEFINITIONS", help="a file with a table or a view a line")
+    parser.add_argument("new", nargs="?", metavar="NEW", help="the store that is made; without it the definitions of OLD are printed")
+    parser.add_argument("definitions", nargs="?", metavar="DEFINITIONS", help="a file with a table or a view a line")
+    parser.set_defaults(wrong_usage=parser.error)
     parser.add_argument("given", nargs="*", type=assignment, metavar="TARGET=SOURCE", help="where rows and values come from: TABLE=OLD_TABLE, TABLE.COLUMN=.OLD_COLUMN or TABLE.COLUMN=VALUE")
 
 
 def run(options: argparse.Namespace) -> int:
+    if options.new is None:
+        print_definitions(options.old)
+        return 0
+    if options.definitions is None:
+        options.wrong_usage("a file with the definitions of the new store is wanted behind its name")
     try:
         rebuild(options.old, options.new, options.definitions, dict(options.given))
     except UnicodeDecodeError as error:

@@ -3,7 +3,7 @@ import csv
 import re
 
 from .csv_files import is_field, records_of
-from .kinds import MOST_TEXT, WANTED
+from .kinds import MOST_TEXT, WANTED, cure_for
 from .texts import differing, listing, short, sides, words_of
 
 
@@ -23,7 +23,7 @@ class Refused(Exception):
         """Which edit of a batch it is, in words."""
         if self.edit is None:
             return ""
-        return f"edit {self.edit}, counted from 0{', of ' + self.request['view'] if self.request else ''}: "
+        return f"edit {self.edit + 1}{', of ' + self.request['view'] if self.request else ''}: "
 
     def text(self):
         return self.says.format_map(self.reply)
@@ -45,27 +45,44 @@ class BadRequest(Refused):
     says = "the member '{member}' of the request is missing, unknown or of the wrong shape"
 
 
+# What stands in a condition.
+COMPARISONS = "a column is compared with a value or another column by = != < <= > or >=, with values by 'in (1, 2)', and with null by 'is null'"
+# What is told where somebody drops a table or a view.
+KEPT = "definitions are never dropped or altered: `cigrelk rebuild` makes another store with other definitions"
+
+
 class Syntax(Refused):
     # What people who know SQL write at the place of the fault, and what stands for it here.
     habits = [
         (re.compile(form), hint)
         for form, hint in (
             (r"(?i)(create|insert|update|delete|alter)\b", "a definition begins with 'table' or 'view'"),
+            (r"(?i)drop\s+(table|view)\b", KEPT),
             (r"(?i)(varchar|char|string)\b", "the kind of a text is 'text'"),
             (r"(?i)(integer|bigint|smallint|number)\b", "the kind of a number is 'int'"),
             (r"(?i)(boolean|flag)\b", "the kind of a truth value is 'bool'"),
-            (r"(?i)(float|double|real|decimal|numeric|date|time|timestamp|json|uuid)\b", "the kinds are int, text and bool"),
+            (r"(?i)(date|time|timestamp|timestamptz|datetime)\b", "the kinds are int, text and bool; a text keeps a date, as '2024-03-01'"),
+            (r"(?i)(float|double|real|decimal|numeric|money)\b", "the kinds are int, text and bool; an int keeps a price, in cents"),
+            (r"(?i)(json|jsonb|uuid|enum|serial|bytea|blob)\b", "the kinds are int, text and bool"),
             (r"(?i)(?<=is )not\b", "rows with a value are asked for by 'not NAME is null'"),
             (r"(?i)not\s+null\b", "a column takes null only where its kind says so, as 'int null'"),
             (r"(?i)null\b", "rows without a value are asked for by 'NAME is null'"),
             (r"(?i)(primary|unique|key|references|foreign)\b", "a key is written behind the columns, as 'with id -> name price'"),
+            (r"(?i)(like|ilike|similar|between|matches)\b", COMPARISONS),
+            (r"(?<=[a-z0-9_])\(", f"no functions stand in a condition; {COMPARISONS}"),
+            (r"[a-z_][a-z0-9_]*(\s+[a-z_][a-z0-9_]*)*\s*->", "dependencies stand behind the word with: 'with name -> price'"),
+            (r"(?<=select )[a-z_][a-z0-9_]*(\s*,\s*[a-z_][a-z0-9_]*)*\s+from\b",
+             "a selection shows all columns; a view without one is 'drop COLUMN determined by (KEY, DEFAULT) from NAME'"),
+            (r"(?<=join )[a-z_(]", "a join says from which side it deletes: join_dl from the left one, join_dr from the right one, join_both from both"),
             (r"(?i)(inner|left|right|natural|join|group|order|union|distinct|limit)\b", "views are made of select, drop, rename, join_dl, join_dr and join_both"),
             (r"[A-Z]\w*", "names and words are written in lower case"),
             (r";", "no semicolon stands behind a definition"),
+            (r'"[^"]*" *(int|text|bool|[a-z]+\()', "a name has small letters, digits and _, and begins with no digit: full_name"),
             (r'"', "a text stands in single quotes, as 'axe'"),
             (r"(?<=<)>", "not equal is written !="),
-            (r"\*", "a selection shows all columns: 'select from NAME where ..'"),
+            (r"(?<=select )\*", "a selection shows all columns: 'select from NAME where ..'"),
             (r"(?<==)=", "equal is written ="),
+            (r"[*+/%|]|-(?!>)", f"nothing is computed in a condition; {COMPARISONS}"),
         )
     ]
 
@@ -101,7 +118,10 @@ class KindClash(Refused):
 class NotTree(Refused):
     def text(self):
         left, right = (listing(self.reply[side]) for side in "ab")
-        return f"the dependencies do not form a tree: those of '{left}' and '{right}' cross"
+        is_table = (self.request or {}).get("text", "table").lstrip().startswith("table")
+        why = ("a table has one key, and no column that two dependencies determine" if is_table else
+               "in a join no key may be a part of another one: give the table with the longer key a key of one column, as line_id")
+        return f"the dependencies do not form a tree, since their sides '{left}' and '{right}' have columns in common: {why}"
 
 
 class PredicateKind(Refused):
@@ -117,7 +137,8 @@ class NoSuchDependency(Refused):
 
 
 class MixedConjunct(Refused):
-    says = "the column cannot be dropped: condition {index} of the predicate, counted from 0, compares it with another column"
+    def text(self):
+        return f"the column cannot be dropped: condition {self.reply['index'] + 1} of the predicate compares it with another column"
 
 
 class DefaultRefused(Refused):
@@ -125,7 +146,8 @@ class DefaultRefused(Refused):
 
 
 class NotDetermined(Refused):
-    says = "the shared columns of the join do not determine the column '{col}' of its right side"
+    says = ("the columns that both sides of the join have do not determine the column '{col}' of its right side: "
+            "a join goes by columns of the same name, so rename the key of the right side, or what refers to it")
 
 
 class SideMentionsOutput(Refused):
@@ -176,7 +198,29 @@ class OffPredicate(Refused):
 
 
 class Clash(Refused):
+    """Two rows break a dependency together: they agree on its left side, and not on its right one."""
+
+    @property
+    def rows(self) -> list:
+        """The two rows, with the columns of the dependency before the others, and of those first the ones that tell the rows apart."""
+        edge = self.edge
+        first = [*edge["left"], *edge["right"]]
+        return [{name: row[name] for name in [*first, *(name for name in row if name not in first)]} for row in self.reply["rows"]]
+
+    @property
+    def edge(self) -> dict:
+        """The dependency, with those columns of its right side in which the rows differ."""
+        return differing(self.reply["edge"], self.reply["rows"])
+
+    def headline(self) -> str:
+        """What is wrong, without the rows."""
+        edge = self.edge
+        return f"{sides(edge)}, and these two rows have the same {listing(edge['left'])} and differ in {listing(edge['right'])}"
+
     def text(self):
+        if len(self.reply["rows"]) < 2:
+            # (a hub keeps back rows that the user may not read)
+            return f"{sides(self.reply['edge'])}, and the rows differ in it from others that you may not read"
         edge = differing(self.reply["edge"], self.reply["rows"])
         one, other = (words_of({name: row[name] for name in (*edge["left"], *edge["right"])}) for row in self.reply["rows"])
         return f"{sides(edge)}, and these rows differ in it: {one} / {other}"
@@ -213,7 +257,8 @@ class NullableColumn(Refused):
 
 
 class StoreFault(Refused):
-    says = "the store could not be written (a full disk?): nothing was changed, and the request may be sent again"
+    says = ("the store could not be written, and nothing was changed: the disk may be full, or the file may have a table of another "
+            "program by this name; the request may be sent again")
 
 
 class OtherTable(Refused):
@@ -255,4 +300,4 @@ def value_fault(name, value):
     """Why a value does not fit its column, as far as it can be told without the column's kind."""
     if isinstance(value, str) and ("\0" in value or len(value.encode(errors="replace")) > MOST_TEXT):
         return f"a text has at most 4,096 bytes and no U+0000, and '{name}' has another: {short(value)}"
-    return f"'{name}' is no column, or {short(value)} is not of its kind"
+    return f"'{name}' is no column, or {short(value)} is not of its kind{cure_for(value)}"

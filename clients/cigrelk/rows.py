@@ -4,12 +4,14 @@ import operator
 from collections.abc import Mapping
 from typing import NamedTuple
 
-from .kinds import WANTED, base, fits, is_nullable
+from .kinds import base, cure_for, fits, is_nullable, wants
 from .refusals import Clash, stale
 from .texts import cell, short, table, words_of
 
 # The kinds of pandas for columns that may be null.
 FRAME_KINDS = {"int": "Int64", "text": "object", "bool": "boolean"}
+# Of how many rows each is compared with each, to find those that are most alike.
+MOST_COMPARED = 200
 
 
 def listed(rows):
@@ -31,10 +33,15 @@ def in_order(row, columns):
     return {name: row[name] for name in columns}
 
 
+def in_row_order(row, key):
+    """By what rows are sorted that have this key; null comes first."""
+    return [(row[name] is not None, row[name]) for name in key]
+
+
 def by_key(rows, key, columns):
-    """Rows in the order of their key; null comes first. `columns` has the kind of each column."""
+    """Rows in the order of their key. `columns` has the kind of each column."""
     if any(is_nullable(columns[name]) for name in key):
-        return sorted(rows, key=lambda row: [(row[name] is not None, row[name]) for name in key])
+        return sorted(rows, key=lambda row: in_row_order(row, key))
     return sorted(rows, key=operator.itemgetter(*key)) if key else rows
 
 
@@ -143,7 +150,7 @@ def shape_fault(row, columns):
         if name not in row:
             return name, f"the column '{name}' is missing"
         if not fits(row[name], kind):
-            return name, f"{name} wants {WANTED[base(kind)]}{' or null' if is_nullable(kind) else ''}, and not {short(row[name])}"
+            return name, f"{wants(name, kind)}, and not {short(row[name])}{cure_for(row[name], kind)}"
     for name in row:
         if name not in columns:
             return name, f"there is no column {short(name)}"
@@ -168,3 +175,19 @@ def key_of(columns, dependencies):
         if name in closure(rest, dependencies):
             key = rest
     return key
+
+
+def paired(removed, added, key):
+    """Pairs of a removed row and the added row that takes its place, by the key; a row without a partner stands with None.
+    Of few rows those that are left are paired by the cells that they share."""
+    by_key = {tuple(row[name] for name in key): row for row in added}
+    pairs = [(old, by_key.pop(tuple(old[name] for name in key), None)) for old in removed]
+    left = list(by_key.values())
+    if len(removed) + len(added) <= MOST_COMPARED:
+        for place, (old, new) in enumerate(pairs):
+            shared = lambda row: sum(row[name] == old[name] for name in old)
+            best = max(left, key=shared, default=None) if not new else None
+            if best and 2 * shared(best) >= len(old):
+                pairs[place] = (old, best)
+                left.remove(best)
+    return [*pairs, *((None, new) for new in left)]

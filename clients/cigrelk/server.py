@@ -4,8 +4,9 @@ import json
 import os
 import uuid
 import weakref
+from typing import Callable, Dict, Iterable, Iterator, List, Mapping, Optional, Tuple, Union
 
-from .completion import Completer
+from .completion import Completer, Completion
 from .effects import refuse_others
 from .language import Named, UnknownForm, columns_compared, columns_of, condition_of, defined, expanded, path_to, shown_columns
 from .process import MOST_INPUT, Ended, NotStarted, Program, default_program, encoded, line_of
@@ -18,6 +19,10 @@ from .texts import differing, listing, sides, words_of
 # How many requests of a series may be under way, and the length of a reply from which on they become fewer.
 MOST_UNDER_WAY, LONG_REPLY = 256, 1 << 16
 
+# A value of a column, and a row by its columns.
+Value = Union[int, str, bool, None]
+Row = Mapping[str, Value]
+
 
 class View:
     """A table or a view by its name."""
@@ -25,30 +30,34 @@ class View:
     def __init__(self, server, name):
         self.server, self.name = server, name
 
-    def ask(self, do, **members):
+    def ask(self, do: str, **members) -> dict:
         return self.server.ask({"do": do, "view": self.name, **members})
 
-    def type(self):
+    def type(self) -> dict:
         """The reply to `type`: columns, dependencies, predicate and tables."""
         return self.ask("type")
 
-    def columns(self):
+    def columns(self) -> Dict[str, str]:
         """The kind of each column by its name, in the order of the definition. (Columns never change, so they are asked once.)"""
         if self.name not in self.server.kinds:
             self.server.kinds[self.name] = self.server.in_order(self.name, self.type()["columns"])
         return dict(self.server.kinds[self.name])
 
-    def key(self) -> list:
+    def dependencies(self) -> List[dict]:
+        """The dependencies, each with the columns of its `left` and its `right` side in the order of the definition."""
+        return [{side: [name for name in self.columns() if name in edge[side]] for side in ("left", "right")} for edge in self.type()["dependencies"]]
+
+    def key(self) -> List[str]:
         """The columns that determine all others, in the order of the definition. (They never change, so they are asked once.)"""
         if self.name not in self.server.keys:
             self.server.keys[self.name] = key_of(list(self.columns()), self.type()["dependencies"])
         return self.server.keys[self.name]
 
-    def read(self):
+    def read(self) -> Rows:
         """The rows, in the order of the key."""
         return self.rows_of(self.ask("read"))
 
-    def find(self, column, value):
+    def find(self, column: str, value: Value) -> Rows:
         """The rows that have a value in a column. No table is gone over for them where the column alone is the left side of a
         dependency. Raises UnknownColumn where there is no such column, and KindClash where the value is none of its kind."""
         return self.rows_of(self.ask("find", column=column, value=value))
@@ -58,7 +67,7 @@ class View:
         rows = by_key([in_order(row, columns) for row in reply["rows"]], self.key(), columns)
         return Rows(rows, columns, reply["version"], self.server.session)
 
-    def current(self):
+    def current(self) -> Rows:
         """The rows as `read` gives them, but read anew only where a table under them was changed since."""
         kept = self.server.kept.get(self.name)
         try:
@@ -70,12 +79,12 @@ class View:
         self.server.kept[self.name] = self.read()
         return self.server.kept[self.name]
 
-    def put(self, rows, on=None):
+    def put(self, rows: Iterable[Row], on=None) -> Change:
         """Makes these the rows. `on` takes the rows, or the change, that this rests on; raises Stale where a table was changed
         since. Raises OffPredicate, Clash and BadRow where a row is refused."""
         return Change(self.server, self.ask("put", rows=listed(rows), **self.server.rests(on)))
 
-    def edit(self, remove=(), add=(), on=None, only=None, tries=10):
+    def edit(self, remove: Iterable[Row] = (), add: Iterable[Row] = (), on=None, only: Optional[Iterable[str]] = None, tries: int = 10) -> Change:
         """Removes and adds rows. `on` and the exceptions are those of `put`.
 
         `only` takes names of tables: then a preview comes first, OtherTable is raised where it changes another table, and the edit
@@ -91,7 +100,7 @@ class View:
                 if on is not None or tries <= 0:
                     raise
 
-    def preview(self, remove=(), add=(), on=None, only=None):
+    def preview(self, remove: Iterable[Row] = (), add: Iterable[Row] = (), on=None, only: Optional[Iterable[str]] = None) -> Change:
         """What the same edit would change. Nothing is changed."""
         remove, add = listed(remove), listed(add)
         change = Change(self.server, self.ask("preview", remove=remove, add=add, **self.server.rests(on)))
@@ -99,7 +108,7 @@ class View:
             refuse_others(self, remove, change, only)
         return change
 
-    def complete(self, row, typed, among=()):
+    def complete(self, row: Row, typed: Row, among: Iterable[Row] = ()) -> Completion:
         """A row with what its keys determine, as a Completion. `row` has the columns as they were, and none for a new row; `typed`
         has the values that were typed. Those stay. The columns that they determine are taken from the row that has the key, first
         of the rows `among`, which are not sent yet, and then of the table under this view; so on to the end of a chain of keys.
@@ -107,13 +116,13 @@ class View:
         UnknownColumn, and KindClash where a key is no value of its column."""
         return Completer(self, among).complete(row, typed)
 
-    def export_csv(self):
+    def export_csv(self) -> Sheet:
         """The rows as CSV: a text whose first record has the names of the columns. Raises NullableColumn where a column may be
         null."""
         reply = self.ask("export")
         return Sheet(reply["csv"], reply["version"], self.server.session)
 
-    def import_csv(self, text, on=None):
+    def import_csv(self, text: str, on=None) -> Change:
         """Makes the rows of a text of CSV the rows, as `put` does; its columns stand in any order. `on` takes what `export_csv`
         gave too. Raises BadRecord for the first record that is no row, and NullableColumn and the exceptions of `put`."""
         try:
@@ -122,7 +131,7 @@ class View:
             error.args = (error.text(self.columns()),)
             raise
 
-    def change(self, edit, tries=10):
+    def change(self, edit: Callable[[Rows], Tuple[Iterable[Row], Iterable[Row]]], tries: int = 10) -> Change:
         """Reads the rows, has `edit` give those to remove and those to add, and sends them on the version that was read. Where
         another change came between, it does so again, and raises Stale after so many tries."""
         while True:
@@ -134,7 +143,7 @@ class View:
                 if tries <= 0:
                     raise
 
-    def faults(self, remove=(), add=()):
+    def faults(self, remove: Iterable[Row] = (), add: Iterable[Row] = ()) -> List[Fault]:
         """All reasons for which this edit would be refused, as a list of Fault, in the order of their first place. The list is
         empty exactly where the edit would be accepted."""
         remove, add = listed(remove), listed(add)
@@ -143,7 +152,7 @@ class View:
         found = [Fault(40, [place], text, column, columns=[column] if column else []) for place, (column, text) in bad.items() if text]
         whole = [place for place in bad if not bad[place][1]]
         found += self.off_predicate(add, whole, said)
-        for edge in said["dependencies"]:
+        for edge in self.dependencies():
             found += self.clashes(remove, add, whole, edge)
         return sorted(found, key=lambda fault: fault.places[0])
 
@@ -188,7 +197,8 @@ class View:
                 found.append(Fault(43, group, f"{sides(apart)}, and these rows differ in it", None, edge, stays[key], apart["right"]))
         return found
 
-    def why(self, remove=(), add=(), change=None, most=None):
+    def why(self, remove: Iterable[Row] = (), add: Iterable[Row] = (), change: Optional[Change] = None,
+            most: Optional[int] = None) -> List[Tuple[str, str, dict, List[str]]]:
         """Why an edit changes what it changes: for each row of its preview (which is asked for where no `change` is given) the
         table, 'remove' or 'add', the row, and the reasons as sentences. Rows come in the order of the change; `most` limits them
         to so many of each table and side."""
@@ -256,20 +266,20 @@ class Server:
     def process(self):
         return self.program.process
 
-    def close(self):
+    def close(self) -> None:
         """Ends the program. Raises Ended where it did not end well and nobody was told."""
         self.closes()
         if self.program.end and self.program.end[0] and not self.program.told:
             raise self.program.ended()
 
-    def ask(self, request):
+    def ask(self, request: dict) -> dict:
         """The reply to a request, as a dict; a refusal is raised."""
         reply = json.loads(self.program.ask(line_of(request)))
         if not reply["ok"]:
             raise refusal(reply, request)
         return reply
 
-    def ask_all(self, requests):
+    def ask_all(self, requests: Iterable[dict]) -> Iterator[dict]:
         """The replies to requests, in order, with many of them under way at once. The first refusal is raised; requests behind it
         that were sent by then are done all the same."""
         for request, reply in self.exchange(requests):
@@ -277,7 +287,7 @@ class Server:
                 raise refusal(reply, request)
             yield reply
 
-    def exchange(self, requests):
+    def exchange(self, requests: Iterable[dict]) -> Iterator[Tuple[dict, dict]]:
         """Pairs of a request and its reply, refused or not. Where replies are long, fewer requests are under way. What is wrong
         with a request is raised once the pairs before it were given."""
         requests, under_way, most, fault = iter(requests), collections.deque(), 2, None
@@ -294,7 +304,7 @@ class Server:
         if not isinstance(fault, StopIteration):
             raise fault
 
-    def pass_on(self, line):
+    def pass_on(self, line: bytes) -> bytes:
         """The reply to a line of bytes, as bytes. Raises ValueError where there is a newline in it."""
         if b"\n" in line:
             raise ValueError("a request is one line")
@@ -309,35 +319,35 @@ class Server:
             on = on.version
         return {} if on is None else {"on": on}
 
-    def batch(self, edits, on=None):
+    def batch(self, edits: Iterable[Tuple[Union[View, str], Iterable[Row], Iterable[Row]]], on=None) -> Change:
         """Does edits in order as one change, each on the rows that those before it gave: all of them, or none. Each is a table or a
         view, or its name, with rows to remove and rows to add. The refusal of the first that is refused is raised, with its place
         as `edit`. `on` is that of `View.put`, for all their tables."""
         edits = [{"view": getattr(view, "name", view), "remove": listed(remove), "add": listed(add)} for view, remove, add in edits]
         return Change(self, self.ask({"do": "batch", "edits": edits, **self.rests(on)}))
 
-    def undo(self):
+    def undo(self) -> Change:
         """Takes the last put, edit, batch or import of this start of the program back, whoever sent it, and gives that change. The
         last 16 can be taken back, one after another; raises NothingToUndo where none is left."""
         return Change(self, self.ask({"do": "undo"}))
 
-    def define(self, text):
+    def define(self, text: str) -> View:
         """Adds a table or a view, and gives it."""
         self.ask({"do": "define", "text": text})
         return self[defined(text)[1]]
 
-    def __getitem__(self, name):
+    def __getitem__(self, name: str) -> View:
         return View(self, name)
 
-    def list(self):
+    def list(self) -> "list[str]":
         """The texts of the definitions, in order."""
         return self.ask({"do": "list"})["definitions"]
 
-    def names(self):
+    def names(self) -> Dict[str, str]:
         """The kind of each name, 'table' or 'view', in the order of the definitions."""
         return {name: kind for kind, name in map(defined, self.list())}
 
-    def version(self):
+    def version(self) -> int:
         return self.ask({"do": "list"})["version"]
 
     def tree(self, name):
@@ -352,7 +362,7 @@ class Server:
         except UnknownForm:
             return kinds
 
-    def shown_by(self, name, row):
+    def shown_by(self, name: str, row: Row) -> "List[Tuple[str, List[dict]]]":
         """For a row of a table: each view over the table, with those of its rows that show this one; none where it hides it."""
         found = []
         for view, kind in self.names().items():
@@ -362,7 +372,7 @@ class Server:
                 found.append((view, [shown for shown in self[view].current() if values(shown, columns.values()) == values(row, columns)]))
         return found
 
-    def propose(self, edits):
+    def propose(self, edits: Iterable[Tuple[str, Iterable[Row], Iterable[Row]]]) -> str:
         """A text that proposes edits, each a view's name, rows to remove and rows to add. A line has the edit as a request, and
         the next one what its preview changes. Raises Refused where a preview is refused."""
         lines = []

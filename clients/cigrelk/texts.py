@@ -1,21 +1,20 @@
 """Texts for people: names, rows and tables as they are printed."""
 import json
 import unicodedata
+from typing import Iterable
 
-from .kinds import SAYS_NULL, base, is_nullable
-
-# How many characters of a value stand in a message.
-MOST_SHOWN = 80
+from .kinds import MOST_SHOWN, SAYS_NULL, base, is_nullable
 
 
-def plain(text):
+
+def plain(text: str) -> str:
     """A text with everything escaped that steers a terminal or turns the direction of what follows."""
     if text.isprintable():
         return text
     return "".join(one if one.isprintable() else one.encode("unicode_escape", "surrogatepass").decode() for one in text)
 
 
-def short(value):
+def short(value: object) -> str:
     """A value as JSON, cut where it is long."""
     text = plain(json.dumps(value, ensure_ascii=False, default=str))
     return text if len(text) <= MOST_SHOWN else f"{text[:MOST_SHOWN]}.. ({len(text)} characters)"
@@ -26,11 +25,11 @@ def words_of(row):
     return ", ".join(f"{name} {short(value)}" for name, value in row.items()) if row else "no columns"
 
 
-def listing(names):
+def listing(names: Iterable[str]) -> str:
     return " and ".join(names)
 
 
-def counted(number, thing):
+def counted(number: int, thing: str) -> str:
     """A number of things, as `1 row` or `2,000 rows`."""
     return f"{number:,} {thing}{'' if number == 1 else 's'}"
 
@@ -51,7 +50,7 @@ def differing(edge, rows):
     return {"left": edge["left"], "right": [name for name in edge["right"] if any(row[name] != rows[0][name] for row in rows[1:])]}
 
 
-def cell(value, kind):
+def cell(value: object, kind: str) -> str:
     """A value as it stands in a cell: a text as it is, and any other as JSON. In a column that may be null the text null stands in
     quotes."""
     if not isinstance(value, str):
@@ -78,6 +77,14 @@ def table(rows, columns):
     widths = [max(map(width, column)) for column in zip(*lines)]
     printed = ["  ".join(map(padded, line, widths, columns.values())).rstrip() for line in lines]
     return "\n".join([printed[0], "  ".join("-" * places for places in widths), *printed[1:]])
+
+
+def marked_table(rows, marked):
+    """Rows of the same columns as lines of text, with the cells of some columns between stars."""
+    names = list(rows[0])
+    lines = [names] + [[f"*{short(row[name])}*" if name in marked else short(row[name]) for name in names] for row in rows]
+    widths = [max(map(width, column)) for column in zip(*lines)]
+    return "\n".join("    " + "  ".join(padded(text, places, "text") for text, places in zip(line, widths)).rstrip() for line in lines)
 
 
 def safe_json(value):

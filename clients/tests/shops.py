@@ -15,6 +15,10 @@ ROWS = {
     "orders": [[100, 1, "2026-11-02", "open"], [101, 3, "2026-11-05", "open"], [102, 2, "2026-10-20", "shipped"]],
     "lines": [[1, 100, 1, None], [2, 100, 2, "as a gift"], [3, 101, 2, None], [4, 101, 4, None], [5, 102, 1, None], [6, 102, 3, None]],
 }
+COLUMNS = {
+    "customers": ["customer_id", "name", "zip", "city"], "products": ["id", "name", "price", "stock"],
+    "orders": ["order_id", "customer_id", "placed", "status"], "lines": ["line_id", "order_id", "product_id", "note"],
+}
 # What `open_sales` shows of them.
 OPEN = [
     [1, 100, 1, None, 1, "2026-11-02", "open", "Ada Vogel", "10115", "Berlin", "kettle", 3490],
@@ -30,5 +34,4 @@ def fill(server):
     for text in DEFINITIONS:
         server.define(text)
     for table, rows in ROWS.items():
-        names = list(server[table].columns())
-        server[table].edit(add=[dict(zip(names, row)) for row in rows])
+        server[table].edit(add=[dict(zip(COLUMNS[table], row)) for row in rows])

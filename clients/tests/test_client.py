@@ -200,7 +200,7 @@ class Batches(InMemory):
         self.assertEqual((change.tables, change.version), (
             {"albums": ([], [{"album": "Mixed", "quantity": 8}]), "goods": ([], [AXE]), "tracks": ([], [track("Lovesong", 1989, 5, "Mixed")])}, before + 1))
         # the second edit is refused, since what the first one adds is there then
-        with self.assertRaisesRegex(Clash, '^edit 1, counted from 0, of stock: album determines quantity.*quantity 3.*quantity 4') as caught:
+        with self.assertRaisesRegex(Clash, '^edit 2, of stock: album determines quantity.*quantity 3.*quantity 4') as caught:
             self.server.batch([("goods", [AXE], []), (stock, [], [stocked("Trust", 4, "Show", 4)]), (goods, [], [{"name": "axe"}])])
         self.assertEqual((caught.exception.edit, caught.exception.request["view"]), (1, "stock"))
         self.assertEqual((list(goods.read()), self.server.version()), ([AXE], before + 1))
@@ -212,9 +212,9 @@ class Batches(InMemory):
         goods, big = self.shop()
         rows = goods.read()
         for edits, kind, told in (
-            ([("goods", [], [AXE]), ("nowhere", [], [])], UnknownName, "edit 1, counted from 0, of nowhere: there is no table and no view 'nowhere'"),
-            ([("goods", [], [AXE, {"name": 7, "quantity": 1}])], BadRow, "edit 0, counted from 0, of goods: row 2 of those to add: 'name' is no column, or 7 is not of its kind"),
-            ([("goods", [], [AXE]), ("big", [AXE], [{**AXE, "quantity": 1}])], OffPredicate, 'edit 1, counted from 0, of big: the view does not show such a row: name "axe", quantity 1'),
+            ([("goods", [], [AXE]), ("nowhere", [], [])], UnknownName, "edit 2, of nowhere: there is no table and no view 'nowhere'"),
+            ([("goods", [], [AXE, {"name": 7, "quantity": 1}])], BadRow, "edit 1, of goods: row 2 of those to add: 'name' is no column, or 7 is not of its kind"),
+            ([("goods", [], [AXE]), ("big", [AXE], [{**AXE, "quantity": 1}])], OffPredicate, 'edit 2, of big: the view does not show such a row: name "axe", quantity 1'),
         ):
             with self.assertRaises(kind) as caught:
                 self.server.batch(edits)
@@ -224,7 +224,7 @@ class Batches(InMemory):
         # each edit rests on the version before the batch
         change = self.server.batch([(goods, [], [AXE]), (big, [AXE], [SAW])], on=rows)
         self.assertEqual((change.tables, list(goods.read())), ({"goods": ([], [SAW])}, [SAW]))
-        with self.assertRaisesRegex(Stale, "^edit 0, .* read them again$"):
+        with self.assertRaisesRegex(Stale, "^edit 1, .* read them again$"):
             self.server.batch([(goods, [], [AXE])], on=rows)
 
     def test_undo(self):

@@ -21,6 +21,7 @@ HERE = os.path.dirname(os.path.abspath(__file__))
 CLIENTS = os.path.dirname(HERE)
 sys.path[:0] = [CLIENTS, HERE]
 import browser
+import shops
 from browser import ALT, CONTROL
 from cigrelk import TOP, Server
 from cigrelk.command import main
@@ -37,6 +38,11 @@ ROWS = {
     "albums": [["Disintegration", "6"], ["Show", "3"], ["Galore", "1"], ["Paris", "4"], ["Wish", "5"]],
 }
 ODD_TEXTS = ["\x1b[31mred", "abc\u202edef", "one\ntwo\r\nthree", "\U0010ffff", "  two  ", "<b>bold</b>", "", "x" * 4096, "\u2028"]
+
+
+def cells(row):
+    """A row as the page has it, with numbers as texts."""
+    return [str(value) if isinstance(value, int) else value for value in row]
 
 
 class Editor:
@@ -80,7 +86,9 @@ class Editor:
 
 
 class OverStore(unittest.TestCase):
-    """Tests over the tables of DEFINITIONS, which have the ROWS before each. One editor serves them all."""
+    """Tests over some tables, which have the same rows before each. One editor serves them all."""
+
+    definitions, rows = DEFINITIONS, ROWS
 
     @classmethod
     def setUpClass(cls):
@@ -88,11 +96,11 @@ class OverStore(unittest.TestCase):
         cls.addClassCleanup(room.cleanup)
         cls.editor = Editor(f"{room.name}/shop.db")
         cls.addClassCleanup(cls.editor.close)
-        for text in DEFINITIONS:
+        for text in cls.definitions:
             cls.editor.ask("define", text=text)
 
     def setUp(self):
-        for table, rows in ROWS.items():
+        for table, rows in self.rows.items():
             found = self.editor.read(table)
             self.editor.edit(found, [it for it in found["rows"] if it not in rows], rows, window="before")
 
@@ -352,9 +360,8 @@ class ReadOnly(unittest.TestCase):
         self.assertEqual(editor.ask("list")["definitions"], [])
 
 
-@wants("chromium")
-class Page(OverStore):
-    """The page, as a person uses it."""
+class OnPage(OverStore):
+    """Tests of the page, as a person uses it. One browser serves them all."""
 
     @classmethod
     def setUpClass(cls):
@@ -398,6 +405,9 @@ class Page(OverStore):
     def edited(self):
         return self.page.run("editedRows().map((row) => row.now)")
 
+
+@wants("chromium")
+class Page(OnPage):
     def test_a_preview_shows_hidden_rows_that_follow(self):
         self.open("stock")
         self.put(1, 1, "4")
@@ -429,7 +439,7 @@ class Page(OverStore):
         self.open("stock")
         self.paste("Low\t1\tNowhere\t1\nNew\t5\tWish\t9\nLullaby\t9\tShow\t3\nbad\tx\tWish\t5\ngood\t1\tShow\t3\n")
         self.page.wait("state.faults.length === 4")
-        for text in ("Refused: 4 faults", "not quantity > 2", "album determines quantity", "track determines rating", "rating wants a whole number"):
+        for text in ("Refused: 4 faults", "stock shows only rows where quantity > 2, and this one has quantity 1", "album determines quantity", "track determines rating", "rating wants a whole number"):
             self.assertIn(text, self.below())
         reasons = self.page.run("[...document.querySelectorAll('tr.bad')].map((row) => [row.cells[1].innerText, row.querySelector('.why').innerText])")
         self.assertIn(["bad", "rating wants a whole number of 64 bits"], reasons)
@@ -499,13 +509,15 @@ class Page(OverStore):
             self.page.wait("!busy && !editedRows().length")
             self.assertEqual(self.page.run("state.rows.map((row) => row.old)"), self.editor.read("albums")["rows"])
 
-    def test_what_a_key_decides_is_filled_in(self):
+    def test_what_a_key_determines_is_filled_in(self):
         self.open("tracks")
         self.page.click("#add")
         self.page.wait("editing")
         self.page.type("Trust")
         self.page.key("Enter")
-        self.assertEqual(self.edited(), [["Trust", "1992", "4", ""]])
+        self.page.wait("document.querySelector('tr.asks')")
+        self.assertEqual(self.edited(), [["Trust", "1992", "4", None]])
+        self.assertIn("type album", self.below())
         self.page.click("#discard")
         self.page.wait("!editedRows().length")
         self.put(0, 2, "1")
@@ -689,6 +701,214 @@ class Page(OverStore):
         self.page.wait("!review && state.said.startsWith('The review')")
         self.assertIn("1 of 2 changes accepted", self.below())
         self.assertIn(["Lullaby", "1989", "4", "Wish"], self.editor.read("tracks")["rows"])
+
+
+@wants("chromium")
+class Shop(OnPage):
+    """A shop of four tables, edited through a selection of a chain of joins."""
+
+    definitions, rows = shops.DEFINITIONS, {table: [cells(row) for row in rows] for table, rows in shops.ROWS.items()}
+
+    def setUp(self):
+        super().setUp()
+        self.page.size(1700, 900)
+        self.open("open_sales")
+        self.addCleanup(self.page.run, "sessionStorage.clear()")
+
+    def type_here(self, text):
+        """Types in the cell at hand, and goes to the next one."""
+        self.page.until("editing", lambda: self.page.key("F2"))
+        self.page.type(text)
+        self.page.key("Tab")
+
+    def changed(self):
+        """The tables that the preview changes, each with its number of rows."""
+        self.settled()
+        return self.page.run("state.preview?.map(({ table, rows }) => [table, rows])")
+
+    def marks(self):
+        return self.page.run("state.marks.map(({ text }) => text)")
+
+    def table(self, name):
+        return self.editor.read(name)["rows"]
+
+    def test_rows_and_columns_stand_in_the_order_of_key_and_definition(self):
+        self.assertEqual(self.page.run("shown.map((row) => row.now)"), [cells(row) for row in shops.OPEN])
+        self.assertEqual(self.page.run("state.columns.map(({ name }) => name)"), shops.OPEN_COLUMNS)
+        about = self.page.run("$('about').innerText")
+        self.assertIn("customer_id determines name and zip.", about)
+        self.assertIn("Joins lines with orders by order_id, orders with customers by customer_id, lines with products by product_id.", about)
+
+    def test_a_line_is_added_by_three_typed_cells(self):
+        self.page.click("#add")
+        self.page.wait("editing")
+        self.type_here("7")
+        self.page.wait("document.querySelector('tr.asks')")
+        self.assertIn("type order_id and product_id", self.below())
+        self.type_here("101")
+        self.type_here("3")
+        self.assertEqual(self.changed(), [["lines", 1]])
+        self.assertEqual(self.edited(), [["7", "101", "3", None, "3", "2026-11-05", "open", "Cem Aydin", "20095", "Hamburg", "oak tray", "4200"]])
+        self.save()
+        self.assertEqual(self.table("lines")[-1], ["7", "101", "3", None])
+        self.assertEqual(self.table("products"), self.rows["products"])
+
+    def test_a_line_moves_to_another_order(self):
+        self.put(2, 1, "100")
+        self.assertEqual((self.changed(), self.marks()), ([["lines", 1]], []))
+        self.assertEqual(self.edited(), [["3", "100", "2", None, "1", "2026-11-02", "open", "Ada Vogel", "10115", "Berlin", "teapot", "2750"]])
+        self.save()
+        self.assertEqual(self.table("lines")[2], ["3", "100", "2", None])
+        self.assertEqual(self.table("customers"), self.rows["customers"])
+
+    def test_a_product_is_pointed_to_anew_and_its_name_follows(self):
+        self.put(3, 2, "3")
+        self.assertEqual((self.changed(), self.marks()), ([["lines", 1]], []))
+        self.assertEqual(self.edited()[0][10:], ["oak tray", "4200"])
+        # One step back takes the key and what it brought.
+        self.page.key("z", CONTROL)
+        self.page.wait("!editedRows().length")
+        # A key that no row has asks for what the old one brought.
+        self.put(3, 2, "9")
+        self.page.wait("document.querySelector('tr.asks')")
+        self.assertEqual(self.edited()[0][10:], [None, None])
+        self.assertIn("type product and price", self.below())
+
+    def test_an_overwrite_of_a_hidden_product_is_marked_and_stopped(self):
+        self.put(3, 2, "3")
+        self.settled()
+        self.put(3, 10, "ash tray")
+        mark = "changes id 3 of products, which open_sales hides, for everyone: 1 row of lines shows it"
+        self.assertEqual((self.changed(), self.marks()), ([["lines", 1], ["products", 1]], [mark]))
+        self.assertIn(f"row 4: {mark}", self.below())
+        self.assertEqual(self.page.run("[...document.querySelectorAll('tr.reaches td.marked')].map((it) => it.innerText)"), ["ash tray"])
+        switch = "#tables label:nth-child(4) input"
+        self.page.click(switch)
+        self.page.wait("state.refusal")
+        self.assertEqual(self.below().split("\n"), ["Stopped: the edit would change products, which is switched off above", f"row 4: {mark}"])
+        self.page.key("s", CONTROL)
+        self.assertEqual(self.table("products"), self.rows["products"])
+        # The server stops it too, and this window remembers the switch.
+        old, new = cells(shops.OPEN[3]), [*cells(shops.OPEN[3])[:10], "ash tray", "650"]
+        reply = self.editor.edit(self.editor.read("open_sales"), [old], [new], only=["lines"])
+        self.assertEqual((reply["ok"], reply["error"]), (False, 110))
+        self.assertIn("this changes id 4 of products for everyone", reply["text"])
+        self.open("open_sales")
+        self.assertFalse(self.page.run(f"document.querySelector('{switch}').checked"))
+        self.put(3, 10, "ash tray")
+        self.page.wait("state.refusal")
+        self.page.click(switch)
+        self.page.wait("state.preview")
+        self.save()
+        self.assertIn(["4", "ash tray", "650", "90"], self.table("products"))
+
+    def test_a_save_waits_until_its_marks_were_seen(self):
+        self.page.run("setCell(shown[1], 11, '2800'), save(), null")
+        self.page.wait("state.preview && !busy")
+        self.assertEqual(self.page.run("editedRows().length"), 2)
+        self.assertEqual(self.marks(), ["changes id 2 of products for everyone: 2 rows of lines show it"])
+        self.save()
+        self.assertIn(["2", "teapot", "2800", "7"], self.table("products"))
+
+    def test_refusals_show_the_cells_that_differ(self):
+        self.paste("\t".join(["8", "100", "2", "null", "1", "2026-11-02", "open", "Ada Vogel", "10115", "Berlin", "coffee pot", "2750"]))
+        self.page.wait("document.querySelector('.fault')")
+        self.assertIn("Refused: product_id determines product, and these rows differ in it", self.below())
+        lines = "[...document.querySelectorAll('.fault tr')].map((row) => [...row.cells].map((it) => it.innerText))"
+        self.assertEqual(self.page.run(lines), [["", "product_id", "product"], ["row 2", "2", "teapot"], ["row 3", "2", "teapot"], ["row 5, edited", "2", "coffee pot"]])
+        self.assertEqual(self.page.run("[...document.querySelectorAll('tr.bad td.marked')].map((it) => it.innerText)"), ["teapot", "teapot", "coffee pot"])
+        self.page.run("sheet.focus()")
+        self.page.key("z", CONTROL)
+        self.page.wait("!editedRows().length")
+        self.put(0, 1, "102")
+        self.page.wait("document.querySelector('.fault')")
+        self.assertIn("Refused: open_sales shows only rows where status = 'open', and this one has status \"shipped\"", self.below())
+        self.assertEqual(self.page.run("[...document.querySelectorAll('tr.bad td.marked')].map((it) => it.innerText)"), ["shipped"])
+
+    def test_edits_are_completed_anew_over_rows_that_others_changed(self):
+        self.put(3, 2, "3")
+        self.settled()
+        self.editor.edit(self.editor.read("products"), [["3", "oak tray", "4200", "2"]], [["3", "oak tray", "4400", "2"]], window="other")
+        self.page.run("look()")
+        self.page.wait("state.stale")
+        self.page.click("#again")
+        self.page.wait("!state.stale && state.preview")
+        self.assertEqual((self.edited()[0][10:], self.marks()), (["oak tray", "4400"], []))
+
+    def test_a_join_by_a_column_that_both_sides_have_by_chance(self):
+        self.editor.ask("define", text="table people (id int, age int) with id -> age")
+        self.page.run("$('defining').open = true, $('text').value = 'view odd = join_dl products with people'")
+        self.page.click("#define")
+        self.page.wait("state.view === 'odd' && state.said")
+        self.assertIn("products and people are joined by id, which both have", self.below())
+        self.assertIn("(rename id to people_id from people)", self.below())
+
+    def drop(self, name, data):
+        """Drops a file on the page."""
+        script = """(() => {
+            const data = new DataTransfer();
+            data.items.add(new File([new Uint8Array(%s)], %s));
+            document.dispatchEvent(new DragEvent('drop', { dataTransfer: data, cancelable: true }));
+        })()"""
+        self.page.run(script % (json.dumps(list(data)), json.dumps(name)))
+
+    def test_a_file_is_imported_and_exported(self):
+        self.open("lines")
+        text = self.editor.ask("export_csv", view="lines")["csv"]
+        self.assertEqual(text.splitlines()[:3], ["line_id,order_id,product_id,note", "1,100,1,null", "2,100,2,as a gift"])
+        # A file of a German Excel, with another name, empty fields that may be null, a changed row, a new one, and one that is missing.
+        sheet = "Line ID;order_id;product_id;note\r\n1;100;1;\r\n2;100;2;für Ada\r\n3;101;2;\r\n4;101;4;\r\n5;102;1;\r\n7;101;1;red\r\n"
+        self.drop("lines.csv", sheet.encode("latin-1"))
+        self.page.wait("state.refusal?.choices")
+        self.page.run("look()")
+        self.assertIn("lines.csv is not imported yet: note is empty in 4 rows, and may be null", self.below())
+        self.page.click("#below button")
+        self.page.wait("state.said && state.preview")
+        self.assertEqual(self.edited(), [["2", "100", "2", "für Ada"], None, ["7", "101", "1", "red"]])
+        for told in ("lines.csv deletes 1 row, changes 1 row and adds 1 row.", "most likely in Latin-1", "Its columns stand between semicolons.", "'Line ID' is taken as line_id.", "Keep the 1 row that the file lacks"):
+            self.assertIn(told, self.below())
+        self.page.click("#below .notice button")
+        self.page.wait("state.preview")
+        self.save()
+        self.assertEqual(self.table("lines"), [["1", "100", "1", None], ["2", "100", "2", "für Ada"], *self.rows["lines"][2:], ["7", "101", "1", "red"]])
+
+    def test_a_file_that_cannot_be_imported(self):
+        for text, told in (("line_id,order_id\n1,2\n", "it lacks product_id and note"), ("line_id,order_id,product_id,note\n1,x,1,null\n", "line 2: order_id wants a whole number"),
+                           ("", "it is empty")):
+            reply = self.editor.ask("import_csv", view="lines", data=base64.b64encode(text.encode()).decode(), null=None)
+            self.assertFalse(reply["ok"])
+            self.assertIn(told, reply["text"])
+            self.assertNotIn("--", reply["text"])
+
+    def test_what_a_person_may_not_do_is_not_shown(self):
+        hidden = "['add', 'save', 'undo', 'discard', 'propose', 'defining', 'tables'].filter((id) => $(id).hidden)"
+        given = "rights = %s, definitions.forEach((it) => { it.rights = %s; }), drawNames(), drawHead(), draw()"
+        for rights, of_view, found in (([], ["read"], ["add", "save", "undo", "discard", "propose", "defining", "tables"]), ([], ["read", "preview"], ["save", "undo", "defining"]),
+                                       (["undo", "define"], ["read", "preview", "edit"], [])):
+            self.page.run(given % (json.dumps(rights), json.dumps(of_view)))
+            self.assertEqual(self.page.run(hidden), found)
+
+    def test_a_page_over_another_transport(self):
+        replies = {
+            "list": {"ok": True, "definitions": [{"name": "far", "kind": "table", "text": "", "rights": ["read", "edit", "preview"]}], "rights": []},
+            "read": {"ok": True, "columns": [{"name": "id", "kind": "int"}], "key": ["id"], "rows": [["5"]], "version": 1, "session": "s", "dependencies": [],
+                     "predicate": [], "tables": ["far"], "joins": [], "undo": ""},
+        }
+        script = """
+            window.asked = [];
+            const answers = %s;
+            window.transport = {
+              ask: async (what) => { window.asked.push(what); return answers[what] || { ok: false, error: 0, text: "gone", rows: [] }; },
+              listen(heard) { window.hear = heard; },
+            };"""
+        made = self.page.call("Page.addScriptToEvaluateOnNewDocument", source=script % json.dumps(replies))
+        self.addCleanup(lambda: self.page.call("Page.removeScriptToEvaluateOnNewDocument", identifier=made["identifier"]))
+        self.page.open(f"{self.editor.address}#far")
+        self.page.wait("state.view === 'far' && shown.length === 1")
+        self.page.run("hear()")
+        self.page.wait("state.refusal?.text === 'gone'")
+        self.assertEqual(self.page.run("[window.asked, $('save').hidden, $('undo').hidden, $('defining').hidden]"), [["list", "read", "preview"], False, True, True])
+        self.assertEqual(self.page.run("performance.getEntriesByType('resource').filter((it) => it.initiatorType === 'fetch').length"), 0)
 
 
 if __name__ == "__main__":

@@ -16,7 +16,7 @@ class Gate(unittest.TestCase):
         room = tempfile.TemporaryDirectory()
         self.addCleanup(room.cleanup)
         self.room = room.name
-        self.write("bin/id", f"#!/bin/sh\necho 0\n")
+        self.write("bin/id", "#!/bin/sh\necho 0\n")
         for name in ("bin/rt", "bin/apt-get", "tools/install_test_packages", "examples/check", "clients/check"):
             self.stub(name)
         os.mkdir(f"{self.room}/.ci")
@@ -67,21 +67,30 @@ class Gate(unittest.TestCase):
         self.write("clients/check", "#!/bin/sh\necho left out: all\n: >>called\n")
         status, told, _ = self.run_gate()
         self.assertEqual((status, told.split("\n")[-3:]), (0, ["left out: all", ".ci/run: tools/install_test_packages failed: no network", ""]))
-        self.write("clients/check", f"#!/bin/sh\n: >>called\nexit 7\n")
+        self.write("clients/check", "#!/bin/sh\n: >>called\nexit 7\n")
         self.assertEqual(self.run_gate()[0], 7)
 
     def test_packages_are_installed_by_root_alone(self):
-        self.write("bin/id", f"#!/bin/sh\necho 1000\n")
+        self.write("bin/id", "#!/bin/sh\necho 1000\n")
         self.assertEqual(self.run_gate(), (0, "", [name for name in self.ALL if not name.startswith("tools")]))
 
-    def test_all_packages_are_installed(self):
-        self.write("bin/apt-get", f"#!/bin/sh\necho $* >>{self.room}/called\n")
+    def install(self, installed):
+        """The calls of apt-get by the command that installs packages, where some are installed."""
+        self.write("bin/apt-get", f'#!/bin/sh\necho "$*" >>{self.room}/called\n')
+        self.write("bin/dpkg-query", f"#!/bin/sh\nfor last; do :; done\ncase ' {' '.join(installed)} ' in *\" $last \"*) echo installed ;; *) exit 1 ;; esac\n")
         settings = {**os.environ, "PATH": f"{self.room}/bin:/usr/bin:/bin"}
+        with open(f"{self.room}/called", "w"):
+            pass
         subprocess.run([f"{TOP}/tools/install_test_packages"], env=settings, check=True)
         with open(f"{self.room}/called") as file:
-            update, install = file.read().split("\n")[:-1]
-        self.assertEqual(update, "update")
-        self.assertEqual([word for word in install.split()[1:] if not word.startswith("-")], list(PACKAGES))
+            return file.read().split("\n")[:-1]
+
+    def test_packages_that_are_not_there_are_installed(self):
+        for installed in ([], ["chromium", "python3-wheel"]):
+            update, install = self.install(installed)
+            self.assertEqual(update, "update")
+            self.assertEqual([word for word in install.split()[1:] if not word.startswith("-")], [name for name in PACKAGES if name not in installed])
+        self.assertEqual(self.install(list(PACKAGES)), [])
 
 
 if __name__ == "__main__":

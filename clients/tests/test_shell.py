@@ -1,5 +1,6 @@
 """The shell, and the program that makes a store with other definitions."""
 import os
+import shlex
 import stat
 import subprocess
 import sys
@@ -9,6 +10,7 @@ import unittest
 HERE = os.path.dirname(os.path.abspath(__file__))
 CLIENTS = os.path.dirname(HERE)
 sys.path[:0] = [CLIENTS, HERE]
+import shops
 from cigrelk import TOP, Server
 from run import said
 
@@ -26,6 +28,33 @@ Lullaby,1,Galore,"9"
 def run(program, *words, text=""):
     """The finished run of a client, with what it printed."""
     return subprocess.run([f"{TOP}/cigrelk", program, *words], input=text, capture_output=True, text=True)
+
+
+def at_terminal(lines, *words):
+    """What a shell at a terminal prints, which is given a line at each prompt and each question."""
+    import pty
+
+    terminal, other = pty.openpty()
+    process = subprocess.Popen([f"{TOP}/cigrelk", "shell", *words], stdin=other, stdout=other, stderr=other, env={**os.environ, "TERM": "dumb", "HOME": "/nowhere"})
+    os.close(other)
+    printed = b""
+    for line in lines:
+        while not printed.endswith((b"> ", b"(yes or no) ")):
+            printed += os.read(terminal, 1 << 16)
+        os.write(terminal, line.encode() + b"\n")
+        printed += b"\n"
+    process.wait(60)
+    try:
+        while True:
+            more = os.read(terminal, 1 << 16)
+            if not more:
+                break
+            printed += more
+    except OSError:
+        # This is how the end of a terminal is told.
+        pass
+    os.close(terminal)
+    return printed.decode()
 
 
 class Room(unittest.TestCase):
@@ -49,7 +78,7 @@ class Shell(Room):
         with open(f"{HERE}/shell.commands") as commands, open(f"{HERE}/shell.printed") as printed:
             text = commands.read().replace("PROPOSAL", f"{self.room}/proposal").replace("FAULTS", faults)
             done = run("shell", text=text)
-            self.assertEqual((done.stdout, done.returncode), (printed.read(), 1), done.stderr)
+            self.assertEqual((done.stdout, done.returncode), (printed.read().replace("FAULTS", faults), 1), done.stderr)
 
     def test_lines_that_are_wrong_change_nothing(self):
         files = {
@@ -58,14 +87,14 @@ class Shell(Room):
         }
         paths = {name: self.file(name, text) for name, text in files.items()}
         loads = [(f"load goods {path}", told) for path, told in (
-            (paths["other.csv"], "columns name, number"), (paths["short.csv"], "line 3: it has 1 cell,"), (paths["long.csv"], "line 2: it has 3 cells,"), (paths["word.csv"], "line 2: quantity wants"),
-            (paths["empty.csv"], "columns of no name"), (paths["open.csv"], "Error"), (paths["bytes.csv"], "UnicodeDecodeError"), (paths["zero.csv"], "NUL" if sys.version_info < (3, 11) else "no U+0000"), ("/nowhere.csv", "No such file"))]
+            (paths["other.csv"], "Add --columns 'number=quantity'"), (paths["short.csv"], "line 3: it has 1 cell,"), (paths["long.csv"], "line 2: it has 3 cells,"), (paths["word.csv"], "line 2: quantity wants"),
+            (paths["empty.csv"], "it is empty"), (paths["open.csv"], "line 2 is no CSV"), (paths["bytes.csv"], "--encoding latin-1"), (paths["zero.csv"], "NUL" if sys.version_info < (3, 11) else "without U+0000"), ("/nowhere.csv", "/nowhere.csv: No such file"))]
         lines = loads + [
-            ('{"do":', "JSONDecodeError"), ('add goods name="open', "No closing quotation"), ("load goods", "one file is wanted"), ("read goods where", "where COLUMN=VALUE"),
-            ("read goods were name=a", "where COLUMN=VALUE"), ("delete goods", "so that a slip"), ("change goods name=a", "the word set is missing"), ("preview list", "add, change or delete"),
+            ('{"do":', "this is no JSON"), ('add goods name="open', "No closing quotation"), ("load goods", "the following arguments are required: file"), ("read goods where", "the word where and a condition"),
+            ("read goods were name=a", "the word where and a condition"), ("delete goods", "so that a slip"), ("change goods name=a", "the word set is missing"), ("preview list", "add, change or delete"),
             ("add goods name=a quantity=x", "a whole number"), ("add goods name=a quantity=1.5", "a whole number"), ("add goods name=a quantity=99999999999999999999", "a whole number"),
-            ("add goods name=a quantity=9999999999999999999", "not of its kind"), ("add goods name=a number=1", "which has name, quantity"), ("shows goods2", "is no table"),
-            (f"review {paths['twice']}", "line 1 is no edit"), ("propose", "the name of a file"), ("undo", "no change is left to undo"), ("save goods /nowhere/goods.csv", "No such file"),
+            ("add goods name=a quantity=9999999999999999999", "a whole number of 64 bits"), ("add goods name=a number=1", "which has name, quantity"), ("shows goods2", "is no table"),
+            (f"review {paths['twice']}", "line 1 is no edit"), ("propose", "the name of a file"), ("undo", "no change is left to undo"), ("export goods /nowhere/goods.csv", "No such file"),
         ]
         done = run("shell", text="table goods (name text, quantity int)\n" + "".join(f"{line}\n" for line, _ in lines) + "read goods\n")
         self.assertEqual((done.returncode, said(done.stderr)), (1, ""))
@@ -77,7 +106,7 @@ class Shell(Room):
 
     def test_a_file_of_rows(self):
         store, path = f"{self.room}/shop.db", self.file("goods.csv", 'quantity,name\r\n7,"an ""axe"",\nsharp"\n1,nail\n')
-        done = run("shell", store, text=f"table goods (name text, quantity int)\ncheck goods {path}\nload goods {path}\nsave goods {path}\n")
+        done = run("shell", store, text=f"table goods (name text, quantity int)\ncheck goods {path}\nload goods {path}\nexport goods {path}\n")
         self.assertEqual(done.returncode, 0, done.stdout)
         with open(path, newline="") as file:
             self.assertEqual(file.read(), 'name,quantity\r\n"an ""axe"",\nsharp",7\r\nnail,1\r\n')
@@ -94,37 +123,65 @@ class Shell(Room):
 
     def test_batches_and_undo(self):
         table = ("table goods (name text, quantity int) with name -> quantity\nview big = select from goods where quantity > 2", "")
-        add = ("add goods name=axe quantity=7", "kept as edit 0\n")
+        add = ("add goods name=axe quantity=7", "kept as edit 1\n")
         self.assertEqual(self.in_turn([
-            table, ("batch", ""), add, ("change goods name=nothing set quantity=1", "kept as edit 1\n"), ("add big name=saw quantity=4", "kept as edit 2\n"), ("preview add big name=nail quantity=9", '+ goods: name "nail"'),
+            table, ("batch", ""), add, ("change goods name=nothing set quantity=1", "kept as edit 2\n"), ("add big name=saw quantity=4", "kept as edit 3\n"), ("preview add big name=nail quantity=9", '+ goods: name "nail"'),
             ("done", '+ goods: name "axe", quantity 7\n+ goods: name "saw", quantity 4\n'), ("goods", "(2 rows, version 3)\n"), ("batch", ""), add, ("drop", ""),
             ("undo", '- goods: name "axe", quantity 7\n- goods: name "saw", quantity 4\n'), ("goods", "(0 rows, version 4)\n")]), 0)
         for lines, told in (
-            ([("batch", ""), add, ("add big name=nail quantity=1", "kept as edit 1\n"), ("done", 'OffPredicate: edit 1, counted from 0, of big: the view does not show such a row: name "nail", quantity 1\n')], "(0 rows, version 2)"),
-            ([("batch", ""), ("add goods name=axe", "kept as edit 0\n"), ("add goods prize=9", "'prize=9' is no COLUMN=VALUE"), ("done", "a line of this batch was refused, so nothing of it is done\n")], "(0 rows, version 2)"),
+            ([("batch", ""), add, ("add big name=nail quantity=1", "kept as edit 2\n"), ("done", 'OffPredicate: edit 2, of big: the view does not show such a row: name "nail", quantity 1\n')], "(0 rows, version 2)"),
+            ([("batch", ""), add, ("add goods prize=9", "'prize=9' is no COLUMN=VALUE"), ("done", "a line of this batch was refused, so nothing of it is done\n")], "(0 rows, version 2)"),
             ([("done", "there is no batch"), ("batch", ""), ("batch", "a batch is under way"), ("drop", ""), ("drop", "there is no batch"), ("undo", "NothingToUndo")], "(0 rows, version 2)"),
             ([("batch", ""), add], "(0 rows, version 2)\nthe batch was not done\n"),
         ):
             self.assertEqual(self.in_turn([table, *lines, ("goods", told)]), 1)
 
+    def test_what_keys_determine_need_not_be_given(self):
+        definitions = "".join(f"{text}\n" for text in shops.DEFINITIONS)
+        rows = [(f"add {table} " + " ".join(f"{name}={shlex.quote('null' if it is None else str(it))}" for name, it in zip(shops.COLUMNS[table], row)), f"+ {table}: ")
+                for table, rows in shops.ROWS.items() for row in rows]
+        self.assertEqual(self.in_turn([
+            (definitions.strip(), ""), *rows, ("add open_sales line_id=7 order_id=100 product_id=3", "+ lines: line_id 7, order_id 100, product_id 3, note null\n"),
+            ("preview change open_sales line_id=4 set product_id=3", "- lines: line_id 4, order_id 101, product_id 4, note null\n    changed in open_sales\n+ lines: line_id 4, order_id 101, product_id 3, note null\n"),
+            ("add open_sales line_id=8 product_id=3", "give order_id too: nothing determines it\n"), ("change open_sales line_id=4 set order_id=9", "give customer_id, placed and status too: nothing determines them\n"),
+            ("type open_sales", "joins:        lines with orders by order_id, orders with customers by customer_id, lines with products by product_id\n"),
+            ("table people (id int, age int) with id -> age", ""), ("view odd = join_dl products with people", "warning: products and people are joined by id, which both have."),
+            ("open_sales", "(5 rows, ")]), 1)
+
     def test_a_file_that_is_exported_and_imported(self):
         path, other = f"{self.room}/goods.csv", self.file("other.csv", "\ufeffquantity,name\r\n9,axe\r\n")
         self.assertEqual(self.in_turn([
             ("table goods (name text, quantity int) with name -> quantity", ""), ('add goods name="an axe" quantity=7', ""), (f"export goods {path}", ""), (f"import goods {path}", "no change\n"),
-            (f"import goods {other}", '- goods: name "an axe", quantity 7\n+ goods: name "axe", quantity 9\n'), ("undo", '+ goods: name "an axe", quantity 7'), (f"import goods {path}", "Stale"),
-            (f"export goods {path}", ""), (f"import goods {path}", "no change"), (f"import goods {self.file('wrong.csv', 'name,quantity' + chr(10) + 'axe,9.5')}", 'BadRecord: line 2 of the CSV, its record 1: quantity wants'),
-            ("import goods /nowhere.csv", "No such file"), ("table people (name text, boss text null)", ""), (f"export people {path}2", "NullableColumn: the column 'boss' may be null")]), 1)
+            (f"import goods {other} --yes", 'goods: this would delete 1 row, add 1 row\n- name "an axe", quantity 7\n+ name "axe", quantity 9\ngoods: 1 row added, 1 row deleted\n'),
+            ("undo", '+ goods: name "an axe", quantity 7'), (f"import goods {path} --yes", "Stale"),
+            (f"export goods {path}", ""), (f"import goods {path}", "no change"), ("import goods /nowhere.csv", "No such file")]), 1)
         with open(path, newline="") as file:
-            self.assertEqual((file.read(), os.path.exists(f"{path}2")), ("name,quantity\nan axe,7\n", False))
+            self.assertEqual(file.read(), "name,quantity\r\nan axe,7\r\n")
+
+    def test_an_import_asks_first(self):
+        rows = "".join(f"g{n},{n}\n" for n in range(20))
+        path, short = self.file("all.csv", f"name,quantity\n{rows}"), self.file("short.csv", "name,quantity\ng1,11\ng2,2\nnew,1\n")
+        told = "goods: this would delete 18 rows, change 1 row, add 1 row\n- name \"g0\", quantity 0\n"
+        self.assertEqual(self.in_turn([
+            ("table goods (name text, quantity int) with name -> quantity", ""), (f"load goods {path}", "goods: 20 rows added\n"),
+            (f"import goods {short}", told), ("goods", "- .. and 13 more\n~ name \"g1\", quantity 1 -> quantity 11\n+ name \"new\", quantity 1\nnothing was done: add --yes"), ("goods", "(20 rows, version 2)"),
+            (f"import goods {short} --yes", "goods: 1 row added, 1 row changed, 18 rows deleted\n"), ("goods", "(3 rows, version 3)")]), 1)
+        # at a terminal it asks
+        store = f"{self.room}/shop.db"
+        run("shell", store, text=f"table goods (name text, quantity int) with name -> quantity\nload goods {path}\n")
+        for answer, rows in (("no", 20), ("yes", 3)):
+            self.assertIn("do it? (yes or no)", at_terminal([f"import goods {short}", answer, "quit"], store))
+            with Server(store) as server:
+                self.assertEqual(len(server["goods"].read()), rows)
 
     def test_nulls(self):
         path = self.file("people.csv", 'name,boss,age\r\nann,null,null\r\nbob,"""null""",7\r\ncy,"""""null""""",0\r\n')
         lines = [
-            ("table people (name text, boss text null, age int null) with name -> boss age", ""), (f"load people {path}", '+ people: name "cy", boss "\\"null\\"", age 0'),
+            ("table people (name text, boss text null, age int null) with name -> boss age", ""), (f"load people {path}", "people: 3 rows added\n"), ("read people where name=cy", 'cy    ""null""    0'),
             ("read people where boss=null", "ann   null  null"), ("read people where boss='\"null\"'", 'bob   "null"    7'), ("add people name=di boss=null age=x", "age wants a whole number of 64 bits or null"),
-            ("add people name=null boss=ann age=null", '+ people: name "null", boss "ann", age null'), ("add people name=ed boss=ann", "the column 'age' is missing"),
+            ("add people name=null boss=ann age=null", '+ people: name "null", boss "ann", age null'), ("add people name=ed boss=ann", '+ people: name "ed", boss "ann", age null'), ("delete people name=ed", "- people"),
             ("change people boss=null set boss=ann age=1", '+ people: name "ann", boss "ann", age 1'), ("undo", '+ people: name "ann", boss null, age null'), ("type people", "name text, boss text null, age int null"),
-            ("delete people name=null", '- people: name "null", boss "ann", age null'), (f"save people {path}2", ""), (f"check people {path}2", "(0 faults)"),
+            ("delete people name=null", '- people: name "null", boss "ann", age null'), (f"export people {path}2", ""), (f"check people {path}2", "(0 faults)"),
         ]
         self.in_turn(lines)
         with open(path, newline="") as one, open(f"{path}2", newline="") as other:
@@ -148,6 +205,9 @@ class Rebuild(Room):
             before = file.read()
         file = self.file("definitions", "# with a price\ntable stock (title text, quantity int, price int) with title -> quantity price\n\nview few = select from stock where quantity < 4\n")
         self.assertEqual(run("rebuild", f"{self.room}/olt.db", new, file).returncode, 1)
+        printed = run("rebuild", old)
+        self.assertEqual((printed.returncode, printed.stdout), (0, "table albums (album text, quantity int)\nview few = select from albums where quantity < 4\n"))
+        self.assertEqual(run("rebuild", old, new).returncode, 2)
         self.assertFalse(os.path.exists(f"{self.room}/olt.db"))
         words = (old, new, file, "stock=albums", "stock.title=.album")
         for more, told in (((), "new column price"), (("stock.price=x",), "stock.price=x"), (("stock.price=1", "stock.prize=1"), "stock.prize=1"),
