@@ -4,30 +4,15 @@ import os
 import re
 import sys
 import tempfile
-import time
 
 from ..errors import CommandError
+from ..progress import Progress
 from ..refusals import refusal
 from ..server import Server
 from ..texts import counted
 
 # The end of a reply to an edit that was accepted. The reply has all rows again, which nobody reads here: each has a key of its own.
 ACCEPTED = re.compile(rb'"ok":true,"version":[0-9]+\}$')
-
-
-class Progress:
-    """A line on standard error that is written over, if it is a terminal; else a line for each table."""
-
-    def __init__(self):
-        self.is_terminal, self.last = sys.stderr.isatty(), 0.0
-
-    def tell(self, name, done, total, at_end=False):
-        now = time.monotonic()
-        if at_end or (self.is_terminal and now - self.last > 0.1):
-            self.last = now
-            bar = "#" * (20 * done // total if total else 20)
-            text = f"{name}: {done:,} of {counted(total, 'row')}"
-            print(f"\r[{bar:20}] {text}" if self.is_terminal else text, end="\n" if at_end or not self.is_terminal else "", file=sys.stderr, flush=True)
 
 
 def problems(source, definitions):
@@ -42,27 +27,27 @@ def load(source, definitions, store):
     if os.path.lexists(store):
         raise CommandError(f"{store} is there already")
     problems(source, definitions)
-    progress = Progress()
     with tempfile.TemporaryDirectory(prefix=".take-", dir=os.path.dirname(os.path.abspath(store))) as room:
         made = f"{room}/new.db"
         with Server(made) as program:
             for text in definitions.texts:
                 program.define(text)
             for described in definitions.described.values():
-                fill(program, source, described, progress)
+                fill(program, source, described)
         os.link(made, store)
 
 
-def fill(program, source, described, progress):
+def fill(program, source, described):
     """Fills a table. Rows go to the program as the texts that came, since to read and write them anew would take longer than all else."""
     total, done = source.count(described.table), 0
-    for rows in source.batches(described.table, described.columns, described.surrogate):
-        line = f'{{"do":"edit","view":"{described.name}","remove":[],"add":[{",".join(rows)}]}}'
-        reply = program.pass_on(line.encode())
-        if not ACCEPTED.search(reply, len(reply) - 64):
-            raise CommandError(f"{described.name}, in the rows from {done + 1:,} on: {refusal(json.loads(reply), json.loads(line))}")
-        done += len(rows)
-        progress.tell(described.name, done, total)
-    progress.tell(described.name, done, total, True)
+    with Progress(described.name) as progress:
+        for rows in source.batches(described.table, described.columns, described.surrogate):
+            line = f'{{"do":"edit","view":"{described.name}","remove":[],"add":[{",".join(rows)}]}}'
+            reply = program.pass_on(line.encode())
+            if not ACCEPTED.search(reply, len(reply) - 64):
+                raise CommandError(f"{described.name}, in the rows from {done + 1:,} on: {refusal(json.loads(reply), json.loads(line))}")
+            done += len(rows)
+            progress.to(done, total)
     if done != total:
         raise CommandError(f"{described.name} has {total:,} rows, and {done:,} came")
+    print(f"{described.name}: {counted(done, 'row')}", file=sys.stderr)
