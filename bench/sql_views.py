@@ -127,7 +127,7 @@ FORMS = (
     "table t (a int, b int, c int, d text) with a -> b c", "table u (d text, e int null) with d -> e", "table w (e int null, f int) with e -> f",
     "view left_of = join_dl t with u", "view right_of = join_dr t with u", "view both_of = join_both t with u", "view of_nulls = join_dl u with w",
     "view narrow = drop c determined by (a, 0) from left_of", "view some = select from narrow where b > 1", "view others = select from t where not b = 1",
-    "view low = select from u where not (e > 1)",
+    "view low = select from u where not (e > 1)", "view high = select from u where e > 1",
 )
 
 
