@@ -111,9 +111,9 @@ class HubAt:
         time.sleep(0.2)
 
     def program(self):
-        """The number of the program's process."""
+        """The number of the program's process: the hub's youngest, since one that was killed may not have been waited for yet."""
         with open(f"/proc/{self.process.pid}/task/{self.process.pid}/children") as file:
-            return int((file.read().split() or [0])[0])
+            return int((file.read().split() or [0])[-1])
 
     def stop(self):
         self.process.terminate()

@@ -907,7 +907,7 @@ class Shop(OnPage):
         self.page.wait("state.view === 'far' && shown.length === 1")
         self.page.run("hear()")
         self.page.wait("state.refusal?.text === 'gone'")
-        self.assertEqual(self.page.run("[window.asked, $('save').hidden, $('undo').hidden, $('defining').hidden]"), [["list", "read", "preview"], False, True, True])
+        self.assertEqual(self.page.run("[window.asked.filter((it) => it !== 'shown_by'), $('save').hidden, $('undo').hidden, $('defining').hidden]"), [["list", "read", "preview"], False, True, True])
         self.assertEqual(self.page.run("performance.getEntriesByType('resource').filter((it) => it.initiatorType === 'fetch').length"), 0)
 
 
