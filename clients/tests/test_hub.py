@@ -320,7 +320,7 @@ class Ends(unittest.TestCase):
         """Kills so many times while edits go on, each time when some more were answered."""
         try:
             for _ in range(times):
-                before, deadline = len(told), time.monotonic() + 10
+                before, deadline = len(told), time.monotonic() + 60
                 while sum(status == 200 for _, status in told[before:]) < 3 and time.monotonic() < deadline:
                     time.sleep(0.01)
                 kill()
