@@ -323,12 +323,18 @@ class Engine:
             status = await program.ended
             if status == STORE_IS_HELD and time.monotonic() < deadline:
                 return False
+            if status < 0 and len(self.starts) < MOST_STARTS:
+                # A signal ended it while it started, which may spare the next one. It counts as a start.
+                self.starts.append(time.monotonic())
+                return False
             damage = f": {program.damage.decode(errors='replace')}" if program.damage else ""
             raise Closing(f"the program ended with status {status}{damage}") from None
         self.starts.append(time.monotonic())
         try:
             await self.restarted(program, listed)
         except Unknown:
+            if len(self.starts) < MOST_STARTS:
+                return False
             raise Closing("the program ended at its start") from None
         self.program = program
         return True
