@@ -10,7 +10,7 @@ use Rattle.lens_specs.specs.Lens.{Tables}
 use Rattle.lens_laws.proofs.Alone.{are_differences}
 use Rattle.lens_specs.specs.TableDeltas.{LeadTo, inverted}
 use Rattle.base_index.specs.Held.{AllApply, with_deltas}
-use Rattle.request_text.specs.Answers.{answer_view}
+use Rattle.reply_printing.specs.Answers.{answer_view}
 use Rattle.server_specs.specs.Answer as answers
 use Rattle.server_specs.specs.Changing.{accept, with_last}
 use Rattle.server_specs.specs.State.{State, remember}

@@ -8,7 +8,7 @@ use Rattle.lens_specs.specs.Names.{Name}
 use Rattle.lens_specs.specs.TableDeltas.{AreDeltas, LeadTo}
 use Rattle.base_index.specs.Held.{AllApply, with_deltas}
 use Rattle.catalog_specs.specs.Catalogue.{catalogue}
-use Rattle.request_text.specs.Answers.{answer_view}
+use Rattle.reply_printing.specs.Answers.{answer_view}
 use Rattle.server_specs.specs.Answer.{Answer, changed}
 use Rattle.server_specs.specs.Changing.{with_last}
 use Rattle.server_specs.specs.State.{State, remember}

@@ -19,7 +19,7 @@ use lens_probe::needs;
 use lens_types::TypedLens;
 use lens_values::{Columns, Name, NoMemory};
 use opened_view::LastChanges;
-use request_text::{Reply, reply_text, store_fault_reply};
+use reply_printing::{Reply, reply_text, store_fault_reply};
 use std::alloc::Global;
 use std::sync::ledger::Ledger;
 use step_counter::Steps;

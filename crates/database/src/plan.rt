@@ -4,7 +4,7 @@ ghost use Rattle.database.specs.Plans.{change_of, definition_of};
 
 use lens_values::{Name, Text};
 use opened_view::LastChanges;
-use request_text::Answer;
+use reply_printing::Answer;
 use signed_delta::TableDelta;
 use table_keeper::Change;
 use view_catalog::Prepared;

@@ -9,7 +9,7 @@ ghost use Rattle.database.specs.Databases.{CanAccept, IsChange, IsPlan, state_of
 use crate::database::Database;
 use crate::plan::{PastStep, Plan, Staged, StagedChange};
 use lens_values::{NoMemory, copied};
-use request_text::{Answer, Changes};
+use reply_printing::{Answer, Changes};
 use signed_delta::TableDelta;
 use std::alloc::Global;
 

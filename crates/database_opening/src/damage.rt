@@ -6,7 +6,7 @@ ghost use Rattle.opening_specs.specs.Opening.{bad_row, clash_in, damage_data, da
 ghost use Rattle.database_opening.specs.Openings.{damage_view};
 
 use lens_values::{Name, NoMemory, Row};
-use request_text::row_value;
+use reply_printing::row_value;
 use serde_json::{Value, json};
 use std::alloc::Global;
 

@@ -7,7 +7,7 @@ ghost use Rattle.server_specs.specs.Answer.{memory, text};
 ghost use Rattle.rehearsal.specs.Summary.{is_ok, rows_shown};
 
 use lens_values::NoMemory;
-use request_text::{Reply, memory_reply};
+use reply_printing::{Reply, memory_reply};
 use serde_json::Value as Json;
 use std::alloc::Global;
 

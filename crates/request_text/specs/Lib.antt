@@ -1,12 +1,5 @@
 pub mod Answers
-pub mod Blames
-pub mod ChangesCode
 pub mod Edits
-pub mod ItemsCode
-pub mod Printing
-pub mod ReplyBytes
-pub mod RequestKinds
 pub mod Requests
 pub mod RowFaults
-pub mod SentRows
 pub mod Told

@@ -8,7 +8,7 @@ ghost use Rattle.lens_io.specs.Calls.{OffersAll, OffersRest};
 ghost use Rattle.serving.specs.Running.{usage};
 
 use lens_io::{Failed, Sink, give_all};
-use request_text::Reply;
+use reply_printing::Reply;
 
 const USAGE: &[u8; 66] = b"usage: view_program [--store PATH] [--max-input N] [--rehearse N]\n";
 

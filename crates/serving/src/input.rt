@@ -19,7 +19,7 @@ use crate::opening::{open, refuse};
 use command_words::Settings;
 use lens_io::{Cut, Failed, LineCutter, Sink, Source};
 use lens_server::Server;
-use request_text::{Reply, long_reply};
+use reply_printing::{Reply, long_reply};
 use std::alloc::Global;
 use std::sync::ledger::{Blank, Ledger};
 use step_counter::Steps;

@@ -13,8 +13,8 @@ use Rattle.lens_specs.specs.Lens.{Lens, Tables, get, sort_of}
 use Rattle.lens_specs.specs.Relation.{Rows, minus}
 use Rattle.request_text.specs.RowFaults.{bad_row as bad_of, set_of}
 use Rattle.request_text.specs.Told.{RefusesBy}
-use Rattle.request_text.specs.declared.rows.RowsFault.{RowsFault}
-use Rattle.request_text.specs.declared.rows.RowsFault.TheVariants as rows_fault
+use Rattle.request_reading.specs.declared.rows.RowsFault.{RowsFault}
+use Rattle.request_reading.specs.declared.rows.RowsFault.TheVariants as rows_fault
 use Rattle.server_specs.proofs.Sent.{sent_fit}
 use Rattle.server_specs.specs.Changing.{as_set}
 use Rattle.server_specs.specs.EditRefusal.{Listed, bad_row}

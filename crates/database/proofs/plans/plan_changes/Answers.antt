@@ -1,6 +1,6 @@
 use Rattle.std.proofs.Common.{◌∙◌, ap, refl, sym}
 use Rattle.std.specs.Prelude.{◌==◌, length, map}
-use Rattle.request_text.specs.Answers.{answer_view}
+use Rattle.reply_printing.specs.Answers.{answer_view}
 use Rattle.server_specs.specs.Answer.{changed}
 use Rattle.signed_delta.specs.Tables.{table_delta}
 use Rattle.database.proofs.Changed.{change_to, changes_planned, nothing_planned, told_none, told_some}

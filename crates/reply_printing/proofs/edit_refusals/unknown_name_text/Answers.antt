@@ -1,0 +1,10 @@
+use Rattle.std.proofs.Common.{◌≡◌, IfOk, subst, sym}
+use Rattle.server_specs.specs.Answer.{text}
+use Rattle.server_specs.specs.EditRefusal as refusals
+use Rattle.reply_printing.specs.Printing.{json_line}
+use Rattle.reply_printing.proofs.Parts.{edit_refused}
+use Rattle.reply_printing.proofs.edit_refusals.unknown_name_text.Goals as goal
+
+pub returns : goal.returns
+unfolding text
+returns c = subst (λ d. IfOk c.refused_text.result (λ reply. reply ≡ json_line d)) (sym (edit_refused c.args.edit (refusals.unknown_name c.args.name.now))) c.refused_text.ensures

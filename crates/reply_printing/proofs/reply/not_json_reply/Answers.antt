@@ -1,0 +1,9 @@
+use Rattle.std.proofs.Common.{refl}
+use Rattle.std.specs.Fmt.{digits}
+use Rattle.server_specs.specs.Answer.{text}
+use Rattle.serde_json.proofs.OnLiterals.{serde_json_on_literals}
+use Rattle.reply_printing.proofs.reply.not_json_reply.Goals as goal
+
+pub returns : goal.returns
+unfolding text serde_json_on_literals digits
+returns c = refl

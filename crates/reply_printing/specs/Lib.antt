@@ -1,0 +1,5 @@
+pub mod Answers
+pub mod ChangesCode
+pub mod Printing
+pub mod Refusals
+pub mod ReplyBytes

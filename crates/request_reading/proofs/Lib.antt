@@ -1,0 +1,10 @@
+pub mod Batched
+pub mod Beside
+pub mod Columns
+pub mod Faults
+pub mod Objects
+pub mod Others
+pub mod Rising
+pub mod Said
+pub mod Sending
+pub mod Wanted

@@ -1,0 +1,13 @@
+use Rattle.std.proofs.Common.{◌≡◌, length, take}
+use Rattle.std.specs.Prelude.{Ok}
+use Rattle.std.specs.List.{zip}
+use Rattle.borrowed_json.specs.Meaning.{members_data}
+use Rattle.lens_values.specs.SortedMap.{keys_of}
+use Rattle.server_specs.specs.Sending as spec
+use Rattle.request_reading.proofs.rows.values_in.Given as goal
+
+abbrev pub invariant-loop-column : goal.invariant-loop-column
+invariant-loop-column l = record {
+  as_many : l.column-index ≡ length l.values.items;
+  so_far : spec.pairs_in (take l.column-index l.columns) (members_data l.members) ≡ Ok (zip (keys_of (take l.column-index l.columns)) l.values.items);
+}

@@ -1,9 +1,0 @@
-use Rattle.std.proofs.Common.{◌∷◌, take}
-use Rattle.json.specs.Token.{begin_array}
-use Rattle.server_specs.specs.Answer.{edge_data}
-use Rattle.request_text.specs.Printing.{Adds}
-use Rattle.request_text.proofs.Tokens.{each_tokens}
-use Rattle.request_text.proofs.describing.print_edge_list.Given as goal
-
-abbrev pub invariant-loop-edge : goal.invariant-loop-edge
-invariant-loop-edge l = Adds l.fn.out l.out (begin_array ∷ each_tokens edge_data (take l.edge-index l.edges))

@@ -1,9 +1,0 @@
-use Rattle.std.proofs.Common.{◌∷◌, take}
-use Rattle.json.specs.Token.{begin_array}
-use Rattle.serde_json.specs.Data.{string}
-use Rattle.request_text.specs.Printing.{Adds}
-use Rattle.request_text.proofs.Tokens.{each_tokens}
-use Rattle.request_text.proofs.describing.print_text_list.Given as goal
-
-abbrev pub invariant-loop-text : goal.invariant-loop-text
-invariant-loop-text l = Adds l.fn.out l.out (begin_array ∷ each_tokens string (take l.text-index l.texts))

@@ -1,9 +1,0 @@
-use Rattle.std.proofs.Common.{◌∷◌, take}
-use Rattle.json.specs.Token.{begin_array}
-use Rattle.server_specs.specs.Answer.{row_data}
-use Rattle.request_text.specs.Printing.{Adds}
-use Rattle.request_text.proofs.Tokens.{each_tokens}
-use Rattle.request_text.proofs.printing.print_rows.Given as goal
-
-abbrev pub invariant-loop-row : goal.invariant-loop-row
-invariant-loop-row l = Adds l.fn.out l.out (begin_array ∷ each_tokens row_data (take l.row-index l.row-items))

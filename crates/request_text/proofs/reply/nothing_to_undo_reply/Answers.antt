@@ -1,9 +1,0 @@
-use Rattle.std.proofs.Common.{refl}
-use Rattle.std.specs.Fmt.{digits}
-use Rattle.server_specs.specs.Answer.{text}
-use Rattle.serde_json.proofs.OnLiterals.{serde_json_on_literals}
-use Rattle.request_text.proofs.reply.nothing_to_undo_reply.Goals as goal
-
-pub returns : goal.returns
-unfolding text serde_json_on_literals digits
-returns c = refl

@@ -1,7 +1,0 @@
-use Rattle.std.proofs.Common.{◌∙◌, ap}
-use Rattle.lens_values.specs.SortedSet as set
-use Rattle.request_text.proofs.Entries.{columns_named}
-use Rattle.request_text.proofs.rows.rows_of.Goals as goal
-
-pub rows_in-requires : goal.rows_in-requires
-rows_in-requires c = ap set.items c.in_ok-names.ensures ∙ columns_named c.args.columns.now
