@@ -1,5 +1,5 @@
 #!/usr/bin/env python3
-"""Measures the program, and prints the table of docs/SPEED.md: the time of each line, and peak memory."""
+"""Measures the time of requests of many rows, and others, with the peak memory after each."""
 import json
 import os
 import re
@@ -9,7 +9,7 @@ import subprocess
 import tempfile
 import time
 
-from program import UNDO, Server, arguments, batch, define, edit, find, must_begin, options, put
+from program import UNDO, Server, arguments, batch, define, edit, find, must_begin, options, print_head, put
 
 ROWS = 100_000
 HIDING = 125_000
@@ -121,7 +121,7 @@ def edits(program, folder):
     first, last = [shown[0]], [shown[-1]]
     some, many = shown[ROWS // 10 : ROWS // 5], shown[ROWS // 4 : ROWS * 3 // 4]
     steps = [
-        (f"edit of a view of {len(shown):,} rows, one row replaced, with `--store`", edit("shown", last, map(renamed, last)), b'{"changed":[{'),
+        (f"edit of a view of {len(shown):,} rows, one row replaced, with `--store`, the first after a put", edit("shown", last, map(renamed, last)), b'{"changed":[{'),
         ("preview of such an edit", edit("shown", first, map(renamed, first), "preview"), b'{"changed":[{'),
         (f"edit of that view, {len(some):,} rows replaced, with `--store`", edit("shown", some, map(renamed, some)), b'{"changed":[{'),
         ("the same edit again, which changes nothing", edit("shown", some, map(renamed, some)), b'{"changed":[],'),
@@ -146,11 +146,11 @@ def in_batches(program, folder):
         begin = time.perf_counter()
         for line in lines:
             must_begin(server.ask(line)[0], b'{"changed":[{')
-        table.append((f"{PUTS:,} edits of one row of a view of {len(shown):,}, a line each{told}", sum(map(len, lines)), in_ms(time.perf_counter() - begin), f"{server.peak():,.0f} MB"))
+        table.append((f"{PUTS:,} edits of one row of a view of {len(shown):,}, one request each{told}", sum(map(len, lines)), in_ms(time.perf_counter() - begin), f"{server.peak():,.0f} MB"))
         some, many = ([("shown", [line], [line.replace('"album":"album', '"album":"other', 1)]) for line in part] for part in (shown[PUTS : 2 * PUTS], shown[2 * PUTS : 12 * PUTS]))
         table += timed(server, [
-            (f"a batch of {len(some):,} such edits{told}", batch(some), b'{"changed":[{'), ("its undo", UNDO, b'{"changed":[{'),
-            (f"a batch of {len(many):,}{told}", batch(many), b'{"changed":[{'), ("its undo", UNDO, b'{"changed":[{'),
+            (f"a batch of {len(some):,} such edits{told}", batch(some), b'{"changed":[{'), (f"undo of the batch of {len(some):,}{told}", UNDO, b'{"changed":[{'),
+            (f"a batch of {len(many):,}{told}", batch(many), b'{"changed":[{'), (f"undo of the batch of {len(many):,}{told}", UNDO, b'{"changed":[{'),
         ])
     return table
 
@@ -242,11 +242,11 @@ def joins(program):
             must_begin(reply, b'{"changed":[{')
         steps = [
             (f"read of a join of {count:,} rows with {count // 10:,}, a drop and a selection over it, {len(stock):,} rows shown", b'{"do":"read","view":"stock"}\n', b'{"ok":true,"rows":[{'),
-            ("put of that view with one row changed", put(changed, "stock"), b'{"changed":[{'),
-            ("edit of that view, one row replaced", edit("stock", stock[:1], [re.sub(r'"rating":[0-9]+', '"rating":9', stock[0])]), b'{"changed":[{'),
-            ("preview of such an edit", edit("stock", stock[1:2], [re.sub(r'"rating":[0-9]+', '"rating":9', stock[1])], "preview"), b'{"changed":[{'),
-            ("find of one row of that view by its key", find("stock", "track", re.search('"track":(.*)}', stock[0])[1]), b'{"ok":true,"rows":[{'),
-            ("find of two rows of it by a column that determines nothing", find("stock", "rating", 9), b'{"ok":true,"rows":[{'),
+            (f"put of that join of {count:,} rows, one row changed", put(changed, "stock"), b'{"changed":[{'),
+            (f"edit of that join of {count:,} rows, one row replaced", edit("stock", stock[:1], [re.sub(r'"rating":[0-9]+', '"rating":9', stock[0])]), b'{"changed":[{'),
+            (f"preview of such an edit of that join of {count:,} rows", edit("stock", stock[1:2], [re.sub(r'"rating":[0-9]+', '"rating":9', stock[1])], "preview"), b'{"changed":[{'),
+            (f"find of one row of that join of {count:,} rows by its key", find("stock", "track", re.search('"track":(.*)}', stock[0])[1]), b'{"ok":true,"rows":[{'),
+            (f"find of two rows of that join of {count:,} rows by a column that determines nothing", find("stock", "rating", 9), b'{"ok":true,"rows":[{'),
         ]
         table += timed(server, steps)
     return table
@@ -266,7 +266,7 @@ def nulls(program, folder):
     changed = rows[:-1] + [row(ROWS - 1, 9)]
     steps = [
         (f"put of {ROWS:,} rows into a table with a nullable column, every other one null, with `--store`", put(rows), b'{"changed":[{'),
-        ("the put with one row changed", put(changed), b'{"changed":[{'),
+        ("the put of that table with one row changed", put(changed), b'{"changed":[{'),
         (f"read of a view of the {ROWS // 2:,} nulls, by `is null`", b'{"do":"read","view":"undated"}\n', b'{"ok":true,"rows":[{'),
         ("read of a view by `not` over a comparison", b'{"do":"read","view":"later"}\n', b'{"ok":true,"rows":[{'),
         ("edit of a row of the first view, with `--store`", edit("undated", rows[:1], [renamed(rows[0])]), b'{"changed":[{'),
@@ -308,7 +308,7 @@ def dependent(program):
     clashing = rows[:-1] + [row(ROWS - 1, 9)]
     steps = [
         (f"put of {ROWS:,} rows into a table with two dependencies", put(rows), b'{"changed":[{'),
-        ("the same put again, which changes nothing", put(rows), b'{"changed":[],'),
+        ("the put into that table again, which changes nothing", put(rows), b'{"changed":[],'),
         ("a put to it of which the last row clashes", put(clashing), b'{"edge":{'),
     ]
     return timed(server, steps)
@@ -394,7 +394,7 @@ def kept(program, folder):
     server = Server(program, "--store", path)
     server.ask(b'{"do":"list"}\n')
     seconds = time.perf_counter() - begin
-    table.append((f"start over that store, to the first reply; the file has {os.path.getsize(path) / 1e6:,.1f} MB", 14, f"{seconds * 1000:,.0f} ms", f"{server.peak():,.0f} MB"))
+    table.append(("start over that store, to the first reply", 14, f"{seconds * 1000:,.0f} ms", f"{server.peak():,.0f} MB"))
     server.end()
     return table
 
@@ -447,11 +447,12 @@ def committed(program, folder):
             begin = time.perf_counter()
             change(database, range(first, first + COMMITS))
             seconds[place] += time.perf_counter() - begin
-    asked, streamed, alone = (f"{ROUNDS * COMMITS / taken:,.0f}" for taken in seconds)
+    asked, streamed, alone = (f"{ROUNDS * COMMITS / taken:,.0f} a second" for taken in seconds)
     size = len(counted(0))
     table = [
-        (f"edits of one row, each one transaction in a file, sent in a stream; SQLite alone made {alone} a second in the same minute", size, f"{streamed} lines a second", f"{streaming.peak():,.0f} MB"),
-        ("the same, each sent when the reply to the one before it is read", size, f"{asked} lines a second", f"{waiting.peak():,.0f} MB"),
+        ("edits of one row, each one transaction in a file, sent in a stream", size, streamed, f"{streaming.peak():,.0f} MB"),
+        ("the same, each sent when the reply to the one before it is read", size, asked, f"{waiting.peak():,.0f} MB"),
+        ("SQLite alone, the same transactions in the same minute", 0, alone, ""),
     ]
     waiting.end()
     streaming.end()
@@ -476,8 +477,7 @@ def stores(program):
 
 def main():
     program = options(arguments(__doc__)).program
-    print("| What | Bytes of input | Time | Peak memory |")
-    print("|---|---|---|---|")
+    print_head(["What"], ["Bytes of input", "Time", "Peak memory"])
     for part in (large, remembered, views, questions, drops, joins, streams, dependent, chains, long_texts, longest, small, stores):
         for name, size, taken, peak in part(program):
             print(f"| {name} | {size:,} | {taken} | {peak} |", flush=True)

@@ -13,7 +13,7 @@ import tempfile
 from bench import PUTS
 from growth import built, counts, join
 from instructions import OF_ONE_ROW, of_one_row
-from program import Server, arguments, edit, options
+from program import Server, arguments, edit, options, print_head
 
 EDITED = (1_000, 100_000, 1_000_000)
 OTHERS = ("by_hand", "by_sqlite")
@@ -69,7 +69,7 @@ def run(programs, case):
 
 
 def tell(name, figures):
-    print(f"| {name} | {' | '.join(f'{figure:,.0f}' for figure in figures)} | {figures[0] / figures[-1]:.2f} |", flush=True)
+    print(f"| {name} | {' | '.join(f'{figure:,.0f}' for figure in figures)} |", flush=True)
 
 
 def main():
@@ -83,8 +83,7 @@ def main():
         programs = [program, *(built(name, folder) for name in OTHERS)]
         if None in programs:
             raise SystemExit("there is no rustc")
-        print(f"| {rows:,} tracks | ours | Rust by hand | Rust with SQLite | ours over SQLite |")
-        print("|---|---|---|---|---|")
+        print_head([f"{rows:,} tracks"], ["Cigrelk", "Rust by hand", "Rust with SQLite"])
         all_figures = [run(programs, case) for _ in range(runs)]
         for name in all_figures[0]:
             tell(name, [statistics.median(of_program) for of_program in zip(*(figures[name] for figures in all_figures))])

@@ -5,8 +5,8 @@ In time: from 1,000, 10,000 and 25,000 rows on. Each line of the table has the m
 its own, those with the small and those with the large tables in turn, and the quotient of the two, with that of the least
 times in brackets. Where rustc is installed, two lines of each size are of bench/by_hand.rs, as a mark to compare with.
 
-In instructions: at 5,000, 10,000 and 100,000 rows, by valgrind's callgrind, which counts the line alone. Times is
-the last of these over the one before. Of what goes over a whole view the table has the instructions for each of its rows, too.
+In instructions: at 10,000 and 100,000 rows, by valgrind's callgrind, which counts the line alone. Of what goes over a whole view the
+table has the instructions for each of its rows, too. A put changes one row.
 """
 import os
 import re
@@ -18,10 +18,10 @@ from typing import NamedTuple
 
 from bench import TRACKS, quantity, row, without_date
 from instructions import instructions
-from program import TOP, Server, arguments, define, edit, find, must_begin, options, put
+from program import TOP, Server, arguments, define, edit, find, must_begin, options, print_head, put
 
 SIZES = (1_000, 10_000, 25_000)
-COUNTED = (5_000, 10_000, 100_000)
+COUNTED = (10_000, 100_000)
 TIMES = 10
 # How many rows one line of the filling adds.
 FILLING = 100_000
@@ -191,8 +191,7 @@ def built(name, folder):
 
 
 def measure(program, by_hand, runs):
-    print("| What, puts with one row changed | Rows | Time | Ten times the rows | Time | Times |")
-    print("|---|---|---|---|---|---|")
+    print_head(["What", "Rows"], ["Time", "Ten times the rows", "Time", "Times"])
     for count in SIZES:
         for name, (few, many) in times(program, by_hand, count, runs).items():
             usual, usual_many = statistics.median(few), statistics.median(many)
@@ -212,8 +211,7 @@ def in_millions(count):
 
 def count_instructions(program):
     sizes = [f"{rows:,} rows" for rows in COUNTED]
-    print(f"| What, puts with one row changed | Instructions at {' | '.join(sizes)} | Times | A row of the view at {' | '.join(sizes)} |")
-    print("|---" * (2 * len(COUNTED) + 2) + "|")
+    print_head(["What"], [*sizes, "Times", *(f"A row of the view at {size}" for size in sizes)])
     for make in CASES:
         cases = [make(rows) for rows in COUNTED]
         for lines, found in zip(zip(*(case.measured for case in cases)), zip(*(counts(program, case) for case in cases))):

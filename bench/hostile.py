@@ -6,7 +6,7 @@ import resource
 import string
 
 from bench import LONGEST
-from program import Server, arguments, define, must_begin, options
+from program import Server, arguments, define, must_begin, options, print_head
 
 LIST = b'{"do":"list"}\n'
 LIMIT = 128 << 20
@@ -91,12 +91,11 @@ def asked(make, program, line):
 def main():
     program = options(arguments(__doc__)).program
     slow = []
-    print(f"| Line of up to 16 MiB | Bytes | Reply | Time | Peak memory | Reply under {LIMIT >> 20} MB |")
-    print("|---|---|---|---|---|---|")
+    print_head(["Request of up to 16 MiB"], ["Bytes", "Time", "Peak memory", "Reply", f"Reply under {LIMIT >> 20} MB"])
     for name, line in lines():
         reply, seconds, peak = asked(Server, program, line)
         limited, _, _ = asked(Limited, program, line)
-        print(f"| {name} | {len(line):,} | `{reply}` | {seconds:.2f} s | {peak:,.0f} MB | `{limited}` |", flush=True)
+        print(f"| {name} | {len(line):,} | {seconds:.2f} s | {peak:,.0f} MB | `{reply}` | `{limited}` |", flush=True)
         if seconds > LONGEST_TIME:
             slow.append(name)
     if slow:

@@ -16,7 +16,7 @@ import json
 import re
 import subprocess
 
-from program import UNDO, Server, arguments, batch, define, edit, options
+from program import UNDO, Server, arguments, batch, define, edit, options, print_head
 
 DEFINITIONS = [
     "table albums (album text, quantity int) with album -> quantity",
@@ -146,8 +146,7 @@ KINDS = {
 
 
 def by_kinds(program, sizes):
-    print("| Tracks | The view | one edit that changes a row | one that removes it |")
-    print("|---|---|---|---|")
+    print_head(["Tracks", "The view"], ["one edit that changes a row", "one that removes it"])
     for rows in sizes:
         for kind, (definitions, name) in KINDS.items():
             begin = filled(rows, definitions)
@@ -171,8 +170,7 @@ def csv_line(tracks):
 
 
 def changes(program, sizes):
-    print("| Tracks | What | Instructions | Beside | Instructions | Times |")
-    print("|---|---|---|---|---|---|")
+    print_head(["Tracks", "What"], ["Instructions", "Beside", "Instructions", "Times"])
     for rows in sizes:
         begin = filled(rows)
         some, many = min(1_000, rows // 10), min(10_000, rows)
@@ -188,7 +186,7 @@ def changes(program, sizes):
         found = [
             (f"a batch of {some:,} edits", batched, f"{some:,} lines", cost([rated([i], rows) for i in range(some)])),
             (f"a batch of {many:,} edits", cost([rated_in_turn(range(many), rows)]), f"a batch of {some:,}", batched),
-            ("its undo", cost([UNDO], [few]), f"a batch of {some:,}", batched),
+            (f"an undo of a batch of {some:,}", cost([UNDO], [few]), f"a batch of {some:,}", batched),
             ("an undo of an edit of one row", cost([UNDO], [rated([0], rows)]), "the edit", one),
             (f"an undo of a put of {rows:,} other rows", cost([UNDO], [others]), "the put", cost([others])),
             (f"an export of {rows:,} rows", cost([line({"do": "export", "view": "tracks"})]), "a read", cost([line({"do": "read", "view": "tracks"})])),
@@ -212,8 +210,7 @@ def main():
     if given.kinds:
         by_kinds(program, sizes)
         return
-    print(f"| Tracks | {' | '.join(OF_ONE_ROW)} | one edit of 1,000 rows |")
-    print("|---" * (len(OF_ONE_ROW) + 2) + "|")
+    print_head(["Tracks"], [*OF_ONE_ROW, "one edit of 1,000 rows"])
     for rows in sizes:
         counts = [*(of_one_row(program, rows, ask_for) for ask_for in OF_ONE_ROW.values()), at_once(program, rows, min(1_000, rows))]
         print(f"| {rows:,} | {' | '.join(f'{count:,}' for count in counts)} |", flush=True)

@@ -6,12 +6,14 @@ import statistics
 import tempfile
 
 from instructions import OF_ONE_ROW, filled
-from program import UNDO, Server, arguments, options
+from program import UNDO, Server, arguments, options, print_head
 
 SIZES = (1_000, 10_000, 100_000, 1_000_000)
 # With a store up to so many rows.
 STORED = 100_000
 LINES, STORED_LINES, UNDOS = 200, 50, 16
+# What is asked, by the names of bench/instructions.py.
+ASKED = {"preview": "one preview of it", "find by key": "one find of it by its key", "edit": "one edit of one row"}
 DONE = b'"ok":true'
 
 
@@ -39,8 +41,8 @@ def filled_server(program, rows, *words):
 def in_memory(program, rows):
     """The medians by what is asked, and the most memory in MB."""
     server = filled_server(program, rows)
-    found = {name: asked(server, lines_of(name, rows, LINES)) for name in ("one preview of it", "one find of it by its key", "one edit of one row")}
-    found["the undo of such an edit"] = asked(server, [UNDO] * UNDOS)
+    found = {name: asked(server, lines_of(of_one, rows, LINES)) for name, of_one in ASKED.items()}
+    found["undo of such an edit"] = asked(server, [UNDO] * UNDOS)
     peak = server.peak()
     server.end()
     return found, peak
@@ -49,22 +51,21 @@ def in_memory(program, rows):
 def in_a_file(program, rows):
     with tempfile.TemporaryDirectory() as folder:
         server = filled_server(program, rows, "--store", f"{folder}/store.db")
-        found = asked(server, lines_of("one edit of one row", rows, STORED_LINES))
+        found = asked(server, lines_of(ASKED["edit"], rows, STORED_LINES))
         server.end()
-    return {"the edit with --store": found}
+    return {"edit with `--store`": found}
 
 
 def main():
     program = options(arguments(__doc__)).program
     measured = [in_memory(program, rows) for rows in SIZES]
     stored = [in_a_file(program, rows) for rows in SIZES if rows <= STORED]
-    print(f"| ms | {' | '.join(f'{rows:,} tracks' for rows in SIZES)} |")
-    print("|---" * (len(SIZES) + 1) + "|")
+    print_head(["Request"], [f"{rows:,} tracks" for rows in SIZES])
     for name in measured[0][0]:
-        print(f"| {name} | {' | '.join(f'{found[name]:.3f}' for found, _ in measured)} |")
+        print(f"| {name} | {' | '.join(f'{found[name]:.3f} ms' for found, _ in measured)} |")
     for name in stored[0]:
-        print(f"| {name} | {' | '.join(f'{found[name]:.2f}' for found in stored)} | |")
-    print(f"| most memory, MB | {' | '.join(f'{peak:.0f}' for _, peak in measured)} |")
+        print(f"| {name} | {' | '.join(f'{found[name]:.2f} ms' for found in stored)} | |")
+    print(f"| most memory | {' | '.join(f'{peak:.0f} MB' for _, peak in measured)} |")
 
 
 if __name__ == "__main__":

@@ -108,3 +108,9 @@ def must_begin(reply, start):
 
 def define(text):
     return ('{"do":"define","text":"' + text + '"}\n').encode()
+
+
+def print_head(names, figures):
+    """Prints the head of a table: what its rows are named by, and their figures, which stand on the right."""
+    print(f"| {' | '.join([*names, *figures])} |")
+    print(f"|{'---|' * len(names)}{'--:|' * len(figures)}")
