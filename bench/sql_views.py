@@ -4,7 +4,8 @@
     bench/sql_views.py compare [--edits N] [--seed N]    random edits of random views, as the program makes them
     bench/sql_views.py writers, replay                   several clients at once
     bench/sql_views.py mutants                           six wrong bodies of the compiler, each of which `compare` has to find
-    bench/sql_views.py speed [--sizes N,N]               edits of one row beside triggers by hand (Debian's python3-psycopg2)
+    bench/sql_views.py speed [--sizes N,N]               edits of one row beside triggers by hand (Debian's python3-psycopg2), by the
+                                                         clock, and by the processor time of the server, which a busy machine does not change
     bench/sql_views.py instructions                      instructions for each such edit (valgrind)
 
 Each starts a PostgreSQL in a folder. CIGRELK names the program, or else it is that of ./serve.
@@ -128,6 +129,7 @@ FORMS = (
     "view left_of = join_dl t with u", "view right_of = join_dr t with u", "view both_of = join_both t with u", "view of_nulls = join_dl u with w",
     "view narrow = drop c determined by (a, 0) from left_of", "view some = select from narrow where b > 1", "view others = select from t where not b = 1",
     "view low = select from u where not (e > 1)", "view high = select from u where e > 1",
+    "view few = select from t where d in ('', 'x', 'y')", "view short = drop c determined by (a, 0) from few",
 )
 
 
@@ -156,7 +158,7 @@ def mutants(address, most=3_000):
 
 def statements(size, count):
     """Six kinds of edits of one row in turn: another rating, a track on an album, a track on a new album, that track away, another name of a
-    track, a track away."""
+    track, a track away. They are no more than the tracks, or else too few tracks are left as they were."""
     chance, albums, gone, added, rates = random.Random(7), size // 10, set(), [], {}
 
     def shown():
@@ -194,11 +196,51 @@ def fill(session, size):
     session.ask("VACUUM ANALYZE tracks")
 
 
+def processor_seconds(process):
+    """The processor time that a process has had."""
+    with open(f"/proc/{process}/schedstat", encoding="ascii") as file:
+        return int(file.read().split()[0]) / 1e9
+
+
+class Run:
+    """The edits of one client of psycopg2: the time of each, the processor time of the server for the first and for all others, and the
+    memory that the first one takes in its session."""
+
+    MEMORY = "SELECT sum(used_bytes) FROM pg_backend_memory_contexts"
+
+    def __init__(self, address, texts):
+        import psycopg2
+
+        connection = psycopg2.connect(address)
+        connection.autocommit = True
+        cursor, self.times = connection.cursor(), []
+
+        def value(text):
+            cursor.execute(text)
+            return cursor.fetchone()[0]
+
+        cursor.execute("SET synchronous_commit = off")
+        process, before = value("SELECT pg_backend_pid()"), value(self.MEMORY)
+        start = processor_seconds(process)
+        for text in texts:
+            begin = time.perf_counter()
+            cursor.execute(text)
+            self.times.append(time.perf_counter() - begin)
+            if len(self.times) == 1:
+                self.first = processor_seconds(process) - start
+                self.memory = float(value(self.MEMORY) - before)
+                start = processor_seconds(process)
+        self.processor = (processor_seconds(process) - start) / (len(self.times) - 1)
+        connection.close()
+
+    @property
+    def each_second(self):
+        return len(self.times) / sum(self.times)
+
+
 def speed(servers, sizes, count):
     """Edits a second of one client, each a transaction, by triggers by hand and by the generated ones, and the same tables at the end."""
-    import psycopg2
-
-    print("| tracks | by hand, a second | generated | ratio | medians | first edit in a session | its memory |\n|---|---|---|---|---|---|---|", flush=True)
+    print("| tracks | by hand, a second | generated | ratio | medians, us | processor time of the server, us | ratio | first edit of each, ms | their processor time, ms | their memory, MB |\n|" + "---|" * 10, flush=True)
     sessions = {}
     for name in ("hand", "made"):
         servers.sql(servers.address("base"), f"CREATE DATABASE {name}")
@@ -208,26 +250,12 @@ def speed(servers, sizes, count):
         found = {}
         for name, session in sessions.items():
             fill(session, size)
-            connection = psycopg2.connect(servers.address("base", name))
-            connection.autocommit = True
-            cursor = connection.cursor()
-            cursor.execute("SET synchronous_commit = off")
-            memory = "SELECT sum(used_bytes) FROM pg_backend_memory_contexts"
-            cursor.execute(memory)
-            (before,) = cursor.fetchone()
-            times = []
-            for text in statements(size, count):
-                begin = time.perf_counter()
-                cursor.execute(text)
-                times.append(time.perf_counter() - begin)
-                if len(times) == 1:
-                    cursor.execute(memory)
-                    grown = cursor.fetchone()[0] - before
-            connection.close()
-            found[name] = times, grown
-        hand, made = (len(found[name][0]) / sum(found[name][0]) for name in ("hand", "made"))
-        medians = [1e6 * statistics.median(found[name][0]) for name in ("hand", "made")]
-        print(f"| {size:,} | {hand:,.0f} | {made:,.0f} | {made / hand:.2f} | {medians[0]:.0f} and {medians[1]:.0f} us | {1000 * found['made'][0][0]:.1f} ms | {float(found['made'][1]) / 1e6:.2f} MB |", flush=True)
+            found[name] = Run(servers.address("base", name), statements(size, min(count, size)))
+        hand, made = found["hand"], found["made"]
+        medians = [1e6 * statistics.median(run.times) for run in (hand, made)]
+        print(f"| {size:,} | {hand.each_second:,.0f} | {made.each_second:,.0f} | {made.each_second / hand.each_second:.2f} | {medians[0]:.0f} and {medians[1]:.0f} "
+              f"| {1e6 * hand.processor:.0f} and {1e6 * made.processor:.0f} | {made.processor / hand.processor:.2f} "
+              f"| {1e3 * hand.times[0]:.1f} and {1e3 * made.times[0]:.1f} | {1e3 * hand.first:.1f} and {1e3 * made.first:.1f} | {hand.memory / 1e6:.2f} and {made.memory / 1e6:.2f} |", flush=True)
         tables = "SELECT md5(string_agg(x::text, ',' ORDER BY x)) FROM (SELECT album, quantity FROM albums UNION ALL SELECT track || ' ' || album, rating FROM tracks) x"
         if len({tuple(session.ask(tables)) for session in sessions.values()}) != 1:
             raise SystemExit("the tables differ")

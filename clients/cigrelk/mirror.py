@@ -32,19 +32,17 @@ from .hashes import hash_query, hash_sum
 from .kinds import base, is_nullable
 from .language import UnknownForm, defined, parsed
 from .marks import Marks, State, identity_of
-from .postgres import Database, Failed, literal, names_of, quoted
+from .postgres import TYPES, Database, Failed, literal, names_of, quoted
 from .queries import Query
 from .refusals import Refused
 from .rows import key_of, values
 from .server import Server
+from .sql.words import column_type
 from .texts import counted, listing, plain, words_of
 
 SUMMARY = "keeps the tables and views of a store in PostgreSQL too"
 # How many rows one statement names at most.
 MOST_ROWS = 500
-TYPES = {"int": "bigint", "text": "text", "bool": "boolean"}
-# Texts are compared as the store compares them, by code points.
-COLLATION = ' COLLATE "C"'
 ADOPT, OVERWRITE = "--adopt", "--overwrite"
 WAYS_ON = f"{ADOPT} takes such rows into the store, {OVERWRITE} deletes them, and another schema leaves them alone"
 NAME_TAKEN = 21
@@ -74,8 +72,7 @@ def difference(name, columns, key, remove, add):
 def table_statement(name, columns, dependencies):
     """The statement that makes a table."""
     key = key_of(list(columns), dependencies)
-    parts = [f"{quoted(column)} {TYPES[base(kind)]}{COLLATION if base(kind) == 'text' else ''}{'' if is_nullable(kind) else ' NOT NULL'}"
-             for column, kind in columns.items()]
+    parts = [f"{quoted(column)} {column_type(kind)}" for column, kind in columns.items()]
     if key != list(columns):
         # A primary key takes no NULL. UNIQUE does, and takes it twice too: it gives the index, and the store keeps nulls unique.
         parts.append(f"{'UNIQUE' if any(is_nullable(columns[name]) for name in key) else 'PRIMARY KEY'} ({names_of(key)})")

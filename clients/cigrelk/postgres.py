@@ -11,10 +11,12 @@ DONE = "cigrelk-done"
 LAST = "cigrelk-last"
 # One bridge serves a schema at a time: a second one waits for the first one's connection, and for the statement that it runs.
 ALONE = ["SET lock_timeout = '30s'", "SELECT pg_advisory_lock(hashtext('cigrelk ' || current_schema()))", "SET lock_timeout = 0"]
-# The beginnings of those SQLSTATEs that pass by themselves: a connection, also between two servers, a conflict, a want of room, an
-# operator, a standby that does not write yet, a lock.
 # What the catalogue calls tables (plain, partitioned and foreign ones) and views.
 KINDS = {"r": "table", "p": "table", "f": "table", "v": "view", "m": "materialized view", "S": "sequence", "i": "index", "I": "index"}
+# The types of columns, by the kinds of the language.
+TYPES = {"int": "bigint", "text": "text", "bool": "boolean"}
+# The beginnings of those SQLSTATEs that pass by themselves: a connection, also between two servers, a conflict, a want of room, an
+# operator, a standby that does not write yet, a lock.
 PASSING = ("08", "40", "53", "57", "58", "HV", "25006", "55P03")
 
 

@@ -1,5 +1,6 @@
 """Random definitions of tables and views, and random edits of them. The program judges the definitions."""
 import random
+import re
 
 from cigrelk import Refused, is_nullable
 from cigrelk.sql.samples import Samples
@@ -36,6 +37,9 @@ class Definitions:
             return False
         self.texts.append(text)
         return True
+
+    def text_of(self, name):
+        return next(text for text in self.texts if text.split()[1] == name)
 
     def names(self):
         return list(self.program.names())
@@ -97,8 +101,9 @@ class Definitions:
         form = chance.random()
         if form < 0.45:
             return f"{chance.choice(('join_dl', 'join_dl', 'join_dr', 'join_both'))} {operand()} with {operand()}"
-        # The other forms name columns, so their operand is one of which the columns are known.
-        name = chance.choice(names)
+        # The other forms name columns, so their operand is one of which the columns are known. Most drops stand over what hides rows.
+        hiding = [name for name in names if re.match("view [^=]*= (select|join)", self.text_of(name))] if 0.7 <= form < 0.88 and chance.random() < 0.6 else []
+        name = chance.choice(hiding or names)
         said = self.program[name].type()
         columns = list(said["columns"])
         if form < 0.7:

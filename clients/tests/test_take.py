@@ -96,6 +96,23 @@ class TakeFromPostgreSQL(WithPostgreSQL):
             server.define("view items_orders = join_dl items with (rename id to order_id from orders)")
             self.assertEqual(len(server["items_orders"].read()), 3)
 
+    def test_surrogate_keys_in_the_database(self):
+        """Tables get a column of numbers each, once, and are edited by a join that their own key does not give."""
+        self.sql(self.SHOP)
+        path, types = f"{self.room}/definitions.txt", f"{self.room}/types.json"
+        done = self.cigrelk("take", self.address, "--types", types, "--surrogate")
+        self.assertEqual(done.stderr.splitlines(), ['ALTER TABLE "public"."items" ADD COLUMN items_number bigint GENERATED ALWAYS AS IDENTITY UNIQUE;',
+                                                    'ALTER TABLE "public"."log" ADD COLUMN log_number bigint GENERATED ALWAYS AS IDENTITY PRIMARY KEY;'])
+        again = self.cigrelk("take", self.address, "--types", types, "--surrogate")
+        self.assertEqual((again.stdout, again.stderr), (done.stdout, ""))
+        self.assertIn("# view items_orders = join_dl items with (rename id to order_id from orders)", done.stdout)
+        with open(path, "w", encoding="utf-8") as file:
+            file.write(done.stdout.replace("# view items_orders", "view items_orders"))
+        self.run_script(self.cigrelk("compile", path, "--existing", "--types", types).stdout)
+        self.sql("UPDATE items_orders SET note = 'b' WHERE order_id = 1; INSERT INTO items_orders (order_id, line, amount, note) VALUES (1, 3, 4, 'b'); DELETE FROM log WHERE log_number = 1")
+        self.assertEqual(self.sql("SELECT id, note FROM orders ORDER BY id; SELECT count(*), max(items_number) FROM items; SELECT count(*) FROM log"), ["1|b", "2|", "4|4", "1"])
+        self.rejects("23505", "INSERT INTO items_orders (order_id, line, amount, note) VALUES (1, 3, 5, 'b')")
+
     def test_views_over_tables_as_they_are(self):
         self.sql("""CREATE TABLE "Rooms" ("Id" int PRIMARY KEY, "Opened" date NOT NULL, area float8); CREATE TABLE desks (id int GENERATED ALWAYS AS IDENTITY UNIQUE, code uuid PRIMARY KEY,
                     room int NOT NULL REFERENCES "Rooms", price numeric(8,2) CHECK (price > 0), tags jsonb, note json DEFAULT '{}'); INSERT INTO "Rooms" VALUES (1, '2026-01-01', 1.5);

@@ -11,7 +11,9 @@ class Samples:
 
     def __init__(self, program, seed, choices):
         self.program, self.random, self.choices = program, random.Random(seed), choices
-        self.types = {name: program[name].type() for name in program.names()}
+        names = program.names()
+        self.types = {name: program[name].type() for name in names}
+        self.tables = [name for name, kind in names.items() if kind == "table"]
 
     def next(self):
         """A name, rows to remove and rows to add."""
@@ -41,15 +43,30 @@ class Samples:
         return self.random.choice(self.choices(column, base(kind)))
 
     def row(self, said, rows, conditions):
-        """A row that most often satisfies the predicate and the dependencies."""
+        """A row that most often satisfies the predicate and the dependencies, and now and then agrees with what is not shown."""
         careful = self.random.random() < 0.85
+        fixed = self.part_of_hidden(said, rows) if self.random.random() < 0.4 else {}
         for _ in range(8):
-            row = {name: self.value(name, kind) for name, kind in said["columns"].items()}
+            row = {name: self.value(name, kind) for name, kind in said["columns"].items()} | fixed
             if careful:
                 row = following(row, said, rows)
             if not careful or all(condition.holds(row) for condition in conditions):
                 break
         return row
+
+    def part_of_hidden(self, said, rows):
+        """Some values of a row of a table that no row here shows: a selection hides it, or it waits for the other side of a join. Such
+        a row is met by few edits that know only what is shown."""
+        table = self.random.choice(self.tables)
+        shared = [name for name, kind in self.types[table]["columns"].items() if said["columns"].get(name) == kind]
+        shown = {values(row, shared) for row in rows}
+        hidden = [row for row in self.program[table].read() if values(row, shared) not in shown]
+        if not hidden:
+            return {}
+        sides = [side for edge in self.types[table]["dependencies"] for side in (edge["left"], edge["left"] + edge["right"])]
+        columns = self.random.choice([shared, *sides, *([name] for name in shared)])
+        one = self.random.choice(hidden)
+        return {name: one[name] for name in columns if name in shared}
 
     def revision(self, said, rows, conditions):
         """Rows that take another right side along a dependency: all that share the left side, or now and then not all."""

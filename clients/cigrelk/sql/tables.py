@@ -1,10 +1,10 @@
 """Tables, their keys and indexes, what is tested on them, and the views that show rows."""
 from ..kinds import base, is_nullable
-from ..postgres import quoted
+from ..postgres import TYPES, quoted
 from . import objects
 from .deltas import A, N, S, broken_text
 from .edits import PATH, lock_lines
-from .words import NEUTRAL, TYPES, columns_at, differ, dollar_quoted, fails, holds, name_within, text_literal
+from .words import NEUTRAL, column_type, columns_at, differ, dollar_quoted, fails, holds, name_within, text_literal
 
 
 def key_order(leaf, wanted):
@@ -15,7 +15,7 @@ def key_order(leaf, wanted):
 
 def table_statement(leaf, wanted=()):
     """The statement that makes a table with its key. The key takes each null once."""
-    parts = [f"{quoted(name)} {TYPES[base(kind)]}{'' if is_nullable(kind) else ' NOT NULL'}" for name, kind in leaf.kinds.items()]
+    parts = [f"{quoted(name)} {column_type(kind)}" for name, kind in leaf.kinds.items()]
     key = key_order(leaf, wanted)
     word = "UNIQUE NULLS NOT DISTINCT" if any(is_nullable(leaf.kinds[name]) for name in key) else "PRIMARY KEY"
     parts.append(f"{word} ({', '.join(map(quoted, key))})")
@@ -129,7 +129,7 @@ def columns_statement(leaf, existing):
     problems = []
     for name, kind in leaf.kinds.items():
         column = leaf.stored.get(name, name)
-        problems.append((column, None if existing else TYPES[base(kind)].split()[0], not is_nullable(kind)))
+        problems.append((column, None if existing else TYPES[base(kind)], not is_nullable(kind)))
     rows = ", ".join(f"({text_literal(column)}, {text_literal(type_) if type_ else 'NULL'}, {str(required).lower()})" for column, type_, required in problems)
     fault = (f"SELECT W.name, W.type, A.attname IS NULL AS missing, W.required AND NOT A.attnotnull AS takes_null FROM (VALUES {rows}) AS W(name, type, required) "
              f"LEFT JOIN pg_catalog.pg_attribute A ON A.attrelid = {text_literal(leaf.place)}::regclass AND A.attnum > 0 AND NOT A.attisdropped AND A.attname = W.name "

@@ -6,10 +6,10 @@ import hashlib
 
 from ..kinds import base, is_nullable
 from ..language import All, Among, Any, Column, Compare, Drop, IsNull, Not, Rename, Select, Truth
-from ..postgres import literal, quoted
+from ..postgres import TYPES, literal, quoted
 
-# The types of columns in tables that the compiler makes.
-TYPES = {"int": "bigint", "text": 'text COLLATE "C"', "bool": "boolean"}
+# The order of texts by bytes, which is that of the language.
+COLLATION = ' COLLATE "C"'
 # Columns of tables that are there may have other types, which the definitions call text. Their kind here is `text:TYPE`. For each
 # the value that stands for null where an index or a hash needs one. Whether a value is null is compared beside it.
 NEUTRAL = {
@@ -53,6 +53,11 @@ def columns_at(alias, columns):
     return ", ".join(f"{alias}.{quoted(name)}" for name in columns)
 
 
+def column_type(kind):
+    """The type of a column in a table that is made for a definition, and whether it takes null."""
+    return f"{TYPES[base(kind)]}{COLLATION if base(kind) == 'text' else ''}{'' if is_nullable(kind) else ' NOT NULL'}"
+
+
 def same(kind, one, other):
     """Whether two values are the same, if null is the same as null alone. These are equations, which an index or a hash serves."""
     if not is_nullable(kind):
@@ -77,29 +82,32 @@ def row_order(kinds, alias):
     """The order of rows in replies: by rising names of columns, null first, texts by bytes."""
     parts = []
     for name in sorted(kinds):
-        collation = ' COLLATE "C"' if base(kinds[name]) == "text" else ""
+        collation = COLLATION if base(kinds[name]) == "text" else ""
         parts.append(f"{alias}.{quoted(name)}{collation}{' NULLS FIRST' if is_nullable(kinds[name]) else ''}")
     return ", ".join(parts)
 
 
-def holds(node, kinds, alias):
-    """A predicate over the columns of an alias. Under a `not` it is never unknown."""
+def holds(node, kinds, alias, collation=COLLATION):
+    """A predicate over the columns of an alias. Under a `not` it is never unknown. If the columns of text have the collation of the
+    language, no other need be said: a server behind postgres_fdw takes no condition that says one."""
     if isinstance(node, Truth):
         return literal(node.value)
     if isinstance(node, Compare):
         left = f"{alias}.{quoted(node.column)}"
         right = f"{alias}.{quoted(node.right.name)}" if isinstance(node.right, Column) else value_literal(node.right)
         sign = "<>" if node.sign == "!=" else node.sign
-        collation = ' COLLATE "C"' if sign not in ("=", "<>") and base(kinds[node.column]) == "text" else ""
-        return f"{left} {sign} {right}{collation}"
+        is_text_order = sign not in ("=", "<>") and base(kinds[node.column]) == "text"
+        return f"{left} {sign} {right}{collation if is_text_order else ''}"
     if isinstance(node, Among):
         return f"{alias}.{quoted(node.column)} IN ({', '.join(map(value_literal, node.literals))})"
     if isinstance(node, IsNull):
         return f"{alias}.{quoted(node.column)} IS NULL"
     if isinstance(node, Not):
-        return f"({holds(node.part, kinds, alias)}) IS NOT TRUE"
+        part = holds(node.part, kinds, alias, collation)
+        # An index serves a plain NOT.
+        return fails(part) if any(map(is_nullable, kinds.values())) else f"NOT ({part})"
     word = {All: " AND ", Any: " OR "}[type(node)]
-    return word.join(f"({holds(part, kinds, alias)})" for part in node.parts)
+    return word.join(f"({holds(part, kinds, alias, collation)})" for part in node.parts)
 
 
 def fails(condition):

@@ -33,6 +33,40 @@ def name_like(name, taken):
     return found
 
 
+def quoted_if_needed(name):
+    return name if is_name(name) else '"' + name.replace('"', '""') + '"'
+
+
+def number_name(table, names):
+    """The name of a column of numbers for a table, whose columns have these names."""
+    return name_like(f"{table}_number", names)
+
+
+def number_statement(place, column, has_keys):
+    """The statement that numbers the rows of a table in the database."""
+    return f"ALTER TABLE {place} ADD COLUMN {column} bigint GENERATED ALWAYS AS IDENTITY {'UNIQUE' if has_keys else 'PRIMARY KEY'}"
+
+
+def wants_number(table):
+    """Whether a table has no key, or one that shares columns with a foreign key, so that it cannot be joined with its parent."""
+    key = next((key for key in table.keys if not any(column.null or column.problem for column in table.columns if column.name in key)), None)
+    return key is None or any(set(foreign.columns) & set(key) and set(foreign.columns) != set(key) for foreign in table.foreign_keys)
+
+
+def number_key(table):
+    """The key of one column that the database numbers, or None."""
+    fixed = {column.name for column in table.columns if column.fixed}
+    return next((key for key in table.keys if len(key) == 1 and key[0] in fixed), None)
+
+
+def with_number_first(table):
+    """A table whose key is the one that the database numbers, if it wants one."""
+    number = number_key(table)
+    if not number or not wants_number(table):
+        return table
+    return table._replace(keys=(number, *(key for key in table.keys if key != number)))
+
+
 class Taken(NamedTuple):
     """A column that a definition has. `name` is its name there."""
 
@@ -58,7 +92,7 @@ class Described:
                 names.add(taken.name)
                 self.columns.append(taken)
         if surrogate:
-            self.surrogate = name_like(f"{name}_number", names)
+            self.surrogate = number_name(name, names)
             self.columns.insert(0, Taken(self.surrogate, Column(self.surrogate, "bigint", "bigint", False), INT, False, True))
             self.remarks.append(f"{self.surrogate} is a surrogate key: the rows are numbered as they come")
         self.by_source = {column.source.name: column for column in self.columns}
@@ -101,8 +135,8 @@ class Described:
             return None
         key = self.key()
         if key is None:
-            self.remarks.append("no definition: it has no key without null, so it may have a row twice. --surrogate makes a key, in the store or with: "
-                                f"ALTER TABLE {quoted_if_needed(self.table.name)} ADD COLUMN {name_like(f'{self.name}_number', set())} bigint GENERATED ALWAYS AS IDENTITY PRIMARY KEY;")
+            statement = number_statement(quoted_if_needed(self.table.name), number_name(self.name, {column.name for column in self.columns}), bool(self.table.keys))
+            self.remarks.append(f"no definition: it has no key without null, so it may have a row twice. --surrogate makes a key: in the store, or with --types in the database by: {statement};")
             return None
         rest = [column.name for column in self.columns if column.name not in key]
         parts = ", ".join(f"{column.name} {column.rule.kind}{' null' if column.null else ''}" for column in self.columns)
@@ -143,10 +177,6 @@ class Described:
         return {"table": self.table.name, "key": [column for column in self.key() or []], "surrogate": self.surrogate, "columns": columns}
 
 
-def quoted_if_needed(name):
-    return name if is_name(name) else '"' + name.replace('"', '""') + '"'
-
-
 class Definitions:
     """The definitions of all tables of a source, each judged by the program. `lines` is the file with its remarks."""
 
@@ -157,7 +187,8 @@ class Definitions:
             for table in source.tables:
                 name = table.name if is_name(table.name) and table.name not in names else name_like(table.name, names)
                 names.add(name)
-                described = Described(table, name, decimal, native, surrogate and not native and self.wants_surrogate(table))
+                table = with_number_first(table) if surrogate and native else table
+                described = Described(table, name, decimal, native, surrogate and not native and wants_number(table))
                 text = described.text()
                 described.remarks += table.remarks
                 later.append((described, text))
@@ -166,12 +197,6 @@ class Definitions:
             for described in list(self.described.values()):
                 for foreign in described.table.foreign_keys:
                     self.propose(program, described, foreign)
-
-    @staticmethod
-    def wants_surrogate(table):
-        """Whether a table has no key, or one that shares columns with a foreign key, so that it cannot be joined with its parent."""
-        key = next((key for key in table.keys if not any(column.null or column.problem for column in table.columns if column.name in key)), None)
-        return key is None or any(set(foreign.columns) & set(key) and set(foreign.columns) != set(key) for foreign in table.foreign_keys)
 
     def say(self, program, described, text):
         self.lines += [f"# {described.name}: {remark}" for remark in described.remarks]
@@ -244,14 +269,14 @@ class Definitions:
 
     def with_surrogate(self, program, left, right, names, name):
         """A composite key with its parent: the recipe is a key of numbers."""
-        key, number = left.key(), name_like(f"{left.name}_number", {column.name for column in left.columns})
+        key, number = left.key(), number_name(left.name, {column.name for column in left.columns})
         parts = ", ".join(f"{column.name} {column.rule.kind}{' null' if column.null else ''}" for column in left.columns)
         other = name_like(f"{left.name}_numbered", set(self.described))
         texts = [f"table {other} ({number} int, {parts}) with {number} -> {' '.join(column.name for column in left.columns)}",
                  f"view {name} = join_dl {other} with {self.renamed(left, right, names)}"]
         self.lines.append(f"#   Recipe: a surrogate key{self.tried(program, texts)}")
         self.lines += [f"#   {text}" for text in texts]
-        self.lines.append(f"#   ALTER TABLE {quoted_if_needed(left.table.name)} ADD COLUMN {number} bigint GENERATED ALWAYS AS IDENTITY UNIQUE; and keep UNIQUE ({', '.join(key)}), which the definition cannot say")
+        self.lines.append(f"#   {number_statement(quoted_if_needed(left.table.name), number, True)}; and keep UNIQUE ({', '.join(key)}), which the definition cannot say")
 
     def tried(self, program, texts):
         """What the program says of a recipe."""

@@ -10,14 +10,13 @@ import json
 import os
 
 from ..errors import CommandError
-from ..postgres import Connection, quoted
+from ..postgres import TYPES, Connection, quoted
 from ..server import Server
 from ..texts import counted
 from .command import types_path
 from .rules import as_given
 
 SUMMARY = "writes the tables of a store to PostgreSQL, with the types they came with"
-TYPES = {"int": "bigint", "text": "text", "bool": "boolean"}
 BATCH = 10_000
 
 

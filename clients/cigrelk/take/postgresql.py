@@ -1,6 +1,7 @@
 """Tables of a PostgreSQL: what they are, and their rows as a store takes them."""
 from ..errors import CommandError
 from ..postgres import Connection, literal, quoted
+from .definitions import number_name, number_statement
 from .rules import bad_in_postgresql, in_postgresql
 from .sources import Column, ForeignKey, SourceTable
 
@@ -35,11 +36,15 @@ class PostgreSQL:
 
     def __init__(self, address, schema):
         self.schema, self.connection = schema, Connection(address)
+        self.read()
+
+    def read(self):
+        """Reads what the tables are, and begins the transaction in which their rows are read."""
         # One snapshot for all tables; what type a value has is read in one way.
         self.connection.ask("BEGIN ISOLATION LEVEL REPEATABLE READ READ ONLY", "SET LOCAL extra_float_digits = 1", "SET LOCAL intervalstyle = 'postgres'", "SET LOCAL bytea_output = 'hex'")
-        self.tables = [self.described(row) for row in self.connection.rows(TABLES.replace("SCHEMA", literal(schema)))]
+        self.tables = [self.described(row) for row in self.connection.rows(TABLES.replace("SCHEMA", literal(self.schema)))]
         if not self.tables:
-            raise CommandError(f"the schema {schema} has no table")
+            raise CommandError(f"the schema {self.schema} has no table")
 
     def described(self, row):
         columns = tuple(Column(one["name"], one["type"], one["full"], one["null"], one["default"], tuple(one["values"] or ()), one["problem"], one["fixed"]) for one in row["columns"] or ())
@@ -49,6 +54,14 @@ class PostgreSQL:
         remarks = [f"{one['text']} is kept by the database alone" for one in of_kind("x", "t")]
         remarks += [f"the trigger {name} runs on what an edit changes; if it changes these tables, the views do not show what was sent" for name in row["triggers"]]
         return SourceTable(row["name"], columns, tuple(tuple(one["columns"]) for one in of_kind("p", "u")), foreign, checks, tuple(remarks))
+
+    def number(self, tables):
+        """Numbers the rows of tables in a column of their own, all in one transaction, and returns the statements that did it."""
+        statements = [number_statement(self.place(table), number_name(table.name, {column.name for column in table.columns}), bool(table.keys)) for table in tables]
+        self.connection.ask("COMMIT")
+        self.connection.ask("BEGIN", *statements, "COMMIT")
+        self.read()
+        return statements
 
     def place(self, table):
         return f"{quoted(self.schema)}.{quoted(table.name)}"
