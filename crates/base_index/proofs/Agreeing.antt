@@ -18,9 +18,9 @@ use Rattle.lens_specs.specs.Names.{Name, Names}
 use Rattle.lens_specs.specs.Rows.{agree, same_value}
 use Rattle.lens_specs.specs.Relation.{Rows}
 use Rattle.row_sets.proofs.Pairs.{agree_at, all_members}
-use Rattle.base_index.specs.Index.{has_key}
+use Rattle.key_index.specs.Index.{has_key}
 use Rattle.signed_delta.specs.Keys.{IsKey}
-use Rattle.base_index.proofs.Groups.{tied}
+use Rattle.key_index.proofs.Groups.{tied}
 
 same_bool : (a b : Bool) → (a ≡ true → b ≡ true) → (b ≡ true → a ≡ true) → a ≡ b
 same_bool true b f g = sym (f refl)

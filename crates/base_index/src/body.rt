@@ -2,18 +2,15 @@
 ghost use Rattle.std.specs.Prelude.{◌≡◌, ◌≤◌, ◌+◌, IfOk, OnOk, OnErr, IsTrue, true, false, not, [], length, take};
 ghost use Rattle.lens_values.specs.SortedSet as set;
 ghost use Rattle.lens_specs.specs.Relation.{has};
-ghost use Rattle.base_index.specs.Index.{has_key};
-ghost use Rattle.base_index.specs.Lists.{cols_of, rows_of};
+ghost use Rattle.key_index.specs.Index.{has_key};
+ghost use Rattle.key_index.specs.Lists.{cols_of, rows_of};
 ghost use Rattle.base_index.specs.Need.{has_cols, rows_walked, with_needs};
 ghost use Rattle.base_index.specs.Parts.{IsCalm, IsWhole, parts_of};
 ghost use Rattle.base_index.specs.Parts.{rows_next, rows_seen, to_come, to_go};
 
 use crate::filling::add_indexes;
-use crate::index::{Index, find_by};
-use crate::key::Key;
-use crate::keyed::{Keyed, is_listed, listed};
-use crate::marks::Marks;
 use crate::need::Need;
+use key_index::{Index, Key, Keyed, Marks, find_by, is_listed, listed};
 use lens_values::{Columns, Name, Names, NoMemory, Row};
 use row_sets::{RowSet, RowTree};
 use std::alloc::Global;

@@ -9,8 +9,8 @@ ghost use Rattle.base_index.specs.Need.{has_cols, rows_walked, with_needs};
 ghost use Rattle.base_index.specs.Stored.{IsQuiet, new_table, settled, shown_of, unstaged};
 
 use crate::body::Body;
-use crate::index::has_index;
 use crate::need::Need;
+use key_index::has_index;
 use lens_values::{Columns, Name, Names, NoMemory, Row};
 use row_sets::RowSet;
 use signed_delta::Delta;

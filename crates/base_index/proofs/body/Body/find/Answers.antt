@@ -1,15 +1,15 @@
 use Rattle.std.proofs.Common.{◌≡◌, ap, sym, ◌∙◌, subst, rules, true, false}
 use Rattle.std.specs.Prelude.{IfOk}
 use Rattle.lens_values.specs.SortedSet as set
-use Rattle.base_index.specs.Index.{has_key}
-use Rattle.base_index.specs.Key.{hash_row}
-use Rattle.base_index.specs.Lists.{IsTableOf, cols_of, rows_of}
-use Rattle.base_index.specs.Marks.{is_marked}
+use Rattle.key_index.specs.Index.{has_key}
+use Rattle.key_index.specs.Key.{hash_row}
+use Rattle.key_index.specs.Lists.{IsTableOf, cols_of, rows_of}
+use Rattle.key_index.specs.Marks.{is_marked}
 use Rattle.base_index.specs.Need.{has_cols}
 use Rattle.base_index.specs.Parts.{parts_of, to_come, to_go}
-use Rattle.base_index.proofs.Fronts.{slice_behind}
-use Rattle.base_index.proofs.Marked.{all_shown_there}
-use Rattle.base_index.proofs.Views.{filter_less}
+use Rattle.key_index.proofs.Fronts.{slice_behind}
+use Rattle.key_index.proofs.Marked.{all_shown_there}
+use Rattle.key_index.proofs.Views.{filter_less}
 use Rattle.base_index.proofs.body.Body.find.Goals as goal
 
 pub find_by-requires : goal.find_by-requires
