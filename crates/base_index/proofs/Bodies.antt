@@ -18,7 +18,7 @@ use Rattle.key_index.specs.Lists.{AreKeyed, IsTableOf, cols_of, rows_of, set_of}
 use Rattle.base_index.specs.Parts.{IsCalm, IsWhole, Keeps, Parts, rows_held, rows_next, rows_seen, to_come, to_go}
 use Rattle.key_index.specs.declared.index.Index.{Index}
 use Rattle.key_index.specs.declared.keyed.Keyed.{Keyed}
-use Rattle.key_index.proofs.Listed.{never, nothing_in, same_itself, same_trans}
+use Rattle.key_index.proofs.Lists.{never, nothing_in, same_itself, same_trans}
 use Rattle.key_index.proofs.Sets.{listed_whole}
 use Rattle.key_index.proofs.Whole.{first_indexes, none_keyed}
 use Rattle.signed_delta.proofs.Differences.{items_rise}

@@ -1,4 +1,3 @@
-pub mod Agreeing
 pub mod Bodies
 pub mod Defining
 pub mod Fields

@@ -10,7 +10,7 @@ use Rattle.key_index.specs.Lists.{IsTableOf, SameCols, rows_of, set_of}
 use Rattle.base_index.specs.Parts.{IsCalm, IsWhole, Parts, rows_held, rows_next, rows_seen, to_go}
 use Rattle.key_index.specs.declared.index.Index.{Index}
 use Rattle.key_index.specs.declared.keyed.Keyed.{Keyed}
-use Rattle.key_index.proofs.Listed.{all_keep_keys, never, nothing_in}
+use Rattle.key_index.proofs.Lists.{all_keep_keys, never, nothing_in}
 use Rattle.key_index.proofs.Whole.{none_keyed}
 use Rattle.key_index.proofs.RowSets.{contained, same_rows}
 use Rattle.key_index.specs.declared.marks.Marks.{Marks}

@@ -12,7 +12,7 @@ use Rattle.key_index.specs.Lists.{AreKeyed, HasKeys, IsListed, IsTableOf, SameCo
 use Rattle.base_index.specs.Parts.{IsCalm, IsWhole, Parts, rows_held, rows_next, rows_seen, to_come, to_go}
 use Rattle.key_index.specs.declared.index.Index.{Index}
 use Rattle.key_index.specs.declared.keyed.Keyed.{Keyed}
-use Rattle.key_index.proofs.Listed.{all_keep_keys, in_pushed, never, nothing_in, pushed_keyed}
+use Rattle.key_index.proofs.Lists.{all_keep_keys, in_pushed, never, nothing_in, pushed_keyed}
 use Rattle.key_index.proofs.Groups.{tied}
 use Rattle.key_index.proofs.RowSets.{at_tie, contained, same_rows}
 use Rattle.key_index.specs.Marks.{AreMarked, HasMarks, StayMarked}

@@ -16,7 +16,7 @@ use Rattle.key_index.specs.Lists.{AreKeyed, rows_of, set_of}
 use Rattle.key_index.specs.declared.index.Index.{Index}
 use Rattle.key_index.specs.declared.keyed.Keyed.{Keyed}
 use Rattle.key_index.proofs.Adding.{front_more}
-use Rattle.key_index.proofs.Listed.{in_pushed, none_less, one_less}
+use Rattle.key_index.proofs.Lists.{in_pushed, none_less, one_less}
 use Rattle.key_index.proofs.Groups.{tied}
 use Rattle.key_index.proofs.RowSets.{at_tie, contained, same_rows}
 

@@ -1,11 +1,13 @@
 pub mod Adding
 pub mod Fronts
 pub mod Groups
-pub mod Listed
+pub mod Keys
+pub mod Lists
 pub mod Marked
 pub mod Members
 pub mod Mixed
 pub mod Put
+pub mod Replaced
 pub mod RowSets
 pub mod Sets
 pub mod Taken

@@ -3,13 +3,14 @@ use Rattle.std.proofs.Common.{◌≡◌, ap, sym, ◌∙◌, refl, Bool, true, f
 use Rattle.std.specs.Prelude.{◌&&◌, ◌||◌}
 use Rattle.std.specs.Ordering.{eq_by_cmp}
 use Rattle.std.specs.Cmp.{eq_by_cmp_equiv}
-use Rattle.lens_values.specs.Part.{restrict}
 use Rattle.lens_values.specs.Row.{row_cmp}
 use Rattle.lens_values.specs.RowOrder.{row_cmp_total, row_cmp-IsAntisymmetric}
 use Rattle.lens_values.specs.SortedSet as set
 use Rattle.lens_values.specs.declared.row.Row.{Row}
 use Rattle.lens_specs.specs.Relation.{Rows}
 use Rattle.key_index.specs.Index.{group_at, has_key, IsIndexOf, IsPut}
+use Rattle.key_index.specs.Key.{Cells, cells_cmp, key_of}
+use Rattle.key_index.specs.KeyOrder.{cells_cmp_total}
 use Rattle.key_index.specs.declared.index.Index.{Index}
 use Rattle.key_index.proofs.Groups.{tied}
 
@@ -30,13 +31,13 @@ chosen : (b : Bool) (s t : Rows) (x : Row) → set.contains (cond b s t) x ≡ c
 chosen true s t x = refl
 chosen false s t x = refl
 
-module _ (rows : Rows) (row : Row) (old new : Index) (cols : new.cols ≡ old.cols) (put : IsPut (restrict old.cols row) row old new) where
-  key_of_row : (q x : Row) → eq_by_cmp row_cmp x row ≡ true → has_key old.cols q x ≡ eq_by_cmp row_cmp (restrict old.cols row) q
-  key_of_row q x e = ap (has_key old.cols q) (tied x row e) ∙ (eq_by_cmp_equiv row_cmp_total).symm q (restrict old.cols row)
+module _ (rows : Rows) (row : Row) (old new : Index) (cols : new.cols ≡ old.cols) (put : IsPut (key_of old.cols row) row old new) where
+  under_row : (q : Cells) (x : Row) → eq_by_cmp row_cmp x row ≡ true → has_key old.cols q x ≡ eq_by_cmp cells_cmp (key_of old.cols row) q
+  under_row q x e = ap (has_key old.cols q) (tied x row e) ∙ (eq_by_cmp_equiv cells_cmp_total).symm q (key_of old.cols row)
 
-  has : IsIndexOf rows old → (q : Row) → group_at new q ≡ set.filter (has_key old.cols q) (set.insert rows row)
+  has : IsIndexOf rows old → (q : Cells) → group_at new q ≡ set.filter (has_key old.cols q) (set.insert rows row)
   has is q = set.same_set row_cmp_total row_cmp-IsAntisymmetric _ _ (λ x.
-      let b = eq_by_cmp row_cmp (restrict old.cols row) q in
+      let b = eq_by_cmp cells_cmp (key_of old.cols row) q in
       let e = eq_by_cmp row_cmp x row in
       let p = has_key old.cols q x in
       let group : set.contains (group_at old q) x ≡ (set.contains rows x && p) =
@@ -44,7 +45,7 @@ module _ (rows : Rows) (row : Row) (old new : Index) (cols : new.cols ≡ old.co
       ap (λ s. set.contains s x) (put q)
       ∙ chosen b (set.insert (group_at old q) row) (group_at old q) x
       ∙ (λ i. cond b ((set.contains-insert row_cmp_total (group_at old q) row x ∙ ap (λ g. e || g) group) i) (group i))
-      ∙ with_it b e (set.contains rows x) p (key_of_row q x)
+      ∙ with_it b e (set.contains rows x) p (under_row q x)
       ∙ ap (λ a. a && p) (sym (set.contains-insert row_cmp_total rows row x))
       ∙ sym (set.contains-filter row_cmp_total row_cmp-IsAntisymmetric (has_key old.cols q) (set.insert rows row) x))
 
@@ -52,5 +53,5 @@ module _ (rows : Rows) (row : Row) (old new : Index) (cols : new.cols ≡ old.co
   index_put is q = has is q ∙ ap (λ c. set.filter (has_key c q) (set.insert rows row)) (sym cols)
 
 -- an index with the same groups is that of the same rows
-pub index_same : (rows : Rows) (old new : Index) → new.cols ≡ old.cols → ((q : Row) → group_at new q ≡ group_at old q) → IsIndexOf rows old → IsIndexOf rows new
+pub index_same : (rows : Rows) (old new : Index) → new.cols ≡ old.cols → ((q : Cells) → group_at new q ≡ group_at old q) → IsIndexOf rows old → IsIndexOf rows new
 index_same rows old new cols same is q = same q ∙ is q ∙ ap (λ c. set.filter (has_key c q) rows) (sym cols)

@@ -3,13 +3,14 @@ use Rattle.std.proofs.Common.{◌≡◌, ap, sym, ◌∙◌, refl, Bool, true, f
 use Rattle.std.specs.Prelude.{not, ◌&&◌, ◌||◌}
 use Rattle.std.specs.Ordering.{eq_by_cmp}
 use Rattle.std.specs.Cmp.{eq_by_cmp_equiv}
-use Rattle.lens_values.specs.Part.{restrict}
 use Rattle.lens_values.specs.Row.{row_cmp}
 use Rattle.lens_values.specs.RowOrder.{row_cmp_total, row_cmp-IsAntisymmetric}
 use Rattle.lens_values.specs.SortedSet as set
 use Rattle.lens_values.specs.declared.row.Row.{Row}
 use Rattle.lens_specs.specs.Relation.{Rows}
 use Rattle.key_index.specs.Index.{group_at, has_key, IsIndexOf, IsTaken}
+use Rattle.key_index.specs.Key.{Cells, cells_cmp, key_of}
+use Rattle.key_index.specs.KeyOrder.{cells_cmp_total}
 use Rattle.key_index.specs.declared.index.Index.{Index}
 use Rattle.key_index.proofs.Groups.{tied}
 
@@ -40,35 +41,35 @@ chosen : (b : Bool) (s t : Rows) (x : Row) → set.contains (cond b s t) x ≡ c
 chosen true s t x = refl
 chosen false s t x = refl
 
-module _ (rows : Rows) (row : Row) (old new : Index) (cols : new.cols ≡ old.cols) (taken : IsTaken (restrict old.cols row) row old new) where
-  key_of_row : (q x : Row) → eq_by_cmp row_cmp x row ≡ true → has_key old.cols q x ≡ eq_by_cmp row_cmp (restrict old.cols row) q
-  key_of_row q x e = ap (has_key old.cols q) (tied x row e) ∙ (eq_by_cmp_equiv row_cmp_total).symm q (restrict old.cols row)
+module _ (rows : Rows) (row : Row) (old new : Index) (cols : new.cols ≡ old.cols) (taken : IsTaken (key_of old.cols row) row old new) where
+  under_row : (q : Cells) (x : Row) → eq_by_cmp row_cmp x row ≡ true → has_key old.cols q x ≡ eq_by_cmp cells_cmp (key_of old.cols row) q
+  under_row q x e = ap (has_key old.cols q) (tied x row e) ∙ (eq_by_cmp_equiv cells_cmp_total).symm q (key_of old.cols row)
 
   -- what the group has at x, where the group was that of the rows `all`
-  seen : (all : Rows) → IsIndexOf all old → (q x : Row)
+  seen : (all : Rows) → IsIndexOf all old → (q : Cells) (x : Row)
       → set.contains (group_at new q) x
-      ≡ cond (eq_by_cmp row_cmp (restrict old.cols row) q) (not (eq_by_cmp row_cmp x row) && (set.contains all x && has_key old.cols q x)) (set.contains all x && has_key old.cols q x)
+      ≡ cond (eq_by_cmp cells_cmp (key_of old.cols row) q) (not (eq_by_cmp row_cmp x row) && (set.contains all x && has_key old.cols q x)) (set.contains all x && has_key old.cols q x)
   seen all is q x =
       let group : set.contains (group_at old q) x ≡ (set.contains all x && has_key old.cols q x) =
       ap (λ s. set.contains s x) (is q) ∙ set.contains-filter row_cmp_total row_cmp-IsAntisymmetric (has_key old.cols q) all x in
       ap (λ s. set.contains s x) (taken q)
-      ∙ chosen (eq_by_cmp row_cmp (restrict old.cols row) q) (set.remove (group_at old q) row) (group_at old q) x
-      ∙ (λ i. cond (eq_by_cmp row_cmp (restrict old.cols row) q) ((set.contains-remove row_cmp_total (group_at old q) row x ∙ ap (λ b. not (eq_by_cmp row_cmp x row) && b) group) i) (group i))
+      ∙ chosen (eq_by_cmp cells_cmp (key_of old.cols row) q) (set.remove (group_at old q) row) (group_at old q) x
+      ∙ (λ i. cond (eq_by_cmp cells_cmp (key_of old.cols row) q) ((set.contains-remove row_cmp_total (group_at old q) row x ∙ ap (λ b. not (eq_by_cmp row_cmp x row) && b) group) i) (group i))
 
-  wanted : (q x : Row) → set.contains (set.filter (has_key old.cols q) (set.remove rows row)) x ≡ ((not (eq_by_cmp row_cmp x row) && set.contains rows x) && has_key old.cols q x)
+  wanted : (q : Cells) (x : Row) → set.contains (set.filter (has_key old.cols q) (set.remove rows row)) x ≡ ((not (eq_by_cmp row_cmp x row) && set.contains rows x) && has_key old.cols q x)
   wanted q x =
       set.contains-filter row_cmp_total row_cmp-IsAntisymmetric (has_key old.cols q) (set.remove rows row) x
       ∙ ap (λ b. b && has_key old.cols q x) (set.contains-remove row_cmp_total rows row x)
 
-  had : IsIndexOf rows old → (q : Row) → group_at new q ≡ set.filter (has_key old.cols q) (set.remove rows row)
+  had : IsIndexOf rows old → (q : Cells) → group_at new q ≡ set.filter (has_key old.cols q) (set.remove rows row)
   had is q = set.same_set row_cmp_total row_cmp-IsAntisymmetric _ _ (λ x.
-      seen rows is q x ∙ without (eq_by_cmp row_cmp (restrict old.cols row) q) (eq_by_cmp row_cmp x row) (set.contains rows x) (has_key old.cols q x) (key_of_row q x) ∙ sym (wanted q x))
+      seen rows is q x ∙ without (eq_by_cmp cells_cmp (key_of old.cols row) q) (eq_by_cmp row_cmp x row) (set.contains rows x) (has_key old.cols q x) (under_row q x) ∙ sym (wanted q x))
 
-  had_new : IsIndexOf (set.insert rows row) old → (q : Row) → group_at new q ≡ set.filter (has_key old.cols q) (set.remove rows row)
+  had_new : IsIndexOf (set.insert rows row) old → (q : Cells) → group_at new q ≡ set.filter (has_key old.cols q) (set.remove rows row)
   had_new is q = set.same_set row_cmp_total row_cmp-IsAntisymmetric _ _ (λ x.
       seen (set.insert rows row) is q x
-      ∙ ap (λ a. cond (eq_by_cmp row_cmp (restrict old.cols row) q) (not (eq_by_cmp row_cmp x row) && (a && has_key old.cols q x)) (a && has_key old.cols q x)) (set.contains-insert row_cmp_total rows row x)
-      ∙ with_new (eq_by_cmp row_cmp (restrict old.cols row) q) (eq_by_cmp row_cmp x row) (set.contains rows x) (has_key old.cols q x) (key_of_row q x) ∙ sym (wanted q x))
+      ∙ ap (λ a. cond (eq_by_cmp cells_cmp (key_of old.cols row) q) (not (eq_by_cmp row_cmp x row) && (a && has_key old.cols q x)) (a && has_key old.cols q x)) (set.contains-insert row_cmp_total rows row x)
+      ∙ with_new (eq_by_cmp cells_cmp (key_of old.cols row) q) (eq_by_cmp row_cmp x row) (set.contains rows x) (has_key old.cols q x) (under_row q x) ∙ sym (wanted q x))
 
   pub index_taken : IsIndexOf rows old ⊎ IsIndexOf (set.insert rows row) old → IsIndexOf (set.remove rows row) new
   index_taken is q = ⊎_elim had had_new is q ∙ ap (λ c. set.filter (has_key c q) (set.remove rows row)) (sym cols)

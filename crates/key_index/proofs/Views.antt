@@ -14,7 +14,7 @@ use Rattle.key_index.specs.Lists.{rows_of, SameCols}
 use Rattle.key_index.specs.Lists.{cols_of}
 use Rattle.key_index.specs.declared.index.Index.{Index}
 use Rattle.key_index.specs.declared.keyed.Keyed.{Keyed}
-use Rattle.key_index.proofs.Listed.{none_less}
+use Rattle.key_index.proofs.Lists.{none_less}
 
 pub emptied : (rows all : Rows) (list : List Keyed) → rows ≡ all → list ≡ [] → set.difference rows (rows_of list) ≡ all
 emptied rows all list is none = ap (λ g. set.difference rows (rows_of g)) none ∙ none_less rows ∙ is

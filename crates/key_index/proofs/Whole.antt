@@ -12,11 +12,12 @@ use Rattle.lens_values.specs.declared.row.Row.{Row}
 use Rattle.lens_specs.specs.Relation.{Columns, Fits, Rows}
 use Rattle.row_sets.proofs.Fitting.{rest_fits}
 use Rattle.key_index.specs.Index.{group_at, has_key}
+use Rattle.key_index.specs.Key.{Cells}
 use Rattle.key_index.specs.Lists.{AreKeyed, IsTableOf, cols_of, rows_of, set_of}
 use Rattle.key_index.specs.Cols.{has_cols, same_names}
 use Rattle.key_index.specs.declared.index.Index.{Index}
 use Rattle.key_index.specs.declared.keyed.Keyed.{Keyed}
-use Rattle.key_index.proofs.Listed.{none_less}
+use Rattle.key_index.proofs.Lists.{none_less}
 
 -- an empty list is keyed
 pub none_keyed : (indexes : List Index) (list : List Keyed) → list ≡ [] → AreKeyed indexes list
@@ -83,7 +84,7 @@ none_pass p = set.same_set row_cmp_total row_cmp-IsAntisymmetric _ _ (λ q.
     set.contains-filter row_cmp_total row_cmp-IsAntisymmetric p set.empty q ∙ ap (λ b. b && p q) (set.contains-empty row_cmp q) ∙ sym (set.contains-empty row_cmp q))
 
 -- an index of no row
-pub new_index : (x : Index) → ((key : Row) → group_at x key ≡ set.empty) → IsTableOf (set_of []) (x ∷ [])
+pub new_index : (x : Index) → ((key : Cells) → group_at x key ≡ set.empty) → IsTableOf (set_of []) (x ∷ [])
 new_index x none zero d within key = none key ∙ sym (none_pass (has_key x.cols key))
 new_index x none (suc i) d within key = absurd (omega arith)
 

@@ -2,11 +2,11 @@
 use Rattle.std.specs.Prelude.{◌≡◌, ◌<◌, ℕ, List, [], ◌∷◌, ◌++◌, map, length, slice_index_or}
 use Rattle.std.proofs.Common.{◌⊎◌}
 use Rattle.lens_values.specs.Names.{Names}
-use Rattle.lens_values.specs.Part.{restrict}
 use Rattle.lens_values.specs.SortedSet as set
 use Rattle.lens_values.specs.declared.row.Row.{Row}
 use Rattle.lens_specs.specs.Relation.{Rows}
 use Rattle.key_index.specs.Index.{IsIndexOf}
+use Rattle.key_index.specs.Key.{Cells, key_of}
 use Rattle.key_index.specs.declared.index.Index.{Index}
 use Rattle.key_index.specs.declared.keyed.Keyed.{Keyed}
 
@@ -36,8 +36,8 @@ IsMixed rows row indexes = (i : ℕ) (d : Index) → i < length indexes
 -- the row has its key in each index
 pub record HasKeys (indexes : List Index) (keyed : Keyed) : Type 0 where
   pub many : length keyed.keys.items ≡ length indexes
-  pub each : (i : ℕ) (d : Index) (k : Row) → i < length indexes
-      → slice_index_or keyed.keys.items i k ≡ restrict (slice_index_or indexes i d).cols keyed.row
+  pub each : (i : ℕ) (d : Index) (k : Cells) → i < length indexes
+      → slice_index_or keyed.keys.items i k ≡ key_of (slice_index_or indexes i d).cols keyed.row
 
 -- each listed row has its keys
 abbrev pub AreKeyed : List Index → List Keyed → Type 0

@@ -2,9 +2,8 @@
 use Rattle.std.specs.Prelude.{◌≡◌, ◌<◌, ℕ, Bool, true, List, length, slice_index_or}
 use Rattle.std.specs.BTreeSet.{contains}
 use Rattle.std.specs.Ordering.{nat_cmp}
-use Rattle.lens_values.specs.Part.{restrict}
 use Rattle.lens_values.specs.declared.row.Row.{Row}
-use Rattle.key_index.specs.Key.{hash_row}
+use Rattle.key_index.specs.Key.{Cells, hash_key, key_of}
 use Rattle.key_index.specs.declared.index.Index.{Index}
 use Rattle.key_index.specs.declared.marks.Marks.{Marks}
 
@@ -17,10 +16,10 @@ abbrev pub StayMarked : Marks → Marks → Type 0
 StayMarked old new = (hash : ℕ) → is_marked old hash ≡ true → is_marked new hash ≡ true
 
 -- each of the keys is marked
-abbrev pub AreMarked : Marks → List Row → Type 0
-AreMarked marks keys = (i : ℕ) (k : Row) → i < length keys → is_marked marks (hash_row (slice_index_or keys i k)) ≡ true
+abbrev pub AreMarked : Marks → List Cells → Type 0
+AreMarked marks keys = (i : ℕ) (k : Cells) → i < length keys → is_marked marks (hash_key (slice_index_or keys i k)) ≡ true
 
 -- the row's key in each index is marked
 abbrev pub HasMarks : Marks → List Index → Row → Type 0
 HasMarks marks indexes row = (i : ℕ) (d : Index) → i < length indexes
-    → is_marked marks (hash_row (restrict (slice_index_or indexes i d).cols row)) ≡ true
+    → is_marked marks (hash_key (key_of (slice_index_or indexes i d).cols row)) ≡ true

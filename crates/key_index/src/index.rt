@@ -1,8 +1,8 @@
 //! An index: the rows of a table by their values in some columns.
 ghost use Rattle.std.specs.Prelude.{◌≡◌, IfOk, OnOk, OnErr, IsTrue};
-ghost use Rattle.lens_values.specs.Part.{restrict};
 ghost use Rattle.lens_values.specs.SortedSet as set;
 ghost use Rattle.key_index.specs.Index.{IsPut, IsTaken, group_at, has_key};
+ghost use Rattle.key_index.specs.Key.{key_of};
 ghost use Rattle.key_index.specs.Lists.{IsTableOf, cols_of};
 ghost use Rattle.key_index.specs.Cols.{has_cols, same_names};
 
@@ -42,9 +42,9 @@ impl Index {
 
     /// The key of a row.
     pub fn key(&self, alloc: Global, row: &Row) -> Result<Key, NoMemory>
-        ensures { IfOk result (λ key. key ≡ restrict self.now.cols row.now) }
+        ensures { IfOk result (λ key. key ≡ key_of self.now.cols row.now) }
     {
-        Ok(Key::of(row.project(alloc, &self.cols)?))
+        Ok(Key::of(row.copy(alloc)?, self.cols.copy(alloc)?))
     }
 
     /// The rows of a key.

@@ -1,49 +1,56 @@
-//! Rows as keys of a tree.
+//! Rows as keys of a tree, by what they have in some columns.
 ghost use Rattle.std.specs.Prelude.{◌≡◌, IfOk, refl};
 ghost use Rattle.std.specs.Cmp.{eq_by_cmp_equiv, partial_equiv_from_equiv, partial_order_from_agreeing_total};
 ghost use Rattle.std.specs.Ordering.{as_partial_cmp, eq_by_cmp};
-ghost use Rattle.lens_values.specs.contracts.row.Row as contract;
-ghost use Rattle.lens_values.specs.declared.row.Row as declared;
-ghost use Rattle.key_index.specs.Key.{hash_row, key_cmp};
+ghost use Rattle.key_index.specs.Key.{hash_key, key_cmp, key_of};
 ghost use Rattle.key_index.specs.KeyOrder.{key_cmp_total};
 
-use lens_values::{NoMemory, Row, hash_value};
+use crate::cells::{cells_cmp, hash_cells};
+use lens_values::{Names, NoMemory, Row};
 use std::alloc::Global;
 use std::cmp::Ordering;
 use std::marker::Model;
 
-/// The values of a row in the columns of an index, in the order of their hashes. A contract sees
-/// them as a row.
+/// What a row has in the columns of an index, in the order of the hashes. The row itself is held, and
+/// compared in place. A contract sees a key as the list of what the row has in each column.
 #[derive(Drop)]
 pub struct Key {
     hash: u64,
     row: Row,
+    cols: Names,
 }
 
 impl Model for Key {
-    ghost Value = { declared.Row };
+    ghost use Rattle.std.specs.Prelude.{◌≡◌, List, Option};
+    ghost use Rattle.std.specs.Coded.{coded_list, coded_option};
+    ghost use Rattle.lens_values.specs.contracts.value.Value as contract;
+    ghost use Rattle.lens_values.specs.declared.value.Value as declared;
+    ghost use Rattle.key_index.specs.Key.{hash_key, key_of};
 
-    ghost coded = { contract.the_row.coded };
+    ghost Value = { List (Option declared.Value) };
 
-    ghost view = { λ k. k.row };
+    ghost coded = { coded_list (coded_option contract.the_row.coded) };
 
-    ghost invariant = { λ k. k.hash ≡ hash_row k.row };
+    ghost view = { λ k. key_of k.cols k.row };
+
+    ghost invariant = { λ k. k.hash ≡ hash_key (key_of k.cols k.row) };
 }
 
 impl Key {
-    /// The row as a key.
-    pub fn of(row: Row) -> Key
-        ensures { result ≡ row }
+    /// The key of the row in these columns. The row may have others too.
+    pub fn of(row: Row, cols: Names) -> Key
+        ensures { result ≡ key_of cols row }
     {
         Key {
-            hash: hash_row(&row),
+            hash: hash_cells(&row, &cols),
             row,
+            cols,
         }
     }
 
     /// The hash of its values.
     pub fn hash(&self) -> u64
-        ensures { result ≡ hash_row self.now }
+        ensures { result ≡ hash_key self.now }
     {
         self.hash
     }
@@ -55,6 +62,7 @@ impl Key {
         Ok(Key {
             hash: self.hash,
             row: self.row.copy(alloc)?,
+            cols: self.cols.copy(alloc)?,
         })
     }
 }
@@ -94,20 +102,8 @@ impl Ord for Key {
 
     fn cmp(&self, other: &Key) -> Ordering {
         match self.hash.cmp(&other.hash) {
-            Ordering::Equal => self.row.cmp(&other.row),
+            Ordering::Equal => cells_cmp(&self.row, &self.cols, &other.row, &other.cols),
             order => order,
         }
     }
-}
-
-// The hash of the values of a row, in the order of their columns.
-#[tactic(auto, unfolding(crate::specs::Key::hash_row))]
-fn hash_row(row: &Row) -> u64
-    ensures { result ≡ hash_row row.now }
-{
-    let mut hash = 0;
-    for value in row.values() {
-        hash = hash_value(hash, value);
-    }
-    hash
 }

@@ -1,6 +1,7 @@
 //! Indexes of rows by the values of some columns, and rows with their keys in each index.
 #![tactic(auto)]
 
+mod cells;
 mod filling;
 mod group;
 pub mod index;

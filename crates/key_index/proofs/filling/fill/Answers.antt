@@ -1,7 +1,7 @@
 use Rattle.std.proofs.Common.{◌+◌, ap, ◌∙◌, subst, arith, take}
 use Rattle.lens_values.specs.SortedSet as set
 use Rattle.key_index.specs.Lists.{IsTableOf, set_of}
-use Rattle.key_index.proofs.Listed.{same_trans}
+use Rattle.key_index.proofs.Lists.{same_trans}
 use Rattle.key_index.proofs.Adding.{front_more}
 use Rattle.key_index.proofs.filling.fill.Goals as goal
 

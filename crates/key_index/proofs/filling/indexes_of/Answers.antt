@@ -1,7 +1,7 @@
 use Rattle.std.proofs.Common.{sym, subst, take}
 use Rattle.key_index.specs.Lists.{HasKeys, IsTableOf, rows_of}
 use Rattle.key_index.proofs.Fronts.{front_pushed}
-use Rattle.key_index.proofs.Listed.{keeps_keys, same_trans}
+use Rattle.key_index.proofs.Lists.{keeps_keys, same_trans}
 use Rattle.key_index.proofs.filling.indexes_of.Goals as goal
 
 pub put_each-requires : goal.put_each-requires

@@ -3,7 +3,7 @@ use Rattle.lens_values.specs.SortedSet as set
 use Rattle.key_index.specs.Lists.{AreKeyed, rows_of}
 use Rattle.key_index.proofs.Adding.{front_more}
 use Rattle.key_index.proofs.Fronts.{rows_pushed}
-use Rattle.key_index.proofs.Listed.{pushed_keyed}
+use Rattle.key_index.proofs.Lists.{pushed_keyed}
 use Rattle.key_index.proofs.keyed.all_with_keys.Goals as goal
 
 pub loop-row-preserved : goal.loop-row-preserved

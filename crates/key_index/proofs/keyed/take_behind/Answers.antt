@@ -4,7 +4,7 @@ use Rattle.lens_values.specs.SortedSet as set
 use Rattle.key_index.specs.Lists.{rows_of}
 use Rattle.key_index.specs.Lists.{SameCols, AreKeyed, IsTableOf}
 use Rattle.key_index.proofs.Fronts.{all_gone, one_less_behind, same_front}
-use Rattle.key_index.proofs.Listed.{same_trans, others_keyed, all_keep_keys, never}
+use Rattle.key_index.proofs.Lists.{same_trans, others_keyed, all_keep_keys, never}
 use Rattle.key_index.proofs.keyed.take_behind.Goals.{in-Some, in_default}
 use Rattle.key_index.proofs.keyed.take_behind.Goals as goal
 

@@ -5,7 +5,7 @@ use Rattle.key_index.specs.Lists.{HasKeys}
 use Rattle.base_index.specs.Parts.{IsWhole, parts_of, rows_next, rows_seen}
 use Rattle.base_index.proofs.Bodies.{kept_itself}
 use Rattle.base_index.proofs.Staging.{going_next, going_seen, going_whole}
-use Rattle.key_index.proofs.Listed.{same_itself}
+use Rattle.key_index.proofs.Lists.{same_itself}
 use Rattle.base_index.proofs.body.Body.hide.Goals as goal
 
 pub returns-clause-whole : goal.returns-clause-whole

@@ -2,7 +2,7 @@
 use Rattle.std.proofs.Common.{◌≡◌, ℕ, ◌<◌, List, [], ◌∷◌, ◌++◌, length, ap, sym, ◌∙◌, refl, Bool, true, false, arith, zero, suc}
 use Rattle.std.specs.Prelude.{not, ◌&&◌, ◌||◌, slice_index_or, Result, Ok, Err, OnOk, OnErr, is_err}
 use Rattle.std.specs.Ordering.{eq_by_cmp}
-use Rattle.lens_values.specs.Part.{restrict}
+use Rattle.key_index.specs.Key.{key_of}
 use Rattle.lens_values.specs.Row.{row_cmp}
 use Rattle.lens_values.specs.RowOrder.{row_cmp_total, row_cmp-IsAntisymmetric}
 use Rattle.lens_values.specs.SortedSet as set
@@ -69,7 +69,7 @@ pub keeps_keys : (old new : List Index) (keyed : Keyed) → SameCols old new →
 keeps_keys old new keyed same has = record {
   many = has.many ∙ sym same.many;
   each = λ i d k within.
-      has.each i d k (omega (arith, same.many)) ∙ ap (λ c. restrict c keyed.row) (sym (same.each i d d (omega (arith, same.many))));
+      has.each i d k (omega (arith, same.many)) ∙ ap (λ c. key_of c keyed.row) (sym (same.each i d d (omega (arith, same.many))));
 }
 
 pub last_keyed : (indexes : List Index) (list : List Keyed) (k : Keyed) → AreKeyed indexes (list ++ k ∷ []) → HasKeys indexes k
