@@ -81,6 +81,27 @@ module _ (p : Parts) (w : IsWhole p) (rows : Rows) (indexes : List Index)
     };
   }
 
+-- more keys may be marked
+pub marked_more : (p : Parts) → IsWhole p → (marks : Marks) → StayMarked p.marks marks → IsWhole (record p { marks = marks })
+marked_more p w marks stay = record {
+  index = w.index;
+  fits = w.fits;
+  add = w.add;
+  remove = w.remove;
+  added = w.added;
+  removed = w.removed;
+  hidden_there = w.hidden_there;
+  hidden_old = w.hidden_old;
+  hidden_listed = w.hidden_listed;
+  hidden_marked = λ x there. more_marks p.marks marks p.indexes x stay (w.hidden_marked x there);
+  going_there = w.going_there;
+  going_old = w.going_old;
+  going_hidden = w.going_hidden;
+  back_hidden = w.back_hidden;
+  back_stays = w.back_stays;
+  free = λ off. let f = w.free off in record { hidden = f.hidden; added = f.added; removed = f.removed };
+}
+
 -- ---- a row to be removed is listed
 
 module _ (p : Parts) (w : IsWhole p) (k : Keyed) (keys : HasKeys p.indexes k) (seen : has (rows_seen p) k.row ≡ true)

@@ -21,9 +21,9 @@ module _ (old now : List Index) (i : ℕ) (x : Index) (low : i < length old) (sa
     many = length-set now i x ∙ same.many;
     each = λ j d e within. ⊎_elim (λ p. ap (λ y. y.cols) (before j d p) ∙ same.each j d e within)
         (λ p. ⊎_elim (λ q. ap (λ y. y.cols) (behind j d q) ∙ same.each j d e within)
-            (λ q. (let is : i ≡ j = omega (arith, p, q) in
-              subst (λ n. (slice_index_or (put_at now i x) n d).cols ≡ (slice_index_or old n e).cols) is (ap (λ y. y.cols) (here d) ∙ cols ∙ same.each i x e low)))
-            (split i j)) (split j i);
+        (λ q. (let is : i ≡ j = omega (arith, p, q) in
+        subst (λ n. (slice_index_or (put_at now i x) n d).cols ≡ (slice_index_or old n e).cols) is (ap (λ y. y.cols) (here d) ∙ cols ∙ same.each i x e low)))
+        (split i j)) (split j i);
   }
 
   -- what held of the first ones holds of one more
@@ -31,7 +31,7 @@ module _ (old now : List Index) (i : ℕ) (x : Index) (low : i < length old) (sa
       → ((d : Index) → P i (slice_index_or old i d) x) → (j : ℕ) (d e : Index) → j < i + 1 → P j (slice_index_or old j d) (slice_index_or (put_at now i x) j e)
   done_more P done this j d e below = ⊎_elim (λ p. subst (P j (slice_index_or old j d)) (sym (before j e p)) (done j d e p))
       (λ p. (let is : i ≡ j = omega (arith, p, below) in
-        subst (λ n. P n (slice_index_or old n d) (slice_index_or (put_at now i x) n e)) is (subst (P i (slice_index_or old i d)) (sym (here e)) (this d)))) (split j i)
+      subst (λ n. P n (slice_index_or old n d) (slice_index_or (put_at now i x) n e)) is (subst (P i (slice_index_or old i d)) (sym (here e)) (this d)))) (split j i)
 
   -- and the others stay
   pub left_more : ((j : ℕ) (d e : Index) → i ≤ j → j < length old → slice_index_or now j e ≡ slice_index_or old j d)
