@@ -14,17 +14,17 @@ use Rattle.lens_values.specs.SortedSet as set
 use Rattle.lens_values.specs.declared.row.Row.{Row}
 use Rattle.lens_specs.specs.Delta.{Delta, new_view}
 use Rattle.lens_specs.specs.Relation.{Rows, has}
-use Rattle.base_index.specs.Lists.{AreKeyed, IsTableOf, cols_of, rows_of, set_of}
+use Rattle.key_index.specs.Lists.{AreKeyed, IsTableOf, cols_of, rows_of, set_of}
 use Rattle.base_index.specs.Parts.{IsCalm, IsWhole, Keeps, Parts, rows_held, rows_next, rows_seen, to_come, to_go}
-use Rattle.base_index.specs.declared.index.Index.{Index}
-use Rattle.base_index.specs.declared.keyed.Keyed.{Keyed}
-use Rattle.base_index.proofs.Listed.{never, nothing_in, same_itself, same_trans}
-use Rattle.base_index.proofs.Sets.{listed_whole}
-use Rattle.base_index.proofs.Whole.{first_indexes, none_keyed}
+use Rattle.key_index.specs.declared.index.Index.{Index}
+use Rattle.key_index.specs.declared.keyed.Keyed.{Keyed}
+use Rattle.key_index.proofs.Lists.{never, nothing_in, same_itself, same_trans}
+use Rattle.key_index.proofs.Sets.{listed_whole}
+use Rattle.key_index.proofs.Whole.{first_indexes, none_keyed}
 use Rattle.signed_delta.proofs.Differences.{items_rise}
-use Rattle.base_index.proofs.RowSets.{contained, same_rows}
-use Rattle.base_index.specs.Marks.{HasMarks}
-use Rattle.base_index.proofs.Fronts.{above, no_row_less, none_back_of, none_behind}
+use Rattle.key_index.proofs.RowSets.{contained, same_rows}
+use Rattle.key_index.specs.Marks.{HasMarks}
+use Rattle.key_index.proofs.Fronts.{above, no_row_less, none_back_of, none_behind}
 
 -- nothing is hidden where nothing is held
 pub free_hidden : (p : Parts) → IsWhole p → p.held ≡ false → (x : Row) → has p.hidden x ≡ false

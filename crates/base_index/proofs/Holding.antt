@@ -13,7 +13,7 @@ use Rattle.base_index.specs.HeldFields.{held_in, next_in, present_in}
 use Rattle.base_index.specs.Need.{same_name}
 use Rattle.base_index.specs.Several.{AreHeld, AreIndexed, first_rows, holding, kept, names_of, needed, staged, staged_all, staged_in, taken_back, with_new}
 use Rattle.base_index.specs.Stored.{Stored, new_table, next_of, settled, shown_of, unstaged}
-use Rattle.base_index.proofs.Listed.{never}
+use Rattle.key_index.proofs.Lists.{never}
 
 -- the tables at `hold`, where they are held
 abbrev pub held_part : Bool → List Stored → Option State

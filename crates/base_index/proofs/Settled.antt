@@ -6,16 +6,16 @@ use Rattle.lens_values.specs.Row.{row_cmp}
 use Rattle.lens_values.specs.SortedSet as set
 use Rattle.lens_values.specs.declared.row.Row.{Row}
 use Rattle.lens_specs.specs.Relation.{Rows, has}
-use Rattle.base_index.specs.Lists.{IsTableOf, SameCols, rows_of, set_of}
+use Rattle.key_index.specs.Lists.{IsTableOf, SameCols, rows_of, set_of}
 use Rattle.base_index.specs.Parts.{IsCalm, IsWhole, Parts, rows_held, rows_next, rows_seen, to_go}
-use Rattle.base_index.specs.declared.index.Index.{Index}
-use Rattle.base_index.specs.declared.keyed.Keyed.{Keyed}
-use Rattle.base_index.proofs.Listed.{all_keep_keys, never, nothing_in}
-use Rattle.base_index.proofs.Whole.{none_keyed}
-use Rattle.base_index.proofs.RowSets.{contained, same_rows}
-use Rattle.base_index.specs.declared.marks.Marks.{Marks}
+use Rattle.key_index.specs.declared.index.Index.{Index}
+use Rattle.key_index.specs.declared.keyed.Keyed.{Keyed}
+use Rattle.key_index.proofs.Lists.{all_keep_keys, never, nothing_in}
+use Rattle.key_index.proofs.Whole.{none_keyed}
+use Rattle.key_index.proofs.RowSets.{contained, same_rows}
+use Rattle.key_index.specs.declared.marks.Marks.{Marks}
 use Rattle.base_index.proofs.Bodies.{calm_back, calm_come, calm_go, free_hidden}
-use Rattle.base_index.proofs.Fronts.{front_keyed}
+use Rattle.key_index.proofs.Fronts.{front_keyed}
 
 -- ---- what is staged is present, while the rows are held
 

@@ -8,17 +8,17 @@ use Rattle.lens_values.specs.Row.{row_cmp}
 use Rattle.lens_values.specs.SortedSet as set
 use Rattle.lens_values.specs.declared.row.Row.{Row}
 use Rattle.lens_specs.specs.Relation.{Fits, Rows, has}
-use Rattle.base_index.specs.Lists.{AreKeyed, HasKeys, IsListed, IsTableOf, SameCols, rows_of, set_of}
+use Rattle.key_index.specs.Lists.{AreKeyed, HasKeys, IsListed, IsTableOf, SameCols, rows_of, set_of}
 use Rattle.base_index.specs.Parts.{IsCalm, IsWhole, Parts, rows_held, rows_next, rows_seen, to_come, to_go}
-use Rattle.base_index.specs.declared.index.Index.{Index}
-use Rattle.base_index.specs.declared.keyed.Keyed.{Keyed}
-use Rattle.base_index.proofs.Listed.{all_keep_keys, in_pushed, never, nothing_in, pushed_keyed}
-use Rattle.base_index.proofs.Groups.{tied}
-use Rattle.base_index.proofs.RowSets.{at_tie, contained, same_rows}
-use Rattle.base_index.specs.Marks.{AreMarked, HasMarks, StayMarked}
-use Rattle.base_index.specs.declared.marks.Marks.{Marks}
-use Rattle.base_index.proofs.Marked.{keyed_marks, more_marks, same_marks, tied_marks}
-use Rattle.base_index.proofs.Fronts.{front_keyed, in_hidden, in_listed, in_parts, none_back, none_behind, one_behind}
+use Rattle.key_index.specs.declared.index.Index.{Index}
+use Rattle.key_index.specs.declared.keyed.Keyed.{Keyed}
+use Rattle.key_index.proofs.Lists.{all_keep_keys, in_pushed, never, nothing_in, pushed_keyed}
+use Rattle.key_index.proofs.Groups.{tied}
+use Rattle.key_index.proofs.RowSets.{at_tie, contained, same_rows}
+use Rattle.key_index.specs.Marks.{AreMarked, HasMarks, StayMarked}
+use Rattle.key_index.specs.declared.marks.Marks.{Marks}
+use Rattle.key_index.proofs.Marked.{keyed_marks, more_marks, same_marks, tied_marks}
+use Rattle.key_index.proofs.Fronts.{front_keyed, in_hidden, in_listed, in_parts, none_back, none_behind, one_behind}
 
 -- ---- what is staged is dropped
 
@@ -80,6 +80,27 @@ module _ (p : Parts) (w : IsWhole p) (rows : Rows) (indexes : List Index)
       removed = f.removed;
     };
   }
+
+-- more keys may be marked
+pub marked_more : (p : Parts) → IsWhole p → (marks : Marks) → StayMarked p.marks marks → IsWhole (record p { marks = marks })
+marked_more p w marks stay = record {
+  index = w.index;
+  fits = w.fits;
+  add = w.add;
+  remove = w.remove;
+  added = w.added;
+  removed = w.removed;
+  hidden_there = w.hidden_there;
+  hidden_old = w.hidden_old;
+  hidden_listed = w.hidden_listed;
+  hidden_marked = λ x there. more_marks p.marks marks p.indexes x stay (w.hidden_marked x there);
+  going_there = w.going_there;
+  going_old = w.going_old;
+  going_hidden = w.going_hidden;
+  back_hidden = w.back_hidden;
+  back_stays = w.back_stays;
+  free = λ off. let f = w.free off in record { hidden = f.hidden; added = f.added; removed = f.removed };
+}
 
 -- ---- a row to be removed is listed
 

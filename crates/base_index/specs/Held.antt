@@ -9,7 +9,6 @@ use Rattle.lens_values.specs.SortedSet as set
 pub use Rattle.lens_specs.specs.Relation.{IsRelation, has, those}
 pub use Rattle.lens_specs.specs.Rows.{agree}
 pub use Rattle.lens_specs.specs.TableDeltas.{no_relation, relation_in, after, with_deltas, AllApply}
-pub use Rattle.signed_delta.specs.Keys.{IsKey}
 pub use Rattle.signed_delta.specs.Tables.{table_delta}
 use Rattle.lens_specs.specs.Lens.{Tables}
 use Rattle.lens_specs.specs.Names.{Name, Names}

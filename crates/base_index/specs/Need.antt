@@ -1,24 +1,11 @@
 -- Column sets by which tables are to be asked.
-use Rattle.std.specs.Prelude.{ℕ, Bool, ◌&&◌, not, if◌then◌else◌, ◌==◌, nat_eq}
+use Rattle.std.specs.Prelude.{ℕ, Bool, ◌&&◌, not, if◌then◌else◌, ◌==◌}
 use Rattle.std.specs.Prelude.{List, [], ◌∷◌, ◌++◌, length}
-use Rattle.std.specs.List.{list_any}
-use Rattle.std.specs.Cmp.Lexicographic.{pointwise}
 use Rattle.lens_values.specs.SortedSet as set
 use Rattle.lens_specs.specs.Names.{Name, Names}
 use Rattle.lens_specs.specs.Relation.{Rows}
+pub use Rattle.key_index.specs.Cols.{same_name, same_names, has_cols}
 use Rattle.base_index.specs.declared.need.Need.{Need}
-
--- whether two names are the same
-abbrev pub same_name : Name → Name → Bool
-same_name = pointwise nat_eq
-
--- whether two sets of names are the same
-abbrev pub same_names : Names → Names → Bool
-same_names C D = pointwise same_name (set.items C) (set.items D)
-
--- whether one of the column sets is this one
-abbrev pub has_cols : List Names → Names → Bool
-has_cols indexes C = list_any (λ D. same_names D C) indexes
 
 -- whether the need asks this table for an index that is not there
 abbrev pub is_fresh : Name → List Names → Need → Bool

@@ -3,12 +3,12 @@ use Rattle.std.specs.Prelude.{◌≡◌, ◌≤◌, ℕ, Bool, true, false, if�
 use Rattle.lens_values.specs.SortedSet as set
 use Rattle.lens_values.specs.declared.row.Row.{Row}
 use Rattle.lens_specs.specs.Relation.{Columns, Fits, Rows, has}
-use Rattle.base_index.specs.Lists.{AreKeyed, IsTableOf, SameCols, rows_of, set_of}
-use Rattle.base_index.specs.Marks.{HasMarks}
+use Rattle.key_index.specs.Lists.{AreKeyed, IsTableOf, SameCols, rows_of, set_of}
+use Rattle.key_index.specs.Marks.{HasMarks}
 use Rattle.base_index.specs.declared.body.Body.{Body}
-use Rattle.base_index.specs.declared.index.Index.{Index}
-use Rattle.base_index.specs.declared.keyed.Keyed.{Keyed}
-use Rattle.base_index.specs.declared.marks.Marks.{Marks}
+use Rattle.key_index.specs.declared.index.Index.{Index}
+use Rattle.key_index.specs.declared.keyed.Keyed.{Keyed}
+use Rattle.key_index.specs.declared.marks.Marks.{Marks}
 
 -- the fields, each as what it holds
 pub record Parts : Type 0 where

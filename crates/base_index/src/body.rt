@@ -2,18 +2,15 @@
 ghost use Rattle.std.specs.Prelude.{◌≡◌, ◌≤◌, ◌+◌, IfOk, OnOk, OnErr, IsTrue, true, false, not, [], length, take};
 ghost use Rattle.lens_values.specs.SortedSet as set;
 ghost use Rattle.lens_specs.specs.Relation.{has};
-ghost use Rattle.base_index.specs.Index.{has_key};
-ghost use Rattle.base_index.specs.Lists.{cols_of, rows_of};
+ghost use Rattle.lens_specs.specs.Rows.{agree};
+ghost use Rattle.key_index.specs.Lists.{cols_of, rows_of};
 ghost use Rattle.base_index.specs.Need.{has_cols, rows_walked, with_needs};
 ghost use Rattle.base_index.specs.Parts.{IsCalm, IsWhole, parts_of};
 ghost use Rattle.base_index.specs.Parts.{rows_next, rows_seen, to_come, to_go};
 
 use crate::filling::add_indexes;
-use crate::index::{Index, find_by};
-use crate::key::Key;
-use crate::keyed::{Keyed, is_listed, listed};
-use crate::marks::Marks;
 use crate::need::Need;
+use key_index::{Index, Key, Keyed, Marks, find_by, is_listed, listed};
 use lens_values::{Columns, Name, Names, NoMemory, Row};
 use row_sets::{RowSet, RowTree};
 use std::alloc::Global;
@@ -91,14 +88,14 @@ impl Body {
         !self.hidden.has(row) || is_listed(&self.remove[self.removed..], row)
     }
 
-    /// The rows with this key, in the columns of one of the indexes, that readers see.
+    /// The rows that readers see which agree with the key in the columns of one of the indexes.
     pub fn find(&self, alloc: Global, cols: &Names, key: &Row) -> Result<RowSet, NoMemory>
         requires whole { IsWhole (parts_of self.now) }
         requires index { IsTrue (has_cols (cols_of self.now.indexes.items) cols.now) }
         ensures { IfOk result (λ found.
-            found ≡ set.filter (has_key cols.now key.now) (rows_seen (parts_of self.now))) }
+            found ≡ set.filter (agree cols.now key.now) (rows_seen (parts_of self.now))) }
     {
-        let key = Key::of(key.copy(alloc)?);
+        let key = Key::of(key.copy(alloc)?, cols.copy(alloc)?);
         let found = find_by(alloc, &self.indexes, cols, &key)?;
         let old = without(alloc, found, &self.add[self.added..])?;
         if !self.marks.has(key.hash()) {

@@ -3,12 +3,7 @@
 
 mod body;
 mod filling;
-mod group;
-mod index;
-mod key;
-mod keyed;
 mod listing;
-mod marks;
 pub mod need;
 mod settling;
 mod several;

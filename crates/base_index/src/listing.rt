@@ -6,15 +6,13 @@ ghost use Rattle.lens_values.specs.Row.{row_cmp};
 ghost use Rattle.lens_values.specs.SortedSet as set;
 ghost use Rattle.lens_specs.specs.Delta.{Applies, new_view};
 ghost use Rattle.lens_specs.specs.Relation.{Fits, has};
-ghost use Rattle.base_index.specs.Lists.{rows_of, set_of};
-ghost use Rattle.base_index.specs.Marks.{AreMarked, StayMarked};
+ghost use Rattle.key_index.specs.Lists.{rows_of, set_of};
+ghost use Rattle.key_index.specs.Marks.{AreMarked, StayMarked};
 ghost use Rattle.base_index.specs.Parts.{IsCalm, IsWhole, Keeps, parts_of};
 ghost use Rattle.base_index.specs.Parts.{rows_next, rows_seen};
 
 use crate::body::Body;
-use crate::filling::indexes_of;
-use crate::keyed::{Keyed, add_row, all_with_keys, take_behind, with_keys};
-use crate::marks::Marks;
+use key_index::{Keyed, Marks, add_row, all_with_keys, indexes_of, take_behind, with_keys};
 use lens_values::{NoMemory, Row};
 use row_sets::{RowSet, RowTree};
 use signed_delta::Delta;

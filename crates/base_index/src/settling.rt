@@ -2,14 +2,13 @@
 ghost use Rattle.std.specs.Prelude.{◌≡◌, Some, true, false, []};
 ghost use Rattle.std.specs.Prelude.{if◌then◌else◌};
 ghost use Rattle.lens_values.specs.SortedSet as set;
-ghost use Rattle.base_index.specs.Lists.{AreKeyed, HasKeys, IsTableOf, SameCols};
-ghost use Rattle.base_index.specs.Lists.{rows_of, set_of};
+ghost use Rattle.key_index.specs.Lists.{AreKeyed, HasKeys, IsTableOf, SameCols};
+ghost use Rattle.key_index.specs.Lists.{rows_of, set_of};
 ghost use Rattle.base_index.specs.Parts.{IsCalm, IsWhole, parts_of};
 ghost use Rattle.base_index.specs.Parts.{rows_held, rows_next, rows_seen};
 
 use crate::body::Body;
-use crate::index::Index;
-use crate::keyed::{Keyed, shrink, take_behind, take_row};
+use key_index::{Index, Keyed, shrink, take_behind, take_row};
 use lens_values::Row;
 use row_sets::RowTree;
 use std::alloc::Global;

@@ -4,13 +4,12 @@ ghost use Rattle.lens_values.specs.SortedSet as set;
 ghost use Rattle.lens_specs.specs.Delta.{AppliesTo, new_view};
 ghost use Rattle.lens_specs.specs.Relation.{IsRelation};
 ghost use Rattle.lens_specs.specs.Rows.{agree};
-ghost use Rattle.signed_delta.specs.Keys.{IsKey};
 ghost use Rattle.base_index.specs.Need.{has_cols, rows_walked, with_needs};
 ghost use Rattle.base_index.specs.Stored.{IsQuiet, new_table, settled, shown_of, unstaged};
 
 use crate::body::Body;
-use crate::index::has_index;
 use crate::need::Need;
+use key_index::has_index;
 use lens_values::{Columns, Name, Names, NoMemory, Row};
 use row_sets::RowSet;
 use signed_delta::Delta;
@@ -92,10 +91,9 @@ impl Table {
         has_index(&self.body.indexes[..self.shown], cols)
     }
 
-    /// The rows that agree with the key, which has exactly the columns of one of the indexes.
+    /// The rows that agree with the key in the columns of one of the indexes.
     pub fn find(&self, alloc: Global, cols: &Names, key: &Row) -> Result<RowSet, NoMemory>
-        requires index { IsTrue (has_cols self.now.indexes cols.now) }
-        requires key { IsKey cols.now key.now }
+        requires { IsTrue (has_cols self.now.indexes cols.now) }
         ensures { IfOk result (λ found.
             found ≡ set.filter (agree cols.now key.now) self.now.rows) }
     {

@@ -3,7 +3,7 @@ ghost use Rattle.std.specs.Prelude.{◌≡◌, ◌+◌, ◌≤◌, map, length, 
 ghost use Rattle.std.specs.Prelude.{Some, None};
 ghost use Rattle.std.specs.FinMap as finmap;
 ghost use Rattle.lens_values.specs.SortedSet as set;
-ghost use Rattle.base_index.specs.Held.{AllApply, IsKey, IsNew, IsQuiet, IsRelation, IsThere, agree, defined, has};
+ghost use Rattle.base_index.specs.Held.{AllApply, IsNew, IsQuiet, IsRelation, IsThere, agree, defined, has};
 ghost use Rattle.base_index.specs.Held.{is_indexed, no_tables, relation_in, table_delta, those, walked_for, with_deltas};
 ghost use Rattle.base_index.specs.Stored.{shown_of};
 
@@ -188,8 +188,8 @@ impl Tables {
         self.table(&need.table).has_index(&need.cols)
     }
 
-    /// The rows of the table that agree with the key, which has exactly the columns of one of its
-    /// indexes. It is one step, and one more for each row that is handed out.
+    /// The rows of the table that agree with the key in the columns of one of its indexes. The key may
+    /// have other columns too. It is one step, and one more for each row that is handed out.
     pub fn find<L: Ledger>(
         &self,
         table: &Name,
@@ -199,7 +199,6 @@ impl Tables {
     ) -> Result<RowSet, NoMemory>
         requires there { IsThere self.now.present table.now }
         requires index { IsTrue (is_indexed self.now.present table.now cols.now) }
-        requires key { IsKey cols.now key.now }
         ensures ok { IfOk result (λ found. found ≡ those (agree cols.now key.now)
             (relation_in self.now.present.relations table.now).rows) }
         ensures looked { IfOk result (λ found.

@@ -65,6 +65,8 @@ const STEPS: &str = "
     settle
     finds title:text year:int? | title=b year=0 | album=y title=b year=0
     finds title:text year:int? | title=a year=1099511628211 | album=x title=a year=1099511628211
+    finds title:text year:int? | album=x title=b year=0 zone=1 | album=y title=b year=0
+    finds title:text year:int? | album=y title=a year=0 |
     stage album=x title=a year=1099511628211
     settle
     finds title:text year:int? | title=b year=0 |

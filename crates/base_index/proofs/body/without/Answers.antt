@@ -1,7 +1,7 @@
 use Rattle.std.proofs.Common.{◌≡◌, [], ap, sym, ◌∙◌, rules}
 use Rattle.lens_values.specs.SortedSet as set
-use Rattle.base_index.specs.Lists.{rows_of}
-use Rattle.base_index.proofs.Listed.{none_less, nothing_in}
+use Rattle.key_index.specs.Lists.{rows_of}
+use Rattle.key_index.proofs.Lists.{none_less, nothing_in}
 use Rattle.base_index.proofs.body.without.Goals as goal
 
 pub returns-then-is_empty : goal.returns-then-is_empty

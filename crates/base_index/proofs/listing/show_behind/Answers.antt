@@ -1,9 +1,9 @@
 use Rattle.std.proofs.Common.{◌≡◌, ◌+◌, ◌≤◌, ◌++◌, ◌∷◌, [], drop, length, ap, sym, ◌∙◌, arith, rules}
 use Rattle.std.proofs.lemmas.List.{take_all}
 use Rattle.lens_values.specs.SortedSet as set
-use Rattle.base_index.specs.Lists.{rows_of}
-use Rattle.base_index.proofs.Fronts.{all_gone, one_less_behind, same_front}
-use Rattle.base_index.proofs.Listed.{never}
+use Rattle.key_index.specs.Lists.{rows_of}
+use Rattle.key_index.proofs.Fronts.{all_gone, one_less_behind, same_front}
+use Rattle.key_index.proofs.Lists.{never}
 use Rattle.base_index.proofs.listing.show_behind.Goals.{in-Some, in_default}
 use Rattle.base_index.proofs.listing.show_behind.Goals as goal
 

@@ -1,9 +1,9 @@
 use Rattle.std.proofs.Common.{◌≡◌, ◌+◌, ◌++◌, ◌∷◌, [], length, ap, sym, ◌∙◌, subst, arith, rules}
 use Rattle.std.specs.Prelude.{if◌then◌else◌}
 use Rattle.lens_values.specs.SortedSet as set
-use Rattle.base_index.specs.Lists.{SameCols, AreKeyed, IsTableOf, rows_of}
-use Rattle.base_index.proofs.Fronts.{hidden_less, none_both}
-use Rattle.base_index.proofs.Listed.{all_keep_keys, never, none_less, nothing_in, one_less, others_keyed, same_trans}
+use Rattle.key_index.specs.Lists.{SameCols, AreKeyed, IsTableOf, rows_of}
+use Rattle.key_index.proofs.Fronts.{hidden_less, none_both}
+use Rattle.key_index.proofs.Lists.{all_keep_keys, never, none_less, nothing_in, one_less, others_keyed, same_trans}
 use Rattle.base_index.proofs.settling.take_hidden.Goals.{in-Some, in_default}
 use Rattle.base_index.proofs.settling.take_hidden.Goals as goal
 

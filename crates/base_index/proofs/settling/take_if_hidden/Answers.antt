@@ -1,5 +1,5 @@
 use Rattle.std.proofs.Common.{sym, ◌∙◌}
-use Rattle.base_index.proofs.Listed.{none_removed}
+use Rattle.key_index.proofs.Lists.{none_removed}
 use Rattle.base_index.proofs.settling.take_if_hidden.Goals as goal
 
 pub returns-else-has-clause-hidden : goal.returns-else-has-clause-hidden

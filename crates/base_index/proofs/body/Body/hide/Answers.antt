@@ -1,11 +1,11 @@
 use Rattle.std.proofs.Common.{◌≡◌, ◌++◌, ◌∷◌, [], ap, sym, ◌∙◌, subst, rules, true}
 use Rattle.lens_values.specs.SortedSet as set
 use Rattle.lens_specs.specs.Relation.{has}
-use Rattle.base_index.specs.Lists.{HasKeys}
+use Rattle.key_index.specs.Lists.{HasKeys}
 use Rattle.base_index.specs.Parts.{IsWhole, parts_of, rows_next, rows_seen}
 use Rattle.base_index.proofs.Bodies.{kept_itself}
-use Rattle.base_index.proofs.Staging.{going_next, going_seen, going_whole}
-use Rattle.base_index.proofs.Listed.{same_itself}
+use Rattle.base_index.proofs.Staging.{going_next, going_seen, going_whole, marked_more}
+use Rattle.key_index.proofs.Lists.{same_itself}
 use Rattle.base_index.proofs.body.Body.hide.Goals as goal
 
 pub returns-clause-whole : goal.returns-clause-whole
@@ -74,3 +74,10 @@ returns-in_err-hide_in-clause-kept c =
       columns = (kept_itself p).columns;
       cols = same_itself p.indexes;
     }
+
+pub returns-in_err-hide_in-clause-whole : goal.returns-in_err-hide_in-clause-whole
+returns-in_err-hide_in-clause-whole c =
+    let p = parts_of c.args.self.now in
+    let marks = c.hide_in.new.marks in
+    subst IsWhole (sym (λ i. record p { hidden = c.in_err-hide_in.ensures.err i; marks = marks; remove = c.in_ok-reserve.ensures.items i }))
+    (marked_more p c.requires.whole marks c.in_err-hide_in.ensures.stay)

@@ -2,9 +2,9 @@ use Rattle.std.proofs.Common.{ap, sym, ◌∙◌}
 use Rattle.lens_values.specs.SortedSet as set
 use Rattle.lens_specs.specs.Relation.{has}
 use Rattle.base_index.specs.Parts.{parts_of, rows_next}
-use Rattle.base_index.proofs.Adding.{in_list_at}
+use Rattle.key_index.proofs.Adding.{in_list_at}
 use Rattle.base_index.proofs.Bodies.{kept_itself, kept_twice}
-use Rattle.base_index.proofs.Fronts.{no_row_less, one_more_less}
+use Rattle.key_index.proofs.Fronts.{no_row_less, one_more_less}
 use Rattle.base_index.proofs.body.Body.hide_each.Goals as goal
 
 pub loop-row-init : goal.loop-row-init

@@ -1,8 +1,8 @@
 use Rattle.std.proofs.Common.{ap, ◌∙◌, arith}
 use Rattle.lens_values.specs.SortedSet as set
-use Rattle.base_index.specs.Lists.{rows_of}
-use Rattle.base_index.proofs.Fronts.{slice_behind}
-use Rattle.base_index.proofs.RowSets.{contained}
+use Rattle.key_index.specs.Lists.{rows_of}
+use Rattle.key_index.proofs.Fronts.{slice_behind}
+use Rattle.key_index.proofs.RowSets.{contained}
 use Rattle.base_index.proofs.body.Body.is_there.Goals as goal
 
 pub returns-then-has : goal.returns-then-has

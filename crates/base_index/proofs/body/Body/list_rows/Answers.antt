@@ -4,12 +4,12 @@ use Rattle.lens_values.specs.Row.{row_cmp}
 use Rattle.lens_values.specs.SortedSet as set
 use Rattle.lens_specs.specs.Relation.{Fits, has}
 use Rattle.signed_delta.proofs.Differences.{items_rise}
-use Rattle.base_index.specs.Lists.{set_of}
+use Rattle.key_index.specs.Lists.{set_of}
 use Rattle.base_index.specs.Parts.{parts_of, rows_seen}
 use Rattle.base_index.proofs.Bodies.{changed_next, kept_twice}
-use Rattle.base_index.proofs.Groups.{on_ok}
-use Rattle.base_index.proofs.RowSets.{contained}
-use Rattle.base_index.proofs.Sets.{listed_whole}
+use Rattle.key_index.proofs.Groups.{on_ok}
+use Rattle.key_index.proofs.RowSets.{contained}
+use Rattle.key_index.proofs.Sets.{listed_whole}
 use Rattle.base_index.proofs.body.Body.list_rows.Goals as goal
 
 pub hide_each-requires-clause-seen : goal.hide_each-requires-clause-seen

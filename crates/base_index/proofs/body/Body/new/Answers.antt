@@ -1,9 +1,9 @@
 use Rattle.std.proofs.Common.{ap, arith}
 use Rattle.lens_specs.specs.Relation.{has}
-use Rattle.base_index.proofs.Fronts.{none_behind, none_back_of}
-use Rattle.base_index.proofs.Listed.{never}
-use Rattle.base_index.proofs.RowSets.{contained, same_rows}
-use Rattle.base_index.proofs.Whole.{no_indexes, none_keyed}
+use Rattle.key_index.proofs.Fronts.{none_behind, none_back_of}
+use Rattle.key_index.proofs.Lists.{never}
+use Rattle.key_index.proofs.RowSets.{contained, same_rows}
+use Rattle.key_index.proofs.Whole.{no_indexes, none_keyed}
 use Rattle.base_index.proofs.body.Body.new.Goals as goal
 
 pub returns-clause-body : goal.returns-clause-body

@@ -4,7 +4,7 @@ use Rattle.lens_values.specs.SortedSet as set
 use Rattle.base_index.specs.Parts.{parts_of}
 use Rattle.base_index.specs.Stored.{Stored}
 use Rattle.base_index.proofs.Bodies.{all_shown, free_is}
-use Rattle.base_index.proofs.Views.{same_cols}
+use Rattle.key_index.proofs.Views.{same_cols}
 use Rattle.base_index.proofs.table.Table.hold.Goals as goal
 
 pub hold-requires-clause-whole : goal.hold-requires-clause-whole

@@ -4,8 +4,8 @@ use Rattle.lens_values.specs.SortedSet as set
 use Rattle.base_index.specs.Parts.{parts_of}
 use Rattle.base_index.specs.Stored.{Stored}
 use Rattle.base_index.proofs.Bodies.{not_held}
-use Rattle.base_index.proofs.Listed.{never}
-use Rattle.base_index.proofs.Views.{same_cols}
+use Rattle.key_index.proofs.Lists.{never}
+use Rattle.key_index.proofs.Views.{same_cols}
 use Rattle.base_index.proofs.table.Table.keep.Goals as goal
 
 pub keep-requires : goal.keep-requires

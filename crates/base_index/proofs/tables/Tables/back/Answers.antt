@@ -5,7 +5,7 @@ use Rattle.base_index.specs.HeldFields.{held_in, next_in, present_in}
 use Rattle.base_index.specs.Several.{AreApart, AreHeld, names_of, taken_back}
 use Rattle.base_index.proofs.Fields.{front_count, unstaged_apart}
 use Rattle.base_index.proofs.Holding.{back_held, front_held, held_is, names_back, next_back, present_back, held_unstaged, some_part, unstaged_held}
-use Rattle.base_index.proofs.Listed.{never}
+use Rattle.key_index.proofs.Lists.{never}
 use Rattle.base_index.proofs.tables.Tables.back.Goals as goal
 
 some_of : {T : Type 0} (o : Option T) → IsSome o → is_some o ≡ true

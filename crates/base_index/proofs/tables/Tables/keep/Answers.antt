@@ -6,7 +6,7 @@ use Rattle.base_index.specs.HeldFields.{next_in, present_in}
 use Rattle.base_index.specs.Several.{AreApart, AreHeld, AreQuiet, kept, names_of}
 use Rattle.base_index.proofs.Fields.{all_quiet, front_count, next_unstaged, present_unstaged, unstaged_apart}
 use Rattle.base_index.proofs.Holding.{kept_held, names_kept, next_kept, present_kept}
-use Rattle.base_index.proofs.Listed.{never}
+use Rattle.key_index.proofs.Lists.{never}
 use Rattle.base_index.proofs.tables.Tables.keep.Goals as goal
 
 pub keep_each-requires : goal.keep_each-requires

@@ -1,8 +1,0 @@
-use Rattle.std.proofs.Common.{ap, sym, ◌∙◌}
-use Rattle.lens_values.specs.SortedSet as set
-use Rattle.base_index.specs.Group.{rows_in}
-use Rattle.base_index.proofs.Groups.{nothing_left}
-use Rattle.base_index.proofs.group.Members.without.Goals as goal
-
-pub returns-in-Empty : goal.returns-in-Empty
-returns-in-Empty c = sym (nothing_left c.args.row.now) ∙ ap (λ members. set.remove (rows_in members) c.args.row.now) (sym c.in-Empty.is)

@@ -1,0 +1,15 @@
+pub mod Adding
+pub mod Fronts
+pub mod Groups
+pub mod Keys
+pub mod Lists
+pub mod Marked
+pub mod Members
+pub mod Mixed
+pub mod Put
+pub mod Replaced
+pub mod RowSets
+pub mod Sets
+pub mod Taken
+pub mod Views
+pub mod Whole

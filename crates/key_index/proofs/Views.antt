@@ -1,0 +1,79 @@
+-- What a table is seen as after its lists were gone through.
+use Rattle.std.proofs.Common.{◌≡◌, ◌≤◌, ◌<◌, ◌+◌, ℕ, List, [], ◌∷◌, length, take, drop, get_or, ap, sym, ◌∙◌, refl, arith, add-one, zero, suc, Bool, true, false}
+use Rattle.std.proofs.Math.Seq.{drop-cons}
+use Rattle.std.specs.Ordering.{eq_by_cmp}
+use Rattle.std.specs.Prelude.{not, ◌&&◌, ◌||◌, slice_index_or}
+use Rattle.std.proofs.lemmas.List.{take_all, length-take}
+use Rattle.lens_values.specs.Row.{row_cmp}
+use Rattle.lens_values.specs.RowOrder.{row_cmp_total, row_cmp-IsAntisymmetric}
+use Rattle.lens_values.specs.Names.{Names}
+use Rattle.lens_values.specs.SortedSet as set
+use Rattle.lens_values.specs.declared.row.Row.{Row}
+use Rattle.lens_specs.specs.Relation.{Rows}
+use Rattle.key_index.specs.Lists.{rows_of, SameCols}
+use Rattle.key_index.specs.Lists.{cols_of}
+use Rattle.key_index.specs.declared.index.Index.{Index}
+use Rattle.key_index.specs.declared.keyed.Keyed.{Keyed}
+use Rattle.key_index.proofs.Lists.{none_less}
+
+pub emptied : (rows all : Rows) (list : List Keyed) → rows ≡ all → list ≡ [] → set.difference rows (rows_of list) ≡ all
+emptied rows all list is none = ap (λ g. set.difference rows (rows_of g)) none ∙ none_less rows ∙ is
+
+pub same_cols : (old new : List Index) → SameCols old new → cols_of new ≡ cols_of old
+same_cols [] [] s = refl
+same_cols [] (y ∷ ys) s = absurd (omega (arith, s.many))
+same_cols (x ∷ xs) [] s = absurd (omega (arith, s.many))
+same_cols (x ∷ xs) (y ∷ ys) s =
+    let head = ap (λ c. c) (s.each 0 y x (omega arith)) in
+    let rest = same_cols xs ys (record { many = omega (arith, s.many); each = λ i d e within. s.each (suc i) d e (omega arith) }) in
+    λ i. head i ∷ rest i
+
+length-cols_of : (indexes : List Index) → length (cols_of indexes) ≡ length indexes
+length-cols_of [] = refl
+length-cols_of (x ∷ xs) = ap suc (length-cols_of xs)
+
+pub all_cols : (n : ℕ) (indexes : List Index) → n ≡ length indexes → take n (cols_of indexes) ≡ cols_of indexes
+all_cols n indexes e = take_all n (cols_of indexes) (omega (arith, length-cols_of indexes))
+
+pub first_cols : (n : ℕ) (indexes : List Index) → take n (cols_of (take n indexes)) ≡ cols_of (take n indexes)
+first_cols n indexes = take_all n (cols_of (take n indexes)) (omega (arith, length-cols_of (take n indexes), length-take n indexes))
+
+-- the row is in the table and not on the list
+pub there_unlisted : (rows : Rows) (list : List Keyed) (row : Row) (a b : Bool) → a ≡ set.contains rows row → b ≡ set.contains (rows_of list) row
+    → (a && not b) ≡ set.contains (set.difference rows (rows_of list)) row
+there_unlisted rows list row a b is listed =
+    (λ i. is i && not (listed i)) ∙ sym (set.contains-difference row_cmp_total rows (rows_of list) row)
+
+pub listed_at : (list : List Keyed) (row : Row) (i : ℕ) (k : Keyed) → i < length list → k ≡ get_or list i k
+    → set.contains (rows_of (drop i list)) row ≡ (eq_by_cmp row_cmp row k.row || set.contains (rows_of (drop (i + 1) list)) row)
+listed_at list row i k h e =
+    ap (λ l. set.contains (rows_of l) row) (drop-cons list i k h)
+    ∙ set.contains-insert row_cmp_total (rows_of (drop (suc i) list)) (get_or list i k).row row
+    ∙ ap (λ q. eq_by_cmp row_cmp row q.row || set.contains (rows_of (drop (suc i) list)) row) (sym e)
+    ∙ ap (λ j. eq_by_cmp row_cmp row k.row || set.contains (rows_of (drop j list)) row) (sym (add-one i))
+
+-- the columns of the index at a place
+pub col_at : (indexes : List Index) (n at : ℕ) (d : Index) (none : Names) → at < n → n ≤ length indexes → slice_index_or (take n (cols_of indexes)) at none ≡ (slice_index_or indexes at d).cols
+col_at [] n at d none low high = absurd (omega arith)
+col_at (x ∷ xs) zero at d none low high = absurd (omega arith)
+col_at (x ∷ xs) (suc n) zero d none low high = refl
+col_at (x ∷ xs) (suc n) (suc at) d none low high = col_at xs n at d none (omega arith) (omega arith)
+
+pub within_shown : (indexes : List Index) (n at : ℕ) → at < length (take n (cols_of indexes)) → at < n
+within_shown indexes n at low = omega (arith, length-take n (cols_of indexes))
+
+moved_not : (a p l : Bool) → ((a && p) && not l) ≡ ((a && not l) && p)
+moved_not true true true = refl
+moved_not true true false = refl
+moved_not true false true = refl
+moved_not true false false = refl
+moved_not false p l = refl
+
+-- those of the rows that pass which are not listed
+pub filter_less : (p : Row → Bool) (rows less : Rows) → set.difference (set.filter p rows) less ≡ set.filter p (set.difference rows less)
+filter_less p rows less = set.same_set row_cmp_total row_cmp-IsAntisymmetric _ _ (λ x.
+    set.contains-difference row_cmp_total (set.filter p rows) less x
+    ∙ ap (λ b. b && not (set.contains less x)) (set.contains-filter row_cmp_total row_cmp-IsAntisymmetric p rows x)
+    ∙ moved_not (set.contains rows x) (p x) (set.contains less x)
+    ∙ ap (λ b. b && p x) (sym (set.contains-difference row_cmp_total rows less x))
+    ∙ sym (set.contains-filter row_cmp_total row_cmp-IsAntisymmetric p (set.difference rows less) x))

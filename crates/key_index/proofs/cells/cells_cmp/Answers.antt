@@ -1,0 +1,25 @@
+use Rattle.std.proofs.Common.{◌≡◌, ap, sym, ◌∙◌, arith, length, drop, min}
+use Rattle.std.specs.Prelude.{map}
+use Rattle.std.specs.FinMap as finmap
+use Rattle.std.specs.Option.{option_cmp}
+use Rattle.std.specs.Ordering.{nat_cmp}
+use Rattle.std.proofs.lemmas.List.{drop-map, length-map}
+use Rattle.lens_values.specs.Value.{value_cmp}
+use Rattle.lens_values.proofs.Comparing.{cmp_ends}
+use Rattle.key_index.specs.Key.{cells_cmp}
+use Rattle.key_index.proofs.cells.cells_cmp.Goals as goal
+
+pub returns : goal.returns
+returns c =
+    let names = c.as_slice-names.result.now in
+    let their = c.as_slice-their.result.now in
+    let own = map (λ n. finmap.get c.args.row.now n) names in
+    let other = map (λ n. finmap.get c.args.other.now n) their in
+    let long = length-map names (λ n. finmap.get c.args.row.now n) in
+    let longer = length-map their (λ n. finmap.get c.args.other.now n) in
+    let end : c.loop-place.place ≡ min (length own) (length other) = omega (arith, long, longer, c.loop-place-test.false, c.loop-place.auto.place-end, c.min-place-end.ensures) in
+    c.cmp.ensures ∙ (λ i. nat_cmp (sym long i) (sym longer i)) ∙ sym (cmp_ends (option_cmp value_cmp) own other)
+    ∙ ap (λ n. cells_cmp (drop n own) (drop n other)) (sym end)
+    ∙ (λ i. cells_cmp (drop-map (λ n. finmap.get c.args.row.now n) c.loop-place.place names i) (drop-map (λ n. finmap.get c.args.other.now n) c.loop-place.place their i))
+    ∙ sym c.loop-place.invariant
+    ∙ (λ i. cells_cmp (map (λ n. finmap.get c.args.row.now n) (c.as_slice-names.ensures i)) (map (λ n. finmap.get c.args.other.now n) (c.as_slice-their.ensures i)))

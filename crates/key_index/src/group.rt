@@ -1,0 +1,197 @@
+//! The rows of one key of an index.
+ghost use Rattle.std.specs.Prelude.{◌≡◌, ◌==◌, IfOk, OnOk, OnErr, length};
+ghost use Rattle.std.specs.declared.cmp.Ordering.TheVariants.{Less};
+ghost use Rattle.lens_values.specs.Row.{row_cmp};
+ghost use Rattle.lens_values.specs.SortedSet as set;
+ghost use Rattle.lens_values.specs.contracts.row.Row as contract;
+ghost use Rattle.key_index.specs.Group.{pair, rows_in, singleton};
+
+use lens_values::{NoMemory, Row};
+use row_sets::{RowSet, RowTree};
+use std::alloc::Global;
+use std::cmp::Ordering;
+use std::marker::Model;
+use std::mem;
+
+/// The rows of one key. Mostly there is one, or two while a change of it is staged, and then no tree
+/// is made for them.
+#[derive(Drop)]
+pub struct Group {
+    rows: Members,
+}
+
+// The rows themselves, where they are at most two, or a tree of them.
+#[derive(Drop)]
+enum Members {
+    Empty,
+    One(Row),
+    Two(Row, Row),
+    Several(RowTree),
+}
+
+impl Model for Group {
+    ghost Value = { set.SortedSet row_cmp };
+
+    ghost coded = { set.code contract.the_row.coded };
+
+    ghost view = { λ g. rows_in g.rows };
+}
+
+impl Group {
+    /// The set of one row.
+    pub fn of(row: Row) -> Group
+        ensures { result ≡ singleton row }
+    {
+        Group {
+            rows: Members::One(row),
+        }
+    }
+
+    /// Whether it has no row.
+    pub fn is_empty(&self) -> bool
+        ensures { result ≡ (length (set.items self.now) == 0) }
+    {
+        match &self.rows {
+            Members::Empty => true,
+            Members::One(_) | Members::Two(_, _) => false,
+            Members::Several(tree) => tree.count() == 0,
+        }
+    }
+
+    /// Copies of all rows, as a set that is kept in rising order.
+    pub fn rows(&self, alloc: Global) -> Result<RowSet, NoMemory>
+        ensures { IfOk result (λ all. all ≡ self.now) }
+    {
+        match &self.rows {
+            Members::Empty => Ok(RowSet::empty(alloc)),
+            Members::One(one) => set_of_one(alloc, one),
+            Members::Two(one, other) => set_of_two(alloc, one, other),
+            Members::Several(tree) => tree.rows(alloc),
+        }
+    }
+
+    /// Adds a row. After `NoMemory` the set is as it was.
+    pub fn insert(&mut self, alloc: Global, row: Row) -> Result<(), NoMemory>
+        ensures ok { OnOk result (self.new ≡ set.insert self.old row) }
+        ensures err { OnErr result (self.new ≡ self.old) }
+    {
+        match &mut self.rows {
+            Members::Empty => self.rows = Members::One(row),
+            Members::One(one) => self.rows = with_second(alloc, one, row)?,
+            Members::Two(one, other) => self.rows = with_third(alloc, one, other, row)?,
+            Members::Several(tree) => tree.insert(row)?,
+        }
+        Ok(())
+    }
+
+    /// Removes the row, if it is there. It takes no memory.
+    pub fn remove(&mut self, row: &Row)
+        ensures { self.new ≡ set.remove self.old row.now }
+    {
+        let rows = mem::replace(&mut self.rows, Members::Empty);
+        self.rows = rows.without(row);
+    }
+}
+
+impl Members {
+    // These rows without one.
+    fn without(self, row: &Row) -> Members
+        ensures { rows_in result ≡ set.remove (rows_in self) row.now }
+    {
+        match self {
+            Members::Empty => Members::Empty,
+            Members::One(one) => one_without(one, row),
+            Members::Two(one, other) => two_without(one, other, row),
+            Members::Several(tree) => {
+                let mut tree = tree;
+                tree.remove(row);
+                Members::Several(tree)
+            }
+        }
+    }
+}
+
+// One row, unless it is that one.
+fn one_without(one: Row, row: &Row) -> Members
+    ensures { rows_in result ≡ set.remove (singleton one) row.now }
+{
+    if one == *row {
+        Members::Empty
+    } else {
+        Members::One(one)
+    }
+}
+
+// Two rows without one.
+fn two_without(one: Row, other: Row, row: &Row) -> Members
+    ensures { rows_in result ≡ set.remove (pair one other) row.now }
+{
+    if one == *row {
+        one_without(other, row)
+    } else if other == *row {
+        Members::One(one)
+    } else {
+        Members::Two(one, other)
+    }
+}
+
+// One row and another, which may be the same.
+fn with_second(alloc: Global, one: &Row, row: Row) -> Result<Members, NoMemory>
+    ensures { IfOk result (λ rows. rows_in rows ≡ set.insert (singleton one.now) row) }
+{
+    let one = one.copy(alloc)?;
+    if one == row {
+        return Ok(Members::One(one));
+    }
+    Ok(Members::Two(one, row))
+}
+
+// Two rows and another, which may be one of them.
+fn with_third(alloc: Global, one: &Row, other: &Row, row: Row) -> Result<Members, NoMemory>
+    ensures { IfOk result (λ rows. rows_in rows ≡ set.insert (pair one.now other.now) row) }
+{
+    let mut tree = tree_of_two(alloc, one, other)?;
+    tree.insert(row)?;
+    Ok(Members::Several(tree))
+}
+
+// The tree of two rows.
+fn tree_of_two(alloc: Global, one: &Row, other: &Row) -> Result<RowTree, NoMemory>
+    ensures { IfOk result (λ tree. tree ≡ pair one.now other.now) }
+{
+    let mut tree = RowTree::new(alloc);
+    tree.insert(one.copy(alloc)?)?;
+    tree.insert(other.copy(alloc)?)?;
+    Ok(tree)
+}
+
+// The set of a copy of one row.
+fn set_of_one(alloc: Global, one: &Row) -> Result<RowSet, NoMemory>
+    ensures { IfOk result (λ all. all ≡ singleton one.now) }
+{
+    let mut rows = Vec::with_capacity(alloc, 1)?;
+    rows.push(one.copy(alloc)?)?;
+    Ok(RowSet::from_rising(rows))
+}
+
+// The set of copies of two rows.
+fn set_of_two(alloc: Global, one: &Row, other: &Row) -> Result<RowSet, NoMemory>
+    ensures { IfOk result (λ all. all ≡ pair one.now other.now) }
+{
+    match one.cmp(other) {
+        Ordering::Less => rising_set(alloc, one, other),
+        Ordering::Equal => set_of_one(alloc, one),
+        Ordering::Greater => rising_set(alloc, other, one),
+    }
+}
+
+// The set of copies of two rows, of which the first is less.
+fn rising_set(alloc: Global, first: &Row, second: &Row) -> Result<RowSet, NoMemory>
+    requires { row_cmp first.now second.now ≡ Less }
+    ensures { IfOk result (λ all. all ≡ pair second.now first.now) }
+{
+    let mut rows = Vec::with_capacity(alloc, 2)?;
+    rows.push(first.copy(alloc)?)?;
+    rows.push(second.copy(alloc)?)?;
+    Ok(RowSet::from_rising(rows))
+}
