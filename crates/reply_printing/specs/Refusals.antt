@@ -1,5 +1,5 @@
 -- The members of the lines of refusals.
-use Rattle.std.specs.Prelude.{ℕ, List, [], ◌∷◌, ◌++◌, Some, None, codes, decimal, false}
+use Rattle.std.specs.Prelude.{List, [], ◌∷◌, ◌++◌, codes, decimal, false}
 use Rattle.json.specs.Token.{Token, boolean, key, number, string}
 use Rattle.serde_json.specs.Data as json
 use Rattle.serde_json.specs.Data.{Members, no_members, member, unsigned}
