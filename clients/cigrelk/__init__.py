@@ -35,7 +35,7 @@ from .refusals import (
     refusal, stale,
 )
 from .remote import Remote, Unreachable
-from .rows import Change, Fault, Rows, Sheet, key_of, values
+from .rows import Change, CsvText, Fault, Rows, key_of, values
 from .server import Server, View
 from .store_files import InUse, NotStore, private_copy
 from .texts import cell, counted, listing, plain, short, sides, table, words_of

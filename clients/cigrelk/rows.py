@@ -76,13 +76,13 @@ class Rows(list):
         return f"<table><tr>{head}</tr>{body}</table>"
 
 
-class Sheet(str):
+class CsvText(str):
     """The rows of a table or a view as CSV. `version` and `session` say when they were read."""
 
     def __new__(cls, text, version, session):
-        sheet = super().__new__(cls, text)
-        sheet.version, sheet.session = version, session
-        return sheet
+        made = super().__new__(cls, text)
+        made.version, made.session = version, session
+        return made
 
 
 class Change:

@@ -13,7 +13,7 @@ from .process import MOST_INPUT, Ended, NotStarted, Program, default_program, en
 from .reasons import Reasons
 from .refusals import BadRecord, Refused, Stale, refusal, stale
 from .remote import Remote, is_address
-from .rows import Change, Fault, Rows, Sheet, by_key, in_order, key_of, listed, shape_fault, values
+from .rows import Change, CsvText, Fault, Rows, by_key, in_order, key_of, listed, shape_fault, values
 from .store_files import make_private, refuse_other_files, why_closed
 from .texts import differing, listing, sides, words_of
 
@@ -118,11 +118,11 @@ class View:
         UnknownColumn, and KindClash where a key is no value of its column."""
         return Completer(self, among).complete(row, typed)
 
-    def export_csv(self) -> Sheet:
+    def export_csv(self) -> CsvText:
         """The rows as CSV: a text whose first record has the names of the columns. Raises NullableColumn where a column may be
         null."""
         reply = self.ask("export")
-        return Sheet(reply["csv"], reply["version"], reply.get("session", self.server.session))
+        return CsvText(reply["csv"], reply["version"], reply.get("session", self.server.session))
 
     def import_csv(self, text: str, on=None) -> Change:
         """Makes the rows of a text of CSV the rows, as `put` does; its columns stand in any order. `on` takes what `export_csv`
@@ -333,7 +333,7 @@ class Server:
         """The member `on` for rows that were read or exported, for a change, for a version, or for nothing. Raises Stale for rows
         of an earlier start of the program: versions count from each start, so the program may take theirs for one of now."""
         session = self.session
-        if isinstance(on, (Rows, Sheet, Change)):
+        if isinstance(on, (Rows, CsvText, Change)):
             if on.session != self.session and not self.is_shared:
                 raise stale()
             session, on = on.session, on.version

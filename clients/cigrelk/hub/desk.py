@@ -26,7 +26,7 @@ from .engine import Busy, Change, Closing, Engine, Job, Program, Stale, Unknown
 from .journal import Done, Journal, Record
 from .kept import Kept, Stamp
 from .refusing import BUSY, CHANGED_SINCE, CLOSING, NO_JOURNAL, NOT_THROUGH, UNKNOWN, No
-from .replies import CHANGED, OK, SHEET, STALE, in_version, line_of_no, version_in
+from .replies import CHANGED, CSV_TEXT, OK, STALE, in_version, line_of_no, version_in
 from .requests import encoded, line_of, named, read_request
 from .rights import User, Users
 from .windows import Watch, by_key, difference, edited, in_order, key_of
@@ -164,7 +164,7 @@ class Desk:
         """A reply of the program with the user's version, and with the session of the run that gave it."""
         if line.startswith(STALE):
             return encoded({**json.loads(line), "changed_at": stamp.at, "version": stamp.version}).encode()
-        if not line.startswith((CHANGED, OK, SHEET)):
+        if not line.startswith((CHANGED, OK, CSV_TEXT)):
             return line
         head, _, _ = line.rpartition(b',"version":')
         return b'%b,"session":"%b","version":%d}' % (head, stamp.session.encode(), stamp.version)

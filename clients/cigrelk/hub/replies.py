@@ -7,7 +7,7 @@ from .refusing import No
 from .requests import encoded
 
 # How replies begin: a change or a preview was accepted, rows, a definition was taken, CSV, and a refusal as stale.
-CHANGED, ROWS, OK, SHEET, STALE = b'{"changed":', b'{"ok":true,"rows":', b'{"ok":true', b'{"csv":', b'{"changed_at":'
+CHANGED, ROWS, OK, CSV_TEXT, STALE = b'{"changed":', b'{"ok":true,"rows":', b'{"ok":true', b'{"csv":', b'{"changed_at":'
 VERSION = b',"version":'
 
 

@@ -20,7 +20,7 @@ from .lines import lines
 from .paging import Pages, filtered, key_columns, limit_of, values_of
 from .problems import Problem
 from .refusing import No
-from .replies import ROWS, SHEET
+from .replies import CSV_TEXT, ROWS
 from .requests import MOST_LINE, encoded, is_name, shaped
 from .web import CSV, JSON, LINES, STREAM, Hub, Whole, body_of, give_long, refused, stream_of, written
 
@@ -196,7 +196,7 @@ async def rows(hub: Hub, request: web.BaseRequest):
         return Whole(b"", 304, None, {"ETag": known, "Vary": VARY})
     asked, rest = question(entry, query.filters, kind)
     line, stamp = await hub.desk.shared(request["who"], asked)
-    if not line.startswith((ROWS, SHEET)):
+    if not line.startswith((ROWS, CSV_TEXT)):
         return refused(json.loads(line), asked)
     headers = {"ETag": etag(stamp.session, stamp.at, kind), "Vary": VARY}
     if kind == CSV:
