@@ -262,7 +262,8 @@ def speed(servers, sizes, count):
 
 
 def instructions(servers, size=10_000, few=30, many=150):
-    """Instructions of an edit: a server that one person has alone (postgres --single) makes few and many edits under valgrind."""
+    """Instructions of the first edit in a session and of a later one: a server that one person has alone (postgres --single) makes none,
+    one, few and many edits under valgrind."""
     for name in ("hand", "made"):
         servers.sql(servers.address("base"), f"CREATE DATABASE {name}")
         session = make(servers.address("base", name), "locks") if name == "made" else Session(servers.address("base", name))
@@ -274,7 +275,7 @@ def instructions(servers, size=10_000, few=30, many=150):
     user = other_user()
     for name in ("hand", "made"):
         counts = []
-        for count in (few, many):
+        for count in (0, 1, few, many):
             with tempfile.TemporaryDirectory() as room:
                 subprocess.run(["cp", "-a", f"{servers.room}/base/data", f"{room}/data"], check=True)
                 if user:
@@ -284,7 +285,7 @@ def instructions(servers, size=10_000, few=30, many=150):
                 done = subprocess.run([*as_user, "valgrind", "--tool=callgrind", f"--callgrind-out-file={room}/out", f"{BIN}/postgres", "--single", "-D", f"{room}/data", "-F", name],
                                       input=lines, capture_output=True, text=True, check=True, cwd="/")
                 counts.append(int(done.stderr.rsplit("Collected : ", 1)[1].split()[0]))
-        print(f"{name}: {(counts[1] - counts[0]) // (many - few):,} instructions an edit", flush=True)
+        print(f"{name}: {counts[1] - counts[0]:,} instructions for the first edit, and {(counts[3] - counts[2]) // (many - few):,} for a later one", flush=True)
     servers.start("base")
 
 

@@ -67,6 +67,20 @@ class Servers:
         done = subprocess.run(["psql", "-X", "-q", "-t", "-A", "-v", "ON_ERROR_STOP=1", "-d", address, "-c", text], check=True, stdout=subprocess.PIPE, env=settings)
         return done.stdout.decode().replace("\\\\", "\\").split("\n")[:-1]
 
+    def link(self, address, names):
+        """Makes servers known to a database by postgres_fdw."""
+        self.sql(address, "CREATE EXTENSION postgres_fdw")
+        for name in names:
+            self.sql(address, f"CREATE SERVER {name} FOREIGN DATA WRAPPER postgres_fdw OPTIONS (host '{self.room}/{name}', dbname 'postgres', batch_size '500', fetch_size '10000'); "
+                              f"CREATE USER MAPPING FOR shop SERVER {name} OPTIONS (user 'shop')")
+
+    def spread(self, address, names, table, columns, by, key=""):
+        """Makes a table in a database whose rows are spread over linked servers by a hash of a column."""
+        self.sql(address, f"CREATE TABLE {table} ({columns}) PARTITION BY HASH ({by})")
+        for number, name in enumerate(names):
+            self.sql(self.address(name), f"CREATE TABLE {table} ({columns}{key})")
+            self.sql(address, f"CREATE FOREIGN TABLE {table}_{number} PARTITION OF {table} FOR VALUES WITH (MODULUS {len(names)}, REMAINDER {number}) SERVER {name} OPTIONS (table_name '{table}')")
+
     def close(self):
         for name in self.names:
             self.stop(name, "immediate")

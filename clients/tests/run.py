@@ -16,7 +16,7 @@ from packages import is_installed, lacking_in
 
 HERE = os.path.dirname(os.path.abspath(__file__))
 # The files that take longest begin first, so that none of them is left alone at the end.
-LONGEST = ("test_hub", "test_sql_views", "test_editor", "test_mirror", "test_mirror_guards", "test_take")
+LONGEST = ("test_hub", "test_sql_views", "test_editor", "test_mirror", "test_mirror_guards", "test_take", "test_sql_servers")
 # How many tests that were wrong are tried once more: a busy machine may be too slow for a test that waits.
 MOST_AGAIN = 3
 # How long (in seconds) the tests of one file may take: a test that hangs is ended, and counts as wrong.

@@ -22,27 +22,13 @@ class Mirror(OverServers):
             self.assertEqual(self.bridge(requests.read().splitlines()), replies.read())
         self.are_same()
 
-    def spread(self, table, columns, key=""):
-        """Makes a table whose rows are spread by a hash of its first column over the three servers."""
-        first = columns.split()[0]
-        self.sql(f"CREATE TABLE {table} ({columns}) PARTITION BY HASH ({first})")
-        for number, name in enumerate(SERVERS[1:]):
-            self.sql(f"CREATE TABLE {table} ({columns}{key})", self.servers.address(name))
-            self.sql(f"CREATE FOREIGN TABLE {table}_{number} PARTITION OF {table} FOR VALUES WITH (MODULUS 3, REMAINDER {number}) SERVER {name} OPTIONS (table_name '{table}')")
-
-    def links(self):
-        self.sql("CREATE EXTENSION postgres_fdw")
-        for name in SERVERS[1:]:
-            self.sql(f"CREATE SERVER {name} FOREIGN DATA WRAPPER postgres_fdw OPTIONS (host '{self.servers.room}/{name}', dbname 'postgres', batch_size '500', fetch_size '10000')")
-            self.sql(f"CREATE USER MAPPING FOR shop SERVER {name} OPTIONS (user 'shop')")
-
     def test_guide_over_one_server(self):
         self.runs_the_guide()
 
     def test_guide_over_three_servers(self):
-        self.links()
-        self.spread("tracks", 'track text COLLATE "C" NOT NULL, date bigint NOT NULL, rating bigint NOT NULL, album text COLLATE "C" NOT NULL')
-        self.spread("albums", 'album text COLLATE "C" NOT NULL, quantity bigint NOT NULL', ", PRIMARY KEY (album)")
+        self.servers.link(self.address, SERVERS[1:])
+        self.servers.spread(self.address, SERVERS[1:], "tracks", 'track text COLLATE "C" NOT NULL, date bigint NOT NULL, rating bigint NOT NULL, album text COLLATE "C" NOT NULL', "track")
+        self.servers.spread(self.address, SERVERS[1:], "albums", 'album text COLLATE "C" NOT NULL, quantity bigint NOT NULL', "album", ", PRIMARY KEY (album)")
         self.runs_the_guide()
         chance = random.Random(1)
         self.bridge({"do": chance.choice(["edit", "edit", "preview"]), "view": "stock", "remove": [], "add": [

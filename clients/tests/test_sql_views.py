@@ -18,12 +18,15 @@ from sql_writers import MUSIC, replay, write_at_once
 
 
 class WithPostgreSQL(unittest.TestCase):
-    """Tests that have a database each."""
+    """Tests that have a database each, in one PostgreSQL for all classes of a file."""
+
+    servers = None
 
     @classmethod
     def setUpClass(cls):
-        cls.servers = Servers("base", settings="synchronous_commit = off")
-        cls.addClassCleanup(cls.servers.close)
+        if WithPostgreSQL.servers is None:
+            WithPostgreSQL.servers = Servers("base", settings="synchronous_commit = off")
+            unittest.addModuleCleanup(WithPostgreSQL.servers.close)
 
     def setUp(self):
         database = self.id().rpartition(".")[2][:60]
@@ -85,9 +88,8 @@ class SameMeaning(WithPostgreSQL):
     def test_random_edits_in_serializable_transactions(self):
         self.compare((9,), 40, "serializable")
 
-
     def test_the_program_as_the_judge(self):
-        """It finds no difference over tables as they are, and a wrong body of the compiler at once."""
+        """It finds no difference over tables as they are, and changes nothing there."""
         self.sql('CREATE TABLE albums (album text PRIMARY KEY, "Quantity" bigint NOT NULL); CREATE TABLE tracks (track text, date date NOT NULL, rating int NOT NULL, album text, PRIMARY KEY (track, album)); '
                  "INSERT INTO albums SELECT 'a' || i, i % 5 FROM generate_series(1, 9) i; INSERT INTO tracks SELECT 't' || i, date '2026-01-01' + i, i, 'a' || j FROM generate_series(1, 9) i, generate_series(1, 5) j")
         types = {"albums": {"table": "albums", "columns": {"album": {"name": "album", "native": None, "default": None}, "quantity": {"name": "Quantity", "native": None, "default": None}}},
@@ -139,14 +141,15 @@ class Scripts(WithPostgreSQL):
 
     def test_another_script_makes_what_is_new_and_drops_what_is_gone(self):
         self.install(*MUSIC, "view loved = select from tracks where rating > 4", options=["--editors", "public"])
-        self.sql(self.ROWS + "; CREATE ROLE reader; GRANT SELECT ON stock TO reader")
+        self.sql(self.ROWS + "; CREATE ROLE borrower; GRANT SELECT ON stock TO borrower")
+        self.addCleanup(self.sql, "DROP OWNED BY borrower; DROP ROLE borrower")
         oids = "SELECT 'stock'::regclass::oid, to_regclass('loved') IS NULL, to_regclass('gold') IS NULL"
         (first,) = self.sql(oids)
         self.install(*MUSIC, "view gold = select from stock where rating > 3", options=["--editors", "public"])
         self.assertEqual(self.sql(oids), [first.replace("f|t", "t|f")])
         # a view that means something else is made anew, with the rights that were granted on it
         self.install(*MUSIC[:2], MUSIC[2].replace("quantity > 2", "quantity > 0"), options=["--editors", "public"])
-        self.assertEqual(self.sql("SELECT count(*), has_table_privilege('reader', 'stock', 'SELECT') FROM stock"), ["2|t"])
+        self.assertEqual(self.sql("SELECT count(*), has_table_privilege('borrower', 'stock', 'SELECT') FROM stock"), ["2|t"])
         self.assertEqual(self.sql('SELECT "Version" FROM "public:cigrelk"."Compiled"'), ["3"])
         # and it is the same as if it had been made at once
         again = self.dump()

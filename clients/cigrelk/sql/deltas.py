@@ -13,6 +13,7 @@ can be, and else a query without the array: to start a query costs more than wha
 """
 from typing import NamedTuple
 
+from ..kinds import is_nullable
 from ..language import Drop, Join, Rename, Select
 from ..postgres import quoted
 from .nodes import Edge, Leaf
@@ -20,6 +21,20 @@ from .words import agree, columns_at, differ, fails, row_order, same, text_liter
 
 N, A, K, O, S, M, P, L, R = (f'"{letter}"' for letter in "NAKOSMPLR")
 CHANGED_SINCE = "RAISE EXCEPTION USING ERRCODE = '40001', MESSAGE = 'a row was changed by another transaction since it was read', HINT = 'try the transaction again';"
+
+
+class Each(str):
+    """What stands for a row, or for one row after another, as an alias does. `rows` stands behind FROM for all of them."""
+
+    def __new__(cls, alias, rows):
+        made = super().__new__(cls, alias)
+        made.rows = rows
+        return made
+
+
+def each(alias, variable):
+    """An alias for the rows of an array."""
+    return Each(alias, f"unnest({variable}) {alias}")
 
 
 def array(query):
@@ -51,7 +66,7 @@ class One(NamedTuple):
 
     @property
     def alias(self):
-        return f"({self.variable}[1])"
+        return Each(f"({self.variable}[1])", '(SELECT) "One"')
 
     def beside(self, shown, lateral, alias, where=None):
         """What is shown of the row beside each row of a LATERAL."""
@@ -77,7 +92,7 @@ class Many(NamedTuple):
 
     @property
     def alias(self):
-        return A
+        return each(A, self.variable)
 
     def beside(self, shown, lateral, alias, where=None):
         return f"SELECT {shown} FROM {unnested(self.variable)} CROSS JOIN LATERAL {lateral} {alias}{f' WHERE {where}' if where else ''}"
@@ -173,48 +188,72 @@ class Body:
 
 
 class Looks:
-    """Queries that find rows of nodes by key. `wanted` gets the columns by which tables are asked."""
+    """Queries that find rows of nodes by key. `wanted` gets the columns by which tables are asked. If tables are on other servers, each
+    trip costs more than what it finds: `fetches` says that what is found for all rows of an array is fetched from each table at once."""
 
-    def __init__(self):
-        self.wanted, self.aliases = set(), 0
+    def __init__(self, fetches=False):
+        self.wanted, self.aliases, self.fetches, self.fetched = set(), 0, fetches, []
 
     def alias(self):
         self.aliases += 1
         return f'"N{self.aliases}"'
 
-    def rows(self, node, columns, values):
+    def rows(self, node, columns, values, source=None):
         """The rows of a node with these values, expressions by the names of columns. A join asks one side by its part of the columns,
-        and then the other side by the shared columns, row by row."""
+        and then the other side by the shared columns, row by row. `source` is what stands behind FROM for all rows that the values
+        are of, if they are to be fetched at once."""
         alias = self.alias()
         if isinstance(node, Leaf):
             self.wanted.add((node.place, frozenset(columns)))
-            return f"SELECT {node.columns_as_named(alias)} FROM {node.place} {alias} WHERE {node.agrees(columns, alias, values)}"
+            place = self.fetch(node, columns, values, source) if source else node.place
+            return f"SELECT {node.columns_as_named(alias)} FROM {place} {alias} WHERE {node.agrees(columns, alias, values)}"
         if isinstance(node.what, Join):
-            return self.joined_rows(node, columns, values)
+            return self.joined_rows(node, columns, values, source)
         (child,) = node.below
         back = {node.renamed(name): name for name in child.kinds}
-        below = self.rows(child, [back[name] for name in columns], {back[name]: values[name] for name in columns})
+        below = self.rows(child, [back[name] for name in columns], {back[name]: values[name] for name in columns}, source)
         shown = ", ".join(f"{alias}.{quoted(back[name])}{'' if back[name] == name else f' AS {quoted(name)}'}" for name in node.kinds)
         where = f" WHERE {node.selects(alias)}" if isinstance(node.what, Select) else ""
         return f"SELECT {shown} FROM ({below}) {alias}{where}"
 
-    def joined_rows(self, node, columns, values):
+    def joined_rows(self, node, columns, values, source):
         left, right = node.below
         first, second = (left, right) if set(columns) & set(left.kinds) else (right, left)
         one, two = self.alias(), self.alias()
-        begin = self.rows(first, [name for name in columns if name in first.kinds], values)
-        then = self.rows(second, node.shared, {name: f"{one}.{quoted(name)}" for name in node.shared})
+        begin = self.rows(first, [name for name in columns if name in first.kinds], values, source)
+        then = self.rows(second, node.shared, {name: f"{one}.{quoted(name)}" for name in node.shared}, source and f"{first.source()} {one}")
         rest = [name for name in columns if name not in first.kinds]
         where = " AND ".join(same(second.kinds[name], f"{two}.{quoted(name)}", values[name]) for name in rest)
         shown = ", ".join(f"{one if name in first.kinds else two}.{quoted(name)}" for name in node.kinds)
         return f"SELECT {shown} FROM ({begin} OFFSET 0) {one} CROSS JOIN LATERAL ({then} OFFSET 0) {two}{f' WHERE {where}' if where else ''}"
 
+    def fetch(self, leaf, columns, values, source):
+        """The name under which a WITH has the rows of a table that may be asked for: one query of the table finds them. They may be more
+        than those wanted, since each column is asked by itself."""
+        name, parts = f'"T{len(self.fetched)}"', []
+        for column in columns:
+            place = f"{N}.{leaf.column(column)}"
+            among = f"{place} = ANY (ARRAY(SELECT {values[column]} FROM {source}))"
+            parts.append(f"({among} OR {place} IS NULL)" if is_nullable(leaf.kinds[column]) else among)
+        self.fetched.append(f"{name} AS MATERIALIZED (SELECT {N}.* FROM {leaf.place} {N} WHERE {' AND '.join(parts)})")
+        leaf.fetched = f"(SELECT {leaf.columns_as_named(N)} FROM {name} {N})"
+        return name
+
+    def asked(self, node, values, alias):
+        """The rows of a node with these values, which are of an alias, and the WITH that they need before them."""
+        source = getattr(alias, "rows", None) if self.fetches else None
+        rows = self.rows(node, list(values), values, source)
+        for leaf in node.leaves():
+            leaf.fetched = None
+        begin, self.fetched = f"WITH {', '.join(self.fetched)} " if self.fetched else "", []
+        return begin, rows
+
     def found(self, node, columns, alias, shown, also=None, end="OFFSET 0"):
         """What rows of a node show that agree with an alias on columns. A whole row is {N}.{N}."""
-        rows = self.rows(node, columns, {name: f"{alias}.{quoted(name)}" for name in columns})
+        begin, rows = self.asked(node, {name: f"{alias}.{quoted(name)}" for name in columns}, alias)
         whole = f"SELECT {N}.*, {node.row(N)} AS {N} FROM ({rows}) {N}"
         source = whole if f"{N}.{N}" in f"{shown} {also}" else rows
-        return f"(SELECT {shown} FROM ({source}) {N}{f' WHERE {also}' if also else ''} {end})"
+        return f"({begin}SELECT {shown} FROM ({source}) {N}{f' WHERE {also}' if also else ''} {end})"
 
     def there(self, node, alias):
         """A row of one column if a node has the row of an alias."""
@@ -224,10 +263,10 @@ class Looks:
         return f"EXISTS {self.there(node, alias)}"
 
     def those_there(self, node, rows):
-        return Many(rows).beside(A, self.there(node, A), O)
+        return Many(rows).beside(A, self.there(node, each(A, rows)), O)
 
     def those_new(self, node, rows):
-        return f'{Many(rows).perhaps_beside(A, self.there(node, A), O)} WHERE {O}."There" IS NULL'
+        return f'{Many(rows).perhaps_beside(A, self.there(node, each(A, rows)), O)} WHERE {O}."There" IS NULL'
 
     def one(self, node, columns, alias, shown):
         """What one row of a node shows that agrees with an alias on columns, if there is one."""
@@ -245,14 +284,14 @@ class Looks:
         """Whether rows say another right side than the node has. This is asked of the lowest node that has the dependency, with
         all rows that are hidden above it. It has one right side for each key."""
         path, names = lowest(node, edge)
-        found = self.rows(path[-1], [names[name] for name in edge.left], {names[name]: f"{given.alias}.{quoted(name)}" for name in edge.left})
+        begin, found = self.asked(path[-1], {names[name]: f"{given.alias}.{quoted(name)}" for name in edge.left}, given.alias)
         shown = ", ".join(f"{N}.{quoted(names[name])} AS {quoted(name)}" for name in edge.right)
-        return f"EXISTS ({given.beside('', f'(SELECT {shown} FROM ({found}) {N} LIMIT 1)', O, differ(edge.right, given.alias, O))})"
+        return f"EXISTS ({given.beside('', f'({begin}SELECT {shown} FROM ({found}) {N} LIMIT 1)', O, differ(edge.right, given.alias, O))})"
 
     def new_keys(self, node, edge, rows):
         """The keys of an edge for which rows say another right side than the node has."""
         sent = f"SELECT DISTINCT {columns_at(A, edge.left + edge.right)} FROM {unnested(rows)}"
-        has = self.one(node, edge.left, K, columns_at(N, edge.right))
+        has = self.one(node, edge.left, each(K, rows), columns_at(N, edge.right))
         return f"SELECT {K}.* FROM ({sent}) {K} CROSS JOIN LATERAL {has} {O} WHERE {differ(edge.right, K, O)} OFFSET 0"
 
     def revised_by(self, node, edge, given, also=None):
@@ -260,7 +299,7 @@ class Looks:
         if isinstance(given, One):
             changes = differ(edge.right, N, given.alias)
             return f"SELECT {S}.{N} FROM {self.all(node, edge.left, given.alias, f'{changes} AND {also}' if also else changes)} {S}"
-        return f"SELECT {S}.{N} FROM ({self.new_keys(node, edge, given.variable)}) {K} CROSS JOIN LATERAL {self.all(node, edge.left, K, also)} {S}"
+        return f"SELECT {S}.{N} FROM ({self.new_keys(node, edge, given.variable)}) {K} CROSS JOIN LATERAL {self.all(node, edge.left, each(K, given.variable), also)} {S}"
 
     def before_revision(self, body, variable, node, rows, also=None):
         """Gives a variable the rows of a node that rows revise to others, edge by edge."""
@@ -446,14 +485,15 @@ def over(body, looks, node):
             body.let(near, f"SELECT {S}.{N} FROM {looks.all(left, node.shared, given.alias)} {S}")
         else:
             keys = f"SELECT DISTINCT {columns_at(A, node.shared)} FROM {unnested(come_right)}"
-            body.let(near, f"SELECT {S}.{N} FROM ({keys}) {K} CROSS JOIN LATERAL {looks.all(left, node.shared, K)} {S}")
+            body.let(near, f"SELECT {S}.{N} FROM ({keys}) {K} CROSS JOIN LATERAL {looks.all(left, node.shared, each(K, come_right))} {S}")
 
     body.by_number(come_right, say_near)
     body.minus(near, was)
     body.plus(old, near)
     body.when(some(old, new))
     lefts = f'SELECT {L}.*, true AS "Old" FROM unnest({old}) {L} UNION ALL SELECT {L}.*, false FROM unnest({new}) {L}'
-    beside = looks.found(right, node.shared, L, f"{N}.{N}, {columns_at(N, right.kinds)}")
+    either = Each(L, f"(SELECT {L}.* FROM unnest({old}) {L} UNION ALL SELECT {L}.* FROM unnest({new}) {L}) {L}")
+    beside = looks.found(right, node.shared, either, f"{N}.{N}, {columns_at(N, right.kinds)}")
     row = node.row(L, {name: f"{R}.{quoted(name)}" for name in right.kinds if name not in left.kinds})
     joined = (f'SELECT {row} AS {O}, {L}."Old" FROM ({lefts}) {L} CROSS JOIN LATERAL {beside} {R} '
               f"WHERE {R}.{N} NOT IN (SELECT unnest({body.variable('Before', right)}))")
@@ -476,7 +516,7 @@ def delete_over(body, looks, node):
     shown, parts, doomed_right = body.variable("Shown", right), body.variable("Part", right), body.variable("Doomed", right)
     names = {name: f"{P}.{quoted(name)}" for name in right.kinds if name not in left.kinds}
     body.note("right parts that the edited view still shows")
-    joined = looks.found(left, node.shared, P, f"{node.row(N, names)} AS {O}")
+    joined = looks.found(left, node.shared, each(P, found), f"{node.row(N, names)} AS {O}")
     beside = f'(SELECT true AS "Shown" FROM {joined} {O} WHERE {O}.{O} NOT IN (SELECT unnest({gone})) LIMIT 1)'
     rights = f"SELECT DISTINCT {right.row(O)} AS {S} FROM unnest({found}) {O}"
     body.let(shown, f'SELECT {P}.{S} FROM ({rights}) {R} CROSS JOIN LATERAL (SELECT {R}.{S}, ({R}.{S}).*) {P} LEFT JOIN LATERAL {beside} {K} ON true '
@@ -635,7 +675,7 @@ def clash(body, looks, node, edge, shown, add, remove, broken):
         if isinstance(given, One):
             others = f"EXISTS {looks.any(node, edge.left, given.alias, f'{differ(edge.right, N, given.alias)} AND {stays}')}"
         else:
-            others = f"EXISTS (SELECT FROM ({looks.new_keys(node, edge, add)}) {K} CROSS JOIN LATERAL {looks.any(node, edge.left, K, stays)} {S})"
+            others = f"EXISTS (SELECT FROM ({looks.new_keys(node, edge, add)}) {K} CROSS JOIN LATERAL {looks.any(node, edge.left, each(K, add), stays)} {S})"
         body.set(broken, others)
 
     body.by_number(add, say)
@@ -646,7 +686,7 @@ def clash(body, looks, node, edge, shown, add, remove, broken):
     body.when(broken)
     rows = body.variable("Clash", node)
     keys = f"SELECT DISTINCT {columns_at(A, edge.left)} FROM {unnested(add)}"
-    body.let(rows, f"SELECT DISTINCT {A}.{N} FROM (SELECT unnest({add}) UNION ALL SELECT {S}.{N} FROM ({keys}) {K} CROSS JOIN LATERAL {looks.all(node, edge.left, K, stays)} {S}) {A}({N})")
+    body.let(rows, f"SELECT DISTINCT {A}.{N} FROM (SELECT unnest({add}) UNION ALL SELECT {S}.{N} FROM ({keys}) {K} CROSS JOIN LATERAL {looks.all(node, edge.left, each(K, add), stays)} {S}) {A}({N})")
     # The first row of the groups that are broken has a partner, and comes before it.
     keys = f"SELECT {columns_at(A, edge.left)} FROM (SELECT DISTINCT {columns_at(A, both)} FROM {unnested(rows)}) {A} GROUP BY {columns_at(A, edge.left)} HAVING count(*) > 1"
     first = f"SELECT {A}.* FROM {unnested(rows)} JOIN ({keys}) {K} ON {agree(node.kinds, edge.left, A, K)} ORDER BY {row_order(node.kinds, A)} LIMIT 1"

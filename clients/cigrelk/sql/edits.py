@@ -11,7 +11,7 @@ These run with the rights of who ran the script, with a fixed search_path. Who e
 from ..kinds import base, is_nullable
 from ..postgres import quoted
 from . import objects
-from .deltas import A, CHANGED_SINCE, K, N, R, Body, Looks, Many, One, check, down, exact, some, unnested
+from .deltas import A, CHANGED_SINCE, K, N, R, Body, Looks, Many, One, check, down, each, exact, some, unnested
 from .plain import Plain
 from .words import NEUTRAL, columns_at, differ, same, text_literal
 
@@ -24,6 +24,8 @@ LOOKING = f"{PATH} {COMMON} SET enable_nestloop = off SET enable_hashjoin = on"
 CHANGING = f"{PATH} {COMMON} SET enable_nestloop = on SET enable_hashjoin = off SET enable_mergejoin = off"
 OWNER = "SECURITY DEFINER"
 SETTING = '"Setting"'
+# How many rows one statement for other servers names at most.
+MOST_NAMED = 500
 
 
 class Compiling:
@@ -32,7 +34,7 @@ class Compiling:
     def __init__(self, catalogue, isolation="locks", existing=False, foreign=False, exclude=False):
         self.catalogue, self.isolation = catalogue, isolation
         self.existing, self.foreign, self.exclude = existing or foreign, foreign, exclude
-        self.looks = Looks()
+        self.looks = Looks(foreign)
 
 
 class Subject:
@@ -152,6 +154,12 @@ def change_name(subject, leaf, word):
     return subject.catalogue.own(f"{word}:rows:{leaf.name}")
 
 
+def change_call(subject, leaf, word, remove, add):
+    """The call of a function that changes any number of rows of a table. On other servers it changes one row too: they are sent the
+    constants that it makes, and would else send all their rows."""
+    return f"PERFORM {change_name(subject, leaf, word)}({remove}, {add});"
+
+
 def key_of(leaf, one, other):
     """Whether two rows of a table have the same key."""
     return " AND ".join(same(leaf.kinds[name], f"{one}.{quoted(name)}", f"{other}.{quoted(name)}") for name in leaf.key)
@@ -176,6 +184,10 @@ def remove_lines(body, subject, leaf):
     """Deletes the rows that go and whose key does not come."""
     remove, add = body.variable("Remove", leaf), body.variable("Add", leaf)
     one, other = One(remove).alias, One(add).alias
+    if subject.compiling.foreign:
+        body.when(some(remove))
+        body.say(change_call(subject, leaf, "remove", remove, add))
+        return body.end()
     body.when(f"cardinality({remove}) = 1 AND cardinality({add}) > 1 IS NOT TRUE")
     if leaf.rest:
         body.when(f"(cardinality({add}) = 1 AND {key_of(leaf, one, other)}) IS NOT TRUE")
@@ -183,7 +195,7 @@ def remove_lines(body, subject, leaf):
     if leaf.rest:
         body.end()
     body.otherwise(some(remove))
-    body.say(f"PERFORM {change_name(subject, leaf, 'remove')}({remove}, {add});")
+    body.say(change_call(subject, leaf, "remove", remove, add))
     body.end()
 
 
@@ -192,6 +204,10 @@ def add_lines(body, subject, leaf):
     remove, add = body.variable("Remove", leaf), body.variable("Add", leaf)
     one, other = One(remove).alias, One(add).alias
     columns = ", ".join(map(leaf.column, leaf.kinds))
+    if subject.compiling.foreign:
+        body.when(some(add))
+        body.say(change_call(subject, leaf, "add", remove, add))
+        return body.end()
     body.when(f"cardinality({add}) = 1 AND cardinality({remove}) > 1 IS NOT TRUE")
     if leaf.rest:
         body.when(f"cardinality({remove}) = 1 AND {key_of(leaf, one, other)}")
@@ -201,7 +217,7 @@ def add_lines(body, subject, leaf):
     if leaf.rest:
         body.end()
     body.otherwise(some(add))
-    body.say(f"PERFORM {change_name(subject, leaf, 'add')}({remove}, {add});")
+    body.say(change_call(subject, leaf, "add", remove, add))
     body.end()
 
 
@@ -222,17 +238,45 @@ def many_rows_functions(compiling, leaf):
     gone, come, new = f"SELECT * FROM unnest($1) {R} WHERE {stays}", f"SELECT * FROM {unnested('$2')} WHERE ({was}) IS TRUE", f"SELECT * FROM {unnested('$2')} WHERE NOT ({was})"
     columns = ", ".join(map(leaf.column, leaf.kinds))
     if compiling.foreign:
-        remove = [f'  FOR "Row" IN {gone} LOOP', f'    DELETE FROM {leaf.place} {N} WHERE {leaf.key_agrees(N, chr(34) + "Row" + chr(34))};', "  END LOOP;"]
-        add = [f'  FOR "Row" IN {come} LOOP', f'    UPDATE {leaf.place} {N} SET {assignments(leaf, chr(34) + "Row" + chr(34))} WHERE {leaf.key_agrees(N, chr(34) + "Row" + chr(34))};', "  END LOOP;"] if leaf.updated else []
+        remove, add = deletes_by_constants(leaf, gone), updates_by_constants(leaf, come) if leaf.updated else []
     else:
         remove = [f"  DELETE FROM {leaf.place} {N} USING ({gone}) {K} WHERE {leaf.key_agrees(N, K)};"]
         add = [f"  UPDATE {leaf.place} {N} SET {assignments(leaf, K)} FROM ({come}) {K} WHERE {leaf.key_agrees(N, K)};"] if leaf.updated else []
     add += [f"  INSERT INTO {leaf.place} ({columns}){leaf.overriding} SELECT {columns_at(A, leaf.kinds)} FROM ({new}) {A};"]
-    declares = 'DECLARE "Row" record;\n' if compiling.foreign else ""
+    declares = 'DECLARE "Set" text; "Keys" text;\n' if compiling.foreign else ""
     for word, lines in (("remove", remove), ("add", add)):
         name = compiling.catalogue.own(f"{word}:rows:{leaf.name}")
         comment = f"{word}s rows of an edit; made by cigrelk compile for: {compiling.catalogue.texts[leaf.name]}"
         yield objects.function(name, f"remove {leaf.row_type}[], add {leaf.row_type}[]", "RETURNS void ", lines, declares, CHANGING, (f"{leaf.row_type}[]",) * 2, comment, (f"view {leaf.row_type}",))
+
+
+def assigned(column, value):
+    """The text of an equation of a column with a value as a constant. It is null if the value is."""
+    return f"{text_literal(f'{column} = ')} || quote_literal({value})"
+
+
+def named_rows(leaf, rows):
+    """Rows, and for each the condition on its key by constants, as "Key": postgres_fdw sends a whole DELETE or UPDATE to the servers if
+    its condition has nothing else. "Part" tells which rows stand in one statement."""
+    parts = []
+    for name in leaf.key:
+        column, value = f"{N}.{leaf.column(name)}", f"{K}.{quoted(name)}"
+        text = assigned(column, value)
+        parts.append(f"coalesce({text}, {text_literal(f'{column} IS NULL')})" if is_nullable(leaf.kinds[name]) else text)
+    return f"SELECT {K}.*, concat('(', concat_ws(' AND ', {', '.join(parts)}), ')') AS \"Key\", row_number() OVER () / {MOST_NAMED} AS \"Part\" FROM ({rows}) {K}"
+
+
+def deletes_by_constants(leaf, gone):
+    """Deletes rows by as few statements as may be, each of which is one trip to a server."""
+    return [f"""  FOR "Keys" IN SELECT string_agg("Key", ' OR ') FROM ({named_rows(leaf, gone)}) {K} GROUP BY "Part" LOOP""",
+            f"    EXECUTE {text_literal(f'DELETE FROM {leaf.place} {N} WHERE ')} || \"Keys\";", "  END LOOP;"]
+
+
+def updates_by_constants(leaf, come):
+    """Updates rows by as few statements as may be: those that get the same values stand in one."""
+    values = " || ', ' || ".join(f"coalesce({assigned(leaf.column(name), f'{K}.{quoted(name)}')}, {text_literal(f'{leaf.column(name)} = NULL')})" for name in leaf.updated)
+    return [f"""  FOR "Set", "Keys" IN SELECT {values}, string_agg("Key", ' OR ') FROM ({named_rows(leaf, come)}) {K} GROUP BY 1, "Part" LOOP""",
+            f"    EXECUTE {text_literal(f'UPDATE {leaf.place} {N} SET ')} || \"Set\" || ' WHERE ' || \"Keys\";", "  END LOOP;"]
 
 
 def lock_lines(compiling, leaves):
@@ -374,7 +418,7 @@ def commit_function(subject):
                                 f'SELECT "Turn", \'+\', "R" FROM pg_temp.{table} CROSS JOIN LATERAL unnest("Add") "R") "D" '
                                 f"ORDER BY \"R\", {order}) \"D\" WHERE \"S\" = '{sign}')")
     last, first = '"Turn" DESC, "S" = \'+\' DESC', '"Turn", "S" = \'+\''
-    there = Many('"Seen"').perhaps_beside("", subject.looks.there(subject.root, A), '"O"')
+    there = Many('"Seen"').perhaps_beside("", subject.looks.there(subject.root, each(A, '"Seen"')), '"O"')
     lines = [f'  IF NOT EXISTS (SELECT FROM pg_temp.{table}) THEN RETURN NULL; END IF;',
              f'  "Gone" := {rows("-", last)}; "Come" := {rows("+", last)}; "Seen" := {rows("-", first)};',
              f"  DELETE FROM pg_temp.{table};",

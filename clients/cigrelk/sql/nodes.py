@@ -118,6 +118,8 @@ class Leaf(Node):
     def __init__(self, name, place, kinds, tree, conditions, stored, fixed):
         super().__init__(None, kinds, tree, conditions)
         self.name, self.place, self.stored, self.fixed = name, place, stored, fixed
+        # What stands behind FROM for the rows that a query has fetched, while it is made.
+        self.fetched = None
 
     @property
     def updated(self):
@@ -149,7 +151,7 @@ class Leaf(Node):
         return f"SELECT {self.columns_as_named(ONLY)} FROM {self.place} {ONLY}"
 
     def source(self):
-        return self.row_type
+        return self.fetched or self.row_type
 
     def origins(self):
         return {name: (self, name) for name in self.kinds}

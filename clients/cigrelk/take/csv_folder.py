@@ -6,6 +6,7 @@ import os
 
 from ..csv_files import is_field
 from ..errors import CommandError
+from ..postgres import TYPES
 from .sources import Column, ForeignKey, SourceTable
 
 BATCH = 10_000
@@ -39,21 +40,17 @@ class CSVFolder:
         _, header = next(records, (0, None))
         if header is None:
             raise CommandError(f"{self.files[name]} is empty: its first line has the names of the columns")
-        kinds, empty, seen, count = [{"int", "bool"} for _ in header], [False] * len(header), [set() for _ in header], 0
+        seen, count = [set() for _ in header], 0
         for line, fields in records:
             if len(fields) != len(header):
                 raise CommandError(f"{self.files[name]}, line {line}: it has {len(fields)} fields, and the first line {len(header)}")
             count += 1
-            for place, field in enumerate(fields):
-                if field == "":
-                    empty[place] = True
-                else:
-                    kinds[place] -= {kind for kind in kinds[place] if not is_field(field, kind)}
-                seen[place].add(field)
+            for values, field in zip(seen, fields):
+                values.add(field)
         columns = []
-        for place, column in enumerate(header):
-            kind = next((kind for kind in ("int", "bool") if kind in kinds[place] and seen[place] - {""}), "text")
-            columns.append(Column(column, {"int": "bigint", "bool": "boolean", "text": "text"}[kind], kind, empty[place] and kind != "text"))
+        for column, values in zip(header, seen):
+            kind = kind_of(values)
+            columns.append(Column(column, TYPES[kind], kind, "" in values and kind != "text"))
         keys = [(column.name,) for place, column in enumerate(columns) if len(seen[place]) == count and count and not column.null]
         # What is called id is the key before another column whose values happen to differ.
         keys.sort(key=lambda key: not (key[0].lower() == "id" or key[0].lower().endswith("_id")))
@@ -97,6 +94,11 @@ class CSVFolder:
 
     def close(self):
         self.values = {}
+
+
+def kind_of(fields):
+    """The kind of the values in the fields of a column."""
+    return next((kind for kind in ("int", "bool") if any(fields) and all(is_field(field, kind) for field in fields if field)), "text")
 
 
 def value_of(field, kind):
