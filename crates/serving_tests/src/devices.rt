@@ -93,7 +93,7 @@ fn runs_end(rt: HostRuntime) -> Result<(), Fail> {
 
 // How many bytes a call of the source gives and one of the sink takes, which of their calls fail, the
 // status, and how many bytes of the replies are given, if not all.
-const PIECES: [([usize; 2], [u64; 2], u8, usize); 10] = [
+const PIECES: [([usize; 2], [u64; 2], u8, usize); 15] = [
     ([1, ROOM], [0, 0], 0, ROOM),
     ([2, 3], [0, 0], 0, ROOM),
     ([4096, 1], [0, 0], 0, ROOM),
@@ -104,6 +104,11 @@ const PIECES: [([usize; 2], [u64; 2], u8, usize); 10] = [
     ([4096, 8], [0, 2], 5, 8),
     ([4096, 8], [0, 3], 5, 16),
     ([4096, 8], [0, 4], 5, 24),
+    ([4096, 8], [0, 5], 5, 32),
+    ([4096, 8], [0, 6], 5, 40),
+    ([4096, 8], [0, 7], 5, 48),
+    ([4096, 8], [0, 8], 5, 56),
+    ([4096, 8], [0, 9], 5, 64),
     ([4096, 8], [0, 10], 5, 72),
 ];
 
@@ -199,6 +204,65 @@ fn refused_changes_are_not_kept(rt: HostRuntime) -> Result<(), Fail> {
     let mut keeper = keeper(rt.alloc(), 7)?;
     follow(rt.alloc(), &mut keeper, &[BASE, REFUSED_PUT])?;
     follow(rt.alloc(), &mut keeper, &[FOUND_LATER])
+}
+
+// The requests for all that is kept.
+const QUESTIONS: &str = r#"{"do":"list"}
+{"do":"read","view":"tracks"}
+{"do":"read","view":"albums"}
+{"do":"read","view":"stock"}
+"#;
+
+const STORE_FAULT: &str = r#"{"error":90,"ok":false}
+"#;
+
+// The first lines of a text.
+fn first_lines(alloc: Global, text: &[u8], count: usize) -> Result<Vec<u8>, Fail> {
+    let mut first = Vec::new(alloc);
+    for line in str::from_utf8(text)?.lines().take(count) {
+        first.extend_from_slice(line.as_bytes())?;
+        first.push(b'\n')?;
+    }
+    Ok(first)
+}
+
+// What a later run finds after a run over the first lines of the script, in which this call of the
+// keeper fails. The first run has to give the script's replies to so many lines, and then this one.
+fn found_later(
+    alloc: Global,
+    lines: usize,
+    call: u64,
+    replies: usize,
+    last: &str,
+) -> Result<MemorySink, Fail> {
+    let mut keeper = keeper(alloc, call)?;
+    let requests = side(alloc, &[BASE, PUT_STOCK], 0)?;
+    let sink = given(
+        alloc,
+        PLAIN,
+        first_lines(alloc, &requests, lines)?,
+        &mut keeper,
+        0,
+    )?;
+    let told = side(alloc, &[BASE, PUT_STOCK], 1)?;
+    let mut wanted = first_lines(alloc, &told, replies)?;
+    wanted.extend_from_slice(last.as_bytes())?;
+    is_given(sink.bytes(), &wanted)?;
+    let questions = Vec::from_slice(alloc, QUESTIONS.as_bytes())?;
+    given(alloc, PLAIN, questions, &mut keeper, 0)
+}
+
+// The first call of the keeper loads, and each line of the script is committed by the next one.
+#[test]
+fn failed_commits_are_not_kept(rt: HostRuntime) -> Result<(), Fail> {
+    let alloc = rt.alloc();
+    for before in 0..6u64 {
+        let lines = before as usize;
+        let failed = found_later(alloc, lines + 1, before + 2, lines, STORE_FAULT)?;
+        let without = found_later(alloc, lines, 0, lines, "")?;
+        is_given(failed.bytes(), without.bytes())?;
+    }
+    Ok(())
 }
 
 // Fails where a run with these words, over six lines that change something and two that ask, does not

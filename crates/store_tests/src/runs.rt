@@ -10,6 +10,7 @@ use std::marker::Brand;
 use std::sync::ledger::{Blank, Ledger};
 use std::test::Fail;
 use step_counter::Steps;
+use table_keeper::Keeper;
 
 /// Fails, with the case, where something does not hold of it.
 pub(crate) fn expect(holds: bool, case: &str) -> Result<(), Fail> {
@@ -37,12 +38,12 @@ fn side(alloc: Global, script: &str, from: usize) -> Result<Vec<u8>, Fail> {
     Ok(lines)
 }
 
-fn run_counted<L: Ledger>(
+fn run_counted<K: Keeper, L: Ledger>(
     alloc: Global,
     words: &[String],
     source: &mut MemorySource,
     sink: &mut MemorySink,
-    keeper: &mut SqliteKeeper<'_>,
+    keeper: &mut K,
     blank: Blank,
 ) -> u8
     requires name { blank.name ≡ L.name }
@@ -54,9 +55,9 @@ fn run_counted<L: Ledger>(
 }
 
 // How a run ends that is asked for the requests of the script.
-fn status_of(
+fn status_of<K: Keeper>(
     alloc: Global,
-    keeper: &mut SqliteKeeper<'_>,
+    keeper: &mut K,
     path: &str,
     script: &str,
     sink: &mut MemorySink,
@@ -65,14 +66,14 @@ fn status_of(
     let requests = side(alloc, script, 0)?;
     let mut source = MemorySource::new(requests, 4096, Vec::new(alloc));
     let blank = Blank::new(1);
-    Ok(run_counted::<Brand>(alloc, &words, &mut source, sink, keeper, blank))
+    Ok(run_counted::<K, Brand>(alloc, &words, &mut source, sink, keeper, blank))
 }
 
 /// Fails where a run with this keeper over the store in this file does not end with this status, or
 /// answers otherwise than the script.
-pub(crate) fn follow_with(
+pub(crate) fn follow_with<K: Keeper>(
     alloc: Global,
-    keeper: &mut SqliteKeeper<'_>,
+    keeper: &mut K,
     path: &str,
     status: u8,
     script: &str,

@@ -1,8 +1,9 @@
 //! The program: a request a line on the standard input, and a reply a line on the standard output.
 #![tactic(auto)]
 
-ghost use Rattle.std.specs.Prelude.{◌≡◌, ◌≢◌, ◌↔◌, None, map, string_bytes};
+ghost use Rattle.std.specs.Prelude.{◌≡◌, ◌≢◌, ◌↔◌, ◌⊎◌, IfSome, None, map, string_bytes};
 ghost use Rattle.command_words.specs.Settings.{settings};
+ghost use Rattle.serving.specs.Promises.{IsServed, IsUnserved};
 
 mod causes;
 mod words;
@@ -35,6 +36,9 @@ fn serve_host<L: Ledger>(rt: &HostRuntime, words: &[String], blank: Blank) -> u8
     requires one { blank.parts ≡ 1 }
     ensures words { result ≢ 3
         → ((result ≡ 2) ↔ (settings (map string_bytes words.now) ≡ None)) }
+    ensures others { IsServed result ⊎ ((result ≡ 2) ⊎ IsUnserved result) }
+    ensures rehearses_no_input { IfSome (settings (map string_bytes words.now)) (λ s.
+        IfSome s.rehearse (λ _. (result ≢ 4) × (result ≢ 8))) }
 {
     let alloc = rt.alloc();
     let mut source = StreamSource::new(rt.reader());

@@ -4,7 +4,7 @@ use Rattle.std.proofs.lemmas.Bool.{true≢false}
 use Rattle.lens_specs.specs.Keeping.{CanCommit, rows}
 use Rattle.signed_delta.specs.Tables.{table_delta}
 use Rattle.store_tests.proofs.Kept.{can_add, can_define, none_there}
-use Rattle.store_tests.proofs.keepers.table_with_a_row.Goals as goal
+use Rattle.store_tests.proofs.keepers.keep_table.Goals as goal
 
 pub commit-requires : goal.commit-requires
 commit-requires g c = can_define c.in_ok-text.text c.in_ok-table.table (g.K.Keeper.contents c.args.keeper.now) c.requires.nothing
