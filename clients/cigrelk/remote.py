@@ -1,5 +1,4 @@
 """A hub by its address, in place of a program of one's own."""
-import http.client
 import json
 import re
 import select
@@ -32,6 +31,10 @@ class Remote:
     end = None
 
     def __init__(self, address, token):
+        # (loading this takes a third of the start of a command, and few commands speak to a hub)
+        import http.client
+
+        self.failures = OSError, ValueError, http.client.HTTPException
         found = urllib.parse.urlsplit(address)
         self.make = http.client.HTTPSConnection if found.scheme == "https" else http.client.HTTPConnection
         self.host, self.path, self.turn, self.connection = found.netloc, f"{found.path.rstrip('/')}/lines", threading.Lock(), None
@@ -68,7 +71,7 @@ class Remote:
             connection.request("POST", self.path, b"".join(line + b"\n" for line in lines), self.headers)
             response = connection.getresponse()
             found = response.read()
-        except (OSError, ValueError, http.client.HTTPException) as error:
+        except self.failures as error:
             raise Unreachable(f"the hub at {self.host} gave no reply ({error or type(error).__name__}): a request under way was done or not") from None
         if response.status != 200:
             raise self.refused(response.status, found)

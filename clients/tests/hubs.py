@@ -3,10 +3,10 @@ import http.client
 import json
 import os
 import re
+import select
 import shutil
 import signal
 import socket
-import subprocess
 import sys
 import tempfile
 import time
@@ -14,6 +14,7 @@ import time
 HERE = os.path.dirname(os.path.realpath(__file__))
 TOP = os.path.dirname(os.path.dirname(HERE))
 sys.path.insert(0, os.path.dirname(HERE))
+import hub_starts
 from cigrelk.hub.rights import Users
 
 try:
@@ -28,12 +29,6 @@ EXAMPLES = f"{TOP}/examples"
 PROGRAM = os.environ.get("CIGRELK") or f"{TOP}/serve"
 # Where stores lie whose tests are not about the disk.
 MEMORY = "/dev/shm" if os.path.isdir("/dev/shm") else None
-# Constants of the hub that a test makes smaller, or larger, by the names of their modules.
-CHANGED = """import sys; sys.path[0] = {clients!r}
-{changes}
-from cigrelk.command import main
-sys.exit(main())
-"""
 SHOP = [
     {"do": "define", "text": "table tracks (track text, date int, rating int, album text) with track -> date rating"},
     {"do": "define", "text": "table albums (album text, quantity int) with album -> quantity"},
@@ -76,18 +71,13 @@ def free_port():
         return it.getsockname()[1]
 
 
-def with_constants(constants):
-    """The words that start the command `cigrelk` with other constants: values by module of the hub and name."""
-    changes = "\n".join(f"import cigrelk.hub.{name.partition('.')[0]}; cigrelk.hub.{name} = {value!r}" for name, value in constants.items())
-    return [sys.executable, "-c", CHANGED.format(clients=os.path.dirname(HERE), changes=changes), "hub"]
-
-
 class HubAt:
-    """A hub over a store of its own. `users` has the words of each user's rights, and `constants` those that are others than usual."""
+    """A hub over a store of its own. `users` has the words of each user's rights, and `constants` values that are others than usual, by
+    module of the hub and name."""
 
     def __init__(self, users=None, requests=SHOP, constants=None, folder=MEMORY, **environment):
         self.folder = tempfile.mkdtemp(prefix="hub-", dir=folder)
-        self.words = with_constants(constants) if constants else HUB
+        self.constants = constants or {}
         self.store, self.port, self.tokens, self.document = f"{self.folder}/shop.db", free_port(), {}, None
         self.environment = {**os.environ, "PYTHONDONTWRITEBYTECODE": "1", **environment}
         self.users = Users(f"{self.store}.users")
@@ -102,12 +92,10 @@ class HubAt:
         self.tokens[name] = self.users.grant(name, list(words)) or self.tokens[name]
 
     def start(self):
-        self.process = subprocess.Popen([*self.words, self.store, "--port", str(self.port)], stdout=subprocess.PIPE, text=True, env=self.environment)
-        if not self.process.stdout.readline():
-            raise RuntimeError("the hub did not start")
+        self.process = hub_starts.start([self.store, "--port", str(self.port)], self.environment, self.constants)
 
     def reload(self):
-        self.process.send_signal(signal.SIGHUP)
+        os.kill(self.process.pid, signal.SIGHUP)
         time.sleep(0.2)
 
     def program(self):
@@ -115,25 +103,36 @@ class HubAt:
         with open(f"/proc/{self.process.pid}/task/{self.process.pid}/children") as file:
             return int((file.read().split() or [0])[-1])
 
+    def memory(self):
+        """What the hub has in memory, in MiB."""
+        with open(f"/proc/{self.process.pid}/status") as file:
+            return next(int(line.split()[1]) for line in file if line.startswith("VmRSS")) >> 10
+
     def stop(self):
         self.process.terminate()
-        status = self.process.wait(20)
-        self.process.stdout.close()
-        return status
+        return self.wait()
 
     def kill(self):
-        program = self.program()
+        program = os.pidfd_open(self.program())
         self.process.kill()
-        self.process.wait()
-        self.process.stdout.close()
-        while os.path.exists(f"/proc/{program}"):
-            time.sleep(0.01)
+        self.wait()
+        # (its number may be seen for seconds yet, until some process has waited for it)
+        select.select([program], [], [], 30)
+        os.close(program)
+
+    def wait(self):
+        """The status with which the hub ends."""
+        self.process.join(20)
+        status = self.process.exitcode
+        self.process.close()
+        self.process = None
+        return status
 
     def __enter__(self):
         return self
 
     def __exit__(self, *_):
-        if self.process.poll() is None:
+        if self.process:
             self.stop()
         shutil.rmtree(self.folder)
 
@@ -255,3 +254,9 @@ class Events:
 
     def close(self):
         self.socket.close()
+
+    def __enter__(self):
+        return self
+
+    def __exit__(self, *_):
+        self.close()

@@ -1,5 +1,6 @@
 """Runs the tests of this folder, several files at once, prints a line for each test, and tells at the end what was left out."""
 import argparse
+import compileall
 import concurrent.futures
 import glob
 import json
@@ -16,7 +17,10 @@ from packages import is_installed, lacking_in
 
 HERE = os.path.dirname(os.path.abspath(__file__))
 # The files that take longest begin first, so that none of them is left alone at the end.
-LONGEST = ("test_hub", "test_sql_views", "test_editor", "test_mirror", "test_mirror_guards", "test_take", "test_sql_servers")
+LONGEST = (
+    "test_sql_views", "test_editor", "test_hub", "test_mirror", "test_mirror_guards", "test_hub_page", "test_package",
+    "test_shell", "test_take", "test_sql_servers",
+)
 # How many tests that were wrong are tried once more: a busy machine may be too slow for a test that waits.
 MOST_AGAIN = 3
 # How long (in seconds) the tests of one file may take: a test that hangs is ended, and counts as wrong.
@@ -135,6 +139,8 @@ def tell_wrong(wrong):
 def run_all(names, processes):
     """Runs the tests of each of these modules, and gives the status."""
     began = time.monotonic()
+    # Tests start the command hundreds of times, and where Python keeps no bytecode each start would compile the package anew.
+    compileall.compile_dir(f"{os.path.dirname(HERE)}/cigrelk", quiet=2)
     with tempfile.TemporaryDirectory() as room, concurrent.futures.ThreadPoolExecutor(processes) as pool:
         runs = Runs(room)
         try:

@@ -1,6 +1,7 @@
 """The editor: what its server answers and what it refuses, and what its page does in a Chromium without a window."""
 import base64
 import contextlib
+import functools
 import hashlib
 import http.client
 import io
@@ -360,14 +361,21 @@ class ReadOnly(unittest.TestCase):
         self.assertEqual(editor.ask("list")["definitions"], [])
 
 
+@functools.lru_cache(maxsize=None)
+def one_browser():
+    """The browser that serves all tests of the page: a start of it takes longer than a test."""
+    page = browser.Browser()
+    unittest.addModuleCleanup(page.close)
+    return page
+
+
 class OnPage(OverStore):
-    """Tests of the page, as a person uses it. One browser serves them all."""
+    """Tests of the page, as a person uses it."""
 
     @classmethod
     def setUpClass(cls):
         super().setUpClass()
-        cls.page = browser.Browser()
-        cls.addClassCleanup(cls.page.close)
+        cls.page = one_browser()
 
     def setUp(self):
         super().setUp()

@@ -22,6 +22,9 @@ KEYS = [{"do": "define", "text": "table pairs (k int, v int, w text) with k -> v
         {"do": "put", "view": "pairs", "rows": [{"k": k, "v": 7 * k + 1, "w": "x" * 50} for k in range(2000)]},
         {"do": "define", "text": "view low = select from pairs where k < 100000"}]
 ALL = ["*=read,preview,edit", "undo"]
+# How many finds are answered, and how many updates accepted, beside others that come in between; a busy machine makes fewer in these
+# seconds.
+FINDS, UPDATES, MOST_SECONDS = 8000, 250, 20
 
 
 @wants("python3-aiohttp")
@@ -88,18 +91,17 @@ class Web(unittest.TestCase):
             self.assertEqual(one, other, line[:80])
 
     def test_events(self):
-        events, blind = Events(self.hub, "all"), Events(self.hub, "ann")
-        events.next("hello"), blind.next("hello")
-        self.hub.lines("root", [{"do": "edit", "view": "albums", "remove": [], "add": [{"album": "Best", "quantity": 4}]}])
-        told = events.next("change")
-        self.assertTrue('"albums":' in told and '"stock":' in told and '"tracks":' not in told, told)
-        told = blind.next("change")
-        self.assertTrue('"stock":' in told and "albums" not in told, told)
+        with Events(self.hub, "all") as events, Events(self.hub, "ann") as blind:
+            events.next("hello"), blind.next("hello")
+            self.hub.lines("root", [{"do": "edit", "view": "albums", "remove": [], "add": [{"album": "Best", "quantity": 4}]}])
+            told = events.next("change")
+            self.assertTrue('"albums":' in told and '"stock":' in told and '"tracks":' not in told, told)
+            told = blind.next("change")
+            self.assertTrue('"stock":' in told and "albums" not in told, told)
         since = told[told.index("id: ") + 4 :].partition("\n")[0]
         self.hub.ask("ann", "POST", "/views/stock/edit", {"add": [{"track": "New", "rating": 1, "album": "Best", "quantity": 4}]})
-        again = Events(self.hub, "ann", since)
-        self.assertIn('"stock":', again.next("change"))
-        [it.close() for it in (events, blind, again)]
+        with Events(self.hub, "ann", since) as again:
+            self.assertIn('"stock":', again.next("change"))
 
     @wants("python3-jsonschema")
     def test_the_document_is_true(self):
@@ -227,11 +229,12 @@ class Clients(unittest.TestCase):
     def test_each_reply_goes_to_who_asked(self):
         """Clients that go away in the middle, at any place, beside clients that check each reply."""
         with HubAt({"all": ALL, "rude": ALL}, KEYS) as hub:
-            stop, wrong, asked = time.monotonic() + 8, [], [0]
+            wrong, asked, stop = [], [0], time.monotonic() + MOST_SECONDS
+            goes_on = lambda: asked[0] < FINDS and time.monotonic() < stop
 
             def honest(number):
                 connection, chance = hub.connect(), random.Random(number)
-                while time.monotonic() < stop:
+                while goes_on():
                     keys = [chance.randrange(2000) for _ in range(chance.choice((1, 1, 20)))]
                     if len(keys) == 1:
                         found = [hub.ask("all", "GET", f"/views/pairs?k={keys[0]}", connection=connection)[2]]
@@ -244,7 +247,7 @@ class Clients(unittest.TestCase):
 
             def rude(number):
                 chance = random.Random(1000 + number)
-                while time.monotonic() < stop:
+                while goes_on():
                     lines = "".join(json.dumps({"do": "find", "view": "pairs", "column": "k", "value": chance.randrange(2000)}) + "\n" for _ in range(chance.randrange(1, 400)))
                     head = f"POST /lines HTTP/1.1\r\nHost: 127.0.0.1:{hub.port}\r\nAuthorization: Bearer {hub.tokens['rude']}\r\nContent-Type: application/x-ndjson\r\nContent-Length: {len(lines)}\r\n\r\n"
                     with socket.create_connection(("127.0.0.1", hub.port)) as it:
@@ -260,17 +263,17 @@ class Clients(unittest.TestCase):
             self.assertEqual(wrong, [])
             self.assertGreater(asked[0], 100)
 
-
     def test_no_update_is_lost(self):
         """Clients that each read a number and put the next one, by ETag or by `on`, beside changes of other tables: as many as were
         accepted is the number at the end."""
         start = [{"do": "define", "text": "table count (v int)"}, {"do": "define", "text": "table other (v int)"}, {"do": "put", "view": "count", "rows": [{"v": 0}]}]
         with HubAt({"all": ALL, "window": ["shown=read,edit"]}, [*start, {"do": "define", "text": "view shown = select from count where v >= 0"}]) as hub:
-            stop, accepted, refused = time.monotonic() + 6, [], []
+            accepted, refused, stop = [], [], time.monotonic() + MOST_SECONDS
+            goes_on = lambda: len(accepted) < UPDATES and time.monotonic() < stop
 
             def by_etag(who):
                 connection = hub.connect()
-                while time.monotonic() < stop:
+                while goes_on():
                     _, headers, rows = hub.ask(who, "GET", "/views/shown", connection=connection)
                     status = hub.ask(who, "PUT", "/views/shown", [{"v": rows[0]["v"] + 1}], connection, If_Match=headers["ETag"])[0]
                     self.assertIn(status, (200, 412))
@@ -278,13 +281,13 @@ class Clients(unittest.TestCase):
                 connection.close()
 
             def by_on(who):
-                while time.monotonic() < stop:
+                while goes_on():
                     read = hub.lines(who, [{"do": "read", "view": "shown"}] * 5)[3]
                     reply, = hub.lines(who, [{"do": "put", "view": "shown", "rows": [{"v": read["rows"][0]["v"] + 1}], "on": read["version"], "session": read["session"]}])
                     (accepted if reply["ok"] else refused).append(1)
 
             def beside(_):
-                while time.monotonic() < stop:
+                while goes_on():
                     hub.lines("all", [{"do": "edit", "view": "other", "remove": [], "add": [{"v": random.randrange(10**9)}]}] * 5)
 
             threads = [threading.Thread(target=work, args=(who,)) for work in (by_etag, by_on) for who in ("all", "all", "window", "root")] + [threading.Thread(target=beside, args=(0,))]
@@ -307,6 +310,7 @@ class Ends(unittest.TestCase):
                     status, _, _ = hub.ask("all", "POST", "/views/pairs/edit", {"add": [row]}, connection)
                     told.append((row["k"], status))
                 except (OSError, http.client.HTTPException):
+                    connection.close()
                     connection = None
                     told.append((row["k"], 0))
                     time.sleep(0.05)
@@ -348,8 +352,8 @@ class Ends(unittest.TestCase):
 
     def test_the_program_is_killed(self):
         # On a busy machine a killed program lets go of its store late.
-        with HubAt({"all": ALL}, KEYS, {"engine.MOST_STARTS": 100, "engine.MOST_HELD_UP": 60}) as hub:
-            events, told, stop = Events(hub, "all"), [], threading.Event()
+        with HubAt({"all": ALL}, KEYS, {"engine.MOST_STARTS": 100, "engine.MOST_HELD_UP": 60}) as hub, Events(hub, "all") as events:
+            told, stop = [], threading.Event()
             events.next("hello")
             tag = hub.ask("all", "GET", "/views/low")[1]["ETag"]
             killed = set()
@@ -382,8 +386,8 @@ class Ends(unittest.TestCase):
             print(f"hub killed 20 times: {done} edits answered, {unknown} unknown", file=sys.stderr)
 
     def test_a_stop_loses_nothing(self):
-        with HubAt({"all": ALL}, KEYS) as hub:
-            told, events, stop = [], Events(hub, "all"), threading.Event()
+        with HubAt({"all": ALL}, KEYS) as hub, Events(hub, "all") as events:
+            told, stop = [], threading.Event()
             events.next("hello")
 
             def kill():
@@ -442,9 +446,8 @@ class Load(unittest.TestCase):
     def test_who_does_not_read_costs_little(self):
         with HubAt({"all": ALL, "slow": ALL}, KEYS) as hub:
             hub.lines("root", [{"do": "edit", "view": "pairs", "remove": [], "add": [{"k": k, "v": 1, "w": "y" * 200} for k in range(2000, 22000)]}])
-            size = lambda: int(next(line.split()[1] for line in open(f"/proc/{hub.process.pid}/status") if line.startswith("VmRSS"))) // 1024
             hub.ask("slow", "GET", "/views/pairs")
-            before, sockets = size(), []
+            before, sockets = hub.memory(), []
             for number in range(150):
                 it = socket.socket()
                 it.setsockopt(socket.SOL_SOCKET, socket.SO_RCVBUF, 4096)
@@ -454,7 +457,7 @@ class Load(unittest.TestCase):
                 it.sendall((f"GET /views/pairs HTTP/1.1\r\n{start}\r\n" if number % 2 else f"POST /lines HTTP/1.1\r\n{start}Content-Type: application/x-ndjson\r\nContent-Length: {len(lines)}\r\n\r\n{lines}").encode())
                 sockets.append(it)
             time.sleep(4)
-            beside, after = self.timed(hub, 7), size()
+            beside, after = self.timed(hub, 7), hub.memory()
             print(f"150 clients that never read replies of {len(hub.ask('all', 'GET', '/views/pairs')[2])} rows: {before} -> {after} MiB, another's find took {beside*1e3:.1f} ms", file=sys.stderr)
             self.assertLess(after - before, 400)
             [it.close() for it in sockets]

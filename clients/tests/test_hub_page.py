@@ -14,6 +14,20 @@ NEW = {"track": "New", "rating": 2, "album": "Wish", "quantity": 5}
 
 @wants("chromium", "python3-aiohttp")
 class Page(unittest.TestCase):
+    """Two browsers serve all tests, since their starts take longer than the tests."""
+
+    @classmethod
+    def setUpClass(cls):
+        cls.pages = browser.Browser(), browser.Browser()
+        for page in cls.pages:
+            cls.addClassCleanup(page.close)
+
+    def setUp(self):
+        for page in self.pages:
+            page.faults.clear()
+            page.call("Page.navigate", url="about:blank")
+            page.wait("location.protocol === 'about:'")
+
     def picture(self, page, name):
         if PICTURES:
             page.picture(f"{PICTURES}/{name}.png")
@@ -28,7 +42,8 @@ class Page(unittest.TestCase):
 
     def test_two_people_see_each_others_edits(self):
         """Ann has a window alone, and Bob all tables."""
-        with HubAt({"ann": ["stock=read,preview,edit", "undo"], "bob": ["*=read,preview,edit", "define", "undo"]}) as hub, browser.Browser() as ann, browser.Browser() as bob:
+        with HubAt({"ann": ["stock=read,preview,edit", "undo"], "bob": ["*=read,preview,edit", "define", "undo"]}) as hub:
+            ann, bob = self.pages
             self.sign_in(ann, hub, "ann"), self.sign_in(bob, hub, "bob")
             self.assertEqual(ann.run("definitions.map((it) => it.name).join()"), "stock")
             self.assertEqual(bob.run("definitions.map((it) => it.name).join()"), "tracks,albums,stock")
@@ -55,7 +70,8 @@ class Page(unittest.TestCase):
 
     def test_buttons_are_those_of_the_rights(self):
         """Dan may read, and no more, until he gets other rights while he looks."""
-        with HubAt({"dan": ["stock=read"]}) as hub, browser.Browser() as page:
+        page, _ = self.pages
+        with HubAt({"dan": ["stock=read"]}) as hub:
             self.sign_in(page, hub, "dan")
             hidden = lambda: [page.run(f"document.getElementById('{name}').hidden") for name in ("add", "save", "undo", "defining")]
             self.assertEqual(hidden(), [True, True, True, True])
@@ -68,7 +84,8 @@ class Page(unittest.TestCase):
             self.assertEqual(hidden(), [False, False, False, True])
 
     def test_signing_in(self):
-        with HubAt({"ann": ["stock=read,preview,edit", "undo"]}) as hub, browser.Browser() as page:
+        page, _ = self.pages
+        with HubAt({"ann": ["stock=read,preview,edit", "undo"]}) as hub:
             page.call("Page.navigate", url=f"http://127.0.0.1:{hub.port}/")
             page.wait("document.querySelector('#sign-in[open]')")
             page.run("document.getElementById('token').value = 'no such token'")

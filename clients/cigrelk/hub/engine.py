@@ -279,6 +279,7 @@ class Program(asyncio.SubprocessProtocol):
     def connection_lost(self, _) -> None:
         """(This comes when the program has ended and all that it wrote is read.)"""
         self.ended.set_result(self.process.get_returncode())
+        self.process.close()
         self.end(self)
 
     def close(self) -> None:
