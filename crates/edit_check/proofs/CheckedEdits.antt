@@ -20,14 +20,13 @@ use Rattle.fd_laws.proofs.Columns.{fits_names}
 use Rattle.fd_laws.proofs.Lists.{absurd_false, all_at, any_from, in_cons, in_head}
 use Rattle.fd_laws.proofs.Names.{union_left, union_right}
 use Rattle.fd_laws.proofs.Relations.{from_minus, from_project, from_union, in_those, same_rel, sets}
-use Rattle.fd_laws.proofs.Rows.{agree-cut, agree_back, agree_itself, agree_on, agree_within, at-cut, cut_column, row_itself, tied_row}
+use Rattle.fd_laws.proofs.Rows.{agree-cut, agree_back, agree_itself, agree_on, agree_within, row_itself, tied_row}
 use Rattle.fd_laws.proofs.Trees.{each_edge}
 use Rattle.lens_laws.specs.Checks.{edit_clash, near}
 use Rattle.lens_laws.specs.KeyedDeltas.{find_by, found_each}
 use Rattle.lens_laws.specs.Passes.{IsSound}
 use Rattle.lens_laws.proofs.Deltas.{from_found_each, from_new_view}
 use Rattle.lens_laws.proofs.EditChecks.{edit_checks_are}
-use Rattle.lens_laws.proofs.NodeFinds.{find_cut}
 use Rattle.lens_laws.proofs.Sorts.{clash_none, meets_none_each}
 use Rattle.fd_tree.specs.ClashView.{shown, shown_clash}
 use Rattle.fd_tree.specs.declared.clash.Clash.{Clash}

@@ -1,25 +1,23 @@
 -- The rows near new ones are enough: revision changes none of the others.
 use Rattle.std.proofs.Common.{◌≡◌, ◌≢◌, ℕ, ◌+◌, ◌*◌, ◌<◌, length, get_or, drop, List, [], ◌∷◌, ◌++◌, refl, sym, ap, ◌∙◌, Bool, true, false, cond, inl, inr}
-use Rattle.std.specs.Prelude.{flat_map, is_some}
+use Rattle.std.specs.Prelude.{flat_map}
 use Rattle.std.specs.List.{list_any}
 use Rattle.std.specs.Ordering.{eq_by_cmp}
 use Rattle.std.proofs.Math.Nat.{mul_right_comm}
 use Rattle.std.proofs.lemmas.Bool.{and_parts, cases_Bool, not-true, true≢false}
 use Rattle.std.proofs.lemmas.List.{drop_more}
-use Rattle.lens_values.specs.Part.{restrict}
 use Rattle.lens_values.specs.Row.{row_cmp}
 use Rattle.lens_values.specs.SortedSet as set
 use Rattle.lens_values.specs.declared.row.Row.{Row}
 use Rattle.lens_specs.specs.Dependencies.{Edge, Meets, MeetsTree}
-use Rattle.lens_specs.specs.Names.{Name, Names}
 use Rattle.lens_specs.specs.Relation.{Rows, has, minus, those}
 use Rattle.lens_specs.specs.Revision.{along, revise_row}
-use Rattle.lens_specs.specs.Rows.{agree, at, cut}
+use Rattle.lens_specs.specs.Rows.{agree}
 use Rattle.lens_laws.specs.KeyedDeltas.{find_by, is_changed}
 use Rattle.fd_laws.specs.Trees.{Among}
 use Rattle.fd_laws.proofs.Lists.{absurd_false, false_from, from_append, from_flat_map, in_append_left, in_append_right, in_flat_map, any_from}
 use Rattle.fd_laws.proofs.Relations.{from_minus, from_those, in_minus, in_those, same_rel}
-use Rattle.fd_laws.proofs.Rows.{agree_alike, agree_back, agree_itself, agree_on, agree-cut, at-cut, cut_column, paste_same, row_itself, row_total, tied_row}
+use Rattle.fd_laws.proofs.Rows.{agree_back, agree_itself, agree_on, paste_same, row_itself, row_total, tied_row}
 use Rattle.fd_laws.proofs.Trees.{along_cases}
 use Rattle.row_sets.specs.Members.{is_in}
 use Rattle.revision.specs.Near.{HasChanged, is_like, near_along, near_from}

@@ -10,7 +10,6 @@ use Rattle.signed_delta.specs.Keys.{HasColumns, IsKey}
 use Rattle.signed_delta.proofs.Looks.{find_by-restrict}
 use Rattle.lens_probe.specs.Viewed.{IsWithin, Viewed, asked_by, shown, viewed}
 use Rattle.lens_probe.proofs.Sizes.{found_few, viewed_finds, viewed_gives}
-use Rattle.lens_probe.proofs.view.ViewLook.find.Goals.{After-find_in}
 use Rattle.lens_probe.proofs.view.ViewLook.find.Goals as goal
 
 -- a row's part in columns that it has is a key of them
@@ -22,7 +21,11 @@ pub find_in-requires-clause-key : goal.find_in-requires-clause-key
 find_in-requires-clause-key g c = part_is_key c.args.cols.now c.args.key.now c.in_ok-part.part c.requires.key c.in_ok-part.ensures
 
 pub returns-clause-found : goal.returns-clause-found
-returns-clause-found g c = ?
+returns-clause-found g c =
+    let v = viewed c.self.inside.lens.now c.self.inside.handed.sets c.self.inside.tables.now in
+    let C = c.args.cols.now in
+    let found = subst (λ N. IfOk c.find_in.result (λ found. found ≡ N)) (ap (λ k. find_by C k (shown v).rows) c.in_ok-part.ensures ∙ find_by-restrict C c.args.key.now (shown v).rows) c.find_in.ensures.found in
+    subst (λ (x : Viewed). IfOk c.find_in.result (λ found. found ≡ find_by C c.args.key.now (shown x).rows)) c.self.view_is found
 
 pub returns-clause-looks : goal.returns-clause-looks
 returns-clause-looks g c = λ n within.
