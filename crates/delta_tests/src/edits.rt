@@ -127,7 +127,7 @@ pub(crate) fn selected<L: Ledger>(
         return Err(Fail::from("rows that clash"));
     }
     let delta = edit_of_selection(alloc, pred, &look.relation, view)?;
-    let change = select_delta(alloc, look, &look.tree, pred, &delta, looked)?;
+    let change = select_delta(alloc, look, &look.tree, pred, delta, looked)?;
     is_delta(alloc, &change, answer)
 }
 

@@ -1,6 +1,7 @@
 //! The edit of a relation without one of its columns, taken to the relation.
-ghost use Rattle.std.specs.Prelude.{◌≡◌, ◌≢◌, ◌≤◌, ◌+◌, ◌*◌, ℕ, true, false, length, slice_get, Contains, IfOk, IfSome, Some, is_some};
+ghost use Rattle.std.specs.Prelude.{◌≡◌, ◌≢◌, ◌≤◌, ◌+◌, ◌*◌, ℕ, true, false, length, slice_get, Contains, IfOk, IfSome, Some};
 ghost use Rattle.std.specs.FinMap as finmap;
+ghost use Rattle.std.specs.List.{filter_map};
 ghost use Rattle.lens_values.specs.SortedSet as set;
 ghost use Rattle.lens_specs.specs.Columns.{Fits, fits_at, names, without_column};
 ghost use Rattle.lens_specs.specs.Delta.{Applies, diff};
@@ -8,11 +9,11 @@ ghost use Rattle.lens_specs.specs.Dependencies.{Meets};
 ghost use Rattle.lens_specs.specs.Names.{Within, one};
 ghost use Rattle.lens_specs.specs.Nodes.{drop_get};
 ghost use Rattle.lens_specs.specs.Relation.{image};
-ghost use Rattle.lens_specs.specs.Rows.{at};
+ghost use Rattle.lens_specs.specs.Rows.{with_at};
 ghost use Rattle.lens_laws.specs.Work.{node_work, rows_down, rows_of};
-ghost use Rattle.drop_delta.specs.Dropped.{BothFill, Fills, edited_source, filled_in, filling_for, right_of};
+ghost use Rattle.signed_delta.specs.Keys.{HasColumns};
+ghost use Rattle.drop_delta.specs.Dropped.{BothFill, Fills, edited_source, filled_in, filling_for, value_of};
 
-use fd_tree::Edge;
 use lens_values::{Name, Names, NoMemory, Row, Value};
 use row_sets::RowSet;
 use signed_delta::{Delta, Look};
@@ -55,13 +56,26 @@ pub fn drop_delta<S: Look, L: Ledger>(
     ensures few { IfOk result (λ change. (n : ℕ) → S.within source.now n
         → rows_of change ≤ rows_down (rows_of delta.now) n) }
 {
-    let names = source.columns().name_set();
-    let left = by.copy(alloc)?;
-    let right = Names::single(alloc, col)?;
-    let edge = Edge { left, right };
-    let default = Row::single(alloc, col, fill)?;
-    let filled = filled_sides(alloc, source, &edge, &default, names, delta, looked)?;
+    let dropped = Dropped {
+        col,
+        by,
+        fill,
+        names: source.columns().name_set(),
+    };
+    let filled = filled_sides(alloc, source, &dropped, delta, looked)?;
     Ok(Delta::new(filled.remove, filled.add))
+}
+
+// A column that is dropped.
+#[derive(Debug, Drop)]
+struct Dropped<'a> {
+    col: &'a Name,
+    // The columns that determine it.
+    by: &'a Names,
+    // Its value in a row that the source has nothing for.
+    fill: &'a Value,
+    // The names of the source's columns, which the rows that are filled in share.
+    names: &'a Names,
 }
 
 // The two sides of an edit, with each row filled in.
@@ -71,28 +85,28 @@ struct FilledSides {
     add: RowSet,
 }
 
-// The rows to remove and those to add, each with the edge's right side filled in. They share the
-// names of the source's columns. They are walked turn by turn: mostly a removed row and the added
-// row at its place have the same key, and the source is then asked for it once.
+// The rows to remove and those to add, each with the column filled in. They are walked turn by
+// turn: mostly a removed row and the added row at its place have the same key, and the source is
+// then asked for it once.
 fn filled_sides<S: Look, L: Ledger>(
     alloc: Global,
     source: &S,
-    edge: &Edge,
-    default: &Row,
-    names: &Names,
+    dropped: &Dropped<'_>,
     delta: &Delta,
     looked: &mut Steps<L>,
 ) -> Result<FilledSides, NoMemory>
-    requires some { length (set.items edge.now.left) ≢ 0 }
-    requires asked { Contains (S.asked source.now) edge.now.left }
+    requires some { length (set.items dropped.now.by.now) ≢ 0 }
+    requires asked { Contains (S.asked source.now) dropped.now.by.now }
     requires removed { (row : _) → set.contains delta.now.remove row ≡ true
-        → (c : _) → set.contains edge.now.left c ≡ true → is_some (at row c) ≡ true }
+        → HasColumns dropped.now.by.now row }
     requires added { (row : _) → set.contains delta.now.add row ≡ true
-        → (c : _) → set.contains edge.now.left c ≡ true → is_some (at row c) ≡ true }
-    ensures remove { let M = (S.relation source.now).rows in IfOk result (λ filled.
-        filled.remove ≡ image (filled_in edge.now default.now M) delta.now.remove) }
-    ensures add { let M = (S.relation source.now).rows in IfOk result (λ filled.
-        filled.add ≡ image (filled_in edge.now default.now M) delta.now.add) }
+        → HasColumns dropped.now.by.now row }
+    ensures remove { let k = dropped.now in let M = (S.relation source.now).rows in
+        IfOk result (λ filled. filled.remove
+        ≡ image (filled_in k.col.now k.by.now k.fill.now M) delta.now.remove) }
+    ensures add { let k = dropped.now in let M = (S.relation source.now).rows in
+        IfOk result (λ filled. filled.add
+        ≡ image (filled_in k.col.now k.by.now k.fill.now M) delta.now.add) }
     ensures looks { (n : ℕ) → S.within source.now n
         → looked.new ≤ looked.old + n * rows_of delta.now }
 {
@@ -103,14 +117,13 @@ fn filled_sides<S: Look, L: Ledger>(
     let mut fillings = Fillings {
         last: None,
         earlier: None,
-        names,
     };
     for place in 0..removed.len().max(added.len()) {
         if let Some(row) = removed.get(place) {
-            remove.push(filled_row(alloc, source, edge, default, row, &mut fillings, looked)?)?;
+            remove.push(filled_row(alloc, source, dropped, row, &mut fillings, looked)?)?;
         }
         if let Some(row) = added.get(place) {
-            add.push(filled_row(alloc, source, edge, default, row, &mut fillings, looked)?)?;
+            add.push(filled_row(alloc, source, dropped, row, &mut fillings, looked)?)?;
         }
     }
     let remove = RowSet::new(alloc, remove)?;
@@ -118,50 +131,48 @@ fn filled_sides<S: Look, L: Ledger>(
     Ok(FilledSides { remove, add })
 }
 
-// What fills in the rows that have the key on the edge's left side.
+// The value that fills in this row, and each row that agrees with it on the columns that determine
+// the dropped one.
 #[derive(Debug, Drop)]
 struct Filling {
     key: Row,
-    part: Row,
+    value: Value,
 }
 
 // What filled in the last rows, for up to two keys: where rows are moved from one key to another,
 // the removed rows have the one, and the added rows that come between them the other.
 #[derive(Debug, Drop)]
-struct Fillings<'a> {
+struct Fillings {
     last: Option<Filling>,
     earlier: Option<Filling>,
-    // The names of the source's columns, which the rows that are filled in share.
-    names: &'a Names,
 }
 
-// The row with the edge's right side filled in. What fills it in becomes the last filling.
+// The row with the column filled in. What fills it in becomes the last filling.
 fn filled_row<S: Look, L: Ledger>(
     alloc: Global,
     source: &S,
-    edge: &Edge,
-    default: &Row,
+    dropped: &Dropped<'_>,
     row: &Row,
-    fillings: &mut Fillings<'_>,
+    fillings: &mut Fillings,
     looked: &mut Steps<L>,
 ) -> Result<Row, NoMemory>
-    requires some { length (set.items edge.now.left) ≢ 0 }
-    requires asked { Contains (S.asked source.now) edge.now.left }
-    requires have { (c : _) → set.contains edge.now.left c ≡ true → is_some (at row.now c) ≡ true }
-    requires fillings { let M = (S.relation source.now).rows in
-        BothFill edge.now default.now M fillings.old }
-    ensures row { let M = (S.relation source.now).rows in
-        IfOk result (λ filled. filled ≡ filled_in edge.now default.now M row.now) }
-    ensures fillings { let M = (S.relation source.now).rows in
-        BothFill edge.now default.now M fillings.new }
+    requires some { length (set.items dropped.now.by.now) ≢ 0 }
+    requires asked { Contains (S.asked source.now) dropped.now.by.now }
+    requires have { HasColumns dropped.now.by.now row.now }
+    requires fillings { let k = dropped.now in let M = (S.relation source.now).rows in
+        BothFill k.col.now k.by.now k.fill.now M fillings.old }
+    ensures row { let k = dropped.now in let M = (S.relation source.now).rows in
+        IfOk result (λ filled. filled ≡ filled_in k.col.now k.by.now k.fill.now M row.now) }
+    ensures fillings { let k = dropped.now in let M = (S.relation source.now).rows in
+        BothFill k.col.now k.by.now k.fill.now M fillings.new }
     ensures looks { (n : ℕ) → S.within source.now n → looked.new ≤ looked.old + n }
 {
     let known = match &fillings.last {
-        Some(last) if row.agree_on(&last.key, &edge.left) => fillings.last.take(),
+        Some(last) if row.agree_on(&last.key, dropped.by) => fillings.last.take(),
         _ => fillings.earlier.take(),
     };
-    let filling = filling_of(alloc, source, edge, default, row, known, looked)?;
-    let filled = row.paste_like(alloc, &filling.part, fillings.names)?;
+    let filling = filling_of(alloc, source, dropped, row, known, looked)?;
+    let filled = with_value(alloc, row, dropped.col, &filling.value, dropped.names)?;
     if let Some(before) = fillings.last.replace(filling) {
         fillings.earlier = Some(before);
     }
@@ -172,41 +183,87 @@ fn filled_row<S: Look, L: Ledger>(
 fn filling_of<S: Look, L: Ledger>(
     alloc: Global,
     source: &S,
-    edge: &Edge,
-    default: &Row,
+    dropped: &Dropped<'_>,
     row: &Row,
     known: Option<Filling>,
     looked: &mut Steps<L>,
 ) -> Result<Filling, NoMemory>
-    requires some { length (set.items edge.now.left) ≢ 0 }
-    requires asked { Contains (S.asked source.now) edge.now.left }
-    requires have { (c : _) → set.contains edge.now.left c ≡ true → is_some (at row.now c) ≡ true }
-    requires known { let M = (S.relation source.now).rows in
-        IfSome known (Fills edge.now default.now M) }
-    ensures fills { let M = (S.relation source.now).rows in
-        IfOk result (Fills edge.now default.now M) }
-    ensures part { let M = (S.relation source.now).rows in
-        IfOk result (λ filling. filling.part ≡ filling_for edge.now default.now M row.now) }
+    requires some { length (set.items dropped.now.by.now) ≢ 0 }
+    requires asked { Contains (S.asked source.now) dropped.now.by.now }
+    requires have { HasColumns dropped.now.by.now row.now }
+    requires known { let k = dropped.now in let M = (S.relation source.now).rows in
+        IfSome known (Fills k.col.now k.by.now k.fill.now M) }
+    ensures fills { let k = dropped.now in let M = (S.relation source.now).rows in
+        IfOk result (Fills k.col.now k.by.now k.fill.now M) }
+    ensures value { let k = dropped.now in let M = (S.relation source.now).rows in
+        IfOk result (λ filling.
+        filling.value ≡ filling_for k.col.now k.by.now k.fill.now M row.now) }
     ensures looks { (n : ℕ) → S.within source.now n → looked.new ≤ looked.old + n }
 {
     if let Some(known) = known {
-        if row.agree_on(&known.key, &edge.left) {
+        if row.agree_on(&known.key, dropped.by) {
             return Ok(known);
         }
     }
-    let key = row.project(alloc, &edge.left)?;
-    let found = source.find(alloc, &edge.left, &key, looked)?;
-    let part = right_part(alloc, edge, default, &found)?;
-    Ok(Filling { key, part })
+    let found = source.find(alloc, dropped.by, row, looked)?;
+    let value = first_value(alloc, dropped, &found)?;
+    let key = row.copy(alloc)?;
+    Ok(Filling { key, value })
 }
 
-// What the first of the rows has on the edge's right side, or the default where there is no row.
-fn right_part(alloc: Global, edge: &Edge, default: &Row, rows: &RowSet) -> Result<Row, NoMemory>
+// The first row's value in the column, or the default if there is no row.
+fn first_value(alloc: Global, dropped: &Dropped<'_>, rows: &RowSet) -> Result<Value, NoMemory>
     ensures { let first = slice_get (set.items rows.now) 0 in
-        IfOk result (λ part. part ≡ right_of edge.now default.now first) }
+        IfOk result (λ value. value ≡ value_of dropped.now.col.now dropped.now.fill.now first) }
 {
     match rows.rows().first() {
-        None => default.copy(alloc),
-        Some(first) => first.project(alloc, &edge.right),
+        Some(first) => match first.value(dropped.col) {
+            Some(value) => value.copy(alloc),
+            None => dropped.fill.copy(alloc),
+        },
+        None => dropped.fill.copy(alloc),
     }
+}
+
+// The row with this value in the column. It shares these names, if they are its names then.
+fn with_value(
+    alloc: Global,
+    row: &Row,
+    col: &Name,
+    value: &Value,
+    like: &Names,
+) -> Result<Row, NoMemory>
+    ensures { IfOk result (λ filled. filled ≡ with_at row.now col.now (Some value.now)) }
+{
+    let values = values_with(alloc, row, col, value, like)?;
+    if values.len() == like.len() && like.has(col) && row.names().within(like) {
+        return Row::from_values(alloc, like.copy(alloc)?, values);
+    }
+    let single = Row::single(alloc, col, value)?;
+    row.paste(alloc, &single)
+}
+
+// The values that the row with this value in the column has under the names, in their order.
+fn values_with(
+    alloc: Global,
+    row: &Row,
+    col: &Name,
+    value: &Value,
+    names: &Names,
+) -> Result<Vec<Value>, NoMemory>
+    ensures { let filled = with_at row.now col.now (Some value.now) in IfOk result (λ found.
+        found.items ≡ filter_map (finmap.get filled) (set.items names.now)) }
+{
+    let mut found = Vec::with_capacity(alloc, names.len())?;
+    for name in names.as_slice() {
+        let own = if name == col {
+            Some(value)
+        } else {
+            row.value(name)
+        };
+        if let Some(own) = own {
+            found.push(own.copy(alloc)?)?;
+        }
+    }
+    Ok(found)
 }

@@ -20,18 +20,17 @@ use Rattle.fd_laws.proofs.Columns.{fits_names}
 use Rattle.fd_laws.proofs.Lists.{absurd_false, all_at, any_from, in_cons, in_head}
 use Rattle.fd_laws.proofs.Names.{union_left, union_right}
 use Rattle.fd_laws.proofs.Relations.{from_minus, from_project, from_union, in_those, same_rel, sets}
-use Rattle.fd_laws.proofs.Rows.{agree-cut, agree_back, agree_itself, agree_on, agree_within, at-cut, cut_column, row_itself, tied_row}
+use Rattle.fd_laws.proofs.Rows.{agree-cut, agree_back, agree_itself, agree_on, agree_within, row_itself, tied_row}
 use Rattle.fd_laws.proofs.Trees.{each_edge}
 use Rattle.lens_laws.specs.Checks.{edit_clash, near}
 use Rattle.lens_laws.specs.KeyedDeltas.{find_by, found_each}
 use Rattle.lens_laws.specs.Passes.{IsSound}
 use Rattle.lens_laws.proofs.Deltas.{from_found_each, from_new_view}
 use Rattle.lens_laws.proofs.EditChecks.{edit_checks_are}
-use Rattle.lens_laws.proofs.NodeFinds.{find_cut}
 use Rattle.lens_laws.proofs.Sorts.{clash_none, meets_none_each}
 use Rattle.fd_tree.specs.ClashView.{shown, shown_clash}
 use Rattle.fd_tree.specs.declared.clash.Clash.{Clash}
-use Rattle.signed_delta.specs.Keys.{IsKey}
+use Rattle.edit_check.specs.Replaced.{Alike, AreReplaced}
 
 -- what holds of each edge holds of the one at a place
 edge_at : (P : Edge → Type 0) (T : List Edge) (i : ℕ) (e : Edge) → AllEdges P T → i < length T → e ≡ get_or T i e → P e
@@ -71,16 +70,6 @@ found_pair e M found is = pair_shown e (first_pair e (set.items M)) found is
 pub found_none : (e : Edge) (M : Rows) → None ≡ shown_clash (clash (e ∷ []) M) → None ≡ first_pair e (set.items M)
 unfolding clash
 found_none e M is = no_pair e (first_pair e (set.items M)) is
-
--- a row's part in columns that it has is a key of them
-pub key_of : (C D : Names) (r part : Row) → C ≡ D → ((c : Name) → set.contains D c ≡ true → is_some (at r c) ≡ true) → part ≡ restrict C r → IsKey C part
-unfolding cut
-key_of C D r part same have is c = ap (λ k. is_some (at k c)) is ∙ ap is_some (at-cut C r c) ∙ cut_column C c (at r c) (λ i. have c (ap (λ X. set.contains X c) (sym same) ∙ i))
-
--- what it finds is what the row finds
-pub found_by_key : (C D : Names) (V M : Rows) (r part : Row) → C ≡ D → M ≡ find_by C part V → part ≡ restrict C r → M ≡ find_by D r V
-unfolding cut
-found_by_key C D V M r part same found is = found ∙ ap (λ k. find_by C k V) is ∙ find_cut C r V ∙ ap (λ X. find_by X r V) same
 
 -- what is found by each of the added rows
 pub found_by_each : (C D : Names) (V M A B : Rows) → C ≡ D → A ≡ B → M ≡ found_each C V (set.items A) → M ≡ found_each D V (set.items B)
@@ -139,15 +128,7 @@ module _ (e : Edge) (V : Rows) (d : Delta) (a : Row) (only : set.items d.add ≡
     pub no_pair_near : None ≡ first_pair e (set.items (near e V d))
     no_pair_near = sym (meets_none_each (near e V d) e near_meets)
 
--- the rows are alike on both sides of the edge
-abbrev Alike : Edge → Row → Row → Type 0
-Alike e r q = (agree e.left r q ≡ true) × (agree e.right r q ≡ true)
-
--- each added row is alike to a removed one
-abbrev pub AreReplaced : Edge → Delta → Type 0
-AreReplaced e d = (r : Row) → has d.add r ≡ true → (q : Row) × (has d.remove q ≡ true) × Alike e r q
-
--- then each row near them is alike to one that was there, and none of them clash
+-- where each added row is replaced, each row near them is alike to one that was there, and none of them clash
 module _ (e : Edge) (V : Rows) (d : Delta) (meets : Meets V e.left e.right) (removed : (r : Row) → has d.remove r ≡ true → has V r ≡ true) (replaced : AreReplaced e d) where
   was_there : (r : Row) → has (near e V d) r ≡ true → (q : Row) × (has V q ≡ true) × Alike e r q
   unfolding near

@@ -15,6 +15,7 @@ ghost use Rattle.lens_specs.specs.Sort.{IsOfSort, first_pair, off};
 ghost use Rattle.lens_laws.specs.Checks.{edit_clash, near};
 ghost use Rattle.fd_tree.specs.ClashView.{shown_clash};
 ghost use Rattle.edit_check.specs.Checked.{IsChecked};
+ghost use Rattle.edit_check.specs.Replaced.{AreReplaced};
 
 use crate::edit_fault::EditFault;
 use fd_tree::{Clash, Edge, Tree, first_clash};
@@ -125,9 +126,25 @@ fn pair_of_edit<K: Look, L: Ledger>(
     ensures looks { (n : ℕ) → K.within view.now n
         → looked.new ≤ looked.old + n * length (set.items delta.now.add) }
 {
+    if all_replaced(alloc, edge, delta)? {
+        return Ok(None);
+    }
+    let found = find_each(alloc, &edge.left, delta.add(), view, looked)?;
     match only_row(delta.add()) {
-        Some(row) => pair_with(alloc, edge, view, delta, row, looked),
-        None => pair_among(alloc, edge, view, delta, looked),
+        // Mostly they agree, and no set is built.
+        Some(row) if kept_agree(edge, row, &found, delta.remove()) => Ok(None),
+        _ => pair_near(alloc, edge, delta, &found),
+    }
+}
+
+// Whether each added row agrees with a removed one on both sides of the edge. With those the rows
+// met the edge, so that the added ones bring no clash.
+fn all_replaced(alloc: Global, edge: &Edge, delta: &Delta) -> Result<bool, NoMemory>
+    ensures { IfOk result (λ all. all ≡ true → AreReplaced edge.now delta.now) }
+{
+    match only_row(delta.add()) {
+        Some(row) => Ok(replaces_alike(edge, row, delta.remove())),
+        None => all_replace_alike(alloc, edge, delta),
     }
 }
 
@@ -141,42 +158,7 @@ fn only_row(rows: &RowSet) -> Option<&Row>
     }
 }
 
-// The same where this row alone is added. Where it takes the place of a row with the same sides,
-// nothing is asked; and mostly the kept rows agree with it, and no set is built.
-fn pair_with<K: Look, L: Ledger>(
-    alloc: Global,
-    edge: &Edge,
-    view: &K,
-    delta: &Delta,
-    row: &Row,
-    looked: &mut Steps<L>,
-) -> Result<Option<(Row, Row)>, NoMemory>
-    requires some { length (set.items edge.now.left) ≢ 0 }
-    requires asked { Contains (K.asked view.now) edge.now.left }
-    requires only { set.items delta.now.add ≡ row.now ∷ [] }
-    requires have { (c : _) → set.contains edge.now.left c ≡ true
-        → is_some (at row.now c) ≡ true }
-    requires removed { (row : _) → set.contains delta.now.remove row ≡ true
-        → has (K.relation view.now).rows row ≡ true }
-    requires meets { Meets (K.relation view.now).rows edge.now.left edge.now.right }
-    ensures pair { IfOk result (λ pair.
-        pair
-        ≡ first_pair edge.now (set.items (near edge.now (K.relation view.now).rows delta.now))) }
-    ensures looks { (n : ℕ) → K.within view.now n → looked.new ≤ looked.old + n }
-{
-    if replaces_alike(edge, row, delta.remove()) {
-        return Ok(None);
-    }
-    let key = row.project(alloc, &edge.left)?;
-    let found = view.find(alloc, &edge.left, &key, looked)?;
-    if kept_agree(edge, row, &found, delta.remove()) {
-        return Ok(None);
-    }
-    pair_near(alloc, edge, delta, &found)
-}
-
-// Whether one of the removed rows agrees with the row on both sides of the edge. With that one the
-// rows met the edge, so that the row brings no clash.
+// Whether one of the removed rows agrees with the row on both sides of the edge.
 fn replaces_alike(edge: &Edge, row: &Row, removed: &RowSet) -> bool
     ensures { result
         ≡ list_any (λ other.
@@ -196,36 +178,7 @@ fn kept_agree(edge: &Edge, row: &Row, found: &RowSet, removed: &RowSet) -> bool
     found.rows().iter().all(|other| row.agree_on(other, &edge.right) || removed.has(other))
 }
 
-// The same for any added rows. Where each takes the place of a row with the same sides, nothing is
-// asked.
-fn pair_among<K: Look, L: Ledger>(
-    alloc: Global,
-    edge: &Edge,
-    view: &K,
-    delta: &Delta,
-    looked: &mut Steps<L>,
-) -> Result<Option<(Row, Row)>, NoMemory>
-    requires some { length (set.items edge.now.left) ≢ 0 }
-    requires asked { Contains (K.asked view.now) edge.now.left }
-    requires have { (row : _) → set.contains delta.now.add row ≡ true
-        → (c : _) → set.contains edge.now.left c ≡ true → is_some (at row c) ≡ true }
-    requires removed { (row : _) → set.contains delta.now.remove row ≡ true
-        → has (K.relation view.now).rows row ≡ true }
-    requires meets { Meets (K.relation view.now).rows edge.now.left edge.now.right }
-    ensures pair { IfOk result (λ pair.
-        pair
-        ≡ first_pair edge.now (set.items (near edge.now (K.relation view.now).rows delta.now))) }
-    ensures looks { (n : ℕ) → K.within view.now n
-        → looked.new ≤ looked.old + n * length (set.items delta.now.add) }
-{
-    if all_replace_alike(alloc, edge, delta)? {
-        return Ok(None);
-    }
-    let found = find_each(alloc, &edge.left, delta.add(), view, looked)?;
-    pair_near(alloc, edge, delta, &found)
-}
-
-// Whether each added row agrees with a removed one on both sides of the edge.
+// The same of any added rows.
 fn all_replace_alike(alloc: Global, edge: &Edge, delta: &Delta) -> Result<bool, NoMemory>
     ensures { let C = set.union edge.now.left edge.now.right in
         IfOk result (λ all. all

@@ -18,7 +18,7 @@ use Rattle.fd_laws.proofs.Names.{name_itself, one_is, one_itself, tied_name}
 use Rattle.fd_laws.proofs.Relations.{from_those}
 use Rattle.fd_laws.proofs.Rows.{agree_at, agree_from, same_value-is, same_value-refl}
 use Rattle.lens_laws.specs.KeyedDeltas.{find_by}
-use Rattle.signed_delta.specs.Keys.{IsKey}
+use Rattle.signed_delta.specs.Keys.{HasColumns}
 use Rattle.find_rows.specs.Found.{rows_with}
 
 module _ (c : Name) (v : Value) (key : Row) (is : key ≡ finmap.from_entries ((c, v) ∷ [])) where
@@ -28,13 +28,9 @@ module _ (c : Name) (v : Value) (key : Row) (is : key ≡ finmap.from_entries ((
   own : at key c ≡ Some v
   own = at_key c ∙ ap (λ b. cond b (Some v) None) (name_itself c)
 
-  -- it has a value in the column, and in no other
-  pub key_is : IsKey (one c) key
-  key_is d = elim (cases_Bool (eq_by_cmp bytes_cmp d c)) [
-    | inl t ↦ ap is_some (at_key d ∙ ap (λ b. cond b (Some v) None) t) ∙ sym (ap (set.contains (one c)) (tied_name d c t) ∙ one_itself c)
-    | inr o ↦ ap is_some (at_key d ∙ ap (λ b. cond b (Some v) None) o)
-        ∙ sym (false_from _ (λ i. absurd_false _ (ap (λ e. eq_by_cmp bytes_cmp e c) (one_is c d i) ∙ name_itself c) o))
-  ]
+  -- it has a value in the column
+  pub key_has : HasColumns (one c) key
+  key_has d i = ap (λ e. is_some (at key e)) (one_is c d i) ∙ ap is_some own
 
   agrees : (r : Row) → agree (one c) key r ≡ same_value (Some v) (at r c)
   agrees r = both_ways _ _

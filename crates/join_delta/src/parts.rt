@@ -123,8 +123,7 @@ fn is_shown<A: Look, L: Ledger>(
         ≡ spec.is_shown shared.now R removed.now part.now) }
     ensures looks { (n : ℕ) → A.within left.now n → looked.new ≤ looked.old + n }
 {
-    let key = part.project(alloc, shared)?;
-    let near = left.find(alloc, shared, &key, looked)?;
+    let near = left.find(alloc, shared, part, looked)?;
     one_stays(alloc, near.rows(), part, removed)
 }
 

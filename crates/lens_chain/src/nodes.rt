@@ -29,19 +29,19 @@ pub fn under_select<L: Ledger>(
     alloc: Global,
     pred: &Pred,
     source: &View<'_>,
-    delta: &Delta,
+    delta: Delta,
     looked: &mut Steps<L>,
 ) -> Result<Delta, NoMemory>
     requires typed { IsTyped (spec.select pred.now source.now.lens) }
-    requires edit { IsEdit (spec.select pred.now source.now.lens) (over source.now) delta.now }
+    requires edit { IsEdit (spec.select pred.now source.now.lens) (over source.now) delta }
     ensures change { let C = source.now.lens in let M = get C (over source.now) in
         IfOk result (λ change. change
-        ≡ keyed.select_delta (sort_of C).tree (holds pred.now) M delta.now) }
+        ≡ keyed.select_delta (sort_of C).tree (holds pred.now) M delta) }
     ensures edit { IfOk result (λ change. IsEdit source.now.lens (over source.now) change) }
     ensures looks { (w : ℕ) → FindsAtMost source.now w → looked.new
-        ≤ looked.old + node_work (rows_of delta.now) (size source.now.lens w) }
+        ≤ looked.old + node_work (rows_of delta) (size source.now.lens w) }
     ensures few { IfOk result (λ change. (w : ℕ) → FindsAtMost source.now w
-        → rows_of change ≤ rows_down (rows_of delta.now) (size source.now.lens w)) }
+        → rows_of change ≤ rows_down (rows_of delta) (size source.now.lens w)) }
 {
     let tree = source.lens().sort().tree();
     select_delta(alloc, source, tree, pred, delta, looked)

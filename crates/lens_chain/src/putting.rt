@@ -56,7 +56,7 @@ fn carry_down<L: Ledger>(
         Node::Base { table, .. } => changes.add(*table, delta),
         Node::Select { pred, of } => {
             let source = view.over(of);
-            let change = under_select(alloc, pred, &source, &delta, looked)?;
+            let change = under_select(alloc, pred, &source, delta, looked)?;
             carry_down(alloc, &source, change, changes, looked)
         }
         Node::Drop { col, by, fill, of } => {

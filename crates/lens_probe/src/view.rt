@@ -191,10 +191,11 @@ impl<'a> Look for View<'a> {
         key: &Row,
         looked: &mut Steps<L>,
     ) -> Result<RowSet, NoMemory> {
+        let part = key.project(alloc, cols)?;
         let query = Query {
             tables: self.tables,
             cols,
-            key,
+            key: &part,
         };
         find_in(alloc, self.lens, &query, looked)
     }

@@ -127,6 +127,5 @@ fn found<L: Ledger>(
     requires asked { Contains (asked_by view.now) cols.now }
     requires have { (c : _) → set.contains cols.now c ≡ true → is_some (at row.now c) ≡ true }
 {
-    let key = row.project(alloc, cols)?;
-    view.find(alloc, cols, &key, looked)
+    view.find(alloc, cols, row, looked)
 }

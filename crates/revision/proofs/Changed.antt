@@ -78,6 +78,9 @@ afters_are T M L changes is =
     revised (m ∷ ms) = ap (λ l. revise_row T m L ∷ l) (revised ms)
 
 -- what is touched is the changed rows
-pub touched_list : (T : List Edge) (M L : Rows) → all_touched T M L ≡ map (becomes T L) (set.items (touched T M L))
+pub touched_is : (T : List Edge) (M L : Rows) → those (is_changed T L) M ≡ touched T M L
 unfolding touched
-touched_list T M L = ap (λ N. map (becomes T L) (set.items N)) (sym (changed_among T M L (found T M L) (found_enough T M L (found T M L) refl)))
+touched_is T M L = sym (changed_among T M L (found T M L) (found_enough T M L (found T M L) refl))
+
+pub touched_list : (T : List Edge) (M L : Rows) → all_touched T M L ≡ map (becomes T L) (set.items (touched T M L))
+touched_list T M L = ap (λ N. map (becomes T L) (set.items N)) (touched_is T M L)

@@ -1,28 +1,25 @@
 -- The rows near new ones are enough: revision changes none of the others.
 use Rattle.std.proofs.Common.{◌≡◌, ◌≢◌, ℕ, ◌+◌, ◌*◌, ◌<◌, length, get_or, drop, List, [], ◌∷◌, ◌++◌, refl, sym, ap, ◌∙◌, Bool, true, false, cond, inl, inr}
-use Rattle.std.specs.Prelude.{flat_map, is_some}
+use Rattle.std.specs.Prelude.{flat_map}
 use Rattle.std.specs.List.{list_any}
 use Rattle.std.specs.Ordering.{eq_by_cmp}
 use Rattle.std.proofs.Math.Nat.{mul_right_comm}
 use Rattle.std.proofs.lemmas.Bool.{and_parts, cases_Bool, not-true, true≢false}
 use Rattle.std.proofs.lemmas.List.{drop_more}
-use Rattle.lens_values.specs.Part.{restrict}
 use Rattle.lens_values.specs.Row.{row_cmp}
 use Rattle.lens_values.specs.SortedSet as set
 use Rattle.lens_values.specs.declared.row.Row.{Row}
 use Rattle.lens_specs.specs.Dependencies.{Edge, Meets, MeetsTree}
-use Rattle.lens_specs.specs.Names.{Name, Names}
 use Rattle.lens_specs.specs.Relation.{Rows, has, minus, those}
 use Rattle.lens_specs.specs.Revision.{along, revise_row}
-use Rattle.lens_specs.specs.Rows.{agree, at, cut}
+use Rattle.lens_specs.specs.Rows.{agree}
 use Rattle.lens_laws.specs.KeyedDeltas.{find_by, is_changed}
 use Rattle.fd_laws.specs.Trees.{Among}
 use Rattle.fd_laws.proofs.Lists.{absurd_false, false_from, from_append, from_flat_map, in_append_left, in_append_right, in_flat_map, any_from}
 use Rattle.fd_laws.proofs.Relations.{from_minus, from_those, in_minus, in_those, same_rel}
-use Rattle.fd_laws.proofs.Rows.{agree_alike, agree_back, agree_itself, agree_on, agree-cut, at-cut, cut_column, paste_same, row_itself, row_total, tied_row}
+use Rattle.fd_laws.proofs.Rows.{agree_back, agree_itself, agree_on, paste_same, row_itself, row_total, tied_row}
 use Rattle.fd_laws.proofs.Trees.{along_cases}
 use Rattle.row_sets.specs.Members.{is_in}
-use Rattle.signed_delta.specs.Keys.{IsKey}
 use Rattle.revision.specs.Near.{HasChanged, is_like, near_along, near_from}
 
 -- ---- the rows near one new row, edge by edge
@@ -37,16 +34,6 @@ near_more T i e M p rows below here = ap (λ es. near_from es M p rows) (ap (λ 
 pub near_done : (T : List Edge) (M : Rows) (p : Row) (rows : List Row) → T ≡ [] → rows ≡ near_from T M p rows
 unfolding near_from
 near_done T M p rows none = sym (ap (λ es. near_from es M p rows) none)
-
--- the part of a row that has these columns is a key
-pub part_is_key : (C : Names) (r part : Row) → ((c : Name) → set.contains C c ≡ true → is_some (at r c) ≡ true) → part ≡ restrict C r → IsKey C part
-unfolding cut
-part_is_key C r part have is c = ap (λ q. is_some (at q c)) is ∙ ap is_some (at-cut C r c) ∙ cut_column C c (at r c) (have c)
-
--- a row and its part find the same rows
-pub found_by_part : (C : Names) (r part : Row) (M : Rows) → part ≡ restrict C r → find_by C part M ≡ find_by C r M
-unfolding cut
-found_by_part C r part M is = λ i. those (λ m. (ap (λ k. agree C k m) is ∙ agree_alike C (cut C r) r m (agree-cut C r)) i) M
 
 -- with a row like p at the edge, or with those found
 pub as_they_were : (e : Edge) (M : Rows) (p : Row) (rows : List Row) (b : Bool) → b ≡ list_any (is_like e p) rows → b ≡ true → rows ≡ near_along e M p rows

@@ -10,6 +10,7 @@ pub mod steps;
 pub mod touching;
 mod unlike;
 
+pub use nearing::near_rows;
 pub use revising::{merge, revise, revise_row};
 pub use steps::{all_along, one_along};
 pub use touching::{

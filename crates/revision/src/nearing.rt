@@ -142,8 +142,7 @@ fn with_near<K: Look, L: Ledger>(
     if has_like(edge, row, &rows) {
         return Ok(rows);
     }
-    let key = row.project(alloc, &edge.left)?;
-    let found = look.find(alloc, &edge.left, &key, looked)?;
+    let found = look.find(alloc, &edge.left, row, looked)?;
     let mut near = rows;
     append(&mut near, alloc, found.rows())?;
     Ok(near)

@@ -17,14 +17,24 @@ use lens_values::{NoMemory, Row, copied};
 use row_sets::{Relation, RowSet};
 use std::alloc::Global;
 
+// So few rows are revised one by one, without a map of the revising rows for each edge.
+const FEW: usize = 8;
+
 /// The row revised along each edge in turn: where a revising row agrees with it on the left side,
 /// it takes the right side of the first such row. No column outside the outputs changes.
 pub fn revise_row(alloc: Global, tree: &Tree, row: &Row, by: &RowSet) -> Result<Row, NoMemory>
     ensures value { IfOk result (λ revised. revised ≡ spec.revise_row tree.now row.now by.now) }
     ensures keeps { IfOk result (λ revised. SameOutside (outputs tree.now) revised row.now) }
 {
+    one_revised(alloc, tree.edges(), row, by)
+}
+
+// The same along any edges.
+fn one_revised(alloc: Global, edges: &[Edge], row: &Row, by: &RowSet) -> Result<Row, NoMemory>
+    ensures { IfOk result (λ revised. revised ≡ spec.revise_row edges.now row.now by.now) }
+{
     let mut revised = row.copy(alloc)?;
-    for edge in tree.edges() {
+    for edge in edges {
         revised = one_along(alloc, edge, &revised, by)?;
     }
     Ok(revised)
@@ -32,6 +42,40 @@ pub fn revise_row(alloc: Global, tree: &Tree, row: &Row, by: &RowSet) -> Result<
 
 /// Each of the rows revised along each edge in turn, in their order.
 pub fn revised_rows(
+    alloc: Global,
+    edges: &[Edge],
+    rows: &[Row],
+    by: &RowSet,
+) -> Result<Vec<Row>, NoMemory>
+    ensures { IfOk result (λ revised. revised.items ≡ map (λ m.
+        spec.revise_row edges.now m by.now) rows.now) }
+{
+    if rows.len() <= FEW {
+        each_revised(alloc, edges, rows, by)
+    } else {
+        all_revised(alloc, edges, rows, by)
+    }
+}
+
+// The same, row by row.
+fn each_revised(
+    alloc: Global,
+    edges: &[Edge],
+    rows: &[Row],
+    by: &RowSet,
+) -> Result<Vec<Row>, NoMemory>
+    ensures { IfOk result (λ revised. revised.items ≡ map (λ m.
+        spec.revise_row edges.now m by.now) rows.now) }
+{
+    let mut revised = Vec::with_capacity(alloc, rows.len())?;
+    for row in rows {
+        revised.push(one_revised(alloc, edges, row, by)?)?;
+    }
+    Ok(revised)
+}
+
+// The same, edge by edge.
+fn all_revised(
     alloc: Global,
     edges: &[Edge],
     rows: &[Row],

@@ -1,6 +1,9 @@
 -- An edit of a selection, carried down.
-use Rattle.std.proofs.Common.{◌≡◌, List, [], ◌∷◌, map, refl, sym, ap, ◌∙◌, true}
-use Rattle.std.specs.Prelude.{filter, not}
+use Rattle.std.proofs.Common.{◌≡◌, List, [], ◌∷◌, arith, length, map, sym, ap, ◌∙◌, true, refl}
+use Rattle.std.specs.Prelude.{Bool, not}
+use Rattle.std.proofs.lemmas.Bool.{true≢false}
+use Rattle.std.proofs.lemmas.List.{length-map}
+use Rattle.lens_values.specs.Row.{row_cmp}
 use Rattle.lens_values.specs.SortedSet as set
 use Rattle.lens_values.specs.declared.row.Row.{Row}
 use Rattle.lens_specs.specs.Columns.{Columns, Fits}
@@ -9,16 +12,19 @@ use Rattle.lens_specs.specs.Dependencies.{Edge, MeetsTree}
 use Rattle.lens_specs.specs.Nodes.{select_get}
 use Rattle.lens_specs.specs.Predicate.{Predicate, holds}
 use Rattle.lens_specs.specs.Relation.{Rows, has, those, union}
-use Rattle.lens_specs.specs.Revision.{revise}
-use Rattle.lens_laws.specs.KeyedDeltas.{select_delta, select_touched, touched}
+use Rattle.lens_specs.specs.Revision.{revise, revise_row}
+use Rattle.lens_laws.specs.KeyedDeltas.{is_changed, select_delta, select_touched}
 use Rattle.fd_laws.specs.Trees.{IsTree}
+use Rattle.fd_laws.proofs.Relations.{from_image, from_those, in_those, same_rel, sets}
+use Rattle.fd_laws.proofs.Rows.{row_exact, row_total}
 use Rattle.lens_laws.proofs.Deltas.{in_new_view_added}
 use Rattle.lens_laws.proofs.SelectDelta.{select_delta_is}
 use Rattle.signed_delta.specs.Disjoint.{AreApart}
 use Rattle.signed_delta.proofs.Differences.{sides_apart}
+use Rattle.revision.specs.Near.{HasChanged}
 use Rattle.revision.specs.Touching.{all_touched, becomes}
 use Rattle.revision.specs.declared.touching.Touched.{Touched}
-use Rattle.revision.proofs.Changed.{afters_are, befores_are, either_way, items_those, touched_list}
+use Rattle.revision.proofs.Changed.{afters_are, befores_are, touched_is}
 use Rattle.select_delta.specs.Selected.{AreSelected, edited, edited_source}
 
 -- the sides of a difference have no row in common
@@ -27,41 +33,82 @@ unfolding diff
 apart M N remove add is r i =
     ap (λ d. has d.add r) is ∙ sides_apart M N r (ap (λ d. has d.remove r) (sym is) ∙ i)
 
--- ---- the rows that the predicate refused before
+-- ---- no rows
 
-hidden_list : (F : List Edge) (L : Rows) (P : Predicate) (ms : List Row)
-    → filter (λ t. not (holds P t.before)) (map (becomes F L) ms) ≡ map (becomes F L) (filter (λ m. not (holds P m)) ms)
-hidden_list F L P [] = refl
-hidden_list F L P (m ∷ ms) = either_way (becomes F L) (not (holds P m)) m _ (filter (λ m. not (holds P m)) ms) (hidden_list F L P ms)
+union_none : (M : Rows) → union M set.empty ≡ M
+union_none M = same_rel _ _ (λ r i. let none = set.contains-empty row_cmp r in grind (arith, sets)) (λ r i. grind (arith, sets))
 
-pub hidden_are : (F : List Edge) (M L : Rows) (P : Predicate) (changes hidden : List Touched) → changes ≡ all_touched F M L
-    → hidden ≡ filter (λ t. not (holds P t.before)) changes → hidden ≡ map (becomes F L) (set.items (select_touched F (holds P) M L))
-unfolding select_touched
-hidden_are F M L P changes hidden all is =
-    is ∙ ap (filter (λ t. not (holds P t.before))) (all ∙ touched_list F M L)
-    ∙ hidden_list F L P (set.items (touched F M L))
-    ∙ ap (map (becomes F L)) (sym (items_those (λ m. not (holds P m)) (touched F M L)))
+none_revised : (F : List Edge) (L : Rows) (p : Row → Bool) → those p (revise F set.empty L) ≡ set.empty
+unfolding revise
+none_revised F L p = same_rel _ _
+    (λ r i.
+    let w = from_those p (revise F set.empty L) r i in
+    let v = from_image (λ m. revise_row F m L) set.empty r w.0 in
+    absurd (true≢false (sym v.1 ∙ set.contains-empty row_cmp v.0)))
+    (λ r i. absurd (true≢false (sym i ∙ set.contains-empty row_cmp r)))
+
+no_member : (M : Rows) → length (set.items M) ≡ 0 → M ≡ set.empty
+no_member M none = sym (set.from_list-items row_total row_exact M) ∙ ap set.from_list (no_row (set.items M) none)
+  where
+    no_row : (rows : List Row) → length rows ≡ 0 → rows ≡ []
+    no_row [] none = refl
+    no_row (r ∷ rs) none = absurd (omega arith)
+
+-- ---- the rows that the predicate refuses
+
+module _ (F : List Edge) (M L : Rows) (P : Predicate) where
+  abbrev refused : Rows → Rows
+  refused = those (λ r. not (holds P r))
+
+  -- the hidden rows near the new ones have each that changes
+  pub hidden_enough : (near hidden : Rows) → HasChanged F M L near → hidden ≡ refused near → HasChanged F (refused M) L hidden
+  hidden_enough near hidden enough is = record {
+    within = λ m i. let w = from_those _ near m (ap (λ N. has N m) (sym is) ∙ i) in in_those _ M m (enough.within m w.0) w.1;
+    changed = λ m i t. let w = from_those _ M m i in ap (λ N. has N m) is ∙ in_those _ near m (enough.changed m w.0 t) w.1;
+    present = λ some m new i. let w = from_those _ M m i in ap (λ N. has N m) is ∙ in_those _ near m (enough.present some m new w.0) w.1;
+  }
+
+  -- of these, those that change
+  pub touched_hidden : those (is_changed F L) (refused M) ≡ select_touched F (holds P) M L
+  unfolding select_touched
+  touched_hidden =
+      same_rel _ _
+      (λ m i. let w = from_those _ (refused M) m i in let v = from_those _ M m w.0 in in_those _ (those (is_changed F L) M) m (in_those _ M m v.0 w.1) v.1)
+      (λ m i. let w = from_those _ (those (is_changed F L) M) m i in let v = from_those _ M m w.0 in in_those _ (refused M) m (in_those _ M m v.0 w.1) v.1)
+      ∙ ap refused (touched_is F M L)
 
 -- what is edited, and the hidden rows that the added rows revise
-module _ (F : List Edge) (M : Rows) (P : Predicate) (d : Delta) (changes hidden : List Touched) (gone afters new remove add : Rows)
-    (all : changes ≡ all_touched F M d.add) (is : hidden ≡ filter (λ t. not (holds P t.before)) changes)
-    (left : gone ≡ set.from_list (map (λ t. t.before) hidden)) (came : afters ≡ set.from_list (map (λ t. t.after) hidden))
-    (refused : new ≡ those (λ r. not (holds P r)) afters) (removes : remove ≡ union d.remove gone) (adds : add ≡ union d.add new) where
+module _ (F : List Edge) (M : Rows) (P : Predicate) (d : Delta) (near hidden : Rows) (changes : List Touched) (enough : HasChanged F M d.add near)
+    (is : hidden ≡ those (λ r. not (holds P r)) near) (all : (N : Rows) → HasChanged F N d.add hidden → changes ≡ all_touched F N d.add) where
   abbrev T : Rows
   T = select_touched F (holds P) M d.add
 
-  listed : hidden ≡ map (becomes F d.add) (set.items T)
-  listed = hidden_are F M d.add P changes hidden all is
+  listed : changes ≡ map (becomes F d.add) (set.items T)
+  listed = all _ (hidden_enough F M d.add P near hidden enough is) ∙ ap (λ N. map (becomes F d.add) (set.items N)) (touched_hidden F M d.add P)
 
-  removed : remove ≡ union d.remove T
-  removed = removes ∙ ap (union d.remove) (left ∙ befores_are F T d.add hidden listed)
+  -- with rows that change
+  module _ (gone afters new remove add : Rows) (left : gone ≡ set.from_list (map (λ t. t.before) changes)) (came : afters ≡ set.from_list (map (λ t. t.after) changes))
+      (refuses : new ≡ those (λ r. not (holds P r)) afters) (removes : remove ≡ union d.remove gone) (adds : add ≡ union d.add new) where
+    removed : remove ≡ union d.remove T
+    removed = removes ∙ ap (union d.remove) (left ∙ befores_are F T d.add changes listed)
 
-  added : add ≡ union d.add (those (λ r. not (holds P r)) (revise F T d.add))
-  added = adds ∙ ap (union d.add) (refused ∙ ap (those (λ r. not (holds P r))) (came ∙ afters_are F T d.add hidden listed))
+    added : add ≡ union d.add (those (λ r. not (holds P r)) (revise F T d.add))
+    added = adds ∙ ap (union d.add) (refuses ∙ ap (those (λ r. not (holds P r))) (came ∙ afters_are F T d.add changes listed))
 
-  pub carried : ◌≡◌ {A = Delta} (record { remove = remove; add = add }) (select_delta F (holds P) M d)
+    pub carried : ◌≡◌ {A = Delta} (record { remove = remove; add = add }) (select_delta F (holds P) M d)
+    unfolding select_delta
+    carried = λ i. record { remove = removed i; add = added i }
+
+  -- with none
+  pub carried_alone : length changes ≡ 0 → d ≡ select_delta F (holds P) M d
   unfolding select_delta
-  carried = λ i. record { remove = removed i; add = added i }
+  carried_alone none =
+      let many : length (set.items T) ≡ 0 = sym (length-map (set.items T) (becomes F d.add)) ∙ sym (ap length listed) ∙ none in
+      let no_rows : T ≡ set.empty = no_member T many in
+      λ i. record {
+        remove = (sym (ap (union d.remove) no_rows ∙ union_none d.remove)) i;
+        add = (sym (ap (λ N. union d.add (those (λ r. not (holds P r)) (revise F N d.add))) no_rows ∙ ap (union d.add) (none_revised F d.add (λ r. not (holds P r))) ∙ union_none d.add)) i;
+      }
 
 -- ---- the law, for an edit that leads to rows of the selection
 

@@ -1,5 +1,5 @@
 //! The edit of a selection, taken to its source.
-ghost use Rattle.std.specs.Prelude.{◌≡◌, ◌≤◌, ◌+◌, ℕ, Contains, IfOk, filter, length, not};
+ghost use Rattle.std.specs.Prelude.{◌≡◌, ◌≤◌, ◌+◌, ℕ, Contains, IfOk, length, not};
 ghost use Rattle.lens_specs.specs.Columns.{names};
 ghost use Rattle.lens_specs.specs.Delta.{Applies, diff};
 ghost use Rattle.lens_specs.specs.Dependencies.{AllEdges, MeetsTree};
@@ -13,7 +13,7 @@ ghost use Rattle.select_delta.specs.Selected.{AreSelected, edited, edited_source
 use fd_tree::Tree;
 use lens_pred::Pred;
 use lens_values::NoMemory;
-use revision::{Touched, afters, befores, revise_touched};
+use revision::{afters, befores, near_rows, touched_among};
 use row_sets::RowSet;
 use signed_delta::{Delta, Look};
 use std::alloc::Global;
@@ -24,14 +24,14 @@ use step_counter::Steps;
 /// incremental `select` of Horn, Perera and Cheney (Incremental Relational Lenses, ICFP 2018).
 ///
 /// The source takes the edit as it is. The added rows also revise the rows that the predicate hides
-/// from the view: each that changes is removed, and what it becomes is added where the predicate
+/// from the view: each that changes is removed, and what it becomes is added if the predicate
 /// still hides it. One that would enter the view is only removed, since nobody added it there.
 pub fn select_delta<S: Look, L: Ledger>(
     alloc: Global,
     source: &S,
     tree: &Tree,
     pred: &Pred,
-    delta: &Delta,
+    delta: Delta,
     looked: &mut Steps<L>,
 ) -> Result<Delta, NoMemory>
     requires asked { AllEdges (λ e. Contains (S.asked source.now) e.left) tree.now }
@@ -39,52 +39,37 @@ pub fn select_delta<S: Look, L: Ledger>(
         AllEdges (λ e. Within e.left U) tree.now }
     requires meets { MeetsTree (S.relation source.now).rows tree.now }
     requires applies { let M = (S.relation source.now).rows in
-        Applies delta.now (select_get (holds pred.now) M) }
+        Applies delta (select_get (holds pred.now) M) }
     requires view { let R = S.relation source.now in
-        AreSelected R.columns tree.now pred.now (edited pred.now R.rows delta.now) }
+        AreSelected R.columns tree.now pred.now (edited pred.now R.rows delta) }
     ensures delta { let M = (S.relation source.now).rows in
-        IfOk result (λ change. change ≡ diff M (edited_source tree.now pred.now M delta.now)) }
+        IfOk result (λ change. change ≡ diff M (edited_source tree.now pred.now M delta)) }
     ensures looks { (n : ℕ) → S.within source.now n → length tree.now ≤ 64
-        → looked.new ≤ looked.old + node_work (rows_of delta.now) n }
+        → looked.new ≤ looked.old + node_work (rows_of delta) n }
     ensures few { IfOk result (λ change. (n : ℕ) → S.within source.now n → length tree.now ≤ 64
-        → rows_of change ≤ rows_down (rows_of delta.now) n) }
+        → rows_of change ≤ rows_down (rows_of delta) n) }
 {
     // Called for its contract: each row has these columns, and a question looks at one row or more.
     let _columns = source.columns();
-    let touched = revise_touched(alloc, tree, source, delta.add(), looked)?;
-    let hidden = hidden(alloc, touched, pred)?;
-    let gone = befores(alloc, &hidden)?;
-    let revised = afters(alloc, &hidden)?;
-    let new = refused(alloc, &revised, pred)?;
+    let near = near_rows(alloc, tree, source, delta.add(), looked)?;
+    let hidden = refused(near, pred);
+    let touched = touched_among(alloc, tree, &hidden, delta.add())?;
+    if touched.is_empty() {
+        return Ok(delta);
+    }
+    let gone = befores(alloc, &touched)?;
+    let revised = afters(alloc, &touched)?;
+    let new = refused(revised, pred);
     let remove = delta.remove().union(alloc, &gone)?;
     let add = delta.add().union(alloc, &new)?;
     Ok(Delta::new(remove, add))
 }
 
-// Those that the predicate refused as they were.
-fn hidden(alloc: Global, touched: Vec<Touched>, pred: &Pred) -> Result<Vec<Touched>, NoMemory>
-    ensures { IfOk result (λ hidden.
-        hidden.items ≡ filter (λ t. not (holds pred.now t.before)) touched.items) }
-{
-    let mut hidden = Vec::new(alloc);
-    for change in touched {
-        if !pred.holds(&change.before) {
-            hidden.push(change)?;
-        }
-    }
-    Ok(hidden)
-}
-
 // Those of the rows that the predicate refuses.
-fn refused(alloc: Global, rows: &RowSet, pred: &Pred) -> Result<RowSet, NoMemory>
-    ensures { IfOk result (λ refused.
-        refused ≡ those (λ row. not (holds pred.now row)) rows.now) }
+fn refused(rows: RowSet, pred: &Pred) -> RowSet
+    ensures { result ≡ those (λ row. not (holds pred.now row)) rows }
 {
-    let mut refused = Vec::new(alloc);
-    for row in rows.rows() {
-        if !pred.holds(row) {
-            refused.push(row.copy(alloc)?)?;
-        }
-    }
-    Ok(RowSet::from_rising(refused))
+    let mut refused = rows.into_rows();
+    refused.retain(|row| !pred.holds(row));
+    RowSet::from_rising(refused)
 }

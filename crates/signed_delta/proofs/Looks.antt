@@ -9,9 +9,10 @@ use Rattle.std.proofs.lemmas.List.{take_all}
 use Rattle.std.proofs.lemmas.List.Folds.{list_any_at}
 use Rattle.std.proofs.lemmas.List.Kept.{IsStrictlySortedBy-filter}
 use Rattle.lens_values.specs.Row.{row_cmp}
+use Rattle.lens_values.specs.Part.{restrict}
 use Rattle.lens_values.specs.SortedSet as set
 use Rattle.lens_values.specs.declared.row.Row.{Row}
-use Rattle.lens_specs.specs.Names.{Name, Names}
+use Rattle.lens_specs.specs.Names.{Names}
 use Rattle.lens_specs.specs.Relation.{Rows, has, minus, project, those}
 use Rattle.lens_specs.specs.Rows.{agree, at, cut}
 use Rattle.lens_specs.specs.Delta.{Delta, diff, new_view}
@@ -19,9 +20,9 @@ use Rattle.lens_laws.specs.KeyedDeltas.{find_by, found_each, of_touched}
 use Rattle.lens_laws.proofs.Deltas.{in_found_each, of_touched_is}
 use Rattle.fd_laws.proofs.Lists.{from_flat_map, in_flat_map, left_true, right_true}
 use Rattle.fd_laws.proofs.Relations.{from_project, from_those, from_union, in_project, in_those, same_rel, sets}
-use Rattle.fd_laws.proofs.Rows.{agree_back, agree_on, agree-cut, at-cut, cut_column, row_exact, row_itself, row_total, tied_row}
+use Rattle.fd_laws.proofs.Rows.{agree_alike, agree_back, agree_on, agree-cut, at-cut_in, row_exact, row_itself, row_total, tied_row}
 use Rattle.signed_delta.specs.Disjoint.{AreApart}
-use Rattle.signed_delta.specs.Keys.{IsKey}
+use Rattle.signed_delta.specs.Keys.{HasColumns}
 use Rattle.signed_delta.proofs.Differences.{items_rise}
 
 -- a row at a place of a set's list is in the set
@@ -57,11 +58,16 @@ answered_is V d = of_touched_is V d
 
 -- ---- rows found by the parts of others
 
--- a part has a value in each of its columns, and in no other
-pub part_is_key : (C : Names) (M : Rows) (part : Row) → ((r : Row) → has M r ≡ true → (c : Name) → set.contains C c ≡ true → is_some (at r c) ≡ true) → has (project C M) part ≡ true → IsKey C part
-part_is_key C M part have i c =
+-- a part has a value in each of its columns
+pub part_has_columns : (C : Names) (M : Rows) (part : Row) → ((r : Row) → has M r ≡ true → HasColumns C r) → has (project C M) part ≡ true → HasColumns C part
+part_has_columns C M part have i c there =
     let w = from_project C M part i in
-    ap (λ r. is_some (at r c)) w.2 ∙ ap is_some (at-cut C w.0 c) ∙ cut_column C c (at w.0 c) (have w.0 w.1 c)
+    ap (λ r. is_some (at r c)) w.2 ∙ ap is_some (at-cut_in C w.0 c there) ∙ have w.0 w.1 c there
+
+-- a key and its part find the same rows
+pub find_by-restrict : (C : Names) (k : Row) (M : Rows) → find_by C (restrict C k) M ≡ find_by C k M
+unfolding cut
+find_by-restrict C k M = λ i. those (λ m. agree_alike C (cut C k) k m (agree-cut C k) i) M
 
 from_found : (C : Names) (M : Rows) (ls : List Row) (m : Row) → has (found_each C M ls) m ≡ true
     → (l : Row) × (list_any (eq_by_cmp row_cmp l) ls ≡ true) × (has M m ≡ true) × (agree C l m ≡ true)
@@ -95,3 +101,21 @@ found_by_parts C M R list is =
     ∙ in_flat_map same tied_row row_itself same tied_row row_itself find keys key m
     (sym (set.contains-items (project C R) key) ∙ there)
     (sym (set.contains-items (find_by C key M) m) ∙ got))
+
+-- ---- rows found by a row that is alone
+
+-- the row that a set has alone is in it
+pub only_there : (M : Rows) (a : Row) → set.items M ≡ a ∷ [] → has M a ≡ true
+only_there M a only = set.contains-items M a ∙ ap (list_any (eq_by_cmp row_cmp a)) only ∙ left_true _ _ (row_itself a)
+
+-- what it finds is what each row of the set finds
+pub found_by_one : (C : Names) (M R : Rows) (a : Row) → set.items R ≡ a ∷ [] → find_by C a M ≡ found_each C M (set.items R)
+found_by_one C M R a only =
+    same_rel _ _ (λ r i. grind (arith, sets)) (λ r i. let none = set.contains-empty row_cmp r in grind (arith, sets))
+    ∙ ap (found_each C M) (sym only)
+
+-- a list of one row
+pub alone : (rows : List Row) (a : Row) → 1 ≤ length rows → length rows < 2 → a ≡ get_or rows 0 a → rows ≡ a ∷ []
+alone [] a some few is = absurd (omega arith)
+alone (r ∷ []) a some few is = λ i. sym is i ∷ []
+alone (r ∷ q ∷ rs) a some few is = absurd (omega arith)

@@ -89,6 +89,31 @@ pub fn find_each<K: Look, L: Ledger>(
     ensures few { IfOk result (λ found. (n : ℕ) → K.within look.now n → length (set.items found)
         ≤ n * length (set.items rows.now)) }
 {
+    match rows.rows() {
+        [row] => look.find(alloc, cols, row, looked),
+        _ => find_parts(alloc, cols, rows, look, looked),
+    }
+}
+
+// The same for any rows.
+fn find_parts<K: Look, L: Ledger>(
+    alloc: Global,
+    cols: &Names,
+    rows: &RowSet,
+    look: &K,
+    looked: &mut Steps<L>,
+) -> Result<RowSet, NoMemory>
+    requires some { length (set.items cols.now) ≢ 0 }
+    requires asked { Contains (K.asked look.now) cols.now }
+    requires have { (row : _) → set.contains rows.now row ≡ true → (c : _)
+        → set.contains cols.now c ≡ true → is_some (at row c) ≡ true }
+    ensures found { IfOk result (λ found. found
+        ≡ found_each cols.now (K.relation look.now).rows (set.items rows.now)) }
+    ensures looks { (n : ℕ) → K.within look.now n → looked.new ≤ looked.old
+        + n * length (set.items rows.now) }
+    ensures few { IfOk result (λ found. (n : ℕ) → K.within look.now n → length (set.items found)
+        ≤ n * length (set.items rows.now)) }
+{
     let keys = rows.project(alloc, cols)?;
     let mut all = Vec::new(alloc);
     for key in keys.rows() {

@@ -5,7 +5,7 @@ ghost use Rattle.lens_specs.specs.Names as names;
 ghost use Rattle.lens_specs.specs.Relation as spec;
 ghost use Rattle.lens_laws.specs.KeyedDeltas.{find_by};
 ghost use Rattle.lens_laws.specs.Work.{GivesAtMost};
-ghost use Rattle.signed_delta.specs.Keys.{IsKey};
+ghost use Rattle.signed_delta.specs.Keys.{HasColumns};
 
 use lens_values::{Columns, Names, NoMemory, Row};
 use row_sets::RowSet;
@@ -44,7 +44,8 @@ pub trait Look {
         ensures there { IfOk result (λ there. there ≡ spec.has (relation self.now).rows row.now) }
         ensures looks { (n : ℕ) → within self.now n → looked.new ≤ looked.old + n };
 
-    /// The rows of the relation that agree with the key on its columns.
+    /// The rows of the relation that agree with the key on these columns. The key may have more of
+    /// them, so that a row asks for those that agree with it.
     fn find<L: Ledger>(
         &self,
         alloc: Global,
@@ -54,7 +55,7 @@ pub trait Look {
     ) -> Result<RowSet, NoMemory>
         requires some { length (set.items cols.now) ≢ 0 }
         requires asked { Contains (asked self.now) cols.now }
-        requires key { IsKey cols.now key.now }
+        requires key { HasColumns cols.now key.now }
         ensures found { IfOk result (λ found. found
             ≡ find_by cols.now key.now (relation self.now).rows) }
         ensures looks { (n : ℕ) → within self.now n → looked.new ≤ looked.old + n }

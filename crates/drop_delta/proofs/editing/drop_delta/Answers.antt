@@ -1,7 +1,5 @@
-use Rattle.std.proofs.Common.{◌≡◌, ◌∙◌, ap, sym}
-use Rattle.lens_values.specs.SortedSet as set
+use Rattle.std.proofs.Common.{◌≡◌, ◌∙◌}
 use Rattle.lens_specs.specs.Delta.{Delta, diff}
-use Rattle.lens_specs.specs.Dependencies.{edge}
 use Rattle.lens_laws.specs.Work.{rows_of}
 use Rattle.drop_delta.specs.Dropped.{edited_source, filled_in}
 use Rattle.drop_delta.proofs.Counted.{few_are, looks_are}
@@ -14,15 +12,13 @@ filled_sides-requires-clause-removed g c = λ row there k i.
     let q = c.requires in
     have R.columns c.args.col.now c.args.by.now c.args.fill.now R.rows c.args.delta.now q.column q.within q.apart c.columns.ensures.fit q.decides q.applies q.fit row
     (removed_fit R.columns c.args.col.now c.args.by.now c.args.fill.now R.rows c.args.delta.now q.column q.within q.apart c.columns.ensures.fit q.decides q.applies q.fit row there)
-    k (ap (λ C. set.contains C k) (sym c.in_ok-left.ensures) ∙ i)
+    k i
 
 pub filled_sides-requires-clause-added : goal.filled_sides-requires-clause-added
 filled_sides-requires-clause-added g c = λ row there k i.
     let R = g.S.Look.relation c.args.source.now in
     let q = c.requires in
-    have R.columns c.args.col.now c.args.by.now c.args.fill.now R.rows c.args.delta.now q.column q.within q.apart c.columns.ensures.fit q.decides q.applies q.fit row
-    (q.fit row there)
-    k (ap (λ C. set.contains C k) (sym c.in_ok-left.ensures) ∙ i)
+    have R.columns c.args.col.now c.args.by.now c.args.fill.now R.rows c.args.delta.now q.column q.within q.apart c.columns.ensures.fit q.decides q.applies q.fit row (q.fit row there) k i
 
 pub new-requires : goal.new-requires
 new-requires g c =
@@ -32,14 +28,10 @@ new-requires g c =
     let a = c.args.fill.now in
     let d = c.args.delta.now in
     let q = c.requires in
-    let default = c.in_ok-default.default in
-    let e = edge c.in_ok-left.left c.in_ok-right.right in
     let remove = c.in_ok-filled.filled.remove in
     let add = c.in_ok-filled.filled.add in
     let is : ◌≡◌ {A = Delta} (record { remove = remove; add = add }) (diff R.rows (edited_source R.columns A X a R.rows d)) =
-    carried R.columns A X a R.rows d q.column q.within q.apart c.columns.ensures.fit q.decides q.applies q.fit default e remove add c.in_ok-default.ensures
-    (λ i. edge (c.in_ok-left.ensures i) (c.in_ok-right.ensures i))
-    c.in_ok-filled.ensures.remove c.in_ok-filled.ensures.add in
+    carried R.columns A X a R.rows d q.column q.within q.apart c.columns.ensures.fit q.decides q.applies q.fit remove add c.in_ok-filled.ensures.remove c.in_ok-filled.ensures.add in
     apart R.rows (edited_source R.columns A X a R.rows d) remove add is
 
 pub returns : goal.returns
@@ -50,18 +42,14 @@ returns g c =
     let a = c.args.fill.now in
     let d = c.args.delta.now in
     let q = c.requires in
-    let default = c.in_ok-default.default in
-    let e = edge c.in_ok-left.left c.in_ok-right.right in
     let remove = c.in_ok-filled.filled.remove in
     let add = c.in_ok-filled.filled.add in
     let is : ◌≡◌ {A = Delta} (record { remove = remove; add = add }) (diff R.rows (edited_source R.columns A X a R.rows d)) =
-    carried R.columns A X a R.rows d q.column q.within q.apart c.columns.ensures.fit q.decides q.applies q.fit default e remove add c.in_ok-default.ensures
-    (λ i. edge (c.in_ok-left.ensures i) (c.in_ok-right.ensures i))
-    c.in_ok-filled.ensures.remove c.in_ok-filled.ensures.add in
+    carried R.columns A X a R.rows d q.column q.within q.apart c.columns.ensures.fit q.decides q.applies q.fit remove add c.in_ok-filled.ensures.remove c.in_ok-filled.ensures.add in
     record {
       delta = c.new.ensures ∙ is;
       looks = λ n w. looks_are (rows_of d) n c.args.looked.now c.filled_sides.new.looked (c.columns.ensures.some n w) (c.filled_sides.ensures.looks n w);
-      few = λ n w. few_are d c.new.result (filled_in e default R.rows) remove add n c.new.ensures c.in_ok-filled.ensures.remove c.in_ok-filled.ensures.add (c.columns.ensures.some n w);
+      few = λ n w. few_are d c.new.result (filled_in A X a R.rows) remove add n c.new.ensures c.in_ok-filled.ensures.remove c.in_ok-filled.ensures.add (c.columns.ensures.some n w);
     }
 
 pub returns-in_err-filled-clause-looks : goal.returns-in_err-filled-clause-looks

@@ -18,7 +18,7 @@ filled_row-requires-in-Some-get-clause-have g c = λ k i. c.requires.added c.in-
 
 pub loop-place-preserved : goal.loop-place-preserved
 loop-place-preserved g c =
-    let f = filled_in c.args.edge.now c.args.default.now (g.S.Look.relation c.args.source.now).rows in
+    let f = filled_in c.args.dropped.now.col.now c.args.dropped.now.by.now c.args.dropped.now.fill.now (g.S.Look.relation c.args.source.now).rows in
     let d = c.args.delta.now in
     let i = c.loop-place.place in
     let was = c.loop-place in
@@ -80,19 +80,19 @@ pub returns-clause-remove : goal.returns-clause-remove
 returns-clause-remove g c =
     let past : length c.rows-removed.result.now ≤ c.loop-place.place = search rules in
     c.in_ok-remove-2.ensures
-    ∙ made_all (filled_in c.args.edge.now c.args.default.now (g.S.Look.relation c.args.source.now).rows) c.args.delta.now.remove c.rows-removed.result.now
+    ∙ made_all (filled_in c.args.dropped.now.col.now c.args.dropped.now.by.now c.args.dropped.now.fill.now (g.S.Look.relation c.args.source.now).rows) c.args.delta.now.remove c.rows-removed.result.now
     c.loop-place.remove.items c.loop-place.place (c.rows-removed.ensures ∙ ap set.items c.remove.ensures) past c.loop-place.invariant.0
 
 pub returns-clause-add : goal.returns-clause-add
 returns-clause-add g c =
     let past : length c.rows-added.result.now ≤ c.loop-place.place = search rules in
     c.in_ok-add-2.ensures
-    ∙ made_all (filled_in c.args.edge.now c.args.default.now (g.S.Look.relation c.args.source.now).rows) c.args.delta.now.add c.rows-added.result.now
+    ∙ made_all (filled_in c.args.dropped.now.col.now c.args.dropped.now.by.now c.args.dropped.now.fill.now (g.S.Look.relation c.args.source.now).rows) c.args.delta.now.add c.rows-added.result.now
     c.loop-place.add.items c.loop-place.place (c.rows-added.ensures ∙ ap set.items c.add.ensures) past c.loop-place.invariant.1
 
 pub returns-clause-looks : goal.returns-clause-looks
 returns-clause-looks g c = λ n w.
-    let f = filled_in c.args.edge.now c.args.default.now (g.S.Look.relation c.args.source.now).rows in
+    let f = filled_in c.args.dropped.now.col.now c.args.dropped.now.by.now c.args.dropped.now.fill.now (g.S.Look.relation c.args.source.now).rows in
     let d = c.args.delta.now in
     let was = c.loop-place in
     let r = made_few f d.remove was.remove.items was.place was.invariant.0 in
@@ -101,7 +101,7 @@ returns-clause-looks g c = λ n w.
 
 pub returns-in_err-remove-2-clause-looks : goal.returns-in_err-remove-2-clause-looks
 returns-in_err-remove-2-clause-looks g c = λ n w.
-    let f = filled_in c.args.edge.now c.args.default.now (g.S.Look.relation c.args.source.now).rows in
+    let f = filled_in c.args.dropped.now.col.now c.args.dropped.now.by.now c.args.dropped.now.fill.now (g.S.Look.relation c.args.source.now).rows in
     let d = c.args.delta.now in
     let was = c.loop-place in
     let r = made_few f d.remove was.remove.items was.place was.invariant.0 in
@@ -110,7 +110,7 @@ returns-in_err-remove-2-clause-looks g c = λ n w.
 
 pub returns-in_err-add-2-clause-looks : goal.returns-in_err-add-2-clause-looks
 returns-in_err-add-2-clause-looks g c = λ n w.
-    let f = filled_in c.args.edge.now c.args.default.now (g.S.Look.relation c.args.source.now).rows in
+    let f = filled_in c.args.dropped.now.col.now c.args.dropped.now.by.now c.args.dropped.now.fill.now (g.S.Look.relation c.args.source.now).rows in
     let d = c.args.delta.now in
     let was = c.loop-place in
     let r = made_few f d.remove was.remove.items was.place was.invariant.0 in
@@ -119,7 +119,7 @@ returns-in_err-add-2-clause-looks g c = λ n w.
 
 pub returns-in_err-filled_row-clause-looks : goal.returns-in_err-filled_row-clause-looks
 returns-in_err-filled_row-clause-looks g c = λ n w.
-    let f = filled_in c.args.edge.now c.args.default.now (g.S.Look.relation c.args.source.now).rows in
+    let f = filled_in c.args.dropped.now.col.now c.args.dropped.now.by.now c.args.dropped.now.fill.now (g.S.Look.relation c.args.source.now).rows in
     let d = c.args.delta.now in
     let was = c.loop-place in
     let below : was.place < length c.rows-removed.result.now = search rules in
@@ -130,7 +130,7 @@ returns-in_err-filled_row-clause-looks g c = λ n w.
 
 pub returns-in_err-push-clause-looks : goal.returns-in_err-push-clause-looks
 returns-in_err-push-clause-looks g c = λ n w.
-    let f = filled_in c.args.edge.now c.args.default.now (g.S.Look.relation c.args.source.now).rows in
+    let f = filled_in c.args.dropped.now.col.now c.args.dropped.now.by.now c.args.dropped.now.fill.now (g.S.Look.relation c.args.source.now).rows in
     let d = c.args.delta.now in
     let was = c.loop-place in
     let below : was.place < length c.rows-removed.result.now = search rules in
@@ -141,7 +141,7 @@ returns-in_err-push-clause-looks g c = λ n w.
 
 pub returns-in_err-filled_row-2-clause-looks : goal.returns-in_err-filled_row-2-clause-looks
 returns-in_err-filled_row-2-clause-looks g c = λ n w.
-    let f = filled_in c.args.edge.now c.args.default.now (g.S.Look.relation c.args.source.now).rows in
+    let f = filled_in c.args.dropped.now.col.now c.args.dropped.now.by.now c.args.dropped.now.fill.now (g.S.Look.relation c.args.source.now).rows in
     let d = c.args.delta.now in
     let was = c.loop-place in
     let below : was.place < length c.rows-added.result.now = search rules in
@@ -175,7 +175,7 @@ returns-in_err-filled_row-2-clause-looks g c = λ n w.
 
 pub returns-in_err-push-2-clause-looks : goal.returns-in_err-push-2-clause-looks
 returns-in_err-push-2-clause-looks g c = λ n w.
-    let f = filled_in c.args.edge.now c.args.default.now (g.S.Look.relation c.args.source.now).rows in
+    let f = filled_in c.args.dropped.now.col.now c.args.dropped.now.by.now c.args.dropped.now.fill.now (g.S.Look.relation c.args.source.now).rows in
     let d = c.args.delta.now in
     let was = c.loop-place in
     let below : was.place < length c.rows-added.result.now = search rules in

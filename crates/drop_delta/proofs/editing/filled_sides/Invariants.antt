@@ -7,8 +7,8 @@ use Rattle.drop_delta.proofs.editing.filled_sides.Given as goal
 abbrev pub invariant-loop-place : goal.invariant-loop-place
 invariant-loop-place g l =
     let M = (g.S.Look.relation l.source).rows in
-    let f = filled_in l.edge l.default M in
+    let f = filled_in l.dropped.col.now l.dropped.by.now l.dropped.fill.now M in
     (l.remove.items ≡ map f (take l.place (set.items l.delta.remove)))
     × (l.add.items ≡ map f (take l.place (set.items l.delta.add)))
-    × BothFill l.edge l.default M l.fillings
+    × BothFill l.dropped.col.now l.dropped.by.now l.dropped.fill.now M l.fillings
     × ((n : ℕ) → g.S.Look.within l.source n → l.looked ≤ l.fn.looked + n * (length l.remove.items + length l.add.items))

@@ -2,12 +2,12 @@ use Rattle.std.proofs.Common.{◌≡◌, ◌∙◌, IfOk, ap, arith, subst, sym}
 use Rattle.lens_specs.specs.Lens.{get}
 use Rattle.lens_laws.specs.KeyedDeltas.{find_by}
 use Rattle.lens_laws.specs.Work.{size}
-use Rattle.signed_delta.specs.Keys.{IsKey}
-use Rattle.find_rows.proofs.Keys.{found_with, key_is}
+use Rattle.signed_delta.specs.Keys.{HasColumns}
+use Rattle.find_rows.proofs.Keys.{found_with, key_has}
 use Rattle.find_rows.proofs.finding.rows_found.Goals as goal
 
 pub find-requires-clause-key : goal.find-requires-clause-key
-find-requires-clause-key g c = subst (λ C. IsKey C c.in_ok-key.key) (sym c.requires) (key_is c.args.col.now c.args.value.now c.in_ok-key.key c.in_ok-key.ensures)
+find-requires-clause-key g c = subst (λ C. HasColumns C c.in_ok-key.key) (sym c.requires) (key_has c.args.col.now c.args.value.now c.in_ok-key.key c.in_ok-key.ensures)
 
 pub returns-then-asked_by-clause-found : goal.returns-then-asked_by-clause-found
 returns-then-asked_by-clause-found g c =

@@ -37,26 +37,26 @@ select_delta-requires-clause-meets g c =
 pub select_delta-requires-clause-applies : goal.select_delta-requires-clause-applies
 select_delta-requires-clause-applies g c =
     let v = c.args.source.now in
-    select_applies c.args.pred.now v.lens (over v) c.args.delta.now c.requires.typed c.lens.ensures.viewed.1.tables c.requires.edit
+    select_applies c.args.pred.now v.lens (over v) c.args.delta c.requires.typed c.lens.ensures.viewed.1.tables c.requires.edit
 
 pub select_delta-requires-clause-view : goal.select_delta-requires-clause-view
 select_delta-requires-clause-view g c =
     let v = c.args.source.now in
     let P = c.args.pred.now in
-    let N = new_view (select_get (holds P) (get v.lens (over v))) c.args.delta.now in
+    let N = new_view (select_get (holds P) (get v.lens (over v))) c.args.delta in
     let tree = tree_is v.lens c.lens.result.now c.sort.result.now c.tree-tree.result.now c.requires.typed.0 c.lens.ensures.lens c.sort.ensures.given c.tree-tree.ensures.value in
-    subst (λ T. AreSelected (sort_of v.lens).columns T P N) (sym tree) (select_view P v.lens (over v) c.args.delta.now c.requires.typed c.lens.ensures.viewed.1.tables c.requires.edit)
+    subst (λ T. AreSelected (sort_of v.lens).columns T P N) (sym tree) (select_view P v.lens (over v) c.args.delta c.requires.typed c.lens.ensures.viewed.1.tables c.requires.edit)
 
 pub returns-clause-change : goal.returns-clause-change
 returns-clause-change g c =
     let v = c.args.source.now in
     let P = c.args.pred.now in
     let M = get v.lens (over v) in
-    let N = new_view (select_get (holds P) M) c.args.delta.now in
+    let N = new_view (select_get (holds P) M) c.args.delta in
     let T = c.tree-tree.result.now in
     let tree = tree_is v.lens c.lens.result.now c.sort.result.now T c.requires.typed.0 c.lens.ensures.lens c.sort.ensures.given c.tree-tree.ensures.value in
-    IfOk-weaker c.select_delta.result (λ change. change ≡ diff M (select_put T (holds P) N M)) (λ change. change ≡ keyed.select_delta (sort_of v.lens).tree (holds P) M c.args.delta.now)
-    (λ change is. (select_carried P v.lens (over v) c.args.delta.now c.requires.typed c.lens.ensures.viewed.1.tables c.requires.edit change (is ∙ ap (λ F. diff M (select_put F (holds P) N M)) tree)).0)
+    IfOk-weaker c.select_delta.result (λ change. change ≡ diff M (select_put T (holds P) N M)) (λ change. change ≡ keyed.select_delta (sort_of v.lens).tree (holds P) M c.args.delta)
+    (λ change is. (select_carried P v.lens (over v) c.args.delta c.requires.typed c.lens.ensures.viewed.1.tables c.requires.edit change (is ∙ ap (λ F. diff M (select_put F (holds P) N M)) tree)).0)
     c.select_delta.ensures.delta
 
 pub returns-clause-edit : goal.returns-clause-edit
@@ -64,11 +64,11 @@ returns-clause-edit g c =
     let v = c.args.source.now in
     let P = c.args.pred.now in
     let M = get v.lens (over v) in
-    let N = new_view (select_get (holds P) M) c.args.delta.now in
+    let N = new_view (select_get (holds P) M) c.args.delta in
     let T = c.tree-tree.result.now in
     let tree = tree_is v.lens c.lens.result.now c.sort.result.now T c.requires.typed.0 c.lens.ensures.lens c.sort.ensures.given c.tree-tree.ensures.value in
     IfOk-weaker c.select_delta.result (λ change. change ≡ diff M (select_put T (holds P) N M)) (λ change. IsEdit v.lens (over v) change)
-    (λ change is. (select_carried P v.lens (over v) c.args.delta.now c.requires.typed c.lens.ensures.viewed.1.tables c.requires.edit change (is ∙ ap (λ F. diff M (select_put F (holds P) N M)) tree)).1)
+    (λ change is. (select_carried P v.lens (over v) c.args.delta c.requires.typed c.lens.ensures.viewed.1.tables c.requires.edit change (is ∙ ap (λ F. diff M (select_put F (holds P) N M)) tree)).1)
     c.select_delta.ensures.delta
 
 pub returns-clause-looks : goal.returns-clause-looks
@@ -82,7 +82,7 @@ returns-clause-few g c =
     let v = c.args.source.now in
     let edges = edges_few v.lens c.lens.result.now c.sort.result.now c.tree-tree.result.now c.requires.typed.0 c.lens.ensures.viewed.1.keys c.lens.ensures.lens c.sort.ensures.given c.tree-tree.ensures.value c.tree-tree.ensures.small in
     IfOk-weaker c.select_delta.result
-    (λ change. (n : ℕ) → IsWithin v n → length c.tree-tree.result.now ≤ 64 → rows_of change ≤ rows_down (rows_of c.args.delta.now) n)
-    (λ change. (w : ℕ) → FindsAtMost v w → rows_of change ≤ rows_down (rows_of c.args.delta.now) (size v.lens w))
+    (λ change. (n : ℕ) → IsWithin v n → length c.tree-tree.result.now ≤ 64 → rows_of change ≤ rows_down (rows_of c.args.delta) n)
+    (λ change. (w : ℕ) → FindsAtMost v w → rows_of change ≤ rows_down (rows_of c.args.delta) (size v.lens w))
     (λ change all w few. all (size v.lens w) (within_size v w few) edges)
     c.select_delta.ensures.few

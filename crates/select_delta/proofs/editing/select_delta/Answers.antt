@@ -1,21 +1,25 @@
-use Rattle.std.proofs.Common.{◌≡◌, ◌≤◌, ap, length, subst, sym, ◌∙◌}
+use Rattle.std.proofs.Common.{◌≡◌, ◌≤◌, ◌∙◌, ap, arith, length, subst, sym}
 use Rattle.std.specs.Prelude.{map}
+use Rattle.std.proofs.lemmas.Bool.{eqb-true}
 use Rattle.lens_values.specs.SortedSet as set
-use Rattle.lens_specs.specs.Delta.{Delta, diff}
-use Rattle.lens_specs.specs.Relation.{has, union}
+use Rattle.lens_specs.specs.Delta.{Delta}
+use Rattle.lens_specs.specs.Relation.{Rows, has, union}
 use Rattle.lens_specs.specs.Predicate.{holds}
 use Rattle.lens_laws.specs.KeyedDeltas.{select_delta}
 use Rattle.lens_laws.specs.Work.{rows_down, rows_of}
 use Rattle.lens_laws.proofs.DeltaCounts.{select_delta_small}
 use Rattle.signed_delta.proofs.Gives.{gives_by_edges}
+use Rattle.revision.specs.Near.{HasChanged}
 use Rattle.revision.specs.Touching.{all_touched}
 use Rattle.select_delta.specs.Selected.{edited_source}
-use Rattle.select_delta.proofs.Carried.{added_fit, apart, carried, is_difference}
+use Rattle.select_delta.proofs.Carried.{added_fit, apart, carried, carried_alone, is_difference}
 use Rattle.select_delta.proofs.Counted.{looks_are}
+use Rattle.select_delta.proofs.editing.select_delta.Given.{Over}
+use Rattle.select_delta.proofs.editing.select_delta.Goals.{In_ok-add}
 use Rattle.select_delta.proofs.editing.select_delta.Goals as goal
 
-pub revise_touched-requires : goal.revise_touched-requires
-revise_touched-requires g c =
+pub near_rows-requires : goal.near_rows-requires
+near_rows-requires g c =
     let R = g.S.Look.relation c.args.source.now in
     let q = c.requires in
     record {
@@ -23,29 +27,86 @@ revise_touched-requires g c =
       columns = q.columns;
       meets = q.meets;
       fit = λ row there.
-          added_fit R.columns c.args.tree.now c.args.pred.now R.rows c.args.delta.now q.view row
+          added_fit R.columns c.args.tree.now c.args.pred.now R.rows c.args.delta q.view row
           (ap (λ N. has N row) (sym c.add.ensures) ∙ there);
     }
 
-pub new-requires : goal.new-requires
-new-requires g c =
+pub returns-in_err-near-clause-looks : goal.returns-in_err-near-clause-looks
+returns-in_err-near-clause-looks g c = λ n w edges.
+    looks_are c.args.delta c.add.result.now (length c.args.tree.now) n c.args.looked.now c.near_rows.new.looked c.add.ensures (c.near_rows.ensures.looks n w) edges (c.columns-columns.ensures.some n w)
+
+pub returns-in_err-touched-clause-looks : goal.returns-in_err-touched-clause-looks
+returns-in_err-touched-clause-looks g c = λ n w edges.
+    looks_are c.args.delta c.add.result.now (length c.args.tree.now) n c.args.looked.now c.near_rows.new.looked c.add.ensures (c.near_rows.ensures.looks n w) edges (c.columns-columns.ensures.some n w)
+
+pub returns-in_err-gone-clause-looks : goal.returns-in_err-gone-clause-looks
+returns-in_err-gone-clause-looks g c = λ n w edges.
+    looks_are c.args.delta c.add.result.now (length c.args.tree.now) n c.args.looked.now c.near_rows.new.looked c.add.ensures (c.near_rows.ensures.looks n w) edges (c.columns-columns.ensures.some n w)
+
+pub returns-in_err-revised-clause-looks : goal.returns-in_err-revised-clause-looks
+returns-in_err-revised-clause-looks g c = λ n w edges.
+    looks_are c.args.delta c.add.result.now (length c.args.tree.now) n c.args.looked.now c.near_rows.new.looked c.add.ensures (c.near_rows.ensures.looks n w) edges (c.columns-columns.ensures.some n w)
+
+pub returns-in_err-remove-clause-looks : goal.returns-in_err-remove-clause-looks
+returns-in_err-remove-clause-looks g c = λ n w edges.
+    looks_are c.args.delta c.add.result.now (length c.args.tree.now) n c.args.looked.now c.near_rows.new.looked c.add.ensures (c.near_rows.ensures.looks n w) edges (c.columns-columns.ensures.some n w)
+
+pub returns-in_err-add-clause-looks : goal.returns-in_err-add-clause-looks
+returns-in_err-add-clause-looks g c = λ n w edges.
+    looks_are c.args.delta c.add.result.now (length c.args.tree.now) n c.args.looked.now c.near_rows.new.looked c.add.ensures (c.near_rows.ensures.looks n w) edges (c.columns-columns.ensures.some n w)
+
+pub returns-then-is_empty : goal.returns-then-is_empty
+returns-then-is_empty g c =
     let R = g.S.Look.relation c.args.source.now in
     let M = R.rows in
     let F = c.args.tree.now in
     let P = c.args.pred.now in
-    let d = c.args.delta.now in
+    let d = c.args.delta in
     let q = c.requires in
-    let is : ◌≡◌ {A = Delta} (record { remove = c.in_ok-remove.remove; add = c.in_ok-add.add }) (diff M (edited_source F P M d)) =
-    carried F M P d c.in_ok-touched.touched.items c.in_ok-hidden.hidden.items c.in_ok-gone.gone c.in_ok-revised.revised c.in_ok-new.new c.in_ok-remove.remove c.in_ok-add.add
-    (c.in_ok-touched.ensures.touched ∙ ap (all_touched F M) c.add.ensures)
-    c.in_ok-hidden.ensures
+    let hidden = c.refused-hidden.result in
+    let changes = c.in_ok-touched.touched.items in
+    let enough = subst (λ L. HasChanged F M L c.in_ok-near.near) c.add.ensures c.in_ok-near.ensures.near in
+    let all = subst (λ L. (N : Rows) → HasChanged F N L hidden → changes ≡ all_touched F N L) c.add-2.ensures c.in_ok-touched.ensures.touched in
+    let zero = eqb-true _ _ (sym c.is_empty.ensures ∙ c.if-is_empty.true) in
+    let none : length changes ≡ 0 = omega (arith, zero, c.in_ok-touched.touched.ok) in
+    let made : d ≡ select_delta F (holds P) M d = carried_alone F M P d c.in_ok-near.near hidden changes enough c.refused-hidden.ensures all none in
+    record {
+      delta = made ∙ is_difference R.columns F P M d c.touched_among.ensures.tree c.columns-columns.ensures.fit q.meets q.applies q.view;
+      looks = λ n w edges. looks_are d c.add.result.now (length F) n c.args.looked.now c.near_rows.new.looked c.add.ensures (c.near_rows.ensures.looks n w) edges (c.columns-columns.ensures.some n w);
+      few = λ n w edges.
+          subst (λ (x : Delta). rows_of x ≤ rows_down (rows_of d) n) (sym made)
+          (select_delta_small F (holds P) M d n edges (c.columns-columns.ensures.some n w)
+          (gives_by_edges (g.S.Look.asked c.args.source.now) F M n (c.columns-columns.ensures.gives n w) q.asked));
+    }
+
+-- with rows that change
+made : (g : Over) (c : In_ok-add g) → let M = (g.S.Look.relation c.args.source.now).rows in
+    ◌≡◌ {A = Delta} (record { remove = c.in_ok-remove.remove; add = c.in_ok-add.add }) (select_delta c.args.tree.now (holds c.args.pred.now) M c.args.delta)
+made g c =
+    let M = (g.S.Look.relation c.args.source.now).rows in
+    let F = c.args.tree.now in
+    let P = c.args.pred.now in
+    let d = c.args.delta in
+    let hidden = c.refused-hidden.result in
+    let changes = c.in_ok-touched.touched.items in
+    let enough = subst (λ L. HasChanged F M L c.in_ok-near.near) c.add.ensures c.in_ok-near.ensures.near in
+    let all = subst (λ L. (N : Rows) → HasChanged F N L hidden → changes ≡ all_touched F N L) c.add-2.ensures c.in_ok-touched.ensures.touched in
+    carried F M P d c.in_ok-near.near hidden changes enough c.refused-hidden.ensures all c.in_ok-gone.gone c.in_ok-revised.revised c.refused-new.result c.in_ok-remove.remove c.in_ok-add.add
     (c.in_ok-gone.ensures ∙ ap (λ ts. set.from_list (map (λ t. t.before) ts)) c.deref.ensures.value)
     (c.in_ok-revised.ensures ∙ ap (λ ts. set.from_list (map (λ t. t.after) ts)) c.deref-2.ensures.value)
-    c.in_ok-new.ensures
+    c.refused-new.ensures
     (c.in_ok-remove.ensures ∙ ap (λ N. union N c.in_ok-gone.gone) c.remove.ensures)
-    (c.in_ok-add.ensures ∙ ap (λ N. union N c.in_ok-new.new) c.add-2.ensures)
-    ∙ is_difference R.columns F P M d c.in_ok-touched.ensures.tree c.columns-columns.ensures.fit q.meets q.applies q.view in
-    apart M (edited_source F P M d) c.in_ok-remove.remove c.in_ok-add.add is
+    (c.in_ok-add.ensures ∙ ap (λ N. union N c.refused-new.result) c.add-3.ensures)
+
+pub new-requires : goal.new-requires
+new-requires g c =
+    let R = g.S.Look.relation c.args.source.now in
+    let F = c.args.tree.now in
+    let P = c.args.pred.now in
+    let d = c.args.delta in
+    let q = c.requires in
+    let is = made g (goal.at.new-requires g c).In_ok-add ∙ is_difference R.columns F P R.rows d c.touched_among.ensures.tree c.columns-columns.ensures.fit q.meets q.applies q.view in
+    apart R.rows (edited_source F P R.rows d) c.in_ok-remove.remove c.in_ok-add.add is
 
 pub returns : goal.returns
 returns g c =
@@ -53,51 +114,14 @@ returns g c =
     let M = R.rows in
     let F = c.args.tree.now in
     let P = c.args.pred.now in
-    let d = c.args.delta.now in
+    let d = c.args.delta in
     let q = c.requires in
-    let made : ◌≡◌ {A = Delta} (record { remove = c.in_ok-remove.remove; add = c.in_ok-add.add }) (select_delta F (holds P) M d) =
-    carried F M P d c.in_ok-touched.touched.items c.in_ok-hidden.hidden.items c.in_ok-gone.gone c.in_ok-revised.revised c.in_ok-new.new c.in_ok-remove.remove c.in_ok-add.add
-    (c.in_ok-touched.ensures.touched ∙ ap (all_touched F M) c.add.ensures)
-    c.in_ok-hidden.ensures
-    (c.in_ok-gone.ensures ∙ ap (λ ts. set.from_list (map (λ t. t.before) ts)) c.deref.ensures.value)
-    (c.in_ok-revised.ensures ∙ ap (λ ts. set.from_list (map (λ t. t.after) ts)) c.deref-2.ensures.value)
-    c.in_ok-new.ensures
-    (c.in_ok-remove.ensures ∙ ap (λ N. union N c.in_ok-gone.gone) c.remove.ensures)
-    (c.in_ok-add.ensures ∙ ap (λ N. union N c.in_ok-new.new) c.add-2.ensures) in
-    let is = made ∙ is_difference R.columns F P M d c.in_ok-touched.ensures.tree c.columns-columns.ensures.fit q.meets q.applies q.view in
+    let is = made g (goal.at.returns g c).In_ok-add in
     record {
-      delta = c.new-2.ensures ∙ is;
-      looks = λ n w edges. looks_are c.args.delta.now c.add.result.now (length c.args.tree.now) n c.args.looked.now c.revise_touched.new.looked c.add.ensures (c.revise_touched.ensures.looks n w) edges (c.columns-columns.ensures.some n w);
+      delta = c.new-2.ensures ∙ is ∙ is_difference R.columns F P M d c.touched_among.ensures.tree c.columns-columns.ensures.fit q.meets q.applies q.view;
+      looks = λ n w edges. looks_are d c.add.result.now (length F) n c.args.looked.now c.near_rows.new.looked c.add.ensures (c.near_rows.ensures.looks n w) edges (c.columns-columns.ensures.some n w);
       few = λ n w edges.
-          subst (λ (x : Delta). rows_of x ≤ rows_down (rows_of d) n) (sym (c.new-2.ensures ∙ made))
+          subst (λ (x : Delta). rows_of x ≤ rows_down (rows_of d) n) (sym (c.new-2.ensures ∙ is))
           (select_delta_small F (holds P) M d n edges (c.columns-columns.ensures.some n w)
           (gives_by_edges (g.S.Look.asked c.args.source.now) F M n (c.columns-columns.ensures.gives n w) q.asked));
     }
-
-pub returns-in_err-touched-clause-looks : goal.returns-in_err-touched-clause-looks
-returns-in_err-touched-clause-looks g c = λ n w edges.
-    looks_are c.args.delta.now c.add.result.now (length c.args.tree.now) n c.args.looked.now c.revise_touched.new.looked c.add.ensures (c.revise_touched.ensures.looks n w) edges (c.columns-columns.ensures.some n w)
-
-pub returns-in_err-hidden-clause-looks : goal.returns-in_err-hidden-clause-looks
-returns-in_err-hidden-clause-looks g c = λ n w edges.
-    looks_are c.args.delta.now c.add.result.now (length c.args.tree.now) n c.args.looked.now c.revise_touched.new.looked c.add.ensures (c.revise_touched.ensures.looks n w) edges (c.columns-columns.ensures.some n w)
-
-pub returns-in_err-gone-clause-looks : goal.returns-in_err-gone-clause-looks
-returns-in_err-gone-clause-looks g c = λ n w edges.
-    looks_are c.args.delta.now c.add.result.now (length c.args.tree.now) n c.args.looked.now c.revise_touched.new.looked c.add.ensures (c.revise_touched.ensures.looks n w) edges (c.columns-columns.ensures.some n w)
-
-pub returns-in_err-revised-clause-looks : goal.returns-in_err-revised-clause-looks
-returns-in_err-revised-clause-looks g c = λ n w edges.
-    looks_are c.args.delta.now c.add.result.now (length c.args.tree.now) n c.args.looked.now c.revise_touched.new.looked c.add.ensures (c.revise_touched.ensures.looks n w) edges (c.columns-columns.ensures.some n w)
-
-pub returns-in_err-new-clause-looks : goal.returns-in_err-new-clause-looks
-returns-in_err-new-clause-looks g c = λ n w edges.
-    looks_are c.args.delta.now c.add.result.now (length c.args.tree.now) n c.args.looked.now c.revise_touched.new.looked c.add.ensures (c.revise_touched.ensures.looks n w) edges (c.columns-columns.ensures.some n w)
-
-pub returns-in_err-remove-clause-looks : goal.returns-in_err-remove-clause-looks
-returns-in_err-remove-clause-looks g c = λ n w edges.
-    looks_are c.args.delta.now c.add.result.now (length c.args.tree.now) n c.args.looked.now c.revise_touched.new.looked c.add.ensures (c.revise_touched.ensures.looks n w) edges (c.columns-columns.ensures.some n w)
-
-pub returns-in_err-add-clause-looks : goal.returns-in_err-add-clause-looks
-returns-in_err-add-clause-looks g c = λ n w edges.
-    looks_are c.args.delta.now c.add.result.now (length c.args.tree.now) n c.args.looked.now c.revise_touched.new.looked c.add.ensures (c.revise_touched.ensures.looks n w) edges (c.columns-columns.ensures.some n w)
