@@ -3,7 +3,8 @@ import collections
 import random
 
 from cigrelk import Server
-from cigrelk.postgres import Failed
+from cigrelk.kinds import base
+from cigrelk.postgres import TYPES, Failed
 from cigrelk.sql.edits import Compiling
 from cigrelk.sql.judge import Differ, Judge, key, run_script
 from cigrelk.sql.nodes import Catalogue
@@ -12,7 +13,6 @@ from cigrelk.sql.words import value_literal
 from random_views import Definitions, edits
 
 STATES = {None: "00000", 42: "44000", 43: "23P01"}
-CASTS = {"int": "bigint", "text": "text", "bool": "boolean"}
 
 
 class Stream:
@@ -28,7 +28,7 @@ class Stream:
         self.texts = texts or Definitions(self.program, f"{seed} definitions").texts
         self.edits = edits(self.program, f"{seed} edits")
         self.drop()
-        session.ask(f"CREATE SCHEMA {self.schema}")
+        session.ask(f"SET default_transaction_isolation = '{'serializable' if isolation == 'serializable' else 'read committed'}'", f"CREATE SCHEMA {self.schema}")
         run_script(session, script(Compiling(Catalogue(self.texts, self.schema), isolation)))
         self.judge = Judge(session, self.program, self.schema)
 
@@ -81,7 +81,7 @@ class Stream:
         view, columns = f'{self.schema}."{name}"', list(kinds)
         there = {key(row) for row in self.program[name].read()}
         gone = [row for row in remove if key(row) in there]
-        typed = lambda row, start: ", ".join(f'{value_literal(row[column])}::{CASTS[kinds[column].split()[0]]} AS "{start}{column}"' for column in columns)
+        typed = lambda row, start: ", ".join(f'{value_literal(row[column])}::{TYPES[base(kinds[column])]} AS "{start}{column}"' for column in columns)
         same = " AND ".join(f'"V"."{column}" IS NOT DISTINCT FROM "O"."O{column}"' for column in columns)
         picked = " UNION ALL ".join(f"SELECT {typed(row, 'O')}" for row in remove)
         delete = f'DELETE FROM {view} "V" USING ({picked}) "O" WHERE {same}'

@@ -4,18 +4,11 @@ import re
 
 from cigrelk import Refused, is_nullable
 from cigrelk.sql.samples import Samples
+from cigrelk.sql.words import literal_text
 
 COLUMNS = "a b c d e f g h".split()
 TEXTS = ["", "x", "y", "it's", "é\n", '"\\,{}', "null"]
 VALUES = {"int": [0, 1, 2, 3], "text": TEXTS, "bool": [False, True]}
-LITERALS = {None: "null", True: "true", False: "false"}
-
-
-def literal(value):
-    """A value as the language has it."""
-    if value is None or isinstance(value, bool):
-        return LITERALS[value]
-    return str(value) if isinstance(value, int) else "'" + value.replace("'", "''") + "'"
 
 
 class Definitions:
@@ -85,9 +78,9 @@ class Definitions:
         if is_nullable(kind) and chance.random() < 0.3:
             return f"{column} is null"
         if chance.random() < 0.2:
-            return f"{column} in ({', '.join(literal(chance.choice(values_of_kind)) for _ in range(2))})"
+            return f"{column} in ({', '.join(literal_text(chance.choice(values_of_kind)) for _ in range(2))})"
         sign = chance.choice(("=", "!=", "<", "<=", ">", ">=") if kind.startswith(("int", "text")) else ("=", "!="))
-        return f"{column} {sign} {literal(chance.choice(values_of_kind))}"
+        return f"{column} {sign} {literal_text(chance.choice(values_of_kind))}"
 
     def define_view(self):
         name = f"v{len(self.texts)}"
@@ -113,7 +106,7 @@ class Definitions:
             column = chance.choice(edge["right"])
             kind = said["columns"][column]
             choices = VALUES[kind.split()[0]] + ([None] if is_nullable(kind) else [])
-            return f"drop {column} determined by ({' '.join(edge['left'])}, {literal(chance.choice(choices))}) from {name}"
+            return f"drop {column} determined by ({' '.join(edge['left'])}, {literal_text(chance.choice(choices))}) from {name}"
         column = chance.choice(columns)
         return f"rename {column} to {column[0]}{len(self.texts)} from {name}"
 

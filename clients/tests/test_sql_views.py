@@ -77,7 +77,6 @@ class SameMeaning(WithPostgreSQL):
     def compare(self, seeds, edits, isolation="locks"):
         for seed in seeds:
             session = Session(self.address)
-            session.ask(f"SET default_transaction_isolation = '{'serializable' if isolation == 'serializable' else 'read committed'}'")
             with Stream(session, seed, isolation=isolation) as stream:
                 stream.run(edits)
             session.close()

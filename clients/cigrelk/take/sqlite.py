@@ -4,7 +4,7 @@ import re
 import sqlite3
 
 from ..errors import CommandError
-
+from ..postgres import quoted
 from .sources import Column, ForeignKey, SourceTable
 
 BATCH = 10_000
@@ -13,10 +13,6 @@ TYPES = (("BOOL", "boolean"), ("INT", "bigint"), ("CHAR", "text"), ("CLOB", "tex
          ("DOUB", "double precision"), ("DECIMAL", "numeric"), ("NUMERIC", "numeric"), ("TIMESTAMP", "text"), ("DATETIME", "text"), ("DATE", "text"), ("TIME", "text"), ("UUID", "text"), ("JSON", "json"))
 # What the values of a type of storage have to be, for each rule.
 STORED = {"int": ("integer",), "bool": ("integer",), "text": ("text",), "float": ("real", "integer"), "bytea": ("blob",), "scaled": ("integer", "real"), "plain": ("text", "integer", "real")}
-
-
-def quoted(name):
-    return '"' + name.replace('"', '""') + '"'
 
 
 class SQLite:
