@@ -11,7 +11,7 @@ use Rattle.lens_probe.proofs.view.View.asked_by.Goals as goal
 -- the edges are those of the view's sort
 edges_are : (c : After-is_left_side) → c.edges.result.now ≡ (sort_of c.args.self.now.lens).tree
 edges_are c =
-    c.edges.ensures.edges ∙ c.tree.ensures.value ∙ ap (λ (s : Sort). s.tree) c.self.invariant.1.0 ∙ ap (λ (v : Viewed). (sort_of v.lens).tree) c.self.view_is
+    c.edges.ensures.edges ∙ c.tree.ensures.value ∙ ap (λ (s : Sort). s.tree) c.self.invariant.1 ∙ ap (λ (v : Viewed). (sort_of v.lens).tree) c.self.view_is
 
 pub returns-clause-left : goal.returns-clause-left
 returns-clause-left c = c.is_left_side.ensures ∙ ap (is_left_side c.args.cols.now) (edges_are (goal.at.returns-clause-left c).After-is_left_side)

@@ -14,4 +14,4 @@ new-requires-clause-asks c =
 pub new-requires-clause-near : goal.new-requires-clause-near
 new-requires-clause-near c =
     subst (λ M. AreKnown (get M c.self.inside.tables.now.present.relations) c.self.inside.near.now)
-    (join_of_source c.self.inside.lens.now c.args.source.now (ap (λ (v : Viewed). only_source v.lens) c.self.view_is ∙ c.requires)) c.self.invariant.1.1
+    (join_of_source c.self.inside.lens.now c.args.source.now (ap (λ (v : Viewed). only_source v.lens) c.self.view_is ∙ c.requires)) c.self.invariant.2

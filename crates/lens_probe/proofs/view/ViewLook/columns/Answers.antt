@@ -9,7 +9,7 @@ use Rattle.lens_probe.proofs.view.ViewLook.columns.Goals as goal
 pub returns-clause-columns : goal.returns-clause-columns
 returns-clause-columns c =
     subst (λ (v : Viewed). c.cols.result.now ≡ (sort_of v.lens).columns) c.self.view_is
-    (c.cols.ensures.value ∙ ap (λ (s : Sort). s.columns) c.self.invariant.1.0)
+    (c.cols.ensures.value ∙ ap (λ (s : Sort). s.columns) c.self.invariant.1)
 
 pub returns-clause-fit : goal.returns-clause-fit
 returns-clause-fit c =
