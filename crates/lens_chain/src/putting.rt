@@ -23,17 +23,17 @@ use step_counter::Steps;
 pub fn put_delta<L: Ledger>(
     alloc: Global,
     view: &View<'_>,
-    delta: &Delta,
+    delta: Delta,
     looked: &mut Steps<L>,
 ) -> Result<Vec<TableDelta>, NoMemory>
-    requires edit { IsEdit view.now.lens (over view.now) delta.now }
-    ensures changes { let db = over view.now in let rows = edited view.now.lens db delta.now in
+    requires edit { IsEdit view.now.lens (over view.now) delta }
+    ensures changes { let db = over view.now in let rows = edited view.now.lens db delta in
         IfOk result (λ found. map table_delta found.items ≡ changes view.now.lens rows db) }
     ensures looks { (w : ℕ) → FindsAtMost view.now w
-        → looked.new ≤ looked.old + work view.now.lens (rows_of delta.now) w }
+        → looked.new ≤ looked.old + work view.now.lens (rows_of delta) w }
 {
     let mut changes = Changes::new(alloc);
-    carry_down(alloc, view, delta.copy(alloc)?, &mut changes, looked)?;
+    carry_down(alloc, view, delta, &mut changes, looked)?;
     changes.in_order(alloc)
 }
 

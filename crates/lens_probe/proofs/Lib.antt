@@ -6,5 +6,6 @@ pub mod Listed
 pub mod KnownParts
 pub mod PartLists
 pub mod Viewing
+mod NearRows
 pub mod RenamedViews
 pub mod Sizes

@@ -1,4 +1,5 @@
 pub mod Handed
+pub mod NearRows
 pub mod Looking
 pub mod Needs
 pub mod Reading

@@ -12,7 +12,9 @@ use Rattle.lens_laws.specs.Work.{TablesGiveAtMost, size}
 use Rattle.fd_closure.specs.Sides.{coded_names}
 use Rattle.lens_types.specs.LensCode.{lens_code}
 use Rattle.base_index.specs.Held.{Held, State, coded_held, is_indexed}
+use Rattle.lens_probe.specs.declared.near.Near.{Near}
 use Rattle.lens_probe.specs.Handed.{to_first, to_second}
+use Rattle.lens_probe.specs.NearRows.{AreKnown, of_join}
 
 -- the lens, the sets of columns that were handed down to it, and the tables
 pub record Viewed : Type 0 where
@@ -54,6 +56,10 @@ FindsAtMost v w = TablesGiveAtMost w (asked v.lens v.sets) v.tables.present.rela
 -- for such a number, n is no less than the size of the view
 abbrev pub IsWithin : Viewed → ℕ → Type 0
 IsWithin v n = (w : ℕ) × FindsAtMost v w × (size v.lens w ≤ n)
+
+-- these rows of the first join down the lens are known
+abbrev pub AreNear : Viewed → List Near → Type 0
+AreNear v near = AreKnown (of_join v.lens v.tables.present.relations) near
 
 -- whether the columns are the left side of one of the edges
 abbrev pub is_left_side : Names → List Edge → Bool

@@ -10,9 +10,11 @@ ghost use Rattle.lens_laws.specs.KeyedDeltas.{find_by};
 ghost use Rattle.lens_laws.specs.Lenses.{IsTyped};
 ghost use Rattle.lens_laws.specs.Work.{size};
 ghost use Rattle.signed_delta.specs.Keys.{IsKey};
+ghost use Rattle.lens_probe.specs.NearRows.{AreKnown, of_join};
 ghost use Rattle.lens_probe.specs.Looking.{ArePartners, FindsWithin, MayFind, find_part, pairs_of};
 
 use crate::columns::{names_of, shared_names};
+use crate::near::{Near, known_rows};
 use crate::pairing::add_pairs;
 use crate::selecting::selected;
 use base_index::Tables;
@@ -39,14 +41,17 @@ struct Partners {
     rows: RowSet,
 }
 
-/// The rows that the lens shows of the tables and that agree with the key on its columns.
+/// The rows that the lens shows of the tables and that agree with the key on its columns. What is
+/// near is not looked for again.
 #[cycle(find)]
 pub(crate) fn find_in<L: Ledger>(
     alloc: Global,
     lens: &TypedLens,
+    near: &[Near],
     query: &Query<'_>,
     looked: &mut Steps<L>,
 ) -> Result<RowSet, NoMemory>
+    requires near { AreKnown (of_join lens.now query.now.tables.now.present.relations) near.now }
     requires asked { MayFind lens.now query.now.tables.now.present query.now.cols.now }
     requires key { IsKey query.now.cols.now query.now.key.now }
     ensures found { let shown = get lens.now query.now.tables.now.present.relations in
@@ -58,20 +63,17 @@ pub(crate) fn find_in<L: Ledger>(
     match lens.node() {
         Node::Base { table, .. } => query.tables.find(table, query.cols, query.key, looked),
         Node::Select { pred, of } => {
-            let found = find_in(alloc, of, query, looked)?;
+            let found = find_in(alloc, of, near, query, looked)?;
             selected(alloc, pred, found)
         }
-        Node::Drop { of, .. } => find_parts(alloc, names_of(lens), of, query, looked),
-        Node::Rename { col, to, of } => find_renamed(alloc, col, to, of, query, looked),
-        Node::Join { kind, left, right } => find_joined(
-            alloc,
-            kind,
-            left,
-            right,
-            names_of(lens),
-            query,
-            looked,
-        ),
+        Node::Drop { of, .. } => find_parts(alloc, names_of(lens), of, near, query, looked),
+        Node::Rename { col, to, of } => find_renamed(alloc, col, to, of, near, query, looked),
+        Node::Join { kind, left, right } => {
+            if let Some(rows) = known_rows(near, query) {
+                return rows.copy(alloc);
+            }
+            find_joined(alloc, kind, left, right, names_of(lens), query, looked)
+        }
     }
 }
 
@@ -82,9 +84,11 @@ fn find_parts<L: Ledger>(
     alloc: Global,
     kept: &Names,
     lens: &TypedLens,
+    near: &[Near],
     query: &Query<'_>,
     looked: &mut Steps<L>,
 ) -> Result<RowSet, NoMemory>
+    requires near { AreKnown (of_join lens.now query.now.tables.now.present.relations) near.now }
     requires kept { Within query.now.cols.now kept.now }
     requires asked { MayFind lens.now query.now.tables.now.present query.now.cols.now }
     requires key { IsKey query.now.cols.now query.now.key.now }
@@ -96,11 +100,14 @@ fn find_parts<L: Ledger>(
         → looked.new ≤ looked.old + size lens.now w }
 {
     match lens.node() {
-        Node::Join { kind, left, right } => find_joined(
-            alloc, kind, left, right, kept, query, looked,
-        ),
+        Node::Join { kind, left, right } => {
+            if let Some(rows) = known_rows(near, query) {
+                return rows.project(alloc, kept);
+            }
+            find_joined(alloc, kind, left, right, kept, query, looked)
+        }
         Node::Base { .. } | Node::Select { .. } | Node::Drop { .. } | Node::Rename { .. } => {
-            let found = find_in(alloc, lens, query, looked)?;
+            let found = find_in(alloc, lens, near, query, looked)?;
             found.project(alloc, kept)
         }
     }
@@ -113,9 +120,11 @@ fn find_renamed<L: Ledger>(
     col: &Name,
     to: &Name,
     of: &TypedLens,
+    near: &[Near],
     query: &Query<'_>,
     looked: &mut Steps<L>,
 ) -> Result<RowSet, NoMemory>
+    requires near { AreKnown (of_join of.now query.now.tables.now.present.relations) near.now }
     requires typed { IsTyped (rename col.now to.now of.now) }
     requires asked { let st = query.now.tables.now.present in
         MayFind (rename col.now to.now of.now) st query.now.cols.now }
@@ -134,7 +143,7 @@ fn find_renamed<L: Ledger>(
         key: &key,
         ..*query
     };
-    let found = find_in(alloc, of, &asked, looked)?;
+    let found = find_in(alloc, of, near, &asked, looked)?;
     rename_set(alloc, &found, names_of(of), col, to)
 }
 
@@ -235,7 +244,7 @@ fn find_by_part<L: Ledger>(
         → looked.new ≤ looked.old + size side.now w }
 {
     if query.cols.within(names_of(side)) {
-        return find_in(alloc, side, query, looked);
+        return find_in(alloc, side, &[], query, looked);
     }
     let part = query.cols.meet(alloc, names_of(side))?;
     let part_key = query.key.project(alloc, &part)?;
@@ -244,7 +253,7 @@ fn find_by_part<L: Ledger>(
         key: &part_key,
         ..*query
     };
-    find_in(alloc, side, &asked, looked)
+    find_in(alloc, side, &[], &asked, looked)
 }
 
 // Each of the rows, which are of the left side or of the right one, put together with each row of
@@ -324,6 +333,6 @@ fn partners_of<L: Ledger>(
         key: &key,
         ..*query
     };
-    let rows = find_in(alloc, other, &asked, looked)?;
+    let rows = find_in(alloc, other, &[], &asked, looked)?;
     Ok(Partners { key, rows })
 }

@@ -28,6 +28,13 @@ impl HandedDown {
         HandedDown {}
     }
 
+    /// The same sets.
+    pub fn copy(&self) -> HandedDown
+        ensures { result.sets ≡ self.now.sets }
+    {
+        HandedDown {}
+    }
+
     /// What a view of the lens hands down to its only source, or to its left side.
     pub fn to_first(&self, _lens: &TypedLens) -> HandedDown
         ensures { result.sets ≡ to_first _lens.now self.now.sets }

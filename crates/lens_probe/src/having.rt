@@ -6,10 +6,12 @@ ghost use Rattle.lens_specs.specs.Lens.{get, sort_of, view_names};
 ghost use Rattle.lens_specs.specs.Relation.{has};
 ghost use Rattle.lens_specs.specs.Rows.{agree};
 ghost use Rattle.lens_laws.specs.Work.{size};
+ghost use Rattle.lens_probe.specs.NearRows.{AreKnown, of_join};
 ghost use Rattle.lens_probe.specs.Looking.{LooksWithin, MayLook};
 
 use crate::columns::names_of;
 use crate::finding::{Query, find_in};
+use crate::near::Near;
 use base_index::Tables;
 use lens_types::{Node, TypedLens, rename_row};
 use lens_values::{NoMemory, Row};
@@ -21,10 +23,12 @@ use step_counter::Steps;
 pub(crate) fn has_in<L: Ledger>(
     alloc: Global,
     lens: &TypedLens,
+    near: &[Near],
     tables: &Tables,
     row: &Row,
     looked: &mut Steps<L>,
 ) -> Result<bool, NoMemory>
+    requires near { AreKnown (of_join lens.now tables.now.present.relations) near.now }
     requires may { MayLook lens.now tables.now.present }
     requires fits { Fits (sort_of lens.now).columns row.now }
     ensures there { let shown = get lens.now tables.now.present.relations in
@@ -38,7 +42,7 @@ pub(crate) fn has_in<L: Ledger>(
             if !pred.holds(row) {
                 return Ok(false);
             }
-            has_in(alloc, of, tables, row, looked)
+            has_in(alloc, of, near, tables, row, looked)
         }
         Node::Drop { by, of, .. } => {
             let key = row.project(alloc, by)?;
@@ -47,20 +51,20 @@ pub(crate) fn has_in<L: Ledger>(
                 cols: by,
                 key: &key,
             };
-            let found = find_in(alloc, of, &query, looked)?;
+            let found = find_in(alloc, of, near, &query, looked)?;
             Ok(any_agrees(lens, found.rows(), row))
         }
         Node::Rename { col, to, of } => {
             let old_row = rename_row(alloc, row, to, col)?;
-            has_in(alloc, of, tables, &old_row, looked)
+            has_in(alloc, of, near, tables, &old_row, looked)
         }
         Node::Join { left, right, .. } => {
             let left_row = row.project(alloc, names_of(left))?;
-            if !has_in(alloc, left, tables, &left_row, looked)? {
+            if !has_in(alloc, left, &[], tables, &left_row, looked)? {
                 return Ok(false);
             }
             let right_row = row.project(alloc, names_of(right))?;
-            has_in(alloc, right, tables, &right_row, looked)
+            has_in(alloc, right, &[], tables, &right_row, looked)
         }
     }
 }

@@ -8,6 +8,7 @@ mod finding;
 mod handed;
 mod having;
 mod known;
+mod near;
 mod needed;
 mod pairing;
 mod reading;
@@ -15,5 +16,6 @@ mod selecting;
 mod unfiltered;
 pub mod view;
 
+pub use near::Near;
 pub use needed::needs;
 pub use view::View;

@@ -1,5 +1,5 @@
 //! A view of a lens over tables.
-ghost use Rattle.std.specs.Prelude.{◌≡◌, ◌≢◌, ◌+◌, ◌≤◌, [], Contains, IfOk, Some, length, true};
+ghost use Rattle.std.specs.Prelude.{◌≡◌, ◌≢◌, ◌+◌, ◌*◌, ◌≤◌, ℕ, [], Contains, IfOk, Some, length, true};
 ghost use Rattle.lens_values.specs.SortedSet as set;
 ghost use Rattle.lens_specs.specs.Delta.{diff};
 ghost use Rattle.lens_specs.specs.Lens.{sort_of};
@@ -7,14 +7,16 @@ ghost use Rattle.lens_specs.specs.Sort.{IsOfSort};
 ghost use Rattle.lens_laws.specs.Asked.{HasKeys, asked};
 ghost use Rattle.lens_laws.specs.Finds.{AllFit};
 ghost use Rattle.lens_laws.specs.Lenses.{AreOf};
+ghost use Rattle.lens_probe.specs.NearRows.{AreKnown, of_join};
 ghost use Rattle.lens_probe.specs.Reading.{rows_under};
-ghost use Rattle.lens_probe.specs.Viewed.{AreIndexed, CanAsk, IsViewed, IsWithin, Viewed, asked_by, both_sides};
+ghost use Rattle.lens_probe.specs.Viewed.{AreIndexed, AreNear, CanAsk, IsViewed, IsWithin, Viewed, asked_by, both_sides};
 ghost use Rattle.lens_probe.specs.Viewed.{is_left_side, only_source, shown, sides_of, source_of, viewed, viewed_code};
 
 use crate::differing::difference_in;
 use crate::finding::{Query, find_in};
 use crate::handed::HandedDown;
 use crate::having::has_in;
+use crate::near::{Near, near_each};
 use crate::reading::read_in;
 use base_index::Tables;
 use fd_tree::Edge;
@@ -35,6 +37,8 @@ pub struct View<'a> {
     sort: &'a Sort,
     tables: &'a Tables,
     handed: HandedDown,
+    // What was found beforehand, and is not looked for again.
+    near: &'a [Near],
 }
 
 impl<'a> Model for View<'a> {
@@ -44,7 +48,7 @@ impl<'a> Model for View<'a> {
 
     ghost view = { λ v. viewed v.lens.now v.handed.sets v.tables.now };
 
-    ghost invariant = { λ v. IsViewed (viewed v.lens.now v.handed.sets v.tables.now) × (v.sort.now ≡ sort_of v.lens.now) };
+    ghost invariant = { λ v. IsViewed (viewed v.lens.now v.handed.sets v.tables.now) × (v.sort.now ≡ sort_of v.lens.now) × AreKnown (of_join v.lens.now v.tables.now.present.relations) v.near.now };
 }
 
 impl<'a> View<'a> {
@@ -56,12 +60,18 @@ impl<'a> View<'a> {
         requires indexed { AreIndexed (asked lens.now []) tables.now.present }
         ensures { result ≡ record { lens = lens.now; sets = []; tables = tables.now } }
     {
-        View::new(lens, tables, HandedDown::none())
+        View::new(lens, tables, HandedDown::none(), &[])
     }
 
-    // The view of a lens to which these sets were handed down.
-    fn new(lens: &'a TypedLens, tables: &'a Tables, handed: HandedDown) -> View<'a>
-        requires { CanAsk lens.now handed.sets tables.now.present }
+    // The view of a lens to which these sets were handed down, and of which this is known.
+    fn new(
+        lens: &'a TypedLens,
+        tables: &'a Tables,
+        handed: HandedDown,
+        near: &'a [Near],
+    ) -> View<'a>
+        requires asks { CanAsk lens.now handed.sets tables.now.present }
+        requires near { AreKnown (of_join lens.now tables.now.present.relations) near.now }
         ensures { result ≡ viewed lens.now handed.sets tables.now }
     {
         View {
@@ -69,6 +79,7 @@ impl<'a> View<'a> {
             sort: lens.sort(),
             tables,
             handed,
+            near,
         }
     }
 
@@ -145,12 +156,45 @@ impl<'a> View<'a> {
         difference_in(alloc, self.lens, self.tables, rows, walked)
     }
 
+    /// What a few rows that are removed and added are near to, found once: an edit of them asks for
+    /// it again and again.
+    pub fn near<L: Ledger>(
+        &self,
+        alloc: Global,
+        removed: &RowSet,
+        added: &RowSet,
+        looked: &mut Steps<L>,
+    ) -> Result<Vec<Near>, NoMemory>
+        requires removed { AllFit (sort_of self.now.lens).columns removed.now }
+        requires added { AllFit (sort_of self.now.lens).columns added.now }
+        ensures near { IfOk result (λ near. AreNear self.now near.items) }
+        ensures looks { (n : ℕ) → IsWithin self.now n → looked.new ≤ looked.old
+            + n * (length (set.items removed.now) + length (set.items added.now)) }
+    {
+        let none = Vec::new(alloc);
+        let near = near_each(alloc, self.lens, self.tables, removed, none, looked)?;
+        near_each(alloc, self.lens, self.tables, added, near, looked)
+    }
+
+    /// The same view, which does not look again for what was found.
+    pub fn knowing<'b>(&'b self, near: &'b [Near]) -> View<'b>
+        requires { AreNear self.now near.now }
+        ensures { result ≡ self.now }
+    {
+        View::new(self.lens, self.tables, self.handed.copy(), near)
+    }
+
     /// The view of this source of the lens, which is its only one.
     pub fn over(&self, source: &'a TypedLens) -> View<'a>
         requires { only_source self.now.lens ≡ Some source.now }
         ensures { Some result ≡ source_of self.now }
     {
-        View::new(source, self.tables, self.handed.to_first(self.lens))
+        View::new(
+            source,
+            self.tables,
+            self.handed.to_first(self.lens),
+            self.near,
+        )
     }
 
     /// The views of these sides of the lens, the left one first.
@@ -158,8 +202,8 @@ impl<'a> View<'a> {
         requires { both_sides self.now.lens ≡ Some (left.now, right.now) }
         ensures { Some result ≡ sides_of self.now }
     {
-        let over_left = View::new(left, self.tables, self.handed.to_first(self.lens));
-        let over_right = View::new(right, self.tables, self.handed.to_second(self.lens));
+        let over_left = View::new(left, self.tables, self.handed.to_first(self.lens), &[]);
+        let over_right = View::new(right, self.tables, self.handed.to_second(self.lens), &[]);
         (over_left, over_right)
     }
 }
@@ -181,7 +225,7 @@ impl<'a> Look for View<'a> {
         row: &Row,
         looked: &mut Steps<L>,
     ) -> Result<bool, NoMemory> {
-        has_in(alloc, self.lens, self.tables, row, looked)
+        has_in(alloc, self.lens, self.near, self.tables, row, looked)
     }
 
     fn find<L: Ledger>(
@@ -197,7 +241,7 @@ impl<'a> Look for View<'a> {
             cols,
             key: &part,
         };
-        find_in(alloc, self.lens, &query, looked)
+        find_in(alloc, self.lens, self.near, &query, looked)
     }
 }
 

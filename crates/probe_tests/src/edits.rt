@@ -53,7 +53,7 @@ pub(crate) fn changes_of<L: Ledger>(
     requires { IsOfSort rows.now (sort_of view.now.lens) }
 {
     let delta = difference(alloc, view, rows, looked)?;
-    Ok(put_delta(alloc, view, &delta, looked)?)
+    Ok(put_delta(alloc, view, delta, looked)?)
 }
 
 /// The whole relations after a put of these rows.

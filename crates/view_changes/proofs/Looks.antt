@@ -22,25 +22,25 @@ check_within L d e w old new edges h =
     let k = keyed_work L (rows_of d) e w (omega arith) in
     omega (arith, h, p, q, k)
 
--- one look-up for each row that is sent
-pub touched_within : (L : Lens) (r w old new : ℕ) → new ≤ old + size L w * r → new ≤ old + work L r w
-touched_within L r w old new h =
-    let k = keyed_work L r 1 w (omega arith) in
-    let q : size L w * r ≡ 1 * r * size L w = grind arith in
-    omega (arith, h, q, k)
-
 pub once_of_two : (x old new : ℕ) → new ≤ old + x → new ≤ old + 2 * x
 once_of_two x old new h = omega (arith, h)
-
-pub once_of_three : (x old new : ℕ) → new ≤ old + x → new ≤ old + 3 * x
-once_of_three x old new h = omega (arith, h)
 
 pub twice : (x old mid new : ℕ) → mid ≤ old + x → new ≤ mid + x → new ≤ old + 2 * x
 twice x old mid new h k = omega (arith, h, k)
 
 -- the rows that are sent are looked for, and then fewer are carried down
-pub thrice : (L : Lens) (d r w old mid new : ℕ) → d ≤ r → mid ≤ old + work L r w → new ≤ mid + 2 * work L d w → new ≤ old + 3 * work L r w
-thrice L d r w old mid new few h k = let g = work_grows L d r w w few (omega arith) in omega (arith, g, h, k)
+pub carried_few : (L : Lens) (d r w old mid new : ℕ) → d ≤ r → mid ≤ old + size L w * r → new ≤ mid + 2 * work L d w → new ≤ old + (size L w * r + 2 * work L r w)
+carried_few L d r w old mid new few h k = let g = work_grows L d r w w few (omega arith) in omega (arith, g, h, k)
+
+-- what is near the rows is looked for before them
+pub near_first : (L : Lens) (r w old mid new : ℕ) → mid ≤ old + size L w * r → new ≤ mid + (size L w * r + 2 * work L r w) → new ≤ old + 3 * work L r w
+near_first L r w old mid new h k =
+    let g = keyed_work L r 2 w (omega arith) in
+    let q : size L w * r + size L w * r ≡ 2 * r * size L w = grind arith in
+    omega (arith, g, q, h, k)
+
+pub near_alone : (L : Lens) (r w old new : ℕ) → new ≤ old + size L w * r → new ≤ old + 3 * work L r w
+near_alone L r w old new h = near_first L r w old old new (omega arith) (omega (arith, h))
 
 -- ---- rows that are sent
 

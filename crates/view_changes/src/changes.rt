@@ -3,10 +3,10 @@ ghost use Rattle.std.specs.Prelude.{◌≡◌, ◌<◌, ◌+◌, ◌*◌, ◌≤
 ghost use Rattle.request_text.specs.Answers.{edit_refusal_view, list_view};
 ghost use Rattle.server_specs.specs.EditRefusal as refusals;
 ghost use Rattle.server_specs.specs.Changing as spec;
-ghost use Rattle.lens_specs.specs.Delta.{AppliesTo};
-ghost use Rattle.lens_specs.specs.Lens.{sort_of};
+ghost use Rattle.lens_specs.specs.Delta.{AppliesTo, new_view};
+ghost use Rattle.lens_specs.specs.Lens.{get, sort_of};
 ghost use Rattle.lens_laws.specs.Finds.{AllFit};
-ghost use Rattle.lens_laws.specs.Work.{rows_of, work};
+ghost use Rattle.lens_laws.specs.Work.{count_of, rows_of, size, work};
 ghost use Rattle.lens_probe.specs.Reading.{rows_under};
 ghost use Rattle.lens_probe.specs.Viewed.{FindsAtMost, IsViewed, shown};
 ghost use Rattle.lens_chain.specs.Edits.{edited, over};
@@ -72,7 +72,7 @@ pub fn put_rows<L: Ledger, M: Ledger>(
 {
     not_stale(alloc, opened, on)?;
     let delta = opened.view.difference(alloc, rows, walked)?;
-    carried(alloc, &opened.view, &delta, looked)
+    carried(alloc, &opened.view, delta, looked)
 }
 
 /// What changes in the tables when rows of the view are removed and others added, or the first
@@ -94,8 +94,9 @@ pub fn edit<M: Ledger>(
     let removed = set_in(alloc, opened, RowList::Remove, remove)?;
     let added = set_in(alloc, opened, RowList::Add, add)?;
     not_stale(alloc, opened, on)?;
-    let delta = of_touched(alloc, &removed, &added, &opened.view, looked)?;
-    carried(alloc, &opened.view, &delta, looked)
+    let near = opened.view.near(alloc, &removed, &added, looked)?;
+    let view = opened.view.knowing(&near);
+    carried_rows(alloc, &view, &removed, &added, looked)
 }
 
 /// The set of the rows that a list says, or its first bad row.
@@ -145,20 +146,43 @@ fn is_outside(on: u64, changed_at: u64, version: u64) -> bool
     on < changed_at || version < on
 }
 
+/// What changes in the tables when these rows, which fit, are removed and added, where the view is
+/// of its sort after it.
+fn carried_rows<M: Ledger>(
+    alloc: Global,
+    view: &View<'_>,
+    removed: &RowSet,
+    added: &RowSet,
+    looked: &mut Steps<M>,
+) -> Result<Vec<TableDelta>, Refusal>
+    requires viewed { IsViewed view.now }
+    requires removed { AllFit (sort_of view.now.lens).columns removed.now }
+    requires added { AllFit (sort_of view.now.lens).columns added.now }
+    ensures put { let L = view.now.lens in let db = over view.now in
+        let rows = new_view (get L db) (record { remove = removed.now; add = added.now }) in
+        IsPut L db result (spec.of_sort (sort_of L) rows) }
+    ensures looks { (w : ℕ) → FindsAtMost view.now w
+        → let sent = count_of removed.now + count_of added.now in let L = view.now.lens in
+        looked.new ≤ looked.old + (size L w * sent + 2 * work L sent w) }
+{
+    let delta = of_touched(alloc, removed, added, view, looked)?;
+    carried(alloc, view, delta, looked)
+}
+
 /// What the difference changes in the tables, where the view is of its sort after it.
 fn carried<M: Ledger>(
     alloc: Global,
     view: &View<'_>,
-    delta: &Delta,
+    delta: Delta,
     looked: &mut Steps<M>,
 ) -> Result<Vec<TableDelta>, Refusal>
-    requires { AppliesTo delta.now (shown view.now) }
+    requires { AppliesTo delta (shown view.now) }
     ensures put { let L = view.now.lens in let db = over view.now in
-        IsPut L db result (spec.of_sort (sort_of L) (edited L db delta.now)) }
+        IsPut L db result (spec.of_sort (sort_of L) (edited L db delta)) }
     ensures looks { (w : ℕ) → FindsAtMost view.now w
-        → looked.new ≤ looked.old + 2 * work view.now.lens (rows_of delta.now) w }
+        → looked.new ≤ looked.old + 2 * work view.now.lens (rows_of delta) w }
 {
-    checked(alloc, view, delta, looked)?;
+    checked(alloc, view, &delta, looked)?;
     let deltas = put_delta(alloc, view, delta, looked)?;
     Ok(deltas)
 }

@@ -1,8 +1,7 @@
-use Rattle.std.proofs.Common.{◌≡◌, ◌∙◌, ◌+◌, ◌≤◌, ap, map, subst}
+use Rattle.std.proofs.Common.{◌≡◌, ◌∙◌, ap, map}
 use Rattle.std.proofs.lemmas.Result.{IfOk-weaker}
 use Rattle.std.specs.FinMap as finmap
-use Rattle.lens_specs.specs.Delta.{Delta, changes}
-use Rattle.lens_laws.specs.Work.{rows_of, work}
+use Rattle.lens_specs.specs.Delta.{changes}
 use Rattle.lens_laws.specs.Edits.{table_deltas}
 use Rattle.signed_delta.specs.Tables.{table_delta}
 use Rattle.lens_chain.specs.Changed.{in_order, with_changes}
@@ -13,17 +12,13 @@ use Rattle.lens_chain.proofs.putting.put_delta.Goals as goal
 pub returns : goal.returns
 returns g c =
     let v = c.args.view.now in
-    let d = c.args.delta.now in
+    let d = c.args.delta in
     let gathered : c.carry_down.new.changes ≡ with_changes (table_deltas v.lens d (over v)) finmap.empty =
-    c.in_ok-carry_down.ensures.changes ∙ (λ i. with_changes (table_deltas v.lens (c.in_ok-copy.ensures i) (over v)) (c.new-changes.ensures i)) in
+    c.in_ok-carry_down.ensures.changes ∙ ap (with_changes (table_deltas v.lens d (over v))) c.new-changes.ensures in
     let whole = IfOk-weaker c.in_order.result (λ list. map table_delta list.items ≡ in_order c.carry_down.new.changes) (λ list. map table_delta list.items ≡ changes v.lens (edited v.lens (over v) d) (over v))
     (λ list is. is ∙ ap in_order gathered ∙ changes_gathered v.lens (over v) c.carry_down.ensures.viewed.0 c.carry_down.ensures.viewed.1.tables d c.requires.edit)
     c.in_order.ensures in
     record {
       changes = whole;
-      looks = λ w few. subst (λ (x : Delta). c.carry_down.new.looked ≤ c.args.looked.now + work v.lens (rows_of x) w) c.in_ok-copy.ensures (c.carry_down.ensures.looks w few);
+      looks = c.carry_down.ensures.looks;
     }
-
-pub returns-in_err-carry_down-clause-looks : goal.returns-in_err-carry_down-clause-looks
-returns-in_err-carry_down-clause-looks g c = λ w few.
-    subst (λ (x : Delta). c.carry_down.new.looked ≤ c.args.looked.now + work c.args.view.now.lens (rows_of x) w) c.in_ok-copy.ensures (c.carry_down.ensures.looks w few)

@@ -12,6 +12,7 @@ use Rattle.lens_laws.specs.KeyedDeltas.{find_by}
 use Rattle.lens_laws.specs.Lenses.{IsTyped}
 use Rattle.lens_laws.specs.Work.{size}
 use Rattle.signed_delta.proofs.Counts.{at_end, next, one_more}
+use Rattle.lens_probe.specs.NearRows.{AreKnown, of_join}
 use Rattle.lens_probe.specs.Looking.{ArePartners, FindsWithin, MayFind, pairs_of}
 use Rattle.lens_probe.proofs.Found.{drop_finds, found_by_whole, left_asked, left_finds, left_matches, next_pairs, partners_again, right_asked, right_finds, right_matches, rows_over, select_finds, shared_in, shown_to, found_whole, source_of_drop, source_of_select, table_finds, whole_part}
 use Rattle.lens_probe.proofs.RenamedViews.{found_there, key_lacks, names_are, old_asked, old_finds, old_over, new_is_free, rename_size, renamed_finds, source_over}
@@ -21,7 +22,7 @@ use Rattle.lens_probe.proofs.finding.+find.Goals as goal
 pub find_in-find_in-requires : goal.find_in-find_in-requires
 find_in-find_in-requires g t c κs within =
     let is = c.in-Select.ensures.is in
-    (omega (arith, c.decreases, ap nodes_of is), (within, (source_of_select c.args.lens.now c.in-Select.of.now c.in-Select.pred.now c.args.query.now.tables.now.present c.args.query.now.cols.now is c.node.ensures.typed c.requires.asked, c.requires.key)))
+    (omega (arith, c.decreases, ap nodes_of is), (within, (subst (λ M. AreKnown (of_join M c.args.query.now.tables.now.present.relations) c.args.near.now) (sym is) c.requires.near, (source_of_select c.args.lens.now c.in-Select.of.now c.in-Select.pred.now c.args.query.now.tables.now.present c.args.query.now.cols.now is c.node.ensures.typed c.requires.asked, c.requires.key))))
 
 pub find_in-find_parts-requires : goal.find_in-find_parts-requires
 find_in-find_parts-requires g t c κs within =
@@ -33,8 +34,11 @@ find_in-find_parts-requires g t c κs within =
       (
         within,
         (
-          subst (Within C) (sym c.names_of.ensures) (shown_to L st C c.node.ensures.typed c.requires.asked),
-          (source_of_drop L c.in-Drop.of.now c.in-Drop.col.now c.in-Drop.by.now c.in-Drop.fill.now st C is c.node.ensures.typed c.requires.asked, c.requires.key),
+          subst (λ M. AreKnown (of_join M c.args.query.now.tables.now.present.relations) c.args.near.now) (sym is) c.requires.near,
+          (
+            subst (Within C) (sym c.names_of.ensures) (shown_to L st C c.node.ensures.typed c.requires.asked),
+            (source_of_drop L c.in-Drop.of.now c.in-Drop.col.now c.in-Drop.by.now c.in-Drop.fill.now st C is c.node.ensures.typed c.requires.asked, c.requires.key),
+          ),
         ),
       ),
     )
@@ -60,8 +64,8 @@ find_in-returns-in-Drop-clause-found g t c =
     drop_finds c.find_parts.result c.args.lens.now S c.in-Drop.col.now c.in-Drop.by.now c.in-Drop.fill.now st C c.names_of.result.now k (find_by C k (get S st.relations)) is
     c.node.ensures.typed c.requires.asked c.names_of.ensures refl c.find_parts.ensures.found
 
-pub find_in-returns-in-Join-clause-found : goal.find_in-returns-in-Join-clause-found
-find_in-returns-in-Join-clause-found g t c =
+pub find_in-returns-in_default-clause-found : goal.find_in-returns-in_default-clause-found
+find_in-returns-in_default-clause-found g t c =
     let L = c.args.lens.now in
     let st = c.args.query.now.tables.now.present in
     let C = c.args.query.now.cols.now in
@@ -86,8 +90,8 @@ find_parts-find_joined-requires g t c κs within =
       ),
     )
 
-pub find_parts-returns-in-Join-clause-found : goal.find_parts-returns-in-Join-clause-found
-find_parts-returns-in-Join-clause-found g t c =
+pub find_parts-returns-in_default-clause-found : goal.find_parts-returns-in_default-clause-found
+find_parts-returns-in_default-clause-found g t c =
     let is = c.in-Join.ensures.is in
     IfOk-weaker c.find_joined.result _ _
     (λ found made. made ∙ (λ i. project c.args.kept.now (find_by c.args.query.now.cols.now c.args.query.now.key.now (get (is i) c.args.query.now.tables.now.present.relations))))
@@ -95,7 +99,7 @@ find_parts-returns-in-Join-clause-found g t c =
 
 pub find_parts-returns-in_ok-found-in-Base-clause-found : goal.find_parts-returns-in_ok-found-in-Base-clause-found
 find_parts-returns-in_ok-found-in-Base-clause-found g t c =
-    IfOk-weaker c.project.result _ _ (λ part made. made ∙ ap (project c.args.kept.now) c.in_ok-found-in-Base.ensures.found) c.project.ensures
+    IfOk-weaker c.project-in-Base.result _ _ (λ part made. made ∙ ap (project c.args.kept.now) c.in_ok-found-in-Base.ensures.found) c.project-in-Base.ensures
 
 pub find_in-find_joined-requires : goal.find_in-find_joined-requires
 find_in-find_joined-requires g t c κs within =
@@ -125,8 +129,11 @@ find_in-find_renamed-requires g t c κs within =
       (
         within,
         (
-          subst IsTyped (sym is) c.node.ensures.typed,
-          (subst (λ L. MayFind L c.args.query.now.tables.now.present c.args.query.now.cols.now) (sym is) c.requires.asked, c.requires.key),
+          subst (λ M. AreKnown (of_join M c.args.query.now.tables.now.present.relations) c.args.near.now) (sym is) c.requires.near,
+          (
+            subst IsTyped (sym is) c.node.ensures.typed,
+            (subst (λ L. MayFind L c.args.query.now.tables.now.present c.args.query.now.cols.now) (sym is) c.requires.asked, c.requires.key),
+          ),
         ),
       ),
     )
@@ -150,7 +157,7 @@ find_renamed-find_in-requires g t c κs within =
     let cols = names_are B A C c.in_ok-cols.cols c.in_ok-cols.ensures in
     let asked = old_asked A B S c.requires.typed st C c.requires.asked c.in_ok-cols.cols cols in
     let over = old_over A B S c.requires.typed st C c.requires.asked c.in_ok-cols.cols c.args.query.now.key.now c.in_ok-key.key c.requires.key cols c.in_ok-key.ensures in
-    (omega (arith, c.decreases), (within, (asked, over)))
+    (omega (arith, c.decreases), (within, (c.requires.near, (asked, over))))
 
 pub find_renamed-rename_set-requires-clause-over : goal.find_renamed-rename_set-requires-clause-over
 find_renamed-rename_set-requires-clause-over g t c = λ row i.
@@ -226,7 +233,7 @@ pairs_from-returns-clause-found g t c =
 pub find_by_part-find_in-requires : goal.find_by_part-find_in-requires
 find_by_part-find_in-requires g t c κs within =
     let whole = whole_part c.args.query.now.cols.now (view_names c.args.side.now) (sym (c.within.ensures ∙ ap (set.is_subset c.args.query.now.cols.now) c.names_of.ensures) ∙ c.if-within.true) in
-    (omega (arith, c.decreases), (within, (subst (MayFind c.args.side.now c.args.query.now.tables.now.present) whole c.requires.asked, c.requires.key)))
+    (omega (arith, c.decreases), (within, (λ k d low. absurd (omega (arith, low)), (subst (MayFind c.args.side.now c.args.query.now.tables.now.present) whole c.requires.asked, c.requires.key))))
 
 pub find_by_part-returns-then-within-clause-found : goal.find_by_part-returns-then-within-clause-found
 find_by_part-returns-then-within-clause-found g t c =
@@ -241,7 +248,7 @@ find_by_part-find_in-requires-2 g t c κs within =
     let U = view_names c.args.side.now in
     let part = c.in_ok-part.ensures ∙ ap (set.intersection C) c.names_of-2.ensures in
     let key = key_is_over C U c.in_ok-part.part c.args.query.now.key.now c.in_ok-part_key.part_key c.requires.key part c.in_ok-part_key.ensures in
-    (omega (arith, c.decreases), (within, (subst (MayFind c.args.side.now c.args.query.now.tables.now.present) (sym part) c.requires.asked, key)))
+    (omega (arith, c.decreases), (within, (λ k d low. absurd (omega (arith, low)), (subst (MayFind c.args.side.now c.args.query.now.tables.now.present) (sym part) c.requires.asked, key))))
 
 pub find_by_part-returns-clause-found : goal.find_by_part-returns-clause-found
 find_by_part-returns-clause-found g t c =
@@ -268,7 +275,7 @@ pair_each-loop-row-preserved g t c = (
 -- ---- the partners of a row
 
 pub partners_of-find_in-requires : goal.partners_of-find_in-requires
-partners_of-find_in-requires g t c κs within = (omega (arith, c.decreases), (within, (c.requires.asked, subst (IsOver c.args.shared.now) (sym c.in_ok-key.ensures) c.requires.over)))
+partners_of-find_in-requires g t c κs within = (omega (arith, c.decreases), (within, (λ k d low. absurd (omega (arith, low)), (c.requires.asked, subst (IsOver c.args.shared.now) (sym c.in_ok-key.ensures) c.requires.over))))
 
 pub partners_of-returns-then-agree_on-clause-rows : goal.partners_of-returns-then-agree_on-clause-rows
 partners_of-returns-then-agree_on-clause-rows g t c =
@@ -303,13 +310,13 @@ find_in-returns-in-Drop-clause-looks g t c = λ w few.
     subst (λ n. c.find_parts.new.looked ≤ c.args.looked.now + n) (dropped_size c.args.lens.now c.in-Drop.of.now c.in-Drop.col.now c.in-Drop.by.now c.in-Drop.fill.now w is)
     (c.find_parts.ensures.looks w (under_dropped c.args.lens.now c.in-Drop.of.now c.in-Drop.col.now c.in-Drop.by.now c.in-Drop.fill.now c.args.query.now.tables.now.present c.args.query.now.cols.now w is c.node.ensures.typed few))
 
-pub find_parts-returns-in-Join-clause-looks : goal.find_parts-returns-in-Join-clause-looks
-find_parts-returns-in-Join-clause-looks g t c = λ w few.
+pub find_parts-returns-in_default-clause-looks : goal.find_parts-returns-in_default-clause-looks
+find_parts-returns-in_default-clause-looks g t c = λ w few.
     let is = c.in-Join.ensures.is in
     subst (λ L. c.find_joined.new.looked ≤ c.args.looked.now + size L w) is (c.find_joined.ensures.looks w (subst (λ L. FindsWithin L c.args.query.now.tables.now.present c.args.query.now.cols.now w) (sym is) few))
 
-pub find_in-returns-in-Join-clause-looks : goal.find_in-returns-in-Join-clause-looks
-find_in-returns-in-Join-clause-looks g t c = λ w few.
+pub find_in-returns-in_default-clause-looks : goal.find_in-returns-in_default-clause-looks
+find_in-returns-in_default-clause-looks g t c = λ w few.
     let is = c.in-Join.ensures.is in
     subst (λ L. c.find_joined.new.looked ≤ c.args.looked.now + size L w) is (c.find_joined.ensures.looks w (subst (λ L. FindsWithin L c.args.query.now.tables.now.present c.args.query.now.cols.now w) (sym is) few))
 

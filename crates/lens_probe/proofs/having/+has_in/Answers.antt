@@ -2,6 +2,7 @@ use Rattle.std.proofs.Common.{◌≡◌, ◌∙◌, ◌+◌, ◌≤◌, ap, arit
 use Rattle.std.specs.Prelude.{IfOk}
 use Rattle.lens_specs.specs.Lens.{get, join, nodes_of, rename, view_names}
 use Rattle.lens_specs.specs.Relation.{has}
+use Rattle.lens_probe.specs.NearRows.{AreKnown, of_join}
 use Rattle.lens_probe.proofs.Contained.{drop_has, drop_over, join_has, join_lacks, left_of_join, left_part_fits, refused_has, right_of_join, right_part_fits, select_fits, selected_has, source_of_drop, source_of_select, table_has}
 use Rattle.lens_probe.proofs.RenamedViews.{fits_in, has_in_rename, lacks_in, looks_in, size_in, source_looks}
 use Rattle.lens_probe.proofs.Sizes.{both_sides, dropped_size, left_alone, look_left, look_right, look_under_dropped, look_under_selected, selected_size, table_look}
@@ -21,8 +22,11 @@ has_in-requires g t c κs within =
       (
         within,
         (
-          source_of_select c.args.lens.now c.in-Select.of.now c.in-Select.pred.now c.args.tables.now.present is c.node.ensures.typed c.requires.may,
-          select_fits c.args.lens.now c.in-Select.of.now c.in-Select.pred.now c.args.row.now is c.requires.fits,
+          subst (λ M. AreKnown (of_join M c.args.tables.now.present.relations) c.args.near.now) (sym is) c.requires.near,
+          (
+            source_of_select c.args.lens.now c.in-Select.of.now c.in-Select.pred.now c.args.tables.now.present is c.node.ensures.typed c.requires.may,
+            select_fits c.args.lens.now c.in-Select.of.now c.in-Select.pred.now c.args.row.now is c.requires.fits,
+          ),
         ),
       ),
     )
@@ -39,6 +43,11 @@ returns-else-not-holds-clause-there g t c =
     (selected_has c.args.lens.now c.in-Select.of.now c.in-Select.pred.now c.args.tables.now.present.relations c.args.row.now is (sym c.holds.ensures ∙ c.if-not-holds.false)) c.has_in.ensures.there
 
 -- ---- a projection
+
+pub find_in-requires-clause-near : goal.find_in-requires-clause-near
+find_in-requires-clause-near g t c =
+    let is = c.in-Drop.ensures.is in
+    subst (λ M. AreKnown (of_join M c.args.tables.now.present.relations) c.args.near.now) (sym is) c.requires.near
 
 pub find_in-requires-clause-asked : goal.find_in-requires-clause-asked
 find_in-requires-clause-asked g t c =
@@ -75,8 +84,11 @@ has_in-requires-in-Rename g t c κs within =
       (
         within,
         (
-          source_looks c.args.lens.now S A B is c.node.ensures.typed st c.requires.may,
-          fits_in c.args.lens.now S A B is c.node.ensures.typed st c.args.row.now c.in_ok-old_row-in-Rename.old_row c.requires.may c.requires.fits c.in_ok-old_row-in-Rename.ensures,
+          subst (λ M. AreKnown (of_join M c.args.tables.now.present.relations) c.args.near.now) (sym is) c.requires.near,
+          (
+            source_looks c.args.lens.now S A B is c.node.ensures.typed st c.requires.may,
+            fits_in c.args.lens.now S A B is c.node.ensures.typed st c.args.row.now c.in_ok-old_row-in-Rename.old_row c.requires.may c.requires.fits c.in_ok-old_row-in-Rename.ensures,
+          ),
         ),
       ),
     )
@@ -98,8 +110,11 @@ has_in-requires-in-Join g t c κs within =
       (
         within,
         (
-          left_of_join c.in-Join.kind c.args.lens.now c.in-Join.left.now c.in-Join.right.now c.args.tables.now.present is c.node.ensures.typed c.requires.may,
-          left_part_fits c.in-Join.kind c.args.lens.now c.in-Join.left.now c.in-Join.right.now c.args.row.now c.in_ok-left_row-in-Join.left_row c.names_of.result.now is c.node.ensures.typed c.requires.fits cols c.in_ok-left_row-in-Join.ensures,
+          λ k d low. absurd (omega (arith, low)),
+          (
+            left_of_join c.in-Join.kind c.args.lens.now c.in-Join.left.now c.in-Join.right.now c.args.tables.now.present is c.node.ensures.typed c.requires.may,
+            left_part_fits c.in-Join.kind c.args.lens.now c.in-Join.left.now c.in-Join.right.now c.args.row.now c.in_ok-left_row-in-Join.left_row c.names_of.result.now is c.node.ensures.typed c.requires.fits cols c.in_ok-left_row-in-Join.ensures,
+          ),
         ),
       ),
     )
@@ -112,9 +127,12 @@ has_in-requires-in-Join-2 g t c κs within =
       (
         within,
         (
-          right_of_join c.in-Join.kind c.args.lens.now c.in-Join.left.now c.in-Join.right.now c.args.tables.now.present is c.node.ensures.typed c.requires.may,
-          right_part_fits c.in-Join.kind c.args.lens.now c.in-Join.left.now c.in-Join.right.now c.args.row.now c.in_ok-right_row-in-Join.right_row c.names_of-in-Join.result.now is c.node.ensures.typed c.requires.fits cols
-              c.in_ok-right_row-in-Join.ensures,
+          λ k d low. absurd (omega (arith, low)),
+          (
+            right_of_join c.in-Join.kind c.args.lens.now c.in-Join.left.now c.in-Join.right.now c.args.tables.now.present is c.node.ensures.typed c.requires.may,
+            right_part_fits c.in-Join.kind c.args.lens.now c.in-Join.left.now c.in-Join.right.now c.args.row.now c.in_ok-right_row-in-Join.right_row c.names_of-in-Join.result.now is c.node.ensures.typed c.requires.fits cols
+                c.in_ok-right_row-in-Join.ensures,
+          ),
         ),
       ),
     )

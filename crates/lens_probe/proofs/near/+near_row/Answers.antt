@@ -1,0 +1,44 @@
+use Rattle.std.proofs.Common.{◌+◌, ◌≤◌, ap, arith, subst, sym}
+use Rattle.lens_specs.specs.Lens.{nodes_of}
+use Rattle.lens_probe.specs.NearRows.{AreKnown, of_join}
+use Rattle.lens_probe.proofs.Contained.{drop_over, select_fits, source_of_drop, source_of_select}
+use Rattle.lens_probe.proofs.Sizes.{dropped_size, look_under_dropped, look_under_selected, selected_size}
+use Rattle.lens_probe.proofs.near.+near_row.Goals as goal
+
+pub near_row-requires : goal.near_row-requires
+near_row-requires g t c κs within =
+    let is = c.in-Select.ensures.is in (
+      omega (arith, c.decreases, ap nodes_of is),
+      (
+        within,
+        (
+          source_of_select c.args.lens.now c.in-Select.of.now c.in-Select.pred.now c.args.tables.now.present is c.node.ensures.typed c.requires.may,
+          (
+            select_fits c.args.lens.now c.in-Select.of.now c.in-Select.pred.now c.args.row.now is c.requires.fits,
+            subst (λ M. AreKnown (of_join M c.args.tables.now.present.relations) c.args.known.items) (sym is) c.requires.known,
+          ),
+        ),
+      ),
+    )
+
+pub near_key-requires-clause-asked : goal.near_key-requires-clause-asked
+near_key-requires-clause-asked g t c =
+    let is = c.in-Drop.ensures.is in
+    source_of_drop c.args.lens.now c.in-Drop.of.now c.in-Drop.col.now c.in-Drop.by.now c.in-Drop.fill.now c.args.tables.now.present is c.node.ensures.typed c.requires.may
+
+pub near_key-requires-clause-key : goal.near_key-requires-clause-key
+near_key-requires-clause-key g t c =
+    let is = c.in-Drop.ensures.is in
+    drop_over c.args.lens.now c.in-Drop.of.now c.in-Drop.col.now c.in-Drop.by.now c.in-Drop.fill.now c.args.row.now c.in_ok-key-in-Drop.key is c.node.ensures.typed c.requires.fits c.in_ok-key-in-Drop.ensures
+
+pub returns-in-Select-clause-looks : goal.returns-in-Select-clause-looks
+returns-in-Select-clause-looks g t c = λ w few.
+    let is = c.in-Select.ensures.is in
+    subst (λ n. c.near_row.new.looked ≤ c.args.looked.now + n) (selected_size c.args.lens.now c.in-Select.of.now c.in-Select.pred.now w is)
+    (c.near_row.ensures.looks w (look_under_selected c.args.lens.now c.in-Select.of.now c.in-Select.pred.now c.args.tables.now.present w is c.node.ensures.typed few))
+
+pub returns-in_ok-key-in-Drop-clause-looks : goal.returns-in_ok-key-in-Drop-clause-looks
+returns-in_ok-key-in-Drop-clause-looks g t c = λ w few.
+    let is = c.in-Drop.ensures.is in
+    subst (λ n. c.near_key.new.looked ≤ c.args.looked.now + n) (dropped_size c.args.lens.now c.in-Drop.of.now c.in-Drop.col.now c.in-Drop.by.now c.in-Drop.fill.now w is)
+    (c.near_key.ensures.looks w (look_under_dropped c.args.lens.now c.in-Drop.of.now c.in-Drop.col.now c.in-Drop.by.now c.in-Drop.fill.now c.args.tables.now.present w is c.node.ensures.typed few))

@@ -1,0 +1,5 @@
+use Rattle.lens_specs.specs.Lens.{nodes_of}
+use Rattle.lens_probe.proofs.near.+near_row.Given as goal
+
+abbrev pub decreases-near_row : goal.decreases-near_row
+decreases-near_row g l = nodes_of l.lens.now

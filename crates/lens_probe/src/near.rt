@@ -1,0 +1,155 @@
+//! Rows that are found once for all questions of an edit.
+ghost use Rattle.std.specs.Prelude.{◌≡◌, ◌≤◌, ◌+◌, ◌*◌, ℕ, IfOk, IfSome, length, true};
+ghost use Rattle.lens_values.specs.SortedSet as set;
+ghost use Rattle.lens_specs.specs.Columns.{Fits};
+ghost use Rattle.lens_specs.specs.Lens.{get, sort_of};
+ghost use Rattle.lens_specs.specs.Relation.{Rows};
+ghost use Rattle.lens_laws.specs.Finds.{AllFit};
+ghost use Rattle.lens_laws.specs.KeyedDeltas.{find_by};
+ghost use Rattle.lens_laws.specs.Work.{size};
+ghost use Rattle.signed_delta.specs.Keys.{IsKey};
+ghost use Rattle.lens_probe.specs.NearRows.{AreKnown, first_join, of_join};
+ghost use Rattle.lens_probe.specs.Looking.{FindsWithin, LooksWithin, MayFind, MayLook};
+
+use crate::finding::{Query, find_in};
+use base_index::Tables;
+use lens_types::{Node, TypedLens};
+use lens_values::{Names, NoMemory, Row};
+use row_sets::RowSet;
+use std::alloc::Global;
+use std::sync::ledger::Ledger;
+use step_counter::Steps;
+
+// For more rows nothing is found beforehand: each of them would be sought among all.
+const FEW: usize = 8;
+
+/// The rows of a join that agree with the key on these columns.
+#[derive(Drop)]
+pub struct Near {
+    cols: Names,
+    key: Row,
+    rows: RowSet,
+}
+
+impl Near {
+    // Whether its rows are those that the query asks for.
+    fn answers(&self, query: &Query<'_>) -> bool
+        ensures { (M : Rows) → result ≡ true → self.now.rows ≡ find_by self.now.cols self.now.key M
+            → self.now.rows ≡ find_by query.now.cols.now query.now.key.now M }
+    {
+        self.cols.same(query.cols) && query.key.agree_on(&self.key, query.cols)
+    }
+}
+
+/// The rows that the query asks for, if they are known.
+pub(crate) fn known_rows<'a>(near: &'a [Near], query: &Query<'_>) -> Option<&'a RowSet>
+    ensures { (M : Rows) → AreKnown M near.now → IfSome result (λ rows.
+        rows.now ≡ find_by query.now.cols.now query.now.key.now M) }
+{
+    for known in near {
+        if known.answers(query) {
+            return Some(&known.rows);
+        }
+    }
+    None
+}
+
+/// What is known, and what the first join down the lens shows by the key of each of the rows, if a
+/// column of it is dropped. Of many rows nothing is found.
+pub(crate) fn near_each<L: Ledger>(
+    alloc: Global,
+    lens: &TypedLens,
+    tables: &Tables,
+    rows: &RowSet,
+    known: Vec<Near>,
+    looked: &mut Steps<L>,
+) -> Result<Vec<Near>, NoMemory>
+    requires may { MayLook lens.now tables.now.present }
+    requires fit { AllFit (sort_of lens.now).columns rows.now }
+    requires known { AreKnown (of_join lens.now tables.now.present.relations) known.items }
+    ensures near { IfOk result (λ near.
+        AreKnown (of_join lens.now tables.now.present.relations) near.items) }
+    ensures looks { (w : ℕ) → LooksWithin lens.now tables.now.present w
+        → looked.new ≤ looked.old + size lens.now w * length (set.items rows.now) }
+{
+    let mut near = known;
+    if rows.rows().len() > FEW {
+        return Ok(near);
+    }
+    for row in rows.rows() {
+        near = near_row(alloc, lens, tables, row, near, looked)?;
+    }
+    Ok(near)
+}
+
+// The same of one row.
+fn near_row<L: Ledger>(
+    alloc: Global,
+    lens: &TypedLens,
+    tables: &Tables,
+    row: &Row,
+    known: Vec<Near>,
+    looked: &mut Steps<L>,
+) -> Result<Vec<Near>, NoMemory>
+    requires may { MayLook lens.now tables.now.present }
+    requires fits { Fits (sort_of lens.now).columns row.now }
+    requires known { AreKnown (of_join lens.now tables.now.present.relations) known.items }
+    ensures near { IfOk result (λ near.
+        AreKnown (of_join lens.now tables.now.present.relations) near.items) }
+    ensures looks { (w : ℕ) → LooksWithin lens.now tables.now.present w
+        → looked.new ≤ looked.old + size lens.now w }
+{
+    match lens.node() {
+        Node::Select { of, .. } => near_row(alloc, of, tables, row, known, looked),
+        Node::Drop { by, of, .. } if is_join(of) => {
+            let key = row.project(alloc, by)?;
+            near_key(alloc, of, tables, by, key, known, looked)
+        }
+        Node::Base { .. } | Node::Drop { .. } | Node::Rename { .. } | Node::Join { .. } => {
+            Ok(known)
+        }
+    }
+}
+
+// What is known, and the rows of the lens by the key.
+fn near_key<L: Ledger>(
+    alloc: Global,
+    lens: &TypedLens,
+    tables: &Tables,
+    cols: &Names,
+    key: Row,
+    known: Vec<Near>,
+    looked: &mut Steps<L>,
+) -> Result<Vec<Near>, NoMemory>
+    requires asked { MayFind lens.now tables.now.present cols.now }
+    requires key { IsKey cols.now key }
+    requires known { AreKnown (get lens.now tables.now.present.relations) known.items }
+    ensures near { IfOk result (λ near.
+        AreKnown (get lens.now tables.now.present.relations) near.items) }
+    ensures looks { (w : ℕ) → FindsWithin lens.now tables.now.present cols.now w
+        → looked.new ≤ looked.old + size lens.now w }
+{
+    let query = Query {
+        tables,
+        cols,
+        key: &key,
+    };
+    if known_rows(&known, &query).is_some() {
+        return Ok(known);
+    }
+    let rows = find_in(alloc, lens, &[], &query, looked)?;
+    let cols = cols.copy(alloc)?;
+    let mut near = known;
+    near.push(Near { cols, key, rows })?;
+    Ok(near)
+}
+
+// Whether the root of the lens is a join.
+fn is_join(lens: &TypedLens) -> bool
+    ensures { result ≡ true → first_join lens.now ≡ lens.now }
+{
+    match lens.node() {
+        Node::Join { .. } => true,
+        Node::Base { .. } | Node::Select { .. } | Node::Drop { .. } | Node::Rename { .. } => false,
+    }
+}
