@@ -1,7 +1,7 @@
 """The command `cigrelk`: one subcommand for each client.
 
-The status is 0 where a command did what it was asked, 1 where it could not, which standard error tells as `cigrelk COMMAND:
-sentence`, 2 where it was called wrongly, and 130 where an interrupt (Ctrl-C) ended it.
+The status is 0 if a command did what it was asked, and 1 if it could not: then standard error says why, as `cigrelk COMMAND:
+sentence`. It is 2 if the command was called wrongly, and 130 if an interrupt (Ctrl-C) ended it.
 """
 import argparse
 import importlib
@@ -18,7 +18,7 @@ from .texts import plain
 #     SUMMARY: str                                            one line for the list of commands
 #     add_arguments(parser: argparse.ArgumentParser) -> None  its arguments
 #     run(options: argparse.Namespace) -> int                 what it does; gives the status
-# and a docstring, which --help prints. What it cannot do it raises as CommandError, Refused, Ended or OSError.
+# and a docstring, which --help prints. If it cannot do what it is asked, it raises CommandError, Refused, Ended or OSError.
 # To add a command, write such a module and name it here.
 COMMANDS = {
     "edit": "cigrelk.editor.command",
@@ -41,7 +41,7 @@ def overview():
     """What `cigrelk --help` prints."""
     width = max(map(len, COMMANDS))
     lines = [f"    {name:{width}}  {module_of(name).SUMMARY}" for name in COMMANDS]
-    return "\n".join(["usage: cigrelk COMMAND [ARGUMENTS]", "", "Commands:", *lines, "", "cigrelk COMMAND --help tells the arguments of a command."])
+    return "\n".join(["usage: cigrelk COMMAND [ARGUMENTS]", "", "Commands:", *lines, "", "cigrelk COMMAND --help prints the arguments of a command."])
 
 
 def parser_of(name):
@@ -65,8 +65,8 @@ def carry_out(name, arguments):
 
 
 def main(arguments: Optional[List[str]] = None) -> int:
-    """Runs the command that the arguments name, or those of the command line, and gives its status. What a command could not do is
-    told on standard error."""
+    """Runs the command that the arguments name, or those of the command line, and gives its status. If a
+    command could not do what it was asked, standard error says why."""
     name, *rest = (sys.argv[1:] if arguments is None else arguments) or [None]
     try:
         return carry_out(name, rest)

@@ -4,13 +4,14 @@
     cigrelk hub shop.db                                              serves http://127.0.0.1:8080/
     cigrelk hub shop.db --journal --person ann --since 2026-12-01    who changed what, when, by which request
 
-Users, the hashes of their tokens and their rights are in STORE.users, and every change is in STORE.journal. A hub that runs takes
-STORE.users anew at SIGHUP. SIGTERM and Ctrl-C end it when what is under way is answered.
+Users, the hashes of their tokens and their rights are in STORE.users, and every change is in STORE.journal. A running hub reads
+STORE.users again at SIGHUP. At SIGTERM and Ctrl-C it answers what is under way, and ends.
 
-Rights are words: VIEW=read,preview,edit gives these on a table or a view (* for all of them, nothing behind = takes them away),
-VIEW:through=TABLE,.. lets edits of a view change these tables alone, and define, undo and admin are powers.
+Rights are words: VIEW=read,preview,edit gives these rights on a table or a view (* means all of them, and VIEW= removes the rights),
+VIEW:through=TABLE,.. lets edits of a view change only these tables, and define, undo and admin are powers.
 
-It listens beyond this machine only with --cert and --key. Behind a proxy on this machine --host names what clients call it.
+The hub listens beyond this machine only with --cert and --key. Behind a proxy on this machine, --host gives the name by which
+clients call it.
 """
 import argparse
 import json
@@ -28,15 +29,15 @@ WITHOUT_AIOHTTP = "the hub needs aiohttp: install Debian's package python3-aioht
 def add_arguments(parser: argparse.ArgumentParser) -> None:
     parser.add_argument("store", metavar="STORE", help="the file of the store")
     serving = parser.add_argument_group("to serve")
-    serving.add_argument("--port", type=int, default=8080, metavar="N", help="the port; without it 8080")
-    serving.add_argument("--listen", default=LOCAL[0], metavar="ADDRESS", help="the address to listen on; without it 127.0.0.1")
+    serving.add_argument("--port", type=int, default=8080, metavar="N", help="the port, by default 8080")
+    serving.add_argument("--listen", default=LOCAL[0], metavar="ADDRESS", help="the address to listen on, by default 127.0.0.1")
     serving.add_argument("--host", action="append", default=[], metavar="NAME", help="a name by which clients call it")
     serving.add_argument("--cert", metavar="FILE", help="the certificate for TLS")
     serving.add_argument("--key", metavar="FILE", help="the key of the certificate")
     rights = parser.add_argument_group("to give and take rights").add_mutually_exclusive_group()
     rights.add_argument("--grant", nargs="+", metavar=("USER", "RIGHT"), help="gives a user rights")
     rights.add_argument("--new-token", metavar="USER", help="gives a user a new token in place of the old ones")
-    rights.add_argument("--revoke", metavar="USER", help="takes a user away")
+    rights.add_argument("--revoke", metavar="USER", help="removes a user")
     rights.add_argument("--journal", action="store_true", help="prints the journal")
     journal = parser.add_argument_group("of the journal")
     journal.add_argument("--person", metavar="USER", help="changes of this user")
