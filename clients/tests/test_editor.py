@@ -432,6 +432,7 @@ class Page(OnPage):
         self.assertIn(["Lullaby", "1989", "4", "Galore"], self.editor.read("tracks")["rows"])
         self.page.click("#undo")
         self.page.wait("state.said.startsWith('Undone')")
+        self.assertEqual(self.page.run("state.rows[1].old"), ["Lullaby", "3", "Show", "3"])
         self.assertIn(["Lullaby", "1989", "3", "Galore"], self.editor.read("tracks")["rows"])
 
     def test_a_refusal_stands_at_its_row(self):
