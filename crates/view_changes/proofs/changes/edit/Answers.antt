@@ -22,20 +22,20 @@ pub near-requires-clause-added : goal.near-requires-clause-added
 near-requires-clause-added g c = c.in_ok-added.ensures.set.1
 
 pub carried_rows-requires-clause-viewed : goal.carried_rows-requires-clause-viewed
-carried_rows-requires-clause-viewed g c = subst IsViewed (sym c.knowing.ensures) c.in_ok-added.ensures.viewed
+carried_rows-requires-clause-viewed g c = subst IsViewed (sym c.knowing-view.ensures) c.in_ok-added.ensures.viewed
 
 pub carried_rows-requires-clause-removed : goal.carried_rows-requires-clause-removed
-carried_rows-requires-clause-removed g c = subst (λ (v : Viewed). AllFit (sort_of v.lens).columns c.in_ok-removed.removed) (sym c.knowing.ensures) c.in_ok-removed.ensures.set.1
+carried_rows-requires-clause-removed g c = subst (λ (v : Viewed). AllFit (sort_of v.lens).columns c.in_ok-removed.removed) (sym c.knowing-view.ensures) c.in_ok-removed.ensures.set.1
 
 pub carried_rows-requires-clause-added : goal.carried_rows-requires-clause-added
-carried_rows-requires-clause-added g c = subst (λ (v : Viewed). AllFit (sort_of v.lens).columns c.in_ok-added.added) (sym c.knowing.ensures) c.in_ok-added.ensures.set.1
+carried_rows-requires-clause-added g c = subst (λ (v : Viewed). AllFit (sort_of v.lens).columns c.in_ok-added.added) (sym c.knowing-view.ensures) c.in_ok-added.ensures.set.1
 
 pub returns-clause-put : goal.returns-clause-put
 returns-clause-put g c =
     let o = c.args.opened.now in let L = o.view.lens in let db = tables_under o in let R = c.in_ok-removed.removed in let A = c.in_ok-added.added in
     let N = new_view (get L db) (record { remove = R; add = A }) in
     let sent : sent_view (edited c.args.remove c.args.add) L (seen o) ≡ Ok N = (λ i. edit_of (get L db) (c.in_ok-removed.ensures.set.0 i) (c.in_ok-added.ensures.set.0 i)) in
-    let carried = subst (λ (v : Viewed). IsPut v.lens v.tables.present.relations c.carried_rows.result (of_sort (sort_of v.lens) (new_view (get v.lens v.tables.present.relations) (record { remove = R; add = A })))) c.knowing.ensures c.carried_rows.ensures.put in
+    let carried = subst (λ (v : Viewed). IsPut v.lens v.tables.present.relations c.carried_rows.result (of_sort (sort_of v.lens) (new_view (get v.lens v.tables.present.relations) (record { remove = R; add = A })))) c.knowing-view.ensures c.carried_rows.ensures.put in
     subst (λ r. IsPut L db c.carried_rows.result (tested (seen o) L c.args.on r)) (sym sent)
     (fresh_put (seen o) L db c.args.on N N c.carried_rows.result c.in_ok-not_stale.ensures (λ i. N) carried)
 
@@ -56,7 +56,7 @@ returns-clause-looks g c = λ w finds.
     let a = sent_is in_add L c.args.add A c.in_ok-added.ensures.set.0 in
     let n = count_of R + count_of A in
     let sum : n ≡ sent_by L c.args.remove c.args.add = omega (arith, r, a) in
-    let carried = subst (λ (x : Viewed). FindsAtMost x w → c.carried_rows.new.looked ≤ c.near.new.looked + (size x.lens w * n + 2 * work x.lens n w)) c.knowing.ensures (c.carried_rows.ensures.looks w) finds in
+    let carried = subst (λ (x : Viewed). FindsAtMost x w → c.carried_rows.new.looked ≤ c.near.new.looked + (size x.lens w * n + 2 * work x.lens n w)) c.knowing-view.ensures (c.carried_rows.ensures.looks w) finds in
     subst (λ k. c.carried_rows.new.looked ≤ c.args.looked.now + 3 * work L k w) sum
     (near_first L n w c.args.looked.now c.near.new.looked c.carried_rows.new.looked (c.near.ensures.looks (size L w) (within_size v w finds)) carried)
 
