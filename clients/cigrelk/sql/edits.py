@@ -6,7 +6,7 @@ edit_NAME(remove, add, seen)      makes the edit, and returns what it changed
 json_edit_NAME(remove, add)       the same with rows as JSON, and the reply of the program
 triggers                          INSERT, UPDATE and DELETE of a view: all rows of a statement are one edit
 
-These run with the rights of who ran the script, with a fixed search_path. Who edits needs rights on the view, or on the function.
+These run with the rights of who ran the script, with a fixed search_path or with all names in full. Who edits needs rights on the view, or on the function.
 """
 from ..kinds import base, is_nullable
 from ..postgres import quoted
