@@ -35,7 +35,7 @@ def make(address, isolation):
 def take_locks_out(session):
     """Makes the functions anew without what they do for other writers."""
     for text in session.values("SELECT to_json(pg_get_functiondef(oid)) FROM pg_proc WHERE pronamespace = '\"public:cigrelk\"'::regnamespace"):
-        session.ask(re.sub(r"IF pg_advisory_xact_lock.*? THEN NULL; END IF;", "", text))
+        session.ask(re.sub(r"IF pg_catalog\.pg_advisory_xact_lock.*? THEN NULL; END IF;", "", text))
 
 
 class Writer(threading.Thread):

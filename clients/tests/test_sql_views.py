@@ -227,7 +227,10 @@ class Rights(WithPostgreSQL):
         self.rejects("42501", "SET ROLE clerk", 'CREATE TEMPORARY TABLE "cigrelk:rows" ("View" oid, "Remove" text, "Add" text)', "INSERT INTO stock SELECT 'Disco' || i, 2, 'Show', 3 FROM generate_series(1, 1000) i")
         # a function of the same name in the path of who calls
         self.sql("CREATE SCHEMA trap; GRANT USAGE ON SCHEMA trap TO clerk; CREATE FUNCTION trap.cardinality(anyarray) RETURNS int LANGUAGE plpgsql AS 'BEGIN RAISE EXCEPTION ''trapped''; END'")
-        self.sql("SET ROLE clerk; SET search_path = trap, pg_catalog, public; DELETE FROM stock WHERE track = 'Lullaby'")
+        # an operator and a temporary type of the same names
+        self.sql("CREATE FUNCTION trap.joined(text, text) RETURNS text LANGUAGE plpgsql AS 'BEGIN RAISE EXCEPTION ''trapped''; END'; CREATE OPERATOR trap.|| (LEFTARG = text, RIGHTARG = text, FUNCTION = trap.joined)")
+        self.sql("GRANT USAGE ON SCHEMA trap TO clerk; SET ROLE clerk; SET search_path = trap, pg_catalog, public; CREATE DOMAIN pg_temp.text AS pg_catalog.text CHECK (VALUE IS NULL); "
+                 "DELETE FROM stock WHERE track = 'Lullaby'")
         self.assertEqual(self.sql("SELECT count(*) FROM stock"), ["0"])
 
 

@@ -6,24 +6,28 @@ edit_NAME(remove, add, seen)      makes the edit, and returns what it changed
 json_edit_NAME(remove, add)       the same with rows as JSON, and the reply of the program
 triggers                          INSERT, UPDATE and DELETE of a view: all rows of a statement are one edit
 
-These run with the rights of who ran the script, with a fixed search_path. Who edits needs rights on the view, or on the function.
+These run with the rights of who ran the script, with a fixed search_path or with all names in full. Who edits needs rights on the view, or on the function.
 """
 from ..kinds import base, is_nullable
 from ..postgres import quoted
 from . import objects
 from .deltas import A, CHANGED_SINCE, K, N, R, Body, Looks, Many, One, check, down, each, exact, some, unnested
-from .plain import Plain
+from .plain import DONE, Plain
 from .words import NEUTRAL, columns_at, differ, same, text_literal
 
-PATH = "SET search_path = pg_catalog, pg_temp"
+# The triggers of tables know by this search_path that an edit changes them. Nobody can make a schema whose name begins with pg_.
+EDIT_PATH = "pg_catalog, pg_cigrelk, pg_temp"
+PATH = f"SET search_path = {EDIT_PATH}"
 COMMON = "SET plan_cache_mode = force_generic_plan SET jit = off SET enable_seqscan = off"
+# An edit of one row joins nothing, but asks one table after another.
+ASKING = f"{PATH} {COMMON}"
 # By these the planner finds by key alone, and joins arrays by hashes: it would take each array for one of 10 rows. (Without jit, since
 # the cost of a LATERAL seems high with nested loops off.)
 LOOKING = f"{PATH} {COMMON} SET enable_nestloop = off SET enable_hashjoin = on"
 # A table that is changed is joined with an array by nested loops.
 CHANGING = f"{PATH} {COMMON} SET enable_nestloop = on SET enable_hashjoin = off SET enable_mergejoin = off"
 OWNER = "SECURITY DEFINER"
-SETTING = '"Setting"'
+RESULT = '"Result"'
 # How many rows one statement for other servers names at most.
 MOST_NAMED = 500
 
@@ -88,10 +92,10 @@ def declared(body):
     return "DECLARE\n" + "".join(f"  {name} {kind};\n" for name, kind in body.types.items())
 
 
-def inner_function(subject, word, body, settings, comment):
+def inner_function(subject, word, body, settings, comment, more_outs=""):
     """A function over rows of the type that nodes have. It is called by functions that set what the planner is to do."""
     row_type = subject.root.row_type
-    arguments = f"remove {row_type}[], add {row_type}[], seen boolean, report boolean, {subject.out_list()}"
+    arguments = f"remove {row_type}[], add {row_type}[], seen boolean, report boolean, {subject.out_list()}{more_outs}"
     return objects.function(subject.inner(word), arguments, "", body.lines, declared(body), settings, (f"{row_type}[]", f"{row_type}[]", "boolean", "boolean"),
                             subject.comment(comment), subject.based_on() + change_functions(subject, word))
 
@@ -99,7 +103,8 @@ def inner_function(subject, word, body, settings, comment):
 def change_functions(subject, word):
     """The functions that one of the inner functions calls."""
     if word == "edit":
-        return (inner_name(subject, "whole"),)
+        plain = Plain(subject.root, subject.looks)
+        return tuple(inner_name(subject, called) for called in ("whole", *(form[0] for form in plain.forms() if plain.is_possible())))
     if word != "whole":
         return ()
     return tuple(f"function {change_name(subject, leaf, which)}({leaf.row_type}[], {leaf.row_type}[])" for leaf in subject.leaves for which in ("remove", "add"))
@@ -116,38 +121,51 @@ def whole_edit(subject):
     body = Body()
     changed_lines(subject, body)
 
-    def change():
-        # What refers to rows goes first and comes last: a join's left side refers to its right side.
-        for leaf in subject.leaves:
-            remove_lines(body, subject, leaf)
-        for leaf in reversed(subject.leaves):
-            add_lines(body, subject, leaf)
-
     reject_new_values(body, subject)
-    editing(body, change)
-    return inner_function(subject, "whole", body, "", "makes any edit")
+    # What refers to rows goes first and comes last: a join's left side refers to its right side.
+    for leaf in subject.leaves:
+        remove_lines(body, subject, leaf)
+    for leaf in reversed(subject.leaves):
+        add_lines(body, subject, leaf)
+    return inner_function(subject, "whole", body, LOOKING, "makes any edit")
 
 
 def inner_edit(subject):
-    """Locks the tables, and makes an edit. What most edits need stands here, so that a session reads no more than that."""
+    """Locks the tables, and makes an edit. PL/pgSQL reads a function whole when a session first calls it, so each form of a plain edit
+    has a function of its own."""
     body = Body()
     for line in lock_lines(subject.compiling, subject.leaves):
         body.say(line)
     plain = Plain(subject.root, subject.looks)
     if plain.is_possible():
-        plain.say(body, lambda change: editing(body, change))
+        body.types[RESULT], body.types[DONE] = "record", "boolean"
+        body.note("an edit of one row that revises no other")
+        for number, (word, condition, _) in enumerate(plain.forms()):
+            body.otherwise(condition) if number else body.when(condition)
+            # An assignment calls a function without a query.
+            body.set(RESULT, f"{subject.inner(word)}($1, $2, $3, $4)")
+            body.set(DONE, f"{RESULT}.{DONE}")
+        body.end()
+        body.when(DONE)
+        body.when("$4")
+        for name, _ in subject.outs():
+            body.set(name, f"{RESULT}.{name}")
+        body.end()
+        body.say("RETURN;")
+        body.end()
     outs = ", ".join(name for name, _ in subject.outs())
     body.say(f"SELECT * INTO {outs} FROM {subject.inner('whole')}($1, $2, $3, $4);")
     return inner_function(subject, "edit", body, "", "makes an edit")
 
 
-def editing(body, change):
-    """Says the statements of a change between those that mark it as one of an edit."""
-    # An assignment calls a function without a query.
-    body.types[SETTING] = "text"
-    body.set(SETTING, "set_config('cigrelk.editing', 'on', true)")
-    change()
-    body.set(SETTING, "set_config('cigrelk.editing', '', true)")
+def plain_functions(subject):
+    """A function for each form of a plain edit. "Done" is null if the edit is not plain."""
+    plain = Plain(subject.root, subject.looks)
+    if plain.is_possible():
+        for word, _, say_form in plain.forms():
+            body = Body()
+            plain.say(body, say_form)
+            yield inner_function(subject, word, body, "", f"makes a plain {word} of a row", f", OUT {DONE} boolean")
 
 
 def change_name(subject, leaf, word):
@@ -284,13 +302,15 @@ def lock_lines(compiling, leaves):
     transaction ends. What waited reads anew, so the transaction has to be read committed. With `serializable` PostgreSQL itself
     rejects what cannot stand in an order. The two do not mix."""
     wanted = "serializable" if compiling.isolation == "serializable" else "read committed"
-    lines = [f"IF current_setting('transaction_isolation') <> '{wanted}' THEN",
+    # With all names in full, since what changes a table directly has no search_path of ours.
+    lines = [f"IF pg_catalog.current_setting('transaction_isolation') OPERATOR(pg_catalog.<>) '{wanted}' THEN",
              f"  RAISE EXCEPTION USING ERRCODE = '25001', MESSAGE = 'these tables are written in transactions that are {wanted}', "
              f"HINT = 'begin with: BEGIN ISOLATION LEVEL {wanted.upper()}';", "END IF;"]
     if compiling.isolation == "locks":
         # Not LOCK TABLE: it would wait for VACUUM, and hold it up.
         # A condition calls a function without a query.
-        locks = [f"pg_advisory_xact_lock(hashtextextended('cigrelk', {text_literal(place)}::regclass::oid::bigint)) IS NULL" for place in sorted({leaf.place for leaf in leaves})]
+        number = "pg_catalog.hashtextextended('cigrelk', {}::pg_catalog.regclass::pg_catalog.oid::pg_catalog.int8)"
+        locks = [f"pg_catalog.pg_advisory_xact_lock({number.format(text_literal(place))}) IS NULL" for place in sorted({leaf.place for leaf in leaves})]
         lines += [f"IF {' OR '.join(locks)} THEN NULL; END IF;"]
     return lines
 
@@ -349,7 +369,13 @@ SPILL = 'pg_temp."cigrelk:rows"'
 
 def kept_row(row):
     """A row as an element of an array literal, with a comma behind it."""
-    return f"""'"' || replace(replace({row}::text, E'\\\\', E'\\\\\\\\'), '"', E'\\\\"') || '",'"""
+    text = f"""pg_catalog.replace(pg_catalog.replace({row}::pg_catalog.text, E'\\\\', E'\\\\\\\\'), '"', E'\\\\"')"""
+    return joined("'\"'", text, "'\",'")
+
+
+def joined(*texts):
+    """Texts one after another, whatever the search_path."""
+    return " OPERATOR(pg_catalog.||) ".join(texts)
 
 
 def own_table_lines(place, make):
@@ -359,18 +385,27 @@ def own_table_lines(place, make):
             "  RAISE EXCEPTION USING ERRCODE = '42501', MESSAGE = 'a temporary table of another role has the name that the view needs';", "END IF;"]
 
 
+def spill_function(subject):
+    """Moves kept rows to a temporary table."""
+    lines = [*(f"  {line}" for line in own_table_lines(SPILL, ['CREATE TEMPORARY TABLE "cigrelk:rows" ("View" oid, "Remove" text, "Add" text) ON COMMIT DELETE ROWS;'])),
+             f"  INSERT INTO {SPILL} VALUES ($1, $2, $3);", "  PERFORM set_config('cigrelk.spilled' || $1, 'on', true);"]
+    return objects.function(subject.inner("spill"), "view oid, remove text, add text", "RETURNS void ", lines, "", PATH, ("oid", "text", "text"), subject.comment("keeps rows of a long statement"))
+
+
 def row_function(subject):
-    lines = ["  IF TG_OP <> 'INSERT' THEN", f'    "Remove" := "Remove" || {kept_row("OLD")};', "  END IF;",
-             "  IF TG_OP <> 'DELETE' THEN", f'    "Add" := "Add" || {kept_row("NEW")};', "  END IF;",
-             f'  IF length("Remove") + length("Add") > {MOST_KEPT} THEN',
-             *(f"    {line}" for line in own_table_lines(SPILL, ['CREATE TEMPORARY TABLE "cigrelk:rows" ("View" oid, "Remove" text, "Add" text) ON COMMIT DELETE ROWS;'])),
-             f'    INSERT INTO {SPILL} VALUES (TG_RELID, "Remove", "Add");',
-             "    PERFORM set_config('cigrelk.spilled' || TG_RELID, 'on', true);",
-             "    \"Remove\" := ''; \"Add\" := '';", "  END IF;",
-             f'  "Remove" := set_config({KEPT_REMOVE}, "Remove", true); "Add" := set_config({KEPT_ADD}, "Add", true);',
-             "  IF TG_OP = 'DELETE' THEN RETURN OLD; END IF;", "  RETURN NEW;"]
-    declares = f"DECLARE \"Remove\" text := coalesce(current_setting({KEPT_REMOVE}, true), ''); \"Add\" text := coalesce(current_setting({KEPT_ADD}, true), '');\n"
-    return objects.function(subject.inner("row"), "", "RETURNS trigger ", lines, declares, f"{OWNER} {PATH}", (), subject.comment("keeps a row of a statement"), (f"view {subject.place}",))
+    """This runs for each row, so it sets nothing, not even a search_path. All its names are in full, of types too: a temporary type
+    would come before that of PostgreSQL."""
+    remove, add = KEPT_REMOVE.replace("||", "OPERATOR(pg_catalog.||)"), KEPT_ADD.replace("||", "OPERATOR(pg_catalog.||)")
+
+    def keep(kept, row, spilled):
+        before = f"coalesce(pg_catalog.current_setting({kept}, true), '')"
+        return [f'    "Kept" := {joined(before, kept_row(row))};', f'    IF pg_catalog.length("Kept") OPERATOR(pg_catalog.>) {MOST_KEPT} THEN',
+                f"      PERFORM {subject.inner('spill')}(TG_RELID, {spilled});", "      \"Kept\" := '';", "    END IF;", f'    "Kept" := pg_catalog.set_config({kept}, "Kept", true);']
+
+    lines = ["  IF TG_OP OPERATOR(pg_catalog.<>) 'INSERT' THEN", *keep(remove, "OLD", "\"Kept\", ''"), "  END IF;",
+             "  IF TG_OP OPERATOR(pg_catalog.=) 'DELETE' THEN RETURN OLD; END IF;", *(line[2:] for line in keep(add, "NEW", "'', \"Kept\"")), "  RETURN NEW;"]
+    return objects.function(subject.inner("row"), "", "RETURNS trigger ", lines, 'DECLARE "Kept" pg_catalog.text;\n', OWNER, (), subject.comment("keeps a row of a statement"),
+                            (f"view {subject.place}", f"function {subject.inner('spill')}(oid, text, text)"))
 
 
 def rows_of(text, row_type):
@@ -406,7 +441,7 @@ def end_function(subject):
              f'  "Done" := {subject.inner("edit")}("Gone", "Come", true, false);', "  RETURN NULL;"]
     declares = (f"DECLARE \"Remove\" text := current_setting({KEPT_REMOVE}, true); \"Add\" text := current_setting({KEPT_ADD}, true); "
                 f"\"Gone\" {row_type}[] := '{{}}'; \"Come\" {row_type}[] := '{{}}'; \"Done\" record;\n")
-    return objects.function(subject.inner("end"), "", "RETURNS trigger ", lines, declares, f"{OWNER} {LOOKING}", (), subject.comment("makes the edit of a statement"),
+    return objects.function(subject.inner("end"), "", "RETURNS trigger ", lines, declares, f"{OWNER} {ASKING}", (), subject.comment("makes the edit of a statement"),
                             (*subject.based_on(), inner_name(subject, "edit"), f"function {subject.inner('commit')}()"))
 
 
@@ -433,6 +468,7 @@ def commit_function(subject):
 
 def trigger_objects(subject):
     view, events = subject.place, "INSERT OR UPDATE OR DELETE"
+    yield spill_function(subject)
     yield row_function(subject)
     yield commit_function(subject)
     yield end_function(subject)
@@ -446,6 +482,7 @@ def edit_objects(subject):
     """All functions and triggers of a table or a view."""
     yield inner_preview(subject)
     yield whole_edit(subject)
+    yield from plain_functions(subject)
     yield inner_edit(subject)
     yield public_function(subject, "preview", "what an edit would change in each table", "STABLE")
     yield public_function(subject, "edit", "makes an edit, and returns what it changed in each table")

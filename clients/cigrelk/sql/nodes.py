@@ -1,4 +1,5 @@
 """The nodes of views, each with its columns, dependencies and predicate as the program reports them."""
+import itertools
 from typing import NamedTuple
 
 from ..language import Drop, Join, Named, Rename, Select, Table, condition_of, defined, expanded, parsed
@@ -87,6 +88,29 @@ class Node:
         """What stands behind FROM for the rows of this node."""
         return f"({self.query()})"
 
+    def flat_query(self):
+        """The same rows by one SELECT over the tables. PostgreSQL plans it with each statement of a client, and would look up and take in
+        each query that stands within another one."""
+        columns, source, conditions = self.flat(itertools.count())
+        where = f" WHERE {' AND '.join(f'({condition})' for condition in conditions)}" if conditions else ""
+        return f"SELECT {', '.join(f'{columns[name]} AS {quoted(name)}' for name in self.kinds)} FROM {source}{where}"
+
+    def flat(self, numbers):
+        """For such a query the expression of each column, what stands behind FROM, and the conditions. `numbers` gives each table one."""
+        below = [child.flat(numbers) for child in self.below]
+        columns, source, conditions = below[0]
+        if isinstance(self.what, Join):
+            (left, right), (others, other_source, more) = self.below, below[1]
+            on = " AND ".join(same(left.kinds[name], columns[name], others[name]) for name in self.shared)
+            if len(right.leaves()) > 1:
+                other_source = f"({other_source})"
+            columns, source, conditions = {**others, **columns}, f"{source} JOIN {other_source} ON {on}", conditions + more
+        # What a drop hides may be the name of another column above it.
+        columns = {self.renamed(name): value for name, value in columns.items() if self.renamed(name) in self.kinds}
+        if isinstance(self.what, Select):
+            conditions = [*conditions, self.selects(columns)]
+        return columns, source, conditions
+
     def selects(self, alias):
         return holds(self.what.predicate, self.kinds, alias)
 
@@ -152,6 +176,10 @@ class Leaf(Node):
 
     def source(self):
         return self.fetched or self.row_type
+
+    def flat(self, numbers):
+        alias = f'"T{next(numbers)}"'
+        return {name: f"{alias}.{self.column(name)}" for name in self.kinds}, f"{self.place} {alias}", []
 
     def origins(self):
         return {name: (self, name) for name in self.kinds}

@@ -20,6 +20,7 @@ GONE, COME = '"Gone"', '"Come"'
 BLOCK = '"Plain"'
 NOT_PLAIN = f"EXIT {BLOCK}"
 SAME = '"Same"'
+DONE = '"Done"'
 
 
 class Dropped:
@@ -236,7 +237,11 @@ class Plain:
             body.otherwise()
             self.look_along(body, leaf, edge, number)
             body.end()
+        if leaf is not self.first:
+            return self.new_row(body, leaf, place, numbers)
+        body.when(f"{SAME} IS NOT TRUE")
         self.new_row(body, leaf, place, numbers)
+        body.end()
 
     def look_for_waiting(self, body, place):
         """A new right row is not plain if a left row waits for it."""
@@ -324,21 +329,19 @@ class Plain:
 
     # ---- The three forms ----
 
-    def say(self, body, editing):
-        """The block. `editing` says the statements of a change between those that mark it as one of an edit."""
-        root = self.root
-        body.types[GONE] = body.types[COME] = root.row_type
-        body.note("an edit of one row that revises no other")
+    def forms(self):
+        """The forms of plain edits: the word for each, when an edit has it, and what says its statements."""
+        return (("insert", "cardinality($1) = 0 AND cardinality($2) = 1", self.say_insert),
+                ("delete", "cardinality($1) = 1 AND cardinality($2) = 0", self.say_delete),
+                ("update", "cardinality($1) = 1 AND cardinality($2) = 1", self.say_update))
+
+    def say(self, body, say_form):
+        """The block of one form."""
+        body.types[GONE] = body.types[COME] = self.root.row_type
         body.say(f"<<{BLOCK}>>")
         body.say("BEGIN")
         body.depth += 1
-        body.when("cardinality($1) = 0 AND cardinality($2) = 1")
-        self.say_insert(body, editing)
-        body.otherwise("cardinality($1) = 1 AND cardinality($2) = 0")
-        self.say_delete(body, editing)
-        body.otherwise("cardinality($1) = 1 AND cardinality($2) = 1")
-        self.say_update(body, editing)
-        body.end()
+        say_form(body)
         body.depth -= 1
         body.say(f"END {BLOCK};")
 
@@ -346,24 +349,24 @@ class Plain:
         if self.root.conditions:
             body.say(f"{NOT_PLAIN} WHEN {fails(self.root.condition(COME))};")
 
-    def say_insert(self, body, editing):
+    def say_insert(self, body):
         body.set(COME, "$2[1]")
         self.say_predicate(body)
         for place, leaf in enumerate(self.leaves):
             self.look_at(body, leaf, place)
         for place in range(1, len(self.leaves)):
             self.look_for_waiting(body, place)
-        editing(lambda: self.insert_all(body))
-        body.say("RETURN;")
+        self.insert_all(body)
+        body.set(DONE, "true")
 
-    def say_delete(self, body, editing):
+    def say_delete(self, body):
         body.set(GONE, "$1[1]")
         self.find_gone(body)
         self.look_for_shown(body, self.root, False)
-        editing(lambda: self.delete(body, self.root))
-        body.say("RETURN;")
+        self.delete(body, self.root)
+        body.set(DONE, "true")
 
-    def say_update(self, body, editing):
+    def say_update(self, body):
         root = self.root
         body.set(GONE, "$1[1]")
         body.set(COME, "$2[1]")
@@ -393,22 +396,19 @@ class Plain:
         self.look_for_shown(body, root, True)
         body.end()
 
-        def change():
-            body.when(SAME)
-            if self.first.updated:
-                body.when(self.differ(self.first, self.first.rest, GONE, COME))
-                self.update(body, self.first)
-                body.end()
-            else:
-                body.say("NULL;")
-            body.set('"IsNew0"', "false")
-            body.otherwise()
-            self.delete(body, root)
+        body.when(SAME)
+        if self.first.updated:
+            body.when(self.differ(self.first, self.first.rest, GONE, COME))
+            self.update(body, self.first)
             body.end()
-            self.insert_all(body)
-
-        editing(change)
-        body.say("RETURN;")
+        else:
+            body.say("NULL;")
+        body.set('"IsNew0"', "false")
+        body.otherwise()
+        self.delete(body, root)
+        body.end()
+        self.insert_all(body)
+        body.set(DONE, "true")
 
 
 def is_whole(node):

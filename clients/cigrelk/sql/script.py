@@ -13,7 +13,7 @@ from .tables import EXCLUDE_MESSAGE, check_objects, columns_statement, guard_obj
 from .words import dollar_quoted, text_literal
 
 # The form of what the compiler makes. Another form makes all objects anew.
-FORM = 1
+FORM = 2
 
 
 def view_objects(subject):
@@ -22,7 +22,7 @@ def view_objects(subject):
     for node in subject.root.nodes():
         if node.makes_type and node.row_type != subject.place:
             yield objects.view(node.row_type, node.query(), subject.comment("rows of a part of a view"), leaves)
-    yield objects.view(subject.place, subject.root.query(), subject.comment("a view"), leaves)
+    yield objects.view(subject.place, subject.root.flat_query(), subject.comment("a view"), leaves)
 
 
 def default_objects(subject):

@@ -3,7 +3,7 @@ from ..kinds import base, is_nullable
 from ..postgres import TYPES, quoted
 from . import objects
 from .deltas import A, N, S, broken_text
-from .edits import PATH, lock_lines
+from .edits import EDIT_PATH, PATH, lock_lines
 from .words import NEUTRAL, column_type, columns_at, differ, dollar_quoted, fails, holds, name_within, text_literal
 
 
@@ -64,7 +64,8 @@ def edges_to_test(leaf):
     return [edge for edge in leaf.tree if set(edge.left) != set(leaf.key)]
 
 
-GUARDED = "WHEN (current_setting('cigrelk.editing', true) IS DISTINCT FROM 'on') "
+IS_EDIT = f"pg_catalog.current_setting('search_path') OPERATOR(pg_catalog.=) '{EDIT_PATH}'"
+GUARDED = f"WHEN (current_setting('search_path') <> '{EDIT_PATH}') "
 EXCLUDE_MESSAGE = "--exclude needs the extension btree_gist: CREATE EXTENSION btree_gist"
 
 
@@ -73,9 +74,10 @@ def guard_objects(compiling, leaf):
     key does not keep."""
     catalogue = compiling.catalogue
     lock, test, place = catalogue.own(f"lock:{leaf.name}"), catalogue.own(f"test:{leaf.name}"), leaf.place
-    lines = [*(f"  {line}" for line in lock_lines(compiling, [leaf])), "  RETURN NULL;"]
-    yield objects.function(lock, "", "RETURNS trigger ", lines, "", PATH, (), comment(catalogue, leaf, "locks a table"))
-    text = f"BEFORE INSERT OR UPDATE OR DELETE ON {place} FOR EACH STATEMENT {GUARDED}EXECUTE FUNCTION {lock}()"
+    # It asks for itself whether an edit changes the table: a WHEN would be read and planned with each statement.
+    lines = [f"  IF {IS_EDIT} THEN RETURN NULL; END IF;", *(f"  {line}" for line in lock_lines(compiling, [leaf])), "  RETURN NULL;"]
+    yield objects.function(lock, "", "RETURNS trigger ", lines, "", "", (), comment(catalogue, leaf, "locks a table"))
+    text = f"BEFORE INSERT OR UPDATE OR DELETE ON {place} FOR EACH STATEMENT EXECUTE FUNCTION {lock}()"
     yield objects.trigger("cigrelk:1", place, text, comment(catalogue, leaf, "locks a table"), (f"function {lock}()", f"table {place}"))
     edges = edges_to_test(leaf)
     if not edges:

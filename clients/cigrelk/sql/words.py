@@ -49,6 +49,11 @@ def dollar_quoted(text):
     return f"${tag}${text}${tag}$"
 
 
+def value_at(alias, name):
+    """A column of an alias. In place of an alias there may be the expressions of columns by their names."""
+    return alias[name] if isinstance(alias, dict) else f"{alias}.{quoted(name)}"
+
+
 def columns_at(alias, columns):
     return ", ".join(f"{alias}.{quoted(name)}" for name in columns)
 
@@ -88,20 +93,20 @@ def row_order(kinds, alias):
 
 
 def holds(node, kinds, alias, collation=COLLATION):
-    """A predicate over the columns of an alias. Under a `not` it is never unknown. If the columns of text have the collation of the
+    """A predicate over the columns of an alias, or over expressions (value_at). Under a `not` it is never unknown. If the columns of text have the collation of the
     language, no other need be said: a server behind postgres_fdw takes no condition that says one."""
     if isinstance(node, Truth):
         return literal(node.value)
     if isinstance(node, Compare):
-        left = f"{alias}.{quoted(node.column)}"
-        right = f"{alias}.{quoted(node.right.name)}" if isinstance(node.right, Column) else value_literal(node.right)
+        left = value_at(alias, node.column)
+        right = value_at(alias, node.right.name) if isinstance(node.right, Column) else value_literal(node.right)
         sign = "<>" if node.sign == "!=" else node.sign
         is_text_order = sign not in ("=", "<>") and base(kinds[node.column]) == "text"
         return f"{left} {sign} {right}{collation if is_text_order else ''}"
     if isinstance(node, Among):
-        return f"{alias}.{quoted(node.column)} IN ({', '.join(map(value_literal, node.literals))})"
+        return f"{value_at(alias, node.column)} IN ({', '.join(map(value_literal, node.literals))})"
     if isinstance(node, IsNull):
-        return f"{alias}.{quoted(node.column)} IS NULL"
+        return f"{value_at(alias, node.column)} IS NULL"
     if isinstance(node, Not):
         part = holds(node.part, kinds, alias, collation)
         # An index serves a plain NOT.
