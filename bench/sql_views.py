@@ -1,9 +1,9 @@
 #!/usr/bin/env python3
-"""Views compiled to SQL: the long form of the tests, wrong bodies of the compiler, and how many edits a second.
+"""Views compiled to SQL: the long form of the tests, mutants of the compiler, and how many edits a second.
 
     bench/sql_views.py compare [--edits N] [--seed N]    random edits of random views, as the program makes them
     bench/sql_views.py writers, replay                   several clients at once
-    bench/sql_views.py mutants                           six wrong bodies of the compiler, each of which `compare` has to find
+    bench/sql_views.py mutants                           six mutants of the compiler, each of which `compare` has to find
     bench/sql_views.py speed [--sizes N,N]               edits of one row beside triggers by hand (Debian's python3-psycopg2), by the
                                                          clock, and by the processor time of the server, which a busy machine does not change
     bench/sql_views.py instructions                      instructions for each such edit (valgrind)
@@ -80,7 +80,7 @@ def compare(address, edits, seed, isolation="locks"):
     return counts
 
 
-# Each wrong body is a module, a name in it, and what stands there in its place.
+# Each mutant is a module, a name in it, and what stands there in its place.
 def without_hidden_rows(body, looks, node):
     """A selection revises no hidden rows."""
     deltas.cast(body, node, node.below[0])
@@ -134,7 +134,7 @@ FORMS = (
 
 
 def mutants(address, most=3_000):
-    """Compiles with one wrong body after another, and prints after how many edits it was found."""
+    """Compiles with one mutant after another, and prints after how many edits it was found."""
     missed = 0
     for number, (name, changes) in enumerate(MUTANTS.items()):
         before = [(place, word, getattr(place, word)) for place, word, _ in changes]
