@@ -22,8 +22,8 @@ KEYS = [{"do": "define", "text": "table pairs (k int, v int, w text) with k -> v
         {"do": "put", "view": "pairs", "rows": [{"k": k, "v": 7 * k + 1, "w": "x" * 50} for k in range(2000)]},
         {"do": "define", "text": "view low = select from pairs where k < 100000"}]
 ALL = ["*=read,preview,edit", "undo"]
-# How many finds are answered, and how many updates accepted, beside others that come in between; a busy machine makes fewer in these
-# seconds.
+# The test stops at so many finds that the hub answers, and at so many updates that it accepts, or after so many seconds. A busy machine
+# makes fewer.
 FINDS, UPDATES, MOST_SECONDS = 8000, 250, 20
 
 
