@@ -7,18 +7,17 @@ use Rattle.std.specs.Cmp.{eq_by_cmp_equiv, tied_itself}
 use Rattle.std.specs.FinMap as finmap
 use Rattle.std.specs.Ordering.{eq_by_cmp, is_eq}
 use Rattle.std.specs.declared.cmp.Ordering.TheVariants.{Less}
-use Rattle.std.proofs.lemmas.List.{take_all, length-map, length-take-le}
-use Rattle.lens_values.specs.Row.{row_cmp}
-use Rattle.lens_values.specs.RowOrder.{row_cmp_total}
-use Rattle.lens_values.specs.SortedSet as set
-use Rattle.lens_values.specs.declared.row.Row.{Row}
-use Rattle.lens_specs.specs.Delta.{Delta, new_view}
-use Rattle.lens_specs.specs.Relation.{Rows, has}
+use Rattle.std.proofs.lemmas.List.{take_all, length-map, length-take-le, nil_from_length}
+use Rattle.std.proofs.lemmas.Bool.{false≢true}
+use Rattle.plain_values.specs.Row.{row_cmp, Row}
+use Rattle.plain_values.specs.RowOrder.{row_cmp_total}
+use Rattle.plain_values.specs.SortedSet as set
+use Rattle.lens_specs.specs.Common.{Delta, new_view, Rows, has}
 use Rattle.key_index.specs.Lists.{AreKeyed, IsTableOf, cols_of, rows_of, set_of}
 use Rattle.base_index.specs.Parts.{IsCalm, IsWhole, Keeps, Parts, rows_held, rows_next, rows_seen, to_come, to_go}
 use Rattle.key_index.specs.declared.index.Index.{Index}
 use Rattle.key_index.specs.declared.keyed.Keyed.{Keyed}
-use Rattle.key_index.proofs.Lists.{never, nothing_in, same_itself, same_trans}
+use Rattle.key_index.proofs.Lists.{same_itself, same_trans}
 use Rattle.key_index.proofs.Sets.{listed_whole}
 use Rattle.key_index.proofs.Whole.{first_indexes, none_keyed}
 use Rattle.signed_delta.proofs.Differences.{items_rise}
@@ -90,7 +89,7 @@ lowest y (z ∷ zs) all =
 
 pub none_hidden : (rows hidden go : Rows) → length (set.items hidden) ≡ 0 → set.difference rows (set.difference hidden go) ≡ rows
 none_hidden rows hidden go none = same_rows _ _ (λ x.
-    let e : set.contains hidden x ≡ false = set.contains-items hidden x ∙ ap (list_any (eq_by_cmp row_cmp x)) (nothing_in (set.items hidden) none) in
+    let e : set.contains hidden x ≡ false = set.contains-items hidden x ∙ ap (list_any (eq_by_cmp row_cmp x)) (nil_from_length (set.items hidden) none) in
     grind (arith, contained, e))
 
 row_count : (s : Rows) → finmap.len s ≡ length (set.items s)
@@ -102,7 +101,7 @@ unfolding set.remove set.contains
 fewer s x there =
     let e = finmap.len-remove row_cmp_total s x in
     let f = ap (λ b. if b then finmap.len s - 1 else finmap.len s) there in
-    let some : length (set.items s) ≡ 0 → ⊥ = λ none. never (sym (set.contains-items s x ∙ ap (list_any (eq_by_cmp row_cmp x)) (nothing_in (set.items s) none)) ∙ there) in
+    let some : length (set.items s) ≡ 0 → ⊥ = λ none. false≢true (sym (set.contains-items s x ∙ ap (list_any (eq_by_cmp row_cmp x)) (nil_from_length (set.items s) none)) ∙ there) in
     not_zero (length (set.items s)) (length (set.items (set.remove s x))) some (sym (row_count (set.remove s x)) ∙ e ∙ f ∙ ap (λ n. n - 1) (row_count s))
 
 -- without some of its rows, a set has as many fewer
@@ -144,8 +143,8 @@ module _ (p : Parts) (w : IsWhole p) (calm : IsCalm p) (shown : ℕ) (within : s
   cut_whole = record {
     index = first_indexes p.rows p.indexes shown w.index;
     fits = w.fits;
-    add = keyed_still p.add (λ off. nothing_in p.add (calm.add ∙ (w.free off).added)) w.add;
-    remove = keyed_still p.remove (λ off. nothing_in p.remove (calm.remove ∙ (w.free off).removed)) w.remove;
+    add = keyed_still p.add (λ off. nil_from_length p.add (calm.add ∙ (w.free off).added)) w.add;
+    remove = keyed_still p.remove (λ off. nil_from_length p.remove (calm.remove ∙ (w.free off).removed)) w.remove;
     added = w.added;
     removed = w.removed;
     hidden_there = w.hidden_there;
@@ -153,7 +152,7 @@ module _ (p : Parts) (w : IsWhole p) (calm : IsCalm p) (shown : ℕ) (within : s
     hidden_listed = w.hidden_listed;
     hidden_marked = λ x there. elim p.held as (λ b. p.held ≡ b → HasMarks p.marks (take shown p.indexes) x) [
       | true ↦ λ on. subst (λ ixs. HasMarks p.marks ixs x) (sym (take_all shown p.indexes (omega (arith, all on)))) (w.hidden_marked x there)
-      | false ↦ λ off. absurd (never (sym (free_hidden p w off x) ∙ there))
+      | false ↦ λ off. absurd (false≢true (sym (free_hidden p w off x) ∙ there))
     ] refl;
     going_there = w.going_there;
     going_old = w.going_old;
@@ -168,14 +167,14 @@ module _ (p : Parts) (w : IsWhole p) (calm : IsCalm p) (off : p.held ≡ false) 
   more_whole = record {
     index = index;
     fits = w.fits;
-    add = none_keyed indexes p.add (nothing_in p.add (calm.add ∙ (w.free off).added));
-    remove = none_keyed indexes p.remove (nothing_in p.remove (calm.remove ∙ (w.free off).removed));
+    add = none_keyed indexes p.add (nil_from_length p.add (calm.add ∙ (w.free off).added));
+    remove = none_keyed indexes p.remove (nil_from_length p.remove (calm.remove ∙ (w.free off).removed));
     added = w.added;
     removed = w.removed;
     hidden_there = w.hidden_there;
     hidden_old = w.hidden_old;
     hidden_listed = w.hidden_listed;
-    hidden_marked = λ x there. absurd (never (sym (free_hidden p w off x) ∙ there));
+    hidden_marked = λ x there. absurd (false≢true (sym (free_hidden p w off x) ∙ there));
     going_there = w.going_there;
     going_old = w.going_old;
     going_hidden = w.going_hidden;

@@ -4,8 +4,8 @@ use Rattle.std.specs.Prelude.{if◌then◌else◌, Option, Some, None, is_some, 
 use Rattle.std.specs.FinMap as finmap
 use Rattle.std.proofs.lemmas.Simd.{map-map}
 use Rattle.std.proofs.lemmas.List.{take_all}
-use Rattle.lens_specs.specs.Names.{Name, Names}
-use Rattle.lens_specs.specs.Relation.{Columns, Relation, Rows}
+use Rattle.std.proofs.lemmas.Bool.{false≢true}
+use Rattle.lens_specs.specs.Common.{Name, Names, Columns, Relation, Rows}
 use Rattle.signed_delta.specs.declared.delta.TableDelta.{TableDelta}
 use Rattle.base_index.specs.declared.need.Need.{Need}
 use Rattle.base_index.specs.Held.{State}
@@ -13,7 +13,6 @@ use Rattle.base_index.specs.HeldFields.{held_in, next_in, present_in}
 use Rattle.base_index.specs.Need.{same_name}
 use Rattle.base_index.specs.Several.{AreHeld, AreIndexed, first_rows, holding, kept, names_of, needed, staged, staged_all, staged_in, taken_back, with_new}
 use Rattle.base_index.specs.Stored.{Stored, new_table, next_of, settled, shown_of, unstaged}
-use Rattle.key_index.proofs.Lists.{never}
 
 -- the tables at `hold`, where they are held
 abbrev pub held_part : Bool → List Stored → Option State
@@ -208,7 +207,7 @@ abbrev first_of : Option Rows → Rows → Rows
 first_of o rows = unwrap_or o rows
 
 back_by : (s new : Stored) (o : Option Rows) → s.held ≡ o → is_some s.held ≡ true → ((rows : Rows) → s.held ≡ Some rows → new ≡ record s { rows = rows; next_rows = rows; held = None }) → new ≡ taken_back s
-back_by s new None e held is = absurd (never (sym (ap is_some e) ∙ held))
+back_by s new None e held is = absurd (false≢true (sym (ap is_some e) ∙ held))
 back_by s new (Some rows) e held is = is rows e ∙ (λ i. record s { rows = first_of (sym e i) s.rows; next_rows = first_of (sym e i) s.rows; held = None })
 
 -- a table that is held is what it was

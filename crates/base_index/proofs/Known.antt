@@ -13,21 +13,17 @@ use Rattle.std.specs.Cmp.{eq_by_cmp_equiv, tied_itself}
 use Rattle.std.specs.Cmp.Lexicographic.{lists_equiv, nat_list_cmp_total, nat_list_eq_equiv}
 use Rattle.std.specs.FinMap as finmap
 use Rattle.std.proofs.lemmas.List.Folds.{list_any-append}
-use Rattle.lens_values.specs.Order.{bytes_cmp}
-use Rattle.lens_values.specs.SortedSet as set
-use Rattle.lens_values.proofs.Maps.{exact, is_tie}
-use Rattle.lens_specs.specs.Delta.{TableDelta}
-use Rattle.lens_specs.specs.Lens.{Tables}
-use Rattle.lens_specs.specs.Names.{Name, Names}
-use Rattle.lens_specs.specs.Relation.{Columns}
+use Rattle.std.proofs.lemmas.Bool.{false≢true, or_parts}
+use Rattle.plain_values.specs.Order.{bytes_cmp}
+use Rattle.plain_values.specs.SortedSet as set
+use Rattle.plain_values.proofs.Maps.{exact}
+use Rattle.plain_values.proofs.Tests.{is_tie}
+use Rattle.lens_specs.specs.Common.{TableDelta, Tables, Name, Names, Columns}
 use Rattle.base_index.specs.Held.{AllApply, IsNew, IsThere, State, after, defined, indexes_in, is_indexed, no_relation, relation_in, with_deltas, with_table}
 use Rattle.base_index.specs.Need.{has_cols, is_fresh, same_name, same_names, with_need, with_needs}
 use Rattle.base_index.specs.declared.need.Need.{Need}
 use Rattle.base_index.proofs.Defining.{get_indexes}
 use Rattle.base_index.proofs.Fields.{same_is}
-
-never : false ≡ true → ⊥
-never e = cc
 
 itself : (n : Name) → eq_by_cmp bytes_cmp n n ≡ true
 itself n = ap is_eq (tied_itself nat_list_cmp_total n)
@@ -56,7 +52,7 @@ get_old (Some t) needs st q new there =
     finmap.get-insert nat_list_cmp_total st.relations t.0 (record { columns = t.1; rows = set.empty }) q
     ∙ elim (eq_by_cmp bytes_cmp q t.0) as (λ b. eq_by_cmp bytes_cmp q t.0 ≡ b
     → cond b (Some (record { columns = t.1; rows = set.empty })) (finmap.get st.relations q) ≡ finmap.get st.relations q) [
-      | true ↦ λ tie. absurd (never (sym new ∙ ap (λ n. is_some (finmap.get st.relations n)) (sym (exact q t.0 (is_tie _ tie))) ∙ there))
+      | true ↦ λ tie. absurd (false≢true (sym new ∙ ap (λ n. is_some (finmap.get st.relations n)) (sym (exact q t.0 (is_tie _ tie))) ∙ there))
       | false ↦ λ _. refl
     ] refl
 
@@ -67,7 +63,7 @@ indexes_defined table needs st q there =
     let ixs = with_needs q needs (indexes_in (with_table table st) q) in
     ap (λ o. unwrap_or o []) (get_indexes needs (with_table table st) q)
     ∙ elim (finmap.get (with_table table st).relations q) as (λ o. finmap.get (with_table table st).relations q ≡ o → unwrap_or (option_map (λ _. ixs) o) [] ≡ ixs) [
-      | None ↦ λ none. absurd (never (sym (ap is_some none) ∙ there))
+      | None ↦ λ none. absurd (false≢true (sym (ap is_some none) ∙ there))
       | (Some r) ↦ λ _. refl
     ] refl
 
@@ -93,7 +89,7 @@ now_met : (need : Need) (ixs : List Names) (b c : Bool) → has_cols ixs need.co
 now_met need ixs true true there same = there
 now_met need ixs false true there same =
     list_any-append (λ D. same_names D need.cols) ixs (need.cols ∷ []) ∙ ap (λ b. has_cols ixs need.cols || (b || false)) (same_set need.cols) ∙ or_true (has_cols ixs need.cols)
-now_met need ixs b false there same = absurd (never same)
+now_met need ixs b false there same = absurd (false≢true same)
 
 -- each need is met
 pub met : (needs : List Need) (i : ℕ) (need : Need) (ixs : List Names) → i < length needs → need ≡ get_or needs i need → has_cols (with_needs need.table needs ixs) need.cols ≡ true
@@ -125,7 +121,7 @@ old_indexes (Some t) st q new there = ap (λ o. unwrap_or o []) (
     finmap.get-insert nat_list_cmp_total st.indexes t.0 [] q
     ∙ elim (eq_by_cmp bytes_cmp q t.0) as (λ b. eq_by_cmp bytes_cmp q t.0 ≡ b
     → cond b (Some []) (finmap.get st.indexes q) ≡ finmap.get st.indexes q) [
-      | true ↦ λ tie. absurd (never (sym new ∙ ap (λ n. is_some (finmap.get st.relations n)) (sym (exact q t.0 (is_tie _ tie))) ∙ there))
+      | true ↦ λ tie. absurd (false≢true (sym new ∙ ap (λ n. is_some (finmap.get st.relations n)) (sym (exact q t.0 (is_tie _ tie))) ∙ there))
       | false ↦ λ _. refl
     ] refl)
 
@@ -138,15 +134,11 @@ still_indexed table needs st t C new there h =
 
 -- ---- differences
 
-neither : (a b : Bool) → (a || b) ≡ false → (a ≡ false) × (b ≡ false)
-neither true b h = cc
-neither false b h = (refl, h)
-
 -- a table that no difference names stays
 pub get_other : (cs : List TableDelta) (T : Tables) (q : Name) → list_any (λ c. same_name c.table q) cs ≡ false → finmap.get (with_deltas cs T) q ≡ finmap.get T q
 get_other [] T q none = refl
 get_other (c ∷ cs) T q none =
-    let parts = neither (same_name c.table q) (list_any (λ d. same_name d.table q) cs) none in
+    let parts = or_parts (same_name c.table q) (list_any (λ d. same_name d.table q) cs) none in
     let new = after (relation_in T c.table) c.delta in
     get_other cs (finmap.insert T c.table new) q parts.1
     ∙ finmap.get-insert nat_list_cmp_total T c.table new q
@@ -164,9 +156,9 @@ get_changed c cs T none =
 differs_at : (t : Name) (cs : List TableDelta) (i : ℕ) (c : TableDelta) → i < length cs → c ≡ get_or cs i c
     → list_any (λ later. same_name later.table t) cs ≡ false → same_name c.table t ≡ false
 differs_at t [] i c l e none = absurd (omega arith)
-differs_at t (d ∷ ds) zero c l e none = ap (λ d. same_name d.table t) e ∙ (neither (same_name d.table t) (list_any (λ later. same_name later.table t) ds) none).0
+differs_at t (d ∷ ds) zero c l e none = ap (λ d. same_name d.table t) e ∙ (or_parts (same_name d.table t) (list_any (λ later. same_name later.table t) ds) none).0
 differs_at t (d ∷ ds) (suc i) c l e none =
-    differs_at t ds i c (omega arith) e (neither (same_name d.table t) (list_any (λ later. same_name later.table t) ds) none).1
+    differs_at t ds i c (omega arith) e (or_parts (same_name d.table t) (list_any (λ later. same_name later.table t) ds) none).1
 
 changed_in : (cs : List TableDelta) (T old : Tables) (i : ℕ) (c : TableDelta) → i < length cs → c ≡ get_or cs i c → AllApply cs old
     → finmap.get (with_deltas cs T) c.table ≡ Some (after (relation_in T c.table) c.delta)

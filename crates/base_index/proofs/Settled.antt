@@ -1,16 +1,16 @@
 -- The parts of a table where what is staged is settled, and where rows are held, kept or taken back.
 use Rattle.std.proofs.Common.{◌≡◌, List, [], ◌∷◌, length, take, drop, ap, sym, ◌∙◌, refl, true, false, arith}
 use Rattle.std.specs.Prelude.{Some}
-use Rattle.std.proofs.lemmas.List.{length-take-le}
-use Rattle.lens_values.specs.Row.{row_cmp}
-use Rattle.lens_values.specs.SortedSet as set
-use Rattle.lens_values.specs.declared.row.Row.{Row}
+use Rattle.std.proofs.lemmas.List.{length-take-le, nil_from_length}
+use Rattle.std.proofs.lemmas.Bool.{false≢true}
+use Rattle.plain_values.specs.Row.{row_cmp, Row}
+use Rattle.plain_values.specs.SortedSet as set
 use Rattle.lens_specs.specs.Relation.{Rows, has}
 use Rattle.key_index.specs.Lists.{IsTableOf, SameCols, rows_of, set_of}
 use Rattle.base_index.specs.Parts.{IsCalm, IsWhole, Parts, rows_held, rows_next, rows_seen, to_go}
 use Rattle.key_index.specs.declared.index.Index.{Index}
 use Rattle.key_index.specs.declared.keyed.Keyed.{Keyed}
-use Rattle.key_index.proofs.Lists.{all_keep_keys, never, nothing_in}
+use Rattle.key_index.proofs.Lists.{all_keep_keys}
 use Rattle.key_index.proofs.Whole.{none_keyed}
 use Rattle.key_index.proofs.RowSets.{contained, same_rows}
 use Rattle.key_index.specs.declared.marks.Marks.{Marks}
@@ -46,7 +46,7 @@ module _ (p : Parts) (w : IsWhole p) (on : p.held ≡ true) where
     going_hidden = λ _ x there. grind (arith, there, calm_go marked marked_calm x);
     back_hidden = λ x there. grind (arith, there, calm_back marked marked_calm x);
     back_stays = λ x _. calm_go marked marked_calm x;
-    free = λ off. absurd (never (sym off ∙ on));
+    free = λ off. absurd (false≢true (sym off ∙ on));
   }
 
 -- ---- what is staged is present, where the rows are not held
@@ -78,7 +78,7 @@ module _ (p : Parts) (w : IsWhole p) (off : p.held ≡ false) (rows : Rows) (ind
     hidden_there = λ x there. grind (arith, there, free_hidden p w off x);
     hidden_old = λ x _. calm_come taken_out taken_calm x;
     hidden_listed = λ x there. grind (arith, there, free_hidden p w off x);
-    hidden_marked = λ x there. absurd (never (sym (free_hidden p w off x) ∙ there));
+    hidden_marked = λ x there. absurd (false≢true (sym (free_hidden p w off x) ∙ there));
     going_there = λ x there. grind (arith, there, calm_go taken_out taken_calm x);
     going_old = λ x _. calm_come taken_out taken_calm x;
     going_hidden = λ _ x there. grind (arith, there, calm_go taken_out taken_calm x);
@@ -98,7 +98,7 @@ module _ (p : Parts) (w : IsWhole p) (calm : IsCalm p) (off : p.held ≡ false) 
 
   pub holding_held : rows_held holding ≡ Some (rows_seen p)
   holding_held = ap Some (same_rows (set.difference p.rows (rows_of p.add)) (rows_seen p)
-      (λ x. let none : has (rows_of p.add) x ≡ false = ap (λ l. has (rows_of l) x) (nothing_in p.add (calm.add ∙ (w.free off).added)) ∙ set.contains-empty row_cmp x in
+      (λ x. let none : has (rows_of p.add) x ≡ false = ap (λ l. has (rows_of l) x) (nil_from_length p.add (calm.add ∙ (w.free off).added)) ∙ set.contains-empty row_cmp x in
       grind (arith, contained, none, calm_come p calm x, free_hidden p w off x)))
 
   pub holding_whole : IsWhole holding
@@ -118,7 +118,7 @@ module _ (p : Parts) (w : IsWhole p) (calm : IsCalm p) (off : p.held ≡ false) 
     back_hidden = w.back_hidden;
     back_stays = w.back_stays;
     going_hidden = λ _ x there. grind (arith, there, calm_go p calm x);
-    free = λ false_is. absurd (never (sym false_is));
+    free = λ false_is. absurd (false≢true (sym false_is));
   }
 
 -- ---- rows stand as they are, where nothing is staged
@@ -150,7 +150,7 @@ module _ (p : Parts) (w : IsWhole p) (calm : IsCalm p) (rows hidden : Rows) (mar
     hidden_there = λ x there. grind (arith, there, keeping_none x);
     hidden_old = λ x _. calm_come keeping keeping_calm x;
     hidden_listed = λ x there. grind (arith, there, keeping_none x);
-    hidden_marked = λ x there. absurd (never (sym (keeping_none x) ∙ there));
+    hidden_marked = λ x there. absurd (false≢true (sym (keeping_none x) ∙ there));
     going_there = λ x there. grind (arith, there, calm_go keeping keeping_calm x);
     going_old = λ x _. calm_come keeping keeping_calm x;
     going_hidden = λ _ x there. grind (arith, there, calm_go keeping keeping_calm x);
@@ -196,7 +196,7 @@ module _ (p : Parts) (w : IsWhole p) (rows hidden : Rows) (marks : Marks) (index
     hidden_there = λ x there. grind (arith, there, hidden_none x);
     hidden_old = λ x _. calm_come going_back going_back_calm x;
     hidden_listed = λ x there. grind (arith, there, hidden_none x);
-    hidden_marked = λ x there. absurd (never (sym (hidden_none x) ∙ there));
+    hidden_marked = λ x there. absurd (false≢true (sym (hidden_none x) ∙ there));
     going_there = λ x there. grind (arith, there, calm_go going_back going_back_calm x);
     going_old = λ x _. calm_come going_back going_back_calm x;
     going_hidden = λ _ x there. grind (arith, there, calm_go going_back going_back_calm x);

@@ -3,16 +3,16 @@ use Rattle.std.proofs.Common.{◌≡◌, List, [], ◌∷◌, ◌++◌, length, 
 use Rattle.std.specs.Prelude.{◌&&◌, ◌||◌, Some, None, if◌then◌else◌}
 use Rattle.std.specs.List.{list_any}
 use Rattle.std.specs.Ordering.{eq_by_cmp}
-use Rattle.std.proofs.lemmas.List.{length-append, length-take-le, drop-append-le}
-use Rattle.lens_values.specs.Row.{row_cmp}
-use Rattle.lens_values.specs.SortedSet as set
-use Rattle.lens_values.specs.declared.row.Row.{Row}
+use Rattle.std.proofs.lemmas.List.{length-append, length-take-le, drop-append-le, nil_from_length}
+use Rattle.std.proofs.lemmas.Bool.{false≢true}
+use Rattle.plain_values.specs.Row.{row_cmp, Row}
+use Rattle.plain_values.specs.SortedSet as set
 use Rattle.lens_specs.specs.Relation.{Fits, Rows, has}
 use Rattle.key_index.specs.Lists.{AreKeyed, HasKeys, IsListed, IsTableOf, SameCols, rows_of, set_of}
 use Rattle.base_index.specs.Parts.{IsCalm, IsWhole, Parts, rows_held, rows_next, rows_seen, to_come, to_go}
 use Rattle.key_index.specs.declared.index.Index.{Index}
 use Rattle.key_index.specs.declared.keyed.Keyed.{Keyed}
-use Rattle.key_index.proofs.Lists.{all_keep_keys, in_pushed, never, nothing_in, pushed_keyed}
+use Rattle.key_index.proofs.Lists.{all_keep_keys, in_pushed, pushed_keyed}
 use Rattle.key_index.proofs.Groups.{tied}
 use Rattle.key_index.proofs.RowSets.{at_tie, contained, same_rows}
 use Rattle.key_index.specs.Marks.{AreMarked, HasMarks, StayMarked}
@@ -275,7 +275,7 @@ module _ (p : Parts) (w : IsWhole p) (row : Row) (indexes : List Index) (add : L
 -- ---- rows are put where there is none
 
 none_in : (rows : Rows) (x : Row) → length (set.items rows) ≡ 0 → has rows x ≡ false
-none_in rows x none = set.contains-items rows x ∙ ap (list_any (eq_by_cmp row_cmp x)) (nothing_in (set.items rows) none)
+none_in rows x none = set.contains-items rows x ∙ ap (list_any (eq_by_cmp row_cmp x)) (nil_from_length (set.items rows) none)
 
 in_appended : (xs ys : List Keyed) (x : Row) → has (rows_of (xs ++ ys)) x ≡ (has (rows_of xs) x || has (rows_of ys) x)
 in_appended [] ys x = grind (arith, contained)
@@ -324,12 +324,12 @@ module _ (p : Parts) (w : IsWhole p) (none : length (set.items p.rows) ≡ 0) (l
     remove = all_keep_keys p.indexes indexes p.remove cols w.remove;
     added = omega (arith, w.added, length-append p.add list);
     removed = w.removed;
-    hidden_there = λ x there. absurd (never (sym (no_hidden x) ∙ there));
-    hidden_old = λ x there. absurd (never (sym (no_hidden x) ∙ there));
+    hidden_there = λ x there. absurd (false≢true (sym (no_hidden x) ∙ there));
+    hidden_old = λ x there. absurd (false≢true (sym (no_hidden x) ∙ there));
     hidden_listed = w.hidden_listed;
-    hidden_marked = λ x there. absurd (never (sym (no_hidden x) ∙ there));
-    going_there = λ x there. absurd (never (sym (no_going x) ∙ there));
-    going_old = λ x there. absurd (never (sym (no_going x) ∙ there));
+    hidden_marked = λ x there. absurd (false≢true (sym (no_hidden x) ∙ there));
+    going_there = λ x there. absurd (false≢true (sym (no_going x) ∙ there));
+    going_old = λ x there. absurd (false≢true (sym (no_going x) ∙ there));
     going_hidden = w.going_hidden;
     back_hidden = w.back_hidden;
     back_stays = w.back_stays;

@@ -4,15 +4,13 @@ use Rattle.std.specs.Prelude.{Option, Some, None, is_some, unwrap_or}
 use Rattle.std.specs.List.{sum_by}
 use Rattle.std.specs.Coded.{Coded, code_by, coded×, coded_list, coded_option, coded_ℕ}
 use Rattle.std.specs.FinMap as finmap
-use Rattle.lens_values.specs.Order.{bytes_cmp}
-use Rattle.lens_values.specs.SortedSet as set
+use Rattle.plain_values.specs.Order.{bytes_cmp}
+use Rattle.plain_values.specs.SortedSet as set
 pub use Rattle.lens_specs.specs.Relation.{IsRelation, has, those}
 pub use Rattle.lens_specs.specs.Rows.{agree}
 pub use Rattle.lens_specs.specs.TableDeltas.{no_relation, relation_in, after, with_deltas, AllApply}
 pub use Rattle.signed_delta.specs.Tables.{table_delta}
-use Rattle.lens_specs.specs.Lens.{Tables}
-use Rattle.lens_specs.specs.Names.{Name, Names}
-use Rattle.lens_specs.specs.Relation.{Columns}
+use Rattle.lens_specs.specs.Common.{Tables, Name, Names, Columns}
 use Rattle.row_sets.specs.Codes.{coded_relation}
 use Rattle.base_index.specs.Need.{has_cols, rows_walked, with_needs}
 use Rattle.base_index.specs.declared.need.Need.{Need}

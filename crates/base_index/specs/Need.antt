@@ -1,9 +1,8 @@
 -- Column sets by which tables are to be asked.
 use Rattle.std.specs.Prelude.{ℕ, Bool, ◌&&◌, not, if◌then◌else◌, ◌==◌}
 use Rattle.std.specs.Prelude.{List, [], ◌∷◌, ◌++◌, length}
-use Rattle.lens_values.specs.SortedSet as set
-use Rattle.lens_specs.specs.Names.{Name, Names}
-use Rattle.lens_specs.specs.Relation.{Rows}
+use Rattle.plain_values.specs.SortedSet as set
+use Rattle.lens_specs.specs.Common.{Name, Names, Rows}
 pub use Rattle.key_index.specs.Cols.{same_name, same_names, has_cols}
 use Rattle.base_index.specs.declared.need.Need.{Need}
 

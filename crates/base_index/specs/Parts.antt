@@ -1,7 +1,7 @@
 -- The rows of a table with its indexes, a change of them that is staged, and what can be taken back.
 use Rattle.std.specs.Prelude.{◌≡◌, ◌≤◌, ℕ, Bool, true, false, if◌then◌else◌, List, [], length, drop, Option, Some, None}
-use Rattle.lens_values.specs.SortedSet as set
-use Rattle.lens_values.specs.declared.row.Row.{Row}
+use Rattle.plain_values.specs.SortedSet as set
+use Rattle.plain_values.specs.Row.{Row}
 use Rattle.lens_specs.specs.Relation.{Columns, Fits, Rows, has}
 use Rattle.key_index.specs.Lists.{AreKeyed, IsTableOf, SameCols, rows_of, set_of}
 use Rattle.key_index.specs.Marks.{HasMarks}

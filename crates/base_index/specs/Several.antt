@@ -2,9 +2,7 @@
 use Rattle.std.specs.Prelude.{◌≡◌, ℕ, Bool, false, if◌then◌else◌, List, [], ◌∷◌, ◌++◌, map}
 use Rattle.std.specs.Prelude.{Option, Some, None, is_some, unwrap_or}
 use Rattle.std.specs.List.{list_any}
-use Rattle.lens_specs.specs.Delta.{AppliesTo, Delta, new_view}
-use Rattle.lens_specs.specs.Names.{Name}
-use Rattle.lens_specs.specs.Relation.{Columns, Rows}
+use Rattle.lens_specs.specs.Common.{AppliesTo, Delta, new_view, Name, Columns, Rows}
 use Rattle.signed_delta.specs.declared.delta.TableDelta.{TableDelta}
 use Rattle.base_index.specs.Need.{rows_walked, same_name, with_needs}
 use Rattle.base_index.specs.Stored.{IsQuiet, Stored, new_table, shown_of}

@@ -1,9 +1,8 @@
 -- A table that is there, and the change of it that is staged.
 use Rattle.std.specs.Prelude.{◌≡◌, List, [], refl, Option, None}
 use Rattle.std.specs.Coded.{Coded, code_by, coded×, coded_list, coded_option, coded_ℕ}
-use Rattle.lens_values.specs.SortedSet as set
-use Rattle.lens_specs.specs.Names.{Name, Names}
-use Rattle.lens_specs.specs.Relation.{Columns, Relation, Rows}
+use Rattle.plain_values.specs.SortedSet as set
+use Rattle.lens_specs.specs.Common.{Name, Names, Columns, Relation, Rows}
 use Rattle.row_sets.specs.Codes.{coded_columns, coded_rows}
 
 -- `rows` and `indexes` are what readers see, the next ones what `settle` makes of them, and `held` the rows as they were at

@@ -1,6 +1,6 @@
 -- How a table lies in its fields.
 use Rattle.std.specs.Prelude.{◌≡◌, ◌≤◌, true, take, length}
-use Rattle.lens_values.specs.SortedSet as set
+use Rattle.plain_values.specs.SortedSet as set
 use Rattle.key_index.specs.Lists.{cols_of}
 use Rattle.base_index.specs.Parts as parts
 use Rattle.base_index.specs.Parts.{parts_of, rows_held, rows_next, rows_seen}

@@ -1,6 +1,6 @@
 //! The rows of a table with its indexes, a change of them that is staged, and what can be taken back.
 ghost use Rattle.std.specs.Prelude.{◌≡◌, ◌≤◌, ◌+◌, IfOk, OnOk, OnErr, IsTrue, true, false, not, [], length, take};
-ghost use Rattle.lens_values.specs.SortedSet as set;
+ghost use Rattle.plain_values.specs.SortedSet as set;
 ghost use Rattle.lens_specs.specs.Relation.{has};
 ghost use Rattle.lens_specs.specs.Rows.{agree};
 ghost use Rattle.key_index.specs.Lists.{cols_of, rows_of};

@@ -2,8 +2,8 @@
 ghost use Rattle.std.specs.Prelude.{◌≡◌, ◌≤◌, OnOk, OnErr, true, false, length, take, drop};
 ghost use Rattle.std.specs.Prelude.{if◌then◌else◌};
 ghost use Rattle.std.specs.List.Sorted.{IsStrictlySortedBy};
-ghost use Rattle.lens_values.specs.Row.{row_cmp};
-ghost use Rattle.lens_values.specs.SortedSet as set;
+ghost use Rattle.plain_values.specs.Row.{row_cmp};
+ghost use Rattle.plain_values.specs.SortedSet as set;
 ghost use Rattle.lens_specs.specs.Delta.{Applies, new_view};
 ghost use Rattle.lens_specs.specs.Relation.{Fits, has};
 ghost use Rattle.key_index.specs.Lists.{rows_of, set_of};

@@ -1,7 +1,7 @@
 //! What is staged in a table is settled, and what is held is kept or taken back.
 ghost use Rattle.std.specs.Prelude.{◌≡◌, Some, true, false, []};
 ghost use Rattle.std.specs.Prelude.{if◌then◌else◌};
-ghost use Rattle.lens_values.specs.SortedSet as set;
+ghost use Rattle.plain_values.specs.SortedSet as set;
 ghost use Rattle.key_index.specs.Lists.{AreKeyed, HasKeys, IsTableOf, SameCols};
 ghost use Rattle.key_index.specs.Lists.{rows_of, set_of};
 ghost use Rattle.base_index.specs.Parts.{IsCalm, IsWhole, parts_of};

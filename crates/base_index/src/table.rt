@@ -1,6 +1,6 @@
 //! A table, and the change of it that is staged.
 ghost use Rattle.std.specs.Prelude.{◌≡◌, ◌+◌, ◌≤◌, length, true, IfOk, OnOk, OnErr, IsTrue, None, Some};
-ghost use Rattle.lens_values.specs.SortedSet as set;
+ghost use Rattle.plain_values.specs.SortedSet as set;
 ghost use Rattle.lens_specs.specs.Delta.{AppliesTo, new_view};
 ghost use Rattle.lens_specs.specs.Relation.{IsRelation};
 ghost use Rattle.lens_specs.specs.Rows.{agree};

@@ -2,7 +2,7 @@
 ghost use Rattle.std.specs.Prelude.{◌≡◌, ◌+◌, ◌≤◌, map, length, IfOk, OnOk, OnErr, IsTrue, IsSome};
 ghost use Rattle.std.specs.Prelude.{Some, None};
 ghost use Rattle.std.specs.FinMap as finmap;
-ghost use Rattle.lens_values.specs.SortedSet as set;
+ghost use Rattle.plain_values.specs.SortedSet as set;
 ghost use Rattle.base_index.specs.Held.{AllApply, IsNew, IsQuiet, IsRelation, IsThere, agree, defined, has};
 ghost use Rattle.base_index.specs.Held.{is_indexed, no_tables, relation_in, table_delta, those, walked_for, with_deltas};
 ghost use Rattle.base_index.specs.Stored.{shown_of};

@@ -2,15 +2,10 @@
 use Rattle.std.specs.Prelude.{ℕ, Bool, false, List, [], ◌∷◌, nat_eq, Option, Some, None, option_map, Result, Ok, Err}
 use Rattle.std.specs.Cmp.Lexicographic.{pointwise}
 use Rattle.std.specs.FinMap as finmap
-use Rattle.lens_values.specs.Order.{bytes_cmp}
-use Rattle.lens_values.specs.declared.join_kind.JoinKind.{JoinKind}
-use Rattle.lens_specs.specs.Names.{Name}
-use Rattle.lens_specs.specs.Columns.{Columns}
-use Rattle.lens_specs.specs.Dependencies.{Edge}
-use Rattle.lens_specs.specs.TreeForm.{tree_of}
-use Rattle.lens_specs.specs.Predicate.{Predicate}
-use Rattle.lens_specs.specs.Sort.{Sort}
-use Rattle.lens_specs.specs.Lens.{Lens, base, select, drop, rename, join, tree_or_none}
+use Rattle.plain_values.specs.Order.{bytes_cmp}
+use Rattle.plain_values.specs.declared.join_kind.JoinKind.{JoinKind}
+use Rattle.lens_specs.specs.Common.{Name, Columns, Edge, tree_of, Predicate, Sort, Lens, base, select, drop, rename, tree_or_none}
+use Rattle.lens_specs.specs.Lens.{join}
 use Rattle.grammar_specs.specs.Meaning as meaning
 use Rattle.grammar_specs.specs.Meaning.{Expr, named, Definition, table, view}
 use Rattle.grammar_specs.specs.Faults.{Fault}

@@ -1,15 +1,10 @@
 -- Which definitions are taken.
 use Rattle.std.specs.Prelude.{ℕ, suc, Bool, true, false, not, List, [], ◌∷◌, nat_le, is_some, is_err, Option, Some, None, option_map, Result, Ok, Err, if◌then◌else◌}
 use Rattle.std.specs.FinMap as finmap
-use Rattle.lens_values.specs.declared.join_kind.JoinKind.{JoinKind}
-use Rattle.lens_specs.specs.Names.{Name}
-use Rattle.lens_specs.specs.Columns.{Columns}
-use Rattle.lens_specs.specs.Dependencies.{Edge}
-use Rattle.lens_specs.specs.Predicate.{Predicate}
-use Rattle.lens_specs.specs.Sort.{Sort}
-use Rattle.lens_specs.specs.Lens.{Lens, select, drop, rename, join}
-use Rattle.lens_specs.specs.Typing.{sort, table_sort}
-use Rattle.lens_specs.specs.Refusal.{Refusal, too_large, Limit, tables_limit, views_limit}
+use Rattle.plain_values.specs.declared.join_kind.JoinKind.{JoinKind}
+use Rattle.lens_specs.specs.Common.{Name, Columns, Edge, Predicate, Sort, Lens, select, drop, rename, sort, table_sort, Refusal, too_large, tables_limit, views_limit}
+use Rattle.lens_specs.specs.Lens.{join}
+use Rattle.lens_specs.specs.Refusal.{Limit}
 use Rattle.grammar_specs.specs.Meaning as meaning
 use Rattle.grammar_specs.specs.Meaning.{Expr, named, Definition, table, view}
 use Rattle.grammar_specs.specs.Faults.{Fault}

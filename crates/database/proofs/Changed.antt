@@ -4,11 +4,8 @@ use Rattle.std.proofs.lemmas.Bool.Decides.{nat_tests}
 use Rattle.std.specs.Prelude.{◌≢◌, ◌==◌, IfOk, Result, Ok, Err, None, Vec, length, map, slice_get}
 use Rattle.std.specs.declared.alloc.Global.{Global}
 use Rattle.no_memory.specs.declared.NoMemory.{NoMemory}
-use Rattle.lens_specs.specs.Delta.{TableDelta}
-use Rattle.lens_specs.specs.Keeping.{rows}
-use Rattle.lens_specs.specs.Lens.{Tables}
+use Rattle.lens_specs.specs.Common.{TableDelta, rows, Tables, LeadTo, inverted}
 use Rattle.lens_laws.proofs.Alone.{are_differences}
-use Rattle.lens_specs.specs.TableDeltas.{LeadTo, inverted}
 use Rattle.base_index.specs.Held.{AllApply, with_deltas}
 use Rattle.reply_printing.specs.Answers.{answer_view}
 use Rattle.server_specs.specs.Answer as answers

@@ -7,15 +7,11 @@ use Rattle.std.specs.Cmp.Lexicographic.{texts_ties}
 use Rattle.std.specs.FinMap as finmap
 use Rattle.std.specs.List.{Contains}
 use Rattle.std.specs.Ordering.{eq_by_cmp}
-use Rattle.lens_values.specs.Order.{bytes_cmp}
-use Rattle.lens_values.specs.SortedSet as set
+use Rattle.plain_values.specs.Order.{bytes_cmp}
+use Rattle.plain_values.specs.SortedSet as set
 use Rattle.fd_laws.proofs.Names.{tied_name}
-use Rattle.lens_specs.specs.Columns.{Columns}
-use Rattle.lens_specs.specs.Rename.{renamed_names}
-use Rattle.lens_specs.specs.Lens.{Lens, base, drop, join, rename, select, sort_of, view_names}
-use Rattle.lens_specs.specs.Names.{Name, Names}
-use Rattle.lens_specs.specs.Relation.{Relation}
-use Rattle.lens_specs.specs.Sort.{Sort}
+use Rattle.lens_specs.specs.Common.{Columns, renamed_names, Lens, base, drop, rename, select, sort_of, view_names, Name, Names, Relation, Sort}
+use Rattle.lens_specs.specs.Lens.{join}
 use Rattle.lens_laws.specs.Asked.{asked, keys_at, side_keys}
 use Rattle.lens_laws.proofs.Asked.{contains_map, from_map_contains}
 use Rattle.lens_probe.specs.Viewed.{AreIndexed}

@@ -4,11 +4,10 @@ use Rattle.std.specs.Prelude.{◌^◌}
 use Rattle.std.specs.FinMap as finmap
 use Rattle.std.specs.List.{Contains}
 use Rattle.std.specs.Ordering.{eq_by_cmp}
-use Rattle.lens_values.specs.Order.{bytes_cmp}
+use Rattle.plain_values.specs.Order.{bytes_cmp}
 use Rattle.fd_laws.proofs.Names.{tied_name}
 use Rattle.lens_laws.specs.Asked.{asked}
-use Rattle.lens_specs.specs.Lens.{Lens, Tables}
-use Rattle.lens_specs.specs.Names.{Name, Names}
+use Rattle.lens_specs.specs.Common.{Lens, Tables, Name, Names}
 use Rattle.catalog_specs.specs.Catalogue.{catalogue}
 use Rattle.server_laws.proofs.Stored.{AreStored}
 use Rattle.server_laws.proofs.Taken.{get-new, get-other}

@@ -4,8 +4,7 @@ use Rattle.std.specs.FinMap as finmap
 use Rattle.base_index.specs.Held.{IsQuiet}
 use Rattle.lens_laws.specs.Asked.{asked}
 use Rattle.lens_probe.specs.Viewed.{AreIndexed}
-use Rattle.lens_specs.specs.Lens.{Lens}
-use Rattle.lens_specs.specs.Names.{Name}
+use Rattle.lens_specs.specs.Common.{Lens, Name}
 use Rattle.catalog_specs.specs.Catalogue.{catalogue}
 use Rattle.server_laws.proofs.Keys.{all_keyed}
 use Rattle.server_laws.proofs.Stored.{lens_over}

@@ -3,8 +3,7 @@ use Rattle.std.proofs.Common.{◌≡◌, ◌∙◌, List, [], ◌∷◌, ap, map
 use Rattle.base_index.specs.declared.need.Need.{Need}
 use Rattle.lens_laws.specs.Asked.{asked}
 use Rattle.lens_probe.specs.Needs.{pair_of}
-use Rattle.lens_specs.specs.Lens.{Lens}
-use Rattle.lens_specs.specs.Names.{Name, Names}
+use Rattle.lens_specs.specs.Common.{Lens, Name, Names}
 use Rattle.database.specs.Staging.{needs_of}
 
 abbrev pub need_of : Name × Names → Need

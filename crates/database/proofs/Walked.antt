@@ -1,7 +1,6 @@
 -- How many rows are walked for a change that is staged.
 use Rattle.std.proofs.Common.{◌≤◌, ℕ, cond, Bool, true, false, List, [], ◌∷◌, Option, Some, None, arith}
-use Rattle.std.specs.Prelude.{sum_by}
-use Rattle.std.proofs.lemmas.List.Sums.{sum_by-cons}
+use Rattle.std.proofs.lemmas.List.Sums.{sum_by-le-sum_by}
 use Rattle.std.specs.FinMap as finmap
 use Rattle.lens_laws.specs.Work.{count_of}
 use Rattle.base_index.specs.Held as held
@@ -15,11 +14,6 @@ use Rattle.database.specs.declared.plan.Staged.{Staged}
 use Rattle.database.specs.declared.plan.StagedChange.{StagedChange}
 use Rattle.database.specs.declared.plan.StagedChange.TheVariants.{Define, Rows as RowsChange}
 
--- the sum of smaller numbers is smaller
-sum_less : {A : Type 0} (f g : A → ℕ) (xs : List A) → ((x : A) → f x ≤ g x) → sum_by f xs ≤ sum_by g xs
-sum_less f g [] h = omega arith
-sum_less f g (x ∷ xs) h = omega (arith, sum_by-cons f x xs, sum_by-cons g x xs, h x, sum_less f g xs h)
-
 other_less : (b : Bool) (n : ℕ) → cond b 0 n ≤ n
 other_less true n = omega arith
 other_less false n = omega arith
@@ -27,7 +21,7 @@ other_less false n = omega arith
 -- for needs no more rows are walked than all tables have
 pub walked_few : (needs : List Need) (st : held.State) → walked_for needs st ≤ row_count st.relations
 walked_few needs st =
-    sum_less (λ e. rows_walked e.0 needs (indexes_in st e.0) e.1.rows) (λ e. count_of e.1.rows) (finmap.entries st.relations)
+    sum_by-le-sum_by (λ e. rows_walked e.0 needs (indexes_in st e.0) e.1.rows) (λ e. count_of e.1.rows) (finmap.entries st.relations)
     (λ e. other_less _ (count_of e.1.rows))
 
 steps_in_few : (change : StagedChange) (st : held.State) → steps_in change st ≤ row_count st.relations

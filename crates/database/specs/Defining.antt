@@ -1,10 +1,9 @@
 -- What a definition adds to the tables.
 use Rattle.std.specs.Prelude.{ℕ, Option, Some, None}
 use Rattle.std.specs.FinMap as finmap
-use Rattle.lens_values.specs.Order.{bytes_cmp}
-use Rattle.lens_values.specs.SortedSet as set
-use Rattle.lens_specs.specs.Lens.{Lens, Tables, sort_of}
-use Rattle.lens_specs.specs.Names.{Name}
+use Rattle.plain_values.specs.Order.{bytes_cmp}
+use Rattle.plain_values.specs.SortedSet as set
+use Rattle.lens_specs.specs.Common.{Lens, Tables, sort_of, Name}
 
 -- the tables with the one that is defined, if it is one: it has the columns of its lens, and no rows
 abbrev pub tables_with : Option Name → Lens → Tables → Tables

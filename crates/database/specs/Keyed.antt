@@ -1,8 +1,7 @@
 -- Databases whose lenses ask their tables by key.
 use Rattle.std.specs.Prelude.{◌≡◌, [], None, Some}
 use Rattle.std.specs.FinMap as finmap
-use Rattle.lens_specs.specs.Lens.{Lens}
-use Rattle.lens_specs.specs.Names.{Name}
+use Rattle.lens_specs.specs.Common.{Lens, Name}
 use Rattle.lens_laws.specs.Asked.{HasKeys, asked}
 use Rattle.base_index.specs.Held.{IsQuiet}
 use Rattle.lens_probe.specs.Viewed.{AreIndexed}

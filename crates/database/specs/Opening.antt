@@ -1,8 +1,7 @@
 -- Views of a database that are opened.
 use Rattle.std.specs.Prelude.{◌≡◌, [], None, Some}
 use Rattle.std.specs.FinMap as finmap
-use Rattle.lens_specs.specs.Lens.{Lens}
-use Rattle.lens_specs.specs.Names.{Name}
+use Rattle.lens_specs.specs.Common.{Lens, Name}
 use Rattle.lens_laws.specs.Asked.{asked}
 use Rattle.lens_laws.specs.Work.{fan}
 use Rattle.lens_probe.specs.Viewed.{AreIndexed, FindsAtMost}

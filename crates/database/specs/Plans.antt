@@ -2,10 +2,7 @@
 use Rattle.std.specs.Prelude.{◌≡◌, ◌<◌, ◌+◌, ◌-◌, ◌^◌, ℕ, false, List, [], ◌∷◌, ◌++◌, length, map, take, Option, Some, None, is_some, Vec}
 use Rattle.std.specs.declared.alloc.Global.{Global}
 use Rattle.std.specs.FinMap as finmap
-use Rattle.lens_specs.specs.Delta.{TableDelta}
-use Rattle.lens_specs.specs.Lens.{Tables}
-use Rattle.lens_specs.specs.Names.{Name}
-use Rattle.lens_specs.specs.TableDeltas.{AreDeltas, LeadTo}
+use Rattle.lens_specs.specs.Common.{TableDelta, Tables, Name, AreDeltas, LeadTo}
 use Rattle.base_index.specs.Held.{AllApply, with_deltas}
 use Rattle.catalog_specs.specs.Catalogue.{catalogue}
 use Rattle.reply_printing.specs.Answers.{answer_view}

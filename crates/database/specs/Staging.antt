@@ -1,8 +1,6 @@
 -- What the tables stage for a change, and how many rows are walked for it.
 use Rattle.std.specs.Prelude.{ℕ, List, [], map, Option, None, Some, option_map}
-use Rattle.lens_specs.specs.Columns.{Columns}
-use Rattle.lens_specs.specs.Lens.{Lens, sort_of}
-use Rattle.lens_specs.specs.Names.{Name}
+use Rattle.lens_specs.specs.Common.{Columns, Lens, sort_of, Name}
 use Rattle.lens_laws.specs.Asked.{asked}
 use Rattle.base_index.specs.Held.{State, defined, walked_for, with_deltas}
 use Rattle.base_index.specs.declared.need.Need.{Need}

@@ -8,16 +8,14 @@ use Rattle.std.specs.FinMap as finmap
 use Rattle.std.specs.Ordering.{eq_by_cmp}
 use Rattle.std.specs.declared.cmp.Ordering.TheVariants.{Less, Equal, Greater}
 use Rattle.std.proofs.lemmas.List.Sums.{sum_by-cons}
-use Rattle.lens_values.specs.Order.{bytes_cmp}
-use Rattle.fd_laws.proofs.Names.{name_itself, name_total, tied_name}
-use Rattle.fd_laws.proofs.Rows.{row_total}
+use Rattle.plain_values.specs.Order.{bytes_cmp}
+use Rattle.fd_laws.proofs.Common.{name_itself, name_total, tied_name}
 use Rattle.lens_laws.specs.Work.{count_of}
+use Rattle.lens_laws.proofs.Counts.{count-none}
 use Rattle.opened_view.specs.Counters.{row_count}
-use Rattle.lens_values.specs.SortedSet as set
-use Rattle.lens_specs.specs.Lens.{Lens, Tables, sort_of}
-use Rattle.lens_specs.specs.Names.{Name, is_among}
-use Rattle.lens_specs.specs.Relation.{Relation}
-use Rattle.lens_specs.specs.Sort.{Sort}
+use Rattle.plain_values.specs.SortedSet as set
+use Rattle.plain_values.proofs.Tests.{place_none}
+use Rattle.lens_specs.specs.Common.{Lens, Tables, sort_of, Name, is_among, Relation, Sort}
 use Rattle.base_index.specs.Held.{IsNew, IsQuiet, State, no_tables, with_table}
 use Rattle.grammar_laws.specs.Reading.{reading}
 use Rattle.catalog_specs.specs.Catalogue.{Catalogue, catalogue, catalogue_onto, is_table_of, with_definition}
@@ -41,11 +39,6 @@ use Rattle.database_opening.specs.declared.fault.OpenFault.{OpenFault}
 use Rattle.database_opening.specs.declared.fault.OpenFault.TheVariants as fault
 
 -- ---- the first text that is refused
-
-place_none : (b : Bool) (o : Option ℕ) → cond b (Some 0) (option_map suc o) ≡ None → (b ≡ false) × (o ≡ None)
-place_none true o e = cc
-place_none false None e = (refl, refl)
-place_none false (Some n) e = cc
 
 no_err : {A E : Type 0} (r : Result A E) → IsOk r → is_err r ≡ false
 no_err (Ok a) h = refl
@@ -191,9 +184,6 @@ put_rows name r (e ∷ es) =
       | Greater ↦ omega (arith, sum_by-cons rows e (finmap.put bytes_cmp name r es), sum_by-cons rows e es, put_rows name r es)
     ]
 
-none_counted : count_of set.empty ≡ 0
-none_counted = ap length (set.items-from_list row_total [] (set.nothing_rises row_total))
-
 none_left : (es : List (Name × Relation)) → length es ≡ 0 → sum_by (λ (e : Name × Relation). count_of e.1.rows) es ≡ 0
 none_left [] e = refl
 none_left (x ∷ xs) e = absurd (omega (arith, e))
@@ -208,7 +198,7 @@ no_row_more None L st none = none
 no_row_more (Some name) L st none =
     let new : Relation = record { columns = (sort_of L).columns; rows = set.empty } in
     let all = ap (λ es. sum_by (λ (e : Name × Relation). count_of e.1.rows) es) (finmap.entries-insert name_total st.relations name new) in
-    omega (arith, all, put_rows name new (finmap.entries st.relations), none_counted, none)
+    omega (arith, all, put_rows name new (finmap.entries st.relations), count-none, none)
 
 -- so no row is walked for one
 pub none_walked : (admitted : Admitted) (L : Lens) (old new : ℕ) → HasEmptyTables admitted → old ≤ new → new ≤ old + walked_by L admitted.tables.present → new ≡ old

@@ -7,16 +7,11 @@ use Rattle.std.specs.List.{AllByRecursion, list_any}
 use Rattle.std.specs.List.Sorted.{IsStrictlySortedBy}
 use Rattle.std.specs.Ordering.{eq_by_cmp, is_eq}
 use Rattle.std.specs.declared.cmp.Ordering.TheVariants.{Less}
-use Rattle.lens_values.specs.Order.{bytes_cmp}
-use Rattle.lens_values.specs.Row.{row_cmp}
-use Rattle.lens_values.specs.SortedSet as set
-use Rattle.fd_laws.proofs.Names.{name_exact, name_total, tied_name}
-use Rattle.fd_laws.proofs.Rows.{row_exact, row_total}
-use Rattle.lens_specs.specs.Delta.{AppliesTo, Delta, new_view}
-use Rattle.lens_specs.specs.Lens.{Lens, Tables, sort_of}
-use Rattle.lens_specs.specs.Names.{Name}
-use Rattle.lens_specs.specs.Relation.{Relation, Rows}
-use Rattle.lens_specs.specs.Sort.{Sort}
+use Rattle.plain_values.specs.Order.{bytes_cmp}
+use Rattle.plain_values.specs.Row.{row_cmp}
+use Rattle.plain_values.specs.SortedSet as set
+use Rattle.fd_laws.proofs.Common.{name_exact, name_total, tied_name, row_exact, row_total}
+use Rattle.lens_specs.specs.Common.{AppliesTo, Delta, new_view, Lens, Tables, sort_of, Name, Relation, Rows, Sort}
 use Rattle.base_index.specs.Held.{AllApply, Held, IsQuiet, State, after, no_relation, relation_in, with_deltas}
 use Rattle.base_index.specs.Need.{same_name}
 use Rattle.base_index.proofs.Fields.{same_is}

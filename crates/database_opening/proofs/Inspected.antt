@@ -1,20 +1,19 @@
 -- The damage of tables, from what is found at each name.
-use Rattle.std.proofs.Common.{◌≡◌, ◌∙◌, ◌++◌, ◌&&◌, Bool, true, false, cond, List, [], ◌∷◌, filter, Option, Some, None, is_some, ap, sym, subst, refl}
+use Rattle.std.proofs.Common.{◌≡◌, ◌∙◌, ◌++◌, ◌&&◌, Bool, true, false, cond, List, [], ◌∷◌, filter, Option, None, ap, sym, subst, refl}
 use Rattle.std.specs.Prelude.{◌↔◌, IsTrue}
 use Rattle.std.proofs.lemmas.Bool.{or_parts}
 use Rattle.std.proofs.lemmas.List.Folds.{list_any-append}
 use Rattle.std.proofs.lemmas.List.Kept.{IsStrictlySortedBy-filter}
 use Rattle.std.specs.FinMap as finmap
 use Rattle.std.specs.Ordering.{eq_by_cmp}
-use Rattle.lens_values.specs.Order.{bytes_cmp}
-use Rattle.lens_values.specs.SortedMap.{keys_rise}
-use Rattle.lens_values.specs.SortedSet as set
+use Rattle.std.proofs.Math.Bool.{and_comm}
+use Rattle.plain_values.specs.Order.{bytes_cmp}
+use Rattle.plain_values.specs.SortedMap.{keys_rise}
+use Rattle.plain_values.specs.SortedSet as set
 use Rattle.fd_laws.proofs.Names.{name_exact, name_total}
-use Rattle.lens_values.specs.declared.row.Row.{Row}
-use Rattle.fd_laws.proofs.Lists.{both_ways}
-use Rattle.lens_specs.specs.Columns.{Columns, Fits}
-use Rattle.lens_specs.specs.Names.{Name, Names, is_among}
-use Rattle.lens_specs.specs.Relation.{Rows}
+use Rattle.plain_values.specs.Row.{Row}
+use Rattle.plain_values.proofs.Tests.{same_bool, none_is}
+use Rattle.lens_specs.specs.Common.{Columns, Fits, Name, Names, is_among, Rows}
 use Rattle.catalog_specs.specs.Catalogue.{Catalogue}
 use Rattle.opening_specs.specs.Opening.{Damage, all_names, damage_among, damage_at, is_fit, or_damage, table_sort_of}
 use Rattle.opening_laws.proofs.Opened.{fit_is, is_fit_from, no_keys}
@@ -28,15 +27,9 @@ use Rattle.database_opening.specs.Openings.{HasTables, damage_of_tables}
 
 -- whether a row fits, as it is told
 pub fits_told : (U V : Columns) (row : Row) (b : Bool) → V ≡ U → (IsTrue b ↔ Fits V row) → b ≡ is_fit U row
-fits_told U V row b same told = both_ways b (is_fit U row) (λ e. is_fit_from U row (subst (λ W. Fits W row) same (told.0 e))) (λ e. told.1 (subst (λ W. Fits W row) (sym same) (fit_is U row e)))
+fits_told U V row b same told = same_bool b (is_fit U row) (λ e. is_fit_from U row (subst (λ W. Fits W row) same (told.0 e))) (λ e. told.1 (subst (λ W. Fits W row) (sym same) (fit_is U row e)))
 
 -- ---- the members of two sets
-
-both_turned : (a b : Bool) → (a && b) ≡ (b && a)
-both_turned true true = refl
-both_turned true false = refl
-both_turned false true = refl
-both_turned false false = refl
 
 -- the list of the members that pass
 filter-items : (p : Name → Bool) (S : Names) → set.items (set.filter p S) ≡ filter p (set.items S)
@@ -49,7 +42,7 @@ shared_turned : (S T : Names) → filter (set.contains T) (set.items S) ≡ filt
 shared_turned S T =
     sym (filter-items (set.contains T) S)
     ∙ ap set.items (set.same_set name_total name_exact (set.filter (set.contains T) S) (set.filter (set.contains S) T) (λ q.
-    set.contains-filter name_total name_exact (set.contains T) S q ∙ both_turned (set.contains S q) (set.contains T q)
+    set.contains-filter name_total name_exact (set.contains T) S q ∙ and_comm (set.contains S q) (set.contains T q)
     ∙ sym (set.contains-filter name_total name_exact (set.contains S) T q)))
     ∙ filter-items (set.contains S) T
 
@@ -86,11 +79,6 @@ module _ (known : Catalogue) (rows : finmap.FinMap bytes_cmp Rows) where
   outside_all q out =
       let w = no_keys known rows q (sym (set.contains-from_list name_total (finmap.keys known ++ finmap.keys rows) q) ∙ out) in
       whole_from q (ap (table_sort_of q) w.0) w.1
-
--- where nothing is there
-pub none_is : {A : Type 0} (o : Option A) → is_some o ≡ false → o ≡ None
-none_is None e = refl
-none_is (Some x) e = cc
 
 -- there is none outside of the names of the tables that are defined or kept
 outside_tables : (known : Catalogue) (defined : List Name) (ts : List KeptTable) → HasTables known defined

@@ -1,24 +1,21 @@
 -- Tables that are stored as they are kept.
-use Rattle.std.proofs.Common.{◌≡◌, ◌∙◌, ◌++◌, ◌||◌, ◌<◌, ℕ, Bool, zero, suc, List, [], ◌∷◌, length, get_or, map, Some, None, Ok, Err, is_some, true, false, ap, sym, subst, refl, arith}
+use Rattle.std.proofs.Common.{◌≡◌, ◌∙◌, ◌++◌, ◌||◌, ◌<◌, ℕ, zero, suc, List, [], ◌∷◌, length, get_or, map, Some, None, Ok, Err, is_some, true, ap, sym, subst, refl, arith}
 use Rattle.std.specs.Prelude.{option_map}
 use Rattle.std.proofs.lemmas.List.{map_push}
 use Rattle.std.proofs.lemmas.List.Folds.{list_any-append}
 use Rattle.std.specs.FinMap as finmap
 use Rattle.std.specs.List.{AllByRecursion, HoldsAt}
 use Rattle.std.specs.Ordering.{eq_by_cmp}
-use Rattle.lens_values.specs.Order.{bytes_cmp}
-use Rattle.lens_values.specs.SortedSet as set
-use Rattle.lens_values.specs.declared.row.Row.{Row}
+use Rattle.std.proofs.lemmas.Bool.{or_right}
+use Rattle.plain_values.specs.Order.{bytes_cmp}
+use Rattle.plain_values.specs.SortedSet as set
+use Rattle.plain_values.specs.Row.{Row}
 use Rattle.fd_laws.proofs.Names.{name_exact, name_total}
-use Rattle.lens_specs.specs.Columns.{Fits}
-use Rattle.lens_specs.specs.Keeping.{Kept}
-use Rattle.lens_specs.specs.Names.{Name, is_among}
-use Rattle.lens_specs.specs.Relation.{Rows, has}
-use Rattle.lens_specs.specs.Sort.{Sort}
+use Rattle.lens_specs.specs.Common.{Fits, Kept, Name, is_among, Rows, has, Sort}
 use Rattle.catalog_specs.specs.Catalogue.{Catalogue, catalogue}
 use Rattle.catalog_specs.specs.Judging.{first_refused}
 use Rattle.opening_specs.specs.Opening as opening
-use Rattle.opening_specs.specs.Opening.{all_names, damage_at, damage_of_rows, definition, first_damage, mapped, opened, or_damage, table_sort_of, unless_damaged}
+use Rattle.opening_specs.specs.Opening.{all_names, damage_at, definition, mapped, opened, or_damage, table_sort_of, unless_damaged}
 use Rattle.opening_laws.proofs.Opened.{find-mapped, get-mapped, rows_whole, whole_among}
 use Rattle.lens_laws.proofs.Entries.{with_all, with_all_in_none, with_last}
 use Rattle.table_keeper.specs.Changes.{names_of, rows_of}
@@ -40,16 +37,12 @@ all_of_each : (P : KeptTable → Type 0) (ts : List KeptTable) → ((i : ℕ) (d
 all_of_each P [] each = tt
 all_of_each P (t ∷ ts) each = (each 0 t (omega arith), all_of_each P ts (λ i d l. each (suc i) d (omega arith)))
 
-right_true : (a b : Bool) → b ≡ true → (a || b) ≡ true
-right_true true b e = refl
-right_true false b e = e
-
 -- a table that is kept is among all names
 kept_named : (known : Catalogue) (rows : finmap.FinMap bytes_cmp Rows) (q : Name) (M : Rows) → finmap.get rows q ≡ Some M → is_among q (set.items (all_names known rows)) ≡ true
 kept_named known rows q M there =
     sym (set.contains-items (all_names known rows) q) ∙ set.contains-from_list name_total (finmap.keys known ++ finmap.keys rows) q
     ∙ list_any-append (eq_by_cmp bytes_cmp q) (finmap.keys known) (finmap.keys rows)
-    ∙ right_true (is_among q (finmap.keys known)) (is_among q (finmap.keys rows)) (sym (finmap.contains_key-keys rows q) ∙ ap is_some there)
+    ∙ or_right (is_among q (finmap.keys known)) (is_among q (finmap.keys rows)) (sym (finmap.contains_key-keys rows q) ∙ ap is_some there)
 
 -- where there is no damage, each table is sound
 pub all_sound : (known : Catalogue) (ts : List KeptTable) → Rise ts → damage_of_tables known (rows_in ts) ≡ None → AllByRecursion (IsSound known) ts

@@ -1,13 +1,9 @@
 -- What an opening gives, and what its parts do.
 use Rattle.std.specs.Prelude.{◌≡◌, ◌≢◌, ℕ, false, List, [], Option, Some, None, option_map, Result, Ok, Err}
 use Rattle.std.specs.FinMap as finmap
-use Rattle.lens_values.specs.Order.{bytes_cmp}
-use Rattle.lens_values.specs.SortedSet as set
-use Rattle.lens_specs.specs.Delta.{TableDelta}
-use Rattle.lens_specs.specs.Keeping.{Kept}
-use Rattle.lens_specs.specs.Lens.{Lens}
-use Rattle.lens_specs.specs.Names.{Name, is_among}
-use Rattle.lens_specs.specs.Relation.{Rows}
+use Rattle.plain_values.specs.Order.{bytes_cmp}
+use Rattle.plain_values.specs.SortedSet as set
+use Rattle.lens_specs.specs.Common.{TableDelta, Kept, Lens, Name, is_among, Rows}
 use Rattle.lens_laws.specs.Asked.{asked}
 use Rattle.base_index.specs.Held.{IsQuiet}
 use Rattle.lens_probe.specs.Viewed.{AreIndexed}

@@ -3,21 +3,15 @@ use Rattle.std.proofs.Common.{◌≡◌, ◌∷◌, [], ◌&&◌, List, map, ref
 use Rattle.std.specs.Prelude.{Contains, not}
 use Rattle.std.specs.List.{list_all}
 use Rattle.std.specs.Ordering.{eq_by_cmp}
-use Rattle.lens_values.specs.Row.{row_cmp}
-use Rattle.lens_values.specs.SortedSet as set
-use Rattle.lens_values.specs.declared.row.Row.{Row}
-use Rattle.lens_specs.specs.Delta.{Applies, Delta, diff, new_view}
-use Rattle.lens_specs.specs.Dependencies.{AllEdges, Edge, MeetsTree}
-use Rattle.lens_specs.specs.Names.{Names, Within}
-use Rattle.lens_specs.specs.Predicate.{Predicate, holds}
-use Rattle.lens_specs.specs.Relation.{Rows, has}
+use Rattle.std.proofs.lemmas.Bool.{and_parts}
+use Rattle.plain_values.specs.Row.{row_cmp, Row}
+use Rattle.plain_values.specs.SortedSet as set
+use Rattle.lens_specs.specs.Common.{Applies, Delta, diff, new_view, AllEdges, Edge, MeetsTree, Names, Predicate, holds, Rows, has}
 use Rattle.lens_specs.specs.Sort as spec
 use Rattle.fd_laws.specs.Trees.{EdgesWithin}
-use Rattle.fd_laws.proofs.Lists.{all_at}
+use Rattle.plain_values.proofs.Lists.{all_at}
+use Rattle.fd_laws.proofs.Common.{from_minus, row_itself, tied_row, each_edge}
 use Rattle.fd_laws.proofs.Names.{subset_is}
-use Rattle.fd_laws.proofs.Relations.{from_minus}
-use Rattle.fd_laws.proofs.Rows.{row_itself, tied_row}
-use Rattle.fd_laws.proofs.Trees.{each_edge}
 use Rattle.lens_laws.proofs.Deltas.{diff_applies, diff_leads}
 use Rattle.lens_laws.proofs.Sorts.{clash_none}
 use Rattle.fd_tree.specs.ClashView.{shown_clash}
@@ -33,16 +27,12 @@ no_clash (Some c) e = cc
 pub met : (T : List Edge) (M : Rows) (none : Bool) → is_some (shown_clash (spec.clash T M)) ≡ not none → none ≡ true → MeetsTree M T
 met T M none is so = clash_none T M (no_clash (spec.clash T M) (is ∙ ap not so))
 
-pub both : (a b : Bool) → (a && b) ≡ true → (a ≡ true) × (b ≡ true)
-both true b so = (refl, so)
-both false b so = cc
-
 -- edges whose sides are all tested to lie within the columns do
 pub within_all : (U : Names) (T : List Edge) → list_all (λ (e : Edge). set.is_subset e.left U && set.is_subset e.right U) T ≡ true → EdgesWithin U T
 within_all U [] so = tt
 within_all U (e ∷ es) so =
-    let here = both (set.is_subset e.left U && set.is_subset e.right U) (list_all (λ (k : Edge). set.is_subset k.left U && set.is_subset k.right U) es) so in
-    let sides = both (set.is_subset e.left U) (set.is_subset e.right U) here.0 in
+    let here = and_parts (set.is_subset e.left U && set.is_subset e.right U) (list_all (λ (k : Edge). set.is_subset k.left U && set.is_subset k.right U) es) so in
+    let sides = and_parts (set.is_subset e.left U) (set.is_subset e.right U) here.0 in
     ((subset_is e.left U sides.0, subset_is e.right U sides.1), within_all U es here.1)
 
 -- the same, from what the code tests
@@ -50,9 +40,6 @@ pub tested_within : (C U : Names) (T : List Edge) (so : Bool) → C ≡ U
     → so ≡ list_all (λ (e : Edge). set.is_subset e.left C && set.is_subset e.right C) T → so ≡ true → EdgesWithin U T
 tested_within C U T so is tested holds_so =
     within_all U T (subst (λ D. list_all (λ (e : Edge). set.is_subset e.left D && set.is_subset e.right D) T ≡ true) is (sym tested ∙ holds_so))
-
-pub lefts_within : (U : Names) (T : List Edge) → EdgesWithin U T → AllEdges (λ e. Within e.left U) T
-lefts_within U T = each_edge (λ e. Within e.left U × Within e.right U) (λ e. Within e.left U) (λ e w. w.0) T
 
 -- ---- the sets by which a relation in memory may be asked
 

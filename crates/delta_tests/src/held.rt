@@ -1,6 +1,6 @@
 //! A relation in memory that is asked by key.
 ghost use Rattle.std.specs.Prelude.{◌≡◌, ◌≤◌, ◌+◌, ◌∷◌, length, map};
-ghost use Rattle.lens_values.specs.SortedSet as set;
+ghost use Rattle.plain_values.specs.SortedSet as set;
 ghost use Rattle.lens_specs.specs.Relation.{IsRelation};
 
 use fd_tree::Tree;

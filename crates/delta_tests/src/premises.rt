@@ -1,7 +1,7 @@
 //! What edits ask of relations, tested.
 ghost use Rattle.std.specs.Prelude.{◌≡◌, ◌≢◌, ◌&&◌, length, true, IfOk, None};
 ghost use Rattle.std.specs.List.{list_all};
-ghost use Rattle.lens_values.specs.SortedSet as set;
+ghost use Rattle.plain_values.specs.SortedSet as set;
 ghost use Rattle.lens_specs.specs.Columns.{kinds_differ, names};
 ghost use Rattle.lens_specs.specs.Dependencies.{Meets, MeetsTree};
 ghost use Rattle.lens_specs.specs.Names.{Within, one};

@@ -2,10 +2,9 @@
 use Rattle.std.proofs.Common.{◌≡◌, ℕ, ◌+◌, ◌*◌, ◌<◌, ◌≤◌, ◌++◌, ◌∷◌, [], List, ap, length, map, take, arith, length-append}
 use Rattle.std.proofs.lemmas.List.{length-map, length-take}
 use Rattle.std.proofs.lemmas.Nat.{mul-le}
-use Rattle.lens_values.specs.SortedSet as set
-use Rattle.lens_values.specs.declared.row.Row.{Row}
-use Rattle.lens_specs.specs.Delta.{Delta}
-use Rattle.lens_specs.specs.Relation.{Rows, image}
+use Rattle.plain_values.specs.SortedSet as set
+use Rattle.plain_values.specs.Row.{Row}
+use Rattle.lens_specs.specs.Common.{Delta, Rows, image}
 use Rattle.lens_laws.specs.Work.{count_of, node_work, rows_down, rows_of}
 use Rattle.signed_delta.proofs.Counts.{listed_len}
 
@@ -57,12 +56,6 @@ made_fewer f M rows made i listed below is =
 -- one row more is filled in
 pub one_filled : (n r a old before after : ℕ) → before ≤ old + n * (r + a) → after ≤ before + n → after ≤ old + n * (r + a + 1)
 one_filled n r a old before after h k = omega (arith, h, k)
-
--- so many rows at most are filled in
-pub at_most : (n k all old now : ℕ) → k ≤ all → now ≤ old + n * k → now ≤ old + n * all
-at_most n k all old now few h =
-    let p : n * k ≤ n * all = mul-le n k n all (omega arith) few in
-    omega arith
 
 -- one row more of the first list, or of the second
 pub first_pushed : (n a old before after : ℕ) (made more : List Row) (row : Row) → more ≡ made ++ row ∷ [] → before ≤ old + n * (length made + a) → after ≤ before + n → after ≤ old + n * (length more + a)

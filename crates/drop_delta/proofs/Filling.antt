@@ -7,30 +7,24 @@ use Rattle.std.specs.Cmp.Lexicographic.{nat_list_cmp_total}
 use Rattle.std.specs.Ordering.{eq_by_cmp}
 use Rattle.std.proofs.lemmas.Bool.{cases_Bool, true≢false}
 use Rattle.std.proofs.lemmas.List.{map_more, take_all}
-use Rattle.lens_values.specs.Order.{bytes_cmp}
-use Rattle.lens_values.specs.Part.{override, restrict}
-use Rattle.lens_values.specs.SortedSet as set
-use Rattle.lens_values.specs.declared.row.Row.{Row}
-use Rattle.lens_values.specs.declared.value.Kind.{Kind}
-use Rattle.lens_values.specs.declared.value.Value.{Value}
-use Rattle.lens_specs.specs.Columns.{Columns, Fits, fits_at, names, without_column}
-use Rattle.lens_specs.specs.Delta.{Applies, Delta, diff}
-use Rattle.lens_specs.specs.Dependencies.{Edge, Meets, edge}
-use Rattle.lens_specs.specs.Names.{Name, Names, Within, one}
-use Rattle.lens_specs.specs.Nodes.{drop_get, drop_put}
-use Rattle.lens_specs.specs.Relation.{Rows, first_row, has, image}
-use Rattle.lens_specs.specs.Revision.{along, moved, revise, revise_row}
-use Rattle.lens_specs.specs.Rows.{agree, at, cut, with_at}
+use Rattle.plain_values.specs.Order.{bytes_cmp}
+use Rattle.plain_values.specs.Part.{override, restrict}
+use Rattle.plain_values.specs.SortedSet as set
+use Rattle.plain_values.specs.Row.{Row}
+use Rattle.plain_values.specs.declared.value.Kind.{Kind}
+use Rattle.plain_values.specs.declared.value.Value.{Value}
+use Rattle.lens_specs.specs.Common.{Columns, Fits, fits_at, names, without_column, Applies, Delta, diff, Edge, Meets, edge, Name, Names, Within, one, drop_get, drop_put, Rows, first_row, has, image, along, revise, revise_row, agree, at, cut, with_at}
+use Rattle.lens_specs.specs.Revision.{moved}
 use Rattle.lens_laws.specs.KeyedDeltas.{drop_delta, find_by}
 use Rattle.lens_laws.specs.Shapes.{CanDrop, IsIn, Shape, drop_shape}
 use Rattle.fd_laws.specs.Trees.{IsTree}
-use Rattle.fd_laws.proofs.Columns.{fits_cut, fits_names, fits_none, get-without_other, names-get, names-without, no_kind}
-use Rattle.fd_laws.proofs.Lists.{false_from}
+use Rattle.fd_laws.proofs.Common.{fits_names, names-get, names-without, from_rest, name_itself, one_is, one_itself, from_image, from_project, same_rel, agree_back, agree_from, same_row}
+use Rattle.fd_laws.proofs.Columns.{fits_cut, fits_none, get-without_other, no_kind}
 use Rattle.lens_laws.proofs.Deltas.{from_new_view}
 use Rattle.lens_laws.proofs.DropDelta.{drop_delta_is}
-use Rattle.fd_laws.proofs.Names.{from_rest, in_rest, name_itself, one_is, one_itself}
-use Rattle.fd_laws.proofs.Relations.{first_some, from_image, from_project, in_image, same_rel}
-use Rattle.fd_laws.proofs.Rows.{agree_alike, agree_back, agree_from, at-paste_in, at-paste_out, at-with_at, at-with_other, same_row}
+use Rattle.fd_laws.proofs.Names.{in_rest}
+use Rattle.fd_laws.proofs.Relations.{first_some, in_image}
+use Rattle.fd_laws.proofs.Rows.{agree_alike, at-paste_in, at-paste_out, at-with_at, at-with_other}
 use Rattle.fd_laws.proofs.Trees.{to_tree_without}
 use Rattle.signed_delta.specs.Disjoint.{AreApart}
 use Rattle.signed_delta.proofs.Differences.{sides_apart}

@@ -5,18 +5,18 @@ use Rattle.std.specs.List.{filter_map}
 use Rattle.std.specs.FinMap as finmap
 use Rattle.std.specs.Cmp.Lexicographic.{nat_list_cmp_total}
 use Rattle.std.specs.Ordering.{eq_by_cmp}
-use Rattle.std.proofs.lemmas.Bool.{cases_Bool}
-use Rattle.lens_values.specs.Order.{bytes_cmp}
-use Rattle.lens_values.specs.Part.{override}
-use Rattle.lens_values.specs.SortedSet as set
-use Rattle.lens_values.specs.declared.row.Row.{Row}
-use Rattle.lens_values.specs.declared.value.Value.{Value}
+use Rattle.std.proofs.lemmas.Bool.{cases_Bool, false_from_ne_true}
+use Rattle.plain_values.specs.Order.{bytes_cmp}
+use Rattle.plain_values.specs.Part.{override}
+use Rattle.plain_values.specs.SortedSet as set
+use Rattle.plain_values.specs.Row.{Row}
+use Rattle.plain_values.specs.declared.value.Value.{Value}
 use Rattle.lens_values.proofs.Cells.{Knows, full_knows}
-use Rattle.lens_specs.specs.Names.{Name, Names, one}
-use Rattle.lens_specs.specs.Rows.{at, with_at}
-use Rattle.fd_laws.proofs.Lists.{absurd_false, false_from}
-use Rattle.fd_laws.proofs.Names.{name_itself, one_is, one_itself, subset_from, tied_name}
-use Rattle.fd_laws.proofs.Rows.{at-with_at, same_row}
+use Rattle.lens_specs.specs.Common.{Name, Names, one, at, with_at}
+use Rattle.plain_values.proofs.Lists.{absurd_false}
+use Rattle.fd_laws.proofs.Common.{name_itself, one_is, one_itself, tied_name, same_row}
+use Rattle.fd_laws.proofs.Names.{subset_from}
+use Rattle.fd_laws.proofs.Rows.{at-with_at}
 use Rattle.row_sets.proofs.Natural.{first_of, get-both}
 
 first_chosen : (b : _) (v : Value) (o : Option Value) → first_of (cond b (Some v) None) o ≡ cond b (Some v) o
@@ -37,7 +37,7 @@ module _ (A : Name) (v : Value) where
   knows_single : Knows (one A) single
   knows_single c = elim (cases_Bool (eq_by_cmp bytes_cmp c A)) [
     | inl t ↦ ap (set.contains (one A)) (tied_name c A t) ∙ one_itself A ∙ sym (ap is_some (at_single c ∙ ap (λ b. cond b (Some v) None) t))
-    | inr o ↦ false_from _ (λ i. absurd_false _ (ap (λ e. eq_by_cmp bytes_cmp e A) (one_is A c i) ∙ name_itself A) o)
+    | inr o ↦ false_from_ne_true _ (λ i. absurd_false _ (ap (λ e. eq_by_cmp bytes_cmp e A) (one_is A c i) ∙ name_itself A) o)
         ∙ sym (ap is_some (at_single c ∙ ap (λ b. cond b (Some v) None) o))
   ]
 

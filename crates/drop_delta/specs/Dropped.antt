@@ -1,13 +1,8 @@
 -- Relations without one of their columns, and edits of them.
 use Rattle.std.specs.Prelude.{◌≡◌, IfSome, None, Option, Some, unwrap_or}
-use Rattle.lens_values.specs.declared.row.Row.{Row}
-use Rattle.lens_values.specs.declared.value.Value.{Value}
-use Rattle.lens_specs.specs.Columns.{Columns, names}
-use Rattle.lens_specs.specs.Delta.{Delta, new_view}
-use Rattle.lens_specs.specs.Names.{Name, Names}
-use Rattle.lens_specs.specs.Nodes.{drop_get, drop_put}
-use Rattle.lens_specs.specs.Relation.{Rows, first_row}
-use Rattle.lens_specs.specs.Rows.{agree, at, with_at}
+use Rattle.plain_values.specs.Row.{Row}
+use Rattle.plain_values.specs.declared.value.Value.{Value}
+use Rattle.lens_specs.specs.Common.{Columns, names, Delta, new_view, Name, Names, drop_get, drop_put, Rows, first_row, agree, at, with_at}
 use Rattle.drop_delta.specs.declared.editing.Filling.{Filling}
 use Rattle.drop_delta.specs.declared.editing.Fillings.{Fillings}
 

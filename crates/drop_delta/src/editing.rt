@@ -2,7 +2,7 @@
 ghost use Rattle.std.specs.Prelude.{◌≡◌, ◌≢◌, ◌≤◌, ◌+◌, ◌*◌, ℕ, true, false, length, slice_get, Contains, IfOk, IfSome, Some};
 ghost use Rattle.std.specs.FinMap as finmap;
 ghost use Rattle.std.specs.List.{filter_map};
-ghost use Rattle.lens_values.specs.SortedSet as set;
+ghost use Rattle.plain_values.specs.SortedSet as set;
 ghost use Rattle.lens_specs.specs.Columns.{Fits, fits_at, names, without_column};
 ghost use Rattle.lens_specs.specs.Delta.{Applies, diff};
 ghost use Rattle.lens_specs.specs.Dependencies.{Meets};

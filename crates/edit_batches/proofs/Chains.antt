@@ -2,9 +2,7 @@
 use Rattle.std.proofs.Common.{◌≡◌, ◌∙◌, ◌≤◌, ◌<◌, List, [], ◌∷◌, ◌++◌, map, length, slice_index_or, IfOk, ap, sym, subst, refl, arith}
 use Rattle.std.specs.Prelude.{Result, Ok, Err}
 use Rattle.std.proofs.lemmas.List.{map-append}
-use Rattle.lens_specs.specs.Delta.{TableDelta}
-use Rattle.lens_specs.specs.Lens.{Tables}
-use Rattle.lens_specs.specs.TableDeltas.{LeadTo, composed}
+use Rattle.lens_specs.specs.Common.{TableDelta, Tables, LeadTo, composed}
 use Rattle.edit_batches.specs.Chains.{Chain}
 use Rattle.edit_batches.proofs.Moves.{composed_lead}
 

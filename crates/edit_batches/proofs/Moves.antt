@@ -4,29 +4,24 @@ use Rattle.std.specs.Prelude.{◌&&◌, ◌||◌, Option, Some, None, is_some, u
 use Rattle.std.specs.Option.{option_map}
 use Rattle.std.specs.List.{AllByRecursion, list_all, list_any}
 use Rattle.std.specs.List.Sorted.{IsStrictlySortedBy}
-use Rattle.lens_values.specs.SortedMap.{keys_rise}
+use Rattle.plain_values.specs.SortedMap.{keys_rise}
 use Rattle.std.specs.Cmp.Lexicographic.{nat_list_cmp_total}
 use Rattle.std.specs.FinMap as finmap
 use Rattle.std.specs.Ordering.{eq_by_cmp, is_lt}
 use Rattle.std.specs.declared.cmp.Ordering.{Ordering}
 use Rattle.std.specs.declared.cmp.Ordering.TheVariants.{Less}
-use Rattle.lens_values.proofs.Maps.{exact}
-use Rattle.lens_values.specs.Order.{bytes_cmp}
-use Rattle.lens_values.specs.SortedSet as set
-use Rattle.lens_specs.specs.Delta.{AppliesTo, Delta, TableDelta, is_empty, new_view}
-use Rattle.lens_specs.specs.Lens.{Tables}
-use Rattle.lens_specs.specs.Names.{Name}
-use Rattle.lens_specs.specs.Relation.{Fits, Relation, has, minus, union}
+use Rattle.std.proofs.lemmas.Bool.{false≢true, or_parts}
+use Rattle.plain_values.proofs.Maps.{exact}
+use Rattle.plain_values.specs.Order.{bytes_cmp}
+use Rattle.plain_values.specs.SortedSet as set
+use Rattle.lens_specs.specs.Common.{AppliesTo, Delta, TableDelta, is_empty, new_view, Tables, Name, Fits, Relation, has, minus, union, AllApply, AreDeltas, LeadTo, after, composed, no_relation}
 use Rattle.fd_laws.proofs.Names.{name_itself, tied_name}
-use Rattle.lens_specs.specs.TableDeltas.{AllApply, AreDeltas, LeadTo, after, compose_delta, composed, composed_at, delta_for, names_of_both, no_relation, relation_in}
+use Rattle.lens_specs.specs.TableDeltas.{compose_delta, composed_at, delta_for, names_of_both, relation_in}
 use Rattle.lens_laws.proofs.Moves.{AllThere, Apart, EachApplies, IsMove, absent_nothing, all_there, empty_is, get_moved, lead_moves, nothing, nothing_applies, nothing_empty, rising_apart, same_is, same_name, unnamed}
 use Rattle.signed_delta.specs.Disjoint.{AreApart}
 use Rattle.signed_delta.specs.Tables.{table_delta}
 use Rattle.signed_delta.specs.declared.delta.TableDelta.{TableDelta as Told}
 use Rattle.edit_batches.proofs.RowSets.{contained, same_rows}
-
-never : false ≡ true → ⊥
-never e = cc
 
 -- ---- one relation
 
@@ -98,10 +93,6 @@ pub all_apply : (cs : List TableDelta) (a : Tables) → Apart cs → AllThere cs
 all_apply [] a apart there each = tt
 all_apply (c ∷ cs) a apart there each = (there.0, each.0, apart.0, all_apply cs a apart.1 there.1 each.1)
 
-neither : (a b : Bool) → (a || b) ≡ false → (a ≡ false) × (b ≡ false)
-neither true b h = cc
-neither false b h = (refl, h)
-
 -- each of the list is the difference of its table
 pub own_each : (cs : List TableDelta) (a : Tables) → Apart cs → ((q : Name) → AppliesTo (delta_for q cs) (relation_in a q)) → EachApplies cs a
 own_each [] a apart own = tt
@@ -170,7 +161,7 @@ module _ (ds es : List TableDelta) where
       composed_for (names_of_both ds es) q ∙ ap (λ b. cond b (both_at q) nothing) among
       ∙ elim (list_any (λ c. same_name c.table q) ds || list_any (λ c. same_name c.table q) es) as (λ b. (list_any (λ c. same_name c.table q) ds || list_any (λ c. same_name c.table q) es) ≡ b → cond b (both_at q) nothing ≡ both_at q) [
         | true ↦ λ _. refl
-        | false ↦ λ none. let parts = neither (list_any (λ c. same_name c.table q) ds) (list_any (λ c. same_name c.table q) es) none in
+        | false ↦ λ none. let parts = or_parts (list_any (λ c. same_name c.table q) ds) (list_any (λ c. same_name c.table q) es) none in
             sym (both_nothing (delta_for q ds) (delta_for q es) (unnamed ds q parts.0) (unnamed es q parts.1))
       ] refl
 
@@ -183,7 +174,7 @@ module _ (ds es : List TableDelta) where
         | false ↦ λ some. (
           elim (is_some (finmap.get a t)) as (λ b. is_some (finmap.get a t) ≡ b → b ≡ true) [
             | true ↦ λ _. refl
-            | false ↦ λ absent. absurd (never (sym some ∙ ap is_empty (none t absent) ∙ nothing_empty))
+            | false ↦ λ absent. absurd (false≢true (sym some ∙ ap is_empty (none t absent) ∙ nothing_empty))
           ] refl,
           composed_there ts a none,
         )

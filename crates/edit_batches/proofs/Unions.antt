@@ -1,22 +1,21 @@
 -- Lists of rows that rise, one behind the other, and sets that share no row.
 use Rattle.std.proofs.Common.{◌≡◌, ◌∙◌, ℕ, ◌+◌, ◌-◌, ◌<◌, length, take, get_or, zero, suc, List, [], ◌∷◌, ◌++◌, ap, sym, subst, refl, true, false, arith}
 use Rattle.std.proofs.lemmas.List.{take_more}
-use Rattle.std.specs.Prelude.{◌||◌, Some, unwrap_or, filter, not}
+use Rattle.std.specs.Prelude.{◌||◌, Some, filter, not}
 use Rattle.std.specs.List.{AllByRecursion, slice_get}
 use Rattle.std.specs.List.Sorted.{IsStrictlySortedBy}
 use Rattle.std.specs.Ordering.{eq_by_cmp, is_eq, is_lt}
-use Rattle.std.specs.declared.cmp.Ordering.{Ordering}
-use Rattle.std.specs.declared.cmp.Ordering.TheVariants.{Less, Equal, Greater}
-use Rattle.lens_values.specs.Row.{row_cmp}
-use Rattle.lens_values.specs.RowOrder.{row_cmp_total}
-use Rattle.lens_values.specs.SortedSet as set
-use Rattle.lens_values.specs.declared.row.Row.{Row}
-use Rattle.lens_specs.specs.Delta.{Delta}
-use Rattle.lens_specs.specs.Relation.{Rows, has, minus, union}
+use Rattle.std.specs.declared.cmp.Ordering.TheVariants.{Less}
+use Rattle.std.proofs.lemmas.Option.{same_Some}
+use Rattle.plain_values.specs.Row.{row_cmp, Row}
+use Rattle.plain_values.specs.RowOrder.{row_cmp_total}
+use Rattle.plain_values.specs.SortedSet as set
+use Rattle.plain_values.proofs.Tests.{is_tie, is_less}
+use Rattle.lens_specs.specs.Common.{Delta, Rows, has, minus, union}
 use Rattle.lens_specs.specs.TableDeltas.{compose_delta}
 use Rattle.lens_values.proofs.Walks.{any_none}
 use Rattle.row_sets.specs.Members.{is_in}
-use Rattle.signed_delta.proofs.Differences.{rest_is}
+use Rattle.signed_delta.proofs.Differences.{rest_is, turned_apart}
 use Rattle.signed_delta.specs.Disjoint.{AreApart}
 use Rattle.edit_batches.specs.Chains.{no_change}
 use Rattle.edit_batches.proofs.RowSets.{contained, same_rows}
@@ -40,13 +39,10 @@ nothing_then d = λ i. record {
 pub without : (M N : Rows) → AreApart M N → minus M N ≡ M
 without M N apart = same_rows (minus M N) M (λ x. grind (arith, contained, apart x))
 
-pub turned : (M N : Rows) → AreApart M N → AreApart N M
-turned M N apart x there = grind (arith, apart x, there)
-
 pub both_kept : (d e : Delta) → AreApart d.remove e.add → AreApart d.add e.remove → compose_delta d e ≡ record { remove = union d.remove e.remove; add = union d.add e.add }
 both_kept d e p q = λ i. record {
-  remove = union (without d.remove e.add p i) (without e.remove d.add (turned d.add e.remove q) i);
-  add = union (without d.add e.remove q i) (without e.add d.remove (turned d.remove e.add p) i);
+  remove = union (without d.remove e.add p i) (without e.remove d.add (turned_apart d.add e.remove q) i);
+  add = union (without d.add e.remove q i) (without e.add d.remove (turned_apart d.remove e.add p) i);
 }
 
 pub kept_apart : (d e : Delta) → AreApart d.remove d.add → AreApart e.remove e.add → AreApart d.remove e.add → AreApart d.add e.remove
@@ -75,11 +71,6 @@ list_parted (x ∷ xs) ys s = (behind xs ys s.0, list_parted xs ys s.1)
     behind : (zs ys : List Row) → AllByRecursion (λ y. row_cmp x y ≡ Less) (zs ++ ys) → AllByRecursion (λ y. row_cmp x y ≡ Less) ys
     behind [] ys a = a
     behind (z ∷ zs) ys a = behind zs ys a.1
-
-is_tie : (r : Ordering) → is_eq r ≡ true → r ≡ Equal
-is_tie Less e = cc
-is_tie Equal e = refl
-is_tie Greater e = cc
 
 above_tied : (q x : Row) (ys : List Row) → eq_by_cmp row_cmp q x ≡ true → AllByRecursion (λ y. row_cmp x y ≡ Less) ys → AllByRecursion (λ y. eq_by_cmp row_cmp q y ≡ false) ys
 above_tied q x [] tie a = tt
@@ -112,21 +103,13 @@ all_behind : (x z : Row) (ys : List Row) → row_cmp x z ≡ Less → AllByRecur
 all_behind x z [] less a = tt
 all_behind x z (y ∷ ys) less a = (row_cmp_total.trans x z y less a.0, all_behind x z ys less a.1)
 
-is_less : (r : Ordering) → is_lt r ≡ true → r ≡ Less
-is_less Less e = refl
-is_less Equal e = cc
-is_less Greater e = cc
-
-same_some : {A : Type 0} (x y : A) → Some x ≡ Some y → x ≡ y
-same_some x y e = ap (λ o. unwrap_or o x) e
-
 all_parted : (n : ℕ) (xs ys : List Row) (last first : Row) → length xs ≡ n + 1 → Some last ≡ slice_get xs n → Some first ≡ slice_get ys 0 → row_cmp last first ≡ Less
     → IsStrictlySortedBy row_cmp xs → IsStrictlySortedBy row_cmp ys → AllByRecursion (λ x. AllByRecursion (λ y. row_cmp x y ≡ Less) ys) xs
 unfolding IsStrictlySortedBy
 all_parted n [] ys last first len at_last at_first less s t = tt
 all_parted n (x ∷ xs) [] last first len at_last at_first less s t = cc
 all_parted zero (x ∷ []) (y ∷ ys) last first len at_last at_first less s t =
-    let from_x : row_cmp x y ≡ Less = subst (λ a. row_cmp a y ≡ Less) (same_some last x at_last) (subst (λ b. row_cmp last b ≡ Less) (same_some first y at_first) less) in
+    let from_x : row_cmp x y ≡ Less = subst (λ a. row_cmp a y ≡ Less) (same_Some last x at_last) (subst (λ b. row_cmp last b ≡ Less) (same_Some first y at_first) less) in
     ((from_x, all_behind x y ys from_x t.0), tt)
 all_parted (suc n) (x ∷ []) (y ∷ ys) last first len at_last at_first less s t = absurd (omega (arith, len))
 all_parted zero (x ∷ z ∷ xs) (y ∷ ys) last first len at_last at_first less s t = absurd (omega (arith, len))

@@ -1,9 +1,7 @@
 -- Lists of differences, one after another.
 use Rattle.std.specs.Prelude.{◌≡◌, List, [], ◌∷◌}
-use Rattle.lens_values.specs.SortedSet as set
-use Rattle.lens_specs.specs.Delta.{Delta, TableDelta}
-use Rattle.lens_specs.specs.Lens.{Tables}
-use Rattle.lens_specs.specs.TableDeltas.{LeadTo}
+use Rattle.plain_values.specs.SortedSet as set
+use Rattle.lens_specs.specs.Common.{Delta, TableDelta, Tables, LeadTo}
 
 -- each of the lists leads on from where the one before it led
 abbrev pub Chain : List (List TableDelta) → Tables → Tables → Type 0

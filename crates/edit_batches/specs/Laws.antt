@@ -1,9 +1,7 @@
 -- What is stated of differences of tables.
 use Rattle.std.specs.Prelude.{◌≡◌, List}
 use Rattle.std.specs.FinMap as finmap
-use Rattle.lens_specs.specs.Delta.{TableDelta, differences}
-use Rattle.lens_specs.specs.Lens.{Tables}
-use Rattle.lens_specs.specs.TableDeltas.{AreDeltas, LeadTo, composed}
+use Rattle.lens_specs.specs.Common.{TableDelta, differences, Tables, AreDeltas, LeadTo, composed}
 
 -- what is composed of two differences leads where they do, the one after the other
 abbrev pub ComposedLeads : Type 0

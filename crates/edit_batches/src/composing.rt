@@ -1,6 +1,6 @@
 //! What two differences of tables do, the one after the other.
 ghost use Rattle.std.specs.Prelude.{◌≡◌, ◌++◌, IfOk, map, option_copied, unwrap_or};
-ghost use Rattle.lens_values.specs.SortedSet as set;
+ghost use Rattle.plain_values.specs.SortedSet as set;
 ghost use Rattle.lens_laws.specs.Edits.{delta_for};
 ghost use Rattle.signed_delta.specs.Tables.{table_delta};
 ghost use Rattle.lens_specs.specs.TableDeltas.{AreDeltas, compose_delta, composed};

@@ -2,8 +2,8 @@
 //! one set all come behind those of the other.
 ghost use Rattle.std.specs.Prelude.{◌≡◌, ◌++◌, false, true, IfOk};
 ghost use Rattle.std.specs.List.Sorted.{IsStrictlySortedBy};
-ghost use Rattle.lens_values.specs.Row.{row_cmp};
-ghost use Rattle.lens_values.specs.SortedSet as set;
+ghost use Rattle.plain_values.specs.Row.{row_cmp};
+ghost use Rattle.plain_values.specs.SortedSet as set;
 ghost use Rattle.signed_delta.specs.Disjoint.{AreApart};
 
 use lens_values::{NoMemory, Row, append};

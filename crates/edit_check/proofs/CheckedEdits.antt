@@ -3,25 +3,15 @@ use Rattle.std.proofs.Common.{◌≡◌, ◌∙◌, ◌<◌, ◌&&◌, ◌||◌,
 use Rattle.std.specs.List.{list_all, list_any}
 use Rattle.std.specs.Ordering.{eq_by_cmp}
 use Rattle.std.proofs.lemmas.Bool.{and_parts, or_cases}
-use Rattle.lens_values.specs.Part.{restrict}
-use Rattle.lens_values.specs.Row.{row_cmp}
-use Rattle.lens_values.specs.SortedSet as set
-use Rattle.lens_values.specs.declared.row.Row.{Row}
-use Rattle.lens_specs.specs.Columns.{Columns, Fits, names}
-use Rattle.lens_specs.specs.Delta.{AppliesTo, Delta, new_view}
-use Rattle.lens_specs.specs.Dependencies.{AllEdges, Edge, Meets, MeetsTree}
-use Rattle.lens_specs.specs.Names.{Name, Names, Within}
-use Rattle.lens_specs.specs.Predicate.{Predicate}
-use Rattle.lens_specs.specs.Relation.{Relation, Rows, has, minus, project, union}
-use Rattle.lens_specs.specs.Rows.{agree, at, cut}
+use Rattle.plain_values.specs.Part.{restrict}
+use Rattle.plain_values.specs.Row.{row_cmp, Row}
+use Rattle.plain_values.specs.SortedSet as set
+use Rattle.lens_specs.specs.Common.{Columns, Fits, names, AppliesTo, Delta, new_view, AllEdges, Edge, Meets, MeetsTree, Name, Names, Within, Predicate, Relation, Rows, has, minus, project, union, agree, at, cut, IsOf, IsOfSort, Sort, clash, first_pair, off}
 use Rattle.lens_specs.specs.Sort as spec
-use Rattle.lens_specs.specs.Sort.{IsOf, IsOfSort, Sort, clash, clash_of, first_pair, off}
-use Rattle.fd_laws.proofs.Columns.{fits_names}
-use Rattle.fd_laws.proofs.Lists.{absurd_false, all_at, any_from, in_cons, in_head}
+use Rattle.lens_specs.specs.Sort.{clash_of}
+use Rattle.fd_laws.proofs.Common.{fits_names, from_minus, from_project, from_union, in_those, same_rel, sets, agree-cut, agree_back, agree_itself, agree_on, agree_within, row_itself, tied_row, each_edge}
+use Rattle.plain_values.proofs.Lists.{absurd_false, all_at, any_from, in_cons}
 use Rattle.fd_laws.proofs.Names.{union_left, union_right}
-use Rattle.fd_laws.proofs.Relations.{from_minus, from_project, from_union, in_those, same_rel, sets}
-use Rattle.fd_laws.proofs.Rows.{agree-cut, agree_back, agree_itself, agree_on, agree_within, row_itself, tied_row}
-use Rattle.fd_laws.proofs.Trees.{each_edge}
 use Rattle.lens_laws.specs.Checks.{edit_clash, near}
 use Rattle.lens_laws.specs.KeyedDeltas.{find_by, found_each}
 use Rattle.lens_laws.specs.Passes.{IsSound}
@@ -79,10 +69,6 @@ found_by_each C D V M A B same added found = found ∙ (λ i. found_each (same i
 pub near_is : (e : Edge) (V M : Rows) (d : Delta) → M ≡ found_each e.left V (set.items d.add) → union d.add (minus M d.remove) ≡ near e V d
 unfolding near
 near_is e V M d found = ap (λ N. union d.add (minus N d.remove)) found
-
--- the row that a set has alone is in it
-pub only_there : (M : Rows) (a : Row) → set.items M ≡ a ∷ [] → has M a ≡ true
-only_there M a only = set.contains-items M a ∙ ap (list_any (eq_by_cmp row_cmp a)) only ∙ in_head (eq_by_cmp row_cmp) tied_row row_itself a []
 
 -- and no other is
 is_only : (M : Rows) (a : Row) → set.items M ≡ a ∷ [] → (r : Row) → has M r ≡ true → r ≡ a

@@ -1,7 +1,6 @@
 -- What a check of rows against a sort answers.
 use Rattle.std.specs.Prelude.{◌≡◌, Some, None, Result, Ok, Err}
-use Rattle.lens_specs.specs.Relation.{Rows}
-use Rattle.lens_specs.specs.Sort.{Sort, IsOf, off, clash}
+use Rattle.lens_specs.specs.Common.{Rows, Sort, IsOf, off, clash}
 use Rattle.fd_tree.specs.ClashView.{shown_clash}
 use Rattle.edit_check.specs.declared.edit_fault.EditFault.{EditFault}
 use Rattle.edit_check.specs.declared.edit_fault.EditFault.TheVariants as fault

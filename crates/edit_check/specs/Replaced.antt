@@ -1,10 +1,7 @@
 -- Added rows that take the place of removed ones.
 use Rattle.std.specs.Prelude.{◌≡◌, true}
-use Rattle.lens_values.specs.declared.row.Row.{Row}
-use Rattle.lens_specs.specs.Delta.{Delta}
-use Rattle.lens_specs.specs.Dependencies.{Edge}
-use Rattle.lens_specs.specs.Relation.{has}
-use Rattle.lens_specs.specs.Rows.{agree}
+use Rattle.plain_values.specs.Row.{Row}
+use Rattle.lens_specs.specs.Common.{Delta, Edge, has, agree}
 
 -- the rows agree on both sides of the edge
 abbrev pub Alike : Edge → Row → Row → Type 0

@@ -2,8 +2,8 @@
 ghost use Rattle.std.specs.Prelude.{◌≡◌, ◌≢◌, ◌≤◌, ◌+◌, ◌*◌, ◌&&◌, ◌||◌, ℕ, [], ◌∷◌, find, length, not};
 ghost use Rattle.std.specs.Prelude.{true, Contains, IfOk, IfSome, is_some, option_copied};
 ghost use Rattle.std.specs.List.{list_all, list_any};
-ghost use Rattle.lens_values.specs.Part.{restrict};
-ghost use Rattle.lens_values.specs.SortedSet as set;
+ghost use Rattle.plain_values.specs.Part.{restrict};
+ghost use Rattle.plain_values.specs.SortedSet as set;
 ghost use Rattle.lens_specs.specs.Columns.{Fits, names};
 ghost use Rattle.lens_specs.specs.Delta.{AppliesTo, new_view};
 ghost use Rattle.lens_specs.specs.Dependencies.{AllEdges, Meets, MeetsTree};

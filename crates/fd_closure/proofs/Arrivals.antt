@@ -7,7 +7,7 @@ use Rattle.std.specs.Cmp.{eq_by_cmp_equiv}
 use Rattle.std.proofs.lemmas.Bool.{cases_lt}
 use Rattle.std.proofs.lemmas.List.{get_or_append_left, get_or_push, length_push, take-append-le, take_at, length-take, take-take}
 use Rattle.std.proofs.lemmas.List.Folds.{list_any-append, list_any_more}
-use Rattle.lens_values.specs.Order.{bytes_cmp}
+use Rattle.plain_values.specs.Order.{bytes_cmp}
 use Rattle.fd_laws.proofs.Names.{name_total, tied_name}
 use Rattle.lens_specs.specs.Names.{Name, is_among}
 use Rattle.fd_closure.specs.Arrival.{IsOnce, with_name}

@@ -3,16 +3,16 @@ use Rattle.std.proofs.Common.{◌≡◌, ℕ, zero, suc, ◌+◌, ◌<◌, ◌�
 use Rattle.std.specs.Prelude.{◌≢◌, ◌&&◌, filter, not}
 use Rattle.std.specs.List.{count_by, list_any}
 use Rattle.std.specs.Ordering.{eq_by_cmp, is_eq}
-use Rattle.std.proofs.lemmas.Bool.{eqb-true, eq-eqb, false≢true, or_cases}
+use Rattle.std.proofs.lemmas.Bool.{eqb-true, eq-eqb, false≢true, or_cases, or_left, or_right}
 use Rattle.std.proofs.lemmas.List.{get_or_default, length-take, take-take, take_more}
 use Rattle.std.proofs.lemmas.List.Folds.{list_any_at}
-use Rattle.lens_values.specs.Order.{bytes_cmp}
-use Rattle.lens_values.specs.SortedSet as set
-use Rattle.fd_laws.proofs.Closures.{closure_is}
-use Rattle.fd_laws.proofs.Lists.{both_ways, in_head, left_true, right_true}
-use Rattle.fd_laws.proofs.Names.{name_exact, name_itself, name_total, tied_name}
-use Rattle.lens_specs.specs.Names.{Name, Names, Within, is_among}
-use Rattle.lens_specs.specs.Dependencies.{AllEdges, Edge, IsClosed, closure}
+use Rattle.plain_values.specs.Order.{bytes_cmp}
+use Rattle.plain_values.specs.SortedSet as set
+use Rattle.fd_laws.proofs.Common.{closure_is, name_exact, name_itself, name_total, tied_name}
+use Rattle.plain_values.proofs.Lists.{in_head}
+use Rattle.plain_values.proofs.Tests.{same_bool}
+use Rattle.lens_specs.specs.Common.{Name, Names, Within, is_among, AllEdges, Edge, closure}
+use Rattle.lens_specs.specs.Dependencies.{IsClosed}
 use Rattle.fd_closure.specs.Arrival.{AllIn, HaveAll, IsOnce}
 use Rattle.fd_closure.specs.Entries.{Entry, entries_from}
 use Rattle.fd_closure.specs.Lacks.{uses}
@@ -79,7 +79,7 @@ module _ (F : List Edge) (index : List Entry) (members : (e : Entry) → list_an
       let has : (c : Name) → set.contains D c ≡ is_among c ns = set.contains-from_list name_total ns in
       let closed : IsClosed D F = edges_from (λ k. Within k.left D → Within k.right D) F
       (λ d e l w c i. has c ∙ ready d e l (lacks_none ns d (λ k c i. sym (has c) ∙ w c (ap (λ q. set.contains q.left c) (get_or_default F d e k l) ∙ i))) c i) in
-      set.same_set name_total name_exact D (closure X F) (λ c. both_ways _ _
+      set.same_set name_total name_exact D (closure X F) (λ c. same_bool _ _
       (λ i. inside c (sym (has c) ∙ i))
       ((closure_is X F).least D (λ c i. has c ∙ given c i) closed c))
 
@@ -87,8 +87,8 @@ pub among_front : (ns : List Name) (k : ℕ) (c : Name) → is_among c (take k n
 among_front ns zero c i = absurd (false≢true i)
 among_front [] (suc k) c i = i
 among_front (n ∷ ns) (suc k) c i = elim (or_cases (eq_by_cmp bytes_cmp c n) (is_among c (take k ns)) i) [
-  | inl t ↦ left_true (eq_by_cmp bytes_cmp c n) (is_among c ns) t
-  | inr j ↦ right_true (eq_by_cmp bytes_cmp c n) (is_among c ns) (among_front ns k c j)
+  | inl t ↦ or_left (eq_by_cmp bytes_cmp c n) (is_among c ns) t
+  | inr j ↦ or_right (eq_by_cmp bytes_cmp c n) (is_among c ns) (among_front ns k c j)
 ]
 
 -- ---- the name at the place k is taken up

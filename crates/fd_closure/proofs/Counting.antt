@@ -3,14 +3,13 @@ use Rattle.std.proofs.Common.{◌≡◌, ℕ, ◌+◌, ◌-◌, ◌<◌, ◌≤�
 use Rattle.std.specs.Prelude.{◌&&◌, ◌||◌, ◌≢◌, not, filter}
 use Rattle.std.specs.List.{count_by}
 use Rattle.std.specs.Ordering.{eq_by_cmp, is_eq}
-use Rattle.std.proofs.lemmas.Bool.{and_from, and_parts, cases_Bool, cases_eq, eqb-true, eq-eqb, or_cases, true≢false}
+use Rattle.std.proofs.lemmas.Bool.{and_from, and_parts, cases_Bool, cases_eq, eqb-true, eq-eqb, or_cases, true≢false, or_left, or_right}
 use Rattle.std.proofs.lemmas.List.Sums.{sum_by_more, sum_by-take-le}
-use Rattle.lens_values.specs.Order.{bytes_cmp}
-use Rattle.lens_values.specs.SortedSet as names
-use Rattle.fd_laws.proofs.Lists.{left_true, right_true}
+use Rattle.std.proofs.Math.Bool.{and-true}
+use Rattle.plain_values.specs.Order.{bytes_cmp}
+use Rattle.plain_values.specs.SortedSet as names
 use Rattle.fd_laws.proofs.Names.{name_itself, tied_name}
-use Rattle.lens_specs.specs.Names.{Name, Names, is_among}
-use Rattle.lens_specs.specs.Dependencies.{Edge}
+use Rattle.lens_specs.specs.Common.{Name, Names, is_among, Edge}
 use Rattle.fd_closure.specs.Arrival.{AllIn}
 use Rattle.fd_closure.specs.Entries.{Entry}
 use Rattle.fd_closure.specs.Lacks.{ReadyAmong, ReadyWithin, uses}
@@ -21,12 +20,8 @@ use Rattle.fd_closure.proofs.Counts.{count_alike, count-filter, count_none, coun
 abbrev pub lacking : List Name → ℕ → Entry → Bool
 lacking ns d e = nat_eq e.1 d && not (is_among e.0 ns)
 
-and_true : (b : Bool) → (b && true) ≡ b
-and_true true = refl
-and_true false = refl
-
 known_here : (t b a : Bool) → (t ≡ true → a ≡ false) → (t && (b && not a)) ≡ (t && b)
-known_here true b a h = ap (λ x. b && not x) (h refl) ∙ and_true b
+known_here true b a h = ap (λ x. b && not x) (h refl) ∙ and-true b
 known_here false b a h = refl
 
 not_here : (t b a : Bool) → (not t && (b && not a)) ≡ (b && not (a || t))
@@ -41,7 +36,7 @@ not_here false false false = refl
 
 -- at first each entry lacks
 pub lacks_all : (index : List Entry) (d : ℕ) → uses index d ≡ count_by (lacking [] d) index
-lacks_all index d = sym (count_alike (lacking [] d) (λ e. nat_eq e.1 d) index (λ e. and_true (nat_eq e.1 d)))
+lacks_all index d = sym (count_alike (lacking [] d) (λ e. nat_eq e.1 d) index (λ e. and-true (nat_eq e.1 d)))
 
 -- a new name takes away its entries
 pub lacks_less : (index : List Entry) (ns : List Name) (n : Name) (d : ℕ) → is_among n ns ≡ false
@@ -151,6 +146,6 @@ module _ (F : List Edge) (lacks lacks' : List ℕ) (p : ℕ) (fits : p < length 
 
     pub among_more : ReadyAmong F lacks ns → ReadyAmong F lacks' ms
     among_more so d e b z c i = elim (cases_eq d p) [
-      | inl is ↦ members c e ∙ right_true _ _ (and_from _ _ (eq-eqb _ _ (ap (λ q. get_or lacks' q 0) (sym is) ∙ z)) (ap (λ q. names.contains (get_or F q e).right c) (sym is) ∙ i))
-      | inr ne ↦ members c e ∙ left_true _ _ (so d e b (was_zero d ne z) c i)
+      | inl is ↦ members c e ∙ or_right _ _ (and_from _ _ (eq-eqb _ _ (ap (λ q. get_or lacks' q 0) (sym is) ∙ z)) (ap (λ q. names.contains (get_or F q e).right c) (sym is) ∙ i))
+      | inr ne ↦ members c e ∙ or_left _ _ (so d e b (was_zero d ne z) c i)
     ]

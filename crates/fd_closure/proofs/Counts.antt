@@ -4,7 +4,7 @@ use Rattle.std.specs.Prelude.{◌&&◌, not, filter}
 use Rattle.std.specs.List.{count_by, list_any}
 use Rattle.std.proofs.lemmas.Bool.{false≢true}
 use Rattle.std.proofs.lemmas.List.Sums.{sum_by-cons}
-use Rattle.fd_laws.proofs.Lists.{in_cons, in_head, in_tail}
+use Rattle.plain_values.proofs.Lists.{in_cons, in_head, in_tail}
 
 one_or_none : (b : Bool) (n : ℕ) → cond b 1 0 + n ≡ 0 → (b ≡ false) × (n ≡ 0)
 one_or_none true n e = absurd (omega arith)

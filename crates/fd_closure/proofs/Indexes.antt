@@ -1,5 +1,5 @@
 -- What an index of the left sides has, and in which order.
-use Rattle.std.proofs.Common.{◌≡◌, ℕ, zero, suc, ◌+◌, ◌<◌, Bool, true, false, cond, List, [], ◌∷◌, ◌++◌, length, get_or, map, append_assoc, refl, sym, ap, ◌∙◌, subst, inl, inr, arith}
+use Rattle.std.proofs.Common.{◌≡◌, ℕ, zero, suc, ◌+◌, ◌<◌, Bool, true, false, cond, List, [], ◌∷◌, ◌++◌, length, get_or, map, append_assoc, refl, sym, ap, ◌∙◌, subst, inl, inr, arith, append-nil}
 use Rattle.std.specs.Prelude.{filter}
 use Rattle.std.specs.declared.cmp.Ordering.{Ordering}
 use Rattle.std.specs.declared.cmp.Ordering.TheVariants.{Less, Equal, Greater}
@@ -10,14 +10,13 @@ use Rattle.std.specs.Cmp.{IsTotalOrder, nat_cmp_total, on_total, then_total, tie
 use Rattle.std.proofs.lemmas.Bool.{cases_lt, eqb-true, false≢true}
 use Rattle.std.proofs.lemmas.List.Folds.{list_any_at}
 use Rattle.std.proofs.lemmas.Map.Keys.{Less-from_sorted}
-use Rattle.lens_values.specs.Order.{bytes_cmp}
-use Rattle.lens_values.specs.SortedSet as set
-use Rattle.fd_laws.proofs.Lists.{in_append_left, in_append_right, from_append, in_map, from_map}
+use Rattle.plain_values.specs.Order.{bytes_cmp}
+use Rattle.plain_values.specs.SortedSet as set
+use Rattle.plain_values.proofs.Lists.{in_append_left, in_append_right, from_append, in_map, from_map}
 use Rattle.fd_laws.proofs.Names.{name_total, name_itself, tied_name}
-use Rattle.lens_specs.specs.Names.{Name}
-use Rattle.lens_specs.specs.Dependencies.{Edge}
+use Rattle.lens_specs.specs.Common.{Name, Edge}
 use Rattle.fd_closure.specs.Entries.{Entry, PlacesBelow, entries_from, entry_cmp}
-use Rattle.fd_closure.proofs.Groups.{Ascend}
+use Rattle.lens_values.proofs.Groups.{Ascend}
 
 entry_total : IsTotalOrder entry_cmp
 entry_total = then_total (on_total (λ e. e.0) name_total) (on_total (λ e. e.1) nat_cmp_total)
@@ -57,10 +56,6 @@ names_ascend index s i j d l h = elim (cases_lt i j) [
 ]
 
 -- ---- the members
-
-append-nil : {X : Type 0} (xs : List X) → xs ++ [] ≡ xs
-append-nil [] = refl
-append-nil (x ∷ xs) = ap (λ l. x ∷ l) (append-nil xs)
 
 -- the entries of one edge more
 pub entries_push : (es : List Edge) (e : Edge) (n m : ℕ) → m ≡ n + length es → entries_from n (es ++ e ∷ []) ≡ entries_from n es ++ map (λ c. (c, m)) (set.items e.left)

@@ -2,5 +2,4 @@ pub mod Arrivals
 pub mod Closed
 pub mod Counting
 pub mod Counts
-pub mod Groups
 pub mod Indexes

@@ -1,6 +1,6 @@
 -- Names in the order in which they come in.
 use Rattle.std.specs.Prelude.{◌≡◌, ℕ, ◌<◌, ◌++◌, true, false, if◌then◌else◌, List, [], ◌∷◌, length, take, slice_index_or}
-use Rattle.lens_values.specs.SortedSet as set
+use Rattle.plain_values.specs.SortedSet as set
 use Rattle.lens_specs.specs.Names.{Name, Names, is_among}
 use Rattle.fd_closure.specs.declared.found.Found.{Found}
 

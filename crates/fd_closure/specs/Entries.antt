@@ -2,10 +2,9 @@
 use Rattle.std.specs.Prelude.{ℕ, suc, ◌<◌, ◌++◌, List, [], ◌∷◌, length, map, slice_index_or}
 use Rattle.std.specs.declared.cmp.Ordering.{Ordering}
 use Rattle.std.specs.Ordering.{nat_cmp, on, then_cmp}
-use Rattle.lens_values.specs.Order.{bytes_cmp}
-use Rattle.lens_values.specs.SortedSet as set
-use Rattle.lens_specs.specs.Names.{Name}
-use Rattle.lens_specs.specs.Dependencies.{Edge}
+use Rattle.plain_values.specs.Order.{bytes_cmp}
+use Rattle.plain_values.specs.SortedSet as set
+use Rattle.lens_specs.specs.Common.{Name, Edge}
 
 -- a name, and the place of an edge that has it on the left
 abbrev pub Entry : Type 0

@@ -1,8 +1,7 @@
 -- What each edge still lacks of its left side.
 use Rattle.std.specs.Prelude.{◌≡◌, ℕ, ◌<◌, nat_eq, List, length, slice_index, slice_index_or}
 use Rattle.std.specs.List.{count_by}
-use Rattle.lens_specs.specs.Names.{Name, Names, Within}
-use Rattle.lens_specs.specs.Dependencies.{Edge}
+use Rattle.lens_specs.specs.Common.{Name, Names, Within, Edge}
 use Rattle.fd_closure.specs.Arrival.{HaveAll}
 use Rattle.fd_closure.specs.Entries.{Entry}
 

@@ -1,9 +1,8 @@
 -- The two sides of a dependency: a contract sees a `Dep` as the edge of its sides.
 use Rattle.std.specs.Prelude.{◌≢◌, ◌||◌, if◌then◌else◌, length, nat_eq, refl, Result, Ok, Err}
 use Rattle.std.specs.Coded.{Coded, code_by, coded×, coded_list, coded_ℕ}
-use Rattle.lens_values.specs.SortedSet as set
-use Rattle.lens_specs.specs.Names.{Names}
-use Rattle.lens_specs.specs.Dependencies.{Edge, edge}
+use Rattle.plain_values.specs.SortedSet as set
+use Rattle.lens_specs.specs.Common.{Names, Edge, edge}
 use Rattle.fd_closure.specs.declared.dep.EmptySide.{EmptySide}
 
 -- neither side is empty

@@ -1,7 +1,7 @@
 //! Closures under dependencies, by counting what each dependency still lacks (Beeri and Bernstein,
 //! TODS 1979).
 ghost use Rattle.std.specs.Prelude.{◌≡◌, ◌≤◌, ◌<◌, ◌+◌, ◌-◌, ◌||◌, ◌&&◌, ℕ, IfOk, OnOk, length, nat_eq, slice_index, slice_index_or, slice_set, take};
-ghost use Rattle.lens_values.specs.SortedSet as set;
+ghost use Rattle.plain_values.specs.SortedSet as set;
 ghost use Rattle.lens_specs.specs.Dependencies as spec;
 ghost use Rattle.lens_specs.specs.Dependencies.{Edge};
 ghost use Rattle.lens_specs.specs.Names.{Names as NameSet, is_among};

@@ -1,6 +1,6 @@
 //! Names in the order in which they come in.
 ghost use Rattle.std.specs.Prelude.{◌≡◌, ◌||◌, ◌<◌, IfOk, OnOk, [], length, slice_index_or, take};
-ghost use Rattle.lens_values.specs.SortedSet as set;
+ghost use Rattle.plain_values.specs.SortedSet as set;
 ghost use Rattle.lens_specs.specs.Names.{is_among};
 ghost use Rattle.fd_closure.specs.Arrival.{IsKept, with_name};
 

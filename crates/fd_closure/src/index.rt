@@ -3,7 +3,7 @@ ghost use Rattle.std.specs.Prelude.{◌≡◌, ℕ, ◌++◌, ◌<◌, IfOk, OnO
 ghost use Rattle.std.specs.List.{list_any};
 ghost use Rattle.std.specs.List.Sorted.{IsStrictlySortedBy};
 ghost use Rattle.std.specs.Ordering.{eq_by_cmp, is_eq};
-ghost use Rattle.lens_values.specs.Order.{bytes_cmp};
+ghost use Rattle.plain_values.specs.Order.{bytes_cmp};
 ghost use Rattle.lens_specs.specs.Dependencies.{Edge};
 ghost use Rattle.fd_closure.specs.Entries.{entries_from, entry_cmp};
 ghost use Rattle.fd_closure.specs.Sides.{IsFull};

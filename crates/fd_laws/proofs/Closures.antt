@@ -1,31 +1,25 @@
 -- Closures, and what they say of relations.
 use Rattle.std.proofs.Common.{Option, is_some, pos, ◌≡◌, ℕ, zero, suc, ◌≤◌, Bool, true, false, cond, ◌&&◌, ◌||◌, List, [], ◌∷◌, length, refl, sym, ap, ◌∙◌, subst, ◌⊎◌, inl, inr, Some, None, arith, unwrap_or}
-use Rattle.std.proofs.lemmas.Bool.{cases_Bool, and_parts, and_from, or_cases, true≢false, false≢true}
+use Rattle.std.proofs.lemmas.Bool.{cases_Bool, and_parts, and_from, or_cases, true≢false, false≢true, or_left, or_right}
 use Rattle.std.specs.Ordering.{eq_by_cmp}
 use Rattle.std.specs.List.{list_any}
 use Rattle.std.specs.FinMap as map
-use Rattle.lens_values.specs.SortedSet as set
-use Rattle.fd_laws.proofs.Lists.{left_true, right_true}
+use Rattle.plain_values.specs.SortedSet as set
 use Rattle.fd_laws.proofs.Names.{name_total, name_exact, tied_name, apart_back, union_left, subset_from, union_within, subset_is, union_right, within_trans}
 use Rattle.fd_laws.proofs.Rows.{row_total, tied_row, row_itself, agree_itself, agree_back, same_value-is, same_value-refl, agree_at, agree_from}
 use Rattle.fd_laws.proofs.Trees.{at_edge, each_edge, both_edges}
-use Rattle.lens_values.specs.declared.value.Kind.{Kind}
-use Rattle.lens_values.specs.declared.value.Kind.TheVariants.{Int, Text, Flag, IntOrNull, TextOrNull, FlagOrNull}
+use Rattle.plain_values.specs.declared.value.Kind.{Kind}
+use Rattle.plain_values.specs.declared.value.Kind.TheVariants.{Int, Text, Flag, IntOrNull, TextOrNull, FlagOrNull}
 use Rattle.fd_laws.specs.Witness.{low, high, row_of}
-use Rattle.lens_values.specs.Value.{fits}
-use Rattle.lens_values.proofs.ValueLemmas.{int_fits, text_fits, flag_fits, int_fits_null, text_fits_null, flag_fits_null}
-use Rattle.lens_values.proofs.FitsLemmas.{fits_same}
-use Rattle.lens_specs.specs.Columns.{Columns, names, Fits, fits_at}
-use Rattle.lens_specs.specs.Names.{Name, Names, Within}
-use Rattle.lens_values.specs.Order.{bytes_cmp}
-use Rattle.lens_values.specs.declared.row.Row.{Row}
-use Rattle.lens_values.specs.Row.{row_cmp}
-use Rattle.lens_values.specs.declared.value.Value.{Value}
-use Rattle.lens_specs.specs.Rows.{at, agree, same_value}
-use Rattle.lens_specs.specs.Relation.{Rows, has}
-use Rattle.lens_specs.specs.Dependencies.{Edge, AllEdges, Meets, MeetsTree, IsClosed, IsClosure, first_edge, rest_edges, is_ready, grow, closure}
+use Rattle.plain_values.specs.Value.{fits}
+use Rattle.plain_values.proofs.ValueLemmas.{int_fits, text_fits, flag_fits, int_fits_null, text_fits_null, flag_fits_null}
+use Rattle.plain_values.proofs.FitsLemmas.{fits_same}
+use Rattle.lens_specs.specs.Common.{Columns, names, Fits, fits_at, Name, Names, Within, at, agree, same_value, Rows, has, Edge, AllEdges, Meets, MeetsTree, closure, outputs}
+use Rattle.plain_values.specs.Order.{bytes_cmp}
+use Rattle.plain_values.specs.Row.{Row, row_cmp}
+use Rattle.plain_values.specs.declared.value.Value.{Value}
+use Rattle.lens_specs.specs.Dependencies.{IsClosed, IsClosure, first_edge, rest_edges, is_ready, grow}
 use Rattle.fd_laws.specs.Trees.{Among, IsTree}
-use Rattle.lens_specs.specs.TreeForm.{outputs}
 
 module _ (p : Edge → Bool) where
   pub first_passes : (es : List Edge) (e : Edge) → first_edge p es ≡ Some e → p e ≡ true
@@ -165,11 +159,11 @@ module _ (U : Names) (K : Name → Option Kind) (C : Names) where
 
   pub zero_in : has witness zero_row ≡ true
   unfolding witness
-  zero_in = set.contains-from_list row_total (zero_row ∷ one_row ∷ []) zero_row ∙ left_true _ _ (row_itself zero_row)
+  zero_in = set.contains-from_list row_total (zero_row ∷ one_row ∷ []) zero_row ∙ or_left _ _ (row_itself zero_row)
 
   pub one_in : has witness one_row ≡ true
   unfolding witness
-  one_in = set.contains-from_list row_total (zero_row ∷ one_row ∷ []) one_row ∙ right_true _ _ (left_true _ _ (row_itself one_row))
+  one_in = set.contains-from_list row_total (zero_row ∷ one_row ∷ []) one_row ∙ or_right _ _ (or_left _ _ (row_itself one_row))
 
   pub at_zero : (c : Name) → set.contains U c ≡ true → at zero_row c ≡ Some (low (K c))
   at_zero c i = at-row_of (λ c. low (K c)) (set.items U) c ∙ ap (λ b. cond b (Some (low (K c))) None) (sym (set.contains-items U c) ∙ i)

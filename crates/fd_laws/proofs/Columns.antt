@@ -1,19 +1,18 @@
 -- Laws of columns, by the kind that each has.
 use Rattle.std.proofs.Common.{◌≡◌, true, false, cond, List, [], ◌∷◌, ◌++◌, Option, Some, None, refl, sym, ap, ◌∙◌, inl, inr, is_some}
-use Rattle.std.proofs.lemmas.Bool.{cases_Bool, true≢false}
+use Rattle.std.proofs.lemmas.Bool.{cases_Bool, true≢false, or_left, false_from_ne_true}
 use Rattle.std.specs.FinMap as map
 use Rattle.std.specs.Ordering.{eq_by_cmp}
-use Rattle.lens_values.specs.Order.{bytes_cmp}
-use Rattle.lens_values.specs.SortedSet as set
-use Rattle.lens_values.specs.declared.value.Kind.{Kind}
-use Rattle.lens_values.specs.declared.row.Row.{Row}
-use Rattle.fd_laws.proofs.Lists.{both_ways, left_true, false_from, absurd_false}
+use Rattle.plain_values.specs.Order.{bytes_cmp}
+use Rattle.plain_values.specs.SortedSet as set
+use Rattle.plain_values.specs.declared.value.Kind.{Kind}
+use Rattle.plain_values.specs.Row.{Row}
+use Rattle.plain_values.proofs.Lists.{absurd_false}
 use Rattle.fd_laws.proofs.Names.{name_total, name_exact, name_itself, one_is, in_rest, from_rest, in_left, in_right, in_neither}
 use Rattle.fd_laws.proofs.Rows.{at-cut, no_value, same_row, agree_at}
-use Rattle.lens_specs.specs.Names.{Name, Names, one}
-use Rattle.lens_specs.specs.Rows.{at, cut, agree}
-use Rattle.lens_specs.specs.Columns.{Columns, names, Fits, without_column, both_columns}
-use Rattle.lens_values.proofs.FitsLemmas.{fits_some, fits_same, none_fits}
+use Rattle.lens_specs.specs.Common.{Name, Names, one, at, cut, agree, Columns, names, Fits, without_column, both_columns}
+use Rattle.plain_values.proofs.FitsLemmas.{fits_some, fits_same, none_fits}
+use Rattle.plain_values.proofs.Tests.{same_bool}
 
 -- a column is there where it has a kind
 pub names-get : (U : Columns) (c : Name) → set.contains (names U) c ≡ is_some (map.get U c)
@@ -40,16 +39,16 @@ pub get-without : (U : Columns) (A c : Name) → map.get (without_column U A) c 
 get-without U A c = map.get-remove name_total U A c
 
 pub get-without_other : (U : Columns) (A c : Name) → set.contains (one A) c ≡ false → map.get (without_column U A) c ≡ map.get U c
-get-without_other U A c o = get-without U A c ∙ ap (λ b. cond b None (map.get U c)) (false_from (eq_by_cmp bytes_cmp c A) (λ t. absurd_false _ (set.contains-insert name_total set.empty A c ∙ left_true _ _ t) o))
+get-without_other U A c o = get-without U A c ∙ ap (λ b. cond b None (map.get U c)) (false_from_ne_true (eq_by_cmp bytes_cmp c A) (λ t. absurd_false _ (set.contains-insert name_total set.empty A c ∙ or_left _ _ t) o))
 
 pub get-without_same : (U : Columns) (A : Name) → map.get (without_column U A) A ≡ None
 get-without_same U A = get-without U A A ∙ ap (λ b. cond b None (map.get U A)) (name_itself A)
 
 pub names-without : (U : Columns) (A : Name) → names (without_column U A) ≡ set.difference (names U) (one A)
 names-without U A = set.same_set name_total name_exact _ _ (λ c. names-get (without_column U A) c ∙ elim (cases_Bool (set.contains (one A) c)) [
-  | inr o ↦ ap is_some (get-without_other U A c o) ∙ sym (names-get U c) ∙ sym (both_ways _ _ (λ i. (from_rest (names U) (one A) c i).0) (λ i. in_rest (names U) (one A) c i o))
+  | inr o ↦ ap is_some (get-without_other U A c o) ∙ sym (names-get U c) ∙ sym (same_bool _ _ (λ i. (from_rest (names U) (one A) c i).0) (λ i. in_rest (names U) (one A) c i o))
   | inl t ↦ ap (λ d. is_some (map.get (without_column U A) d)) (one_is A c t) ∙ ap is_some (get-without_same U A)
-      ∙ sym (false_from _ (λ i. absurd_false _ t (from_rest (names U) (one A) c i).1))
+      ∙ sym (false_from_ne_true _ (λ i. absurd_false _ t (from_rest (names U) (one A) c i).1))
 ])
 
 -- ---- the columns of both

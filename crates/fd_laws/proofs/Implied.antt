@@ -2,14 +2,12 @@
 use Rattle.std.proofs.Common.{◌≡◌, true, false, List, [], ◌∷◌, sym, ◌∙◌}
 use Rattle.std.proofs.lemmas.Bool.{true≢false}
 use Rattle.std.specs.FinMap as map
-use Rattle.lens_values.specs.SortedSet as set
-use Rattle.lens_values.specs.declared.row.Row.{Row}
+use Rattle.plain_values.specs.SortedSet as set
+use Rattle.plain_values.specs.Row.{Row}
 use Rattle.fd_laws.proofs.Closures.{closure_is, implies_sound, implies_complete, witness, witness_fits, zero_row, one_row, zero_in, one_in}
 use Rattle.fd_laws.proofs.Names.{subset_is, subset_from}
-use Rattle.lens_specs.specs.Names.{Within}
-use Rattle.lens_specs.specs.Columns.{Columns, Fits, names}
-use Rattle.lens_specs.specs.Relation.{Rows}
-use Rattle.lens_specs.specs.Dependencies.{Edge, Meets, MeetsTree, closure, implies}
+use Rattle.lens_specs.specs.Common.{Within, Columns, Fits, names, Rows, Edge, Meets, MeetsTree, closure}
+use Rattle.lens_specs.specs.Dependencies.{implies}
 use Rattle.fd_laws.specs.Trees.{EdgesWithin}
 
 pub implies_is : (U : Columns) (F : List Edge) (e : Edge) → EdgesWithin (names U) F → Within e.left (names U) → Within e.right (names U)

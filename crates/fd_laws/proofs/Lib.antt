@@ -1,4 +1,4 @@
-pub mod Lists
+pub mod Common
 pub mod Names
 pub mod Rows
 pub mod Relations

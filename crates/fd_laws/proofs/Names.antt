@@ -1,14 +1,13 @@
 -- Laws of names and of sets of them.
 use Rattle.std.proofs.Common.{◌≡◌, Bool, true, false, not, ◌&&◌, refl, sym, ap, ◌∙◌, inl, inr, nat_eq}
-use Rattle.std.proofs.lemmas.Bool.{cases_Bool, and_parts, and_from, or_cases, or_from, not-true, not_from_false, true≢false, eqb-true}
+use Rattle.std.proofs.lemmas.Bool.{cases_Bool, and_parts, and_from, or_cases, or_from, not-true, not_from_false, true≢false, eqb-true, or_left, or_right}
 use Rattle.std.proofs.lemmas.Map.Lookups.{exact_bytes}
 use Rattle.std.specs.Cmp.{IsTotalOrder, tied_itself, Equal-is}
 use Rattle.std.specs.Cmp.Lexicographic.{nat_list_cmp_total}
 use Rattle.std.specs.Ordering.{eq_by_cmp, is_eq}
-use Rattle.lens_values.specs.SortedSet as set
-use Rattle.fd_laws.proofs.Lists.{left_true, right_true}
+use Rattle.plain_values.specs.SortedSet as set
 use Rattle.lens_specs.specs.Names.{Name, Names, Disjoint, Within, one}
-use Rattle.lens_values.specs.Order.{bytes_cmp}
+use Rattle.plain_values.specs.Order.{bytes_cmp}
 
 pub name_total : IsTotalOrder bytes_cmp
 name_total = nat_list_cmp_total
@@ -24,7 +23,7 @@ name_itself q = ap is_eq (tied_itself name_total q)
 
 -- the set of one name
 pub one_itself : (A : Name) → set.contains (one A) A ≡ true
-one_itself A = set.contains-insert name_total set.empty A A ∙ left_true _ _ (name_itself A)
+one_itself A = set.contains-insert name_total set.empty A A ∙ or_left _ _ (name_itself A)
 
 pub one_is : (A c : Name) → set.contains (one A) c ≡ true → c ≡ A
 one_is A c i = elim (cases_Bool (eq_by_cmp bytes_cmp c A)) [
@@ -65,10 +64,10 @@ pub within_trans : (X Y Z : Names) → Within X Y → Within Y Z → Within X Z
 within_trans X Y Z h k c i = k c (h c i)
 
 pub union_left : (X Y : Names) → Within X (set.union X Y)
-union_left X Y c i = set.contains-union name_total X Y c ∙ left_true _ _ i
+union_left X Y c i = set.contains-union name_total X Y c ∙ or_left _ _ i
 
 pub union_right : (X Y : Names) → Within Y (set.union X Y)
-union_right X Y c i = set.contains-union name_total X Y c ∙ right_true _ _ i
+union_right X Y c i = set.contains-union name_total X Y c ∙ or_right _ _ i
 
 pub union_within : (X Y D : Names) → Within X D → Within Y D → Within (set.union X Y) D
 union_within X Y D h k c i = elim (or_cases _ _ (sym (set.contains-union name_total X Y c) ∙ i)) [ inl j ↦ h c j | inr j ↦ k c j ]
@@ -103,10 +102,10 @@ module _ (U V : Names) where
   from_shared c i = and_parts _ _ (sym (set.contains-intersection name_total U V c) ∙ i)
 
   pub in_left : (c : Name) → set.contains U c ≡ true → set.contains (set.union U V) c ≡ true
-  in_left c i = set.contains-union name_total U V c ∙ left_true _ _ i
+  in_left c i = set.contains-union name_total U V c ∙ or_left _ _ i
 
   pub in_right : (c : Name) → set.contains V c ≡ true → set.contains (set.union U V) c ≡ true
-  in_right c i = set.contains-union name_total U V c ∙ right_true _ _ i
+  in_right c i = set.contains-union name_total U V c ∙ or_right _ _ i
 
   pub in_neither : (c : Name) → set.contains U c ≡ false → set.contains V c ≡ false → set.contains (set.union U V) c ≡ false
   in_neither c i j = set.contains-union name_total U V c ∙ or_from _ _ i j

@@ -1,15 +1,13 @@
 -- The outputs of a tree form, and lists of dependencies that the same relations meet.
 use Rattle.std.proofs.Common.{◌≡◌, true, false, List, [], ◌∷◌, sym, ap, ◌∙◌, None}
-use Rattle.lens_values.specs.SortedSet as set
+use Rattle.plain_values.specs.SortedSet as set
+use Rattle.plain_values.proofs.Tests.{same_bool}
 use Rattle.fd_laws.proofs.Closures.{closure_is, implies_complete, witness, implied, implied_output, output_implied}
-use Rattle.fd_laws.proofs.Lists.{both_ways}
 use Rattle.fd_laws.proofs.Names.{name_total, name_exact, union_left, union_right, within_trans}
 use Rattle.fd_laws.proofs.TreeForms.{tree_of_is}
 use Rattle.fd_laws.proofs.Trees.{each_edge}
-use Rattle.lens_specs.specs.Names.{Name, Names, Within}
-use Rattle.lens_specs.specs.Relation.{Rows}
-use Rattle.lens_specs.specs.Dependencies.{Edge, MeetsTree, IsClosure, closure}
-use Rattle.lens_specs.specs.TreeForm.{outputs, tree_of, is_tree}
+use Rattle.lens_specs.specs.Common.{Name, Names, Within, Rows, Edge, MeetsTree, closure, outputs, tree_of, is_tree}
+use Rattle.lens_specs.specs.Dependencies.{IsClosure}
 use Rattle.fd_laws.specs.Trees.{EdgesWithin}
 
 columns_of : List Edge → Names
@@ -39,7 +37,7 @@ one_way X C D F G c d same =
     w.1 (implied X C F (witness U (λ _. None) D) c (same (witness U (λ _. None) D) w.0))
 
 pub same_closures : (X C D : Names) (F G : List Edge) → IsClosure X F C → IsClosure X G D → ((M : Rows) → MeetsTree M F → MeetsTree M G) → ((M : Rows) → MeetsTree M G → MeetsTree M F) → C ≡ D
-same_closures X C D F G c d f g = set.same_set name_total name_exact C D (λ n. both_ways _ _ (one_way X C D F G c d g n) (one_way X D C G F d c f n))
+same_closures X C D F G c d f g = set.same_set name_total name_exact C D (λ n. same_bool _ _ (one_way X C D F G c d g n) (one_way X D C G F d c f n))
 
 -- the outputs of the tree form are the columns that the dependencies imply from elsewhere
 pub outputs_are : (F T : List Edge) → tree_of F ≡ is_tree T → (A : Name)

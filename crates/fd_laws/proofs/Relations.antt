@@ -1,16 +1,15 @@
 -- Laws of relations, by their rows.
 use Rattle.std.proofs.Common.{◌≡◌, Bool, true, false, not, ◌&&◌, ◌||◌, Some, None, sym, ◌∙◌, ◌⊎◌}
-use Rattle.std.proofs.lemmas.Bool.{and_parts, and_from, or_cases, not-true, not_from_false}
+use Rattle.std.proofs.lemmas.Bool.{and_parts, and_from, or_cases, not-true, not_from_false, or_left, or_right}
 use Rattle.std.specs.Ordering.{eq_by_cmp}
 use Rattle.std.specs.List.{list_any}
-use Rattle.lens_values.specs.SortedSet as set
-use Rattle.fd_laws.proofs.Lists.{find_some, find_none, in_filter, from_filter, in_map, from_map, in_flat_map, from_flat_map, left_true, right_true, both_ways}
+use Rattle.plain_values.specs.SortedSet as set
+use Rattle.plain_values.proofs.Lists.{find_some, find_none, in_filter, from_filter, in_map, from_map, in_flat_map, from_flat_map}
 use Rattle.fd_laws.proofs.Rows.{row_total, row_exact, tied_row, row_itself}
-use Rattle.lens_specs.specs.Names.{Names}
-use Rattle.lens_values.specs.declared.row.Row.{Row}
-use Rattle.lens_values.specs.Row.{row_cmp}
-use Rattle.lens_specs.specs.Rows.{agree, paste, cut}
-use Rattle.lens_specs.specs.Relation.{Rows, has, those, union, minus, image, project, first_row, joined_with, join}
+use Rattle.lens_specs.specs.Common.{Names, agree, paste, cut, Rows, has, those, union, minus, image, project, first_row}
+use Rattle.plain_values.specs.Row.{Row, row_cmp}
+use Rattle.plain_values.proofs.Tests.{same_bool}
+use Rattle.lens_specs.specs.Relation.{joined_with, join}
 
 listed : (M : Rows) (r : Row) → has M r ≡ true → list_any (eq_by_cmp row_cmp r) (set.items M) ≡ true
 listed M r h = sym (set.contains-items M r) ∙ h
@@ -20,7 +19,7 @@ has_listed M r h = set.contains-items M r ∙ h
 
 -- relations with the same rows are one
 pub same_rel : (M N : Rows) → ((r : Row) → has M r ≡ true → has N r ≡ true) → ((r : Row) → has N r ≡ true → has M r ≡ true) → M ≡ N
-same_rel M N f g = set.same_set row_total row_exact M N (λ r. both_ways _ _ (f r) (g r))
+same_rel M N f g = set.same_set row_total row_exact M N (λ r. same_bool _ _ (f r) (g r))
 
 -- each law with `has` as a test
 pub has-those : (p : Row → Bool) (M : Rows) (r : Row) → has (those p M) r ≡ (has M r && p r)
@@ -43,10 +42,10 @@ pub from_those : (p : Row → Bool) (M : Rows) (r : Row) → has (those p M) r �
 from_those p M r h = and_parts _ _ (sym (has-those p M r) ∙ h)
 
 pub in_union_left : (M N : Rows) (r : Row) → has M r ≡ true → has (union M N) r ≡ true
-in_union_left M N r h = has-union M N r ∙ left_true _ _ h
+in_union_left M N r h = has-union M N r ∙ or_left _ _ h
 
 pub in_union_right : (M N : Rows) (r : Row) → has N r ≡ true → has (union M N) r ≡ true
-in_union_right M N r h = has-union M N r ∙ right_true _ _ h
+in_union_right M N r h = has-union M N r ∙ or_right _ _ h
 
 pub from_union : (M N : Rows) (r : Row) → has (union M N) r ≡ true → (has M r ≡ true) ⊎ (has N r ≡ true)
 from_union M N r h = or_cases _ _ (sym (has-union M N r) ∙ h)

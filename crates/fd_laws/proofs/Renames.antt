@@ -1,19 +1,18 @@
 -- Names, edges and trees with a new name for a column: what was a tree is one.
 use Rattle.std.proofs.Common.{◌≡◌, true, false, cond, List, [], ◌∷◌, map, sym, ap, ◌∙◌, inl, inr}
-use Rattle.std.proofs.lemmas.Bool.{cases_Bool}
+use Rattle.std.proofs.lemmas.Bool.{cases_Bool, false_from_ne_true}
 use Rattle.std.specs.Ordering.{eq_by_cmp}
-use Rattle.lens_values.specs.Order.{bytes_cmp}
-use Rattle.lens_values.specs.SortedSet as set
-use Rattle.fd_laws.proofs.Lists.{in_map, from_map, false_from, absurd_false}
+use Rattle.plain_values.specs.Order.{bytes_cmp}
+use Rattle.plain_values.specs.SortedSet as set
+use Rattle.plain_values.proofs.Lists.{in_map, from_map, absurd_false}
 use Rattle.fd_laws.proofs.Names.{name_total, name_itself, tied_name}
 use Rattle.fd_laws.specs.Trees.{EdgesWithin, IsBefore, IsTree}
-use Rattle.lens_specs.specs.Dependencies.{Edge, AllEdges}
-use Rattle.lens_specs.specs.Names.{Name, Names, Within, Disjoint}
-use Rattle.lens_specs.specs.Rename.{renamed, renamed_names, renamed_edge, renamed_tree}
+use Rattle.lens_specs.specs.Common.{Edge, AllEdges, Name, Names, Within, Disjoint, renamed, renamed_names, renamed_tree}
+use Rattle.lens_specs.specs.Rename.{renamed_edge}
 
 -- ---- names
 pub other_name : (c A : Name) (C : Names) → set.contains C c ≡ true → set.contains C A ≡ false → eq_by_cmp bytes_cmp c A ≡ false
-other_name c A C i o = false_from _ (λ t. absurd_false _ (ap (set.contains C) (sym (tied_name c A t)) ∙ i) o)
+other_name c A C i o = false_from_ne_true _ (λ t. absurd_false _ (ap (set.contains C) (sym (tied_name c A t)) ∙ i) o)
 
 pub in_renamed : (A B : Name) (C : Names) (c : Name) → set.contains C c ≡ true → set.contains (renamed_names A B C) (renamed A B c) ≡ true
 unfolding renamed_names
@@ -44,7 +43,7 @@ same_renamed A B c d oc od is = elim (cases_Bool (eq_by_cmp bytes_cmp c A)) [
 
 module _ (A B : Name) (U : Names) (free : set.contains U B ≡ false) where
   renamed_apart : (X Y : Names) → Within X U → Within Y U → Disjoint X Y → Disjoint (renamed_names A B X) (renamed_names A B Y)
-  renamed_apart X Y wx wy h q i = false_from _ (λ j.
+  renamed_apart X Y wx wy h q i = false_from_ne_true _ (λ j.
       let x = from_renamed A B X q i in let y = from_renamed A B Y q j in
       let is = same_renamed A B x.0 y.0 (other_name x.0 B U (wx x.0 x.1) free) (other_name y.0 B U (wy y.0 y.1) free) (sym x.2 ∙ y.2) in
       absurd_false _ (ap (set.contains Y) is ∙ y.1) (h x.0 x.1))

@@ -1,22 +1,20 @@
 -- Laws of rows, by what they have in a column.
 use Rattle.std.proofs.Common.{is_some, ◌≡◌, Bool, true, false, cond, ◌||◌, List, [], ◌∷◌, Option, Some, None, refl, sym, ap, ◌∙◌, inl, inr}
 use Rattle.std.proofs.lemmas.Bool.{true≢false, cases_Bool}
-use Rattle.lens_values.specs.RowOrder.{row_cmp_total, row_cmp-IsAntisymmetric}
-use Rattle.lens_values.specs.ValueOrder.{value_cmp_total, value_cmp-IsAntisymmetric}
+use Rattle.plain_values.specs.RowOrder.{row_cmp_total, row_cmp-IsAntisymmetric}
 use Rattle.std.specs.Cmp.{IsTotalOrder, tied_itself, Equal-is}
 use Rattle.std.specs.Ordering.{eq_by_cmp, is_eq}
 use Rattle.std.specs.List.{list_any}
 use Rattle.std.specs.FinMap as map
-use Rattle.lens_values.specs.SortedSet as set
-use Rattle.fd_laws.proofs.Lists.{all_from, all_at, both_ways}
+use Rattle.plain_values.specs.SortedSet as set
+pub use Rattle.plain_values.proofs.Agreement.{agree_at, agree_from, same_value-is, same_value-refl}
 use Rattle.fd_laws.proofs.Names.{name_itself, name_total, one_itself, name_exact, tied_name}
-use Rattle.lens_specs.specs.Names.{one, Name, Names, Disjoint, Within}
-use Rattle.lens_values.specs.Order.{bytes_cmp}
-use Rattle.lens_values.specs.declared.value.Value.{Value}
-use Rattle.lens_values.specs.Value.{value_cmp}
-use Rattle.lens_values.specs.declared.row.Row.{Row}
-use Rattle.lens_specs.specs.Rows.{at, same_value, agree, with_at, paste_list, paste, cut}
-use Rattle.lens_values.specs.Row.{row_cmp}
+use Rattle.lens_specs.specs.Common.{one, Name, Names, Disjoint, Within, at, agree, with_at, paste, cut}
+use Rattle.plain_values.specs.Order.{bytes_cmp}
+use Rattle.plain_values.specs.declared.value.Value.{Value}
+use Rattle.plain_values.specs.Row.{Row, row_cmp}
+use Rattle.plain_values.proofs.Tests.{same_bool}
+use Rattle.lens_specs.specs.Rows.{paste_list}
 
 pub row_total : IsTotalOrder row_cmp
 row_total = row_cmp_total
@@ -28,30 +26,11 @@ row_exact = row_cmp-IsAntisymmetric
 pub same_row : (a b : Row) → ((c : Name) → at a c ≡ at b c) → a ≡ b
 same_row = map.same_map name_total name_exact
 
-pub same_value-is : (x y : Option Value) → same_value x y ≡ true → x ≡ y
-same_value-is None None e = refl
-same_value-is None (Some w) e = cc
-same_value-is (Some v) None e = cc
-same_value-is (Some v) (Some w) e = ap Some (value_cmp-IsAntisymmetric v w ((Equal-is (value_cmp v w)).0 e))
-
-pub same_value-refl : (x : Option Value) → same_value x x ≡ true
-same_value-refl None = refl
-same_value-refl (Some v) = ap is_eq (tied_itself value_cmp_total v)
-
 pub tied_row : (q x : Row) → eq_by_cmp row_cmp q x ≡ true → q ≡ x
 tied_row q x e = row_exact q x ((Equal-is (row_cmp q x)).0 e)
 
 pub row_itself : (q : Row) → eq_by_cmp row_cmp q q ≡ true
 row_itself q = ap is_eq (tied_itself row_total q)
-
--- agreement, column by column
-pub agree_at : (C : Names) (a b : Row) → agree C a b ≡ true → (c : Name) → set.contains C c ≡ true → at a c ≡ at b c
-unfolding agree
-agree_at C a b h c i = same_value-is _ _ (all_at (eq_by_cmp bytes_cmp) tied_name name_itself _ (set.items C) h c (sym (set.contains-items C c) ∙ i))
-
-pub agree_from : (C : Names) (a b : Row) → ((c : Name) → set.contains C c ≡ true → at a c ≡ at b c) → agree C a b ≡ true
-unfolding agree
-agree_from C a b h = all_from (eq_by_cmp bytes_cmp) tied_name name_itself _ (set.items C) (λ c i. rw (h c (set.contains-items C c ∙ i)) (same_value-refl (at b c)))
 
 -- what is in a column after a write, a paste and a cut
 pub at-with_at : (r : Row) (k : Name) (v : Option Value) (c : Name) → at (with_at r k v) c ≡ cond (eq_by_cmp bytes_cmp c k) v (at r c)
@@ -88,7 +67,7 @@ pub agree_on : (C : Names) (a b c : Row) → agree C a b ≡ true → agree C b 
 agree_on C a b c h k = agree_from C a c (λ n i. agree_at C a b h n i ∙ agree_at C b c k n i)
 
 pub agree_alike : (C : Names) (a b l : Row) → agree C a b ≡ true → agree C a l ≡ agree C b l
-agree_alike C a b l h = both_ways _ _ (λ k. agree_on C b a l (agree_back C a b h) k) (λ k. agree_on C a b l h k)
+agree_alike C a b l h = same_bool _ _ (λ k. agree_on C b a l (agree_back C a b h) k) (λ k. agree_on C a b l h k)
 
 -- on fewer columns
 pub agree_within : (C D : Names) (a b : Row) → Within C D → agree D a b ≡ true → agree C a b ≡ true

@@ -2,18 +2,17 @@
 use Rattle.std.proofs.Common.{◌≡◌, ℕ, zero, suc, ◌≤◌, Bool, true, false, cond, List, [], ◌∷◌, ◌++◌, length, refl, sym, ap, ◌∙◌, subst, ◌⊎◌, inl, inr, Some, None, arith, nat_eq}
 use Rattle.std.proofs.lemmas.Bool.{cases_Bool, and_parts, and_from, or_cases, and_cases, not-false, not_from_false, true≢false, false≢true}
 use Rattle.std.specs.Ordering.{eq_by_cmp}
-use Rattle.lens_values.specs.SortedSet as set
+use Rattle.plain_values.specs.SortedSet as set
 use Rattle.fd_laws.proofs.Closures.{closure_is, implied, first_passes, none_passes, all_from_rest, all_rest, length_rest}
-use Rattle.fd_laws.proofs.Lists.{any_at}
+use Rattle.plain_values.proofs.Lists.{any_at}
 use Rattle.fd_laws.proofs.Names.{within_trans, union_within, name_total, tied_name, name_itself, none_of_len, in_rest, from_rest, apart_back, subset_is, union_left, union_right, apart_fewer, apart_union}
 use Rattle.fd_laws.proofs.Rows.{agree_at, agree_from}
 use Rattle.fd_laws.proofs.Trees.{each_edge, both_edges}
-use Rattle.lens_specs.specs.Names.{Name, Names, Within, Disjoint, share, same_names}
-use Rattle.lens_values.proofs.NamesLemmas.{same_is}
-use Rattle.lens_values.specs.Order.{bytes_cmp}
-use Rattle.lens_specs.specs.Relation.{Rows}
-use Rattle.lens_specs.specs.Dependencies.{Edge, edge, AllEdges, Meets, MeetsTree, closure, first_edge, rest_edges}
-use Rattle.lens_specs.specs.TreeForm.{kept_edge, TreeForm, cleaned, add_edge, grouped, narrowed_by, reduce_edge, reduce_all, with_right, bad_left, bad_right, bad_fit, first_later, first_other, writes_to, is_free, stuck, put_first, ordered, reduced, tree_of, is_tree, not_tree}
+use Rattle.lens_specs.specs.Common.{Name, Names, Within, Disjoint, share, same_names, Rows, Edge, edge, AllEdges, Meets, MeetsTree, closure, kept_edge, TreeForm, reduce_edge, reduce_all, with_right, tree_of, is_tree, not_tree}
+use Rattle.plain_values.proofs.NamesLemmas.{same_is}
+use Rattle.plain_values.specs.Order.{bytes_cmp}
+use Rattle.lens_specs.specs.Dependencies.{first_edge, rest_edges}
+use Rattle.lens_specs.specs.TreeForm.{cleaned, add_edge, grouped, narrowed_by, bad_left, bad_right, bad_fit, first_later, first_other, writes_to, is_free, stuck, put_first, ordered, reduced}
 use Rattle.fd_laws.specs.Trees.{IsTree, IsBefore}
 
 share_not : (X Y : Names) → share X Y ≡ false → Disjoint X Y
@@ -285,12 +284,12 @@ stuck_is (e ∷ es) T h =
       | Some k ↦ λ z. absurd (cc)
     ] h
 
-put_first_is : (e : Edge) (o : TreeForm) (T : List Edge) → put_first e o ≡ is_tree T → (K : List Edge) × (o ≡ is_tree K) × (T ≡ e ∷ K)
+pub put_first_is : (e : Edge) (o : TreeForm) (T : List Edge) → put_first e o ≡ is_tree T → (K : List Edge) × (o ≡ is_tree K) × (T ≡ e ∷ K)
 put_first_is e (is_tree K) T h = (K, refl, cc)
 put_first_is e (not_tree X Y) T h = absurd (cc)
 
 -- what holds of each edge before holds of each after
-ordered_to : (P : Edge → Type 0) (n : ℕ) (es T : List Edge) → ordered n es ≡ is_tree T → AllEdges P es → AllEdges P T
+pub ordered_to : (P : Edge → Type 0) (n : ℕ) (es T : List Edge) → ordered n es ≡ is_tree T → AllEdges P es → AllEdges P T
 ordered_to P zero es T h k = let is : T ≡ [] = cc in subst (AllEdges P) (sym is) tt
 ordered_to P (suc n) es T h k =
     elim (first_edge (is_free es) es) as (λ o. first_edge (is_free es) es ≡ o → (elim o [ None ↦ stuck es | Some e ↦ put_first e (ordered n (rest_edges (is_free es) es)) ]) ≡ is_tree T → AllEdges P T) [

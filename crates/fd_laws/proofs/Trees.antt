@@ -1,19 +1,16 @@
 -- Laws of revision and merge.
 use Rattle.std.proofs.Common.{subst, true≢false, nat_eq, ◌≡◌, true, false, List, [], ◌∷◌, Option, Some, None, refl, sym, ap, ◌∙◌, ◌⊎◌, inl, inr, arith}
-use Rattle.std.proofs.lemmas.Bool.{cases_Bool, or_parts, or_from}
-use Rattle.lens_values.specs.SortedSet as set
-use Rattle.fd_laws.proofs.Lists.{false_from, absurd_false}
+use Rattle.std.proofs.lemmas.Bool.{cases_Bool, or_parts, or_from, false_from_ne_true}
+use Rattle.plain_values.specs.SortedSet as set
+use Rattle.plain_values.proofs.Lists.{absurd_false}
 use Rattle.fd_laws.proofs.Names.{name_total, one_is, in_rest, apart_rest, rest_apart, none_of_len}
 use Rattle.fd_laws.proofs.Relations.{in_union_left, in_union_right, from_union, in_image, from_image, first_some, first_none}
 use Rattle.fd_laws.proofs.Rows.{at-paste_in, same_row, agree_at, agree_from, agree_itself, agree_back, agree_on, agree_within, agree-paste, at-paste_out, paste_same}
-use Rattle.lens_specs.specs.Names.{one, Name, Names, Disjoint}
-use Rattle.lens_values.specs.declared.row.Row.{Row}
-use Rattle.lens_specs.specs.Rows.{at, agree, paste}
-use Rattle.lens_specs.specs.Relation.{Rows, has, first_row}
+use Rattle.lens_specs.specs.Common.{one, Name, Names, Disjoint, at, agree, paste, Rows, has, first_row, kept_edge, tree_without, outputs, Edge, Meets, AllEdges, MeetsTree, along, revise_row, revise, merge}
+use Rattle.plain_values.specs.Row.{Row}
 use Rattle.fd_laws.specs.Trees.{Among, IsBefore, IsTree}
-use Rattle.lens_specs.specs.TreeForm.{narrowed, kept_edge, tree_without, outputs}
-use Rattle.lens_specs.specs.Dependencies.{Edge, Meets, AllEdges, MeetsTree}
-use Rattle.lens_specs.specs.Revision.{moved, along, revise_row, revise, merge}
+use Rattle.lens_specs.specs.TreeForm.{narrowed}
+use Rattle.lens_specs.specs.Revision.{moved}
 
 pub paste_alike : (r : Row) (Y : Names) (a b : Row) → agree Y a b ≡ true → paste r Y a ≡ paste r Y b
 paste_alike r Y a b g = same_row _ _ (λ c. elim (cases_Bool (set.contains Y c)) [
@@ -92,7 +89,7 @@ settled_here e L m r apart hl hr = elim (along_cases e m L) [
   | inr k ↦
       let hl' = rw k.1 at hl in
       let hr' = rw k.1 at hr in
-      inr (λ l i. false_from _ (λ a. absurd_false _ (agree_on e.left _ _ _ (agree_back e.left _ _ hl') a) (k.0 l i)), hl', hr')
+      inr (λ l i. false_from_ne_true _ (λ a. absurd_false _ (agree_on e.left _ _ _ (agree_back e.left _ _ hl') a) (k.0 l i)), hl', hr')
 ]
 
 -- what holds of a later edge from the row after a step holds of it from the row before
@@ -100,7 +97,7 @@ settled_before : (e k : Edge) (L : Rows) (m r : Row) → IsBefore e k → Settle
 settled_before e k L m r b s = elim s [
   | inl t ↦ inl t
   | inr n ↦ elim b.fits [
-    | inl apart ↦ inr (n.0, agree_on k.left _ _ _ n.1 (agree-along k.left e m L apart), agree_on k.right _ _ _ n.2 (agree-along k.right e m L (λ c i. false_from _ (λ w. absurd_false _ i (b.rights c w)))))
+    | inl apart ↦ inr (n.0, agree_on k.left _ _ _ n.1 (agree-along k.left e m L apart), agree_on k.right _ _ _ n.2 (agree-along k.right e m L (λ c i. false_from_ne_true _ (λ w. absurd_false _ i (b.rights c w)))))
     | inr within ↦ elim (along_cases e m L) [
       | inl t ↦ (absurd_false _ (agree_on k.left _ _ _ n.1 (rw t.3 (agree_within k.left e.right _ _ within (agree-paste m e.right t.0)))) (n.0 t.0 t.1))
       | inr q ↦ inr (n.0, rw q.1 at n.1, rw q.1 at n.2)

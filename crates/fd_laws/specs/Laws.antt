@@ -1,14 +1,9 @@
 -- The laws of relations, of dependencies and of revision, each as one statement.
 use Rattle.std.specs.Prelude.{◌≡◌, true, false, List, [], ◌∷◌}
-use Rattle.lens_values.specs.SortedSet as set
-use Rattle.lens_values.specs.declared.row.Row.{Row}
-use Rattle.lens_specs.specs.Names.{Name, Names, Within}
-use Rattle.lens_specs.specs.Rows.{at}
-use Rattle.lens_specs.specs.Columns.{Columns, Fits, names}
-use Rattle.lens_specs.specs.Relation.{Rows, has}
-use Rattle.lens_specs.specs.Dependencies.{Edge, Meets, MeetsTree, IsClosure, closure, implies}
-use Rattle.lens_specs.specs.TreeForm.{tree_of, is_tree, outputs}
-use Rattle.lens_specs.specs.Revision.{revise_row, merge}
+use Rattle.plain_values.specs.SortedSet as set
+use Rattle.plain_values.specs.Row.{Row}
+use Rattle.lens_specs.specs.Common.{Name, Names, Within, at, Columns, Fits, names, Rows, has, Edge, Meets, MeetsTree, closure, tree_of, is_tree, outputs, revise_row, merge}
+use Rattle.lens_specs.specs.Dependencies.{IsClosure, implies}
 use Rattle.fd_laws.specs.Trees.{EdgesWithin, IsTree}
 
 -- sets of rows with the same rows are one

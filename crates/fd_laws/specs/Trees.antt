@@ -1,7 +1,6 @@
 -- What it is to be a tree of dependencies.
 use Rattle.std.specs.Prelude.{◌≡◌, List, [], ◌∷◌, ◌⊎◌}
-use Rattle.lens_specs.specs.Names.{Disjoint, Names, Within}
-use Rattle.lens_specs.specs.Dependencies.{Edge, AllEdges}
+use Rattle.lens_specs.specs.Common.{Disjoint, Names, Within, Edge, AllEdges}
 
 -- what an edge is to one behind it
 pub record IsBefore (e k : Edge) : Type 0 where

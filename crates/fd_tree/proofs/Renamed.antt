@@ -1,18 +1,18 @@
 -- A tree with a new name for a column.
 use Rattle.std.proofs.Common.{◌≡◌, true, false, List, [], ◌∷◌, length, refl, sym, ◌∙◌, inl, inr, arith}
-use Rattle.std.proofs.lemmas.Bool.{or_cases, true≢false}
+use Rattle.std.proofs.lemmas.Bool.{or_cases, true≢false, or_left, false_from_ne_true}
 use Rattle.std.specs.List.{list_any}
 use Rattle.std.specs.Ordering.{eq_by_cmp}
-use Rattle.lens_values.specs.Order.{bytes_cmp}
-use Rattle.lens_values.specs.SortedSet as set
-use Rattle.fd_laws.proofs.Lists.{left_true, false_from, absurd_false}
-use Rattle.fd_laws.proofs.Names.{name_total, name_itself, union_left, union_right}
+use Rattle.plain_values.specs.Order.{bytes_cmp}
+use Rattle.plain_values.specs.SortedSet as set
+use Rattle.plain_values.proofs.Lists.{absurd_false}
+use Rattle.fd_laws.proofs.Common.{name_total, name_itself}
+use Rattle.fd_laws.proofs.Names.{union_left, union_right}
 use Rattle.fd_laws.proofs.Outputs.{within_more}
 use Rattle.fd_laws.proofs.Renames.{in_renamed, renamed_is_tree}
 use Rattle.fd_laws.specs.Trees.{EdgesWithin, IsTree}
-use Rattle.lens_specs.specs.Dependencies.{Edge, AllEdges}
-use Rattle.lens_specs.specs.Names.{Name, Names}
-use Rattle.lens_specs.specs.Rename.{renamed, renamed_names, renamed_edge, renamed_tree}
+use Rattle.lens_specs.specs.Common.{Edge, AllEdges, Name, Names, renamed, renamed_names, renamed_tree}
+use Rattle.lens_specs.specs.Rename.{renamed_edge}
 use Rattle.fd_tree.specs.Sides.{HasLeft}
 
 -- neither side has the name
@@ -37,7 +37,7 @@ own_names (e ∷ es) =
 
 is_free : (B : Name) (T : List Edge) → AllEdges (Lacks B) T → set.contains (all_names T) B ≡ false
 is_free B [] h = set.contains-empty bytes_cmp B
-is_free B (e ∷ es) h = false_from _ (λ i. elim (or_cases _ _ (sym (set.contains-union name_total (set.union e.left e.right) (all_names es) B) ∙ i)) [
+is_free B (e ∷ es) h = false_from_ne_true _ (λ i. elim (or_cases _ _ (sym (set.contains-union name_total (set.union e.left e.right) (all_names es) B) ∙ i)) [
   | inl j ↦ elim (or_cases _ _ (sym (set.contains-union name_total e.left e.right B) ∙ j)) [
     | inl k ↦ absurd_false _ k h.0.0
     | inr k ↦ absurd_false _ k h.0.1
@@ -51,7 +51,7 @@ tree_renamed A B T h tree = renamed_is_tree A B (all_names T) (is_free B T h) T 
 -- ---- left sides
 some_name : (ns : List Name) → (length ns ≡ 0 → ⊥) → (c : Name) × (list_any (eq_by_cmp bytes_cmp c) ns ≡ true)
 some_name [] h = absurd (h refl)
-some_name (n ∷ ns) h = (n, left_true _ _ (name_itself n))
+some_name (n ∷ ns) h = (n, or_left _ _ (name_itself n))
 
 no_name : (ns : List Name) (c : Name) → length ns ≡ 0 → list_any (eq_by_cmp bytes_cmp c) ns ≡ true → ⊥
 no_name [] c e i = true≢false (sym i)

@@ -2,11 +2,10 @@
 use Rattle.std.specs.Prelude.{ℕ, Option, Some, None}
 use Rattle.std.specs.List.{fold}
 use Rattle.lens_values.specs.Hash.{hash_number, hash_value}
-use Rattle.lens_values.specs.SortedSet as set
-use Rattle.lens_values.specs.declared.row.Row.{Row}
-use Rattle.lens_values.specs.declared.value.Value.{Value}
-use Rattle.lens_specs.specs.Names.{Names}
-use Rattle.lens_specs.specs.Rows.{at}
+use Rattle.plain_values.specs.SortedSet as set
+use Rattle.plain_values.specs.Row.{Row}
+use Rattle.plain_values.specs.declared.value.Value.{Value}
+use Rattle.lens_specs.specs.Common.{Names, at}
 
 -- the hash after the value of one more column, or after the mark of a missing one
 abbrev pub hash_at : ℕ → Option Value → ℕ

@@ -2,7 +2,7 @@
 ghost use Rattle.std.specs.Prelude.{◌≡◌, ◌++◌, List, IfOk, false};
 ghost use Rattle.std.specs.Coded.{coded_list};
 ghost use Rattle.no_memory.specs.Gives.{Gives};
-ghost use Rattle.lens_values.specs.SortedSet as set;
+ghost use Rattle.plain_values.specs.SortedSet as set;
 ghost use Rattle.lens_specs.specs.Names.{one};
 ghost use Rattle.lens_specs.specs.Dependencies as dependencies;
 ghost use Rattle.lens_specs.specs.Dependencies.{AllEdges, Edge as EdgeOf};

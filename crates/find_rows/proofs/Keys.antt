@@ -5,18 +5,15 @@ use Rattle.std.specs.FinMap as finmap
 use Rattle.std.specs.Cmp.Lexicographic.{nat_list_cmp_total}
 use Rattle.std.specs.Ordering.{eq_by_cmp}
 use Rattle.std.proofs.lemmas.Bool.{cases_Bool}
-use Rattle.lens_values.specs.Order.{bytes_cmp}
-use Rattle.lens_values.specs.SortedSet as set
-use Rattle.lens_values.specs.declared.row.Row.{Row}
-use Rattle.lens_values.specs.declared.value.Value.{Value}
-use Rattle.lens_specs.specs.Names.{Name, one}
-use Rattle.lens_specs.specs.Relation.{Rows, has, those}
-use Rattle.lens_specs.specs.Columns.{Columns, Fits}
-use Rattle.lens_specs.specs.Rows.{agree, at, same_value}
-use Rattle.fd_laws.proofs.Lists.{absurd_false, both_ways, false_from}
-use Rattle.fd_laws.proofs.Names.{name_itself, one_is, one_itself, tied_name}
-use Rattle.fd_laws.proofs.Relations.{from_those}
-use Rattle.fd_laws.proofs.Rows.{agree_at, agree_from, same_value-is, same_value-refl}
+use Rattle.plain_values.specs.Order.{bytes_cmp}
+use Rattle.plain_values.specs.SortedSet as set
+use Rattle.plain_values.specs.Row.{Row}
+use Rattle.plain_values.specs.declared.value.Value.{Value}
+use Rattle.lens_specs.specs.Common.{Name, one, Rows, has, those, Columns, Fits, agree, at, same_value}
+use Rattle.plain_values.proofs.Lists.{absurd_false}
+use Rattle.plain_values.proofs.Tests.{same_bool}
+use Rattle.fd_laws.proofs.Common.{name_itself, one_is, one_itself, tied_name, from_those, agree_at, agree_from}
+use Rattle.fd_laws.proofs.Rows.{same_value-is, same_value-refl}
 use Rattle.lens_laws.specs.KeyedDeltas.{find_by}
 use Rattle.signed_delta.specs.Keys.{HasColumns}
 use Rattle.find_rows.specs.Found.{rows_with}
@@ -33,7 +30,7 @@ module _ (c : Name) (v : Value) (key : Row) (is : key ≡ finmap.from_entries ((
   key_has d i = ap (λ e. is_some (at key e)) (one_is c d i) ∙ ap is_some own
 
   agrees : (r : Row) → agree (one c) key r ≡ same_value (Some v) (at r c)
-  agrees r = both_ways _ _
+  agrees r = same_bool _ _
       (λ g. subst (λ o. same_value (Some v) o ≡ true) (sym own ∙ agree_at (one c) key r g c (one_itself c)) (same_value-refl (Some v)))
       (λ s. agree_from (one c) key r (λ d i. ap (at key) (one_is c d i) ∙ own ∙ same_value-is (Some v) (at r c) s ∙ sym (ap (at r) (one_is c d i))))
 

@@ -1,9 +1,7 @@
 -- Rows by the value in one column.
 use Rattle.std.specs.Prelude.{Some}
-use Rattle.lens_values.specs.declared.value.Value.{Value}
-use Rattle.lens_specs.specs.Names.{Name}
-use Rattle.lens_specs.specs.Relation.{Rows, those}
-use Rattle.lens_specs.specs.Rows.{at, same_value}
+use Rattle.plain_values.specs.declared.value.Value.{Value}
+use Rattle.lens_specs.specs.Common.{Name, Rows, those, at, same_value}
 
 -- the rows whose value in the column is this one
 abbrev pub rows_with : Name → Value → Rows → Rows

@@ -3,18 +3,17 @@ use Rattle.std.proofs.Common.{◌≡◌, ◌^◌, ◌<◌, ◌≤◌, suc, Bool,
 use Rattle.std.specs.Prelude.{◌&&◌, ◌||◌, not, codes, Option, Some, None, map, flat_map}
 use Rattle.std.specs.List.{list_any, list_all}
 use Rattle.std.proofs.lemmas.List.{map-append}
-use Rattle.lens_values.specs.Value.{is_nullable}
-use Rattle.lens_values.specs.declared.value.Kind.TheVariants as kind
-use Rattle.lens_specs.specs.Names.{Name}
-use Rattle.lens_specs.specs.Predicate.{eq}
+use Rattle.std.proofs.lemmas.Bool.{and_from}
+use Rattle.plain_values.specs.Value.{is_nullable}
+use Rattle.plain_values.specs.declared.value.Kind.TheVariants as kind
+use Rattle.plain_values.proofs.Tests.{first_holds, second_holds}
+use Rattle.lens_specs.specs.Common.{Name, eq}
 use Rattle.grammar_specs.specs.Tokens.{Token, word, open_paren, close_paren, comma, arrow, operator, is_free_name}
 use Rattle.grammar_specs.specs.Written.{Pred, named, Dep, Written, table, view, null_tokens, column_tokens, columns_tokens, dep_tokens, deps_tokens, where_tokens, written_tokens, is_some_list, are_free_names, is_column_of, are_columns, is_dep, is_expr, is_condition, is_definition}
 use Rattle.grammar_specs.specs.Faults.{Begins}
 use Rattle.grammar_laws.specs.Tests.{is_word}
-use Rattle.grammar_laws.proofs.Options.{first_holds, second_holds}
 use Rattle.grammar_laws.proofs.WrittenPreds as pred
 use Rattle.grammar_laws.proofs.WrittenPreds.{Reading, is_reading}
-use Rattle.grammar_laws.proofs.PredSteps.{both}
 use Rattle.grammar_laws.proofs.PredReads.{reading_ends}
 use Rattle.grammar_laws.proofs.WrittenExprs.{Exprs, is_exprs}
 use Rattle.grammar_laws.proofs.ExprReads.{exprs_end}
@@ -76,7 +75,7 @@ few n cs h = omega (arith, columns_count cs)
 table_begins : (n : Name) (cs : Cols) (ds : List Dep) (p : Option Pred) → is_table n cs ≡ true → list_all is_dep ds ≡ true → is_condition p ≡ true
     → Begins (table_before n ++ (columns_tokens cs ++ close_paren ∷ (deps_tokens ds ++ where_tokens p)))
 table_begins n cs ds p h deps condition =
-    begins (written_tokens (table n cs ds p)) (table n cs ds p) [] (both (is_table n cs && list_all is_dep ds) (is_condition p) (both (is_table n cs) (list_all is_dep ds) h deps) condition) (sym (append-nil (written_tokens (table n cs ds p))))
+    begins (written_tokens (table n cs ds p)) (table n cs ds p) [] (and_from (is_table n cs && list_all is_dep ds) (is_condition p) (and_from (is_table n cs) (list_all is_dep ds) h deps) condition) (sym (append-nil (written_tokens (table n cs ds p))))
 
 column_begins : (n : Name) (cs : Cols) → is_table n cs ≡ true → Begins (before (behind_column n cs))
 column_begins n cs h =
@@ -88,8 +87,8 @@ kind_begins n cs c name good free new =
     longer (before (at_kind n cs c)) (word (codes "int") ∷ [])
     (subst Begins
     (ap (λ x. table_before n ++ x) (columns_more cs (c, kind.Int) ∙ sym (append_assoc (columns_before cs) (word c ∷ []) (word (codes "int") ∷ []))) ∙ sym (append_assoc (table_before n) (columns_before cs ++ word c ∷ []) (word (codes "int") ∷ [])))
-    (column_begins n (cs ++ (c, kind.Int) ∷ []) (both (is_free_name n) (is_some_list (cs ++ (c, kind.Int) ∷ []) && are_columns [] (cs ++ (c, kind.Int) ∷ [])) name
-    (both (is_some_list (cs ++ (c, kind.Int) ∷ [])) (are_columns [] (cs ++ (c, kind.Int) ∷ [])) (some_more cs (c, kind.Int)) (columns_good [] cs (c, kind.Int) good free new)))))
+    (column_begins n (cs ++ (c, kind.Int) ∷ []) (and_from (is_free_name n) (is_some_list (cs ++ (c, kind.Int) ∷ []) && are_columns [] (cs ++ (c, kind.Int) ∷ [])) name
+    (and_from (is_some_list (cs ++ (c, kind.Int) ∷ [])) (are_columns [] (cs ++ (c, kind.Int) ∷ [])) (some_more cs (c, kind.Int)) (columns_good [] cs (c, kind.Int) good free new)))))
 
 next_column_begins : (n : Name) (cs : Cols) → is_free_name n ≡ true → are_columns [] cs ≡ true → length cs < 2 ^ 64 → Begins (before (at_column n cs))
 next_column_begins n cs name good h =
@@ -107,7 +106,7 @@ deps_begin n cs xs more ds e h deps =
     (table_begins n cs ds None h deps refl))
 
 names_more : (l : List Name) → list_all is_free_name l ≡ true → are_free_names (l ++ one_name ∷ []) ≡ true
-names_more l h = both (is_some_list (l ++ one_name ∷ [])) (list_all is_free_name (l ++ one_name ∷ [])) (some l) (all_more l one_name h one_name_free)
+names_more l h = and_from (is_some_list (l ++ one_name ∷ [])) (list_all is_free_name (l ++ one_name ∷ [])) (some l) (all_more l one_name h one_name_free)
   where
     some : (l : List Name) → is_some_list (l ++ one_name ∷ []) ≡ true
     some [] = refl
@@ -117,13 +116,13 @@ left_begins : (n : Name) (cs : Cols) (ds : List Dep) (l : List Name) → is_tabl
 left_begins n cs ds l h deps left =
     deps_begin n cs (deps_before ds ++ map word l) (word one_name ∷ arrow ∷ word one_name ∷ []) (ds ++ (l ++ one_name ∷ [], one_name ∷ []) ∷ [])
     (deps_more ds (l ++ one_name ∷ [], one_name ∷ []) ∙ ap (λ x. deps_before ds ++ (x ++ arrow ∷ word one_name ∷ [])) (map-append word l (one_name ∷ [])) ∙ simp append_assoc)
-    h (all_deps ds (l ++ one_name ∷ [], one_name ∷ []) deps (both (are_free_names (l ++ one_name ∷ [])) (are_free_names (one_name ∷ [])) (names_more l left) (names_more [] refl)))
+    h (all_deps ds (l ++ one_name ∷ [], one_name ∷ []) deps (and_from (are_free_names (l ++ one_name ∷ [])) (are_free_names (one_name ∷ [])) (names_more l left) (names_more [] refl)))
 
 right_begins : (n : Name) (cs : Cols) (ds : List Dep) (l r : List Name) → is_table n cs ≡ true → list_all is_dep ds ≡ true → are_free_names l ≡ true → list_all is_free_name r ≡ true → Begins (before (in_right n cs ds l r))
 right_begins n cs ds l r h deps left right =
     deps_begin n cs (deps_before ds ++ dep_tokens (l, r)) (word one_name ∷ []) (ds ++ (l, r ++ one_name ∷ []) ∷ [])
     (deps_more ds (l, r ++ one_name ∷ []) ∙ ap (λ x. deps_before ds ++ (map word l ++ arrow ∷ x)) (map-append word r (one_name ∷ [])) ∙ simp append_assoc)
-    h (all_deps ds (l, r ++ one_name ∷ []) deps (both (are_free_names l) (are_free_names (r ++ one_name ∷ [])) left (names_more r right)))
+    h (all_deps ds (l, r ++ one_name ∷ []) deps (and_from (are_free_names l) (are_free_names (r ++ one_name ∷ [])) left (names_more r right)))
 
 condition_begins : (n : Name) (cs : Cols) (ds : List Dep) (s : Reading) → is_table n cs ≡ true → list_all is_dep ds ≡ true → is_reading s ≡ true → Begins (before (in_condition n cs ds s))
 condition_begins n cs ds s h deps good =
@@ -141,10 +140,10 @@ condition_begins n cs ds s h deps good =
 view_begins : (n : Name) (s : Exprs) → is_free_name n ≡ true → is_exprs s ≡ true → Begins (before (in_view n s))
 view_begins n s free good =
     let ends = exprs_end s good in
-    begins (before (in_view n s)) (view n ends.expr) ends.more (both (is_free_name n) (is_expr ends.expr) free ends.good) (ap (λ x. word (codes "view") ∷ word n ∷ operator eq ∷ x) ends.spelled)
+    begins (before (in_view n s)) (view n ends.expr) ends.more (and_from (is_free_name n) (is_expr ends.expr) free ends.good) (ap (λ x. word (codes "view") ∷ word n ∷ operator eq ∷ x) ends.spelled)
 
 name_begins : (n : Name) → is_free_name n ≡ true → Begins (word (codes "view") ∷ word n ∷ [])
-name_begins n free = begins (word (codes "view") ∷ word n ∷ []) (view n (named one_name)) (operator eq ∷ word one_name ∷ []) (both (is_free_name n) (is_free_name one_name) free one_name_free) refl
+name_begins n free = begins (word (codes "view") ∷ word n ∷ []) (view n (named one_name)) (operator eq ∷ word one_name ∷ []) (and_from (is_free_name n) (is_free_name one_name) free one_name_free) refl
 
 pub table_known : (n : Name) (cs : Cols) (ds : List Dep) (b : Bool) → (is_table n cs && list_all is_dep ds && b) ≡ true → (is_table n cs ≡ true) × (list_all is_dep ds ≡ true) × (b ≡ true)
 table_known n cs ds b h =

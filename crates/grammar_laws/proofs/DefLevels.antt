@@ -1,11 +1,13 @@
 -- How many parentheses and "not"s stand open along a definition.
 use Rattle.std.proofs.Common.{◌≡◌, ℕ, Bool, true, false, List, [], ◌∷◌, refl, sym, ap, ◌∙◌, arith}
 use Rattle.std.specs.Prelude.{max, Option, Some, None, option_map, option_and_then}
+use Rattle.std.proofs.lemmas.Bool.{false≢true}
+use Rattle.std.proofs.lemmas.Option.{same_Some}
 use Rattle.lens_specs.specs.Names.{Name}
 use Rattle.grammar_specs.specs.Tokens.{Token}
 use Rattle.grammar_specs.specs.Written.{Dep}
 use Rattle.grammar_specs.specs.Nesting.{at_each}
-use Rattle.grammar_laws.proofs.Options.{map_then, same_inside}
+use Rattle.grammar_laws.proofs.Options.{map_then}
 use Rattle.grammar_laws.proofs.WrittenPreds as pred
 use Rattle.grammar_laws.proofs.WrittenPreds.{Reading}
 use Rattle.grammar_laws.proofs.PredReads as read
@@ -60,9 +62,6 @@ pub level_go : (s r : Parse) (t : Token) (ts : List Token) (n : ℕ) (ns : List 
 level_go s r t ts n ns e top rest =
     ap (λ (o : Option Parse). elim o [ None ↦ [] | Some r ↦ max (count s) (count r) ∷ levels r ts ]) e ∙ (λ i. top i ∷ rest i)
 
-false_true : false ≡ true → ⊥
-false_true e = cc
-
 flat_count : (s : Parse) → is_flat s ≡ true → count s ≡ 0
 flat_count at_start e = refl
 flat_count at_table e = refl
@@ -74,10 +73,10 @@ flat_count (behind_column n cs) e = refl
 flat_count (behind_columns n cs) e = refl
 flat_count (in_left n cs ds l) e = refl
 flat_count (in_right n cs ds l r) e = refl
-flat_count (in_condition n cs ds s) e = absurd (false_true e)
+flat_count (in_condition n cs ds s) e = absurd (false≢true e)
 flat_count at_view e = refl
 flat_count (at_equals n) e = refl
-flat_count (in_view n s) e = absurd (false_true e)
+flat_count (in_view n s) e = absurd (false≢true e)
 
 flat_before : (s : Parse) (t : Token) (r : Parse) → step s t ≡ Some r → is_flat r ≡ true → is_flat s ≡ true
 flat_before at_start t r e f = refl
@@ -90,14 +89,14 @@ flat_before (behind_column n cs) t r e f = refl
 flat_before (behind_columns n cs) t r e f = refl
 flat_before (in_left n cs ds l) t r e f = refl
 flat_before (in_right n cs ds l x) t r e f = refl
-flat_before (in_condition n cs ds s) t r e f = map_then (in_condition n cs ds) (pred.step s t) r e (λ q _ same. absurd (false_true (ap is_flat same ∙ f)))
+flat_before (in_condition n cs ds s) t r e f = map_then (in_condition n cs ds) (pred.step s t) r e (λ q _ same. absurd (false≢true (ap is_flat same ∙ f)))
 flat_before at_view t r e f = refl
 flat_before (at_equals n) t r e f = refl
-flat_before (in_view n s) t r e f = map_then (in_view n) (expr.step s t) r e (λ q _ same. absurd (false_true (ap is_flat same ∙ f)))
+flat_before (in_view n s) t r e f = map_then (in_view n) (expr.step s t) r e (λ q _ same. absurd (false≢true (ap is_flat same ∙ f)))
 
 -- up to a flat place nothing stands open
 pub flat_levels : (s : Parse) (xs : List Token) (r : Parse) → run s xs ≡ Some r → is_flat r ≡ true → (is_flat s ≡ true) × (levels s xs ≡ at_each 0 xs)
-flat_levels s [] r e f = (ap is_flat (same_inside s r e) ∙ f, refl)
+flat_levels s [] r e f = (ap is_flat (same_Some s r e) ∙ f, refl)
 flat_levels s (x ∷ xs) r e f =
     elim (step s x) as (λ o. step s x ≡ o → option_and_then (λ q. run q xs) o ≡ Some r → (is_flat s ≡ true) × (levels s (x ∷ xs) ≡ at_each 0 (x ∷ xs))) [
       | None ↦ λ g h. cc

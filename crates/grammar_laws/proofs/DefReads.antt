@@ -2,15 +2,15 @@
 use Rattle.std.proofs.Common.{◌≡◌, true, cond, List, [], ◌∷◌, ◌++◌, refl, sym, ap, subst, ◌∙◌, append_assoc, append-nil}
 use Rattle.std.specs.Prelude.{◌&&◌, not, codes, Option, Some, None, option_map, option_and_then, map, flat_map}
 use Rattle.std.specs.List.{list_all}
-use Rattle.lens_values.specs.Value.{is_nullable}
-use Rattle.lens_values.specs.declared.value.Kind.{Kind}
-use Rattle.lens_values.specs.declared.value.Kind.TheVariants as kind
-use Rattle.lens_specs.specs.Names.{Name}
-use Rattle.lens_specs.specs.Predicate.{eq}
+use Rattle.std.proofs.lemmas.Bool.{not-true}
+use Rattle.plain_values.specs.Value.{is_nullable}
+use Rattle.plain_values.specs.declared.value.Kind.{Kind}
+use Rattle.plain_values.specs.declared.value.Kind.TheVariants as kind
+use Rattle.plain_values.proofs.Tests.{first_holds, second_holds}
+use Rattle.lens_specs.specs.Common.{Name, eq}
 use Rattle.grammar_specs.specs.Tokens.{Token, word, open_paren, close_paren, comma, arrow, operator, is_free_name}
 use Rattle.grammar_specs.specs.Written.{Pred, Expr, named, select, drop, rename, join, Dep, Written, table, view, kind_tokens, column_tokens, columns_tokens, dep_tokens, deps_tokens, where_tokens, pred_tokens, expr_tokens, written_tokens, is_some_list, are_free_names, is_column_of, are_columns, is_dep, is_pred, is_expr, is_condition, is_definition}
-use Rattle.grammar_laws.proofs.Options.{first_holds, second_holds}
-use Rattle.grammar_laws.proofs.TokenTests.{free_in, not_true}
+use Rattle.grammar_laws.proofs.TokenTests.{free_in}
 use Rattle.grammar_laws.proofs.WrittenPreds as pred
 use Rattle.grammar_laws.proofs.WrittenPreds.{Reading, behind}
 use Rattle.grammar_laws.proofs.PredReads as read
@@ -71,7 +71,7 @@ close_next n cs c kind.FlagOrNull = refl
 
 column_step : (n : Name) (cs : Cols) (c : Name) → is_free_name c ≡ true → not (is_column_of cs c) ≡ true → step (at_column n cs) (word c) ≡ Some (at_kind n cs c)
 column_step n cs c free new =
-    ap (option_and_then (λ d. cond (is_column_of cs d) None (Some (at_kind n cs d)))) (free_in c free) ∙ ap (λ b. cond b None (Some (at_kind n cs c))) (not_true (is_column_of cs c) new)
+    ap (option_and_then (λ d. cond (is_column_of cs d) None (Some (at_kind n cs d)))) (free_in c free) ∙ ap (λ b. cond b None (Some (at_kind n cs c))) (not-true (is_column_of cs c) new)
 
 column_read : (n : Name) (cs : Cols) (c : Name × Kind) → is_free_name c.0 ≡ true → not (is_column_of cs c.0) ≡ true → run (at_column n cs) (column_tokens c) ≡ Some (behind_next n cs c)
 column_read n cs c free new = go (at_column n cs) (at_kind n cs c.0) (word c.0) (kind_tokens c.1) _ (column_step n cs c.0 free new) (kind_read n cs c.0 c.1)

@@ -2,10 +2,11 @@
 use Rattle.std.proofs.Common.{◌≡◌, ◌⊎◌, inl, inr, ◌^◌, ◌<◌, true, List, [], ◌∷◌, ◌++◌, length, refl, sym, ap, subst, ◌∙◌, append_assoc, append-nil, arith, length-append}
 use Rattle.std.specs.Prelude.{Some, None, option_and_then}
 use Rattle.std.specs.List.{list_all}
+use Rattle.std.proofs.lemmas.Option.{none-some, same_Some, option_and_then_some}
+use Rattle.plain_values.proofs.Tests.{first_holds, second_holds}
 use Rattle.grammar_specs.specs.Tokens.{Token}
 use Rattle.grammar_specs.specs.Written.{Written, written_tokens, is_definition}
 use Rattle.grammar_specs.specs.Faults.{Begins, IsStopped, IsUnfinished}
-use Rattle.grammar_laws.proofs.Options.{same_inside, bind_then, first_holds, second_holds}
 use Rattle.grammar_laws.proofs.TokenTests.{is_proper}
 use Rattle.grammar_laws.proofs.WrittenDefs.{Parse, at_start, step, ended, before, is_parse}
 use Rattle.grammar_laws.proofs.DefSteps.{parse_follows, parse_ends}
@@ -18,9 +19,9 @@ pub record Reached (s : Parse) (ts : List Token) (r : Parse) : Type 0 where
   pub good : is_parse r ≡ true
 
 pub run_reaches : (s : Parse) (ts : List Token) (r : Parse) → is_parse s ≡ true → list_all is_proper ts ≡ true → run s ts ≡ Some r → Reached s ts r
-run_reaches s [] r good proper e = let P : Parse → Type 0 = λ x. Reached s [] x in subst P (same_inside s r e) (record { tokens = sym (append-nil (before s)); good = good })
+run_reaches s [] r good proper e = let P : Parse → Type 0 = λ x. Reached s [] x in subst P (same_Some s r e) (record { tokens = sym (append-nil (before s)); good = good })
 run_reaches s (t ∷ ts) r good proper e =
-    bind_then (λ q. run q ts) (step s t) r e (λ q stepped h.
+    option_and_then_some (λ q. run q ts) (step s t) r e (λ q stepped h.
     let f = parse_follows s t q good stepped in
     let rest = run_reaches q ts r (f.good good (first_holds (is_proper t) (list_all is_proper ts) proper)) (second_holds (is_proper t) (list_all is_proper ts) proper) h in
     record { tokens = rest.tokens ∙ ap (λ x. x ++ ts) f.tokens ∙ append_assoc (before s) (t ∷ []) ts; good = rest.good })
@@ -31,15 +32,12 @@ reached_begins ts s proper len e =
     let r = run_reaches at_start ts s refl proper e in
     subst Begins r.tokens (parse_begins s r.good (omega (arith, ap length r.tokens, len)))
 
-none_some : {A : Type 0} (a : A) → None ≡ Some a → ⊥
-none_some a e = cc
-
 -- what a definition begins with is read
 pub begins_reached : (ts : List Token) → Begins ts → (s : Parse) × (run at_start ts ≡ Some s)
 begins_reached ts h =
     let reads = written_read h.0 h.2 in
     let all : option_and_then (λ r. run r h.1) (run at_start ts) ≡ Some reads.state = sym (run-append at_start ts h.1) ∙ ap (run at_start) (sym h.3) ∙ reads.read in
-    bind_then (λ r. run r h.1) (run at_start ts) reads.state all (λ s e _. (s, e))
+    option_and_then_some (λ r. run r h.1) (run at_start ts) reads.state all (λ s e _. (s, e))
 
 pub one_step : (s : Parse) (t : Token) → option_and_then (λ r. run r (t ∷ [])) (Some s) ≡ step s t
 one_step s t = elim (step s t) as (λ o. option_and_then (λ r. run r []) o ≡ o) [ None ↦ refl | Some r ↦ refl ]
@@ -50,7 +48,7 @@ stopped front t s proper len e wrong = (
   reached_begins front s proper len e,
   λ h.
       let r = begins_reached (front ++ t ∷ []) h in
-      none_some r.0 (sym (run-append at_start front (t ∷ []) ∙ ap (option_and_then (λ r. run r (t ∷ []))) e ∙ one_step s t ∙ wrong) ∙ r.1),
+      none-some r.0 (sym (run-append at_start front (t ∷ []) ∙ ap (option_and_then (λ r. run r (t ∷ []))) e ∙ one_step s t ∙ wrong) ∙ r.1),
 )
 
 -- what is not ended spells no definition
@@ -59,8 +57,8 @@ unfinished ts s proper len e more = (
   reached_begins ts s proper len e,
   λ w good spelled.
       let reads = written_read w good in
-      let same : s ≡ reads.state = same_inside s reads.state (sym e ∙ ap (run at_start) (sym spelled) ∙ reads.read) in
-      none_some w (sym more ∙ ap ended same ∙ reads.ends),
+      let same : s ≡ reads.state = same_Some s reads.state (sym e ∙ ap (run at_start) (sym spelled) ∙ reads.read) in
+      none-some w (sym more ∙ ap ended same ∙ reads.ends),
 )
 
 -- what is ended is spelled
@@ -75,8 +73,8 @@ pub one_definition : (w v : Written) → is_definition w ≡ true → is_definit
 one_definition w v good_w good_v e =
     let rw' = written_read w good_w in
     let rv = written_read v good_v in
-    let same : rw'.state ≡ rv.state = same_inside rw'.state rv.state (sym rw'.read ∙ ap (run at_start) e ∙ rv.read) in
-    same_inside w v (sym rw'.ends ∙ ap ended same ∙ rv.ends)
+    let same : rw'.state ≡ rv.state = same_Some rw'.state rv.state (sym rw'.read ∙ ap (run at_start) e ∙ rv.read) in
+    same_Some w v (sym rw'.ends ∙ ap ended same ∙ rv.ends)
 
 -- ---- every list of tokens
 

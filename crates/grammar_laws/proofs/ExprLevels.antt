@@ -2,11 +2,11 @@
 use Rattle.std.proofs.Common.{◌≡◌, ℕ, suc, ◌+◌, true, List, [], ◌∷◌, ◌++◌, map, length, refl, sym, ap, ◌∙◌, arith}
 use Rattle.std.specs.Prelude.{◌&&◌, max, codes, Option, Some, None, option_and_then}
 use Rattle.std.specs.List.{list_all}
+use Rattle.plain_values.proofs.Tests.{first_holds, second_holds}
 use Rattle.lens_specs.specs.Names.{Name}
 use Rattle.grammar_specs.specs.Tokens.{Token, word, open_paren, close_paren, comma, is_free_name}
 use Rattle.grammar_specs.specs.Written.{Operand, bare, enclosed, Expr, named, select, drop, rename, join, literal, join_word, pred_tokens, operand_tokens, expr_tokens, is_some_list, are_free_names, is_pred, is_operand, is_expr}
 use Rattle.grammar_specs.specs.Nesting.{operand_nesting, expr_nesting, pred_nesting}
-use Rattle.grammar_laws.proofs.Options.{first_holds, second_holds}
 use Rattle.grammar_laws.proofs.WrittenPreds as pred
 use Rattle.grammar_laws.proofs.WrittenPreds.{fresh, at_part, Reading, inside, behind}
 use Rattle.grammar_laws.proofs.PredReads as read

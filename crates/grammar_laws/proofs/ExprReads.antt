@@ -3,19 +3,19 @@ use Rattle.std.proofs.Common.{◌≡◌, true, cond, List, [], ◌∷◌, ◌++�
 use Rattle.std.specs.Prelude.{◌&&◌, codes, Option, Some, None, option_map, option_and_then, map}
 use Rattle.std.specs.List.{list_all}
 use Rattle.std.proofs.lemmas.List.{map-append}
-use Rattle.lens_values.specs.declared.join_kind.JoinKind.{JoinKind}
-use Rattle.lens_values.specs.declared.join_kind.JoinKind.TheVariants.{DeleteLeft, DeleteRight, DeleteBoth}
-use Rattle.lens_values.specs.declared.value.Value.{Value}
-use Rattle.lens_values.specs.declared.value.Value.TheVariants.{Flag}
+use Rattle.std.proofs.lemmas.Bool.{and_from}
+use Rattle.plain_values.specs.declared.join_kind.JoinKind.{JoinKind}
+use Rattle.plain_values.specs.declared.join_kind.JoinKind.TheVariants.{DeleteLeft, DeleteRight, DeleteBoth}
+use Rattle.plain_values.specs.declared.value.Value.{Value}
+use Rattle.plain_values.specs.declared.value.Value.TheVariants.{Flag}
+use Rattle.plain_values.proofs.Tests.{first_holds, second_holds}
 use Rattle.lens_specs.specs.Names.{Name}
 use Rattle.grammar_specs.specs.Tokens.{Token, word, open_paren, close_paren, comma, is_free_name}
 use Rattle.grammar_specs.specs.Written.{literally, only, Pred, alone, Operand, bare, enclosed, Expr, named, select, drop, rename, join, literal, join_word, pred_tokens, operand_tokens, expr_tokens, is_some_list, are_free_names, is_pred, is_operand, is_expr}
 use Rattle.grammar_laws.specs.Tests.{is_close}
-use Rattle.grammar_laws.proofs.Options.{first_holds, second_holds}
 use Rattle.grammar_laws.proofs.TokenTests.{fill_found, free_in}
 use Rattle.grammar_laws.proofs.WrittenPreds as pred
 use Rattle.grammar_laws.proofs.WrittenPreds.{fresh, at_part, Reading, inside, behind, whole, is_reading}
-use Rattle.grammar_laws.proofs.PredSteps.{both}
 use Rattle.grammar_laws.proofs.PredReads as read
 use Rattle.grammar_laws.proofs.PredReads.{ors_of, last_of, whole_again, pred_read, reading_ends}
 use Rattle.grammar_laws.proofs.WrittenExprs.{Hole, of_select, of_drop, of_rename, left_of_join, right_of_join, Spot, at_expr, at_operand, behind_expr, at_from, at_where, at_with, at_dropped, at_determined, at_by, at_keys, in_keys, at_fill, at_keys_end, at_drop_from, at_renamed, at_to, at_new_name, at_rename_from, in_where, Exprs, exprs, fill, close, selected, step, keys_before, hole_before, outer_before, spot_before, before, is_hole, are_holes, is_spot, is_exprs}
@@ -187,11 +187,11 @@ hole_spelled (right_of_join k l) o = simp (append_assoc, append-nil)
 
 hole_good : (h : Hole) (o : Operand) → is_hole h ≡ true → is_operand o ≡ true → is_expr (hole_expr h o) ≡ true
 unfolding hole_expr yes
-hole_good of_select o h g = both (is_operand o) true g refl
-hole_good (of_drop c ks v) o h g = both (is_free_name c && are_free_names ks) (is_operand o) h g
-hole_good (of_rename c d) o h g = both (is_free_name c && is_free_name d) (is_operand o) h g
-hole_good (left_of_join k) o h g = both (is_operand o) (is_free_name some_name) g some_name_free
-hole_good (right_of_join k l) o h g = both (is_operand l) (is_operand o) h g
+hole_good of_select o h g = and_from (is_operand o) true g refl
+hole_good (of_drop c ks v) o h g = and_from (is_free_name c && are_free_names ks) (is_operand o) h g
+hole_good (of_rename c d) o h g = and_from (is_free_name c && is_free_name d) (is_operand o) h g
+hole_good (left_of_join k) o h g = and_from (is_operand o) (is_free_name some_name) g some_name_free
+hole_good (right_of_join k l) o h g = and_from (is_operand l) (is_operand o) h g
 
 expr_ends : (qs : List Hole) (e : Expr) → are_holes qs ≡ true → is_expr e ≡ true → Opens (outer_before qs ++ expr_tokens e)
 expr_ends [] e outer good = record { expr = e; more = []; good = good; spelled = sym (append-nil (expr_tokens e)) }
@@ -221,7 +221,7 @@ where_ends qs o s good h outer =
     spot_ends qs (in_where o s) (select o ends.pred) ends.more
     (ap (λ x. word (codes "select") ∷ word (codes "from") ∷ (operand_tokens o ++ word (codes "where") ∷ x)) ends.spelled
     ∙ ap (λ x. word (codes "select") ∷ word (codes "from") ∷ x) (sym (append_assoc (operand_tokens o) (word (codes "where") ∷ pred.before s) ends.more)))
-    (both (is_operand o) (is_pred ends.pred) good ends.good) outer
+    (and_from (is_operand o) (is_pred ends.pred) good ends.good) outer
 
 -- keys with one more, behind which the expression ends
 more_keys : (c : Name) (ks : List Name) → hole_before (of_drop c (ks ++ some_name ∷ []) zero_is) ++ word some_name ∷ []
@@ -231,17 +231,17 @@ more_keys c ks =
     ∙ simp append_assoc
 
 more_free : (ks : List Name) → list_all is_free_name ks ≡ true → are_free_names (ks ++ some_name ∷ []) ≡ true
-more_free [] h = both (is_free_name some_name) true some_name_free refl
-more_free (k ∷ ks) h = both (is_free_name k) (list_all is_free_name (ks ++ some_name ∷ [])) (first_holds (is_free_name k) (list_all is_free_name ks) h) (others ks (second_holds (is_free_name k) (list_all is_free_name ks) h))
+more_free [] h = and_from (is_free_name some_name) true some_name_free refl
+more_free (k ∷ ks) h = and_from (is_free_name k) (list_all is_free_name (ks ++ some_name ∷ [])) (first_holds (is_free_name k) (list_all is_free_name ks) h) (others ks (second_holds (is_free_name k) (list_all is_free_name ks) h))
   where
     others : (ks : List Name) → list_all is_free_name ks ≡ true → list_all is_free_name (ks ++ some_name ∷ []) ≡ true
-    others [] h = both (is_free_name some_name) true some_name_free refl
-    others (k ∷ ks) h = both (is_free_name k) (list_all is_free_name (ks ++ some_name ∷ [])) (first_holds (is_free_name k) (list_all is_free_name ks) h) (others ks (second_holds (is_free_name k) (list_all is_free_name ks) h))
+    others [] h = and_from (is_free_name some_name) true some_name_free refl
+    others (k ∷ ks) h = and_from (is_free_name k) (list_all is_free_name (ks ++ some_name ∷ [])) (first_holds (is_free_name k) (list_all is_free_name ks) h) (others ks (second_holds (is_free_name k) (list_all is_free_name ks) h))
 
 drop_ends : (qs : List Hole) (spot : Spot) (c : Name) (more : List Token) → keys_before c [] ++ word some_name ∷ comma ∷ literal zero_is ∷ close_paren ∷ word (codes "from") ∷ word some_name ∷ [] ≡ spot_before spot ++ more
     → is_free_name c ≡ true → are_holes qs ≡ true → Opens (before (exprs qs spot))
 drop_ends qs spot c more same free outer =
-    hole_ends qs spot (of_drop c (some_name ∷ []) zero_is) more (more_keys c [] ∙ same) (both (is_free_name c) (are_free_names (some_name ∷ [])) free (more_free [] refl)) outer
+    hole_ends qs spot (of_drop c (some_name ∷ []) zero_is) more (more_keys c [] ∙ same) (and_from (is_free_name c) (are_free_names (some_name ∷ [])) free (more_free [] refl)) outer
 
 pub exprs_end : (s : Exprs) → is_exprs s ≡ true → Opens (before s)
 exprs_end (exprs qs spot) h = ends qs spot (second_holds (are_holes qs) (is_spot spot) h) (first_holds (are_holes qs) (is_spot spot) h)
@@ -261,7 +261,7 @@ exprs_end (exprs qs spot) h = ends qs spot (second_holds (are_holes qs) (is_spot
     ends qs (at_keys c) g outer = drop_ends qs (at_keys c) c (open_paren ∷ word some_name ∷ comma ∷ literal zero_is ∷ close_paren ∷ word (codes "from") ∷ word some_name ∷ []) refl g outer
     ends qs (in_keys c ks) g outer =
         hole_ends qs (in_keys c ks) (of_drop c (ks ++ some_name ∷ []) zero_is) (word some_name ∷ comma ∷ literal zero_is ∷ close_paren ∷ word (codes "from") ∷ word some_name ∷ [])
-        (more_keys c ks) (both (is_free_name c) (are_free_names (ks ++ some_name ∷ [])) (first_holds (is_free_name c) (list_all is_free_name ks) g) (more_free ks (second_holds (is_free_name c) (list_all is_free_name ks) g))) outer
+        (more_keys c ks) (and_from (is_free_name c) (are_free_names (ks ++ some_name ∷ [])) (first_holds (is_free_name c) (list_all is_free_name ks) g) (more_free ks (second_holds (is_free_name c) (list_all is_free_name ks) g))) outer
     ends qs (at_fill c ks) g outer =
         hole_ends qs (at_fill c ks) (of_drop c ks zero_is) (literal zero_is ∷ close_paren ∷ word (codes "from") ∷ word some_name ∷ []) (simp append_assoc) g outer
     ends qs (at_keys_end c ks v) g outer =
@@ -270,10 +270,10 @@ exprs_end (exprs qs spot) h = ends qs spot (second_holds (are_holes qs) (is_spot
         hole_ends qs (at_drop_from c ks v) (of_drop c ks v) (word (codes "from") ∷ word some_name ∷ []) (simp append_assoc) g outer
     ends qs at_renamed g outer =
         hole_ends qs at_renamed (of_rename some_name some_name) (word some_name ∷ word (codes "to") ∷ word some_name ∷ word (codes "from") ∷ word some_name ∷ []) refl
-        (both (is_free_name some_name) (is_free_name some_name) some_name_free some_name_free) outer
+        (and_from (is_free_name some_name) (is_free_name some_name) some_name_free some_name_free) outer
     ends qs (at_to c) g outer =
-        hole_ends qs (at_to c) (of_rename c some_name) (word (codes "to") ∷ word some_name ∷ word (codes "from") ∷ word some_name ∷ []) refl (both (is_free_name c) (is_free_name some_name) g some_name_free) outer
+        hole_ends qs (at_to c) (of_rename c some_name) (word (codes "to") ∷ word some_name ∷ word (codes "from") ∷ word some_name ∷ []) refl (and_from (is_free_name c) (is_free_name some_name) g some_name_free) outer
     ends qs (at_new_name c) g outer =
-        hole_ends qs (at_new_name c) (of_rename c some_name) (word some_name ∷ word (codes "from") ∷ word some_name ∷ []) refl (both (is_free_name c) (is_free_name some_name) g some_name_free) outer
+        hole_ends qs (at_new_name c) (of_rename c some_name) (word some_name ∷ word (codes "from") ∷ word some_name ∷ []) refl (and_from (is_free_name c) (is_free_name some_name) g some_name_free) outer
     ends qs (at_rename_from c d) g outer = hole_ends qs (at_rename_from c d) (of_rename c d) (word (codes "from") ∷ word some_name ∷ []) refl g outer
     ends qs (in_where o s) g outer = where_ends qs o s (first_holds (is_operand o) (is_reading s) g) (second_holds (is_operand o) (is_reading s) g) outer

@@ -3,7 +3,7 @@ use Rattle.std.proofs.Common.{◌≡◌, ℕ, zero, suc, ◌+◌, ◌*◌, ◌^�
 use Rattle.std.specs.Prelude.{◌&&◌, ◌||◌, ◌==◌, nat_lt}
 use Rattle.std.specs.List.{list_any, list_all}
 use Rattle.std.proofs.lemmas.Bool.Decides.{nat_tests}
-use Rattle.lens_values.specs.Bytes.{is_name_byte}
+use Rattle.plain_values.specs.Bytes.{is_name_byte}
 use Rattle.lens_specs.specs.Names.{Name}
 use Rattle.grammar_specs.specs.Tokens.{is_free_name}
 use Rattle.grammar_laws.specs.Tests.{is_word}

@@ -4,7 +4,8 @@ use Rattle.std.specs.Prelude.{◌&&◌, ◌||◌, ◌==◌, not, nat_le, Some, N
 use Rattle.std.specs.List.{list_all, prefix_len}
 use Rattle.std.proofs.lemmas.List.Sums.{take_while-cons}
 use Rattle.std.proofs.lemmas.Bool.Decides.{nat_tests}
-use Rattle.lens_values.specs.Bytes.{is_name_byte, is_lower}
+use Rattle.std.proofs.Math.Bool.{and-true}
+use Rattle.plain_values.specs.Bytes.{is_name_byte, is_lower}
 use Rattle.grammar_specs.specs.Tokens.{word, is_digit}
 use Rattle.grammar_laws.specs.Front.{drop_while, word_of, word_at}
 
@@ -39,15 +40,11 @@ drop_front p x xs e = sym (drop_while_is p (x ∷ xs)) ∙ ap (λ b. cond b (dro
 pub lower_passes : (b : ℕ) → is_lower b ≡ true → is_name_byte b ≡ true
 lower_passes b e = ap (λ v. v || (nat_le 48 b && nat_le b 57)) e
 
-pub and_true : (a : Bool) → (a && true) ≡ a
-and_true true = refl
-and_true false = refl
-
 some_length : (n : ℕ) → (suc n == 0) ≡ false
 some_length n = grind (arith, nat_tests)
 
 joined : (a b c d : Bool) → a ≡ false → c ≡ true → d ≡ true → (not a && b && (c && d)) ≡ b
-joined a b c d ea ec ed = rw (ea, ec, ed) (and_true b)
+joined a b c d ea ec ed = rw (ea, ec, ed) (and-true b)
 
 pub word_is : (b : ℕ) (w : List ℕ) → is_lower b ≡ true → list_all is_name_byte w ≡ true → word_at (b ∷ w) ≡ word_of (b ∷ w)
 word_is b w e all =

@@ -1,9 +1,10 @@
 -- What is found in front of a text is the token that stands there.
 use Rattle.std.proofs.Common.{◌≡◌, ℕ, ◌<◌, ◌≤◌, true, List, [], ◌∷◌, ◌++◌, length, take, drop, refl, sym, ap, subst, ◌∙◌, arith, length-append, length-drop, inl, inr}
 use Rattle.std.specs.Prelude.{Some, None}
+use Rattle.std.proofs.lemmas.Option.{none-some}
 use Rattle.lens_specs.specs.Predicate.{eq, ne, lt, le, gt, ge}
-use Rattle.lens_values.specs.Bytes.{is_name}
-use Rattle.grammar_specs.specs.Tokens.{Token, word, integer, open_paren, close_paren, comma, arrow, operator, Spells, Ends}
+use Rattle.plain_values.specs.Bytes.{is_name}
+use Rattle.grammar_specs.specs.Tokens.{Token, word, integer, open_paren, close_paren, comma, arrow, operator, Spells}
 use Rattle.grammar_specs.specs.Tokens as tokens
 use Rattle.grammar_specs.specs.Texts.{NoToken}
 use Rattle.grammar_laws.specs.Front.{token_at, token_in_front, IsInFront}
@@ -45,13 +46,10 @@ take_front (x ∷ xs) ys = ap (λ t. x ∷ t) (take_front xs ys)
 
 -- ---- the token that stands there
 
-none_some : {A : Type 0} (a : A) → None ≡ Some a → ⊥
-none_some a e = cc
-
 pub no_token : (bytes : List ℕ) → None ≡ token_in_front bytes → NoToken bytes
 no_token bytes none t spelling rest shape spells ends =
     let found = token_front t spelling rest spells ends in
-    none_some (t, rest) (none ∙ ap token_in_front (shape ∙ ap (λ x. x ++ rest) found.2) ∙ found.3)
+    none-some (t, rest) (none ∙ ap token_in_front (shape ∙ ap (λ x. x ++ rest) found.2) ∙ found.3)
 
 pub stands_in : (b : ℕ) (more : List ℕ) (t : Token) (len : ℕ) → Some (t, drop len (b ∷ more)) ≡ token_at b more → len ≤ length (b ∷ more) → IsInFront t len (b ∷ more)
 stands_in b more t len found within =

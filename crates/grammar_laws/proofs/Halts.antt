@@ -1,13 +1,13 @@
 -- Where tokens stop to begin a definition, none of a text goes further.
 use Rattle.std.proofs.Common.{◌≡◌, inl, inr, ℕ, ◌+◌, List, [], ◌∷◌, ◌++◌, length, refl, sym, ap, subst, ◌∙◌, append_assoc, append-nil, arith, length-append}
-use Rattle.std.specs.Prelude.{Some, None}
+use Rattle.std.specs.Prelude.{Some}
 use Rattle.std.proofs.lemmas.List.{map-append}
+use Rattle.std.proofs.lemmas.Option.{none-some, same_Some}
 use Rattle.grammar_specs.specs.Tokens.{Token, is_blank}
 use Rattle.grammar_specs.specs.Texts.{Placed, tokens_in, AreBlank, Stand, NoToken, IsText, GoesWrong}
 use Rattle.grammar_specs.specs.Nesting.{is_too_deep}
 use Rattle.grammar_specs.specs.Faults.{Begins, BeginsTooDeep, IsStopped, Stops, IsNestingFault}
 use Rattle.grammar_laws.specs.Front.{drop_while, token_in_front}
-use Rattle.grammar_laws.proofs.Options.{same_inside}
 use Rattle.grammar_laws.proofs.WrittenDefs.{at_start}
 use Rattle.grammar_laws.proofs.DefLevels.{levels}
 use Rattle.grammar_laws.proofs.Depths.{too_deep_levels, levels_too_deep, deep_more}
@@ -22,9 +22,6 @@ pub record Halts (text : List ℕ) (front : Placed) (at : ℕ) : Type 0 where
   pub begins : Begins (tokens_in front)
   pub last : (t : Token) (rest : List ℕ) → token_in_front (drop_while is_blank left) ≡ Some (t, rest) → Begins (tokens_in front ++ t ∷ []) → ⊥
 
-none_some : {A : Type 0} (a : A) → None ≡ Some a → ⊥
-none_some a e = cc
-
 -- ---- every end halts
 
 halts_at_token : (text : List ℕ) (front : Placed) (at : ℕ) (token : Token) (left : List ℕ) → Stand 0 text (front ++ (at, token) ∷ []) left → IsStopped (tokens_in front) token → Halts text front at
@@ -36,7 +33,7 @@ halts_at_token text front at token left stand stopped =
       stand = parts.first;
       place = omega (arith, parts.place, next.place);
       begins = stopped.0;
-      last = λ t rest found begins. let same = same_inside (t, rest) (token, parts.second.2) (sym found ∙ next.token) in stopped.1 (subst (λ x. Begins (tokens_in front ++ x ∷ [])) (ap (λ x. x.0) same) begins);
+      last = λ t rest found begins. let same = same_Some (t, rest) (token, parts.second.2) (sym found ∙ next.token) in stopped.1 (subst (λ x. Begins (tokens_in front ++ x ∷ [])) (ap (λ x. x.0) same) begins);
     }
 
 -- where no token stands none is found
@@ -66,7 +63,7 @@ halts_at_end text front whole begins =
       stand = whole.1;
       place = omega (arith, ap length ahead);
       begins = begins;
-      last = λ t more found _. none_some (t, more) (ap token_in_front (sym ahead) ∙ found);
+      last = λ t more found _. none-some (t, more) (ap token_in_front (sym ahead) ∙ found);
     }
 
 pub stops_halts : (text : List ℕ) (front : Placed) (at : ℕ) → Stops text front at → Halts text front at

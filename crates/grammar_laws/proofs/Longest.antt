@@ -4,18 +4,21 @@ use Rattle.std.specs.Prelude.{◌&&◌, ◌==◌, not, ◌^◌, ℤ, pos, nat_le
 use Rattle.std.specs.List.{list_all}
 use Rattle.std.proofs.lemmas.Bool.Decides.{nat_tests}
 use Rattle.std.proofs.lemmas.List.Sums.{take_while-cons}
-use Rattle.lens_values.specs.Bytes.{is_lower, is_name, is_name_byte}
+use Rattle.plain_values.specs.Bytes.{is_lower, is_name, is_name_byte}
 use Rattle.lens_specs.specs.Predicate.{eq, ne, lt, le, gt, ge}
 use Rattle.grammar_specs.specs.Tokens.{Token, word, integer, open_paren, close_paren, comma, arrow, operator, is_digit, digits_value, minus, Spells, SpellsInteger, AreDigits, Ends, goes_on}
 use Rattle.grammar_specs.specs.Tokens.{is_quote, quotes_doubled}
 use Rattle.grammar_specs.specs.Tokens as tokens
-use Rattle.lens_values.specs.Bytes.{is_text}
+use Rattle.plain_values.specs.Bytes.{is_text}
 use Rattle.grammar_laws.specs.Front.{drop_while, word_of, positive_of, negative_of, sign_of, dash_of, plain_at, quoted_in, text_token, text_at, token_at}
 use Rattle.grammar_laws.proofs.Quotes.{Unquoted, quoted_found, quoted_again}
 use Rattle.std.proofs.Common.{append_assoc}
 use Rattle.std.specs.Prelude.{option_and_then}
+use Rattle.std.proofs.lemmas.Option.{none-some, same_Some, option_and_then_some}
+use Rattle.std.proofs.Math.Bool.{and-false}
+use Rattle.plain_values.proofs.Tests.{first_holds, second_holds}
 use Rattle.grammar_laws.proofs.FrontLists.{word_is, front_passes, not_digit}
-use Rattle.grammar_laws.proofs.Options.{same_inside, bind_then, map_then, cond_some, cond_then, first_holds, second_holds}
+use Rattle.grammar_laws.proofs.Options.{map_then, cond_some, cond_then}
 
 -- what stands in front: a token's bytes, which what follows does not lengthen
 pub record Stands (text : List ℕ) (f : Token × List ℕ) : Type 0 where
@@ -64,7 +67,7 @@ word_stands b rest f lower e =
     map_then (λ t. (t, drop_while is_name_byte rest)) (word_of w) f e (λ t e_t same.
     let name = cond_some (is_name w) (Some (word w)) t (word_is b (take_while is_name_byte rest) lower (front_passes is_name_byte rest) ∙ e_t) in
     let P : Token × List ℕ → Type 0 = λ x. Stands (b ∷ rest) x in
-    subst P (ap (λ x. (x, drop_while is_name_byte rest)) (same_inside (word w) t name.1) ∙ same) (record {
+    subst P (ap (λ x. (x, drop_while is_name_byte rest)) (same_Some (word w) t name.1) ∙ same) (record {
       bytes = w;
       shape = ap (λ x. b ∷ x) (parted is_name_byte rest);
       spells = (refl, name.0);
@@ -77,7 +80,7 @@ positive_stands b rest f digit e =
     map_then (λ t. (t, drop_while is_digit rest)) (positive_of ds) f e (λ t e_t same.
     let range = cond_some (nat_lt (digits_value 0 ds) (2 ^ 63)) (Some (integer (pos (digits_value 0 ds)))) t e_t in
     let P : Token × List ℕ → Type 0 = λ x. Stands (b ∷ rest) x in
-    subst P (ap (λ x. (x, drop_while is_digit rest)) (same_inside (integer (pos (digits_value 0 ds))) t range.1) ∙ same) (record {
+    subst P (ap (λ x. (x, drop_while is_digit rest)) (same_Some (integer (pos (digits_value 0 ds))) t range.1) ∙ same) (record {
       bytes = ds;
       shape = ap (λ x. b ∷ x) (parted is_digit rest);
       spells = inl (some_digits b (take_while is_digit rest) (rw (digit, front_passes is_digit rest) refl), refl, range.0);
@@ -88,7 +91,7 @@ negative_spells : (ds : List ℕ) (t : Token) → negative_of ds ≡ Some t → 
 negative_spells [] t e all = cc
 negative_spells (d ∷ ds) t e all =
     let range = cond_some (nat_le (digits_value 0 (d ∷ ds)) (2 ^ 63)) (Some (integer (minus (digits_value 0 (d ∷ ds))))) t e in
-    (minus (digits_value 0 (d ∷ ds)), sym (same_inside (integer (minus (digits_value 0 (d ∷ ds)))) t range.1), inr (d ∷ ds, refl, some_digits d ds all, refl, range.0))
+    (minus (digits_value 0 (d ∷ ds)), sym (same_Some (integer (minus (digits_value 0 (d ∷ ds)))) t range.1), inr (d ∷ ds, refl, some_digits d ds all, refl, range.0))
 
 negative_stands : (rest : List ℕ) (f : Token × List ℕ) → option_map (λ t. (t, drop_while is_digit rest)) (negative_of (take_while is_digit rest)) ≡ Some f → Stands (45 ∷ rest) f
 negative_stands rest f e =
@@ -105,7 +108,7 @@ negative_stands rest f e =
 arrow_stands : (c : ℕ) (rest : List ℕ) (f : Token × List ℕ) → (c == 62) ≡ true → Some (arrow, rest) ≡ Some f → Stands (45 ∷ c ∷ rest) f
 arrow_stands c rest f is e =
     let P : Token × List ℕ → Type 0 = λ x. Stands (45 ∷ c ∷ rest) x in
-    subst P (same_inside (arrow, rest) f e) (record { bytes = 45 ∷ 62 ∷ []; shape = ap (λ x. 45 ∷ x ∷ rest) (eqb-true c 62 is); spells = refl; ends = ends_never arrow (λ _. refl) rest })
+    subst P (same_Some (arrow, rest) f e) (record { bytes = 45 ∷ 62 ∷ []; shape = ap (λ x. 45 ∷ x ∷ rest) (eqb-true c 62 is); spells = refl; ends = ends_never arrow (λ _. refl) rest })
 
 dash_stands : (rest : List ℕ) (f : Token × List ℕ) → dash_of rest ≡ Some f → Stands (45 ∷ rest) f
 dash_stands [] f e = cc
@@ -114,21 +117,18 @@ dash_stands (c ∷ rest) f e = cond_then (c == 62) _ _ f e (λ is h. arrow_stand
 short_stands : (b k : ℕ) (rest : List ℕ) (t : Token) (f : Token × List ℕ) → (b == k) ≡ true → Some (t, rest) ≡ Some f → Spells t (k ∷ []) → Ends t rest → Stands (b ∷ rest) f
 short_stands b k rest t f is e spells ends =
     let P : Token × List ℕ → Type 0 = λ x. Stands (b ∷ rest) x in
-    subst P (same_inside (t, rest) f e) (record { bytes = k ∷ []; shape = ap (λ x. x ∷ rest) (eqb-true b k is); spells = spells; ends = ends })
+    subst P (same_Some (t, rest) f e) (record { bytes = k ∷ []; shape = ap (λ x. x ∷ rest) (eqb-true b k is); spells = spells; ends = ends })
 
 long_stands : (b c k : ℕ) (rest : List ℕ) (t : Token) (f : Token × List ℕ) → (c == 61 && b == k) ≡ true → Some (t, rest) ≡ Some f → Spells t (k ∷ 61 ∷ []) → Ends t rest → Stands (b ∷ c ∷ rest) f
 long_stands b c k rest t f is e spells ends =
     let P : Token × List ℕ → Type 0 = λ x. Stands (b ∷ c ∷ rest) x in
     let first = eqb-true b k (second_holds (c == 61) (b == k) is) in
     let second = eqb-true c 61 (first_holds (c == 61) (b == k) is) in
-    subst P (same_inside (t, rest) f e) (record { bytes = k ∷ 61 ∷ []; shape = λ i. first i ∷ second i ∷ rest; spells = spells; ends = ends })
+    subst P (same_Some (t, rest) f e) (record { bytes = k ∷ 61 ∷ []; shape = λ i. first i ∷ second i ∷ rest; spells = spells; ends = ends })
 
 not_longer : (a v : Bool) → (a && v) ≡ false → v ≡ true → a ≡ false
 not_longer true v e h = sym h ∙ e
 not_longer false v e h = refl
-
-nothing : {A : Type 0} (f : A) → None ≡ Some f → ⊥
-nothing f e = cc
 
 short_signs : (b : ℕ) (rest : List ℕ) (f : Token × List ℕ) → (b ≡ 60 → Ends (operator lt) rest) → (b ≡ 62 → Ends (operator gt) rest)
     → cond (b == 40) (Some (open_paren, rest)) (cond (b == 41) (Some (close_paren, rest)) (cond (b == 44) (Some (comma, rest)) (cond (b == 61) (Some (operator eq, rest))
@@ -140,7 +140,7 @@ short_signs b rest f lt_ends gt_ends e =
     cond_then (b == 61) _ _ f e (λ is h. short_stands b 61 rest (operator eq) f is h refl (ends_never (operator eq) (λ _. refl) rest)) (λ _ e.
     cond_then (b == 60) _ _ f e (λ is h. short_stands b 60 rest (operator lt) f is h refl (lt_ends (eqb-true b 60 is))) (λ _ e.
     cond_then (b == 62) _ _ f e (λ is h. short_stands b 62 rest (operator gt) f is h refl (gt_ends (eqb-true b 62 is))) (λ _ e.
-    absurd (nothing f e)))))))
+    absurd (none-some f e)))))))
 
 eq_true : (b k : ℕ) → b ≡ k → (b == k) ≡ true
 eq_true b k e = grind (arith, nat_tests)
@@ -226,10 +226,6 @@ integer_front z [] rest (inl h) ends = absurd (h.0.0 refl)
 integer_front z (b ∷ ds) rest (inl h) ends = (b, ds, refl, positive_front b ds rest z h.0.1 h.1 h.2 (integer_stops z rest ends))
 integer_front z bytes rest (inr h) ends = (45, h.0, h.1, minus_front z h.0 rest h.2 h.3 h.4 (integer_stops z rest ends))
 
-pub and_false : (a : Bool) → (a && false) ≡ false
-and_false true = refl
-and_false false = refl
-
 short_front : (k : ℕ) (t : Token) → ((rest : List ℕ) → Ends t rest → plain_at k rest ≡ Some (t, rest)) → (bytes rest : List ℕ) → bytes ≡ k ∷ [] → Ends t rest → Front t bytes rest
 short_front k t found bytes rest e ends = (k, [], e, found rest ends)
 
@@ -238,19 +234,19 @@ long_front k t found bytes rest e = (k, 61 ∷ [], e, found rest)
 
 open_found : (rest : List ℕ) → plain_at 40 rest ≡ Some (open_paren, rest)
 open_found [] = refl
-open_found (c ∷ rest) = rw (and_false (c == 61)) refl
+open_found (c ∷ rest) = rw (and-false (c == 61)) refl
 
 close_found : (rest : List ℕ) → plain_at 41 rest ≡ Some (close_paren, rest)
 close_found [] = refl
-close_found (c ∷ rest) = rw (and_false (c == 61)) refl
+close_found (c ∷ rest) = rw (and-false (c == 61)) refl
 
 comma_found : (rest : List ℕ) → plain_at 44 rest ≡ Some (comma, rest)
 comma_found [] = refl
-comma_found (c ∷ rest) = rw (and_false (c == 61)) refl
+comma_found (c ∷ rest) = rw (and-false (c == 61)) refl
 
 eq_found : (rest : List ℕ) → plain_at 61 rest ≡ Some (operator eq, rest)
 eq_found [] = refl
-eq_found (c ∷ rest) = rw (and_false (c == 61)) refl
+eq_found (c ∷ rest) = rw (and-false (c == 61)) refl
 
 lt_found : (rest : List ℕ) → Ends (operator lt) rest → plain_at 60 rest ≡ Some (operator lt, rest)
 lt_found [] h = refl
@@ -263,7 +259,7 @@ gt_found (c ∷ rest) h = rw h refl
 -- ---- texts
 
 text_spells : (value rest : List ℕ) (t : Token) → text_token value ≡ Some t → Unquoted rest → (t ≡ tokens.text value) × (is_text value ≡ true)
-text_spells value rest t e end = let is = cond_some (is_text value) (Some (tokens.text value)) t e in (sym (same_inside (tokens.text value) t is.1), is.0)
+text_spells value rest t e end = let is = cond_some (is_text value) (Some (tokens.text value)) t e in (sym (same_Some (tokens.text value) t is.1), is.0)
 
 ends_text : (value rest : List ℕ) → Unquoted rest → Ends (tokens.text value) rest
 ends_text value [] h = tt
@@ -271,7 +267,7 @@ ends_text value (b ∷ rest) h = h
 
 text_stands : (b : ℕ) (rest : List ℕ) (f : Token × List ℕ) → b ≡ 39 → text_at rest ≡ Some f → Stands (b ∷ rest) f
 text_stands b rest f is e =
-    bind_then (λ q. option_map (λ t. (t, q.1)) (text_token q.0)) (quoted_in rest) f e (λ q found h.
+    option_and_then_some (λ q. option_map (λ t. (t, q.1)) (text_token q.0)) (quoted_in rest) f e (λ q found h.
     map_then (λ t. (t, q.1)) (text_token q.0) f h (λ t e_t same.
     let quotes = quoted_found rest q found in
     let made = text_spells q.0 q.1 t e_t quotes.ends in
@@ -306,10 +302,7 @@ text_found value bytes rest is good end = (
 
 no_quote_found : (rest : List ℕ) → plain_at 39 rest ≡ None
 no_quote_found [] = refl
-no_quote_found (c ∷ rest) = rw (and_false (c == 61)) refl
-
-none_some : {A : Type 0} (a : A) → None ≡ Some a → ⊥
-none_some a e = cc
+no_quote_found (c ∷ rest) = rw (and-false (c == 61)) refl
 
 from_plain : (t : Token) (bytes rest : List ℕ) → Front t bytes rest → Found t bytes rest
 from_plain t bytes rest f = (
@@ -317,7 +310,7 @@ from_plain t bytes rest f = (
   f.1,
   f.2,
   elim (is_quote f.0) as (λ v. is_quote f.0 ≡ v → cond v (text_at (f.1 ++ rest)) (plain_at f.0 (f.1 ++ rest)) ≡ Some (t, rest)) [
-    | true ↦ λ is. absurd (none_some (t, rest) (sym (ap (λ x. plain_at x (f.1 ++ rest)) (eqb-true f.0 39 is) ∙ no_quote_found (f.1 ++ rest)) ∙ f.3))
+    | true ↦ λ is. absurd (none-some (t, rest) (sym (ap (λ x. plain_at x (f.1 ++ rest)) (eqb-true f.0 39 is) ∙ no_quote_found (f.1 ++ rest)) ∙ f.3))
     | false ↦ λ _. f.3
   ] refl,
 )

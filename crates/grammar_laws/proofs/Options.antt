@@ -1,9 +1,7 @@
 -- What an option that is there was made of.
-use Rattle.std.proofs.Common.{◌≡◌, refl, ap, Bool, true, false, cond}
-use Rattle.std.specs.Prelude.{Option, Some, None, option_map, option_and_then, unwrap_or, ◌&&◌}
-
-pub same_inside : {A : Type 0} (a b : A) → Some a ≡ Some b → a ≡ b
-same_inside a b e = ap (λ o. unwrap_or o a) e
+use Rattle.std.proofs.Common.{◌≡◌, refl, Bool, true, false, cond}
+use Rattle.std.specs.Prelude.{Option, Some, None, option_map, option_and_then, ◌&&◌}
+use Rattle.std.proofs.lemmas.Option.{same_Some}
 
 pub bind_some : {A B : Type 0} (f : A → Option B) (o : Option A) (b : B) → option_and_then f o ≡ Some b → (a : A) × (o ≡ Some a) × (f a ≡ Some b)
 bind_some f None b e = cc
@@ -11,7 +9,7 @@ bind_some f (Some a) b e = (a, refl, e)
 
 pub map_some : {A B : Type 0} (f : A → B) (o : Option A) (b : B) → option_map f o ≡ Some b → (a : A) × (o ≡ Some a) × (f a ≡ b)
 map_some f None b e = cc
-map_some f (Some a) b e = (a, refl, same_inside (f a) b e)
+map_some f (Some a) b e = (a, refl, same_Some (f a) b e)
 
 pub cond_some : {A : Type 0} (v : Bool) (o : Option A) (a : A) → cond v o None ≡ Some a → (v ≡ true) × (o ≡ Some a)
 cond_some true o a e = (refl, e)
@@ -21,22 +19,9 @@ pub cond_none : {A : Type 0} (v : Bool) (o : Option A) (a : A) → cond v None o
 cond_none true o a e = cc
 cond_none false o a e = (refl, e)
 
-pub first_holds : (a b : Bool) → (a && b) ≡ true → a ≡ true
-first_holds true b h = refl
-first_holds false b h = cc
-
-pub second_holds : (a b : Bool) → (a && b) ≡ true → b ≡ true
-second_holds true b h = h
-second_holds false b h = cc
-
--- the same, handed on
-pub bind_then : {A B : Type 0} {P : Type 0} (f : A → Option B) (o : Option A) (b : B) → option_and_then f o ≡ Some b → ((a : A) → o ≡ Some a → f a ≡ Some b → P) → P
-bind_then f None b e k = cc
-bind_then f (Some a) b e k = k a refl e
-
 pub map_then : {A B : Type 0} {P : Type 0} (f : A → B) (o : Option A) (b : B) → option_map f o ≡ Some b → ((a : A) → o ≡ Some a → f a ≡ b → P) → P
 map_then f None b e k = cc
-map_then f (Some a) b e k = k a refl (same_inside (f a) b e)
+map_then f (Some a) b e k = k a refl (same_Some (f a) b e)
 
 pub cond_then : {A : Type 0} {P : Type 0} (v : Bool) (x y : Option A) (a : A) → cond v x y ≡ Some a → (v ≡ true → x ≡ Some a → P) → (v ≡ false → y ≡ Some a → P) → P
 cond_then true x y a e f g = f refl e

@@ -2,15 +2,14 @@
 use Rattle.std.proofs.Common.{◌≡◌, ℕ, suc, ◌+◌, true, List, [], ◌∷◌, ◌++◌, refl, sym, ap, ◌∙◌, arith}
 use Rattle.std.specs.Prelude.{max, not, codes, Option, Some, None, option_and_then, flat_map}
 use Rattle.std.specs.List.{list_all}
-use Rattle.lens_values.specs.Value.{is_null}
-use Rattle.lens_values.specs.declared.value.Value.{Value}
-use Rattle.lens_values.specs.declared.value.Value.TheVariants.{Flag}
-use Rattle.lens_specs.specs.Predicate.{Op}
-use Rattle.lens_specs.specs.Names.{Name}
+use Rattle.plain_values.specs.Value.{is_null}
+use Rattle.plain_values.specs.declared.value.Value.{Value}
+use Rattle.plain_values.specs.declared.value.Value.TheVariants.{Flag}
+use Rattle.plain_values.proofs.Tests.{first_holds, second_holds}
+use Rattle.lens_specs.specs.Common.{Op, Name}
 use Rattle.grammar_specs.specs.Tokens.{Token, word, open_paren, close_paren, comma, operator, is_free_name}
 use Rattle.grammar_specs.specs.Written.{Part, literally, compares, compares_columns, is_in, tests_null, negated, grouped, All, only, joined, Pred, alone, either, literal, literals, part_tokens, all_tokens, pred_tokens, are_constants, is_part, is_all, is_pred}
 use Rattle.grammar_specs.specs.Nesting.{at_each, part_nesting, all_nesting, pred_nesting}
-use Rattle.grammar_laws.proofs.Options.{first_holds, second_holds}
 use Rattle.grammar_laws.proofs.TokenTests.{free_in}
 use Rattle.grammar_laws.proofs.WrittenPreds.{Open, fresh, at_part, compared, against, in_open, in_value, in_next, at_null, Reading, inside, behind, whole, add, with_not, step}
 use Rattle.grammar_laws.proofs.PredReads.{run, value_step, flag_step, op_step, name_step, pred_read, all_read, ors_of, last_of}

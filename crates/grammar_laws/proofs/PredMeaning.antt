@@ -1,8 +1,7 @@
 -- Reading a predicate by its meaning is reading it as it is written.
 use Rattle.std.proofs.Common.{◌≡◌, ℕ, zero, suc, Bool, true, false, cond, List, [], ◌∷◌, ◌++◌, map, refl, sym, ap, ◌∙◌}
 use Rattle.std.specs.Prelude.{codes, Option, Some, None, option_map}
-use Rattle.lens_specs.specs.Names.{Name}
-use Rattle.lens_specs.specs.Predicate.{Op, Formula}
+use Rattle.lens_specs.specs.Common.{Name, Op, Formula}
 use Rattle.grammar_specs.specs.Tokens.{Token}
 use Rattle.grammar_specs.specs.Written.{Part, literally, compares, compares_columns, is_in, tests_null, negated, grouped, All, Pred}
 use Rattle.grammar_specs.specs.Meaning.{part_meaning, all_conjuncts, pred_disjuncts, pred_meaning, conjuncts, disjunction}

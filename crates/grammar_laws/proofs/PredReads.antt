@@ -2,17 +2,17 @@
 use Rattle.std.proofs.Common.{◌≡◌, Bool, true, false, List, [], ◌∷◌, ◌++◌, refl, sym, ap, subst, ◌∙◌, append_assoc, append-nil}
 use Rattle.std.specs.Prelude.{◌&&◌, not, codes, Option, Some, None, option_and_then, flat_map}
 use Rattle.std.specs.List.{list_all}
-use Rattle.lens_values.specs.Value.{is_null}
-use Rattle.lens_values.specs.declared.value.Value.{Value}
-use Rattle.lens_values.specs.declared.value.Value.TheVariants.{Null, Int, Text, Flag}
-use Rattle.lens_specs.specs.Names.{Name}
-use Rattle.lens_specs.specs.Predicate.{Op, eq}
+use Rattle.std.proofs.lemmas.Bool.{and_from}
+use Rattle.plain_values.specs.Value.{is_null}
+use Rattle.plain_values.specs.declared.value.Value.{Value}
+use Rattle.plain_values.specs.declared.value.Value.TheVariants.{Null, Int, Text, Flag}
+use Rattle.plain_values.proofs.Tests.{first_holds, second_holds}
+use Rattle.lens_specs.specs.Common.{Name, Op, eq}
 use Rattle.grammar_specs.specs.Tokens.{Token, word, open_paren, close_paren, comma, operator, is_free_name}
 use Rattle.grammar_specs.specs.Written.{Part, literally, compares, compares_columns, is_in, tests_null, negated, grouped, All, only, joined, Pred, alone, either, literal, literals, part_tokens, all_tokens, pred_tokens, is_some_list, are_constants, is_part, is_all, is_pred}
-use Rattle.grammar_laws.proofs.Options.{first_holds, second_holds}
 use Rattle.grammar_laws.proofs.TokenTests.{free_in}
 use Rattle.grammar_laws.proofs.WrittenPreds.{Open, fresh, Place, at_part, compared, against, in_open, in_value, in_next, at_null, Reading, inside, behind, with_nots, join, whole, add, with_not, step, open_before, outer_before, literals_before, place_before, before, is_open_pred, are_open, is_place, is_reading, add_before}
-use Rattle.grammar_laws.proofs.PredSteps.{both, add_good, constants_more, behind_tokens}
+use Rattle.grammar_laws.proofs.PredSteps.{add_good, constants_more, behind_tokens}
 
 -- the tokens, one after another
 abbrev pub run : Reading → List Token → Option Reading
@@ -171,14 +171,14 @@ some_end (u ∷ vs) v = refl
 place_ends : (qs : List Open) (o : Open) (place : Place) → is_place place ≡ true → are_open qs ≡ true → is_open_pred o ≡ true → Opens (before (inside qs o place))
 unfolding yes
 place_ends qs o at_part h outer here = part_ends qs o at_part (literally true) (literal (Flag true) ∷ []) refl refl outer here
-place_ends qs o (compared c) h outer here = part_ends qs o (compared c) (compares c eq yes) (operator eq ∷ literal yes ∷ []) refl (both (is_free_name c) true h refl) outer here
-place_ends qs o (against c op) h outer here = part_ends qs o (against c op) (compares c op yes) (literal yes ∷ []) refl (both (is_free_name c) true h refl) outer here
-place_ends qs o (in_open c) h outer here = part_ends qs o (in_open c) (is_in c (yes ∷ [])) (open_paren ∷ literal yes ∷ close_paren ∷ []) refl (both (is_free_name c) true h refl) outer here
+place_ends qs o (compared c) h outer here = part_ends qs o (compared c) (compares c eq yes) (operator eq ∷ literal yes ∷ []) refl (and_from (is_free_name c) true h refl) outer here
+place_ends qs o (against c op) h outer here = part_ends qs o (against c op) (compares c op yes) (literal yes ∷ []) refl (and_from (is_free_name c) true h refl) outer here
+place_ends qs o (in_open c) h outer here = part_ends qs o (in_open c) (is_in c (yes ∷ [])) (open_paren ∷ literal yes ∷ close_paren ∷ []) refl (and_from (is_free_name c) true h refl) outer here
 place_ends qs o (in_value c vs) h outer here =
     part_ends qs o (in_value c vs) (is_in c (vs ++ yes ∷ [])) (literal yes ∷ close_paren ∷ [])
     (ap (λ x. word c ∷ word (codes "in") ∷ open_paren ∷ x) (more_values vs))
-    (both (is_free_name c) (are_constants (vs ++ yes ∷ [])) (first_holds (is_free_name c) (list_all (λ v. not (is_null v)) vs) h)
-    (both (is_some_list (vs ++ yes ∷ [])) (list_all (λ v. not (is_null v)) (vs ++ yes ∷ [])) (some_end vs yes) (constants_more vs yes (second_holds (is_free_name c) (list_all (λ v. not (is_null v)) vs) h) refl))) outer here
+    (and_from (is_free_name c) (are_constants (vs ++ yes ∷ [])) (first_holds (is_free_name c) (list_all (λ v. not (is_null v)) vs) h)
+    (and_from (is_some_list (vs ++ yes ∷ [])) (list_all (λ v. not (is_null v)) (vs ++ yes ∷ [])) (some_end vs yes) (constants_more vs yes (second_holds (is_free_name c) (list_all (λ v. not (is_null v)) vs) h) refl))) outer here
 place_ends qs o (in_next c vs) h outer here = part_ends qs o (in_next c vs) (is_in c vs) (close_paren ∷ []) refl h outer here
 place_ends qs o (at_null c) h outer here = part_ends qs o (at_null c) (tests_null c) (word (codes "null") ∷ []) refl h outer here
 

@@ -1,24 +1,20 @@
 -- What a step of reading a predicate does to the tokens that were read.
-use Rattle.std.proofs.Common.{◌≡◌, ℕ, zero, suc, Bool, true, cond, List, [], ◌∷◌, ◌++◌, refl, sym, ap, subst, ◌∙◌, append_assoc, append-nil}
+use Rattle.std.proofs.Common.{◌≡◌, ℕ, zero, suc, true, cond, List, [], ◌∷◌, ◌++◌, refl, sym, ap, subst, ◌∙◌, append_assoc, append-nil}
 use Rattle.std.specs.Prelude.{◌&&◌, not, codes, Option, Some, None, flat_map}
 use Rattle.std.specs.List.{list_all}
-use Rattle.lens_values.specs.Value.{is_null}
-use Rattle.lens_values.specs.declared.value.Value.{Value}
-use Rattle.lens_specs.specs.Names.{Name}
-use Rattle.lens_specs.specs.Predicate.{Op}
+use Rattle.std.proofs.lemmas.Option.{same_Some}
+use Rattle.std.proofs.lemmas.Grind.{flat_map-append}
+use Rattle.std.proofs.lemmas.Bool.{and_from}
+use Rattle.plain_values.specs.Value.{is_null}
+use Rattle.plain_values.specs.declared.value.Value.{Value}
+use Rattle.plain_values.proofs.Tests.{first_holds, second_holds}
+use Rattle.lens_specs.specs.Common.{Name, Op}
 use Rattle.grammar_specs.specs.Tokens.{Token, word, open_paren, close_paren, comma, operator, is_free_name}
 use Rattle.grammar_specs.specs.Written.{Part, literally, compares, compares_columns, is_in, tests_null, grouped, All, Pred, literal, literals, part_tokens, pred_tokens, is_some_list, are_constants, is_part, is_all, is_pred}
 use Rattle.grammar_laws.specs.Tests.{is_keyword, name_in, op_in, flag_in, literal_in, is_open, is_close, is_comma}
-use Rattle.grammar_laws.proofs.Options.{cond_then, cond_some, opt_then, same_inside, first_holds, second_holds}
+use Rattle.grammar_laws.proofs.Options.{cond_then, cond_some, opt_then}
 use Rattle.grammar_laws.proofs.TokenTests.{is_proper, keyword_is, name_is, name_free, op_is, flag_is, literal_is, literal_constant, open_is, close_is, comma_is}
 use Rattle.grammar_laws.proofs.WrittenPreds.{Open, fresh, Place, at_part, compared, against, in_open, in_value, in_next, at_null, Reading, inside, behind, with_nots, join, whole, add, with_not, close, begin_part, behind_name, behind_op, step_behind, step, nots_before, ors_before, ands_before, open_before, outer_before, literals_before, place_before, before, is_open_pred, are_open, is_place, is_reading, add_before, with_nots_part, whole_tokens}
-
-pub flat_map-append : {X A : Type 0} (f : X → List A) (xs ys : List X) → flat_map f (xs ++ ys) ≡ flat_map f xs ++ flat_map f ys
-flat_map-append f [] ys = refl
-flat_map-append f (x ∷ xs) ys = ap (λ l. f x ++ l) (flat_map-append f xs ys) ∙ sym (append_assoc (f x) (flat_map f xs) (flat_map f ys))
-
-pub both : (a b : Bool) → a ≡ true → b ≡ true → (a && b) ≡ true
-both a b e f = rw (e, f) refl
 
 -- ---- names stay free
 
@@ -30,7 +26,7 @@ one_more_good (Some o) None p h e = rw (first_holds (is_pred o) true h, e) refl
 one_more_good (Some o) (Some a) p h e = rw (first_holds (is_pred o) (is_all a) h, second_holds (is_pred o) (is_all a) h, e) refl
 
 pub add_good : (qs : List Open) (o : Open) (p : Part) → are_open qs ≡ true → is_open_pred o ≡ true → is_part p ≡ true → is_reading (add qs o p) ≡ true
-add_good qs o p outer here part = both (are_open qs) _ outer (one_more_good o.ors o.ands (with_nots o.nots p) here (with_nots_part o.nots p ∙ part))
+add_good qs o p outer here part = and_from (are_open qs) _ outer (one_more_good o.ors o.ands (with_nots o.nots p) here (with_nots_part o.nots p ∙ part))
 
 -- ---- one step
 
@@ -56,7 +52,7 @@ moved qs o place next t e keeps = record {
       ap (λ x. outer_before qs ++ (open_before o ++ x)) e
       ∙ ap (λ x. outer_before qs ++ x) (sym (append_assoc (open_before o) (place_before place) (t ∷ [])))
       ∙ sym (append_assoc (outer_before qs) (open_before o ++ place_before place) (t ∷ []));
-  good = λ h p. both (are_open qs && is_open_pred o) (is_place next) (both (are_open qs) (is_open_pred o) (outer_of qs o place h) (here_of qs o place h)) (keeps (place_of qs o place h) p);
+  good = λ h p. and_from (are_open qs && is_open_pred o) (is_place next) (and_from (are_open qs) (is_open_pred o) (outer_of qs o place h) (here_of qs o place h)) (keeps (place_of qs o place h) p);
 }
 
 -- the part ends
@@ -95,47 +91,47 @@ begin_follows : (qs : List Open) (o : Open) (t : Token) (r : Reading) → begin_
 begin_follows qs o t r e =
     let P : Reading → Type 0 = λ x. Follows (inside qs o at_part) t x in
     opt_then (name_in t) (λ c. Some (inside qs o (compared c))) _ r e (λ c name h.
-    subst P (same_inside _ r h) (moved qs o at_part (compared c) t (ap (λ x. x ∷ []) (sym (name_is t c name))) (λ _ p. name_free t c p name))) (λ e.
+    subst P (same_Some _ r h) (moved qs o at_part (compared c) t (ap (λ x. x ∷ []) (sym (name_is t c name))) (λ _ p. name_free t c p name))) (λ e.
     opt_then (flag_in t) (λ b. Some (add qs o (literally b))) _ r e (λ b flag h.
-    subst P (same_inside _ r h) (ended qs o at_part (literally b) t (ap (λ x. x ∷ []) (sym (flag_is t b flag))) (λ _ _. refl))) (λ e.
+    subst P (same_Some _ r h) (ended qs o at_part (literally b) t (ap (λ x. x ∷ []) (sym (flag_is t b flag))) (λ _ _. refl))) (λ e.
     cond_then (is_keyword (codes "not") t) (Some (inside qs (with_not o) at_part)) (cond (is_open t) (Some (inside (o ∷ qs) fresh at_part)) None) r e
     (λ is h. let Q : Token → Type 0 = λ x. Follows (inside qs o at_part) x r in
     let R : Reading → Type 0 = λ x. Follows (inside qs o at_part) (word (codes "not")) x in
-    subst Q (sym (keyword_is (codes "not") t is)) (subst R (same_inside _ r h) (not_follows qs o)))
+    subst Q (sym (keyword_is (codes "not") t is)) (subst R (same_Some _ r h) (not_follows qs o)))
     (λ _ e. let is = cond_some (is_open t) (Some (inside (o ∷ qs) fresh at_part)) r e in
     let Q : Token → Type 0 = λ x. Follows (inside qs o at_part) x r in
     let R : Reading → Type 0 = λ x. Follows (inside qs o at_part) open_paren x in
-    subst Q (sym (open_is t is.0)) (subst R (same_inside _ r is.1) (open_follows qs o)))))
+    subst Q (sym (open_is t is.0)) (subst R (same_Some _ r is.1) (open_follows qs o)))))
 
 name_follows : (qs : List Open) (o : Open) (c : Name) (t : Token) (r : Reading) → behind_name qs o c t ≡ Some r → Follows (inside qs o (compared c)) t r
 name_follows qs o c t r e =
     let P : Reading → Type 0 = λ x. Follows (inside qs o (compared c)) t x in
     opt_then (op_in t) (λ op. Some (inside qs o (against c op))) _ r e (λ op is h.
-    subst P (same_inside _ r h) (moved qs o (compared c) (against c op) t (ap (λ x. word c ∷ x ∷ []) (sym (op_is t op is))) (λ free _. free))) (λ e.
+    subst P (same_Some _ r h) (moved qs o (compared c) (against c op) t (ap (λ x. word c ∷ x ∷ []) (sym (op_is t op is))) (λ free _. free))) (λ e.
     cond_then (is_keyword (codes "in") t) (Some (inside qs o (in_open c))) (cond (is_keyword (codes "is") t) (Some (inside qs o (at_null c))) None) r e
-    (λ is h. subst P (same_inside _ r h) (moved qs o (compared c) (in_open c) t (ap (λ x. word c ∷ x ∷ []) (sym (keyword_is (codes "in") t is))) (λ free _. free)))
+    (λ is h. subst P (same_Some _ r h) (moved qs o (compared c) (in_open c) t (ap (λ x. word c ∷ x ∷ []) (sym (keyword_is (codes "in") t is))) (λ free _. free)))
     (λ _ e. let is = cond_some (is_keyword (codes "is") t) (Some (inside qs o (at_null c))) r e in
-    subst P (same_inside _ r is.1) (moved qs o (compared c) (at_null c) t (ap (λ x. word c ∷ x ∷ []) (sym (keyword_is (codes "is") t is.0))) (λ free _. free))))
+    subst P (same_Some _ r is.1) (moved qs o (compared c) (at_null c) t (ap (λ x. word c ∷ x ∷ []) (sym (keyword_is (codes "is") t is.0))) (λ free _. free))))
 
 null_follows : (qs : List Open) (o : Open) (c : Name) (t : Token) (r : Reading) → cond (is_keyword (codes "null") t) (Some (add qs o (tests_null c))) None ≡ Some r → Follows (inside qs o (at_null c)) t r
 null_follows qs o c t r e =
     let P : Reading → Type 0 = λ x. Follows (inside qs o (at_null c)) t x in
     let is = cond_some (is_keyword (codes "null") t) (Some (add qs o (tests_null c))) r e in
-    subst P (same_inside _ r is.1) (ended qs o (at_null c) (tests_null c) t (ap (λ x. word c ∷ word (codes "is") ∷ x ∷ []) (sym (keyword_is (codes "null") t is.0))) (λ free _. free))
+    subst P (same_Some _ r is.1) (ended qs o (at_null c) (tests_null c) t (ap (λ x. word c ∷ word (codes "is") ∷ x ∷ []) (sym (keyword_is (codes "null") t is.0))) (λ free _. free))
 
 op_follows : (qs : List Open) (o : Open) (c : Name) (op : Op) (t : Token) (r : Reading) → behind_op qs o c op t ≡ Some r → Follows (inside qs o (against c op)) t r
 op_follows qs o c op t r e =
     let P : Reading → Type 0 = λ x. Follows (inside qs o (against c op)) t x in
     opt_then (name_in t) (λ d. Some (add qs o (compares_columns c op d))) _ r e (λ d name h.
-    subst P (same_inside _ r h) (ended qs o (against c op) (compares_columns c op d) t (ap (λ x. word c ∷ operator op ∷ x ∷ []) (sym (name_is t d name))) (λ free p. both (is_free_name c) (is_free_name d) free (name_free t d p name)))) (λ e.
+    subst P (same_Some _ r h) (ended qs o (against c op) (compares_columns c op d) t (ap (λ x. word c ∷ operator op ∷ x ∷ []) (sym (name_is t d name))) (λ free p. and_from (is_free_name c) (is_free_name d) free (name_free t d p name)))) (λ e.
     opt_then (literal_in t) (λ v. Some (add qs o (compares c op v))) None r e (λ v is h.
-    subst P (same_inside _ r h) (ended qs o (against c op) (compares c op v) t (ap (λ x. word c ∷ operator op ∷ x ∷ []) (sym (literal_is t v is))) (λ free _. both (is_free_name c) (not (is_null v)) free (literal_constant t v is)))) (λ e. cc))
+    subst P (same_Some _ r h) (ended qs o (against c op) (compares c op v) t (ap (λ x. word c ∷ operator op ∷ x ∷ []) (sym (literal_is t v is))) (λ free _. and_from (is_free_name c) (not (is_null v)) free (literal_constant t v is)))) (λ e. cc))
 
 open_values : (qs : List Open) (o : Open) (c : Name) (t : Token) (r : Reading) → cond (is_open t) (Some (inside qs o (in_value c []))) None ≡ Some r → Follows (inside qs o (in_open c)) t r
 open_values qs o c t r e =
     let P : Reading → Type 0 = λ x. Follows (inside qs o (in_open c)) t x in
     let is = cond_some (is_open t) (Some (inside qs o (in_value c []))) r e in
-    subst P (same_inside _ r is.1) (moved qs o (in_open c) (in_value c []) t (ap (λ x. word c ∷ word (codes "in") ∷ x ∷ []) (sym (open_is t is.0))) (λ free _. both (is_free_name c) true free refl))
+    subst P (same_Some _ r is.1) (moved qs o (in_open c) (in_value c []) t (ap (λ x. word c ∷ word (codes "in") ∷ x ∷ []) (sym (open_is t is.0))) (λ free _. and_from (is_free_name c) true free refl))
 
 literals_more : (vs : List Value) (v : Value) → literals (vs ++ v ∷ []) ≡ literals_before vs ++ literal v ∷ []
 literals_more [] v = refl
@@ -145,7 +141,7 @@ literals_more (u ∷ vs) v =
 pub constants_more : (vs : List Value) (v : Value) → list_all (λ v. not (is_null v)) vs ≡ true → not (is_null v) ≡ true → list_all (λ v. not (is_null v)) (vs ++ v ∷ []) ≡ true
 constants_more [] v h f = rw f refl
 constants_more (u ∷ vs) v h f =
-    both (not (is_null u)) (list_all (λ v. not (is_null v)) (vs ++ v ∷ [])) (first_holds (not (is_null u)) (list_all (λ v. not (is_null v)) vs) h)
+    and_from (not (is_null u)) (list_all (λ v. not (is_null v)) (vs ++ v ∷ [])) (first_holds (not (is_null u)) (list_all (λ v. not (is_null v)) vs) h)
     (constants_more vs v (second_holds (not (is_null u)) (list_all (λ v. not (is_null v)) vs) h) f)
 
 some_more : (vs : List Value) (v : Value) → is_some_list (vs ++ v ∷ []) ≡ true
@@ -156,10 +152,10 @@ value_follows : (qs : List Open) (o : Open) (c : Name) (vs : List Value) (t : To
 value_follows qs o c vs t r e =
     let P : Reading → Type 0 = λ x. Follows (inside qs o (in_value c vs)) t x in
     opt_then (literal_in t) (λ v. Some (inside qs o (in_next c (vs ++ v ∷ [])))) None r e (λ v is h.
-    subst P (same_inside _ r h) (moved qs o (in_value c vs) (in_next c (vs ++ v ∷ [])) t
+    subst P (same_Some _ r h) (moved qs o (in_value c vs) (in_next c (vs ++ v ∷ [])) t
     (ap (λ x. word c ∷ word (codes "in") ∷ open_paren ∷ x) (literals_more vs v ∙ ap (λ x. literals_before vs ++ x ∷ []) (sym (literal_is t v is))))
-    (λ good _. both (is_free_name c) (are_constants (vs ++ v ∷ [])) (first_holds (is_free_name c) (list_all (λ v. not (is_null v)) vs) good)
-    (both (is_some_list (vs ++ v ∷ [])) (list_all (λ v. not (is_null v)) (vs ++ v ∷ [])) (some_more vs v)
+    (λ good _. and_from (is_free_name c) (are_constants (vs ++ v ∷ [])) (first_holds (is_free_name c) (list_all (λ v. not (is_null v)) vs) good)
+    (and_from (is_some_list (vs ++ v ∷ [])) (list_all (λ v. not (is_null v)) (vs ++ v ∷ [])) (some_more vs v)
     (constants_more vs v (second_holds (is_free_name c) (list_all (λ v. not (is_null v)) vs) good) (literal_constant t v is)))))) (λ e. cc)
 
 before_comma : (vs : List Value) → is_some_list vs ≡ true → literals_before vs ≡ literals vs ++ comma ∷ []
@@ -171,12 +167,12 @@ next_follows : (qs : List Open) (o : Open) (c : Name) (vs : List Value) (t : Tok
 next_follows qs o c vs t r e some =
     let P : Reading → Type 0 = λ x. Follows (inside qs o (in_next c vs)) t x in
     cond_then (is_comma t) (Some (inside qs o (in_value c vs))) (cond (is_close t) (Some (add qs o (is_in c vs))) None) r e
-    (λ is h. subst P (same_inside _ r h) (moved qs o (in_next c vs) (in_value c vs) t
+    (λ is h. subst P (same_Some _ r h) (moved qs o (in_next c vs) (in_value c vs) t
     (ap (λ x. word c ∷ word (codes "in") ∷ open_paren ∷ x) (before_comma vs some ∙ ap (λ x. literals vs ++ x ∷ []) (sym (comma_is t is))))
-    (λ good _. both (is_free_name c) (list_all (λ v. not (is_null v)) vs) (first_holds (is_free_name c) (are_constants vs) good)
+    (λ good _. and_from (is_free_name c) (list_all (λ v. not (is_null v)) vs) (first_holds (is_free_name c) (are_constants vs) good)
     (second_holds (is_some_list vs) (list_all (λ v. not (is_null v)) vs) (second_holds (is_free_name c) (are_constants vs) good)))))
     (λ _ e. let is = cond_some (is_close t) (Some (add qs o (is_in c vs))) r e in
-    subst P (same_inside _ r is.1) (ended qs o (in_next c vs) (is_in c vs) t
+    subst P (same_Some _ r is.1) (ended qs o (in_next c vs) (is_in c vs) t
     (ap (λ x. word c ∷ word (codes "in") ∷ open_paren ∷ (literals vs ++ x ∷ [])) (sym (close_is t is.0)))
     (λ free _. free)))
 
@@ -223,7 +219,7 @@ close_follows q qs ors a = record {
 
 closing : (qs : List Open) (ors : Option Pred) (a : All) (r : Reading) → close qs (whole ors a) ≡ Some r → Follows (behind qs ors a) close_paren r
 closing [] ors a r e = cc
-closing (q ∷ qs) ors a r e = let P : Reading → Type 0 = λ x. Follows (behind (q ∷ qs) ors a) close_paren x in subst P (same_inside _ r e) (close_follows q qs ors a)
+closing (q ∷ qs) ors a r e = let P : Reading → Type 0 = λ x. Follows (behind (q ∷ qs) ors a) close_paren x in subst P (same_Some _ r e) (close_follows q qs ors a)
 
 behind_follows : (qs : List Open) (ors : Option Pred) (a : All) (t : Token) (r : Reading) → step_behind qs ors a t ≡ Some r → Follows (behind qs ors a) t r
 behind_follows qs ors a t r e =
@@ -232,10 +228,10 @@ behind_follows qs ors a t r e =
     let or_next : Reading = inside qs (record { ors = Some (whole ors a); ands = None; nots = 0 }) at_part in
     cond_then (is_keyword (codes "and") t) (Some and_next) (cond (is_keyword (codes "or") t) (Some or_next) (cond (is_close t) (close qs (whole ors a)) None)) r e
     (λ is h. let R : Reading → Type 0 = λ x. Follows (behind qs ors a) (word (codes "and")) x in
-    subst Q (sym (keyword_is (codes "and") t is)) (subst R (same_inside and_next r h) (and_follows qs ors a)))
+    subst Q (sym (keyword_is (codes "and") t is)) (subst R (same_Some and_next r h) (and_follows qs ors a)))
     (λ _ e. cond_then (is_keyword (codes "or") t) (Some or_next) (cond (is_close t) (close qs (whole ors a)) None) r e
     (λ is h. let R : Reading → Type 0 = λ x. Follows (behind qs ors a) (word (codes "or")) x in
-    subst Q (sym (keyword_is (codes "or") t is)) (subst R (same_inside or_next r h) (or_follows qs ors a)))
+    subst Q (sym (keyword_is (codes "or") t is)) (subst R (same_Some or_next r h) (or_follows qs ors a)))
     (λ _ e. let is = cond_some (is_close t) (close qs (whole ors a)) r e in
     subst Q (sym (close_is t is.0)) (closing qs ors a r is.1)))
 

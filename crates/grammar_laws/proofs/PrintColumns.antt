@@ -8,11 +8,10 @@ use Rattle.std.specs.List.{list_all, AllByRecursion}
 use Rattle.std.specs.List.Sorted.{IsStrictlySortedBy}
 use Rattle.std.specs.declared.cmp.Ordering.TheVariants.{Less, Equal}
 use Rattle.std.proofs.lemmas.Bool.{and_parts, and_from}
-use Rattle.lens_values.specs.Order.{bytes_cmp}
-use Rattle.lens_values.specs.SortedMap.{keys_of, keys_rise}
-use Rattle.lens_values.specs.declared.value.Kind.{Kind}
-use Rattle.lens_specs.specs.Names.{Name}
-use Rattle.lens_specs.specs.Columns.{Columns}
+use Rattle.plain_values.specs.Order.{bytes_cmp}
+use Rattle.plain_values.specs.SortedMap.{keys_of, keys_rise}
+use Rattle.plain_values.specs.declared.value.Kind.{Kind}
+use Rattle.lens_specs.specs.Common.{Name, Columns}
 use Rattle.grammar_specs.specs.Tokens.{is_free_name}
 use Rattle.grammar_specs.specs.Written.{is_column_of, are_columns}
 use Rattle.grammar_laws.proofs.Words.{same_word}

@@ -3,12 +3,10 @@ use Rattle.std.proofs.Common.{◌≡◌, true, List, [], ◌∷◌, map, refl, a
 use Rattle.std.specs.Cmp.Lexicographic.{nat_list_cmp_total}
 use Rattle.std.proofs.lemmas.Bool.{and_parts}
 use Rattle.std.proofs.lemmas.Map.Lookups.{exact_bytes}
-use Rattle.lens_values.specs.Order.{bytes_cmp}
-use Rattle.lens_values.specs.SortedSet as set
-use Rattle.lens_values.specs.SortedMap.{from_entries-entries}
-use Rattle.lens_specs.specs.Names.{Names}
-use Rattle.lens_specs.specs.Dependencies.{Edge, edge}
-use Rattle.lens_specs.specs.Predicate.{Predicate}
+use Rattle.plain_values.specs.Order.{bytes_cmp}
+use Rattle.plain_values.specs.SortedSet as set
+use Rattle.plain_values.specs.SortedMap.{from_entries-entries}
+use Rattle.lens_specs.specs.Common.{Names, Edge, edge, Predicate}
 use Rattle.grammar_specs.specs.Written.{is_some_list}
 use Rattle.grammar_specs.specs.Meaning.{Expr, named, select, drop, rename, join, Definition, table, view, predicate_of, operand_meaning, expr_meaning, dep_meaning, meaning}
 use Rattle.grammar_specs.specs.Printing.{predicate_written, operand_of, expr_written, dep_written, definition_written}

@@ -6,9 +6,9 @@ use Rattle.std.specs.Cmp.Lexicographic.{nat_list_cmp_total}
 use Rattle.std.specs.List.{list_all}
 use Rattle.std.specs.declared.cmp.Ordering.TheVariants.{Less, Equal, Greater}
 use Rattle.std.proofs.lemmas.Bool.{and_parts, and_from}
-use Rattle.lens_values.specs.Order.{bytes_cmp}
-use Rattle.lens_values.specs.SortedSet as set
-use Rattle.lens_values.specs.SortedMap.{keys_of, entries-from_entries}
+use Rattle.plain_values.specs.Order.{bytes_cmp}
+use Rattle.plain_values.specs.SortedSet as set
+use Rattle.plain_values.specs.SortedMap.{keys_of, entries-from_entries}
 use Rattle.lens_specs.specs.Names.{Name, Names}
 use Rattle.grammar_specs.specs.Tokens.{word, comma, close_paren, is_free_name}
 use Rattle.grammar_specs.specs.Written.{Operand, bare, enclosed, Expr, named, select, drop, rename, join, Dep, Written, table, view, literal, pred_tokens, operand_tokens, expr_tokens, columns_tokens, deps_tokens, where_tokens, written_tokens, is_some_list, are_free_names, is_operand, is_expr, are_columns, is_dep, is_definition}

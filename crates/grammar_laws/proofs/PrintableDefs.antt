@@ -5,17 +5,14 @@ use Rattle.std.specs.FinMap as map_of
 use Rattle.std.specs.List.{list_all}
 use Rattle.std.proofs.lemmas.Bool.{and_parts, and_from}
 use Rattle.std.proofs.lemmas.List.Folds.{list_all-append}
-use Rattle.lens_values.specs.SortedSet as set
-use Rattle.lens_values.specs.SortedMap.{keys_of}
-use Rattle.lens_values.specs.declared.join_kind.JoinKind.{JoinKind}
-use Rattle.lens_values.specs.declared.join_kind.JoinKind.TheVariants.{DeleteLeft, DeleteRight, DeleteBoth}
-use Rattle.lens_values.specs.declared.value.Kind.{Kind}
-use Rattle.lens_values.specs.declared.value.Kind.TheVariants as kind
-use Rattle.lens_values.specs.declared.value.Value.{Value}
-use Rattle.lens_specs.specs.Names.{Name, Names}
-use Rattle.lens_specs.specs.Columns.{Columns}
-use Rattle.lens_specs.specs.Dependencies.{Edge}
-use Rattle.lens_specs.specs.Predicate.{Predicate}
+use Rattle.plain_values.specs.SortedSet as set
+use Rattle.plain_values.specs.SortedMap.{keys_of}
+use Rattle.plain_values.specs.declared.join_kind.JoinKind.{JoinKind}
+use Rattle.plain_values.specs.declared.join_kind.JoinKind.TheVariants.{DeleteLeft, DeleteRight, DeleteBoth}
+use Rattle.plain_values.specs.declared.value.Kind.{Kind}
+use Rattle.plain_values.specs.declared.value.Kind.TheVariants as kind
+use Rattle.plain_values.specs.declared.value.Value.{Value}
+use Rattle.lens_specs.specs.Common.{Name, Names, Columns, Edge, Predicate}
 use Rattle.grammar_specs.specs.Tokens.{Token, word, comma, arrow, close_paren, is_free_name}
 use Rattle.grammar_specs.specs.Written as written
 use Rattle.grammar_specs.specs.Written.{Operand, bare, enclosed, Dep, literal, join_word, kind_tokens, pred_tokens, operand_tokens, expr_tokens, column_tokens, columns_tokens, dep_tokens, deps_tokens, where_tokens, written_tokens, is_some_list, is_operand, is_expr, is_dep, is_condition, is_definition}

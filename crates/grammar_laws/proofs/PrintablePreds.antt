@@ -3,11 +3,10 @@ use Rattle.std.proofs.Common.{◌≡◌, Bool, true, false, List, [], ◌∷◌,
 use Rattle.std.specs.Prelude.{◌&&◌, not, codes}
 use Rattle.std.specs.List.{list_all}
 use Rattle.std.proofs.lemmas.Bool.{and_parts, and_from}
-use Rattle.lens_values.specs.Value.{is_null}
-use Rattle.lens_values.specs.declared.value.Value.{Value}
-use Rattle.lens_values.specs.declared.value.Value.TheVariants.{Flag}
-use Rattle.lens_specs.specs.Names.{Name}
-use Rattle.lens_specs.specs.Predicate.{Op, Formula, truth, falsity, compare, compare_columns, one_of, null_at, negation, all_of, any_of, Formulas, no_formulas, formulas, Predicate}
+use Rattle.plain_values.specs.Value.{is_null}
+use Rattle.plain_values.specs.declared.value.Value.{Value}
+use Rattle.plain_values.specs.declared.value.Value.TheVariants.{Flag}
+use Rattle.lens_specs.specs.Common.{Name, Op, Formula, truth, falsity, compare, compare_columns, one_of, null_at, negation, all_of, any_of, Formulas, no_formulas, formulas, Predicate}
 use Rattle.grammar_specs.specs.Tokens.{Token, word, close_paren, is_free_name}
 use Rattle.grammar_specs.specs.Written.{Part, literally, compares, compares_columns, is_in, tests_null, negated, grouped, All, only, joined, Pred, alone, either, literals, part_tokens, all_tokens, pred_tokens, are_constants, is_part, is_all, is_pred}
 use Rattle.grammar_specs.specs.Printing.{part_of, all_parts, more_parts, all_of_formula, any_alls, more_alls, pred_of, joined_parts, predicate_written}

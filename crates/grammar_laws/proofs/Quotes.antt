@@ -5,8 +5,9 @@ use Rattle.std.proofs.lemmas.Bool.Decides.{nat_tests}
 use Rattle.grammar_specs.specs.Tokens.{is_quote, quotes_doubled}
 use Rattle.std.specs.Str.{IsUtf8}
 use Rattle.std.proofs.lemmas.Str.{IsUtf8-drop, IsCharBoundary-after_ascii}
+use Rattle.std.proofs.lemmas.Option.{same_Some}
 use Rattle.grammar_laws.specs.Front.{with_front, quoted_in}
-use Rattle.grammar_laws.proofs.Options.{same_inside, map_then}
+use Rattle.grammar_laws.proofs.Options.{map_then}
 
 -- the rest does not begin with a quote
 abbrev pub Unquoted : List ℕ → Type 0
@@ -132,7 +133,7 @@ pub quoted_found : (bytes : List ℕ) (q : List ℕ × List ℕ) → quoted_in b
 quoted_found [] q e = cc
 quoted_found (b ∷ []) q e =
     elim (is_quote b) as (λ v. is_quote b ≡ v → cond v (Some ([], [])) None ≡ Some q → Quotes (b ∷ []) q) [
-      | true ↦ λ is h. from_quote b [] q is (subst (Quotes (39 ∷ [])) (same_inside ([], []) q h) (closed [] tt))
+      | true ↦ λ is h. from_quote b [] q is (subst (Quotes (39 ∷ [])) (same_Some ([], []) q h) (closed [] tt))
       | false ↦ λ is h. cc
     ] refl e
 quoted_found (b ∷ c ∷ rest) q e =
@@ -142,7 +143,7 @@ quoted_found (b ∷ c ∷ rest) q e =
             | true ↦ λ second k.
                 let P : ℕ → Type 0 = λ x. Quotes (39 ∷ x ∷ rest) q in
                 subst P (sym (quote_is c second)) (map_then (with_front (39 ∷ [])) (quoted_in rest) q k (λ p found same. subst (Quotes (39 ∷ 39 ∷ rest)) same (doubled rest p (quoted_found rest p found))))
-            | false ↦ λ second k. subst (Quotes (39 ∷ c ∷ rest)) (same_inside ([], c ∷ rest) q k) (closed (c ∷ rest) second)
+            | false ↦ λ second k. subst (Quotes (39 ∷ c ∷ rest)) (same_Some ([], c ∷ rest) q k) (closed (c ∷ rest) second)
           ] refl h)
       | false ↦ λ is h. map_then (with_front (b ∷ [])) (quoted_in (c ∷ rest)) q h (λ p found same. subst (Quotes (b ∷ c ∷ rest)) same (single b (c ∷ rest) p is (quoted_found (c ∷ rest) p found)))
     ] refl e

@@ -3,7 +3,9 @@ use Rattle.std.proofs.Common.{◌≡◌, inl, inr, ℕ, ◌+◌, ◌-◌, ◌^�
 use Rattle.std.specs.Prelude.{nat_lt, Option, Some, None, option_map, option_and_then, take_while}
 use Rattle.std.specs.List.{list_all}
 use Rattle.std.proofs.lemmas.List.{map-append}
-use Rattle.grammar_specs.specs.Tokens.{Token, word, integer, open_paren, close_paren, comma, arrow, operator, Spells, Ends, is_blank}
+use Rattle.std.proofs.lemmas.Bool.{and_from, true≢false}
+use Rattle.plain_values.proofs.Tests.{first_holds, second_holds, map_none}
+use Rattle.grammar_specs.specs.Tokens.{Token, word, integer, open_paren, close_paren, comma, arrow, operator, Spells, is_blank}
 use Rattle.grammar_specs.specs.Tokens as tokens
 use Rattle.grammar_specs.specs.Texts.{Placed, tokens_in, AreBlank, Stand, IsText}
 use Rattle.grammar_specs.specs.Meaning.{Definition, meaning, Says}
@@ -11,9 +13,8 @@ use Rattle.grammar_specs.specs.Nesting.{max_nesting, is_too_deep}
 use Rattle.grammar_specs.specs.Faults.{Begins, BeginsTooDeep, Stops, IsNestingFault, IsSyntaxFault, SaysFlat}
 use Rattle.grammar_laws.specs.DefParse as meant
 use Rattle.grammar_laws.specs.Front.{drop_while, token_at}
-use Rattle.grammar_laws.proofs.Options.{map_then, first_holds, second_holds}
+use Rattle.grammar_laws.proofs.Options.{map_then}
 use Rattle.grammar_laws.proofs.TokenTests.{is_proper}
-use Rattle.grammar_laws.proofs.PredSteps.{both}
 use Rattle.grammar_laws.proofs.WrittenDefs.{Parse, at_start, step, ended}
 use Rattle.grammar_laws.proofs.DefReads.{run, run-append}
 use Rattle.grammar_laws.proofs.DefMeaning.{parse_meaning, parse_step, parse_ended}
@@ -22,7 +23,7 @@ use Rattle.grammar_laws.proofs.Exact.{reached_begins, stopped, unfinished, finis
 use Rattle.grammar_laws.proofs.FrontLists.{front_passes}
 use Rattle.grammar_laws.proofs.FrontTokens.{spelled_some, no_token}
 use Rattle.grammar_laws.proofs.Longest as longest
-use Rattle.grammar_laws.proofs.Longest.{Stands, parted, stops, token_stands}
+use Rattle.grammar_laws.proofs.Longest.{parted, stops, token_stands}
 use Rattle.grammar_laws.proofs.Counts.{parse_count}
 use Rattle.grammar_laws.proofs.Depths.{too_deep_levels, levels_too_deep, last_deep, last_flat}
 use Rattle.grammar_laws.proofs.Stands.{stand_more, stand_before}
@@ -58,7 +59,7 @@ proper_token (operator op) bytes h = refl
 
 all_more : (ts : List Token) (t : Token) → list_all is_proper ts ≡ true → is_proper t ≡ true → list_all is_proper (ts ++ t ∷ []) ≡ true
 all_more [] t h g = rw g refl
-all_more (u ∷ ts) t h g = both (is_proper u) (list_all is_proper (ts ++ t ∷ [])) (first_holds (is_proper u) (list_all is_proper ts) h) (all_more ts t (second_holds (is_proper u) (list_all is_proper ts) h) g)
+all_more (u ∷ ts) t h g = and_from (is_proper u) (list_all is_proper (ts ++ t ∷ [])) (first_holds (is_proper u) (list_all is_proper ts) h) (all_more ts t (second_holds (is_proper u) (list_all is_proper ts) h) g)
 
 -- the token with those before it, from this offset
 pub record Taken (text : List ℕ) (front : Placed) (ahead : List ℕ) (f : Token × List ℕ) : Type 0 where
@@ -92,10 +93,6 @@ taken text left front b rest f stand ahead found =
     }
 
 -- ---- the state as it is written
-
-map_none : {A B : Type 0} (f : A → B) (o : Option A) → option_map f o ≡ None → o ≡ None
-map_none f None e = refl
-map_none f (Some a) e = cc
 
 -- the step as it is written
 stepped : (text : List ℕ) (p : meant.Parse) (left : List ℕ) (r : ReadTo text p left) (t : Token) (o : Option meant.Parse) → meant.step p t ≡ o → option_map parse_meaning (step r.state t) ≡ o
@@ -209,11 +206,8 @@ says_at_end text p left r d end e =
 
 -- ---- what was read is not too deep
 
-true_false : true ≡ false → ⊥
-true_false e = cc
-
 not_too_deep : (text : List ℕ) (p : meant.Parse) (left : List ℕ) (r : ReadTo text p left) → BeginsTooDeep (tokens_in r.front) → ⊥
-not_too_deep text p left r deep = true_false (sym (too_deep_levels (tokens_in r.front) deep) ∙ r.flat)
+not_too_deep text p left r deep = true≢false (sym (too_deep_levels (tokens_in r.front) deep) ∙ r.flat)
 
 -- where it stops there is a syntax fault
 pub syntax_fault : (text : List ℕ) (p : meant.Parse) (left : List ℕ) (r : ReadTo text p left) (at : ℕ) → Stops text r.front at → IsSyntaxFault text at

@@ -1,11 +1,12 @@
 -- Tokens that stand one after another in a text: there is one way to go on.
 use Rattle.std.proofs.Common.{◌≡◌, ◌⊎◌, inl, inr, ℕ, ◌+◌, Bool, true, false, List, [], ◌∷◌, ◌++◌, length, refl, sym, ap, subst, ◌∙◌, append_assoc, eqb-true, arith, length-append}
 use Rattle.std.specs.Prelude.{◌||◌, ◌==◌, Some, None}
+use Rattle.std.proofs.Math.Bool.{and-false}
+use Rattle.std.proofs.lemmas.Option.{same_Some, none-some}
 use Rattle.grammar_specs.specs.Tokens.{Token, Spells, Ends, is_blank}
 use Rattle.grammar_specs.specs.Texts.{Placed, AreBlank, Stand}
 use Rattle.grammar_laws.specs.Front.{drop_while, token_at, token_in_front}
-use Rattle.grammar_laws.proofs.Options.{same_inside}
-use Rattle.grammar_laws.proofs.Longest.{dropped, token_front, and_false}
+use Rattle.grammar_laws.proofs.Longest.{dropped, token_front}
 
 -- ---- no token begins with a blank
 
@@ -22,14 +23,11 @@ one_of_four P false false false d e pa pb pc pd = pd e
 blank_none : (b : ℕ) (rest : List ℕ) → is_blank b ≡ true → token_at b rest ≡ None
 blank_none b rest e =
     one_of_four (token_at b rest ≡ None) (b == 32) (b == 9) (b == 10) (b == 13) e
-    (no_sign 32 (λ c more. rw (and_false (c == 61)) refl) refl b rest) (no_sign 9 (λ c more. rw (and_false (c == 61)) refl) refl b rest)
-    (no_sign 10 (λ c more. rw (and_false (c == 61)) refl) refl b rest) (no_sign 13 (λ c more. rw (and_false (c == 61)) refl) refl b rest)
-
-none_some : {A : Type 0} (a : A) → None ≡ Some a → ⊥
-none_some a e = cc
+    (no_sign 32 (λ c more. rw (and-false (c == 61)) refl) refl b rest) (no_sign 9 (λ c more. rw (and-false (c == 61)) refl) refl b rest)
+    (no_sign 10 (λ c more. rw (and-false (c == 61)) refl) refl b rest) (no_sign 13 (λ c more. rw (and-false (c == 61)) refl) refl b rest)
 
 found_visible : (b : ℕ) (rest : List ℕ) (f : Token × List ℕ) → token_at b rest ≡ Some f → is_blank b ≡ false
-found_visible b rest f e = elim (is_blank b) as (λ v. is_blank b ≡ v → v ≡ false) [ true ↦ λ is. absurd (none_some f (sym (blank_none b rest is) ∙ e)) | false ↦ λ _. refl ] refl
+found_visible b rest f e = elim (is_blank b) as (λ v. is_blank b ≡ v → v ≡ false) [ true ↦ λ is. absurd (none-some f (sym (blank_none b rest is) ∙ e)) | false ↦ λ _. refl ] refl
 
 -- behind the blanks the token is in front
 pub behind_blanks : (t : Token) (blanks spelling rest : List ℕ) → AreBlank blanks → Spells t spelling → Ends t rest
@@ -117,7 +115,7 @@ stand_next k bytes p more left stand =
 -- there is one next token
 one_next : (k : ℕ) (bytes : List ℕ) (p q : ℕ × Token) (rest left : List ℕ) → Next k bytes p rest → Next k bytes q left → (p ≡ q) × (rest ≡ left)
 one_next k bytes p q rest left n m =
-    let same = same_inside (p.1, rest) (q.1, left) (sym n.token ∙ m.token) in
+    let same = same_Some (p.1, rest) (q.1, left) (sym n.token ∙ m.token) in
     let at : p.0 ≡ q.0 = omega (arith, n.place, m.place) in
     (λ i. (at i, (same i).0), λ i. (same i).1)
 

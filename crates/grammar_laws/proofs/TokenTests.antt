@@ -1,20 +1,22 @@
 -- What a passed test says of a token.
 use Rattle.std.proofs.Common.{◌≡◌, ℕ, Bool, true, false, List, refl, ap, subst, ◌∙◌}
 use Rattle.std.specs.Prelude.{not, ◌&&◌, codes, Some, None}
-use Rattle.lens_values.specs.Bytes.{is_name}
-use Rattle.lens_values.specs.Value.{is_null, is_nullable}
-use Rattle.lens_values.specs.declared.join_kind.JoinKind.{JoinKind}
-use Rattle.lens_values.specs.declared.join_kind.JoinKind.TheVariants.{DeleteLeft, DeleteRight, DeleteBoth}
-use Rattle.lens_values.specs.declared.value.Kind.{Kind}
-use Rattle.lens_values.specs.declared.value.Kind.TheVariants as kind
-use Rattle.lens_values.specs.declared.value.Value.{Value}
-use Rattle.lens_values.specs.declared.value.Value.TheVariants.{Null, Int, Text, Flag}
-use Rattle.lens_specs.specs.Names.{Name}
-use Rattle.lens_specs.specs.Predicate.{Op, eq, ne, lt, le, gt, ge}
+use Rattle.std.proofs.lemmas.Option.{same_Some}
+use Rattle.std.proofs.lemmas.Bool.{not-true}
+use Rattle.plain_values.specs.Bytes.{is_name}
+use Rattle.plain_values.specs.Value.{is_null, is_nullable}
+use Rattle.plain_values.specs.declared.join_kind.JoinKind.{JoinKind}
+use Rattle.plain_values.specs.declared.join_kind.JoinKind.TheVariants.{DeleteLeft, DeleteRight, DeleteBoth}
+use Rattle.plain_values.specs.declared.value.Kind.{Kind}
+use Rattle.plain_values.specs.declared.value.Kind.TheVariants as kind
+use Rattle.plain_values.specs.declared.value.Value.{Value}
+use Rattle.plain_values.specs.declared.value.Value.TheVariants.{Null, Int, Text, Flag}
+use Rattle.plain_values.proofs.Tests.{second_holds}
+use Rattle.lens_specs.specs.Common.{Name, Op, eq, ne, lt, le, gt, ge}
 use Rattle.grammar_specs.specs.Tokens.{Token, word, integer, text, open_paren, close_paren, comma, arrow, operator, is_reserved, is_free_name}
 use Rattle.grammar_specs.specs.Written.{literal, join_word, kind_word}
 use Rattle.grammar_laws.specs.Tests.{is_word, is_keyword, name_in, op_in, flag_in, literal_in, fill_in, kind_in, join_kind_in, is_open, is_close, is_comma, is_arrow, is_op, is_equals}
-use Rattle.grammar_laws.proofs.Options.{same_inside, cond_then, cond_none}
+use Rattle.grammar_laws.proofs.Options.{cond_then, cond_none}
 use Rattle.grammar_laws.proofs.Words.{same_word}
 
 -- a word token has the form of a name
@@ -33,7 +35,7 @@ keyword_is k arrow e = cc
 keyword_is k (operator op) e = cc
 
 pub name_is : (t : Token) (n : Name) → name_in t ≡ Some n → t ≡ word n
-name_is (word w) n e = ap word (same_inside w n (cond_none (is_reserved w) (Some w) n e).1)
+name_is (word w) n e = ap word (same_Some w n (cond_none (is_reserved w) (Some w) n e).1)
 name_is (integer z) n e = cc
 name_is (text b) n e = cc
 name_is open_paren n e = cc
@@ -46,7 +48,7 @@ pub name_free : (t : Token) (n : Name) → is_proper t ≡ true → name_in t �
 name_free (word w) n p e =
     let found = cond_none (is_reserved w) (Some w) n e in
     let P : List ℕ → Type 0 = λ v. is_free_name v ≡ true in
-    subst P (same_inside w n found.1) (rw (p, found.0) refl)
+    subst P (same_Some w n found.1) (rw (p, found.0) refl)
 name_free (integer z) n p e = cc
 name_free (text b) n p e = cc
 name_free open_paren n p e = cc
@@ -63,12 +65,12 @@ op_is open_paren op e = cc
 op_is close_paren op e = cc
 op_is comma op e = cc
 op_is arrow op e = cc
-op_is (operator o) op e = ap operator (same_inside o op e)
+op_is (operator o) op e = ap operator (same_Some o op e)
 
 pub flag_is : (t : Token) (b : Bool) → flag_in t ≡ Some b → t ≡ literal (Flag b)
 flag_is (word w) b e =
-    cond_then (is_word w (codes "true")) _ _ b e (λ is h. ap word (same_word w (codes "true") is) ∙ ap (λ x. literal (Flag x)) (same_inside true b h)) (λ _ e.
-    cond_then (is_word w (codes "false")) _ _ b e (λ is h. ap word (same_word w (codes "false") is) ∙ ap (λ x. literal (Flag x)) (same_inside false b h)) (λ _ h. cc))
+    cond_then (is_word w (codes "true")) _ _ b e (λ is h. ap word (same_word w (codes "true") is) ∙ ap (λ x. literal (Flag x)) (same_Some true b h)) (λ _ e.
+    cond_then (is_word w (codes "false")) _ _ b e (λ is h. ap word (same_word w (codes "false") is) ∙ ap (λ x. literal (Flag x)) (same_Some false b h)) (λ _ h. cc))
 flag_is (integer z) b e = cc
 flag_is (text v) b e = cc
 flag_is open_paren b e = cc
@@ -79,10 +81,10 @@ flag_is (operator op) b e = cc
 
 pub literal_is : (t : Token) (v : Value) → literal_in t ≡ Some v → t ≡ literal v
 literal_is (word w) v e =
-    cond_then (is_word w (codes "true")) _ _ v e (λ is h. ap word (same_word w (codes "true") is) ∙ ap literal (same_inside (Flag true) v h)) (λ _ e.
-    cond_then (is_word w (codes "false")) _ _ v e (λ is h. ap word (same_word w (codes "false") is) ∙ ap literal (same_inside (Flag false) v h)) (λ _ h. cc))
-literal_is (integer z) v e = ap literal (same_inside (Int z) v e)
-literal_is (text b) v e = ap literal (same_inside (Text b) v e)
+    cond_then (is_word w (codes "true")) _ _ v e (λ is h. ap word (same_word w (codes "true") is) ∙ ap literal (same_Some (Flag true) v h)) (λ _ e.
+    cond_then (is_word w (codes "false")) _ _ v e (λ is h. ap word (same_word w (codes "false") is) ∙ ap literal (same_Some (Flag false) v h)) (λ _ h. cc))
+literal_is (integer z) v e = ap literal (same_Some (Int z) v e)
+literal_is (text b) v e = ap literal (same_Some (Text b) v e)
 literal_is open_paren v e = cc
 literal_is close_paren v e = cc
 literal_is comma v e = cc
@@ -93,10 +95,10 @@ literal_is (operator op) v e = cc
 pub literal_constant : (t : Token) (v : Value) → literal_in t ≡ Some v → not (is_null v) ≡ true
 literal_constant (word w) v e =
     let P : Value → Type 0 = λ x. not (is_null x) ≡ true in
-    cond_then (is_word w (codes "true")) _ _ v e (λ _ h. subst P (same_inside (Flag true) v h) refl) (λ _ e.
-    cond_then (is_word w (codes "false")) _ _ v e (λ _ h. subst P (same_inside (Flag false) v h) refl) (λ _ h. cc))
-literal_constant (integer z) v e = let P : Value → Type 0 = λ x. not (is_null x) ≡ true in subst P (same_inside (Int z) v e) refl
-literal_constant (text b) v e = let P : Value → Type 0 = λ x. not (is_null x) ≡ true in subst P (same_inside (Text b) v e) refl
+    cond_then (is_word w (codes "true")) _ _ v e (λ _ h. subst P (same_Some (Flag true) v h) refl) (λ _ e.
+    cond_then (is_word w (codes "false")) _ _ v e (λ _ h. subst P (same_Some (Flag false) v h) refl) (λ _ h. cc))
+literal_constant (integer z) v e = let P : Value → Type 0 = λ x. not (is_null x) ≡ true in subst P (same_Some (Int z) v e) refl
+literal_constant (text b) v e = let P : Value → Type 0 = λ x. not (is_null x) ≡ true in subst P (same_Some (Text b) v e) refl
 literal_constant open_paren v e = cc
 literal_constant close_paren v e = cc
 literal_constant comma v e = cc
@@ -104,15 +106,15 @@ literal_constant arrow v e = cc
 literal_constant (operator op) v e = cc
 
 pub fill_is : (t : Token) (v : Value) → fill_in t ≡ Some v → t ≡ literal v
-fill_is t v e = cond_then (is_keyword (codes "null") t) (Some Null) (literal_in t) v e (λ is h. keyword_is (codes "null") t is ∙ ap literal (same_inside Null v h)) (λ _ h. literal_is t v h)
+fill_is t v e = cond_then (is_keyword (codes "null") t) (Some Null) (literal_in t) v e (λ is h. keyword_is (codes "null") t is ∙ ap literal (same_Some Null v h)) (λ _ h. literal_is t v h)
 
 -- the word of a kind gives the kind without null
 pub kind_base : (t : Token) (k : Kind) → kind_in t ≡ Some k → is_nullable k ≡ false
 kind_base (word w) k e =
     let P : Kind → Type 0 = λ x. is_nullable x ≡ false in
-    cond_then (is_word w (codes "int")) _ _ k e (λ _ h. subst P (same_inside kind.Int k h) refl) (λ _ e.
-    cond_then (is_word w (codes "text")) _ _ k e (λ _ h. subst P (same_inside kind.Text k h) refl) (λ _ e.
-    cond_then (is_word w (codes "bool")) _ _ k e (λ _ h. subst P (same_inside kind.Flag k h) refl) (λ _ h. cc)))
+    cond_then (is_word w (codes "int")) _ _ k e (λ _ h. subst P (same_Some kind.Int k h) refl) (λ _ e.
+    cond_then (is_word w (codes "text")) _ _ k e (λ _ h. subst P (same_Some kind.Text k h) refl) (λ _ e.
+    cond_then (is_word w (codes "bool")) _ _ k e (λ _ h. subst P (same_Some kind.Flag k h) refl) (λ _ h. cc)))
 kind_base (integer z) k e = cc
 kind_base (text b) k e = cc
 kind_base open_paren k e = cc
@@ -123,9 +125,9 @@ kind_base (operator op) k e = cc
 
 pub kind_is : (t : Token) (k : Kind) → kind_in t ≡ Some k → t ≡ word (kind_word k)
 kind_is (word w) k e =
-    cond_then (is_word w (codes "int")) _ _ k e (λ is h. ap word (same_word w (codes "int") is) ∙ ap (λ x. word (kind_word x)) (same_inside kind.Int k h)) (λ _ e.
-    cond_then (is_word w (codes "text")) _ _ k e (λ is h. ap word (same_word w (codes "text") is) ∙ ap (λ x. word (kind_word x)) (same_inside kind.Text k h)) (λ _ e.
-    cond_then (is_word w (codes "bool")) _ _ k e (λ is h. ap word (same_word w (codes "bool") is) ∙ ap (λ x. word (kind_word x)) (same_inside kind.Flag k h)) (λ _ h. cc)))
+    cond_then (is_word w (codes "int")) _ _ k e (λ is h. ap word (same_word w (codes "int") is) ∙ ap (λ x. word (kind_word x)) (same_Some kind.Int k h)) (λ _ e.
+    cond_then (is_word w (codes "text")) _ _ k e (λ is h. ap word (same_word w (codes "text") is) ∙ ap (λ x. word (kind_word x)) (same_Some kind.Text k h)) (λ _ e.
+    cond_then (is_word w (codes "bool")) _ _ k e (λ is h. ap word (same_word w (codes "bool") is) ∙ ap (λ x. word (kind_word x)) (same_Some kind.Flag k h)) (λ _ h. cc)))
 kind_is (integer z) k e = cc
 kind_is (text b) k e = cc
 kind_is open_paren k e = cc
@@ -136,9 +138,9 @@ kind_is (operator op) k e = cc
 
 pub join_kind_is : (t : Token) (k : JoinKind) → join_kind_in t ≡ Some k → t ≡ word (join_word k)
 join_kind_is (word w) k e =
-    cond_then (is_word w (codes "join_dl")) _ _ k e (λ is h. ap word (same_word w (codes "join_dl") is) ∙ ap (λ x. word (join_word x)) (same_inside DeleteLeft k h)) (λ _ e.
-    cond_then (is_word w (codes "join_dr")) _ _ k e (λ is h. ap word (same_word w (codes "join_dr") is) ∙ ap (λ x. word (join_word x)) (same_inside DeleteRight k h)) (λ _ e.
-    cond_then (is_word w (codes "join_both")) _ _ k e (λ is h. ap word (same_word w (codes "join_both") is) ∙ ap (λ x. word (join_word x)) (same_inside DeleteBoth k h)) (λ _ h. cc)))
+    cond_then (is_word w (codes "join_dl")) _ _ k e (λ is h. ap word (same_word w (codes "join_dl") is) ∙ ap (λ x. word (join_word x)) (same_Some DeleteLeft k h)) (λ _ e.
+    cond_then (is_word w (codes "join_dr")) _ _ k e (λ is h. ap word (same_word w (codes "join_dr") is) ∙ ap (λ x. word (join_word x)) (same_Some DeleteRight k h)) (λ _ e.
+    cond_then (is_word w (codes "join_both")) _ _ k e (λ is h. ap word (same_word w (codes "join_both") is) ∙ ap (λ x. word (join_word x)) (same_Some DeleteBoth k h)) (λ _ h. cc)))
 join_kind_is (integer z) k e = cc
 join_kind_is (text b) k e = cc
 join_kind_is open_paren k e = cc
@@ -207,16 +209,8 @@ equals_is (operator op) e = ap operator (equal_op op e)
 
 -- ---- the tests of a token that is known
 
-pub not_true : (b : Bool) → not b ≡ true → b ≡ false
-not_true true e = cc
-not_true false e = refl
-
-second_of : (a b : Bool) → (a && b) ≡ true → b ≡ true
-second_of true b h = h
-second_of false b h = cc
-
 pub free_in : (n : Name) → is_free_name n ≡ true → name_in (word n) ≡ Some n
-free_in n e = rw (not_true (is_reserved n) (second_of (is_name n) (not (is_reserved n)) e)) refl
+free_in n e = rw (not-true (is_reserved n) (second_holds (is_name n) (not (is_reserved n)) e)) refl
 
 pub fill_found : (v : Value) → fill_in (literal v) ≡ Some v
 fill_found Null = refl

@@ -1,24 +1,17 @@
 -- Words that compare as equal are equal.
-use Rattle.std.proofs.Common.{◌≡◌, ℕ, Bool, true, false, List, [], ◌∷◌, refl, ap, ◌∙◌, eqb-true, arith}
+use Rattle.std.proofs.Common.{◌≡◌, ℕ, true, List, [], ◌∷◌, refl, ap, ◌∙◌, eqb-true, arith}
 use Rattle.std.proofs.lemmas.Bool.Decides.{nat_tests}
 use Rattle.std.specs.Prelude.{◌&&◌, nat_eq}
+use Rattle.plain_values.proofs.Tests.{first_holds, second_holds}
 use Rattle.grammar_laws.specs.Tests.{is_word}
-
-first_of : (a b : Bool) → (a && b) ≡ true → a ≡ true
-first_of true b h = refl
-first_of false b h = cc
-
-second_of : (a b : Bool) → (a && b) ≡ true → b ≡ true
-second_of true b h = h
-second_of false b h = cc
 
 pub same_word : (w k : List ℕ) → is_word w k ≡ true → w ≡ k
 same_word [] [] e = refl
 same_word [] (b ∷ k) e = cc
 same_word (a ∷ w) [] e = cc
 same_word (a ∷ w) (b ∷ k) e =
-    let head = eqb-true a b (first_of (nat_eq a b) (is_word w k) e) in
-    let tail = same_word w k (second_of (nat_eq a b) (is_word w k) e) in
+    let head = eqb-true a b (first_holds (nat_eq a b) (is_word w k) e) in
+    let tail = same_word w k (second_holds (nat_eq a b) (is_word w k) e) in
     λ i. head i ∷ tail i
 
 nat_itself : (n : ℕ) → nat_eq n n ≡ true

@@ -2,10 +2,9 @@
 use Rattle.std.proofs.Common.{Bool, true, cond, List, [], ◌∷◌, ◌++◌}
 use Rattle.std.specs.Prelude.{◌&&◌, not, codes, Option, Some, None, option_map, option_and_then, map}
 use Rattle.std.specs.List.{list_all}
-use Rattle.lens_values.specs.Value.{is_nullable}
-use Rattle.lens_values.specs.declared.value.Kind.{Kind}
-use Rattle.lens_specs.specs.Names.{Name}
-use Rattle.lens_specs.specs.Predicate.{eq}
+use Rattle.plain_values.specs.Value.{is_nullable}
+use Rattle.plain_values.specs.declared.value.Kind.{Kind}
+use Rattle.lens_specs.specs.Common.{Name, eq}
 use Rattle.grammar_specs.specs.Tokens.{Token, word, open_paren, close_paren, comma, operator, is_free_name}
 use Rattle.grammar_specs.specs.Written.{Pred, Expr, Dep, Written, table, view, columns_tokens, dep_tokens, deps_tokens, is_some_list, are_free_names, is_column_of, are_columns, is_dep}
 use Rattle.grammar_laws.specs.Tests.{is_keyword, name_in, kind_in, with_null, is_open, is_close, is_comma, is_arrow, is_equals}

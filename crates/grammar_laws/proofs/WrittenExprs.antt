@@ -2,8 +2,8 @@
 use Rattle.std.proofs.Common.{ℕ, Bool, true, cond, List, [], ◌∷◌, ◌++◌}
 use Rattle.std.specs.Prelude.{◌&&◌, codes, Option, Some, None, option_map, option_and_then, map}
 use Rattle.std.specs.List.{list_all}
-use Rattle.lens_values.specs.declared.join_kind.JoinKind.{JoinKind}
-use Rattle.lens_values.specs.declared.value.Value.{Value}
+use Rattle.plain_values.specs.declared.join_kind.JoinKind.{JoinKind}
+use Rattle.plain_values.specs.declared.value.Value.{Value}
 use Rattle.lens_specs.specs.Names.{Name}
 use Rattle.grammar_specs.specs.Tokens.{Token, word, open_paren, close_paren, comma, is_free_name}
 use Rattle.grammar_specs.specs.Written.{Operand, bare, enclosed, Expr, named, select, drop, rename, join, literal, join_word, operand_tokens, expr_tokens, is_some_list, are_free_names, is_operand, is_expr}

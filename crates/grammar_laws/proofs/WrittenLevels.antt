@@ -3,12 +3,11 @@ use Rattle.std.proofs.Common.{◌≡◌, ℕ, true, List, [], ◌∷◌, ◌++�
 use Rattle.std.specs.Prelude.{◌&&◌, max, codes, Option, Some, None, option_and_then, flat_map}
 use Rattle.std.specs.List.{list_all}
 use Rattle.std.proofs.lemmas.List.{map-append}
-use Rattle.lens_specs.specs.Names.{Name}
-use Rattle.lens_specs.specs.Predicate.{eq}
+use Rattle.plain_values.proofs.Tests.{first_holds, second_holds}
+use Rattle.lens_specs.specs.Common.{Name, eq}
 use Rattle.grammar_specs.specs.Tokens.{Token, word, open_paren, close_paren, comma, operator, is_free_name}
 use Rattle.grammar_specs.specs.Written.{Pred, Dep, Written, table, view, columns_tokens, dep_tokens, deps_tokens, where_tokens, pred_tokens, expr_tokens, written_tokens, is_some_list, are_columns, is_dep, is_expr, is_condition, is_definition}
 use Rattle.grammar_specs.specs.Nesting.{at_each, nesting, where_nesting, pred_nesting, expr_nesting}
-use Rattle.grammar_laws.proofs.Options.{first_holds, second_holds}
 use Rattle.grammar_laws.proofs.WrittenPreds.{behind}
 use Rattle.grammar_laws.proofs.PredReads.{ors_of, last_of, pred_read}
 use Rattle.grammar_laws.proofs.PredLevels.{pred_levels}

@@ -1,9 +1,8 @@
 -- The parser of definitions, by meaning: its states, and the step that each token makes.
 use Rattle.std.specs.Prelude.{codes, List, [], ◌∷◌, ◌++◌, Option, Some, None, option_map, option_and_then, ℕ, if◌then◌else◌, cond}
 use Rattle.std.specs.FinMap as map_of
-use Rattle.lens_values.specs.declared.value.Kind.{Kind}
-use Rattle.lens_specs.specs.Names.{Name}
-use Rattle.lens_specs.specs.Dependencies.{Edge}
+use Rattle.plain_values.specs.declared.value.Kind.{Kind}
+use Rattle.lens_specs.specs.Common.{Name, Edge}
 use Rattle.grammar_specs.specs.Tokens.{Token}
 use Rattle.grammar_specs.specs.Written.{is_some_list, is_column_of}
 use Rattle.grammar_specs.specs.Meaning.{Definition, table, view, conjuncts, dep_meaning}

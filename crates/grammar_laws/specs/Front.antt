@@ -1,6 +1,6 @@
 -- The token in front of a text, found byte by byte, and what follows it.
 use Rattle.std.specs.Prelude.{ℕ, ◌<◌, ◌≤◌, Bool, ◌^◌, ◌&&◌, ◌==◌, pos, List, [], ◌∷◌, ◌++◌, length, take, drop, nat_le, nat_lt, take_while, Option, Some, None, option_map, option_and_then, if◌then◌else◌}
-use Rattle.lens_values.specs.Bytes.{is_lower, is_name, is_name_byte, is_text}
+use Rattle.plain_values.specs.Bytes.{is_lower, is_name, is_name_byte, is_text}
 use Rattle.lens_specs.specs.Predicate.{eq, ne, lt, le, gt, ge}
 use Rattle.grammar_specs.specs.Tokens.{Token, word, integer, text, open_paren, close_paren, comma, arrow, operator, is_digit, is_quote, digits_value, minus, Spells, Ends}
 

@@ -2,9 +2,8 @@
 use Rattle.std.specs.Prelude.{◌≡◌, ◌≢◌, ◌⊎◌, ℕ, suc, zero, ◌+◌, ◌*◌, ◌-◌, ◌^◌, ◌&&◌, ◌||◌, ◌==◌, ℤ, pos, negsuc, Bool, true, false, not, List, [], ◌∷◌, ◌++◌, nat_le, nat_lt, nat_eq, codes, if◌then◌else◌}
 use Rattle.std.specs.List.{list_any, list_all}
 use Rattle.std.specs.Cmp.Lexicographic.{pointwise}
-use Rattle.lens_values.specs.Bytes.{is_name_byte, is_name, is_text}
-use Rattle.lens_specs.specs.Names.{Name}
-use Rattle.lens_specs.specs.Predicate.{Op, eq, ne, lt, le, gt, ge}
+use Rattle.plain_values.specs.Bytes.{is_name_byte, is_name, is_text}
+use Rattle.lens_specs.specs.Common.{Name, Op, eq, ne, lt, le, gt, ge}
 
 -- a word, an integer, a text, an operator or punctuation
 pub data Token : Type 0 where

@@ -2,15 +2,13 @@
 use Rattle.std.specs.Prelude.{pos, negsuc, Bool, true, false, not, ◌&&◌, ◌^◌, nat_lt}
 use Rattle.std.specs.List.{list_all}
 use Rattle.std.specs.FinMap as map_of
-use Rattle.lens_values.specs.Bytes.{is_text}
-use Rattle.lens_values.specs.SortedSet as set
-use Rattle.lens_values.specs.SortedMap.{keys_of}
-use Rattle.lens_values.specs.Value.{is_null}
-use Rattle.lens_values.specs.declared.value.Value.{Value}
-use Rattle.lens_values.specs.declared.value.Value.TheVariants.{Null, Int, Text, Flag}
-use Rattle.lens_specs.specs.Dependencies.{Edge}
-use Rattle.lens_specs.specs.Names.{Names}
-use Rattle.lens_specs.specs.Predicate.{Formula, truth, falsity, compare, compare_columns, one_of, null_at, negation, all_of, any_of, Formulas, no_formulas, formulas, Predicate}
+use Rattle.plain_values.specs.Bytes.{is_text}
+use Rattle.plain_values.specs.SortedSet as set
+use Rattle.plain_values.specs.SortedMap.{keys_of}
+use Rattle.plain_values.specs.Value.{is_null}
+use Rattle.plain_values.specs.declared.value.Value.{Value}
+use Rattle.plain_values.specs.declared.value.Value.TheVariants.{Null, Int, Text, Flag}
+use Rattle.lens_specs.specs.Common.{Edge, Names, Formula, truth, falsity, compare, compare_columns, one_of, null_at, negation, all_of, any_of, Formulas, no_formulas, formulas, Predicate}
 use Rattle.grammar_specs.specs.Tokens.{is_free_name}
 use Rattle.grammar_specs.specs.Written.{is_some_list, are_constants}
 use Rattle.grammar_specs.specs.Meaning.{Expr, named, select, drop, rename, join, Definition, table, view}

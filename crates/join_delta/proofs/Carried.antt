@@ -1,30 +1,22 @@
 -- An edit of a join, carried down to both sources.
 use Rattle.std.proofs.Common.{◌≡◌, List, ◌++◌, length, refl, sym, ap, ◌∙◌, subst, true, false, inl, inr, arith}
-use Rattle.std.proofs.lemmas.Bool.{cases_Bool, not-true, not_from_false}
+use Rattle.std.proofs.lemmas.Bool.{cases_Bool, not-true, not_from_false, false_from_ne_true}
 use Rattle.std.specs.Ordering.{eq_by_cmp}
-use Rattle.lens_values.specs.Row.{row_cmp}
-use Rattle.lens_values.specs.SortedSet as set
-use Rattle.lens_values.specs.declared.row.Row.{Row}
-use Rattle.lens_specs.specs.Columns.{Columns, Fits, names}
-use Rattle.lens_specs.specs.Delta.{Applies, Delta, diff, new_view}
-use Rattle.lens_specs.specs.Dependencies.{AllEdges, Edge, Meets, MeetsTree}
-use Rattle.lens_specs.specs.Names.{Names, Within}
-use Rattle.lens_specs.specs.Nodes.{join_get, join_left, join_over, join_put_left, join_right}
-use Rattle.lens_specs.specs.Relation.{IsRelation, Relation, Rows, has, minus, project, those, union}
-use Rattle.lens_specs.specs.Rows.{agree, cut, paste}
+use Rattle.plain_values.specs.Row.{row_cmp, Row}
+use Rattle.plain_values.specs.SortedSet as set
+use Rattle.lens_specs.specs.Common.{Columns, Fits, names, Applies, Delta, diff, new_view, AllEdges, Edge, Meets, MeetsTree, Names, Within, join_get, join_left, join_over, join_put_left, join_right, IsRelation, Relation, Rows, has, minus, project, those, union, agree, cut, paste}
 use Rattle.lens_laws.specs.KeyedDeltas.{is_over, join_delta_left, join_delta_right, merge_delta, suspects, touched}
 use Rattle.fd_laws.specs.Trees.{EdgesWithin, IsTree}
 use Rattle.lens_laws.specs.Shapes.{CanJoin, IsIn, Shape, join_shape}
-use Rattle.fd_laws.proofs.Closures.{closure_is, implies_sound}
+use Rattle.fd_laws.proofs.Common.{closure_is, from_minus, from_project, from_those, from_union, in_join, in_minus, in_those, in_union_left, in_union_right, same_rel, sets, row_itself, tied_row, all_append, each_edge}
+use Rattle.fd_laws.proofs.Closures.{implies_sound}
 use Rattle.lens_laws.proofs.Deltas.{diff_leads, from_found_each, from_touched, in_new_view_added, merge_adds, merge_delta_is}
 use Rattle.lens_laws.proofs.Join.{from_natural, from_over, in_over, in_put_left, left_sort, natural_paste, not_over, part_left, parts_fit, right_sort, view_left}
 use Rattle.lens_laws.proofs.JoinDelta.{from_suspects, in_suspects, join_delta_left_is, join_delta_right_is, split_left, sub_left}
 use Rattle.lens_laws.proofs.JoinKindDeltas.{over_pair}
-use Rattle.fd_laws.proofs.Lists.{absurd_false, any_at, false_from}
-use Rattle.fd_laws.proofs.Relations.{from_join, from_minus, from_project, from_those, from_union, in_join, in_minus, in_those, in_union_left, in_union_right, same_rel, sets}
-use Rattle.fd_laws.proofs.Rows.{row_itself, tied_row}
-use Rattle.fd_laws.proofs.TreeForms.{all_append, append_parts}
-use Rattle.fd_laws.proofs.Trees.{each_edge}
+use Rattle.plain_values.proofs.Lists.{absurd_false, any_at}
+use Rattle.fd_laws.proofs.Relations.{from_join}
+use Rattle.fd_laws.proofs.TreeForms.{append_parts}
 use Rattle.signed_delta.specs.Disjoint.{AreApart}
 use Rattle.signed_delta.proofs.Differences.{sides_apart}
 use Rattle.revision.proofs.Runs.{revised_fit}
@@ -235,11 +227,11 @@ module _ {A B : Relation} {F G : List Edge} {d : Delta} (q : IsJoinEdit A B F G 
     | inl y ↦ in_union_left (minus (suspects S U A.rows d (join_delta_right V G B.rows d).add) gone) (minus come (project U d.add)) r
         (in_minus (suspects S U A.rows d (join_delta_right V G B.rows d).add) gone r
         (in_suspects s t (F ++ G) passes A.rows B.rows d of_left of_right q.applies of_view r y h)
-        (false_from _ (λ k. absurd_false _ i (from_minus A.rows merged_left r (ap (λ (x : Delta). has x.remove r) (sym left_merges) ∙ k)).1)))
+        (false_from_ne_true _ (λ k. absurd_false _ i (from_minus A.rows merged_left r (ap (λ (x : Delta). has x.remove r) (sym left_merges) ∙ k)).1)))
     | inr z ↦
         let new : has come r ≡ true = ap (λ (x : Delta). has x.add r) left_merges ∙ in_minus merged_left A.rows r i z in
         in_union_right (minus (suspects S U A.rows d (join_delta_right V G B.rows d).add) gone) (minus come (project U d.add)) r
-        (in_minus come (project U d.add) r new (false_from _ (λ k. absurd_false _ h (parts_stay r new k))))
+        (in_minus come (project U d.add) r new (false_from_ne_true _ (λ k. absurd_false _ h (parts_stay r new k))))
   ]
 
   -- the rows that are joined too much are those of the tested rows
@@ -302,7 +294,7 @@ fewer M N X c remove add is sub removes adds =
 
 -- no row is on both of its sides
 pub fewer_apart : (X : Rows) (c : Delta) (remove add : Rows) → AreApart c.remove c.add → remove ≡ union c.remove (minus X c.add) → add ≡ minus c.add X → AreApart remove add
-fewer_apart X c remove add both removes adds r i = ap (λ M. has M r) adds ∙ false_from _ (λ k.
+fewer_apart X c remove add both removes adds r i = ap (λ M. has M r) adds ∙ false_from_ne_true _ (λ k.
     let v = from_minus c.add X r k in
     elim (from_union c.remove (minus X c.add) r (ap (λ M. has M r) (sym removes) ∙ i)) [
       | inl j ↦ absurd_false _ v.0 (both r j)

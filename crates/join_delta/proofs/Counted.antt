@@ -1,25 +1,20 @@
 -- How many rows an edit of a join becomes, and how many looks it takes.
-use Rattle.std.proofs.Common.{◌≡◌, ℕ, suc, ◌+◌, ◌*◌, ◌≤◌, List, [], ◌∷◌, length, map, sym, ap, subst, inl, inr, arith}
-use Rattle.std.proofs.lemmas.List.{length-map}
+use Rattle.std.proofs.Common.{◌≡◌, ℕ, suc, ◌+◌, ◌*◌, ◌≤◌, List, [], ◌∷◌, length, sym, ap, subst, inl, inr, arith}
 use Rattle.std.proofs.lemmas.Nat.{mul-le}
 use Rattle.std.specs.List.{Contains}
-use Rattle.lens_values.specs.SortedSet as set
-use Rattle.lens_values.specs.declared.row.Row.{Row}
-use Rattle.lens_specs.specs.Delta.{Delta}
-use Rattle.lens_specs.specs.Dependencies.{AllEdges, Edge}
-use Rattle.lens_specs.specs.Names.{Names}
-use Rattle.lens_specs.specs.Relation.{Rows, image, minus, project, union}
-use Rattle.lens_specs.specs.Revision.{revise, revise_row}
+use Rattle.plain_values.specs.SortedSet as set
+use Rattle.plain_values.specs.Row.{Row}
+use Rattle.lens_specs.specs.Common.{Delta, AllEdges, Edge, Names, Rows, minus, project, union, revise}
 use Rattle.lens_laws.specs.Asked.{left_sides}
 use Rattle.lens_laws.specs.KeyedDeltas.{find_by, found_each, merge_delta, suspects, touched}
 use Rattle.lens_laws.specs.Work.{count_of, node_work, GivesAtMost}
 use Rattle.lens_laws.proofs.Counts.{count-none, count-within}
-use Rattle.lens_laws.proofs.DeltaCounts.{count-touched}
+use Rattle.lens_laws.proofs.DeltaCounts.{count-revise, touched_few, merge_adds_few}
 use Rattle.lens_laws.proofs.Asked.{contains_cases}
-use Rattle.fd_laws.proofs.Lists.{absurd_false}
+use Rattle.plain_values.proofs.Lists.{absurd_false}
 use Rattle.fd_laws.proofs.Relations.{from_minus, from_union}
 use Rattle.signed_delta.proofs.Gives.{gives_by_edges}
-use Rattle.signed_delta.proofs.Counts.{listed_len, minus_len, project_len, union_len}
+use Rattle.signed_delta.proofs.Counts.{project_len, union_len}
 
 -- ---- looks, one call after another
 
@@ -42,30 +37,6 @@ part_few C D M N rows is same =
     let s = ap count_of is in
     let p = project_len C M in
     let e = ap count_of same in
-    omega arith
-
-count-revise : (T : List Edge) (M L : Rows) → count_of (revise T M L) ≤ count_of M
-unfolding revise image
-count-revise T M L =
-    let f = λ (m : Row). revise_row T m L in
-    let h = listed_len (map f (set.items M)) in
-    let e = length-map (set.items M) f in
-    omega arith
-
-touched_few : (F : List Edge) (M L : Rows) (n : ℕ) → length F ≤ 64 → GivesAtMost n (left_sides F) M → count_of (touched F M L) ≤ 64 * (count_of L * n)
-touched_few F M L n few h =
-    let i = count-touched F M L n h in
-    let j = mul-le (length F) (count_of L * n) 64 (count_of L * n) few (omega arith) in
-    omega arith
-
--- what a merge adds
-merge_adds_few : (F : List Edge) (M A : Rows) (n : ℕ) → length F ≤ 64 → GivesAtMost n (left_sides F) M → count_of (merge_delta F M A).add ≤ 64 * (count_of A * n) + count_of A
-unfolding merge_delta
-merge_adds_few F M A n few h =
-    let t = touched_few F M A n few h in
-    let c = count-revise F (touched F M A) A in
-    let m = minus_len A M in
-    let u = union_len (revise F (touched F M A) A) (minus A M) in
     omega arith
 
 -- and beside its own rows

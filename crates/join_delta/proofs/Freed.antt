@@ -1,24 +1,17 @@
 -- Right parts of rows joined too much, and which of them the edited view has.
 use Rattle.std.proofs.Common.{◌≡◌, sym, ap, ◌∙◌, true, false, not, inl, inr}
 use Rattle.std.specs.Ordering.{eq_by_cmp}
-use Rattle.std.proofs.lemmas.Bool.{not-true}
-use Rattle.lens_values.specs.Part.{override, restrict}
-use Rattle.lens_values.specs.Row.{row_cmp}
-use Rattle.lens_values.specs.SortedSet as set
-use Rattle.lens_values.specs.declared.row.Row.{Row}
-use Rattle.lens_specs.specs.Columns.{Columns, Fits, names}
-use Rattle.lens_specs.specs.Delta.{Delta, new_view}
-use Rattle.lens_specs.specs.Names.{Names}
-use Rattle.lens_specs.specs.Nodes.{join_get}
-use Rattle.lens_specs.specs.Relation.{Rows, has, minus, project, those}
-use Rattle.lens_specs.specs.Rows.{agree, cut, paste}
+use Rattle.std.proofs.lemmas.Bool.{not-true, false_from_ne_true}
+use Rattle.plain_values.specs.Part.{override, restrict}
+use Rattle.plain_values.specs.Row.{row_cmp, Row}
+use Rattle.plain_values.specs.SortedSet as set
+use Rattle.lens_specs.specs.Common.{Columns, Fits, names, Delta, new_view, Names, join_get, Rows, has, minus, project, those, agree, cut, paste}
 use Rattle.lens_laws.specs.KeyedDeltas.{find_by}
 use Rattle.lens_laws.proofs.Deltas.{from_new_view, in_new_view_added, in_new_view_kept}
 use Rattle.lens_laws.proofs.Join.{cut_right, from_natural, natural_paste}
 use Rattle.lens_laws.proofs.PastedFinds.{both_is_paste}
-use Rattle.fd_laws.proofs.Lists.{absurd_false, any_at, any_from, false_from}
-use Rattle.fd_laws.proofs.Relations.{from_minus, from_project, from_those, in_join, in_minus, in_project, in_those, same_rel}
-use Rattle.fd_laws.proofs.Rows.{agree-cut, agree_back, agree_on, row_itself, tied_row}
+use Rattle.plain_values.proofs.Lists.{absurd_false, any_at, any_from}
+use Rattle.fd_laws.proofs.Common.{from_minus, from_project, from_those, in_join, in_minus, in_project, in_those, same_rel, agree-cut, agree_back, agree_on, row_itself, tied_row}
 use Rattle.join_delta.specs.Joined.{shared_names}
 use Rattle.join_delta.specs.Shown.{is_shown}
 
@@ -94,7 +87,7 @@ module _ (U V : Columns) (M N : Rows) (d : Delta) (P added : Rows) (fit_left : (
             let p = natural_paste U V M N fit_left fit_right w.0 y.0 in
             let m = cut (names U) w.0 in
             let there : has N q ≡ true = ap (has N) w.2 ∙ nat.1 in
-            let stood : has old q ≡ true = in_minus (minus P own) added q (in_minus P own q i z) (false_from _ (λ a. absurd_false _ there (new q a))) in
+            let stood : has old q ≡ true = in_minus (minus P own) added q (in_minus P own q i z) (false_from_ne_true _ (λ a. absurd_false _ there (new q a))) in
             let like : agree S m q ≡ true = ap (agree S m) w.2 ∙ p.1 in
             let near : has (find_by S (cut S q) M) m ≡ true = in_those (agree S (cut S q)) M m nat.0 (agree_on S (cut S q) q m (agree-cut S q) (agree_back S m q like)) in
             let pair : override q m ≡ w.0 = both_is_paste V m q (fit_right q there) ∙ ap (paste m (names V)) w.2 ∙ p.0 in
@@ -108,12 +101,12 @@ module _ (U V : Columns) (M N : Rows) (d : Delta) (P added : Rows) (fit_left : (
       (λ q i.
       let v = from_minus (minus P own) shown q i in
       let w = from_minus P own q v.0 in
-      in_minus P (project (names V) O) q w.0 (false_from _ (λ h. absurd_false _ (there_shown q w.0 w.1 h) v.1)))
+      in_minus P (project (names V) O) q w.0 (false_from_ne_true _ (λ h. absurd_false _ (there_shown q w.0 w.1 h) v.1)))
       (λ q i.
       let v = from_minus P (project (names V) O) q i in
       in_minus (minus P own) shown q
-      (in_minus P own q v.0 (false_from _ (λ h. absurd_false _ (own_there q h) v.1)))
-      (false_from _ (λ h. absurd_false _ (shown_there q h) v.1)))
+      (in_minus P own q v.0 (false_from_ne_true _ (λ h. absurd_false _ (own_there q h) v.1)))
+      (false_from_ne_true _ (λ h. absurd_false _ (shown_there q h) v.1)))
 
   -- the same, from what the code makes one after the other
   pub free_made : (SH : Names) (parts others made_old made_shown : Rows) → SH ≡ shared_names U V → parts ≡ P

@@ -4,24 +4,17 @@ use Rattle.std.proofs.lemmas.Bool.{cases_Bool}
 use Rattle.std.proofs.lemmas.List.{length-map}
 use Rattle.std.specs.List.{filter, flat_map, list_any}
 use Rattle.std.specs.Ordering.{eq_by_cmp}
-use Rattle.lens_values.specs.Part.{override}
-use Rattle.lens_values.specs.Row.{row_cmp}
-use Rattle.lens_values.specs.SortedSet as set
-use Rattle.lens_values.specs.declared.row.Row.{Row}
-use Rattle.lens_specs.specs.Columns.{Columns, Fits, names}
-use Rattle.lens_specs.specs.Delta.{Delta, new_view}
-use Rattle.lens_specs.specs.Dependencies.{Meets}
-use Rattle.lens_specs.specs.Names.{Names}
-use Rattle.lens_specs.specs.Relation.{Rows, has, those}
-use Rattle.lens_specs.specs.Rows.{agree}
+use Rattle.plain_values.specs.Part.{override}
+use Rattle.plain_values.specs.Row.{row_cmp, Row}
+use Rattle.plain_values.specs.SortedSet as set
+use Rattle.lens_specs.specs.Common.{Columns, Fits, names, Delta, new_view, Meets, Names, Rows, has, those, agree}
 use Rattle.lens_laws.specs.KeyedDeltas.{found_each}
 use Rattle.lens_laws.specs.Work.{count_of}
 use Rattle.lens_laws.proofs.Counts.{count-from_list, count-within}
 use Rattle.lens_laws.proofs.Deltas.{from_found_each, from_new_view, in_new_view_added, in_new_view_kept}
+use Rattle.fd_laws.proofs.Common.{from_those, agree_at, agree_back, agree_on, row_itself, row_total, same_row, tied_row}
 use Rattle.fd_laws.proofs.Columns.{fits_none}
-use Rattle.fd_laws.proofs.Lists.{in_head}
-use Rattle.fd_laws.proofs.Relations.{from_those}
-use Rattle.fd_laws.proofs.Rows.{agree_at, agree_back, agree_on, row_itself, row_total, same_row, tied_row}
+use Rattle.plain_values.proofs.Lists.{in_head}
 use Rattle.revision.proofs.Changed.{items_those}
 use Rattle.row_sets.specs.Joins.{pairs_on}
 use Rattle.join_delta.specs.Joined.{AreKeyed}

@@ -1,22 +1,17 @@
 -- Pairs of left rows that the view lacks, found among those with the right rows near them.
 use Rattle.std.proofs.Common.{◌≡◌, List, not, is_some, length, sym, ap, ◌∙◌, subst, true, inl, inr, arith}
-use Rattle.std.proofs.lemmas.Bool.{and_from, and_parts}
-use Rattle.lens_values.specs.Part.{restrict}
-use Rattle.lens_values.specs.SortedSet as set
-use Rattle.lens_values.specs.declared.row.Row.{Row}
-use Rattle.lens_specs.specs.Columns.{Columns, Fits, names}
-use Rattle.lens_specs.specs.Delta.{Delta, new_view}
-use Rattle.lens_specs.specs.Names.{Name, Names}
-use Rattle.lens_specs.specs.Nodes.{join_get}
-use Rattle.lens_specs.specs.Relation.{Rows, has, minus, those}
-use Rattle.lens_specs.specs.Rows.{agree, at, cut, paste}
+use Rattle.std.proofs.lemmas.Bool.{and_from, and_parts, false_from_ne_true}
+use Rattle.plain_values.specs.Part.{restrict}
+use Rattle.plain_values.specs.SortedSet as set
+use Rattle.plain_values.specs.Row.{Row}
+use Rattle.lens_specs.specs.Common.{Columns, Fits, names, Delta, new_view, Name, Names, join_get, Rows, has, minus, those, agree, at, cut, paste}
 use Rattle.lens_laws.specs.KeyedDeltas.{found_each}
-use Rattle.fd_laws.proofs.Columns.{fits_names}
+use Rattle.fd_laws.proofs.Common.{fits_names, from_shared, from_minus, from_those, in_join, in_minus, in_those, same_rel, sets}
 use Rattle.lens_laws.proofs.Deltas.{from_found_each, from_new_view, in_found_each, in_new_view_added, in_new_view_kept}
 use Rattle.lens_laws.proofs.Join.{cut_left, cut_right, from_natural, in_natural}
-use Rattle.fd_laws.proofs.Lists.{absurd_false, both_ways, false_from}
-use Rattle.fd_laws.proofs.Names.{from_shared}
-use Rattle.fd_laws.proofs.Relations.{from_join, from_minus, from_those, in_join, in_minus, in_those, same_rel, sets}
+use Rattle.plain_values.proofs.Lists.{absurd_false}
+use Rattle.plain_values.proofs.Tests.{same_bool}
+use Rattle.fd_laws.proofs.Relations.{from_join}
 use Rattle.row_sets.specs.Joins.{pairs_on}
 use Rattle.row_sets.proofs.Natural.{natural_is}
 use Rattle.join_delta.specs.Joined.{shared_names}
@@ -105,7 +100,7 @@ module _ (U V : Columns) (M N X : Rows) (change d : Delta) (fit_left : (m : Row)
   -- a pair is in the join as it was where its parts are there
   old_is : (q : Row) → has pairs q ≡ true → has_parts (names U) (names V) M N q ≡ has J q
   unfolding cut
-  old_is q i = both_ways _ _
+  old_is q i = same_bool _ _
       (λ t. let w = and_parts _ _ t in in_natural U V M N fit_left fit_right q (from_natural U V X near fit near_fits q i).2 w.0 w.1)
       (λ h. let w = from_natural U V M N fit_left fit_right q h in and_from _ _ w.0 w.1)
 
@@ -140,8 +135,8 @@ module _ (U V : Columns) (M N X : Rows) (change d : Delta) (fit_left : (m : Row)
   -- those that the edited join lacks
   over_are : minus pairs (new_view old d) ≡ minus pairs (new_view J d)
   over_are = same_rel _ _
-      (λ q i. let v = from_minus pairs (new_view old d) q i in in_minus pairs (new_view J d) q v.0 (false_from _ (λ h. absurd_false _ (in_view q v.0 h) v.1)))
-      (λ q i. let v = from_minus pairs (new_view J d) q i in in_minus pairs (new_view old d) q v.0 (false_from _ (λ h. absurd_false _ (from_view q h) v.1)))
+      (λ q i. let v = from_minus pairs (new_view old d) q i in in_minus pairs (new_view J d) q v.0 (false_from_ne_true _ (λ h. absurd_false _ (in_view q v.0 h) v.1)))
+      (λ q i. let v = from_minus pairs (new_view J d) q i in in_minus pairs (new_view old d) q v.0 (false_from_ne_true _ (λ h. absurd_false _ (from_view q h) v.1)))
 
   -- the pairs as they are made
   pub pairs_are : pairs_on S X near ≡ pairs

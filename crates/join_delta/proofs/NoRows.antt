@@ -3,18 +3,13 @@ use Rattle.std.proofs.Common.{◌≡◌, List, [], ◌∷◌, length, refl, sym,
 use Rattle.std.specs.List.{list_any}
 use Rattle.std.specs.Ordering.{eq_by_cmp}
 use Rattle.std.proofs.lemmas.Bool.{and_parts, cases_Bool, eqb-true}
-use Rattle.lens_values.specs.Row.{row_cmp}
-use Rattle.lens_values.specs.SortedSet as set
-use Rattle.lens_values.specs.declared.row.Row.{Row}
-use Rattle.lens_specs.specs.Delta.{Delta, is_empty, new_view}
-use Rattle.lens_specs.specs.Dependencies.{Edge, MeetsTree}
-use Rattle.lens_specs.specs.Names.{Names}
-use Rattle.lens_specs.specs.Relation.{Rows, has, minus, union}
-use Rattle.lens_specs.specs.Revision.{revise, revise_row}
+use Rattle.plain_values.specs.Row.{row_cmp, Row}
+use Rattle.plain_values.specs.SortedSet as set
+use Rattle.lens_specs.specs.Common.{Delta, is_empty, new_view, Edge, MeetsTree, Names, Rows, has, minus, union, revise, revise_row}
 use Rattle.lens_laws.specs.KeyedDeltas.{found_each, merge_delta, touched}
 use Rattle.lens_laws.proofs.Deltas.{from_touched}
-use Rattle.fd_laws.proofs.Lists.{absurd_false}
-use Rattle.fd_laws.proofs.Relations.{from_minus, from_union, in_minus, in_union_left, in_union_right, same_rel}
+use Rattle.plain_values.proofs.Lists.{absurd_false}
+use Rattle.fd_laws.proofs.Common.{from_minus, from_union, in_minus, in_union_left, in_union_right, same_rel}
 use Rattle.fd_laws.proofs.Trees.{from_revise, revise_own}
 
 none_listed : (rows : List Row) (r : Row) → length rows ≡ 0 → list_any (eq_by_cmp row_cmp r) rows ≡ false

@@ -1,19 +1,13 @@
 -- An edit of a join, carried down to both sources by the side on which the join deletes.
 use Rattle.std.proofs.Common.{◌≡◌, ◌≤◌, ◌*◌, ◌∷◌, ℕ, List, ◌++◌, length, not, sym, ap, ◌∙◌, refl, subst, true, false, inl, inr}
-use Rattle.std.proofs.lemmas.Bool.{cases_Bool, not-true, not_from_false}
-use Rattle.lens_values.specs.Part.{restrict}
-use Rattle.lens_values.specs.Row.{row_cmp}
-use Rattle.lens_values.specs.SortedSet as set
-use Rattle.lens_values.specs.declared.join_kind.JoinKind.{JoinKind}
-use Rattle.lens_values.specs.declared.join_kind.JoinKind.TheVariants.{DeleteBoth, DeleteLeft, DeleteRight}
-use Rattle.lens_values.specs.declared.row.Row.{Row}
-use Rattle.lens_specs.specs.Columns.{names}
-use Rattle.lens_specs.specs.Delta.{Applies, Delta, diff, new_view}
-use Rattle.lens_specs.specs.Dependencies.{Edge}
-use Rattle.lens_specs.specs.Names.{Names}
-use Rattle.lens_specs.specs.Nodes.{join_free, join_kept, join_left_after, join_over, join_put_left, join_put_left_kept, join_put_right, join_right, join_right_after}
-use Rattle.lens_specs.specs.Relation.{Relation, Rows, has, minus, project, those}
-use Rattle.lens_specs.specs.Rows.{cut}
+use Rattle.std.proofs.lemmas.Bool.{cases_Bool, not-true, not_from_false, false_from_ne_true}
+use Rattle.plain_values.specs.Part.{restrict}
+use Rattle.plain_values.specs.Row.{row_cmp, Row}
+use Rattle.plain_values.specs.SortedSet as set
+use Rattle.plain_values.specs.declared.join_kind.JoinKind.{JoinKind}
+use Rattle.plain_values.specs.declared.join_kind.JoinKind.TheVariants.{DeleteBoth, DeleteLeft, DeleteRight}
+use Rattle.lens_specs.specs.Common.{names, Applies, Delta, diff, new_view, Edge, Names, join_left_after, join_over, join_put_left, join_put_left_kept, join_put_right, join_right, join_right_after, Relation, Rows, has, minus, project, those, cut}
+use Rattle.lens_specs.specs.Nodes.{join_free, join_kept}
 use Rattle.lens_laws.specs.JoinKinds.{join_delta_left_kept, join_delta_right_free}
 use Rattle.lens_laws.specs.Asked.{left_sides}
 use Rattle.lens_laws.specs.Shapes.{Shape}
@@ -21,7 +15,7 @@ use Rattle.lens_laws.specs.Work.{GivesAtMost, rows_down, rows_of}
 use Rattle.lens_laws.proofs.DeltaCounts.{left_delta_small, left_kept_small, right_delta_small, right_free_small}
 use Rattle.lens_laws.proofs.Deltas.{diff_applies, diff_leads}
 use Rattle.lens_laws.proofs.JoinKindDeltas.{left_kept_is, right_free_is}
-use Rattle.fd_laws.proofs.Lists.{absurd_false, false_from}
+use Rattle.plain_values.proofs.Lists.{absurd_false}
 use Rattle.fd_laws.proofs.Relations.{from_minus, from_project, from_those, in_minus, in_project, in_those, same_rel}
 use Rattle.join_delta.specs.Joined.{edited, shared_names}
 use Rattle.join_delta.specs.Deleted.{left_deleted, right_deleted}
@@ -61,7 +55,7 @@ module _ (U V : Names) (F G : List Edge) (O M N : Rows) where
       (λ w i.
       let v = from_those (λ r. has (project V O) (cut V r)) over w i in
       in_those (λ r. not (has free (restrict V r))) over w v.0
-      (not_from_false _ (false_from _ (λ h. absurd_false _ v.1 (from_minus (project V over) (project V O) (cut V w) (ap (λ X. has X (cut V w)) (sym is) ∙ h)).1))))
+      (not_from_false _ (false_from_ne_true _ (λ h. absurd_false _ v.1 (from_minus (project V over) (project V O) (cut V w) (ap (λ X. has X (cut V w)) (sym is) ∙ h)).1))))
 
 -- the left parts are the same beside the right ones that the kind deletes
 pub left_beside : (k : JoinKind) (C D : Names) (pairs free : Rows) → left_deleted k C D pairs (right_deleted k free) ≡ left_deleted k C D pairs free

@@ -1,14 +1,12 @@
 -- Which parts of rows that are joined too much are deleted, by the side on which the join deletes.
 use Rattle.std.specs.Prelude.{◌≡◌, ◌≢◌, List, length, not, true, false, is_some}
 use Rattle.std.specs.List.{Contains}
-use Rattle.lens_values.specs.Part.{restrict}
-use Rattle.lens_values.specs.SortedSet as set
-use Rattle.lens_values.specs.declared.join_kind.JoinKind.{JoinKind}
-use Rattle.lens_values.specs.declared.join_kind.JoinKind.TheVariants.{DeleteBoth, DeleteLeft, DeleteRight}
-use Rattle.lens_values.specs.declared.row.Row.{Row}
-use Rattle.lens_specs.specs.Names.{Name, Names}
-use Rattle.lens_specs.specs.Relation.{Rows, has, minus, project, those}
-use Rattle.lens_specs.specs.Rows.{at}
+use Rattle.plain_values.specs.Part.{restrict}
+use Rattle.plain_values.specs.SortedSet as set
+use Rattle.plain_values.specs.declared.join_kind.JoinKind.{JoinKind}
+use Rattle.plain_values.specs.declared.join_kind.JoinKind.TheVariants.{DeleteBoth, DeleteLeft, DeleteRight}
+use Rattle.plain_values.specs.Row.{Row}
+use Rattle.lens_specs.specs.Common.{Name, Names, Rows, has, minus, project, those, at}
 use Rattle.join_delta.specs.declared.sources.Merged.{Merged}
 use Rattle.join_delta.specs.Shown.{is_shown}
 

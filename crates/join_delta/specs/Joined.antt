@@ -2,16 +2,10 @@
 use Rattle.std.specs.Prelude.{◌≡◌, ◌≢◌, ◌≤◌, ◌*◌, ℕ, List, length, true}
 use Rattle.std.specs.FinMap as finmap
 use Rattle.std.specs.List.{Contains}
-use Rattle.lens_values.specs.SortedSet as set
-use Rattle.lens_values.specs.declared.join_kind.JoinKind.{JoinKind}
-use Rattle.lens_values.specs.declared.row.Row.{Row}
-use Rattle.lens_specs.specs.Columns.{Columns, Fits, both_columns, names}
-use Rattle.lens_specs.specs.Delta.{Applies, Delta, diff, new_view}
-use Rattle.lens_specs.specs.Dependencies.{AllEdges, Edge, MeetsTree, closure}
-use Rattle.lens_specs.specs.Names.{Name, Names, Within}
-use Rattle.lens_specs.specs.Nodes.{join_get, join_left_after, join_right_after}
-use Rattle.lens_specs.specs.Relation.{IsRelation, Relation, Rows, has}
-use Rattle.lens_specs.specs.Rows.{agree}
+use Rattle.plain_values.specs.SortedSet as set
+use Rattle.plain_values.specs.declared.join_kind.JoinKind.{JoinKind}
+use Rattle.plain_values.specs.Row.{Row}
+use Rattle.lens_specs.specs.Common.{Columns, Fits, both_columns, names, Applies, Delta, diff, new_view, AllEdges, Edge, MeetsTree, closure, Name, Names, Within, join_get, join_left_after, join_right_after, IsRelation, Relation, Rows, has, agree}
 use Rattle.fd_laws.specs.Trees.{EdgesWithin, IsTree}
 use Rattle.lens_laws.specs.Work.{GivesAtMost, rows_down, rows_of}
 

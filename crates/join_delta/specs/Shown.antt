@@ -1,11 +1,10 @@
 -- Which right parts the edited view of a join still shows.
 use Rattle.std.specs.Prelude.{Bool, not, List}
 use Rattle.std.specs.List.{list_any}
-use Rattle.lens_values.specs.Part.{override, restrict}
-use Rattle.lens_values.specs.SortedSet as set
-use Rattle.lens_values.specs.declared.row.Row.{Row}
-use Rattle.lens_specs.specs.Names.{Names}
-use Rattle.lens_specs.specs.Relation.{Rows, has}
+use Rattle.plain_values.specs.Part.{override, restrict}
+use Rattle.plain_values.specs.SortedSet as set
+use Rattle.plain_values.specs.Row.{Row}
+use Rattle.lens_specs.specs.Common.{Names, Rows, has}
 use Rattle.lens_laws.specs.KeyedDeltas.{find_by}
 
 -- whether one of these left rows, pasted with the right part, is not removed

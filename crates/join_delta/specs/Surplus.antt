@@ -1,10 +1,6 @@
 -- Both sources of a join merged with an edit of it, and what they then join too much.
 use Rattle.std.specs.Prelude.{◌≡◌, List}
-use Rattle.lens_specs.specs.Columns.{names}
-use Rattle.lens_specs.specs.Delta.{Delta, diff}
-use Rattle.lens_specs.specs.Dependencies.{Edge}
-use Rattle.lens_specs.specs.Nodes.{join_left, join_over, join_right}
-use Rattle.lens_specs.specs.Relation.{Relation, project}
+use Rattle.lens_specs.specs.Common.{names, Delta, diff, Edge, join_left, join_over, join_right, Relation, project}
 use Rattle.join_delta.specs.Joined.{edited}
 use Rattle.join_delta.specs.Pairs.{AreSides}
 use Rattle.join_delta.specs.declared.sources.Merged.{Merged}

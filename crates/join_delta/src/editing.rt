@@ -1,6 +1,6 @@
 //! The edit of a join, taken to both sources by the side on which the join deletes.
 ghost use Rattle.std.specs.Prelude.{◌≤◌, ◌+◌, IfOk};
-ghost use Rattle.lens_values.specs.declared.join_kind.JoinKind.TheVariants.{DeleteBoth, DeleteLeft, DeleteRight};
+ghost use Rattle.plain_values.specs.declared.join_kind.JoinKind.TheVariants.{DeleteBoth, DeleteLeft, DeleteRight};
 ghost use Rattle.lens_laws.specs.Work.{node_work, rows_of};
 ghost use Rattle.join_delta.specs.Joined.{AtSizes, CanEdit, IsJoinChange};
 

@@ -1,6 +1,6 @@
 //! What a merge changes, by rows found by key.
 ghost use Rattle.std.specs.Prelude.{◌≡◌, ◌≤◌, ◌+◌, ◌*◌, ℕ, true, length, Contains, IfOk, OnOk};
-ghost use Rattle.lens_values.specs.SortedSet as set;
+ghost use Rattle.plain_values.specs.SortedSet as set;
 ghost use Rattle.lens_specs.specs.Delta.{diff};
 ghost use Rattle.lens_specs.specs.Relation.{Rows, has, minus};
 ghost use Rattle.fd_laws.specs.Trees.{IsTree};

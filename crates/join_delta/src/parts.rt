@@ -1,7 +1,7 @@
 //! The parts of rows that are joined too much, by the side on which the join deletes.
 ghost use Rattle.std.specs.Prelude.{◌≡◌, ◌≢◌, ◌≤◌, ◌+◌, ◌*◌, ℕ, true, length, not, Contains, IfOk, is_some};
-ghost use Rattle.lens_values.specs.Part.{restrict};
-ghost use Rattle.lens_values.specs.SortedSet as set;
+ghost use Rattle.plain_values.specs.Part.{restrict};
+ghost use Rattle.plain_values.specs.SortedSet as set;
 ghost use Rattle.lens_specs.specs.Relation.{has, project, those};
 ghost use Rattle.lens_specs.specs.Rows.{at};
 ghost use Rattle.join_delta.specs.Deleted.{CanAsk, free_of, left_deleted, right_deleted};

@@ -1,6 +1,6 @@
 //! Both sources of a join, merged with an edit of it.
 ghost use Rattle.std.specs.Prelude.{◌≡◌, ◌≢◌, ◌≤◌, ◌+◌, ◌*◌, ℕ, true, length, Contains, IfOk, OnOk, is_some};
-ghost use Rattle.lens_values.specs.SortedSet as set;
+ghost use Rattle.plain_values.specs.SortedSet as set;
 ghost use Rattle.lens_specs.specs.Relation.{minus, union};
 ghost use Rattle.lens_specs.specs.Rows.{at};
 ghost use Rattle.lens_laws.specs.KeyedDeltas.{suspects as suspects_of};

@@ -3,10 +3,10 @@ use Rattle.std.proofs.Common.{◌≡◌, ℕ, ◌<◌, ◌+◌, List, [], ◌∷
 use Rattle.std.specs.Prelude.{◌||◌}
 use Rattle.std.specs.Ordering.{eq_by_cmp, is_eq}
 use Rattle.std.specs.Cmp.{tied_itself}
-use Rattle.lens_values.specs.Row.{row_cmp}
-use Rattle.lens_values.specs.RowOrder.{row_cmp_total, row_cmp-IsAntisymmetric}
-use Rattle.lens_values.specs.SortedSet as set
-use Rattle.lens_values.specs.declared.row.Row.{Row}
+use Rattle.plain_values.specs.Row.{row_cmp, Row}
+use Rattle.plain_values.specs.RowOrder.{row_cmp_total, row_cmp-IsAntisymmetric}
+use Rattle.plain_values.specs.SortedSet as set
+use Rattle.plain_values.proofs.Tests.{or_swap}
 use Rattle.lens_specs.specs.Relation.{Rows}
 use Rattle.key_index.specs.Lists.{set_of}
 
@@ -23,11 +23,6 @@ in_list_at (y ∷ ys) (suc i) x l e = set.contains-insert row_cmp_total (set_of 
 or_none : (a : Bool) → (a || false) ≡ a
 or_none true = refl
 or_none false = refl
-
-or_swap : (a b c : Bool) → (a || (b || c)) ≡ (b || (a || c))
-or_swap true true c = refl
-or_swap true false c = refl
-or_swap false b c = refl
 
 -- none of the list has come
 pub none_more : (rows : Rows) → set.union rows (set_of []) ≡ rows

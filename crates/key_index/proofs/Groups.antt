@@ -1,25 +1,20 @@
 -- What a change of one group does to the others.
-use Rattle.std.proofs.Common.{◌≡◌, List, [], ◌∷◌, length, arith, ap, sym, ◌∙◌, refl, Bool, true, false, cond}
+use Rattle.std.proofs.Common.{◌≡◌, [], ◌∷◌, length, ap, sym, ◌∙◌, refl, Bool, true, false, cond}
 use Rattle.std.specs.Prelude.{Option, Some, None, unwrap_or, not, ◌&&◌, Result, Ok, Err, IfOk, OnOk, OnErr}
-use Rattle.std.specs.Ordering.{eq_by_cmp, is_eq}
+use Rattle.std.specs.Ordering.{eq_by_cmp}
 use Rattle.std.specs.BTreeMap.{BTreeMap, get}
-use Rattle.std.specs.declared.cmp.Ordering.{Ordering}
-use Rattle.std.specs.declared.cmp.Ordering.TheVariants.{Less, Equal, Greater}
-use Rattle.lens_values.specs.Row.{row_cmp}
-use Rattle.lens_values.specs.RowOrder.{row_cmp_total, row_cmp-IsAntisymmetric}
-use Rattle.lens_values.specs.SortedSet as set
-use Rattle.lens_values.specs.declared.row.Row.{Row}
+use Rattle.std.proofs.Math.Bool.{and-false}
+use Rattle.std.proofs.lemmas.List.{nil_from_length}
+use Rattle.plain_values.specs.Row.{row_cmp, Row}
+use Rattle.plain_values.specs.RowOrder.{row_cmp_total, row_cmp-IsAntisymmetric}
+use Rattle.plain_values.specs.SortedSet as set
+use Rattle.plain_values.proofs.Tests.{is_tie}
 use Rattle.lens_specs.specs.Relation.{Rows}
 use Rattle.key_index.specs.Key.{Cells, cells_cmp, key_cmp}
 use Rattle.key_index.proofs.Keys.{key_tied, same_ties}
 
-is_equal : (o : Ordering) → is_eq o ≡ true → o ≡ Equal
-is_equal Less e = cc
-is_equal Equal e = refl
-is_equal Greater e = cc
-
 pub tied : (key q : Row) → eq_by_cmp row_cmp key q ≡ true → key ≡ q
-tied key q e = row_cmp-IsAntisymmetric key q (is_equal (row_cmp key q) e)
+tied key q e = row_cmp-IsAntisymmetric key q (is_tie (row_cmp key q) e)
 
 -- rows by their keys
 abbrev pub Groups : Type 0
@@ -52,15 +47,11 @@ pub unchanged : (m n : Groups) (key : Cells) (w : Rows) → w ≡ rows_at m key
     → (q : Cells) → rows_at n q ≡ rows_at m q
 unchanged m n key w is updates q = through (λ s. s) m n key w is updates q ∙ either (eq_by_cmp cells_cmp key q) (rows_at m q)
 
-and_none : (b : Bool) → (b && false) ≡ false
-and_none true = refl
-and_none false = refl
-
 pub nothing_left : (row : Row) → set.remove (set.empty {R = row_cmp}) row ≡ set.empty
 nothing_left row = set.same_set row_cmp_total row_cmp-IsAntisymmetric _ _ (λ q.
     set.contains-remove row_cmp_total set.empty row q
     ∙ ap (λ b. not (eq_by_cmp row_cmp q row) && b) (set.contains-empty row_cmp q)
-    ∙ and_none (not (eq_by_cmp row_cmp q row)) ∙ sym (set.contains-empty row_cmp q))
+    ∙ and-false (not (eq_by_cmp row_cmp q row)) ∙ sym (set.contains-empty row_cmp q))
 
 kept : (b : Bool) (s t : Rows) → (b ≡ true → t ≡ s) → s ≡ cond b t s
 kept true s t h = sym (h refl)
@@ -69,8 +60,8 @@ kept false s t h = refl
 -- where a key has no group, there is nothing to take out
 pub nothing_taken : (m : Groups) (key : Cells) (row : Row) → get key_cmp m key ≡ None
     → (q : Cells) → rows_at m q ≡ cond (eq_by_cmp cells_cmp key q) (set.remove (rows_at m q) row) (rows_at m q)
-nothing_taken m key row none q = kept (eq_by_cmp cells_cmp key q) (rows_at m q) (set.remove (rows_at m q) row) (λ e.
-    let gone : rows_at m q ≡ set.empty = ap (rows_at m) (sym (key_tied key q e)) ∙ ap (λ o. unwrap_or o set.empty) none in
+nothing_taken m key row nil_from_length q = kept (eq_by_cmp cells_cmp key q) (rows_at m q) (set.remove (rows_at m q) row) (λ e.
+    let gone : rows_at m q ≡ set.empty = ap (rows_at m) (sym (key_tied key q e)) ∙ ap (λ o. unwrap_or o set.empty) nil_from_length in
     ap (λ s. set.remove s row) gone ∙ nothing_left row ∙ sym gone)
 
 pub on_ok : {T E P Q : Type 0} (r : Result T E) → (P → Q) → OnOk r P → OnOk r Q
@@ -89,13 +80,9 @@ dropped : (b : Bool) (o : Option Rows) → (b ≡ true → unwrap_or o set.empty
 dropped true o h = sym (h refl)
 dropped false o h = refl
 
-none : {A : Type 0} (xs : List A) → length xs ≡ 0 → xs ≡ []
-none [] e = refl
-none (x ∷ xs) e = absurd (omega arith)
-
 -- a set of no rows is the empty one
 pub no_rows : (s : Rows) → length (set.items s) ≡ 0 → s ≡ set.empty
-no_rows s e = sym (set.from_list-items row_cmp_total row_cmp-IsAntisymmetric s) ∙ ap set.from_list (none (set.items s) e)
+no_rows s e = sym (set.from_list-items row_cmp_total row_cmp-IsAntisymmetric s) ∙ ap set.from_list (nil_from_length (set.items s) e)
 
 -- a row was taken out of the group of the key, and then the group, which was empty
 pub taken_empty : (m n k : Groups) (key : Cells) (row : Row) (w : Rows) → w ≡ set.remove (rows_at m key) row → length (set.items w) ≡ 0

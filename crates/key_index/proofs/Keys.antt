@@ -9,13 +9,13 @@ use Rattle.std.specs.Ordering.{eq_by_cmp, is_eq, nat_cmp, ordering_then}
 use Rattle.std.specs.Cmp.{nat_cmp_total, tied_itself}
 use Rattle.std.specs.declared.cmp.Ordering.{Ordering}
 use Rattle.std.specs.declared.cmp.Ordering.TheVariants.{Less, Equal, Greater}
-use Rattle.lens_values.specs.Names.{Names}
-use Rattle.lens_values.specs.Row.{agree}
-use Rattle.lens_values.specs.SortedSet as set
-use Rattle.lens_values.specs.Value.{same_value, value_cmp}
-use Rattle.lens_values.specs.ValueOrder.{value_cmp-IsAntisymmetric}
-use Rattle.lens_values.specs.declared.row.Row.{Row}
-use Rattle.lens_values.specs.declared.value.Value.{Value}
+use Rattle.plain_values.specs.Names.{Names}
+use Rattle.plain_values.specs.Row.{agree, Row}
+use Rattle.plain_values.specs.SortedSet as set
+use Rattle.plain_values.specs.Value.{same_value, value_cmp}
+use Rattle.plain_values.specs.ValueOrder.{value_cmp-IsAntisymmetric}
+use Rattle.plain_values.specs.declared.value.Value.{Value}
+use Rattle.plain_values.proofs.Tests.{is_tie}
 use Rattle.lens_specs.specs.Relation.{Rows}
 use Rattle.key_index.specs.Index.{has_key}
 use Rattle.key_index.specs.Key.{Cells, cells_cmp, hash_key, key_cmp, key_of}
@@ -26,13 +26,8 @@ cell_tied None (Some w) e = cc
 cell_tied (Some v) None e = cc
 cell_tied (Some v) (Some w) e = ap Some (value_cmp-IsAntisymmetric v w e)
 
-is_equal : (o : Ordering) → is_eq o ≡ true → o ≡ Equal
-is_equal Less e = cc
-is_equal Equal e = refl
-is_equal Greater e = cc
-
 pub key_tied : (key q : Cells) → eq_by_cmp cells_cmp key q ≡ true → key ≡ q
-key_tied key q e = slice_cmp-IsAntisymmetric cell_tied key q (is_equal (cells_cmp key q) e)
+key_tied key q e = slice_cmp-IsAntisymmetric cell_tied key q (is_tie (cells_cmp key q) e)
 
 first_ties : (a b : Ordering) → (is_eq b ≡ true → a ≡ Equal) → is_eq (ordering_then a b) ≡ is_eq b
 first_ties Less Less h = refl

@@ -2,11 +2,12 @@
 use Rattle.std.proofs.Common.{◌≡◌, ℕ, ◌<◌, List, [], ◌∷◌, ◌++◌, length, ap, sym, ◌∙◌, refl, Bool, true, false, arith, zero, suc}
 use Rattle.std.specs.Prelude.{not, ◌&&◌, ◌||◌, slice_index_or, Result, Ok, Err, OnOk, OnErr, is_err}
 use Rattle.std.specs.Ordering.{eq_by_cmp}
+use Rattle.std.proofs.lemmas.Bool.{false≢true}
 use Rattle.key_index.specs.Key.{key_of}
-use Rattle.lens_values.specs.Row.{row_cmp}
-use Rattle.lens_values.specs.RowOrder.{row_cmp_total, row_cmp-IsAntisymmetric}
-use Rattle.lens_values.specs.SortedSet as set
-use Rattle.lens_values.specs.declared.row.Row.{Row}
+use Rattle.plain_values.specs.Row.{row_cmp, Row}
+use Rattle.plain_values.specs.RowOrder.{row_cmp_total, row_cmp-IsAntisymmetric}
+use Rattle.plain_values.specs.SortedSet as set
+use Rattle.plain_values.proofs.Tests.{or_swap}
 use Rattle.lens_specs.specs.Relation.{Rows}
 use Rattle.key_index.specs.Lists.{rows_of, HasKeys, AreKeyed, SameCols}
 use Rattle.key_index.specs.declared.index.Index.{Index}
@@ -17,11 +18,6 @@ pub inside : {A : Type 0} (xs : List A) (i : ℕ) (d e : A) → i < length xs �
 inside [] i d e within = absurd (omega arith)
 inside (x ∷ xs) zero d e within = refl
 inside (x ∷ xs) (suc i) d e within = inside xs i d e (omega arith)
-
-or_swap : (a b c : Bool) → (a || (b || c)) ≡ (b || (a || c))
-or_swap true true c = refl
-or_swap true false c = refl
-or_swap false b c = refl
 
 pub in_pushed : (list : List Keyed) (k : Keyed) (x : Row) → set.contains (rows_of (list ++ k ∷ [])) x ≡ (eq_by_cmp row_cmp x k.row || set.contains (rows_of list) x)
 in_pushed [] k x = set.contains-insert row_cmp_total set.empty k.row x
@@ -84,13 +80,6 @@ others_keyed indexes (j ∷ js) k all (suc i) d within = others_keyed indexes js
 pub all_keep_keys : (old new : List Index) (list : List Keyed) → SameCols old new → AreKeyed old list → AreKeyed new list
 all_keep_keys old new list same all i d within = keeps_keys old new _ same (all i d within)
 
-pub never : false ≡ true → ⊥
-never e = cc
-
-pub nothing_in : {A : Type 0} (xs : List A) → length xs ≡ 0 → xs ≡ []
-nothing_in [] e = refl
-nothing_in (x ∷ xs) e = absurd (omega arith)
-
 pub pushed_keyed : (indexes : List Index) (list : List Keyed) (k : Keyed) → AreKeyed indexes list → HasKeys indexes k → AreKeyed indexes (list ++ k ∷ [])
 pushed_keyed indexes [] k all has zero d within = has
 pushed_keyed indexes [] k all has (suc i) d within = absurd (omega arith)
@@ -108,9 +97,9 @@ none_removed rows row absent = set.same_set row_cmp_total row_cmp-IsAntisymmetri
     ∙ not_that (eq_by_cmp row_cmp x row) (set.contains rows x) (λ tie. ap (set.contains rows) (tied x row tie) ∙ absent))
 
 pub when_err : {T E P : Type 0} (r : Result T E) → OnErr r P → is_err r ≡ true → P
-when_err (Ok x) p e = absurd (never e)
+when_err (Ok x) p e = absurd (false≢true e)
 when_err (Err x) p e = p
 
 pub when_ok : {T E P : Type 0} (r : Result T E) → OnOk r P → is_err r ≡ false → P
 when_ok (Ok x) p e = p
-when_ok (Err x) p e = absurd (never (sym e))
+when_ok (Err x) p e = absurd (false≢true (sym e))

@@ -2,11 +2,11 @@
 use Rattle.std.proofs.Common.{◌≡◌, List, [], ◌∷◌, ap, sym, ◌∙◌, subst, refl, true, false, arith, suc}
 use Rattle.std.specs.Prelude.{◌||◌, slice_index_or}
 use Rattle.std.specs.Ordering.{eq_by_cmp}
-use Rattle.lens_values.specs.Names.{Names}
-use Rattle.lens_values.specs.Row.{row_cmp}
-use Rattle.lens_values.specs.RowOrder.{row_cmp_total, row_cmp-IsAntisymmetric}
-use Rattle.lens_values.specs.SortedSet as set
-use Rattle.lens_values.specs.declared.row.Row.{Row}
+use Rattle.std.proofs.lemmas.Bool.{false≢true}
+use Rattle.plain_values.specs.Names.{Names}
+use Rattle.plain_values.specs.Row.{row_cmp, Row}
+use Rattle.plain_values.specs.RowOrder.{row_cmp_total, row_cmp-IsAntisymmetric}
+use Rattle.plain_values.specs.SortedSet as set
 use Rattle.lens_specs.specs.Relation.{Rows}
 use Rattle.key_index.specs.Index.{has_key}
 use Rattle.key_index.specs.Key.{Cells, hash_key, key_of}
@@ -18,7 +18,6 @@ use Rattle.key_index.specs.declared.keyed.Keyed.{Keyed}
 use Rattle.key_index.specs.declared.marks.Marks.{Marks}
 use Rattle.key_index.proofs.Groups.{tied}
 use Rattle.key_index.proofs.Keys.{key_tied}
-use Rattle.key_index.proofs.Lists.{never}
 use Rattle.key_index.proofs.RowSets.{contained, same_rows}
 use Rattle.key_index.proofs.Sets.{same_names_are}
 
@@ -42,7 +41,7 @@ keyed_marks marks indexes k keys all i d within =
 
 some_marked : (marks : Marks) (indexes : List Index) (cols : Names) (row : Row) → has_cols (cols_of indexes) cols ≡ true → HasMarks marks indexes row
     → is_marked marks (hash_key (key_of cols row)) ≡ true
-some_marked marks [] cols row is all = absurd (never is)
+some_marked marks [] cols row is all = absurd (false≢true is)
 some_marked marks (x ∷ xs) cols row is all =
     elim (same_names x.cols cols) as (λ b. same_names x.cols cols ≡ b → (b || has_cols (cols_of xs) cols) ≡ true → is_marked marks (hash_key (key_of cols row)) ≡ true) [
       | true ↦ λ same _. subst (λ C. is_marked marks (hash_key (key_of C row)) ≡ true) (same_names_are x.cols cols same) (all 0 x (omega arith))
@@ -54,7 +53,7 @@ module _ (marks : Marks) (indexes : List Index) (hidden : Rows) (cols : Names) (
     (is : has_cols (cols_of indexes) cols ≡ true) (unmarked : is_marked marks (hash_key key) ≡ false) where
   none_under : (x : Row) → has_key cols key x ≡ true → set.contains hidden x ≡ false
   none_under x under = elim (set.contains hidden x) as (λ b. set.contains hidden x ≡ b → b ≡ false) [
-    | true ↦ λ there. absurd (never (sym unmarked ∙ ap (λ q. is_marked marks (hash_key q)) (key_tied key (key_of cols x) under) ∙ some_marked marks indexes cols x is (all x there)))
+    | true ↦ λ there. absurd (false≢true (sym unmarked ∙ ap (λ q. is_marked marks (hash_key q)) (key_tied key (key_of cols x) under) ∙ some_marked marks indexes cols x is (all x there)))
     | false ↦ λ _. refl
   ] refl
 

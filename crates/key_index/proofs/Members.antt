@@ -7,10 +7,11 @@ use Rattle.std.specs.Cmp.{tied_itself}
 use Rattle.std.specs.declared.cmp.Ordering.{Ordering}
 use Rattle.std.specs.declared.cmp.Ordering.TheVariants.{Less, Equal, Greater}
 use Rattle.std.proofs.Math.Dec.{eqb-suc-zero}
-use Rattle.lens_values.specs.Row.{row_cmp}
-use Rattle.lens_values.specs.RowOrder.{row_cmp_total, row_cmp-IsAntisymmetric}
-use Rattle.lens_values.specs.SortedSet as set
-use Rattle.lens_values.specs.declared.row.Row.{Row}
+use Rattle.std.proofs.lemmas.Bool.{true≢false}
+use Rattle.plain_values.specs.Row.{row_cmp, Row}
+use Rattle.plain_values.specs.RowOrder.{row_cmp_total, row_cmp-IsAntisymmetric}
+use Rattle.plain_values.specs.SortedSet as set
+use Rattle.plain_values.proofs.Tests.{or_swap}
 use Rattle.lens_specs.specs.Relation.{Rows}
 use Rattle.key_index.specs.Group.{pair, singleton}
 use Rattle.key_index.proofs.Groups.{no_rows, nothing_left, tied}
@@ -70,16 +71,11 @@ one_gone one row e = sym (last_gone set.empty one row e ∙ nothing_left row)
 pub one_stays : (one row : Row) → eq_by_cmp row_cmp one row ≡ false → singleton one ≡ set.remove (singleton one) row
 one_stays one row e = sym (last_stays set.empty one row e ∙ ap (λ s. set.insert s one) (nothing_left row))
 
-turned : (a b c : Bool) → (a || (b || c)) ≡ (b || (a || c))
-turned true true c = refl
-turned true false c = refl
-turned false b c = refl
-
 pub swapped : (one other : Row) → pair one other ≡ pair other one
 swapped one other = set.same_set row_cmp_total row_cmp-IsAntisymmetric _ _ (λ q.
     set.contains-insert row_cmp_total (singleton one) other q
     ∙ ap (λ b. eq_by_cmp row_cmp q other || b) (set.contains-insert row_cmp_total set.empty one q)
-    ∙ turned (eq_by_cmp row_cmp q other) (eq_by_cmp row_cmp q one) (set.contains (set.empty {R = row_cmp}) q)
+    ∙ or_swap (eq_by_cmp row_cmp q other) (eq_by_cmp row_cmp q one) (set.contains (set.empty {R = row_cmp}) q)
     ∙ ap (λ b. eq_by_cmp row_cmp q one || b) (sym (set.contains-insert row_cmp_total set.empty other q))
     ∙ sym (set.contains-insert row_cmp_total (singleton other) one q))
 
@@ -108,18 +104,15 @@ not_zero : (n : ℕ) → (n ≡ 0 → ⊥) → false ≡ (n == 0)
 not_zero zero h = absurd (h refl)
 not_zero (suc n) h = sym (eqb-suc-zero n)
 
-never : true ≡ false → ⊥
-never e = cc
-
 -- what is tested to be 0 is 0
 pub is_zero : (n : ℕ) → (n == 0) ≡ true → n ≡ 0
 is_zero zero e = refl
-is_zero (suc n) e = absurd (never (sym e ∙ eqb-suc-zero n))
+is_zero (suc n) e = absurd (true≢false (sym e ∙ eqb-suc-zero n))
 
 -- a set into which a row was put is not empty
 pub not_empty : (s : Rows) (row : Row) → false ≡ (length (set.items (set.insert s row)) == 0)
 not_empty s row = not_zero _ (λ e.
-    never (sym (has_last s row) ∙ ap (λ t. set.contains t row) (no_rows (set.insert s row) e) ∙ set.contains-empty row_cmp row))
+    true≢false (sym (has_last s row) ∙ ap (λ t. set.contains t row) (no_rows (set.insert s row) e) ∙ set.contains-empty row_cmp row))
 
 -- the set of no row is empty
 pub none_empty : true ≡ (length (set.items (set.empty {R = row_cmp})) == 0)

@@ -1,8 +1,9 @@
 -- Indexes of which some have a row and the others do not.
 use Rattle.std.proofs.Common.{◌≡◌, ◌<◌, ◌≤◌, ℕ, List, [], ◌∷◌, length, set as put_at, sym, subst, arith, zero, suc, ◌⊎◌, ⊎_elim, inl, inr}
 use Rattle.std.specs.Prelude.{slice_index_or, Result, Ok, Err, OnErr}
-use Rattle.lens_values.specs.SortedSet as set
-use Rattle.lens_values.specs.declared.row.Row.{Row}
+use Rattle.std.proofs.lemmas.Bool.{cases_lt}
+use Rattle.plain_values.specs.SortedSet as set
+use Rattle.plain_values.specs.Row.{Row}
 use Rattle.lens_specs.specs.Relation.{Rows}
 use Rattle.key_index.specs.Index.{group_at, IsIndexOf, IsPut}
 use Rattle.key_index.specs.Key.{Cells}
@@ -10,11 +11,6 @@ use Rattle.key_index.specs.Lists.{IsMixed, IsTableOf, SameCols, HasKeys}
 use Rattle.key_index.specs.declared.index.Index.{Index}
 use Rattle.key_index.specs.declared.keyed.Keyed.{Keyed}
 use Rattle.key_index.proofs.Put.{index_put, index_same}
-
-pub split : (j i : ℕ) → (j < i) ⊎ (i ≤ j)
-split j zero = inr (omega arith)
-split zero (suc i) = inl (omega arith)
-split (suc j) (suc i) = ⊎_elim (λ p. inl (omega arith)) (λ p. inr (omega arith)) (split j i)
 
 -- the first i indexes were put into
 pub half_put : (rows : Rows) (keyed : Keyed) (old now : List Index) (i : ℕ) → HasKeys old keyed → SameCols old now
@@ -27,7 +23,7 @@ half_put rows keyed old now i keys same done left was j d within =
     (λ p. inr (index_put rows keyed.row (slice_index_or old j d) (slice_index_or now j d) (same.each j d d inside)
     (subst (λ key. IsPut key keyed.row (slice_index_or old j d) (slice_index_or now j d)) (keys.each j d [] inside) (done j d d [] p)) (was j d inside)))
     (λ p. inl (subst (IsIndexOf rows) (sym (left j d d p inside)) (was j d inside)))
-    (split j i)
+    (cases_lt j i)
 
 -- one index was written over by one of the same groups
 pub set_mixed : (rows : Rows) (row : Row) (now : List Index) (i : ℕ) (x : Index) → x.cols ≡ (slice_index_or now i x).cols

@@ -2,9 +2,9 @@
 use Rattle.std.proofs.Common.{◌≡◌, ◌+◌, ◌<◌, ◌≤◌, ℕ, List, length, set as put_at, ap, sym, ◌∙◌, subst, arith, ⊎_elim}
 use Rattle.std.specs.Prelude.{slice_index_or}
 use Rattle.std.proofs.lemmas.List.{get_or-set_other, get_or-set_same, length-set}
+use Rattle.std.proofs.lemmas.Bool.{cases_lt}
 use Rattle.key_index.specs.Lists.{SameCols}
 use Rattle.key_index.specs.declared.index.Index.{Index}
-use Rattle.key_index.proofs.Mixed.{split}
 
 module _ (old now : List Index) (i : ℕ) (x : Index) (low : i < length old) (same : SameCols old now) (cols : x.cols ≡ (slice_index_or now i x).cols) where
   here : (d : Index) → slice_index_or (put_at now i x) i d ≡ x
@@ -23,7 +23,7 @@ module _ (old now : List Index) (i : ℕ) (x : Index) (low : i < length old) (sa
         (λ p. ⊎_elim (λ q. ap (λ y. y.cols) (behind j d q) ∙ same.each j d e within)
         (λ q. (let is : i ≡ j = omega (arith, p, q) in
         subst (λ n. (slice_index_or (put_at now i x) n d).cols ≡ (slice_index_or old n e).cols) is (ap (λ y. y.cols) (here d) ∙ cols ∙ same.each i x e low)))
-        (split i j)) (split j i);
+        (cases_lt i j)) (cases_lt j i);
   }
 
   -- what held of the first ones holds of one more
@@ -31,7 +31,7 @@ module _ (old now : List Index) (i : ℕ) (x : Index) (low : i < length old) (sa
       → ((d : Index) → P i (slice_index_or old i d) x) → (j : ℕ) (d e : Index) → j < i + 1 → P j (slice_index_or old j d) (slice_index_or (put_at now i x) j e)
   done_more P done this j d e below = ⊎_elim (λ p. subst (P j (slice_index_or old j d)) (sym (before j e p)) (done j d e p))
       (λ p. (let is : i ≡ j = omega (arith, p, below) in
-      subst (λ n. P n (slice_index_or old n d) (slice_index_or (put_at now i x) n e)) is (subst (P i (slice_index_or old i d)) (sym (here e)) (this d)))) (split j i)
+      subst (λ n. P n (slice_index_or old n d) (slice_index_or (put_at now i x) n e)) is (subst (P i (slice_index_or old i d)) (sym (here e)) (this d)))) (cases_lt j i)
 
   -- and the others stay
   pub left_more : ((j : ℕ) (d e : Index) → i ≤ j → j < length old → slice_index_or now j e ≡ slice_index_or old j d)

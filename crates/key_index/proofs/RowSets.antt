@@ -2,10 +2,9 @@
 use Rattle.std.proofs.Common.{◌≡◌, ap, ◌∙◌, Bool, true, false}
 use Rattle.std.specs.Prelude.{◌&&◌, ◌||◌, not}
 use Rattle.std.specs.Ordering.{eq_by_cmp}
-use Rattle.lens_values.specs.Row.{row_cmp}
-use Rattle.lens_values.specs.RowOrder.{row_cmp_total, row_cmp-IsAntisymmetric}
-use Rattle.lens_values.specs.SortedSet as set
-use Rattle.lens_values.specs.declared.row.Row.{Row}
+use Rattle.plain_values.specs.Row.{row_cmp, Row}
+use Rattle.plain_values.specs.RowOrder.{row_cmp_total, row_cmp-IsAntisymmetric}
+use Rattle.plain_values.specs.SortedSet as set
 use Rattle.lens_specs.specs.Relation.{Rows}
 use Rattle.key_index.proofs.Groups.{tied}
 

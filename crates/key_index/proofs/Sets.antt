@@ -2,24 +2,19 @@
 use Rattle.std.proofs.Common.{◌≡◌, ℕ, List, [], ◌∷◌, ap, sym, ◌∙◌, refl, Bool, true, false}
 use Rattle.std.specs.Prelude.{◌&&◌, ◌||◌, not}
 use Rattle.std.specs.Cmp.Lexicographic.{nat_list_cmp_total, pointwise, same_text}
-use Rattle.lens_values.specs.RowOrder.{row_cmp_total, row_cmp-IsAntisymmetric}
-use Rattle.lens_values.specs.SortedSet as set
-use Rattle.lens_values.proofs.Maps.{exact}
-use Rattle.lens_specs.specs.Delta.{Applies, Delta, new_view}
-use Rattle.lens_specs.specs.Names.{Names}
-use Rattle.lens_specs.specs.Relation.{Rows}
+use Rattle.std.proofs.lemmas.Bool.{and_parts, false≢true}
+use Rattle.plain_values.specs.RowOrder.{row_cmp_total, row_cmp-IsAntisymmetric}
+use Rattle.plain_values.specs.SortedSet as set
+use Rattle.plain_values.proofs.Maps.{exact}
+use Rattle.lens_specs.specs.Common.{Applies, Delta, new_view, Names, Rows}
 use Rattle.key_index.specs.Cols.{same_name, same_names}
-
-both : (a b : Bool) → (a && b) ≡ true → (a ≡ true) × (b ≡ true)
-both true b h = (refl, h)
-both false b h = cc
 
 same_lists : (xs ys : List (List ℕ)) → pointwise same_name xs ys ≡ true → xs ≡ ys
 same_lists [] [] h = refl
 same_lists [] (y ∷ ys) h = cc
 same_lists (x ∷ xs) [] h = cc
 same_lists (x ∷ xs) (y ∷ ys) h =
-    let parts = both (same_name x y) (pointwise same_name xs ys) h in
+    let parts = and_parts (same_name x y) (pointwise same_name xs ys) h in
     let head = same_text x y (sym parts.0) in let rest = same_lists xs ys parts.1 in λ i. head i ∷ rest i
 
 -- sets of names that pass the test are one
@@ -27,14 +22,11 @@ pub same_names_are : (C D : Names) → same_names C D ≡ true → C ≡ D
 same_names_are C D h =
     sym (set.from_list-items nat_list_cmp_total exact C) ∙ ap set.from_list (same_lists (set.items C) (set.items D) h) ∙ set.from_list-items nat_list_cmp_total exact D
 
-never : false ≡ true → ⊥
-never e = cc
-
 staged : (a p r : Bool) → (p ≡ true → a ≡ false) → (r ≡ true → a ≡ true) → ((a || p) && not r) ≡ ((a && not r) || p)
-staged true true r f g = absurd (never (sym (f refl)))
+staged true true r f g = absurd (false≢true (sym (f refl)))
 staged true false true f g = refl
 staged true false false f g = refl
-staged false p true f g = absurd (never (g refl))
+staged false p true f g = absurd (false≢true (g refl))
 staged false true false f g = refl
 staged false false false f g = refl
 

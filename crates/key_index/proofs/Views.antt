@@ -4,17 +4,17 @@ use Rattle.std.proofs.Math.Seq.{drop-cons}
 use Rattle.std.specs.Ordering.{eq_by_cmp}
 use Rattle.std.specs.Prelude.{not, ◌&&◌, ◌||◌, slice_index_or}
 use Rattle.std.proofs.lemmas.List.{take_all, length-take}
-use Rattle.lens_values.specs.Row.{row_cmp}
-use Rattle.lens_values.specs.RowOrder.{row_cmp_total, row_cmp-IsAntisymmetric}
-use Rattle.lens_values.specs.Names.{Names}
-use Rattle.lens_values.specs.SortedSet as set
-use Rattle.lens_values.specs.declared.row.Row.{Row}
+use Rattle.plain_values.specs.Row.{row_cmp, Row}
+use Rattle.plain_values.specs.RowOrder.{row_cmp_total, row_cmp-IsAntisymmetric}
+use Rattle.plain_values.specs.Names.{Names}
+use Rattle.plain_values.specs.SortedSet as set
 use Rattle.lens_specs.specs.Relation.{Rows}
 use Rattle.key_index.specs.Lists.{rows_of, SameCols}
 use Rattle.key_index.specs.Lists.{cols_of}
 use Rattle.key_index.specs.declared.index.Index.{Index}
 use Rattle.key_index.specs.declared.keyed.Keyed.{Keyed}
 use Rattle.key_index.proofs.Lists.{none_less}
+use Rattle.key_index.proofs.Whole.{length-cols_of}
 
 pub emptied : (rows all : Rows) (list : List Keyed) → rows ≡ all → list ≡ [] → set.difference rows (rows_of list) ≡ all
 emptied rows all list is none = ap (λ g. set.difference rows (rows_of g)) none ∙ none_less rows ∙ is
@@ -27,10 +27,6 @@ same_cols (x ∷ xs) (y ∷ ys) s =
     let head = ap (λ c. c) (s.each 0 y x (omega arith)) in
     let rest = same_cols xs ys (record { many = omega (arith, s.many); each = λ i d e within. s.each (suc i) d e (omega arith) }) in
     λ i. head i ∷ rest i
-
-length-cols_of : (indexes : List Index) → length (cols_of indexes) ≡ length indexes
-length-cols_of [] = refl
-length-cols_of (x ∷ xs) = ap suc (length-cols_of xs)
 
 pub all_cols : (n : ℕ) (indexes : List Index) → n ≡ length indexes → take n (cols_of indexes) ≡ cols_of indexes
 all_cols n indexes e = take_all n (cols_of indexes) (omega (arith, length-cols_of indexes))

@@ -2,7 +2,7 @@
 use Rattle.std.specs.Prelude.{Bool, List, nat_eq}
 use Rattle.std.specs.List.{list_any}
 use Rattle.std.specs.Cmp.Lexicographic.{pointwise}
-use Rattle.lens_values.specs.SortedSet as set
+use Rattle.plain_values.specs.SortedSet as set
 use Rattle.lens_specs.specs.Names.{Name, Names}
 
 -- whether two names are the same

@@ -1,6 +1,6 @@
 -- The rows of one key of an index.
-use Rattle.lens_values.specs.SortedSet as set
-use Rattle.lens_values.specs.declared.row.Row.{Row}
+use Rattle.plain_values.specs.SortedSet as set
+use Rattle.plain_values.specs.Row.{Row}
 use Rattle.lens_specs.specs.Relation.{Rows}
 use Rattle.key_index.specs.declared.group.Members.{Members}
 use Rattle.key_index.specs.declared.group.Members.TheVariants.{Empty, One, Two, Several}

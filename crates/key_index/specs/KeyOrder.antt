@@ -1,7 +1,7 @@
 -- The order of keys is total.
 use Rattle.std.specs.Cmp.{IsTotalOrder, nat_cmp_total, on_total, then_total}
 use Rattle.std.specs.Cmp.Lexicographic.{lists_total, options_total}
-use Rattle.lens_values.specs.ValueOrder.{value_cmp_total}
+use Rattle.plain_values.specs.ValueOrder.{value_cmp_total}
 use Rattle.key_index.specs.Key.{cells_cmp, hash_key, key_cmp}
 
 -- the order by cells is total

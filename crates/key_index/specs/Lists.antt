@@ -1,9 +1,9 @@
 -- Rows with their keys in each index of a table, and what the indexes hold.
 use Rattle.std.specs.Prelude.{◌≡◌, ◌<◌, ℕ, List, [], ◌∷◌, ◌++◌, map, length, slice_index_or}
 use Rattle.std.proofs.Common.{◌⊎◌}
-use Rattle.lens_values.specs.Names.{Names}
-use Rattle.lens_values.specs.SortedSet as set
-use Rattle.lens_values.specs.declared.row.Row.{Row}
+use Rattle.plain_values.specs.Names.{Names}
+use Rattle.plain_values.specs.SortedSet as set
+use Rattle.plain_values.specs.Row.{Row}
 use Rattle.lens_specs.specs.Relation.{Rows}
 use Rattle.key_index.specs.Index.{IsIndexOf}
 use Rattle.key_index.specs.Key.{Cells, key_of}

@@ -2,7 +2,7 @@
 ghost use Rattle.std.specs.Prelude.{◌≡◌, option_copied};
 ghost use Rattle.std.specs.FinMap as finmap;
 ghost use Rattle.std.specs.Option.{option_cmp};
-ghost use Rattle.lens_values.specs.Value.{value_cmp};
+ghost use Rattle.plain_values.specs.Value.{value_cmp};
 ghost use Rattle.key_index.specs.Key.{cells_cmp, hash_key, key_of};
 
 use lens_values::{Name, Names, Row, Value, hash_value};

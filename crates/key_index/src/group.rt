@@ -1,8 +1,8 @@
 //! The rows of one key of an index.
 ghost use Rattle.std.specs.Prelude.{◌≡◌, ◌==◌, IfOk, OnOk, OnErr, length};
 ghost use Rattle.std.specs.declared.cmp.Ordering.TheVariants.{Less};
-ghost use Rattle.lens_values.specs.Row.{row_cmp};
-ghost use Rattle.lens_values.specs.SortedSet as set;
+ghost use Rattle.plain_values.specs.Row.{row_cmp};
+ghost use Rattle.plain_values.specs.SortedSet as set;
 ghost use Rattle.lens_values.specs.contracts.row.Row as contract;
 ghost use Rattle.key_index.specs.Group.{pair, rows_in, singleton};
 

@@ -1,6 +1,6 @@
 //! An index: the rows of a table by their values in some columns.
 ghost use Rattle.std.specs.Prelude.{◌≡◌, IfOk, OnOk, OnErr, IsTrue};
-ghost use Rattle.lens_values.specs.SortedSet as set;
+ghost use Rattle.plain_values.specs.SortedSet as set;
 ghost use Rattle.key_index.specs.Index.{IsPut, IsTaken, group_at, has_key};
 ghost use Rattle.key_index.specs.Key.{key_of};
 ghost use Rattle.key_index.specs.Lists.{IsTableOf, cols_of};

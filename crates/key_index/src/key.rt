@@ -23,8 +23,8 @@ pub struct Key {
 impl Model for Key {
     ghost use Rattle.std.specs.Prelude.{◌≡◌, List, Option};
     ghost use Rattle.std.specs.Coded.{coded_list, coded_option};
-    ghost use Rattle.lens_values.specs.contracts.value.Value as contract;
-    ghost use Rattle.lens_values.specs.declared.value.Value as declared;
+    ghost use Rattle.plain_values.specs.contracts.value.Value as contract;
+    ghost use Rattle.plain_values.specs.declared.value.Value as declared;
     ghost use Rattle.key_index.specs.Key.{hash_key, key_of};
 
     ghost Value = { List (Option declared.Value) };

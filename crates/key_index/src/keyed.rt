@@ -1,6 +1,6 @@
 //! Rows with their keys, put into the indexes of a table and taken out again.
 ghost use Rattle.std.specs.Prelude.{◌≡◌, ◌≤◌, false, IfOk, OnOk, OnErr, length, take, drop};
-ghost use Rattle.lens_values.specs.SortedSet as set;
+ghost use Rattle.plain_values.specs.SortedSet as set;
 ghost use Rattle.key_index.specs.Lists.{AreKeyed, HasKeys, IsListed, IsMixed, IsTableOf, SameCols};
 ghost use Rattle.key_index.specs.Lists.{rows_of, set_of};
 ghost use Rattle.key_index.specs.Marks.{AreMarked, StayMarked};

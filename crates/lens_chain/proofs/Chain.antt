@@ -1,12 +1,10 @@
 -- What each node adds to the changes is what its sources add.
 use Rattle.std.proofs.Common.{◌≡◌, ◌∙◌, ap, sym, Some}
-use Rattle.lens_values.specs.declared.value.Value.{Value}
-use Rattle.lens_specs.specs.Delta.{Delta}
-use Rattle.lens_values.specs.declared.join_kind.JoinKind.{JoinKind}
-use Rattle.lens_specs.specs.Lens.{Lens, Tables, base, select, drop, rename, join, get, sort_of, view_names}
-use Rattle.lens_specs.specs.Names.{Name, Names}
-use Rattle.lens_specs.specs.Predicate.{Predicate, holds}
-use Rattle.lens_specs.specs.Sort.{Sort}
+use Rattle.std.proofs.lemmas.Option.{same_Some}
+use Rattle.plain_values.specs.declared.value.Value.{Value}
+use Rattle.lens_specs.specs.Common.{Delta, Lens, Tables, base, select, drop, rename, get, sort_of, view_names, Name, Names, Predicate, holds, Sort}
+use Rattle.plain_values.specs.declared.join_kind.JoinKind.{JoinKind}
+use Rattle.lens_specs.specs.Lens.{join}
 use Rattle.lens_laws.specs.Edits.{table_deltas}
 use Rattle.lens_laws.specs.JoinKinds.{left_delta, right_delta}
 use Rattle.lens_laws.specs.KeyedDeltas.{drop_delta, select_delta}
@@ -16,9 +14,6 @@ use Rattle.lens_probe.specs.Viewed.{Viewed, sides_of, source_of}
 use Rattle.lens_chain.specs.Changed.{Changed, with_change, with_changes}
 use Rattle.lens_chain.specs.Edits.{edited, over}
 use Rattle.lens_chain.proofs.Gathered.{with_both}
-
-same_some : {X : Type 0} (x y : X) → Some x ≡ Some y → x ≡ y
-same_some x y a = cc
 
 -- the view of a source, over the same tables
 abbrev pub first_of : Viewed → Lens → Viewed
@@ -37,7 +32,7 @@ in_table L t s d db m is = ap (λ K. with_changes (table_deltas K d db) m) is
 
 module _ (v : Viewed) (P : Predicate) (C : Lens) (is : select P C ≡ v.lens) (s : Viewed) (told : Some s ≡ source_of v) where
   pub select_is : s ≡ first_of v C
-  select_is = same_some s (first_of v C) (told ∙ ap (λ L. source_of (record v { lens = L })) (sym is) ∙ ap (λ L. Some (record v { lens = C; sets = to_first L v.sets })) is)
+  select_is = same_Some s (first_of v C) (told ∙ ap (λ L. source_of (record v { lens = L })) (sym is) ∙ ap (λ L. Some (record v { lens = C; sets = to_first L v.sets })) is)
 
   pub select_chain : (d change : Delta) (m : Changed) → change ≡ select_delta (sort_of s.lens).tree (holds P) (get s.lens (over s)) d
       → with_changes (table_deltas s.lens change (over s)) m ≡ with_changes (table_deltas v.lens d (over v)) m
@@ -51,7 +46,7 @@ module _ (v : Viewed) (P : Predicate) (C : Lens) (is : select P C ≡ v.lens) (s
 
 module _ (v : Viewed) (A : Name) (X : Names) (a : Value) (C : Lens) (is : drop A X a C ≡ v.lens) (s : Viewed) (told : Some s ≡ source_of v) where
   pub drop_is : s ≡ first_of v C
-  drop_is = same_some s (first_of v C) (told ∙ ap (λ L. source_of (record v { lens = L })) (sym is) ∙ ap (λ L. Some (record v { lens = C; sets = to_first L v.sets })) is)
+  drop_is = same_Some s (first_of v C) (told ∙ ap (λ L. source_of (record v { lens = L })) (sym is) ∙ ap (λ L. Some (record v { lens = C; sets = to_first L v.sets })) is)
 
   pub drop_chain : (d change : Delta) (m : Changed) → change ≡ drop_delta A X a (get s.lens (over s)) d
       → with_changes (table_deltas s.lens change (over s)) m ≡ with_changes (table_deltas v.lens d (over v)) m
@@ -65,7 +60,7 @@ module _ (v : Viewed) (A : Name) (X : Names) (a : Value) (C : Lens) (is : drop A
 
 module _ (v : Viewed) (A B : Name) (C : Lens) (is : rename A B C ≡ v.lens) (s : Viewed) (told : Some s ≡ source_of v) where
   pub rename_is : s ≡ first_of v C
-  rename_is = same_some s (first_of v C) (told ∙ ap (λ L. source_of (record v { lens = L })) (sym is) ∙ ap (λ L. Some (record v { lens = C; sets = to_first L v.sets })) is)
+  rename_is = same_Some s (first_of v C) (told ∙ ap (λ L. source_of (record v { lens = L })) (sym is) ∙ ap (λ L. Some (record v { lens = C; sets = to_first L v.sets })) is)
 
   pub rename_chain : (d change : Delta) (m : Changed) → change ≡ rename_delta A B d
       → with_changes (table_deltas s.lens change (over s)) m ≡ with_changes (table_deltas v.lens d (over v)) m
@@ -79,7 +74,7 @@ module _ (v : Viewed) (A B : Name) (C : Lens) (is : rename A B C ≡ v.lens) (s 
 
 module _ (v : Viewed) (kind : JoinKind) (A B : Lens) (is : join kind A B ≡ v.lens) (s : Viewed × Viewed) (told : Some s ≡ sides_of v) where
   pub join_is : s ≡ (first_of v A, second_of v B)
-  join_is = same_some s (first_of v A, second_of v B) (told ∙ ap (λ L. sides_of (record v { lens = L })) (sym is)
+  join_is = same_Some s (first_of v A, second_of v B) (told ∙ ap (λ L. sides_of (record v { lens = L })) (sym is)
       ∙ ap (λ L. Some (record v { lens = A; sets = to_first L v.sets }, record v { lens = B; sets = to_second L v.sets })) is)
 
   join_over : over s.1 ≡ over s.0

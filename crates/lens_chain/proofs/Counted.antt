@@ -6,18 +6,13 @@ use Rattle.std.proofs.lemmas.List.Elements.{Contains-append_left, Contains-appen
 use Rattle.std.specs.Cmp.Lexicographic.{nat_list_cmp_total}
 use Rattle.std.specs.FinMap as finmap
 use Rattle.std.specs.Prelude.{List, Ok}
-use Rattle.lens_values.specs.Order.{bytes_cmp}
-use Rattle.lens_values.specs.SortedMap.{keys_rise}
-use Rattle.lens_values.specs.SortedSet as set
-use Rattle.lens_values.specs.declared.join_kind.JoinKind.{JoinKind}
-use Rattle.lens_values.specs.declared.value.Value.{Value}
-use Rattle.lens_specs.specs.Columns.{Columns, names}
-use Rattle.lens_specs.specs.Delta.{Delta}
-use Rattle.lens_specs.specs.Dependencies.{Edge}
-use Rattle.lens_specs.specs.Lens.{Lens, select, drop, rename, join, sort_of}
-use Rattle.lens_specs.specs.Names.{Name, Names}
-use Rattle.lens_specs.specs.Predicate.{Predicate}
-use Rattle.lens_specs.specs.Sort.{Sort}
+use Rattle.plain_values.specs.Order.{bytes_cmp}
+use Rattle.plain_values.specs.SortedMap.{keys_rise}
+use Rattle.plain_values.specs.SortedSet as set
+use Rattle.plain_values.specs.declared.join_kind.JoinKind.{JoinKind}
+use Rattle.plain_values.specs.declared.value.Value.{Value}
+use Rattle.lens_specs.specs.Common.{Columns, names, Delta, Edge, Lens, select, drop, rename, sort_of, Name, Names, Predicate, Sort}
+use Rattle.lens_specs.specs.Lens.{join}
 use Rattle.lens_specs.specs.Typing as typing
 use Rattle.lens_laws.specs.Asked.{HasKeys, asked}
 use Rattle.lens_laws.specs.Lenses.{IsTyped}

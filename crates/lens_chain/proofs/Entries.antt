@@ -1,33 +1,20 @@
 -- Differences by names, and the entries of a map that has them.
-use Rattle.std.proofs.Common.{◌≡◌, ◌∙◌, true, List, [], ◌∷◌, ap, cond, refl, sym, Some}
+use Rattle.std.proofs.Common.{◌≡◌, ◌∙◌, true, List, [], ◌∷◌, ap, cond, refl, Some}
 use Rattle.std.specs.BTreeMap.{is_at}
 use Rattle.std.specs.Cmp.{both_ways}
 use Rattle.std.specs.FinMap as finmap
 use Rattle.std.specs.Map.{lookup}
 use Rattle.std.specs.Ordering.{eq_by_cmp}
-use Rattle.fd_laws.proofs.Names.{name_exact, name_itself, name_total, tied_name}
-use Rattle.lens_values.specs.Order.{bytes_cmp}
+use Rattle.fd_laws.proofs.Names.{name_itself, tied_name}
+use Rattle.plain_values.specs.Order.{bytes_cmp}
 use Rattle.lens_specs.specs.Names.{Name}
 
 found : {X : Type 0} (es : List (Name × X)) (q : Name) → lookup (is_at (bytes_cmp q)) es ≡ finmap.find bytes_cmp q es
 found [] q = refl
 found (e ∷ es) q = ap (cond (is_at (bytes_cmp q) e.0) (Some e.1)) (found es q)
 
--- the first entry at a name has the map's value there
-looked_up : {X : Type 0} (es : List (Name × X)) (q : Name) → lookup (is_at (bytes_cmp q)) es ≡ finmap.get (finmap.from_entries {R = bytes_cmp} es) q
-looked_up es q = found es q ∙ sym (finmap.get-from_entries name_total es q)
-
 tied_back : (q k : Name) → eq_by_cmp bytes_cmp k q ≡ true → eq_by_cmp bytes_cmp q k ≡ true
 tied_back q k e = ap (λ n. eq_by_cmp bytes_cmp q n) (tied_name k q e) ∙ name_itself q
 
 turned : (q k : Name) → eq_by_cmp bytes_cmp k q ≡ eq_by_cmp bytes_cmp q k
 turned q k = both_ways _ _ (tied_back q k) (tied_back k q)
-
--- entries that have one more value are those of the map with it
-pub updated : {X : Type 0} (old new : List (Name × X)) (k : Name) (v : X)
-    → ((q : Name) → lookup (is_at (bytes_cmp q)) new ≡ cond (is_at (bytes_cmp k) q) (Some v) (lookup (is_at (bytes_cmp q)) old))
-    → finmap.from_entries {R = bytes_cmp} new ≡ finmap.insert (finmap.from_entries {R = bytes_cmp} old) k v
-updated old new k v h = finmap.same_map name_total name_exact _ _ (λ q.
-    sym (looked_up new q) ∙ h q ∙ ap (λ b. cond b (Some v) (lookup (is_at (bytes_cmp q)) old)) (turned q k)
-    ∙ ap (cond (eq_by_cmp bytes_cmp q k) (Some v)) (looked_up old q)
-    ∙ sym (finmap.get-insert name_total (finmap.from_entries old) k v q))

@@ -7,12 +7,11 @@ use Rattle.std.specs.List.{AllByRecursion, list_any}
 use Rattle.std.specs.List.Sorted.{IsStrictlySortedBy}
 use Rattle.std.specs.Ordering.{eq_by_cmp}
 use Rattle.std.specs.Prelude.{if◌then◌else◌}
-use Rattle.lens_values.specs.Order.{bytes_cmp}
-use Rattle.lens_values.specs.SortedMap.{entries-from_entries, keys_of, keys_rise}
-use Rattle.lens_values.specs.SortedSet as set
-use Rattle.lens_specs.specs.Delta.{Delta, TableDelta, changes, diff, differences, is_empty}
-use Rattle.lens_specs.specs.Lens.{Lens, Tables, base, select, drop, rename, join, get, put, sort_of, table, tables_of, view_names}
-use Rattle.lens_specs.specs.Names.{Name, Names}
+use Rattle.plain_values.specs.Order.{bytes_cmp}
+use Rattle.plain_values.specs.SortedMap.{entries-from_entries, keys_of, keys_rise}
+use Rattle.plain_values.specs.SortedSet as set
+use Rattle.lens_specs.specs.Common.{Delta, TableDelta, changes, diff, differences, is_empty, Lens, Tables, base, select, drop, rename, get, put, sort_of, table, tables_of, view_names, Name, Names}
+use Rattle.lens_specs.specs.Lens.{join}
 use Rattle.fd_laws.proofs.Names.{name_exact, name_total, tied_name}
 use Rattle.lens_laws.specs.Edits.{AreDiffs, table_deltas}
 use Rattle.lens_laws.specs.JoinKinds.{left_delta, right_delta}

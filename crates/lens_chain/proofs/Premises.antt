@@ -1,30 +1,20 @@
 -- What the nodes ask of an edit and of their sources, and what they hand down.
 use Rattle.std.proofs.Common.{◌≡◌, true, false, List, [], ◌∷◌, ap, ◌∙◌, subst, sym}
-use Rattle.std.proofs.lemmas.Bool.{and_parts}
+use Rattle.std.proofs.lemmas.Bool.{and_parts, false_from_ne_true}
 use Rattle.std.proofs.lemmas.List.Elements.{Contains-append_right}
 use Rattle.std.specs.List.{Contains}
 use Rattle.std.specs.Prelude.{Ok}
-use Rattle.lens_values.specs.SortedSet as set
-use Rattle.lens_values.specs.declared.row.Row.{Row}
-use Rattle.lens_values.specs.declared.value.Value.{Value}
-use Rattle.lens_specs.specs.Columns.{Fits, both_columns, without_column}
-use Rattle.lens_specs.specs.Delta.{Applies, Delta, diff, new_view}
-use Rattle.lens_specs.specs.Dependencies.{AllEdges, Edge, Meets, MeetsTree}
-use Rattle.lens_values.specs.declared.join_kind.JoinKind.{JoinKind}
-use Rattle.lens_specs.specs.Lens.{Lens, Tables, select, drop, rename, join, get, select_sort, drop_sort, rename_sort, join_sort, sort_of, view_names}
-use Rattle.lens_specs.specs.Names.{Name, Names, Within, one}
-use Rattle.lens_specs.specs.Nodes.{drop_get, drop_put, join_get, join_left_after, join_right_after, rename_get, rename_put, select_get, select_put}
-use Rattle.lens_specs.specs.Predicate.{Predicate, holds, without_name}
-use Rattle.lens_specs.specs.Relation.{Rows, has, image}
-use Rattle.lens_specs.specs.Rename.{renamed_names, renamed_row}
-use Rattle.lens_specs.specs.Rows.{agree}
-use Rattle.lens_specs.specs.Sort.{IsOf, Sort}
+use Rattle.plain_values.specs.SortedSet as set
+use Rattle.plain_values.specs.Row.{Row}
+use Rattle.plain_values.specs.declared.value.Value.{Value}
+use Rattle.lens_specs.specs.Common.{Fits, both_columns, without_column, Applies, Delta, diff, new_view, AllEdges, Edge, Meets, MeetsTree, Lens, Tables, select, drop, rename, get, select_sort, drop_sort, rename_sort, join_sort, sort_of, view_names, Name, Names, Within, one, drop_get, drop_put, join_get, join_left_after, join_right_after, rename_get, rename_put, select_get, select_put, Predicate, holds, without_name, Rows, has, image, renamed_names, renamed_row, agree, IsOf, Sort}
+use Rattle.plain_values.specs.declared.join_kind.JoinKind.{JoinKind}
+use Rattle.lens_specs.specs.Lens.{join}
 use Rattle.lens_specs.specs.Typing as typing
 use Rattle.fd_laws.specs.Trees.{EdgesWithin}
-use Rattle.fd_laws.proofs.Lists.{absurd_false, false_from}
-use Rattle.fd_laws.proofs.Names.{name_itself, one_is}
-use Rattle.fd_laws.proofs.Rows.{agree_at, agree_from}
-use Rattle.fd_laws.proofs.Trees.{at_edge, each_edge}
+use Rattle.plain_values.proofs.Lists.{absurd_false}
+use Rattle.fd_laws.proofs.Common.{name_itself, one_is, agree_at, agree_from, each_edge}
+use Rattle.fd_laws.proofs.Trees.{at_edge}
 use Rattle.lens_laws.specs.Asked.{HasKeys, IsFilled, keys_at, left_sides}
 use Rattle.lens_laws.specs.Finds.{IsOver}
 use Rattle.lens_laws.specs.JoinKinds.{left_delta, right_delta}
@@ -171,7 +161,7 @@ module _ (A B : Name) (C : Lens) (typed : IsTyped (rename A B C)) where
 
   -- none of which has the old name
   pub old_is_free : (D : Names) → D ≡ renamed_names A B (view_names C) → set.contains D A ≡ false
-  old_is_free D is = false_from _ (λ i.
+  old_is_free D is = false_from_ne_true _ (λ i.
       absurd_false _ (name_itself A) (not_old (shape_of (sort_of C)) A B (rename_can A B C typed) A (subst (λ Z. set.contains Z A ≡ true) is i)))
 
   module _ (db : Tables) (d : Delta) (are : AreOf C db) (edit : IsEdit (rename A B C) db d) where

@@ -1,9 +1,8 @@
 -- The differences of tables by their names.
 use Rattle.std.specs.Prelude.{List, [], ◌∷◌, if◌then◌else◌, map}
 use Rattle.std.specs.FinMap as finmap
-use Rattle.lens_values.specs.Order.{bytes_cmp}
-use Rattle.lens_specs.specs.Delta.{Delta, TableDelta, is_empty}
-use Rattle.lens_specs.specs.Names.{Name}
+use Rattle.plain_values.specs.Order.{bytes_cmp}
+use Rattle.lens_specs.specs.Common.{Delta, TableDelta, is_empty, Name}
 
 -- a difference for each of some tables
 abbrev pub Changed : Type 0

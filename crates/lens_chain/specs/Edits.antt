@@ -1,8 +1,5 @@
 -- Edits of a view.
-use Rattle.lens_specs.specs.Delta.{Applies, Delta, new_view}
-use Rattle.lens_specs.specs.Lens.{Lens, Tables, get, sort_of}
-use Rattle.lens_specs.specs.Relation.{Rows}
-use Rattle.lens_specs.specs.Sort.{IsOf}
+use Rattle.lens_specs.specs.Common.{Applies, Delta, new_view, Lens, Tables, get, sort_of, Rows, IsOf}
 use Rattle.lens_probe.specs.Viewed.{Viewed}
 
 -- the tables that the view is over

@@ -1,6 +1,6 @@
 //! What an edit of a node's view does to its source, or to both.
 ghost use Rattle.std.specs.Prelude.{◌≡◌, ◌≤◌, ◌+◌, ℕ, IfOk, Contains};
-ghost use Rattle.lens_values.specs.SortedSet as set;
+ghost use Rattle.plain_values.specs.SortedSet as set;
 ghost use Rattle.lens_specs.specs.Lens as spec;
 ghost use Rattle.lens_specs.specs.Lens.{get, sort_of, view_names};
 ghost use Rattle.lens_specs.specs.Predicate.{holds};

@@ -7,20 +7,16 @@ use Rattle.std.specs.FinMap as finmap
 use Rattle.std.specs.List.{AllByRecursion, list_all}
 use Rattle.std.specs.List.Sorted.{IsStrictlySortedBy}
 use Rattle.std.specs.Ordering.{eq_by_cmp, is_lt}
-use Rattle.std.specs.declared.cmp.Ordering.{Ordering}
-use Rattle.std.specs.declared.cmp.Ordering.TheVariants.{Less, Equal, Greater}
-use Rattle.lens_values.specs.Order.{bytes_cmp}
-use Rattle.lens_values.specs.Row.{row_cmp}
-use Rattle.lens_values.specs.SortedMap.{entries-from_entries, keys_of, keys_rise}
-use Rattle.lens_values.specs.SortedSet as set
-use Rattle.fd_laws.proofs.Relations.{sets}
-use Rattle.fd_laws.proofs.Names.{name_exact, name_total, tied_name}
+use Rattle.std.specs.declared.cmp.Ordering.TheVariants.{Less}
+use Rattle.plain_values.specs.Order.{bytes_cmp}
+use Rattle.plain_values.specs.Row.{row_cmp}
+use Rattle.plain_values.specs.SortedMap.{entries-from_entries, keys_of, keys_rise}
+use Rattle.plain_values.specs.SortedSet as set
+use Rattle.plain_values.proofs.Tests.{is_less}
+use Rattle.fd_laws.proofs.Common.{sets, name_exact, name_total, tied_name}
 use Rattle.lens_laws.proofs.Deltas.{applies_is}
-use Rattle.lens_specs.specs.Delta.{AppliesTo, Delta, TableDelta, diff, differences, is_empty}
-use Rattle.lens_specs.specs.Lens.{Tables, rows_or_none, table}
-use Rattle.lens_specs.specs.Names.{Name, is_among}
-use Rattle.lens_specs.specs.Relation.{Relation, Rows, minus}
-use Rattle.lens_specs.specs.TableDeltas.{AreDeltas, LeadTo, after, delta_for, no_relation}
+use Rattle.lens_specs.specs.Common.{AppliesTo, Delta, TableDelta, diff, differences, is_empty, Tables, rows_or_none, table, Name, is_among, Relation, Rows, minus, AreDeltas, LeadTo, after, no_relation}
+use Rattle.lens_specs.specs.TableDeltas.{delta_for}
 use Rattle.lens_laws.proofs.Moves.{absent_nothing, all_there, empty_is, lead_moves, nothing, nothing_empty, same_rows}
 
 -- ---- what each table's difference is
@@ -60,14 +56,9 @@ found_is (c ∷ cs) deltas q = elim (eq_by_cmp bytes_cmp q c.table) as (λ b.
       | false ↦ found_is cs deltas.2 q
     ]
 
-less : (o : Ordering) → is_lt o ≡ true → o ≡ Less
-less Less e = refl
-less Equal e = cc
-less Greater e = cc
-
 all_above : (n : Name) (cs : List TableDelta) → list_all (λ later. is_lt (bytes_cmp n later.table)) cs ≡ true → AllByRecursion (λ y. bytes_cmp n y ≡ Less) (keys_of (map pair_of cs))
 all_above n [] h = tt
-all_above n (c ∷ cs) h = let w = and_parts (is_lt (bytes_cmp n c.table)) (list_all (λ later. is_lt (bytes_cmp n later.table)) cs) h in (less (bytes_cmp n c.table) w.0, all_above n cs w.1)
+all_above n (c ∷ cs) h = let w = and_parts (is_lt (bytes_cmp n c.table)) (list_all (λ later. is_lt (bytes_cmp n later.table)) cs) h in (is_less (bytes_cmp n c.table) w.0, all_above n cs w.1)
 
 names_rise : (ds : List TableDelta) → AreDeltas ds → IsStrictlySortedBy bytes_cmp (keys_of (map pair_of ds))
 unfolding IsStrictlySortedBy

@@ -1,31 +1,29 @@
 -- The sets by which the nodes are asked: each has a column, and each that is handed down is one of the child's.
 use Rattle.std.proofs.Common.{◌≡◌, Bool, true, false, cond, ℕ, zero, suc, ◌<◌, List, [], ◌∷◌, ◌++◌, length, map, refl, sym, ap, ◌∙◌, subst, ◌⊎◌, inl, inr, arith, nat_eq}
-use Rattle.std.proofs.lemmas.Bool.{or_cases, true≢false}
+use Rattle.std.proofs.lemmas.Bool.{or_cases, true≢false, false_from_ne_true}
 use Rattle.std.proofs.lemmas.List.Elements.{Contains-append_left, Contains-append_cases}
 use Rattle.std.specs.List.{Contains, list_any, filter, slice_index_or}
 use Rattle.std.specs.Ordering.{eq_by_cmp}
-use Rattle.lens_values.specs.SortedSet as set
-use Rattle.lens_values.specs.Order.{bytes_cmp}
-use Rattle.lens_values.specs.declared.value.Value.{Value}
-use Rattle.lens_values.specs.declared.join_kind.JoinKind.{JoinKind}
-use Rattle.fd_laws.proofs.Closures.{closure_is}
-use Rattle.fd_laws.proofs.Columns.{names-without, names-both}
-use Rattle.fd_laws.proofs.Lists.{in_head, any_at, any_from, false_from, absurd_false}
-use Rattle.fd_laws.proofs.Names.{name_total, name_itself, tied_name, in_shared, from_shared, in_rest, from_rest, one_is, union_right}
+use Rattle.plain_values.specs.SortedSet as set
+use Rattle.plain_values.specs.Order.{bytes_cmp}
+use Rattle.plain_values.specs.declared.value.Value.{Value}
+use Rattle.plain_values.specs.declared.join_kind.JoinKind.{JoinKind}
+use Rattle.fd_laws.proofs.Common.{closure_is, names-without, name_total, name_itself, tied_name, from_shared, from_rest, one_is, all_append, both_edges, each_edge}
+use Rattle.fd_laws.proofs.Columns.{names-both}
+use Rattle.plain_values.proofs.Lists.{in_head, any_at, any_from, absurd_false}
+use Rattle.fd_laws.proofs.Names.{in_shared, in_rest, union_right}
 use Rattle.lens_laws.proofs.NodeLaws.{sound, rename_can}
 use Rattle.fd_laws.proofs.Renames.{in_renamed}
 use Rattle.lens_laws.proofs.Rename.{old_within}
 use Rattle.lens_laws.proofs.RenameSorts.{names-renamed}
-use Rattle.fd_laws.proofs.TreeForms.{all_append, tree_of_lefts, tree_of_rights}
-use Rattle.fd_laws.proofs.Trees.{at_edge, all_without, both_edges, each_edge}
-use Rattle.lens_specs.specs.Columns.{names}
-use Rattle.lens_specs.specs.Dependencies.{Edge, AllEdges, IsClosed, closure}
-use Rattle.lens_specs.specs.TreeForm.{is_tree, kept_edge, narrowed, tree_of, tree_without}
+use Rattle.fd_laws.proofs.TreeForms.{tree_of_lefts, tree_of_rights}
+use Rattle.fd_laws.proofs.Trees.{at_edge, all_without}
+use Rattle.lens_specs.specs.Common.{names, Edge, AllEdges, closure, is_tree, kept_edge, tree_of, tree_without, Lens, base, select, drop, rename, sort_of, view_names, Name, Names, Within, share, one, renamed, renamed_names, renamed_tree}
+use Rattle.lens_specs.specs.Dependencies.{IsClosed}
+use Rattle.lens_specs.specs.TreeForm.{narrowed}
 use Rattle.std.proofs.lemmas.List.{length-map}
 use Rattle.std.specs.FinMap as finmap
-use Rattle.lens_specs.specs.Lens.{Lens, base, select, drop, rename, join, sort_of, view_names}
-use Rattle.lens_specs.specs.Names.{Name, Names, Within, share, one}
-use Rattle.lens_specs.specs.Rename.{renamed, renamed_names, renamed_tree}
+use Rattle.lens_specs.specs.Lens.{join}
 use Rattle.lens_laws.specs.Asked.{IsFilled, left_sides, parts, keys_at, side_keys, AreKeys, HasKeys, HandsDown, MayBeAsked, Reaches}
 use Rattle.lens_laws.specs.Lenses.{IsTyped}
 use Rattle.lens_laws.specs.Shapes.{shape_of}
@@ -167,7 +165,7 @@ keyed (drop A X a L) h k =
     let left : Within X (names s.columns) = subst (λ Z. Within Z (names s.columns)) h.1.left (at_edge (λ e. Within e.left (names s.columns) × Within e.right (names s.columns)) s.tree h.1.from h.1.among (sound L h.0).within).0 in
     let out : set.contains X A ≡ false = subst (λ Z. set.contains Z A ≡ false) h.1.left (at_edge (λ e. set.contains e.left A ≡ false) s.tree h.1.from h.1.among h.1.lefts) in
     let full : IsFilled X = subst IsFilled h.1.left (at_edge (λ e. IsFilled e.left) s.tree h.1.from h.1.among w.1) in (
-      filled_more X _ (λ c i. ap (λ U. set.contains U c) (names-without s.columns A) ∙ in_rest (names s.columns) (one A) c (left c i) (false_from _ (λ j. absurd_false _ (ap (set.contains X) (sym (one_is A c j)) ∙ i) out))) full,
+      filled_more X _ (λ c i. ap (λ U. set.contains U c) (names-without s.columns A) ∙ in_rest (names s.columns) (one A) c (left c i) (false_from_ne_true _ (λ j. absurd_false _ (ap (set.contains X) (sym (one_is A c j)) ∙ i) out))) full,
       all_without (λ e. IsFilled e.left) (one A) s.tree w.1,
     )
 keyed (rename A B L) h k =
@@ -223,7 +221,7 @@ drop_key A X a L h =
     let s = sort_of L in
     let left : Within X (names s.columns) = subst (λ Z. Within Z (names s.columns)) h.1.left (at_edge (λ e. Within e.left (names s.columns) × Within e.right (names s.columns)) s.tree h.1.from h.1.among (sound L h.0).within).0 in
     let out : set.contains X A ≡ false = subst (λ Z. set.contains Z A ≡ false) h.1.left (at_edge (λ e. set.contains e.left A ≡ false) s.tree h.1.from h.1.among h.1.lefts) in
-    λ c i. in_rest (names s.columns) (one A) c (left c i) (false_from _ (λ j. absurd_false _ (ap (set.contains X) (sym (one_is A c j)) ∙ i) out))
+    λ c i. in_rest (names s.columns) (one A) c (left c i) (false_from_ne_true _ (λ j. absurd_false _ (ap (set.contains X) (sym (one_is A c j)) ∙ i) out))
 
 pub keys_are : (L : Lens) (K : List Names) → IsTyped L → HasKeys L → AreKeys (view_names L) K → AreKeys (view_names L) (keys_at L K)
 keys_are L K h k a C i = elim (Contains-append_cases K (left_sides (sort_of L).tree) C i) [

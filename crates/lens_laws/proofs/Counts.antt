@@ -5,14 +5,10 @@ use Rattle.std.proofs.lemmas.List.{length-append, length-map}
 use Rattle.std.proofs.lemmas.Nat.{mul-le}
 use Rattle.std.specs.List.{filter, flat_map}
 use Rattle.std.specs.FinMap as finmap
-use Rattle.lens_values.specs.SortedSet as set
-use Rattle.lens_values.specs.Row.{row_cmp}
-use Rattle.lens_values.specs.declared.row.Row.{Row}
-use Rattle.fd_laws.proofs.Relations.{same_rel, in_those, from_those}
-use Rattle.fd_laws.proofs.Rows.{row_total, row_exact}
-use Rattle.lens_specs.specs.Names.{Names}
-use Rattle.lens_specs.specs.Relation.{Rows, has, those, image, project}
-use Rattle.lens_specs.specs.Rows.{cut}
+use Rattle.plain_values.specs.SortedSet as set
+use Rattle.plain_values.specs.Row.{row_cmp, Row}
+use Rattle.fd_laws.proofs.Common.{same_rel, in_those, from_those, row_total, row_exact}
+use Rattle.lens_specs.specs.Common.{Names, Rows, has, those, image, project, cut}
 use Rattle.lens_laws.specs.Finds.{matched}
 use Rattle.lens_laws.specs.Work.{count_of}
 

@@ -2,18 +2,12 @@
 use Rattle.std.proofs.Common.{◌≡◌, ℕ, suc, ◌+◌, ◌*◌, ◌≤◌, Bool, not, List, [], ◌∷◌, ◌++◌, length, arith}
 use Rattle.std.proofs.lemmas.List.{length-append}
 use Rattle.std.proofs.lemmas.Nat.{mul-le}
-use Rattle.lens_values.specs.SortedSet as set
-use Rattle.lens_values.specs.declared.row.Row.{Row}
+use Rattle.plain_values.specs.SortedSet as set
+use Rattle.plain_values.specs.Row.{Row}
 use Rattle.lens_laws.proofs.Asked.{contains_head, contains_tail}
 use Rattle.lens_laws.proofs.Counts.{count-from_list, count-none, count-those, count-within, count-image, count-project}
 use Rattle.fd_laws.proofs.Relations.{from_minus}
-use Rattle.lens_specs.specs.Delta.{Delta, new_view}
-use Rattle.lens_specs.specs.Dependencies.{Edge}
-use Rattle.lens_specs.specs.Names.{Name, Names}
-use Rattle.lens_specs.specs.Rename.{renamed_row}
-use Rattle.lens_specs.specs.Nodes.{rename_put}
-use Rattle.lens_specs.specs.Relation.{Rows, those, union, minus, project}
-use Rattle.lens_specs.specs.Revision.{revise, revise_row}
+use Rattle.lens_specs.specs.Common.{Delta, new_view, Edge, Name, Names, renamed_row, rename_put, Rows, those, union, minus, project, revise, revise_row}
 use Rattle.lens_laws.specs.Asked.{left_sides}
 use Rattle.lens_laws.specs.Rename.{rename_delta}
 use Rattle.lens_laws.specs.JoinKinds.{is_kept, is_free, less_delta, join_delta_left_kept, join_delta_right_free}
@@ -30,7 +24,7 @@ count-union M N =
 count-minus : (M N : Rows) → count_of (minus M N) ≤ count_of M
 count-minus M N = count-within (minus M N) M (λ r i. (from_minus M N r i).0)
 
-count-revise : (T : List Edge) (M L : Rows) → count_of (revise T M L) ≤ count_of M
+pub count-revise : (T : List Edge) (M L : Rows) → count_of (revise T M L) ≤ count_of M
 unfolding revise
 count-revise T M L = count-image (λ m. revise_row T m L) M
 
@@ -58,7 +52,7 @@ pub count-touched : (F : List Edge) (M L : Rows) (n : ℕ) → GivesAtMost n (le
 unfolding touched
 count-touched F M L n h = let i = count-found F M L n h in let j = count-those (is_changed F L) (found F M L) in omega arith
 
-touched_few : (F : List Edge) (M L : Rows) (n : ℕ) → length F ≤ 64 → GivesAtMost n (left_sides F) M → count_of (touched F M L) ≤ 64 * (count_of L * n)
+pub touched_few : (F : List Edge) (M L : Rows) (n : ℕ) → length F ≤ 64 → GivesAtMost n (left_sides F) M → count_of (touched F M L) ≤ 64 * (count_of L * n)
 touched_few F M L n few h =
     let i = count-touched F M L n h in
     let j = mul-le (length F) (count_of L * n) 64 (count_of L * n) few (omega arith) in
@@ -92,7 +86,7 @@ merge_removes_few : (F : List Edge) (M A : Rows) (n : ℕ) → length F ≤ 64 �
 unfolding merge_delta
 merge_removes_few F M A n few h = touched_few F M A n few h
 
-merge_adds_few : (F : List Edge) (M A : Rows) (n : ℕ) → length F ≤ 64 → GivesAtMost n (left_sides F) M → count_of (merge_delta F M A).add ≤ 64 * (count_of A * n) + count_of A
+pub merge_adds_few : (F : List Edge) (M A : Rows) (n : ℕ) → length F ≤ 64 → GivesAtMost n (left_sides F) M → count_of (merge_delta F M A).add ≤ 64 * (count_of A * n) + count_of A
 unfolding merge_delta
 merge_adds_few F M A n few h =
     let t = touched_few F M A n few h in

@@ -1,25 +1,18 @@
 -- An edit of a join that deletes on the right, or on both sides, does to the sources what recomputing does.
 use Rattle.std.proofs.Common.{◌≡◌, Bool, true, false, not, List, sym, ap, ◌∙◌, inl, inr}
-use Rattle.std.proofs.lemmas.Bool.{cases_Bool, and_parts, and_from, not-true, not_from_false}
+use Rattle.std.proofs.lemmas.Bool.{cases_Bool, and_parts, and_from, not-true, not_from_false, false_from_ne_true}
 use Rattle.std.specs.Ordering.{eq_by_cmp}
-use Rattle.lens_values.specs.SortedSet as set
-use Rattle.lens_values.specs.Row.{row_cmp}
-use Rattle.lens_values.specs.declared.row.Row.{Row}
-use Rattle.lens_values.specs.declared.join_kind.JoinKind.{JoinKind}
-use Rattle.lens_values.specs.declared.join_kind.JoinKind.TheVariants.{DeleteLeft, DeleteRight, DeleteBoth}
+use Rattle.plain_values.specs.SortedSet as set
+use Rattle.plain_values.specs.Row.{row_cmp, Row}
+use Rattle.plain_values.specs.declared.join_kind.JoinKind.{JoinKind}
+use Rattle.plain_values.specs.declared.join_kind.JoinKind.TheVariants.{DeleteLeft, DeleteRight, DeleteBoth}
 use Rattle.lens_laws.proofs.Deltas.{from_new_view, in_new_view_kept, in_found_each, from_found_each, merge_delta_is, diff_leads}
 use Rattle.lens_laws.proofs.Join.{cut_left, cut_right, from_natural, natural_paste, left_sort, right_sort, part_left, from_over, in_over}
 use Rattle.lens_laws.proofs.JoinDelta.{join_delta_right_is, join_delta_left_is, split_left, sub_left, from_suspects, in_suspects}
-use Rattle.fd_laws.proofs.Lists.{any_at, any_from, false_from, absurd_false}
-use Rattle.fd_laws.proofs.Relations.{same_rel, in_those, from_those, in_union_left, in_union_right, from_union, in_minus, from_minus, in_project, from_project, in_join}
-use Rattle.fd_laws.proofs.Rows.{tied_row, row_itself, agree_back}
-use Rattle.lens_specs.specs.Columns.{names}
-use Rattle.lens_specs.specs.Delta.{Delta, diff, new_view, Applies}
-use Rattle.lens_specs.specs.Dependencies.{Edge}
-use Rattle.lens_specs.specs.Names.{Names}
-use Rattle.lens_specs.specs.Nodes.{join_get, join_left, join_right, join_over, join_kept, join_free, join_put_left_kept, join_put_right, join_left_after, join_right_after}
-use Rattle.lens_specs.specs.Relation.{Rows, has, those, union, minus, project}
-use Rattle.lens_specs.specs.Rows.{agree, paste, cut}
+use Rattle.plain_values.proofs.Lists.{any_at, any_from, absurd_false}
+use Rattle.fd_laws.proofs.Common.{same_rel, in_those, from_those, in_union_left, in_union_right, from_union, in_minus, from_minus, in_project, from_project, in_join, tied_row, row_itself, agree_back}
+use Rattle.lens_specs.specs.Common.{names, Delta, diff, new_view, Applies, Edge, Names, join_get, join_left, join_right, join_over, join_put_left_kept, join_put_right, join_left_after, join_right_after, Rows, has, those, union, minus, project, agree, paste, cut}
+use Rattle.lens_specs.specs.Nodes.{join_kept, join_free}
 use Rattle.lens_laws.specs.JoinKinds.{is_kept, is_free, less_delta, join_delta_left_kept, join_delta_right_free, left_delta, right_delta}
 use Rattle.lens_laws.specs.KeyedDeltas.{merge_delta, join_delta_right, suspects, is_over}
 use Rattle.lens_laws.specs.Shapes.{Shape, IsIn, CanJoin, join_shape}
@@ -33,8 +26,8 @@ less_delta_is M M0 X suspected test to from in_source all =
     let new = minus M0 X in
     let removed : union (minus M M0) (those test suspected) ≡ minus M new = same_rel _ _
     (λ r i. elim (from_union (minus M M0) _ r i) [
-      | inl j ↦ let w = from_minus M M0 r j in in_minus M new r w.0 (false_from _ (λ k. absurd_false _ (from_minus M0 X r k).0 w.1))
-      | inr j ↦ let w = from_those test _ r j in in_minus M new r (in_source r w.0) (false_from _ (λ k. let v = from_minus M0 X r k in absurd_false _ (to r v.0 w.1) v.1))
+      | inl j ↦ let w = from_minus M M0 r j in in_minus M new r w.0 (false_from_ne_true _ (λ k. absurd_false _ (from_minus M0 X r k).0 w.1))
+      | inr j ↦ let w = from_those test _ r j in in_minus M new r (in_source r w.0) (false_from_ne_true _ (λ k. let v = from_minus M0 X r k in absurd_false _ (to r v.0 w.1) v.1))
     ])
     (λ r i. let w = from_minus M new r i in elim (cases_Bool (has M0 r)) [
       | inr z ↦ in_union_left _ _ r (in_minus M M0 r w.0 z)
@@ -45,9 +38,9 @@ less_delta_is M M0 X suspected test to from in_source all =
     ]) in
     let added : those (λ r. not (test r)) (minus M0 M) ≡ minus new M = same_rel _ _
     (λ r i. let w = from_those (λ r. not (test r)) _ r i in let v = from_minus M0 M r w.0 in
-    in_minus new M r (in_minus M0 X r v.0 (false_from _ (λ k. absurd_false _ (from r k) (not-true _ w.1)))) v.1)
+    in_minus new M r (in_minus M0 X r v.0 (false_from_ne_true _ (λ k. absurd_false _ (from r k) (not-true _ w.1)))) v.1)
     (λ r i. let w = from_minus new M r i in let v = from_minus M0 X r w.0 in
-    in_those (λ r. not (test r)) _ r (in_minus M0 M r v.0 w.1) (not_from_false _ (false_from _ (λ k. absurd_false _ (to r v.0 k) v.1)))) in
+    in_those (λ r. not (test r)) _ r (in_minus M0 M r v.0 w.1) (not_from_false _ (false_from_ne_true _ (λ k. absurd_false _ (to r v.0 k) v.1)))) in
     λ i. record { remove = removed i; add = added i }
 
 module _ (s t : Shape) (H : List Edge) (can : CanJoin s t H) (M N : Rows) (d : Delta) (m : IsIn M s) (n : IsIn N t)

@@ -1,19 +1,15 @@
 -- The laws of the joins that delete on the right, or on both sides.
 use Rattle.std.proofs.Common.{◌≡◌, true, false, not, List, sym, ap, ◌∙◌, inl, inr}
-use Rattle.std.proofs.lemmas.Bool.{cases_Bool, not-true, not_from_false}
+use Rattle.std.proofs.lemmas.Bool.{cases_Bool, not-true, not_from_false, false_from_ne_true}
 use Rattle.lens_laws.proofs.Join.{from_natural, in_natural, left_sort, right_sort, own_left, own_right, view_left, view_right, from_over, in_over, not_over, join_lawful}
-use Rattle.fd_laws.proofs.Lists.{false_from, absurd_false}
-use Rattle.fd_laws.proofs.Relations.{same_rel, in_those, from_those, in_minus, from_minus, in_project, from_project}
+use Rattle.plain_values.proofs.Lists.{absurd_false}
+use Rattle.fd_laws.proofs.Common.{same_rel, in_those, from_those, in_minus, from_minus, in_project, from_project}
 use Rattle.fd_laws.proofs.Trees.{meets_fewer}
-use Rattle.lens_values.specs.declared.row.Row.{Row}
-use Rattle.lens_values.specs.declared.join_kind.JoinKind.{JoinKind}
-use Rattle.lens_values.specs.declared.join_kind.JoinKind.TheVariants.{DeleteLeft, DeleteRight, DeleteBoth}
-use Rattle.lens_specs.specs.Columns.{Fits, names}
-use Rattle.lens_specs.specs.Dependencies.{Edge}
-use Rattle.lens_specs.specs.Names.{Names}
-use Rattle.lens_specs.specs.Nodes.{join_get, join_left, join_right, join_over, join_kept, join_free, join_put_left, join_put_left_kept, join_put_right, join_left_after, join_right_after}
-use Rattle.lens_specs.specs.Relation.{Rows, has, project}
-use Rattle.lens_specs.specs.Rows.{cut}
+use Rattle.plain_values.specs.Row.{Row}
+use Rattle.plain_values.specs.declared.join_kind.JoinKind.{JoinKind}
+use Rattle.plain_values.specs.declared.join_kind.JoinKind.TheVariants.{DeleteLeft, DeleteRight, DeleteBoth}
+use Rattle.lens_specs.specs.Common.{Fits, names, Edge, Names, join_get, join_left, join_right, join_over, join_put_left, join_put_left_kept, join_put_right, join_left_after, join_right_after, Rows, has, project, cut}
+use Rattle.lens_specs.specs.Nodes.{join_kept, join_free}
 use Rattle.lens_laws.specs.Shapes.{Shape, IsIn, IsLawful2, CanJoin, join_shape}
 
 module _ (s t : Shape) (H : List Edge) (can : CanJoin s t H) where
@@ -73,12 +69,12 @@ module _ (s t : Shape) (H : List Edge) (can : CanJoin s t H) where
 
   -- ---- what a row of the view keeps
   not_kept : (O M N : Rows) → IsIn M s → IsIn N t → IsIn O both → (q : Row) → has O q ≡ true → has (project U (join_kept U V s.tree t.tree O M N)) (cut U q) ≡ false
-  not_kept O M N m n o q i = false_from _ (λ y.
+  not_kept O M N m n o q i = false_from_ne_true _ (λ y.
       let w = from_project U _ _ y in
       absurd_false _ (ap (has _) w.2 ∙ in_project U _ w.0 (from_kept O M N w.0 w.1)) (not_over s t H can O M N m n o q i))
 
   not_free : (O M N : Rows) (q : Row) → has O q ≡ true → has (project V (join_free U V s.tree t.tree O M N)) (cut V q) ≡ false
-  not_free O M N q i = false_from _ (λ y.
+  not_free O M N q i = false_from_ne_true _ (λ y.
       let w = from_project V _ _ y in
       absurd_false _ (ap (has _) (sym w.2) ∙ in_project V O q i) (from_free O M N w.0 w.1).1)
 
@@ -125,7 +121,7 @@ module _ (s t : Shape) (H : List Edge) (can : CanJoin s t H) where
 
   -- ---- putting back
   none_over : (M N : Rows) → IsIn M s → IsIn N t → (w : Row) → has (join_over U V s.tree t.tree (join_get U V M N) M N) w ≡ false
-  none_over M N m n w = false_from _ (λ i.
+  none_over M N m n w = false_from_ne_true _ (λ i.
       let v = from_over s t H can (join_get U V M N) M N w i in
       absurd_false _ (sym (ap (λ K. has (join_get U V K (join_right V t.tree (join_get U V M N) N)) w) (own_left s t H can M N m n) ∙ ap (λ K. has (join_get U V M K) w) (own_right s t H can M N m n)) ∙ v.0) v.1)
 
@@ -134,7 +130,7 @@ module _ (s t : Shape) (H : List Edge) (can : CanJoin s t H) where
       let O = join_get U V M N in let e = own_left s t H can M N m n in
       same_rel _ M
       (λ r i. ap (λ K. has K r) (sym e) ∙ (from_left_kept O M N r i).0)
-      (λ r i. in_left_kept O M N r (ap (λ K. has K r) e ∙ i) (false_from _ (λ y.
+      (λ r i. in_left_kept O M N r (ap (λ K. has K r) e ∙ i) (false_from_ne_true _ (λ y.
       let w = from_project U _ r y in absurd_false _ (from_kept O M N w.0 w.1) (none_over M N m n w.0))))
 
   get_put_free : (M N : Rows) → IsIn M s → IsIn N t → join_put_right U V s.tree t.tree (join_get U V M N) M N ≡ N
@@ -142,7 +138,7 @@ module _ (s t : Shape) (H : List Edge) (can : CanJoin s t H) where
       let O = join_get U V M N in let e = own_right s t H can M N m n in
       same_rel _ N
       (λ r i. ap (λ K. has K r) (sym e) ∙ (from_put_right O M N r i).0)
-      (λ r i. in_put_right O M N r (ap (λ K. has K r) e ∙ i) (false_from _ (λ y.
+      (λ r i. in_put_right O M N r (ap (λ K. has K r) e ∙ i) (false_from_ne_true _ (λ y.
       let w = from_project V _ r y in absurd_false _ (from_free O M N w.0 w.1).0 (none_over M N m n w.0))))
 
   pub join_right_lawful : IsLawful2 s t both (join_get U V) (λ O M N. join_put_left_kept U V s.tree t.tree O M N) (λ O M N. join_put_right U V s.tree t.tree O M N)

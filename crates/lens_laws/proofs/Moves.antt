@@ -2,7 +2,7 @@
 use Rattle.std.proofs.Common.{◌≡◌, ◌∙◌, List, [], ◌∷◌, length, ap, sym, subst, refl, Bool, true, false, cond, arith}
 use Rattle.std.specs.Prelude.{◌&&◌, ◌||◌, ◌==◌, nat_eq, Option, Some, None, is_some, unwrap_or}
 use Rattle.std.specs.Option.{option_map}
-use Rattle.std.proofs.lemmas.Bool.{eqb-true}
+use Rattle.std.proofs.lemmas.Bool.{eqb-true, false≢true, or_parts, and_parts}
 use Rattle.std.specs.List.{list_all, list_any}
 use Rattle.std.specs.Cmp.{eq_by_cmp_equiv}
 use Rattle.std.specs.Cmp.Lexicographic.{pointwise, texts_ties}
@@ -10,21 +10,13 @@ use Rattle.std.specs.FinMap as finmap
 use Rattle.std.specs.Ordering.{eq_by_cmp, is_eq, is_lt}
 use Rattle.std.specs.declared.cmp.Ordering.{Ordering}
 use Rattle.std.specs.declared.cmp.Ordering.TheVariants.{Less, Equal, Greater}
-use Rattle.lens_values.specs.Order.{bytes_cmp}
-use Rattle.lens_values.specs.Row.{row_cmp}
-use Rattle.lens_values.specs.RowOrder.{row_cmp_total, row_cmp-IsAntisymmetric}
-use Rattle.lens_values.specs.SortedSet as set
-use Rattle.lens_values.specs.declared.row.Row.{Row}
-use Rattle.lens_specs.specs.Delta.{AppliesTo, Delta, TableDelta, is_empty, new_view}
-use Rattle.lens_specs.specs.Lens.{Tables}
-use Rattle.lens_specs.specs.Names.{Name}
-use Rattle.lens_specs.specs.Relation.{Relation, Rows, has}
-use Rattle.fd_laws.proofs.Names.{name_total, tied_name}
-use Rattle.fd_laws.proofs.Relations.{sets}
-use Rattle.lens_specs.specs.TableDeltas.{AllApply, AreDeltas, LeadTo, after, delta_for, no_relation, relation_in, with_deltas}
-
-never : false ≡ true → ⊥
-never e = cc
+use Rattle.plain_values.specs.Order.{bytes_cmp}
+use Rattle.plain_values.specs.Row.{row_cmp, Row}
+use Rattle.plain_values.specs.RowOrder.{row_cmp_total, row_cmp-IsAntisymmetric}
+use Rattle.plain_values.specs.SortedSet as set
+use Rattle.lens_specs.specs.Common.{AppliesTo, Delta, TableDelta, is_empty, new_view, Tables, Name, Relation, Rows, has, AllApply, AreDeltas, LeadTo, after, no_relation, with_deltas}
+use Rattle.fd_laws.proofs.Common.{name_total, tied_name, sets}
+use Rattle.lens_specs.specs.TableDeltas.{delta_for, relation_in}
 
 -- whether two names are the same
 abbrev pub same_name : Name → Name → Bool
@@ -42,8 +34,8 @@ nothing = record { remove = set.empty; add = set.empty }
 
 pub nothing_applies : (r : Relation) → AppliesTo nothing r
 nothing_applies r = (
-  record { removes = λ x there. absurd (never (sym (set.contains-empty row_cmp x) ∙ there)); adds = λ x there. absurd (never (sym (set.contains-empty row_cmp x) ∙ there)) },
-  λ x there. absurd (never (sym (set.contains-empty row_cmp x) ∙ there)),
+  record { removes = λ x there. absurd (false≢true (sym (set.contains-empty row_cmp x) ∙ there)); adds = λ x there. absurd (false≢true (sym (set.contains-empty row_cmp x) ∙ there)) },
+  λ x there. absurd (false≢true (sym (set.contains-empty row_cmp x) ∙ there)),
 )
 
 pub after_nothing : (r : Relation) → after r nothing ≡ r
@@ -88,15 +80,11 @@ each_applies (c ∷ cs) a all = (all.1, each_applies cs a all.3)
 pub same_is : (n q : Name) → same_name n q ≡ eq_by_cmp bytes_cmp q n
 same_is n q = texts_ties n q ∙ (eq_by_cmp_equiv name_total).symm n q
 
-neither : (a b : Bool) → (a || b) ≡ false → (a ≡ false) × (b ≡ false)
-neither true b h = cc
-neither false b h = (refl, h)
-
 -- a table that no difference names stays
 pub get_other : (cs : List TableDelta) (T : Tables) (q : Name) → list_any (λ c. same_name c.table q) cs ≡ false → finmap.get (with_deltas cs T) q ≡ finmap.get T q
 get_other [] T q none = refl
 get_other (c ∷ cs) T q none =
-    let parts = neither (same_name c.table q) (list_any (λ d. same_name d.table q) cs) none in
+    let parts = or_parts (same_name c.table q) (list_any (λ d. same_name d.table q) cs) none in
     let new = after (relation_in T c.table) c.delta in
     get_other cs (finmap.insert T c.table new) q parts.1
     ∙ finmap.get-insert name_total T c.table new q
@@ -159,7 +147,7 @@ lead_moves cs a b lead q = (
 pub unnamed : (cs : List TableDelta) (q : Name) → list_any (λ c. same_name c.table q) cs ≡ false → delta_for q cs ≡ nothing
 unnamed [] q none = refl
 unnamed (c ∷ cs) q none =
-    let parts = neither (same_name c.table q) (list_any (λ d. same_name d.table q) cs) none in
+    let parts = or_parts (same_name c.table q) (list_any (λ d. same_name d.table q) cs) none in
     ap (λ b. cond b c.delta (delta_for q cs)) (sym (same_is c.table q) ∙ parts.0) ∙ unnamed cs q parts.1
 
 -- ---- rising names
@@ -172,14 +160,10 @@ lower n m less = same_is m n ∙ not_tied (bytes_cmp n m) less
     not_tied Equal e = cc
     not_tied Greater e = refl
 
-both : (a b : Bool) → (a && b) ≡ true → (a ≡ true) × (b ≡ true)
-both true b h = (refl, h)
-both false b h = cc
-
 below_all : (n : Name) (cs : List TableDelta) → list_all (λ later. is_lt (bytes_cmp n later.table)) cs ≡ true → list_any (λ later. same_name later.table n) cs ≡ false
 below_all n [] h = refl
 below_all n (c ∷ cs) h =
-    let parts = both (is_lt (bytes_cmp n c.table)) (list_all (λ later. is_lt (bytes_cmp n later.table)) cs) h in
+    let parts = and_parts (is_lt (bytes_cmp n c.table)) (list_all (λ later. is_lt (bytes_cmp n later.table)) cs) h in
     (λ i. lower n c.table parts.0 i || below_all n cs parts.1 i)
 
 pub rising_apart : (cs : List TableDelta) → AreDeltas cs → Apart cs
@@ -195,7 +179,7 @@ no_rows s none = same_rows s set.empty (λ x. set.contains-items s x ∙ ap (lis
 
 pub empty_is : (d : Delta) → is_empty d ≡ true → d ≡ nothing
 empty_is d none =
-    let parts = both (length (set.items d.remove) == 0) (length (set.items d.add) == 0) none in
+    let parts = and_parts (length (set.items d.remove) == 0) (length (set.items d.add) == 0) none in
     λ i. record { remove = no_rows d.remove parts.0 i; add = no_rows d.add parts.1 i }
 
 no_items : length (set.items (set.empty {R = row_cmp})) ≡ 0
@@ -207,6 +191,6 @@ nothing_empty = (λ i. (no_items i == 0) && (no_items i == 0))
 pub absent_nothing : (cs : List TableDelta) (a : Tables) → AllThere cs a → (q : Name) → is_some (finmap.get a q) ≡ false → delta_for q cs ≡ nothing
 absent_nothing [] a there q absent = refl
 absent_nothing (c ∷ cs) a there q absent = elim (eq_by_cmp bytes_cmp q c.table) as (λ b. eq_by_cmp bytes_cmp q c.table ≡ b → cond b c.delta (delta_for q cs) ≡ nothing) [
-  | true ↦ λ tie. absurd (never (sym absent ∙ ap (λ n. is_some (finmap.get a n)) (tied_name q c.table tie) ∙ there.0))
+  | true ↦ λ tie. absurd (false≢true (sym absent ∙ ap (λ n. is_some (finmap.get a n)) (tied_name q c.table tie) ∙ there.0))
   | false ↦ λ _. absent_nothing cs a there.1 q absent
 ] refl

@@ -1,28 +1,21 @@
 -- What the nodes find by look-ups in their sources is what a look-up in the whole gives.
 use Rattle.std.proofs.Common.{◌≡◌, ◌&&◌, Bool, true, false, cond, List, map, refl, sym, ap, ◌∙◌, is_some, Option, None, inl, inr, [], ◌∷◌, arith}
-use Rattle.std.proofs.lemmas.Bool.{and_from, and_parts, cases_Bool}
+use Rattle.std.proofs.lemmas.Bool.{and_from, and_parts, cases_Bool, or_left, or_right, false_from_ne_true}
 use Rattle.std.specs.List.{Contains, list_any, filter, flat_map}
 use Rattle.std.specs.Ordering.{eq_by_cmp}
-use Rattle.lens_values.specs.SortedSet as set
-use Rattle.lens_values.specs.Row.{row_cmp}
-use Rattle.lens_values.specs.declared.row.Row.{Row}
-use Rattle.lens_values.specs.Order.{bytes_cmp}
-use Rattle.lens_values.specs.declared.value.Value.{Value}
+use Rattle.plain_values.specs.SortedSet as set
+use Rattle.plain_values.specs.Row.{row_cmp, Row}
+use Rattle.plain_values.specs.Order.{bytes_cmp}
+use Rattle.plain_values.specs.declared.value.Value.{Value}
 use Rattle.lens_laws.proofs.Asked.{contains_cases}
+use Rattle.fd_laws.proofs.Common.{fits_names, name_itself, tied_name, from_shared, same_rel, in_those, from_those, in_project, from_project, in_join, row_total, tied_row, row_itself, agree_at, agree_from, agree_back, agree_on, agree_within, agree-cut, at-cut, cut_column}
 use Rattle.fd_laws.proofs.Renames.{in_renamed, from_renamed}
 use Rattle.lens_laws.proofs.Rename.{at-renamed}
-use Rattle.fd_laws.proofs.Columns.{fits_names}
 use Rattle.lens_laws.proofs.Join.{from_natural, in_natural, natural_paste}
-use Rattle.fd_laws.proofs.Lists.{left_true, right_true, in_filter, from_filter, in_map, from_map, in_flat_map, from_flat_map, any_at, any_from, both_ways, false_from, absurd_false}
-use Rattle.fd_laws.proofs.Names.{name_itself, tied_name, from_shared}
-use Rattle.fd_laws.proofs.Relations.{same_rel, in_those, from_those, in_project, from_project, in_join}
-use Rattle.fd_laws.proofs.Rows.{row_total, tied_row, row_itself, agree_at, agree_from, agree_back, agree_on, agree_within, agree_alike, agree-cut, at-cut, cut_column}
-use Rattle.lens_specs.specs.Columns.{Columns, Fits, both_columns, names}
-use Rattle.lens_specs.specs.Names.{Name, Names, Within}
-use Rattle.lens_specs.specs.Rename.{renamed_names, renamed_row}
-use Rattle.lens_specs.specs.Nodes.{join_get}
-use Rattle.lens_specs.specs.Relation.{Rows, has, those, project}
-use Rattle.lens_specs.specs.Rows.{at, agree, paste, cut}
+use Rattle.plain_values.proofs.Lists.{in_filter, from_filter, in_map, from_map, in_flat_map, from_flat_map, any_at, any_from, absurd_false}
+use Rattle.plain_values.proofs.Tests.{same_bool}
+use Rattle.fd_laws.proofs.Rows.{agree_alike}
+use Rattle.lens_specs.specs.Common.{Columns, Fits, both_columns, names, Name, Names, Within, renamed_names, renamed_row, join_get, Rows, has, those, project, at, agree, paste, cut}
 use Rattle.lens_laws.specs.Finds.{IsOver, matched}
 use Rattle.lens_laws.specs.KeyedDeltas.{find_by}
 
@@ -43,11 +36,11 @@ pub fits_is_over : (U : Columns) (r : Row) → Fits U r → IsOver (names U) r
 fits_is_over U r h c = fits_names U r h c
 
 -- a row of the list of a set is in it
-contained : (rs : List Row) (r : Row) → Contains rs r → list_any (eq_by_cmp row_cmp r) rs ≡ true
+pub contained : (rs : List Row) (r : Row) → Contains rs r → list_any (eq_by_cmp row_cmp r) rs ≡ true
 contained [] r h = absurd (omega arith)
 contained (q ∷ qs) r h = elim (contains_cases r q qs h) [
-  | inl is ↦ left_true _ _ (ap (eq_by_cmp row_cmp r) (sym is) ∙ row_itself r)
-  | inr j ↦ right_true (eq_by_cmp row_cmp r q) _ (contained qs r j)
+  | inl is ↦ or_left _ _ (ap (eq_by_cmp row_cmp r) (sym is) ∙ row_itself r)
+  | inr j ↦ or_right (eq_by_cmp row_cmp r q) _ (contained qs r j)
 ]
 
 pub has_contained : (M : Rows) (r : Row) → Contains (set.items M) r → has M r ≡ true
@@ -110,7 +103,7 @@ contains-old : (A B : Name) (C : Names) → ((c : Name) → set.contains C c ≡
     → set.contains (renamed_names B A C) c ≡ cond (eq_by_cmp bytes_cmp c A) (set.contains C B) (cond (eq_by_cmp bytes_cmp c B) false (set.contains C c))
 contains-old A B C apart c = elim (cases_Bool (eq_by_cmp bytes_cmp c A)) [
   | inl t ↦
-      both_ways _ _
+      same_bool _ _
       (λ i.
       let w = from_renamed B A C c i in
       elim (cases_Bool (eq_by_cmp bytes_cmp w.0 B)) [
@@ -122,7 +115,7 @@ contains-old A B C apart c = elim (cases_Bool (eq_by_cmp bytes_cmp c A)) [
   | inr f ↦
       elim (cases_Bool (eq_by_cmp bytes_cmp c B)) [
         | inl t ↦
-            false_from _ (λ i.
+            false_from_ne_true _ (λ i.
             let w = from_renamed B A C c i in
             elim (cases_Bool (eq_by_cmp bytes_cmp w.0 B)) [
               | inl x ↦ absurd_false _ (ap (λ z. eq_by_cmp bytes_cmp z A) (w.2 ∙ ap (λ y. cond y A w.0) x) ∙ name_itself A) f
@@ -130,7 +123,7 @@ contains-old A B C apart c = elim (cases_Bool (eq_by_cmp bytes_cmp c A)) [
             ])
             ∙ sym (ap (λ b. cond b false (set.contains C c)) t)
         | inr g ↦
-            both_ways _ _
+            same_bool _ _
             (λ i.
             let w = from_renamed B A C c i in
             elim (cases_Bool (eq_by_cmp bytes_cmp w.0 B)) [
@@ -158,7 +151,7 @@ over_renamed A B C k apart o c =
 
 -- a row of the source by a key within the part is one whose part is the row
 pub has_part : (D X : Names) (M : Rows) (r : Row) → Within X D → list_any (λ m. eq_by_cmp row_cmp r (cut D m)) (set.items (find_by X (cut X r) M)) ≡ has (project D M) r
-has_part D X M r w = both_ways _ _
+has_part D X M r w = same_bool _ _
     (λ h.
     let u = any_from (eq_by_cmp row_cmp) tied_row row_itself (λ m. eq_by_cmp row_cmp r (cut D m)) (set.items (find_by X (cut X r) M)) h in
     ap (has _) (tied_row r _ u.2) ∙ in_project D M u.0 (from_those (agree X (cut X r)) M u.0 (set.contains-items _ u.0 ∙ u.1)).0)
@@ -172,7 +165,7 @@ has_part D X M r w = both_ways _ _
 -- a join has a row that fits where each side has its part
 pub has_in_join : (U V : Columns) (M N : Rows) → ((m : Row) → has M m ≡ true → Fits U m) → ((n : Row) → has N n ≡ true → Fits V n) → (r : Row) → Fits (both_columns U V) r
     → (has M (cut (names U) r) && has N (cut (names V) r)) ≡ has (join_get (names U) (names V) M N) r
-has_in_join U V M N hM hN r o = both_ways _ _
+has_in_join U V M N hM hN r o = same_bool _ _
     (λ h. let b = and_parts _ _ h in in_natural U V M N hM hN r o b.0 b.1)
     (λ i. let u = from_natural U V M N hM hN r i in and_from _ _ u.0 u.1)
 

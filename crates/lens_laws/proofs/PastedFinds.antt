@@ -3,20 +3,15 @@ use Rattle.std.proofs.Common.{◌≡◌, cond, List, ◌++◌, map, is_some, sym
 use Rattle.std.specs.List.{Contains}
 use Rattle.std.specs.FinMap as finmap
 use Rattle.std.specs.Prelude.{flat_map, filter}
-use Rattle.lens_values.specs.Order.{bytes_cmp}
-use Rattle.lens_values.specs.Part.{override, restrict}
-use Rattle.lens_values.specs.SortedSet as set
-use Rattle.lens_values.specs.declared.row.Row.{Row}
-use Rattle.fd_laws.proofs.Columns.{find-append, fits_names}
-use Rattle.fd_laws.proofs.Names.{name_total, from_shared}
+use Rattle.plain_values.specs.Order.{bytes_cmp}
+use Rattle.plain_values.specs.Part.{override, restrict}
+use Rattle.plain_values.specs.SortedSet as set
+use Rattle.plain_values.specs.Row.{Row}
+use Rattle.fd_laws.proofs.Common.{fits_names, name_total, from_shared, from_those, same_row}
+use Rattle.fd_laws.proofs.Columns.{find-append}
 use Rattle.lens_laws.proofs.NodeFinds.{cut_is_over, fits_is_over, has_contained, matched_same, matched_kept, left_first_is, right_first_is}
-use Rattle.fd_laws.proofs.Relations.{from_those}
-use Rattle.fd_laws.proofs.Rows.{same_row, at-paste}
-use Rattle.lens_specs.specs.Columns.{Columns, Fits, names}
-use Rattle.lens_specs.specs.Names.{Names, Within}
-use Rattle.lens_specs.specs.Nodes.{join_get}
-use Rattle.lens_specs.specs.Relation.{Rows, those}
-use Rattle.lens_specs.specs.Rows.{at, agree, paste, cut}
+use Rattle.fd_laws.proofs.Rows.{at-paste}
+use Rattle.lens_specs.specs.Common.{Columns, Fits, names, Names, Within, join_get, Rows, those, at, agree, paste, cut}
 use Rattle.lens_laws.specs.Finds.{AllFit, IsOver}
 use Rattle.lens_laws.specs.KeyedDeltas.{find_by}
 

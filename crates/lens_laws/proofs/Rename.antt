@@ -1,30 +1,25 @@
 -- The laws of rename.
 use Rattle.std.proofs.Common.{◌≡◌, Bool, true, false, cond, List, [], ◌∷◌, Option, Some, None, refl, sym, ap, ◌∙◌, subst, inl, inr}
-use Rattle.std.proofs.lemmas.Bool.{cases_Bool}
+use Rattle.std.proofs.lemmas.Bool.{cases_Bool, false_from_ne_true}
 use Rattle.std.specs.Prelude.{if◌then◌else◌}
 use Rattle.std.specs.Ordering.{eq_by_cmp}
 use Rattle.std.specs.FinMap as finmap
-use Rattle.lens_values.specs.Order.{bytes_cmp}
-use Rattle.lens_values.specs.SortedSet as set
-use Rattle.lens_values.specs.declared.value.Kind.{Kind}
-use Rattle.lens_values.specs.declared.row.Row.{Row}
+use Rattle.plain_values.specs.Order.{bytes_cmp}
+use Rattle.plain_values.specs.SortedSet as set
+use Rattle.plain_values.specs.declared.value.Kind.{Kind}
+use Rattle.plain_values.specs.Row.{Row}
+use Rattle.fd_laws.proofs.Common.{name_total, name_exact, name_itself, tied_name, same_rel, in_those, from_those, in_minus, from_minus, from_image, same_row, agree_at, agree_from}
 use Rattle.fd_laws.proofs.Columns.{fits_none, no_kind}
-use Rattle.fd_laws.proofs.Lists.{both_ways, false_from, absurd_false}
-use Rattle.fd_laws.proofs.Names.{name_total, name_exact, name_itself, tied_name}
+use Rattle.plain_values.proofs.Lists.{absurd_false}
 use Rattle.fd_laws.proofs.Renames.{other_name, in_renamed, from_renamed}
 use Rattle.lens_laws.proofs.Deltas.{applies_is}
-use Rattle.fd_laws.proofs.Relations.{same_rel, in_those, from_those, in_minus, from_minus, in_image, from_image}
-use Rattle.lens_specs.specs.Delta.{Delta, diff, new_view, Applies}
+use Rattle.fd_laws.proofs.Relations.{in_image}
+use Rattle.lens_specs.specs.Common.{Delta, diff, new_view, Applies, Columns, Fits, names, Edge, MeetsTree, Name, Names, Within, Rows, has, minus, at, agree, renamed, renamed_names, renamed_row, renamed_columns, renamed_tree, rename_get, rename_put}
 use Rattle.lens_laws.specs.KeyedDeltas.{find_by}
-use Rattle.fd_laws.proofs.Rows.{same_row, agree_at, agree_from, at-with_at}
-use Rattle.lens_specs.specs.Columns.{Columns, Fits, names}
-use Rattle.lens_values.proofs.FitsLemmas.{fits_nowhere, fits_same, fits_cond, none_fits}
-use Rattle.lens_specs.specs.Dependencies.{Edge, MeetsTree}
-use Rattle.lens_specs.specs.Names.{Name, Names, Within}
-use Rattle.lens_specs.specs.Relation.{Rows, has, minus}
-use Rattle.lens_specs.specs.Rows.{at, agree}
-use Rattle.lens_specs.specs.Rename.{renamed, renamed_names, renamed_row, with_kind, renamed_columns, renamed_tree}
-use Rattle.lens_specs.specs.Nodes.{rename_get, rename_put}
+use Rattle.fd_laws.proofs.Rows.{at-with_at}
+use Rattle.plain_values.proofs.FitsLemmas.{fits_nowhere, fits_same, fits_cond, none_fits}
+use Rattle.plain_values.proofs.Tests.{same_bool}
+use Rattle.lens_specs.specs.Rename.{with_kind}
 use Rattle.lens_laws.specs.Rename.{rename_delta, CanRename, rename_shape}
 use Rattle.lens_laws.specs.Shapes.{Shape, IsIn, IsLawful}
 use Rattle.fd_laws.specs.Trees.{EdgesWithin}
@@ -134,7 +129,7 @@ module _ (s : Shape) (A B : Name) (can : CanRename s A B) where
 
   -- rows turned back agree on columns where the rows agree on the renamed ones
   agree-back : (X : Names) → Within X U → (n p : Row) → agree X (renamed_row B A n) (renamed_row B A p) ≡ agree (renamed_names A B X) n p
-  agree-back X w n p = both_ways _ _
+  agree-back X w n p = same_bool _ _
       (λ g. agree_from (renamed_names A B X) n p (λ q i.
       let v = from_renamed A B X q i in let o = not_new v.0 (w v.0 v.1) in
       ap (at n) v.2 ∙ sym (at-back A B n v.0 o) ∙ agree_at X _ _ g v.0 v.1 ∙ at-back A B p v.0 o ∙ ap (at p) (sym v.2)))
@@ -207,11 +202,11 @@ module _ (s : Shape) (A B : Name) (can : CanRename s A B) where
   -- ---- look-ups
   has_get : (M : Rows) → IsIn M s → (q : Row) → Fits view.columns q → has (rename_get A B M) q ≡ has M (renamed_row B A q)
   unfolding rename_get
-  has_get M m q h = both_ways _ _ (λ i. (from_get M m q i).0) (λ i. ap (has _) (sym (back q h)) ∙ in_image (renamed_row A B) M (renamed_row B A q) i)
+  has_get M m q h = same_bool _ _ (λ i. (from_get M m q i).0) (λ i. ap (has _) (sym (back q h)) ∙ in_image (renamed_row A B) M (renamed_row B A q) i)
 
   -- a new name is not A
   pub not_old : (c : Name) → set.contains (renamed_names A B U) c ≡ true → eq_by_cmp bytes_cmp c A ≡ false
-  not_old c i = false_from _ (λ t.
+  not_old c i = false_from_ne_true _ (λ t.
       let v = from_renamed A B U c i in
       elim (cases_Bool (eq_by_cmp bytes_cmp v.0 A)) [
         | inl x ↦ absurd_false _ (ap (λ z. eq_by_cmp bytes_cmp z B) (sym (tied_name c A t) ∙ v.2 ∙ ap (λ y. cond y B v.0) x) ∙ name_itself B) apart_names
@@ -225,7 +220,7 @@ module _ (s : Shape) (A B : Name) (can : CanRename s A B) where
       ap (set.contains U) (u.2 ∙ ap (renamed B A) v.2 ∙ renamed_twice B A v.0 (not_new v.0 v.1)) ∙ v.1
 
   old_new : (C : Names) → Within C (renamed_names A B U) → renamed_names A B (renamed_names B A C) ≡ C
-  old_new C w = set.same_set name_total name_exact _ C (λ c. both_ways _ _
+  old_new C w = set.same_set name_total name_exact _ C (λ c. same_bool _ _
       (λ i. let u = from_renamed A B (renamed_names B A C) c i in let v = from_renamed B A C u.0 u.1 in
       ap (set.contains C) (u.2 ∙ ap (renamed A B) v.2 ∙ renamed_twice A B v.0 (not_old v.0 (w v.0 v.1))) ∙ v.1)
       (λ i. ap (set.contains _) (sym (renamed_twice A B c (not_old c (w c i)))) ∙ in_renamed A B (renamed_names B A C) (renamed B A c) (in_renamed B A C c i)))
@@ -254,13 +249,13 @@ module _ (s : Shape) (A B : Name) (can : CanRename s A B) where
   put-minus X Y hx hy = same_rel _ _
       (λ r i.
       let u = from_image (renamed_row B A) _ r i in let v = from_minus X Y u.0 u.1 in
-      in_minus _ _ r (ap (has _) u.2 ∙ in_image (renamed_row B A) X u.0 v.0) (false_from _ (λ j.
+      in_minus _ _ r (ap (has _) u.2 ∙ in_image (renamed_row B A) X u.0 v.0) (false_from_ne_true _ (λ j.
       let t = from_image (renamed_row B A) Y r j in
       let is : u.0 ≡ t.0 = sym (back u.0 (hx u.0 v.0)) ∙ ap (renamed_row A B) (sym u.2 ∙ t.2) ∙ back t.0 (hy t.0 t.1) in
       absurd_false _ (ap (has Y) is ∙ t.1) v.1)))
       (λ r i.
       let v = from_minus _ _ r i in let u = from_image (renamed_row B A) X r v.0 in
-      ap (has _) u.2 ∙ in_image (renamed_row B A) (minus X Y) u.0 (in_minus X Y u.0 u.1 (false_from _ (λ j. absurd_false _ (ap (has _) u.2 ∙ in_image (renamed_row B A) Y u.0 j) v.1))))
+      ap (has _) u.2 ∙ in_image (renamed_row B A) (minus X Y) u.0 (in_minus X Y u.0 u.1 (false_from_ne_true _ (λ j. absurd_false _ (ap (has _) u.2 ∙ in_image (renamed_row B A) Y u.0 j) v.1))))
 
   pub rename_delta_is : (M : Rows) (d : Delta) → IsIn M s → Applies d (rename_get A B M) → IsIn (new_view (rename_get A B M) d) view
       → rename_delta A B d ≡ diff M (rename_put A B (new_view (rename_get A B M) d))

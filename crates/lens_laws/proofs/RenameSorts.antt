@@ -1,26 +1,21 @@
 -- A rename of sorts: the predicate and the tree with the new name say of a row what the old ones say of it turned back.
-use Rattle.std.proofs.Common.{◌≡◌, Bool, true, false, cond, not, ◌&&◌, ◌||◌, List, [], ◌∷◌, ◌++◌, Some, None, refl, sym, ap, ◌∙◌, subst, inl, inr, is_some}
-use Rattle.std.proofs.lemmas.Bool.{cases_Bool, or_cases, true≢false}
+use Rattle.std.proofs.Common.{◌≡◌, true, false, cond, not, ◌&&◌, ◌||◌, List, [], ◌∷◌, ◌++◌, Some, None, refl, sym, ap, ◌∙◌, subst, inl, inr, is_some}
+use Rattle.std.proofs.lemmas.Bool.{cases_Bool, or_cases, true≢false, or_left, or_right, false_from_ne_true}
 use Rattle.std.specs.FinMap as finmap
 use Rattle.std.specs.Ordering.{eq_by_cmp}
-use Rattle.lens_values.specs.Order.{bytes_cmp}
-use Rattle.lens_values.specs.SortedSet as set
-use Rattle.lens_values.specs.declared.row.Row.{Row}
-use Rattle.fd_laws.proofs.Columns.{names-get}
-use Rattle.fd_laws.proofs.Lists.{left_true, right_true, both_ways, false_from, absurd_false, in_append_left, in_append_right, from_append}
-use Rattle.fd_laws.proofs.Names.{name_total, name_exact, name_itself, tied_name}
+use Rattle.plain_values.specs.Order.{bytes_cmp}
+use Rattle.plain_values.specs.SortedSet as set
+use Rattle.plain_values.specs.Row.{Row}
+use Rattle.fd_laws.proofs.Common.{names-get, name_total, name_exact, name_itself, tied_name}
+use Rattle.plain_values.proofs.Lists.{absurd_false, in_append_left, in_append_right, from_append}
+use Rattle.plain_values.proofs.Tests.{same_bool, or_no}
 use Rattle.fd_laws.proofs.Renames.{other_name, in_renamed, from_renamed, renamed_is_tree, renamed_edges_within}
 use Rattle.lens_laws.proofs.Rename.{get-renamed, at-back, rename_lawful}
 use Rattle.lens_laws.proofs.Sorts.{lawful_of}
-use Rattle.lens_specs.specs.Columns.{Columns, names}
-use Rattle.lens_specs.specs.Names.{Name, is_among}
-use Rattle.lens_specs.specs.Predicate.{Formula, truth, falsity, compare, compare_columns, one_of, null_at, negation, all_of, any_of, Formulas, no_formulas, formulas, compared, has_null, is_one_of, formula_holds, all_hold, any_holds, holds, names_in, names_of_all, Predicate, mentions, formula_mentions}
-use Rattle.lens_specs.specs.Rows.{at}
-use Rattle.lens_specs.specs.Sort.{Sort, IsOf}
+use Rattle.lens_specs.specs.Common.{Columns, names, Name, is_among, Formula, truth, falsity, compare, compare_columns, one_of, null_at, negation, all_of, any_of, Formulas, no_formulas, formulas, holds, names_in, names_of_all, Predicate, mentions, formula_mentions, at, Sort, IsOf, renamed, renamed_names, renamed_row, renamed_columns, renamed_tree, renamed_predicate, rename_get, rename_put, rename_sort}
+use Rattle.lens_specs.specs.Predicate.{compared, has_null, is_one_of, formula_holds, all_hold, any_holds}
 use Rattle.lens_laws.specs.Passes.{IsSound}
-use Rattle.lens_specs.specs.Rename.{renamed, renamed_names, renamed_row, renamed_columns, renamed_tree, renamed_formula, renamed_formulas, renamed_predicate}
-use Rattle.lens_specs.specs.Nodes.{rename_get, rename_put}
-use Rattle.lens_specs.specs.Lens.{rename_sort}
+use Rattle.lens_specs.specs.Rename.{renamed_formula, renamed_formulas}
 use Rattle.lens_laws.specs.Rename.{CanRename, rename_shape}
 use Rattle.lens_laws.specs.Shapes.{shape_of, IsLawfulNode}
 use Rattle.fd_laws.specs.Trees.{EdgesWithin}
@@ -39,12 +34,12 @@ mutual
   formula_renamed : (f : Formula) (A B : Name) (r : Row) → Lacks (names_in f) B → formula_holds (renamed_formula A B f) r ≡ formula_holds f (renamed_row B A r)
   formula_renamed truth A B r h = refl
   formula_renamed falsity A B r h = refl
-  formula_renamed (compare c op v) A B r h = ap (λ o. compared op o (Some v)) (sym (at-back A B r c (h c (left_true _ _ (name_itself c)))))
+  formula_renamed (compare c op v) A B r h = ap (λ o. compared op o (Some v)) (sym (at-back A B r c (h c (or_left _ _ (name_itself c)))))
   formula_renamed (compare_columns c op d) A B r h =
-      ap (λ o. compared op o (at r (renamed A B d))) (sym (at-back A B r c (h c (left_true _ _ (name_itself c)))))
-      ∙ ap (compared op (at (renamed_row B A r) c)) (sym (at-back A B r d (h d (right_true (eq_by_cmp bytes_cmp d c) _ (left_true _ _ (name_itself d))))))
-  formula_renamed (one_of c vs) A B r h = ap (is_one_of vs) (sym (at-back A B r c (h c (left_true _ _ (name_itself c)))))
-  formula_renamed (null_at c) A B r h = ap has_null (sym (at-back A B r c (h c (left_true _ _ (name_itself c)))))
+      ap (λ o. compared op o (at r (renamed A B d))) (sym (at-back A B r c (h c (or_left _ _ (name_itself c)))))
+      ∙ ap (compared op (at (renamed_row B A r) c)) (sym (at-back A B r d (h d (or_right (eq_by_cmp bytes_cmp d c) _ (or_left _ _ (name_itself d))))))
+  formula_renamed (one_of c vs) A B r h = ap (is_one_of vs) (sym (at-back A B r c (h c (or_left _ _ (name_itself c)))))
+  formula_renamed (null_at c) A B r h = ap has_null (sym (at-back A B r c (h c (or_left _ _ (name_itself c)))))
   formula_renamed (negation f) A B r h = ap not (formula_renamed f A B r h)
   formula_renamed (all_of fs) A B r h = all_renamed fs A B r h
   formula_renamed (any_of fs) A B r h = any_renamed fs A B r h
@@ -64,15 +59,15 @@ mutual
 pub predicate_renamed : (P : Predicate) (A B : Name) (r : Row) → ((c : Name) → mentions P c ≡ true → eq_by_cmp bytes_cmp c B ≡ false) → holds (renamed_predicate A B P) r ≡ holds P (renamed_row B A r)
 predicate_renamed [] A B r h = refl
 predicate_renamed (f ∷ fs) A B r h =
-    ap (λ x. x && holds (renamed_predicate A B fs) r) (formula_renamed f A B r (λ c i. h c (left_true _ _ i)))
-    ∙ ap (λ x. formula_holds f (renamed_row B A r) && x) (predicate_renamed fs A B r (λ c i. h c (right_true _ _ i)))
+    ap (λ x. x && holds (renamed_predicate A B fs) r) (formula_renamed f A B r (λ c i. h c (or_left _ _ i)))
+    ∙ ap (λ x. formula_holds f (renamed_row B A r) && x) (predicate_renamed fs A B r (λ c i. h c (or_right _ _ i)))
 
 -- ---- what a renamed predicate mentions
 abbrev From : Name → Name → List Name → Name → Type 0
 From A B ns q = (c : Name) × (is_among c ns ≡ true) × (q ≡ renamed A B c)
 
 from_one : (A B c q : Name) → eq_by_cmp bytes_cmp q (renamed A B c) ≡ true → From A B (c ∷ []) q
-from_one A B c q e = (c, left_true _ _ (name_itself c), tied_name q (renamed A B c) e)
+from_one A B c q e = (c, or_left _ _ (name_itself c), tied_name q (renamed A B c) e)
 
 from_first : (A B : Name) (xs ys : List Name) (q : Name) → From A B xs q → From A B (xs ++ ys) q
 from_first A B xs ys q w = (w.0, in_append_left (eq_by_cmp bytes_cmp) tied_name name_itself w.0 xs ys w.1, w.2)
@@ -80,21 +75,17 @@ from_first A B xs ys q w = (w.0, in_append_left (eq_by_cmp bytes_cmp) tied_name 
 from_second : (A B : Name) (xs ys : List Name) (q : Name) → From A B ys q → From A B (xs ++ ys) q
 from_second A B xs ys q w = (w.0, in_append_right (eq_by_cmp bytes_cmp) tied_name name_itself w.0 xs ys w.1, w.2)
 
-alone : (b : Bool) → (b || false) ≡ true → b ≡ true
-alone true e = refl
-alone false e = e
-
 mutual
   names_renamed : (f : Formula) (A B q : Name) → is_among q (names_in (renamed_formula A B f)) ≡ true → From A B (names_in f) q
   names_renamed truth A B q i = absurd (true≢false (sym i))
   names_renamed falsity A B q i = absurd (true≢false (sym i))
-  names_renamed (compare c op v) A B q i = from_one A B c q (alone _ i)
+  names_renamed (compare c op v) A B q i = from_one A B c q (or_no _ i)
   names_renamed (compare_columns c op d) A B q i = elim (or_cases (eq_by_cmp bytes_cmp q (renamed A B c)) (eq_by_cmp bytes_cmp q (renamed A B d) || false) i) [
     | inl e ↦ from_first A B (c ∷ []) (d ∷ []) q (from_one A B c q e)
-    | inr e ↦ from_second A B (c ∷ []) (d ∷ []) q (from_one A B d q (alone _ e))
+    | inr e ↦ from_second A B (c ∷ []) (d ∷ []) q (from_one A B d q (or_no _ e))
   ]
-  names_renamed (one_of c vs) A B q i = from_one A B c q (alone _ i)
-  names_renamed (null_at c) A B q i = from_one A B c q (alone _ i)
+  names_renamed (one_of c vs) A B q i = from_one A B c q (or_no _ i)
+  names_renamed (null_at c) A B q i = from_one A B c q (or_no _ i)
   names_renamed (negation f) A B q i = names_renamed f A B q i
   names_renamed (all_of fs) A B q i = all_names_renamed fs A B q i
   names_renamed (any_of fs) A B q i = all_names_renamed fs A B q i
@@ -109,8 +100,8 @@ mutual
 pub mentions_renamed : (P : Predicate) (A B q : Name) → mentions (renamed_predicate A B P) q ≡ true → (c : Name) × (mentions P c ≡ true) × (q ≡ renamed A B c)
 mentions_renamed [] A B q h = absurd (true≢false (sym h))
 mentions_renamed (f ∷ fs) A B q h = elim (or_cases (formula_mentions (renamed_formula A B f) q) (mentions (renamed_predicate A B fs) q) h) [
-  | inl i ↦ let w = names_renamed f A B q i in (w.0, left_true _ _ w.1, w.2)
-  | inr i ↦ let w = mentions_renamed fs A B q i in (w.0, right_true (formula_mentions f w.0) _ w.1, w.2)
+  | inl i ↦ let w = names_renamed f A B q i in (w.0, or_left _ _ w.1, w.2)
+  | inr i ↦ let w = mentions_renamed fs A B q i in (w.0, or_right (formula_mentions f w.0) _ w.1, w.2)
 ]
 
 -- ---- columns
@@ -122,10 +113,10 @@ names-renamed A B U a b = set.same_set name_total name_exact _ _ (λ c. names-ge
   | inr f ↦
       ap (λ x. is_some (cond x (finmap.get U A) (cond (eq_by_cmp bytes_cmp c A) None (finmap.get U c)))) f
       ∙ elim (cases_Bool (eq_by_cmp bytes_cmp c A)) [
-        | inl t ↦ ap (λ x. is_some (cond x None (finmap.get U c))) t ∙ sym (false_from _ (λ i.
+        | inl t ↦ ap (λ x. is_some (cond x None (finmap.get U c))) t ∙ sym (false_from_ne_true _ (λ i.
             let w = from_renamed A B (names U) c i in
             gone c w.0 w.1 t f w.2))
-        | inr g ↦ ap (λ x. is_some (cond x None (finmap.get U c))) g ∙ sym (names-get U c) ∙ both_ways _ _
+        | inr g ↦ ap (λ x. is_some (cond x None (finmap.get U c))) g ∙ sym (names-get U c) ∙ same_bool _ _
             (λ i. ap (set.contains (renamed_names A B (names U))) (sym (ap (λ x. cond x B c) g)) ∙ in_renamed A B (names U) c i)
             (λ i. let w = from_renamed A B (names U) c i in kept c w.0 w.1 f w.2)
       ]

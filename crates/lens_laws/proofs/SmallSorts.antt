@@ -6,18 +6,13 @@ use Rattle.std.specs.FinMap as finmap
 use Rattle.fd_laws.proofs.Names.{name_total}
 use Rattle.lens_laws.proofs.Asked.{form_keyed}
 use Rattle.lens_laws.proofs.Rules.{got, unrefused, neither, never}
-use Rattle.lens_specs.specs.Columns.{Columns, names, fits_at, least_outside, kinds_differ}
-use Rattle.lens_values.specs.declared.value.Value.{Value}
-use Rattle.lens_specs.specs.Dependencies.{Edge, AllEdges}
-use Rattle.lens_specs.specs.Lens.{Lens, base, select, drop, rename, join, nodes_of, select_sort, drop_sort, rename_sort, join_sort, tables_of}
-use Rattle.lens_specs.specs.Names.{Name, Names}
-use Rattle.lens_specs.specs.Predicate.{Predicate}
-use Rattle.lens_specs.specs.Rename.{renamed_columns, with_kind}
-use Rattle.lens_specs.specs.Refusal.{Refusal, left_side, right_side, unknown_column, kind_clash, predicate_kind, source_mentions_output, no_such_dependency, mixed_conjunct, default_refused, not_determined, side_mentions_output, table_twice, when, is_column, unknown_name, unlike_kinds, unsteady, first_mixed, too_much}
-use Rattle.lens_specs.specs.Sort.{Sort}
+use Rattle.lens_specs.specs.Common.{Columns, names, fits_at, least_outside, kinds_differ, Edge, AllEdges, Lens, base, select, drop, rename, nodes_of, select_sort, drop_sort, rename_sort, join_sort, tables_of, Name, Names, Predicate, renamed_columns, Refusal, unknown_column, kind_clash, when, is_column, unknown_name, unlike_kinds, unsteady, first_mixed, too_much, Sort, TreeForm, tree_of, is_determined, default_holds, undetermined, select_fault, drop_fault, rename_fault, join_fault, sort, table_sort, table_sort_with}
+use Rattle.plain_values.specs.declared.value.Value.{Value}
+use Rattle.lens_specs.specs.Lens.{join}
+use Rattle.lens_specs.specs.Rename.{with_kind}
+use Rattle.lens_specs.specs.Refusal.{left_side, right_side, predicate_kind, source_mentions_output, no_such_dependency, mixed_conjunct, default_refused, not_determined, side_mentions_output, table_twice}
 use Rattle.lens_specs.specs.TreeForm as form
-use Rattle.lens_specs.specs.TreeForm.{TreeForm, tree_of}
-use Rattle.lens_specs.specs.Typing.{form_fault, is_determined, default_holds, undetermined, select_fault, drop_fault, rename_fault, join_fault, shared_table, sort, table_sort, table_sort_with}
+use Rattle.lens_specs.specs.Typing.{form_fault, shared_table}
 use Rattle.lens_laws.specs.Asked.{IsFilled, HasKeys}
 use Rattle.lens_laws.specs.Work.{BasesAreSmall}
 

@@ -1,18 +1,15 @@
 -- The test of the rule of sorts finds none exactly where all conjuncts are steady.
 use Rattle.std.proofs.Common.{◌≡◌, Bool, true, false, cond, not, List, [], ◌∷◌, refl, ap, ◌∙◌, sym, inl, inr, None}
-use Rattle.std.proofs.lemmas.Bool.{or_cases, or_parts, and_parts, and_from, true≢false, not-true, not_from_false}
+use Rattle.std.proofs.lemmas.Bool.{or_cases, or_parts, and_parts, and_from, true≢false, not-true, not_from_false, or_left, or_right, false_from_ne_true}
 use Rattle.std.specs.List.{list_all, list_any, filter, find}
 use Rattle.std.specs.Ordering.{eq_by_cmp}
-use Rattle.lens_values.specs.Order.{bytes_cmp}
-use Rattle.lens_values.specs.SortedSet as set
-use Rattle.fd_laws.proofs.Lists.{any_at, any_from, find_none, left_true, right_true, false_from, absurd_false}
+use Rattle.plain_values.specs.Order.{bytes_cmp}
+use Rattle.plain_values.specs.SortedSet as set
+use Rattle.plain_values.proofs.Lists.{any_at, any_from, find_none, absurd_false}
 use Rattle.fd_laws.proofs.Names.{name_itself, tied_name}
 use Rattle.fd_laws.specs.Trees.{Among}
-use Rattle.lens_specs.specs.Dependencies.{Edge}
-use Rattle.lens_specs.specs.Names.{Name, is_among}
-use Rattle.lens_specs.specs.Predicate.{Formula, Predicate, names_in, mentions, formula_mentions}
-use Rattle.lens_specs.specs.Refusal.{is_steady, unsteady}
-use Rattle.lens_specs.specs.TreeForm.{outputs}
+use Rattle.lens_specs.specs.Common.{Edge, Name, is_among, Formula, Predicate, names_in, mentions, formula_mentions, unsteady, outputs}
+use Rattle.lens_specs.specs.Refusal.{is_steady}
 use Rattle.lens_laws.specs.Passes.{AllFormulas, IsSteady}
 
 -- ---- all names of a list
@@ -27,7 +24,7 @@ all_at p (n ∷ ns) h c i =
 
 all_from : (p : Name → Bool) (ns : List Name) → ((c : Name) → is_among c ns ≡ true → p c ≡ true) → list_all p ns ≡ true
 all_from p [] h = refl
-all_from p (n ∷ ns) h = and_from (p n) (list_all p ns) (h n (left_true _ _ (name_itself n))) (all_from p ns (λ c i. h c (right_true (eq_by_cmp bytes_cmp c n) _ i)))
+all_from p (n ∷ ns) h = and_from (p n) (list_all p ns) (h n (or_left _ _ (name_itself n))) (all_from p ns (λ c i. h c (or_right (eq_by_cmp bytes_cmp c n) _ i)))
 
 -- ---- one formula
 from_right : (ns : List Name) (T : List Edge) → list_any (λ e. list_all (set.contains e.right) ns) T ≡ true
@@ -41,20 +38,20 @@ from_right ns (e ∷ es) h = elim (or_cases (list_all (set.contains e.right) ns)
 in_right : (ns : List Name) (T : List Edge) (e : Edge) → Among e T → ((c : Name) → is_among c ns ≡ true → set.contains e.right c ≡ true) → list_any (λ e. list_all (set.contains e.right) ns) T ≡ true
 in_right ns [] e i h = absurd i
 in_right ns (k ∷ ks) e i h = elim i [
-  | inl is ↦ left_true _ _ (ap (λ z. list_all (set.contains z.right) ns) (sym is) ∙ all_from (set.contains e.right) ns h)
-  | inr j ↦ right_true (list_all (set.contains k.right) ns) _ (in_right ns ks e j h)
+  | inl is ↦ or_left _ _ (ap (λ z. list_all (set.contains z.right) ns) (sym is) ∙ all_from (set.contains e.right) ns h)
+  | inr j ↦ or_right (list_all (set.contains k.right) ns) _ (in_right ns ks e j h)
 ]
 
 steady_if : (T : List Edge) (f : Formula) → is_steady T f ≡ true → IsSteady T f
 steady_if T f h = elim (or_cases (not (list_any (set.contains (outputs T)) (names_in f))) (list_any (λ e. list_all (set.contains e.right) (names_in f)) T) h) [
-  | inl n ↦ inl (λ c o. false_from _ (λ m. absurd_false _ (any_at (eq_by_cmp bytes_cmp) tied_name name_itself (set.contains (outputs T)) (names_in f) c m o) (not-true _ n)))
+  | inl n ↦ inl (λ c o. false_from_ne_true _ (λ m. absurd_false _ (any_at (eq_by_cmp bytes_cmp) tied_name name_itself (set.contains (outputs T)) (names_in f) c m o) (not-true _ n)))
   | inr j ↦ inr (from_right (names_in f) T j)
 ]
 
 if_steady : (T : List Edge) (f : Formula) → IsSteady T f → is_steady T f ≡ true
 if_steady T f h = elim h [
-  | inl ignores ↦ left_true _ _ (not_from_false _ (false_from _ (λ t. let w = any_from (eq_by_cmp bytes_cmp) tied_name name_itself (set.contains (outputs T)) (names_in f) t in absurd_false _ w.1 (ignores w.0 w.2))))
-  | inr w ↦ right_true (not (list_any (set.contains (outputs T)) (names_in f))) _ (in_right (names_in f) T w.0 w.1 w.2)
+  | inl ignores ↦ or_left _ _ (not_from_false _ (false_from_ne_true _ (λ t. let w = any_from (eq_by_cmp bytes_cmp) tied_name name_itself (set.contains (outputs T)) (names_in f) t in absurd_false _ w.1 (ignores w.0 w.2))))
+  | inr w ↦ or_right (not (list_any (set.contains (outputs T)) (names_in f))) _ (in_right (names_in f) T w.0 w.1 w.2)
 ]
 
 -- ---- all conjuncts

@@ -1,41 +1,30 @@
 -- What a view finds is within its size, and how sizes and work add up.
 use Rattle.std.proofs.Common.{◌≡◌, ℕ, suc, ◌+◌, ◌-◌, ◌*◌, ◌≤◌, Bool, true, cond, List, [], ◌∷◌, length, map, refl, sym, ap, ◌∙◌, subst, ◌⊎◌, inl, inr, arith}
-use Rattle.std.proofs.lemmas.Bool.{cases_Bool, and_from, not_from_false}
+use Rattle.std.proofs.lemmas.Bool.{cases_Bool, and_from, not_from_false, or_left, false_from_ne_true}
 use Rattle.std.specs.FinMap as finmap
 use Rattle.std.proofs.lemmas.List.Elements.{Contains-append_left, Contains-append_right}
 use Rattle.std.proofs.lemmas.Nat.{mul-le}
 use Rattle.std.specs.List.{Contains, list_any}
 use Rattle.std.specs.Ordering.{eq_by_cmp}
-use Rattle.lens_values.specs.SortedSet as set
-use Rattle.lens_values.specs.Row.{row_cmp}
-use Rattle.lens_values.specs.declared.row.Row.{Row}
-use Rattle.lens_values.specs.declared.join_kind.JoinKind.{JoinKind}
+use Rattle.plain_values.specs.SortedSet as set
+use Rattle.plain_values.specs.Row.{row_cmp, Row}
+use Rattle.plain_values.specs.declared.join_kind.JoinKind.{JoinKind}
 use Rattle.lens_laws.proofs.Asked.{names_len, rights_keyed, filled_from, filled_has, contains_head, contains_tail, contains_cases, contains_map, part_goes_down, shares_other, side_keys_are, shared_keyed, keys_are, drop_keys_are, renamed_keys_are}
 use Rattle.lens_laws.proofs.Rename.{find_rename}
 use Rattle.lens_laws.proofs.RenameSorts.{names-renamed}
 use Rattle.lens_laws.proofs.Sorts.{to_in}
-use Rattle.fd_laws.proofs.Columns.{names-without, names-both}
+use Rattle.fd_laws.proofs.Common.{names-without, name_total, tied_name, from_shared, from_those, tied_row, row_itself, both_edges, each_edge}
+use Rattle.fd_laws.proofs.Columns.{names-both}
 use Rattle.lens_laws.proofs.Counts.{count-those, count-image, count-project, count-matched}
 use Rattle.lens_laws.proofs.Finds.{find_select, find_project}
 use Rattle.lens_laws.proofs.Lenses.{get_sort}
-use Rattle.fd_laws.proofs.Lists.{in_cons, left_true, false_from, absurd_false}
-use Rattle.fd_laws.proofs.Names.{name_total, tied_name, from_shared}
+use Rattle.plain_values.proofs.Lists.{in_cons, absurd_false}
 use Rattle.lens_laws.proofs.NodeFinds.{find_alike, left_first_is, right_first_is}
-use Rattle.fd_laws.proofs.Relations.{from_those}
-use Rattle.fd_laws.proofs.Rows.{tied_row, row_itself}
-use Rattle.lens_specs.specs.Columns.{Columns, Fits, names}
-use Rattle.lens_specs.specs.Lens.{Tables, Lens, base, select, drop, rename, join, sort_of, get, table, view_names}
-use Rattle.lens_specs.specs.Names.{Name, Names, Within, share, one}
-use Rattle.lens_specs.specs.Rename.{renamed_names, renamed_row}
-use Rattle.lens_specs.specs.Nodes.{join_get, drop_get, select_get, rename_get}
-use Rattle.lens_specs.specs.Predicate.{Predicate, holds}
-use Rattle.lens_specs.specs.Dependencies.{Edge, AllEdges}
-use Rattle.lens_values.specs.declared.value.Value.{Value}
+use Rattle.lens_specs.specs.Common.{Columns, Fits, names, Tables, Lens, base, select, drop, rename, sort_of, get, table, view_names, Name, Names, Within, share, one, renamed_names, renamed_row, join_get, drop_get, select_get, rename_get, Predicate, holds, Edge, AllEdges, Rows, has, those, project, agree, paste, cut}
+use Rattle.lens_specs.specs.Lens.{join}
+use Rattle.plain_values.specs.declared.value.Value.{Value}
 use Rattle.fd_laws.specs.Trees.{IsBefore, IsTree}
 use Rattle.lens_laws.proofs.NodeLaws.{sound, rename_can}
-use Rattle.fd_laws.proofs.Trees.{both_edges, each_edge}
-use Rattle.lens_specs.specs.Relation.{Rows, has, those, project}
-use Rattle.lens_specs.specs.Rows.{agree, paste, cut}
 use Rattle.lens_laws.specs.Asked.{IsFilled, keys_at, side_keys, asked, AreKeys, HasKeys}
 use Rattle.lens_laws.specs.Finds.{matched}
 use Rattle.lens_laws.specs.KeyedDeltas.{find_by}
@@ -62,7 +51,7 @@ greatest_row f (q ∷ qs) r i = elim (in_cons (eq_by_cmp row_cmp) tied_row row_i
 -- a set of rows is empty or has a row
 first_of_rows : (rs : List Row) → (rs ≡ []) ⊎ ((r : Row) × (list_any (eq_by_cmp row_cmp r) rs ≡ true))
 first_of_rows [] = inl refl
-first_of_rows (r ∷ rs) = inr (r, left_true _ _ (row_itself r))
+first_of_rows (r ∷ rs) = inr (r, or_left _ _ (row_itself r))
 
 -- any key finds at most the rows of one group
 pub group_bounds : (C : Names) (k : Row) (M : Rows) → count_of (find_by C k M) ≤ largest_group C M
@@ -314,7 +303,7 @@ edges_few (e ∷ es) U tree full within =
     let c = filled_has e.right full.0 in
     let h = edges_few es (set.remove U c.0) tree.2 full.1
     (both_edges (IsBefore e) (λ k. Within k.right U) (λ k. Within k.right (set.remove U c.0))
-    (λ k b w d i. set.contains-remove name_total U c.0 d ∙ and_from _ _ (not_from_false _ (false_from _ (λ t. absurd_false _ i (ap (set.contains k.right) (tied_name d c.0 t) ∙ b.rights c.0 c.1)))) (w d i)) es tree.1 within.1) in
+    (λ k b w d i. set.contains-remove name_total U c.0 d ∙ and_from _ _ (not_from_false _ (false_from_ne_true _ (λ t. absurd_false _ i (ap (set.contains k.right) (tied_name d c.0 t) ∙ b.rights c.0 c.1)))) (w d i)) es tree.1 within.1) in
     let g = one_less U c.0 (within.0 c.0 c.1) in
     omega arith
 

@@ -1,12 +1,9 @@
 -- The columns by which the nodes of a lens, and its tables, are asked.
 use Rattle.std.specs.Prelude.{◌≡◌, true, false, ◌≢◌, List, ◌∷◌, ◌++◌, map, length}
 use Rattle.std.specs.List.{Contains, filter}
-use Rattle.lens_values.specs.SortedSet as set
-use Rattle.lens_specs.specs.Names.{Name, Names, Within, share, one}
-use Rattle.lens_specs.specs.Columns.{names}
-use Rattle.lens_specs.specs.Dependencies.{Edge, AllEdges}
-use Rattle.lens_specs.specs.Rename.{renamed_names}
-use Rattle.lens_specs.specs.Lens.{Lens, base, select, drop, rename, join, sort_of, view_names}
+use Rattle.plain_values.specs.SortedSet as set
+use Rattle.lens_specs.specs.Common.{Name, Names, Within, share, one, names, Edge, AllEdges, renamed_names, Lens, base, select, drop, rename, sort_of, view_names}
+use Rattle.lens_specs.specs.Lens.{join}
 
 -- it has a column
 abbrev pub IsFilled : Names → Type 0

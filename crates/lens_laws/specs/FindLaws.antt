@@ -3,21 +3,15 @@ use Rattle.std.specs.Prelude.{map as list_map, flat_map, filter, ◌≡◌, Bool
 use Rattle.std.specs.List.{Contains, list_any}
 use Rattle.std.specs.Ordering.{eq_by_cmp}
 use Rattle.std.specs.FinMap as map
-use Rattle.lens_values.specs.Part.{override}
-use Rattle.lens_values.specs.SortedSet as set
-use Rattle.lens_values.specs.Row.{row_cmp}
-use Rattle.lens_values.specs.declared.row.Row.{Row}
-use Rattle.lens_values.specs.declared.join_kind.JoinKind.{JoinKind}
-use Rattle.lens_specs.specs.Names.{Name, Names, Within}
-use Rattle.lens_specs.specs.Rows.{agree, cut}
-use Rattle.lens_specs.specs.Columns.{Columns, Fits, names, both_columns}
-use Rattle.lens_specs.specs.Relation.{Rows, has, those, project}
-use Rattle.lens_specs.specs.Nodes.{select_get, rename_get, join_get}
-use Rattle.lens_specs.specs.Lens.{Lens, join, view_names}
+use Rattle.plain_values.specs.Part.{override}
+use Rattle.plain_values.specs.SortedSet as set
+use Rattle.plain_values.specs.Row.{row_cmp, Row}
+use Rattle.plain_values.specs.declared.join_kind.JoinKind.{JoinKind}
+use Rattle.lens_specs.specs.Common.{Name, Names, Within, agree, cut, Columns, Fits, names, both_columns, Rows, has, those, project, select_get, rename_get, join_get, Lens, view_names, renamed_names, renamed_row, renamed_columns}
+use Rattle.lens_specs.specs.Lens.{join}
 use Rattle.lens_laws.specs.Shapes.{Shape, IsIn}
 use Rattle.lens_laws.specs.KeyedDeltas.{find_by}
 use Rattle.lens_laws.specs.Lenses.{IsTyped}
-use Rattle.lens_specs.specs.Rename.{renamed_names, renamed_row, renamed_columns}
 use Rattle.lens_laws.specs.Rename.{CanRename}
 use Rattle.lens_laws.specs.Asked.{IsFilled, keys_at, AreKeys, HasKeys, HandsDown, Reaches}
 use Rattle.lens_laws.specs.Finds.{AllFit, IsOver}

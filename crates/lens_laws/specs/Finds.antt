@@ -1,11 +1,8 @@
 -- Rows over columns, and rows put together with what look-ups give for them.
 use Rattle.std.specs.Prelude.{◌≡◌, true, map, flat_map, is_some}
-use Rattle.lens_values.specs.SortedSet as set
-use Rattle.lens_values.specs.declared.row.Row.{Row}
-use Rattle.lens_specs.specs.Names.{Name, Names}
-use Rattle.lens_specs.specs.Rows.{at}
-use Rattle.lens_specs.specs.Columns.{Columns, Fits}
-use Rattle.lens_specs.specs.Relation.{Rows, has}
+use Rattle.plain_values.specs.SortedSet as set
+use Rattle.plain_values.specs.Row.{Row}
+use Rattle.lens_specs.specs.Common.{Name, Names, at, Columns, Fits, Rows, has}
 
 -- each row has the columns
 abbrev pub AllFit : Columns → Rows → Type 0

@@ -1,15 +1,11 @@
 -- What an edit does to the sources of a join, by the side on which it deletes.
 use Rattle.std.specs.Prelude.{Bool, not, ◌&&◌, List}
 use Rattle.std.specs.List.{list_any}
-use Rattle.lens_values.specs.SortedSet as set
-use Rattle.lens_values.specs.declared.row.Row.{Row}
-use Rattle.lens_values.specs.declared.join_kind.JoinKind.{JoinKind}
-use Rattle.lens_values.specs.declared.join_kind.JoinKind.TheVariants.{DeleteLeft, DeleteRight, DeleteBoth}
-use Rattle.lens_specs.specs.Names.{Names}
-use Rattle.lens_specs.specs.Rows.{agree, paste}
-use Rattle.lens_specs.specs.Relation.{Rows, has, those, union, project}
-use Rattle.lens_specs.specs.Dependencies.{Edge}
-use Rattle.lens_specs.specs.Delta.{Delta, new_view}
+use Rattle.plain_values.specs.SortedSet as set
+use Rattle.plain_values.specs.Row.{Row}
+use Rattle.plain_values.specs.declared.join_kind.JoinKind.{JoinKind}
+use Rattle.plain_values.specs.declared.join_kind.JoinKind.TheVariants.{DeleteLeft, DeleteRight, DeleteBoth}
+use Rattle.lens_specs.specs.Common.{Names, agree, paste, Rows, has, those, union, project, Edge, Delta, new_view}
 use Rattle.lens_laws.specs.KeyedDeltas.{merge_delta, join_delta_right, join_delta_left, suspects}
 
 -- whether a left row, with a right row that the view has, makes a row that the view lacks

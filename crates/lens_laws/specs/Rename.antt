@@ -1,11 +1,7 @@
 -- A rename: what an edit does to its source, and what the node asks.
 use Rattle.std.specs.Prelude.{◌≡◌, true, false}
-use Rattle.lens_values.specs.SortedSet as set
-use Rattle.lens_specs.specs.Names.{Name}
-use Rattle.lens_specs.specs.Columns.{names}
-use Rattle.lens_specs.specs.Delta.{Delta}
-use Rattle.lens_specs.specs.Nodes.{rename_put}
-use Rattle.lens_specs.specs.Rename.{renamed_row, renamed_columns, renamed_tree}
+use Rattle.plain_values.specs.SortedSet as set
+use Rattle.lens_specs.specs.Common.{Name, names, Delta, rename_put, renamed_row, renamed_columns, renamed_tree}
 use Rattle.lens_laws.specs.Shapes.{Shape}
 use Rattle.fd_laws.specs.Trees.{EdgesWithin}
 

@@ -2,12 +2,10 @@
 use Rattle.std.specs.Prelude.{ℕ, ◌+◌, ◌*◌, ◌≤◌, max, List, [], ◌∷◌, map, length}
 use Rattle.std.specs.List.{Contains}
 use Rattle.std.specs.FinMap as finmap
-use Rattle.lens_values.specs.SortedSet as set
-use Rattle.lens_values.specs.declared.row.Row.{Row}
-use Rattle.lens_specs.specs.Names.{Name, Names}
-use Rattle.lens_specs.specs.Relation.{Rows}
-use Rattle.lens_specs.specs.Lens.{Tables, Lens, base, select, drop, rename, join, table}
-use Rattle.lens_specs.specs.Delta.{Delta}
+use Rattle.plain_values.specs.SortedSet as set
+use Rattle.plain_values.specs.Row.{Row}
+use Rattle.lens_specs.specs.Common.{Name, Names, Rows, Tables, Lens, base, select, drop, rename, table, Delta}
+use Rattle.lens_specs.specs.Lens.{join}
 use Rattle.lens_laws.specs.Asked.{asked}
 use Rattle.lens_laws.specs.KeyedDeltas.{find_by}
 

@@ -1,21 +1,14 @@
 -- The laws of the bounds on looks: a look-up in a view gives few rows, and the work of the nodes adds up.
 use Rattle.std.specs.Prelude.{Ok, ◌≡◌, ℕ, ◌+◌, ◌*◌, ◌≤◌, Bool, List, [], ◌∷◌, length}
-use Rattle.lens_values.specs.SortedSet as set
-use Rattle.lens_values.specs.declared.value.Value.{Value}
-use Rattle.lens_values.specs.declared.row.Row.{Row}
-use Rattle.lens_values.specs.declared.join_kind.JoinKind.{JoinKind}
-use Rattle.lens_specs.specs.Names.{Name, Names}
-use Rattle.lens_specs.specs.Columns.{Columns, names}
-use Rattle.lens_specs.specs.Relation.{Rows}
-use Rattle.lens_specs.specs.Dependencies.{Edge, AllEdges}
-use Rattle.lens_specs.specs.Predicate.{Predicate}
-use Rattle.lens_specs.specs.Sort.{Sort}
-use Rattle.lens_specs.specs.Typing.{sort, table_sort}
+use Rattle.plain_values.specs.SortedSet as set
+use Rattle.plain_values.specs.declared.value.Value.{Value}
+use Rattle.plain_values.specs.Row.{Row}
+use Rattle.plain_values.specs.declared.join_kind.JoinKind.{JoinKind}
+use Rattle.lens_specs.specs.Common.{Name, Names, Columns, names, Rows, Edge, AllEdges, Predicate, Sort, sort, table_sort, Tables, Lens, base, select, drop, rename, sort_of, get, view_names, Delta}
 use Rattle.std.specs.FinMap as finmap
-use Rattle.lens_specs.specs.Lens.{Tables, Lens, base, select, drop, rename, join, sort_of, get, view_names}
+use Rattle.lens_specs.specs.Lens.{join}
 use Rattle.lens_laws.specs.Asked.{IsFilled, left_sides, keys_at, asked, AreKeys, HasKeys}
 use Rattle.lens_laws.specs.Lenses.{IsTyped, AreOf}
-use Rattle.lens_specs.specs.Delta.{Delta}
 use Rattle.lens_laws.specs.Rename.{rename_delta}
 use Rattle.lens_laws.specs.JoinKinds.{join_delta_left_kept, join_delta_right_free}
 use Rattle.lens_laws.specs.KeyedDeltas.{touched, select_delta, join_delta_right, join_delta_left}

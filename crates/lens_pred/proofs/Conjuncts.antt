@@ -6,25 +6,17 @@ use Rattle.std.proofs.lemmas.Iterator.Adapters.{position_from-zero}
 use Rattle.std.specs.Option.{option_or}
 use Rattle.std.specs.Ordering.{eq_by_cmp}
 use Rattle.std.proofs.lemmas.List.Folds.{find-append, list_any-append}
-use Rattle.lens_values.specs.Order.{bytes_cmp}
-use Rattle.lens_values.specs.declared.row.Row.{Row}
-use Rattle.lens_specs.specs.Names.{Name, is_among}
-use Rattle.lens_specs.specs.Columns.{Columns}
-use Rattle.lens_specs.specs.Predicate.{Formula, Predicate, formula_holds, all_hold, holds, names_in, names_of, names_of_all, mentions, formula_mentions, formula_nodes, nodes_of_all, predicate_nodes}
-use Rattle.lens_specs.specs.Refusal.{unlike, unlike_all, unlike_kinds, or_name, is_mixed, first_mixed}
+use Rattle.plain_values.specs.Order.{bytes_cmp}
+use Rattle.plain_values.specs.Row.{Row}
+use Rattle.plain_values.proofs.Tests.{first_holds, second_holds}
+use Rattle.lens_specs.specs.Common.{Name, is_among, Columns, Formula, Predicate, holds, names_in, names_of, names_of_all, mentions, formula_mentions, unlike_kinds, first_mixed}
+use Rattle.lens_specs.specs.Predicate.{formula_holds, all_hold, formula_nodes, nodes_of_all, predicate_nodes}
+use Rattle.lens_specs.specs.Refusal.{unlike, unlike_all, or_name, is_mixed}
 use Rattle.lens_pred.specs.NormalForm.{none_is, has_two}
 use Rattle.lens_pred.specs.View.{list_view, predicate_view}
 use Rattle.lens_pred.specs.declared.formula.Formula.{Formula as Declared}
 
 -- ---- tests
-
-left_true : (a b : Bool) → (a && b) ≡ true → a ≡ true
-left_true true b h = refl
-left_true false b h = cc
-
-right_true : (a b : Bool) → (a && b) ≡ true → b ≡ true
-right_true true b h = h
-right_true false b h = cc
 
 -- ---- searches
 
@@ -152,6 +144,6 @@ pub all_of_kept : {X : Type 0} (p q : X → Bool) (xs : List X) → list_all p x
 all_of_kept p q [] h = refl
 all_of_kept p q (x ∷ xs) h =
     elim (q x) as (λ b. list_all p (cond b (x ∷ filter q xs) (filter q xs)) ≡ true) [
-      | true ↦ ap (λ b. b && list_all p (filter q xs)) (left_true (p x) (list_all p xs) h) ∙ all_of_kept p q xs (right_true (p x) (list_all p xs) h)
-      | false ↦ all_of_kept p q xs (right_true (p x) (list_all p xs) h)
+      | true ↦ ap (λ b. b && list_all p (filter q xs)) (first_holds (p x) (list_all p xs) h) ∙ all_of_kept p q xs (second_holds (p x) (list_all p xs) h)
+      | false ↦ all_of_kept p q xs (second_holds (p x) (list_all p xs) h)
     ]

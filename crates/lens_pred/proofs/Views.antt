@@ -2,7 +2,7 @@
 use Rattle.std.proofs.Common.{◌≡◌, List, rules}
 use Rattle.lens_specs.specs.Names.{Name}
 use Rattle.lens_specs.specs.Predicate as spec
-use Rattle.lens_values.specs.declared.value.Value.{Value}
+use Rattle.plain_values.specs.declared.value.Value.{Value}
 use Rattle.lens_pred.specs.View.{formula_view, formulas_view}
 use Rattle.lens_pred.specs.declared.formula.Formula.{OneOf, And, Or, the_lemmas}
 use Rattle.lens_pred.specs.declared.formula.Formulas.{Formulas}

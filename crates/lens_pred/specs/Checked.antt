@@ -1,9 +1,6 @@
 -- What the check of a predicate against columns answers.
 use Rattle.std.specs.Prelude.{Option, Some, None, Result, Ok, Err}
-use Rattle.lens_specs.specs.Columns.{Columns}
-use Rattle.lens_specs.specs.Names.{Name}
-use Rattle.lens_specs.specs.Predicate.{Predicate}
-use Rattle.lens_specs.specs.Refusal.{unknown_name, unlike_kinds}
+use Rattle.lens_specs.specs.Common.{Columns, Name, Predicate, unknown_name, unlike_kinds}
 use Rattle.lens_pred.specs.declared.checking.PredFault.{PredFault}
 use Rattle.lens_pred.specs.declared.checking.PredFault.TheVariants.{UnknownColumn, PredKind}
 

@@ -2,10 +2,9 @@
 use Rattle.std.specs.Prelude.{◌≡◌, ℕ, List, [], ◌∷◌, ◌++◌, ◌==◌, if◌then◌else◌, refl}
 use Rattle.std.proofs.Common.{sym, ap, ◌∙◌, append_assoc, append-nil}
 use Rattle.std.specs.Coded.{Coded, code_by, coded_ℕ, coded_list, coded×}
-use Rattle.lens_specs.specs.Names.{Name}
-use Rattle.lens_specs.specs.Predicate.{Op, eq, ne, lt, le, gt, ge, Formula, truth, falsity, compare, compare_columns, one_of, null_at, negation, all_of, any_of, Formulas, no_formulas, formulas}
-use Rattle.lens_values.specs.contracts.value.Value as contract
-use Rattle.lens_values.specs.declared.value.Value.{Value}
+use Rattle.lens_specs.specs.Common.{Name, Op, eq, ne, lt, le, gt, ge, Formula, truth, falsity, compare, compare_columns, one_of, null_at, negation, all_of, any_of, Formulas, no_formulas, formulas}
+use Rattle.plain_values.specs.contracts.value.Value as contract
+use Rattle.plain_values.specs.declared.value.Value.{Value}
 
 -- a number for the form, one for the comparison, two names and values
 abbrev pub Symbol : Type 0

@@ -1,10 +1,9 @@
 -- Which names are sought in a formula.
 use Rattle.std.specs.Prelude.{Bool, not}
 use Rattle.std.specs.Ordering.{eq_by_cmp}
-use Rattle.lens_values.specs.Order.{bytes_cmp}
-use Rattle.lens_values.specs.SortedSet as set
-use Rattle.lens_specs.specs.Names.{Name}
-use Rattle.lens_specs.specs.Refusal.{is_column}
+use Rattle.plain_values.specs.Order.{bytes_cmp}
+use Rattle.plain_values.specs.SortedSet as set
+use Rattle.lens_specs.specs.Common.{Name, is_column}
 use Rattle.lens_pred.specs.declared.naming.Sought.{Sought}
 use Rattle.lens_pred.specs.declared.naming.Sought.TheVariants.{Is, IsNot, IsOutside, IsIn, IsNotIn}
 

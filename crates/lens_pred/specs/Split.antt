@@ -1,8 +1,7 @@
 -- What a predicate taken apart by a column gives.
 use Rattle.std.specs.Prelude.{ℕ, Option, Some, None, Result, Ok, Err}
-use Rattle.lens_specs.specs.Names.{Name}
-use Rattle.lens_specs.specs.Predicate.{Predicate, with_name, without_name}
-use Rattle.lens_specs.specs.Refusal.{first_mixed}
+use Rattle.lens_specs.specs.Common.{Name, Predicate, without_name, first_mixed}
+use Rattle.lens_specs.specs.Predicate.{with_name}
 use Rattle.lens_pred.specs.declared.splitting.SplitFault.{SplitFault}
 use Rattle.lens_pred.specs.declared.splitting.SplitFault.TheVariants.{Mixed}
 

@@ -15,7 +15,7 @@ pub struct Values {
 
 impl Model for Values {
     ghost use Rattle.std.specs.Prelude.{List};
-    ghost use Rattle.lens_values.specs.declared.value.Value as declared;
+    ghost use Rattle.plain_values.specs.declared.value.Value as declared;
 
     ghost Value = { List declared.Value };
 

@@ -2,7 +2,7 @@
 ghost use Rattle.std.specs.Prelude.{◌≡◌, not, ◌&&◌, ◌||◌, option_copied};
 ghost use Rattle.std.specs.List.{list_any};
 ghost use Rattle.std.specs.Ordering.{is_eq};
-ghost use Rattle.lens_values.specs.Value.{is_null, value_cmp};
+ghost use Rattle.plain_values.specs.Value.{is_null, value_cmp};
 ghost use Rattle.lens_specs.specs.Predicate as spec;
 ghost use Rattle.lens_pred.specs.Op.{op_view};
 ghost use Rattle.lens_pred.specs.View.{formula_view, list_view, predicate_view};

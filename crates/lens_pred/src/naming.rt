@@ -1,7 +1,7 @@
 //! The names in a formula.
 ghost use Rattle.std.specs.Prelude.{◌≡◌, [], ◌∷◌, ◌++◌, OnOk, find};
 ghost use Rattle.std.specs.List.{list_all, list_any};
-ghost use Rattle.lens_values.specs.SortedSet as set;
+ghost use Rattle.plain_values.specs.SortedSet as set;
 ghost use Rattle.lens_specs.specs.Predicate.{formula_mentions, names_in, names_of_all};
 ghost use Rattle.lens_specs.specs.Refusal.{is_mixed};
 ghost use Rattle.lens_pred.specs.Sought.{passes};

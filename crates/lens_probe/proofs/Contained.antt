@@ -4,23 +4,17 @@ use Rattle.std.specs.Prelude.{None, Option, is_some}
 use Rattle.std.specs.List.{list_any}
 use Rattle.std.specs.Ordering.{eq_by_cmp}
 use Rattle.std.proofs.lemmas.List.Elements.{Contains-append_left}
-use Rattle.lens_values.specs.Part.{restrict}
-use Rattle.lens_values.specs.Row.{row_cmp}
-use Rattle.lens_values.specs.SortedSet as set
-use Rattle.lens_values.specs.declared.row.Row.{Row}
-use Rattle.lens_values.specs.declared.value.Value.{Value}
-use Rattle.lens_specs.specs.Columns.{Fits}
-use Rattle.lens_values.specs.declared.join_kind.JoinKind.{JoinKind}
-use Rattle.lens_specs.specs.Lens.{Lens, Tables, base, select, drop, join, get, sort_of, view_names}
-use Rattle.lens_specs.specs.Names.{Name, Names, Within, one}
-use Rattle.lens_specs.specs.Nodes.{drop_get, select_get}
-use Rattle.lens_specs.specs.Predicate.{Predicate, holds}
-use Rattle.lens_specs.specs.Relation.{Rows, has}
-use Rattle.lens_specs.specs.Rows.{agree, at, cut}
-use Rattle.fd_laws.proofs.Columns.{names-without}
-use Rattle.fd_laws.proofs.Lists.{both_ways}
+use Rattle.std.proofs.lemmas.Bool.{and_right}
+use Rattle.plain_values.specs.Part.{restrict}
+use Rattle.plain_values.specs.Row.{row_cmp, Row}
+use Rattle.plain_values.specs.SortedSet as set
+use Rattle.plain_values.specs.declared.value.Value.{Value}
+use Rattle.lens_specs.specs.Common.{Fits, Lens, Tables, base, select, drop, get, sort_of, view_names, Name, Names, Within, one, drop_get, select_get, Predicate, holds, Rows, has, agree, at, cut}
+use Rattle.plain_values.specs.declared.join_kind.JoinKind.{JoinKind}
+use Rattle.plain_values.proofs.Tests.{same_bool}
+use Rattle.lens_specs.specs.Lens.{join}
+use Rattle.fd_laws.proofs.Common.{names-without, agree-cut, agree_at, at-cut, row_itself, same_row, tied_row}
 use Rattle.fd_laws.proofs.Relations.{has-those}
-use Rattle.fd_laws.proofs.Rows.{agree-cut, agree_at, at-cut, row_itself, same_row, tied_row}
 use Rattle.lens_laws.specs.Asked.{keys_at}
 use Rattle.lens_laws.specs.Finds.{IsOver}
 use Rattle.lens_laws.specs.KeyedDeltas.{find_by}
@@ -58,17 +52,13 @@ and_true : (b c : Bool) → c ≡ true → (b && c) ≡ b
 and_true true c e = e
 and_true false c e = refl
 
-and_false : (b c : Bool) → c ≡ false → (b && c) ≡ false
-and_false true c e = e
-and_false false c e = refl
-
 -- a row that the predicate holds on is there where it is in the source
 pub selected_has : (L S : Lens) (P : Predicate) (db : Tables) (r : Row) → select P S ≡ L → holds P r ≡ true → has (get S db) r ≡ has (get L db) r
 selected_has L S P db r is shown = sym (and_true _ _ shown) ∙ sym (select_has P S db r) ∙ ap (λ M. has (get M db) r) is
 
 -- and another is not there
 pub refused_has : (L S : Lens) (P : Predicate) (db : Tables) (r : Row) → select P S ≡ L → holds P r ≡ false → false ≡ has (get L db) r
-refused_has L S P db r is hidden = sym (and_false _ _ hidden) ∙ sym (select_has P S db r) ∙ ap (λ M. has (get M db) r) is
+refused_has L S P db r is hidden = sym (and_right _ _ hidden) ∙ sym (select_has P S db r) ∙ ap (λ M. has (get M db) r) is
 
 -- ---- a projection
 
@@ -92,7 +82,7 @@ drop_over L S A X v r q is typed fits part =
 
 -- two rows over C agree on it where one is the part of the other
 agrees_as_part : (C : Names) (r m : Row) → IsOver C r → agree C r m ≡ eq_by_cmp row_cmp r (cut C m)
-agrees_as_part C r m over = both_ways _ _
+agrees_as_part C r m over = same_bool _ _
     (λ same. subst (λ q. eq_by_cmp row_cmp r q ≡ true) (same_row r (cut C m) (λ c. column c (set.contains C c) refl same)) (row_itself r))
     (λ tie. subst (λ q. agree C q m ≡ true) (sym (tied_row r (cut C m) tie)) (agree-cut C m))
   where

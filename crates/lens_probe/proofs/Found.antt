@@ -6,23 +6,16 @@ use Rattle.std.specs.FinMap as finmap
 use Rattle.std.proofs.lemmas.Bool.{and_from, and_parts}
 use Rattle.std.proofs.lemmas.List.{flat_map_more, take_all, take_more}
 use Rattle.no_memory.specs.declared.NoMemory.{NoMemory}
-use Rattle.lens_values.specs.Part.{override, restrict}
-use Rattle.lens_values.specs.SortedSet as set
-use Rattle.lens_values.specs.declared.row.Row.{Row}
-use Rattle.lens_values.specs.declared.value.Value.{Value}
-use Rattle.lens_values.specs.declared.join_kind.JoinKind.{JoinKind}
-use Rattle.lens_specs.specs.Lens.{Lens, Tables, base, select, drop, join, get, rows_or_none, sort_of, view_names}
-use Rattle.lens_specs.specs.Names.{Name, Names, Within, one, share}
-use Rattle.lens_specs.specs.Predicate.{Predicate, holds}
-use Rattle.lens_specs.specs.Relation.{Relation, Rows, project, those}
-use Rattle.lens_specs.specs.Nodes.{drop_get}
-use Rattle.lens_specs.specs.Rows.{agree, cut}
-use Rattle.lens_specs.specs.Sort.{Sort}
-use Rattle.fd_laws.proofs.Columns.{names-without}
-use Rattle.fd_laws.proofs.Lists.{both_ways}
-use Rattle.fd_laws.proofs.Names.{name_exact, name_total, subset_is}
-use Rattle.fd_laws.proofs.Relations.{from_those}
-use Rattle.fd_laws.proofs.Rows.{agree-cut, agree_back, agree_on, agree_within, row_exact, row_total}
+use Rattle.plain_values.specs.Part.{override, restrict}
+use Rattle.plain_values.specs.SortedSet as set
+use Rattle.plain_values.specs.Row.{Row}
+use Rattle.plain_values.specs.declared.value.Value.{Value}
+use Rattle.plain_values.specs.declared.join_kind.JoinKind.{JoinKind}
+use Rattle.plain_values.proofs.Tests.{same_bool}
+use Rattle.lens_specs.specs.Common.{Lens, Tables, base, select, drop, get, rows_or_none, sort_of, view_names, Name, Names, Within, one, share, Predicate, holds, Relation, Rows, project, those, drop_get, agree, cut, Sort}
+use Rattle.lens_specs.specs.Lens.{join}
+use Rattle.fd_laws.proofs.Common.{names-without, name_exact, name_total, from_those, agree-cut, agree_back, agree_on, agree_within, row_exact, row_total}
+use Rattle.fd_laws.proofs.Names.{subset_is}
 use Rattle.lens_laws.specs.Asked.{keys_at, Reaches}
 use Rattle.lens_laws.specs.Finds.{AllFit, IsOver}
 use Rattle.lens_laws.specs.KeyedDeltas.{find_by}
@@ -127,7 +120,7 @@ agree_part : (C K : Names) (k r : Row) → Within C K → agree C k (restrict K 
 unfolding cut
 agree_part C K k r within =
     let same : agree C (cut K r) r ≡ true = agree_within C K (cut K r) r within (agree-cut K r) in
-    both_ways _ _ (λ i. agree_on C k (cut K r) r i same) (λ i. agree_on C k r (cut K r) i (agree_back C (cut K r) r same))
+    same_bool _ _ (λ i. agree_on C k (cut K r) r i same) (λ i. agree_on C k r (cut K r) i (agree_back C (cut K r) r same))
 
 module _ (C K : Names) (k : Row) (within : Within C K) where
   -- parts that pass are the parts of those that pass
@@ -219,7 +212,7 @@ rows_over A st C S k F rows typed are within found listed =
 -- columns that are all among others are what both have
 pub whole_part : (C U : Names) → set.is_subset C U ≡ true → set.intersection C U ≡ C
 whole_part C U within =
-    set.same_set name_total name_exact _ _ (λ c. set.contains-intersection name_total C U c ∙ both_ways _ _ (λ i. (and_parts _ _ i).0) (λ i. and_from _ _ i (subset_is C U within c i)))
+    set.same_set name_total name_exact _ _ (λ c. set.contains-intersection name_total C U c ∙ same_bool _ _ (λ i. (and_parts _ _ i).0) (λ i. and_from _ _ i (subset_is C U within c i)))
 
 -- and the part of a key in them finds what the key finds
 pub found_by_whole : (C U : Names) (k : Row) (N : Rows) → set.intersection C U ≡ C → find_by C k N ≡ (let P = set.intersection C U in find_by P (restrict P k) N)

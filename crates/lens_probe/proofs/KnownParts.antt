@@ -14,22 +14,19 @@ use Rattle.std.proofs.lemmas.Bool.{true≢false}
 use Rattle.std.proofs.lemmas.List.{take_more}
 use Rattle.std.proofs.lemmas.List.Elements.{Contains-append_cases, Contains-append_left, Contains-append_right, Contains-get_or, Contains-push, Contains-push_cases}
 use Rattle.std.proofs.lemmas.Map.Views.{list_any-from_Contains}
-use Rattle.lens_values.specs.Order.{bytes_cmp}
-use Rattle.lens_values.specs.Names.{same_names}
-use Rattle.lens_values.specs.Part.{restrict}
-use Rattle.lens_values.specs.SortedSet as set
-use Rattle.lens_values.specs.Value.{value_cmp}
-use Rattle.lens_values.specs.ValueOrder.{value_cmp-IsAntisymmetric}
-use Rattle.lens_values.specs.declared.row.Row.{Row}
-use Rattle.lens_values.specs.declared.value.Value.{Value}
+use Rattle.plain_values.specs.Order.{bytes_cmp}
+use Rattle.plain_values.specs.Names.{same_names}
+use Rattle.plain_values.specs.Part.{restrict}
+use Rattle.plain_values.specs.SortedSet as set
+use Rattle.plain_values.specs.Value.{value_cmp}
+use Rattle.plain_values.specs.ValueOrder.{value_cmp-IsAntisymmetric}
+use Rattle.plain_values.specs.Row.{Row}
+use Rattle.plain_values.specs.declared.value.Value.{Value}
 use Rattle.lens_values.proofs.Cells.{own_names}
-use Rattle.lens_values.proofs.NamesLemmas.{same_is}
-use Rattle.lens_specs.specs.Columns.{Columns, names}
-use Rattle.lens_specs.specs.Names.{Name, Names}
-use Rattle.lens_specs.specs.Relation.{Rows}
-use Rattle.lens_specs.specs.Rows.{at, cut}
-use Rattle.fd_laws.proofs.Names.{name_itself, tied_name}
-use Rattle.fd_laws.proofs.Rows.{at-cut, no_value, row_total, same_row}
+use Rattle.plain_values.proofs.NamesLemmas.{same_is}
+use Rattle.lens_specs.specs.Common.{Columns, names, Name, Names, Rows, at, cut}
+use Rattle.fd_laws.proofs.Common.{name_itself, tied_name, at-cut, row_total, same_row}
+use Rattle.fd_laws.proofs.Rows.{no_value}
 use Rattle.lens_laws.specs.Finds.{AllFit, IsOver}
 use Rattle.lens_laws.proofs.NodeFinds.{fits_is_over}
 use Rattle.lens_probe.specs.KnownRows.{AreAmong, AreOver}

@@ -3,23 +3,16 @@ use Rattle.std.proofs.Common.{◌≡◌, ◌∙◌, ◌∷◌, Bool, List, [], a
 use Rattle.std.specs.Prelude.{◌&&◌, None}
 use Rattle.std.specs.List.{list_any}
 use Rattle.std.specs.Ordering.{eq_by_cmp}
-use Rattle.lens_values.specs.Part.{restrict}
-use Rattle.lens_values.specs.Row.{row_cmp}
-use Rattle.lens_values.specs.SortedSet as set
-use Rattle.lens_values.specs.declared.row.Row.{Row}
-use Rattle.lens_values.specs.declared.value.Value.{Value}
-use Rattle.lens_values.specs.declared.join_kind.JoinKind.{JoinKind}
-use Rattle.lens_specs.specs.Lens.{Lens, Tables, drop, get, join, select, sort_of, view_names}
-use Rattle.lens_specs.specs.Names.{Name, Names, one}
-use Rattle.lens_specs.specs.Nodes.{drop_get, join_get, select_get}
-use Rattle.lens_specs.specs.Predicate.{Predicate, holds, mentioned}
-use Rattle.lens_specs.specs.Relation.{Rows, has, project, those}
-use Rattle.lens_specs.specs.Rows.{cut}
-use Rattle.fd_laws.proofs.Columns.{names-without}
-use Rattle.fd_laws.proofs.Lists.{from_map, in_map}
-use Rattle.fd_laws.proofs.Names.{from_rest, subset_is}
-use Rattle.fd_laws.proofs.Relations.{from_project, from_those, in_project, in_those, same_rel}
-use Rattle.fd_laws.proofs.Rows.{agree-cut, row_exact, row_itself, row_total, tied_row}
+use Rattle.plain_values.specs.Part.{restrict}
+use Rattle.plain_values.specs.Row.{row_cmp, Row}
+use Rattle.plain_values.specs.SortedSet as set
+use Rattle.plain_values.specs.declared.value.Value.{Value}
+use Rattle.plain_values.specs.declared.join_kind.JoinKind.{JoinKind}
+use Rattle.lens_specs.specs.Common.{Lens, Tables, drop, get, select, sort_of, view_names, Name, Names, one, drop_get, join_get, select_get, Predicate, holds, mentioned, Rows, has, project, those, cut}
+use Rattle.lens_specs.specs.Lens.{join}
+use Rattle.fd_laws.proofs.Common.{names-without, from_rest, from_project, from_those, in_project, in_those, same_rel, agree-cut, row_exact, row_itself, row_total, tied_row}
+use Rattle.plain_values.proofs.Lists.{from_map, in_map}
+use Rattle.fd_laws.proofs.Names.{subset_is}
 use Rattle.lens_laws.specs.Finds.{IsOver}
 use Rattle.lens_laws.specs.Lenses.{AreOf, IsTyped}
 use Rattle.lens_laws.specs.Passes.{PredWithin}

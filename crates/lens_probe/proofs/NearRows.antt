@@ -1,11 +1,10 @@
 -- What is known of the first join down a lens.
 use Rattle.std.proofs.Common.{◌≡◌, ◌∙◌, ◌+◌, ◌*◌, ◌≤◌, ℕ, Some, ap, arith, sym, true}
 use Rattle.std.proofs.lemmas.Nat.{mul-le}
-use Rattle.lens_values.specs.declared.row.Row.{Row}
-use Rattle.lens_specs.specs.Lens.{Lens, base, select, drop, rename, join}
-use Rattle.lens_specs.specs.Names.{Names}
-use Rattle.lens_specs.specs.Relation.{Rows}
-use Rattle.lens_specs.specs.Rows.{agree}
+use Rattle.std.proofs.lemmas.Option.{same_Some}
+use Rattle.plain_values.specs.Row.{Row}
+use Rattle.lens_specs.specs.Common.{Lens, base, select, drop, rename, Names, Rows, agree}
+use Rattle.lens_specs.specs.Lens.{join}
 use Rattle.lens_laws.specs.KeyedDeltas.{find_by}
 use Rattle.lens_laws.proofs.NodeFinds.{find_alike}
 use Rattle.lens_probe.specs.NearRows.{first_join}
@@ -15,15 +14,12 @@ use Rattle.lens_probe.specs.Viewed.{only_source}
 pub known_by : (C D : Names) (k q : Row) (M rows : Rows) → C ≡ D → agree D q k ≡ true → rows ≡ find_by C k M → rows ≡ find_by D q M
 known_by C D k q M rows same alike found = found ∙ ap (λ S. find_by S k M) same ∙ sym (find_alike D q k M alike)
 
-same_value : {T : Type 0} (x y : T) → Some x ≡ Some y → x ≡ y
-same_value x y e = cc
-
 -- the first join down a lens with one source is that down its source
 pub join_of_source : (L C : Lens) → only_source L ≡ Some C → first_join L ≡ first_join C
 join_of_source (base t s) C e = cc
-join_of_source (select P D) C e = ap first_join (same_value D C e)
-join_of_source (drop A X v D) C e = ap first_join (same_value D C e)
-join_of_source (rename A B D) C e = ap first_join (same_value D C e)
+join_of_source (select P D) C e = ap first_join (same_Some D C e)
+join_of_source (drop A X v D) C e = ap first_join (same_Some D C e)
+join_of_source (rename A B D) C e = ap first_join (same_Some D C e)
 join_of_source (join kind A B) C e = cc
 
 -- the rows on both sides are sought one after the other

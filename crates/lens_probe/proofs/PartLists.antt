@@ -8,12 +8,13 @@ use Rattle.std.specs.List.Sorted.{IsStrictlySortedBy}
 use Rattle.std.specs.Ordering.{eq_by_cmp, is_eq}
 use Rattle.std.specs.declared.cmp.Ordering.{Ordering}
 use Rattle.std.specs.declared.cmp.Ordering.TheVariants.{Less}
-use Rattle.lens_values.specs.Row.{row_cmp}
-use Rattle.lens_values.specs.SortedSet as set
-use Rattle.lens_values.specs.declared.row.Row.{Row}
+use Rattle.std.proofs.Math.Bool.{or_comm}
+use Rattle.plain_values.specs.Row.{row_cmp, Row}
+use Rattle.plain_values.specs.SortedSet as set
+use Rattle.plain_values.proofs.Tests.{first_fails, second_fails}
 use Rattle.lens_specs.specs.Relation.{Rows, has, minus}
+use Rattle.fd_laws.proofs.Common.{row_exact, row_itself, row_total, tied_row}
 use Rattle.fd_laws.proofs.Relations.{has-minus}
-use Rattle.fd_laws.proofs.Rows.{row_exact, row_itself, row_total, tied_row}
 use Rattle.row_sets.specs.Members.{is_in}
 use Rattle.signed_delta.proofs.Differences.{items_rise}
 use Rattle.lens_probe.specs.KnownRows.{AreParts, marked, parts_in, unmarked}
@@ -45,23 +46,9 @@ again true m = refl
 again false true = refl
 again false false = refl
 
-turned : (a m : Bool) → (a || m) ≡ (m || a)
-turned true true = refl
-turned true false = refl
-turned false true = refl
-turned false false = refl
-
 behind : (m o e : Bool) → ((m || e) || o) ≡ ((m || o) || e)
 behind true o e = refl
-behind false o e = turned e o
-
-neither_left : (a b : Bool) → (a || b) ≡ false → a ≡ false
-neither_left true b e = absurd (true≢false e)
-neither_left false b e = refl
-
-neither_right : (a b : Bool) → (a || b) ≡ false → b ≡ false
-neither_right true b e = absurd (true≢false e)
-neither_right false b e = e
+behind false o e = or_comm e o
 
 -- a row that is marked is not left, and where it is q no other row is
 left_out : (a i m u : Bool) → u ≡ (i && not m) → (a ≡ true → i ≡ false) → u ≡ ((a || i) && not (a || m))
@@ -94,7 +81,7 @@ marked_more : (bs : List Bool) (rows : List Row) (k : ℕ) (x q : Row) → lengt
 marked_more [] rows k x q same lt here = absurd (omega arith)
 marked_more (b ∷ bs) [] k x q same lt here = absurd (omega arith)
 marked_more (true ∷ bs) (r ∷ rows) zero x q same lt here = again (eq_by_cmp row_cmp q r) (is_in (marked bs rows) q) ∙ ap (λ y. (eq_by_cmp row_cmp q r || is_in (marked bs rows) q) || eq_by_cmp row_cmp q y) here
-marked_more (false ∷ bs) (r ∷ rows) zero x q same lt here = turned (eq_by_cmp row_cmp q r) (is_in (marked bs rows) q) ∙ ap (λ y. is_in (marked bs rows) q || eq_by_cmp row_cmp q y) here
+marked_more (false ∷ bs) (r ∷ rows) zero x q same lt here = or_comm (eq_by_cmp row_cmp q r) (is_in (marked bs rows) q) ∙ ap (λ y. is_in (marked bs rows) q || eq_by_cmp row_cmp q y) here
 marked_more (true ∷ bs) (r ∷ rows) (suc k) x q same lt here =
     ap (λ b. eq_by_cmp row_cmp q r || b) (marked_more bs rows k x q (omega arith) (omega arith) here)
     ∙ shifted (eq_by_cmp row_cmp q r) (is_in (marked bs rows) q) (eq_by_cmp row_cmp q x)
@@ -145,7 +132,7 @@ none_left bs rows i same lt mark = ap (λ n. unmarked (take n bs) (take n rows))
 
 -- a row more is in the list of the images
 pub image_more : (f : Row → Row) (rows : List Row) (r q : Row) → is_in (map f (rows ++ r ∷ [])) q ≡ (is_in (map f rows) q || eq_by_cmp row_cmp q (f r))
-image_more f [] r q = turned (eq_by_cmp row_cmp q (f r)) false
+image_more f [] r q = or_comm (eq_by_cmp row_cmp q (f r)) false
 image_more f (x ∷ rows) r q = ap (λ b. eq_by_cmp row_cmp q (f x) || b) (image_more f rows r q) ∙ shifted (eq_by_cmp row_cmp q (f x)) (is_in (map f rows) q) (eq_by_cmp row_cmp q (f r))
 
 -- one row more, that passes a test or does not
@@ -176,8 +163,8 @@ apart r q (y ∷ ys) above tie = or_from _ _ (other (eq_by_cmp row_cmp q y) refl
 marked_within : (bs : List Bool) (rows : List Row) (q : Row) → is_in rows q ≡ false → is_in (marked bs rows) q ≡ false
 marked_within [] rows q out = refl
 marked_within (b ∷ bs) [] q out = refl
-marked_within (true ∷ bs) (r ∷ rows) q out = or_from _ _ (neither_left _ _ out) (marked_within bs rows q (neither_right (eq_by_cmp row_cmp q r) _ out))
-marked_within (false ∷ bs) (r ∷ rows) q out = marked_within bs rows q (neither_right (eq_by_cmp row_cmp q r) _ out)
+marked_within (true ∷ bs) (r ∷ rows) q out = or_from _ _ (first_fails _ _ out) (marked_within bs rows q (second_fails (eq_by_cmp row_cmp q r) _ out))
+marked_within (false ∷ bs) (r ∷ rows) q out = marked_within bs rows q (second_fails (eq_by_cmp row_cmp q r) _ out)
 
 -- the rows at the other places are those that stand at no marked one
 unmarked_is : (bs : List Bool) (rows : List Row) (q : Row) → length bs ≡ length rows → IsStrictlySortedBy row_cmp rows → is_in (unmarked bs rows) q ≡ (is_in rows q && not (is_in (marked bs rows) q))

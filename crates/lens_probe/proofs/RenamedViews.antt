@@ -1,24 +1,17 @@
 -- A rename: its rows by key, whether it has a row, its rows in a list, and how many looks they take.
-use Rattle.std.proofs.Common.{◌≡◌, ◌∙◌, ◌∷◌, ℕ, List, [], ap, arith, inl, inr, is_some, map, subst, sym, true, false}
+use Rattle.std.proofs.Common.{◌≡◌, ◌∙◌, ◌∷◌, ℕ, List, [], ap, is_some, map, subst, sym, true, false}
 use Rattle.std.specs.Prelude.{IfOk, Result, if◌then◌else◌}
 use Rattle.std.specs.List.{Contains, list_any}
 use Rattle.std.specs.Ordering.{eq_by_cmp}
+use Rattle.std.proofs.lemmas.Bool.{false_from_ne_true}
 use Rattle.no_memory.specs.declared.NoMemory.{NoMemory}
-use Rattle.lens_values.specs.Order.{bytes_cmp}
-use Rattle.lens_values.specs.Row.{row_cmp}
-use Rattle.lens_values.specs.SortedSet as set
-use Rattle.lens_values.specs.declared.row.Row.{Row}
-use Rattle.lens_specs.specs.Columns.{Fits}
-use Rattle.lens_specs.specs.Lens.{Lens, Tables, get, rename, sort_of, view_names}
-use Rattle.lens_specs.specs.Names.{Name, Names, Within}
-use Rattle.lens_specs.specs.Nodes.{rename_get}
-use Rattle.lens_specs.specs.Relation.{Rows, has, image}
-use Rattle.lens_specs.specs.Rename.{renamed_names, renamed_row}
-use Rattle.lens_specs.specs.Rows.{agree, at}
-use Rattle.fd_laws.proofs.Lists.{absurd_false, false_from, from_map, in_map, left_true, right_true}
-use Rattle.fd_laws.proofs.Names.{name_itself}
-use Rattle.fd_laws.proofs.Relations.{from_image, from_those, in_image, same_rel}
-use Rattle.fd_laws.proofs.Rows.{row_itself, row_total, tied_row}
+use Rattle.plain_values.specs.Order.{bytes_cmp}
+use Rattle.plain_values.specs.Row.{row_cmp, Row}
+use Rattle.plain_values.specs.SortedSet as set
+use Rattle.lens_specs.specs.Common.{Fits, Lens, Tables, get, rename, sort_of, view_names, Name, Names, Within, rename_get, Rows, has, image, renamed_names, renamed_row, agree, at}
+use Rattle.plain_values.proofs.Lists.{absurd_false, from_map, in_map}
+use Rattle.fd_laws.proofs.Common.{name_itself, from_image, from_those, same_rel, row_itself, row_total, tied_row}
+use Rattle.fd_laws.proofs.Relations.{in_image}
 use Rattle.lens_laws.specs.Asked.{keys_at}
 use Rattle.lens_laws.specs.Finds.{IsOver}
 use Rattle.lens_laws.specs.KeyedDeltas.{find_by}
@@ -26,9 +19,9 @@ use Rattle.lens_laws.specs.Lenses.{AreOf, IsTyped}
 use Rattle.lens_laws.specs.Rename.{CanRename}
 use Rattle.lens_laws.specs.Shapes.{shape_of}
 use Rattle.lens_laws.specs.Work.{size}
-use Rattle.lens_laws.proofs.Asked.{contains_cases, hands_down, keys_reach}
+use Rattle.lens_laws.proofs.Asked.{hands_down, keys_reach}
 use Rattle.lens_laws.proofs.Lenses.{get_sort}
-use Rattle.lens_laws.proofs.NodeFinds.{fits_is_over, over_renamed}
+use Rattle.lens_laws.proofs.NodeFinds.{fits_is_over, over_renamed, contained}
 use Rattle.lens_laws.proofs.NodeLaws.{rename_can}
 use Rattle.lens_laws.proofs.Rename.{find_rename, has_rename, not_old}
 use Rattle.lens_laws.proofs.RenameSorts.{names-renamed}
@@ -51,7 +44,7 @@ module _ (A B : Name) (S : Lens) (typed : IsTyped (rename A B S)) where
 
   -- no set of its columns has the old name
   lacks_old : (C : Names) → Within C (view_names (rename A B S)) → set.contains C A ≡ false
-  lacks_old C w = false_from _ (λ i.
+  lacks_old C w = false_from_ne_true _ (λ i.
       absurd_false _ (name_itself A) (not_old (shape_of (sort_of S)) A B can A (subst (λ D. set.contains D A ≡ true) shown_names (w A i))))
 
   -- a row of it has no value there
@@ -125,14 +118,6 @@ module _ (A B : Name) (S : Lens) (typed : IsTyped (rename A B S)) where
 -- a row found is one of the rows
 pub found_there : (C : Names) (k r : Row) (M F : Rows) → F ≡ find_by C k M → has F r ≡ true → has M r ≡ true
 found_there C k r M F is i = (from_those (agree C k) M r (ap (λ N. has N r) (sym is) ∙ i)).0
-
--- a row of a list is in it
-contained : (rows : List Row) (r : Row) → Contains rows r → list_any (eq_by_cmp row_cmp r) rows ≡ true
-contained [] r h = absurd (omega arith)
-contained (q ∷ qs) r h = elim (contains_cases r q qs h) [
-  | inl is ↦ left_true _ _ (ap (eq_by_cmp row_cmp r) (sym is) ∙ row_itself r)
-  | inr i ↦ right_true (eq_by_cmp row_cmp r q) _ (contained qs r i)
-]
 
 -- ---- seen from the lens that it is
 

@@ -1,14 +1,13 @@
 -- A test that is made on the rows of the sides of a join, before they are joined.
 use Rattle.std.proofs.Common.{◌≡◌, ◌∙◌, Bool, ap, cond, inl, inr, refl, subst, sym, true, false}
 use Rattle.std.proofs.lemmas.Bool.{and_from, cases_Bool}
-use Rattle.lens_values.specs.SortedSet as set
-use Rattle.lens_values.specs.declared.row.Row.{Row}
-use Rattle.lens_specs.specs.Names.{Names}
-use Rattle.lens_specs.specs.Relation.{Rows, has, natural, those}
-use Rattle.lens_specs.specs.Rows.{agree, paste}
-use Rattle.fd_laws.proofs.Names.{name_total}
-use Rattle.fd_laws.proofs.Relations.{from_join, from_those, in_join, in_those, same_rel}
-use Rattle.fd_laws.proofs.Rows.{agree_at, agree_back, agree_from, agree-paste, at-paste_in, at-paste_out}
+use Rattle.plain_values.specs.SortedSet as set
+use Rattle.plain_values.specs.Row.{Row}
+use Rattle.lens_specs.specs.Common.{Names, Rows, has, those, agree, paste}
+use Rattle.lens_specs.specs.Relation.{natural}
+use Rattle.fd_laws.proofs.Common.{name_total, from_those, in_join, in_those, same_rel, agree_at, agree_back, agree_from}
+use Rattle.fd_laws.proofs.Relations.{from_join}
+use Rattle.fd_laws.proofs.Rows.{agree-paste, at-paste_in, at-paste_out}
 use Rattle.lens_laws.specs.Shapes.{Sees}
 
 -- a pair has what its left row has, since both rows have the same in the shared columns

@@ -5,18 +5,13 @@ use Rattle.std.specs.List.{Contains}
 use Rattle.std.proofs.lemmas.List.Elements.{Contains-append_left, Contains-append_right}
 use Rattle.std.proofs.lemmas.Nat.{mul-le}
 use Rattle.no_memory.specs.declared.NoMemory.{NoMemory}
-use Rattle.lens_values.specs.Part.{restrict}
-use Rattle.lens_values.specs.SortedSet as set
-use Rattle.lens_values.specs.declared.row.Row.{Row}
-use Rattle.lens_values.specs.declared.value.Value.{Value}
-use Rattle.lens_values.specs.declared.join_kind.JoinKind.{JoinKind}
-use Rattle.lens_specs.specs.Lens.{Lens, base, select, drop, join, get, view_names}
-use Rattle.lens_specs.specs.Names.{Name, Names, same_names, share}
-use Rattle.lens_specs.specs.Predicate.{Predicate}
-use Rattle.lens_specs.specs.Relation.{Rows, those}
-use Rattle.lens_specs.specs.Rows.{agree}
-use Rattle.lens_specs.specs.Sort.{Sort}
-use Rattle.lens_specs.specs.Dependencies.{AllEdges, Edge}
+use Rattle.plain_values.specs.Part.{restrict}
+use Rattle.plain_values.specs.SortedSet as set
+use Rattle.plain_values.specs.Row.{Row}
+use Rattle.plain_values.specs.declared.value.Value.{Value}
+use Rattle.plain_values.specs.declared.join_kind.JoinKind.{JoinKind}
+use Rattle.lens_specs.specs.Common.{Lens, base, select, drop, get, view_names, Name, Names, same_names, share, Predicate, Rows, those, agree, Sort, AllEdges, Edge}
+use Rattle.lens_specs.specs.Lens.{join}
 use Rattle.lens_laws.specs.Asked.{keys_at, left_sides, Reaches}
 use Rattle.lens_laws.specs.KeyedDeltas.{find_by}
 use Rattle.lens_laws.specs.Lenses.{IsTyped}
@@ -27,7 +22,7 @@ use Rattle.base_index.specs.Held.{State, relation_in}
 use Rattle.lens_probe.specs.Looking.{FindsWithin, LooksWithin, find_part}
 use Rattle.lens_probe.specs.Viewed.{FindsAtMost, IsViewed, IsWithin, Viewed, asked_by, is_left_side, shown}
 use Rattle.fd_tree.specs.Sides.{HasLeft}
-use Rattle.lens_values.proofs.NamesLemmas.{same_is}
+use Rattle.plain_values.proofs.NamesLemmas.{same_is}
 use Rattle.std.proofs.lemmas.Bool.{or_cases}
 use Rattle.lens_probe.proofs.Found.{rows_shown}
 use Rattle.lens_probe.proofs.Viewing.{under_drop, under_left, under_right, under_select}

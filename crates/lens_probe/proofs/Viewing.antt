@@ -1,11 +1,11 @@
 -- What the views of the sources of a lens may ask of the tables.
 use Rattle.std.proofs.Common.{◌≡◌, List, [], ◌∷◌, Some, ap, arith, subst, sym}
 use Rattle.std.proofs.lemmas.List.Elements.{Contains-append_left, Contains-append_right}
-use Rattle.lens_values.specs.declared.value.Value.{Value}
-use Rattle.lens_values.specs.declared.join_kind.JoinKind.{JoinKind}
-use Rattle.lens_specs.specs.Lens.{Lens, base, select, drop, rename, join}
-use Rattle.lens_specs.specs.Names.{Name, Names}
-use Rattle.lens_specs.specs.Predicate.{Predicate}
+use Rattle.std.proofs.lemmas.Option.{same_Some}
+use Rattle.plain_values.specs.declared.value.Value.{Value}
+use Rattle.plain_values.specs.declared.join_kind.JoinKind.{JoinKind}
+use Rattle.lens_specs.specs.Common.{Lens, base, select, drop, rename, Name, Names, Predicate}
+use Rattle.lens_specs.specs.Lens.{join}
 use Rattle.lens_laws.specs.Asked.{HasKeys, asked, keys_at}
 use Rattle.lens_laws.specs.Lenses.{AreOf, IsTyped}
 use Rattle.lens_laws.proofs.Asked.{hands_down}
@@ -53,14 +53,11 @@ under_right kind A B K st typed can = record {
   indexed = λ t C i. can.indexed t C (Contains-append_right _ _ (t, C) i);
 }
 
-same_value : {T : Type 0} (x y : T) → Some x ≡ Some y → x ≡ y
-same_value x y e = cc
-
 source_at : (L C : Lens) (K : List Names) (st : State) → only_source L ≡ Some C → IsTyped L → CanAsk L K st → CanAsk C (to_first L K) st
 source_at (base t s) C K st e typed can = cc
-source_at (select P D) C K st e typed can = subst (λ Z. CanAsk Z (keys_at (select P D) K) st) (same_value D C e) (under_select P D K st typed can)
-source_at (drop A X v D) C K st e typed can = subst (λ Z. CanAsk Z (X ∷ keys_at (drop A X v D) K) st) (same_value D C e) (under_drop A X v D K st typed can)
-source_at (rename A B D) C K st e typed can = subst (λ Z. CanAsk Z (to_first (rename A B D) K) st) (same_value D C e) (under_rename A B D K st typed can)
+source_at (select P D) C K st e typed can = subst (λ Z. CanAsk Z (keys_at (select P D) K) st) (same_Some D C e) (under_select P D K st typed can)
+source_at (drop A X v D) C K st e typed can = subst (λ Z. CanAsk Z (X ∷ keys_at (drop A X v D) K) st) (same_Some D C e) (under_drop A X v D K st typed can)
+source_at (rename A B D) C K st e typed can = subst (λ Z. CanAsk Z (to_first (rename A B D) K) st) (same_Some D C e) (under_rename A B D K st typed can)
 source_at (join kind A B) C K st e typed can = cc
 
 -- no set is handed down to a whole lens
@@ -77,14 +74,14 @@ left_at (base t s) A B K st e typed can = cc
 left_at (select P D) A B K st e typed can = cc
 left_at (drop C X v D) A B K st e typed can = cc
 left_at (rename C X D) A B K st e typed can = cc
-left_at (join kind C D) A B K st e typed can = subst (λ Z. CanAsk Z (to_first (join kind C D) K) st) (ap (λ p. p.0) (same_value (C, D) (A, B) e)) (under_left kind C D K st typed can)
+left_at (join kind C D) A B K st e typed can = subst (λ Z. CanAsk Z (to_first (join kind C D) K) st) (ap (λ p. p.0) (same_Some (C, D) (A, B) e)) (under_left kind C D K st typed can)
 
 right_at : (L A B : Lens) (K : List Names) (st : State) → both_sides L ≡ Some (A, B) → IsTyped L → CanAsk L K st → CanAsk B (to_second L K) st
 right_at (base t s) A B K st e typed can = cc
 right_at (select P D) A B K st e typed can = cc
 right_at (drop C X v D) A B K st e typed can = cc
 right_at (rename C X D) A B K st e typed can = cc
-right_at (join kind C D) A B K st e typed can = subst (λ Z. CanAsk Z (to_second (join kind C D) K) st) (ap (λ p. p.1) (same_value (C, D) (A, B) e)) (under_right kind C D K st typed can)
+right_at (join kind C D) A B K st e typed can = subst (λ Z. CanAsk Z (to_second (join kind C D) K) st) (ap (λ p. p.1) (same_Some (C, D) (A, B) e)) (under_right kind C D K st typed can)
 
 -- and so is each side
 pub left_asks : (v : Viewed) (A B : Lens) (sets : List Names) → IsViewed v → both_sides v.lens ≡ Some (A, B) → sets ≡ to_first v.lens v.sets → CanAsk A sets v.tables.present

@@ -1,9 +1,8 @@
 -- The sets of columns that a view hands down to its sources.
 use Rattle.std.specs.Prelude.{List, [], ◌∷◌, map}
-use Rattle.lens_values.specs.SortedSet as set
-use Rattle.lens_specs.specs.Names.{Names}
-use Rattle.lens_specs.specs.Lens.{Lens, base, select, drop, rename, join, view_names}
-use Rattle.lens_specs.specs.Rename.{renamed_names}
+use Rattle.plain_values.specs.SortedSet as set
+use Rattle.lens_specs.specs.Common.{Names, Lens, base, select, drop, rename, view_names, renamed_names}
+use Rattle.lens_specs.specs.Lens.{join}
 use Rattle.lens_laws.specs.Asked.{keys_at, side_keys}
 
 -- what a view of the lens, to which K was handed down, hands down to its first source

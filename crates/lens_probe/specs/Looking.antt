@@ -1,13 +1,10 @@
 -- Look-ups by key down a lens.
 use Rattle.std.specs.Prelude.{◌≡◌, ℕ, Bool, true, false, List, filter, flat_map, map}
 use Rattle.std.specs.List.{Contains}
-use Rattle.lens_values.specs.Part.{override, restrict}
-use Rattle.lens_values.specs.SortedSet as set
-use Rattle.lens_values.specs.declared.row.Row.{Row}
-use Rattle.lens_specs.specs.Lens.{Lens}
-use Rattle.lens_specs.specs.Names.{Names}
-use Rattle.lens_specs.specs.Relation.{Rows}
-use Rattle.lens_specs.specs.Rows.{agree}
+use Rattle.plain_values.specs.Part.{override, restrict}
+use Rattle.plain_values.specs.SortedSet as set
+use Rattle.plain_values.specs.Row.{Row}
+use Rattle.lens_specs.specs.Common.{Lens, Names, Rows, agree}
 use Rattle.lens_laws.specs.Asked.{asked, keys_at}
 use Rattle.lens_laws.specs.KeyedDeltas.{find_by}
 use Rattle.lens_laws.specs.Work.{TablesGiveAtMost}

@@ -1,8 +1,8 @@
 -- Rows that were found before.
 use Rattle.std.specs.Prelude.{◌≡◌, List}
 use Rattle.std.specs.List.{All}
-use Rattle.lens_specs.specs.Lens.{Lens, Tables, base, select, drop, rename, join, get}
-use Rattle.lens_specs.specs.Relation.{Rows}
+use Rattle.lens_specs.specs.Common.{Lens, Tables, base, select, drop, rename, get, Rows}
+use Rattle.lens_specs.specs.Lens.{join}
 use Rattle.lens_laws.specs.KeyedDeltas.{find_by}
 use Rattle.lens_probe.specs.declared.near.Near.{Near}
 

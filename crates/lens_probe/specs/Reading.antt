@@ -1,9 +1,8 @@
 -- Reading a whole view: which rows a selection needs of a side of a join, and what it takes.
 use Rattle.std.specs.Prelude.{ℕ, ◌+◌, cond}
-use Rattle.lens_values.specs.SortedSet as set
-use Rattle.lens_specs.specs.Lens.{Lens, Tables, base, select, drop, rename, join, get, table, view_names}
-use Rattle.lens_specs.specs.Predicate.{Predicate, holds, mentioned}
-use Rattle.lens_specs.specs.Relation.{Rows, those}
+use Rattle.plain_values.specs.SortedSet as set
+use Rattle.lens_specs.specs.Common.{Lens, Tables, base, select, drop, rename, get, table, view_names, Predicate, holds, mentioned, Rows, those}
+use Rattle.lens_specs.specs.Lens.{join}
 use Rattle.lens_laws.specs.Work.{count_of}
 
 -- the number of rows of the tables under the lens

@@ -1,6 +1,6 @@
 -- Rows that are still to be tested.
 use Rattle.std.specs.Prelude.{Bool, true, List, None, Option, Some, filter, option_map}
-use Rattle.lens_values.specs.declared.row.Row.{Row}
+use Rattle.plain_values.specs.Row.{Row}
 use Rattle.lens_specs.specs.Predicate.{Predicate, holds}
 use Rattle.lens_probe.specs.declared.unfiltered.Unfiltered.{Unfiltered}
 

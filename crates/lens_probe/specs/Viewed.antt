@@ -2,10 +2,8 @@
 use Rattle.std.specs.Prelude.{ℕ, ◌≤◌, Bool, List, Option, None, Some, option_map, refl, IsTrue}
 use Rattle.std.specs.List.{Contains, list_any}
 use Rattle.std.specs.Coded.{Coded, code_by, coded×, coded_list}
-use Rattle.lens_specs.specs.Dependencies.{Edge}
-use Rattle.lens_specs.specs.Names.{Name, Names, same_names}
-use Rattle.lens_specs.specs.Relation.{Relation}
-use Rattle.lens_specs.specs.Lens.{Lens, base, select, drop, rename, join, view, view_names}
+use Rattle.lens_specs.specs.Common.{Edge, Name, Names, same_names, Relation, Lens, base, select, drop, rename, view, view_names}
+use Rattle.lens_specs.specs.Lens.{join}
 use Rattle.lens_laws.specs.Asked.{AreKeys, HasKeys, asked, keys_at}
 use Rattle.lens_laws.specs.Lenses.{AreOf, IsTyped}
 use Rattle.lens_laws.specs.Work.{TablesGiveAtMost, size}

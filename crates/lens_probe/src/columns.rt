@@ -1,6 +1,6 @@
 //! The columns of a view.
 ghost use Rattle.std.specs.Prelude.{◌≡◌, IfOk};
-ghost use Rattle.lens_values.specs.SortedSet as set;
+ghost use Rattle.plain_values.specs.SortedSet as set;
 ghost use Rattle.lens_specs.specs.Lens.{view_names};
 
 use lens_types::TypedLens;

@@ -1,7 +1,7 @@
 //! What a whole view differs by from rows that are known, with no list of what the view shows.
 ghost use Rattle.std.specs.Prelude.{◌≡◌, ◌+◌, ◌≤◌, IfOk, OnOk, length, map};
-ghost use Rattle.lens_values.specs.Part.{restrict};
-ghost use Rattle.lens_values.specs.SortedSet as set;
+ghost use Rattle.plain_values.specs.Part.{restrict};
+ghost use Rattle.plain_values.specs.SortedSet as set;
 ghost use Rattle.lens_specs.specs.Delta.{diff};
 ghost use Rattle.lens_specs.specs.Lens.{get, view_names};
 ghost use Rattle.lens_specs.specs.Relation.{minus};

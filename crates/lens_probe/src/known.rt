@@ -2,7 +2,7 @@
 ghost use Rattle.std.specs.Prelude.{◌≡◌, ◌<◌, MatchOption, length, slice_index_or};
 ghost use Rattle.std.specs.List.{zip};
 ghost use Rattle.std.specs.declared.cmp.Ordering.TheVariants.{Equal};
-ghost use Rattle.lens_values.specs.Part.{restrict};
+ghost use Rattle.plain_values.specs.Part.{restrict};
 ghost use Rattle.lens_specs.specs.Names.{Names as NameSet};
 ghost use Rattle.lens_laws.specs.Finds.{IsOver};
 ghost use Rattle.lens_probe.specs.KnownRows.{AreAmong, AreOver};

@@ -1,6 +1,6 @@
 //! Rows that are found once for all questions of an edit.
 ghost use Rattle.std.specs.Prelude.{◌≡◌, ◌≤◌, ◌+◌, ◌*◌, ℕ, IfOk, IfSome, length, true};
-ghost use Rattle.lens_values.specs.SortedSet as set;
+ghost use Rattle.plain_values.specs.SortedSet as set;
 ghost use Rattle.lens_specs.specs.Columns.{Fits};
 ghost use Rattle.lens_specs.specs.Lens.{get, sort_of};
 ghost use Rattle.lens_specs.specs.Relation.{Rows};

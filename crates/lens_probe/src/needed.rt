@@ -1,6 +1,6 @@
 //! What a lens needs its tables to be asked by.
 ghost use Rattle.std.specs.Prelude.{◌≡◌, ◌++◌, ◌∷◌, [], map, IfOk, OnOk};
-ghost use Rattle.lens_values.specs.SortedSet as set;
+ghost use Rattle.plain_values.specs.SortedSet as set;
 ghost use Rattle.lens_specs.specs.Lens.{view_names};
 ghost use Rattle.lens_specs.specs.Rename.{renamed_names};
 ghost use Rattle.lens_laws.specs.Asked.{asked, keys_at, side_keys};

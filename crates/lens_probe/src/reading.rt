@@ -1,7 +1,7 @@
 //! Whole views.
 ghost use Rattle.std.specs.Prelude.{◌≡◌, ◌+◌, ◌≤◌, IfOk, filter, map};
-ghost use Rattle.lens_values.specs.Part.{restrict};
-ghost use Rattle.lens_values.specs.SortedSet as set;
+ghost use Rattle.plain_values.specs.Part.{restrict};
+ghost use Rattle.plain_values.specs.SortedSet as set;
 ghost use Rattle.lens_specs.specs.Lens as spec;
 ghost use Rattle.lens_specs.specs.Lens.{get, select, view_names};
 ghost use Rattle.lens_specs.specs.Predicate.{holds};

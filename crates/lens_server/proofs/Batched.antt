@@ -8,12 +8,7 @@ use Rattle.signed_delta.specs.declared.delta.TableDelta.{TableDelta as DeltaOf}
 use Rattle.view_changes.specs.Puts.{IsPut}
 use Rattle.database.specs.Opening.{CanOpen}
 use Rattle.std.specs.FinMap as finmap
-use Rattle.lens_specs.specs.Delta.{TableDelta, changes}
-use Rattle.lens_specs.specs.Lens.{Lens, Tables, put, sort_of}
-use Rattle.lens_specs.specs.Names.{Name}
-use Rattle.lens_specs.specs.Relation.{Rows}
-use Rattle.lens_specs.specs.Sort.{IsOf}
-use Rattle.lens_specs.specs.TableDeltas.{LeadTo}
+use Rattle.lens_specs.specs.Common.{TableDelta, changes, Lens, Tables, put, sort_of, Name, Rows, IsOf, LeadTo}
 use Rattle.lens_laws.proofs.Lenses.{get_after}
 use Rattle.base_index.specs.Held as held_tables
 use Rattle.base_index.specs.Held.{Held, IsQuiet}

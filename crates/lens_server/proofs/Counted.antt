@@ -3,30 +3,26 @@ use Rattle.std.proofs.Common.{◌≡◌, ◌∙◌, ◌+◌, ◌≤◌, ◌||◌
 use Rattle.std.specs.Prelude.{◌-◌, IfOk, slice_get, sum_by}
 use Rattle.std.proofs.lemmas.Bool.{true≢false}
 use Rattle.std.proofs.lemmas.List.{length-append}
-use Rattle.std.proofs.lemmas.List.Sums.{sum_by-cons}
+use Rattle.std.proofs.lemmas.List.Sums.{sum_by-cons, sum_by-le-sum_by}
 use Rattle.std.specs.FinMap as finmap
 use Rattle.std.specs.Ordering.{eq_by_cmp}
+use Rattle.server_laws.proofs.Changes.{texts_settled, texts_batch, texts_undone}
 use Rattle.no_memory.specs.declared.NoMemory.{NoMemory}
-use Rattle.lens_values.specs.Order.{bytes_cmp}
-use Rattle.lens_values.specs.SortedSet as set
-use Rattle.fd_laws.proofs.Names.{name_total, one_itself, tied_name}
-use Rattle.fd_laws.proofs.Rows.{row_total}
+use Rattle.plain_values.specs.Order.{bytes_cmp}
+use Rattle.plain_values.specs.SortedSet as set
+use Rattle.fd_laws.proofs.Common.{name_total, one_itself, tied_name, row_total}
 use Rattle.lens_laws.specs.Lenses.{IsTyped}
 use Rattle.lens_laws.specs.Work.{count_of}
-use Rattle.lens_specs.specs.Delta.{TableDelta, changes, differences}
-use Rattle.lens_specs.specs.Lens.{Lens, Tables, base, drop, join, put, rename, rows_or_none, select, sort_of, tables_of}
-use Rattle.lens_specs.specs.Names.{Name, Names, one}
-use Rattle.lens_specs.specs.Relation.{Relation, Rows}
-use Rattle.catalog_specs.specs.Catalogue.{catalogue}
+use Rattle.lens_specs.specs.Common.{Lens, Tables, base, drop, rename, rows_or_none, select, sort_of, tables_of, Name, Names, one, Relation, Rows}
+use Rattle.lens_specs.specs.Lens.{join}
 use Rattle.server_specs.specs.Answer.{Answer}
 use Rattle.sheet_specs.specs.Sheets.{unsheet}
 use Rattle.server_specs.specs.Exporting.{import_settled, read_settled}
-use Rattle.server_specs.specs.Batching.{batch_answer, batch_settled, edits_from}
-use Rattle.server_specs.specs.Changing.{accept, settled, tested}
-use Rattle.server_specs.specs.EditRefusal.{EditRefusal}
+use Rattle.server_specs.specs.Batching.{batch_answer, edits_from}
+use Rattle.server_specs.specs.Changing.{tested}
 use Rattle.server_specs.specs.Request.{BatchEdit}
 use Rattle.server_specs.specs.State.{State}
-use Rattle.server_specs.specs.Undoing.{undo_answer, undone}
+use Rattle.server_specs.specs.Undoing.{undo_answer}
 use Rattle.base_index.specs.Held as held
 use Rattle.lens_probe.specs.Reading.{rows_under}
 use Rattle.lens_server.specs.Counting.{RisesBy, Walks, row_count}
@@ -44,11 +40,6 @@ use Rattle.database.specs.declared.database.Database.{Database}
 -- ---- sums
 
 module _ {A : Type 0} where
-  -- the sum of smaller numbers is smaller
-  sum_less : (f g : A → ℕ) (xs : List A) → ((x : A) → f x ≤ g x) → sum_by f xs ≤ sum_by g xs
-  sum_less f g [] h = omega arith
-  sum_less f g (x ∷ xs) h = omega (arith, sum_by-cons f x xs, sum_by-cons g x xs, h x, sum_less f g xs h)
-
   -- so are two sums of numbers that are together smaller
   sums_less : (f g h : A → ℕ) (xs : List A) → ((x : A) → f x + g x ≤ h x) → sum_by f xs + sum_by g xs ≤ sum_by h xs
   sums_less f g h [] less = omega arith
@@ -106,7 +97,7 @@ other_less false n = omega arith
 -- and all tables have no fewer
 pub under_few : (L : Lens) (db : Tables) → IsTyped L → rows_under L db ≤ row_count db
 under_few L db h =
-    let few = sum_less (counted (tables_of L)) (λ e. count_of e.1.rows) (finmap.entries db) (λ e. some_less (set.contains (tables_of L) e.0) (count_of e.1.rows)) in
+    let few = sum_by-le-sum_by (counted (tables_of L)) (λ e. count_of e.1.rows) (finmap.entries db) (λ e. some_less (set.contains (tables_of L) e.0) (count_of e.1.rows)) in
     omega (arith, under_less L db h, few)
 
 -- to read a view of the database walks no more
@@ -132,38 +123,22 @@ steps_none (Some staged) next database l e = undefined_steps staged.change datab
 
 -- ---- changes of views add no text
 
-accept_texts : (db : Tables) (cs : List TableDelta) (s : State) → (accept db cs s).1.texts ≡ s.texts
-accept_texts db [] s = refl
-accept_texts db (c ∷ cs) s = refl
-
-pub settled_texts : (r : Result Rows EditRefusal) (L : Lens) (s : State) → (settled r L s).1.texts ≡ s.texts
-settled_texts (Err why) L s = refl
-settled_texts (Ok rows) L s = accept_texts (put L rows s.tables) (changes L rows s.tables) s
-
 read_texts : (r : Result Rows ℕ) (on : Option ℕ) (L : Lens) (s : State) → (read_settled r on L s).1.texts ≡ s.texts
 read_texts (Err place) on L s = refl
-read_texts (Ok rows) on L s = settled_texts (tested s L on (Ok rows)) L s
+read_texts (Ok rows) on L s = texts_settled (tested s L on (Ok rows)) L s
 
 -- nor does an import
 pub import_texts : (o : Option Name) (text : List ℕ) (on : Option ℕ) (L : Lens) (s : State) → (import_settled o text on L s).1.texts ≡ s.texts
 import_texts (Some name) text on L s = refl
 import_texts None text on L s = read_texts (unsheet (sort_of L).columns text) on L s
 
-settled_batch_texts : (r : Result Tables (ℕ × EditRefusal)) (s : State) → (batch_settled r s).1.texts ≡ s.texts
-settled_batch_texts (Err refused) s = refl
-settled_batch_texts (Ok db) s = accept_texts db (differences (finmap.keys s.tables) s.tables db) s
-
 -- nor does a batch
 pub batch_texts : (edits : List BatchEdit) (on : Option ℕ) (s : State) → (batch_answer edits on s).1.texts ≡ s.texts
-batch_texts edits on s = settled_batch_texts (edits_from 0 on s edits s.tables) s
-
-undone_texts : (o : Option (List TableDelta)) (s : State) → (undone o s).1.texts ≡ s.texts
-undone_texts None s = refl
-undone_texts (Some cs) s = refl
+batch_texts edits on s = texts_batch (edits_from 0 on s edits s.tables) s
 
 -- nor an undo
 pub undo_texts : (s : State) → (undo_answer s).1.texts ≡ s.texts
-undo_texts s = undone_texts (slice_get s.past (length s.past - 1)) s
+undo_texts s = texts_undone (slice_get s.past (length s.past - 1)) s
 
 -- what was walked for the plan of such a change is all that is walked for it
 pub change_walks : (result : Result Plan NoMemory) (expected : Answer × State) (database : Database) (old new most : ℕ) → IfOk result (λ plan. IsPlan plan expected database)

@@ -1,6 +1,6 @@
 -- What a definition that was prepared makes of the state.
 use Rattle.std.specs.Prelude.{◌^◌, Option, is_some, length}
-use Rattle.lens_specs.specs.Keeping.{CanChange}
+use Rattle.lens_specs.specs.Common.{CanChange, Columns, TableDelta, Edge, Lens, Tables, Name, Predicate}
 use Rattle.server_laws.proofs.Kept.{get-rows_of, is_some-rows}
 use Rattle.server_specs.specs.State.{kept as kept_of}
 use Rattle.table_keeper.specs.declared.keeper.Change.{Change}
@@ -10,13 +10,7 @@ use Rattle.database.specs.declared.plan.PastStep.TheVariants.{Stays}
 use Rattle.std.proofs.Common.{◌≡◌, ◌∙◌, ◌+◌, ◌<◌, ℕ, false, List, [], ◌∷◌, ◌++◌, ap, sym, subst, refl}
 use Rattle.std.specs.Prelude.{Some, None, Ok, if◌then◌else◌}
 use Rattle.std.specs.FinMap as finmap
-use Rattle.lens_specs.specs.Columns.{Columns}
-use Rattle.lens_specs.specs.Delta.{TableDelta}
-use Rattle.lens_specs.specs.Dependencies.{Edge}
 use Rattle.lens_specs.specs.Keeping.{define}
-use Rattle.lens_specs.specs.Lens.{Lens, Tables}
-use Rattle.lens_specs.specs.Names.{Name}
-use Rattle.lens_specs.specs.Predicate.{Predicate}
 use Rattle.grammar_specs.specs.Meaning.{Definition, Expr, table, view}
 use Rattle.grammar_laws.specs.Reading.{reading}
 use Rattle.catalog_specs.specs.Catalogue.{catalogue, is_table_of, table_lens, with_lens}

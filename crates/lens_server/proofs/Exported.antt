@@ -5,14 +5,12 @@ use Rattle.std.specs.List.{list_all}
 use Rattle.std.proofs.lemmas.Bool.{lt-leb}
 use Rattle.std.specs.FinMap as finmap
 use Rattle.no_memory.specs.declared.NoMemory.{NoMemory}
-use Rattle.lens_values.specs.Order.{bytes_cmp}
-use Rattle.lens_values.specs.SortedSet as set
-use Rattle.lens_values.specs.Value.{is_nullable}
+use Rattle.plain_values.specs.Order.{bytes_cmp}
+use Rattle.plain_values.specs.SortedSet as set
+use Rattle.plain_values.specs.Value.{is_nullable}
 use Rattle.fd_laws.proofs.Names.{name_total}
 use Rattle.lens_laws.proofs.Asked.{keyed}
-use Rattle.lens_specs.specs.Columns.{Columns, names}
-use Rattle.lens_specs.specs.Lens.{Lens, sort_of}
-use Rattle.lens_specs.specs.Names.{Name}
+use Rattle.lens_specs.specs.Common.{Columns, names, Lens, sort_of, Name}
 use Rattle.io_specs.specs.Lines.{line, marked}
 use Rattle.catalog_specs.specs.Catalogue.{catalogue}
 use Rattle.server_specs.specs.Answer.{Answer, long_line, memory, text}

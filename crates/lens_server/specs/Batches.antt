@@ -2,9 +2,7 @@
 use Rattle.std.specs.Prelude.{◌≡◌, ℕ, true, List, [], map, Vec, Option, Some, None, is_some, Result, Ok, Err}
 use Rattle.std.specs.declared.alloc.Global.{Global}
 use Rattle.std.specs.FinMap as finmap
-use Rattle.lens_specs.specs.Lens.{Lens, Tables}
-use Rattle.lens_specs.specs.Names.{Name}
-use Rattle.lens_specs.specs.TableDeltas.{LeadTo}
+use Rattle.lens_specs.specs.Common.{Lens, Tables, Name, LeadTo}
 use Rattle.lens_laws.specs.Asked.{asked}
 use Rattle.base_index.specs.Held.{IsQuiet}
 use Rattle.lens_probe.specs.Viewed.{AreIndexed}

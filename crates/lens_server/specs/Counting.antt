@@ -3,8 +3,7 @@ use Rattle.std.specs.Prelude.{ℕ, ◌+◌, ◌*◌, ◌≤◌, Bool, true, fals
 use Rattle.std.specs.FinMap as finmap
 use Rattle.no_memory.specs.declared.NoMemory.{NoMemory}
 use Rattle.serde_json.specs.Data.{Items}
-use Rattle.lens_specs.specs.Lens.{Lens, Tables, sort_of}
-use Rattle.lens_specs.specs.Names.{Name, one}
+use Rattle.lens_specs.specs.Common.{Lens, Tables, sort_of, Name, one}
 use Rattle.catalog_specs.specs.Catalogue.{catalogue}
 use Rattle.lens_probe.specs.Viewed.{is_left_side}
 use Rattle.lens_laws.specs.Work.{fan, work}

@@ -1,7 +1,6 @@
 -- What is asked of a view, as the definitions have it: the request with the name of the view, and what is answered of its lens.
 use Rattle.std.specs.Prelude.{ℕ, if◌then◌else◌}
-use Rattle.lens_specs.specs.Lens.{Lens, Tables, sort_of}
-use Rattle.lens_specs.specs.Names.{Name, one}
+use Rattle.lens_specs.specs.Common.{Lens, Tables, sort_of, Name, one}
 use Rattle.lens_probe.specs.Viewed.{is_left_side}
 use Rattle.server_specs.specs.Answer.{Answer}
 use Rattle.server_specs.specs.Changing.{asked_view, edited, foretold, settled, whole}

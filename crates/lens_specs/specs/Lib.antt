@@ -1,3 +1,4 @@
+pub mod Common
 pub mod Names
 pub mod Rows
 pub mod Columns

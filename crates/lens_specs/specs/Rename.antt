@@ -1,15 +1,15 @@
 -- Renaming a column: B for A in names, rows, columns, dependencies and predicates.
 use Rattle.std.specs.Prelude.{List, map, Option, Some, None}
 use Rattle.std.specs.FinMap as finmap
-use Rattle.lens_values.specs.SortedSet as set
-use Rattle.lens_values.specs.declared.value.Kind.{Kind}
-use Rattle.lens_values.specs.declared.row.Row.{Row}
+use Rattle.plain_values.specs.SortedSet as set
+use Rattle.plain_values.specs.declared.value.Kind.{Kind}
+use Rattle.plain_values.specs.Row.{Row}
 use Rattle.lens_specs.specs.Names.{Name, Names}
 use Rattle.lens_specs.specs.Rows.{at, with_at}
 use Rattle.lens_specs.specs.Columns.{Columns}
 use Rattle.lens_specs.specs.Dependencies.{Edge, edge}
 use Rattle.lens_specs.specs.Predicate.{Formula, truth, falsity, compare, compare_columns, one_of, null_at, negation, all_of, any_of, Formulas, no_formulas, formulas, Predicate}
-pub use Rattle.lens_values.specs.Name.{renamed}
+pub use Rattle.plain_values.specs.Name.{renamed}
 
 -- each name of the set
 unfoldable pub renamed_names : Name → Name → Names → Names

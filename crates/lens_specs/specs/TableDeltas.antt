@@ -4,8 +4,8 @@ use Rattle.std.specs.Cmp.Lexicographic.{pointwise}
 use Rattle.std.specs.FinMap as finmap
 use Rattle.std.specs.List.{list_all, list_any}
 use Rattle.std.specs.Ordering.{eq_by_cmp, is_lt}
-use Rattle.lens_values.specs.Order.{bytes_cmp}
-use Rattle.lens_values.specs.SortedSet as set
+use Rattle.plain_values.specs.Order.{bytes_cmp}
+use Rattle.plain_values.specs.SortedSet as set
 use Rattle.lens_specs.specs.Delta.{AppliesTo, Delta, TableDelta, is_empty, new_view, with_delta}
 use Rattle.lens_specs.specs.Lens.{Tables}
 use Rattle.lens_specs.specs.Names.{Name}

@@ -1,12 +1,11 @@
 -- Columns and rows of one name, and the refusals of a drop.
 use Rattle.std.proofs.Common.{◌≡◌, ◌∙◌, Bool, true, false, cond, not, ap, sym, refl, None}
 use Rattle.std.specs.FinMap as map
-use Rattle.lens_values.specs.Part.{exclude}
-use Rattle.lens_values.specs.SortedSet as set
+use Rattle.plain_values.specs.Part.{exclude}
+use Rattle.plain_values.specs.SortedSet as set
+use Rattle.fd_laws.proofs.Common.{name_total, name_exact, one_is}
 use Rattle.fd_laws.proofs.Columns.{get-without_other, get-without_same}
-use Rattle.fd_laws.proofs.Names.{name_total, name_exact, one_is}
-use Rattle.lens_specs.specs.Names.{Name, one}
-use Rattle.lens_specs.specs.Columns.{Columns, without_column}
+use Rattle.lens_specs.specs.Common.{Name, one, Columns, without_column}
 
 outside : (U : Columns) (A c : Name) (b : Bool) → set.contains (one A) c ≡ b → cond (not b) (map.get U c) None ≡ map.get (without_column U A) c
 outside U A c true i = sym (ap (map.get (without_column U A)) (one_is A c i) ∙ get-without_same U A)

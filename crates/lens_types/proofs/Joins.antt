@@ -2,29 +2,24 @@
 use Rattle.std.proofs.Common.{List, ◌≡◌, ◌∙◌, ◌++◌, ℕ, Bool, true, false, cond, find, ap, sym, subst, refl, [], ◌∷◌}
 use Rattle.std.specs.Prelude.{Option, Some, None, option_map, Ok}
 use Rattle.std.specs.List.Sorted.{IsStrictlySortedBy}
-use Rattle.lens_values.specs.Columns as values
-use Rattle.lens_values.specs.declared.join_kind.JoinKind.TheVariants.{DeleteLeft}
-use Rattle.lens_values.specs.SortedSet as set
+use Rattle.plain_values.specs.Columns as values
+use Rattle.plain_values.specs.declared.join_kind.JoinKind.TheVariants.{DeleteLeft}
+use Rattle.plain_values.specs.SortedSet as set
 use Rattle.fd_laws.proofs.Names.{name_total, one_is}
-use Rattle.lens_specs.specs.Columns.{Columns, both_columns, kinds_differ}
-use Rattle.lens_specs.specs.Dependencies.{Edge}
-use Rattle.lens_specs.specs.Lens.{base, join, join_sort, tables_of, tree_or_none}
-use Rattle.lens_specs.specs.Names.{Name, one}
-use Rattle.lens_specs.specs.Predicate.{Predicate}
-use Rattle.lens_specs.specs.Refusal.{Refusal, left_side, right_side, kind_clash, not_determined, side_mentions_output, table_twice, or_else, too_much, unsteady}
-use Rattle.lens_specs.specs.Sort.{Sort}
+use Rattle.lens_specs.specs.Common.{Columns, both_columns, kinds_differ, Edge, base, join_sort, tables_of, tree_or_none, Name, one, Predicate, Refusal, kind_clash, or_else, too_much, unsteady, Sort, TreeForm, tree_of, sort, join_fault, undetermined, unless_refused}
+use Rattle.lens_specs.specs.Lens.{join}
+use Rattle.lens_specs.specs.Refusal.{left_side, right_side, not_determined, side_mentions_output, table_twice}
 use Rattle.lens_specs.specs.TreeForm as form
-use Rattle.lens_specs.specs.TreeForm.{TreeForm, tree_of}
-use Rattle.lens_specs.specs.Typing.{sort, form_fault, join_fault, shared_table, undetermined, unless_refused}
+use Rattle.lens_specs.specs.Typing.{form_fault, shared_table}
 use Rattle.lens_laws.specs.Passes.{IsSound}
 use Rattle.lens_laws.proofs.NodeLaws.{sound}
-use Rattle.lens_laws.proofs.Rules.{sort_is_typed}
+use Rattle.lens_laws.proofs.Rules.{sort_is_typed, neither, unrefused}
 use Rattle.fd_tree.specs.Form.{form_of}
 use Rattle.lens_types.specs.Faults.{IsRefused, fault_view, of_fault}
 use Rattle.lens_types.specs.Joins.{columns_from, joined_columns, sides_fault}
 use Rattle.lens_types.specs.Sorts.{sort_from, natural_join}
 use Rattle.lens_types.specs.declared.fault.TypeFault.{TypeFault}
-use Rattle.lens_types.proofs.Parts.{neither, unrefused, or_last, few_in_three}
+use Rattle.lens_types.proofs.Parts.{or_last, few_in_three}
 
 -- ---- columns
 

@@ -1,25 +1,11 @@
 -- Tests that are made one after another.
-use Rattle.std.proofs.Common.{◌≡◌, ℕ, Bool, true, false, refl}
-use Rattle.std.specs.Prelude.{List, Option, Some, None, Ok, not, nat_le}
+use Rattle.std.proofs.Common.{◌≡◌, ℕ, Bool, true, false}
+use Rattle.std.specs.Prelude.{List, Option, Some, None, not, nat_le}
 use Rattle.std.specs.FinMap as finmap
-use Rattle.lens_specs.specs.Columns.{Columns}
-use Rattle.lens_specs.specs.Dependencies.{Edge}
-use Rattle.lens_specs.specs.Predicate.{Predicate, predicate_nodes}
-use Rattle.lens_specs.specs.Refusal.{Refusal, or_else, when, too_much}
-use Rattle.lens_specs.specs.Sort.{Sort}
-use Rattle.lens_specs.specs.Typing.{unless_refused}
+use Rattle.lens_specs.specs.Common.{Columns, Edge, Predicate, Refusal, or_else, when, too_much, Sort}
+use Rattle.lens_specs.specs.Predicate.{predicate_nodes}
 use Rattle.lens_laws.specs.Passes.{IsSound}
 use Rattle.lens_types.specs.Sorts.{sort_from}
-
--- where neither test fails, none does
-pub neither : (a b : Option Refusal) → or_else a b ≡ None → (a ≡ None) × (b ≡ None)
-neither None b e = (refl, e)
-neither (Some r) b e = cc
-
--- the sort is that which was not refused
-pub unrefused : (o : Option Refusal) (s x : Sort) → unless_refused o s ≡ Ok x → (o ≡ None) × (s ≡ x)
-unrefused None s x e = (refl, cc)
-unrefused (Some r) s x e = cc
 
 -- another last test
 pub or_last : (a b c : Option Refusal) → (b ≡ None → c ≡ None) → or_else a b ≡ None → or_else a c ≡ None

@@ -2,28 +2,21 @@
 use Rattle.std.proofs.Common.{List, ◌≡◌, ◌∙◌, ℕ, Bool, true, false, cond, not, [], ap, sym, subst, refl}
 use Rattle.std.specs.Prelude.{Option, Some, None, option_map, Result, Ok, Err, if◌then◌else◌}
 use Rattle.std.specs.FinMap as map
-use Rattle.lens_values.specs.SortedSet as set
-use Rattle.lens_values.specs.declared.value.Value.{Value}
-use Rattle.lens_specs.specs.Names.{Name, Names, one}
-use Rattle.lens_specs.specs.Columns.{Columns, names, fits_at, least_outside, without_column}
-use Rattle.lens_specs.specs.Dependencies.{AllEdges, Edge}
-use Rattle.lens_specs.specs.Lens.{base, drop, drop_sort}
-use Rattle.lens_specs.specs.Predicate.{Predicate, without_name}
-use Rattle.lens_specs.specs.Refusal.{Refusal, unknown_column, kind_clash, no_such_dependency, mixed_conjunct, default_refused, or_else, when, is_column, first_mixed, too_much}
-use Rattle.lens_specs.specs.Sort.{Sort}
-use Rattle.lens_specs.specs.TreeForm.{tree_without}
-use Rattle.lens_specs.specs.Typing.{sort, drop_fault, is_determined, default_holds, unless_refused}
+use Rattle.plain_values.specs.SortedSet as set
+use Rattle.plain_values.specs.declared.value.Value.{Value}
+use Rattle.lens_specs.specs.Common.{Name, Names, one, Columns, names, fits_at, least_outside, without_column, AllEdges, Edge, base, drop, drop_sort, Predicate, without_name, Refusal, unknown_column, kind_clash, or_else, when, is_column, first_mixed, too_much, Sort, tree_without, sort, drop_fault, is_determined, default_holds, unless_refused}
+use Rattle.lens_specs.specs.Refusal.{no_such_dependency, mixed_conjunct, default_refused}
 use Rattle.lens_laws.specs.Lenses.{IsTyped}
 use Rattle.lens_laws.specs.Passes.{IsSound}
 use Rattle.lens_laws.proofs.NodeLaws.{sound}
-use Rattle.lens_laws.proofs.Rules.{sort_is_typed}
+use Rattle.lens_laws.proofs.Rules.{sort_is_typed, unrefused}
 use Rattle.lens_types.specs.Drops.{column_fault, unfilled, unfilled_from}
 use Rattle.lens_types.specs.Faults.{IsRefused, fault_view, of_fault}
 use Rattle.lens_types.specs.Sorts.{sort_from, projection}
 use Rattle.lens_types.specs.declared.fault.Refused.{Refused}
 use Rattle.lens_types.specs.declared.fault.Refused.TheVariants as refused
 use Rattle.lens_types.specs.declared.fault.TypeFault.{TypeFault}
-use Rattle.lens_types.proofs.Parts.{unrefused, or_last, few_in_two}
+use Rattle.lens_types.proofs.Parts.{or_last, few_in_two}
 
 regrouped : (a b c d r : Option Refusal) → or_else a (or_else b (or_else c (or_else d r))) ≡ or_else (or_else a (or_else b (or_else c d))) r
 regrouped None None None d r = refl

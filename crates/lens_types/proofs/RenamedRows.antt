@@ -4,20 +4,18 @@ use Rattle.std.specs.Prelude.{Option, None}
 use Rattle.std.specs.FinMap as finmap
 use Rattle.std.specs.List.{filter_map, cons_option}
 use Rattle.std.specs.Ordering.{eq_by_cmp}
-use Rattle.lens_values.specs.Order.{bytes_cmp}
+use Rattle.std.proofs.lemmas.Bool.{or_left, or_right}
+use Rattle.plain_values.specs.Order.{bytes_cmp}
 use Rattle.lens_values.specs.Paired.{AreAsMany, paired}
-use Rattle.lens_values.specs.SortedSet as set
-use Rattle.lens_values.specs.declared.row.Row.{Row}
-use Rattle.lens_values.specs.declared.value.Value.{Value}
+use Rattle.plain_values.specs.SortedSet as set
+use Rattle.plain_values.specs.Row.{Row}
+use Rattle.plain_values.specs.declared.value.Value.{Value}
 use Rattle.lens_values.proofs.Cells.{all_made, all_many}
-use Rattle.fd_laws.proofs.Lists.{left_true, right_true}
 use Rattle.fd_laws.proofs.Names.{name_itself}
 use Rattle.fd_laws.proofs.Renames.{other_name}
 use Rattle.lens_laws.proofs.NodeFinds.{over_renamed}
 use Rattle.lens_laws.proofs.Rename.{at-renamed}
-use Rattle.lens_specs.specs.Names.{Name, Names, is_among}
-use Rattle.lens_specs.specs.Rename.{renamed, renamed_names, renamed_row}
-use Rattle.lens_specs.specs.Rows.{at}
+use Rattle.lens_specs.specs.Common.{Name, Names, is_among, renamed, renamed_names, renamed_row, at}
 use Rattle.lens_laws.specs.Finds.{IsOver}
 
 -- what a renamed row has at one of its names is what the row has at the old name
@@ -33,8 +31,8 @@ value_there A B r c i = at-renamed A B r c ∙ by_tests (eq_by_cmp bytes_cmp c B
 found_alike : {X : Type 0} (f g : Name → Option X) (ns : List Name) → ((c : Name) → is_among c ns ≡ true → f c ≡ g c) → filter_map f ns ≡ filter_map g ns
 found_alike f g [] h = refl
 found_alike f g (n ∷ ns) h =
-    ap (λ o. cons_option o (filter_map f ns)) (h n (left_true _ _ (name_itself n)))
-    ∙ ap (cons_option (g n)) (found_alike f g ns (λ c i. h c (right_true (eq_by_cmp bytes_cmp c n) _ i)))
+    ap (λ o. cons_option o (filter_map f ns)) (h n (or_left _ _ (name_itself n)))
+    ∙ ap (cons_option (g n)) (found_alike f g ns (λ c i. h c (or_right (eq_by_cmp bytes_cmp c n) _ i)))
 
 values_are : (A B : Name) (r : Row) (C : Names) (vs : List Value) → IsOver C (renamed_row A B r) → vs ≡ filter_map (λ c. at r (renamed B A c)) (set.items C) → vs ≡ filter_map (finmap.get (renamed_row A B r)) (set.items C)
 values_are A B r C vs over is =

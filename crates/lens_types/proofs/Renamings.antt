@@ -1,39 +1,30 @@
 -- The sort of a rename, by what its parts are refused for.
 use Rattle.std.proofs.Common.{◌≡◌, ◌∙◌, ℕ, Bool, true, false, cond, not, List, [], ◌∷◌, map, ap, sym, subst, refl, inl, inr, is_some}
 use Rattle.std.specs.Prelude.{Option, Some, None, Ok}
-use Rattle.std.proofs.lemmas.Bool.{cases_Bool, true≢false}
+use Rattle.std.proofs.lemmas.Bool.{cases_Bool, true≢false, false_from_ne_true}
 use Rattle.std.specs.FinMap as finmap
 use Rattle.std.specs.Ordering.{eq_by_cmp}
-use Rattle.lens_values.specs.Order.{bytes_cmp}
-use Rattle.lens_values.specs.SortedSet as set
-use Rattle.lens_values.specs.declared.value.Kind.{Kind}
-use Rattle.fd_laws.proofs.Columns.{names-get}
-use Rattle.fd_laws.proofs.Lists.{false_from, absurd_false}
-use Rattle.fd_laws.proofs.Names.{name_total, name_exact, name_itself, tied_name}
-use Rattle.fd_laws.proofs.Trees.{each_edge}
-use Rattle.lens_specs.specs.Columns.{Columns, names}
-use Rattle.lens_specs.specs.Dependencies.{AllEdges, Edge}
-use Rattle.lens_specs.specs.Lens.{base, rename, rename_sort}
-use Rattle.lens_specs.specs.Names.{Name, Within}
-use Rattle.lens_specs.specs.Predicate.{Predicate}
-use Rattle.lens_specs.specs.Refusal.{unknown_column, column_taken, or_else, when, is_column, too_much}
-use Rattle.lens_specs.specs.Rename.{renamed, renamed_columns, renamed_predicate, renamed_tree}
-use Rattle.lens_specs.specs.Sort.{Sort}
-use Rattle.lens_specs.specs.Typing.{sort, rename_fault, unless_refused}
+use Rattle.plain_values.specs.Order.{bytes_cmp}
+use Rattle.plain_values.specs.SortedSet as set
+use Rattle.plain_values.specs.declared.value.Kind.{Kind}
+use Rattle.plain_values.proofs.Lists.{absurd_false}
+use Rattle.fd_laws.proofs.Common.{name_total, name_exact, name_itself, tied_name, each_edge}
+use Rattle.lens_specs.specs.Common.{Columns, names, AllEdges, Edge, base, rename, rename_sort, Name, Within, Predicate, unknown_column, or_else, when, is_column, too_much, renamed, renamed_columns, renamed_predicate, renamed_tree, Sort, sort, rename_fault, unless_refused}
+use Rattle.lens_specs.specs.Refusal.{column_taken}
 use Rattle.lens_laws.specs.Lenses.{IsTyped}
 use Rattle.lens_laws.specs.Passes.{IsSound}
 use Rattle.lens_laws.proofs.NodeLaws.{sound}
 use Rattle.lens_laws.proofs.Rename.{get-renamed}
-use Rattle.lens_laws.proofs.Rules.{sort_is_typed}
+use Rattle.lens_laws.proofs.Rules.{sort_is_typed, neither, unrefused}
 use Rattle.lens_types.specs.Faults.{IsRefused, fault_view, of_fault}
 use Rattle.lens_types.specs.Sorts.{sort_from, renaming}
 use Rattle.lens_types.specs.declared.fault.TypeFault.{TypeFault}
-use Rattle.lens_types.proofs.Parts.{neither, unrefused, or_last, few_in_two}
+use Rattle.lens_types.proofs.Parts.{or_last, few_in_two}
 
 -- ---- entries with a new name
 
 swapped : (x y : Name) → eq_by_cmp bytes_cmp x y ≡ false → eq_by_cmp bytes_cmp y x ≡ false
-swapped x y e = false_from _ (λ t. absurd_false _ (ap (eq_by_cmp bytes_cmp x) (tied_name y x t) ∙ name_itself x) e)
+swapped x y e = false_from_ne_true _ (λ t. absurd_false _ (ap (eq_by_cmp bytes_cmp x) (tied_name y x t) ∙ name_itself x) e)
 
 module _ {X : Type 0} (A B : Name) where
   -- the entry with the new name
@@ -136,13 +127,10 @@ no_kind_at : (o : Option Kind) → is_some o ≡ false → o ≡ None
 no_kind_at None e = refl
 no_kind_at (Some k) e = absurd (true≢false e)
 
-pub no_column : (U : Columns) (B : Name) → set.contains (names U) B ≡ false → finmap.get U B ≡ None
-no_column U B o = no_kind_at (finmap.get U B) (sym (names-get U B) ∙ o)
-
 -- and no edge has it
 abbrev pub Lacks : Name → Edge → Type 0
 Lacks B e = (set.contains e.left B ≡ false) × (set.contains e.right B ≡ false)
 
 pub edges_lack : (s : Sort) (B : Name) → IsSound s → set.contains (names s.columns) B ≡ false → AllEdges (Lacks B) s.tree
 edges_lack s B h o = each_edge (λ e. Within e.left (names s.columns) × Within e.right (names s.columns)) (Lacks B)
-    (λ e w. (false_from _ (λ i. absurd_false _ (w.0 B i) o), false_from _ (λ i. absurd_false _ (w.1 B i) o))) s.tree h.within
+    (λ e w. (false_from_ne_true _ (λ i. absurd_false _ (w.0 B i) o), false_from_ne_true _ (λ i. absurd_false _ (w.1 B i) o))) s.tree h.within

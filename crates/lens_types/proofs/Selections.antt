@@ -1,15 +1,11 @@
 -- The sort of a selection, by what its parts are refused for.
 use Rattle.std.proofs.Common.{◌≡◌, ◌∙◌, ℕ, ◌++◌, ap, sym, subst, refl}
 use Rattle.std.specs.Prelude.{[], Option, Some, None, option_map, Ok, Err}
-use Rattle.lens_specs.specs.Names.{Name}
-use Rattle.lens_specs.specs.Lens.{base, select, select_sort}
-use Rattle.lens_specs.specs.Predicate.{Predicate}
-use Rattle.lens_specs.specs.Refusal.{Refusal, source_mentions_output, or_else, unknown_name, unlike_kinds, unsteady, too_much}
-use Rattle.lens_specs.specs.Sort.{Sort}
-use Rattle.lens_specs.specs.Typing.{sort, select_fault, unless_refused}
+use Rattle.lens_specs.specs.Common.{Name, base, select, select_sort, Predicate, Refusal, or_else, unknown_name, unlike_kinds, unsteady, too_much, Sort, sort, select_fault, unless_refused}
+use Rattle.lens_specs.specs.Refusal.{source_mentions_output}
 use Rattle.lens_laws.specs.Passes.{IsSound}
 use Rattle.lens_laws.proofs.NodeLaws.{sound}
-use Rattle.lens_laws.proofs.Rules.{sort_is_typed}
+use Rattle.lens_laws.proofs.Rules.{sort_is_typed, unrefused}
 use Rattle.lens_pred.specs.Checked.{checked, fault_first}
 use Rattle.lens_pred.specs.declared.checking.PredFault.{PredFault}
 use Rattle.lens_pred.specs.declared.checking.PredFault.TheVariants as pred_fault
@@ -17,7 +13,7 @@ use Rattle.lens_types.specs.Faults.{IsRefused, fault_view, of_fault, of_pred}
 use Rattle.lens_types.specs.Sorts.{sort_from, selection}
 use Rattle.lens_types.specs.declared.fault.TypeFault.{TypeFault}
 use Rattle.lens_types.specs.declared.fault.TypeFault.TheVariants as type_fault
-use Rattle.lens_types.proofs.Parts.{unrefused, or_last, few_in_two}
+use Rattle.lens_types.proofs.Parts.{or_last, few_in_two}
 use Rattle.lens_types.proofs.Tables.{passed}
 
 -- what does not suit the columns is refused first

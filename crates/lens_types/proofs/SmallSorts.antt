@@ -3,21 +3,14 @@ use Rattle.std.proofs.Common.{◌≡◌, ◌≤◌, ℕ, Bool, true, false, not,
 use Rattle.std.specs.Prelude.{Option, Some, None, option_map, Result, Ok, Err, nat_le}
 use Rattle.std.specs.FinMap as finmap
 use Rattle.std.proofs.lemmas.Bool.Decides.{nat_tests}
-use Rattle.lens_values.specs.declared.value.Value.{Value}
-use Rattle.lens_specs.specs.Columns.{Columns, names, fits_at, kinds_differ, least_outside}
-use Rattle.lens_specs.specs.Dependencies.{Edge}
-use Rattle.lens_specs.specs.Lens.{base, rename, join_sort, select_sort, drop_sort, rename_sort}
-use Rattle.lens_specs.specs.Names.{Name, Names}
-use Rattle.lens_specs.specs.Predicate.{Predicate}
+use Rattle.plain_values.specs.declared.value.Value.{Value}
+use Rattle.lens_specs.specs.Common.{Columns, names, fits_at, kinds_differ, least_outside, Edge, base, rename, join_sort, select_sort, drop_sort, rename_sort, Name, Names, Predicate, Refusal, or_else, when, is_column, first_mixed, unsteady, unknown_name, unlike_kinds, too_much, Sort, TreeForm, tree_of, select_fault, drop_fault, rename_fault, join_fault, is_determined, default_holds, undetermined, table_sort_with, table_sort}
 use Rattle.lens_specs.specs.Refusal as refusal
-use Rattle.lens_specs.specs.Refusal.{Refusal, or_else, when, is_column, first_mixed, unsteady, unknown_name, unlike_kinds, too_much}
-use Rattle.lens_specs.specs.Sort.{Sort}
 use Rattle.lens_specs.specs.TreeForm as form
-use Rattle.lens_specs.specs.TreeForm.{TreeForm, tree_of}
-use Rattle.lens_specs.specs.Typing.{select_fault, drop_fault, rename_fault, join_fault, form_fault, is_determined, default_holds, undetermined, table_sort_with, table_sort}
+use Rattle.lens_specs.specs.Typing.{form_fault}
 use Rattle.lens_types.specs.Sorts.{natural_join, selection, projection, renaming, sort_from}
 use Rattle.lens_laws.proofs.SmallSorts.{sort_is_small}
-use Rattle.lens_types.proofs.Parts.{neither, unrefused}
+use Rattle.lens_laws.proofs.Rules.{neither, unrefused}
 use Rattle.lens_types.proofs.Renamings.{two_nodes, renamed_once}
 
 -- it has at most 64 columns

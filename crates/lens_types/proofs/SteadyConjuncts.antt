@@ -1,13 +1,10 @@
 -- The least output that a conjunct mentions which is not steady, as the code finds it.
 use Rattle.std.proofs.Common.{◌≡◌, not, List, ap, ◌∙◌}
 use Rattle.std.specs.Prelude.{filter, find}
-use Rattle.lens_values.specs.SortedSet as set
+use Rattle.plain_values.specs.SortedSet as set
 use Rattle.lens_laws.proofs.Predicates.{mentioned_is}
-use Rattle.lens_specs.specs.Dependencies.{Edge}
-use Rattle.lens_specs.specs.Names.{Name, Names}
-use Rattle.lens_specs.specs.Predicate.{Predicate, names_of}
-use Rattle.lens_specs.specs.Refusal.{is_steady, unsteady}
-use Rattle.lens_specs.specs.TreeForm.{outputs}
+use Rattle.lens_specs.specs.Common.{Edge, Name, Names, Predicate, names_of, unsteady, outputs}
+use Rattle.lens_specs.specs.Refusal.{is_steady}
 
 -- the conjuncts that are not steady
 abbrev pub others : List Edge → Predicate → Predicate

@@ -1,16 +1,9 @@
 -- The sort of a table, by what its parts are refused for.
 use Rattle.std.proofs.Common.{◌≡◌, ◌∙◌, List, ap, sym, refl}
 use Rattle.std.specs.Prelude.{◌≢◌, Option, Some, None, option_map, Result, Ok, Err}
-use Rattle.lens_specs.specs.Names.{Name, Names}
-use Rattle.lens_specs.specs.Columns.{Columns}
-use Rattle.lens_specs.specs.Dependencies.{Edge}
-use Rattle.lens_specs.specs.Predicate.{Predicate}
+use Rattle.lens_specs.specs.Common.{Name, Names, Columns, Edge, Predicate, Refusal, unknown_column, or_else, unknown_name, unlike_kinds, too_much, Sort, TreeForm, tree_of, table_sort, table_sort_with, unknown_in, unless_refused}
 use Rattle.lens_specs.specs.Refusal as refusal
-use Rattle.lens_specs.specs.Refusal.{Refusal, unknown_column, or_else, unknown_name, unlike_kinds, too_much}
-use Rattle.lens_specs.specs.Sort.{Sort}
 use Rattle.lens_specs.specs.TreeForm as form
-use Rattle.lens_specs.specs.TreeForm.{TreeForm, tree_of}
-use Rattle.lens_specs.specs.Typing.{table_sort, table_sort_with, unknown_in, unless_refused}
 use Rattle.fd_tree.specs.Form.{form_of}
 use Rattle.fd_tree.specs.declared.fault.TreeFault.{TreeFault}
 use Rattle.fd_tree.specs.declared.fault.TreeFault.TheVariants as tree_fault

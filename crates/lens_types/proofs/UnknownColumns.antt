@@ -3,13 +3,9 @@ use Rattle.std.proofs.Common.{◌≡◌, ◌∙◌, ◌+◌, ◌<◌, ℕ, suc, 
 use Rattle.std.proofs.Math.Seq.{drop-cons}
 use Rattle.std.specs.Prelude.{Option, Some, None, is_some}
 use Rattle.std.specs.FinMap as finmap
-use Rattle.lens_values.specs.SortedSet as set
+use Rattle.plain_values.specs.SortedSet as set
 use Rattle.fd_laws.proofs.Columns.{names-get}
-use Rattle.lens_specs.specs.Names.{Name}
-use Rattle.lens_specs.specs.Columns.{Columns, names}
-use Rattle.lens_specs.specs.Dependencies.{Edge}
-use Rattle.lens_specs.specs.Refusal.{Refusal, or_else}
-use Rattle.lens_specs.specs.Typing.{unknown_in}
+use Rattle.lens_specs.specs.Common.{Name, Columns, names, Edge, Refusal, or_else, unknown_in}
 use Rattle.lens_types.specs.Unknown.{unknown_of_edge}
 
 -- a column is there where it has a kind

@@ -1,13 +1,9 @@
 -- What a drop is refused for by the columns and the tree alone, and by the predicate.
 use Rattle.std.specs.Prelude.{ℕ, List, not, Option, Some, None, option_map, Result, Ok, Err, if◌then◌else◌}
 use Rattle.std.specs.FinMap as map
-use Rattle.lens_values.specs.declared.value.Value.{Value}
-use Rattle.lens_specs.specs.Columns.{Columns, names, fits_at, least_outside}
-use Rattle.lens_specs.specs.Dependencies.{Edge}
-use Rattle.lens_specs.specs.Names.{Name, Names}
-use Rattle.lens_specs.specs.Predicate.{Predicate, without_name}
-use Rattle.lens_specs.specs.Refusal.{Refusal, unknown_column, kind_clash, no_such_dependency, mixed_conjunct, default_refused, or_else, when, is_column, first_mixed}
-use Rattle.lens_specs.specs.Typing.{is_determined, default_holds}
+use Rattle.plain_values.specs.declared.value.Value.{Value}
+use Rattle.lens_specs.specs.Common.{Columns, names, fits_at, least_outside, Edge, Name, Names, Predicate, without_name, Refusal, unknown_column, kind_clash, or_else, when, is_column, first_mixed, is_determined, default_holds}
+use Rattle.lens_specs.specs.Refusal.{no_such_dependency, mixed_conjunct, default_refused}
 
 -- an unknown column, a value that does not fit, or columns that do not determine the one that is dropped
 abbrev pub column_fault : Columns → List Edge → Name → Names → Value → Option Refusal

@@ -1,10 +1,7 @@
 -- What a join is refused for by the columns of its sides, and by its sides without their sizes.
 use Rattle.std.specs.Prelude.{Option, Some, None, option_map, Result, Ok, Err}
-use Rattle.lens_specs.specs.Columns.{Columns, both_columns, kinds_differ}
-use Rattle.lens_specs.specs.Names.{Name}
-use Rattle.lens_specs.specs.Refusal.{Refusal, left_side, right_side, kind_clash, not_determined, side_mentions_output, table_twice, or_else, unsteady}
-use Rattle.lens_specs.specs.Sort.{Sort}
-use Rattle.lens_specs.specs.Typing.{undetermined}
+use Rattle.lens_specs.specs.Common.{Columns, both_columns, kinds_differ, Name, Refusal, kind_clash, or_else, unsteady, Sort, undetermined}
+use Rattle.lens_specs.specs.Refusal.{left_side, right_side, not_determined, side_mentions_output, table_twice}
 
 -- the columns of both, unless a shared one has two kinds
 abbrev pub columns_from : Option Name → Columns → Columns → Result Columns Refusal

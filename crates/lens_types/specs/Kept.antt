@@ -1,7 +1,6 @@
 -- What is known of a lens, its sort and its size; and when a call gives the lens that is asked for.
 use Rattle.std.specs.Prelude.{◌≡◌, ℕ, ◌≤◌, IsOk, Result, Ok, Err}
-use Rattle.lens_specs.specs.Sort.{Sort}
-use Rattle.lens_specs.specs.Lens.{Lens, nodes_of}
+use Rattle.lens_specs.specs.Common.{Sort, Lens, nodes_of}
 use Rattle.lens_specs.specs.Typing as typing
 use Rattle.lens_laws.specs.Rules.{BasesAreSound}
 use Rattle.lens_types.specs.Faults.{IsRefused}

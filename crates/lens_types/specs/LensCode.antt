@@ -3,14 +3,12 @@ use Rattle.std.specs.Prelude.{◌≡◌, List, [], ◌∷◌, ◌++◌, ◌⊎�
 use Rattle.std.proofs.Common.{sym, ap, ◌∙◌, append_assoc, append-nil, inl, inr}
 use Rattle.std.specs.Coded.{Coded, code_by, coded_ℕ, coded_list, coded×, coded⊎}
 use Rattle.std.specs.FinMap as map
-use Rattle.lens_values.specs.contracts.value.Value as contract
-use Rattle.lens_values.specs.declared.value.Value.{Value}
-use Rattle.lens_values.specs.declared.join_kind.JoinKind.{JoinKind}
-use Rattle.lens_values.specs.contracts.join_kind.JoinKind as kinds
-use Rattle.lens_specs.specs.Names.{Name, Names}
-use Rattle.lens_specs.specs.Predicate.{Predicate}
-use Rattle.lens_specs.specs.Sort.{Sort}
-use Rattle.lens_specs.specs.Lens.{Lens, base, select, drop, rename, join}
+use Rattle.plain_values.specs.contracts.value.Value as contract
+use Rattle.plain_values.specs.declared.value.Value.{Value}
+use Rattle.plain_values.specs.declared.join_kind.JoinKind.{JoinKind}
+use Rattle.plain_values.specs.contracts.join_kind.JoinKind as kinds
+use Rattle.lens_specs.specs.Common.{Name, Names, Predicate, Sort, Lens, base, select, drop, rename}
+use Rattle.lens_specs.specs.Lens.{join}
 use Rattle.lens_pred.specs.Code.{formula_code}
 use Rattle.fd_closure.specs.Sides.{coded_names}
 use Rattle.lens_types.specs.SortCode.{sort_code}

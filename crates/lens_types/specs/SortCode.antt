@@ -2,11 +2,8 @@
 use Rattle.std.specs.Prelude.{List, refl}
 use Rattle.std.specs.Coded.{Coded, code_by, coded×, coded_list, coded_ℕ}
 use Rattle.std.specs.FinMap as map
-use Rattle.lens_values.specs.contracts.value.Kind as contract
-use Rattle.lens_specs.specs.Columns.{Columns}
-use Rattle.lens_specs.specs.Dependencies.{Edge}
-use Rattle.lens_specs.specs.Predicate.{Predicate}
-use Rattle.lens_specs.specs.Sort.{Sort}
+use Rattle.plain_values.specs.contracts.value.Kind as contract
+use Rattle.lens_specs.specs.Common.{Columns, Edge, Predicate, Sort}
 use Rattle.fd_closure.specs.Sides.{coded_edge}
 use Rattle.lens_pred.specs.Code.{formula_code}
 

@@ -1,14 +1,7 @@
 -- A sort and its parts, and the sorts of a selection, of a projection, of a rename and of a join.
 use Rattle.std.specs.Prelude.{ℕ, List, Option, Result}
-use Rattle.lens_values.specs.declared.value.Value.{Value}
-use Rattle.lens_specs.specs.Columns.{Columns}
-use Rattle.lens_specs.specs.Dependencies.{Edge}
-use Rattle.lens_specs.specs.Names.{Name, Names}
-use Rattle.lens_specs.specs.Predicate.{Predicate}
-use Rattle.lens_specs.specs.Sort.{Sort}
-use Rattle.lens_specs.specs.Lens.{select_sort, drop_sort, rename_sort, join_sort}
-use Rattle.lens_specs.specs.Refusal.{Refusal}
-use Rattle.lens_specs.specs.Typing.{select_fault, drop_fault, rename_fault, join_fault, unless_refused}
+use Rattle.plain_values.specs.declared.value.Value.{Value}
+use Rattle.lens_specs.specs.Common.{Columns, Edge, Name, Names, Predicate, Sort, select_sort, drop_sort, rename_sort, join_sort, Refusal, select_fault, drop_fault, rename_fault, join_fault, unless_refused}
 
 -- the sort of these parts
 abbrev pub sort_from : Columns → Predicate → List Edge → Sort

@@ -1,9 +1,6 @@
 -- The unknown column of one dependency, and of a predicate by what is said of it.
 use Rattle.std.specs.Prelude.{Option, Some, None, option_map, Result, Ok, Err}
-use Rattle.lens_specs.specs.Columns.{Columns, names, least_outside}
-use Rattle.lens_specs.specs.Dependencies.{Edge}
-use Rattle.lens_specs.specs.Names.{Name}
-use Rattle.lens_specs.specs.Refusal.{Refusal, or_else, unknown_column}
+use Rattle.lens_specs.specs.Common.{Columns, names, least_outside, Edge, Name, Refusal, or_else, unknown_column}
 use Rattle.lens_pred.specs.declared.checking.PredFault.{PredFault}
 use Rattle.lens_pred.specs.declared.checking.PredFault.TheVariants.{UnknownColumn, PredKind}
 

@@ -1,6 +1,6 @@
 //! Names that are among others.
 ghost use Rattle.std.specs.Prelude.{◌≡◌, find, option_copied};
-ghost use Rattle.lens_values.specs.SortedSet as set;
+ghost use Rattle.plain_values.specs.SortedSet as set;
 
 use lens_values::{Name, Names};
 

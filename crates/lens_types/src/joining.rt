@@ -2,7 +2,7 @@
 //! columns determine, what each side's predicate mentions, and the tables.
 ghost use Rattle.std.specs.Prelude.{◌≡◌, ◌≤◌, IfOk, find, not, option_copied, option_map};
 ghost use Rattle.std.specs.FinMap as finmap;
-ghost use Rattle.lens_values.specs.SortedSet as set;
+ghost use Rattle.plain_values.specs.SortedSet as set;
 ghost use Rattle.lens_specs.specs.Columns.{least_outside};
 ghost use Rattle.lens_specs.specs.Typing.{undetermined};
 ghost use Rattle.lens_laws.specs.Passes.{IsSound};

@@ -1,7 +1,7 @@
 //! Lenses to which the rules give a sort.
 ghost use Rattle.std.specs.Prelude.{◌≡◌, ◌≤◌, IfOk, Ok};
-ghost use Rattle.lens_values.specs.declared.join_kind.JoinKind.{JoinKind as Kinds};
-ghost use Rattle.lens_values.specs.declared.join_kind.JoinKind.TheVariants.{DeleteLeft};
+ghost use Rattle.plain_values.specs.declared.join_kind.JoinKind.{JoinKind as Kinds};
+ghost use Rattle.plain_values.specs.declared.join_kind.JoinKind.TheVariants.{DeleteLeft};
 ghost use Rattle.lens_specs.specs.Lens as spec;
 ghost use Rattle.lens_specs.specs.Lens.{nodes_of, tables_of};
 ghost use Rattle.lens_specs.specs.Typing.{shared_table, sort as sort_given};

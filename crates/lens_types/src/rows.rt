@@ -1,7 +1,7 @@
 //! Rows with a new name for one of their columns.
 ghost use Rattle.std.specs.Prelude.{◌≡◌, IfOk, is_some, map, true, false};
 ghost use Rattle.std.specs.List.{Contains, filter_map};
-ghost use Rattle.lens_values.specs.SortedSet as set;
+ghost use Rattle.plain_values.specs.SortedSet as set;
 ghost use Rattle.lens_values.specs.declared.row.Row as spec;
 ghost use Rattle.lens_specs.specs.Relation.{has, image};
 ghost use Rattle.lens_specs.specs.Rename.{renamed, renamed_row};

@@ -1,7 +1,7 @@
 //! Conjuncts that a merge along a tree keeps.
 ghost use Rattle.std.specs.Prelude.{◌≡◌, ◌++◌, IfOk, OnOk, filter, find, not};
 ghost use Rattle.std.specs.List.{list_all, list_any};
-ghost use Rattle.lens_values.specs.SortedSet as set;
+ghost use Rattle.plain_values.specs.SortedSet as set;
 ghost use Rattle.lens_specs.specs.Predicate.{names_in, names_of};
 ghost use Rattle.lens_specs.specs.Refusal.{is_steady, unsteady};
 ghost use Rattle.lens_specs.specs.TreeForm.{outputs};

@@ -1,6 +1,6 @@
 //! Unknown columns.
 ghost use Rattle.std.specs.Prelude.{◌≡◌, find, not, option_copied, option_map};
-ghost use Rattle.lens_values.specs.SortedSet as set;
+ghost use Rattle.plain_values.specs.SortedSet as set;
 ghost use Rattle.lens_specs.specs.Columns.{least_outside, names};
 ghost use Rattle.lens_specs.specs.Refusal.{is_column, or_else, unknown_column};
 ghost use Rattle.lens_specs.specs.Typing.{unknown_in as unknown_of_all};

@@ -3,13 +3,13 @@ use Rattle.std.proofs.Common.{◌≡◌, ℕ, ◌<◌, ◌≤◌, ◌+◌, List,
 use Rattle.std.specs.Prelude.{◌&&◌, ◌||◌, ◌==◌}
 use Rattle.std.specs.declared.cmp.Ordering.{Ordering}
 use Rattle.std.specs.declared.cmp.Ordering.TheVariants.{Less, Equal, Greater}
-use Rattle.std.specs.Ordering.{eq_by_cmp, is_eq, is_lt}
+use Rattle.std.specs.Ordering.{eq_by_cmp, is_eq}
 use Rattle.std.specs.List.{AllByRecursion, list_all}
 use Rattle.std.specs.List.Sorted.{IsStrictlySortedBy}
 use Rattle.std.specs.Cmp.{IsTotalOrder, tied_back}
 use Rattle.std.proofs.lemmas.Bool.{eqb-true, eq-eqb, true≢false}
 use Rattle.std.proofs.lemmas.List.{drop_more, length-drop}
-use Rattle.lens_values.specs.Keys.{is_among}
+use Rattle.plain_values.specs.Keys.{is_among}
 use Rattle.lens_values.proofs.Walks.{any_none, apart, under}
 
 module _ {K : Type 0} (R : K → K → Ordering) where
@@ -101,8 +101,3 @@ module _ {K : Type 0} (R : K → K → Ordering) (xs ys : List K) where
       by false e =
           let other : i ≡ length xs → ⊥ = λ same. true≢false (sym (eq-eqb i (length xs) same) ∙ e) in
           sym (ap (meets_all R (drop i xs)) (drop_all ys j m) ∙ some_left (drop i xs) (omega (arith, length-drop i xs, other)))
-
-pub is_less : (r : Ordering) → is_lt r ≡ true → r ≡ Less
-is_less Less e = refl
-is_less Equal e = cc
-is_less Greater e = cc

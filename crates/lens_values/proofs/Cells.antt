@@ -13,15 +13,15 @@ use Rattle.std.proofs.lemmas.List.{take_more}
 use Rattle.std.proofs.lemmas.List.Elements.{filter_map-append}
 use Rattle.std.proofs.lemmas.Option.{slice_get_past, slice_get-get_or}
 use Rattle.std.proofs.lemmas.Slice.Zip.{firsts-zip, seconds-zip}
-use Rattle.lens_values.specs.Names.{Names}
-use Rattle.lens_values.specs.Order.{bytes_cmp}
+use Rattle.plain_values.specs.Names.{Names}
+use Rattle.plain_values.specs.Order.{bytes_cmp}
 use Rattle.lens_values.specs.Paired.{AreAsMany, paired}
-use Rattle.lens_values.specs.Part.{override, restrict}
-use Rattle.lens_values.specs.SortedMap.{keys_of, values_of, entries-from_entries}
-use Rattle.lens_values.specs.SortedSet as set
-use Rattle.lens_values.proofs.Maps.{exact, is_tie}
-use Rattle.lens_values.proofs.NamesLemmas.{both_ways}
-use Rattle.lens_values.proofs.Sets.{items_rise, items-filter}
+use Rattle.plain_values.specs.Part.{override, restrict}
+use Rattle.plain_values.specs.SortedMap.{keys_of, values_of, entries-from_entries}
+use Rattle.plain_values.specs.SortedSet as set
+use Rattle.plain_values.proofs.Maps.{exact}
+use Rattle.plain_values.proofs.Sets.{items_rise, items-filter}
+use Rattle.plain_values.proofs.Tests.{is_tie, same_bool}
 
 abbrev MapOf : Type 0 → Type 0
 MapOf X = finmap.FinMap bytes_cmp X
@@ -298,6 +298,6 @@ module _ {X : Type 0} where
       ∙ ap (λ b. b && is_some (finmap.get (override m n) q)) (sym (set.contains-items L q)) in
       let both : is_some (finmap.get (override m n) q) ≡ (set.contains C q || set.contains D q) =
       sym (union_knows C D m n c d q) ∙ set.contains-union nat_list_cmp_total C D q in
-      both_ways _ _
+      same_bool _ _
       (λ t. (and_parts _ _ (sym some ∙ t)).1)
       (λ t. within_either (set.contains C q) (set.contains D q) (set.contains L q) (set.is_subset-contains nat_list_cmp_total C L above q) (set.is_subset-contains nat_list_cmp_total D L below q) (sym both ∙ t))

@@ -1,6 +1,6 @@
 -- The place that a binary search finds in a strictly rising list, and a member put there.
 use Rattle.std.proofs.lemmas.Bool.{cases_lt}
-use Rattle.std.proofs.Common.{inl, inr, ◌≡◌, ℕ, ◌+◌, ◌-◌, ◌<◌, ◌≤◌, List, [], ◌∷◌, length, get_or, ap, sym, subst, ◌∙◌, refl, Bool, true, false, zero, suc, arith, Result, Ok, Err}
+use Rattle.std.proofs.Common.{inl, inr, ◌≡◌, ℕ, ◌+◌, ◌-◌, ◌<◌, ◌≤◌, List, [], ◌∷◌, length, get_or, ap, sym, subst, ◌∙◌, refl, Bool, true, false, zero, suc, arith, Result, Ok, Err, map-id}
 use Rattle.std.specs.Prelude.{◌||◌, is_ok, Some, None, map, position, cond}
 use Rattle.std.specs.declared.cmp.Ordering.{Ordering}
 use Rattle.std.specs.declared.cmp.Ordering.TheVariants.{Less, Equal, Greater}
@@ -13,20 +13,15 @@ use Rattle.std.specs.FinMap.{IsAntisymmetric, find}
 use Rattle.std.proofs.lemmas.Iterator.Adapters.{position_from-zero}
 use Rattle.std.proofs.lemmas.List.Sorted.{searchable_from_sorted}
 use Rattle.std.proofs.lemmas.Map.Keys.{Less-from_sorted}
-use Rattle.lens_values.specs.SortedSet as set
-use Rattle.lens_values.specs.Keys.{KeysRise, is_among}
-use Rattle.lens_values.specs.SortedMap.{keys_of}
-use Rattle.lens_values.proofs.Sets.{map-id}
+use Rattle.plain_values.specs.SortedSet as set
+use Rattle.plain_values.specs.Keys.{KeysRise, is_among}
+use Rattle.plain_values.specs.SortedMap.{keys_of}
+use Rattle.plain_values.proofs.Tests.{or_swap}
 use Rattle.lens_values.proofs.Walks.{any_none, under, apart, below_all}
 
 or-true : (a : Bool) → (a || true) ≡ true
 or-true true = refl
 or-true false = refl
-
-swap : (a b c : Bool) → (a || (b || c)) ≡ (b || (a || c))
-swap true true c = refl
-swap true false c = refl
-swap false b c = refl
 
 all_of : {K : Type 0} (P : K → Type 0) (xs : List K) → ((k : ℕ) (d : K) → k < length xs → P (get_or xs k d)) → AllByRecursion P xs
 all_of P [] h = tt
@@ -42,7 +37,7 @@ any_insert : {K : Type 0} (t : K → Bool) (xs : List K) (i : ℕ) (q : K) → l
 any_insert t [] zero q = refl
 any_insert t [] (suc i) q = refl
 any_insert t (x ∷ xs) zero q = refl
-any_insert t (x ∷ xs) (suc i) q = ap (λ b. t x || b) (any_insert t xs i q) ∙ swap (t x) (t q) (list_any t xs)
+any_insert t (x ∷ xs) (suc i) q = ap (λ b. t x || b) (any_insert t xs i q) ∙ or_swap (t x) (t q) (list_any t xs)
 
 module _ {K : Type 0} {R : K → K → Ordering} (o : IsTotalOrder R) where
   present : (xs : List K) (q : K) (i : ℕ) → i < length xs → HoldsAt (λ y. R y q ≡ Equal) xs i → is_among R xs q ≡ true

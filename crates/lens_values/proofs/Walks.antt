@@ -1,5 +1,5 @@
 -- Walks along two strictly rising lists.
-use Rattle.std.proofs.Common.{◌≡◌, ℕ, ◌+◌, ◌<◌, ◌≤◌, ◌-◌, List, [], ◌∷◌, ◌++◌, length, take, drop, length-drop, get_or, ap, sym, subst, ◌∙◌, refl, Bool, true, false, cond, zero, suc, add-one, arith, append_assoc, map}
+use Rattle.std.proofs.Common.{◌≡◌, ℕ, ◌+◌, ◌<◌, ◌≤◌, ◌-◌, List, [], ◌∷◌, ◌++◌, length, take, drop, get_or, ap, sym, subst, ◌∙◌, refl, Bool, true, false, cond, zero, suc, add-one, arith, append_assoc, map, append-nil}
 use Rattle.std.proofs.Math.Seq.{drop-cons}
 use Rattle.std.specs.Prelude.{not, filter, Option, Some, find, ◌||◌}
 use Rattle.std.specs.declared.cmp.Ordering.{Ordering}
@@ -8,7 +8,7 @@ use Rattle.std.specs.Ordering.{match_ordering, eq_by_cmp, is_eq, ordering_revers
 use Rattle.std.specs.List.{AllByRecursion, list_any}
 use Rattle.std.specs.List.Sorted.{IsStrictlySortedBy}
 use Rattle.std.specs.Cmp.{IsTotalOrder, alike_right, tied_back, on_total}
-use Rattle.lens_values.specs.Keys.{KeysRise, first_with, is_among}
+use Rattle.plain_values.specs.Keys.{KeysRise, first_with, is_among}
 
 All-map : {K : Type 0} {P Q : K → Type 0} → ((x : K) → P x → Q x) → (xs : List K) → AllByRecursion P xs → AllByRecursion Q xs
 All-map f [] a = tt
@@ -29,10 +29,6 @@ any_none test (x ∷ xs) a = λ i. a.0 i || any_none test xs a.1 i
 filter_alike : {K : Type 0} (test other : K → Bool) (xs : List K) → AllByRecursion (λ x. test x ≡ other x) xs → filter test xs ≡ filter other xs
 filter_alike test other [] a = refl
 filter_alike test other (x ∷ xs) a = λ i. cond (a.0 i) (x ∷ filter_alike test other xs a.1 i) (filter_alike test other xs a.1 i)
-
-pub append-nil : {K : Type 0} (xs : List K) → xs ++ [] ≡ xs
-append-nil [] = refl
-append-nil (x ∷ xs) = ap (λ l. x ∷ l) (append-nil xs)
 
 -- a member that fails the test changes nothing in what is found
 find-without : {K : Type 0} (test : K → Bool) (xs : List K) (y : K) (ys : List K) → test y ≡ false → find test (xs ++ y ∷ ys) ≡ find test (xs ++ ys)
@@ -60,10 +56,6 @@ take_all [] zero l = refl
 take_all [] (suc n) l = refl
 take_all (x ∷ xs) zero l = absurd (omega arith)
 take_all (x ∷ xs) (suc n) l = ap (λ l. x ∷ l) (take_all xs n (omega arith))
-
--- the part of a list from i on
-pub part_is : {K : Type 0} (xs : List K) (i : ℕ) → take (length xs - i) (drop i xs) ≡ drop i xs
-part_is xs i = take_all (drop i xs) (length xs - i) (omega (arith, length-drop i xs))
 
 at_place : {K : Type 0} (xs : List K) (i : ℕ) (x : K) → i < length xs → x ≡ get_or xs i x → drop i xs ≡ x ∷ drop (i + 1) xs
 at_place xs i x l e = drop-cons xs i x l ∙ ap (λ y. y ∷ drop (suc i) xs) (sym e) ∙ ap (λ n. x ∷ drop n xs) (sym (add-one i))

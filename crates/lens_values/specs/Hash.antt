@@ -1,8 +1,8 @@
 -- A hash of values, to which equal values add the same.
 use Rattle.std.specs.Prelude.{ℕ, ◌+◌, ◌*◌, ◌^◌, ◌%◌, fold, length}
 use Rattle.std.specs.Int.{cast_unsigned, from_bool, w64}
-use Rattle.lens_values.specs.declared.value.Value.{Value}
-use Rattle.lens_values.specs.declared.value.Value.TheVariants.{Null, Int, Text, Flag}
+use Rattle.plain_values.specs.declared.value.Value.{Value}
+use Rattle.plain_values.specs.declared.value.Value.TheVariants.{Null, Int, Text, Flag}
 
 -- the hash after one more number, modulo 2^64
 unfoldable pub hash_number : ℕ → ℕ → ℕ

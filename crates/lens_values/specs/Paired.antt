@@ -1,8 +1,8 @@
 -- Names with a value for each.
 use Rattle.std.specs.Prelude.{◌≡◌, ℕ, List, length}
 use Rattle.std.specs.List.{zip}
-use Rattle.lens_values.specs.Names.{Names}
-use Rattle.lens_values.specs.SortedSet as set
+use Rattle.plain_values.specs.Names.{Names}
+use Rattle.plain_values.specs.SortedSet as set
 
 -- there are as many values as names
 abbrev pub AreAsMany : {X : Type 0} → Names → List X → Type 0

@@ -4,20 +4,20 @@ ghost use Rattle.std.specs.FinMap as map;
 ghost use Rattle.std.specs.List.{list_all};
 ghost use Rattle.std.specs.List.Sorted.{IsStrictlySortedBy};
 ghost use Rattle.std.specs.Ordering.{eq_by_cmp};
-ghost use Rattle.lens_values.specs.Columns.{ColumnsWithin, is_kind, is_other_kind, kinds_differ, names, union_of};
+ghost use Rattle.plain_values.specs.Columns.{ColumnsWithin, is_kind, is_other_kind, kinds_differ, names};
+ghost use Rattle.lens_values.specs.Unions.{union_of};
 ghost use Rattle.no_memory.specs.Gives.{Gives};
-ghost use Rattle.lens_values.specs.Order.{bytes_cmp};
-ghost use Rattle.lens_values.specs.Part.{override, restrict, exclude};
+ghost use Rattle.plain_values.specs.Order.{bytes_cmp};
+ghost use Rattle.plain_values.specs.Part.{override, restrict, exclude};
 ghost use Rattle.lens_values.specs.Repeats.{AreDistinct, IsLeastRepeated};
-ghost use Rattle.lens_values.specs.SortedMap.{keys_of};
+ghost use Rattle.plain_values.specs.SortedMap.{keys_of};
 ghost use Rattle.lens_values.specs.declared.columns.ColumnsFault.TheVariants.{NoMemory};
 
 use crate::merging::{difference, intersection, union};
-use crate::name::Name;
 use crate::names::Names;
 use crate::sorting::{first_repeated, sorted_by_name};
-use crate::value::Kind;
 use no_memory::NoMemory;
+use plain_values::{Kind, Name};
 use std::alloc::{AllocError, Global};
 use std::marker::Model;
 use std::rc::Rc;
@@ -40,11 +40,11 @@ impl Model for Columns {
     ghost use Rattle.std.specs.Coded.{coded_list, coded_ℕ};
     ghost use Rattle.std.specs.FinMap as map;
     ghost use Rattle.std.specs.List.Sorted.{IsStrictlySortedBy};
-    ghost use Rattle.lens_values.specs.Order.{bytes_cmp};
-    ghost use Rattle.lens_values.specs.SortedMap.{keys_of};
-    ghost use Rattle.lens_values.specs.SortedSet as set;
-    ghost use Rattle.lens_values.specs.contracts.value.Kind as contract;
-    ghost use Rattle.lens_values.specs.declared.value.Kind as declared;
+    ghost use Rattle.plain_values.specs.Order.{bytes_cmp};
+    ghost use Rattle.plain_values.specs.SortedMap.{keys_of};
+    ghost use Rattle.plain_values.specs.SortedSet as set;
+    ghost use Rattle.plain_values.specs.contracts.value.Kind as contract;
+    ghost use Rattle.plain_values.specs.declared.value.Kind as declared;
 
     ghost Value = { map.FinMap bytes_cmp declared.Kind };
 

@@ -2,7 +2,7 @@
 ghost use Rattle.std.specs.Prelude.{◌≡◌, fold, length};
 ghost use Rattle.lens_values.specs.Hash.{hash_number, hash_value};
 
-use crate::value::Value;
+use plain_values::Value;
 
 // What a hash is multiplied by for each number that it takes in: the prime 2^40 + 435.
 const FACTOR: u64 = 1_099_511_628_211;

@@ -1,10 +1,10 @@
 //! Merges of strictly rising lists, each by one walk along the two.
 ghost use Rattle.std.specs.Prelude.{◌≡◌, ◌++◌, IfOk, filter, not};
 ghost use Rattle.std.specs.List.Sorted.{IsStrictlySortedBy};
-ghost use Rattle.lens_values.specs.Keys.{KeysRise, first_with, is_among};
+ghost use Rattle.plain_values.specs.Keys.{KeysRise, first_with, is_among};
 
-use crate::copying::{TryClone, append};
 use no_memory::NoMemory;
+use plain_values::{Name, TryClone, append};
 use std::alloc::Global;
 use std::cmp::Ordering;
 
@@ -16,6 +16,22 @@ pub trait Keyed<K> {
     /// The key.
     fn key(&self) -> &K
         ensures { result.now ≡ key self.now };
+}
+
+impl Keyed<Name> for Name {
+    ghost key = { λ name. name };
+
+    fn key(&self) -> &Name {
+        self
+    }
+}
+
+impl<V> Keyed<Name> for (Name, V) {
+    ghost key = { λ pair. pair.0 };
+
+    fn key(&self) -> &Name {
+        &self.0
+    }
 }
 
 /// Copies of the members of both lists in rising order of keys. Where both lists have a key, the

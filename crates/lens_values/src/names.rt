@@ -4,15 +4,15 @@ ghost use Rattle.std.specs.List.{HoldsAt, list_all};
 ghost use Rattle.std.specs.List.Sorted.{IsStrictlySortedBy};
 ghost use Rattle.std.specs.Ordering.{eq_by_cmp};
 ghost use Rattle.std.specs.declared.cmp.Ordering.TheVariants.{Equal, Greater, Less};
-ghost use Rattle.lens_values.specs.Keys.{is_among};
-ghost use Rattle.lens_values.specs.Names.{one, same_names, share};
-ghost use Rattle.lens_values.specs.Order.{bytes_cmp};
-ghost use Rattle.lens_values.specs.SortedSet as set;
+ghost use Rattle.plain_values.specs.Keys.{is_among};
+ghost use Rattle.plain_values.specs.Names.{one, same_names, share};
+ghost use Rattle.plain_values.specs.Order.{bytes_cmp};
+ghost use Rattle.plain_values.specs.SortedSet as set;
 
 use crate::merging::{difference, intersection, union};
-use crate::name::Name;
 use crate::sorting::into_sorted;
 use no_memory::NoMemory;
+use plain_values::Name;
 use std::alloc::Global;
 use std::cmp::Ordering;
 use std::marker::Model;
@@ -30,8 +30,8 @@ pub struct Names {
 impl Model for Names {
     ghost use Rattle.std.specs.Coded.{coded_list, coded_ℕ};
     ghost use Rattle.std.specs.List.Sorted.{IsStrictlySortedBy};
-    ghost use Rattle.lens_values.specs.Order.{bytes_cmp};
-    ghost use Rattle.lens_values.specs.SortedSet as set;
+    ghost use Rattle.plain_values.specs.Order.{bytes_cmp};
+    ghost use Rattle.plain_values.specs.SortedSet as set;
 
     ghost Value = { set.SortedSet bytes_cmp };
 

@@ -2,10 +2,9 @@
 ghost use Rattle.std.specs.Prelude.{◌≡◌, length};
 ghost use Rattle.std.specs.Cmp.Lexicographic.{pointwise, slice_cmp};
 ghost use Rattle.std.specs.List.{list_all, zip};
-ghost use Rattle.lens_values.specs.Row.{pair_cmp, pair_fits};
+ghost use Rattle.plain_values.specs.Row.{pair_cmp, pair_fits};
 
-use crate::name::Name;
-use crate::value::{Kind, Value};
+use plain_values::{Kind, Name, Value};
 use std::cmp::Ordering;
 
 /// Whether the names with their values are in these columns, each with a value that fits.

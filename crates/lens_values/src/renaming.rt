@@ -1,21 +1,12 @@
 //! Names with one of them exchanged for another.
 ghost use Rattle.std.specs.Prelude.{◌≡◌, IfOk, map};
-ghost use Rattle.lens_values.specs.Name.{renamed};
-ghost use Rattle.lens_values.specs.SortedSet as set;
+ghost use Rattle.plain_values.specs.Name.{renamed};
+ghost use Rattle.plain_values.specs.SortedSet as set;
 
-use crate::name::Name;
 use crate::names::Names;
 use no_memory::NoMemory;
+use plain_values::Name;
 use std::alloc::Global;
-
-impl Name {
-    /// The name, or `to` where it is `from`.
-    pub fn rename(&self, from: &Name, to: &Name) -> Name
-        ensures { result ≡ renamed from.now to.now self.now }
-    {
-        if self == from { *to } else { *self }
-    }
-}
 
 impl Names {
     /// The names with `to` for `from`.

@@ -5,27 +5,25 @@ ghost use Rattle.std.specs.FinMap as map;
 ghost use Rattle.std.specs.List.Sorted.{IsStrictlySortedBy};
 ghost use Rattle.std.specs.List.{filter_map};
 ghost use Rattle.std.specs.Ordering.{as_partial_cmp, eq_by_cmp};
-ghost use Rattle.lens_values.specs.Columns.{Fits};
-ghost use Rattle.lens_values.specs.Order.{bytes_cmp};
+ghost use Rattle.plain_values.specs.Columns.{Fits};
+ghost use Rattle.plain_values.specs.Order.{bytes_cmp};
 ghost use Rattle.lens_values.specs.Paired.{AreAsMany, paired};
-ghost use Rattle.lens_values.specs.Part.{override, restrict};
+ghost use Rattle.plain_values.specs.Part.{override, restrict};
 ghost use Rattle.lens_values.specs.Repeats.{AreDistinct, IsLeastRepeated};
-ghost use Rattle.lens_values.specs.Row.{agree, row_cmp};
-ghost use Rattle.lens_values.specs.RowOrder.{row_cmp_total};
-ghost use Rattle.lens_values.specs.SortedMap.{keys_of, values_of};
-ghost use Rattle.lens_values.specs.SortedSet as set;
-ghost use Rattle.lens_values.specs.Value.{same_value};
+ghost use Rattle.plain_values.specs.Row.{agree, row_cmp};
+ghost use Rattle.plain_values.specs.RowOrder.{row_cmp_total};
+ghost use Rattle.plain_values.specs.SortedMap.{keys_of, values_of};
+ghost use Rattle.plain_values.specs.SortedSet as set;
+ghost use Rattle.plain_values.specs.Value.{same_value};
 ghost use Rattle.lens_values.specs.declared.row.RowFault.TheVariants.{NoMemory};
 
 use crate::columns::Columns;
-use crate::copying::TryClone;
 use crate::merging::Keyed;
-use crate::name::Name;
 use crate::names::Names;
 use crate::pairs::{all_fit, pairs_cmp};
 use crate::sorting::{first_repeated, sorted_by_name};
-use crate::value::Value;
 use no_memory::NoMemory;
+use plain_values::{Name, TryClone, Value};
 use std::alloc::{AllocError, Global};
 use std::cmp::Ordering;
 use std::marker::Model;
@@ -48,10 +46,10 @@ struct Cells {
 impl Model for Row {
     ghost use Rattle.std.specs.Coded.{coded_list, coded_ℕ};
     ghost use Rattle.std.specs.FinMap as map;
-    ghost use Rattle.lens_values.specs.Order.{bytes_cmp};
+    ghost use Rattle.plain_values.specs.Order.{bytes_cmp};
     ghost use Rattle.lens_values.specs.Paired.{AreAsMany, paired};
-    ghost use Rattle.lens_values.specs.contracts.value.Value as contract;
-    ghost use Rattle.lens_values.specs.declared.value.Value as declared;
+    ghost use Rattle.plain_values.specs.contracts.value.Value as contract;
+    ghost use Rattle.plain_values.specs.declared.value.Value as declared;
 
     ghost Value = { map.FinMap bytes_cmp declared.Value };
 
@@ -192,7 +190,7 @@ impl Row {
     }
 
     /// Whether both rows have the same value, or none, in each of these columns.
-    #[tactic(auto, unfolding(crate::specs::Row::agree))]
+    #[tactic(auto, unfolding(plain_values::specs::Row::agree))]
     pub fn agree_on(&self, other: &Row, cols: &Names) -> bool
         ensures { result ≡ agree cols.now self.now other.now }
     {

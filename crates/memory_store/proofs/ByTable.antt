@@ -10,13 +10,14 @@ use Rattle.std.specs.List.Sorted.{IsStrictlySortedBy}
 use Rattle.std.specs.Map.{lookup}
 use Rattle.std.specs.Ordering.{eq_by_cmp}
 use Rattle.std.specs.declared.cmp.Ordering.TheVariants.{Less}
-use Rattle.lens_values.specs.Order.{bytes_cmp}
+use Rattle.plain_values.specs.Order.{bytes_cmp}
 use Rattle.lens_specs.specs.Relation.{Name, Rows}
 use Rattle.row_sets.proofs.Walks.{apart}
 use Rattle.table_keeper.specs.Changes.{names_of, rows_of}
 use Rattle.table_keeper.specs.Places.{Rise, rows_in}
 use Rattle.table_keeper.specs.declared.keeper.KeptTable.{KeptTable}
-use Rattle.table_keeper.proofs.ByName.{name_exact, name_total}
+use Rattle.table_keeper.proofs.ByName.{name_total}
+use Rattle.plain_values.proofs.Maps.{exact as name_exact}
 use Rattle.memory_store.specs.InMemory.{Tables}
 
 -- ---- the value at a name

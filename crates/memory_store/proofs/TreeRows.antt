@@ -2,12 +2,11 @@
 use Rattle.std.proofs.Common.{◌≡◌, ◌∙◌, Bool, true, false, List, [], ◌∷◌, ap, sym, refl}
 use Rattle.std.specs.Prelude.{◌||◌, ◌&&◌, not}
 use Rattle.std.specs.Ordering.{eq_by_cmp}
-use Rattle.lens_values.specs.Row.{row_cmp}
-use Rattle.lens_values.specs.RowOrder.{row_cmp_total, row_cmp-IsAntisymmetric}
-use Rattle.lens_values.specs.SortedSet as set
-use Rattle.lens_values.specs.declared.row.Row.{Row}
-use Rattle.lens_specs.specs.Delta.{Delta, new_view}
-use Rattle.lens_specs.specs.Relation.{Rows, has, minus, union}
+use Rattle.std.proofs.Math.Bool.{or_comm, and_comm}
+use Rattle.plain_values.specs.Row.{row_cmp, Row}
+use Rattle.plain_values.specs.RowOrder.{row_cmp_total, row_cmp-IsAntisymmetric}
+use Rattle.plain_values.specs.SortedSet as set
+use Rattle.lens_specs.specs.Common.{Delta, new_view, Rows, has, minus, union}
 use Rattle.row_sets.specs.Members.{is_in}
 use Rattle.memory_store.specs.InMemory.{with_rows, without_rows}
 
@@ -22,18 +21,6 @@ one_less true true c = refl
 one_less true false c = refl
 one_less false true c = refl
 one_less false false c = refl
-
-turned_or : (a b : Bool) → (a || b) ≡ (b || a)
-turned_or true true = refl
-turned_or true false = refl
-turned_or false true = refl
-turned_or false false = refl
-
-turned_and : (a b : Bool) → (a && b) ≡ (b && a)
-turned_and true true = refl
-turned_and true false = refl
-turned_and false true = refl
-turned_and false false = refl
 
 same_rows : (M N : Rows) → ((row : Row) → has M row ≡ has N row) → M ≡ N
 same_rows M N is = set.same_set row_cmp_total row_cmp-IsAntisymmetric M N is
@@ -53,13 +40,13 @@ in_without (row ∷ rows) M q =
 -- all rows of a set, put in
 with_all : (M N : Rows) → with_rows (set.items N) M ≡ union M N
 with_all M N = same_rows _ _ (λ q.
-    in_with (set.items N) M q ∙ ap (λ b. b || has M q) (sym (set.contains-items N q)) ∙ turned_or (has N q) (has M q)
+    in_with (set.items N) M q ∙ ap (λ b. b || has M q) (sym (set.contains-items N q)) ∙ or_comm (has N q) (has M q)
     ∙ sym (set.contains-union row_cmp_total M N q))
 
 -- all rows of a set, taken out
 without_all : (M N : Rows) → without_rows (set.items N) M ≡ minus M N
 without_all M N = same_rows _ _ (λ q.
-    in_without (set.items N) M q ∙ ap (λ b. not b && has M q) (sym (set.contains-items N q)) ∙ turned_and (not (has N q)) (has M q)
+    in_without (set.items N) M q ∙ ap (λ b. not b && has M q) (sym (set.contains-items N q)) ∙ and_comm (not (has N q)) (has M q)
     ∙ sym (set.contains-difference row_cmp_total M N q))
 
 -- the rows of a difference, taken out and put in one after the other

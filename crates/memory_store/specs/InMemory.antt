@@ -2,13 +2,11 @@
 use Rattle.std.specs.Prelude.{List, [], ◌∷◌}
 use Rattle.std.specs.Coded.{Coded, coded_list, coded_ℕ}
 use Rattle.std.specs.FinMap as finmap
-use Rattle.lens_values.specs.Order.{bytes_cmp}
-use Rattle.lens_values.specs.SortedSet as set
-use Rattle.lens_values.specs.declared.row.Row.{Row}
-use Rattle.lens_specs.specs.Delta.{TableDelta, new_view}
-use Rattle.lens_specs.specs.Keeping.{Change, Kept, changed, rows_at}
+use Rattle.plain_values.specs.Order.{bytes_cmp}
+use Rattle.plain_values.specs.SortedSet as set
+use Rattle.plain_values.specs.Row.{Row}
+use Rattle.lens_specs.specs.Common.{TableDelta, new_view, Change, Kept, changed, rows_at, Rows}
 pub use Rattle.lens_specs.specs.Keeping.{with_deltas}
-use Rattle.lens_specs.specs.Relation.{Rows}
 use Rattle.row_sets.specs.Codes.{coded_rows}
 pub use Rattle.signed_delta.specs.Tables.{table_delta}
 

@@ -1,7 +1,7 @@
 //! The rows of tables in memory.
 ghost use Rattle.std.specs.Prelude.{◌≡◌, IfOk, OnOk, map};
 ghost use Rattle.std.specs.FinMap as finmap;
-ghost use Rattle.lens_values.specs.SortedSet as set;
+ghost use Rattle.plain_values.specs.SortedSet as set;
 ghost use Rattle.table_keeper.specs.Places.{Rise, rows_in};
 ghost use Rattle.lens_specs.specs.Keeping.{rows_at};
 ghost use Rattle.lens_specs.specs.Relation.{Rows};

@@ -2,7 +2,7 @@
 ghost use Rattle.std.specs.Prelude.{◌≡◌, ℕ, IfOk, OnErr, OnOk, map};
 ghost use Rattle.std.specs.Coded.{coded_list, coded_ℕ};
 ghost use Rattle.std.specs.FinMap as finmap;
-ghost use Rattle.lens_values.specs.Order.{bytes_cmp};
+ghost use Rattle.plain_values.specs.Order.{bytes_cmp};
 ghost use Rattle.server_specs.specs.Changing.{last_change, latest, with_last};
 ghost use Rattle.signed_delta.specs.Tables.{table_delta};
 

@@ -1,7 +1,7 @@
 //! A view that is opened for a request.
 ghost use Rattle.std.specs.Prelude.{◌≡◌, [], IfOk, None, find, option_copied};
-ghost use Rattle.lens_values.specs.SortedSet as set;
-ghost use Rattle.lens_values.specs.Value.{is_nullable};
+ghost use Rattle.plain_values.specs.SortedSet as set;
+ghost use Rattle.plain_values.specs.Value.{is_nullable};
 ghost use Rattle.lens_specs.specs.Lens.{sort_of, tables_of};
 ghost use Rattle.lens_laws.specs.Asked.{HasKeys, asked};
 ghost use Rattle.lens_laws.specs.Lenses.{AreOf};

@@ -1,26 +1,20 @@
 -- A store that opens gives a valid state, of which the same is kept; and what is kept of a valid state opens.
 use Rattle.std.proofs.Common.{◌≡◌, ◌≤◌, ◌&&◌, ◌++◌, ℕ, Bool, true, false, cond, List, [], ◌∷◌, map, Option, Some, None, Result, Ok, is_some, inl, inr, refl, sym, ap, subst, ◌∙◌, arith}
 use Rattle.std.specs.Prelude.{◌↔◌, IfSome, not, option_map}
-use Rattle.std.proofs.lemmas.Bool.{cases_Bool, and_parts, or_cases, or_parts, true≢false}
+use Rattle.std.proofs.lemmas.Bool.{cases_Bool, and_parts, or_cases, or_parts, true≢false, not-false, not_from_true, and_from}
 use Rattle.std.proofs.lemmas.List.Folds.{list_any-append}
 use Rattle.std.specs.FinMap as finmap
 use Rattle.std.specs.List.{list_any}
 use Rattle.std.specs.Ordering.{eq_by_cmp}
-use Rattle.lens_values.specs.Order.{bytes_cmp}
-use Rattle.lens_values.specs.Row.{row_cmp}
-use Rattle.lens_values.specs.SortedSet as set
-use Rattle.lens_values.specs.declared.row.Row.{Row}
-use Rattle.fd_laws.proofs.Lists.{all_from, all_at, find_none}
-use Rattle.fd_laws.proofs.Names.{name_total, name_exact, name_itself, tied_name}
-use Rattle.fd_laws.proofs.Rows.{tied_row, row_itself}
+use Rattle.plain_values.specs.Order.{bytes_cmp}
+use Rattle.plain_values.specs.Row.{row_cmp, Row}
+use Rattle.plain_values.specs.SortedSet as set
+use Rattle.plain_values.proofs.Lists.{all_from, all_at, find_none}
+use Rattle.plain_values.proofs.Tests.{map_none, none_is}
+use Rattle.fd_laws.proofs.Common.{name_total, name_exact, name_itself, tied_name, tied_row, row_itself}
 use Rattle.lens_laws.proofs.Sorts.{find_nothing, none_off, off_none}
-use Rattle.lens_specs.specs.Names.{Name, is_among}
-use Rattle.lens_specs.specs.Columns.{Columns, Fits, fits_at}
-use Rattle.lens_specs.specs.Relation.{Rows, Relation, has}
-use Rattle.lens_specs.specs.Predicate.{holds}
-use Rattle.lens_specs.specs.Sort.{Sort, clash, IsOf}
-use Rattle.lens_specs.specs.Lens.{Tables, Lens, sort_of}
-use Rattle.lens_specs.specs.Keeping.{Kept, nothing}
+use Rattle.lens_specs.specs.Common.{Name, is_among, Columns, Fits, fits_at, Rows, Relation, has, holds, Sort, clash, IsOf, Tables, Lens, sort_of, Kept}
+use Rattle.lens_specs.specs.Keeping.{nothing}
 use Rattle.io_specs.specs.Lines.{Line}
 use Rattle.catalog_specs.specs.Catalogue.{Catalogue, catalogue, is_table_of}
 use Rattle.catalog_specs.specs.Judging.{first_refused}
@@ -34,29 +28,9 @@ use Rattle.opening_laws.specs.OpenLaws.{at_start}
 
 -- ---- options
 
-pub map_none : {A B : Type 0} (f : A → B) (o : Option A) → option_map f o ≡ None → o ≡ None
-map_none f None e = refl
-map_none f (Some x) e = cc
-
 is_some-map : {A B : Type 0} (f : A → B) (o : Option A) → is_some (option_map f o) ≡ is_some o
 is_some-map f None = refl
 is_some-map f (Some x) = refl
-
-none_is : {A : Type 0} (o : Option A) → is_some o ≡ false → o ≡ None
-none_is None h = refl
-none_is (Some x) h = absurd (true≢false h)
-
-not_false : (b : Bool) → not b ≡ false → b ≡ true
-not_false true e = refl
-not_false false e = absurd (true≢false e)
-
-to_false : (b : Bool) → b ≡ true → not b ≡ false
-to_false true e = refl
-to_false false e = absurd (true≢false (sym e))
-
-both_true : (a b : Bool) → a ≡ true → b ≡ true → (a && b) ≡ true
-both_true true b e f = f
-both_true false b e f = e
 
 -- ---- maps
 
@@ -114,12 +88,12 @@ is_good s r = is_fit s.columns r && holds s.predicate r
 
 none_bad : (s : Sort) (M : Rows) → first_bad s M ≡ None → (r : Row) → has M r ≡ true → (is_fit s.columns r ≡ true) × (holds s.predicate r ≡ true)
 none_bad s M e r i = and_parts (is_fit s.columns r) (holds s.predicate r)
-    (not_false _ (find_none (eq_by_cmp row_cmp) tied_row row_itself (λ r. not (is_fit s.columns r && holds s.predicate r)) (set.items M) e r (sym (set.contains-items M r) ∙ i)))
+    (not-false _ (find_none (eq_by_cmp row_cmp) tied_row row_itself (λ r. not (is_fit s.columns r && holds s.predicate r)) (set.items M) e r (sym (set.contains-items M r) ∙ i)))
 
 no_bad : (s : Sort) (M : Rows) → IsOf M s → first_bad s M ≡ None
 no_bad s M h = find_nothing (λ r. not (is_fit s.columns r && holds s.predicate r)) (set.items M) (λ r i.
     let j = set.contains-items M r ∙ i in
-    to_false (is_fit s.columns r && holds s.predicate r) (both_true _ _ (is_fit_from s.columns r (h.columns r j)) (off_none s.predicate M h.off r j)))
+    not_from_true (is_fit s.columns r && holds s.predicate r) (and_from _ _ (is_fit_from s.columns r (h.columns r j)) (off_none s.predicate M h.off r j)))
 
 -- rows with no damage are of the sort
 pub rows_whole : (q : Name) (s : Sort) (M : Rows) → damage_of_rows q s M ≡ None → IsOf M s

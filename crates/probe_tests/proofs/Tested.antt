@@ -5,25 +5,15 @@ use Rattle.std.specs.FinMap as finmap
 use Rattle.std.specs.List.{Contains, list_all}
 use Rattle.std.specs.Ordering.{eq_by_cmp}
 use Rattle.std.proofs.lemmas.Bool.{and_parts, true≢false}
-use Rattle.lens_values.specs.Columns.{ColumnsWithin}
-use Rattle.lens_values.specs.Order.{bytes_cmp}
-use Rattle.lens_values.specs.Row.{row_cmp}
-use Rattle.lens_values.specs.SortedSet as set
-use Rattle.lens_values.specs.declared.row.Row.{Row}
-use Rattle.lens_values.specs.declared.value.Kind.{Kind}
-use Rattle.lens_specs.specs.Columns.{Columns}
-use Rattle.lens_specs.specs.Delta.{AppliesTo, Delta, diff, new_view}
-use Rattle.lens_specs.specs.Dependencies.{AllEdges, Edge}
-use Rattle.lens_specs.specs.Lens.{Lens, Tables, base, sort_of}
-use Rattle.lens_specs.specs.Names.{Name, Names}
-use Rattle.lens_specs.specs.Predicate.{Predicate, holds}
-use Rattle.lens_specs.specs.Relation.{Fits, Relation, Rows, has, minus}
+use Rattle.plain_values.specs.Columns.{ColumnsWithin}
+use Rattle.plain_values.specs.Order.{bytes_cmp}
+use Rattle.plain_values.specs.Row.{row_cmp, Row}
+use Rattle.plain_values.specs.SortedSet as set
+use Rattle.plain_values.specs.declared.value.Kind.{Kind}
+use Rattle.lens_specs.specs.Common.{Columns, AppliesTo, Delta, diff, new_view, AllEdges, Edge, Lens, Tables, base, sort_of, Name, Names, Predicate, holds, Fits, Relation, Rows, has, minus, IsOfSort, Sort, off}
 use Rattle.lens_specs.specs.Sort as spec
-use Rattle.lens_specs.specs.Sort.{IsOfSort, Sort, off}
-use Rattle.fd_laws.proofs.Lists.{all_at}
-use Rattle.fd_laws.proofs.Names.{name_exact, name_itself, name_total}
-use Rattle.fd_laws.proofs.Relations.{sets}
-use Rattle.fd_laws.proofs.Rows.{row_itself, tied_row}
+use Rattle.plain_values.proofs.Lists.{all_at}
+use Rattle.fd_laws.proofs.Common.{name_exact, name_itself, name_total, sets, row_itself, tied_row}
 use Rattle.lens_laws.specs.Asked.{IsFilled}
 use Rattle.lens_laws.specs.Lenses.{AreOf}
 use Rattle.lens_laws.proofs.Deltas.{diff_leads}

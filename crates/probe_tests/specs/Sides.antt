@@ -1,6 +1,6 @@
 -- Edges with two sides.
 use Rattle.std.specs.Prelude.{Bool, ◌&&◌, ◌==◌, length, not}
-use Rattle.lens_values.specs.SortedSet as set
+use Rattle.plain_values.specs.SortedSet as set
 use Rattle.lens_specs.specs.Dependencies.{Edge}
 
 -- whether the edge has a column on its left side and one on its right side

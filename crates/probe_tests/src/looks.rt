@@ -1,7 +1,7 @@
 //! Views whose premises are tested first, and questions to them.
 ghost use Rattle.std.specs.Prelude.{◌≡◌, ◌≢◌, [], is_some, length, true, Contains, IfOk};
 ghost use Rattle.std.specs.List.{list_all};
-ghost use Rattle.lens_values.specs.SortedSet as set;
+ghost use Rattle.plain_values.specs.SortedSet as set;
 ghost use Rattle.lens_specs.specs.Rows.{at};
 ghost use Rattle.lens_laws.specs.Asked.{asked};
 ghost use Rattle.lens_probe.specs.Viewed.{AreIndexed, asked_by};

@@ -1,7 +1,7 @@
 //! What views and puts ask of lenses and tables, tested.
 ghost use Rattle.std.specs.Prelude.{◌≡◌, IfOk, true};
 ghost use Rattle.std.specs.List.{list_all};
-ghost use Rattle.lens_values.specs.SortedSet as set;
+ghost use Rattle.plain_values.specs.SortedSet as set;
 ghost use Rattle.lens_specs.specs.Columns.{names};
 ghost use Rattle.lens_specs.specs.Dependencies.{AllEdges};
 ghost use Rattle.lens_specs.specs.Predicate.{holds};

@@ -1,7 +1,7 @@
 //! Tables that are kept twice: as whole relations, and by key.
 ghost use Rattle.std.specs.Prelude.{◌≡◌, false, is_some, IfOk, None, Some};
 ghost use Rattle.std.specs.FinMap as finmap;
-ghost use Rattle.lens_values.specs.SortedSet as set;
+ghost use Rattle.plain_values.specs.SortedSet as set;
 ghost use Rattle.base_index.specs.Held.{IsQuiet};
 ghost use Rattle.probe_tests.specs.Shelves.{AreKeptTwice};
 

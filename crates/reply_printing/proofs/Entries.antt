@@ -3,16 +3,11 @@ use Rattle.std.proofs.Common.{◌≡◌, ◌∙◌, ◌<◌, ◌+◌, ℕ, List,
 use Rattle.std.specs.FinMap as finmap
 use Rattle.std.proofs.lemmas.List.{take_all}
 use Rattle.std.proofs.lemmas.Slice.Zip.{get_or-zip, length-zip}
-use Rattle.lens_values.specs.SortedMap.{values_of}
-use Rattle.lens_values.specs.declared.row.Row.{Row}
-use Rattle.lens_values.specs.declared.value.Value.{Value}
+use Rattle.plain_values.specs.SortedMap.{values_of}
+use Rattle.plain_values.specs.Row.{Row}
+use Rattle.plain_values.specs.declared.value.Value.{Value}
 use Rattle.lens_values.proofs.Cells.{as_many, pairs_are}
 use Rattle.lens_specs.specs.Relation.{Name}
-
--- one more that was yielded
-pub one_later : {X : Type 0} (xs : List X) (x : X) → length (xs ++ x ∷ []) ≡ length xs + 1
-one_later [] x = omega arith
-one_later (y ∷ xs) x = omega (arith, one_later xs x)
 
 module _ (row : Row) (ns : List Name) (vs : List Value) (n : ns ≡ finmap.keys row) (v : vs ≡ values_of (finmap.entries row)) where
   counted : length (finmap.entries row) ≡ length vs

@@ -8,12 +8,11 @@ use Rattle.json.specs.Tree.{items_tokens, members_tokens}
 use Rattle.json.specs.Written.{Written, Writes}
 use Rattle.serde_json.specs.Data.{Data, array, string}
 use Rattle.serde_json.specs.Written.{items_outline, members_outline}
-use Rattle.lens_values.specs.declared.value.Kind.{Kind}
-use Rattle.lens_values.specs.declared.value.Value.{Value}
-use Rattle.lens_values.specs.declared.row.Row.{Row}
-use Rattle.lens_values.specs.SortedSet as set
-use Rattle.lens_specs.specs.Relation.{Name, Rows}
-use Rattle.lens_specs.specs.Dependencies.{Edge}
+use Rattle.plain_values.specs.declared.value.Kind.{Kind}
+use Rattle.plain_values.specs.declared.value.Value.{Value}
+use Rattle.plain_values.specs.Row.{Row}
+use Rattle.plain_values.specs.SortedSet as set
+use Rattle.lens_specs.specs.Common.{Name, Rows, Edge}
 use Rattle.grammar_specs.specs.Printing.{printed_formula}
 use Rattle.lens_pred.specs.View.{formula_view, predicate_view}
 use Rattle.lens_pred.specs.declared.formula.Formula.{Formula}

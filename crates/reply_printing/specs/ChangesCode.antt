@@ -1,8 +1,7 @@
 -- The differences of tables are stored as the pairs of their tables and differences.
 use Rattle.std.specs.Prelude.{List, refl}
 use Rattle.std.specs.Coded.{Coded, code_by, coded×, coded_list, coded_ℕ}
-use Rattle.lens_specs.specs.Relation.{Name}
-use Rattle.lens_specs.specs.Delta.{Delta, TableDelta}
+use Rattle.lens_specs.specs.Common.{Name, Delta, TableDelta}
 use Rattle.signed_delta.specs.DeltaCode.{coded_delta}
 
 abbrev pub coded_changes : Coded (List TableDelta)

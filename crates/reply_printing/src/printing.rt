@@ -1,7 +1,7 @@
 //! Replies printed token by token.
 ghost use Rattle.std.specs.Prelude.{◌≡◌, [], ◌∷◌, ◌++◌, IfOk, OnOk, map, decimal};
 ghost use Rattle.std.specs.FinMap as finmap;
-ghost use Rattle.lens_values.specs.SortedSet as set;
+ghost use Rattle.plain_values.specs.SortedSet as set;
 ghost use Rattle.server_specs.specs.Answer.{value_data, row_data, rows_data, pair_data, names_data, set_data, edge_data, change_data, changes_data};
 ghost use Rattle.signed_delta.specs.Tables.{table_delta};
 ghost use Rattle.reply_printing.specs.Printing.{Adds, array, begin_object, boolean, data_tokens, end_object, key, number, print, string};

@@ -13,9 +13,9 @@ use Rattle.serde_json.proofs.Views.{get_member-put, get_member-put_other}
 use Rattle.borrowed_json.specs.Meaning.{members_onto, sent_data, members_data, value_data}
 use Rattle.borrowed_json.specs.Places.{IsLast}
 use Rattle.borrowed_json.specs.declared.value.Value.{Value as Json}
-use Rattle.lens_values.specs.Order.{bytes_cmp}
-use Rattle.lens_values.specs.SortedMap.{keys_of}
-use Rattle.lens_values.specs.declared.value.Kind.{Kind}
+use Rattle.plain_values.specs.Order.{bytes_cmp}
+use Rattle.plain_values.specs.SortedMap.{keys_of}
+use Rattle.plain_values.specs.declared.value.Kind.{Kind}
 use Rattle.lens_specs.specs.Relation.{Name}
 use Rattle.request_reading.specs.SentRows.{names_sent}
 

@@ -8,13 +8,13 @@ use Rattle.std.specs.List.{AllByRecursion, list_any}
 use Rattle.borrowed_json.specs.declared.value.Value.{Value as Json}
 use Rattle.serde_json.specs.Data.{Data, Members}
 use Rattle.serde_json.specs.Find.{get_member}
-use Rattle.lens_values.specs.Columns as named
-use Rattle.lens_values.specs.Order.{bytes_cmp}
-use Rattle.lens_values.specs.SortedMap.{keys_rise}
-use Rattle.lens_values.specs.SortedMap as sorted
-use Rattle.lens_values.specs.SortedSet as set
-use Rattle.lens_values.specs.declared.value.Kind.{Kind}
-use Rattle.lens_values.specs.declared.value.Value.{Value}
+use Rattle.plain_values.specs.Columns as named
+use Rattle.plain_values.specs.Order.{bytes_cmp}
+use Rattle.plain_values.specs.SortedMap.{keys_rise}
+use Rattle.plain_values.specs.SortedMap as sorted
+use Rattle.plain_values.specs.SortedSet as set
+use Rattle.plain_values.specs.declared.value.Kind.{Kind}
+use Rattle.plain_values.specs.declared.value.Value.{Value}
 use Rattle.lens_specs.specs.Relation.{Name, Columns}
 use Rattle.server_specs.specs.Request.{first_other, is_key}
 use Rattle.server_specs.specs.Sending.{is_column_of, pairs_in, value_at, value_in, with_pair}

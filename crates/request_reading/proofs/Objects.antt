@@ -9,7 +9,7 @@ use Rattle.std.specs.List.{AllByRecursion, list_any}
 use Rattle.std.specs.List.Sorted.{IsStrictlySortedBy}
 use Rattle.serde_json.specs.Data.{Data, Members, no_members, member, put}
 use Rattle.serde_json.specs.Find.{get_member}
-use Rattle.lens_values.specs.Order.{bytes_cmp}
+use Rattle.plain_values.specs.Order.{bytes_cmp}
 use Rattle.borrowed_json.specs.Meaning.{value_data, members_onto, sent_data, members_data}
 use Rattle.borrowed_json.specs.declared.value.Value.{Value}
 use Rattle.server_specs.specs.Request.{first_other, is_key}

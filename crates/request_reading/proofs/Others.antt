@@ -9,7 +9,7 @@ use Rattle.std.proofs.lemmas.List.{take_more}
 use Rattle.std.proofs.lemmas.Map.Text.{is_eq-slice_cmp}
 use Rattle.std.proofs.lemmas.Slice.Eq.{bytes_eq-Decides}
 use Rattle.serde_json.specs.Data.{Data, Members, no_members, member, put}
-use Rattle.lens_values.specs.Order.{bytes_cmp}
+use Rattle.plain_values.specs.Order.{bytes_cmp}
 use Rattle.server_specs.specs.Request.{first_other, lesser}
 use Rattle.borrowed_json.specs.Meaning.{members_onto, sent_data, members_data, value_data}
 use Rattle.borrowed_json.specs.declared.value.Value.{Value}

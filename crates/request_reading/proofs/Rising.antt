@@ -8,7 +8,7 @@ use Rattle.std.specs.Cmp.Lexicographic.{nat_list_cmp_total, texts_ties}
 use Rattle.std.specs.List.{AllByRecursion, list_any}
 use Rattle.std.specs.List.Sorted.{IsStrictlySortedBy}
 use Rattle.std.proofs.lemmas.Slice.Eq.{bytes_eq-Decides}
-use Rattle.lens_values.specs.Order.{bytes_cmp}
+use Rattle.plain_values.specs.Order.{bytes_cmp}
 use Rattle.lens_specs.specs.Relation.{Name}
 use Rattle.server_specs.specs.Request.{is_key}
 

@@ -6,10 +6,10 @@ use Rattle.std.proofs.lemmas.List.{length-map, length-take-le, take_more}
 use Rattle.serde_json.specs.Data.{Members}
 use Rattle.borrowed_json.specs.Meaning.{value_data, items_data}
 use Rattle.borrowed_json.specs.declared.value.Value.{Value as Json}
-use Rattle.lens_values.specs.SortedMap.{keys_of}
-use Rattle.lens_values.specs.declared.value.Kind.{Kind}
-use Rattle.lens_values.specs.declared.value.Value.{Value}
-use Rattle.lens_values.specs.declared.row.Row.{Row}
+use Rattle.plain_values.specs.SortedMap.{keys_of}
+use Rattle.plain_values.specs.declared.value.Kind.{Kind}
+use Rattle.plain_values.specs.declared.value.Value.{Value}
+use Rattle.plain_values.specs.Row.{Row}
 use Rattle.lens_specs.specs.Relation.{Name, Columns}
 use Rattle.server_specs.specs.Sending.{BadRow, value_at, with_pair, pairs_in, with_row, row_in, rows_in}
 

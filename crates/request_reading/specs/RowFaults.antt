@@ -1,7 +1,7 @@
 -- What the faults of rows stand for.
 use Rattle.std.specs.Prelude.{◌≡◌, ℕ, List, Option, Some, None, Result, Ok, Err, IfSome, option_map}
-use Rattle.lens_values.specs.SortedSet as set
-use Rattle.lens_values.specs.declared.row.Row.{Row}
+use Rattle.plain_values.specs.SortedSet as set
+use Rattle.plain_values.specs.Row.{Row}
 use Rattle.lens_specs.specs.Relation.{Rows}
 use Rattle.server_specs.specs.Sending.{BadRow}
 use Rattle.request_reading.specs.declared.member_fault.MemberFault.{MemberFault}

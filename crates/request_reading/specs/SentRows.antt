@@ -4,10 +4,9 @@ use Rattle.std.specs.Borrow.{Bor}
 use Rattle.std.specs.FinMap as finmap
 use Rattle.borrowed_json.specs.declared.value.Value.{Value as Json}
 use Rattle.serde_json.specs.Data.{Members}
-use Rattle.lens_values.specs.SortedSet as set
-use Rattle.lens_values.specs.declared.value.Value.{Value}
-use Rattle.lens_specs.specs.Relation.{Name, Columns}
-use Rattle.lens_specs.specs.Names.{Names}
+use Rattle.plain_values.specs.SortedSet as set
+use Rattle.plain_values.specs.declared.value.Value.{Value}
+use Rattle.lens_specs.specs.Common.{Name, Columns, Names}
 use Rattle.server_specs.specs.Request.{first_other}
 use Rattle.server_specs.specs.Sending.{is_column_of, pairs_in}
 -- what goes with it

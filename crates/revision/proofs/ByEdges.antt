@@ -3,30 +3,19 @@ use Rattle.std.proofs.Common.{◌≡◌, ◌≢◌, ℕ, ◌+◌, ◌<◌, lengt
 use Rattle.std.specs.Prelude.{Option, Some, None, not}
 use Rattle.std.proofs.lemmas.Bool.{cases_Bool, true≢false}
 use Rattle.std.proofs.lemmas.List.{drop_more}
-use Rattle.lens_values.specs.Row.{row_cmp}
-use Rattle.lens_values.specs.SortedSet as set
-use Rattle.lens_values.specs.declared.row.Row.{Row}
-use Rattle.lens_specs.specs.Dependencies.{Edge, Meets, MeetsTree}
-use Rattle.lens_specs.specs.Relation.{Rows, first_row, has, union}
-use Rattle.lens_specs.specs.Rows.{agree}
+use Rattle.plain_values.specs.Row.{row_cmp, Row}
+use Rattle.plain_values.specs.SortedSet as set
+use Rattle.lens_specs.specs.Common.{Edge, Meets, MeetsTree, Rows, first_row, has, union, agree}
 use Rattle.lens_laws.specs.KeyedDeltas.{found, found_each, is_changed, touched}
-use Rattle.lens_laws.proofs.Deltas.{from_found_each, in_found_each, in_touched}
+use Rattle.lens_laws.proofs.Deltas.{from_found_each, in_found_each, in_touched, from_found}
 use Rattle.fd_laws.specs.Trees.{Among}
-use Rattle.fd_laws.proofs.Lists.{absurd_false}
-use Rattle.fd_laws.proofs.Relations.{first_some, from_those, from_union, in_those, in_union_left, in_union_right}
-use Rattle.fd_laws.proofs.Rows.{agree_back, agree_itself, agree_on}
+use Rattle.plain_values.proofs.Lists.{absurd_false}
+use Rattle.fd_laws.proofs.Common.{from_those, from_union, in_those, in_union_left, in_union_right, agree_back, agree_itself, agree_on}
+use Rattle.fd_laws.proofs.Relations.{first_some}
 use Rattle.revision.specs.Near.{HasChanged, agrees_with, is_like_first, near_through, unlike}
 use Rattle.revision.proofs.Near.{apart_from, changes_at}
 
 -- ---- that they are enough
-
-from_found : (T : List Edge) (M L : Rows) (m : Row) → has (found T M L) m ≡ true → has M m ≡ true
-unfolding found
-from_found [] M L m i = absurd_false _ i (set.contains-empty row_cmp m)
-from_found (e ∷ es) M L m i = elim (from_union _ _ m i) [
-  | inl j ↦ from_found_each e.left M (set.items L) m j
-  | inr j ↦ from_found es M L m j
-]
 
 in_found : (T : List Edge) (M L : Rows) (m : Row) → has M m ≡ true → is_changed T L m ≡ true → has (found T M L) m ≡ true
 unfolding touched

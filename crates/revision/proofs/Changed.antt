@@ -2,19 +2,12 @@
 use Rattle.std.proofs.Common.{◌≡◌, ℕ, ◌<◌, length, get_or, List, [], ◌∷◌, is_some, map, refl, sym, ap, ◌∙◌, subst, Bool, true, false, cond, suc, zero, arith}
 use Rattle.std.specs.Prelude.{filter}
 use Rattle.std.proofs.lemmas.List.Kept.{IsStrictlySortedBy-filter}
-use Rattle.lens_values.specs.Row.{row_cmp}
-use Rattle.lens_values.specs.SortedMap.{keys_rise}
-use Rattle.lens_values.specs.SortedSet as set
-use Rattle.lens_values.specs.declared.row.Row.{Row}
-use Rattle.lens_specs.specs.Columns.{Columns, Fits, names}
-use Rattle.lens_specs.specs.Names.{Name, Names, Within}
-use Rattle.lens_specs.specs.Rows.{at}
-use Rattle.lens_specs.specs.Relation.{Rows, image, those}
-use Rattle.lens_specs.specs.Dependencies.{AllEdges, Edge}
-use Rattle.lens_specs.specs.Revision.{revise, revise_row}
+use Rattle.plain_values.specs.Row.{row_cmp, Row}
+use Rattle.plain_values.specs.SortedMap.{keys_rise}
+use Rattle.plain_values.specs.SortedSet as set
+use Rattle.lens_specs.specs.Common.{Columns, Fits, names, Name, Names, Within, at, Rows, image, those, AllEdges, Edge, revise, revise_row}
 use Rattle.lens_laws.specs.KeyedDeltas.{found, is_changed, touched}
-use Rattle.fd_laws.proofs.Columns.{fits_names}
-use Rattle.fd_laws.proofs.Rows.{row_exact, row_total}
+use Rattle.fd_laws.proofs.Common.{fits_names, row_exact, row_total}
 use Rattle.revision.specs.Near.{HasChanged}
 use Rattle.revision.specs.Touching.{all_touched, becomes, differing}
 use Rattle.revision.specs.declared.touching.Touched.{Touched}

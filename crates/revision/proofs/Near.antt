@@ -4,20 +4,16 @@ use Rattle.std.specs.Prelude.{flat_map}
 use Rattle.std.specs.List.{list_any}
 use Rattle.std.specs.Ordering.{eq_by_cmp}
 use Rattle.std.proofs.Math.Nat.{mul_right_comm}
-use Rattle.std.proofs.lemmas.Bool.{and_parts, cases_Bool, not-true, true≢false}
+use Rattle.std.proofs.lemmas.Bool.{and_parts, cases_Bool, not-true, true≢false, false_from_ne_true}
 use Rattle.std.proofs.lemmas.List.{drop_more}
-use Rattle.lens_values.specs.Row.{row_cmp}
-use Rattle.lens_values.specs.SortedSet as set
-use Rattle.lens_values.specs.declared.row.Row.{Row}
-use Rattle.lens_specs.specs.Dependencies.{Edge, Meets, MeetsTree}
-use Rattle.lens_specs.specs.Relation.{Rows, has, minus, those}
-use Rattle.lens_specs.specs.Revision.{along, revise_row}
-use Rattle.lens_specs.specs.Rows.{agree}
+use Rattle.plain_values.specs.Row.{row_cmp, Row}
+use Rattle.plain_values.specs.SortedSet as set
+use Rattle.lens_specs.specs.Common.{Edge, Meets, MeetsTree, Rows, has, minus, those, along, revise_row, agree}
 use Rattle.lens_laws.specs.KeyedDeltas.{find_by, is_changed}
 use Rattle.fd_laws.specs.Trees.{Among}
-use Rattle.fd_laws.proofs.Lists.{absurd_false, false_from, from_append, from_flat_map, in_append_left, in_append_right, in_flat_map, any_from}
-use Rattle.fd_laws.proofs.Relations.{from_minus, from_those, in_minus, in_those, same_rel}
-use Rattle.fd_laws.proofs.Rows.{agree_back, agree_itself, agree_on, paste_same, row_itself, row_total, tied_row}
+use Rattle.plain_values.proofs.Lists.{absurd_false, from_append, from_flat_map, in_append_left, in_append_right, in_flat_map, any_from}
+use Rattle.fd_laws.proofs.Common.{from_minus, from_those, in_minus, in_those, same_rel, agree_back, agree_itself, agree_on, row_itself, row_total, tied_row}
+use Rattle.fd_laws.proofs.Rows.{paste_same}
 use Rattle.fd_laws.proofs.Trees.{along_cases}
 use Rattle.row_sets.specs.Members.{is_in}
 use Rattle.revision.specs.Near.{HasChanged, is_like, near_along, near_from}
@@ -170,8 +166,8 @@ changed_among T M L N h = same_rel _ _
 -- the new rows that are not among them are those that the relation lacks
 pub new_among : (T : List Edge) (M L N : Rows) → HasChanged T M L N → length T ≢ 0 → minus L N ≡ minus L M
 new_among T M L N h some = same_rel _ _
-    (λ m i. let w = from_minus L N m i in in_minus L M m w.0 (false_from _ (λ im. absurd_false _ (h.present some m w.0 im) w.1)))
-    (λ m i. let w = from_minus L M m i in in_minus L N m w.0 (false_from _ (λ k. absurd_false _ (h.within m k) w.1)))
+    (λ m i. let w = from_minus L N m i in in_minus L M m w.0 (false_from_ne_true _ (λ im. absurd_false _ (h.present some m w.0 im) w.1)))
+    (λ m i. let w = from_minus L M m i in in_minus L N m w.0 (false_from_ne_true _ (λ k. absurd_false _ (h.within m k) w.1)))
 
 -- ---- how many looks
 

@@ -1,13 +1,9 @@
 -- The rows near new ones: those that revision by them may change.
 use Rattle.std.specs.Prelude.{◌≡◌, ◌≢◌, ◌*◌, ℕ, length, Bool, true, false, not, cond, ◌&&◌, List, [], ◌∷◌, ◌++◌, Option, Some, None}
 use Rattle.std.specs.List.{Contains, list_any}
-use Rattle.lens_values.specs.SortedSet as set
-use Rattle.lens_values.specs.declared.row.Row.{Row}
-use Rattle.lens_specs.specs.Columns.{Fits, names}
-use Rattle.lens_specs.specs.Dependencies.{AllEdges, Edge, MeetsTree}
-use Rattle.lens_specs.specs.Names.{Names, Within}
-use Rattle.lens_specs.specs.Relation.{Relation, Rows, first_row, has, those, union}
-use Rattle.lens_specs.specs.Rows.{agree}
+use Rattle.plain_values.specs.SortedSet as set
+use Rattle.plain_values.specs.Row.{Row}
+use Rattle.lens_specs.specs.Common.{Fits, names, AllEdges, Edge, MeetsTree, Names, Within, Relation, Rows, first_row, has, those, union, agree}
 use Rattle.lens_laws.specs.KeyedDeltas.{find_by, found_each, is_changed}
 
 -- whether q agrees with p on both sides of the edge

@@ -1,6 +1,6 @@
 //! The first row for each key, where the key of a row is its values in some columns.
 ghost use Rattle.std.specs.Prelude.{◌≡◌, IfOk, option_copied};
-ghost use Rattle.lens_values.specs.SortedSet as set;
+ghost use Rattle.plain_values.specs.SortedSet as set;
 ghost use Rattle.lens_specs.specs.Relation.{first_row};
 ghost use Rattle.lens_specs.specs.Rows.{agree};
 ghost use Rattle.revision.specs.FirstByKey.{IsFirstByKey};

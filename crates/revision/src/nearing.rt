@@ -1,7 +1,7 @@
 //! The rows that revision by new rows may change, found by key.
 ghost use Rattle.std.specs.Prelude.{◌≡◌, ◌≢◌, ◌≤◌, ◌+◌, ◌*◌, [], ℕ, true, length, Contains, IfOk, is_some};
 ghost use Rattle.std.specs.List.{list_any};
-ghost use Rattle.lens_values.specs.SortedSet as set;
+ghost use Rattle.plain_values.specs.SortedSet as set;
 ghost use Rattle.lens_specs.specs.Columns.{Fits, names};
 ghost use Rattle.lens_specs.specs.Dependencies.{AllEdges};
 ghost use Rattle.lens_specs.specs.Names.{Within};

@@ -1,6 +1,6 @@
 //! Revision of rows and of relations, and merges.
 ghost use Rattle.std.specs.Prelude.{◌≡◌, IfOk, map, true};
-ghost use Rattle.lens_values.specs.SortedSet as set;
+ghost use Rattle.plain_values.specs.SortedSet as set;
 ghost use Rattle.lens_specs.specs.Dependencies.{MeetsTree};
 ghost use Rattle.lens_specs.specs.Predicate.{Predicate, holds};
 ghost use Rattle.lens_specs.specs.Relation.{Fits, IsRelation};

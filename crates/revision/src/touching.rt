@@ -1,6 +1,6 @@
 //! The rows that revision changes, found by key.
 ghost use Rattle.std.specs.Prelude.{◌≡◌, ◌≤◌, ◌+◌, ◌*◌, ℕ, length, map, IfOk, OnOk};
-ghost use Rattle.lens_values.specs.SortedSet as set;
+ghost use Rattle.plain_values.specs.SortedSet as set;
 ghost use Rattle.lens_specs.specs.Relation.{Rows, minus};
 ghost use Rattle.fd_laws.specs.Trees.{IsTree};
 ghost use Rattle.revision.specs.Near.{CanRevise, HasChanged, near_work};

@@ -1,6 +1,6 @@
 //! New rows by which an edge may change something.
 ghost use Rattle.std.specs.Prelude.{◌≡◌, IfOk};
-ghost use Rattle.lens_values.specs.SortedSet as set;
+ghost use Rattle.plain_values.specs.SortedSet as set;
 ghost use Rattle.revision.specs.FirstByKey.{IsFirstByKey};
 ghost use Rattle.revision.specs.Near.{is_like_first, unlike};
 

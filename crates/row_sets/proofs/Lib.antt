@@ -1,5 +1,4 @@
 pub mod Fitting
-pub mod Groups
 pub mod Natural
 pub mod Pairs
 pub mod Parts

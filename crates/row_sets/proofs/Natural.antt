@@ -5,23 +5,23 @@ use Rattle.std.specs.List.{AllByRecursion, list_any}
 use Rattle.std.specs.Ordering.{eq_by_cmp}
 use Rattle.std.specs.Cmp.Lexicographic.{nat_list_cmp_total}
 use Rattle.std.specs.FinMap as finmap
-use Rattle.lens_values.specs.Order.{bytes_cmp}
-use Rattle.lens_values.specs.Part.{override}
-use Rattle.lens_values.specs.Row.{row_cmp}
-use Rattle.lens_values.specs.RowOrder.{row_cmp_total, row_cmp-IsAntisymmetric}
-use Rattle.lens_values.specs.SortedMap.{keys_rise}
-use Rattle.lens_values.specs.SortedSet as set
-use Rattle.lens_values.specs.declared.row.Row.{Row}
-use Rattle.lens_values.specs.declared.value.Kind.{Kind}
-use Rattle.lens_values.specs.declared.value.Value.{Value}
-use Rattle.lens_values.proofs.Maps.{exact, is_tie}
-use Rattle.lens_specs.specs.Names.{Name, Names}
-use Rattle.lens_specs.specs.Rows.{agree, paste, paste_list, with_at}
-use Rattle.lens_specs.specs.Columns.{Columns, Fits, fits_at, names}
-use Rattle.lens_values.proofs.FitsLemmas.{fits_same}
-use Rattle.lens_specs.specs.Relation.{Rows, join, joined_with, natural}
+use Rattle.plain_values.specs.Order.{bytes_cmp}
+use Rattle.plain_values.specs.Part.{override}
+use Rattle.plain_values.specs.Row.{row_cmp, Row}
+use Rattle.plain_values.specs.RowOrder.{row_cmp_total, row_cmp-IsAntisymmetric}
+use Rattle.plain_values.specs.SortedMap.{keys_rise}
+use Rattle.plain_values.specs.SortedSet as set
+use Rattle.plain_values.specs.declared.value.Kind.{Kind}
+use Rattle.plain_values.specs.declared.value.Value.{Value}
+use Rattle.plain_values.proofs.Maps.{exact}
+use Rattle.lens_specs.specs.Common.{Name, Names, agree, paste, with_at, Columns, Fits, fits_at, names, Rows}
+use Rattle.lens_specs.specs.Rows.{paste_list}
+use Rattle.plain_values.proofs.FitsLemmas.{fits_same}
+use Rattle.plain_values.proofs.Tests.{is_tie, first_holds, second_holds}
+use Rattle.plain_values.proofs.Agreement.{agree_at}
+use Rattle.lens_specs.specs.Relation.{join, joined_with, natural}
 use Rattle.row_sets.specs.Joins.{pairs_on}
-use Rattle.row_sets.proofs.Pairs.{agree_at, all_members, any-filtered, any-flat_map, one_of}
+use Rattle.row_sets.proofs.Pairs.{all_members, any-filtered, any-flat_map, one_of}
 
 abbrev pub first_of : {X : Type 0} → Option X → Option X → Option X
 first_of None later = later
@@ -114,14 +114,6 @@ pair_fits : (U V : Columns) (m n : Row) → Fits U m → Fits V n → agree (set
 pair_fits U V m n fit fit' agrees c =
     fits_same _ _ _ _ (sym (get-both n m c)) (sym (get-both U V c))
     (one_fits (finmap.get m c) (finmap.get n c) (finmap.get U c) (finmap.get V c) (fit c) (fit' c) (λ both. agree_at (set.intersection (names U) (names V)) m n c agrees (in_both U V c both)))
-
-first_holds : (a b : Bool) → (a && b) ≡ true → a ≡ true
-first_holds true b h = refl
-first_holds false b h = cc
-
-second_holds : (a b : Bool) → (a && b) ≡ true → b ≡ true
-second_holds true b h = h
-second_holds false b h = cc
 
 pub joined_fit : (U V : Columns) (M N : Rows) → ((m : Row) → set.contains M m ≡ true → Fits U m) → ((n : Row) → set.contains N n ≡ true → Fits V n)
     → (row : Row) → set.contains (pairs_on (set.intersection (names U) (names V)) M N) row ≡ true → Fits (override U V) row

@@ -1,37 +1,25 @@
 -- Pairs of rows that agree, and what an index of them finds.
 use Rattle.std.proofs.Common.{◌≡◌, List, [], ◌∷◌, ◌++◌, ap, sym, ◌∙◌, refl, Bool, true, false, cond, map, inl, inr, get_or, arith}
-use Rattle.std.specs.Prelude.{◌||◌, ◌&&◌, filter, flat_map, Option, Some, None}
+use Rattle.std.specs.Prelude.{◌||◌, ◌&&◌, filter, flat_map}
 use Rattle.std.specs.declared.cmp.Ordering.{Ordering}
 use Rattle.std.specs.declared.cmp.Ordering.TheVariants.{Less, Equal, Greater}
-use Rattle.std.specs.List.{AllByRecursion, list_all, list_any}
+use Rattle.std.specs.List.{AllByRecursion, list_any}
 use Rattle.std.specs.Ordering.{eq_by_cmp, is_eq, is_gt, ordering_then}
 use Rattle.std.specs.List.Sorted.{IsStrictlySortedBy}
 use Rattle.std.specs.Cmp.{IsTotalOrder, on_total, then_total, tied_itself}
-use Rattle.std.specs.Cmp.Lexicographic.{nat_list_cmp_total}
-use Rattle.std.specs.FinMap as finmap
 use Rattle.std.specs.FinMap.{IsAntisymmetric}
 use Rattle.std.proofs.lemmas.Bool.{cases_lt}
 use Rattle.std.proofs.lemmas.List.Folds.{list_any-append}
 use Rattle.std.proofs.lemmas.Map.Keys.{Less-from_sorted}
-use Rattle.lens_values.specs.Part.{override, restrict}
-use Rattle.lens_values.specs.Row.{row_cmp}
-use Rattle.lens_values.specs.RowOrder.{row_cmp_total, row_cmp-IsAntisymmetric}
-use Rattle.lens_values.specs.SortedSet as set
-use Rattle.lens_values.specs.Value.{value_cmp}
-use Rattle.lens_values.specs.ValueOrder.{value_cmp_total, value_cmp-IsAntisymmetric}
-use Rattle.lens_values.specs.declared.row.Row.{Row}
-use Rattle.lens_values.specs.declared.value.Value.{Value}
-use Rattle.lens_values.proofs.Maps.{exact, is_tie}
-use Rattle.lens_specs.specs.Names.{Name, Names}
-use Rattle.lens_specs.specs.Rows.{agree, cut, same_value}
-use Rattle.lens_specs.specs.Relation.{Rows, image, project}
+use Rattle.plain_values.specs.Part.{override, restrict}
+use Rattle.plain_values.specs.Row.{row_cmp, Row}
+use Rattle.plain_values.specs.RowOrder.{row_cmp_total, row_cmp-IsAntisymmetric}
+use Rattle.plain_values.specs.SortedSet as set
+use Rattle.plain_values.proofs.Tests.{is_tie, same_bool, then_equal}
+use Rattle.plain_values.proofs.Agreement.{agree_parts}
+use Rattle.lens_specs.specs.Common.{Names, agree, cut, Rows, image, project}
 use Rattle.row_sets.specs.Joins.{entry_cmp, pairs_on, with_key}
-use Rattle.row_sets.proofs.Groups.{Ascend}
-
-same_bool : (a b : Bool) → (a ≡ true → b ≡ true) → (b ≡ true → a ≡ true) → a ≡ b
-same_bool true b f g = sym (f refl)
-same_bool false true f g = g refl
-same_bool false false f g = refl
+use Rattle.lens_values.proofs.Groups.{Ascend}
 
 or-true : (a : Bool) → (a || true) ≡ true
 or-true true = refl
@@ -86,68 +74,9 @@ module _ {K : Type 0} {R : K → K → Ordering} (o : IsTotalOrder R) (same : Is
   all_members P [] h = tt
   all_members P (x ∷ xs) h = (h x (ap (λ b. b || list_any (eq_by_cmp R x) xs) (itself x)), all_members P xs (λ y there. h y (ap (λ b. eq_by_cmp R y x || b) there ∙ or-true (eq_by_cmp R y x))))
 
-  all_pass : (p : K → Bool) (xs : List K) → AllByRecursion (λ x. p x ≡ true) xs → list_all p xs ≡ true
-  all_pass p [] a = refl
-  all_pass p (x ∷ xs) a = λ i. a.0 i && all_pass p xs a.1 i
-
-  of_all : (p : K → Bool) (x : K) (xs : List K) → list_all p xs ≡ true → list_any (eq_by_cmp R x) xs ≡ true → p x ≡ true
-  of_all p x [] all h = cc
-  of_all p x (y ∷ ys) all h = elim (p y) as (λ a. p y ≡ a → (a && list_all p ys) ≡ true → p x ≡ true) [
-    | true ↦ λ e rest. elim (eq_by_cmp R x y) as (λ b. eq_by_cmp R x y ≡ b → (b || list_any (eq_by_cmp R x) ys) ≡ true → p x ≡ true) [
-      | true ↦ λ tie _. ap p (same x y (is_tie (R x y) tie)) ∙ e
-      | false ↦ λ _ more. of_all p x ys rest more
-    ] refl h
-    | false ↦ λ _ no. cc
-  ] refl all
-
 -- ---- rows that agree
 
-value_itself : (o : Option Value) → same_value o o ≡ true
-value_itself None = refl
-value_itself (Some v) = ap is_eq (tied_itself value_cmp_total v)
-
-pub values_same : (o p : Option Value) → same_value o p ≡ true → o ≡ p
-values_same None None e = refl
-values_same None (Some w) e = cc
-values_same (Some v) None e = cc
-values_same (Some v) (Some w) e = ap Some (value_cmp-IsAntisymmetric v w (is_tie (value_cmp v w) e))
-
-get-part : (C : Names) (r : Row) (c : Name) → finmap.get (restrict C r) c ≡ cond (set.contains C c) (finmap.get r c) None
-get-part C r c = finmap.get-retain_keys r (set.contains C) c (λ x tie. ap (set.contains C) (sym (exact c x tie)))
-
--- rows that agree have the same in each column
-pub agree_at : (C : Names) (m n : Row) (c : Name) → agree C m n ≡ true → set.contains C c ≡ true → finmap.get m c ≡ finmap.get n c
-unfolding agree
-agree_at C m n c h there = values_same _ _ (of_all nat_list_cmp_total exact (λ c. same_value (finmap.get m c) (finmap.get n c)) c (set.items C) h (sym (set.contains-items C c) ∙ there))
-
--- and the same parts
-pub parts_same : (C : Names) (m n : Row) → agree C m n ≡ true → restrict C n ≡ restrict C m
-parts_same C m n h = finmap.same_map nat_list_cmp_total exact _ _ (λ c.
-    get-part C n c ∙ elim (set.contains C c) as (λ b. set.contains C c ≡ b → cond b (finmap.get n c) None ≡ cond b (finmap.get m c) None) [
-      | true ↦ λ there. sym (agree_at C m n c h there)
-      | false ↦ λ _. refl
-    ] refl ∙ sym (get-part C m c))
-
-get_same : (C : Names) (m n : Row) (c : Name) → restrict C n ≡ restrict C m → set.contains C c ≡ true → finmap.get m c ≡ finmap.get n c
-get_same C m n c e there =
-    let here : (r : Row) → finmap.get (restrict C r) c ≡ finmap.get r c = λ r. get-part C r c ∙ ap (λ b. cond b (finmap.get r c) None) there in
-    sym (here m) ∙ ap (λ p. finmap.get p c) (sym e) ∙ here n
-
--- they agree exactly where their parts tie
-agree_is : (C : Names) (m n : Row) → is_eq (row_cmp (restrict C n) (restrict C m)) ≡ agree C m n
-unfolding agree
-agree_is C m n = same_bool _ _
-    (λ tie. let e : restrict C n ≡ restrict C m = row_cmp-IsAntisymmetric _ _ (is_tie _ tie) in
-    all_pass nat_list_cmp_total exact (λ c. same_value (finmap.get m c) (finmap.get n c)) (set.items C) (all_members nat_list_cmp_total exact (λ c. same_value (finmap.get m c) (finmap.get n c) ≡ true) (set.items C)
-    (λ c there. ap (same_value (finmap.get m c)) (sym (get_same C m n c e (set.contains-items C c ∙ there))) ∙ value_itself (finmap.get m c))))
-    (λ h. ap (λ p. is_eq (row_cmp p (restrict C m))) (parts_same C m n h) ∙ ap is_eq (tied_itself row_cmp_total (restrict C m)))
-
 -- ---- an index
-
-then_equal : (a b : Ordering) → ordering_then a b ≡ Equal → (a ≡ Equal) × (b ≡ Equal)
-then_equal Less b e = cc
-then_equal Equal b e = (refl, e)
-then_equal Greater b e = cc
 
 entry_cmp_total : IsTotalOrder entry_cmp
 entry_cmp_total = then_total (on_total (λ e. e.0) row_cmp_total) (on_total (λ e. e.1) row_cmp_total)
@@ -169,7 +98,7 @@ paired_is C M N index alike = set.same_set row_cmp_total row_cmp-IsAntisymmetric
     any-filtered tied (λ e. override e.1 m) (λ e. is_eq (row_cmp e.0 (restrict C m))) index
     ∙ same_members entry_cmp_total entry_cmp-IsAntisymmetric index (map (with_key C) (set.items N)) alike (λ e. is_eq (row_cmp e.0 (restrict C m)) && tied (override e.1 m))
     ∙ any-map (λ e. is_eq (row_cmp e.0 (restrict C m)) && tied (override e.1 m)) (with_key C) (set.items N)
-    ∙ any_alike _ _ (set.items N) (λ n. ap (λ b. b && tied (override n m)) (agree_is C m n))
+    ∙ any_alike _ _ (set.items N) (λ n. ap (λ b. b && tied (override n m)) (agree_parts C m n))
     ∙ sym (any-filtered tied (λ n. override n m) (agree C m) (set.items N)))
     ∙ sym (any-flat_map tied (λ m. map (λ n. override n m) (filter (agree C m) (set.items N))) (set.items M))
     ∙ sym (set.contains-from_list row_cmp_total (flat_map (λ m. map (λ n. override n m) (filter (agree C m) (set.items N))) (set.items M)) q))

@@ -2,23 +2,18 @@
 use Rattle.std.proofs.Common.{◌≡◌, List, [], ◌∷◌, ap, sym, ◌∙◌, refl, Bool, true, false, None}
 use Rattle.std.specs.Prelude.{◌||◌, map}
 use Rattle.std.specs.Ordering.{eq_by_cmp, is_eq}
-use Rattle.std.specs.declared.cmp.Ordering.{Ordering}
-use Rattle.std.specs.declared.cmp.Ordering.TheVariants.{Less, Equal, Greater}
 use Rattle.std.specs.List.{list_any}
 use Rattle.std.specs.Cmp.{tied_itself}
 use Rattle.std.specs.FinMap as finmap
-use Rattle.std.specs.FinMap.{slice_cmp-IsAntisymmetric, nat_cmp-IsAntisymmetric}
-use Rattle.lens_values.specs.Order.{bytes_cmp}
-use Rattle.lens_values.specs.Part.{restrict}
-use Rattle.lens_values.specs.Row.{row_cmp}
-use Rattle.lens_values.specs.RowOrder.{row_cmp_total, row_cmp-IsAntisymmetric}
-use Rattle.lens_values.specs.SortedSet as set
-use Rattle.lens_values.specs.declared.row.Row.{Row}
-use Rattle.lens_specs.specs.Names.{Names}
-use Rattle.lens_specs.specs.Rows.{cut}
+use Rattle.plain_values.specs.Part.{restrict}
+use Rattle.plain_values.specs.Row.{row_cmp, Row}
+use Rattle.plain_values.specs.RowOrder.{row_cmp_total, row_cmp-IsAntisymmetric}
+use Rattle.plain_values.specs.SortedSet as set
+use Rattle.lens_specs.specs.Common.{Names, cut, Columns, Rows, Fits, image, project}
 use Rattle.lens_specs.specs.Columns.{columns_in}
-use Rattle.lens_values.proofs.FitsLemmas.{fits_same, fits_cond}
-use Rattle.lens_specs.specs.Relation.{Columns, Rows, Fits, image, project}
+use Rattle.plain_values.proofs.FitsLemmas.{fits_same, fits_cond}
+use Rattle.plain_values.proofs.Tests.{is_tie}
+use Rattle.plain_values.proofs.Maps.{exact}
 use Rattle.row_sets.specs.Members.{is_in}
 
 pub parts_are : (C : Names) (rows : Rows) → set.from_list (map (restrict C) (set.items rows)) ≡ project C rows
@@ -29,11 +24,6 @@ or-true : (a : Bool) → (a || true) ≡ true
 or-true true = refl
 or-true false = refl
 
-tie_is : (r : Ordering) → is_eq r ≡ true → r ≡ Equal
-tie_is Less e = cc
-tie_is Equal e = refl
-tie_is Greater e = cc
-
 one_of : (t : Row → Bool) (xs : List Row) → list_any t xs ≡ true → (x : Row) × (is_in xs x ≡ true) × (t x ≡ true)
 one_of t [] h = cc
 one_of t (x ∷ xs) h = elim (t x) as (λ b. t x ≡ b → (b || list_any t xs) ≡ true → (y : Row) × (is_in (x ∷ xs) y ≡ true) × (t y ≡ true)) [
@@ -41,16 +31,13 @@ one_of t (x ∷ xs) h = elim (t x) as (λ b. t x ≡ b → (b || list_any t xs) 
   | false ↦ λ e more. let w = one_of t xs more in (w.0, ap (λ b. eq_by_cmp row_cmp w.0 x || b) w.1 ∙ or-true (eq_by_cmp row_cmp w.0 x), w.2)
 ] refl h
 
-name_exact : finmap.IsAntisymmetric bytes_cmp
-name_exact = slice_cmp-IsAntisymmetric nat_cmp-IsAntisymmetric
-
 -- a row cut down fits the columns cut down
 fits_cut : (C : Names) (columns : Columns) (row : Row) → Fits columns row → Fits (columns_in columns C) (cut C row)
 unfolding cut
 fits_cut C columns row fits c =
     let inside = set.contains C in
-    fits_same _ _ _ _ (sym (finmap.get-retain_keys row inside c (λ x tie. ap inside (sym (name_exact c x tie)))))
-    (sym (finmap.get-retain_keys columns inside c (λ x tie. ap inside (sym (name_exact c x tie)))))
+    fits_same _ _ _ _ (sym (finmap.get-retain_keys row inside c (λ x tie. ap inside (sym (exact c x tie)))))
+    (sym (finmap.get-retain_keys columns inside c (λ x tie. ap inside (sym (exact c x tie)))))
     (fits_cond (inside c) (finmap.get row c) None (finmap.get columns c) None (λ _. fits c) (λ _. refl))
 
 pub projected_fit : (C : Names) (columns : Columns) (rows : Rows) → ((row : Row) → set.contains rows row ≡ true → Fits columns row)
@@ -58,5 +45,5 @@ pub projected_fit : (C : Names) (columns : Columns) (rows : Rows) → ((row : Ro
 unfolding project image
 projected_fit C columns rows fit row there =
     let w = one_of (λ r. eq_by_cmp row_cmp row (cut C r)) (set.items rows) (sym (set.contains-image row_cmp row_cmp_total (cut C) rows row) ∙ there) in
-    let same : row ≡ cut C w.0 = row_cmp-IsAntisymmetric row (cut C w.0) (tie_is _ w.2) in
+    let same : row ≡ cut C w.0 = row_cmp-IsAntisymmetric row (cut C w.0) (is_tie _ w.2) in
     rw same (fits_cut C columns w.0 (fit w.0 (set.contains-items rows w.0 ∙ w.1)))

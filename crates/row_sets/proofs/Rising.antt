@@ -10,7 +10,7 @@ use Rattle.std.specs.Ordering.{as_partial_cmp, eq_by_cmp, is_le, is_lt, ordering
 use Rattle.std.proofs.lemmas.Bool.{true≢false}
 use Rattle.std.proofs.lemmas.List.Sorted.{list_any-IsPermutation}
 use Rattle.std.proofs.lemmas.Map.Keys.{Less-from_sorted, sorted_from_all_adjacent}
-use Rattle.lens_values.specs.SortedSet.{nothing_rises}
+use Rattle.plain_values.specs.SortedSet.{nothing_rises}
 
 less_is : (r : Ordering) → true ≡ is_lt r → r ≡ Less
 less_is Less e = refl

@@ -1,5 +1,5 @@
 -- Walks along two strictly rising lists, whose members are their own keys.
-use Rattle.std.proofs.Common.{◌≡◌, ℕ, ◌+◌, ◌<◌, ◌≤◌, List, [], ◌∷◌, ◌++◌, length, drop, get_or, ap, sym, subst, ◌∙◌, refl, map, Bool, false, zero, suc, arith}
+use Rattle.std.proofs.Common.{◌≡◌, ℕ, ◌+◌, ◌<◌, ◌≤◌, List, [], ◌∷◌, ◌++◌, length, drop, get_or, ap, sym, subst, ◌∙◌, refl, Bool, false, zero, suc, arith, map-id}
 use Rattle.std.specs.Prelude.{not, filter}
 use Rattle.std.specs.declared.cmp.Ordering.{Ordering}
 use Rattle.std.specs.declared.cmp.Ordering.TheVariants.{Less, Equal, Greater}
@@ -7,13 +7,9 @@ use Rattle.std.specs.List.{list_any}
 use Rattle.std.specs.List.Sorted.{IsStrictlySortedBy}
 use Rattle.std.specs.Ordering.{eq_by_cmp}
 use Rattle.std.specs.Cmp.{IsTotalOrder}
-use Rattle.lens_values.specs.Keys.{KeysRise}
+use Rattle.plain_values.specs.Keys.{KeysRise}
 use Rattle.lens_values.proofs.Walks.{kept_past, missing_less, missing_equal}
-pub use Rattle.lens_values.proofs.Walks.{any_none, apart, below_all, merge, merge_ends, merge_ends_right, part_is, under}
-
-map-id : {K : Type 0} (xs : List K) → map (λ x. x) xs ≡ xs
-map-id [] = refl
-map-id (x ∷ xs) = ap (λ l. x ∷ l) (map-id xs)
+pub use Rattle.lens_values.proofs.Walks.{any_none, apart, below_all, merge, merge_ends, merge_ends_right, under}
 
 drop_past : {K : Type 0} (xs : List K) (i : ℕ) → length xs ≤ i → drop i xs ≡ []
 drop_past [] zero l = refl

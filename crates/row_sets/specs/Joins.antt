@@ -2,13 +2,10 @@
 use Rattle.std.specs.Prelude.{Option, Some, None, filter, flat_map, map}
 use Rattle.std.specs.declared.cmp.Ordering.{Ordering}
 use Rattle.std.specs.Ordering.{on, then_cmp}
-use Rattle.lens_values.specs.Part.{override, restrict}
-use Rattle.lens_values.specs.Row.{row_cmp}
-use Rattle.lens_values.specs.SortedSet as set
-use Rattle.lens_values.specs.declared.row.Row.{Row}
-use Rattle.lens_specs.specs.Names.{Names}
-use Rattle.lens_specs.specs.Rows.{agree}
-use Rattle.lens_specs.specs.Relation.{Rows}
+use Rattle.plain_values.specs.Part.{override, restrict}
+use Rattle.plain_values.specs.Row.{row_cmp, Row}
+use Rattle.plain_values.specs.SortedSet as set
+use Rattle.lens_specs.specs.Common.{Names, agree, Rows}
 
 -- by the first row, and then by the second
 abbrev pub entry_cmp : Row × Row → Row × Row → Ordering

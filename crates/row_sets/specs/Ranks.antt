@@ -1,5 +1,5 @@
 -- Rows behind ranks.
-use Rattle.lens_values.specs.declared.row.Row.{Row}
+use Rattle.plain_values.specs.Row.{Row}
 use Rattle.row_sets.specs.declared.ranking.Ranked.{Ranked}
 
 -- the row behind the rank

@@ -3,8 +3,8 @@ ghost use Rattle.std.specs.Prelude.{◌≡◌, ◌≤◌, ◌++◌, IfOk, IfSome
 ghost use Rattle.std.specs.List.{list_any};
 ghost use Rattle.std.specs.List.Sorted.{IsPartitionPoint, IsPartitionedBy, IsStrictlySortedBy};
 ghost use Rattle.std.specs.Ordering.{eq_by_cmp, is_eq, is_le};
-ghost use Rattle.lens_values.specs.Part.{override, restrict};
-ghost use Rattle.lens_values.specs.Row.{row_cmp};
+ghost use Rattle.plain_values.specs.Part.{override, restrict};
+ghost use Rattle.plain_values.specs.Row.{row_cmp};
 ghost use Rattle.row_sets.specs.Joins.{entry_cmp, kept_of, with_key};
 
 use lens_values::{Names, NoMemory, Row, into_sorted};

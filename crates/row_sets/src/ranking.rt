@@ -2,7 +2,7 @@
 ghost use Rattle.std.specs.Prelude.{◌≡◌, IfOk, map};
 ghost use Rattle.std.specs.List.{list_any};
 ghost use Rattle.std.specs.Ordering.{eq_by_cmp};
-ghost use Rattle.lens_values.specs.Row.{row_cmp};
+ghost use Rattle.plain_values.specs.Row.{row_cmp};
 ghost use Rattle.row_sets.specs.Ranks.{row_of};
 
 use lens_values::{NoMemory, Row, Value};

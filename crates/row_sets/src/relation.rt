@@ -1,8 +1,8 @@
 //! Relations: rows over the same columns.
 ghost use Rattle.std.specs.Prelude.{◌≡◌, IfOk, OnOk, OnErr, not, true, None};
-ghost use Rattle.lens_values.specs.Columns.{kinds_differ, names};
-ghost use Rattle.lens_values.specs.Part.{override};
-ghost use Rattle.lens_values.specs.SortedSet as set;
+ghost use Rattle.plain_values.specs.Columns.{kinds_differ, names};
+ghost use Rattle.plain_values.specs.Part.{override};
+ghost use Rattle.plain_values.specs.SortedSet as set;
 ghost use Rattle.lens_specs.specs.Relation.{Fits, IsRelation, join_relations, project_relation};
 
 use crate::row_set::RowSet;

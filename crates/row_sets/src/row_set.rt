@@ -4,9 +4,9 @@ ghost use Rattle.std.specs.List.{list_any};
 ghost use Rattle.std.specs.List.Sorted.{IsSorted, IsStrictlySortedBy};
 ghost use Rattle.std.specs.Ordering.{eq_by_cmp};
 ghost use Rattle.lens_specs.specs.Relation.{project};
-ghost use Rattle.lens_values.specs.Part.{restrict};
-ghost use Rattle.lens_values.specs.Row.{row_cmp};
-ghost use Rattle.lens_values.specs.SortedSet as set;
+ghost use Rattle.plain_values.specs.Part.{restrict};
+ghost use Rattle.plain_values.specs.Row.{row_cmp};
+ghost use Rattle.plain_values.specs.SortedSet as set;
 ghost use Rattle.row_sets.specs.Joins.{pairs_on};
 
 use crate::joining::{indexed, paired};
@@ -24,8 +24,8 @@ pub struct RowSet {
 
 impl Model for RowSet {
     ghost use Rattle.std.specs.List.Sorted.{IsStrictlySortedBy};
-    ghost use Rattle.lens_values.specs.Row.{row_cmp};
-    ghost use Rattle.lens_values.specs.SortedSet as set;
+    ghost use Rattle.plain_values.specs.Row.{row_cmp};
+    ghost use Rattle.plain_values.specs.SortedSet as set;
     ghost use Rattle.lens_values.specs.contracts.row.Row as contract;
 
     ghost Value = { set.SortedSet row_cmp };

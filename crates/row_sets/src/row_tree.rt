@@ -1,8 +1,8 @@
 //! A finite set of rows with quick insertion and removal.
 ghost use Rattle.std.specs.Prelude.{◌≡◌, IfOk, OnOk, OnErr, length};
 ghost use Rattle.std.specs.BTreeSet.{IsFromIterResult};
-ghost use Rattle.lens_values.specs.Row.{row_cmp};
-ghost use Rattle.lens_values.specs.SortedSet as set;
+ghost use Rattle.plain_values.specs.Row.{row_cmp};
+ghost use Rattle.plain_values.specs.SortedSet as set;
 
 use crate::row_set::RowSet;
 use lens_values::{NoMemory, Row};
@@ -17,8 +17,8 @@ pub struct RowTree {
 }
 
 impl Model for RowTree {
-    ghost use Rattle.lens_values.specs.Row.{row_cmp};
-    ghost use Rattle.lens_values.specs.SortedSet as set;
+    ghost use Rattle.plain_values.specs.Row.{row_cmp};
+    ghost use Rattle.plain_values.specs.SortedSet as set;
     ghost use Rattle.lens_values.specs.contracts.row.Row as contract;
 
     ghost Value = { set.SortedSet row_cmp };

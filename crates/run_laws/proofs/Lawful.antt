@@ -3,10 +3,8 @@ use Rattle.std.proofs.Common.{◌≡◌, ◌≤◌, ◌+◌, ℕ, List, [], ◌�
 use Rattle.std.specs.Prelude.{Option, None, Some, Ok, IfSome, flat_map, min}
 use Rattle.std.specs.FinMap as finmap
 use Rattle.std.specs.Io.KnownBytes.{Appends, Consumes, IsAtEnd}
-use Rattle.lens_specs.specs.Delta.{TableDelta, changes, differences}
-use Rattle.lens_specs.specs.Lens.{Lens, Tables, get, put}
-use Rattle.lens_specs.specs.Relation.{Name, Rows}
-use Rattle.lens_specs.specs.TableDeltas.{AreDeltas, LeadTo}
+use Rattle.lens_io.proofs.Taken.{if_some}
+use Rattle.lens_specs.specs.Common.{TableDelta, changes, differences, Lens, Tables, get, put, Name, Rows, AreDeltas, LeadTo}
 use Rattle.lens_laws.specs.Edits.{AreDiffs}
 use Rattle.io_specs.specs.Lines.{Line, lines}
 use Rattle.catalog_specs.specs.Catalogue.{catalogue}
@@ -180,10 +178,6 @@ all_came None left' came c e = tt
 all_came (Some bytes) None came c e = absurd c
 all_came (Some bytes) (Some rest) came c e = sym (c ∙ ap (λ r. came ++ r) e ∙ append-nil came)
 
-some_same : (left : Option (List ℕ)) (P Q : List ℕ → Type 0) → ((bytes : List ℕ) → P bytes → Q bytes) → IfSome left P → IfSome left Q
-some_same None P Q f p = tt
-some_same (Some bytes) P Q f p = f bytes p
-
 -- a count that rose after the load rose in the run
 rose_since : (top count start count' : ℕ) → count ≤ start → min (start + 1) top ≤ count' → min (count + 1) top ≤ count'
 rose_since top count start count' h r = omega arith
@@ -211,5 +205,5 @@ runs_are_lawful s stays status left left' given given' asked asked' offered offe
           subst (Appends given given') (ap joined all ∙ joined_texts (answers run.first serves.taken)) (serves.all_replies gave),
       λ zero.
           let ended = serves.all_lines zero in
-          some_same left (λ bytes. serves.came ≡ bytes) (λ bytes. serves.taken ≡ lines bytes) (λ bytes is. ended.0 ∙ ap lines is) (all_came left left' serves.came serves.consumed ended.1),
+          if_some left (λ bytes. serves.came ≡ bytes) (λ bytes. serves.taken ≡ lines bytes) (λ bytes is. ended.0 ∙ ap lines is) (all_came left left' serves.came serves.consumed ended.1),
     )

@@ -4,14 +4,9 @@ use Rattle.std.specs.FinMap as finmap
 use Rattle.std.specs.List.{AllByRecursion}
 use Rattle.std.specs.Io.KnownBytes.{Appends}
 use Rattle.serde_json.specs.Data.{Data}
-use Rattle.lens_values.specs.declared.value.Kind.{Kind}
-use Rattle.lens_values.specs.declared.value.Value.{Value}
-use Rattle.lens_specs.specs.Delta.{TableDelta, changes, differences}
-use Rattle.lens_specs.specs.Keeping.{Kept}
-use Rattle.lens_specs.specs.Lens.{Lens, Tables, get, sort_of}
-use Rattle.lens_specs.specs.Relation.{Name, Rows}
-use Rattle.lens_specs.specs.Sort.{IsOf}
-use Rattle.lens_specs.specs.TableDeltas.{AreDeltas, LeadTo}
+use Rattle.plain_values.specs.declared.value.Kind.{Kind}
+use Rattle.plain_values.specs.declared.value.Value.{Value}
+use Rattle.lens_specs.specs.Common.{TableDelta, changes, differences, Kept, Lens, Tables, get, sort_of, Name, Rows, IsOf, AreDeltas, LeadTo}
 use Rattle.lens_laws.specs.Edits.{AreDiffs}
 use Rattle.io_specs.specs.Faults.{Rose}
 use Rattle.io_specs.specs.Lines.{lines}

@@ -3,20 +3,12 @@ use Rattle.std.proofs.Common.{◌≡◌, List, [], ◌∷◌, arith, length, map
 use Rattle.std.specs.Prelude.{Bool, not}
 use Rattle.std.proofs.lemmas.Bool.{true≢false}
 use Rattle.std.proofs.lemmas.List.{length-map}
-use Rattle.lens_values.specs.Row.{row_cmp}
-use Rattle.lens_values.specs.SortedSet as set
-use Rattle.lens_values.specs.declared.row.Row.{Row}
-use Rattle.lens_specs.specs.Columns.{Columns, Fits}
-use Rattle.lens_specs.specs.Delta.{Applies, Delta, diff}
-use Rattle.lens_specs.specs.Dependencies.{Edge, MeetsTree}
-use Rattle.lens_specs.specs.Nodes.{select_get}
-use Rattle.lens_specs.specs.Predicate.{Predicate, holds}
-use Rattle.lens_specs.specs.Relation.{Rows, has, those, union}
-use Rattle.lens_specs.specs.Revision.{revise, revise_row}
+use Rattle.plain_values.specs.Row.{row_cmp, Row}
+use Rattle.plain_values.specs.SortedSet as set
+use Rattle.lens_specs.specs.Common.{Columns, Fits, Applies, Delta, diff, Edge, MeetsTree, select_get, Predicate, holds, Rows, has, those, union, revise, revise_row}
 use Rattle.lens_laws.specs.KeyedDeltas.{is_changed, select_delta, select_touched}
 use Rattle.fd_laws.specs.Trees.{IsTree}
-use Rattle.fd_laws.proofs.Relations.{from_image, from_those, in_those, same_rel, sets}
-use Rattle.fd_laws.proofs.Rows.{row_exact, row_total}
+use Rattle.fd_laws.proofs.Common.{from_image, from_those, in_those, same_rel, sets, row_exact, row_total}
 use Rattle.lens_laws.proofs.Deltas.{in_new_view_added}
 use Rattle.lens_laws.proofs.SelectDelta.{select_delta_is}
 use Rattle.signed_delta.specs.Disjoint.{AreApart}

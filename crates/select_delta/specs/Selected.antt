@@ -1,11 +1,6 @@
 -- Selections, and edits of them.
 use Rattle.std.specs.Prelude.{List}
-use Rattle.lens_specs.specs.Columns.{Columns}
-use Rattle.lens_specs.specs.Delta.{Delta, new_view}
-use Rattle.lens_specs.specs.Dependencies.{Edge}
-use Rattle.lens_specs.specs.Nodes.{select_get, select_put}
-use Rattle.lens_specs.specs.Predicate.{Predicate, holds}
-use Rattle.lens_specs.specs.Relation.{Rows}
+use Rattle.lens_specs.specs.Common.{Columns, Delta, new_view, Edge, select_get, select_put, Predicate, holds, Rows}
 use Rattle.lens_laws.specs.Shapes.{IsIn}
 
 -- the rows of M that P holds on, after an edit of them

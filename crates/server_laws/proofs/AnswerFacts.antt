@@ -4,15 +4,10 @@ use Rattle.std.specs.Prelude.{IfSome, codes, slice_get}
 use Rattle.std.specs.List.{AllByRecursion}
 use Rattle.std.specs.FinMap as finmap
 use Rattle.serde_json.specs.Data.{Data, null, boolean, number, string, array, object, Members}
-use Rattle.lens_values.specs.declared.row.Row.{Row}
-use Rattle.lens_values.specs.declared.value.Kind.{Kind}
-use Rattle.lens_values.specs.declared.value.Value.{Value}
-use Rattle.lens_specs.specs.Names.{Name}
-use Rattle.lens_specs.specs.Relation.{Rows}
-use Rattle.lens_specs.specs.Sort.{off, Clash, clash as first_clash}
-use Rattle.lens_specs.specs.Lens.{Tables, Lens, sort_of, get, put as put_rows}
-use Rattle.lens_specs.specs.Delta.{TableDelta, changes, differences}
-use Rattle.lens_specs.specs.Refusal.{Refusal, too_large}
+use Rattle.plain_values.specs.Row.{Row}
+use Rattle.plain_values.specs.declared.value.Kind.{Kind}
+use Rattle.plain_values.specs.declared.value.Value.{Value}
+use Rattle.lens_specs.specs.Common.{Name, Rows, off, Clash, clash as first_clash, Tables, Lens, sort_of, get, put as put_rows, TableDelta, changes, differences, Refusal, too_large}
 use Rattle.io_specs.specs.Lines as lines
 use Rattle.io_specs.specs.Lines.{Line, line}
 use Rattle.grammar_specs.specs.Meaning.{Definition, table, view}

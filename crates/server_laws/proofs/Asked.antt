@@ -1,14 +1,11 @@
 -- The new view that a change asks for is of the lens's sort.
 use Rattle.std.proofs.Common.{◌≡◌, ℕ, Bool, true, false, List, Option, Some, None, Result, Ok, Err, inl, inr, refl, ap, subst, ◌∙◌}
 use Rattle.serde_json.specs.Data.{Items}
-use Rattle.lens_values.specs.SortedSet as set
-use Rattle.lens_values.specs.declared.row.Row.{Row}
+use Rattle.plain_values.specs.SortedSet as set
+use Rattle.plain_values.specs.Row.{Row}
 use Rattle.fd_laws.proofs.Relations.{from_union, from_minus}
 use Rattle.lens_laws.proofs.Lenses.{get_sort}
-use Rattle.lens_specs.specs.Relation.{Rows, minus}
-use Rattle.lens_specs.specs.Sort.{Sort, off, Clash, clash as first_clash, IsOf}
-use Rattle.lens_specs.specs.Lens.{Lens, sort_of, get}
-use Rattle.lens_specs.specs.Delta.{new_view}
+use Rattle.lens_specs.specs.Common.{Rows, minus, Sort, off, Clash, clash as first_clash, IsOf, Lens, sort_of, get, new_view}
 use Rattle.server_specs.specs.State.{State}
 use Rattle.server_specs.specs.EditRefusal.{EditRefusal, Listed, in_rows, in_remove, in_add}
 use Rattle.server_specs.specs.Sending.{BadRow, rows_in}

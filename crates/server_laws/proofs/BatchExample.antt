@@ -2,24 +2,17 @@
 use Rattle.std.proofs.Common.{◌≡◌, ◌∙◌, true, false, cond, codes, List, [], ◌∷◌, Some, None, Ok, refl, sym, ap, subst, inl, inr, arith}
 use Rattle.std.specs.FinMap as finmap
 use Rattle.std.specs.Str.{chars, is_utf8}
+use Rattle.std.proofs.lemmas.Bool.{false_from_ne_true}
 use Rattle.serde_json.proofs.OnLiterals.{serde_json_on_literals}
 use Rattle.serde_json.specs.Data.{no_items}
-use Rattle.lens_values.specs.Order.{bytes_cmp}
-use Rattle.lens_values.specs.Row.{row_cmp}
-use Rattle.lens_values.specs.SortedSet as set
-use Rattle.lens_values.specs.declared.row.Row.{Row}
-use Rattle.fd_laws.proofs.Lists.{false_from, absurd_false}
-use Rattle.fd_laws.proofs.Names.{name_total, name_itself}
-use Rattle.fd_laws.proofs.Relations.{from_those}
+use Rattle.plain_values.specs.Order.{bytes_cmp}
+use Rattle.plain_values.specs.Row.{row_cmp, Row}
+use Rattle.plain_values.specs.SortedSet as set
+use Rattle.plain_values.proofs.Lists.{absurd_false}
+use Rattle.fd_laws.proofs.Common.{name_total, name_itself, from_those}
 use Rattle.lens_laws.proofs.Deltas.{from_new_view, in_new_view_added}
 use Rattle.lens_laws.proofs.Sorts.{none_clash, none_off}
-use Rattle.lens_specs.specs.Delta.{Delta, TableDelta, changes, new_view}
-use Rattle.lens_specs.specs.Lens.{get, put as put_rows, sort_of, rows_or_none, table as rows_of_table}
-use Rattle.lens_specs.specs.Nodes.{select_get}
-use Rattle.lens_specs.specs.Predicate.{holds}
-use Rattle.lens_specs.specs.Relation.{Relation, Rows, has}
-use Rattle.lens_specs.specs.Sort.{clash}
-use Rattle.lens_specs.specs.TreeForm.{tree_of}
+use Rattle.lens_specs.specs.Common.{Delta, TableDelta, changes, new_view, get, put as put_rows, sort_of, rows_or_none, table as rows_of_table, select_get, holds, Relation, Rows, has, clash, tree_of}
 use Rattle.io_specs.specs.Lines.{Line, line}
 use Rattle.server_specs.specs.Answer.{text, told}
 use Rattle.server_specs.specs.Answering.{answer}
@@ -69,7 +62,7 @@ M = new_view (get V state.tables) d
 -- the view has no row
 has_none : (r : Row) → has (get V state.tables) r ≡ false
 unfolding get select_get
-has_none r = false_from _ (λ i. absurd_false _ (from_those (holds P) (rows_of_table state.tables t) r i).0
+has_none r = false_from_ne_true _ (λ i. absurd_false _ (from_those (holds P) (rows_of_table state.tables t) r i).0
     (ap (λ o. has (rows_or_none o) r) (finmap.get-insert name_total finmap.empty t (record { columns = U; rows = set.empty }) t
     ∙ ap (λ b. cond b (Some (record { columns = U; rows = set.empty })) (finmap.get (finmap.empty {X = Relation} {R = bytes_cmp}) t)) (name_itself t))
     ∙ set.contains-empty row_cmp r))

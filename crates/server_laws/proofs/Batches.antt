@@ -3,10 +3,7 @@ use Rattle.std.proofs.Common.{◌≡◌, ◌∙◌, ◌⊎◌, ◌+◌, ℕ, suc
 use Rattle.std.specs.Prelude.{◌↔◌}
 use Rattle.std.specs.FinMap as finmap
 use Rattle.lens_laws.proofs.Lenses.{get_after, put_back, put_leaves}
-use Rattle.lens_specs.specs.Lens.{Lens, Tables, get, put, sort_of}
-use Rattle.lens_specs.specs.Delta.{TableDelta, changes, differences}
-use Rattle.lens_specs.specs.Relation.{Rows}
-use Rattle.lens_specs.specs.Sort.{IsOf}
+use Rattle.lens_specs.specs.Common.{Lens, Tables, get, put, sort_of, TableDelta, changes, differences, Rows, IsOf, AreDeltas, LeadTo}
 use Rattle.io_specs.specs.Lines.{Line}
 use Rattle.catalog_specs.specs.Catalogue.{catalogue}
 use Rattle.server_specs.specs.State.{State}
@@ -14,7 +11,6 @@ use Rattle.server_specs.specs.EditRefusal as refusals
 use Rattle.server_specs.specs.EditRefusal.{EditRefusal, in_add, in_remove}
 use Rattle.server_specs.specs.Answer.{Answer, changed, in_edit, told as told_answer}
 use Rattle.server_specs.specs.Request.{BatchEdit, batch as batch_request, edit as edit_request, request}
-use Rattle.lens_specs.specs.TableDeltas.{AreDeltas, LeadTo}
 use Rattle.server_specs.specs.Changing.{accept, asked_view, changed_by, edited, set_in, settled}
 use Rattle.server_specs.specs.Batching.{KnownEdit, at_tables, batch, batch_settled, edit_tables, edits_from, known_view, put_in, then_edits, with_known}
 use Rattle.server_specs.specs.Answering.{answer, answer_request}

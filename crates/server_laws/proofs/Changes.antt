@@ -4,17 +4,11 @@ use Rattle.std.specs.Prelude.{◌↔◌}
 use Rattle.std.proofs.lemmas.Bool.{cases_Bool}
 use Rattle.std.specs.FinMap as finmap
 use Rattle.serde_json.specs.Data.{Items}
-use Rattle.lens_values.specs.SortedSet as set
-use Rattle.lens_values.specs.declared.row.Row.{Row}
+use Rattle.plain_values.specs.SortedSet as set
+use Rattle.plain_values.specs.Row.{Row}
 use Rattle.lens_laws.specs.Checks.{IsOff}
 use Rattle.lens_laws.specs.Edits.{AreDiffs}
-use Rattle.lens_specs.specs.Names.{Name}
-use Rattle.lens_specs.specs.Relation.{Rows}
-use Rattle.lens_specs.specs.Predicate.{holds}
-use Rattle.lens_specs.specs.Dependencies.{Edge}
-use Rattle.lens_specs.specs.Sort.{IsOf}
-use Rattle.lens_specs.specs.Lens.{Tables, Lens, sort_of, get, put as put_rows, tables_of}
-use Rattle.lens_specs.specs.Delta.{TableDelta, changes, differences}
+use Rattle.lens_specs.specs.Common.{Name, Rows, holds, Edge, IsOf, Tables, Lens, sort_of, get, put as put_rows, tables_of, TableDelta, changes, differences}
 use Rattle.io_specs.specs.Lines.{Line}
 use Rattle.catalog_specs.specs.Catalogue.{catalogue}
 use Rattle.server_specs.specs.State.{State}

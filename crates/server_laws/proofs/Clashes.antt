@@ -1,19 +1,17 @@
 -- The first clash of rows with a tree is one.
-use Rattle.std.proofs.Common.{◌≡◌, ℕ, suc, ◌+◌, List, [], ◌∷◌, ◌++◌, length, Option, Some, None, inl, inr, refl, sym, ap, subst, ◌∙◌, arith}
+use Rattle.std.proofs.Common.{◌≡◌, ℕ, suc, ◌+◌, List, [], ◌∷◌, ◌++◌, length, Option, Some, None, refl, sym, ap, subst, ◌∙◌, arith}
 use Rattle.std.specs.Prelude.{◌≢◌}
 use Rattle.std.proofs.lemmas.Bool.{true≢false}
 use Rattle.std.specs.Ordering.{ordering_reverse}
 use Rattle.std.specs.declared.cmp.Ordering.{Ordering}
 use Rattle.std.specs.declared.cmp.Ordering.TheVariants.{Less, Equal, Greater}
-use Rattle.lens_values.specs.Row.{row_cmp}
-use Rattle.lens_values.specs.declared.row.Row.{Row}
+use Rattle.plain_values.specs.Row.{row_cmp, Row}
 use Rattle.lens_laws.proofs.Least.{clash_is}
 use Rattle.fd_laws.proofs.Rows.{row_total, row_exact}
 use Rattle.lens_laws.proofs.Sorts.{clash_none}
-use Rattle.lens_laws.specs.Checks.{IsClash, IsNoLater, IsLeastClash, IsFirstClash}
-use Rattle.lens_specs.specs.Relation.{Rows}
-use Rattle.lens_specs.specs.Dependencies.{Edge, Meets, MeetsTree}
-use Rattle.lens_specs.specs.Sort.{Clash, clash}
+use Rattle.lens_laws.specs.Checks.{IsClash, IsLeastClash, IsFirstClash}
+use Rattle.lens_laws.proofs.EditChecks.{later_both}
+use Rattle.lens_specs.specs.Common.{Rows, Edge, Meets, MeetsTree, Clash, clash}
 
 -- two rows that are both no later are one
 pub least_is_one : (a b : Row) (o : Ordering) → row_cmp a b ≡ o → o ≢ Greater → row_cmp b a ≢ Greater → a ≡ b
@@ -25,19 +23,8 @@ least_is_one a b Greater is h k = absurd (h refl)
 no_less : (r : Row) → row_cmp r r ≡ Less → ⊥
 no_less r e = let f : row_cmp r r ≡ Greater = row_total.antisymm r r ∙ ap ordering_reverse e in let g : Less ≡ Greater = sym e ∙ f in cc
 
--- two rows are not each before the other
-not_both : (r p : Row) → row_cmp r p ≡ Less → row_cmp p r ≡ Less → ⊥
-not_both r p e f = let g : row_cmp p r ≡ Greater = row_total.antisymm p r ∙ ap ordering_reverse e in let h : Less ≡ Greater = sym f ∙ g in cc
-
--- two pairs that are each no later than the other are one
-one_pair : (r s p q : Row) → IsNoLater r s p q → IsNoLater p q r s → (r ≡ p) × (s ≡ q)
-one_pair r s p q (inl e) (inl f) = absurd (not_both r p e f)
-one_pair r s p q (inl e) (inr f) = absurd (no_less r (subst (λ x. row_cmp r x ≡ Less) f.0 e))
-one_pair r s p q (inr e) (inl f) = absurd (no_less r (subst (λ x. row_cmp x r ≡ Less) (sym e.0) f))
-one_pair r s p q (inr e) (inr f) = (e.0, least_is_one s q (row_cmp s q) refl e.1 f.1)
-
 least_pairs : (e : Edge) (M : Rows) (r s p q : Row) → IsLeastClash e M r s → IsLeastClash e M p q → (r ≡ p) × (s ≡ q)
-least_pairs e M r s p q a b = one_pair r s p q (a.least p q b.clash) (b.least r s a.clash)
+least_pairs e M r s p q a b = later_both r s p q (a.least p q b.clash) (b.least r s a.clash)
 
 -- rows that meet an edge have no clash on it
 met_no_clash : (e : Edge) (M : Rows) (r s : Row) → Meets M e.left e.right → IsClash e M r s → ⊥

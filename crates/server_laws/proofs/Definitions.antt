@@ -1,21 +1,15 @@
 -- Definitions that are taken or refused, what a new name shows, and what stays.
 use Rattle.std.proofs.Common.{◌≡◌, ◌+◌, ℕ, true, false, cond, List, Option, Some, None, Result, Ok, Err, is_some, inl, inr, refl, sym, ap, subst, ◌∙◌}
 use Rattle.std.specs.Prelude.{◌↔◌, ◌-◌, length, slice_get}
-use Rattle.std.proofs.lemmas.Bool.{or_cases, true≢false}
+use Rattle.std.proofs.lemmas.Bool.{or_cases, true≢false, false_from_ne_true}
 use Rattle.std.specs.FinMap as finmap
 use Rattle.std.specs.Ordering.{eq_by_cmp}
-use Rattle.lens_values.specs.Order.{bytes_cmp}
-use Rattle.lens_values.specs.SortedSet as set
-use Rattle.fd_laws.proofs.Lists.{false_from}
+use Rattle.plain_values.specs.Order.{bytes_cmp}
+use Rattle.plain_values.specs.SortedSet as set
 use Rattle.fd_laws.proofs.Names.{name_total, name_itself, tied_name, one_is}
 use Rattle.lens_laws.proofs.Lenses.{get_same}
-use Rattle.lens_specs.specs.Names.{Name}
-use Rattle.lens_specs.specs.Columns.{Columns}
-use Rattle.lens_specs.specs.Relation.{Relation}
-use Rattle.lens_specs.specs.Dependencies.{Edge}
-use Rattle.lens_specs.specs.Predicate.{Predicate}
-use Rattle.lens_specs.specs.Lens.{Tables, Lens, base, select, drop, rename, join, get, tables_of, rows_or_none}
-use Rattle.lens_specs.specs.Typing.{table_sort}
+use Rattle.lens_specs.specs.Common.{Name, Columns, Relation, Edge, Predicate, Tables, Lens, base, select, drop, rename, get, tables_of, rows_or_none, table_sort}
+use Rattle.lens_specs.specs.Lens.{join}
 use Rattle.io_specs.specs.Lines.{Line}
 use Rattle.grammar_specs.specs.Meaning.{Definition, table, view, Expr}
 use Rattle.grammar_specs.specs.Faults.{Fault}
@@ -191,7 +185,7 @@ stored_there q (Some L) r h i = refl
 
 -- a name that has a lens is another than one that is free
 other : (known : Catalogue) (name q : Name) → is_taken known name ≡ false → is_some (finmap.get known q) ≡ true → eq_by_cmp bytes_cmp q name ≡ false
-other known name q free h = false_from _ (λ is. absurd (true≢false (sym h ∙ ap (λ n. is_some (finmap.get known n)) (tied_name q name is) ∙ free)))
+other known name q free h = false_from_ne_true _ (λ is. absurd (true≢false (sym h ∙ ap (λ n. is_some (finmap.get known n)) (tied_name q name is) ∙ free)))
 
 -- what is under other names stays
 left_alone : {X : Type 0} (m : finmap.FinMap bytes_cmp X) (name : Name) (x : X) (q : Name) → eq_by_cmp bytes_cmp q name ≡ false → finmap.get (finmap.insert m name x) q ≡ finmap.get m q

@@ -1,25 +1,19 @@
 -- Differences of tables: which are empty, and what their names are.
 use Rattle.std.proofs.Common.{◌≡◌, true, false, cond, ◌&&◌, List, [], ◌∷◌, length, refl, sym, ap, ◌∙◌, inl, inr}
 use Rattle.std.specs.Prelude.{nat_eq}
-use Rattle.std.proofs.lemmas.Bool.{cases_Bool, and_parts, or_from, or_parts, eqb-true}
+use Rattle.std.proofs.lemmas.Bool.{cases_Bool, and_parts, or_from, or_parts, eqb-true, false_from_ne_true}
 use Rattle.std.specs.List.{list_any, AllByRecursion}
 use Rattle.std.specs.List.Sorted.{IsStrictlySortedBy}
 use Rattle.std.specs.Ordering.{eq_by_cmp, is_eq}
 use Rattle.std.specs.declared.cmp.Ordering.TheVariants.{Less}
 use Rattle.std.specs.Cmp.Lexicographic.{pointwise, texts_ties}
-use Rattle.lens_values.specs.Order.{bytes_cmp}
-use Rattle.lens_values.specs.Row.{row_cmp}
-use Rattle.lens_values.specs.SortedMap.{keys_rise}
-use Rattle.lens_values.specs.SortedSet as set
-use Rattle.lens_values.specs.declared.row.Row.{Row}
-use Rattle.fd_laws.proofs.Lists.{in_head, false_from, absurd_false}
-use Rattle.fd_laws.proofs.Names.{name_itself, tied_name}
-use Rattle.fd_laws.proofs.Relations.{same_rel, in_minus, from_minus}
-use Rattle.fd_laws.proofs.Rows.{tied_row, row_itself}
-use Rattle.lens_specs.specs.Names.{Name, Names, is_among}
-use Rattle.lens_specs.specs.Relation.{Rows, has, minus}
-use Rattle.lens_specs.specs.Lens.{Tables, table}
-use Rattle.lens_specs.specs.Delta.{diff, is_empty, differences}
+use Rattle.plain_values.specs.Order.{bytes_cmp}
+use Rattle.plain_values.specs.Row.{row_cmp, Row}
+use Rattle.plain_values.specs.SortedMap.{keys_rise}
+use Rattle.plain_values.specs.SortedSet as set
+use Rattle.plain_values.proofs.Lists.{in_head, absurd_false}
+use Rattle.fd_laws.proofs.Common.{name_itself, tied_name, same_rel, in_minus, from_minus, tied_row, row_itself}
+use Rattle.lens_specs.specs.Common.{Name, Names, is_among, Rows, has, minus, Tables, table, diff, is_empty, differences}
 
 -- ---- names without repeats
 
@@ -42,7 +36,7 @@ items_distinct M = rising_distinct (set.items M) (keys_rise bytes_cmp M)
 
 -- a name of the rest is not this one
 pub other_name : (t u : Name) (ts : List Name) → is_among t ts ≡ false → is_among u ts ≡ true → eq_by_cmp bytes_cmp u t ≡ false
-other_name t u ts o i = false_from _ (λ e. absurd_false _ i (ap (λ v. is_among v ts) (tied_name u t e) ∙ o))
+other_name t u ts o i = false_from_ne_true _ (λ e. absurd_false _ i (ap (λ v. is_among v ts) (tied_name u t e) ∙ o))
 
 -- ---- empty differences
 
@@ -68,7 +62,7 @@ empty_same old new h =
     same_rel old new (in_both old new (none_in (minus old new) w.0)) (in_both new old (none_in (minus new old) w.1))
 
 none_of_itself : (M : Rows) → length (set.items (minus M M)) ≡ 0
-none_of_itself M = no_list (set.items (minus M M)) (λ r. sym (set.contains-items (minus M M) r) ∙ false_from _ (λ i. let w = from_minus M M r i in absurd_false _ w.0 w.1))
+none_of_itself M = no_list (set.items (minus M M)) (λ r. sym (set.contains-items (minus M M) r) ∙ false_from_ne_true _ (λ i. let w = from_minus M M r i in absurd_false _ w.0 w.1))
 
 -- and from rows to themselves it is empty
 pub same_empty : (M : Rows) → is_empty (diff M M) ≡ true
@@ -83,7 +77,7 @@ none_differ [] db = refl
 none_differ (t ∷ ts) db = ap (λ b. cond b (differences ts db db) (record { table = t; delta = diff (table db t) (table db t) } ∷ differences ts db db)) (same_empty (table db t)) ∙ none_differ ts db
 
 unlike : (t u : Name) → eq_by_cmp bytes_cmp t u ≡ false → pointwise nat_eq u t ≡ false
-unlike t u o = false_from _ (λ e. absurd_false _ (ap (eq_by_cmp bytes_cmp t) (tied_name u t (sym (texts_ties u t) ∙ e)) ∙ name_itself t) o)
+unlike t u o = false_from_ne_true _ (λ e. absurd_false _ (ap (eq_by_cmp bytes_cmp t) (tied_name u t (sym (texts_ties u t) ∙ e)) ∙ name_itself t) o)
 
 -- a name that is not among the tables is of none of their differences
 pub not_later : (old new : Tables) (t : Name) (ts : List Name) → is_among t ts ≡ false → list_any (λ later. pointwise nat_eq later.table t) (differences ts old new) ≡ false

@@ -1,38 +1,29 @@
 -- A state with a table and a drop of a selection of it, and a put that changes it.
 use Rattle.std.proofs.Common.{◌≡◌, ◌+◌, ℕ, Bool, true, false, cond, not, ◌||◌, ◌&&◌, List, [], ◌∷◌, Option, Some, None, option_map, is_some, Result, Ok, Err, refl, sym, ap, subst, ◌∙◌}
-use Rattle.std.proofs.lemmas.Bool.{true≢false}
+use Rattle.std.proofs.lemmas.Bool.{false_from_ne_true}
 use Rattle.std.specs.Prelude.{◌-◌, codes, pos, nat_le}
 use Rattle.std.specs.List.{find}
 use Rattle.std.specs.FinMap as finmap
 use Rattle.std.specs.FinMap.Entries as listed
 use Rattle.std.specs.Ordering.{eq_by_cmp}
-use Rattle.lens_values.specs.Order.{bytes_cmp}
-use Rattle.lens_values.specs.Row.{row_cmp}
-use Rattle.lens_values.specs.SortedSet as set
-use Rattle.lens_values.specs.declared.row.Row.{Row}
-use Rattle.lens_values.specs.declared.value.Kind.{Kind}
-use Rattle.lens_values.specs.declared.value.Kind.TheVariants as kind
-use Rattle.lens_values.specs.declared.value.Value.TheVariants.{Int}
-use Rattle.lens_values.proofs.FitsLemmas.{fits_same}
-use Rattle.lens_values.proofs.ValueLemmas.{int_fits}
-use Rattle.fd_laws.proofs.Columns.{names-get, get-without}
-use Rattle.fd_laws.proofs.Lists.{false_from, absurd_false}
-use Rattle.fd_laws.proofs.Names.{name_total, name_itself, tied_name, one_itself, subset_from}
-use Rattle.fd_laws.proofs.Relations.{from_those, from_project}
-use Rattle.fd_laws.proofs.Rows.{row_total, tied_row, row_itself, agree_itself}
+use Rattle.plain_values.specs.Order.{bytes_cmp}
+use Rattle.plain_values.specs.Row.{row_cmp, Row}
+use Rattle.plain_values.specs.SortedSet as set
+use Rattle.plain_values.specs.declared.value.Kind.{Kind}
+use Rattle.plain_values.specs.declared.value.Kind.TheVariants as kind
+use Rattle.plain_values.specs.declared.value.Value.TheVariants.{Int}
+use Rattle.plain_values.proofs.FitsLemmas.{fits_same}
+use Rattle.plain_values.proofs.ValueLemmas.{int_fits}
+use Rattle.fd_laws.proofs.Common.{names-get, name_total, name_itself, tied_name, one_itself, from_those, from_project, row_total, tied_row, row_itself, agree_itself}
+use Rattle.fd_laws.proofs.Columns.{get-without}
+use Rattle.plain_values.proofs.Lists.{absurd_false}
+use Rattle.plain_values.proofs.Tests.{or_no}
+use Rattle.fd_laws.proofs.Names.{subset_from}
 use Rattle.lens_laws.proofs.Sorts.{none_clash, none_off}
-use Rattle.lens_specs.specs.Names.{Name, one, same_names}
-use Rattle.lens_specs.specs.Rows.{agree}
-use Rattle.lens_specs.specs.Columns.{Columns, Fits, fits_at, names, least_outside, without_column}
-use Rattle.lens_specs.specs.Relation.{Rows, Relation, has, those}
-use Rattle.lens_specs.specs.Dependencies.{Edge, MeetsTree}
-use Rattle.lens_specs.specs.TreeForm.{TreeForm, tree_of, outputs}
-use Rattle.lens_specs.specs.Predicate.{gt, compare, Predicate, holds, compared}
-use Rattle.lens_specs.specs.Sort.{Sort}
-use Rattle.lens_specs.specs.Refusal.{Refusal, is_like, unknown_column, kind_clash, predicate_kind, source_mentions_output, no_such_dependency, or_else, or_name, when, unless as or_unlike, too_large, columns_limit, tables_limit, views_limit, unknown_name, unlike_kinds, unsteady}
-use Rattle.lens_specs.specs.Nodes.{select_get, drop_get}
-use Rattle.lens_specs.specs.Lens.{Lens, select, drop, select_sort, drop_sort, sort_of, view_names, get, rows_or_none, tree_or_none, table as rows_of_table}
-use Rattle.lens_specs.specs.Typing.{and_then, unless_refused, select_fault, is_determined, drop_fault, sort, table_sort_with, table_sort}
+use Rattle.lens_specs.specs.Common.{Name, one, same_names, agree, Columns, Fits, fits_at, names, least_outside, without_column, Rows, Relation, has, those, Edge, MeetsTree, TreeForm, tree_of, outputs, gt, compare, Predicate, holds, Sort, Refusal, unknown_column, kind_clash, or_else, when, too_large, tables_limit, views_limit, unknown_name, unlike_kinds, unsteady, select_get, drop_get, Lens, select, drop, select_sort, drop_sort, sort_of, view_names, get, rows_or_none, tree_or_none, table as rows_of_table, unless_refused, select_fault, is_determined, drop_fault, sort, table_sort_with, table_sort}
+use Rattle.lens_specs.specs.Predicate.{compared}
+use Rattle.lens_specs.specs.Refusal.{is_like, predicate_kind, source_mentions_output, no_such_dependency, or_name, unless as or_unlike, columns_limit}
+use Rattle.lens_specs.specs.Typing.{and_then}
 use Rattle.grammar_specs.specs.Meaning as meaning
 use Rattle.grammar_specs.specs.Meaning.{Expr, named, Definition, table, view}
 use Rattle.grammar_specs.specs.Faults as faults
@@ -243,10 +234,6 @@ N = set.from_list (row ∷ [])
 there : has N row ≡ true
 there = set.contains-from_list row_total (row ∷ []) row ∙ ap (λ x. x || false) (row_itself row)
 
-or_no : (x : Bool) → (x || false) ≡ true → x ≡ true
-or_no true h = refl
-or_no false h = absurd (true≢false (sym h))
-
 only : (r : Row) → has N r ≡ true → r ≡ row
 only r i = tied_row r row (or_no (eq_by_cmp row_cmp r row) (sym (set.contains-from_list row_total (row ∷ []) r) ∙ i))
 
@@ -291,7 +278,7 @@ no_rows r =
 
 is_new : has (get V state.tables) row ≡ false
 unfolding get select_get drop_get
-is_new = false_from _ (λ i.
+is_new = false_from_ne_true _ (λ i.
     let w = from_project (set.difference (view_names (select P T)) (one b)) (those (holds P) (rows_of_table state.tables t)) row i in
     absurd_false _ (from_those (holds P) (rows_of_table state.tables t) w.0 w.1).0 (no_rows w.0))
 

@@ -2,9 +2,7 @@
 use Rattle.std.proofs.Common.{◌≡◌, ℕ, suc, List, [], ◌∷◌, Option, Some, None, Result, Ok, Err, subst, refl}
 use Rattle.std.specs.FinMap as finmap
 use Rattle.lens_laws.proofs.Lenses.{get_after}
-use Rattle.lens_specs.specs.Lens.{Lens, Tables, put, sort_of}
-use Rattle.lens_specs.specs.Relation.{Rows}
-use Rattle.lens_specs.specs.Sort.{IsOf}
+use Rattle.lens_specs.specs.Common.{Lens, Tables, put, sort_of, Rows, IsOf}
 use Rattle.catalog_specs.specs.Catalogue.{catalogue}
 use Rattle.server_specs.specs.State.{State}
 use Rattle.server_specs.specs.EditRefusal.{EditRefusal}

@@ -1,35 +1,27 @@
 -- A state with a table and a view, and a put that changes it: the premises of the laws can be met.
-use Rattle.std.proofs.Common.{◌≡◌, ◌+◌, ℕ, Bool, true, false, cond, not, ◌||◌, ◌&&◌, List, [], ◌∷◌, length, Option, Some, None, option_map, is_some, Ok, Err, refl, sym, ap, subst, ◌∙◌, arith}
-use Rattle.std.proofs.lemmas.Bool.{true≢false}
+use Rattle.std.proofs.Common.{◌≡◌, ◌+◌, ℕ, true, false, cond, not, ◌||◌, ◌&&◌, List, [], ◌∷◌, Option, Some, None, option_map, is_some, Ok, Err, refl, sym, ap, subst, ◌∙◌}
+use Rattle.std.proofs.lemmas.Bool.{false_from_ne_true}
 use Rattle.std.specs.Prelude.{codes, pos, nat_le}
 use Rattle.std.specs.List.{find}
 use Rattle.std.specs.FinMap as finmap
 use Rattle.std.specs.FinMap.Entries as listed
 use Rattle.std.specs.Ordering.{eq_by_cmp}
-use Rattle.lens_values.specs.Order.{bytes_cmp}
-use Rattle.lens_values.specs.Row.{row_cmp}
-use Rattle.lens_values.specs.SortedSet as set
-use Rattle.lens_values.specs.declared.row.Row.{Row}
-use Rattle.lens_values.specs.declared.value.Kind.{Kind}
-use Rattle.lens_values.specs.declared.value.Kind.TheVariants as kind
-use Rattle.lens_values.specs.declared.value.Value.TheVariants.{Int}
-use Rattle.fd_laws.proofs.Lists.{false_from, absurd_false}
-use Rattle.fd_laws.proofs.Names.{name_total, name_itself}
-use Rattle.fd_laws.proofs.Relations.{from_those}
-use Rattle.fd_laws.proofs.Rows.{row_total, tied_row, row_itself}
+use Rattle.std.proofs.lemmas.List.{nil_from_length}
+use Rattle.plain_values.specs.Order.{bytes_cmp}
+use Rattle.plain_values.specs.Row.{row_cmp, Row}
+use Rattle.plain_values.specs.SortedSet as set
+use Rattle.plain_values.specs.declared.value.Kind.{Kind}
+use Rattle.plain_values.specs.declared.value.Kind.TheVariants as kind
+use Rattle.plain_values.specs.declared.value.Value.TheVariants.{Int}
+use Rattle.plain_values.proofs.Lists.{absurd_false}
+use Rattle.fd_laws.proofs.Common.{name_total, name_itself, from_those, row_total, tied_row, row_itself}
 use Rattle.lens_laws.proofs.Sorts.{none_clash, none_off}
-use Rattle.lens_specs.specs.Names.{Name}
-use Rattle.lens_specs.specs.Columns.{Columns, Fits}
-use Rattle.lens_values.proofs.FitsLemmas.{fits_same, fits_cond}
-use Rattle.lens_values.proofs.ValueLemmas.{int_fits}
-use Rattle.lens_specs.specs.Relation.{Rows, Relation, has}
-use Rattle.lens_specs.specs.Predicate.{gt, compare, Predicate, holds, mentions, compared}
-use Rattle.lens_specs.specs.Refusal.{Refusal, is_like, unknown_column, predicate_kind, source_mentions_output, or_else, or_name, when, unless as or_unlike, too_large, columns_limit, tables_limit, views_limit, unknown_name, unlike_kinds, unsteady}
-use Rattle.lens_specs.specs.TreeForm.{outputs, tree_of}
-use Rattle.lens_specs.specs.Sort.{clash}
-use Rattle.lens_specs.specs.Typing.{sort, table_sort, select_fault, unless_refused}
-use Rattle.lens_specs.specs.Nodes.{select_get}
-use Rattle.lens_specs.specs.Lens.{Lens, select, select_sort, sort_of, get, rows_or_none, table as rows_of_table}
+use Rattle.lens_specs.specs.Common.{Name, Columns, Fits, Rows, Relation, has, gt, compare, Predicate, holds, mentions, Refusal, unknown_column, or_else, when, too_large, tables_limit, views_limit, unknown_name, unlike_kinds, unsteady, outputs, tree_of, clash, sort, table_sort, select_fault, unless_refused, select_get, Lens, select, select_sort, sort_of, get, rows_or_none, table as rows_of_table}
+use Rattle.plain_values.proofs.FitsLemmas.{fits_same, fits_cond}
+use Rattle.plain_values.proofs.ValueLemmas.{int_fits}
+use Rattle.plain_values.proofs.Tests.{or_no}
+use Rattle.lens_specs.specs.Predicate.{compared}
+use Rattle.lens_specs.specs.Refusal.{is_like, predicate_kind, source_mentions_output, or_name, unless as or_unlike, columns_limit}
 use Rattle.grammar_specs.specs.Meaning.{Definition, table, view, named}
 use Rattle.grammar_specs.specs.Meaning as language
 use Rattle.grammar_specs.specs.Faults as faults
@@ -107,12 +99,8 @@ V = select P T
 abbrev one : Catalogue
 one = finmap.insert none t T
 
-pub nothing : {A : Type 0} (es : List A) → length es ≡ 0 → es ≡ []
-nothing [] e = refl
-nothing (x ∷ es) e = absurd (omega arith)
-
 pub no_entries : finmap.entries none ≡ []
-no_entries = nothing (finmap.entries none) (sym (finmap.len-entries none) ∙ finmap.len-empty bytes_cmp Lens)
+no_entries = nil_from_length (finmap.entries none) (sym (finmap.len-entries none) ∙ finmap.len-empty bytes_cmp Lens)
 
 pub no_tables : table_count none ≡ 0
 no_tables = ap (count_named is_table_of) no_entries
@@ -200,10 +188,6 @@ N = set.from_list (row ∷ [])
 pub there : has N row ≡ true
 there = set.contains-from_list row_total (row ∷ []) row ∙ ap (λ b. b || false) (row_itself row)
 
-or_no : (b : Bool) → (b || false) ≡ true → b ≡ true
-or_no true e = refl
-or_no false e = absurd (true≢false (sym e))
-
 pub only : (r : Row) → has N r ≡ true → r ≡ row
 only r i = tied_row r row (or_no (eq_by_cmp row_cmp r row) (sym (set.contains-from_list row_total (row ∷ []) r) ∙ i))
 
@@ -229,7 +213,7 @@ accepted = (accepted_where V N state all_fit).1 (record { columns = all_fit; off
 
 pub is_new : has (get V state.tables) row ≡ false
 unfolding get select_get
-is_new = false_from _ (λ i. absurd_false _ (from_those (holds P) (rows_of_table state.tables t) row i).0
+is_new = false_from_ne_true _ (λ i. absurd_false _ (from_those (holds P) (rows_of_table state.tables t) row i).0
     (ap (λ o. has (rows_or_none o) row) (finmap.get-insert name_total finmap.empty t (record { columns = U; rows = set.empty }) t
     ∙ ap (λ b. cond b (Some (record { columns = U; rows = set.empty })) (finmap.get (finmap.empty {X = Relation} {R = bytes_cmp}) t)) (name_itself t))
     ∙ set.contains-empty row_cmp row))

@@ -7,19 +7,18 @@ use Rattle.std.specs.List.{find, list_all}
 use Rattle.std.specs.Fmt.{digits}
 use Rattle.std.specs.Option.{option_map}
 use Rattle.std.specs.Str.{chars, is_utf8}
+use Rattle.std.proofs.lemmas.List.{nil_from_length}
 use Rattle.serde_json.proofs.OnLiterals.{serde_json_on_literals}
 use Rattle.csv.specs.Writing.{escaped, fields_text, is_blank}
-use Rattle.lens_values.specs.Bytes.{is_name}
-use Rattle.lens_values.specs.Order.{bytes_cmp}
-use Rattle.lens_values.specs.Row.{row_cmp}
-use Rattle.lens_values.specs.SortedSet as set
-use Rattle.lens_values.specs.Value.{is_nullable}
-use Rattle.lens_values.specs.declared.value.Value.{Value}
-use Rattle.lens_values.specs.declared.value.Value.TheVariants.{Int}
-use Rattle.fd_laws.proofs.Names.{name_total}
-use Rattle.fd_laws.proofs.Rows.{row_total}
-use Rattle.lens_specs.specs.Lens.{get}
-use Rattle.lens_specs.specs.Relation.{has}
+use Rattle.plain_values.specs.Bytes.{is_name}
+use Rattle.plain_values.specs.Order.{bytes_cmp}
+use Rattle.plain_values.specs.Row.{row_cmp}
+use Rattle.plain_values.specs.SortedSet as set
+use Rattle.plain_values.specs.Value.{is_nullable}
+use Rattle.plain_values.specs.declared.value.Value.{Value}
+use Rattle.plain_values.specs.declared.value.Value.TheVariants.{Int}
+use Rattle.fd_laws.proofs.Common.{name_total, row_total}
+use Rattle.lens_specs.specs.Common.{get, has}
 use Rattle.io_specs.specs.Lines.{Line, line}
 use Rattle.catalog_specs.specs.Catalogue.{catalogue}
 use Rattle.sheet_specs.specs.Fields.{field_of}
@@ -35,7 +34,7 @@ use Rattle.server_specs.specs.Validity.{Valid}
 use Rattle.server_laws.specs.SheetLaws.{IsExportLine}
 use Rattle.server_laws.specs.Witness.{ExportsCanComeBack}
 use Rattle.server_laws.proofs.Definitions.{lenses_stay}
-use Rattle.server_laws.proofs.Example.{v, a, U, V, state, valid, known_view, row, N, there, all_fit, accepted, nothing, only}
+use Rattle.server_laws.proofs.Example.{v, a, U, V, state, valid, known_view, row, N, there, all_fit, accepted, only}
 use Rattle.server_laws.proofs.Exports.{exports_sheets, reads_back}
 use Rattle.server_laws.proofs.Puts.{put_then_read}
 use Rattle.server_laws.proofs.Stale.{present_fresh}
@@ -83,13 +82,13 @@ names_are = ap (map (λ e. e.0)) one_entry
 
 values_are : finmap.values row ≡ Int (pos 1) ∷ []
 values_are = ap (map (λ e. e.1)) (finmap.entries-insert name_total (finmap.empty {X = Value} {R = bytes_cmp}) a (Int (pos 1))
-    ∙ ap (listed.put bytes_cmp a (Int (pos 1))) (nothing (finmap.entries (finmap.empty {X = Value} {R = bytes_cmp}))
+    ∙ ap (listed.put bytes_cmp a (Int (pos 1))) (nil_from_length (finmap.entries (finmap.empty {X = Value} {R = bytes_cmp}))
     (sym (finmap.len-entries (finmap.empty {X = Value} {R = bytes_cmp})) ∙ finmap.len-empty bytes_cmp Value)))
 
 rows_are : set.items N ≡ row ∷ []
 unfolding set.insert set.empty
 rows_are = ap (map (λ e. e.0)) (finmap.entries-insert row_total (finmap.empty {X = Unit {0}} {R = row_cmp}) row tt
-    ∙ ap (listed.put row_cmp row tt) (nothing (finmap.entries (finmap.empty {X = Unit {0}} {R = row_cmp}))
+    ∙ ap (listed.put row_cmp row tt) (nil_from_length (finmap.entries (finmap.empty {X = Unit {0}} {R = row_cmp}))
     (sym (finmap.len-entries (finmap.empty {X = Unit {0}} {R = row_cmp})) ∙ finmap.len-empty row_cmp (Unit {0}))))
 
 text_is : text_of ((a ∷ []) ∷ (codes "1" ∷ []) ∷ []) ≡ csv

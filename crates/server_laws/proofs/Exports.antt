@@ -1,17 +1,16 @@
 -- Lines that export and import.
-use Rattle.std.proofs.Common.{◌≡◌, ◌∙◌, ℕ, Bool, true, false, cond, not, ◌&&◌, List, [], ◌∷◌, Option, Some, None, option_map, Result, Ok, Err, ap, sym, refl}
-use Rattle.std.specs.List.{find, list_all}
+use Rattle.std.proofs.Common.{◌≡◌, ◌∙◌, ℕ, false, ◌&&◌, List, [], ◌∷◌, Option, Some, None, option_map, Result, Ok, Err, ap, sym, refl}
+use Rattle.std.specs.List.{find}
 use Rattle.std.specs.FinMap as finmap
-use Rattle.lens_values.specs.SortedSet as set
-use Rattle.lens_specs.specs.Lens.{Lens, get, sort_of, tables_of}
-use Rattle.lens_specs.specs.Names.{Name}
-use Rattle.lens_specs.specs.Relation.{Rows}
+use Rattle.plain_values.specs.SortedSet as set
+use Rattle.lens_specs.specs.Common.{Lens, get, sort_of, tables_of, Name, Rows}
 use Rattle.io_specs.specs.Lines.{Line}
 use Rattle.catalog_specs.specs.Catalogue.{catalogue}
 use Rattle.sheet_specs.specs.Sheets.{sheet, unsheet}
 use Rattle.sheet_specs.proofs.RoundTrip.{sheets_read_back}
-use Rattle.lens_values.specs.Value.{is_nullable}
-use Rattle.lens_values.specs.declared.value.Kind.{Kind}
+use Rattle.plain_values.specs.Value.{is_nullable}
+use Rattle.plain_values.specs.declared.value.Kind.{Kind}
+use Rattle.plain_values.proofs.Lists.{none_found}
 use Rattle.lens_laws.proofs.Lenses.{get_sort}
 use Rattle.server_laws.proofs.Stored.{lens_here}
 use Rattle.server_specs.specs.State.{State}
@@ -66,14 +65,6 @@ others_left s l name L csv on asked lens t other =
     ap (λ r. finmap.get r.1.tables t) (import_is s l name csv on asked ∙ ap (λ o. imported_by csv on name o s) lens) ∙ import_leaves s L on t other (first_nullable (sort_of L).columns) csv
 
 -- ---- what reads back
-
--- where none is found, none passes
-none_found : {A : Type 0} (p : A → Bool) (xs : List A) → find p xs ≡ None → list_all (λ x. not (p x)) xs ≡ true
-none_found p [] e = refl
-none_found p (x ∷ xs) e = elim (p x) as (λ b. cond b (Some x) (find p xs) ≡ None → (not b && list_all (λ y. not (p y)) xs) ≡ true) [
-  | true ↦ λ some. cc
-  | false ↦ λ none. none_found p xs none
-] e
 
 no_name : (o : Option (Name × Kind)) → option_map {U = Name} (λ c. c.0) o ≡ None → o ≡ None
 no_name None e = refl

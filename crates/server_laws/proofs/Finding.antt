@@ -2,9 +2,7 @@
 use Rattle.std.proofs.Common.{◌≡◌, ◌∙◌, ℕ, Some, Ok, ap, sym}
 use Rattle.std.specs.FinMap as finmap
 use Rattle.serde_json.specs.Data.{Data}
-use Rattle.lens_specs.specs.Lens.{Lens, get}
-use Rattle.lens_specs.specs.Names.{Name}
-use Rattle.lens_specs.specs.Relation.{Rows}
+use Rattle.lens_specs.specs.Common.{Lens, get, Name, Rows}
 use Rattle.io_specs.specs.Lines.{Line}
 use Rattle.catalog_specs.specs.Catalogue.{catalogue}
 use Rattle.server_specs.specs.State.{State}

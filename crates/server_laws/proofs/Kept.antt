@@ -4,18 +4,16 @@ use Rattle.std.specs.Prelude.{option_map}
 use Rattle.std.proofs.lemmas.Bool.{true≢false}
 use Rattle.std.specs.Ordering.{eq_by_cmp}
 use Rattle.std.specs.FinMap as finmap
-use Rattle.lens_values.specs.Order.{bytes_cmp}
-use Rattle.lens_values.specs.SortedSet as set
+use Rattle.plain_values.specs.Order.{bytes_cmp}
+use Rattle.plain_values.specs.SortedSet as set
 use Rattle.lens_laws.proofs.Deltas.{diff_leads, diff_applies}
 use Rattle.lens_laws.proofs.Lenses.{put_leaves}
-use Rattle.fd_laws.proofs.Lists.{in_head, in_tail}
+use Rattle.plain_values.proofs.Lists.{in_head, in_tail}
 use Rattle.fd_laws.proofs.Names.{name_total, name_exact, name_itself, tied_name}
 use Rattle.server_laws.proofs.Differences.{Distinct, items_distinct, other_name, empty_same, not_later}
-use Rattle.lens_specs.specs.Names.{Name, Names, is_among}
-use Rattle.lens_specs.specs.Relation.{Rows, Relation, Columns}
-use Rattle.lens_specs.specs.Lens.{Tables, Lens, base, select, drop, rename, join, tables_of, table, put, rows_or_none}
-use Rattle.lens_specs.specs.Delta.{Delta, TableDelta, diff, new_view, Applies, is_empty, differences, changes}
-use Rattle.lens_specs.specs.Keeping.{define, rows, or_empty, rows_at, with_deltas, changed, AllApply, CanChange}
+use Rattle.lens_specs.specs.Common.{Name, Names, is_among, Rows, Relation, Columns, Tables, Lens, base, select, drop, rename, tables_of, table, put, rows_or_none, Delta, TableDelta, diff, new_view, Applies, is_empty, differences, changes, rows, rows_at, with_deltas, changed, AllApply, CanChange}
+use Rattle.lens_specs.specs.Lens.{join}
+use Rattle.lens_specs.specs.Keeping.{define, or_empty}
 use Rattle.server_specs.specs.State.{State, rows_of_each, kept}
 use Rattle.server_specs.specs.Changing.{accept}
 use Rattle.server_laws.specs.KeptLaws.{KeptFollows}

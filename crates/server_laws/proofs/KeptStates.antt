@@ -2,18 +2,13 @@
 use Rattle.std.proofs.Common.{◌≡◌, ◌-◌, ℕ, length, List, [], ◌∷◌, Option, Some, None, Result, Ok, Err, is_some, refl, sym, ap, subst}
 use Rattle.std.specs.Prelude.{slice_get}
 use Rattle.std.specs.FinMap as finmap
-use Rattle.lens_specs.specs.Names.{Name}
-use Rattle.lens_specs.specs.Relation.{Rows}
-use Rattle.lens_specs.specs.Sort.{off, clash}
-use Rattle.lens_specs.specs.Lens.{Tables, Lens, sort_of}
-use Rattle.lens_specs.specs.Delta.{TableDelta, changes, differences}
+use Rattle.lens_specs.specs.Common.{Name, Rows, off, clash, Tables, Lens, sort_of, TableDelta, changes, differences, Change, rows, LeadTo, inverted}
 use Rattle.grammar_specs.specs.Meaning.{Definition, table, view}
 use Rattle.grammar_laws.specs.Reading.{reading}
-use Rattle.lens_specs.specs.Keeping.{Change, define, rows}
+use Rattle.lens_specs.specs.Keeping.{define}
 use Rattle.catalog_specs.specs.Catalogue.{catalogue}
 use Rattle.catalog_specs.specs.Judging.{CatalogFault, judged}
 use Rattle.server_specs.specs.State.{State}
-use Rattle.lens_specs.specs.TableDeltas.{LeadTo, inverted}
 use Rattle.server_specs.specs.Defining.{answer_definition, with_defined}
 use Rattle.server_specs.specs.Changing.{Sent, whole, edited, accept, asked_view, tested, settled, changed_by}
 use Rattle.server_specs.specs.Answering.{answer, answer_request}

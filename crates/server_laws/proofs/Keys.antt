@@ -2,22 +2,18 @@
 use Rattle.std.proofs.Common.{◌≡◌, ◌<◌, ℕ, true, List, [], ◌∷◌, cond, length, map, Some, None, Ok, is_some, sym, ap, subst, ◌∙◌, inl, inr}
 use Rattle.std.specs.Prelude.{◌^◌, is_err}
 use Rattle.std.specs.List.{list_all}
-use Rattle.std.proofs.lemmas.Bool.{and_parts, cases_Bool}
+use Rattle.std.proofs.lemmas.Bool.{and_parts, cases_Bool, or_left}
 use Rattle.std.specs.FinMap as finmap
 use Rattle.std.specs.Ordering.{eq_by_cmp}
-use Rattle.lens_values.specs.Order.{bytes_cmp}
-use Rattle.lens_values.specs.SortedSet as set
-use Rattle.lens_values.specs.declared.value.Kind.{Kind}
-use Rattle.fd_laws.proofs.Columns.{names-get}
-use Rattle.fd_laws.proofs.Lists.{left_true}
-use Rattle.fd_laws.proofs.Names.{name_total, name_itself, tied_name}
+use Rattle.plain_values.specs.Order.{bytes_cmp}
+use Rattle.plain_values.specs.SortedSet as set
+use Rattle.plain_values.specs.declared.value.Kind.{Kind}
+use Rattle.plain_values.proofs.Tests.{place_none}
+use Rattle.fd_laws.proofs.Common.{names-get, name_total, name_itself, tied_name}
 use Rattle.lens_laws.proofs.Asked.{filled_from}
 use Rattle.lens_laws.proofs.SmallSorts.{table_has_keys}
 use Rattle.lens_laws.specs.Asked.{HasKeys, IsFilled}
-use Rattle.lens_specs.specs.Columns.{names}
-use Rattle.lens_specs.specs.Dependencies.{AllEdges}
-use Rattle.lens_specs.specs.Lens.{Lens, base, select, drop, rename}
-use Rattle.lens_specs.specs.Names.{Name}
+use Rattle.lens_specs.specs.Common.{names, AllEdges, Lens, base, select, drop, rename, Name}
 use Rattle.grammar_specs.specs.Faults.{Answers}
 use Rattle.grammar_specs.specs.Meaning as language
 use Rattle.grammar_specs.specs.Meaning.{Definition, table, view, Expr, named, dep_meaning, meaning}
@@ -25,17 +21,18 @@ use Rattle.grammar_specs.specs.Written as written
 use Rattle.grammar_specs.specs.Written.{Dep, Written, is_definition, is_dep, is_some_list}
 use Rattle.grammar_laws.proofs.Reading.{reading_answers}
 use Rattle.grammar_laws.specs.Reading.{reading}
+use Rattle.grammar_laws.proofs.Options.{map_some}
 use Rattle.catalog_specs.specs.Catalogue.{Catalogue, catalogue, catalogue_onto, lens_of, table_lens, with_definition, with_lens}
 use Rattle.catalog_specs.specs.Judging.{first_refused, judged, refused_from}
 use Rattle.server_laws.specs.StateLaws.{AreShort}
-use Rattle.server_laws.proofs.Taken.{IsTaken, get-new, get-other, judged_ok, lens_is, no_error, place_none, table_sort_is}
-use Rattle.server_laws.proofs.Views.{joined, mapped}
+use Rattle.server_laws.proofs.Taken.{IsTaken, get-new, get-other, judged_ok, lens_is, no_error, table_sort_is}
+use Rattle.server_laws.proofs.Views.{joined}
 
 -- ---- what a text says has columns, and dependencies with left sides
 
 filled_names : (ns : List Name) → is_some_list ns ≡ true → IsFilled (set.from_list ns)
 filled_names [] h = cc
-filled_names (n ∷ ns) h = filled_from (set.from_list (n ∷ ns)) n (set.contains-from_list name_total (n ∷ ns) n ∙ left_true _ _ (name_itself n))
+filled_names (n ∷ ns) h = filled_from (set.from_list (n ∷ ns)) n (set.contains-from_list name_total (n ∷ ns) n ∙ or_left _ _ (name_itself n))
 
 filled_columns : (columns : List (Name × Kind)) → is_some_list columns ≡ true → IsFilled (names (finmap.from_entries columns))
 filled_columns [] h = cc
@@ -76,9 +73,9 @@ AllKeyed known = (name : Name) (L : Lens) → finmap.get known name ≡ Some L �
 
 lens_keyed : (known : Catalogue) → AllKeyed known → (expr : Expr) (L : Lens) → lens_of expr known ≡ Some L → HasKeys L
 lens_keyed known all (named name) L e = all name L e
-lens_keyed known all (language.select P of) L e = let w = mapped (select P) (lens_of of known) L e in subst HasKeys w.2 (lens_keyed known all of w.0 w.1)
-lens_keyed known all (language.drop A X a of) L e = let w = mapped (drop A X a) (lens_of of known) L e in subst HasKeys w.2 (lens_keyed known all of w.0 w.1)
-lens_keyed known all (language.rename A B of) L e = let w = mapped (rename A B) (lens_of of known) L e in subst HasKeys w.2 (lens_keyed known all of w.0 w.1)
+lens_keyed known all (language.select P of) L e = let w = map_some (select P) (lens_of of known) L e in subst HasKeys w.2 (lens_keyed known all of w.0 w.1)
+lens_keyed known all (language.drop A X a of) L e = let w = map_some (drop A X a) (lens_of of known) L e in subst HasKeys w.2 (lens_keyed known all of w.0 w.1)
+lens_keyed known all (language.rename A B of) L e = let w = map_some (rename A B) (lens_of of known) L e in subst HasKeys w.2 (lens_keyed known all of w.0 w.1)
 lens_keyed known all (language.join kind left right) L e =
     let w = joined kind (lens_of left known) (lens_of right known) L e in
     subst HasKeys w.4 (lens_keyed known all left w.0 w.2, lens_keyed known all right w.1 w.3)

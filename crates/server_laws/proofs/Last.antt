@@ -5,20 +5,16 @@ use Rattle.std.proofs.lemmas.Bool.{cases_Bool, or_from, or_parts}
 use Rattle.std.specs.FinMap as finmap
 use Rattle.std.specs.List.{list_any}
 use Rattle.std.specs.Ordering.{eq_by_cmp}
-use Rattle.lens_values.specs.Order.{bytes_cmp}
-use Rattle.lens_values.specs.SortedSet as set
+use Rattle.plain_values.specs.Order.{bytes_cmp}
+use Rattle.plain_values.specs.SortedSet as set
 use Rattle.fd_laws.proofs.Names.{name_total}
-use Rattle.lens_specs.specs.Names.{Name}
-use Rattle.lens_specs.specs.Relation.{Relation, Rows}
-use Rattle.lens_specs.specs.Lens.{Tables, Lens, put}
-use Rattle.lens_specs.specs.Delta.{TableDelta, differences, changes}
+use Rattle.lens_specs.specs.Common.{Name, Relation, Rows, Tables, Lens, put, TableDelta, differences, changes, LeadTo, inverted}
 use Rattle.grammar_specs.specs.Meaning.{Definition, table, view}
 use Rattle.io_specs.specs.Lines.{Line}
 use Rattle.grammar_laws.specs.Reading.{reading}
 use Rattle.catalog_specs.specs.Catalogue.{catalogue}
 use Rattle.catalog_specs.specs.Judging.{CatalogFault, judged}
 use Rattle.server_specs.specs.State.{State}
-use Rattle.lens_specs.specs.TableDeltas.{LeadTo, inverted}
 use Rattle.server_specs.specs.EditRefusal.{EditRefusal}
 use Rattle.server_specs.specs.Answer.{Answer}
 use Rattle.server_specs.specs.Request.{Request, define, read, find_at, put as put_request, edit, preview, describe, list, batch, undo, export, import, request}

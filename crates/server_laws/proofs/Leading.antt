@@ -3,19 +3,15 @@ use Rattle.std.proofs.Common.{◌≡◌, ◌∙◌, ◌||◌, ◌&&◌, Bool, tr
 use Rattle.std.specs.Prelude.{nat_eq, unwrap_or}
 use Rattle.std.specs.FinMap as finmap
 use Rattle.std.specs.Ordering.{eq_by_cmp}
-use Rattle.lens_values.specs.Order.{bytes_cmp}
-use Rattle.lens_values.specs.SortedSet as set
-use Rattle.lens_values.specs.declared.row.Row.{Row}
-use Rattle.fd_laws.proofs.Lists.{in_head, in_tail}
-use Rattle.fd_laws.proofs.Names.{name_exact, name_itself, name_total, tied_name}
-use Rattle.fd_laws.proofs.Relations.{from_minus}
+use Rattle.std.proofs.Math.Bool.{and_comm}
+use Rattle.plain_values.specs.Order.{bytes_cmp}
+use Rattle.plain_values.specs.SortedSet as set
+use Rattle.plain_values.specs.Row.{Row}
+use Rattle.plain_values.proofs.Lists.{in_head, in_tail}
+use Rattle.fd_laws.proofs.Common.{name_exact, name_itself, name_total, tied_name, from_minus}
 use Rattle.lens_laws.proofs.Deltas.{diff_applies, diff_leads}
-use Rattle.lens_specs.specs.Columns.{Fits}
-use Rattle.lens_specs.specs.Delta.{AppliesTo, Delta, TableDelta, diff, differences, is_empty}
-use Rattle.lens_specs.specs.Lens.{Tables, rows_or_none, table}
-use Rattle.lens_specs.specs.Names.{Name, is_among}
-use Rattle.lens_specs.specs.Relation.{Relation, Rows, has, minus}
-use Rattle.lens_specs.specs.TableDeltas.{AllApply, LeadTo, after, inverse_of, inverted, no_relation, relation_in, with_deltas}
+use Rattle.lens_specs.specs.Common.{Fits, AppliesTo, Delta, TableDelta, diff, differences, is_empty, Tables, rows_or_none, table, Name, is_among, Relation, Rows, has, minus, AllApply, LeadTo, after, inverted, no_relation, with_deltas}
+use Rattle.lens_specs.specs.TableDeltas.{inverse_of, relation_in}
 use Rattle.server_laws.proofs.Differences.{Distinct, empty_same, not_later, other_name}
 
 -- the table is there before and after, with the same columns, which its rows fit
@@ -154,15 +150,9 @@ differences_lead ts old new d h =
 turned : (old new : Tables) (t : Name) → IsAlike old new t → IsAlike new old t
 turned old new t a = record { before = a.later; later = a.before; was = a.is; is = a.was; columns = sym a.columns; before_fits = a.later_fits; later_fits = a.before_fits }
 
-either_way : (a b : Bool) → (a && b) ≡ (b && a)
-either_way true true = refl
-either_way true false = refl
-either_way false true = refl
-either_way false false = refl
-
 empty_either_way : (A B : Rows) → is_empty (diff A B) ≡ is_empty (diff B A)
 unfolding diff
-empty_either_way A B = either_way (nat_eq (length (set.items (minus A B))) 0) (nat_eq (length (set.items (minus B A))) 0)
+empty_either_way A B = and_comm (nat_eq (length (set.items (minus A B))) 0) (nat_eq (length (set.items (minus B A))) 0)
 
 chosen : (b : Bool) (c d : TableDelta) (cs ds : List TableDelta) → inverse_of c ≡ d → inverted cs ≡ ds → inverted (cond b cs (c ∷ cs)) ≡ cond b ds (d ∷ ds)
 chosen true c d cs ds first rest = rest

@@ -5,21 +5,17 @@ use Rattle.std.specs.Option.{option_map}
 use Rattle.std.specs.FinMap as finmap
 use Rattle.std.specs.List.Sorted.{IsStrictlySortedBy}
 use Rattle.std.specs.Ordering.{eq_by_cmp}
-use Rattle.lens_values.specs.Order.{bytes_cmp}
-use Rattle.lens_values.specs.SortedMap.{keys_rise}
-use Rattle.lens_values.specs.SortedSet as set
+use Rattle.plain_values.specs.Order.{bytes_cmp}
+use Rattle.plain_values.specs.SortedMap.{keys_rise}
+use Rattle.plain_values.specs.SortedSet as set
 use Rattle.fd_laws.proofs.Names.{name_exact, name_total, tied_name}
 use Rattle.lens_laws.proofs.Lenses.{get_after, put_leaves}
-use Rattle.lens_specs.specs.Delta.{Applies, TableDelta, changes, differences, new_view}
-use Rattle.lens_specs.specs.Lens.{Lens, Tables, put, sort_of, tables_of}
+use Rattle.lens_specs.specs.Common.{Applies, TableDelta, changes, differences, new_view, Lens, Tables, put, sort_of, tables_of, Name, is_among, Relation, Rows, IsOf, AllApply, AreDeltas, LeadTo, after, inverted, no_relation, with_deltas}
 use Rattle.lens_specs.specs.Keeping as keeping
-use Rattle.lens_specs.specs.Names.{Name, is_among}
-use Rattle.lens_specs.specs.Relation.{Relation, Rows}
-use Rattle.lens_specs.specs.Sort.{IsOf}
 use Rattle.catalog_specs.specs.Catalogue.{Catalogue, catalogue}
 use Rattle.server_specs.specs.State.{State}
 use Rattle.server_specs.specs.Changing.{accept}
-use Rattle.lens_specs.specs.TableDeltas.{AllApply, AreDeltas, LeadTo, after, inverted, no_relation, relation_in, with_deltas}
+use Rattle.lens_specs.specs.TableDeltas.{relation_in}
 use Rattle.server_specs.specs.Validity.{AreStored, Valid}
 use Rattle.lens_laws.proofs.Alone.{difference_deltas}
 use Rattle.server_laws.proofs.Differences.{items_distinct, rising_distinct}

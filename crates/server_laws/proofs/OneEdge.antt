@@ -1,19 +1,19 @@
 -- The tree of one dependency, computed: that of a table whose first column decides the other one.
 use Rattle.std.proofs.Common.{◌≡◌, ◌+◌, Bool, true, false, cond, not, ◌||◌, [], ◌∷◌, Some, None, is_some, sym, ap, ◌∙◌}
-use Rattle.std.proofs.lemmas.Bool.{true≢false, and_parts}
+use Rattle.std.proofs.lemmas.Bool.{true≢false, and_parts, false_from_ne_true}
 use Rattle.std.specs.Prelude.{codes, nat_eq}
 use Rattle.std.specs.List.{list_any}
 use Rattle.std.specs.List.Sorted.{IsStrictlySortedBy}
 use Rattle.std.specs.FinMap as finmap
 use Rattle.std.specs.Ordering.{eq_by_cmp}
-use Rattle.lens_values.specs.Order.{bytes_cmp}
-use Rattle.lens_values.specs.SortedSet as set
-use Rattle.fd_laws.proofs.Closures.{closure_is}
-use Rattle.fd_laws.proofs.Lists.{both_ways, false_from, absurd_false}
-use Rattle.fd_laws.proofs.Names.{name_total, name_exact, name_itself, one_is, in_rest, from_rest}
-use Rattle.lens_specs.specs.Names.{Name, Within, one, share}
-use Rattle.lens_specs.specs.Dependencies.{Edge, edge, closure}
-use Rattle.lens_specs.specs.TreeForm.{TreeForm, is_tree, narrowed_by, reduce_edge, with_right, kept_edge, is_free, stuck, put_first, checked, tree_of}
+use Rattle.plain_values.specs.Order.{bytes_cmp}
+use Rattle.plain_values.specs.SortedSet as set
+use Rattle.fd_laws.proofs.Common.{closure_is, name_total, name_exact, name_itself, one_is, from_rest}
+use Rattle.plain_values.proofs.Lists.{absurd_false}
+use Rattle.plain_values.proofs.Tests.{same_bool}
+use Rattle.fd_laws.proofs.Names.{in_rest}
+use Rattle.lens_specs.specs.Common.{Name, Within, one, share, Edge, edge, closure, TreeForm, is_tree, reduce_edge, with_right, kept_edge, tree_of}
+use Rattle.lens_specs.specs.TreeForm.{narrowed_by, is_free, stuck, put_first, checked}
 
 abbrev pub a : Name
 a = codes "a"
@@ -29,10 +29,10 @@ pub other : a ≡ b → ⊥
 other h = true≢false (sym (name_itself a) ∙ ap (eq_by_cmp bytes_cmp a) h)
 
 a_alone : set.contains (one b) a ≡ false
-a_alone = false_from _ (λ i. other (one_is b a i))
+a_alone = false_from_ne_true _ (λ i. other (one_is b a i))
 
 pub b_alone : set.contains (one a) b ≡ false
-b_alone = false_from _ (λ i. other (sym (one_is a b i)))
+b_alone = false_from_ne_true _ (λ i. other (sym (one_is a b i)))
 
 pub items_one : (n : Name) → set.items (one n) ≡ n ∷ []
 unfolding IsStrictlySortedBy
@@ -45,7 +45,7 @@ len_one = finmap.len-insert name_total (finmap.empty {X = Unit {0}} {R = bytes_c
     ∙ ap (λ n. n + 1) (finmap.len-empty bytes_cmp (Unit {0}))
 
 rest_is : set.difference (one b) (one a) ≡ one b
-rest_is = set.same_set name_total name_exact _ _ (λ q. both_ways _ _ (λ i. (from_rest (one b) (one a) q i).0) (λ i. in_rest (one b) (one a) q i (ap (set.contains (one a)) (one_is b q i) ∙ b_alone)))
+rest_is = set.same_set name_total name_exact _ _ (λ q. same_bool _ _ (λ i. (from_rest (one b) (one a) q i).0) (λ i. in_rest (one b) (one a) q i (ap (set.contains (one a)) (one_is b q i) ∙ b_alone)))
 
 -- without b on its right side, the edge determines nothing
 nothing_else : Within (set.remove (one b) b) (one a)
@@ -54,7 +54,7 @@ nothing_else c i =
     absurd (true≢false (sym w.0 ∙ ap (λ n. not (eq_by_cmp bytes_cmp n b)) (one_is b c w.1) ∙ ap not (name_itself b)))
 
 not_implied : set.contains (closure (one a) (narrowed_by e b ∷ [])) b ≡ false
-not_implied = false_from _ (λ i. absurd_false _ ((closure_is (one a) (narrowed_by e b ∷ [])).least (one a) (λ c j. j) ((λ w. nothing_else), tt) b i) b_alone)
+not_implied = false_from_ne_true _ (λ i. absurd_false _ ((closure_is (one a) (narrowed_by e b ∷ [])).least (one a) (λ c j. j) ((λ w. nothing_else), tt) b i) b_alone)
 
 unshared : share (one a) (one b) ≡ false
 unshared = ap (list_any (set.contains (one b))) (items_one a) ∙ ap (λ s. s || false) a_alone

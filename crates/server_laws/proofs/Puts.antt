@@ -4,25 +4,19 @@ use Rattle.std.specs.Prelude.{◌↔◌}
 use Rattle.std.proofs.lemmas.Bool.{cases_Bool, or_cases, true≢false}
 use Rattle.std.specs.FinMap as finmap
 use Rattle.std.specs.Ordering.{eq_by_cmp}
-use Rattle.lens_values.specs.Row.{row_cmp}
+use Rattle.plain_values.specs.Row.{row_cmp, Row}
 use Rattle.lens_laws.proofs.Sorts.{off_none, none_off}
-use Rattle.lens_values.specs.Order.{bytes_cmp}
-use Rattle.lens_values.specs.SortedSet as set
-use Rattle.lens_values.specs.declared.row.Row.{Row}
+use Rattle.plain_values.specs.Order.{bytes_cmp}
+use Rattle.plain_values.specs.SortedSet as set
 use Rattle.lens_laws.proofs.Least.{clash_is, off_is}
 use Rattle.lens_laws.proofs.Lenses.{get_sort, get_after, put_back, put_leaves}
-use Rattle.fd_laws.proofs.Lists.{in_cons}
+use Rattle.plain_values.proofs.Lists.{in_cons}
 use Rattle.fd_laws.proofs.Names.{name_total, name_exact, name_itself, tied_name, one_is}
 use Rattle.lens_laws.specs.Checks.{IsOff}
 use Rattle.lens_laws.specs.Edits.{AreDiffs}
 use Rattle.lens_laws.specs.Lenses.{AreOf}
-use Rattle.lens_specs.specs.Names.{Name, is_among}
-use Rattle.lens_specs.specs.Relation.{Rows}
-use Rattle.lens_specs.specs.Predicate.{Predicate, holds}
-use Rattle.lens_specs.specs.Dependencies.{Edge}
-use Rattle.lens_specs.specs.Sort.{Sort, off, Clash, clash as first_clash, IsOf}
-use Rattle.lens_specs.specs.Lens.{Tables, Lens, base, select, drop, rename, join, sort_of, tables_of, table, rows_or_none, get, put}
-use Rattle.lens_specs.specs.Delta.{TableDelta, diff, is_empty, differences, changes}
+use Rattle.lens_specs.specs.Common.{Name, is_among, Rows, Predicate, holds, Edge, Sort, off, Clash, clash as first_clash, IsOf, Tables, Lens, base, select, drop, rename, sort_of, tables_of, table, rows_or_none, get, put, TableDelta, diff, is_empty, differences, changes}
+use Rattle.lens_specs.specs.Lens.{join}
 use Rattle.catalog_specs.specs.Catalogue.{catalogue}
 use Rattle.server_specs.specs.State.{State}
 use Rattle.server_specs.specs.EditRefusal.{EditRefusal}

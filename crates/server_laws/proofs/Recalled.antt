@@ -1,20 +1,16 @@
 -- What undo brings back, over a session.
 use Rattle.std.proofs.Common.{◌≡◌, ◌∙◌, ◌+◌, ◌-◌, ℕ, zero, suc, get_or, Bool, true, false, cond, List, [], ◌∷◌, ◌++◌, length, take, drop, reverse, Option, Some, None, Result, Ok, Err, is_some, ap, sym, subst, refl, inl, inr, arith}
 use Rattle.std.specs.Prelude.{◌↔◌, nat_eq, slice_get}
-use Rattle.std.proofs.lemmas.Bool.{ne_eqb, true≢false}
+use Rattle.std.proofs.lemmas.Bool.{ne_eqb, true≢false, false_from_ne_true}
 use Rattle.std.proofs.lemmas.Bool.Decides.{eqb_tells}
 use Rattle.std.proofs.lemmas.List.{drop-append-le, length-append, reverse-append, take-append-drop}
 use Rattle.std.proofs.lemmas.Option.{slice_get-get_or}
 use Rattle.std.specs.FinMap as finmap
 use Rattle.std.specs.Ordering.{eq_by_cmp}
-use Rattle.lens_values.specs.Order.{bytes_cmp}
-use Rattle.lens_values.specs.SortedSet as set
-use Rattle.fd_laws.proofs.Lists.{false_from}
+use Rattle.plain_values.specs.Order.{bytes_cmp}
+use Rattle.plain_values.specs.SortedSet as set
 use Rattle.fd_laws.proofs.Names.{name_total, tied_name}
-use Rattle.lens_specs.specs.Delta.{TableDelta, changes, differences}
-use Rattle.lens_specs.specs.Lens.{Lens, Tables, put as put_rows}
-use Rattle.lens_specs.specs.Names.{Name}
-use Rattle.lens_specs.specs.Relation.{Relation, Rows}
+use Rattle.lens_specs.specs.Common.{TableDelta, changes, differences, Lens, Tables, put as put_rows, Name, Relation, Rows, LeadTo, inverted, with_deltas}
 use Rattle.grammar_specs.specs.Meaning.{Definition, table, view}
 use Rattle.grammar_laws.specs.Reading.{reading}
 use Rattle.io_specs.specs.Lines.{Line}
@@ -24,7 +20,6 @@ use Rattle.server_specs.specs.State.{State, remember}
 use Rattle.server_specs.specs.EditRefusal.{EditRefusal}
 use Rattle.server_specs.specs.Answer.{Answer, told, changed, nothing_to_undo}
 use Rattle.server_specs.specs.Request.{Request, define, read, find_at, put, edit, preview, describe, list, batch, undo, export, import, request}
-use Rattle.lens_specs.specs.TableDeltas.{LeadTo, inverted, with_deltas}
 use Rattle.server_specs.specs.Defining.{answer_definition, with_defined}
 use Rattle.server_specs.specs.Changing.{Sent, whole, edited, accept, asked_view, tested, changed_by, settled}
 use Rattle.server_specs.specs.Batching.{batch_settled, edits_from}
@@ -75,7 +70,7 @@ recalls_more old new cs past befores back h =
 module _ (known : Catalogue) (t : Name) (r : Relation) (absent : (db : Tables) → AreStored known db → is_some (finmap.get db t) ≡ false) where
   still_in : (b db : Tables) → is_some (finmap.get db t) ≡ false → AreIn b db → AreIn b (finmap.insert db t r)
   still_in b db new h q there =
-      let other : eq_by_cmp bytes_cmp q t ≡ false = false_from _ (λ tie. true≢false (sym there ∙ ap is_some (sym (h q there)) ∙ ap (λ n. is_some (finmap.get db n)) (tied_name q t tie) ∙ new)) in
+      let other : eq_by_cmp bytes_cmp q t ≡ false = false_from_ne_true _ (λ tie. true≢false (sym there ∙ ap is_some (sym (h q there)) ∙ ap (λ n. is_some (finmap.get db n)) (tied_name q t tie) ∙ new)) in
       finmap.get-insert name_total db t r q ∙ ap (λ c. cond c (Some r) (finmap.get db q)) other ∙ h q there
 
   recalls_with : (db : Tables) (past : List (List TableDelta)) (befores : List Tables) → AreStored known db → CanUndo known db past → Recalls db past befores → Recalls (finmap.insert db t r) past befores

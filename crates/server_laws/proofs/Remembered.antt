@@ -1,22 +1,18 @@
 -- Changes that can be undone: with one more, with one less, and after a definition.
 use Rattle.std.proofs.Common.{◌≡◌, ◌∙◌, ◌≤◌, ◌+◌, ◌-◌, ℕ, zero, suc, Bool, true, false, cond, List, [], ◌∷◌, ◌++◌, length, take, drop, get_or, reverse, Option, Some, is_some, ap, sym, subst, refl, arith}
 use Rattle.std.specs.Prelude.{slice_get, unwrap_or}
-use Rattle.std.proofs.lemmas.Bool.{true≢false}
+use Rattle.std.proofs.lemmas.Bool.{true≢false, false_from_ne_true}
 use Rattle.std.proofs.lemmas.List.{length-drop, reverse-append, take-append-drop, take_more}
 use Rattle.std.proofs.lemmas.Option.{slice_get-get_or, slice_get_within}
 use Rattle.std.specs.FinMap as finmap
 use Rattle.std.specs.List.{AllByRecursion}
 use Rattle.std.specs.Ordering.{eq_by_cmp}
-use Rattle.lens_values.specs.Order.{bytes_cmp}
-use Rattle.fd_laws.proofs.Lists.{false_from}
+use Rattle.plain_values.specs.Order.{bytes_cmp}
 use Rattle.fd_laws.proofs.Names.{name_exact, name_total, tied_name}
-use Rattle.lens_specs.specs.Delta.{AppliesTo, TableDelta}
-use Rattle.lens_specs.specs.Lens.{Tables}
-use Rattle.lens_specs.specs.Names.{Name}
-use Rattle.lens_specs.specs.Relation.{Relation}
+use Rattle.lens_specs.specs.Common.{AppliesTo, TableDelta, Tables, Name, Relation, AllApply, LeadTo, after, inverted, no_relation, with_deltas}
 use Rattle.catalog_specs.specs.Catalogue.{Catalogue}
 use Rattle.server_specs.specs.State.{remember}
-use Rattle.lens_specs.specs.TableDeltas.{AllApply, LeadTo, after, inverted, no_relation, relation_in, with_deltas}
+use Rattle.lens_specs.specs.TableDeltas.{relation_in}
 use Rattle.server_specs.specs.Validity.{AreStored, CanUndo, IsDifference}
 use Rattle.lens_laws.proofs.Moves.{AllThere, all_there, still_there}
 
@@ -87,7 +83,7 @@ can_undo_more known old new cs past stored back h =
 module _ (t : Name) (r : Relation) where
   -- the name is not that of a table that is there
   other : (db : Tables) (u : Name) → is_some (finmap.get db u) ≡ true → is_some (finmap.get db t) ≡ false → eq_by_cmp bytes_cmp u t ≡ false
-  other db u there new = false_from _ (λ tie. true≢false (sym there ∙ ap (λ n. is_some (finmap.get db n)) (tied_name u t tie) ∙ new))
+  other db u there new = false_from_ne_true _ (λ tie. true≢false (sym there ∙ ap (λ n. is_some (finmap.get db n)) (tied_name u t tie) ∙ new))
 
   same_there : (db : Tables) (u : Name) → is_some (finmap.get db u) ≡ true → is_some (finmap.get db t) ≡ false → finmap.get (finmap.insert db t r) u ≡ finmap.get db u
   same_there db u there new = finmap.get-insert name_total db t r u ∙ ap (λ b. cond b (Some r) (finmap.get db u)) (other db u there new)
@@ -107,7 +103,7 @@ module _ (t : Name) (r : Relation) where
 
   absent_after : (db : Tables) (u : Name) (x : Relation) → is_some (finmap.get db u) ≡ true → is_some (finmap.get db t) ≡ false → is_some (finmap.get (finmap.insert db u x) t) ≡ false
   absent_after db u x there new = ap is_some (finmap.get-insert name_total db u x t)
-      ∙ ap (λ b. is_some (cond b (Some x) (finmap.get db t))) (false_from _ (λ tie. true≢false (sym there ∙ ap (λ n. is_some (finmap.get db n)) (sym (tied_name t u tie)) ∙ new))) ∙ new
+      ∙ ap (λ b. is_some (cond b (Some x) (finmap.get db t))) (false_from_ne_true _ (λ tie. true≢false (sym there ∙ ap (λ n. is_some (finmap.get db n)) (sym (tied_name t u tie)) ∙ new))) ∙ new
 
   -- differences of other tables leave a new one
   pub with_new : (cs : List TableDelta) (db : Tables) → AllThere cs db → is_some (finmap.get db t) ≡ false → with_deltas cs (finmap.insert db t r) ≡ finmap.insert (with_deltas cs db) t r

@@ -1,8 +1,7 @@
 -- What stays, and what moves, from a state on.
 use Rattle.std.proofs.Common.{◌≡◌, ◌+◌, ◌<◌, ◌≤◌, ◌⊎◌, ℕ, List, [], ◌∷◌, Some, inl, inr, refl, sym, subst, ◌∙◌, arith}
 use Rattle.std.specs.FinMap as finmap
-use Rattle.lens_specs.specs.Names.{Name}
-use Rattle.lens_specs.specs.Lens.{Lens}
+use Rattle.lens_specs.specs.Common.{Name, Lens}
 use Rattle.io_specs.specs.Lines.{Line}
 use Rattle.server_specs.specs.State.{State}
 use Rattle.server_specs.specs.Answering.{answer}

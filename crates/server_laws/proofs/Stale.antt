@@ -4,12 +4,11 @@ use Rattle.std.specs.Prelude.{nat_lt, max, unwrap_or, IfSome}
 use Rattle.std.proofs.lemmas.Bool.{or_cases, or_from, or_parts, true≢false, ltb-false, le-ltb}
 use Rattle.std.specs.FinMap as finmap
 use Rattle.std.specs.Ordering.{eq_by_cmp}
-use Rattle.lens_values.specs.Order.{bytes_cmp}
-use Rattle.lens_values.specs.SortedSet as set
-use Rattle.fd_laws.proofs.Lists.{in_head, in_tail}
+use Rattle.plain_values.specs.Order.{bytes_cmp}
+use Rattle.plain_values.specs.SortedSet as set
+use Rattle.plain_values.proofs.Lists.{in_head, in_tail}
 use Rattle.fd_laws.proofs.Names.{name_itself, tied_name}
-use Rattle.lens_specs.specs.Names.{Name, is_among}
-use Rattle.lens_specs.specs.Lens.{Lens, tables_of}
+use Rattle.lens_specs.specs.Common.{Name, is_among, Lens, tables_of}
 use Rattle.server_specs.specs.State.{State}
 use Rattle.server_specs.specs.Changing.{last_change, latest, changed_at, is_stale}
 use Rattle.server_specs.specs.Validity.{Valid}

@@ -4,16 +4,13 @@ use Rattle.std.specs.Prelude.{nat_eq}
 use Rattle.std.proofs.lemmas.Bool.{cases_Bool, or_cases, true≢false}
 use Rattle.std.specs.Cmp.Lexicographic.{pointwise, texts_ties}
 use Rattle.std.specs.FinMap as finmap
-use Rattle.lens_values.specs.SortedSet as set
+use Rattle.plain_values.specs.SortedSet as set
 use Rattle.lens_laws.proofs.Lenses.{put_leaves}
 use Rattle.fd_laws.proofs.Names.{name_total, name_itself, one_is}
 use Rattle.lens_laws.proofs.Rules.{sort_is_typed}
 use Rattle.lens_laws.specs.Lenses.{AreOf}
-use Rattle.lens_specs.specs.Names.{Name}
-use Rattle.lens_specs.specs.Columns.{Fits}
-use Rattle.lens_specs.specs.Relation.{Relation, Rows}
-use Rattle.lens_specs.specs.Sort.{Sort, IsOfSort}
-use Rattle.lens_specs.specs.Lens.{Tables, Lens, base, select, drop, rename, join, sort_of, tables_of, put}
+use Rattle.lens_specs.specs.Common.{Name, Fits, Relation, Rows, Sort, IsOfSort, Tables, Lens, base, select, drop, rename, sort_of, tables_of, put}
+use Rattle.lens_specs.specs.Lens.{join}
 use Rattle.catalog_specs.specs.Catalogue.{Catalogue, catalogue, is_table_of}
 use Rattle.catalog_specs.specs.Judging.{first_refused}
 use Rattle.server_specs.specs.State.{State}

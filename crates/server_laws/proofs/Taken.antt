@@ -1,32 +1,26 @@
 -- What is known of the lenses that taken definitions make.
-use Rattle.std.proofs.Common.{◌≡◌, ℕ, suc, Bool, true, false, cond, List, [], ◌∷◌, ◌++◌, Option, Some, None, option_map, Result, Ok, Err, is_some, refl, sym, ap, subst, ◌∙◌, inl, inr}
-use Rattle.std.specs.Prelude.{is_err, nat_le}
-use Rattle.std.proofs.lemmas.Bool.{cases_Bool, true≢false}
+use Rattle.std.proofs.Common.{◌≡◌, ℕ, suc, false, cond, List, [], ◌∷◌, ◌++◌, Some, None, option_map, Result, Ok, Err, is_some, refl, sym, ap, subst, ◌∙◌, inl, inr}
+use Rattle.std.specs.Prelude.{is_err}
+use Rattle.std.proofs.lemmas.Bool.{cases_Bool, true≢false, false_from_ne_true}
 use Rattle.std.specs.Cmp.Lexicographic.{texts_ties}
 use Rattle.std.specs.FinMap as finmap
 use Rattle.std.specs.Ordering.{eq_by_cmp}
-use Rattle.lens_values.specs.Order.{bytes_cmp}
-use Rattle.fd_laws.proofs.Lists.{false_from}
+use Rattle.plain_values.specs.Order.{bytes_cmp}
+use Rattle.plain_values.proofs.Tests.{place_none}
 use Rattle.fd_laws.proofs.Names.{name_total, name_itself, tied_name}
 use Rattle.lens_laws.proofs.Rules.{sort_is_typed, table_sort_is_sound}
 use Rattle.lens_laws.specs.Passes.{IsSound}
 use Rattle.lens_laws.specs.Rules.{BasesAreSound}
-use Rattle.lens_specs.specs.Names.{Name}
-use Rattle.lens_specs.specs.Dependencies.{Edge}
-use Rattle.lens_specs.specs.TreeForm.{TreeForm, is_tree, not_tree, tree_of}
-use Rattle.lens_specs.specs.Sort.{Sort}
-use Rattle.lens_specs.specs.Refusal.{Refusal, Limit, unknown_column, predicate_kind, or_else, unknown_name, unlike_kinds, too_much, tables_limit, views_limit}
-use Rattle.lens_specs.specs.Columns.{Columns}
-use Rattle.lens_specs.specs.Predicate.{Predicate}
-use Rattle.lens_values.specs.declared.join_kind.JoinKind.{JoinKind}
-use Rattle.lens_specs.specs.Lens.{Lens, base, select, drop, rename, join, tree_or_none}
-use Rattle.lens_specs.specs.Typing.{sort, table_sort, table_sort_with, unknown_in, unless_refused}
+use Rattle.lens_specs.specs.Common.{Name, Edge, Sort, Columns, Predicate, Lens, base, select, drop, rename, sort, table_sort}
+use Rattle.lens_specs.specs.Lens.{join}
 use Rattle.grammar_specs.specs.Meaning.{Definition, table, view, Expr, named}
 use Rattle.grammar_specs.specs.Meaning as language
 use Rattle.grammar_specs.specs.Faults.{Fault}
 use Rattle.grammar_laws.specs.Reading.{reading}
-use Rattle.catalog_specs.specs.Catalogue.{Catalogue, catalogue, catalogue_onto, with_definition, with_lens, lens_of, join_of, sort_with, table_lens, is_table_of}
-use Rattle.catalog_specs.specs.Judging.{CatalogFault, name_taken, is_taken, table_count, view_count, unless_full, where_sorted, lens_named, where_typed, over, over_both, lens_in, where_lensed, judged, refused_from, first_refused}
+use Rattle.catalog_specs.specs.Catalogue.{Catalogue, catalogue, catalogue_onto, with_definition, with_lens, table_lens, is_table_of}
+use Rattle.catalog_specs.specs.Judging.{name_taken, is_taken, where_sorted, lens_in, where_lensed, judged, refused_from, first_refused}
+use Rattle.catalog_specs.proofs.Judged.{sorted_ok, lensed_ok, passed, named_ok, over_ok, both_ok}
+pub use Rattle.catalog_specs.proofs.Judged.{lens_is, table_sort_is}
 pub use Rattle.server_laws.specs.Known.{BasesAre, IsKnown}
 
 -- ---- what a judgement says
@@ -35,23 +29,6 @@ pub use Rattle.server_laws.specs.Known.{BasesAre, IsKnown}
 abbrev pub IsTaken : Catalogue → Definition → Type 0
 IsTaken known (table name columns deps predicate) = (is_taken known name ≡ false) × ((sort : Sort) × (table_sort columns deps predicate ≡ Ok sort))
 IsTaken known (view name expr) = (is_taken known name ≡ false) × ((lens : Lens) × (lens_in known expr ≡ Ok lens))
-
-full_ok : (b : Bool) (limit : Limit) (d e : Definition) → unless_full b limit d ≡ Ok e → d ≡ e
-full_ok true limit d e h = cc
-full_ok false limit d e h = cc
-
-sorted_ok : (r : Result Sort Refusal) (known : Catalogue) (d e : Definition) → where_sorted r known d ≡ Ok e → ((sort : Sort) × (r ≡ Ok sort)) × (d ≡ e)
-sorted_ok (Ok sort) known d e h = ((sort, refl), full_ok (nat_le 64 (table_count known)) tables_limit d e h)
-sorted_ok (Err first) known d e h = cc
-
-lensed_ok : (r : Result Lens CatalogFault) (known : Catalogue) (d e : Definition) → where_lensed r known d ≡ Ok e → ((lens : Lens) × (r ≡ Ok lens)) × (d ≡ e)
-lensed_ok (Ok lens) known d e h = ((lens, refl), full_ok (nat_le 256 (view_count known)) views_limit d e h)
-lensed_ok (Err first) known d e h = cc
-
--- what is no refusal passes the test
-passed : (b : Bool) (a : CatalogFault) (r : Result Definition CatalogFault) (e : Definition) → cond b (Err a) r ≡ Ok e → (b ≡ false) × (r ≡ Ok e)
-passed true a r e h = cc
-passed false a r e h = (refl, h)
 
 -- what is judged well is the definition itself, and it is taken
 pub judged_ok : (known : Catalogue) (r : Result Definition Fault) (d : Definition) → judged known r ≡ Ok d → (r ≡ Ok d) × IsTaken known d
@@ -83,7 +60,7 @@ get-other known name M q o = finmap.get-insert name_total known name M q ∙ ap 
 
 -- a name with a lens is not one that is free
 pub not_free : (known : Catalogue) (name t : Name) (L : Lens) → is_taken known name ≡ false → finmap.get known t ≡ Some L → eq_by_cmp bytes_cmp t name ≡ false
-not_free known name t L free e = false_from _ (λ is. absurd (true≢false (sym (ap is_some e) ∙ ap (λ n. is_some (finmap.get known n)) (tied_name t name is) ∙ free)))
+not_free known name t L free e = false_from_ne_true _ (λ is. absurd (true≢false (sym (ap is_some e) ∙ ap (λ n. is_some (finmap.get known n)) (tied_name t name is) ∙ free)))
 
 -- a lens over tables of the catalogue is not the table of a name that is free
 pub not_own : (known : Catalogue) (name : Name) → is_taken known name ≡ false → (L : Lens) → BasesAre known L → is_table_of name L ≡ false
@@ -112,23 +89,6 @@ one_more known name M free here all q L e = elim (cases_Bool (eq_by_cmp bytes_cm
       record { sound = k.sound; sorted = k.sorted; bases = bases_stay known name M free L k.bases }
 ]
 
--- the sort of a table, where it is not refused
-formed_is : (columns : Columns) (deps : List Edge) (P : Predicate) (form : TreeForm) (t : Sort) → table_sort_with columns deps P form ≡ Ok t → t ≡ record { columns = columns; predicate = P; tree = tree_or_none form }
-formed_is columns deps P (is_tree T) t e = fitted (or_else (option_map predicate_kind (unlike_kinds columns P)) (too_much 1 (record { columns = columns; predicate = P; tree = T }))) e
-  where
-    fitted : (o : Option Refusal) → unless_refused o (record { columns = columns; predicate = P; tree = T }) ≡ Ok t → t ≡ record { columns = columns; predicate = P; tree = T }
-    fitted None h = cc
-    fitted (Some r) h = cc
-formed_is columns deps P (not_tree X Y) t e = cc
-
-pub table_sort_is : (columns : Columns) (deps : List Edge) (P : Predicate) (t : Sort) → table_sort columns deps P ≡ Ok t → t ≡ sort_with columns deps P
-unfolding table_sort
-table_sort_is columns deps P t e = chosen (or_else (unknown_in columns deps) (option_map unknown_column (unknown_name columns P))) e
-  where
-    chosen : (o : Option Refusal) → elim o as (λ _. Result Sort Refusal) [ Some r ↦ Err r | None ↦ table_sort_with columns deps P (tree_of deps) ] ≡ Ok t → t ≡ sort_with columns deps P
-    chosen None h = formed_is columns deps P (tree_of deps) t h
-    chosen (Some r) h = cc
-
 -- a table whose sort is not refused
 table_is_known : (known : Catalogue) (name : Name) (columns : Columns) (deps : List Edge) (P : Predicate) → (t : Sort) × (table_sort columns deps P ≡ Ok t)
     → IsKnown (finmap.insert known name (table_lens name columns deps P)) (table_lens name columns deps P)
@@ -144,39 +104,6 @@ table_is_known known name columns deps P h = record {
 -- a lens with a sort, over tables of the catalogue
 node_is_known : (known : Catalogue) (L : Lens) (s : Sort) → BasesAreSound L → BasesAre known L → sort L ≡ Ok s → IsKnown known L
 node_is_known known L s sound bases e = record { sound = sound; sorted = e ∙ ap Ok (sort_is_typed L s sound e).0; bases = bases }
-
-named_ok : (name : Name) (o : Option Lens) (L : Lens) → lens_named name o ≡ Ok L → o ≡ Some L
-named_ok name None L h = cc
-named_ok name (Some lens) L h = cc
-
-typed_ok : (lens : Lens) (r : Result Sort Refusal) (L : Lens) → where_typed lens r ≡ Ok L → ((s : Sort) × (r ≡ Ok s)) × (lens ≡ L)
-typed_ok lens (Ok s) L h = ((s, refl), cc)
-typed_ok lens (Err first) L h = cc
-
--- the operand has a lens, and the node over it a sort
-over_ok : (node : Lens → Lens) (r : Result Lens CatalogFault) (L : Lens) → over node r ≡ Ok L → (C : Lens) × (r ≡ Ok C) × ((s : Sort) × (sort (node C) ≡ Ok s)) × (node C ≡ L)
-over_ok node (Err first) L h = cc
-over_ok node (Ok C) L h = let w = typed_ok (node C) (sort (node C)) L h in (C, refl, w.0, w.1)
-
-both_ok : (kind : JoinKind) (l r : Result Lens CatalogFault) (L : Lens) → over_both kind l r ≡ Ok L → (A : Lens) × (B : Lens) × (l ≡ Ok A) × (r ≡ Ok B) × ((s : Sort) × (sort (join kind A B) ≡ Ok s)) × (join kind A B ≡ L)
-both_ok kind (Err first) r L h = cc
-both_ok kind (Ok A) r L h = let w = over_ok (join kind A) r L h in (A, w.0, refl, w.1, w.2, w.3)
-
--- an expression that is not refused has its lens
-pub lens_is : (known : Catalogue) (expr : Expr) (L : Lens) → lens_in known expr ≡ Ok L → lens_of expr known ≡ Some L
-lens_is known (named name) L h = named_ok name (finmap.get known name) L h
-lens_is known (language.select P of) L h =
-    let w = over_ok (select P) (lens_in known of) L h in
-    ap (option_map (select P)) (lens_is known of w.0 w.1) ∙ ap Some w.3
-lens_is known (language.drop A X a of) L h =
-    let w = over_ok (drop A X a) (lens_in known of) L h in
-    ap (option_map (drop A X a)) (lens_is known of w.0 w.1) ∙ ap Some w.3
-lens_is known (language.rename A B of) L h =
-    let w = over_ok (rename A B) (lens_in known of) L h in
-    ap (option_map (rename A B)) (lens_is known of w.0 w.1) ∙ ap Some w.3
-lens_is known (language.join kind left right) L h =
-    let w = both_ok kind (lens_in known left) (lens_in known right) L h in
-    ap (λ o. join_of kind o (lens_of right known)) (lens_is known left w.0 w.2) ∙ ap (join_of kind (Some w.0)) (lens_is known right w.1 w.3) ∙ ap Some w.5
 
 -- and that lens is known, where those of its names are
 pub lens_is_known : (known : Catalogue) → AllKnown known → (expr : Expr) (L : Lens) → lens_in known expr ≡ Ok L → IsKnown known L
@@ -230,11 +157,6 @@ pub still_known : (known : Catalogue) (d : Definition) → IsTaken known d → A
 still_known known d h all = let a = adds known d h all in subst AllKnown (sym a.made) (one_more known a.name a.lens a.free a.there all)
 
 -- ---- texts that are all taken
-
-pub place_none : (b : Bool) (o : Option ℕ) → cond b (Some 0) (option_map suc o) ≡ None → (b ≡ false) × (o ≡ None)
-place_none true o e = cc
-place_none false None e = (refl, refl)
-place_none false (Some n) e = cc
 
 none_refused : (known : Catalogue) (texts : List (List ℕ)) → AllKnown known → refused_from known texts ≡ None → AllKnown (catalogue_onto known texts)
 none_refused known [] all h = all

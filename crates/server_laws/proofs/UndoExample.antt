@@ -4,8 +4,7 @@ use Rattle.std.specs.Prelude.{nat_eq, slice_get}
 use Rattle.std.proofs.lemmas.Bool.{ne_eqb}
 use Rattle.std.specs.Str.{chars, is_utf8}
 use Rattle.serde_json.proofs.OnLiterals.{serde_json_on_literals}
-use Rattle.lens_specs.specs.Delta.{TableDelta, changes}
-use Rattle.lens_specs.specs.Lens.{put as put_rows}
+use Rattle.lens_specs.specs.Common.{TableDelta, changes, put as put_rows}
 use Rattle.io_specs.specs.Lines.{Line, line}
 use Rattle.server_specs.specs.Answer.{text}
 use Rattle.server_specs.specs.Request.{undo, request}

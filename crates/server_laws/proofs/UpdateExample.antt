@@ -4,18 +4,17 @@ use Rattle.std.specs.Prelude.{pos}
 use Rattle.std.specs.FinMap as finmap
 use Rattle.std.specs.FinMap.Entries as listed
 use Rattle.std.specs.Str.{chars, is_utf8}
+use Rattle.std.proofs.lemmas.List.{nil_from_length}
 use Rattle.serde_json.proofs.OnLiterals.{serde_json_on_literals}
 use Rattle.serde_json.specs.Data.{unsigned, number, object, Items, no_items, item, Members, no_members, member}
-use Rattle.lens_values.specs.Order.{bytes_cmp}
-use Rattle.lens_values.specs.declared.value.Kind.{Kind}
-use Rattle.lens_values.specs.declared.value.Kind.TheVariants as kind
-use Rattle.lens_values.specs.declared.value.Value.TheVariants.{Int}
-use Rattle.lens_values.proofs.ValueLemmas.{int_fits}
-use Rattle.fd_laws.proofs.Lists.{absurd_false}
+use Rattle.plain_values.specs.Order.{bytes_cmp}
+use Rattle.plain_values.specs.declared.value.Kind.{Kind}
+use Rattle.plain_values.specs.declared.value.Kind.TheVariants as kind
+use Rattle.plain_values.specs.declared.value.Value.TheVariants.{Int}
+use Rattle.plain_values.proofs.ValueLemmas.{int_fits}
+use Rattle.plain_values.proofs.Lists.{absurd_false}
 use Rattle.fd_laws.proofs.Names.{name_total}
-use Rattle.lens_specs.specs.Relation.{has}
-use Rattle.lens_specs.specs.Lens.{get, put as put_rows}
-use Rattle.lens_specs.specs.Delta.{TableDelta, changes}
+use Rattle.lens_specs.specs.Common.{has, get, put as put_rows, TableDelta, changes}
 use Rattle.io_specs.specs.Lines.{Line, line}
 use Rattle.server_specs.specs.Answer.{shown, in_rows, text}
 use Rattle.server_specs.specs.Request.{read, put, request}
@@ -24,7 +23,7 @@ use Rattle.server_specs.specs.Changing.{whole, as_set, accept}
 use Rattle.server_specs.specs.Answering.{answer}
 use Rattle.server_specs.specs.Session.{Step, answered, found_memory, Exchange, Session}
 use Rattle.server_laws.proofs.Changes.{lines_read, puts_set}
-use Rattle.server_laws.proofs.Example.{v, a, listing, U, column, nothing, V, state, valid, known_view, row, N, there, all_fit, accepted, is_new}
+use Rattle.server_laws.proofs.Example.{v, a, listing, U, column, V, state, valid, known_view, row, N, there, all_fit, accepted, is_new}
 use Rattle.server_laws.proofs.Puts.{accepted_is, put_then_read}
 use Rattle.server_laws.proofs.Stale.{present_fresh}
 use Rattle.server_laws.proofs.Stored.{lens_here}
@@ -60,7 +59,7 @@ put_asked = refl
 
 pub one_entry : finmap.entries U ≡ listing
 one_entry = finmap.entries-insert name_total (finmap.empty {X = Kind} {R = bytes_cmp}) a kind.Int
-    ∙ ap (listed.put bytes_cmp a kind.Int) (nothing (finmap.entries (finmap.empty {X = Kind} {R = bytes_cmp}))
+    ∙ ap (listed.put bytes_cmp a kind.Int) (nil_from_length (finmap.entries (finmap.empty {X = Kind} {R = bytes_cmp}))
     (sym (finmap.len-entries (finmap.empty {X = Kind} {R = bytes_cmp})) ∙ finmap.len-empty bytes_cmp Kind))
 
 pub rows_are : rows_in U items ≡ Ok (row ∷ [])

@@ -6,21 +6,13 @@ use Rattle.std.proofs.lemmas.Bool.{true≢false}
 use Rattle.std.specs.FinMap as finmap
 use Rattle.std.specs.List.{AllByRecursion}
 use Rattle.std.specs.Ordering.{eq_by_cmp}
-use Rattle.lens_values.specs.Order.{bytes_cmp}
-use Rattle.lens_values.specs.Row.{row_cmp}
-use Rattle.lens_values.specs.SortedSet as set
-use Rattle.lens_values.specs.declared.row.Row.{Row}
-use Rattle.fd_laws.proofs.Lists.{absurd_false}
+use Rattle.plain_values.specs.Order.{bytes_cmp}
+use Rattle.plain_values.specs.Row.{row_cmp, Row}
+use Rattle.plain_values.specs.SortedSet as set
+use Rattle.plain_values.proofs.Lists.{absurd_false}
 use Rattle.fd_laws.proofs.Names.{name_total, tied_name}
 use Rattle.lens_laws.proofs.Sorts.{none_off, none_clash}
-use Rattle.lens_specs.specs.Names.{Name}
-use Rattle.lens_specs.specs.Columns.{Columns, Fits}
-use Rattle.lens_specs.specs.Relation.{Relation, Rows, has}
-use Rattle.lens_specs.specs.Predicate.{Predicate}
-use Rattle.lens_specs.specs.Dependencies.{Edge, MeetsTree}
-use Rattle.lens_specs.specs.Sort.{Sort, IsOf}
-use Rattle.lens_specs.specs.Lens.{Tables, Lens, sort_of, put}
-use Rattle.lens_specs.specs.Delta.{TableDelta, changes, differences}
+use Rattle.lens_specs.specs.Common.{Name, Columns, Fits, Relation, Rows, has, Predicate, Edge, MeetsTree, Sort, IsOf, Tables, Lens, sort_of, put, TableDelta, changes, differences, LeadTo, inverted, with_deltas}
 use Rattle.grammar_specs.specs.Meaning.{Definition, table, view}
 use Rattle.io_specs.specs.Lines.{Line}
 use Rattle.grammar_laws.specs.Reading.{reading}
@@ -28,7 +20,6 @@ use Rattle.catalog_specs.specs.Catalogue.{Catalogue, catalogue, with_definition,
 use Rattle.catalog_specs.specs.Judging.{CatalogFault, judged, is_taken}
 use Rattle.catalog_specs.proofs.Catalogues.{catalogue-push}
 use Rattle.server_specs.specs.State.{State, fresh, remember}
-use Rattle.lens_specs.specs.TableDeltas.{LeadTo, inverted, with_deltas}
 use Rattle.server_specs.specs.EditRefusal.{EditRefusal}
 use Rattle.server_specs.specs.Answer.{Answer}
 use Rattle.server_specs.specs.Request.{Request, define, read, find_at, put as put_request, edit, preview, describe, list, batch, undo, export, import, request}

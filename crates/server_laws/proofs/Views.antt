@@ -1,22 +1,21 @@
 -- Which views are taken, by the sort of the whole lens.
-use Rattle.std.proofs.Common.{◌≡◌, ◌<◌, ◌≤◌, ◌+◌, ℕ, Bool, true, false, cond, List, Option, Some, None, option_map, Result, Ok, Err, refl, sym, ap, ◌∙◌, ◌⊎◌, inl, inr}
+use Rattle.std.proofs.Common.{◌≡◌, ◌<◌, ◌≤◌, ◌+◌, ℕ, Bool, true, false, cond, List, Option, Some, None, Result, Ok, Err, refl, sym, ap, ◌∙◌, ◌⊎◌, inl, inr}
 use Rattle.std.specs.Prelude.{◌↔◌, nat_le}
 use Rattle.std.proofs.lemmas.Bool.{lt-leb, le-leb}
 use Rattle.std.specs.FinMap as finmap
-use Rattle.lens_values.specs.declared.value.Value.{Value}
-use Rattle.lens_specs.specs.Names.{Name, Names}
-use Rattle.lens_specs.specs.Predicate.{Predicate}
-use Rattle.lens_specs.specs.Sort.{Sort}
-use Rattle.lens_values.specs.declared.join_kind.JoinKind.{JoinKind}
-use Rattle.lens_specs.specs.Lens.{Lens, select, drop, rename, join, select_sort, drop_sort, rename_sort, join_sort, sort_of, tables_of, nodes_of}
-use Rattle.lens_specs.specs.Refusal.{Refusal, too_large, views_limit}
-use Rattle.lens_specs.specs.Typing.{and_then, unless_refused, select_fault, drop_fault, rename_fault, join_fault, shared_table, sort}
+use Rattle.grammar_laws.proofs.Options.{map_some}
+use Rattle.plain_values.specs.declared.value.Value.{Value}
+use Rattle.lens_specs.specs.Common.{Name, Names, Predicate, Sort, Lens, select, drop, rename, select_sort, drop_sort, rename_sort, join_sort, sort_of, tables_of, nodes_of, Refusal, too_large, views_limit, unless_refused, select_fault, drop_fault, rename_fault, join_fault, sort}
+use Rattle.plain_values.specs.declared.join_kind.JoinKind.{JoinKind}
+use Rattle.plain_values.proofs.Tests.{map_none}
+use Rattle.lens_specs.specs.Lens.{join}
+use Rattle.lens_specs.specs.Typing.{and_then, shared_table}
 use Rattle.grammar_specs.specs.Meaning as meaning
-use Rattle.grammar_specs.specs.Meaning.{Definition, view, Expr, named}
+use Rattle.grammar_specs.specs.Meaning.{view, Expr, named}
 use Rattle.io_specs.specs.Lines.{Line}
 use Rattle.catalog_specs.specs.Catalogue.{Catalogue, catalogue, lens_of, join_of}
 use Rattle.catalog_specs.specs.Judging as judging
-use Rattle.catalog_specs.specs.Judging.{CatalogFault, rule, is_taken, view_count, unless_full, lens_named, where_typed, over, over_both, lens_in, where_lensed, judged}
+use Rattle.catalog_specs.specs.Judging.{CatalogFault, rule, view_count, unless_full, lens_named, where_typed, over, over_both, lens_in, where_lensed, judged}
 use Rattle.server_specs.specs.State.{State}
 use Rattle.server_specs.specs.Answer.{defined, unknown_name, refused}
 use Rattle.server_specs.specs.Defining.{with_defined}
@@ -28,10 +27,6 @@ use Rattle.server_laws.proofs.Definitions.{taken_is_added, refused_stays}
 use Rattle.server_laws.proofs.Taken.{AllKnown, all_known, lens_is, lens_is_known}
 
 -- ---- the lens of an expression is judged as a whole
-
-pub mapped : {A B : Type 0} (f : A → B) (o : Option A) (y : B) → option_map f o ≡ Some y → (x : A) × (o ≡ Some x) × (f x ≡ y)
-mapped f None y e = cc
-mapped f (Some x) y e = (x, refl, cc)
 
 pub joined : (kind : JoinKind) (l r : Option Lens) (L : Lens) → join_of kind l r ≡ Some L → (A : Lens) × (B : Lens) × (l ≡ Some A) × (r ≡ Some B) × (join kind A B ≡ L)
 joined kind None r L e = cc
@@ -75,13 +70,13 @@ both_from kind A B (Err first) e = sym (ap (where_typed (join kind A B)) (left_f
 whole : (known : Catalogue) → AllKnown known → (expr : Expr) (L : Lens) → lens_of expr known ≡ Some L → lens_in known expr ≡ where_typed L (sort L)
 whole known all (named name) L e = ap (lens_named name) e ∙ sym (ap (where_typed L) (all name L e).sorted)
 whole known all (meaning.select P of) L e =
-    let w = mapped (select P) (lens_of of known) L e in
+    let w = map_some (select P) (lens_of of known) L e in
     ap (over (select P)) (whole known all of w.0 w.1) ∙ over_from (select P) w.0 (sort w.0) (select_fails P w.0) ∙ ap (λ M. where_typed M (sort M)) w.2
 whole known all (meaning.drop A X a of) L e =
-    let w = mapped (drop A X a) (lens_of of known) L e in
+    let w = map_some (drop A X a) (lens_of of known) L e in
     ap (over (drop A X a)) (whole known all of w.0 w.1) ∙ over_from (drop A X a) w.0 (sort w.0) (drop_fails A X a w.0) ∙ ap (λ M. where_typed M (sort M)) w.2
 whole known all (meaning.rename A B of) L e =
-    let w = mapped (rename A B) (lens_of of known) L e in
+    let w = map_some (rename A B) (lens_of of known) L e in
     ap (over (rename A B)) (whole known all of w.0 w.1) ∙ over_from (rename A B) w.0 (sort w.0) (rename_fails A B w.0) ∙ ap (λ M. where_typed M (sort M)) w.2
 whole known all (meaning.join kind left right) L e =
     let w = joined kind (lens_of left known) (lens_of right known) L e in
@@ -98,10 +93,6 @@ taken_where_sorted s v expr L =
     )
 
 -- ---- an expression with no lens
-
-unmapped : {A B : Type 0} (f : A → B) (o : Option A) → option_map f o ≡ None → o ≡ None
-unmapped f None e = refl
-unmapped f (Some x) e = cc
 
 unjoined : (kind : JoinKind) (A : Lens) (o : Option Lens) → join_of kind (Some A) o ≡ None → o ≡ None
 unjoined kind A None e = refl
@@ -141,9 +132,9 @@ both_missing known all kind left right no_left no_right e = by_left (lens_of lef
 
 missing : (known : Catalogue) → AllKnown known → (expr : Expr) → lens_of expr known ≡ None → Fails known expr (lens_in known expr)
 missing known all (named name) e = inl (name, refl, e, ap (lens_named name) e)
-missing known all (meaning.select P of) e = under (select P) known of (lens_in known of) (missing known all of (unmapped (select P) (lens_of of known) e))
-missing known all (meaning.drop A X a of) e = under (drop A X a) known of (lens_in known of) (missing known all of (unmapped (drop A X a) (lens_of of known) e))
-missing known all (meaning.rename A B of) e = under (rename A B) known of (lens_in known of) (missing known all of (unmapped (rename A B) (lens_of of known) e))
+missing known all (meaning.select P of) e = under (select P) known of (lens_in known of) (missing known all of (map_none (select P) (lens_of of known) e))
+missing known all (meaning.drop A X a of) e = under (drop A X a) known of (lens_in known of) (missing known all of (map_none (drop A X a) (lens_of of known) e))
+missing known all (meaning.rename A B of) e = under (rename A B) known of (lens_in known of) (missing known all of (map_none (rename A B) (lens_of of known) e))
 missing known all (meaning.join kind left right) e = both_missing known all kind left right (missing known all left) (missing known all right) e
 
 -- ---- the answer

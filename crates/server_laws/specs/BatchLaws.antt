@@ -1,18 +1,14 @@
 -- The laws of batches of edits.
 use Rattle.std.specs.Prelude.{◌≡◌, ◌↔◌, ◌⊎◌, ◌++◌, ℕ, false, List, [], ◌∷◌, length, Option, Some, Ok, Err}
 use Rattle.std.specs.FinMap as finmap
-use Rattle.lens_values.specs.SortedSet as set
-use Rattle.lens_specs.specs.Relation.{Name}
-use Rattle.lens_specs.specs.Sort.{IsOf}
-use Rattle.lens_specs.specs.Lens.{Tables, sort_of, get, tables_of}
-use Rattle.lens_specs.specs.Delta.{changes, differences}
+use Rattle.plain_values.specs.SortedSet as set
+use Rattle.lens_specs.specs.Common.{Name, IsOf, Tables, sort_of, get, tables_of, changes, differences, AreDeltas, LeadTo}
 use Rattle.io_specs.specs.Lines.{Line}
 use Rattle.catalog_specs.specs.Catalogue.{catalogue}
 use Rattle.server_specs.specs.State.{State}
 use Rattle.server_specs.specs.EditRefusal.{EditRefusal, in_remove, in_add}
 use Rattle.server_specs.specs.Answer.{changed, told, in_edit}
 use Rattle.server_specs.specs.Request.{BatchEdit, batch, edit, request}
-use Rattle.lens_specs.specs.TableDeltas.{AreDeltas, LeadTo}
 use Rattle.server_specs.specs.Changing.{set_in}
 use Rattle.server_specs.specs.Batching as batching
 use Rattle.server_specs.specs.Batching.{edit_tables, edits_from, KnownEdit, known_view, with_known}

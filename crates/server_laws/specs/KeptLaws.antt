@@ -1,14 +1,11 @@
 -- What a keeper keeps follows the states.
 use Rattle.std.specs.Prelude.{◌≡◌, List, ℕ, Option, Some, None, Ok}
 use Rattle.std.specs.FinMap as finmap
-use Rattle.lens_specs.specs.Relation.{Name, Rows}
-use Rattle.lens_specs.specs.Sort.{off, clash}
-use Rattle.lens_specs.specs.Lens.{Lens, sort_of}
-use Rattle.lens_specs.specs.Delta.{changes}
+use Rattle.lens_specs.specs.Common.{Name, Rows, off, clash, Lens, sort_of, changes, Change, rows, changed, CanChange}
 use Rattle.grammar_specs.specs.Meaning.{Definition, table, view}
 use Rattle.io_specs.specs.Lines.{Line}
 use Rattle.grammar_laws.specs.Reading.{reading}
-use Rattle.lens_specs.specs.Keeping.{Change, define, rows, changed, CanChange}
+use Rattle.lens_specs.specs.Keeping.{define}
 use Rattle.catalog_specs.specs.Catalogue.{catalogue}
 use Rattle.catalog_specs.specs.Judging.{judged}
 use Rattle.server_specs.specs.State.{State, kept}

@@ -1,8 +1,8 @@
 -- What is known of the lenses of a state.
 use Rattle.std.specs.Prelude.{◌≡◌, Some, Ok}
 use Rattle.std.specs.FinMap as finmap
-use Rattle.lens_specs.specs.Lens.{Lens, base, select, drop, rename, join, sort_of}
-use Rattle.lens_specs.specs.Typing.{sort}
+use Rattle.lens_specs.specs.Common.{Lens, base, select, drop, rename, sort_of, sort}
+use Rattle.lens_specs.specs.Lens.{join}
 use Rattle.lens_laws.specs.Lenses.{AreOf, IsTyped}
 use Rattle.lens_laws.specs.Rules.{BasesAreSound}
 use Rattle.catalog_specs.specs.Catalogue.{Catalogue, catalogue}

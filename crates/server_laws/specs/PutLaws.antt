@@ -2,15 +2,9 @@
 use Rattle.std.specs.Prelude.{◌≡◌, ◌↔◌, ◌⊎◌, true, false, List, [], Some, Ok}
 use Rattle.std.specs.FinMap as finmap
 use Rattle.serde_json.specs.Data.{Items}
-use Rattle.lens_values.specs.SortedSet as set
-use Rattle.lens_values.specs.declared.row.Row.{Row}
-use Rattle.lens_specs.specs.Columns.{Columns, Fits}
-use Rattle.lens_specs.specs.Relation.{Name, Rows, has}
-use Rattle.lens_specs.specs.Predicate.{holds}
-use Rattle.lens_specs.specs.Dependencies.{Edge}
-use Rattle.lens_specs.specs.Sort.{Sort, Clash, IsOf}
-use Rattle.lens_specs.specs.Lens.{Lens, sort_of, get, tables_of}
-use Rattle.lens_specs.specs.Delta.{changes, differences}
+use Rattle.plain_values.specs.SortedSet as set
+use Rattle.plain_values.specs.Row.{Row}
+use Rattle.lens_specs.specs.Common.{Columns, Fits, Name, Rows, has, holds, Edge, Sort, Clash, IsOf, Lens, sort_of, get, tables_of, changes, differences}
 use Rattle.lens_laws.specs.Checks.{IsFirstClash, IsOff}
 use Rattle.lens_laws.specs.Edits.{AreDiffs}
 use Rattle.catalog_specs.specs.Catalogue.{catalogue}

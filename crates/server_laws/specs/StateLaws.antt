@@ -2,10 +2,7 @@
 use Rattle.std.specs.Prelude.{◌≡◌, ◌<◌, ◌^◌, ℕ, List, Some, Ok, length}
 use Rattle.std.specs.List.{AllByRecursion}
 use Rattle.std.specs.FinMap as finmap
-use Rattle.lens_specs.specs.Relation.{Name, Rows}
-use Rattle.lens_specs.specs.Sort.{IsOf}
-use Rattle.lens_specs.specs.Lens.{Tables, Lens, sort_of, get, put}
-use Rattle.lens_specs.specs.Typing.{sort}
+use Rattle.lens_specs.specs.Common.{Name, Rows, IsOf, Tables, Lens, sort_of, get, put, sort}
 use Rattle.io_specs.specs.Lines.{Line}
 use Rattle.lens_laws.specs.Asked.{HasKeys}
 use Rattle.lens_laws.specs.Lenses.{IsTyped, AreOf}

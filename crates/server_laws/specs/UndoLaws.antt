@@ -1,8 +1,7 @@
 -- The laws of undo.
 use Rattle.std.specs.Prelude.{◌≡◌, ◌↔◌, ◌++◌, ℕ, true, nat_eq, List, [], ◌∷◌, drop, is_some, Result, Ok, Err, if◌then◌else◌}
 use Rattle.std.specs.FinMap as finmap
-use Rattle.lens_specs.specs.Relation.{Name}
-use Rattle.lens_specs.specs.Lens.{Tables}
+use Rattle.lens_specs.specs.Common.{Name, Tables}
 use Rattle.io_specs.specs.Lines.{Line}
 use Rattle.server_specs.specs.State.{State}
 use Rattle.server_specs.specs.Answer.{Answer, nothing_to_undo}

@@ -1,10 +1,7 @@
 -- The laws of definitions of views: what is refused, in which order, and what is taken.
 use Rattle.std.specs.Prelude.{◌≡◌, ◌↔◌, ◌⊎◌, ◌+◌, ◌<◌, ◌≤◌, ℕ, false, List, Some, None, Ok, Err}
 use Rattle.std.specs.FinMap as finmap
-use Rattle.lens_specs.specs.Names.{Name}
-use Rattle.lens_specs.specs.Lens.{Lens, sort_of}
-use Rattle.lens_specs.specs.Refusal.{Refusal, too_large, views_limit}
-use Rattle.lens_specs.specs.Typing.{sort}
+use Rattle.lens_specs.specs.Common.{Name, Lens, sort_of, Refusal, too_large, views_limit, sort}
 use Rattle.grammar_specs.specs.Meaning.{view, Expr, named, select, drop, rename, join}
 use Rattle.grammar_laws.specs.Reading.{reading}
 use Rattle.io_specs.specs.Lines.{Line}

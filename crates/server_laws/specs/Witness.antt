@@ -1,13 +1,9 @@
 -- That the premises of the laws of puts, of batches, of updates, of undo and of exports can be met.
 use Rattle.std.specs.Prelude.{◌≡◌, ℕ, true, false, List, [], ◌∷◌, Option, Some}
 use Rattle.std.specs.FinMap as finmap
-use Rattle.lens_values.specs.declared.value.Value.{Value}
-use Rattle.lens_values.specs.declared.row.Row.{Row}
-use Rattle.lens_specs.specs.Names.{Names}
-use Rattle.lens_specs.specs.Relation.{Name, Rows, has}
-use Rattle.lens_specs.specs.Predicate.{Predicate}
-use Rattle.lens_specs.specs.Sort.{Sort}
-use Rattle.lens_specs.specs.Lens.{Lens, base, select, drop, get}
+use Rattle.plain_values.specs.declared.value.Value.{Value}
+use Rattle.plain_values.specs.Row.{Row}
+use Rattle.lens_specs.specs.Common.{Names, Name, Rows, has, Predicate, Sort, Lens, base, select, drop, get}
 use Rattle.io_specs.specs.Lines.{Line}
 use Rattle.catalog_specs.specs.Catalogue.{catalogue, is_table_of}
 use Rattle.server_specs.specs.State.{State}

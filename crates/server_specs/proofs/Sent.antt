@@ -1,32 +1,25 @@
 -- Rows that are sent fit the columns.
 use Rattle.std.proofs.Common.{◌≡◌, Bool, true, false, cond, List, [], ◌∷◌, Option, Some, None, refl, sym, ap, subst, ◌∙◌}
-use Rattle.std.specs.Prelude.{ℕ, ◌||◌, option_and_then, Result, Ok, Err}
+use Rattle.std.specs.Prelude.{ℕ, ◌||◌, Result, Ok, Err}
 use Rattle.std.specs.FinMap as finmap
 use Rattle.std.specs.List.{list_any}
-use Rattle.std.specs.Ordering.{eq_by_cmp, is_eq}
-use Rattle.std.specs.declared.cmp.Ordering.{Ordering}
-use Rattle.std.specs.declared.cmp.Ordering.TheVariants.{Less, Equal, Greater}
+use Rattle.std.specs.Ordering.{eq_by_cmp}
 use Rattle.std.specs.Cmp.Lexicographic.{nat_list_cmp_total}
+use Rattle.grammar_laws.proofs.Options.{bind_some}
 use Rattle.serde_json.specs.Data.{Data, null, boolean, number, string, array, object, Items, no_items, item, Members}
 use Rattle.serde_json.specs.Find as find
-use Rattle.lens_values.specs.Order.{bytes_cmp}
-use Rattle.lens_values.specs.Row.{row_cmp}
-use Rattle.lens_values.specs.RowOrder.{row_cmp_total, row_cmp-IsAntisymmetric}
-use Rattle.lens_values.specs.SortedSet as set
-use Rattle.lens_values.specs.Value.{fits}
-use Rattle.lens_values.specs.declared.value.Kind.{Kind}
-use Rattle.lens_values.specs.declared.value.Value.{Value}
-use Rattle.lens_values.specs.declared.row.Row.{Row}
-use Rattle.lens_specs.specs.Names.{Name}
-use Rattle.lens_specs.specs.Columns.{Columns, Fits, fits_at}
-use Rattle.lens_values.proofs.FitsLemmas.{fits_same, fits_cond}
-use Rattle.lens_specs.specs.Relation.{has}
+use Rattle.plain_values.specs.Order.{bytes_cmp}
+use Rattle.plain_values.specs.Row.{row_cmp, Row}
+use Rattle.plain_values.specs.RowOrder.{row_cmp_total, row_cmp-IsAntisymmetric}
+use Rattle.plain_values.specs.SortedSet as set
+use Rattle.plain_values.specs.Value.{fits}
+use Rattle.plain_values.specs.declared.value.Kind.{Kind}
+use Rattle.plain_values.specs.declared.value.Value.{Value}
+use Rattle.lens_specs.specs.Common.{Name, Columns, Fits, fits_at, has}
+use Rattle.plain_values.proofs.FitsLemmas.{fits_same, fits_cond}
+use Rattle.plain_values.proofs.Tests.{is_tie}
 use Rattle.server_specs.specs.Request.{first_other}
 use Rattle.server_specs.specs.Sending.{BadRow, value_of, fitting, value_in, value_at, with_pair, pairs_in, is_column_of, row_from, row_of_members, row_in, with_row, rows_in}
-
-chained : {A B : Type 0} (f : A → Option B) (o : Option A) (y : B) → option_and_then f o ≡ Some y → (x : A) × (o ≡ Some x) × (f x ≡ Some y)
-chained f None y e = cc
-chained f (Some x) y e = (x, refl, e)
 
 -- a value that is read fits its kind
 kept_fits : (k : Kind) (x v : Value) (b : Bool) → fits x k ≡ b → cond b (Some x) None ≡ Some v → fits v k ≡ true
@@ -34,7 +27,7 @@ kept_fits k x v true e is = let same : x ≡ v = cc in ap (λ w. fits w k) (sym 
 kept_fits k x v false e is = cc
 
 value_fits : (k : Kind) (d : Data) (v : Value) → value_in k d ≡ Some v → fits v k ≡ true
-value_fits k d v e = let w = chained (fitting k) (value_of d) v e in kept_fits k w.0 v (fits w.0 k) refl w.2
+value_fits k d v e = let w = bind_some (fitting k) (value_of d) v e in kept_fits k w.0 v (fits w.0 k) refl w.2
 
 paired : (name : Name) (o : Option Value) (others : Result (List (Name × Value)) Name) (pairs : List (Name × Value)) → with_pair name o others ≡ Ok pairs
     → (v : Value) × (rest : List (Name × Value)) × (o ≡ Some v) × (others ≡ Ok rest) × ((name, v) ∷ rest ≡ pairs)
@@ -48,7 +41,7 @@ pairs_fit : (columns : List (Name × Kind)) (ms : Members) (pairs : List (Name �
 pairs_fit [] ms pairs e c = let f : [] ≡ pairs = cc in ap (λ ps. fits_at (finmap.find bytes_cmp c ps) None) (sym f)
 pairs_fit (column ∷ columns) ms pairs e c =
     let w = paired column.0 (value_at ms column) (pairs_in columns ms) pairs e in
-    let d = chained (value_in column.1) (find.get_member column.0 ms) w.0 w.2 in
+    let d = bind_some (value_in column.1) (find.get_member column.0 ms) w.0 w.2 in
     ap (λ ps. fits_at (finmap.find bytes_cmp c ps) (finmap.find bytes_cmp c (column ∷ columns))) (sym w.4)
     ∙ fits_cond (eq_by_cmp bytes_cmp c column.0) (Some w.0) (finmap.find bytes_cmp c w.1) (Some column.1) (finmap.find bytes_cmp c columns)
     (λ _. value_fits column.1 d.0 w.0 d.2) (λ _. pairs_fit columns ms w.1 w.3 c)
@@ -81,15 +74,10 @@ rowed (Ok row) (Err bad) rows e = cc
 abbrev AllFit : Columns → List Row → Type 0
 AllFit columns rows = (r : Row) → list_any (eq_by_cmp row_cmp r) rows ≡ true → Fits columns r
 
-tie_is : (r : Ordering) → is_eq r ≡ true → r ≡ Equal
-tie_is Less e = cc
-tie_is Equal e = refl
-tie_is Greater e = cc
-
 one_more : (columns : Columns) (row : Row) (rows : List Row) → Fits columns row → AllFit columns rows → AllFit columns (row ∷ rows)
 one_more columns row rows first others r =
     elim (eq_by_cmp row_cmp r row) as (λ b. eq_by_cmp row_cmp r row ≡ b → (b || list_any (eq_by_cmp row_cmp r) rows) ≡ true → Fits columns r) [
-      | true ↦ λ tie _. subst (Fits columns) (sym (row_cmp-IsAntisymmetric r row (tie_is (row_cmp r row) tie))) first
+      | true ↦ λ tie _. subst (Fits columns) (sym (row_cmp-IsAntisymmetric r row (is_tie (row_cmp r row) tie))) first
       | false ↦ λ _ h. others r h
     ] refl
 

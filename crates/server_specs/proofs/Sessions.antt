@@ -1,6 +1,6 @@
 -- A session goes on by one step.
 use Rattle.std.proofs.Common.{◌≡◌, ◌<◌, ◌+◌, ℕ, List, [], ◌∷◌, ◌++◌, map, take, length, get_or, refl, ap, sym, subst, ◌∙◌}
-use Rattle.std.proofs.lemmas.List.{take_more}
+use Rattle.std.proofs.lemmas.List.{take_more, map_push}
 use Rattle.server_specs.specs.State.{State}
 use Rattle.io_specs.specs.Lines.{Line}
 use Rattle.server_specs.specs.Session.{Step, Exchange, Chain, last_state, last_count, Session}
@@ -18,10 +18,6 @@ last_count-push : (count : ℕ) (es : List Exchange) (e : Exchange) → last_cou
 last_count-push count [] e = refl
 last_count-push count (x ∷ es) e = last_count-push x.count es e
 
-map-push : {A B : Type 0} (f : A → B) (xs : List A) (x : A) → map f (xs ++ x ∷ []) ≡ map f xs ++ f x ∷ []
-map-push f [] x = refl
-map-push f (y ∷ xs) x = ap (λ l. f y ∷ l) (map-push f xs x)
-
 abbrev pub Session-nil : (s : State) (count : ℕ) → Session s count [] [] s count
 Session-nil s count = record { exchanges = []; chain = tt; lines_are = refl; replies_are = refl; last_is = refl; count_is = refl }
 
@@ -37,8 +33,8 @@ Session-push s count lines replies mid between session l reply last after step =
     record {
       exchanges = session.exchanges ++ e ∷ [];
       chain = Chain-push s count session.exchanges e session.chain from;
-      lines_are = map-push (λ x. x.line) session.exchanges e ∙ ap (λ ls. ls ++ l ∷ []) session.lines_are;
-      replies_are = map-push (λ x. x.reply) session.exchanges e ∙ ap (λ rs. rs ++ reply ∷ []) session.replies_are;
+      lines_are = map_push (λ x. x.line) session.exchanges e ∙ ap (λ ls. ls ++ l ∷ []) session.lines_are;
+      replies_are = map_push (λ x. x.reply) session.exchanges e ∙ ap (λ rs. rs ++ reply ∷ []) session.replies_are;
       last_is = last_state-push s session.exchanges e;
       count_is = last_count-push count session.exchanges e;
     }
@@ -50,7 +46,7 @@ pub Session-more : {X : Type 0} (f : X → Line) (xs : List X) (i : ℕ) (x : X)
     → (all : List (List ℕ)) → all ≡ replies ++ reply ∷ [] → Session s count (map f (take (i + 1) xs)) all last after
 Session-more f xs i x h e s count replies mid between session reply last after step all is =
     let front : take (i + 1) xs ≡ take i xs ++ x ∷ [] = take_more xs i x h ∙ ap (λ y. take i xs ++ y ∷ []) (sym e) in
-    let lines : map f (take (i + 1) xs) ≡ map f (take i xs) ++ f x ∷ [] = ap (map f) front ∙ map-push f (take i xs) x in
+    let lines : map f (take (i + 1) xs) ≡ map f (take i xs) ++ f x ∷ [] = ap (map f) front ∙ map_push f (take i xs) x in
     subst (λ ls. Session s count ls all last after) (sym lines)
     (subst (λ rs. Session s count (map f (take i xs) ++ f x ∷ []) rs last after) (sym is)
     (Session-push s count (map f (take i xs)) replies mid between session (f x) reply last after step))

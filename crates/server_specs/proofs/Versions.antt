@@ -1,10 +1,8 @@
 -- A step raises the version by one at most.
 use Rattle.std.proofs.Common.{◌≤◌, ◌+◌, ℕ, List, [], ◌∷◌, sym, subst, arith}
 use Rattle.std.specs.Prelude.{Option, Some, None, Result, Ok, Err}
-use Rattle.lens_specs.specs.Relation.{Name, Rows}
-use Rattle.lens_specs.specs.Lens.{Tables, Lens, put as put_rows, sort_of}
+use Rattle.lens_specs.specs.Common.{Name, Rows, Tables, Lens, put as put_rows, sort_of, TableDelta, changes, differences}
 use Rattle.std.specs.FinMap as finmap
-use Rattle.lens_specs.specs.Delta.{TableDelta, changes, differences}
 use Rattle.grammar_specs.specs.Meaning.{Definition, table, view}
 use Rattle.io_specs.specs.Lines.{Line}
 use Rattle.catalog_specs.specs.Judging.{CatalogFault}

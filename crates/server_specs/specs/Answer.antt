@@ -4,19 +4,15 @@ use Rattle.std.specs.FinMap as finmap
 use Rattle.serde_json.specs.Data.{Data, null, boolean, number, string, array, object, unsigned, Items, no_items, item, Members, no_members, member}
 use Rattle.serde_json.specs.Find.{of_integer}
 use Rattle.serde_json.specs.Written.{compact_text}
-use Rattle.lens_values.specs.SortedSet as set
-use Rattle.lens_values.specs.declared.value.Value.{Value}
-use Rattle.lens_values.specs.declared.value.Value.TheVariants.{Null, Int, Text, Flag}
-use Rattle.lens_values.specs.declared.row.Row.{Row}
-use Rattle.lens_values.specs.declared.value.Kind.{Kind}
-use Rattle.lens_values.specs.declared.value.Kind.TheVariants as kind
-use Rattle.lens_specs.specs.Names.{Name, Names}
-use Rattle.lens_specs.specs.Relation.{Columns, Rows}
-use Rattle.lens_specs.specs.Dependencies.{Edge}
-use Rattle.lens_specs.specs.Predicate.{Predicate}
-use Rattle.lens_specs.specs.Delta.{TableDelta}
+use Rattle.plain_values.specs.SortedSet as set
+use Rattle.plain_values.specs.declared.value.Value.{Value}
+use Rattle.plain_values.specs.declared.value.Value.TheVariants.{Null, Int, Text, Flag}
+use Rattle.plain_values.specs.Row.{Row}
+use Rattle.plain_values.specs.declared.value.Kind.{Kind}
+use Rattle.plain_values.specs.declared.value.Kind.TheVariants as kind
+use Rattle.lens_specs.specs.Common.{Name, Names, Columns, Rows, Edge, Predicate, TableDelta, Refusal, tables_limit, views_limit}
 use Rattle.lens_specs.specs.Refusal as refusal
-use Rattle.lens_specs.specs.Refusal.{Refusal, Side, left_side, right_side, Limit, columns_limit, lens_limit, predicate_limit, nesting_limit, tables_limit, views_limit}
+use Rattle.lens_specs.specs.Refusal.{Side, left_side, right_side, Limit, columns_limit, lens_limit, predicate_limit, nesting_limit}
 use Rattle.grammar_specs.specs.Printing.{printed_formula}
 use Rattle.server_specs.specs.EditRefusal as refusals
 use Rattle.server_specs.specs.EditRefusal.{EditRefusal}

@@ -1,9 +1,7 @@
 -- What a batch of edits is answered, and the state after it.
 use Rattle.std.specs.Prelude.{ℕ, suc, List, [], ◌∷◌, Option, Some, None, Result, Ok, Err}
 use Rattle.std.specs.FinMap as finmap
-use Rattle.lens_specs.specs.Relation.{Rows}
-use Rattle.lens_specs.specs.Lens.{Tables, Lens, get, put as put_rows}
-use Rattle.lens_specs.specs.Delta.{differences, new_view}
+use Rattle.lens_specs.specs.Common.{Rows, Tables, Lens, get, put as put_rows, differences, new_view}
 use Rattle.catalog_specs.specs.Catalogue.{catalogue}
 use Rattle.server_specs.specs.State.{State, unchanged}
 use Rattle.server_specs.specs.Answer.{Answer, in_edit}

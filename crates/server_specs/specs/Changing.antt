@@ -2,13 +2,10 @@
 use Rattle.std.specs.Prelude.{ℕ, ◌+◌, Bool, true, false, ◌||◌, nat_lt, max, List, [], ◌∷◌, Option, Some, None, unwrap_or, Result, Ok, Err}
 use Rattle.std.specs.FinMap as finmap
 use Rattle.serde_json.specs.Data.{Items}
-use Rattle.lens_values.specs.Order.{bytes_cmp}
-use Rattle.lens_values.specs.SortedSet as set
-use Rattle.lens_values.specs.declared.row.Row.{Row}
-use Rattle.lens_specs.specs.Relation.{Name, Columns, Rows}
-use Rattle.lens_specs.specs.Sort.{Sort, off, Clash, clash as first_clash}
-use Rattle.lens_specs.specs.Lens.{Tables, Lens, get, put as put_rows, sort_of, tables_of}
-use Rattle.lens_specs.specs.Delta.{TableDelta, changes, new_view}
+use Rattle.plain_values.specs.Order.{bytes_cmp}
+use Rattle.plain_values.specs.SortedSet as set
+use Rattle.plain_values.specs.Row.{Row}
+use Rattle.lens_specs.specs.Common.{Name, Columns, Rows, Sort, off, Clash, clash as first_clash, Tables, Lens, get, put as put_rows, sort_of, tables_of, TableDelta, changes, new_view}
 use Rattle.catalog_specs.specs.Catalogue.{catalogue}
 use Rattle.server_specs.specs.State.{State, unchanged, remember}
 use Rattle.server_specs.specs.EditRefusal.{EditRefusal, Listed, in_rows, in_remove, in_add, bad_row, stale, off_predicate, clash}

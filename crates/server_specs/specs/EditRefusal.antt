@@ -1,8 +1,7 @@
 -- Why an edit of a view is refused.
 use Rattle.std.specs.Prelude.{ℕ, List}
-use Rattle.lens_values.specs.declared.row.Row.{Row}
-use Rattle.lens_specs.specs.Names.{Name}
-use Rattle.lens_specs.specs.Dependencies.{Edge}
+use Rattle.plain_values.specs.Row.{Row}
+use Rattle.lens_specs.specs.Common.{Name, Edge}
 
 -- which of a request's lists of rows
 pub data Listed : Type 0 where

@@ -1,9 +1,8 @@
 -- What `export` and `import` are answered, and the state after them.
 use Rattle.std.specs.Prelude.{ℕ, List, Option, Some, None, option_map, find, Result, Ok, Err}
 use Rattle.std.specs.FinMap as finmap
-use Rattle.lens_values.specs.Value.{is_nullable}
-use Rattle.lens_specs.specs.Relation.{Name, Columns, Rows}
-use Rattle.lens_specs.specs.Lens.{Lens, get, sort_of}
+use Rattle.plain_values.specs.Value.{is_nullable}
+use Rattle.lens_specs.specs.Common.{Name, Columns, Rows, Lens, get, sort_of}
 use Rattle.catalog_specs.specs.Catalogue.{catalogue}
 use Rattle.sheet_specs.specs.Sheets.{sheet, unsheet}
 use Rattle.server_specs.specs.State.{State, unchanged}

@@ -2,13 +2,9 @@
 use Rattle.std.specs.Prelude.{Option, Some, None}
 use Rattle.std.specs.FinMap as finmap
 use Rattle.serde_json.specs.Data.{Data}
-use Rattle.lens_values.specs.declared.value.Kind.{Kind}
-use Rattle.lens_values.specs.declared.value.Value.{Value}
-use Rattle.lens_specs.specs.Names.{Name}
-use Rattle.lens_specs.specs.Refusal.{kind_clash, unknown_column}
-use Rattle.lens_specs.specs.Relation.{Rows, those}
-use Rattle.lens_specs.specs.Rows.{at, same_value}
-use Rattle.lens_specs.specs.Lens.{Lens, get, sort_of, tables_of}
+use Rattle.plain_values.specs.declared.value.Kind.{Kind}
+use Rattle.plain_values.specs.declared.value.Value.{Value}
+use Rattle.lens_specs.specs.Common.{Name, kind_clash, unknown_column, Rows, those, at, same_value, Lens, get, sort_of, tables_of}
 use Rattle.catalog_specs.specs.Catalogue.{catalogue}
 use Rattle.server_specs.specs.State.{State}
 use Rattle.server_specs.specs.Answer.{Answer, shown, described, listed, unknown_name, refused}

@@ -7,8 +7,8 @@ use Rattle.std.specs.Cmp.Lexicographic.{pointwise}
 use Rattle.serde_json.specs.Data.{Data, null, boolean, number, string, array, object, Items, no_items, item, Members, no_members, member}
 use Rattle.serde_json.specs.Find as json_find
 use Rattle.serde_json.specs.Read as json
-use Rattle.lens_values.specs.Bytes.{is_text, is_name}
-use Rattle.lens_values.specs.Order.{bytes_cmp}
+use Rattle.plain_values.specs.Bytes.{is_text, is_name}
+use Rattle.plain_values.specs.Order.{bytes_cmp}
 use Rattle.lens_specs.specs.Relation.{Name}
 use Rattle.io_specs.specs.Lines.{Line, line, too_long}
 use Rattle.server_specs.specs.Answer.{Answer, long_line, not_json, bad_request}

@@ -3,11 +3,11 @@ use Rattle.std.specs.Prelude.{ℕ, suc, Bool, List, [], ◌∷◌, is_some, if�
 use Rattle.std.specs.FinMap as finmap
 use Rattle.serde_json.specs.Data.{Data, null, boolean, number, string, array, object, Items, no_items, item, Members}
 use Rattle.serde_json.specs.Find as find
-use Rattle.lens_values.specs.declared.value.Kind.{Kind}
-use Rattle.lens_values.specs.Value.{fits}
-use Rattle.lens_values.specs.declared.value.Value.{Value}
-use Rattle.lens_values.specs.declared.value.Value.TheVariants.{Null, Int, Text, Flag}
-use Rattle.lens_values.specs.declared.row.Row.{Row}
+use Rattle.plain_values.specs.declared.value.Kind.{Kind}
+use Rattle.plain_values.specs.Value.{fits}
+use Rattle.plain_values.specs.declared.value.Value.{Value}
+use Rattle.plain_values.specs.declared.value.Value.TheVariants.{Null, Int, Text, Flag}
+use Rattle.plain_values.specs.Row.{Row}
 use Rattle.lens_specs.specs.Relation.{Name, Columns}
 use Rattle.server_specs.specs.Request.{text_in, first_other, least_of}
 

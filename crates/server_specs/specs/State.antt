@@ -1,12 +1,8 @@
 -- The state of the server, and what a keeper keeps of it.
 use Rattle.std.specs.Prelude.{ℕ, ◌-◌, List, [], ◌∷◌, ◌++◌, map, drop, length}
 use Rattle.std.specs.FinMap as finmap
-use Rattle.lens_values.specs.Order.{bytes_cmp}
-use Rattle.lens_specs.specs.Names.{Name}
-use Rattle.lens_specs.specs.Relation.{Rows, Relation}
-use Rattle.lens_specs.specs.Lens.{Tables}
-use Rattle.lens_specs.specs.Delta.{TableDelta}
-use Rattle.lens_specs.specs.Keeping.{Kept}
+use Rattle.plain_values.specs.Order.{bytes_cmp}
+use Rattle.lens_specs.specs.Common.{Name, Rows, Relation, Tables, TableDelta, Kept}
 use Rattle.server_specs.specs.Answer.{Answer}
 
 -- the definition texts in order, the tables, the version, for each table the version that changed it last, and the changes that

@@ -1,10 +1,9 @@
 -- What `undo` is answered, and the state after it.
 use Rattle.std.specs.Prelude.{◌+◌, ◌-◌, List, length, take, slice_get, Option, Some, None}
-use Rattle.lens_specs.specs.Delta.{TableDelta}
+use Rattle.lens_specs.specs.Common.{TableDelta, inverted, with_deltas}
 use Rattle.server_specs.specs.State.{State, unchanged}
 use Rattle.server_specs.specs.Answer.{Answer, changed, nothing_to_undo}
 use Rattle.server_specs.specs.Changing.{with_last}
-use Rattle.lens_specs.specs.TableDeltas.{inverted, with_deltas}
 
 -- the last change is taken back, where there is one
 abbrev pub undone : Option (List TableDelta) → State → Answer × State

@@ -2,14 +2,10 @@
 use Rattle.std.specs.Prelude.{◌≡◌, ◌≢◌, ◌≤◌, Bool, true, false, List, [], ◌∷◌, length, reverse, Option, Some, None, is_some, IfSome}
 use Rattle.std.specs.List.{AllByRecursion}
 use Rattle.std.specs.FinMap as finmap
-use Rattle.lens_specs.specs.Relation.{Name, Relation}
-use Rattle.lens_specs.specs.Sort.{IsOfSort}
-use Rattle.lens_specs.specs.Delta.{TableDelta}
-use Rattle.lens_specs.specs.Lens.{Tables, Lens, sort_of}
+use Rattle.lens_specs.specs.Common.{Name, Relation, IsOfSort, TableDelta, Tables, Lens, sort_of, AllApply, AreDeltas, inverted, with_deltas}
 use Rattle.catalog_specs.specs.Catalogue.{Catalogue, catalogue, is_table_of}
 use Rattle.catalog_specs.specs.Judging.{first_refused}
 use Rattle.server_specs.specs.State.{State}
-use Rattle.lens_specs.specs.TableDeltas.{AllApply, AreDeltas, inverted, with_deltas}
 
 -- a relation is there, and of the sort of the lens
 abbrev pub IsRelationOf : Lens → Option Relation → Type 0

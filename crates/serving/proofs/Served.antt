@@ -6,9 +6,7 @@ use Rattle.io_specs.specs.Calls.{Adds}
 use Rattle.io_specs.proofs.Calls.{Adds-none, Adds-then, Adds-weaker}
 use Rattle.std.specs.Io.KnownBytes.{Appends}
 use Rattle.std.proofs.KnownBytes.{Appends-trans}
-use Rattle.lens_specs.specs.Keeping.{Kept, Follows, Tells}
-use Rattle.lens_specs.specs.Lens.{Lens}
-use Rattle.lens_specs.specs.Relation.{Name}
+use Rattle.lens_specs.specs.Common.{Kept, Follows, Tells, Lens, Name}
 use Rattle.io_specs.specs.Lines.{Line, too_long, whole}
 use Rattle.server_specs.specs.State.{State, kept}
 use Rattle.server_specs.specs.Answer.{Answer, long_line, memory, text}

@@ -1,7 +1,6 @@
 -- What lines export reads back.
 use Rattle.std.specs.Prelude.{◌≡◌, ◌⊎◌, List, [], ◌∷◌}
-use Rattle.lens_specs.specs.Lens.{Lens}
-use Rattle.lens_specs.specs.Relation.{Name}
+use Rattle.lens_specs.specs.Common.{Lens, Name}
 use Rattle.server_specs.specs.Answer.{memory, text}
 use Rattle.server_specs.specs.Session.{Exchange}
 use Rattle.server_specs.specs.State.{State}

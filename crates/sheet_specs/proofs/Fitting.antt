@@ -8,22 +8,19 @@ use Rattle.std.specs.FinMap as finmap
 use Rattle.std.specs.Ordering.{eq_by_cmp}
 use Rattle.std.specs.Cmp.Lexicographic.{bytes_decides, nat_list_cmp_total, pointwise}
 use Rattle.std.proofs.lemmas.Bool.{and_from, cases_Bool}
-use Rattle.lens_values.specs.Order.{bytes_cmp}
-use Rattle.lens_values.specs.Row.{pair_fits, row_cmp}
-use Rattle.lens_values.specs.RowOrder.{row_cmp-IsAntisymmetric, row_cmp_total}
-use Rattle.lens_values.specs.SortedMap.{entries-from_entries, keys_of, keys_rise}
-use Rattle.lens_values.specs.SortedSet as set
-use Rattle.lens_values.specs.Value.{base_of, fits, same_kind}
-use Rattle.lens_values.specs.declared.row.Row.{Row}
-use Rattle.lens_values.specs.declared.value.Kind.{Kind}
-use Rattle.lens_values.specs.declared.value.Kind.TheVariants as kind
-use Rattle.lens_values.specs.declared.value.Value.{Value}
-use Rattle.lens_values.specs.declared.value.Value.TheVariants.{Int, Text, Flag}
-use Rattle.lens_values.proofs.FitsLemmas.{fits_along}
-use Rattle.lens_values.proofs.Maps.{is_tie}
-use Rattle.lens_specs.specs.Columns.{Columns, Fits}
-use Rattle.lens_specs.specs.Names.{Name}
-use Rattle.lens_specs.specs.Relation.{Rows, has}
+use Rattle.plain_values.specs.Order.{bytes_cmp}
+use Rattle.plain_values.specs.Row.{pair_fits, row_cmp, Row}
+use Rattle.plain_values.specs.RowOrder.{row_cmp-IsAntisymmetric, row_cmp_total}
+use Rattle.plain_values.specs.SortedMap.{entries-from_entries, keys_of, keys_rise}
+use Rattle.plain_values.specs.SortedSet as set
+use Rattle.plain_values.specs.Value.{base_of, fits, same_kind}
+use Rattle.plain_values.specs.declared.value.Kind.{Kind}
+use Rattle.plain_values.specs.declared.value.Kind.TheVariants as kind
+use Rattle.plain_values.specs.declared.value.Value.{Value}
+use Rattle.plain_values.specs.declared.value.Value.TheVariants.{Int, Text, Flag}
+use Rattle.plain_values.proofs.FitsLemmas.{fits_along}
+use Rattle.plain_values.proofs.Tests.{is_tie}
+use Rattle.lens_specs.specs.Common.{Columns, Fits, Name, Rows, has}
 use Rattle.csv.specs.Reading.{default_config, records, strip_bom}
 use Rattle.sheet_specs.specs.Fields.{flag_in, number_in, text_in, value_in}
 use Rattle.sheet_specs.specs.Sheets.{Record, all_there, as_set, is_header, row_in, row_of, rows_from, rows_of_records, unsheet, value_under, values_in, with_row}

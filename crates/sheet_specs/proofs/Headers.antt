@@ -8,9 +8,8 @@ use Rattle.std.proofs.lemmas.Bool.{and_from, and_parts, cases_Bool}
 use Rattle.std.proofs.lemmas.Bool.Decides.{nat_tests}
 use Rattle.csv.specs.Reading.{strip_bom}
 use Rattle.csv.specs.Writing.{default_writer, needs_byte, row_text}
-use Rattle.lens_values.specs.Bytes.{is_lower, is_name}
-use Rattle.lens_specs.specs.Columns.{Columns}
-use Rattle.lens_specs.specs.Names.{Name}
+use Rattle.plain_values.specs.Bytes.{is_lower, is_name}
+use Rattle.lens_specs.specs.Common.{Columns, Name}
 use Rattle.sheet_specs.specs.Fields.{is_same}
 use Rattle.sheet_specs.specs.Sheets.{Record, is_header}
 

@@ -9,11 +9,11 @@ use Rattle.csv.specs.Reading.{Reached, default_config, records, strip_bom}
 use Rattle.csv.specs.Writing.{read_back}
 use Rattle.csv.specs.declared.parser.State.TheVariants as st
 use Rattle.csv.proofs.RoundTrip.{read-write}
-use Rattle.lens_values.specs.Bytes.{is_name}
-use Rattle.lens_values.specs.RowOrder.{row_cmp_total, row_cmp-IsAntisymmetric}
-use Rattle.lens_values.specs.SortedSet as set
-use Rattle.lens_values.specs.declared.row.Row.{Row}
-use Rattle.lens_values.proofs.FitsLemmas.{fits_keys}
+use Rattle.plain_values.specs.Bytes.{is_name}
+use Rattle.plain_values.specs.RowOrder.{row_cmp_total, row_cmp-IsAntisymmetric}
+use Rattle.plain_values.specs.SortedSet as set
+use Rattle.plain_values.specs.Row.{Row}
+use Rattle.plain_values.proofs.FitsLemmas.{fits_keys}
 use Rattle.lens_specs.specs.Columns.{Columns, Fits}
 use Rattle.sheet_specs.specs.Fields.{field_of}
 use Rattle.sheet_specs.specs.SheetLaws.{SheetsReadBack}

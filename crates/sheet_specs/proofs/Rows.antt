@@ -1,5 +1,5 @@
 -- The record of a row reads back as it.
-use Rattle.std.proofs.Common.{◌≡◌, ℕ, suc, Bool, true, false, cond, List, [], ◌∷◌, length, map, refl, sym, ap, ◌∙◌, arith, inl, inr}
+use Rattle.std.proofs.Common.{◌≡◌, ℕ, suc, true, false, cond, List, [], ◌∷◌, length, map, refl, sym, ap, ◌∙◌, arith, inl, inr}
 use Rattle.std.specs.Prelude.{◌||◌, ◌==◌, not, nat_eq, Some, None, option_map, Ok}
 use Rattle.std.specs.declared.cmp.Ordering.{Ordering}
 use Rattle.std.specs.declared.cmp.Ordering.TheVariants.{Less, Equal}
@@ -10,20 +10,18 @@ use Rattle.std.specs.FinMap as finmap
 use Rattle.std.specs.Ordering.{eq_by_cmp, is_eq}
 use Rattle.std.specs.Cmp.{tied_itself}
 use Rattle.std.specs.Cmp.Lexicographic.{bytes_decides, nat_list_cmp_total, pointwise}
-use Rattle.std.proofs.lemmas.Bool.{and_parts, cases_Bool}
+use Rattle.std.proofs.lemmas.Bool.{and_parts, cases_Bool, or_right}
 use Rattle.std.proofs.lemmas.Bool.Decides.{nat_tests}
 use Rattle.std.proofs.lemmas.List.{length-map}
-use Rattle.lens_values.specs.Order.{bytes_cmp}
-use Rattle.lens_values.specs.Row.{pair_fits, row_cmp}
-use Rattle.lens_values.specs.RowOrder.{row_cmp_total}
-use Rattle.lens_values.specs.SortedMap.{from_entries-entries, keys_of, keys_rise, values_of}
-use Rattle.lens_values.specs.Value.{is_nullable}
-use Rattle.lens_values.specs.declared.row.Row.{Row}
-use Rattle.lens_values.specs.declared.value.Kind.{Kind}
-use Rattle.lens_values.specs.declared.value.Value.{Value}
-use Rattle.lens_values.proofs.FitsLemmas.{fits_along, fits_keys}
-use Rattle.lens_specs.specs.Columns.{Columns, Fits}
-use Rattle.lens_specs.specs.Names.{Name}
+use Rattle.plain_values.specs.Order.{bytes_cmp}
+use Rattle.plain_values.specs.Row.{pair_fits, row_cmp, Row}
+use Rattle.plain_values.specs.RowOrder.{row_cmp_total}
+use Rattle.plain_values.specs.SortedMap.{from_entries-entries, keys_of, keys_rise, values_of}
+use Rattle.plain_values.specs.Value.{is_nullable}
+use Rattle.plain_values.specs.declared.value.Kind.{Kind}
+use Rattle.plain_values.specs.declared.value.Value.{Value}
+use Rattle.plain_values.proofs.FitsLemmas.{fits_along, fits_keys}
+use Rattle.lens_specs.specs.Common.{Columns, Fits, Name}
 use Rattle.sheet_specs.specs.Fields.{field_of, is_same, value_in}
 use Rattle.sheet_specs.specs.SheetLaws.{is_right}
 use Rattle.sheet_specs.specs.Sheets.{Record, all_there, field_under, record_of, row_in, row_of, rows_from, value_under, values_in, with_row}
@@ -95,16 +93,11 @@ row_back U row plain fit right =
 
 -- ---- all rows
 
--- what holds of all members holds along the list
-or-right : (a b : Bool) → b ≡ true → (a || b) ≡ true
-or-right true b e = refl
-or-right false b e = e
-
 pub along_members : (P : Row → Type 0) (rows : List Row) → ((row : Row) → list_any (eq_by_cmp row_cmp row) rows ≡ true → P row) → AllByRecursion P rows
 along_members P [] h = tt
 along_members P (r ∷ rows) h = (
   h r (ap (λ b. b || list_any (eq_by_cmp row_cmp r) rows) (ap is_eq (tied_itself row_cmp_total r))),
-  along_members P rows (λ row there. h row (or-right (eq_by_cmp row_cmp row r) _ there)),
+  along_members P rows (λ row there. h row (or_right (eq_by_cmp row_cmp row r) _ there)),
 )
 
 pub rows_back : (U : Columns) (n : ℕ) (rows : List Row) → AllByRecursion (λ row. row_in U (finmap.keys U) (record_of row) ≡ Some row) rows

@@ -1,16 +1,16 @@
 -- The field of a value stands for it.
-use Rattle.std.proofs.Common.{◌≡◌, ◌^◌, ℕ, Bool, true, false, cond, List, [], ◌∷◌, length, refl, sym, ap, ◌∙◌, arith, inl, inr, pos, negsuc, ℤ}
+use Rattle.std.proofs.Common.{◌≡◌, ◌^◌, ℕ, Bool, true, false, List, [], ◌∷◌, length, refl, sym, ap, ◌∙◌, arith, inl, inr, pos, negsuc, ℤ}
 use Rattle.std.specs.Prelude.{◌&&◌, ◌==◌, not, nat_le, nat_lt, Some, None, option_map}
 use Rattle.std.specs.Fmt.{signed_decimal}
 use Rattle.std.specs.Str.{is_utf8}
-use Rattle.std.proofs.lemmas.Bool.{and_from, and_parts, true≢false}
+use Rattle.std.proofs.lemmas.Bool.{and_from, and_parts, true≢false, cond-true}
 use Rattle.std.proofs.lemmas.Bool.Decides.{nat_tests}
-use Rattle.lens_values.specs.Bytes.{is_text}
-use Rattle.lens_values.specs.Value.{fits, is_nullable}
-use Rattle.lens_values.specs.declared.value.Kind.{Kind}
-use Rattle.lens_values.specs.declared.value.Kind.TheVariants as kind
-use Rattle.lens_values.specs.declared.value.Value.{Value}
-use Rattle.lens_values.specs.declared.value.Value.TheVariants.{Null, Int, Text, Flag}
+use Rattle.plain_values.specs.Bytes.{is_text}
+use Rattle.plain_values.specs.Value.{fits, is_nullable}
+use Rattle.plain_values.specs.declared.value.Kind.{Kind}
+use Rattle.plain_values.specs.declared.value.Kind.TheVariants as kind
+use Rattle.plain_values.specs.declared.value.Value.{Value}
+use Rattle.plain_values.specs.declared.value.Value.TheVariants.{Null, Int, Text, Flag}
 use Rattle.grammar_specs.specs.Tokens.{AreDigits, SpellsInteger, digits_value, is_digit, minus}
 use Rattle.grammar_specs.specs.Writable.{is_literal}
 use Rattle.grammar_laws.proofs.PrintNumbers.{decimal_spells, in_range}
@@ -26,9 +26,6 @@ some_digits (b ∷ bytes) h =
 no_sign : (b : ℕ) → is_digit b ≡ true → (b == 45) ≡ false
 no_sign b h = grind (arith, nat_tests)
 
-under : {A : Type 0} (t : Bool) (x y : A) → t ≡ true → cond t x y ≡ x
-under t x y e = rw e refl
-
 unsigned : (bytes : List ℕ) → AreDigits bytes → number_in bytes ≡ number_of_digits bytes
 unsigned [] h = absurd (h.0 refl)
 unsigned (b ∷ bytes) h = rw (no_sign b (and_parts (is_digit b) _ h.1).0) refl
@@ -37,11 +34,11 @@ unsigned (b ∷ bytes) h = rw (no_sign b (and_parts (is_digit b) _ h.1).0) refl
 spelled : (z : ℤ) (bytes : List ℕ) → SpellsInteger z bytes → number_in bytes ≡ Some z
 spelled z bytes (inl h) =
     unsigned bytes h.0
-    ∙ under (are_digits bytes && nat_lt (digits_value 0 bytes) (2 ^ 63)) (Some (pos (digits_value 0 bytes))) None (and_from _ _ (some_digits bytes h.0) h.2)
+    ∙ cond-true (are_digits bytes && nat_lt (digits_value 0 bytes) (2 ^ 63)) (Some (pos (digits_value 0 bytes))) None (and_from _ _ (some_digits bytes h.0) h.2)
     ∙ ap (λ n. Some n) (sym h.1)
 spelled z bytes (inr h) =
     ap number_in h.1
-    ∙ under (are_digits h.0 && nat_le (digits_value 0 h.0) (2 ^ 63)) (Some (minus (digits_value 0 h.0))) None (and_from _ _ (some_digits h.0 h.2) h.4)
+    ∙ cond-true (are_digits h.0 && nat_le (digits_value 0 h.0) (2 ^ 63)) (Some (minus (digits_value 0 h.0))) None (and_from _ _ (some_digits h.0 h.2) h.4)
     ∙ ap (λ n. Some n) (sym h.3)
 
 in_64_bits : (z : ℤ) → is_literal (Int z) ≡ true → in_range z ≡ true
@@ -63,7 +60,7 @@ value_back (Int z) kind.IntOrNull plain right fit = cc
 value_back (Int z) kind.TextOrNull plain right fit = cc
 value_back (Int z) kind.FlagOrNull plain right fit = cc
 value_back (Text bytes) kind.Int plain right fit = cc
-value_back (Text bytes) kind.Text plain right fit = ap (option_map Text) (under (is_utf8 bytes && is_text bytes) (Some bytes) None right)
+value_back (Text bytes) kind.Text plain right fit = ap (option_map Text) (cond-true (is_utf8 bytes && is_text bytes) (Some bytes) None right)
 value_back (Text bytes) kind.Flag plain right fit = cc
 value_back (Text bytes) kind.IntOrNull plain right fit = cc
 value_back (Text bytes) kind.TextOrNull plain right fit = cc

@@ -4,11 +4,11 @@ use Rattle.std.specs.List.{list_all}
 use Rattle.std.specs.Cmp.Lexicographic.{pointwise}
 use Rattle.std.specs.Fmt.{signed_decimal}
 use Rattle.std.specs.Str.{is_utf8}
-use Rattle.lens_values.specs.Bytes.{is_text}
-use Rattle.lens_values.specs.declared.value.Kind.{Kind}
-use Rattle.lens_values.specs.declared.value.Kind.TheVariants as kind
-use Rattle.lens_values.specs.declared.value.Value.{Value}
-use Rattle.lens_values.specs.declared.value.Value.TheVariants.{Null, Int, Text, Flag}
+use Rattle.plain_values.specs.Bytes.{is_text}
+use Rattle.plain_values.specs.declared.value.Kind.{Kind}
+use Rattle.plain_values.specs.declared.value.Kind.TheVariants as kind
+use Rattle.plain_values.specs.declared.value.Value.{Value}
+use Rattle.plain_values.specs.declared.value.Value.TheVariants.{Null, Int, Text, Flag}
 use Rattle.grammar_specs.specs.Tokens.{is_digit, digits_value, minus}
 
 -- ---- writing

@@ -4,12 +4,9 @@ use Rattle.std.specs.Prelude.{filter}
 use Rattle.std.specs.FinMap as finmap
 use Rattle.std.proofs.Math.Nat.{mul-le-mul_left}
 use Rattle.std.proofs.lemmas.List.{length-map}
-use Rattle.lens_values.specs.Row.{row_cmp}
-use Rattle.lens_values.specs.SortedSet as set
-use Rattle.lens_values.specs.declared.row.Row.{Row}
-use Rattle.lens_specs.specs.Names.{Names}
-use Rattle.lens_specs.specs.Relation.{Rows, image, minus, project, those, union}
-use Rattle.lens_specs.specs.Rows.{cut}
+use Rattle.plain_values.specs.Row.{row_cmp, Row}
+use Rattle.plain_values.specs.SortedSet as set
+use Rattle.lens_specs.specs.Common.{Names, Rows, image, minus, project, those, union, cut}
 use Rattle.fd_laws.proofs.Rows.{row_exact, row_total}
 
 -- one question more, and so many for each of some rows

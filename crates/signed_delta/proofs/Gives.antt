@@ -1,9 +1,7 @@
 -- How few rows are found by the edges of a tree.
 use Rattle.std.proofs.Common.{ℕ, List, [], ◌∷◌, subst, sym, inl, inr, arith}
 use Rattle.std.specs.List.{Contains}
-use Rattle.lens_specs.specs.Dependencies.{Edge, AllEdges}
-use Rattle.lens_specs.specs.Names.{Names}
-use Rattle.lens_specs.specs.Relation.{Rows}
+use Rattle.lens_specs.specs.Common.{Edge, AllEdges, Names, Rows}
 use Rattle.lens_laws.specs.Asked.{left_sides}
 use Rattle.lens_laws.specs.Work.{GivesAtMost}
 use Rattle.lens_laws.proofs.Asked.{contains_cases}

@@ -4,23 +4,19 @@ use Rattle.std.specs.Prelude.{Bool, not, filter, flat_map}
 use Rattle.std.specs.List.{list_any}
 use Rattle.std.specs.List.Sorted.{IsStrictlySortedBy}
 use Rattle.std.specs.Ordering.{eq_by_cmp}
-use Rattle.std.proofs.lemmas.Bool.{true≢false}
+use Rattle.std.proofs.lemmas.Bool.{true≢false, or_left, or_right}
 use Rattle.std.proofs.lemmas.List.{take_all}
 use Rattle.std.proofs.lemmas.List.Folds.{list_any_at}
 use Rattle.std.proofs.lemmas.List.Kept.{IsStrictlySortedBy-filter}
-use Rattle.lens_values.specs.Row.{row_cmp}
-use Rattle.lens_values.specs.Part.{restrict}
-use Rattle.lens_values.specs.SortedSet as set
-use Rattle.lens_values.specs.declared.row.Row.{Row}
-use Rattle.lens_specs.specs.Names.{Names}
-use Rattle.lens_specs.specs.Relation.{Rows, has, minus, project, those}
-use Rattle.lens_specs.specs.Rows.{agree, at, cut}
-use Rattle.lens_specs.specs.Delta.{Delta, diff, new_view}
+use Rattle.plain_values.specs.Row.{row_cmp, Row}
+use Rattle.plain_values.specs.Part.{restrict}
+use Rattle.plain_values.specs.SortedSet as set
+use Rattle.lens_specs.specs.Common.{Names, Rows, has, minus, project, those, agree, at, cut, Delta, diff, new_view}
 use Rattle.lens_laws.specs.KeyedDeltas.{find_by, found_each, of_touched}
 use Rattle.lens_laws.proofs.Deltas.{in_found_each, of_touched_is}
-use Rattle.fd_laws.proofs.Lists.{from_flat_map, in_flat_map, left_true, right_true}
-use Rattle.fd_laws.proofs.Relations.{from_project, from_those, from_union, in_project, in_those, same_rel, sets}
-use Rattle.fd_laws.proofs.Rows.{agree_alike, agree_back, agree_on, agree-cut, at-cut_in, row_exact, row_itself, row_total, tied_row}
+use Rattle.plain_values.proofs.Lists.{from_flat_map, in_flat_map}
+use Rattle.fd_laws.proofs.Common.{from_project, from_those, from_union, in_project, in_those, same_rel, sets, agree_back, agree_on, agree-cut, row_exact, row_itself, row_total, tied_row}
+use Rattle.fd_laws.proofs.Rows.{agree_alike, at-cut_in}
 use Rattle.signed_delta.specs.Disjoint.{AreApart}
 use Rattle.signed_delta.specs.Keys.{HasColumns}
 use Rattle.signed_delta.proofs.Differences.{items_rise}
@@ -73,8 +69,8 @@ from_found : (C : Names) (M : Rows) (ls : List Row) (m : Row) → has (found_eac
     → (l : Row) × (list_any (eq_by_cmp row_cmp l) ls ≡ true) × (has M m ≡ true) × (agree C l m ≡ true)
 from_found C M [] m i = absurd (true≢false (sym i ∙ set.contains-empty row_cmp m))
 from_found C M (k ∷ ks) m i = elim (from_union _ _ m i) [
-  | inl j ↦ let w = from_those (agree C k) M m j in (k, left_true _ _ (row_itself k), w.0, w.1)
-  | inr j ↦ let w = from_found C M ks m j in (w.0, right_true _ _ w.1, w.2, w.3)
+  | inl j ↦ let w = from_those (agree C k) M m j in (k, or_left _ _ (row_itself k), w.0, w.1)
+  | inr j ↦ let w = from_found C M ks m j in (w.0, or_right _ _ w.1, w.2, w.3)
 ]
 
 -- what is found by each part of some rows is what is found by each of the rows
@@ -106,7 +102,7 @@ found_by_parts C M R list is =
 
 -- the row that a set has alone is in it
 pub only_there : (M : Rows) (a : Row) → set.items M ≡ a ∷ [] → has M a ≡ true
-only_there M a only = set.contains-items M a ∙ ap (list_any (eq_by_cmp row_cmp a)) only ∙ left_true _ _ (row_itself a)
+only_there M a only = set.contains-items M a ∙ ap (list_any (eq_by_cmp row_cmp a)) only ∙ or_left _ _ (row_itself a)
 
 -- what it finds is what each row of the set finds
 pub found_by_one : (C : Names) (M R : Rows) (a : Row) → set.items R ≡ a ∷ [] → find_by C a M ≡ found_each C M (set.items R)

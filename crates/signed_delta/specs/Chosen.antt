@@ -1,6 +1,6 @@
 -- Rows that a relation has, or that it lacks.
 use Rattle.std.specs.Prelude.{Bool, true, false, not}
-use Rattle.lens_values.specs.declared.row.Row.{Row}
+use Rattle.plain_values.specs.Row.{Row}
 use Rattle.lens_specs.specs.Relation.{Rows, has}
 
 -- whether M has the row, or whether it lacks it

@@ -1,6 +1,6 @@
 //! One question for each of some rows.
 ghost use Rattle.std.specs.Prelude.{◌≡◌, ◌≢◌, ◌≤◌, ◌+◌, ◌*◌, ℕ, true, length, Contains, IfOk, is_some};
-ghost use Rattle.lens_values.specs.SortedSet as set;
+ghost use Rattle.plain_values.specs.SortedSet as set;
 ghost use Rattle.lens_specs.specs.Relation.{Fits, has, minus, those};
 ghost use Rattle.lens_specs.specs.Rows.{at};
 ghost use Rattle.lens_laws.specs.KeyedDeltas.{found_each};

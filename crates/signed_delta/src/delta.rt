@@ -1,6 +1,6 @@
 //! Differences of sets of rows.
 ghost use Rattle.std.specs.Prelude.{◌≡◌, ◌≤◌, ◌+◌, ◌*◌, ℕ, true, length, IfOk};
-ghost use Rattle.lens_values.specs.SortedSet as set;
+ghost use Rattle.plain_values.specs.SortedSet as set;
 ghost use Rattle.lens_specs.specs.Delta as spec;
 ghost use Rattle.lens_specs.specs.Delta.{AppliesTo};
 ghost use Rattle.lens_laws.specs.Work.{rows_of};

@@ -1,6 +1,6 @@
 //! Questions to a relation that nobody may walk.
 ghost use Rattle.std.specs.Prelude.{◌≡◌, ◌≢◌, ◌≤◌, ◌+◌, ℕ, List, length, Contains, IfOk};
-ghost use Rattle.lens_values.specs.SortedSet as set;
+ghost use Rattle.plain_values.specs.SortedSet as set;
 ghost use Rattle.lens_specs.specs.Names as names;
 ghost use Rattle.lens_specs.specs.Relation as spec;
 ghost use Rattle.lens_laws.specs.KeyedDeltas.{find_by};

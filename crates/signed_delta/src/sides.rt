@@ -1,7 +1,7 @@
 //! The rows that only one of two lists has.
 ghost use Rattle.std.specs.Prelude.{◌≡◌, IfOk, filter, not};
 ghost use Rattle.std.specs.List.Sorted.{IsStrictlySortedBy};
-ghost use Rattle.lens_values.specs.Row.{row_cmp};
+ghost use Rattle.plain_values.specs.Row.{row_cmp};
 ghost use Rattle.row_sets.specs.Members.{is_in};
 
 use lens_values::{NoMemory, Row, append};

@@ -5,15 +5,10 @@ use Rattle.std.specs.List.{zip}
 use Rattle.std.proofs.lemmas.List.{take_all, take_more}
 use Rattle.std.proofs.lemmas.List.Concat.{flat_map-append}
 use Rattle.std.proofs.lemmas.Slice.Zip.{get_or-zip, length-zip}
-use Rattle.lens_values.specs.declared.value.Kind.{Kind}
-use Rattle.lens_values.specs.declared.value.Value.{Value}
+use Rattle.plain_values.specs.declared.value.Kind.{Kind}
+use Rattle.plain_values.specs.declared.value.Value.{Value}
 use Rattle.sqlite_value.specs.declared.value.Value.{Value as Cell}
 use Rattle.sqlite_keeper.specs.Cells.{cells_at}
-
--- one more that was yielded
-pub one_later : {X : Type 0} (xs : List X) (x : X) → length (xs ++ x ∷ []) ≡ length xs + 1
-one_later [] x = omega arith
-one_later (y ∷ xs) x = omega (arith, one_later xs x)
 
 module _ (columns : List (List ℕ × Kind)) (values : List Value) where
   -- what stands for the first i of the values

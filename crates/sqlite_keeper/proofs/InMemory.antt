@@ -1,10 +1,10 @@
 -- What a keeper in memory keeps, call after call.
-use Rattle.std.proofs.Common.{◌≡◌, ◌∙◌, List, [], ◌∷◌, length, Option, None, Some, ap, sym, refl, arith}
+use Rattle.std.proofs.Common.{◌≡◌, ◌∙◌, List, [], ◌∷◌, Option, None, Some, ap, sym}
 use Rattle.std.specs.FinMap as finmap
-use Rattle.lens_values.specs.Order.{bytes_cmp}
-use Rattle.lens_specs.specs.Names.{Name}
-use Rattle.lens_specs.specs.Relation.{Relation}
-use Rattle.lens_specs.specs.Keeping.{Change, Follows, Kept, Tells, changed, nothing}
+use Rattle.std.proofs.lemmas.List.{nil_from_length}
+use Rattle.plain_values.specs.Order.{bytes_cmp}
+use Rattle.lens_specs.specs.Common.{Name, Relation, Change, Follows, Kept, Tells, changed}
+use Rattle.lens_specs.specs.Keeping.{nothing}
 use Rattle.server_specs.specs.State.{State, fresh, kept, rows_of_each}
 use Rattle.memory_store.specs.InMemory.{after}
 use Rattle.sqlite_keeper.specs.Turns.{KeepsInMemory, LeadFrom, TakesAll, Turn, changes_in, gave, gave_nothing, made, refused}
@@ -37,15 +37,11 @@ led : (changes : List Change) (first last : State) (k : Kept) → kept first ≡
 led [] first last k is leads = sym (leads ∙ is)
 led (change ∷ changes) first last k is leads = led changes leads.0 last (changed change k) (leads.1 ∙ ap (changed change) is) leads.2
 
-empty_list : {A : Type 0} (xs : List A) → length xs ≡ 0 → xs ≡ []
-empty_list [] e = refl
-empty_list (x ∷ xs) e = absurd (omega arith)
-
 -- nothing is kept of a state without definitions
 nothing_of_fresh : kept fresh ≡ nothing
 nothing_of_fresh =
     let kept_of : List (Name × Relation) → Kept = λ tables. record { texts = []; rows = finmap.from_entries (rows_of_each tables) } in
-    ap kept_of (empty_list (finmap.entries fresh.tables) (sym (finmap.len-entries fresh.tables) ∙ finmap.len-empty bytes_cmp Relation))
+    ap kept_of (nil_from_length (finmap.entries fresh.tables) (sym (finmap.len-entries fresh.tables) ∙ finmap.len-empty bytes_cmp Relation))
 
 pub keeps_in_memory : KeepsInMemory
 keeps_in_memory = record {

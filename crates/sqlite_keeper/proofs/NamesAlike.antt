@@ -2,12 +2,12 @@
 use Rattle.std.proofs.Common.{◌≡◌, ◌∙◌, ℕ, List, ap, sym}
 use Rattle.std.specs.Cmp.Lexicographic.{nat_list_cmp_total}
 use Rattle.std.specs.FinMap.{entries, keys}
-use Rattle.lens_values.specs.Columns.{Columns, names}
-use Rattle.lens_values.specs.Names.{Names}
-use Rattle.lens_values.specs.Order.{bytes_cmp}
-use Rattle.lens_values.specs.SortedMap.{keys_of, keys_rise}
-use Rattle.lens_values.specs.SortedSet.{items, items-from_list}
-use Rattle.lens_values.specs.declared.value.Kind.{Kind}
+use Rattle.plain_values.specs.Columns.{Columns, names}
+use Rattle.plain_values.specs.Names.{Names}
+use Rattle.plain_values.specs.Order.{bytes_cmp}
+use Rattle.plain_values.specs.SortedMap.{keys_of, keys_rise}
+use Rattle.plain_values.specs.SortedSet.{items, items-from_list}
+use Rattle.plain_values.specs.declared.value.Kind.{Kind}
 
 -- the set of the columns' names has those of their pairs, in the same order
 pub names_listed : (U : Columns) (X : Names) (es : List (List ℕ × Kind)) → X ≡ names U → es ≡ entries U → items X ≡ keys_of es

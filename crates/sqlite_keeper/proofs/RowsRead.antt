@@ -1,7 +1,7 @@
 -- The cells of a row, read column by column.
 use Rattle.std.proofs.Common.{List, ◌++◌, Option}
 use Rattle.std.specs.Prelude.{option_map}
-use Rattle.lens_values.specs.declared.value.Value.{Value}
+use Rattle.plain_values.specs.declared.value.Value.{Value}
 
 -- values, and then the others, if all can be read
 abbrev pub with_rest : List Value → Option (List Value) → Option (List Value)

@@ -2,7 +2,7 @@
 use Rattle.std.specs.Prelude.{◌≡◌, ℕ, Bool, List, [], ◌∷◌, ◌++◌, map, nat_eq, Option, None, Some, is_some, if◌then◌else◌}
 use Rattle.std.specs.List.{list_all}
 use Rattle.std.specs.Cmp.Lexicographic.{pointwise}
-use Rattle.lens_values.specs.Columns.{Columns}
+use Rattle.plain_values.specs.Columns.{Columns}
 use Rattle.signed_delta.specs.declared.delta.TableDelta.{TableDelta}
 use Rattle.view_lang.specs.declared.definition.Definition.{Definition}
 use Rattle.view_lang.specs.declared.definition.Definition.TheVariants.{Table, View}

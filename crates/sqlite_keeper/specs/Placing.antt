@@ -1,7 +1,7 @@
 -- Tables that are put among others.
 use Rattle.std.specs.Prelude.{is_some, if◌then◌else◌}
 use Rattle.std.specs.FinMap as finmap
-use Rattle.lens_values.specs.Order.{bytes_cmp}
+use Rattle.plain_values.specs.Order.{bytes_cmp}
 use Rattle.lens_specs.specs.Relation.{Name, Rows}
 
 -- the tables with one more, unless one of its name is there

@@ -2,7 +2,7 @@
 ghost use Rattle.std.specs.Prelude.{◌≡◌, ◌&&◌, ◌++◌, true, false, Some, None, IfOk, OnOk, Err, map, flat_map};
 ghost use Rattle.std.specs.List.{zip};
 ghost use Rattle.std.specs.Str.{is_utf8};
-ghost use Rattle.lens_values.specs.Bytes.{is_text};
+ghost use Rattle.plain_values.specs.Bytes.{is_text};
 ghost use Rattle.sqlite_value.specs.Value.{owned};
 ghost use Rattle.sqlite_keeper.specs.Cells.{ReadsBack, cell_of, cells_at, empty_cell, is_empty, mark_of, marked_in};
 ghost use Rattle.sqlite_keeper.specs.Cells.{flag_of, number_in, text_in, value_in};

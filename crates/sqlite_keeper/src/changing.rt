@@ -1,6 +1,6 @@
 //! One change, made in one transaction.
 ghost use Rattle.std.specs.Prelude.{IfOk, string_bytes};
-ghost use Rattle.lens_values.specs.Columns.{Fits};
+ghost use Rattle.plain_values.specs.Columns.{Fits};
 ghost use Rattle.sqlite_keeper.specs.Making.{MakesTable};
 
 use crate::cells::cells_of;

@@ -1,7 +1,7 @@
 //! Why a database is not read or changed.
 ghost use Rattle.std.specs.IoError.{error_kind};
 ghost use Rattle.std.specs.declared.io.ErrorKind.TheVariants as kind;
-ghost use Rattle.lens_values.specs.declared.text.TextFault.TheVariants as text;
+ghost use Rattle.plain_values.specs.declared.text.TextFault.TheVariants as text;
 ghost use Rattle.view_lang.specs.declared.definition.LangFault.TheVariants as lang;
 ghost use Rattle.sqlite_keeper.specs.Refusals.{IsWantOfMemory, KeepsWantOfMemory, out_of_memory};
 

@@ -5,13 +5,11 @@ use Rattle.std.proofs.lemmas.Bool.{true≢false}
 use Rattle.std.specs.Cmp.{tied_itself}
 use Rattle.std.specs.FinMap as finmap
 use Rattle.std.specs.Ordering.{is_eq}
-use Rattle.lens_values.specs.Order.{bytes_cmp}
-use Rattle.lens_values.specs.Row.{row_cmp}
-use Rattle.lens_values.specs.SortedSet as set
-use Rattle.lens_values.specs.declared.row.Row.{Row}
-use Rattle.lens_specs.specs.Relation.{Name, Rows, has}
-use Rattle.lens_specs.specs.Delta.{Applies, Delta, TableDelta}
-use Rattle.lens_specs.specs.Keeping.{CanChange, CanCommit, Change, Follows, Kept, Tells, changed, define, nothing, or_empty, rows, rows_at}
+use Rattle.plain_values.specs.Order.{bytes_cmp}
+use Rattle.plain_values.specs.Row.{row_cmp, Row}
+use Rattle.plain_values.specs.SortedSet as set
+use Rattle.lens_specs.specs.Common.{Name, Rows, has, Applies, Delta, TableDelta, CanChange, Change, Follows, Kept, Tells, changed, rows, rows_at}
+use Rattle.lens_specs.specs.Keeping.{CanCommit, define, nothing, or_empty}
 use Rattle.table_keeper.proofs.ByName.{name_total}
 
 -- no row is in the empty set

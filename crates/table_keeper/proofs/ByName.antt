@@ -2,15 +2,15 @@
 use Rattle.std.proofs.Common.{◌≡◌, ℕ, ◌<◌, zero, suc, arith, List, [], ◌∷◌, length, get_or, set, Bool, true, false, cond, Option, Some, refl, sym, ap, ◌∙◌, subst}
 use Rattle.std.specs.Prelude.{◌||◌, map, is_some}
 use Rattle.std.specs.FinMap as finmap
-use Rattle.std.specs.FinMap.{slice_cmp-IsAntisymmetric, nat_cmp-IsAntisymmetric}
 use Rattle.std.specs.List.{AllByRecursion, HoldsAt, insert}
 use Rattle.std.specs.List.Sorted.{IsStrictlySortedBy}
 use Rattle.std.specs.Cmp.{IsTotalOrder, tied_itself}
 use Rattle.std.specs.Cmp.Lexicographic.{nat_list_cmp_total}
 use Rattle.std.specs.Ordering.{eq_by_cmp, is_eq}
-use Rattle.std.specs.declared.cmp.Ordering.{Ordering}
-use Rattle.std.specs.declared.cmp.Ordering.TheVariants.{Less, Equal, Greater}
-use Rattle.lens_values.specs.Order.{bytes_cmp}
+use Rattle.std.specs.declared.cmp.Ordering.TheVariants.{Less}
+use Rattle.plain_values.specs.Order.{bytes_cmp}
+use Rattle.plain_values.proofs.Maps.{exact}
+use Rattle.plain_values.proofs.Tests.{is_tie, first_fails, second_fails}
 use Rattle.lens_specs.specs.Relation.{Name, Rows}
 use Rattle.row_sets.proofs.Walks.{apart}
 use Rattle.table_keeper.specs.Changes.{names_of, rows_of}
@@ -20,27 +20,11 @@ use Rattle.table_keeper.specs.declared.keeper.KeptTable.{KeptTable}
 pub name_total : IsTotalOrder bytes_cmp
 name_total = nat_list_cmp_total
 
-pub name_exact : finmap.IsAntisymmetric bytes_cmp
-name_exact = slice_cmp-IsAntisymmetric nat_cmp-IsAntisymmetric
-
-tie_is : (r : Ordering) → is_eq r ≡ true → r ≡ Equal
-tie_is Less e = cc
-tie_is Equal e = refl
-tie_is Greater e = cc
-
 pub one_name : (x y : Name) → eq_by_cmp bytes_cmp x y ≡ true → x ≡ y
-one_name x y e = name_exact x y (tie_is (bytes_cmp x y) e)
+one_name x y e = exact x y (is_tie (bytes_cmp x y) e)
 
 itself : (x : Name) → eq_by_cmp bytes_cmp x x ≡ true
 itself x = ap is_eq (tied_itself name_total x)
-
-left_false : (a b : Bool) → (a || b) ≡ false → a ≡ false
-left_false true b e = e
-left_false false b e = refl
-
-right_false : (a b : Bool) → (a || b) ≡ false → b ≡ false
-right_false true b e = cc
-right_false false b e = e
 
 shadowed : {A : Type 0} (b : Bool) (x y z : A) → cond b x z ≡ cond b x (cond b y z)
 shadowed true x y z = refl
@@ -112,7 +96,7 @@ find_set q (x ∷ xs) (suc i) t s l h =
 
 -- from what is found under each name
 by_finds : (ts us : List KeptTable) (t : KeptTable) → ((q : Name) → find q us ≡ cond (eq_by_cmp bytes_cmp q t.table) (Some t.rows) (find q ts)) → rows_in us ≡ finmap.insert (rows_in ts) t.table t.rows
-by_finds ts us t is = finmap.same_map name_total name_exact _ _ (λ q.
+by_finds ts us t is = finmap.same_map name_total exact _ _ (λ q.
     finmap.get-from_entries name_total (map rows_of us) q ∙ is q
     ∙ sym (finmap.get-insert name_total (rows_in ts) t.table t.rows q ∙ ap (cond (eq_by_cmp bytes_cmp q t.table) (Some t.rows)) (finmap.get-from_entries name_total (map rows_of ts) q)))
 
@@ -136,8 +120,8 @@ find_insert q [] zero t o = refl
 find_insert q [] (suc i) t o = refl
 find_insert q (x ∷ xs) zero t o = refl
 find_insert q (x ∷ xs) (suc i) t o =
-    let other : eq_by_cmp bytes_cmp t.table x.table ≡ false = left_false (eq_by_cmp bytes_cmp t.table x.table) (is_named (names_of xs) t.table) o in
-    ap (cond (eq_by_cmp bytes_cmp q x.table) (Some x.rows)) (find_insert q xs i t (right_false (eq_by_cmp bytes_cmp t.table x.table) (is_named (names_of xs) t.table) o))
+    let other : eq_by_cmp bytes_cmp t.table x.table ≡ false = first_fails (eq_by_cmp bytes_cmp t.table x.table) (is_named (names_of xs) t.table) o in
+    ap (cond (eq_by_cmp bytes_cmp q x.table) (Some x.rows)) (find_insert q xs i t (second_fails (eq_by_cmp bytes_cmp t.table x.table) (is_named (names_of xs) t.table) o))
     ∙ swapped (eq_by_cmp bytes_cmp q x.table) (eq_by_cmp bytes_cmp q t.table) (Some x.rows) (Some t.rows) (find q xs) (not_named q x.table t.table other)
 
 -- a new table, at whatever place

@@ -1,13 +1,13 @@
 -- Differences made to tables one after the other, and all at once.
-use Rattle.std.proofs.Common.{◌≡◌, List, [], ◌∷◌, ◌++◌, Bool, true, false, cond, Some, refl, sym, ap, ◌∙◌}
+use Rattle.std.proofs.Common.{◌≡◌, List, [], ◌∷◌, ◌++◌, false, cond, Some, refl, sym, ap, ◌∙◌}
 use Rattle.std.specs.Prelude.{◌||◌, map, nat_eq}
 use Rattle.std.specs.FinMap as finmap
 use Rattle.std.specs.List.{AllByRecursion, list_any}
 use Rattle.std.specs.Cmp.Lexicographic.{pointwise, texts_ties}
-use Rattle.lens_values.specs.Order.{bytes_cmp}
-use Rattle.lens_specs.specs.Relation.{Name, Rows}
-use Rattle.lens_specs.specs.Delta.{TableDelta, new_view}
-use Rattle.lens_specs.specs.Keeping.{AllApply, or_empty, rows_at, with_deltas}
+use Rattle.plain_values.specs.Order.{bytes_cmp}
+use Rattle.plain_values.proofs.Tests.{first_fails, second_fails}
+use Rattle.lens_specs.specs.Common.{Name, Rows, TableDelta, new_view, AllApply, rows_at, with_deltas}
+use Rattle.lens_specs.specs.Keeping.{or_empty}
 use Rattle.signed_delta.specs.declared.delta.TableDelta as code
 use Rattle.signed_delta.specs.Tables.{table_delta}
 use Rattle.table_keeper.specs.Places.{IsThere, entry_after, with_entries}
@@ -15,14 +15,6 @@ use Rattle.table_keeper.proofs.ByName.{name_total}
 
 abbrev Tables : Type 0
 Tables = finmap.FinMap bytes_cmp Rows
-
-left_false : (a b : Bool) → (a || b) ≡ false → a ≡ false
-left_false true b e = e
-left_false false b e = refl
-
-right_false : (a b : Bool) → (a || b) ≡ false → b ≡ false
-right_false true b e = cc
-right_false false b e = e
 
 -- each table of differences that apply is there
 pub all_there : (ds : List code.TableDelta) (m : Tables) → AllApply (map table_delta ds) m → AllByRecursion (λ d. IsThere m (table_delta d)) ds
@@ -39,8 +31,8 @@ rows_other n k q v o = ap or_empty (finmap.get-insert name_total n k v q ∙ ap 
 agree_after : (ds : List TableDelta) (m n : Tables) (k : Name) (v : Rows) → list_any (λ later. pointwise nat_eq later.table k) ds ≡ false → Agree m n ds → Agree m (finmap.insert n k v) ds
 agree_after [] m n k v o a = tt
 agree_after (d ∷ ds) m n k v o a = (
-  rows_other n k d.table v (left_false (pointwise nat_eq d.table k) (list_any (λ later. pointwise nat_eq later.table k) ds) o) ∙ a.0,
-  agree_after ds m n k v (right_false (pointwise nat_eq d.table k) (list_any (λ later. pointwise nat_eq later.table k) ds) o) a.1,
+  rows_other n k d.table v (first_fails (pointwise nat_eq d.table k) (list_any (λ later. pointwise nat_eq later.table k) ds) o) ∙ a.0,
+  agree_after ds m n k v (second_fails (pointwise nat_eq d.table k) (list_any (λ later. pointwise nat_eq later.table k) ds) o) a.1,
 )
 
 each_is : (ds : List TableDelta) (m n : Tables) → AllApply ds m → Agree m n ds → with_entries (map (entry_after m) ds) n ≡ with_deltas ds n

@@ -5,7 +5,7 @@ use Rattle.std.specs.List.{insert}
 use Rattle.std.specs.List.Sorted.{IsStrictlySortedBy, IsSearchInRange, IsBinarySearchResult, IsNonDecreasingBy}
 use Rattle.std.specs.Ordering.{ordering_index}
 use Rattle.std.specs.declared.cmp.Ordering.TheVariants.{Less, Equal, Greater}
-use Rattle.lens_values.specs.Order.{bytes_cmp}
+use Rattle.plain_values.specs.Order.{bytes_cmp}
 use Rattle.lens_specs.specs.Relation.{Name}
 use Rattle.row_sets.proofs.Places.{searched, put_rises}
 use Rattle.table_keeper.specs.Changes.{names_of}

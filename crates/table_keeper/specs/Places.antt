@@ -4,11 +4,9 @@ use Rattle.std.specs.FinMap as finmap
 use Rattle.std.specs.List.{list_any, HoldsAt}
 use Rattle.std.specs.List.Sorted.{IsStrictlySortedBy}
 use Rattle.std.specs.Ordering.{eq_by_cmp}
-use Rattle.lens_values.specs.Order.{bytes_cmp}
-use Rattle.lens_specs.specs.Relation.{Name, Rows}
-use Rattle.lens_specs.specs.Delta.{new_view}
+use Rattle.plain_values.specs.Order.{bytes_cmp}
+use Rattle.lens_specs.specs.Common.{Name, Rows, new_view, rows_at}
 use Rattle.lens_specs.specs.Delta as spec
-use Rattle.lens_specs.specs.Keeping.{rows_at}
 use Rattle.table_keeper.specs.Changes.{names_of, rows_of}
 use Rattle.table_keeper.specs.declared.keeper.KeptTable.{KeptTable}
 use Rattle.table_keeper.specs.declared.tables.Placed.{Placed}

@@ -2,7 +2,7 @@
 ghost use Rattle.std.specs.Prelude.{◌≡◌, ◌≤◌, ℕ, List, Bool, true, is_some, Some, OnOk, OnErr, IfOk};
 ghost use Rattle.std.specs.declared.option.Option.{Option};
 ghost use Rattle.std.specs.List.Sorted.{IsStrictlySortedBy};
-ghost use Rattle.lens_values.specs.Order.{bytes_cmp};
+ghost use Rattle.plain_values.specs.Order.{bytes_cmp};
 ghost use Rattle.io_specs.specs.Faults.{Rose};
 ghost use Rattle.lens_specs.specs.Keeping as keeping;
 ghost use Rattle.lens_specs.specs.Keeping.{CanCommit, Follows, Stays, Tells, changed};

@@ -3,8 +3,8 @@ ghost use Rattle.std.specs.Prelude.{◌≡◌, ◌<◌, ◌≤◌, IfOk, OnOk, O
 ghost use Rattle.std.specs.FinMap as finmap;
 ghost use Rattle.std.specs.List.{AllByRecursion, HoldsAt, insert};
 ghost use Rattle.std.specs.List.Sorted.{IsBinarySearchResult, IsSearchInRange, IsStrictlySortedBy};
-ghost use Rattle.lens_values.specs.Order.{bytes_cmp};
-ghost use Rattle.lens_values.specs.SortedSet as set;
+ghost use Rattle.plain_values.specs.Order.{bytes_cmp};
+ghost use Rattle.plain_values.specs.SortedSet as set;
 ghost use Rattle.lens_specs.specs.Keeping.{AllApply, with_deltas};
 ghost use Rattle.signed_delta.specs.Tables.{table_delta};
 ghost use Rattle.table_keeper.specs.Changes.{names_of, rows_of};

@@ -2,7 +2,7 @@
 ghost use Rattle.std.specs.Prelude.{◌≡◌, not};
 ghost use Rattle.std.specs.FinMap as finmap;
 ghost use Rattle.std.specs.List.{list_all};
-ghost use Rattle.lens_values.specs.Value.{is_nullable};
+ghost use Rattle.plain_values.specs.Value.{is_nullable};
 
 use crate::samples::expect;
 use lens_values::{Columns, Kind, Name};

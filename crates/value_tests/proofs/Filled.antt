@@ -3,12 +3,10 @@ use Rattle.std.proofs.Common.{◌≡◌, ◌∙◌, Some, ap, cond, sym}
 use Rattle.std.proofs.lemmas.Bool.{or_parts}
 use Rattle.std.specs.FinMap as map
 use Rattle.fd_laws.proofs.Names.{name_itself, name_total}
-use Rattle.lens_values.specs.SortedSet as set
-use Rattle.lens_values.specs.declared.join_kind.JoinKind.{JoinKind}
-use Rattle.lens_specs.specs.Lens.{Tables, Lens, base, join, tables_of}
-use Rattle.lens_specs.specs.Names.{Name}
-use Rattle.lens_specs.specs.Relation.{Relation}
-use Rattle.lens_specs.specs.Sort.{IsOfSort, Sort}
+use Rattle.plain_values.specs.SortedSet as set
+use Rattle.plain_values.specs.declared.join_kind.JoinKind.{JoinKind}
+use Rattle.lens_specs.specs.Common.{Tables, Lens, base, tables_of, Name, Relation, IsOfSort, Sort}
+use Rattle.lens_specs.specs.Lens.{join}
 use Rattle.lens_laws.specs.Lenses.{IsTyped}
 use Rattle.lens_laws.proofs.Lenses.{are_same}
 use Rattle.value_tests.specs.Filled.{Fills}

@@ -1,9 +1,8 @@
 -- Tables that were filled for a lens.
 use Rattle.std.specs.Prelude.{◌≡◌, false}
 use Rattle.std.specs.FinMap as map
-use Rattle.lens_values.specs.SortedSet as set
-use Rattle.lens_specs.specs.Names.{Name}
-use Rattle.lens_specs.specs.Lens.{Tables, Lens, tables_of}
+use Rattle.plain_values.specs.SortedSet as set
+use Rattle.lens_specs.specs.Common.{Name, Tables, Lens, tables_of}
 use Rattle.lens_laws.specs.Lenses.{AreOf}
 
 -- the lens's tables are of their sorts, and the others are as before

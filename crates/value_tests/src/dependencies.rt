@@ -1,6 +1,6 @@
 //! Functional dependencies, and their trees.
 ghost use Rattle.std.specs.Prelude.{◌≡◌, true, false};
-ghost use Rattle.lens_values.specs.SortedSet as set;
+ghost use Rattle.plain_values.specs.SortedSet as set;
 ghost use Rattle.lens_specs.specs.Dependencies.{AllEdges};
 
 use crate::samples::{are_edges, are_names, dep, deps, in_four, name, names, tree};

@@ -1,7 +1,6 @@
 -- How many rows a find may look at by key.
 use Rattle.std.specs.Prelude.{ℕ, if◌then◌else◌}
-use Rattle.lens_specs.specs.Lens.{Lens, sort_of}
-use Rattle.lens_specs.specs.Names.{Name, one}
+use Rattle.lens_specs.specs.Common.{Lens, sort_of, Name, one}
 use Rattle.lens_laws.specs.Work.{size}
 use Rattle.lens_probe.specs.Viewed.{is_left_side}
 

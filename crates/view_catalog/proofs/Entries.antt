@@ -4,10 +4,9 @@ use Rattle.std.specs.Prelude.{nat_eq}
 use Rattle.std.specs.Cmp.Lexicographic.{pointwise, texts_ties, nat_list_eq_equiv}
 use Rattle.std.specs.FinMap as finmap
 use Rattle.std.specs.Ordering.{eq_by_cmp}
-use Rattle.lens_values.specs.Order.{bytes_cmp}
+use Rattle.plain_values.specs.Order.{bytes_cmp}
 use Rattle.fd_laws.proofs.Names.{name_total, name_itself}
-use Rattle.lens_specs.specs.Names.{Name}
-use Rattle.lens_specs.specs.Lens.{Lens}
+use Rattle.lens_specs.specs.Common.{Name, Lens}
 use Rattle.catalog_specs.specs.Catalogue.{Catalogue}
 use Rattle.view_catalog.specs.Contents.{kept_lens}
 use Rattle.view_catalog.specs.declared.key.Key.{Key}

@@ -4,9 +4,10 @@ use Rattle.std.specs.Prelude.{nat_eq, not, Option, Some, None, option_map, optio
 use Rattle.std.proofs.lemmas.Bool.{true≢false}
 use Rattle.std.specs.Cmp.Lexicographic.{pointwise}
 use Rattle.std.specs.FinMap as finmap
-use Rattle.lens_values.specs.Order.{bytes_cmp}
-use Rattle.lens_specs.specs.Lens.{Lens}
-use Rattle.lens_specs.specs.Names.{Name}
+use Rattle.std.proofs.lemmas.List.{nil_from_length}
+use Rattle.plain_values.specs.Order.{bytes_cmp}
+use Rattle.plain_values.proofs.Tests.{place_none, none_is}
+use Rattle.lens_specs.specs.Common.{Lens, Name}
 use Rattle.grammar_specs.specs.Meaning.{Definition}
 use Rattle.grammar_laws.specs.Reading.{reading}
 use Rattle.catalog_specs.specs.Catalogue.{Catalogue, catalogue, catalogue_onto, is_table_of, with_definition}
@@ -22,11 +23,6 @@ use Rattle.view_catalog.proofs.Entries.{get_new, kept_grown}
 use Rattle.view_catalog.proofs.Taken.{grows}
 
 -- ---- texts that are all taken
-
-place_none : (b : Bool) (o : Option ℕ) → cond b (Some 0) (option_map suc o) ≡ None → (b ≡ false) × (o ≡ None)
-place_none true o e = cc
-place_none false None e = (refl, refl)
-place_none false (Some n) e = cc
 
 -- one text more is taken where its definition is
 taken_push : (known : Catalogue) (texts : List (List ℕ)) (text : List ℕ) → refused_from known texts ≡ None
@@ -49,10 +45,6 @@ grown_by texts p a =
     let both : Some g.lens ≡ Some p.lens = sym (get_new known p.name g.lens) ∙ ap (λ m. finmap.get m p.name) (sym grown) ∙ a.lens in
     let same : g.lens ≡ p.lens = cc in
     grown ∙ ap (finmap.insert known p.name) same
-
-none_is : {A : Type 0} (o : Option A) → is_some o ≡ false → o ≡ None
-none_is None e = refl
-none_is (Some x) e = cc
 
 -- its name has no lens yet
 pub new_name : (texts : List (List ℕ)) (p : Prepared) → IsAdmissible texts p → finmap.get (catalogue texts) p.name ≡ None
@@ -115,12 +107,8 @@ catalog_more texts p old new views c a kept more =
 
 -- ---- nothing is defined
 
-none : {A : Type 0} (es : List A) → length es ≡ 0 → es ≡ []
-none [] e = refl
-none (x ∷ es) e = absurd (omega arith)
-
 no_entries : finmap.entries {X = Lens} {R = bytes_cmp} finmap.empty ≡ []
-no_entries = none (finmap.entries {X = Lens} {R = bytes_cmp} finmap.empty) (sym (finmap.len-entries finmap.empty) ∙ finmap.len-empty bytes_cmp Lens)
+no_entries = nil_from_length (finmap.entries {X = Lens} {R = bytes_cmp} finmap.empty) (sym (finmap.len-entries finmap.empty) ∙ finmap.len-empty bytes_cmp Lens)
 
 -- a catalogue of no definitions
 pub nothing_defined : IsCatalog [] [] 0

@@ -1,30 +1,20 @@
 -- What a definition that is taken makes.
-use Rattle.std.proofs.Common.{◌≡◌, ◌∙◌, ◌<◌, ℕ, false, List, ap, sym, refl, arith}
-use Rattle.std.specs.Prelude.{nat_le, Result, Ok, Err, if◌then◌else◌}
-use Rattle.std.proofs.lemmas.Bool.Decides.{nat_tests}
+use Rattle.std.proofs.Common.{◌≡◌, ◌∙◌, ◌<◌, false, List, ap, sym, refl}
+use Rattle.std.specs.Prelude.{Result, Ok, Err, if◌then◌else◌}
 use Rattle.std.specs.FinMap as finmap
-use Rattle.lens_specs.specs.Columns.{Columns}
-use Rattle.lens_specs.specs.Dependencies.{Edge}
-use Rattle.lens_specs.specs.Lens.{Lens, base}
-use Rattle.lens_specs.specs.Names.{Name}
-use Rattle.lens_specs.specs.Predicate.{Predicate}
-use Rattle.lens_specs.specs.Refusal.{tables_limit, views_limit}
-use Rattle.lens_specs.specs.Sort.{Sort}
-use Rattle.lens_specs.specs.Typing.{table_sort}
+use Rattle.std.proofs.lemmas.Bool.{lt-leb}
+use Rattle.lens_specs.specs.Common.{Columns, Edge, Lens, base, Name, Predicate, tables_limit, views_limit, Sort, table_sort}
 use Rattle.grammar_specs.specs.Meaning.{Definition, table, view, Expr}
 use Rattle.catalog_specs.specs.Catalogue.{Catalogue, with_lens}
 use Rattle.catalog_specs.specs.Judging as judging
 use Rattle.catalog_specs.specs.Judging.{is_taken, judged_table, judged_view, lens_in, table_count, unless_full, view_count, where_lensed, where_sorted}
 use Rattle.view_catalog.specs.Judgements.{IsJudged}
-use Rattle.view_catalog.proofs.Taken.{lens_is, table_sort_is}
+use Rattle.catalog_specs.proofs.Judged.{lens_is, table_sort_is}
 
 -- a verdict behind the test of the name
 free_name : (known : Catalogue) (name : Name) (r : Result Definition judging.CatalogFault) → is_taken known name ≡ false
     → ◌≡◌ {A = Result Definition judging.CatalogFault} (if is_taken known name then Err (judging.name_taken name) else r) r
 free_name known name r free = ap (λ b. if b then Err (judging.name_taken name) else r) free
-
-not_full : (limit n : ℕ) → n < limit → nat_le limit n ≡ false
-not_full limit n h = grind (arith, nat_tests)
 
 module _ (known : Catalogue) (name : Name) (columns : Columns) (deps : List Edge) (P : Predicate) where
   -- the table is taken
@@ -34,7 +24,7 @@ module _ (known : Catalogue) (name : Name) (columns : Columns) (deps : List Edge
     table name columns deps P,
     free_name known name (where_sorted (table_sort columns deps P) known (table name columns deps P)) free
         ∙ ap (λ r. where_sorted r known (table name columns deps P)) e
-        ∙ ap (λ full. unless_full full tables_limit (table name columns deps P)) (not_full 64 (table_count known) h),
+        ∙ ap (λ full. unless_full full tables_limit (table name columns deps P)) (lt-leb 64 (table_count known) h),
     record { named = refl; made = ap (λ t. finmap.insert known name (base name t)) (sym (table_sort_is columns deps P s e)) },
   )
 
@@ -46,6 +36,6 @@ module _ (known : Catalogue) (name : Name) (expr : Expr) where
     view name expr,
     free_name known name (where_lensed (lens_in known expr) known (view name expr)) free
         ∙ ap (λ r. where_lensed r known (view name expr)) e
-        ∙ ap (λ full. unless_full full views_limit (view name expr)) (not_full 256 (view_count known) h),
+        ∙ ap (λ full. unless_full full views_limit (view name expr)) (lt-leb 256 (view_count known) h),
     record { named = refl; made = ap (λ o. with_lens name o known) (lens_is known expr L e) },
   )

@@ -1,8 +1,7 @@
 -- A definition that is prepared, and one that can be admitted.
 use Rattle.std.specs.Prelude.{◌≡◌, ℕ, suc, List, [], ◌∷◌, ◌++◌, Option, Some, None, Result, Ok, Err, if◌then◌else◌}
 use Rattle.std.specs.FinMap as finmap
-use Rattle.lens_specs.specs.Lens.{Lens}
-use Rattle.lens_specs.specs.Names.{Name}
+use Rattle.lens_specs.specs.Common.{Lens, Name}
 use Rattle.grammar_specs.specs.Meaning.{Definition}
 use Rattle.grammar_laws.specs.Reading.{reading}
 use Rattle.catalog_specs.specs.Catalogue.{catalogue, is_table_of}

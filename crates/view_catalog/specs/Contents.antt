@@ -4,8 +4,7 @@ use Rattle.std.specs.Cmp.Lexicographic.{pointwise}
 use Rattle.std.specs.Coded.{Coded, code_by, coded×, coded_list, coded_ℕ}
 use Rattle.std.specs.FinMap as finmap
 use Rattle.std.specs.Map.{lookup}
-use Rattle.lens_specs.specs.Lens.{Lens}
-use Rattle.lens_specs.specs.Names.{Name}
+use Rattle.lens_specs.specs.Common.{Lens, Name}
 use Rattle.catalog_specs.specs.Catalogue.{catalogue}
 use Rattle.catalog_specs.specs.Judging.{first_refused, table_count, view_count}
 use Rattle.view_catalog.specs.declared.key.Key.{Key}

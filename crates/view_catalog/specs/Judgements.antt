@@ -1,8 +1,7 @@
 -- What a definition that is taken makes.
 use Rattle.std.specs.Prelude.{◌≡◌, Result, Ok, Err}
 use Rattle.std.specs.FinMap as finmap
-use Rattle.lens_specs.specs.Lens.{Lens}
-use Rattle.lens_specs.specs.Names.{Name}
+use Rattle.lens_specs.specs.Common.{Lens, Name}
 use Rattle.grammar_specs.specs.Meaning.{Definition, table, view}
 use Rattle.catalog_specs.specs.Catalogue.{Catalogue, with_definition}
 use Rattle.catalog_specs.specs.Judging as judging

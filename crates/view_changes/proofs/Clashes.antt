@@ -2,10 +2,8 @@
 use Rattle.std.proofs.Common.{◌≡◌, ◌∙◌, ◌<◌, List, [], ◌∷◌, ◌++◌, length, slice_index_or, ap, sym, subst, refl, arith}
 use Rattle.std.specs.Prelude.{Option, Some, None, Err}
 use Rattle.lens_laws.proofs.Least.{clash_is}
-use Rattle.lens_specs.specs.Dependencies.{Edge}
-use Rattle.lens_specs.specs.Relation.{Rows}
+use Rattle.lens_specs.specs.Common.{Edge, Rows, clash}
 use Rattle.lens_specs.specs.Sort as spec
-use Rattle.lens_specs.specs.Sort.{clash}
 use Rattle.fd_tree.specs.ClashView.{shown_clash}
 use Rattle.fd_tree.specs.declared.clash.Clash.{Clash}
 use Rattle.server_specs.specs.Changing.{unless_clash}

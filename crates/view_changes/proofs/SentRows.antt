@@ -1,16 +1,13 @@
 -- Rows that are sent, and that they fit.
 use Rattle.std.proofs.Common.{◌≡◌, ℕ, List, Result, Ok, Err, ap, inl, inr, refl, subst}
 use Rattle.serde_json.specs.Data.{Items}
-use Rattle.lens_values.specs.SortedSet as set
-use Rattle.lens_values.specs.declared.row.Row.{Row}
+use Rattle.plain_values.specs.SortedSet as set
+use Rattle.plain_values.specs.Row.{Row}
 use Rattle.fd_laws.proofs.Relations.{from_minus, from_union}
 use Rattle.lens_laws.proofs.Lenses.{get_sort}
 use Rattle.lens_laws.specs.Finds.{AllFit}
 use Rattle.lens_laws.specs.Lenses.{AreOf, IsTyped}
-use Rattle.lens_specs.specs.Columns.{Columns}
-use Rattle.lens_specs.specs.Delta.{new_view}
-use Rattle.lens_specs.specs.Lens.{Lens, Tables, get, sort_of}
-use Rattle.lens_specs.specs.Relation.{Rows, minus}
+use Rattle.lens_specs.specs.Common.{Columns, new_view, Lens, Tables, get, sort_of, Rows, minus}
 use Rattle.request_text.specs.RowFaults.{bad_row as bad_of, set_of}
 use Rattle.request_text.specs.Told.{RefusesBy}
 use Rattle.request_reading.specs.declared.rows.RowsFault.{RowsFault}

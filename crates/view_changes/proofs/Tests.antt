@@ -4,10 +4,7 @@ use Rattle.std.specs.Prelude.{Vec}
 use Rattle.std.specs.declared.alloc.Global.{Global}
 use Rattle.lens_laws.proofs.Deltas.{diff_applies, diff_leads}
 use Rattle.lens_laws.specs.Finds.{AllFit}
-use Rattle.lens_specs.specs.Delta.{AppliesTo, Delta, diff, new_view}
-use Rattle.lens_specs.specs.Lens.{Lens, Tables, get, sort_of, view}
-use Rattle.lens_specs.specs.Relation.{Rows}
-use Rattle.lens_specs.specs.Sort.{IsOf, Sort, clash}
+use Rattle.lens_specs.specs.Common.{AppliesTo, Delta, diff, new_view, Lens, Tables, get, sort_of, view, Rows, IsOf, Sort, clash}
 use Rattle.fd_laws.proofs.Relations.{from_minus}
 use Rattle.lens_chain.specs.Edits.{edited}
 use Rattle.server_specs.specs.Changing.{changed_at, is_stale, of_sort, tested, unless_clash, unless_off, unless_stale}

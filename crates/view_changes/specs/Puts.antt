@@ -1,11 +1,7 @@
 -- What a change of a view comes to, as the code has it.
 use Rattle.std.specs.Prelude.{◌≡◌, ℕ, Bool, true, false, ◌||◌, nat_lt, map, Option, Result, Ok, Err, Vec}
 use Rattle.std.specs.declared.alloc.Global.{Global}
-use Rattle.lens_specs.specs.Columns.{Columns}
-use Rattle.lens_specs.specs.Delta.{changes}
-use Rattle.lens_specs.specs.Lens.{Lens, Tables, sort_of}
-use Rattle.lens_specs.specs.Relation.{Rows}
-use Rattle.lens_specs.specs.Sort.{IsOf}
+use Rattle.lens_specs.specs.Common.{Columns, changes, Lens, Tables, sort_of, Rows, IsOf}
 use Rattle.lens_laws.specs.Finds.{AllFit}
 use Rattle.request_text.specs.Answers.{edit_refusal_view}
 use Rattle.server_specs.specs.Answer.{Answer, told}

@@ -1,7 +1,6 @@
 -- The rows of a text, as the code has them.
 use Rattle.std.specs.Prelude.{◌≡◌, ℕ, List, None, Some, Result, Ok, Err}
-use Rattle.lens_specs.specs.Columns.{Columns}
-use Rattle.lens_specs.specs.Relation.{Rows}
+use Rattle.lens_specs.specs.Common.{Columns, Rows}
 use Rattle.lens_laws.specs.Finds.{AllFit}
 use Rattle.sheet_specs.specs.Sheets.{unsheet}
 use Rattle.server_specs.specs.Exporting.{first_nullable}

@@ -1,5 +1,5 @@
 -- What std's `parse` makes of a field.
-use Rattle.std.proofs.Common.{◌≡◌, ◌≢◌, ℕ, ◌<◌, ◌≤◌, ◌^◌, suc, zero, Bool, true, false, cond, get_or, subst, List, [], ◌∷◌, length, refl, sym, ap, ◌∙◌, arith, rules, pos, neg_ℤ, ℤ, inl, inr}
+use Rattle.std.proofs.Common.{◌≡◌, ◌≢◌, ℕ, ◌<◌, ◌≤◌, ◌^◌, suc, zero, Bool, true, false, cond, get_or, subst, List, [], ◌∷◌, length, refl, sym, ap, ◌∙◌, arith, rules, pos, neg_ℤ, ℤ, inl, inr, lt-ltb, ltb-true, le-leb, leb-true}
 use Rattle.std.specs.Prelude.{◌&&◌, ◌==◌, not, nat_le, nat_lt, Some, None, Result, Ok, Err, IsUtf8}
 use Rattle.std.specs.List.{list_all, list_any}
 use Rattle.std.specs.Result.{OkIff, result_ok}
@@ -7,13 +7,14 @@ use Rattle.std.specs.Str.{IsAscii, is_utf8}
 use Rattle.std.specs.Str.Parse.{ParsesSigned}
 use Rattle.std.proofs.lemmas.Str.{IsUtf8-from_ascii, IsUtf8-from_is_utf8, is_utf8-from_IsUtf8}
 use Rattle.std.proofs.lemmas.Str.Parse.{IsNumeralModel, numerals_by_fold, parse_signed_plain, parse_signed_minus}
-use Rattle.std.proofs.lemmas.Bool.{cases_Bool, eqb-true}
+use Rattle.std.proofs.lemmas.Bool.{cases_Bool, eqb-true, cond-true}
 use Rattle.std.proofs.lemmas.Bool.Decides.{nat_tests}
 use mir.Syntax.{w64}
 use Rattle.grammar_specs.specs.Tokens.{is_digit, digits_value, minus}
-use Rattle.lens_values.specs.Bytes.{is_text}
-use Rattle.lens_values.specs.Text.{text_of}
-use Rattle.lens_values.specs.declared.text.TextFault.TheVariants as fault
+use Rattle.plain_values.specs.Bytes.{is_text}
+use Rattle.plain_values.specs.Text.{text_of}
+use Rattle.plain_values.specs.declared.text.TextFault.TheVariants as fault
+use Rattle.plain_values.proofs.Tests.{first_holds, second_holds}
 use Rattle.sheet_specs.specs.Fields.{are_digits, number_below_zero, number_in, number_of_digits, text_in}
 
 own : IsNumeralModel (λ ds. list_all is_digit ds ≡ true) (digits_value 0)
@@ -23,28 +24,8 @@ minus_is : (n : ℕ) → neg_ℤ (pos n) ≡ minus n
 minus_is zero = refl
 minus_is (suc n) = refl
 
-below_yes : (n m : ℕ) → n < m → nat_lt n m ≡ true
-below_yes n m h = grind (arith, nat_tests)
-
-below_of : (n m : ℕ) → nat_lt n m ≡ true → n < m
-below_of n m h = grind (arith, nat_tests)
-
-within_yes : (n m : ℕ) → n ≤ m → nat_le n m ≡ true
-within_yes n m h = grind (arith, nat_tests)
-
-within_of : (n m : ℕ) → nat_le n m ≡ true → n ≤ m
-within_of n m h = grind (arith, nat_tests)
-
 not_minus : (b : ℕ) → (b == 45) ≡ false → b ≢ 45
 not_minus b e = grind (arith, nat_tests)
-
-first_holds : (a b : Bool) → (a && b) ≡ true → a ≡ true
-first_holds true b h = refl
-first_holds false b h = cc
-
-second_holds : (a b : Bool) → (a && b) ≡ true → b ≡ true
-second_holds true b h = h
-second_holds false b h = cc
 
 some_bytes : (ds : List ℕ) → 0 < length ds → not (length ds == 0) ≡ true
 some_bytes ds h = grind (arith, nat_tests)
@@ -55,9 +36,6 @@ length_of (b ∷ ds) h = omega arith
 
 -- what is there only under a test
 module _ {A : Type 0} where
-  under : (t : Bool) (x y : A) → t ≡ true → cond t x y ≡ x
-  under t x y e = rw e refl
-
   refused : (t : Bool) (x y : A) → (t ≡ true → ⊥) → cond t x y ≡ y
   refused true x y h = absurd (h refl)
   refused false x y h = refl
@@ -67,22 +45,22 @@ both a b c e f g = rw (e, f, g) refl
 
 plain : {E : Type 0} (ds : List ℕ) (r : Result ℤ E) → OkIff r ((list_all is_digit ds ≡ true) × (0 < length ds) × (digits_value 0 ds < 2 ^ 63)) (pos (digits_value 0 ds))
     → result_ok r ≡ number_of_digits ds
-plain ds (Ok z) h = ap Some h.1 ∙ sym (under _ _ _ (both _ _ _ (some_bytes ds h.0.1) h.0.0 (below_yes (digits_value 0 ds) (2 ^ 63) h.0.2)))
+plain ds (Ok z) h = ap Some h.1 ∙ sym (cond-true _ _ _ (both _ _ _ (some_bytes ds h.0.1) h.0.0 (lt-ltb (digits_value 0 ds) (2 ^ 63) h.0.2)))
 plain ds (Err x) h = sym (refused _ _ _ (λ t.
     let all = first_holds (are_digits ds) _ t in
-    h (second_holds _ (list_all is_digit ds) all, length_of ds (first_holds _ (list_all is_digit ds) all), below_of (digits_value 0 ds) (2 ^ 63) (second_holds (are_digits ds) _ t))))
+    h (second_holds _ (list_all is_digit ds) all, length_of ds (first_holds _ (list_all is_digit ds) all), ltb-true (digits_value 0 ds) (2 ^ 63) (second_holds (are_digits ds) _ t))))
 
 negative : {E : Type 0} (ds : List ℕ) (r : Result ℤ E) → OkIff r ((list_all is_digit ds ≡ true) × (0 < length ds) × (digits_value 0 ds ≤ 2 ^ 63)) (neg_ℤ (pos (digits_value 0 ds)))
     → result_ok r ≡ number_below_zero ds
-negative ds (Ok z) h = ap Some (h.1 ∙ minus_is (digits_value 0 ds)) ∙ sym (under _ _ _ (both _ _ _ (some_bytes ds h.0.1) h.0.0 (within_yes (digits_value 0 ds) (2 ^ 63) h.0.2)))
+negative ds (Ok z) h = ap Some (h.1 ∙ minus_is (digits_value 0 ds)) ∙ sym (cond-true _ _ _ (both _ _ _ (some_bytes ds h.0.1) h.0.0 (le-leb (digits_value 0 ds) (2 ^ 63) h.0.2)))
 negative ds (Err x) h = sym (refused _ _ _ (λ t.
     let all = first_holds (are_digits ds) _ t in
-    h (second_holds _ (list_all is_digit ds) all, length_of ds (first_holds _ (list_all is_digit ds) all), within_of (digits_value 0 ds) (2 ^ 63) (second_holds (are_digits ds) _ t))))
+    h (second_holds _ (list_all is_digit ds) all, length_of ds (first_holds _ (list_all is_digit ds) all), leb-true (digits_value 0 ds) (2 ^ 63) (second_holds (are_digits ds) _ t))))
 
 -- what `parse` gives is the number of the field, which does not begin with a plus sign
 pub parsed : {E : Type 0} (b : ℕ) (ds : List ℕ) (r : Result ℤ E) → ParsesSigned w64 10 (b ∷ ds) r → b ≢ 43 → result_ok r ≡ number_in (b ∷ ds)
 parsed b ds r p no_plus = elim (cases_Bool (b == 45)) [
-  | inl sign ↦ negative ds r (parse_signed_minus own w64 (b ∷ ds) r p (eqb-true b 45 sign)) ∙ sym (under (b == 45) (number_below_zero ds) _ sign)
+  | inl sign ↦ negative ds r (parse_signed_minus own w64 (b ∷ ds) r p (eqb-true b 45 sign)) ∙ sym (cond-true (b == 45) (number_below_zero ds) _ sign)
   | inr unsigned ↦ plain (b ∷ ds) r (parse_signed_plain own w64 (b ∷ ds) r p no_plus (not_minus b unsigned)) ∙ sym (rw unsigned refl)
 ]
 
@@ -110,7 +88,7 @@ no_number [] h = refl
 no_number (b ∷ ds) h = elim (cases_Bool (b == 45)) [
   | inl sign ↦
       let ascii : b < 128 = omega (arith, eqb-true b 45 sign) in
-      sym (under (b == 45) (number_below_zero ds) (number_of_digits (b ∷ ds)) sign
+      sym (cond-true (b == 45) (number_below_zero ds) (number_of_digits (b ∷ ds)) sign
       ∙ not_digits ds (b ∷ ds) (nat_le (digits_value 0 ds) (2 ^ 63)) (minus (digits_value 0 ds)) (λ all. ascii_more b ds ascii (ascii_digits ds all)) h)
   | inr unsigned ↦ sym (rw unsigned (not_digits (b ∷ ds) (b ∷ ds) (nat_lt (digits_value 0 (b ∷ ds)) (2 ^ 63)) (pos (digits_value 0 (b ∷ ds))) (ascii_digits (b ∷ ds)) h))
 ]

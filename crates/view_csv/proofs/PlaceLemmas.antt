@@ -1,34 +1,22 @@
 -- Fields found by their place.
-use Rattle.std.proofs.Common.{◌≡◌, ◌<◌, ◌≤◌, ◌+◌, ℕ, suc, zero, Bool, true, false, List, [], ◌∷◌, ◌++◌, length, map, refl, sym, ap, subst, ◌∙◌, arith, take, drop, get_or}
+use Rattle.std.proofs.Common.{◌≡◌, ◌<◌, ◌≤◌, ◌+◌, ℕ, suc, zero, true, false, List, [], ◌∷◌, ◌++◌, length, map, refl, sym, ap, subst, ◌∙◌, arith, take, drop, get_or}
 use Rattle.std.specs.Prelude.{◌&&◌, ◌||◌, ◌==◌, Option, Some, None, option_map}
 use Rattle.std.specs.List.{list_all, list_any}
 use Rattle.std.specs.Option.{option_and_then}
 use Rattle.std.specs.FinMap as finmap
-use Rattle.std.proofs.Math.Seq.{drop-cons}
 use Rattle.std.proofs.lemmas.Bool.{and_from}
 use Rattle.std.proofs.lemmas.Bool.Decides.{nat_tests}
-use Rattle.std.proofs.lemmas.List.{length-map, map-append, take-append-drop, take_all, take_more}
+use Rattle.std.proofs.lemmas.List.{length-map, map-append, take-append-drop, take_all, take_more, drop_more}
 use Rattle.std.proofs.lemmas.List.Folds.{list_all-append}
+use Rattle.std.proofs.Math.Bool.{and-false}
 use Rattle.csv.specs.Records.{field_at}
-use Rattle.lens_values.specs.declared.value.Kind.{Kind}
-use Rattle.lens_values.specs.declared.value.Value.{Value}
-use Rattle.lens_specs.specs.Columns.{Columns}
-use Rattle.lens_specs.specs.Names.{Name}
+use Rattle.plain_values.specs.declared.value.Kind.{Kind}
+use Rattle.plain_values.specs.declared.value.Value.{Value}
+use Rattle.plain_values.proofs.Tests.{first_fails, second_fails}
+use Rattle.lens_specs.specs.Common.{Columns, Name}
 use Rattle.sheet_specs.specs.Fields.{is_same, value_in}
 use Rattle.sheet_specs.specs.Sheets.{Record, all_there, field_under, is_header, value_under}
 use Rattle.view_csv.specs.Places.{ArePlaces, is_name_at, value_at, values_at}
-
-or-left : (a b : Bool) → (a || b) ≡ false → a ≡ false
-or-left false b e = refl
-or-left true b e = cc e
-
-or-right : (a b : Bool) → (a || b) ≡ false → b ≡ false
-or-right false b e = e
-or-right true b e = cc e
-
-no_both : (b : Bool) → (b && false) ≡ false
-no_both true = refl
-no_both false = refl
 
 eqb_yes : (m n : ℕ) → m ≡ n → (m == n) ≡ true
 eqb_yes m n e = grind (arith, nat_tests)
@@ -44,12 +32,6 @@ some_rest x (Some zs) z ys e =
     let rest : zs ≡ ys = cc in
     (same, ap Some rest)
 
--- what is left from a place on begins with what stands there
-drop_one : {A : Type 0} (xs : List A) (i : ℕ) (d : A) → i < length xs → drop i xs ≡ get_or xs i d ∷ drop (i + 1) xs
-drop_one xs i d h =
-    let next : i + 1 ≡ suc i = omega arith in
-    rw (next, drop-cons xs i d h) refl
-
 -- ---- the place of a name
 
 -- the first place with the name leads to the field under it
@@ -61,7 +43,7 @@ place_found name (h ∷ header) zero before here [] = refl
 place_found name (h ∷ header) zero before here (f ∷ fields) = rw here refl
 place_found name (h ∷ header) (suc n) before here [] = refl
 place_found name (h ∷ header) (suc n) before here (f ∷ fields) =
-    rw (or-left (is_same name h) _ before) (place_found name header n (or-right (is_same name h) _ before) here fields)
+    rw (first_fails (is_same name h) _ before) (place_found name header n (second_fails (is_same name h) _ before) here fields)
 
 -- and the name is there
 pub name_there : (name : Name) (header : Record) (place : ℕ) → is_name_at name (field_at header place) ≡ true → list_any (is_same name) header ≡ true
@@ -81,7 +63,7 @@ none_yet name [] (suc n) before here =
 none_yet name (h ∷ header) zero before here = rw here refl
 none_yet name (h ∷ header) (suc n) before here =
     let next : suc n + 1 ≡ suc (n + 1) = omega arith in
-    rw (next, or-left (is_same name h) _ before) (none_yet name header n (or-right (is_same name h) _ before) here)
+    rw (next, first_fails (is_same name h) _ before) (none_yet name header n (second_fails (is_same name h) _ before) here)
 
 -- ---- values that are all there
 
@@ -124,7 +106,7 @@ module _ (places : List (ℕ × Kind)) (i : ℕ) (d : ℕ × Kind) (fields : Rec
   -- a value that is not there
   pub values_none : i < length places → None ≡ value_at fields (get_or places i d) → None ≡ values_at places fields
   values_none h here =
-      let split : places ≡ take i places ++ (get_or places i d ∷ drop (i + 1) places) = sym (take-append-drop i places) ∙ ap (λ l. take i places ++ l) (drop_one places i d h) in
+      let split : places ≡ take i places ++ (get_or places i d ∷ drop (i + 1) places) = sym (take-append-drop i places) ∙ ap (λ l. take i places ++ l) (drop_more places i d h) in
       sym (ap (λ l. values_at l fields) split
       ∙ ap all_there (map-append (value_at fields) (take i places) (get_or places i d ∷ drop (i + 1) places)
       ∙ ap (λ (o : Option Value). map (value_at fields) (take i places) ++ (o ∷ map (value_at fields) (drop (i + 1) places))) (sym here))
@@ -163,11 +145,11 @@ module _ (header : Record) where
       → list_all (λ c. list_any (is_same c.0) header) columns ≡ false
   one_missing [] i d h e = absurd (omega arith)
   one_missing (c ∷ columns) zero d h e = rw e refl
-  one_missing (c ∷ columns) (suc i) d h e = rw (one_missing columns i d (omega (arith, h)) e) (no_both _)
+  one_missing (c ∷ columns) (suc i) d h e = rw (one_missing columns i d (omega (arith, h)) e) (and-false _)
 
   -- a header without the name of a column is none
   pub not_header : (columns : Columns) (i : ℕ) (d : Name × Kind) → i < length (finmap.entries columns) → false ≡ list_any (is_same (get_or (finmap.entries columns) i d).0) header → false ≡ is_header columns header
-  not_header columns i d h e = sym (ap (λ b. (length header == length (finmap.keys columns)) && b) (all_names (finmap.entries columns) ∙ one_missing (finmap.entries columns) i d h (sym e)) ∙ no_both _)
+  not_header columns i d h e = sym (ap (λ b. (length header == length (finmap.keys columns)) && b) (all_names (finmap.entries columns) ∙ one_missing (finmap.entries columns) i d h (sym e)) ∙ and-false _)
 
   -- and one of the right length with all names is one
   pub header_right : (columns : Columns) → length header ≡ length (finmap.entries columns) → list_all (λ c. list_any (is_same c.0) header) (finmap.entries columns) ≡ true → true ≡ is_header columns header

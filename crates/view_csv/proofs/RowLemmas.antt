@@ -5,12 +5,12 @@ use Rattle.std.specs.List.{zip}
 use Rattle.std.specs.FinMap as finmap
 use Rattle.std.specs.Cmp.Lexicographic.{nat_list_cmp_total}
 use Rattle.std.proofs.lemmas.Bool.Decides.{nat_tests}
-use Rattle.lens_values.specs.Order.{bytes_cmp}
-use Rattle.lens_values.specs.SortedMap.{keys_rise}
-use Rattle.lens_values.specs.SortedSet as set
-use Rattle.lens_values.specs.declared.row.Row.{Row}
-use Rattle.lens_values.specs.declared.value.Kind.{Kind}
-use Rattle.lens_values.specs.Columns.{Columns, names}
+use Rattle.plain_values.specs.Order.{bytes_cmp}
+use Rattle.plain_values.specs.SortedMap.{keys_rise}
+use Rattle.plain_values.specs.SortedSet as set
+use Rattle.plain_values.specs.Row.{Row}
+use Rattle.plain_values.specs.declared.value.Kind.{Kind}
+use Rattle.plain_values.specs.Columns.{Columns, names}
 use Rattle.sheet_specs.specs.Sheets.{Record, as_set, is_header, row_in, row_of, rows_from, rows_of_records, unsheet, values_in, with_row}
 use Rattle.view_csv.specs.Places.{ArePlaces, values_at}
 use Rattle.view_csv.specs.Records.{HasRead, records_in}

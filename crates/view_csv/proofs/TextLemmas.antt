@@ -11,14 +11,12 @@ use Rattle.std.proofs.lemmas.List.{append-nil, map-append, take_all, take_more}
 use Rattle.std.proofs.lemmas.List.Folds.{list_all-append}
 use Rattle.std.proofs.lemmas.Str.{is_utf8-from_IsUtf8}
 use Rattle.csv.specs.Writing.{default_writer, row_text}
-use Rattle.lens_values.specs.Bytes.{is_text}
-use Rattle.lens_values.specs.Row.{row_cmp}
-use Rattle.lens_values.specs.RowOrder.{row_cmp-IsAntisymmetric}
-use Rattle.lens_values.specs.SortedSet as set
-use Rattle.lens_values.specs.declared.row.Row.{Row}
-use Rattle.lens_values.proofs.Maps.{is_tie}
-use Rattle.lens_specs.specs.Columns.{Columns}
-use Rattle.lens_specs.specs.Relation.{Rows, has}
+use Rattle.plain_values.specs.Bytes.{is_text}
+use Rattle.plain_values.specs.Row.{row_cmp, Row}
+use Rattle.plain_values.specs.RowOrder.{row_cmp-IsAntisymmetric}
+use Rattle.plain_values.specs.SortedSet as set
+use Rattle.plain_values.proofs.Tests.{is_tie}
+use Rattle.lens_specs.specs.Common.{Columns, Rows, has}
 use Rattle.sheet_specs.specs.SheetLaws.{is_right}
 use Rattle.sheet_specs.specs.Sheets.{Record, record_of, sheet, text_of, unsheet}
 

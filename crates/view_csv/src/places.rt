@@ -3,7 +3,7 @@ ghost use Rattle.std.specs.Prelude.{◌≡◌, IfOk, IfSome, Some, is_some, leng
 ghost use Rattle.std.specs.List.{list_any, zip};
 ghost use Rattle.std.specs.FinMap as finmap;
 ghost use Rattle.csv.specs.Records.{field_at, fields_of};
-ghost use Rattle.lens_values.specs.SortedSet as set;
+ghost use Rattle.plain_values.specs.SortedSet as set;
 ghost use Rattle.sheet_specs.specs.Fields.{is_same};
 ghost use Rattle.sheet_specs.specs.Sheets.{field_under, is_header};
 ghost use Rattle.view_csv.specs.Places.{ArePlaces, is_name_at, value_at, values_at};

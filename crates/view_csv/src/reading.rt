@@ -2,7 +2,7 @@
 ghost use Rattle.std.specs.Prelude.{◌≡◌, [], ◌∷◌, IfOk, length, true};
 ghost use Rattle.std.specs.FinMap as finmap;
 ghost use Rattle.no_memory.specs.Gives.{Gives, GivesBy};
-ghost use Rattle.lens_values.specs.SortedSet as set;
+ghost use Rattle.plain_values.specs.SortedSet as set;
 ghost use Rattle.lens_specs.specs.Columns.{Fits};
 ghost use Rattle.sheet_specs.specs.Sheets.{rows_from, unsheet};
 ghost use Rattle.view_csv.specs.Places.{ArePlaces};

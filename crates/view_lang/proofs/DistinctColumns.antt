@@ -4,17 +4,18 @@ use Rattle.std.specs.Prelude.{not, ◌&&◌, ◌||◌, nat_eq, count_by}
 use Rattle.std.specs.Cmp.Lexicographic.{pointwise, texts_ties}
 use Rattle.std.specs.Ordering.{eq_by_cmp}
 use Rattle.std.proofs.lemmas.List.Folds.{list_any-append}
-use Rattle.lens_values.specs.Order.{bytes_cmp}
+use Rattle.plain_values.specs.Order.{bytes_cmp}
 use Rattle.std.proofs.lemmas.List.Sums.{sum_by-cons}
+use Rattle.std.proofs.lemmas.Bool.{not-true, true≢false}
 use Rattle.lens_values.specs.Repeats.{count_of, IsLeastRepeated}
-use Rattle.lens_values.specs.SortedMap.{keys_of}
-use Rattle.lens_values.specs.declared.value.Kind.{Kind}
+use Rattle.plain_values.specs.SortedMap.{keys_of}
+use Rattle.plain_values.specs.declared.value.Kind.{Kind}
+use Rattle.plain_values.proofs.Tests.{first_holds, second_holds}
 use Rattle.lens_specs.specs.Names.{Name}
 use Rattle.grammar_specs.specs.Tokens.{is_free_name}
 use Rattle.grammar_specs.specs.Written.{is_column_of, are_columns}
 use Rattle.grammar_laws.specs.DefParse.{Cols}
 use Rattle.grammar_laws.specs.Tests.{is_word}
-use Rattle.grammar_laws.proofs.Options.{first_holds, second_holds}
 use Rattle.grammar_laws.proofs.Words.{same_word, word_itself}
 
 counted : (v : Bool) (n : ℕ) → cond v 1 0 + n ≡ cond v (suc n) n
@@ -32,24 +33,17 @@ any_more (d ∷ front) c x name h = split (is_word d.0 name) (is_column_of front
     split true b e h k = refl
     split false b e h k = k h
 
-not_true : (b : Bool) → not b ≡ true → b ≡ false
-not_true true e = cc
-not_true false e = refl
-
-true_false : true ≡ false → ⊥
-true_false e = cc
-
 -- what stands in front does not stand behind
 none_behind : (front cs : Cols) (name : Name) → are_columns front cs ≡ true → is_column_of front name ≡ true → count_of name (keys_of cs) ≡ 0
 none_behind front [] name h there = refl
 none_behind front (c ∷ cs) name h there =
     let here = first_holds (is_free_name c.0 && not (is_column_of front c.0)) (are_columns (front ++ c ∷ []) cs) h in
-    let new = not_true (is_column_of front c.0) (second_holds (is_free_name c.0) (not (is_column_of front c.0)) here) in
+    let new = not-true (is_column_of front c.0) (second_holds (is_free_name c.0) (not (is_column_of front c.0)) here) in
     let rest = none_behind (front ++ c ∷ []) cs name (second_holds (is_free_name c.0 && not (is_column_of front c.0)) (are_columns (front ++ c ∷ []) cs) h)
     (any_more front name (c ∷ []) name (ap (λ b. b || is_column_of (c ∷ []) name) there)) in
     count_by-cons (pointwise nat_eq name) c.0 (keys_of cs)
     ∙ elim (pointwise nat_eq name c.0) as (λ v. pointwise nat_eq name c.0 ≡ v → cond v (suc (count_of name (keys_of cs))) (count_of name (keys_of cs)) ≡ 0) [
-      | true ↦ λ e. absurd (true_false (sym there ∙ ap (is_column_of front) (same_word name c.0 e) ∙ new))
+      | true ↦ λ e. absurd (true≢false (sym there ∙ ap (is_column_of front) (same_word name c.0 e) ∙ new))
       | false ↦ λ e. rest
     ] refl
 

@@ -6,9 +6,10 @@ use Rattle.std.proofs.lemmas.List.{take_all, length-drop}
 use Rattle.std.proofs.lemmas.List.Sums.{prefix_len-le-length}
 use Rattle.std.specs.Str.{IsAscii, IsUtf8}
 use Rattle.std.proofs.lemmas.Str.{IsUtf8-from_ascii}
-use Rattle.lens_values.proofs.NameLemmas.{name_utf8}
-use Rattle.lens_values.specs.Bytes.{is_name, is_name_byte, is_lower}
+use Rattle.plain_values.proofs.NameLemmas.{name_utf8}
+use Rattle.plain_values.specs.Bytes.{is_name, is_name_byte, is_lower}
 use Rattle.std.proofs.lemmas.Bool.Decides.{nat_tests}
+use Rattle.plain_values.proofs.Tests.{first_holds, second_holds}
 use Rattle.grammar_specs.specs.Tokens.{word, is_digit}
 use Rattle.grammar_laws.specs.Front.{drop_while, word_of, word_at, plain_in_front, positive_of, negative_of, dash_of}
 use Rattle.grammar_laws.proofs.FrontLists.{one_more, drop_while_is, front_passes, take_front, drop_front, lower_passes, word_is, not_digit}
@@ -103,14 +104,6 @@ digit_ascii b h = grind (arith, nat_tests)
 
 sign_ascii : (b : ℕ) → (is_digit b || b == 45) ≡ true → b < 128
 sign_ascii b h = grind (arith, nat_tests)
-
-first_holds : (a b : Bool) → (a && b) ≡ true → a ≡ true
-first_holds true b h = refl
-first_holds false b h = cc
-
-second_holds : (a b : Bool) → (a && b) ≡ true → b ≡ true
-second_holds true b h = h
-second_holds false b h = cc
 
 digits_ascii : (bytes : List ℕ) → list_all is_digit bytes ≡ true → IsAscii bytes
 digits_ascii [] h i = omega arith

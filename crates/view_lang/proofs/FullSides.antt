@@ -8,10 +8,9 @@ use Rattle.std.specs.Ordering.{eq_by_cmp, is_eq}
 use Rattle.std.proofs.lemmas.Bool.Decides.{nat_tests}
 use Rattle.std.specs.Cmp.{tied_itself}
 use Rattle.std.specs.Cmp.Lexicographic.{nat_list_cmp_total}
-use Rattle.lens_values.specs.Order.{bytes_cmp}
-use Rattle.lens_values.specs.SortedSet as set
-use Rattle.lens_specs.specs.Names.{Name, Names}
-use Rattle.lens_specs.specs.Dependencies.{Edge, edge}
+use Rattle.plain_values.specs.Order.{bytes_cmp}
+use Rattle.plain_values.specs.SortedSet as set
+use Rattle.lens_specs.specs.Common.{Name, Names, Edge, edge}
 use Rattle.fd_closure.specs.declared.dep.EmptySide.{EmptySide}
 use Rattle.fd_closure.specs.Sides.{dep_of, empty_side}
 use Rattle.grammar_specs.specs.Meaning.{dep_meaning}

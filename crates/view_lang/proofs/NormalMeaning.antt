@@ -2,15 +2,15 @@
 use Rattle.std.proofs.Common.{◌≡◌, Bool, true, false, List, [], ◌∷◌, ◌++◌, refl}
 use Rattle.std.specs.Prelude.{not, ◌&&◌}
 use Rattle.std.specs.List.{list_all}
-use Rattle.lens_values.specs.Value.{is_null}
-use Rattle.lens_values.specs.declared.value.Value.{Value}
+use Rattle.std.proofs.lemmas.Bool.{and_from}
+use Rattle.plain_values.specs.Value.{is_null}
+use Rattle.plain_values.specs.declared.value.Value.{Value}
+use Rattle.plain_values.proofs.Tests.{first_holds, second_holds}
 use Rattle.lens_specs.specs.Predicate.{Formula, truth, falsity, compare, compare_columns, one_of, null_at, negation, all_of, any_of, Formulas, no_formulas, formulas}
 use Rattle.grammar_specs.specs.Tokens.{is_free_name}
 use Rattle.grammar_specs.specs.Written.{Part, literally, compares, compares_columns, is_in, tests_null, negated, grouped, All, only, joined, Pred, alone, either, is_some_list, are_constants, is_part, is_all, is_pred}
 use Rattle.grammar_specs.specs.Meaning.{list_of, formulas_of, conjuncts, disjuncts, conjunction, disjunction, constant, part_meaning, all_conjuncts, pred_disjuncts, pred_meaning}
 use Rattle.lens_pred.specs.NormalForm.{is_all_of, is_any_of, none_is, has_two, has_one, is_normal, are_normal, is_conjunct}
-use Rattle.grammar_laws.proofs.Options.{first_holds, second_holds}
-use Rattle.grammar_laws.proofs.PredSteps.{both}
 
 -- in normal form, and no disjunction
 abbrev pub is_disjunct : Formula → Bool
@@ -20,7 +20,7 @@ is_disjunct f = is_normal f && not (is_any_of f)
 
 all_append : {A : Type 0} (p : A → Bool) (xs ys : List A) → list_all p xs ≡ true → list_all p ys ≡ true → list_all p (xs ++ ys) ≡ true
 all_append p [] ys h k = k
-all_append p (x ∷ xs) ys h k = both (p x) (list_all p (xs ++ ys)) (first_holds (p x) (list_all p xs) h) (all_append p xs ys (second_holds (p x) (list_all p xs) h) k)
+all_append p (x ∷ xs) ys h k = and_from (p x) (list_all p (xs ++ ys)) (first_holds (p x) (list_all p xs) h) (all_append p xs ys (second_holds (p x) (list_all p xs) h) k)
 
 -- members that are normal and none of a kind
 each_member : (kind : Formula → Bool) (fs : Formulas) → (none_is kind fs && are_normal fs) ≡ true → list_all (λ f. is_normal f && not (kind f)) (list_of fs) ≡ true
@@ -28,21 +28,21 @@ each_member kind no_formulas h = refl
 each_member kind (formulas f fs) h =
     let none = first_holds (not (kind f) && none_is kind fs) (is_normal f && are_normal fs) h in
     let normal = second_holds (not (kind f) && none_is kind fs) (is_normal f && are_normal fs) h in
-    both (is_normal f && not (kind f)) (list_all (λ f. is_normal f && not (kind f)) (list_of fs))
-    (both (is_normal f) (not (kind f)) (first_holds (is_normal f) (are_normal fs) normal) (first_holds (not (kind f)) (none_is kind fs) none))
-    (each_member kind fs (both (none_is kind fs) (are_normal fs) (second_holds (not (kind f)) (none_is kind fs) none) (second_holds (is_normal f) (are_normal fs) normal)))
+    and_from (is_normal f && not (kind f)) (list_all (λ f. is_normal f && not (kind f)) (list_of fs))
+    (and_from (is_normal f) (not (kind f)) (first_holds (is_normal f) (are_normal fs) normal) (first_holds (not (kind f)) (none_is kind fs) none))
+    (each_member kind fs (and_from (none_is kind fs) (are_normal fs) (second_holds (not (kind f)) (none_is kind fs) none) (second_holds (is_normal f) (are_normal fs) normal)))
 
 listed_none : (kind : Formula → Bool) (fs : List Formula) → list_all (λ f. is_normal f && not (kind f)) fs ≡ true → none_is kind (formulas_of fs) ≡ true
 listed_none kind [] h = refl
 listed_none kind (f ∷ fs) h =
     let here = first_holds (is_normal f && not (kind f)) (list_all (λ f. is_normal f && not (kind f)) fs) h in
-    both (not (kind f)) (none_is kind (formulas_of fs)) (second_holds (is_normal f) (not (kind f)) here) (listed_none kind fs (second_holds (is_normal f && not (kind f)) (list_all (λ f. is_normal f && not (kind f)) fs) h))
+    and_from (not (kind f)) (none_is kind (formulas_of fs)) (second_holds (is_normal f) (not (kind f)) here) (listed_none kind fs (second_holds (is_normal f && not (kind f)) (list_all (λ f. is_normal f && not (kind f)) fs) h))
 
 listed_normal : (kind : Formula → Bool) (fs : List Formula) → list_all (λ f. is_normal f && not (kind f)) fs ≡ true → are_normal (formulas_of fs) ≡ true
 listed_normal kind [] h = refl
 listed_normal kind (f ∷ fs) h =
     let here = first_holds (is_normal f && not (kind f)) (list_all (λ f. is_normal f && not (kind f)) fs) h in
-    both (is_normal f) (are_normal (formulas_of fs)) (first_holds (is_normal f) (not (kind f)) here) (listed_normal kind fs (second_holds (is_normal f && not (kind f)) (list_all (λ f. is_normal f && not (kind f)) fs) h))
+    and_from (is_normal f) (are_normal (formulas_of fs)) (first_holds (is_normal f) (not (kind f)) here) (listed_normal kind fs (second_holds (is_normal f && not (kind f)) (list_all (λ f. is_normal f && not (kind f)) fs) h))
 
 two_some : (fs : Formulas) → has_two fs ≡ true → is_some_list (list_of fs) ≡ true
 two_some no_formulas h = cc
@@ -59,7 +59,7 @@ conjuncts_normal (null_at c) h = (refl, refl)
 conjuncts_normal (one_of c vs) h = (rw h refl, refl)
 conjuncts_normal (negation f) h = (rw h refl, refl)
 conjuncts_normal (all_of fs) h = (each_member is_all_of fs (second_holds (has_two fs) (none_is is_all_of fs && are_normal fs) h), two_some fs (first_holds (has_two fs) (none_is is_all_of fs && are_normal fs) h))
-conjuncts_normal (any_of fs) h = (both (is_normal (any_of fs) && true) true (both (is_normal (any_of fs)) true h refl) refl, refl)
+conjuncts_normal (any_of fs) h = (and_from (is_normal (any_of fs) && true) true (and_from (is_normal (any_of fs)) true h refl) refl, refl)
 
 disjuncts_normal : (f : Formula) → is_normal f ≡ true → (list_all is_disjunct (disjuncts f) ≡ true) × (is_some_list (disjuncts f) ≡ true)
 disjuncts_normal truth h = (refl, refl)
@@ -69,18 +69,18 @@ disjuncts_normal (compare_columns c op d) h = (refl, refl)
 disjuncts_normal (null_at c) h = (refl, refl)
 disjuncts_normal (one_of c vs) h = (rw h refl, refl)
 disjuncts_normal (negation f) h = (rw h refl, refl)
-disjuncts_normal (all_of fs) h = (both (is_normal (all_of fs) && true) true (both (is_normal (all_of fs)) true h refl) refl, refl)
+disjuncts_normal (all_of fs) h = (and_from (is_normal (all_of fs) && true) true (and_from (is_normal (all_of fs)) true h refl) refl, refl)
 disjuncts_normal (any_of fs) h = (each_member is_any_of fs (second_holds (has_two fs) (none_is is_any_of fs && are_normal fs) h), two_some fs (first_holds (has_two fs) (none_is is_any_of fs && are_normal fs) h))
 
 conjunction_normal : (fs : List Formula) → list_all is_conjunct fs ≡ true → is_normal (conjunction fs) ≡ true
 conjunction_normal [] h = refl
 conjunction_normal (f ∷ []) h = first_holds (is_normal f) (not (is_all_of f)) (first_holds (is_conjunct f) true h)
-conjunction_normal (f ∷ g ∷ fs) h = both (none_is is_all_of (formulas_of (f ∷ g ∷ fs))) (are_normal (formulas_of (f ∷ g ∷ fs))) (listed_none is_all_of (f ∷ g ∷ fs) h) (listed_normal is_all_of (f ∷ g ∷ fs) h)
+conjunction_normal (f ∷ g ∷ fs) h = and_from (none_is is_all_of (formulas_of (f ∷ g ∷ fs))) (are_normal (formulas_of (f ∷ g ∷ fs))) (listed_none is_all_of (f ∷ g ∷ fs) h) (listed_normal is_all_of (f ∷ g ∷ fs) h)
 
 disjunction_normal : (fs : List Formula) → list_all is_disjunct fs ≡ true → is_normal (disjunction fs) ≡ true
 disjunction_normal [] h = refl
 disjunction_normal (f ∷ []) h = first_holds (is_normal f) (not (is_any_of f)) (first_holds (is_disjunct f) true h)
-disjunction_normal (f ∷ g ∷ fs) h = both (none_is is_any_of (formulas_of (f ∷ g ∷ fs))) (are_normal (formulas_of (f ∷ g ∷ fs))) (listed_none is_any_of (f ∷ g ∷ fs) h) (listed_normal is_any_of (f ∷ g ∷ fs) h)
+disjunction_normal (f ∷ g ∷ fs) h = and_from (none_is is_any_of (formulas_of (f ∷ g ∷ fs))) (are_normal (formulas_of (f ∷ g ∷ fs))) (listed_none is_any_of (f ∷ g ∷ fs) h) (listed_normal is_any_of (f ∷ g ∷ fs) h)
 
 -- ---- trees
 

@@ -1,11 +1,12 @@
 -- What std's `parse` makes of an integer of the language.
-use Rattle.std.proofs.Common.{◌≡◌, ℕ, ◌<◌, ◌≤◌, ◌^◌, suc, zero, Bool, true, false, cond, List, [], ◌∷◌, length, IsTrue, refl, ap, ◌∙◌, arith, rules, pos, neg_ℤ, ℤ}
+use Rattle.std.proofs.Common.{◌≡◌, ℕ, ◌<◌, ◌≤◌, ◌^◌, suc, zero, true, false, cond, List, [], ◌∷◌, length, IsTrue, refl, ap, ◌∙◌, arith, rules, pos, neg_ℤ, ℤ, lt-ltb, ltb-true, le-leb, leb-true}
 use Rattle.std.specs.Prelude.{◌≢◌, ◌&&◌, ◌||◌, ◌==◌, nat_le, nat_lt, Option, Some, None, Result, Ok, Err, option_map}
 use Rattle.std.specs.List.{list_all}
 use Rattle.std.specs.Result.{OkIff, result_ok}
 use Rattle.std.specs.Str.Parse.{ParsesSigned}
 use Rattle.std.proofs.lemmas.Str.Parse.{IsNumeralModel, numerals_by_fold, parse_signed_plain, parse_signed_minus}
 use Rattle.std.proofs.lemmas.Bool.Decides.{nat_tests}
+use Rattle.plain_values.proofs.Tests.{first_holds, second_holds}
 use mir.Syntax.{w64}
 use Rattle.grammar_specs.specs.Tokens.{Token, integer, is_digit, digits_value, minus}
 use Rattle.grammar_laws.specs.Front.{positive_of, negative_of}
@@ -19,12 +20,6 @@ minus_is : (n : ℕ) → neg_ℤ (pos n) ≡ minus n
 minus_is zero = refl
 minus_is (suc n) = refl
 
-below_yes : (n m : ℕ) → n < m → nat_lt n m ≡ true
-below_yes n m h = grind (arith, nat_tests)
-
-below_of : (n m : ℕ) → nat_lt n m ≡ true → n < m
-below_of n m h = grind (arith, nat_tests)
-
 length_some : (b : ℕ) (ds : List ℕ) → 0 < length (b ∷ ds)
 length_some b ds = omega arith
 
@@ -34,38 +29,24 @@ no_plus b e = grind (arith, nat_tests)
 no_minus : (b : ℕ) → is_digit b ≡ true → b ≢ 45
 no_minus b e = grind (arith, nat_tests)
 
-first_holds : (a b : Bool) → (a && b) ≡ true → a ≡ true
-first_holds true b h = refl
-first_holds false b h = cc
-
-second_holds : (a b : Bool) → (a && b) ≡ true → b ≡ true
-second_holds true b h = h
-second_holds false b h = cc
-
 plain : {E : Type 0} (b : ℕ) (ds : List ℕ) (r : Result ℤ E) → OkIff r ((list_all is_digit (b ∷ ds) ≡ true) × (0 < length (b ∷ ds)) × (digits_value 0 (b ∷ ds) < 2 ^ 63)) (pos (digits_value 0 (b ∷ ds)))
     → list_all is_digit (b ∷ ds) ≡ true → option_map integer (result_ok r) ≡ positive_of (b ∷ ds)
-plain b ds (Ok z) h all = rw (below_yes (digits_value 0 (b ∷ ds)) (2 ^ 63) h.0.2) (ap (λ y. Some (integer y)) h.1)
+plain b ds (Ok z) h all = rw (lt-ltb (digits_value 0 (b ∷ ds)) (2 ^ 63) h.0.2) (ap (λ y. Some (integer y)) h.1)
 plain b ds (Err x) h all =
     elim (nat_lt (digits_value 0 (b ∷ ds)) (2 ^ 63)) as (λ v. nat_lt (digits_value 0 (b ∷ ds)) (2 ^ 63) ≡ v → ◌≡◌ {A = Option Token} None (cond v (Some (integer (pos (digits_value 0 (b ∷ ds))))) None)) [
-      | true ↦ λ e. absurd (h (all, search (rules, length_some b ds), below_of _ _ e))
+      | true ↦ λ e. absurd (h (all, search (rules, length_some b ds), ltb-true _ _ e))
       | false ↦ λ e. refl
     ] refl
-
-above : (n m : ℕ) → n ≤ m → nat_le n m ≡ true
-above n m h = grind (arith, nat_tests)
-
-above_of : (n m : ℕ) → nat_le n m ≡ true → n ≤ m
-above_of n m h = grind (arith, nat_tests)
 
 negative : {E : Type 0} (ds : List ℕ) (r : Result ℤ E) → OkIff r ((list_all is_digit ds ≡ true) × (0 < length ds) × (digits_value 0 ds ≤ 2 ^ 63)) (neg_ℤ (pos (digits_value 0 ds)))
     → list_all is_digit ds ≡ true → option_map integer (result_ok r) ≡ negative_of ds
 negative [] (Ok z) h all = absurd (omega (arith, h.0.1))
 negative [] (Err x) h all = refl
 negative (d ∷ ds) (Ok z) h all =
-    rw (above (digits_value 0 (d ∷ ds)) (2 ^ 63) h.0.2) (ap (λ y. Some (integer y)) (h.1 ∙ minus_is (digits_value 0 (d ∷ ds))))
+    rw (le-leb (digits_value 0 (d ∷ ds)) (2 ^ 63) h.0.2) (ap (λ y. Some (integer y)) (h.1 ∙ minus_is (digits_value 0 (d ∷ ds))))
 negative (d ∷ ds) (Err x) h all =
     elim (nat_le (digits_value 0 (d ∷ ds)) (2 ^ 63)) as (λ v. nat_le (digits_value 0 (d ∷ ds)) (2 ^ 63) ≡ v → ◌≡◌ {A = Option Token} None (cond v (Some (integer (minus (digits_value 0 (d ∷ ds))))) None)) [
-      | true ↦ λ e. absurd (h (all, length_some d ds, above_of _ _ e))
+      | true ↦ λ e. absurd (h (all, length_some d ds, leb-true _ _ e))
       | false ↦ λ e. refl
     ] refl
 

@@ -1,7 +1,7 @@
 -- The operands that stand in parentheses.
 use Rattle.std.proofs.Common.{◌≡◌, ◌∷◌, ◌++◌, List, [], map, refl, ap, sym, subst, append_assoc, rules}
 use Rattle.std.specs.Prelude.{codes}
-use Rattle.lens_values.specs.declared.value.Value.{Value}
+use Rattle.plain_values.specs.declared.value.Value.{Value}
 use Rattle.lens_specs.specs.Names.{Name}
 use Rattle.grammar_specs.specs.Meaning as meaning
 use Rattle.grammar_specs.specs.Tokens.{word, open_paren, close_paren, comma}

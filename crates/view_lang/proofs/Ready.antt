@@ -2,11 +2,12 @@
 use Rattle.std.proofs.Common.{◌≡◌, ◌≤◌, true, [], sym, subst, ◌∙◌, arith}
 use Rattle.std.specs.Prelude.{◌&&◌, Some}
 use Rattle.std.specs.List.{list_all}
+use Rattle.plain_values.proofs.Tests.{first_holds, second_holds}
 use Rattle.lens_specs.specs.Predicate.{Formula}
 use Rattle.grammar_specs.specs.Tokens.{is_free_name}
 use Rattle.grammar_specs.specs.Written.{is_some_list, are_free_names, are_columns, is_operand}
 use Rattle.grammar_specs.specs.Meaning.{pred_meaning}
-use Rattle.grammar_laws.proofs.Options.{first_holds, second_holds, map_then}
+use Rattle.grammar_laws.proofs.Options.{map_then}
 use Rattle.grammar_laws.proofs.WrittenPreds.{Reading, inside, behind, is_reading}
 use Rattle.grammar_laws.proofs.WrittenExprs as expr
 use Rattle.grammar_laws.proofs.WrittenExprs.{Exprs, exprs, Spot, are_holes, is_spot, is_exprs}

@@ -3,8 +3,8 @@ use Rattle.std.proofs.Common.{◌≡◌, ℕ, ◌-◌, ◌^◌, List, length, sy
 use Rattle.std.specs.Prelude.{min, nat_le}
 use Rattle.std.specs.FinMap as map_of
 use Rattle.std.proofs.lemmas.Bool.Decides.{nat_tests}
-use Rattle.lens_values.specs.Columns.{Columns}
-use Rattle.lens_values.specs.declared.value.Kind.{Kind}
+use Rattle.plain_values.specs.Columns.{Columns}
+use Rattle.plain_values.specs.declared.value.Kind.{Kind}
 
 -- the least of a count and the greatest number is small where the count is
 pub small_nodes : (n m : ℕ) → m ≡ min n (2 ^ 64 - 1) → nat_le m 256 ≡ nat_le n 256

@@ -1,7 +1,7 @@
 -- What holds of a definition while it is read.
 use Rattle.std.specs.Prelude.{◌≡◌, ℕ, List, true}
 use Rattle.lens_values.specs.Repeats.{IsLeastRepeated}
-use Rattle.lens_values.specs.SortedMap.{keys_of}
+use Rattle.plain_values.specs.SortedMap.{keys_of}
 use Rattle.grammar_specs.specs.Written.{is_some_list}
 use Rattle.grammar_laws.specs.DefParse.{Cols, Parse, at_start, at_table, at_open, at_column, at_kind, behind_kind, behind_column, behind_columns, in_left, in_right, in_condition, at_view, at_equals, in_view}
 use Rattle.view_lang.specs.PredBounds.{IsReady, IsReadyExprs}

@@ -1,9 +1,8 @@
 -- What is added to the text of a printer.
 use Rattle.std.specs.Prelude.{◌≡◌, ℕ, Bool, List, [], ◌∷◌, ◌++◌, string_bytes, flat_map, map, codes, if◌then◌else◌}
-use Rattle.lens_values.specs.declared.value.Kind.{Kind}
-use Rattle.lens_values.specs.declared.value.Value.{Value}
-use Rattle.lens_specs.specs.Names.{Name}
-use Rattle.lens_specs.specs.Predicate.{Formula, Predicate}
+use Rattle.plain_values.specs.declared.value.Kind.{Kind}
+use Rattle.plain_values.specs.declared.value.Value.{Value}
+use Rattle.lens_specs.specs.Common.{Name, Formula, Predicate}
 use Rattle.grammar_specs.specs.Tokens.{Token, word, open_paren, close_paren, comma}
 use Rattle.grammar_specs.specs.Written.{Dep, literal, part_tokens, all_tokens, column_tokens, dep_tokens}
 use Rattle.grammar_specs.specs.Printing.{part_of, all_of_formula, token_bytes, opens, closes}

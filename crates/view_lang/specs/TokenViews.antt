@@ -1,7 +1,7 @@
 -- What a token of the code stands for, and the token in front of a text.
 use Rattle.std.specs.Prelude.{ℕ, ◌<◌, ◌≤◌, ◌==◌, ◌&&◌, ◌||◌, Bool, false, List, [], ◌∷◌, length, drop, Option, Some, None, option_map, IfSome, if◌then◌else◌}
 use Rattle.std.specs.List.{list_all}
-use Rattle.lens_values.specs.Bytes.{is_lower}
+use Rattle.plain_values.specs.Bytes.{is_lower}
 use Rattle.lens_specs.specs.Predicate.{eq, ne, lt, le, gt, ge}
 use Rattle.grammar_specs.specs.Tokens.{Token, word, integer, open_paren, close_paren, comma, arrow, operator, is_digit, Spells, Ends}
 use Rattle.grammar_specs.specs.Tokens as tokens

@@ -2,12 +2,13 @@
 use Rattle.std.proofs.Common.{◌≡◌, cond, None, sym, ap, ◌∙◌, inl, inr}
 use Rattle.std.proofs.lemmas.Bool.{cases_Bool}
 use Rattle.std.specs.FinMap as map
-use Rattle.lens_values.specs.SortedSet as set
-use Rattle.lens_specs.specs.Names.{Name, Names, one}
-use Rattle.lens_specs.specs.Columns.{Columns, both_columns, columns_in, kinds_differ, names, without_column}
+use Rattle.plain_values.specs.SortedSet as set
+use Rattle.lens_specs.specs.Common.{Name, Names, one, Columns, both_columns, kinds_differ, names, without_column}
+use Rattle.lens_specs.specs.Columns.{columns_in}
+use Rattle.fd_laws.proofs.Common.{name_exact, name_total, one_is}
 use Rattle.fd_laws.proofs.Columns.{get-both_left, get-both_right, get-without_other, get-without_same, no_kind}
 use Rattle.lens_laws.proofs.Rules.{one_kind}
-use Rattle.fd_laws.proofs.Names.{name_exact, name_total, one_is, rest_out, rest_same}
+use Rattle.fd_laws.proofs.Names.{rest_out, rest_same}
 
 -- ---- columns cut down
 

@@ -3,26 +3,21 @@ use Rattle.std.proofs.Common.{◌≡◌, List, [], ◌∷◌, map, refl, sym, ap
 use Rattle.std.specs.FinMap as finmap
 use Rattle.std.specs.Cmp.Lexicographic.{nat_list_cmp_total}
 use Rattle.std.specs.Ordering.{eq_by_cmp}
-use Rattle.std.proofs.lemmas.Bool.{true≢false}
-use Rattle.lens_values.specs.Order.{bytes_cmp}
-use Rattle.lens_values.specs.Part.{override}
-use Rattle.lens_values.specs.SortedSet as set
-use Rattle.lens_values.specs.declared.row.Row.{Row}
-use Rattle.lens_values.specs.declared.value.Value.{Value}
-use Rattle.lens_specs.specs.Columns.{Columns, Fits, fits_at, names, without_column}
-use Rattle.lens_specs.specs.Dependencies.{Edge, Meets, edge}
-use Rattle.lens_specs.specs.Names.{Name, Names, one}
-use Rattle.lens_specs.specs.Nodes.{drop_get, drop_put}
-use Rattle.lens_specs.specs.Relation.{Relation, Rows, has, image, project, project_relation}
-use Rattle.lens_specs.specs.Revision.{along, revise, revise_row}
-use Rattle.lens_specs.specs.Rows.{at, with_at}
+use Rattle.std.proofs.lemmas.Bool.{true≢false, false_from_ne_true}
+use Rattle.plain_values.specs.Order.{bytes_cmp}
+use Rattle.plain_values.specs.Part.{override}
+use Rattle.plain_values.specs.SortedSet as set
+use Rattle.plain_values.specs.Row.{Row}
+use Rattle.plain_values.specs.declared.value.Value.{Value}
+use Rattle.lens_specs.specs.Common.{Columns, Fits, fits_at, names, without_column, Edge, Meets, edge, Name, Names, one, drop_get, drop_put, Relation, Rows, has, image, project, along, revise, revise_row, at, with_at}
+use Rattle.lens_specs.specs.Relation.{project_relation}
 use Rattle.lens_laws.specs.Shapes.{CanDrop, IsIn, Shape, drop_shape}
 use Rattle.fd_laws.specs.Trees.{IsTree}
 use Rattle.lens_laws.proofs.Drop.{drop_lawful}
-use Rattle.fd_laws.proofs.Names.{from_rest, one_is, one_itself}
-use Rattle.fd_laws.proofs.Lists.{absurd_false, false_from}
-use Rattle.fd_laws.proofs.Relations.{from_image, in_image, same_rel}
-use Rattle.fd_laws.proofs.Rows.{agree_from, at-with_at, same_row}
+use Rattle.fd_laws.proofs.Common.{from_rest, one_is, one_itself, from_image, same_rel, agree_from, same_row}
+use Rattle.plain_values.proofs.Lists.{absurd_false}
+use Rattle.fd_laws.proofs.Relations.{in_image}
+use Rattle.fd_laws.proofs.Rows.{at-with_at}
 use Rattle.fd_laws.proofs.Trees.{to_tree_without}
 use Rattle.row_sets.proofs.Natural.{first_of, get-both}
 use Rattle.whole_put.proofs.Cuts.{other_columns}
@@ -89,7 +84,7 @@ made A X a default e N M filled moved rows is_default is_edge is_filled is_moved
 module _ (U : Columns) (A : Name) (X : Names) (a : Value) (N M : Rows) (column : fits_at (Some a) (finmap.get U A) ≡ true) (x_out : set.contains X A ≡ false)
     (fit : (r : Row) → has M r ≡ true → Fits U r) (source_decides : Meets M X (one A)) (view_fit : (r : Row) → has N r ≡ true → Fits (without_column U A) r) where
   not_one : (c : Name) → set.contains X c ≡ true → set.contains (one A) c ≡ false
-  not_one c i = false_from _ (λ t. absurd_false _ i (ap (set.contains X) (one_is A c t) ∙ x_out))
+  not_one c i = false_from_ne_true _ (λ t. absurd_false _ i (ap (set.contains X) (one_is A c t) ∙ x_out))
 
   abbrev s : Shape
   s = record { columns = U; holds = λ _. true; tree = edge X (one A) ∷ [] }

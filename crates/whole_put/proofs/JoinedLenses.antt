@@ -4,22 +4,18 @@ use Rattle.std.specs.Prelude.{is_some}
 use Rattle.std.proofs.lemmas.Bool.{true≢false}
 use Rattle.std.specs.FinMap as finmap
 use Rattle.std.specs.Ordering.{eq_by_cmp}
-use Rattle.lens_values.specs.Order.{bytes_cmp}
-use Rattle.lens_values.specs.SortedSet as set
-use Rattle.lens_values.specs.declared.join_kind.JoinKind.{JoinKind}
-use Rattle.lens_values.specs.declared.value.Kind.{Kind}
-use Rattle.lens_values.proofs.ValueLemmas.{kind_itself}
-use Rattle.lens_specs.specs.Columns.{Columns, both_columns, kinds_differ, like_kinds, names}
-use Rattle.lens_specs.specs.Dependencies.{Edge, MeetsTree}
-use Rattle.lens_specs.specs.Lens.{Lens, Tables, join, get, put, sort_of, tables_of, view, view_names}
-use Rattle.lens_specs.specs.Names.{Name, is_among}
-use Rattle.lens_specs.specs.Nodes.{join_get, join_left_after, join_right_after}
-use Rattle.lens_specs.specs.Relation.{Relation, Rows, project}
-use Rattle.lens_specs.specs.Sort.{IsOf, IsOfSort, Sort}
+use Rattle.plain_values.specs.Order.{bytes_cmp}
+use Rattle.plain_values.specs.SortedSet as set
+use Rattle.plain_values.specs.declared.join_kind.JoinKind.{JoinKind}
+use Rattle.plain_values.specs.declared.value.Kind.{Kind}
+use Rattle.plain_values.proofs.ValueLemmas.{kind_itself}
+use Rattle.lens_specs.specs.Common.{Columns, both_columns, kinds_differ, names, Edge, MeetsTree, Lens, Tables, get, put, sort_of, tables_of, view, view_names, Name, is_among, join_get, join_left_after, join_right_after, Relation, Rows, project, IsOf, IsOfSort, Sort}
+use Rattle.lens_specs.specs.Columns.{like_kinds}
+use Rattle.lens_specs.specs.Lens.{join}
 use Rattle.lens_specs.specs.Typing as typing
-use Rattle.fd_laws.proofs.Columns.{names-get}
-use Rattle.fd_laws.proofs.Lists.{in_head, in_tail}
-use Rattle.fd_laws.proofs.Names.{apart_back, from_shared, name_itself, tied_name}
+use Rattle.fd_laws.proofs.Common.{names-get, from_shared, name_itself, tied_name}
+use Rattle.plain_values.proofs.Lists.{in_head, in_tail}
+use Rattle.fd_laws.proofs.Names.{apart_back}
 use Rattle.lens_laws.specs.Lenses.{AreOf, IsTyped}
 use Rattle.lens_laws.specs.Shapes.{IsIn, join_shape, shape_of}
 use Rattle.lens_laws.proofs.Join.{part_left, part_right}

@@ -1,35 +1,29 @@
 -- A join and its put.
 use Rattle.std.proofs.Common.{◌≡◌, Bool, List, ◌++◌, true, not, refl, ap, ◌∙◌}
-use Rattle.std.proofs.lemmas.Bool.{not-true, not_from_false}
-use Rattle.lens_values.specs.declared.row.Row.{Row}
-use Rattle.lens_values.specs.declared.join_kind.JoinKind.{JoinKind}
-use Rattle.lens_values.specs.declared.join_kind.JoinKind.TheVariants.{DeleteLeft, DeleteRight, DeleteBoth}
-use Rattle.lens_specs.specs.Columns.{Fits, both_columns, names}
-use Rattle.lens_specs.specs.Dependencies.{Edge, Meets, MeetsTree}
-use Rattle.lens_specs.specs.Names.{Names, Within}
-use Rattle.lens_specs.specs.Nodes.{join_get, join_left, join_over, join_right, join_kept, join_free, join_put_left, join_put_left_kept, join_put_right, join_left_after, join_right_after}
-use Rattle.lens_specs.specs.Relation.{IsRelation, Relation, Rows, has, minus, project, those}
-use Rattle.lens_specs.specs.Revision.{merge}
-use Rattle.lens_specs.specs.Rows.{agree, cut}
-use Rattle.fd_laws.specs.Trees.{EdgesWithin, IsTree}
+use Rattle.std.proofs.lemmas.Bool.{not-true, not_from_false, false_from_ne_true}
+use Rattle.plain_values.specs.Row.{Row}
+use Rattle.plain_values.specs.declared.join_kind.JoinKind.{JoinKind}
+use Rattle.plain_values.specs.declared.join_kind.JoinKind.TheVariants.{DeleteLeft, DeleteRight, DeleteBoth}
+use Rattle.lens_specs.specs.Common.{Fits, both_columns, names, Edge, Meets, MeetsTree, Names, join_get, join_left, join_over, join_right, join_put_left, join_put_left_kept, join_put_right, join_left_after, join_right_after, IsRelation, Relation, Rows, has, minus, project, those, merge, cut}
+use Rattle.lens_specs.specs.Nodes.{join_kept, join_free}
+use Rattle.fd_laws.specs.Trees.{IsTree}
 use Rattle.lens_laws.specs.Shapes.{CanJoin, IsIn, Shape, join_shape}
-use Rattle.fd_laws.proofs.Closures.{closure_is, implies_sound}
+use Rattle.fd_laws.proofs.Common.{closure_is, same_rel, in_project, in_minus, from_minus, in_those, from_those, agree_back, agree-cut, all_append}
+use Rattle.fd_laws.proofs.Closures.{implies_sound}
 use Rattle.lens_laws.proofs.JoinKinds.{kind_lawful}
-use Rattle.fd_laws.proofs.Lists.{false_from, absurd_false}
-use Rattle.fd_laws.proofs.Relations.{same_rel, in_project, in_minus, from_minus, in_those, from_those}
-use Rattle.fd_laws.proofs.Rows.{agree_back, agree_on, agree_within, agree-cut}
-use Rattle.fd_laws.proofs.Trees.{both_edges}
-use Rattle.fd_laws.proofs.TreeForms.{all_append, append_parts}
+use Rattle.plain_values.proofs.Lists.{absurd_false}
+use Rattle.fd_laws.proofs.TreeForms.{append_parts}
 use Rattle.whole_put.specs.Joinable.{CanBePut, shared_names}
 use Rattle.lens_laws.proofs.Rules.{one_kind}
+use Rattle.lens_laws.proofs.Join.{cut_meets}
 use Rattle.whole_put.specs.Lost.{kept_of, left_without, right_without, surplus_of}
 
 -- ---- the values that the body computes in turn
 
 same_others : (p : Row → Bool) (W : Rows) → minus W (those p W) ≡ those (λ w. not (p w)) W
 same_others p W = same_rel _ _
-    (λ w i. let v = from_minus W (those p W) w i in in_those (λ w. not (p w)) W w v.0 (not_from_false _ (false_from _ (λ t. absurd_false _ (in_those p W w v.0 t) v.1))))
-    (λ w i. let v = from_those (λ w. not (p w)) W w i in in_minus W (those p W) w v.0 (false_from _ (λ j. absurd_false _ (from_those p W w j).1 (not-true _ v.1))))
+    (λ w i. let v = from_minus W (those p W) w i in in_those (λ w. not (p w)) W w v.0 (not_from_false _ (false_from_ne_true _ (λ t. absurd_false _ (in_those p W w v.0 t) v.1))))
+    (λ w i. let v = from_those (λ w. not (p w)) W w i in in_minus W (those p W) w v.0 (false_from_ne_true _ (λ j. absurd_false _ (from_those p W w j).1 (not-true _ v.1))))
 
 left_by_kind : (kind : JoinKind) (U V : Names) (F G : List Edge) (O M N : Rows)
     → left_without kind U (join_over U V F G O M N) (those (λ w. has (project V O) (cut V w)) (join_over U V F G O M N)) (join_left U F O M) ≡ join_left_after kind U V F G O M N
@@ -75,15 +69,6 @@ module _ (kind : JoinKind) (A B : Relation) (F G : List Edge) (view left_part ri
       ∙ ap (λ R. record B { rows = R }) (right_by_kind kind (names A.columns) (names B.columns) F G view.rows A.rows B.rows)
 
 -- ---- the laws
-
--- rows that agree, on the columns of the edges, with rows that meet the edges meet them too
-cut_meets : (U : Names) (T : List Edge) (M O : Rows) → EdgesWithin U T → ((q : Row) → has O q ≡ true → (r : Row) × (has M r ≡ true) × (agree U q r ≡ true)) → MeetsTree M T → MeetsTree O T
-cut_meets U T M O within from = both_edges (λ e. Within e.left U × Within e.right U) (λ e. Meets M e.left e.right) (λ e. Meets O e.left e.right)
-    (λ e w mm p q ip iq g.
-    let v = from p ip in let u = from q iq in
-    let left = agree_on e.left v.0 p u.0 (agree_back e.left p v.0 (agree_within e.left U p v.0 w.0 v.2)) (agree_on e.left p q u.0 g (agree_within e.left U q u.0 w.0 u.2)) in
-    agree_on e.right p v.0 q (agree_within e.right U p v.0 w.1 v.2) (agree_on e.right v.0 u.0 q (mm v.0 u.0 v.1 u.1 left) (agree_back e.right q u.0 (agree_within e.right U q u.0 w.1 u.2))))
-    T within
 
 module _ (kind : JoinKind) (A B : Relation) (F G : List Edge) (O : Rows) (left_tree : IsTree F) (right_tree : IsTree G) (can : CanBePut A.columns B.columns F G) (fit_left : IsRelation A) (fit_right : IsRelation B)
     (left_meets : MeetsTree A.rows F) (right_meets : MeetsTree B.rows G) (fit_view : (r : Row) → has O r ≡ true → Fits (both_columns A.columns B.columns) r)

@@ -2,21 +2,11 @@
 use Rattle.std.proofs.Common.{◌≡◌, ◌∙◌, true, false, List, ap, refl, subst, sym, Some}
 use Rattle.std.specs.Prelude.{Ok}
 use Rattle.std.specs.FinMap as finmap
-use Rattle.lens_values.specs.SortedSet as set
-use Rattle.lens_values.specs.declared.value.Value.{Value}
-use Rattle.lens_specs.specs.Columns.{fits_at, names, without_column}
-use Rattle.lens_specs.specs.Dependencies.{Edge, Meets}
-use Rattle.lens_specs.specs.Lens.{Lens, Tables, base, select, drop, rename, get, put, sort_of, view, rows_or_none}
-use Rattle.lens_specs.specs.Names.{Name, Names, one}
-use Rattle.lens_specs.specs.Nodes.{drop_get, drop_put, rename_get, rename_put, select_get, select_put}
-use Rattle.lens_specs.specs.Predicate.{Predicate, holds}
-use Rattle.lens_specs.specs.Relation.{Relation, Rows}
-use Rattle.lens_specs.specs.Rename.{renamed_columns}
-use Rattle.lens_specs.specs.Rows.{agree}
-use Rattle.lens_specs.specs.Sort.{IsOf, IsOfSort, Sort}
+use Rattle.plain_values.specs.SortedSet as set
+use Rattle.plain_values.specs.declared.value.Value.{Value}
+use Rattle.lens_specs.specs.Common.{fits_at, names, without_column, Edge, Meets, Lens, Tables, base, select, drop, rename, get, put, sort_of, view, rows_or_none, Name, Names, one, drop_get, drop_put, rename_get, rename_put, select_get, select_put, Predicate, holds, Relation, Rows, renamed_columns, agree, IsOf, IsOfSort, Sort}
 use Rattle.lens_specs.specs.Typing as typing
-use Rattle.fd_laws.proofs.Names.{one_is}
-use Rattle.fd_laws.proofs.Rows.{agree_at, agree_from}
+use Rattle.fd_laws.proofs.Common.{one_is, agree_at, agree_from}
 use Rattle.fd_laws.proofs.Trees.{at_edge}
 use Rattle.lens_laws.specs.Lenses.{AreOf, IsTyped}
 use Rattle.lens_laws.proofs.Lenses.{get_after, put_back}

@@ -1,15 +1,11 @@
 -- A rename and its put.
 use Rattle.std.proofs.Common.{◌≡◌, true, false, [], refl, sym, ap, ◌∙◌, subst}
-use Rattle.lens_values.specs.SortedSet as set
-use Rattle.lens_values.specs.declared.row.Row.{Row}
-use Rattle.fd_laws.proofs.Lists.{false_from, absurd_false}
-use Rattle.fd_laws.proofs.Names.{name_itself}
-use Rattle.fd_laws.proofs.Relations.{from_image}
-use Rattle.lens_specs.specs.Columns.{Columns, Fits, names}
-use Rattle.lens_specs.specs.Names.{Name, Names}
-use Rattle.lens_specs.specs.Nodes.{rename_get, rename_put}
-use Rattle.lens_specs.specs.Relation.{IsRelation, Relation, Rows, has, image}
-use Rattle.lens_specs.specs.Rename.{renamed_row, renamed_columns}
+use Rattle.std.proofs.lemmas.Bool.{false_from_ne_true}
+use Rattle.plain_values.specs.SortedSet as set
+use Rattle.plain_values.specs.Row.{Row}
+use Rattle.plain_values.proofs.Lists.{absurd_false}
+use Rattle.fd_laws.proofs.Common.{name_itself, from_image}
+use Rattle.lens_specs.specs.Common.{Columns, Fits, names, Name, Names, rename_get, rename_put, IsRelation, Relation, Rows, has, image, renamed_row, renamed_columns}
 use Rattle.lens_laws.proofs.NodeFinds.{fits_is_over}
 use Rattle.lens_laws.proofs.Rename.{fits_renamed, has_rename, not_old, rename_lawful}
 use Rattle.lens_laws.proofs.RenameSorts.{names-renamed}
@@ -44,7 +40,7 @@ module _ (A B : Name) (source view : Relation) (column : set.contains (names sou
 
   -- no column of the view has the old name
   pub view_lacks : (C : Names) → C ≡ names view.columns → set.contains C A ≡ false
-  view_lacks C is = false_from _ (λ i.
+  view_lacks C is = false_from_ne_true _ (λ i.
       let j = ap (λ D. set.contains D A) (sym (is ∙ ap names columns ∙ names-renamed A B source.columns column free)) ∙ i in
       absurd_false _ (name_itself A) (not_old s A B can A j))
 

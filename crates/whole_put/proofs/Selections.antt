@@ -2,34 +2,21 @@
 use Rattle.std.proofs.Common.{◌≡◌, ◌∙◌, ℕ, suc, Bool, true, false, List, [], ◌∷◌, length, map, arith, ap, sym, refl}
 use Rattle.std.specs.Prelude.{not, ◌==◌, ◌&&◌, ◌||◌}
 use Rattle.std.proofs.lemmas.Bool.Decides.{nat_tests}
-use Rattle.lens_values.specs.RowOrder.{row_cmp_total, row_cmp-IsAntisymmetric}
-use Rattle.lens_values.specs.SortedSet as set
-use Rattle.lens_values.specs.declared.row.Row.{Row}
-use Rattle.lens_specs.specs.Columns.{Columns, Fits}
-use Rattle.lens_specs.specs.Dependencies.{Edge, MeetsTree}
-use Rattle.lens_specs.specs.Relation.{Rows, has, those, image}
-use Rattle.lens_specs.specs.Revision.{merge, revise, revise_row}
-use Rattle.lens_specs.specs.Nodes.{select_get, select_put, select_merged}
+use Rattle.plain_values.specs.RowOrder.{row_cmp_total, row_cmp-IsAntisymmetric}
+use Rattle.plain_values.specs.SortedSet as set
+use Rattle.plain_values.specs.Row.{Row}
+use Rattle.lens_specs.specs.Common.{Columns, Fits, Edge, MeetsTree, Rows, has, those, image, merge, revise, revise_row, select_get, select_put}
+use Rattle.lens_specs.specs.Nodes.{select_merged}
 use Rattle.fd_laws.specs.Trees.{IsTree}
+use Rattle.fd_laws.proofs.Relations.{has-those}
 use Rattle.lens_laws.specs.Shapes.{Shape}
 use Rattle.lens_laws.proofs.Select.{select_lawful}
 
 -- ---- rows that pass a test
 
-in_those : (p : Row → Bool) (M : Rows) (q : Row) → has (those p M) q ≡ (has M q && p q)
-in_those p M q = set.contains-filter row_cmp_total row_cmp-IsAntisymmetric p M q
-
-both : (a b : Bool) → (a && b) ≡ true → (a ≡ true) × (b ≡ true)
-both true b e = (refl, e)
-both false b e = cc
-
--- a row of the result is a row of the relation, and passes
-pub kept_is : (p : Row → Bool) (M : Rows) (q : Row) → has (those p M) q ≡ true → (has M q ≡ true) × (p q ≡ true)
-kept_is p M q h = both (has M q) (p q) (sym (in_those p M q) ∙ h)
-
 -- where each row passes, the result is the whole relation
 pub all_kept : (p : Row → Bool) (M : Rows) → ((q : Row) → has M q ≡ true → p q ≡ true) → those p M ≡ M
-all_kept p M all = set.same_set row_cmp_total row_cmp-IsAntisymmetric (those p M) M (λ q. in_those p M q ∙ by_test (has M q) (p q) (all q))
+all_kept p M all = set.same_set row_cmp_total row_cmp-IsAntisymmetric (those p M) M (λ q. has-those p M q ∙ by_test (has M q) (p q) (all q))
   where
     by_test : (m b : Bool) → (m ≡ true → b ≡ true) → (m && b) ≡ m
     by_test true b h = h refl
@@ -70,14 +57,14 @@ in_union M N q = set.contains-union row_cmp_total M N q
 less_extra : (P : Row → Bool) (N A : Rows) (q : Row) → has (set.difference A (set.difference (those P A) N)) q ≡ (has A q && not ((has A q && P q) && not (has N q)))
 less_extra P N A q =
     set.contains-difference row_cmp_total A (set.difference (those P A) N) q
-    ∙ ap (λ b. has A q && not b) (set.contains-difference row_cmp_total (those P A) N q ∙ ap (λ b. b && not (has N q)) (in_those P A q))
+    ∙ ap (λ b. has A q && not b) (set.contains-difference row_cmp_total (those P A) N q ∙ ap (λ b. b && not (has N q)) (has-those P A q))
 
 -- the source after a put: the rows that are hidden still, and the view
 abbrev pub put_rows : List Edge → (Row → Bool) → Rows → Rows → Rows
 put_rows T P N M = set.union (those (λ r. not (P r)) (revise T (those (λ r. not (P r)) M) N)) N
 
 in_put : (P : Row → Bool) (R N : Rows) (q : Row) → has (set.union (those (λ r. not (P r)) R) N) q ≡ ((has R q && not (P q)) || has N q)
-in_put P R N q = in_union (those (λ r. not (P r)) R) N q ∙ ap (λ b. b || has N q) (in_those (λ r. not (P r)) R q)
+in_put P R N q = in_union (those (λ r. not (P r)) R) N q ∙ ap (λ b. b || has N q) (has-those (λ r. not (P r)) R q)
 
 pub put_is : (T : List Edge) (P : Row → Bool) (N M : Rows) → put_rows T P N M ≡ select_put T P N M
 unfolding select_put select_merged merge
@@ -95,7 +82,7 @@ unfolding select_get
 shown_after T P N M all =
     let R = revise T (those (λ r. not (P r)) M) N in
     set.same_set row_cmp_total row_cmp-IsAntisymmetric _ _ (λ q.
-    in_those P (put_rows T P N M) q ∙ ap (λ b. b && P q) (in_put P R N q) ∙ by_test (has R q) (P q) (has N q) (all q))
+    has-those P (put_rows T P N M) q ∙ ap (λ b. b && P q) (in_put P R N q) ∙ by_test (has R q) (P q) (has N q) (all q))
   where
     by_test : (r p n : Bool) → (n ≡ true → p ≡ true) → (((r && not p) || n) && p) ≡ n
     by_test true true true h = refl

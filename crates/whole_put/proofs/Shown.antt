@@ -1,12 +1,12 @@
 -- What the sources of a lens show.
 use Rattle.std.proofs.Common.{◌≡◌, ◌∙◌, ap, subst, sym, true, Some}
 use Rattle.std.specs.FinMap as finmap
-use Rattle.fd_laws.proofs.Lists.{left_true, right_true}
+use Rattle.std.proofs.lemmas.Bool.{or_left, or_right}
+use Rattle.std.proofs.lemmas.Option.{same_Some}
 use Rattle.fd_laws.proofs.Names.{name_total}
-use Rattle.lens_values.specs.SortedSet as set
-use Rattle.lens_specs.specs.Lens.{Lens, Tables, base, select, drop, rename, join, tables_of, view}
-use Rattle.lens_specs.specs.Names.{Name}
-use Rattle.lens_specs.specs.Relation.{Relation}
+use Rattle.plain_values.specs.SortedSet as set
+use Rattle.lens_specs.specs.Common.{Lens, Tables, base, select, drop, rename, tables_of, view, Name, Relation}
+use Rattle.lens_specs.specs.Lens.{join}
 use Rattle.lens_laws.proofs.Lenses.{get_same}
 use Rattle.whole_put.specs.Sources.{AreShown, both_of, only_of}
 use Rattle.whole_put.specs.declared.sources.Sources.{Sources}
@@ -20,8 +20,8 @@ shown_alike_after (select P C) db eb S same h = (h.0, h.1 ∙ ap (λ M. Some (ov
 shown_alike_after (drop A X a C) db eb S same h = (h.0, h.1 ∙ ap (λ M. Some (over C M, h.0)) (sym (get_same C db eb same)), shown_alike_after C db eb h.0 same h.2)
 shown_alike_after (rename A B C) db eb S same h = (h.0, h.1 ∙ ap (λ M. Some (over C M, h.0)) (sym (get_same C db eb same)), shown_alike_after C db eb h.0 same h.2)
 shown_alike_after (join kind A B) db eb S same h =
-    let left : (t : Name) → set.contains (tables_of A) t ≡ true → finmap.get eb t ≡ finmap.get db t = λ t i. same t (set.contains-union name_total (tables_of A) (tables_of B) t ∙ left_true _ _ i) in
-    let right : (t : Name) → set.contains (tables_of B) t ≡ true → finmap.get eb t ≡ finmap.get db t = λ t i. same t (set.contains-union name_total (tables_of A) (tables_of B) t ∙ right_true _ _ i) in (
+    let left : (t : Name) → set.contains (tables_of A) t ≡ true → finmap.get eb t ≡ finmap.get db t = λ t i. same t (set.contains-union name_total (tables_of A) (tables_of B) t ∙ or_left _ _ i) in
+    let right : (t : Name) → set.contains (tables_of B) t ≡ true → finmap.get eb t ≡ finmap.get db t = λ t i. same t (set.contains-union name_total (tables_of A) (tables_of B) t ∙ or_right _ _ i) in (
       h.0,
       h.1,
       h.2 ∙ (λ i. Some ((over A (sym (get_same A db eb left) i), h.0), (over B (sym (get_same B db eb right) i), h.1))),
@@ -31,16 +31,13 @@ shown_alike_after (join kind A B) db eb S same h =
 
 -- ---- the sources of a node
 
-some_same : {X : Type 0} (x y : X) → Some x ≡ Some y → x ≡ y
-some_same x y e = cc
-
 -- what one source shows, and what its own sources show
 module _ (C : Lens) (db : Tables) (S rest : Sources) (M : Relation) (has : (under : Sources) × (only_of S ≡ Some (view C db, under)) × AreShown C db under) (is : only_of S ≡ Some (M, rest)) where
   abbrev One : Type 0
   One = Relation × Sources
 
   same_one : ◌≡◌ {A = One} (M, rest) (view C db, has.0)
-  same_one = some_same (M, rest) (view C db, has.0) (sym is ∙ has.1)
+  same_one = same_Some (M, rest) (view C db, has.0) (sym is ∙ has.1)
 
   pub only_shown : M ≡ view C db
   only_shown = ap (λ (p : One). p.0) same_one
@@ -56,7 +53,7 @@ module _ (A B : Lens) (db : Tables) (S left_rest right_rest : Sources) (M N : Re
   Two = (Relation × Sources) × (Relation × Sources)
 
   same_two : ◌≡◌ {A = Two} ((M, left_rest), (N, right_rest)) ((view A db, has.0), (view B db, has.1))
-  same_two = some_same ((M, left_rest), (N, right_rest)) ((view A db, has.0), (view B db, has.1)) (sym is ∙ has.2)
+  same_two = same_Some ((M, left_rest), (N, right_rest)) ((view A db, has.0), (view B db, has.1)) (sym is ∙ has.2)
 
   pub left_shown : M ≡ view A db
   left_shown = ap (λ (p : Two). p.0.0) same_two

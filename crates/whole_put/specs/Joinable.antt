@@ -1,9 +1,7 @@
 -- What a put to a join asks of the columns and the trees of its sources.
 use Rattle.std.specs.Prelude.{◌≡◌, List, None}
-use Rattle.lens_values.specs.SortedSet as set
-use Rattle.lens_specs.specs.Columns.{Columns, kinds_differ, names}
-use Rattle.lens_specs.specs.Dependencies.{Edge, closure}
-use Rattle.lens_specs.specs.Names.{Names, Within}
+use Rattle.plain_values.specs.SortedSet as set
+use Rattle.lens_specs.specs.Common.{Columns, kinds_differ, names, Edge, closure, Names, Within}
 use Rattle.fd_laws.specs.Trees.{EdgesWithin}
 
 -- the shared columns

@@ -1,11 +1,7 @@
 -- What the sources of a join lose, of the rows joined too much and those of them whose right part the view has.
-use Rattle.lens_values.specs.declared.join_kind.JoinKind.{JoinKind}
-use Rattle.lens_values.specs.declared.join_kind.JoinKind.TheVariants.{DeleteLeft, DeleteRight, DeleteBoth}
-use Rattle.lens_specs.specs.Columns.{names}
-use Rattle.lens_specs.specs.Names.{Names}
-use Rattle.lens_specs.specs.Nodes.{join_get}
-use Rattle.lens_specs.specs.Relation.{Relation, Rows, has, minus, project, those}
-use Rattle.lens_specs.specs.Rows.{cut}
+use Rattle.plain_values.specs.declared.join_kind.JoinKind.{JoinKind}
+use Rattle.plain_values.specs.declared.join_kind.JoinKind.TheVariants.{DeleteLeft, DeleteRight, DeleteBoth}
+use Rattle.lens_specs.specs.Common.{names, Names, join_get, Relation, Rows, has, minus, project, those, cut}
 
 -- the joined rows of both that the view lacks
 abbrev pub surplus_of : Relation → Relation → Rows → Rows

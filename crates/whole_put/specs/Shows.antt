@@ -1,6 +1,6 @@
 -- Rows that a selection shows, and rows that it hides.
 use Rattle.std.specs.Prelude.{Bool, true, false, not}
-use Rattle.lens_values.specs.declared.row.Row.{Row}
+use Rattle.plain_values.specs.Row.{Row}
 use Rattle.lens_specs.specs.Predicate.{Predicate, holds}
 
 -- whether the predicate holds on the row, or whether it does not

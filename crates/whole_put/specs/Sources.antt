@@ -1,7 +1,7 @@
 -- What the sources of a lens show.
 use Rattle.std.specs.Prelude.{◌≡◌, Option, None, Some}
-use Rattle.lens_specs.specs.Lens.{Lens, Tables, base, select, drop, rename, join, view}
-use Rattle.lens_specs.specs.Relation.{Relation}
+use Rattle.lens_specs.specs.Common.{Lens, Tables, base, select, drop, rename, view, Relation}
+use Rattle.lens_specs.specs.Lens.{join}
 use Rattle.whole_put.specs.declared.sources.Sources.{Sources, Table, One', Two'}
 
 -- what the only source shows, and its sources; each p stands for a pointer to what follows it

@@ -1,8 +1,8 @@
 //! Projections: the rows of a source without one of its columns.
 ghost use Rattle.std.specs.Prelude.{◌≡◌, false, true, IfOk, Some, map};
 ghost use Rattle.std.specs.FinMap as finmap;
-ghost use Rattle.lens_values.specs.Part.{override};
-ghost use Rattle.lens_values.specs.SortedSet as set;
+ghost use Rattle.plain_values.specs.Part.{override};
+ghost use Rattle.plain_values.specs.SortedSet as set;
 ghost use Rattle.lens_specs.specs.Columns.{fits_at, names, without_column};
 ghost use Rattle.lens_specs.specs.Dependencies.{Meets};
 ghost use Rattle.lens_specs.specs.Names.{one};

@@ -1,7 +1,7 @@
 //! Natural joins of two sources.
 ghost use Rattle.std.specs.Prelude.{◌≡◌, Bool, IfOk, None, filter};
-ghost use Rattle.lens_values.specs.Part.{restrict};
-ghost use Rattle.lens_values.specs.declared.row.Row.{Row as OneRow};
+ghost use Rattle.plain_values.specs.Part.{restrict};
+ghost use Rattle.plain_values.specs.Row.{Row as OneRow};
 ghost use Rattle.lens_specs.specs.Columns.{both_columns, columns_in, kinds_differ, names};
 ghost use Rattle.lens_specs.specs.Dependencies.{MeetsTree};
 ghost use Rattle.lens_specs.specs.Nodes.{join_get, join_left_after, join_right_after};

@@ -1,6 +1,6 @@
 //! Renames: the rows of a source with a new name for one of its columns.
 ghost use Rattle.std.specs.Prelude.{◌≡◌, IfOk, false, true};
-ghost use Rattle.lens_values.specs.SortedSet as set;
+ghost use Rattle.plain_values.specs.SortedSet as set;
 ghost use Rattle.lens_specs.specs.Columns.{names};
 ghost use Rattle.lens_specs.specs.Nodes.{rename_get, rename_put};
 ghost use Rattle.lens_specs.specs.Rename.{renamed_columns};

@@ -1,6 +1,6 @@
 //! Selections: the rows of a source that a predicate holds on.
 ghost use Rattle.std.specs.Prelude.{◌≡◌, true, false, IfOk, filter};
-ghost use Rattle.lens_values.specs.declared.row.Row.{Row};
+ghost use Rattle.plain_values.specs.Row.{Row};
 ghost use Rattle.lens_specs.specs.Dependencies.{MeetsTree};
 ghost use Rattle.lens_specs.specs.Nodes.{select_get, select_put};
 ghost use Rattle.lens_specs.specs.Predicate.{holds};

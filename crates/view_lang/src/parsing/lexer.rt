@@ -2,7 +2,7 @@
 ghost use Rattle.std.specs.Prelude.{◌≡◌, ℕ, List, ◌<◌, ◌+◌, ◌-◌, false, length, drop, option_map, MatchOption, IfOk, IfSome, IsTrue, string_bytes, slice_index, map, Some, None};
 ghost use Rattle.std.specs.Str.{IsUtf8};
 ghost use Rattle.std.specs.List.{prefix_len};
-ghost use Rattle.lens_values.specs.Bytes as bytes;
+ghost use Rattle.plain_values.specs.Bytes as bytes;
 ghost use Rattle.grammar_specs.specs.Tokens as language;
 ghost use Rattle.grammar_laws.specs.Front.{quoted_in, text_at, word_at, plain_in_front, token_in_front};
 ghost use Rattle.view_lang.specs.TokenViews.{token_view, front_of, IsFront, integer_at, is_integer_text, begins_word, begins_integer, begins_arrow, long_sign_at, short_sign_at, sign_in_front};

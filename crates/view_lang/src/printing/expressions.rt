@@ -1,6 +1,6 @@
 //! Expressions printed.
 ghost use Rattle.std.specs.Prelude.{◌≡◌, ◌++◌, OnOk, map};
-ghost use Rattle.lens_values.specs.SortedSet as set;
+ghost use Rattle.plain_values.specs.SortedSet as set;
 ghost use Rattle.grammar_specs.specs.Tokens.{word};
 ghost use Rattle.grammar_specs.specs.Printing.{operand_of, expr_written};
 ghost use Rattle.grammar_specs.specs.Written.{join_word, operand_tokens, expr_tokens};

@@ -1,9 +1,9 @@
 use Rattle.std.proofs.Common.{◌≡◌, ◌+◌, ◌≤◌, ◌++◌, ◌∷◌, [], drop, length, ap, sym, ◌∙◌, arith, rules}
 use Rattle.std.proofs.lemmas.List.{take_all}
-use Rattle.lens_values.specs.SortedSet as set
+use Rattle.std.proofs.lemmas.Bool.{false≢true}
+use Rattle.plain_values.specs.SortedSet as set
 use Rattle.key_index.specs.Lists.{rows_of}
 use Rattle.key_index.proofs.Fronts.{all_gone, one_less_behind, same_front}
-use Rattle.key_index.proofs.Lists.{never}
 use Rattle.base_index.proofs.listing.show_behind.Goals.{in-Some, in_default}
 use Rattle.base_index.proofs.listing.show_behind.Goals as goal
 
@@ -21,7 +21,7 @@ loop-preserved c = elim c.match-pop.branch [
         same_front c.loop.remove.items left k first parts within ∙ c.loop.invariant.1,
         ap (λ r. set.difference r (rows_of (drop first left))) less ∙ one_less_behind c.loop.remove.items left k first parts within c.loop.hidden ∙ c.loop.invariant.2,
       )
-  | in_default w ↦ absurd (never (w.in_default.ensures.variant.1 (omega (arith, c.loop.invariant.0, c.loop-test.true, c.len-end.ensures))))
+  | in_default w ↦ absurd (false≢true (w.in_default.ensures.variant.1 (omega (arith, c.loop.invariant.0, c.loop-test.true, c.len-end.ensures))))
 ]
 
 pub returns-clause-hidden : goal.returns-clause-hidden

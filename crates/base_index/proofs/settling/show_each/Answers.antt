@@ -1,5 +1,5 @@
 use Rattle.std.proofs.Common.{ap, sym, ◌∙◌}
-use Rattle.lens_values.specs.SortedSet as set
+use Rattle.plain_values.specs.SortedSet as set
 use Rattle.key_index.proofs.Fronts.{no_row_less, one_more_less}
 use Rattle.base_index.proofs.settling.show_each.Goals as goal
 

@@ -1,9 +1,11 @@
 use Rattle.std.proofs.Common.{◌≡◌, ◌+◌, ◌++◌, ◌∷◌, [], length, ap, sym, ◌∙◌, subst, arith, rules}
 use Rattle.std.specs.Prelude.{if◌then◌else◌}
-use Rattle.lens_values.specs.SortedSet as set
+use Rattle.std.proofs.lemmas.Bool.{false≢true}
+use Rattle.std.proofs.lemmas.List.{nil_from_length}
+use Rattle.plain_values.specs.SortedSet as set
 use Rattle.key_index.specs.Lists.{SameCols, AreKeyed, IsTableOf, rows_of}
 use Rattle.key_index.proofs.Fronts.{hidden_less, none_both}
-use Rattle.key_index.proofs.Lists.{all_keep_keys, never, none_less, nothing_in, one_less, others_keyed, same_trans}
+use Rattle.key_index.proofs.Lists.{all_keep_keys, none_less, one_less, others_keyed, same_trans}
 use Rattle.base_index.proofs.settling.take_hidden.Goals.{in-Some, in_default}
 use Rattle.base_index.proofs.settling.take_hidden.Goals as goal
 
@@ -27,15 +29,15 @@ loop-preserved c = elim c.match-pop.branch [
         (λ was. subst (λ v. IsTableOf c.match-pop.rows v.items) (sym w.indexes-is) (subst (λ r. IsTableOf r w.take_if_hidden.new.indexes.items) (sym w.rows-is) (w.take_if_hidden.ensures.indexes (c.loop.invariant.4 was)))),
         same_trans c.args.indexes.now.items c.loop.indexes.items c.match-pop.indexes.items c.loop.invariant.5 same,
       )
-  | in_default w ↦ absurd (never (w.in_default.ensures.variant.1 (omega (arith, c.loop.invariant.0, c.loop-test.true, c.len-end.ensures))))
+  | in_default w ↦ absurd (false≢true (w.in_default.ensures.variant.1 (omega (arith, c.loop.invariant.0, c.loop-test.true, c.len-end.ensures))))
 ]
 
 pub returns-clause-rows : goal.returns-clause-rows
 returns-clause-rows c =
-    let none = nothing_in c.loop.remove.items (omega (arith, c.loop.invariant.0, c.loop-test.false, c.len-end.ensures)) in
+    let none = nil_from_length c.loop.remove.items (omega (arith, c.loop.invariant.0, c.loop-test.false, c.len-end.ensures)) in
     sym (none_both c.loop.rows c.loop.hidden c.loop.remove.items none) ∙ c.loop.invariant.1
 
 pub returns-clause-hidden : goal.returns-clause-hidden
 returns-clause-hidden c =
-    let none = nothing_in c.loop.remove.items (omega (arith, c.loop.invariant.0, c.loop-test.false, c.len-end.ensures)) in
+    let none = nil_from_length c.loop.remove.items (omega (arith, c.loop.invariant.0, c.loop-test.false, c.len-end.ensures)) in
     sym (ap (λ l. set.difference c.loop.hidden (rows_of l)) none ∙ none_less c.loop.hidden) ∙ c.loop.invariant.2

@@ -1,11 +1,12 @@
 use Rattle.std.proofs.Common.{◌∙◌, Ok, Err, get_or, rules, sym}
 use Rattle.std.proofs.lemmas.List.Sorted.{answers_always}
 use Rattle.std.specs.FinMap as finmap
+use Rattle.plain_values.proofs.Tests.{none_is}
 use Rattle.table_keeper.specs.Changes.{names_of}
 use Rattle.table_keeper.specs.Places.{rows_in}
-use Rattle.table_keeper.proofs.ByName.{name_exact, rows_found, there_is}
+use Rattle.table_keeper.proofs.ByName.{rows_found, there_is}
+use Rattle.plain_values.proofs.Maps.{exact as name_exact}
 use Rattle.table_keeper.proofs.Places.{by_name, found_is}
-use Rattle.database_opening.proofs.Inspected.{none_is}
 use Rattle.database_opening.proofs.tables.kept_rows.Goals as goal
 
 pub returns-in-Ok : goal.returns-in-Ok

@@ -1,6 +1,6 @@
 use Rattle.std.proofs.Common.{◌∙◌, ap, subst, sym}
 use Rattle.fd_laws.proofs.Columns.{fits_names}
-use Rattle.lens_values.specs.SortedSet as set
+use Rattle.plain_values.specs.SortedSet as set
 use Rattle.lens_specs.specs.Columns.{Fits}
 use Rattle.delta_tests.proofs.edits.agreeing.Goals as goal
 

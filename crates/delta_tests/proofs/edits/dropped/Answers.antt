@@ -1,6 +1,5 @@
 use Rattle.std.proofs.Common.{refl, subst}
-use Rattle.lens_specs.specs.Columns.{Fits, names}
-use Rattle.lens_specs.specs.Nodes.{drop_get}
+use Rattle.lens_specs.specs.Common.{Fits, names, drop_get}
 use Rattle.delta_tests.proofs.Tested.{added, applies}
 use Rattle.delta_tests.proofs.edits.dropped.Goals as goal
 

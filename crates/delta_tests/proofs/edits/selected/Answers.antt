@@ -1,11 +1,10 @@
 use Rattle.std.proofs.Common.{◌≡◌, ◌∙◌, ap, refl, subst, sym, true}
 use Rattle.std.specs.List.{list_all}
-use Rattle.lens_values.specs.SortedSet as set
-use Rattle.lens_specs.specs.Columns.{Fits, names}
-use Rattle.lens_specs.specs.Nodes.{select_get}
-use Rattle.lens_specs.specs.Predicate.{holds}
+use Rattle.join_delta.proofs.Carried.{lefts_within}
+use Rattle.plain_values.specs.SortedSet as set
+use Rattle.lens_specs.specs.Common.{Fits, names, select_get, holds}
 use Rattle.select_delta.specs.Selected.{AreSelected}
-use Rattle.delta_tests.proofs.Tested.{all_held, applies, leads, lefts_asked, lefts_within}
+use Rattle.delta_tests.proofs.Tested.{all_held, applies, leads, lefts_asked}
 use Rattle.delta_tests.proofs.edits.selected.Goals as goal
 
 pub select_delta-requires-clause-asked : goal.select_delta-requires-clause-asked

@@ -1,8 +1,7 @@
 use Rattle.std.proofs.Common.{◌≡◌, subst, sym}
 use Rattle.std.specs.Prelude.{IfOk, None, Ok, Option, Some}
-use Rattle.lens_values.specs.Columns.{union_from, union_of}
-use Rattle.lens_specs.specs.Columns.{Columns, both_columns, kinds_differ}
-use Rattle.lens_specs.specs.Names.{Name}
+use Rattle.lens_values.specs.Unions.{union_from, union_of}
+use Rattle.lens_specs.specs.Common.{Columns, both_columns, kinds_differ, Name}
 use Rattle.delta_tests.proofs.joins.view_of.Goals as goal
 
 made_from : (o : Option Name) (U V C : Columns) → union_from o U V ≡ Ok C → C ≡ both_columns U V

@@ -1,8 +1,7 @@
 use Rattle.std.proofs.Common.{◌≡◌, ◌≢◌, ◌∙◌, ap, length, rules, subst, sym, true}
 use Rattle.fd_laws.proofs.Names.{subset_is}
-use Rattle.lens_values.specs.SortedSet as set
-use Rattle.lens_specs.specs.Columns.{names}
-use Rattle.lens_specs.specs.Dependencies.{closure}
+use Rattle.plain_values.specs.SortedSet as set
+use Rattle.lens_specs.specs.Common.{names, closure}
 use Rattle.join_delta.specs.Joined.{shared_names}
 use Rattle.lens_laws.proofs.Rules.{one_kind}
 use Rattle.delta_tests.proofs.premises.can_be_joined.Goals as goal

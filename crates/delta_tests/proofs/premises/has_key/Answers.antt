@@ -1,7 +1,7 @@
 use Rattle.std.proofs.Common.{◌≡◌, ◌∙◌, ap, not, sym}
 use Rattle.std.proofs.lemmas.Bool.{true≢false}
 use Rattle.fd_laws.proofs.Names.{subset_is}
-use Rattle.lens_values.specs.SortedSet as set
+use Rattle.plain_values.specs.SortedSet as set
 use Rattle.lens_specs.specs.Columns.{names}
 use Rattle.delta_tests.proofs.premises.has_key.Goals as goal
 use Rattle.delta_tests.proofs.premises.has_key.Goals.{then-not-is_empty, else-not-is_empty}

@@ -1,7 +1,5 @@
 use Rattle.std.proofs.Common.{◌≡◌, ◌∷◌, [], ◌∙◌, ap, is_some, rules, sym}
-use Rattle.lens_specs.specs.Dependencies.{Edge, edge}
-use Rattle.lens_specs.specs.Names.{one}
-use Rattle.lens_specs.specs.Sort.{clash}
+use Rattle.lens_specs.specs.Common.{Edge, edge, one, clash}
 use Rattle.fd_tree.specs.ClashView.{shown_clash}
 use Rattle.delta_tests.proofs.Tested.{met}
 use Rattle.delta_tests.proofs.premises.is_determined.Goals as goal

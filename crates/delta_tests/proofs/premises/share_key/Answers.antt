@@ -1,7 +1,7 @@
 use Rattle.std.proofs.Common.{◌≡◌, ◌∙◌, ap, sym}
 use Rattle.std.proofs.lemmas.Bool.{true≢false}
-use Rattle.lens_values.specs.SortedSet as set
-use Rattle.lens_values.proofs.NamesLemmas.{same_is}
+use Rattle.plain_values.specs.SortedSet as set
+use Rattle.plain_values.proofs.NamesLemmas.{same_is}
 use Rattle.lens_specs.specs.Columns.{names}
 use Rattle.join_delta.specs.Joined.{shared_names}
 use Rattle.delta_tests.proofs.premises.share_key.Goals as goal

@@ -1,8 +1,9 @@
 use Rattle.std.proofs.Common.{◌≡◌, ◌<◌, ◌≤◌, ◌+◌, ◌*◌, ◌++◌, ◌∷◌, ◌∙◌, [], ap, arith, length, rules, subst, sym}
-use Rattle.lens_values.specs.SortedSet as set
+use Rattle.plain_values.specs.SortedSet as set
 use Rattle.signed_delta.proofs.Looks.{listed_at}
+use Rattle.signed_delta.proofs.Counts.{at_end}
 use Rattle.drop_delta.specs.Dropped.{filled_in}
-use Rattle.drop_delta.proofs.Counted.{at_most, first_pushed, made_few, made_fewer, one_filled, second_pushed}
+use Rattle.drop_delta.proofs.Counted.{first_pushed, made_few, made_fewer, one_filled, second_pushed}
 use Rattle.lens_laws.specs.Work.{count_of, rows_of}
 use Rattle.drop_delta.proofs.Filling.{made_all, made_more, made_no_more}
 use Rattle.drop_delta.proofs.editing.filled_sides.Goals.{in-Some+in_ok-filled_row+in_ok-push, in_default, in-Some-get+in_ok-filled_row-2+in_ok-push-2, in_default-get}
@@ -97,7 +98,7 @@ returns-clause-looks g c = λ n w.
     let was = c.loop-place in
     let r = made_few f d.remove was.remove.items was.place was.invariant.0 in
     let a = made_few f d.add was.add.items was.place was.invariant.1 in
-    at_most n (length was.remove.items + length was.add.items) (rows_of d) c.args.looked.now was.looked (omega arith) (was.invariant.3 n w)
+    at_end n (length was.remove.items + length was.add.items) (rows_of d) c.args.looked.now was.looked (omega arith) (was.invariant.3 n w)
 
 pub returns-in_err-remove-2-clause-looks : goal.returns-in_err-remove-2-clause-looks
 returns-in_err-remove-2-clause-looks g c = λ n w.
@@ -106,7 +107,7 @@ returns-in_err-remove-2-clause-looks g c = λ n w.
     let was = c.loop-place in
     let r = made_few f d.remove was.remove.items was.place was.invariant.0 in
     let a = made_few f d.add was.add.items was.place was.invariant.1 in
-    at_most n (length was.remove.items + length was.add.items) (rows_of d) c.args.looked.now was.looked (omega arith) (was.invariant.3 n w)
+    at_end n (length was.remove.items + length was.add.items) (rows_of d) c.args.looked.now was.looked (omega arith) (was.invariant.3 n w)
 
 pub returns-in_err-add-2-clause-looks : goal.returns-in_err-add-2-clause-looks
 returns-in_err-add-2-clause-looks g c = λ n w.
@@ -115,7 +116,7 @@ returns-in_err-add-2-clause-looks g c = λ n w.
     let was = c.loop-place in
     let r = made_few f d.remove was.remove.items was.place was.invariant.0 in
     let a = made_few f d.add was.add.items was.place was.invariant.1 in
-    at_most n (length was.remove.items + length was.add.items) (rows_of d) c.args.looked.now was.looked (omega arith) (was.invariant.3 n w)
+    at_end n (length was.remove.items + length was.add.items) (rows_of d) c.args.looked.now was.looked (omega arith) (was.invariant.3 n w)
 
 pub returns-in_err-filled_row-clause-looks : goal.returns-in_err-filled_row-clause-looks
 returns-in_err-filled_row-clause-looks g c = λ n w.
@@ -125,7 +126,7 @@ returns-in_err-filled_row-clause-looks g c = λ n w.
     let below : was.place < length c.rows-removed.result.now = search rules in
     let r = made_fewer f d.remove c.rows-removed.result.now was.remove.items was.place (c.rows-removed.ensures ∙ ap set.items c.remove.ensures) below was.invariant.0 in
     let a = made_few f d.add was.add.items was.place was.invariant.1 in
-    at_most n (length was.remove.items + length was.add.items + 1) (rows_of d) c.args.looked.now c.filled_row.new.looked (omega arith)
+    at_end n (length was.remove.items + length was.add.items + 1) (rows_of d) c.args.looked.now c.filled_row.new.looked (omega arith)
     (one_filled n (length was.remove.items) (length was.add.items) c.args.looked.now was.looked c.filled_row.new.looked (was.invariant.3 n w) (c.filled_row.ensures.looks n w))
 
 pub returns-in_err-push-clause-looks : goal.returns-in_err-push-clause-looks
@@ -136,7 +137,7 @@ returns-in_err-push-clause-looks g c = λ n w.
     let below : was.place < length c.rows-removed.result.now = search rules in
     let r = made_fewer f d.remove c.rows-removed.result.now was.remove.items was.place (c.rows-removed.ensures ∙ ap set.items c.remove.ensures) below was.invariant.0 in
     let a = made_few f d.add was.add.items was.place was.invariant.1 in
-    at_most n (length was.remove.items + length was.add.items + 1) (rows_of d) c.args.looked.now c.filled_row.new.looked (omega arith)
+    at_end n (length was.remove.items + length was.add.items + 1) (rows_of d) c.args.looked.now c.filled_row.new.looked (omega arith)
     (one_filled n (length was.remove.items) (length was.add.items) c.args.looked.now was.looked c.filled_row.new.looked (was.invariant.3 n w) (c.filled_row.ensures.looks n w))
 
 pub returns-in_err-filled_row-2-clause-looks : goal.returns-in_err-filled_row-2-clause-looks
@@ -170,7 +171,7 @@ returns-in_err-filled_row-2-clause-looks g c = λ n w.
           let still : c.match-get.looked ≡ was.looked = search rules in
           rw (same, still) (was.invariant.3 n w)
     ] in
-    at_most n (length c.match-get.remove.items + length was.add.items + 1) (rows_of d) old c.filled_row-in-Some-get.new.looked (omega arith)
+    at_end n (length c.match-get.remove.items + length was.add.items + 1) (rows_of d) old c.filled_row-in-Some-get.new.looked (omega arith)
     (one_filled n (length c.match-get.remove.items) (length was.add.items) old c.match-get.looked c.filled_row-in-Some-get.new.looked first (c.filled_row-in-Some-get.ensures.looks n w))
 
 pub returns-in_err-push-2-clause-looks : goal.returns-in_err-push-2-clause-looks
@@ -204,5 +205,5 @@ returns-in_err-push-2-clause-looks g c = λ n w.
           let still : c.match-get.looked ≡ was.looked = search rules in
           rw (same, still) (was.invariant.3 n w)
     ] in
-    at_most n (length c.match-get.remove.items + length was.add.items + 1) (rows_of d) old c.filled_row-in-Some-get.new.looked (omega arith)
+    at_end n (length c.match-get.remove.items + length was.add.items + 1) (rows_of d) old c.filled_row-in-Some-get.new.looked (omega arith)
     (one_filled n (length c.match-get.remove.items) (length was.add.items) old c.match-get.looked c.filled_row-in-Some-get.new.looked first (c.filled_row-in-Some-get.ensures.looks n w))

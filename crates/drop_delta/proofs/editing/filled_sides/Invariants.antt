@@ -1,6 +1,6 @@
 use Rattle.std.proofs.Common.{◌≡◌, ◌≤◌, ◌+◌, ◌*◌, ℕ, length, take}
 use Rattle.std.specs.Prelude.{map}
-use Rattle.lens_values.specs.SortedSet as set
+use Rattle.plain_values.specs.SortedSet as set
 use Rattle.drop_delta.specs.Dropped.{BothFill, filled_in}
 use Rattle.drop_delta.proofs.editing.filled_sides.Given as goal
 

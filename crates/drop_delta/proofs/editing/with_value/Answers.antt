@@ -3,8 +3,8 @@ use Rattle.std.specs.Prelude.{IfOk}
 use Rattle.std.specs.FinMap as finmap
 use Rattle.std.proofs.lemmas.Result.{IfOk-weaker}
 use Rattle.lens_values.specs.Paired.{paired}
-use Rattle.lens_values.specs.Part.{override}
-use Rattle.lens_values.specs.SortedSet as set
+use Rattle.plain_values.specs.Part.{override}
+use Rattle.plain_values.specs.SortedSet as set
 use Rattle.lens_values.proofs.Cells.{all_made, own_names}
 use Rattle.lens_specs.specs.Rows.{with_at}
 use Rattle.drop_delta.proofs.Written.{over_is, written_knows}

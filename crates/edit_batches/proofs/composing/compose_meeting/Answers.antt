@@ -1,7 +1,7 @@
 use Rattle.std.proofs.Common.{ap, sym, ◌∙◌}
 use Rattle.lens_specs.specs.Relation.{has}
 use Rattle.edit_batches.proofs.Moves.{pair_apart}
-use Rattle.lens_values.specs.SortedSet as set
+use Rattle.plain_values.specs.SortedSet as set
 use Rattle.edit_batches.proofs.composing.compose_meeting.Goals as goal
 
 pub new-requires : goal.new-requires

@@ -1,6 +1,6 @@
 use Rattle.std.proofs.Common.{ap, sym, subst, ◌∙◌}
 use Rattle.lens_specs.specs.Relation.{has}
-use Rattle.lens_values.specs.SortedSet as set
+use Rattle.plain_values.specs.SortedSet as set
 use Rattle.signed_delta.specs.Disjoint.{AreApart}
 use Rattle.edit_batches.proofs.Unions.{both_kept, kept_apart}
 use Rattle.edit_batches.proofs.composing.compose_pair.Goals as goal

@@ -1,11 +1,12 @@
 use Rattle.std.proofs.Common.{◌≡◌, ◌+◌, ◌++◌, ◌∙◌, ap, sym, subst, take, drop, take-append-drop, arith}
 use Rattle.std.specs.declared.cmp.Ordering.TheVariants.{Less, Greater}
 use Rattle.std.specs.List.Sorted.{IsStrictlySortedBy}
-use Rattle.lens_values.specs.Row.{row_cmp}
-use Rattle.lens_values.specs.RowOrder.{row_cmp_total}
-use Rattle.lens_values.specs.SortedMap.{keys_rise}
+use Rattle.signed_delta.proofs.Differences.{turned_apart}
+use Rattle.plain_values.specs.Row.{row_cmp}
+use Rattle.plain_values.specs.RowOrder.{row_cmp_total}
+use Rattle.plain_values.specs.SortedMap.{keys_rise}
 use Rattle.row_sets.proofs.Walks.{keep_greater, keep_less, rest_ends, rest_ends_right, rest_of}
-use Rattle.edit_batches.proofs.Unions.{behind_apart, one_kept, rest_apart, turned}
+use Rattle.edit_batches.proofs.Unions.{behind_apart, one_kept, rest_apart}
 use Rattle.edit_batches.proofs.uniting.meet.Goals as goal
 use Rattle.edit_batches.proofs.uniting.meet.Goals.{then-rise_on-via-then-rise_on, then-rise_on-via-else-rise_on+then-rise_on-2}
 
@@ -28,7 +29,7 @@ returns-then-rise_on c = λ _.
     elim c.then-rise_on.branch [
       | then-rise_on-via-then-rise_on w ↦ behind_apart M N
           (subst (IsStrictlySortedBy row_cmp) (λ i. c.rows-ones.ensures i ++ c.rows-others.ensures i) (c.rise_on.ensures w.if-rise_on.true))
-      | then-rise_on-via-else-rise_on+then-rise_on-2 w ↦ turned N M (behind_apart N M
+      | then-rise_on-via-else-rise_on+then-rise_on-2 w ↦ turned_apart N M (behind_apart N M
           (subst (IsStrictlySortedBy row_cmp) (λ i. c.rows-others.ensures i ++ c.rows-ones.ensures i) (w.rise_on-else-rise_on.ensures w.if-rise_on-2.true)))
     ]
 

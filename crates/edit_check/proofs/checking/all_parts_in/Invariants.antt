@@ -1,6 +1,6 @@
 use Rattle.std.proofs.Common.{◌≡◌, take, true}
 use Rattle.std.specs.List.{list_all}
-use Rattle.lens_values.specs.Part.{restrict}
+use Rattle.plain_values.specs.Part.{restrict}
 use Rattle.lens_specs.specs.Relation.{has}
 use Rattle.edit_check.proofs.checking.all_parts_in.Given as goal
 

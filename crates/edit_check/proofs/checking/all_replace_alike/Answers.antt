@@ -1,10 +1,9 @@
 use Rattle.std.proofs.Common.{◌≡◌, ◌∙◌, ap, subst}
 use Rattle.std.specs.List.{list_all}
 use Rattle.std.specs.Prelude.{IfOk}
-use Rattle.lens_values.specs.Part.{restrict}
-use Rattle.lens_values.specs.SortedSet as set
-use Rattle.lens_specs.specs.Dependencies.{Edge}
-use Rattle.lens_specs.specs.Relation.{has, project}
+use Rattle.plain_values.specs.Part.{restrict}
+use Rattle.plain_values.specs.SortedSet as set
+use Rattle.lens_specs.specs.Common.{Edge, has, project}
 use Rattle.edit_check.proofs.checking.all_replace_alike.Goals as goal
 
 pub returns : goal.returns

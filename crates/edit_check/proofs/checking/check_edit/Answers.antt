@@ -1,7 +1,5 @@
 use Rattle.std.proofs.Common.{◌∙◌, None, Some, ap, subst, sym}
-use Rattle.lens_specs.specs.Columns.{names}
-use Rattle.lens_specs.specs.Dependencies.{AllEdges, MeetsTree}
-use Rattle.lens_specs.specs.Names.{Within}
+use Rattle.lens_specs.specs.Common.{names, AllEdges, MeetsTree, Within}
 use Rattle.edit_check.proofs.CheckedEdits.{lefts_within, meets_of, new_clash, new_is_of, new_off}
 use Rattle.edit_check.proofs.checking.check_edit.Goals as goal
 

@@ -1,5 +1,4 @@
-use Rattle.lens_specs.specs.Columns.{names}
-use Rattle.lens_specs.specs.Names.{Within}
+use Rattle.lens_specs.specs.Common.{names, Within}
 use Rattle.fd_tree.specs.Sides.{HasLeft}
 use Rattle.edit_check.proofs.CheckedEdits.{edge_of, side_there}
 use Rattle.edit_check.proofs.checking.clash_of_edit.Goals as goal

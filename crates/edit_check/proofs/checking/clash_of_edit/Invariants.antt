@@ -1,5 +1,5 @@
 use Rattle.std.proofs.Common.{◌≡◌, ◌≤◌, ◌+◌, ◌*◌, ℕ, drop, length}
-use Rattle.lens_values.specs.SortedSet as set
+use Rattle.plain_values.specs.SortedSet as set
 use Rattle.lens_laws.specs.Checks.{edit_clash, edit_clash_from}
 use Rattle.edit_check.proofs.checking.clash_of_edit.Given as goal
 

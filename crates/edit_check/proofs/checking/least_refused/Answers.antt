@@ -1,7 +1,6 @@
 use Rattle.std.proofs.Common.{◌∙◌, ap}
 use Rattle.std.specs.Prelude.{find, not}
-use Rattle.lens_specs.specs.Predicate.{holds}
-use Rattle.lens_specs.specs.Sort.{off}
+use Rattle.lens_specs.specs.Common.{holds, off}
 use Rattle.edit_check.proofs.checking.least_refused.Goals as goal
 
 pub returns : goal.returns

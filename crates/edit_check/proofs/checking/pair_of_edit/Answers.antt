@@ -1,10 +1,8 @@
 use Rattle.std.proofs.Common.{◌≡◌, ◌∙◌, ◌||◌, ap, subst, sym, true}
 use Rattle.std.specs.List.{list_all}
 use Rattle.std.specs.Prelude.{IfOk}
-use Rattle.lens_values.specs.SortedSet as set
-use Rattle.lens_specs.specs.Relation.{has}
-use Rattle.lens_specs.specs.Rows.{agree}
-use Rattle.lens_specs.specs.Sort.{first_pair}
+use Rattle.plain_values.specs.SortedSet as set
+use Rattle.lens_specs.specs.Common.{has, agree, first_pair}
 use Rattle.edit_check.proofs.CheckedEdits.{found_by_each, found_by_only, near_is, no_pair_near, no_pair_replaced}
 use Rattle.edit_check.proofs.checking.pair_of_edit.Goals as goal
 

@@ -2,7 +2,7 @@ use Rattle.std.proofs.Common.{◌≡◌, ◌∙◌, ◌-◌, sym, ap, get_or, se
 use Rattle.std.specs.Prelude.{◌||◌, ◌&&◌}
 use Rattle.std.proofs.lemmas.Bool.{eq-eqb}
 use Rattle.std.proofs.lemmas.List.{get_or_default}
-use Rattle.lens_values.specs.SortedSet as names
+use Rattle.plain_values.specs.SortedSet as names
 use Rattle.lens_specs.specs.Names.{is_among}
 use Rattle.fd_closure.proofs.closing.lessen.Goals as goal
 

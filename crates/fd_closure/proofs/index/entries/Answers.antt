@@ -1,6 +1,6 @@
 use Rattle.std.proofs.Common.{◌≡◌, ◌+◌, ◌++◌, ◌∙◌, sym, ap, subst, length, get_or, map, take, below_more, arith}
 use Rattle.std.proofs.lemmas.List.{get_or_default, length-take-le, take_more}
-use Rattle.lens_values.specs.SortedSet as set
+use Rattle.plain_values.specs.SortedSet as set
 use Rattle.lens_specs.specs.Dependencies.{Edge}
 use Rattle.fd_closure.specs.Entries.{entries_from}
 use Rattle.fd_closure.specs.Sides.{IsFull}

@@ -3,9 +3,9 @@ use Rattle.std.specs.List.Sorted.{IsPartitionPoint}
 use Rattle.std.specs.Ordering.{is_le, is_lt}
 use Rattle.std.proofs.lemmas.Fn.{always_returns_same}
 use Rattle.std.proofs.lemmas.List.{take_rest}
-use Rattle.lens_values.specs.Order.{bytes_cmp}
+use Rattle.plain_values.specs.Order.{bytes_cmp}
 use Rattle.fd_laws.proofs.Names.{name_total}
-use Rattle.fd_closure.proofs.Groups.{Ascend, group_is, lower_first, no_higher_first, rest_ascends}
+use Rattle.lens_values.proofs.Groups.{Ascend, group_is, lower_first, no_higher_first, rest_ascends}
 use Rattle.fd_closure.proofs.Indexes.{names_ascend}
 use Rattle.fd_closure.proofs.index.entries_of.Goals as goal
 

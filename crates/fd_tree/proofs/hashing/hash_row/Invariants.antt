@@ -1,6 +1,6 @@
 use Rattle.std.proofs.Common.{◌≡◌, take}
 use Rattle.std.specs.List.{fold}
-use Rattle.lens_values.specs.SortedSet as set
+use Rattle.plain_values.specs.SortedSet as set
 use Rattle.lens_specs.specs.Rows.{at}
 use Rattle.fd_tree.specs.RowHash.{hash_at}
 use Rattle.fd_tree.proofs.hashing.hash_row.Given as goal

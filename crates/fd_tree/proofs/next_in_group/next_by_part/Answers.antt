@@ -1,6 +1,6 @@
 use Rattle.std.proofs.Common.{◌≡◌, ◌∙◌, ◌+◌, ◌-◌, ◌<◌, sym, length, arith, length-set}
-use Rattle.lens_values.specs.Part.{restrict}
-use Rattle.lens_values.specs.Row.{row_cmp}
+use Rattle.plain_values.specs.Part.{restrict}
+use Rattle.plain_values.specs.Row.{row_cmp}
 use Rattle.lens_specs.specs.Rows.{agree}
 use Rattle.fd_tree.specs.ClashPlaces.{later_places}
 use Rattle.fd_tree.proofs.Places.{holds_more, holds_none, part_next, length-later_places, same_entries, same_from-set, same_past}

@@ -2,9 +2,8 @@ use Rattle.std.proofs.Common.{◌≡◌, length, drop}
 use Rattle.std.specs.BTreeMap.{get}
 use Rattle.std.specs.List.{position_from}
 use Rattle.std.specs.Ordering.{is_eq}
-use Rattle.lens_values.specs.Part.{restrict}
-use Rattle.lens_values.specs.Row.{row_cmp}
-use Rattle.lens_values.specs.declared.row.Row.{Row}
+use Rattle.plain_values.specs.Part.{restrict}
+use Rattle.plain_values.specs.Row.{row_cmp, Row}
 use Rattle.lens_specs.specs.Rows.{agree}
 use Rattle.fd_tree.specs.ClashPlaces.{SameFrom, later_places}
 use Rattle.fd_tree.proofs.next_in_group.next_by_part.Given as goal

@@ -1,7 +1,5 @@
 use Rattle.std.proofs.Common.{◌≡◌, ◌<◌, ℕ, length, drop}
-use Rattle.lens_specs.specs.Rows.{agree}
-use Rattle.lens_specs.specs.Dependencies.{edge}
-use Rattle.lens_specs.specs.Sort.{clashes, first_pair}
+use Rattle.lens_specs.specs.Common.{agree, edge, clashes, first_pair}
 use Rattle.fd_tree.specs.ClashPlaces.{ArePlaces, SameFrom, entry, later_places}
 use Rattle.fd_tree.proofs.violation.first_violation.Given as goal
 

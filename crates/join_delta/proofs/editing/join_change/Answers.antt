@@ -1,10 +1,7 @@
 use Rattle.std.proofs.Common.{◌≡◌, ◌≢◌, ◌∙◌, ◌+◌, ◌*◌, ◌≤◌, ap, arith, length, refl, subst, sym, true}
 use Rattle.std.specs.List.{Contains}
-use Rattle.lens_values.specs.SortedSet as set
-use Rattle.lens_specs.specs.Columns.{names}
-use Rattle.lens_specs.specs.Delta.{Delta, diff}
-use Rattle.lens_specs.specs.Nodes.{join_over}
-use Rattle.lens_specs.specs.Relation.{Rows, has, minus, project}
+use Rattle.plain_values.specs.SortedSet as set
+use Rattle.lens_specs.specs.Common.{names, Delta, diff, join_over, Rows, has, minus, project}
 use Rattle.lens_laws.specs.Work.{node_work, rows_down, rows_of}
 use Rattle.signed_delta.proofs.Gives.{gives_by_edges}
 use Rattle.join_delta.specs.Joined.{AtSizes, edited, left_after, right_after, shared_names}

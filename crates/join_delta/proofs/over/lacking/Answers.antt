@@ -1,6 +1,6 @@
 use Rattle.std.proofs.Common.{not, ap, arith, length, ◌+◌, ◌∙◌}
 use Rattle.std.proofs.lemmas.Grind.{common_steps}
-use Rattle.lens_values.specs.SortedSet as set
+use Rattle.plain_values.specs.SortedSet as set
 use Rattle.signed_delta.proofs.Counts.{at_end, next, one_more}
 use Rattle.signed_delta.proofs.Looks.{listed_at, passed_are, passed_rise}
 use Rattle.join_delta.specs.Pairs.{shows}

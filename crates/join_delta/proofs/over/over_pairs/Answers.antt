@@ -1,11 +1,9 @@
 use Rattle.std.proofs.Common.{◌≡◌, ◌∙◌, ◌≤◌, IfOk, ap, arith, length, not, refl, subst, sym}
 use Rattle.std.proofs.lemmas.Bool.{eqb-true}
 use Rattle.std.proofs.lemmas.Result.{IfOk-weaker}
-use Rattle.lens_values.specs.SortedSet as set
-use Rattle.lens_values.specs.declared.row.Row.{Row}
-use Rattle.lens_specs.specs.Columns.{names}
-use Rattle.lens_specs.specs.Delta.{new_view}
-use Rattle.lens_specs.specs.Relation.{Rows, those}
+use Rattle.plain_values.specs.SortedSet as set
+use Rattle.plain_values.specs.Row.{Row}
+use Rattle.lens_specs.specs.Common.{names, new_view, Rows, those}
 use Rattle.lens_laws.proofs.Counts.{count-none}
 use Rattle.signed_delta.proofs.Counts.{those_len}
 use Rattle.join_delta.specs.Joined.{AreKeyed, edited}

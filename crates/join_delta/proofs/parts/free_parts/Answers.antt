@@ -1,6 +1,6 @@
 use Rattle.std.proofs.Common.{◌≡◌, ◌∙◌, ◌+◌, ◌*◌, ◌≤◌, ℕ, IfOk, ap, arith, length, subst, sym}
 use Rattle.std.proofs.lemmas.Nat.{mul-le}
-use Rattle.lens_values.specs.SortedSet as set
+use Rattle.plain_values.specs.SortedSet as set
 use Rattle.lens_specs.specs.Relation.{Rows, has, minus, project, those}
 use Rattle.fd_laws.proofs.Relations.{from_minus}
 use Rattle.signed_delta.proofs.Counts.{minus_len, project_len}

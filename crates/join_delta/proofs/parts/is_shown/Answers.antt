@@ -1,5 +1,5 @@
 use Rattle.std.proofs.Common.{◌≡◌, ◌∙◌, IfOk, ap, subst, sym}
-use Rattle.lens_values.specs.SortedSet as set
+use Rattle.plain_values.specs.SortedSet as set
 use Rattle.signed_delta.proofs.Looks.{find_by-restrict}
 use Rattle.join_delta.specs.Shown.{one_stays}
 use Rattle.join_delta.proofs.parts.is_shown.Goals as goal

@@ -1,10 +1,8 @@
 use Rattle.std.proofs.Common.{◌≡◌, ◌∙◌, ℕ, ◌+◌, ◌*◌, ◌≤◌, ap, arith, inl, inr, length, subst, sym, true}
 use Rattle.std.specs.List.{Contains}
-use Rattle.lens_values.specs.SortedSet as set
-use Rattle.lens_values.specs.declared.row.Row.{Row}
-use Rattle.lens_specs.specs.Columns.{Fits, names}
-use Rattle.lens_specs.specs.Delta.{Delta, new_view}
-use Rattle.lens_specs.specs.Relation.{has, minus, project}
+use Rattle.plain_values.specs.SortedSet as set
+use Rattle.plain_values.specs.Row.{Row}
+use Rattle.lens_specs.specs.Common.{Fits, names, Delta, new_view, has, minus, project}
 use Rattle.lens_laws.specs.KeyedDeltas.{join_delta_right, merge_delta, suspects}
 use Rattle.lens_laws.specs.Work.{count_of, rows_of}
 use Rattle.signed_delta.proofs.Counts.{minus_len, union_len}

@@ -4,7 +4,7 @@ use Rattle.std.specs.FinMap as finmap
 use Rattle.std.specs.Option.{option_cmp}
 use Rattle.std.specs.Ordering.{nat_cmp}
 use Rattle.std.proofs.lemmas.List.{drop-map, length-map}
-use Rattle.lens_values.specs.Value.{value_cmp}
+use Rattle.plain_values.specs.Value.{value_cmp}
 use Rattle.lens_values.proofs.Comparing.{cmp_ends}
 use Rattle.key_index.specs.Key.{cells_cmp}
 use Rattle.key_index.proofs.cells.cells_cmp.Goals as goal

@@ -1,6 +1,6 @@
 use Rattle.std.proofs.Common.{◌≡◌, ◌<◌, ℕ, length}
 use Rattle.std.specs.Prelude.{slice_index_or}
-use Rattle.lens_values.specs.SortedSet as set
+use Rattle.plain_values.specs.SortedSet as set
 use Rattle.key_index.specs.Key.{Cells}
 use Rattle.key_index.specs.Index.{group_at}
 use Rattle.key_index.specs.declared.index.Index.{Index}

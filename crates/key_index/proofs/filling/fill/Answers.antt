@@ -1,5 +1,5 @@
 use Rattle.std.proofs.Common.{◌+◌, ap, ◌∙◌, subst, arith, take}
-use Rattle.lens_values.specs.SortedSet as set
+use Rattle.plain_values.specs.SortedSet as set
 use Rattle.key_index.specs.Lists.{IsTableOf, set_of}
 use Rattle.key_index.proofs.Lists.{same_trans}
 use Rattle.key_index.proofs.Adding.{front_more}

@@ -1,6 +1,6 @@
 use Rattle.std.proofs.Common.{ap, sym, ◌∙◌, subst, ◌++◌, ◌∷◌, []}
 use Rattle.std.specs.List.Sorted.{IsStrictlySortedBy}
-use Rattle.lens_values.specs.Row.{row_cmp}
+use Rattle.plain_values.specs.Row.{row_cmp}
 use Rattle.key_index.proofs.Members.{two_rise}
 use Rattle.key_index.proofs.group.rising_set.Goals as goal
 

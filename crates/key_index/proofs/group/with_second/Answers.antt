@@ -1,5 +1,5 @@
 use Rattle.std.proofs.Common.{ap, sym, ◌∙◌}
-use Rattle.lens_values.specs.SortedSet as set
+use Rattle.plain_values.specs.SortedSet as set
 use Rattle.key_index.specs.Group.{singleton}
 use Rattle.key_index.proofs.Members.{one_again}
 use Rattle.key_index.proofs.group.with_second.Goals as goal

@@ -1,5 +1,5 @@
 use Rattle.std.proofs.Common.{ap, sym, ◌∙◌}
-use Rattle.lens_values.specs.SortedSet as set
+use Rattle.plain_values.specs.SortedSet as set
 use Rattle.key_index.specs.Index.{group_at, has_key}
 use Rattle.key_index.proofs.Groups.{if_ok}
 use Rattle.key_index.proofs.Sets.{same_names_are}

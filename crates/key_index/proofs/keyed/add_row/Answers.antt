@@ -1,5 +1,5 @@
 use Rattle.std.proofs.Common.{◌++◌, ◌∷◌, [], ap, sym, ◌∙◌, subst, rules}
-use Rattle.lens_values.specs.SortedSet as set
+use Rattle.plain_values.specs.SortedSet as set
 use Rattle.key_index.specs.Lists.{HasKeys, IsTableOf}
 use Rattle.key_index.proofs.Lists.{keeps_keys, none_removed, same_trans, when_err}
 use Rattle.key_index.proofs.Mixed.{on_err_of}

@@ -1,5 +1,5 @@
 use Rattle.std.proofs.Common.{ap, sym, ◌∙◌, subst}
-use Rattle.lens_values.specs.SortedSet as set
+use Rattle.plain_values.specs.SortedSet as set
 use Rattle.key_index.specs.Lists.{AreKeyed, rows_of}
 use Rattle.key_index.proofs.Adding.{front_more}
 use Rattle.key_index.proofs.Fronts.{rows_pushed}

@@ -1,10 +1,11 @@
 use Rattle.std.proofs.Common.{◌≡◌, ◌+◌, ◌≤◌, ◌++◌, ◌∷◌, [], drop, length, ap, sym, ◌∙◌, subst, arith, rules, inl}
 use Rattle.std.proofs.lemmas.List.{take_all}
-use Rattle.lens_values.specs.SortedSet as set
+use Rattle.std.proofs.lemmas.Bool.{false≢true}
+use Rattle.plain_values.specs.SortedSet as set
 use Rattle.key_index.specs.Lists.{rows_of}
 use Rattle.key_index.specs.Lists.{SameCols, AreKeyed, IsTableOf}
 use Rattle.key_index.proofs.Fronts.{all_gone, one_less_behind, same_front}
-use Rattle.key_index.proofs.Lists.{same_trans, others_keyed, all_keep_keys, never}
+use Rattle.key_index.proofs.Lists.{same_trans, others_keyed, all_keep_keys}
 use Rattle.key_index.proofs.keyed.take_behind.Goals.{in-Some, in_default}
 use Rattle.key_index.proofs.keyed.take_behind.Goals as goal
 
@@ -27,7 +28,7 @@ loop-preserved c = elim c.match-pop.branch [
         (λ was. subst (λ v. IsTableOf c.match-pop.rows v.items) (sym w.indexes-is) (subst (λ r. IsTableOf r w.take_row.new.indexes.items) (sym less) (w.take_row.ensures.indexes c.loop.rows (λ i d within. inl (c.loop.invariant.4 was i d within))))),
         same_trans c.args.indexes.now.items c.loop.indexes.items c.match-pop.indexes.items c.loop.invariant.5 same,
       )
-  | in_default w ↦ absurd (never (w.in_default.ensures.variant.1 (omega (arith, c.loop.invariant.0, c.loop-test.true, c.len-end.ensures))))
+  | in_default w ↦ absurd (false≢true (w.in_default.ensures.variant.1 (omega (arith, c.loop.invariant.0, c.loop-test.true, c.len-end.ensures))))
 ]
 
 pub returns-clause-rows : goal.returns-clause-rows

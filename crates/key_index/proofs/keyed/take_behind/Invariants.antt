@@ -1,5 +1,5 @@
 use Rattle.std.proofs.Common.{◌≡◌, ◌+◌, drop, take, length}
-use Rattle.lens_values.specs.SortedSet as set
+use Rattle.plain_values.specs.SortedSet as set
 use Rattle.key_index.specs.Lists.{AreKeyed, IsTableOf, SameCols, rows_of}
 use Rattle.key_index.proofs.keyed.take_behind.Given as goal
 

@@ -1,8 +1,6 @@
 use Rattle.std.proofs.Common.{◌≡◌, ◌≤◌, ℕ}
 use Rattle.std.proofs.lemmas.Result.{IfOk-weaker}
-use Rattle.lens_specs.specs.Delta.{diff, new_view}
-use Rattle.lens_specs.specs.Lens.{get, view_names}
-use Rattle.lens_specs.specs.Nodes.{drop_get, drop_put}
+use Rattle.lens_specs.specs.Common.{diff, new_view, get, view_names, drop_get, drop_put}
 use Rattle.lens_laws.specs.KeyedDeltas as keyed
 use Rattle.lens_laws.specs.Work.{rows_down, rows_of, size}
 use Rattle.lens_probe.specs.Viewed.{FindsAtMost, IsWithin}

@@ -1,13 +1,10 @@
 use Rattle.std.proofs.Common.{◌≡◌, ◌∙◌, ◌+◌, ◌≤◌, ℕ, List, subst, sym}
 use Rattle.std.proofs.lemmas.Result.{IfOk-weaker}
 use Rattle.std.specs.List.{Contains}
-use Rattle.lens_values.specs.SortedSet as set
-use Rattle.lens_values.specs.declared.join_kind.JoinKind.{JoinKind}
-use Rattle.lens_specs.specs.Delta.{Applies, Delta, diff, new_view}
-use Rattle.lens_specs.specs.Dependencies.{AllEdges, Edge, MeetsTree, closure}
-use Rattle.lens_specs.specs.Lens.{get, join, sort_of, view_names}
-use Rattle.lens_specs.specs.Names.{Within}
-use Rattle.lens_specs.specs.Nodes.{join_get, join_left_after, join_right_after}
+use Rattle.plain_values.specs.SortedSet as set
+use Rattle.plain_values.specs.declared.join_kind.JoinKind.{JoinKind}
+use Rattle.lens_specs.specs.Common.{Applies, Delta, diff, new_view, AllEdges, Edge, MeetsTree, closure, get, sort_of, view_names, Within, join_get, join_left_after, join_right_after}
+use Rattle.lens_specs.specs.Lens.{join}
 use Rattle.fd_laws.specs.Trees.{EdgesWithin}
 use Rattle.lens_laws.specs.JoinKinds.{left_delta, right_delta}
 use Rattle.lens_laws.specs.Lenses.{AreOf}

@@ -1,7 +1,5 @@
 use Rattle.std.proofs.Common.{◌∙◌, ap, sym}
-use Rattle.lens_specs.specs.Columns.{names}
-use Rattle.lens_specs.specs.Relation.{has, image}
-use Rattle.lens_specs.specs.Rename.{renamed_names, renamed_row}
+use Rattle.lens_specs.specs.Common.{names, has, image, renamed_names, renamed_row}
 use Rattle.lens_probe.proofs.RenamedViews.{names_are}
 use Rattle.lens_chain.specs.Edits.{over}
 use Rattle.lens_chain.proofs.Premises.{added_over, old_is_free, removed_over, rename_carried, renamed_apart}

@@ -1,12 +1,7 @@
 use Rattle.std.proofs.Common.{◌≡◌, ◌∙◌, ◌≤◌, ℕ, ap, length, subst, sym}
 use Rattle.std.proofs.lemmas.Result.{IfOk-weaker}
 use Rattle.std.specs.List.{Contains}
-use Rattle.lens_specs.specs.Delta.{diff, new_view}
-use Rattle.lens_specs.specs.Dependencies.{AllEdges, MeetsTree}
-use Rattle.lens_specs.specs.Lens.{get, sort_of, view_names}
-use Rattle.lens_specs.specs.Names.{Within}
-use Rattle.lens_specs.specs.Nodes.{select_get, select_put}
-use Rattle.lens_specs.specs.Predicate.{holds}
+use Rattle.lens_specs.specs.Common.{diff, new_view, AllEdges, MeetsTree, get, sort_of, view_names, Within, select_get, select_put, holds}
 use Rattle.lens_laws.specs.KeyedDeltas as keyed
 use Rattle.lens_laws.specs.Work.{rows_down, rows_of, size}
 use Rattle.lens_probe.specs.Viewed.{FindsAtMost, IsWithin, asked_by}

@@ -1,6 +1,5 @@
 use Rattle.std.proofs.Common.{◌∙◌, ap}
-use Rattle.lens_specs.specs.Columns.{names}
-use Rattle.lens_specs.specs.Sort.{Sort}
+use Rattle.lens_specs.specs.Common.{names, Sort}
 use Rattle.lens_laws.proofs.Rules.{given_is}
 use Rattle.lens_probe.proofs.columns.names_of.Goals as goal
 

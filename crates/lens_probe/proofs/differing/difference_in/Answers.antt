@@ -1,7 +1,7 @@
 use Rattle.std.proofs.Common.{◌∙◌, ap, map, subst}
 use Rattle.std.proofs.lemmas.Result.{IfOk-weaker}
-use Rattle.lens_values.specs.Part.{restrict}
-use Rattle.lens_values.specs.SortedSet as set
+use Rattle.plain_values.specs.Part.{restrict}
+use Rattle.plain_values.specs.SortedSet as set
 use Rattle.lens_specs.specs.Delta.{diff}
 use Rattle.lens_probe.specs.KnownRows.{AreParts}
 use Rattle.lens_probe.specs.Unfiltered.{passing}

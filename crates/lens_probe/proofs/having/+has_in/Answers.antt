@@ -1,7 +1,7 @@
 use Rattle.std.proofs.Common.{◌≡◌, ◌∙◌, ◌+◌, ◌≤◌, ap, arith, refl, subst, sym}
 use Rattle.std.specs.Prelude.{IfOk}
-use Rattle.lens_specs.specs.Lens.{get, join, nodes_of, rename, view_names}
-use Rattle.lens_specs.specs.Relation.{has}
+use Rattle.lens_specs.specs.Common.{get, nodes_of, rename, view_names, has}
+use Rattle.lens_specs.specs.Lens.{join}
 use Rattle.lens_probe.specs.NearRows.{AreKnown, of_join}
 use Rattle.lens_probe.proofs.Contained.{drop_has, drop_over, join_has, join_lacks, left_of_join, left_part_fits, refused_has, right_of_join, right_part_fits, select_fits, selected_has, source_of_drop, source_of_select, table_has}
 use Rattle.lens_probe.proofs.RenamedViews.{fits_in, has_in_rename, lacks_in, looks_in, size_in, source_looks}

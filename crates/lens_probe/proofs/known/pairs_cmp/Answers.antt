@@ -2,8 +2,8 @@ use Rattle.std.proofs.Common.{◌≤◌, ◌<◌, ◌∙◌, arith, length, subs
 use Rattle.std.specs.List.{zip}
 use Rattle.std.proofs.lemmas.List.{take_all}
 use Rattle.std.proofs.lemmas.Slice.Zip.{length-zip, get_or-zip}
-use Rattle.lens_values.specs.ValueOrder.{derived_cmp}
-use Rattle.lens_values.specs.declared.value.Value.{Value}
+use Rattle.plain_values.specs.ValueOrder.{derived_cmp}
+use Rattle.plain_values.specs.declared.value.Value.{Value}
 use Rattle.lens_specs.specs.Names.{Name}
 use Rattle.lens_probe.specs.KnownRows.{AreAmong}
 use Rattle.lens_probe.proofs.KnownParts.{one_more}

@@ -1,11 +1,9 @@
 use Rattle.std.proofs.Common.{◌≡◌, ◌∙◌, ap, arith, map, subst, sym, true}
 use Rattle.std.specs.Prelude.{Contains, IfOk}
 use Rattle.std.proofs.lemmas.Result.{IfOk-weaker}
-use Rattle.lens_values.specs.SortedSet as set
-use Rattle.lens_specs.specs.Lens.{base, drop, get, join, nodes_of, rename, select, view_names}
-use Rattle.lens_specs.specs.Predicate.{holds, mentioned}
-use Rattle.lens_specs.specs.Relation.{project, those}
-use Rattle.lens_specs.specs.Rename.{renamed_row}
+use Rattle.plain_values.specs.SortedSet as set
+use Rattle.lens_specs.specs.Common.{base, drop, get, nodes_of, rename, select, view_names, holds, mentioned, project, those, renamed_row}
+use Rattle.lens_specs.specs.Lens.{join}
 use Rattle.fd_laws.proofs.Rows.{row_exact, row_total}
 use Rattle.lens_laws.specs.Lenses.{AreOf}
 use Rattle.lens_laws.specs.Passes.{PredWithin}

@@ -1,7 +1,7 @@
 use Rattle.std.proofs.Common.{◌≡◌, ◌++◌}
 use Rattle.std.specs.Prelude.{map}
 use Rattle.std.specs.Vec.Iter.{into_iter_items}
-use Rattle.lens_values.specs.Part.{restrict}
+use Rattle.plain_values.specs.Part.{restrict}
 use Rattle.lens_probe.proofs.reading.parts.Given as goal
 
 abbrev pub invariant-loop-row : goal.invariant-loop-row

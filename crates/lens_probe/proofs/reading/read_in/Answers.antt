@@ -1,8 +1,5 @@
 use Rattle.std.proofs.Common.{◌≡◌, ◌∙◌, ap, subst, sym}
-use Rattle.lens_specs.specs.Columns.{Fits}
-use Rattle.lens_specs.specs.Lens.{sort_of}
-use Rattle.lens_specs.specs.Relation.{has}
-use Rattle.lens_specs.specs.Sort.{Sort}
+use Rattle.lens_specs.specs.Common.{Fits, sort_of, has, Sort}
 use Rattle.lens_laws.proofs.Lenses.{get_sort}
 use Rattle.lens_laws.proofs.Rules.{given_is}
 use Rattle.lens_probe.proofs.reading.read_in.Goals as goal

@@ -1,5 +1,5 @@
 use Rattle.std.proofs.Common.{◌∙◌, ap}
-use Rattle.lens_values.specs.SortedSet as set
+use Rattle.plain_values.specs.SortedSet as set
 use Rattle.lens_probe.proofs.Listed.{all_pass, selected_listed}
 use Rattle.lens_probe.proofs.unfiltered.unfiltered_in.Goals as goal
 

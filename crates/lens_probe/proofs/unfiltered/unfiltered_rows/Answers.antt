@@ -1,7 +1,7 @@
 use Rattle.std.proofs.Common.{◌≡◌, ◌∙◌, ap, map}
 use Rattle.std.proofs.lemmas.Result.{IfOk-weaker}
-use Rattle.lens_values.specs.Part.{restrict}
-use Rattle.lens_values.specs.SortedSet as set
+use Rattle.plain_values.specs.Part.{restrict}
+use Rattle.plain_values.specs.SortedSet as set
 use Rattle.lens_specs.specs.Lens.{drop, view_names}
 use Rattle.lens_probe.specs.Unfiltered.{passing}
 use Rattle.lens_probe.proofs.Listed.{all_pass, dropped_listed, whole_listed}

@@ -1,7 +1,6 @@
 use Rattle.std.proofs.Common.{◌≡◌, ◌∙◌, Ok, ap, subst, sym}
 use Rattle.std.specs.Prelude.{IfOk, map}
-use Rattle.lens_specs.specs.Delta.{changes}
-use Rattle.lens_specs.specs.Lens.{put}
+use Rattle.lens_specs.specs.Common.{changes, put}
 use Rattle.request_text.specs.Answers.{answer_view}
 use Rattle.server_laws.proofs.Led.{put_change}
 use Rattle.server_specs.specs.Changing.{accept, settled}

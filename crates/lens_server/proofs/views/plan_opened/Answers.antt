@@ -1,7 +1,8 @@
 use Rattle.std.proofs.Common.{◌≡◌, ◌∙◌, ◌+◌, ◌≤◌, Ok, ap, arith, refl, subst, sym}
 use Rattle.std.specs.Prelude.{IfOk}
+use Rattle.server_laws.proofs.Changes.{texts_settled}
 use Rattle.base_index.specs.Held.{Held}
-use Rattle.lens_specs.specs.Lens.{sort_of}
+use Rattle.lens_specs.specs.Common.{sort_of, one}
 use Rattle.request_text.specs.Answers.{answer_view}
 use Rattle.server_specs.specs.Changing.{asked_view, edited, settled, whole}
 use Rattle.server_specs.specs.Exporting.{first_nullable, sheet_told}
@@ -10,9 +11,8 @@ use Rattle.lens_server.specs.Counting.{Walks, row_count}
 use Rattle.lens_server.specs.Databases.{IsPlan, lens_of, state_of}
 use Rattle.lens_server.specs.ViewRequests.{IsToldBack, told_of, walks_of}
 use Rattle.lens_probe.specs.Viewed.{is_left_side}
-use Rattle.lens_specs.specs.Names.{one}
 use Rattle.view_answers.specs.Sheets.{SheetReadsBack}
-use Rattle.lens_server.proofs.Counted.{change_walks, import_texts, read_few, settled_texts}
+use Rattle.lens_server.proofs.Counted.{change_walks, import_texts, read_few}
 use Rattle.lens_server.proofs.NamedViews.{failed_walks, found_few, seen_answer, seen_put, sheet_seen, unchanged_plan, unchanged_walks}
 use Rattle.lens_server.proofs.views.plan_opened.Goals as goal
 
@@ -58,7 +58,7 @@ returns-in-Put-clause-walked g c =
     (change_walks c.plan_change.result (settled expected L s) database c.args.walked.now c.put-change.new.walked (row_count s.tables)
     (c.plan_change.ensures L expected c.requires.opened.here.here
     (seen_put o database c.requires.opened c.put-change.result (λ t. asked_view t L (whole c.in-Put.rows) c.in-Put.on) refl c.put-change.ensures.put))
-    (settled_texts expected L s) (read_few database o c.args.walked.now c.put-change.new.walked c.requires.opened c.put-change.ensures.walked).1)
+    (texts_settled expected L s) (read_few database o c.args.walked.now c.put-change.new.walked c.requires.opened c.put-change.ensures.walked).1)
 
 pub returns-in-Edit-clause-plan : goal.returns-in-Edit-clause-plan
 returns-in-Edit-clause-plan g c =
@@ -75,7 +75,7 @@ returns-in-Edit-clause-walked g c =
     (change_walks c.plan_change-in-Edit.result (settled expected L s) database c.args.walked.now c.args.walked.now 0
     (c.plan_change-in-Edit.ensures L expected c.requires.opened.here.here
     (seen_put o database c.requires.opened c.edit-change.result (λ t. asked_view t L (edited c.in-Edit.remove c.in-Edit.add) c.in-Edit.on) refl c.edit-change.ensures.put))
-    (settled_texts expected L s) (omega arith))
+    (texts_settled expected L s) (omega arith))
 
 pub returns-in_err-read_answer-in-Read-clause-walked : goal.returns-in_err-read_answer-in-Read-clause-walked
 returns-in_err-read_answer-in-Read-clause-walked g c =

@@ -1,9 +1,7 @@
 use Rattle.std.proofs.Common.{◌≡◌, ◌∙◌, ap, sym}
 use Rattle.std.specs.Prelude.{Ok}
 use Rattle.std.proofs.lemmas.Result.{err_from_is_err_and}
-use Rattle.lens_specs.specs.Columns.{without_column}
-use Rattle.lens_specs.specs.Names.{one}
-use Rattle.lens_specs.specs.TreeForm.{tree_without}
+use Rattle.lens_specs.specs.Common.{without_column, one, tree_without}
 use Rattle.lens_types.specs.Drops.{column_fault, unfilled}
 use Rattle.lens_types.proofs.Projections.{column_refused, no_fault, rest_refused, size_refused, projection_taken}
 use Rattle.lens_types.proofs.dropping.dropped_parts.Goals as goal

@@ -1,6 +1,5 @@
 use Rattle.std.proofs.Common.{◌∙◌, ap}
-use Rattle.lens_specs.specs.Predicate.{holds}
-use Rattle.lens_specs.specs.Rows.{with_at}
+use Rattle.lens_specs.specs.Common.{holds, with_at}
 use Rattle.lens_types.proofs.dropping.holds_alone.Goals as goal
 
 pub returns : goal.returns

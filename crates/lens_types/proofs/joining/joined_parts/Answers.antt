@@ -1,7 +1,6 @@
 use Rattle.std.proofs.Common.{◌≡◌, ◌∙◌, ◌++◌, ap, sym}
 use Rattle.std.specs.Prelude.{None, Ok, option_map}
-use Rattle.lens_specs.specs.Refusal.{too_much}
-use Rattle.lens_specs.specs.TreeForm.{tree_of}
+use Rattle.lens_specs.specs.Common.{too_much, tree_of}
 use Rattle.fd_tree.specs.Form.{form_of}
 use Rattle.lens_types.specs.Faults.{fault_view}
 use Rattle.lens_types.specs.Joins.{joined_columns, sides_fault}

@@ -1,13 +1,11 @@
 use Rattle.std.proofs.Common.{◌≡◌, ◌∙◌, ap, sym, subst}
 use Rattle.std.specs.Prelude.{None, option_map}
-use Rattle.lens_values.specs.SortedSet as set
-use Rattle.lens_specs.specs.Columns.{names}
-use Rattle.lens_specs.specs.Dependencies.{AllEdges}
-use Rattle.lens_specs.specs.Rename.{renamed_columns, renamed_predicate, renamed_tree}
-use Rattle.lens_specs.specs.Typing.{rename_fault}
+use Rattle.fd_laws.proofs.Columns.{no_kind}
+use Rattle.plain_values.specs.SortedSet as set
+use Rattle.lens_specs.specs.Common.{names, AllEdges, renamed_columns, renamed_predicate, renamed_tree, rename_fault}
 use Rattle.lens_types.specs.Faults.{fault_view}
 use Rattle.lens_types.specs.Sorts.{sort_from}
-use Rattle.lens_types.proofs.Renamings.{Lacks, new_name, no_column, edges_lack, rename_refused, rename_taken, renaming_is_sound}
+use Rattle.lens_types.proofs.Renamings.{Lacks, new_name, edges_lack, rename_refused, rename_taken, renaming_is_sound}
 use Rattle.lens_types.proofs.SmallSorts.{renaming_small}
 use Rattle.lens_types.proofs.renaming.renamed_parts.Goals as goal
 
@@ -19,7 +17,7 @@ pub rename_columns-requires : goal.rename_columns-requires
 rename_columns-requires c =
     let s = c.args.source.now in
     let none : None ≡ rename_fault c.args.nodes s c.args.col.now c.args.to.now = ap (option_map fault_view) (sym c.in_default.is) ∙ c.rename_fault.ensures in
-    no_column c.cols.result.now c.args.to.now (ap (λ U. set.contains (names U) c.args.to.now) c.cols.ensures.value ∙ new_name c.args.nodes s c.args.col.now c.args.to.now c.cols.ensures.sound none)
+    no_kind c.cols.result.now c.args.to.now (ap (λ U. set.contains (names U) c.args.to.now) c.cols.ensures.value ∙ new_name c.args.nodes s c.args.col.now c.args.to.now c.cols.ensures.sound none)
 
 pub rename-requires : goal.rename-requires
 rename-requires c =

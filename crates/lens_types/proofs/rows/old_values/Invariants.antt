@@ -1,7 +1,6 @@
 use Rattle.std.proofs.Common.{◌≡◌, take}
 use Rattle.std.specs.List.{filter_map}
-use Rattle.lens_specs.specs.Rename.{renamed}
-use Rattle.lens_specs.specs.Rows.{at}
+use Rattle.lens_specs.specs.Common.{renamed, at}
 use Rattle.lens_types.proofs.rows.old_values.Given as goal
 
 abbrev pub invariant-loop-name : goal.invariant-loop-name

@@ -1,9 +1,8 @@
 use Rattle.std.proofs.Common.{◌≡◌, map, ap, subst, ◌∙◌}
 use Rattle.std.specs.List.{Contains}
 use Rattle.std.specs.Prelude.{IfOk}
-use Rattle.lens_values.specs.SortedSet as set
-use Rattle.lens_specs.specs.Relation.{image}
-use Rattle.lens_specs.specs.Rename.{renamed_row}
+use Rattle.plain_values.specs.SortedSet as set
+use Rattle.lens_specs.specs.Common.{image, renamed_row}
 use Rattle.lens_laws.proofs.NodeFinds.{has_contained}
 use Rattle.lens_types.proofs.rows.rename_set.Goals as goal
 

@@ -1,7 +1,7 @@
 use Rattle.std.proofs.Common.{◌≡◌, drop}
 use Rattle.std.specs.Prelude.{find}
 use Rattle.std.specs.FinMap as map
-use Rattle.lens_values.specs.Columns.{is_other_kind}
+use Rattle.plain_values.specs.Columns.{is_other_kind}
 use Rattle.lens_values.proofs.columns.first_clash.Given as goal
 
 -- the answer is the one for what is left

@@ -1,6 +1,6 @@
 use Rattle.std.proofs.Common.{◌≡◌, ◌+◌, ◌++◌, ◌∷◌, [], ◌∙◌, sym, ap, drop, arith, false}
-use Rattle.std.proofs.lemmas.List.{get_or_default}
-use Rattle.lens_values.proofs.Walks.{kept, part_is, missing_ends, missing_ends_right, missing_less, missing_equal, kept_past}
+use Rattle.std.proofs.lemmas.List.{get_or_default, take_rest}
+use Rattle.lens_values.proofs.Walks.{kept, missing_ends, missing_ends_right, missing_less, missing_equal, kept_past}
 use Rattle.lens_values.proofs.merging.difference.Goals as goal
 use Rattle.lens_values.proofs.merging.difference.Goals.{then-loop-i-test+else-j-keys, else-loop-i-test}
 
@@ -43,4 +43,4 @@ returns g c =
       | then-loop-i-test+else-j-keys w ↦ missing_ends_right g.met.K.Ord.total g.T.Keyed.key list keys c.loop-i.i c.loop-i.j w.if-j-keys.false
       | else-loop-i-test w ↦ missing_ends g.met.K.Ord.total g.T.Keyed.key list keys c.loop-i.i c.loop-i.j w.loop-i-test.false
     ] in
-    c.in_ok-append.ensures ∙ ap (λ l. c.loop-i.rest.items ++ l) (part_is list c.loop-i.i ∙ sym ends) ∙ c.loop-i.invariant.so_far
+    c.in_ok-append.ensures ∙ ap (λ l. c.loop-i.rest.items ++ l) (take_rest list c.loop-i.i ∙ sym ends) ∙ c.loop-i.invariant.so_far

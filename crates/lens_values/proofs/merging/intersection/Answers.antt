@@ -1,6 +1,6 @@
-use Rattle.std.proofs.Common.{◌≡◌, ◌+◌, ◌++◌, ◌∷◌, [], ◌∙◌, sym, ap, drop, arith, true}
+use Rattle.std.proofs.Common.{◌≡◌, ◌+◌, ◌++◌, ◌∷◌, [], ◌∙◌, sym, ap, drop, arith, true, append-nil}
 use Rattle.std.proofs.lemmas.List.{get_or_default}
-use Rattle.lens_values.proofs.Walks.{kept, append-nil, common_ends, common_ends_right, common_less, common_equal, kept_past}
+use Rattle.lens_values.proofs.Walks.{kept, common_ends, common_ends_right, common_less, common_equal, kept_past}
 use Rattle.lens_values.proofs.merging.intersection.Goals as goal
 use Rattle.lens_values.proofs.merging.intersection.Goals.{then-loop-i-test+else-j-keys, else-loop-i-test}
 

@@ -1,11 +1,10 @@
-use Rattle.std.proofs.Common.{◌∙◌, ap, sym, subst}
+use Rattle.std.proofs.Common.{◌∙◌, ap, sym, subst, map-id}
 use Rattle.std.specs.List.Sorted.{IsStrictlySortedBy}
 use Rattle.std.specs.Prelude.{position}
 use Rattle.std.specs.Ordering.{eq_by_cmp}
 use Rattle.std.specs.Cmp.Lexicographic.{nat_list_cmp_total}
-use Rattle.lens_values.specs.Order.{bytes_cmp}
+use Rattle.plain_values.specs.Order.{bytes_cmp}
 use Rattle.lens_values.proofs.Places.{searched_place}
-use Rattle.lens_values.proofs.Sets.{map-id}
 use Rattle.lens_values.proofs.names.place_in.Goals as goal
 
 pub returns : goal.returns

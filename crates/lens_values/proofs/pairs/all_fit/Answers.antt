@@ -1,8 +1,8 @@
 use Rattle.std.proofs.Common.{sym, arith, ◌∙◌, ◌≡◌, length}
 use Rattle.std.specs.List.{zip}
 use Rattle.std.proofs.lemmas.Slice.Zip.{length-zip}
-use Rattle.lens_values.specs.Row.{pair_fits}
-use Rattle.lens_values.proofs.FitsLemmas.{pointwise_zip, pointwise_apart, eqb_other}
+use Rattle.plain_values.specs.Row.{pair_fits}
+use Rattle.plain_values.proofs.FitsLemmas.{pointwise_zip, pointwise_apart, eqb_other}
 use Rattle.lens_values.proofs.pairs.all_fit.Goals as goal
 
 pub returns-then-values-columns : goal.returns-then-values-columns

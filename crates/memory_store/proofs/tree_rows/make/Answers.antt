@@ -1,6 +1,6 @@
 use Rattle.std.proofs.Common.{◌≡◌, ◌∙◌, Result, Ok, Err, ap}
 use Rattle.std.specs.Prelude.{OnOk}
-use Rattle.lens_values.specs.SortedSet as set
+use Rattle.plain_values.specs.SortedSet as set
 use Rattle.memory_store.specs.InMemory.{with_rows, without_rows}
 use Rattle.memory_store.proofs.TreeRows.{made_is}
 use Rattle.memory_store.proofs.tree_rows.make.Goals as goal

@@ -1,6 +1,5 @@
 use Rattle.std.proofs.Common.{subst, sym}
-use Rattle.lens_specs.specs.Lens.{get, sort_of}
-use Rattle.lens_specs.specs.Sort.{IsOf}
+use Rattle.lens_specs.specs.Common.{get, sort_of, IsOf}
 use Rattle.lens_chain.specs.Edits.{edited, over}
 use Rattle.probe_tests.proofs.Tested.{leads}
 use Rattle.probe_tests.proofs.edits.changes_of.Goals as goal

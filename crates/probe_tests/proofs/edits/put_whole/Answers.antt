@@ -1,6 +1,5 @@
 use Rattle.std.proofs.Common.{subst, sym}
-use Rattle.lens_specs.specs.Lens.{Lens, sort_of}
-use Rattle.lens_specs.specs.Sort.{IsOfSort}
+use Rattle.lens_specs.specs.Common.{Lens, sort_of, IsOfSort}
 use Rattle.lens_laws.specs.Lenses.{AreOf}
 use Rattle.probe_tests.proofs.edits.put_whole.Goals as goal
 

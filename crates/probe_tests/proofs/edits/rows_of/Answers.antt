@@ -1,6 +1,5 @@
 use Rattle.std.proofs.Common.{◌≡◌, ◌∙◌, ap, subst}
-use Rattle.lens_specs.specs.Lens.{sort_of}
-use Rattle.lens_specs.specs.Sort.{IsOfSort}
+use Rattle.lens_specs.specs.Common.{sort_of, IsOfSort}
 use Rattle.lens_laws.proofs.Rules.{given_is}
 use Rattle.probe_tests.proofs.edits.rows_of.Goals as goal
 

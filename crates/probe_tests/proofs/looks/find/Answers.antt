@@ -1,11 +1,7 @@
 use Rattle.std.proofs.Common.{◌≡◌, ◌∙◌, ◌<◌, ℕ, zero, suc, List, [], ◌∷◌, ap, arith, get_or, length, subst, sym}
 use Rattle.std.specs.Prelude.{◌≢◌, Contains}
-use Rattle.lens_values.specs.SortedSet as set
-use Rattle.lens_specs.specs.Columns.{Fits, names}
-use Rattle.lens_specs.specs.Dependencies.{AllEdges, Edge}
-use Rattle.lens_specs.specs.Lens.{sort_of}
-use Rattle.lens_specs.specs.Names.{Names, Within}
-use Rattle.lens_specs.specs.Sort.{Sort}
+use Rattle.plain_values.specs.SortedSet as set
+use Rattle.lens_specs.specs.Common.{Fits, names, AllEdges, Edge, sort_of, Names, Within, Sort}
 use Rattle.fd_laws.proofs.Columns.{fits_names}
 use Rattle.fd_tree.specs.Sides.{HasLeft}
 use Rattle.lens_probe.specs.Viewed.{asked_by}

@@ -1,9 +1,7 @@
 use Rattle.std.proofs.Common.{◌≡◌, ◌∙◌, ap, is_some, not, subst, sym, true}
 use Rattle.std.specs.List.{list_all}
-use Rattle.lens_values.specs.SortedSet as set
-use Rattle.lens_specs.specs.Columns.{Fits}
-use Rattle.lens_specs.specs.Predicate.{holds}
-use Rattle.lens_specs.specs.Sort.{clash}
+use Rattle.plain_values.specs.SortedSet as set
+use Rattle.lens_specs.specs.Common.{Fits, holds, clash}
 use Rattle.fd_tree.specs.ClashView.{shown_clash}
 use Rattle.probe_tests.proofs.Tested.{none_clash, none_refused}
 use Rattle.probe_tests.proofs.premises.is_of.Goals as goal

@@ -1,6 +1,6 @@
 use Rattle.std.proofs.Common.{◌≡◌, ◌∙◌, ap, is_some, refl}
 use Rattle.lens_specs.specs.Delta.{diff}
-use Rattle.lens_values.specs.SortedSet as set
+use Rattle.plain_values.specs.SortedSet as set
 use Rattle.probe_tests.proofs.Tested.{all_new, apart_from_none, filled_applies, filled_is}
 use Rattle.probe_tests.proofs.shelf.with_rows.Goals.{After-new-delta}
 use Rattle.probe_tests.proofs.shelf.with_rows.Goals as goal

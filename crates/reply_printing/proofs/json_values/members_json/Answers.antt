@@ -1,11 +1,12 @@
 use Rattle.std.proofs.Common.{◌∙◌, ap, sym, length, take, rules}
 use Rattle.std.specs.FinMap as finmap
 use Rattle.std.proofs.lemmas.Slice.Zip.{zip_turn}
+use Rattle.std.proofs.lemmas.List.{length_push}
 use Rattle.serde_json.specs.Data.{put}
-use Rattle.lens_values.specs.Order.{bytes_cmp}
-use Rattle.lens_values.specs.SortedMap.{keys_rise}
+use Rattle.plain_values.specs.Order.{bytes_cmp}
+use Rattle.plain_values.specs.SortedMap.{keys_rise}
 use Rattle.server_specs.specs.Answer.{pairs_data}
-use Rattle.reply_printing.proofs.Entries.{entry_turn, one_later}
+use Rattle.reply_printing.proofs.Entries.{entry_turn}
 use Rattle.reply_printing.proofs.Members.{put_more}
 use Rattle.reply_printing.proofs.json_values.members_json.Goals as goal
 
@@ -21,4 +22,4 @@ loop-name-preserved c =
     c.in_ok-put.ensures.ok
     ∙ (λ i. put (c.as_str.ensures i) (c.in_ok-value.ensures i) (c.loop-name.invariant i))
     ∙ put_more pairs (length xs) (c.in-Some.name.now, c.in-Some.value.now) here.0 here.1 (keys_rise bytes_cmp c.args.row.now)
-    ∙ ap (λ n. pairs_data (take n pairs)) (sym (one_later xs (c.in-Some.name, c.in-Some.value)))
+    ∙ ap (λ n. pairs_data (take n pairs)) (sym (length_push xs (c.in-Some.name, c.in-Some.value)))

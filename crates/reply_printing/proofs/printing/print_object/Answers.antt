@@ -1,10 +1,11 @@
 use Rattle.std.proofs.Common.{◌∙◌, ◌∷◌, ◌++◌, [], length, take, ap, sym, rules}
 use Rattle.std.specs.FinMap as finmap
 use Rattle.std.proofs.lemmas.Slice.Zip.{zip_end, zip_turn}
+use Rattle.std.proofs.lemmas.List.{length_push}
 use Rattle.json.specs.Token.{begin_object, end_object, key}
 use Rattle.server_specs.specs.Answer.{row_data, value_data}
 use Rattle.reply_printing.specs.Printing.{data_tokens}
-use Rattle.reply_printing.proofs.Entries.{entries_whole, entry_turn, one_later}
+use Rattle.reply_printing.proofs.Entries.{entries_whole, entry_turn}
 use Rattle.reply_printing.proofs.Tokens.{added, adds_same, follow, pairs_more, pairs_none, pairs_tokens, pairs_whole}
 use Rattle.reply_printing.proofs.printing.print_object.Goals as goal
 
@@ -24,7 +25,7 @@ loop-name-preserved c =
     (ap (λ name. (begin_object ∷ pairs_tokens value_data (take (length xs) pairs)) ++ key name ∷ data_tokens (value_data c.in-Some.value.now)) c.as_str.ensures
     ∙ ap (λ ts. begin_object ∷ ts)
     (sym (pairs_more value_data pairs (length xs) (c.in-Some.name.now, c.in-Some.value.now) here.0 here.1)
-    ∙ ap (λ n. pairs_tokens value_data (take n pairs)) (sym (one_later xs (c.in-Some.name, c.in-Some.value)))))
+    ∙ ap (λ n. pairs_tokens value_data (take n pairs)) (sym (length_push xs (c.in-Some.name, c.in-Some.value)))))
     (follow c.loop-name.invariant (follow (added c.in_ok-key.ensures) c.in_ok-print_value.ensures))
 
 pub returns : goal.returns

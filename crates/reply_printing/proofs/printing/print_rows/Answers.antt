@@ -2,7 +2,7 @@ use Rattle.std.proofs.Common.{◌∙◌, ◌∷◌, ◌++◌, [], ap, sym, arith
 use Rattle.std.proofs.lemmas.List.{take_all}
 use Rattle.json.specs.Token.{begin_array, end_array}
 use Rattle.serde_json.specs.Data.{array}
-use Rattle.lens_values.specs.SortedSet as set
+use Rattle.plain_values.specs.SortedSet as set
 use Rattle.lens_specs.specs.Relation.{Rows}
 use Rattle.server_specs.specs.Answer.{row_data, rows_data}
 use Rattle.reply_printing.specs.Printing.{data_tokens}

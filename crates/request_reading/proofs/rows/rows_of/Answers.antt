@@ -1,5 +1,5 @@
 use Rattle.std.proofs.Common.{◌∙◌, ap}
-use Rattle.lens_values.specs.SortedSet as set
+use Rattle.plain_values.specs.SortedSet as set
 use Rattle.request_reading.proofs.Columns.{columns_named}
 use Rattle.request_reading.proofs.rows.rows_of.Goals as goal
 

@@ -2,7 +2,7 @@ use Rattle.std.proofs.Common.{◌≡◌, length, take}
 use Rattle.std.specs.Prelude.{Ok}
 use Rattle.std.specs.List.{zip}
 use Rattle.borrowed_json.specs.Meaning.{members_data}
-use Rattle.lens_values.specs.SortedMap.{keys_of}
+use Rattle.plain_values.specs.SortedMap.{keys_of}
 use Rattle.server_specs.specs.Sending as spec
 use Rattle.request_reading.proofs.rows.values_in.Given as goal
 

@@ -1,5 +1,5 @@
-use Rattle.lens_values.specs.Part.{restrict}
-use Rattle.lens_values.specs.Row.{row_cmp}
+use Rattle.plain_values.specs.Part.{restrict}
+use Rattle.plain_values.specs.Row.{row_cmp}
 use Rattle.fd_tree.proofs.Places.{Holds}
 use Rattle.revision.proofs.first_by_key.first_by_key.Given as goal
 

@@ -1,6 +1,6 @@
 use Rattle.std.proofs.Common.{◌<◌, ◌∙◌, ap, sym, length, get_or, rules, arith}
 use Rattle.std.specs.Prelude.{Some}
-use Rattle.lens_values.specs.SortedSet as set
+use Rattle.plain_values.specs.SortedSet as set
 use Rattle.revision.proofs.Reached.{LeadsTo, not_there, there}
 use Rattle.revision.proofs.first_by_key.first_like.Goals as goal
 use Rattle.revision.proofs.first_by_key.first_like.Goals.{In-Some}

@@ -2,11 +2,8 @@ use Rattle.std.proofs.Common.{◌≡◌, ◌*◌, ◌<◌, ◌≤◌, ◌∙◌,
 use Rattle.std.specs.Prelude.{not}
 use Rattle.std.proofs.lemmas.List.{drop_all}
 use Rattle.std.proofs.Math.Nat.{mul-le-mul_left}
-use Rattle.lens_values.specs.SortedSet as set
-use Rattle.lens_specs.specs.Columns.{names}
-use Rattle.lens_specs.specs.Names.{Within}
-use Rattle.lens_specs.specs.Dependencies.{Edge}
-use Rattle.lens_specs.specs.Relation.{Rows, has}
+use Rattle.plain_values.specs.SortedSet as set
+use Rattle.lens_specs.specs.Common.{names, Within, Edge, Rows, has}
 use Rattle.lens_laws.specs.KeyedDeltas.{found_each}
 use Rattle.fd_laws.proofs.Relations.{from_those}
 use Rattle.signed_delta.proofs.Counts.{all_rows, at_end, listed_len, more_rows, next, one_more, those_len, union_len}

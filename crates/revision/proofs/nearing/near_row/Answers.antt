@@ -1,7 +1,6 @@
 use Rattle.std.proofs.Common.{◌≡◌, ◌+◌, ◌<◌, ◌≤◌, ◌∙◌, ap, drop, get_or, length, arith}
 use Rattle.std.proofs.lemmas.List.{drop_all}
-use Rattle.lens_specs.specs.Columns.{names}
-use Rattle.lens_specs.specs.Names.{Within}
+use Rattle.lens_specs.specs.Common.{names, Within}
 use Rattle.signed_delta.proofs.Counts.{all_rows, at_end, more_rows, next, one_more}
 use Rattle.revision.specs.Near.{near_from}
 use Rattle.revision.proofs.Changed.{edge_at, side_there}

@@ -1,6 +1,6 @@
 use Rattle.std.proofs.Common.{◌≡◌, ◌∙◌, ◌++◌, ap, sym}
 use Rattle.std.specs.List.{list_any}
-use Rattle.lens_values.specs.SortedSet as set
+use Rattle.plain_values.specs.SortedSet as set
 use Rattle.lens_laws.specs.KeyedDeltas.{find_by}
 use Rattle.revision.specs.Near.{is_like}
 use Rattle.revision.proofs.Near.{as_they_were, with_found}

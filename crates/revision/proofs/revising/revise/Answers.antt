@@ -1,9 +1,8 @@
 use Rattle.std.proofs.Common.{◌≡◌, ◌∙◌, ap, subst, sym}
 use Rattle.std.specs.Prelude.{map}
-use Rattle.lens_values.specs.SortedSet as set
-use Rattle.lens_specs.specs.Relation.{Fits}
+use Rattle.plain_values.specs.SortedSet as set
+use Rattle.lens_specs.specs.Common.{Fits, outputs}
 use Rattle.lens_specs.specs.Revision as spec
-use Rattle.lens_specs.specs.TreeForm.{outputs}
 use Rattle.revision.specs.Changes.{ChangesOnly}
 use Rattle.revision.proofs.Runs.{revised_fit, revised_keeps, revised_len, revised_set}
 use Rattle.revision.proofs.revising.revise.Goals as goal

@@ -1,6 +1,6 @@
 use Rattle.std.proofs.Common.{◌≡◌, ◌++◌, take, map}
 use Rattle.std.specs.Prelude.{option_map}
-use Rattle.lens_values.specs.Part.{override}
+use Rattle.plain_values.specs.Part.{override}
 use Rattle.row_sets.specs.Joins.{kept_of}
 use Rattle.row_sets.proofs.joining.append_pairs.Given as goal
 

@@ -1,6 +1,6 @@
 use Rattle.std.proofs.Common.{sym, ◌∙◌, arith}
-use Rattle.lens_values.specs.Row.{row_cmp}
-use Rattle.row_sets.proofs.Groups.{one_more, first_above}
+use Rattle.plain_values.specs.Row.{row_cmp}
+use Rattle.lens_values.proofs.Groups.{one_more, first_above}
 use Rattle.row_sets.proofs.joining.not_above.Goals as goal
 
 pub loop-place-preserved : goal.loop-place-preserved

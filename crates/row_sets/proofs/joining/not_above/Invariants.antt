@@ -1,7 +1,7 @@
 use Rattle.std.proofs.Common.{◌≡◌, true}
 use Rattle.std.specs.List.{AllWithin}
 use Rattle.std.specs.Ordering.{is_le}
-use Rattle.lens_values.specs.Row.{row_cmp}
+use Rattle.plain_values.specs.Row.{row_cmp}
 use Rattle.row_sets.proofs.joining.not_above.Given as goal
 
 -- the entries so far are not above the part

@@ -2,9 +2,8 @@ use Rattle.std.proofs.Common.{◌≡◌, ◌++◌, ◌∷◌, [], List, take, ma
 use Rattle.std.specs.Prelude.{filter, flat_map, option_map}
 use Rattle.std.specs.Ordering.{is_eq}
 use Rattle.std.proofs.lemmas.List.{flat_map_more, take_more}
-use Rattle.lens_values.specs.Part.{override, restrict}
-use Rattle.lens_values.specs.Row.{row_cmp}
-use Rattle.lens_values.specs.declared.row.Row.{Row}
+use Rattle.plain_values.specs.Part.{override, restrict}
+use Rattle.plain_values.specs.Row.{row_cmp, Row}
 use Rattle.row_sets.specs.Joins.{kept_of}
 use Rattle.row_sets.proofs.joining.paired.Goals as goal
 

@@ -1,8 +1,8 @@
 use Rattle.std.proofs.Common.{◌≡◌, take, map}
 use Rattle.std.specs.Prelude.{IfSome, filter, flat_map, option_map}
 use Rattle.std.specs.Ordering.{is_eq}
-use Rattle.lens_values.specs.Part.{override, restrict}
-use Rattle.lens_values.specs.Row.{row_cmp}
+use Rattle.plain_values.specs.Part.{override, restrict}
+use Rattle.plain_values.specs.Row.{row_cmp}
 use Rattle.row_sets.specs.Joins.{kept_of}
 use Rattle.row_sets.proofs.joining.paired.Given as goal
 

@@ -1,9 +1,9 @@
 use Rattle.std.proofs.Common.{◌≡◌, ap, subst, sym, ◌∙◌}
 use Rattle.std.specs.Prelude.{IfSome, filter}
 use Rattle.std.specs.Ordering.{is_eq}
-use Rattle.lens_values.specs.Part.{restrict}
-use Rattle.lens_values.specs.Row.{row_cmp}
-use Rattle.row_sets.proofs.Pairs.{parts_same}
+use Rattle.plain_values.specs.Part.{restrict}
+use Rattle.plain_values.specs.Row.{row_cmp}
+use Rattle.plain_values.proofs.Agreement.{parts_same}
 use Rattle.row_sets.proofs.joining.partners.Goals as goal
 
 pub returns-in-Some : goal.returns-in-Some

@@ -2,10 +2,10 @@ use Rattle.std.proofs.Common.{◌≡◌, ◌≤◌, sym, ap, subst, ◌∙◌, r
 use Rattle.std.specs.List.Sorted.{IsPartitionPoint}
 use Rattle.std.specs.Ordering.{is_le, is_lt}
 use Rattle.std.proofs.lemmas.Fn.{always_returns_same}
-use Rattle.lens_values.specs.Row.{row_cmp}
-use Rattle.lens_values.specs.RowOrder.{row_cmp_total}
-use Rattle.lens_values.proofs.Walks.{part_is}
-use Rattle.row_sets.proofs.Groups.{Ascend, group_is, lower_first, no_higher_first, rest_ascends}
+use Rattle.std.proofs.lemmas.List.{take_rest}
+use Rattle.plain_values.specs.Row.{row_cmp}
+use Rattle.plain_values.specs.RowOrder.{row_cmp_total}
+use Rattle.lens_values.proofs.Groups.{Ascend, group_is, lower_first, no_higher_first, rest_ascends}
 use Rattle.row_sets.proofs.Pairs.{parts_ascend}
 use Rattle.row_sets.proofs.joining.with_part.Goals as goal
 
@@ -15,7 +15,7 @@ not_above-count-requires c =
     let part = c.args.part.now in
     let start = c.partition_point-start.result in
     let up : Ascend row_cmp_total (λ e. e.0) index = parts_ascend index c.requires in
-    let rest : take (length index - start) (drop start index) ≡ drop start index = part_is index start in
+    let rest : take (length index - start) (drop start index) ≡ drop start index = take_rest index start in
     no_higher_first row_cmp_total (λ e. e.0) _ part (subst (Ascend row_cmp_total (λ e. e.0)) (sym rest) (rest_ascends row_cmp_total (λ e. e.0) index start c.partition_point-start.ensures.bound up))
 
 pub returns : goal.returns
@@ -25,7 +25,7 @@ returns c =
     let start = c.partition_point-start.result in
     let count = c.not_above-count.result in
     let up : Ascend row_cmp_total (λ e. e.0) index = parts_ascend index c.requires in
-    let rest : take (length index - start) (drop start index) ≡ drop start index = part_is index start in
+    let rest : take (length index - start) (drop start index) ≡ drop start index = take_rest index start in
     ap (take count) rest
     ∙ group_is row_cmp_total (λ e. e.0) index part start count c.partition_point-start.ensures.bound (subst (λ l. count ≤ length l) rest c.not_above-count.ensures.bound)
     (c.partition_point-start.ensures.partitioned (λ e. is_lt (row_cmp e.0 part)) (always_returns_same _ _ _ (λ a r f k. search (rules, of_calls))) (lower_first row_cmp_total (λ e. e.0) index part up))

@@ -1,10 +1,8 @@
 use Rattle.std.proofs.Common.{◌≡◌, ◌≤◌, ◌∙◌, ap, arith, length, subst, sym}
 use Rattle.std.specs.Prelude.{map}
 use Rattle.std.proofs.lemmas.Bool.{eqb-true}
-use Rattle.lens_values.specs.SortedSet as set
-use Rattle.lens_specs.specs.Delta.{Delta}
-use Rattle.lens_specs.specs.Relation.{Rows, has, union}
-use Rattle.lens_specs.specs.Predicate.{holds}
+use Rattle.plain_values.specs.SortedSet as set
+use Rattle.lens_specs.specs.Common.{Delta, Rows, has, union, holds}
 use Rattle.lens_laws.specs.KeyedDeltas.{select_delta}
 use Rattle.lens_laws.specs.Work.{rows_down, rows_of}
 use Rattle.lens_laws.proofs.DeltaCounts.{select_delta_small}

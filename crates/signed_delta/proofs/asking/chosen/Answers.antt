@@ -1,5 +1,5 @@
 use Rattle.std.proofs.Common.{ap, ◌∙◌, length, arith}
-use Rattle.lens_values.specs.SortedSet as set
+use Rattle.plain_values.specs.SortedSet as set
 use Rattle.signed_delta.specs.Chosen.{is_chosen}
 use Rattle.signed_delta.proofs.Counts.{at_end}
 use Rattle.signed_delta.proofs.Looks.{listed_at, passed_are, passed_rise}

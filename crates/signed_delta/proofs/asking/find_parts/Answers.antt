@@ -1,8 +1,8 @@
 use Rattle.std.proofs.Common.{◌∙◌, ◌∷◌, ◌++◌, [], ap, arith, length, length-append, sym, take}
 use Rattle.std.specs.Prelude.{flat_map}
 use Rattle.std.proofs.lemmas.List.{flat_map_more, take_all, take_more}
-use Rattle.lens_values.specs.SortedSet as set
-use Rattle.lens_values.specs.declared.row.Row.{Row}
+use Rattle.plain_values.specs.SortedSet as set
+use Rattle.plain_values.specs.Row.{Row}
 use Rattle.lens_specs.specs.Relation.{project}
 use Rattle.lens_laws.specs.KeyedDeltas.{find_by}
 use Rattle.signed_delta.proofs.Counts.{all_rows, at_end, listed_len, next, one_more, project_len}

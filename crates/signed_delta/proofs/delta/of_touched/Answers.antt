@@ -1,5 +1,5 @@
 use Rattle.std.proofs.Common.{◌≡◌, sym, ap, ◌∙◌, subst, length, arith}
-use Rattle.lens_values.specs.SortedSet as set
+use Rattle.plain_values.specs.SortedSet as set
 use Rattle.lens_specs.specs.Relation.{has, minus, those}
 use Rattle.fd_laws.proofs.Relations.{from_minus}
 use Rattle.signed_delta.specs.Disjoint.{AreApart}

@@ -1,7 +1,8 @@
 use Rattle.std.proofs.Common.{◌∙◌, ◌++◌, ap, sym, length, rules}
 use Rattle.std.proofs.lemmas.Slice.Zip.{zip_end, zip_turn}
+use Rattle.std.proofs.lemmas.List.{length_push}
 use Rattle.sqlite_keeper.specs.Cells.{cells_at}
-use Rattle.sqlite_keeper.proofs.CellsListed.{cells_more, cells_to, cells_whole, one_later}
+use Rattle.sqlite_keeper.proofs.CellsListed.{cells_more, cells_to, cells_whole}
 use Rattle.sqlite_keeper.proofs.cells.cells_of.Goals as goal
 
 pub loop-column-preserved : goal.loop-column-preserved
@@ -15,7 +16,7 @@ loop-column-preserved c =
     c.in_ok-push_cells.ensures
     ∙ ap (λ l. l ++ cells_at c.in-Some.column.now.1 c.in-Some.value.now) c.loop-column.invariant
     ∙ sym (cells_more columns values (length xs) c.in-Some.column.now c.in-Some.value.now turn)
-    ∙ ap (cells_to columns values) (sym (one_later xs (c.in-Some.column, c.in-Some.value)))
+    ∙ ap (cells_to columns values) (sym (length_push xs (c.in-Some.column, c.in-Some.value)))
 
 pub returns : goal.returns
 returns c =

@@ -3,7 +3,7 @@ use Rattle.std.specs.Prelude.{true, false}
 use Rattle.std.specs.FinMap as finmap
 use Rattle.std.specs.List.{insert}
 use Rattle.std.specs.List.Sorted.{IsStrictlySortedBy}
-use Rattle.lens_values.specs.Order.{bytes_cmp}
+use Rattle.plain_values.specs.Order.{bytes_cmp}
 use Rattle.table_keeper.specs.Changes.{names_of}
 use Rattle.table_keeper.specs.Places.{Rise, is_named, rows_in}
 use Rattle.table_keeper.proofs.ByName.{names_insert, rows_insert, there_is}

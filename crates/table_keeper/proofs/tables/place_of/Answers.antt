@@ -1,7 +1,7 @@
 use Rattle.std.proofs.Common.{◌≡◌, ◌∙◌, ap, true, false}
 use Rattle.std.specs.Prelude.{is_ok}
+use Rattle.plain_values.proofs.Maps.{exact}
 use Rattle.table_keeper.proofs.Places.{found_is}
-use Rattle.table_keeper.proofs.ByName.{name_exact}
 use Rattle.table_keeper.proofs.tables.place_of.Goals as goal
 
 pub unreachable-requires : goal.unreachable-requires
@@ -11,4 +11,4 @@ unreachable-requires c =
     cc
 
 pub returns-clause-named : goal.returns-clause-named
-returns-clause-named c = λ d. name_exact _ c.args.name.now (c.in-Ok.ensures.position d)
+returns-clause-named c = λ d. exact _ c.args.name.now (c.in-Ok.ensures.position d)

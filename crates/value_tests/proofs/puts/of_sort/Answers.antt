@@ -1,6 +1,6 @@
 use Rattle.std.proofs.Common.{◌≡◌, ◌∙◌, Bor, Option, Some, None, ap, false, is_some, option_copied, refl, subst, sym}
 use Rattle.std.proofs.lemmas.Result.{IfOk-at_ok}
-use Rattle.lens_values.specs.declared.row.Row.{Row}
+use Rattle.plain_values.specs.Row.{Row}
 use Rattle.lens_specs.specs.Columns.{Fits}
 use Rattle.lens_specs.specs.Sort as spec
 use Rattle.fd_tree.specs.ClashView.{shown_clash}

@@ -2,10 +2,8 @@ use Rattle.std.proofs.Common.{◌≡◌, ◌∙◌, true, ap, subst, sym}
 use Rattle.std.specs.Prelude.{◌≢◌, [], not}
 use Rattle.std.specs.List.{list_all}
 use Rattle.std.specs.FinMap as finmap
-use Rattle.lens_values.specs.Value.{is_nullable}
-use Rattle.lens_specs.specs.Columns.{Columns}
-use Rattle.lens_specs.specs.Lens.{sort_of}
-use Rattle.lens_specs.specs.Relation.{Relation}
+use Rattle.plain_values.specs.Value.{is_nullable}
+use Rattle.lens_specs.specs.Common.{Columns, sort_of, Relation}
 use Rattle.view_answers.proofs.Columns.{all_plain, has_columns}
 use Rattle.view_answers.proofs.exports.rows_as_csv.Goals as goal
 

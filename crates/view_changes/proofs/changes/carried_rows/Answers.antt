@@ -2,8 +2,7 @@ use Rattle.std.proofs.Common.{◌≡◌, ◌∙◌, ◌+◌, ◌*◌, ◌≤◌,
 use Rattle.lens_chain.proofs.Counted.{within_size}
 use Rattle.lens_chain.specs.Edits.{edited, over}
 use Rattle.lens_laws.specs.Work.{count_of, rows_of, size, work}
-use Rattle.lens_specs.specs.Delta.{new_view}
-use Rattle.lens_specs.specs.Lens.{get, sort_of}
+use Rattle.lens_specs.specs.Common.{new_view, get, sort_of}
 use Rattle.server_specs.specs.Changing.{of_sort}
 use Rattle.view_changes.specs.Puts.{IsPut}
 use Rattle.view_changes.proofs.Looks.{carried_few}

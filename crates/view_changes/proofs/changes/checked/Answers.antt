@@ -6,9 +6,7 @@ use Rattle.lens_chain.specs.Edits.{edited, over}
 use Rattle.lens_laws.proofs.Lenses.{get_sort}
 use Rattle.edit_check.specs.Checked.{IsChecked}
 use Rattle.lens_probe.specs.Viewed.{asked_by, shown}
-use Rattle.lens_specs.specs.Dependencies.{AllEdges}
-use Rattle.lens_specs.specs.Lens.{sort_of}
-use Rattle.lens_specs.specs.Sort.{Sort, IsOf, IsOfSort, clash, off}
+use Rattle.lens_specs.specs.Common.{AllEdges, sort_of, Sort, IsOf, IsOfSort, clash, off}
 use Rattle.server_specs.specs.Changing.{unless_clash, unless_off}
 use Rattle.server_specs.specs.EditRefusal as refusals
 use Rattle.lens_laws.proofs.Rules.{given_is}

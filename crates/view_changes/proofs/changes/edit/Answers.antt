@@ -4,8 +4,7 @@ use Rattle.lens_chain.proofs.Counted.{within_size}
 use Rattle.lens_laws.specs.Finds.{AllFit}
 use Rattle.lens_laws.specs.Work.{count_of, size, work}
 use Rattle.lens_probe.specs.Viewed.{FindsAtMost, IsViewed, Viewed}
-use Rattle.lens_specs.specs.Delta.{new_view}
-use Rattle.lens_specs.specs.Lens.{get, sort_of}
+use Rattle.lens_specs.specs.Common.{new_view, get, sort_of}
 use Rattle.opened_view.specs.Seen.{seen, tables_under}
 use Rattle.server_specs.specs.Answer.{in_add, in_remove}
 use Rattle.server_specs.specs.Changing.{asked_view, edit_of, edited, of_sort, sent_view, tested}

@@ -1,7 +1,7 @@
 use Rattle.std.proofs.Common.{◌∙◌, ◌∷◌, [], Some, ap, length, sym, arith}
 use Rattle.std.proofs.lemmas.List.{length-append}
 use Rattle.csv.specs.Records.{fields_of}
-use Rattle.lens_values.specs.declared.value.Kind.TheVariants as kind
+use Rattle.plain_values.specs.declared.value.Kind.TheVariants as kind
 use Rattle.view_csv.proofs.PlaceLemmas.{values_more, values_none}
 use Rattle.view_csv.proofs.places.values_of.Goals as goal
 

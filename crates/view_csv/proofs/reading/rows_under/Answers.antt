@@ -1,6 +1,6 @@
 use Rattle.std.proofs.Common.{◌∙◌, ◌∷◌, ◌++◌, [], Ok, ap, length, sym, arith}
 use Rattle.std.proofs.lemmas.List.{length-append}
-use Rattle.lens_values.specs.SortedSet as set
+use Rattle.plain_values.specs.SortedSet as set
 use Rattle.csv.specs.Records.{fields_of}
 use Rattle.sheet_specs.specs.Sheets.{Record, rows_from}
 use Rattle.view_csv.specs.Told.{told}

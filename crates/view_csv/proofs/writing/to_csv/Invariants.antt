@@ -1,7 +1,7 @@
 use Rattle.std.proofs.Common.{◌≡◌, true, ◌∷◌, Some, map, take}
 use Rattle.std.specs.FinMap as finmap
 use Rattle.std.specs.List.{list_all}
-use Rattle.lens_values.specs.Bytes.{is_name}
+use Rattle.plain_values.specs.Bytes.{is_name}
 use Rattle.sheet_specs.specs.SheetLaws.{is_right}
 use Rattle.sheet_specs.specs.Sheets.{record_of, text_of}
 use Rattle.view_csv.specs.Texts.{HasWritten}

@@ -18,8 +18,8 @@ impl Model for ReadColumns {
     ghost use Rattle.std.specs.Prelude.{◌≡◌, List, ℕ};
     ghost use Rattle.std.specs.BTreeSet.{contains};
     ghost use Rattle.std.specs.Coded.{coded_list};
-    ghost use Rattle.lens_values.specs.Order.{bytes_cmp};
-    ghost use Rattle.lens_values.specs.declared.value.Kind.{Kind};
+    ghost use Rattle.plain_values.specs.Order.{bytes_cmp};
+    ghost use Rattle.plain_values.specs.declared.value.Kind.{Kind};
     ghost use Rattle.grammar_specs.specs.Written.{is_column_of};
 
     ghost Value = { List (List ℕ × Kind) };

@@ -1,7 +1,7 @@
 //! Operands, and the expressions around them.
 ghost use Rattle.std.specs.Prelude.{◌≡◌, ◌∷◌, List, IfOk, OnOk};
 ghost use Rattle.std.specs.Bool.{then_some};
-ghost use Rattle.lens_values.specs.SortedSet as set;
+ghost use Rattle.plain_values.specs.SortedSet as set;
 ghost use Rattle.grammar_specs.specs.Meaning as meaning;
 ghost use Rattle.view_lang.specs.TokenViews.{token_view};
 ghost use Rattle.grammar_laws.specs.ExprParse as expr;

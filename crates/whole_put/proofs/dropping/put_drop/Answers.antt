@@ -1,13 +1,9 @@
 use Rattle.std.proofs.Common.{◌≡◌, ◌∙◌, ap, subst, sym, true}
 use Rattle.std.specs.Prelude.{map}
-use Rattle.lens_values.specs.Part.{override}
-use Rattle.lens_values.specs.SortedSet as set
-use Rattle.lens_values.specs.declared.row.Row.{Row}
-use Rattle.lens_specs.specs.Columns.{names, without_column}
-use Rattle.lens_specs.specs.Dependencies.{edge}
-use Rattle.lens_specs.specs.Nodes.{drop_get, drop_put}
-use Rattle.lens_specs.specs.Relation.{Fits, Relation, has}
-use Rattle.lens_specs.specs.Revision.{along}
+use Rattle.plain_values.specs.Part.{override}
+use Rattle.plain_values.specs.SortedSet as set
+use Rattle.plain_values.specs.Row.{Row}
+use Rattle.lens_specs.specs.Common.{names, without_column, edge, drop_get, drop_put, Fits, Relation, has, along}
 use Rattle.whole_put.proofs.Drops.{fits, get_put, made, put_get}
 use Rattle.whole_put.proofs.dropping.put_drop.Goals as goal
 use Rattle.whole_put.proofs.dropping.put_drop.Goals.{In_ok-rows}

@@ -1,16 +1,13 @@
 use Rattle.std.proofs.Common.{◌∙◌, ap, subst, sym, filter, Bool}
 use Rattle.std.specs.List.Sorted.{IsStrictlySortedBy}
 use Rattle.std.proofs.lemmas.List.Kept.{IsStrictlySortedBy-filter}
-use Rattle.lens_values.specs.Part.{restrict}
-use Rattle.lens_values.specs.Row.{row_cmp}
-use Rattle.lens_values.specs.RowOrder.{row_cmp_total, row_cmp-IsAntisymmetric}
-use Rattle.lens_values.specs.SortedMap.{keys_rise}
-use Rattle.lens_values.specs.SortedSet as set
-use Rattle.lens_values.specs.declared.row.Row.{Row}
-use Rattle.lens_specs.specs.Columns.{Fits, names}
-use Rattle.lens_specs.specs.Relation.{Relation, has}
-use Rattle.lens_specs.specs.Rows.{cut}
-use Rattle.whole_put.proofs.Selections.{kept_is}
+use Rattle.fd_laws.proofs.Relations.{from_those}
+use Rattle.plain_values.specs.Part.{restrict}
+use Rattle.plain_values.specs.Row.{row_cmp, Row}
+use Rattle.plain_values.specs.RowOrder.{row_cmp_total, row_cmp-IsAntisymmetric}
+use Rattle.plain_values.specs.SortedMap.{keys_rise}
+use Rattle.plain_values.specs.SortedSet as set
+use Rattle.lens_specs.specs.Common.{Fits, names, Relation, has, cut}
 use Rattle.whole_put.proofs.joining.joined_to.Goals as goal
 
 -- the test, as it is made
@@ -29,7 +26,7 @@ with_rows-requires c = λ row there.
     let listed = c.in_ok-with_part.ensures ∙ (λ i. filter (λ w. has (c.rows-3.ensures.rows i) (restrict ((c.in_ok-cols.ensures ∙ ap names c.columns.ensures) i) w)) ((c.rows-2.ensures ∙ ap set.items c.rows.ensures.rows) i)) in
     let kept = c.from_rising-kept.ensures ∙ ap set.from_list listed ∙ set.from_list-filter row_cmp_total row_cmp-IsAntisymmetric p M in
     subst (λ U. Fits U row) (sym (c.in_ok-copy.ensures ∙ c.columns-2.ensures))
-    (c.rows.ensures.fit row (kept_is p M row (ap (λ R. set.contains R row) (sym kept) ∙ there)).0)
+    (c.rows.ensures.fit row (from_those p M row (ap (λ R. set.contains R row) (sym kept) ∙ there)).0)
 
 pub returns : goal.returns
 unfolding cut

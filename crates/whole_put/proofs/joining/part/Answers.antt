@@ -1,7 +1,6 @@
 use Rattle.std.proofs.Common.{◌≡◌, ◌∙◌, ap, subst, sym}
-use Rattle.lens_values.specs.SortedSet as set
-use Rattle.lens_specs.specs.Columns.{names}
-use Rattle.lens_specs.specs.Relation.{Fits, project}
+use Rattle.plain_values.specs.SortedSet as set
+use Rattle.lens_specs.specs.Common.{names, Fits, project}
 use Rattle.row_sets.proofs.Parts.{projected_fit}
 use Rattle.whole_put.proofs.joining.part.Goals as goal
 

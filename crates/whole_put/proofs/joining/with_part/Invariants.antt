@@ -1,5 +1,5 @@
 use Rattle.std.proofs.Common.{◌≡◌, take, filter}
-use Rattle.lens_values.specs.Part.{restrict}
+use Rattle.plain_values.specs.Part.{restrict}
 use Rattle.lens_specs.specs.Relation.{has}
 use Rattle.whole_put.proofs.joining.with_part.Given as goal
 

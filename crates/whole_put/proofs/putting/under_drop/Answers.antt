@@ -1,11 +1,7 @@
 use Rattle.std.proofs.Common.{◌≡◌, ◌∙◌, ap, subst, sym}
 use Rattle.std.specs.Prelude.{IfOk}
 use Rattle.std.proofs.lemmas.Result.{IfOk-weaker}
-use Rattle.lens_specs.specs.Columns.{without_column}
-use Rattle.lens_specs.specs.Lens.{sort_of}
-use Rattle.lens_specs.specs.Nodes.{drop_put}
-use Rattle.lens_specs.specs.Relation.{Relation}
-use Rattle.lens_specs.specs.Sort.{IsOfSort}
+use Rattle.lens_specs.specs.Common.{without_column, sort_of, drop_put, Relation, IsOfSort}
 use Rattle.whole_put.proofs.Lenses.{column_apart, column_fits, determined, dropped_is_of_sort, over, source_dropped}
 use Rattle.whole_put.proofs.putting.under_drop.Goals as goal
 use Rattle.whole_put.proofs.putting.under_drop.Goals.{After-put_drop}

@@ -1,13 +1,8 @@
 use Rattle.std.proofs.Common.{◌≡◌, ◌∙◌, ap, subst, sym}
 use Rattle.std.specs.Prelude.{IfOk}
 use Rattle.std.proofs.lemmas.Result.{IfOk-weaker}
-use Rattle.lens_values.specs.SortedSet as set
-use Rattle.lens_specs.specs.Columns.{names}
-use Rattle.lens_specs.specs.Lens.{sort_of}
-use Rattle.lens_specs.specs.Nodes.{rename_put}
-use Rattle.lens_specs.specs.Relation.{Relation}
-use Rattle.lens_specs.specs.Rename.{renamed_columns}
-use Rattle.lens_specs.specs.Sort.{IsOfSort}
+use Rattle.plain_values.specs.SortedSet as set
+use Rattle.lens_specs.specs.Common.{names, sort_of, rename_put, Relation, renamed_columns, IsOfSort}
 use Rattle.whole_put.proofs.Lenses.{over, renamed_is_of_sort, source_renamed}
 use Rattle.whole_put.proofs.putting.under_rename.Goals as goal
 use Rattle.whole_put.proofs.putting.under_rename.Goals.{After-put_rename}

@@ -1,11 +1,7 @@
 use Rattle.std.proofs.Common.{◌≡◌, ◌∙◌, ap, subst, sym}
 use Rattle.std.specs.Prelude.{IfOk}
 use Rattle.std.proofs.lemmas.Result.{IfOk-weaker}
-use Rattle.lens_specs.specs.Lens.{sort_of}
-use Rattle.lens_specs.specs.Nodes.{select_put}
-use Rattle.lens_specs.specs.Predicate.{holds}
-use Rattle.lens_specs.specs.Relation.{Relation}
-use Rattle.lens_specs.specs.Sort.{IsOfSort}
+use Rattle.lens_specs.specs.Common.{sort_of, select_put, holds, Relation, IsOfSort}
 use Rattle.whole_put.proofs.Lenses.{over, selected_is_of_sort, source_selected, under_selected}
 use Rattle.whole_put.proofs.putting.under_select.Goals as goal
 use Rattle.whole_put.proofs.putting.under_select.Goals.{After-put_select}

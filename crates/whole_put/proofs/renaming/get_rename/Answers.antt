@@ -1,15 +1,12 @@
 use Rattle.std.proofs.Common.{◌∙◌, ap, sym}
-use Rattle.lens_specs.specs.Columns.{names}
-use Rattle.lens_specs.specs.Nodes.{rename_get}
-use Rattle.lens_specs.specs.Relation.{image}
-use Rattle.lens_specs.specs.Rename.{renamed_row, renamed_columns}
-use Rattle.lens_values.specs.SortedSet as set
-use Rattle.lens_types.proofs.Renamings.{no_column}
+use Rattle.fd_laws.proofs.Columns.{no_kind}
+use Rattle.lens_specs.specs.Common.{names, rename_get, image, renamed_row, renamed_columns}
+use Rattle.plain_values.specs.SortedSet as set
 use Rattle.whole_put.proofs.Renames.{fits_over, shown_fits}
 use Rattle.whole_put.proofs.renaming.get_rename.Goals as goal
 
 pub rename_columns-requires : goal.rename_columns-requires
-rename_columns-requires c = no_column c.columns_and_rows.result.0.now c.args.to.now (ap (λ U. set.contains (names U) c.args.to.now) c.columns_and_rows.ensures.columns ∙ c.requires)
+rename_columns-requires c = no_kind c.columns_and_rows.result.0.now c.args.to.now (ap (λ U. set.contains (names U) c.args.to.now) c.columns_and_rows.ensures.columns ∙ c.requires)
 
 pub rename_set-requires-clause-over : goal.rename_set-requires-clause-over
 rename_set-requires-clause-over c = λ row i.

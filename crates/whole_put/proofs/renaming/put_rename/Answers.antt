@@ -1,9 +1,6 @@
 use Rattle.std.proofs.Common.{◌≡◌, ◌∙◌, ap, sym}
-use Rattle.lens_values.specs.SortedSet as set
-use Rattle.lens_specs.specs.Columns.{names}
-use Rattle.lens_specs.specs.Nodes.{rename_get, rename_put}
-use Rattle.lens_specs.specs.Relation.{Relation, image}
-use Rattle.lens_specs.specs.Rename.{renamed_row}
+use Rattle.plain_values.specs.SortedSet as set
+use Rattle.lens_specs.specs.Common.{names, rename_get, rename_put, Relation, image, renamed_row}
 use Rattle.whole_put.proofs.Renames.{fits_over, view_lacks, source_fits, put_get, get_put}
 use Rattle.whole_put.proofs.renaming.put_rename.Goals as goal
 use Rattle.whole_put.proofs.renaming.put_rename.Goals.{After-with_rows}

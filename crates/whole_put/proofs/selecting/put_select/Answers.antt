@@ -1,21 +1,19 @@
 use Rattle.std.proofs.Common.{◌≡◌, ◌∙◌, false, ap, sym, subst}
 use Rattle.std.specs.Prelude.{IfOk, true}
 use Rattle.std.proofs.lemmas.Result.{IfOk-weaker}
-use Rattle.lens_values.specs.SortedSet as set
-use Rattle.lens_values.specs.declared.row.Row.{Row}
-use Rattle.lens_specs.specs.Dependencies.{MeetsTree}
-use Rattle.lens_specs.specs.Nodes.{select_get}
-use Rattle.lens_specs.specs.Predicate.{holds}
-use Rattle.lens_specs.specs.Relation.{has, those}
+use Rattle.fd_laws.proofs.Relations.{from_those}
+use Rattle.plain_values.specs.SortedSet as set
+use Rattle.plain_values.specs.Row.{Row}
+use Rattle.lens_specs.specs.Common.{MeetsTree, select_get, holds, has, those}
 use Rattle.lens_specs.specs.Revision as spec
 use Rattle.whole_put.specs.Shows.{is_shown}
-use Rattle.whole_put.proofs.Selections.{kept_is, put_back, put_is, put_rows, shown_after}
+use Rattle.whole_put.proofs.Selections.{put_back, put_is, put_rows, shown_after}
 use Rattle.whole_put.proofs.selecting.put_select.Goals as goal
 use Rattle.whole_put.proofs.selecting.put_select.Goals.{After-union}
 
 pub hidden_after-requires-clause-hidden : goal.hidden_after-requires-clause-hidden
 hidden_after-requires-clause-hidden c = λ row there.
-    (kept_is (is_shown c.args.pred.now false) c.args.source.now.rows row (ap (λ r. has r.rows row) (sym c.in_ok-hidden.ensures.value) ∙ there)).1
+    (from_those (is_shown c.args.pred.now false) c.args.source.now.rows row (ap (λ r. has r.rows row) (sym c.in_ok-hidden.ensures.value) ∙ there)).1
 
 -- the rows that are still hidden, and the view
 made : (c : After-union) → IfOk c.union.result (λ after. after ≡ record c.args.source.now { rows = put_rows c.args.tree.now (holds c.args.pred.now) c.args.view.now.rows c.args.source.now.rows })

@@ -1,9 +1,8 @@
 use Rattle.std.proofs.Common.{◌≡◌, ◌∙◌, ap, subst, sym}
 use Rattle.std.specs.Prelude.{IfOk}
-use Rattle.lens_specs.specs.Lens.{base, select, drop, rename, join, view}
-use Rattle.lens_values.specs.SortedSet as set
-use Rattle.lens_specs.specs.Columns.{names}
-use Rattle.lens_specs.specs.Relation.{Relation}
+use Rattle.lens_specs.specs.Common.{base, select, drop, rename, view, names, Relation}
+use Rattle.lens_specs.specs.Lens.{join}
+use Rattle.plain_values.specs.SortedSet as set
 use Rattle.lens_laws.specs.Lenses.{IsTyped}
 use Rattle.whole_put.specs.Sources.{AreShown}
 use Rattle.whole_put.proofs.JoinedLenses.{shown_alike, shown_joined}

@@ -1,6 +1,6 @@
 use Rattle.std.proofs.Common.{◌≡◌, sym, ◌∙◌, subst, rules}
 use Rattle.std.specs.Prelude.{IfOk, length}
-use Rattle.lens_values.specs.SortedSet as set
+use Rattle.plain_values.specs.SortedSet as set
 use Rattle.key_index.specs.Lists.{rows_of}
 use Rattle.base_index.specs.Parts.{parts_of, to_come, to_go}
 use Rattle.base_index.proofs.Bodies.{none_hidden}

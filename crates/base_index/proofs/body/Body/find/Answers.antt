@@ -1,6 +1,6 @@
 use Rattle.std.proofs.Common.{◌≡◌, ap, sym, ◌∙◌, subst, rules, true, false}
 use Rattle.std.specs.Prelude.{IfOk}
-use Rattle.lens_values.specs.SortedSet as set
+use Rattle.plain_values.specs.SortedSet as set
 use Rattle.key_index.specs.Index.{has_key}
 use Rattle.key_index.specs.Key.{hash_key, key_of}
 use Rattle.key_index.specs.Lists.{IsTableOf, cols_of, rows_of}

@@ -1,5 +1,5 @@
 use Rattle.std.proofs.Common.{◌≡◌, ◌++◌, ◌∷◌, [], ap, sym, ◌∙◌, subst, rules, true}
-use Rattle.lens_values.specs.SortedSet as set
+use Rattle.plain_values.specs.SortedSet as set
 use Rattle.lens_specs.specs.Relation.{has}
 use Rattle.key_index.specs.Lists.{HasKeys}
 use Rattle.base_index.specs.Parts.{IsWhole, parts_of, rows_next, rows_seen}

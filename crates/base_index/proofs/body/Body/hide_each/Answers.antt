@@ -1,5 +1,5 @@
 use Rattle.std.proofs.Common.{ap, sym, ◌∙◌}
-use Rattle.lens_values.specs.SortedSet as set
+use Rattle.plain_values.specs.SortedSet as set
 use Rattle.lens_specs.specs.Relation.{has}
 use Rattle.base_index.specs.Parts.{parts_of, rows_next}
 use Rattle.key_index.proofs.Adding.{in_list_at}

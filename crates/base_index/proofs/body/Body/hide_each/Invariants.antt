@@ -1,5 +1,5 @@
 use Rattle.std.proofs.Common.{◌≡◌, take}
-use Rattle.lens_values.specs.SortedSet as set
+use Rattle.plain_values.specs.SortedSet as set
 use Rattle.key_index.specs.Lists.{set_of}
 use Rattle.base_index.specs.Parts.{IsWhole, Keeps, parts_of, rows_next}
 use Rattle.base_index.proofs.body.Body.hide_each.Given as goal

@@ -1,5 +1,5 @@
 use Rattle.std.proofs.Common.{ap, ◌∙◌, arith}
-use Rattle.lens_values.specs.SortedSet as set
+use Rattle.plain_values.specs.SortedSet as set
 use Rattle.key_index.specs.Lists.{rows_of}
 use Rattle.key_index.proofs.Fronts.{slice_behind}
 use Rattle.key_index.proofs.RowSets.{contained}

@@ -1,6 +1,5 @@
 use Rattle.std.proofs.Common.{ap, sym, ◌∙◌, subst}
-use Rattle.lens_specs.specs.Delta.{Applies, new_view}
-use Rattle.lens_specs.specs.Relation.{Fits}
+use Rattle.lens_specs.specs.Common.{Applies, new_view, Fits}
 use Rattle.base_index.specs.Parts.{IsWhole, Keeps, parts_of, rows_next, rows_seen}
 use Rattle.base_index.proofs.Bodies.{kept_itself}
 use Rattle.key_index.proofs.Groups.{on_ok}

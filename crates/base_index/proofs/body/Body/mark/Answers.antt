@@ -1,5 +1,5 @@
 use Rattle.std.proofs.Common.{◌≡◌, length, ap, sym, ◌∙◌, subst, rules}
-use Rattle.lens_values.specs.SortedSet as set
+use Rattle.plain_values.specs.SortedSet as set
 use Rattle.key_index.specs.Lists.{set_of}
 use Rattle.base_index.specs.Parts.{IsWhole, parts_of, rows_next, rows_seen}
 use Rattle.base_index.proofs.Bodies.{calm_next}

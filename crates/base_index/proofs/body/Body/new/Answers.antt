@@ -1,7 +1,7 @@
 use Rattle.std.proofs.Common.{ap, arith}
+use Rattle.std.proofs.lemmas.Bool.{false≢true}
 use Rattle.lens_specs.specs.Relation.{has}
 use Rattle.key_index.proofs.Fronts.{none_behind, none_back_of}
-use Rattle.key_index.proofs.Lists.{never}
 use Rattle.key_index.proofs.RowSets.{contained, same_rows}
 use Rattle.key_index.proofs.Whole.{no_indexes, none_keyed}
 use Rattle.base_index.proofs.body.Body.new.Goals as goal
@@ -9,7 +9,7 @@ use Rattle.base_index.proofs.body.Body.new.Goals as goal
 pub returns-clause-body : goal.returns-clause-body
 returns-clause-body c = record {
   index = no_indexes c.new.result c.new-4.result.items c.new-4.ensures.items;
-  fits = λ x there. let e = ap (λ s. has s x) c.new.ensures in absurd (never (grind (arith, contained, e, there)));
+  fits = λ x there. let e = ap (λ s. has s x) c.new.ensures in absurd (false≢true (grind (arith, contained, e, there)));
   add = none_keyed c.new-4.result.items c.new-5.result.items c.new-5.ensures.items;
   remove = none_keyed c.new-4.result.items c.new-6.result.items c.new-6.ensures.items;
   added = omega arith;
@@ -17,7 +17,7 @@ returns-clause-body c = record {
   hidden_there = λ x there. let e = ap (λ s. has s x) c.new-2.ensures in grind (arith, contained, e, there);
   hidden_old = λ x there. let e = ap (λ s. has s x) c.new-2.ensures in grind (arith, contained, e, there);
   hidden_listed = λ x there. let e = ap (λ s. has s x) c.new-2.ensures in grind (arith, contained, e, there);
-  hidden_marked = λ x there. let e = ap (λ s. has s x) c.new-2.ensures in absurd (never (grind (arith, contained, e, there)));
+  hidden_marked = λ x there. let e = ap (λ s. has s x) c.new-2.ensures in absurd (false≢true (grind (arith, contained, e, there)));
   going_there = λ x there. grind (arith, there, none_behind c.new-6.result.items 0 x (omega arith));
   going_old = λ x there. grind (arith, there, none_behind c.new-6.result.items 0 x (omega arith));
   going_hidden = λ _ x there. grind (arith, there, none_behind c.new-6.result.items 0 x (omega arith));

@@ -1,6 +1,6 @@
 use Rattle.std.proofs.Common.{◌∙◌}
 use Rattle.std.specs.Prelude.{not}
-use Rattle.lens_values.specs.SortedSet as set
+use Rattle.plain_values.specs.SortedSet as set
 use Rattle.lens_specs.specs.Relation.{has}
 use Rattle.signed_delta.proofs.Looks.{missing_are, passed_are, passed_rise}
 use Rattle.base_index.specs.Parts.{parts_of, to_go}

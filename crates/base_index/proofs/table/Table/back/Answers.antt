@@ -1,10 +1,10 @@
 use Rattle.std.proofs.Common.{ap, sym, ◌∙◌, take, arith}
 use Rattle.std.specs.Prelude.{None}
+use Rattle.std.proofs.lemmas.Bool.{false≢true}
 use Rattle.lens_specs.specs.Relation.{Rows}
 use Rattle.base_index.specs.Parts.{parts_of}
 use Rattle.base_index.specs.Stored.{Stored}
 use Rattle.base_index.proofs.Bodies.{held_rows, not_held}
-use Rattle.key_index.proofs.Lists.{never}
 use Rattle.key_index.proofs.Views.{same_cols}
 use Rattle.base_index.proofs.table.Table.back.Goals as goal
 
@@ -15,7 +15,7 @@ pub invariant_of-self : goal.invariant_of-self
 invariant_of-self c = record {
   body = c.back.ensures.whole;
   shown = omega (arith, c.self.invariant.shown, c.back.ensures.cols.many);
-  held = λ on. absurd (never (sym c.back.ensures.is_held ∙ on));
+  held = λ on. absurd (false≢true (sym c.back.ensures.is_held ∙ on));
   count = c.count-self-inside.ensures;
 }
 

@@ -1,6 +1,6 @@
 use Rattle.std.proofs.Common.{ap, sym, ◌∙◌, take, length, arith}
 use Rattle.std.specs.Prelude.{Some}
-use Rattle.lens_values.specs.SortedSet as set
+use Rattle.plain_values.specs.SortedSet as set
 use Rattle.base_index.specs.Parts.{parts_of}
 use Rattle.base_index.specs.Stored.{Stored}
 use Rattle.base_index.proofs.Bodies.{all_shown, free_is}

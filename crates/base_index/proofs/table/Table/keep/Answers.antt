@@ -1,10 +1,10 @@
 use Rattle.std.proofs.Common.{ap, sym, ◌∙◌, take, length, arith}
 use Rattle.std.specs.Prelude.{None}
-use Rattle.lens_values.specs.SortedSet as set
+use Rattle.std.proofs.lemmas.Bool.{false≢true}
+use Rattle.plain_values.specs.SortedSet as set
 use Rattle.base_index.specs.Parts.{parts_of}
 use Rattle.base_index.specs.Stored.{Stored}
 use Rattle.base_index.proofs.Bodies.{not_held}
-use Rattle.key_index.proofs.Lists.{never}
 use Rattle.key_index.proofs.Views.{same_cols}
 use Rattle.base_index.proofs.table.Table.keep.Goals as goal
 
@@ -15,7 +15,7 @@ pub invariant_of-self : goal.invariant_of-self
 invariant_of-self c = record {
   body = c.keep.ensures.whole;
   shown = omega (arith, c.self.invariant.shown, c.keep.ensures.cols.many);
-  held = λ on. absurd (never (sym c.keep.ensures.is_held ∙ on));
+  held = λ on. absurd (false≢true (sym c.keep.ensures.is_held ∙ on));
   count = c.self.invariant.count ∙ ap (λ s. length (set.items s)) (sym c.keep.ensures.seen);
 }
 

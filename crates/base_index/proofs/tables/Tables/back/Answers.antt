@@ -1,11 +1,11 @@
 use Rattle.std.proofs.Common.{◌≡◌, length, map, take, ap, sym, ◌∙◌, subst, refl, arith, true, false}
 use Rattle.std.proofs.lemmas.List.{length-map, take_all}
 use Rattle.std.specs.Prelude.{Option, Some, None, IsSome, is_some}
+use Rattle.std.proofs.lemmas.Bool.{false≢true}
 use Rattle.base_index.specs.HeldFields.{held_in, next_in, present_in}
 use Rattle.base_index.specs.Several.{AreApart, AreHeld, names_of, taken_back}
 use Rattle.base_index.proofs.Fields.{front_count, unstaged_apart}
 use Rattle.base_index.proofs.Holding.{back_held, front_held, held_is, names_back, next_back, present_back, held_unstaged, some_part, unstaged_held}
-use Rattle.key_index.proofs.Lists.{never}
 use Rattle.base_index.proofs.tables.Tables.back.Goals as goal
 
 some_of : {T : Type 0} (o : Option T) → IsSome o → is_some o ≡ true
@@ -29,8 +29,8 @@ invariant_of-self c =
       shown = omega (arith, count);
       apart = subst AreApart (sym (ap names_of c.back_each.ensures ∙ names_back before)) (unstaged_apart n ss before c.unstage_each.ensures c.self.invariant.apart);
       held = subst (AreHeld false) (sym c.back_each.ensures) (back_held before);
-      held_shown = λ off. absurd (never off);
-      held_indexes = λ off. absurd (never off);
+      held_shown = λ off. absurd (false≢true off);
+      held_indexes = λ off. absurd (false≢true off);
     }
 
 pub returns : goal.returns

@@ -1,12 +1,12 @@
 use Rattle.std.proofs.Common.{◌≡◌, length, take, ap, sym, ◌∙◌, subst, arith, false}
 use Rattle.std.proofs.lemmas.List.{length-map, take_all}
 use Rattle.std.specs.Prelude.{None}
+use Rattle.std.proofs.lemmas.Bool.{false≢true}
 use Rattle.base_index.specs.Held.{Held}
 use Rattle.base_index.specs.HeldFields.{next_in, present_in}
 use Rattle.base_index.specs.Several.{AreApart, AreHeld, AreQuiet, kept, names_of}
 use Rattle.base_index.proofs.Fields.{all_quiet, front_count, next_unstaged, present_unstaged, unstaged_apart}
 use Rattle.base_index.proofs.Holding.{kept_held, names_kept, next_kept, present_kept}
-use Rattle.key_index.proofs.Lists.{never}
 use Rattle.base_index.proofs.tables.Tables.keep.Goals as goal
 
 pub keep_each-requires : goal.keep_each-requires
@@ -23,8 +23,8 @@ invariant_of-self c =
       shown = omega (arith, count);
       apart = subst AreApart (sym (ap names_of c.keep_each.ensures ∙ names_kept before)) (unstaged_apart n ss before c.unstage_each.ensures c.self.invariant.apart);
       held = subst (AreHeld false) (sym c.keep_each.ensures) (kept_held before);
-      held_shown = λ off. absurd (never off);
-      held_indexes = λ off. absurd (never off);
+      held_shown = λ off. absurd (false≢true off);
+      held_indexes = λ off. absurd (false≢true off);
     }
 
 abbrev keeping_all : Held → Held

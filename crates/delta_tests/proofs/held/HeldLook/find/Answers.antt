@@ -1,7 +1,6 @@
 use Rattle.std.proofs.Common.{◌≡◌, ◌∙◌, ap, arith, length}
-use Rattle.lens_values.specs.SortedSet as set
-use Rattle.lens_specs.specs.Relation.{those}
-use Rattle.lens_specs.specs.Rows.{agree}
+use Rattle.plain_values.specs.SortedSet as set
+use Rattle.lens_specs.specs.Common.{those, agree}
 use Rattle.signed_delta.proofs.Counts.{those_len}
 use Rattle.signed_delta.proofs.Looks.{passed_are, passed_rise}
 use Rattle.delta_tests.proofs.held.HeldLook.find.Goals as goal

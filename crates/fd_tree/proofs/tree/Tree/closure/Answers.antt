@@ -1,8 +1,6 @@
 use Rattle.std.proofs.Common.{◌≡◌, ◌∙◌, ap, sym, subst}
 use Rattle.std.specs.Prelude.{IfOk}
-use Rattle.lens_specs.specs.Dependencies.{AllEdges, closure}
-use Rattle.lens_specs.specs.Names.{Names}
-use Rattle.lens_specs.specs.TreeForm.{with_right}
+use Rattle.lens_specs.specs.Common.{AllEdges, closure, Names, with_right}
 use Rattle.fd_tree.specs.Sides.{HasLeft}
 use Rattle.fd_tree.proofs.Closing.{closure_full}
 use Rattle.fd_tree.proofs.tree.Tree.closure.Goals as goal

@@ -1,7 +1,5 @@
 use Rattle.std.proofs.Common.{◌≡◌, ◌∙◌, ap, sym, subst}
-use Rattle.lens_specs.specs.Dependencies.{AllEdges}
-use Rattle.lens_specs.specs.Rename.{renamed_tree}
-use Rattle.lens_specs.specs.TreeForm.{outputs}
+use Rattle.lens_specs.specs.Common.{AllEdges, renamed_tree, outputs}
 use Rattle.fd_laws.specs.Trees.{IsTree}
 use Rattle.fd_tree.specs.Sides.{HasLeft}
 use Rattle.fd_tree.proofs.Renamed.{Lacks, tree_renamed, lefts_renamed}

@@ -1,6 +1,6 @@
 use Rattle.std.proofs.Common.{ap, sym, ◌∙◌, length, ⊎_elim}
 use Rattle.std.specs.Prelude.{◌==◌}
-use Rattle.lens_values.specs.SortedSet as set
+use Rattle.plain_values.specs.SortedSet as set
 use Rattle.key_index.specs.Group.{rows_in, singleton}
 use Rattle.key_index.proofs.Members.{none_empty, not_empty}
 use Rattle.key_index.proofs.group.Group.is_empty.Goals as goal

@@ -1,5 +1,5 @@
 use Rattle.std.proofs.Common.{ap, sym, ◌∙◌}
-use Rattle.lens_values.specs.SortedSet as set
+use Rattle.plain_values.specs.SortedSet as set
 use Rattle.key_index.specs.Group.{rows_in}
 use Rattle.key_index.proofs.Groups.{nothing_left}
 use Rattle.key_index.proofs.group.Members.without.Goals as goal

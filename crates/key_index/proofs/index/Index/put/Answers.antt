@@ -1,6 +1,6 @@
 use Rattle.std.proofs.Common.{ap, ◌∙◌, rules}
 use Rattle.std.specs.Prelude.{unwrap_or}
-use Rattle.lens_values.specs.SortedSet as set
+use Rattle.plain_values.specs.SortedSet as set
 use Rattle.key_index.proofs.Groups.{through, unchanged, on_ok, on_err}
 use Rattle.key_index.proofs.index.Index.put.Goals as goal
 

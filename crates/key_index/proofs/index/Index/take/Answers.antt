@@ -1,6 +1,6 @@
 use Rattle.std.proofs.Common.{ap, sym, ◌∙◌, rules}
 use Rattle.std.specs.Prelude.{unwrap_or}
-use Rattle.lens_values.specs.SortedSet as set
+use Rattle.plain_values.specs.SortedSet as set
 use Rattle.key_index.proofs.Members.{is_zero}
 use Rattle.key_index.proofs.Groups.{rows_at, through, nothing_taken, taken_empty}
 use Rattle.key_index.proofs.index.Index.take.Goals as goal

@@ -1,6 +1,6 @@
 use Rattle.std.proofs.Common.{◌≡◌, ◌∙◌, ◌<◌, arith, length}
 use Rattle.std.proofs.Math.ListN.{length-set}
-use Rattle.lens_values.specs.Part.{restrict}
+use Rattle.plain_values.specs.Part.{restrict}
 use Rattle.lens_probe.proofs.PartLists.{part_too}
 use Rattle.lens_probe.proofs.differing.Parts.add.Goals as goal
 

@@ -4,9 +4,8 @@ use Rattle.std.proofs.Math.ListN.{replicate}
 use Rattle.std.proofs.lemmas.Grind.{common_steps}
 use Rattle.std.proofs.lemmas.List.{length-replicate}
 use Rattle.std.specs.Ordering.{eq_by_cmp}
-use Rattle.lens_values.specs.Part.{restrict}
-use Rattle.lens_values.specs.Row.{row_cmp}
-use Rattle.lens_values.specs.declared.row.Row.{Row}
+use Rattle.plain_values.specs.Part.{restrict}
+use Rattle.plain_values.specs.Row.{row_cmp, Row}
 use Rattle.row_sets.specs.Members.{is_in}
 use Rattle.lens_probe.specs.KnownRows.{marked}
 use Rattle.lens_probe.specs.Unfiltered.{passes}

@@ -1,7 +1,7 @@
 use Rattle.std.proofs.Common.{◌≡◌, ◌++◌, filter, map}
 use Rattle.std.specs.Prelude.{option_map}
 use Rattle.std.specs.Vec.Iter.{into_iter_items}
-use Rattle.lens_values.specs.Part.{restrict}
+use Rattle.plain_values.specs.Part.{restrict}
 use Rattle.lens_probe.specs.KnownRows.{AreParts}
 use Rattle.lens_probe.specs.Unfiltered.{passes}
 use Rattle.lens_probe.proofs.differing.Parts.of.Given as goal

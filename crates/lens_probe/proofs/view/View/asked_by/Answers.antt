@@ -1,7 +1,6 @@
 use Rattle.std.proofs.Common.{◌≡◌, ◌∙◌, ap, sym}
 use Rattle.std.proofs.lemmas.List.Elements.{Contains-append_right}
-use Rattle.lens_specs.specs.Lens.{sort_of}
-use Rattle.lens_specs.specs.Sort.{Sort}
+use Rattle.lens_specs.specs.Common.{sort_of, Sort}
 use Rattle.lens_laws.specs.Asked.{left_sides}
 use Rattle.lens_probe.specs.Viewed.{Viewed, is_left_side}
 use Rattle.lens_probe.proofs.Sizes.{left_side_full, left_side_in}

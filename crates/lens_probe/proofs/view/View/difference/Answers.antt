@@ -1,5 +1,5 @@
 use Rattle.std.proofs.Common.{refl, subst, sym}
-use Rattle.lens_values.specs.SortedSet as set
+use Rattle.plain_values.specs.SortedSet as set
 use Rattle.lens_specs.specs.Lens.{sort_of, view_names}
 use Rattle.lens_probe.specs.KnownRows.{AreOver}
 use Rattle.lens_probe.proofs.KnownParts.{all_over}

@@ -1,5 +1,5 @@
 use Rattle.std.proofs.Common.{◌+◌, ◌*◌, ◌≤◌, arith, length, subst, sym}
-use Rattle.lens_values.specs.SortedSet as set
+use Rattle.plain_values.specs.SortedSet as set
 use Rattle.lens_laws.specs.Work.{size}
 use Rattle.lens_probe.specs.Viewed.{IsWithin, Viewed, viewed}
 use Rattle.lens_probe.proofs.NearRows.{near_looks}

@@ -1,9 +1,8 @@
 use Rattle.std.proofs.Common.{◌≡◌, ◌∙◌, IfOk, ap, arith, is_some, subst, sym}
 use Rattle.std.specs.List.{Contains}
-use Rattle.lens_values.specs.Part.{restrict}
-use Rattle.lens_values.specs.declared.row.Row.{Row}
-use Rattle.lens_specs.specs.Names.{Names}
-use Rattle.lens_specs.specs.Rows.{at, cut}
+use Rattle.plain_values.specs.Part.{restrict}
+use Rattle.plain_values.specs.Row.{Row}
+use Rattle.lens_specs.specs.Common.{Names, at, cut}
 use Rattle.fd_laws.proofs.Rows.{at-cut, cut_column}
 use Rattle.lens_laws.specs.KeyedDeltas.{find_by}
 use Rattle.signed_delta.specs.Keys.{HasColumns, IsKey}

@@ -1,8 +1,6 @@
 use Rattle.std.proofs.Common.{◌≡◌, ◌∙◌, ap, sym, subst, refl, false}
-use Rattle.lens_values.specs.SortedSet as set
-use Rattle.lens_specs.specs.Dependencies.{AllEdges}
-use Rattle.lens_specs.specs.Names.{one}
-use Rattle.lens_specs.specs.TreeForm.{tree_without}
+use Rattle.plain_values.specs.SortedSet as set
+use Rattle.lens_specs.specs.Common.{AllEdges, one, tree_without}
 use Rattle.lens_types.specs.Sorts.{sort_from}
 use Rattle.lens_types.proofs.Parts.{same_parts}
 use Rattle.lens_types.proofs.Projections.{projected_unread, projection_is_sound}

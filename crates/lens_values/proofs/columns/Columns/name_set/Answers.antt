@@ -1,10 +1,10 @@
 use Rattle.std.proofs.Common.{sym, ap, ◌∙◌}
 use Rattle.std.specs.Cmp.Lexicographic.{nat_list_cmp_total}
 use Rattle.std.specs.FinMap.{keys}
-use Rattle.lens_values.specs.Columns.{names}
-use Rattle.lens_values.specs.Order.{bytes_cmp}
-use Rattle.lens_values.specs.SortedMap.{keys_of, entries-from_entries}
-use Rattle.lens_values.specs.SortedSet.{from_list}
+use Rattle.plain_values.specs.Columns.{names}
+use Rattle.plain_values.specs.Order.{bytes_cmp}
+use Rattle.plain_values.specs.SortedMap.{keys_of, entries-from_entries}
+use Rattle.plain_values.specs.SortedSet.{from_list}
 use Rattle.lens_values.proofs.columns.Columns.name_set.Goals as goal
 
 pub returns : goal.returns

@@ -1,8 +1,9 @@
 use Rattle.std.proofs.Common.{sym, ap, ◌∙◌}
 use Rattle.std.specs.Prelude.{find, option_map, Ok}
 use Rattle.std.specs.FinMap.{get}
-use Rattle.lens_values.specs.Columns.{is_other_kind, union_from}
-use Rattle.lens_values.proofs.ColumnsLemmas.{clash_is}
+use Rattle.plain_values.specs.Columns.{is_other_kind}
+use Rattle.lens_values.specs.Unions.{union_from}
+use Rattle.plain_values.proofs.ColumnsLemmas.{clash_is}
 use Rattle.lens_values.proofs.columns.Columns.union.Goals as goal
 
 pub returns-in-Some-clause-gives : goal.returns-in-Some-clause-gives

@@ -2,8 +2,8 @@ use Rattle.std.proofs.Common.{sym, ap, ◌∙◌, subst}
 use Rattle.std.specs.Prelude.{◌↔◌, IsTrue}
 use Rattle.std.specs.List.{list_all}
 use Rattle.std.specs.FinMap.{get}
-use Rattle.lens_values.specs.Columns.{ColumnsWithin, is_kind}
-use Rattle.lens_values.proofs.ColumnsLemmas.{within_is}
+use Rattle.plain_values.specs.Columns.{ColumnsWithin, is_kind}
+use Rattle.plain_values.proofs.ColumnsLemmas.{within_is}
 use Rattle.lens_values.proofs.columns.Columns.within.Goals as goal
 
 pub returns : goal.returns

@@ -1,5 +1,5 @@
 use Rattle.std.proofs.Common.{◌∙◌}
-use Rattle.lens_values.proofs.NamesLemmas.{same_lists}
+use Rattle.plain_values.proofs.NamesLemmas.{same_lists}
 use Rattle.lens_values.proofs.names.Names.same.Goals as goal
 
 pub returns : goal.returns

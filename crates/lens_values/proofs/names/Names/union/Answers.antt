@@ -1,10 +1,10 @@
-use Rattle.std.proofs.Common.{◌≡◌, subst}
+use Rattle.std.proofs.Common.{◌≡◌, subst, map-id}
 use Rattle.std.specs.Prelude.{IfOk}
 use Rattle.std.specs.List.Sorted.{IsStrictlySortedBy}
-use Rattle.lens_values.specs.Order.{bytes_cmp}
+use Rattle.plain_values.specs.Order.{bytes_cmp}
 use Rattle.std.specs.Cmp.Lexicographic.{nat_list_cmp_total}
-use Rattle.lens_values.proofs.Maps.{exact}
-use Rattle.lens_values.proofs.Sets.{map-id, own_keys_rise, union_made}
+use Rattle.plain_values.proofs.Maps.{exact}
+use Rattle.plain_values.proofs.Sets.{own_keys_rise, union_made}
 use Rattle.lens_values.proofs.names.Names.union.Goals as goal
 
 pub union-requires-clause-left : goal.union-requires-clause-left

@@ -1,11 +1,11 @@
 use Rattle.std.proofs.Common.{sym, ◌∙◌}
 use Rattle.std.specs.List.{list_all}
 use Rattle.std.specs.Cmp.Lexicographic.{nat_list_cmp_total}
-use Rattle.lens_values.specs.Keys.{is_among}
-use Rattle.lens_values.specs.Order.{bytes_cmp}
-use Rattle.lens_values.specs.SortedSet.{is_subset, items, contains-items}
-use Rattle.lens_values.proofs.Maps.{exact}
-use Rattle.lens_values.proofs.Sets.{items_rise}
+use Rattle.plain_values.specs.Keys.{is_among}
+use Rattle.plain_values.specs.Order.{bytes_cmp}
+use Rattle.plain_values.specs.SortedSet.{is_subset, items, contains-items}
+use Rattle.plain_values.proofs.Maps.{exact}
+use Rattle.plain_values.proofs.Sets.{items_rise}
 use Rattle.lens_values.proofs.names.Names.within.Goals as goal
 
 pub are_among-requires-clause-names : goal.are_among-requires-clause-names

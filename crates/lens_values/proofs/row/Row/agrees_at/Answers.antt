@@ -1,6 +1,6 @@
 use Rattle.std.proofs.Common.{◌∙◌}
-use Rattle.lens_values.specs.Value.{same_value}
-use Rattle.lens_values.proofs.ValueLemmas.{eq-value_cmp}
+use Rattle.plain_values.specs.Value.{same_value}
+use Rattle.plain_values.proofs.ValueLemmas.{eq-value_cmp}
 use Rattle.lens_values.proofs.row.Row.agrees_at.Goals as goal
 
 pub returns-in-Some-Some : goal.returns-in-Some-Some

@@ -4,8 +4,8 @@ use Rattle.std.specs.FinMap.{from_entries}
 use Rattle.std.specs.List.{zip}
 use Rattle.std.specs.List.Sorted.{IsStrictlySortedBy}
 use Rattle.std.specs.Cmp.Lexicographic.{nat_list_cmp_total}
-use Rattle.lens_values.specs.Order.{bytes_cmp}
-use Rattle.lens_values.specs.SortedSet.{items, items-from_list}
+use Rattle.plain_values.specs.Order.{bytes_cmp}
+use Rattle.plain_values.specs.SortedSet.{items, items-from_list}
 use Rattle.lens_values.proofs.Cells.{lengths, zipped}
 use Rattle.lens_values.proofs.row.Row.from_rising.Goals as goal
 

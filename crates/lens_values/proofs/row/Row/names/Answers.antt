@@ -1,5 +1,5 @@
 use Rattle.std.proofs.Common.{ap, ◌∙◌}
-use Rattle.lens_values.specs.SortedSet as set
+use Rattle.plain_values.specs.SortedSet as set
 use Rattle.lens_values.proofs.Cells.{names_are}
 use Rattle.lens_values.proofs.row.Row.names.Goals as goal
 

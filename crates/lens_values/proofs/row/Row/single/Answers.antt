@@ -4,7 +4,7 @@ use Rattle.std.specs.Cmp.Lexicographic.{nat_list_cmp_total}
 use Rattle.std.specs.FinMap.{from_entries}
 use Rattle.std.specs.List.{zip}
 use Rattle.std.specs.List.Sorted.{IsStrictlySortedBy}
-use Rattle.lens_values.specs.SortedSet.{items, items-from_list}
+use Rattle.plain_values.specs.SortedSet.{items, items-from_list}
 use Rattle.lens_values.proofs.row.Row.single.Goals as goal
 
 pub from_values-requires : goal.from_values-requires

@@ -1,10 +1,9 @@
 use Rattle.std.proofs.Common.{◌≡◌, ◌∙◌, sym, ap, subst, refl, true}
-use Rattle.lens_values.specs.Columns.{kinds_differ}
-use Rattle.lens_values.specs.Part.{override}
-use Rattle.lens_values.specs.SortedSet as set
-use Rattle.lens_specs.specs.Columns.{both_columns, names}
-use Rattle.lens_specs.specs.Names.{Names}
-use Rattle.lens_specs.specs.Relation.{Columns, Fits, Rows, join_relations, natural}
+use Rattle.plain_values.specs.Columns.{kinds_differ}
+use Rattle.plain_values.specs.Part.{override}
+use Rattle.plain_values.specs.SortedSet as set
+use Rattle.lens_specs.specs.Common.{both_columns, names, Names, Columns, Fits, Rows}
+use Rattle.lens_specs.specs.Relation.{join_relations, natural}
 use Rattle.row_sets.specs.Joins.{pairs_on}
 use Rattle.row_sets.proofs.Natural.{joined_fit, natural_is}
 use Rattle.row_sets.proofs.relation.Relation.join.Goals as goal

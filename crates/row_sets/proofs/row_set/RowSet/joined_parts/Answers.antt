@@ -3,9 +3,9 @@ use Rattle.std.specs.Prelude.{filter, flat_map}
 use Rattle.std.specs.Ordering.{eq_by_cmp, is_eq}
 use Rattle.std.specs.List.{list_any}
 use Rattle.std.proofs.lemmas.Result.{IfOk-weaker}
-use Rattle.lens_values.specs.Part.{override, restrict}
-use Rattle.lens_values.specs.Row.{row_cmp}
-use Rattle.lens_values.specs.SortedSet as set
+use Rattle.plain_values.specs.Part.{override, restrict}
+use Rattle.plain_values.specs.Row.{row_cmp}
+use Rattle.plain_values.specs.SortedSet as set
 use Rattle.row_sets.specs.Joins.{entry_cmp, with_key}
 use Rattle.row_sets.proofs.Pairs.{parts_paired}
 use Rattle.row_sets.proofs.row_set.RowSet.joined_parts.Goals as goal

@@ -1,7 +1,7 @@
 use Rattle.std.proofs.Common.{◌≡◌, ◌∙◌, ◌∷◌, ◌++◌, ap, sym, rules}
 use Rattle.std.specs.Prelude.{codes}
 use Rattle.std.proofs.lemmas.Result.{on_ok_weaker}
-use Rattle.lens_values.specs.SortedSet as set
+use Rattle.plain_values.specs.SortedSet as set
 use Rattle.grammar_specs.specs.Meaning.{select, drop, rename, join}
 use Rattle.grammar_specs.specs.Tokens.{word}
 use Rattle.grammar_specs.specs.Printing.{operand_of, expr_written, predicate_written}

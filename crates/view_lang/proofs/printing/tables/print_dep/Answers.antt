@@ -1,6 +1,6 @@
 use Rattle.std.proofs.Common.{◌∷◌, ◌++◌, ◌∙◌, ap, map}
 use Rattle.std.proofs.lemmas.Result.{on_ok_weaker}
-use Rattle.lens_values.specs.SortedSet as set
+use Rattle.plain_values.specs.SortedSet as set
 use Rattle.grammar_specs.specs.Tokens.{word, arrow}
 use Rattle.view_lang.proofs.Printed.{adds_same, follow}
 use Rattle.view_lang.proofs.printing.tables.print_dep.Goals as goal

@@ -1,0 +1,13 @@
+pub mod Agreement
+pub mod ColumnsLemmas
+pub mod FitsLemmas
+pub mod Fronts
+pub mod Lists
+pub mod Maps
+pub mod NameLemmas
+pub mod NamesLemmas
+pub mod Parts
+pub mod Sets
+pub mod ShortLemmas
+pub mod Tests
+pub mod ValueLemmas
