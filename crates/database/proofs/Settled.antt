@@ -6,7 +6,7 @@ use Rattle.no_memory.specs.declared.NoMemory.{NoMemory}
 use Rattle.io_specs.specs.Calls.{Adds}
 use Rattle.io_specs.specs.Faults.{Rose}
 use Rattle.io_specs.proofs.Calls.{Adds-none, Adds-weaker}
-use Rattle.lens_specs.specs.Keeping.{CanChange, CanCommit, Change, Follows, Kept, Stays, Tells, changed}
+use Rattle.lens_specs.specs.Keeping.{CanChange, CanCommit, Change, Follows, Kept, Stays, IfObserved, changed}
 use Rattle.server_specs.specs.Answer.{Answer, memory, text}
 use Rattle.server_specs.specs.Session.{answered, not_stored}
 use Rattle.server_specs.specs.State.{State, kept}
@@ -28,16 +28,16 @@ use Rattle.database.specs.declared.database.Database.{Database}
 
 -- ---- what the keeper tells
 
-can_commit : (change : Change) (contents : Option Kept) (k : Kept) → Tells contents k → CanChange change k → CanCommit change contents
+can_commit : (change : Change) (contents : Option Kept) (k : Kept) → IfObserved contents k → CanChange change k → CanCommit change contents
 can_commit change None k told can = tt
 can_commit change (Some t) k told can = subst (CanChange change) (sym told) can
 
 -- a change that is staged can be committed
-pub staged_can : (staged : Staged) (database : Database) (contents : Option Kept) → IsStaged staged database → Tells contents (kept (state_of database)) → CanCommit (change_view (change_of staged.change)) contents
+pub staged_can : (staged : Staged) (database : Database) (contents : Option Kept) → IsStaged staged database → IfObserved contents (kept (state_of database)) → CanCommit (change_view (change_of staged.change)) contents
 staged_can staged database contents h told = can_commit (change_view (change_of staged.change)) contents (kept (state_of database)) told h.kept.1
 
 -- contents that follow the change are what is kept after it
-told_after : (change : Change) (contents contents' : Option Kept) (k k' : Kept) → Follows (λ a b. b ≡ changed change a) contents contents' → Tells contents k → changed change k ≡ k'
+told_after : (change : Change) (contents contents' : Option Kept) (k k' : Kept) → Follows (λ a b. b ≡ changed change a) contents contents' → IfObserved contents k → changed change k ≡ k'
     → Follows (λ _ now. now ≡ k') contents contents'
 told_after change None None k k' f told is = tt
 told_after change None (Some b) k k' f told is = absurd f
@@ -45,14 +45,14 @@ told_after change (Some a) None k k' f told is = absurd f
 told_after change (Some a) (Some b) k k' f told is = f ∙ ap (changed change) told ∙ is
 
 -- contents that stay are what was kept
-pub told_still : (contents contents' : Option Kept) (k : Kept) → Stays contents contents' → Tells contents k → Follows (λ _ now. now ≡ k) contents contents'
+pub told_still : (contents contents' : Option Kept) (k : Kept) → Stays contents contents' → IfObserved contents k → Follows (λ _ now. now ≡ k) contents contents'
 told_still None None k s told = tt
 told_still None (Some b) k s told = absurd s
 told_still (Some a) None k s told = absurd s
 told_still (Some a) (Some b) k s told = s ∙ told
 
 -- contents of a keeper that was not called
-pub told_untouched : (contents : Option Kept) (k : Kept) → Tells contents k → Follows (λ _ now. now ≡ k) contents contents
+pub told_untouched : (contents : Option Kept) (k : Kept) → IfObserved contents k → Follows (λ _ now. now ≡ k) contents contents
 told_untouched None k told = tt
 told_untouched (Some a) k told = told
 
@@ -68,7 +68,7 @@ still_ready old new contents s r =
         keyed = same_keyed old new s r.can.keyed;
         room = subst (λ version. version < 2 ^ 64 - 1) (sym s.version) r.can.room;
       };
-      told = subst (λ state. Tells contents (kept state)) same r.told;
+      told = subst (λ state. IfObserved contents (kept state)) same r.told;
     }
 
 -- ---- commits
@@ -89,13 +89,13 @@ not_done staged s a fault is = ((λ e. cc), (λ e. absurd (raised staged s a.1 i
 -- ---- outcomes
 
 -- nothing changes, and the answer is given
-pub outcome_unchanged : (answer : Answer × State) (s : State) (count : ℕ) (contents : Option Kept) (calls : Option (List Call)) (reply : List ℕ) → Valid s → Tells contents (kept s) → reply ≡ text answer.0 → answer.1 ≡ s
+pub outcome_unchanged : (answer : Answer × State) (s : State) (count : ℕ) (contents : Option Kept) (calls : Option (List Call)) (reply : List ℕ) → Valid s → IfObserved contents (kept s) → reply ≡ text answer.0 → answer.1 ≡ s
     → Outcome answer s s count count contents contents calls calls (Ok reply)
 outcome_unchanged answer s count contents calls reply v told r is =
     record { valid = v; later = omega arith; told = told_untouched contents (kept s) told; ok = answered r (sym is); err = tt; commits = Adds-none _ calls (refl, inl is) }
 
 -- memory ran out before the keeper was called
-pub outcome_given_up : (answer : Answer × State) (s : State) (count : ℕ) (contents : Option Kept) (calls : Option (List Call)) (result : Result (List ℕ) NoMemory) → IsErr result → Valid s → Tells contents (kept s)
+pub outcome_given_up : (answer : Answer × State) (s : State) (count : ℕ) (contents : Option Kept) (calls : Option (List Call)) (result : Result (List ℕ) NoMemory) → IsErr result → Valid s → IfObserved contents (kept s)
     → Outcome answer s s count count contents contents calls calls result
 outcome_given_up answer s count contents calls (Ok reply) is v told = absurd (true≢false (sym is))
 outcome_given_up answer s count contents calls (Err e) is v told =
@@ -103,7 +103,7 @@ outcome_given_up answer s count contents calls (Err e) is v told =
 
 -- the change is made
 pub outcome_made : (staged : Staged) (database : Database) (answer : Answer × State) (count count' : ℕ) (contents contents' : Option Kept) (calls calls' : Option (List Call)) (reply : List ℕ) → IsStaged staged database
-    → Tells contents (kept (state_of database)) → Follows (λ a b. b ≡ changed (change_view (change_of staged.change)) a) contents contents' → AddsEnded calls calls' Commit None count' → count ≤ count'
+    → IfObserved contents (kept (state_of database)) → Follows (λ a b. b ≡ changed (change_view (change_of staged.change)) a) contents contents' → AddsEnded calls calls' Commit None count' → count ≤ count'
     → reply ≡ text answer.0 → answer.1 ≡ after staged (state_of database) → (new : State) → new ≡ after staged (state_of database)
     → Outcome answer (state_of database) new count count' contents contents' calls calls' (Ok reply)
 outcome_made staged database answer count count' contents contents' calls calls' reply h told follows call later r is new became = record {
@@ -117,7 +117,7 @@ outcome_made staged database answer count count' contents contents' calls calls'
 
 -- the keeper failed, or lacked memory
 pub outcome_failed : (fault : KeepFault) (result : Result (List ℕ) NoMemory) (staged : Staged) (database : Database) (answer : Answer × State) (count count' : ℕ) (contents contents' : Option Kept) (calls calls' : Option (List Call))
-    → NotKept fault result → Valid (state_of database) → Tells contents (kept (state_of database)) → Stays contents contents' → AddsEnded calls calls' Commit (Some fault) count' → count ≤ count' → (fault ≡ keep.Failed → Rose count count')
+    → NotKept fault result → Valid (state_of database) → IfObserved contents (kept (state_of database)) → Stays contents contents' → AddsEnded calls calls' Commit (Some fault) count' → count ≤ count' → (fault ≡ keep.Failed → Rose count count')
     → answer.1 ≡ after staged (state_of database) → (new : State) → new ≡ state_of database → Outcome answer (state_of database) new count count' contents contents' calls calls' result
 outcome_failed keep.Failed (Ok reply) staged database answer count count' contents contents' calls calls' told v tells stays call later rose is new same =
     subst (λ s. Outcome answer (state_of database) s count count' contents contents' calls calls' (Ok reply)) (sym same)

@@ -2,7 +2,7 @@
 use Rattle.std.specs.Prelude.{◌≡◌, ◌≤◌, ℕ, List, Option, Result, Ok, Err, IfOk, OnErr}
 use Rattle.no_memory.specs.declared.NoMemory.{NoMemory}
 use Rattle.io_specs.specs.Calls.{Adds}
-use Rattle.lens_specs.specs.Keeping.{Kept, Follows, Tells}
+use Rattle.lens_specs.specs.Keeping.{Kept, Follows, IfObserved}
 use Rattle.server_specs.specs.State.{State, kept}
 use Rattle.server_specs.specs.Answer.{Answer, memory, store_fault, text}
 use Rattle.server_specs.specs.Session.{Becomes}
@@ -18,7 +18,7 @@ use Rattle.database.specs.declared.database.Database.{Database}
 -- A line can be answered: any request can, and the keeper, where it tells its contents, has those of the state.
 pub record IsReady (database : Database) (contents : Option Kept) : Type 0 where
   pub can : CanAnswer database
-  pub told : Tells contents (kept (state_of database))
+  pub told : IfObserved contents (kept (state_of database))
 
 -- the reply is that of the store where the keeper failed, and memory ran out where it lacked memory
 abbrev pub NotKept : KeepFault → Result (List ℕ) NoMemory → Type 0

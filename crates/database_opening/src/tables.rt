@@ -3,7 +3,7 @@ ghost use Rattle.std.specs.Prelude.{◌≡◌, ◌&&◌, ◌++◌, IfOk, find, n
 ghost use Rattle.std.specs.FinMap as finmap;
 ghost use Rattle.plain_values.specs.SortedSet as set;
 ghost use Rattle.lens_specs.specs.Predicate.{holds};
-ghost use Rattle.lens_specs.specs.Sort.{clash};
+ghost use Rattle.lens_specs.specs.Sort.{violating_pair};
 ghost use Rattle.catalog_specs.specs.Catalogue.{catalogue};
 ghost use Rattle.opening_specs.specs.Opening.{clash_of_table, damage_among, damage_at, damage_of_rows, first_bad, is_fit, table_sort_of};
 ghost use Rattle.table_keeper.specs.Changes.{names_of};
@@ -160,7 +160,7 @@ fn clash_in(
     rows: &RowSet,
 ) -> Result<Option<Damage>, NoMemory>
     ensures { IfOk result (λ damage. option_map damage_view damage
-        ≡ option_map (clash_of_table table.now) (clash edges.now rows.now)) }
+        ≡ option_map (clash_of_table table.now) (violating_pair edges.now rows.now)) }
 {
     match first_clash(alloc, edges, rows)? {
         Some(found) => Ok(Some(Damage::ClashIn {

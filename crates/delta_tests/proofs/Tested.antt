@@ -24,8 +24,8 @@ no_clash None e = refl
 no_clash (Some c) e = cc
 
 -- rows that clash nowhere meet the tree
-pub met : (T : List Edge) (M : Rows) (none : Bool) → is_some (shown_clash (spec.clash T M)) ≡ not none → none ≡ true → MeetsTree M T
-met T M none is so = clash_none T M (no_clash (spec.clash T M) (is ∙ ap not so))
+pub met : (T : List Edge) (M : Rows) (none : Bool) → is_some (shown_clash (spec.violating_pair T M)) ≡ not none → none ≡ true → MeetsTree M T
+met T M none is so = clash_none T M (no_clash (spec.violating_pair T M) (is ∙ ap not so))
 
 -- edges whose sides are all tested to lie within the columns do
 pub within_all : (U : Names) (T : List Edge) → list_all (λ (e : Edge). set.is_subset e.left U && set.is_subset e.right U) T ≡ true → EdgesWithin U T

@@ -6,7 +6,7 @@ use Rattle.std.proofs.lemmas.Bool.{and_parts, or_cases}
 use Rattle.plain_values.specs.Part.{restrict}
 use Rattle.plain_values.specs.Row.{row_cmp, Row}
 use Rattle.plain_values.specs.SortedSet as set
-use Rattle.lens_specs.specs.Common.{Columns, Fits, names, AppliesTo, Delta, new_view, AllEdges, Edge, Meets, MeetsTree, Name, Names, Within, Predicate, Relation, Rows, has, minus, project, union, agree, at, cut, IsOf, IsOfSort, Sort, clash, first_pair, off}
+use Rattle.lens_specs.specs.Common.{Columns, Fits, names, AppliesTo, Delta, new_view, AllEdges, Edge, Meets, MeetsTree, Name, Names, Within, Predicate, Relation, Rows, has, minus, project, union, agree, at, cut, IsOf, IsOfSort, Sort, violating_pair, first_pair, violating_row}
 use Rattle.lens_specs.specs.Sort as spec
 use Rattle.lens_specs.specs.Sort.{clash_of}
 use Rattle.fd_laws.proofs.Common.{fits_names, from_minus, from_project, from_union, in_those, same_rel, sets, agree-cut, agree_back, agree_itself, agree_on, agree_within, row_itself, tied_row, each_edge}
@@ -53,12 +53,12 @@ no_pair : (e : Edge) (o : Option (Row × Row)) → None ≡ shown_clash (clash_o
 no_pair e None is = refl
 no_pair e (Some p) is = cc
 
-pub found_pair : (e : Edge) (M : Rows) (found : Clash) → Some found ≡ shown_clash (clash (e ∷ []) M) → Some (found.first, found.second) ≡ first_pair e (set.items M)
-unfolding clash
+pub found_pair : (e : Edge) (M : Rows) (found : Clash) → Some found ≡ shown_clash (violating_pair (e ∷ []) M) → Some (found.first, found.second) ≡ first_pair e (set.items M)
+unfolding violating_pair
 found_pair e M found is = pair_shown e (first_pair e (set.items M)) found is
 
-pub found_none : (e : Edge) (M : Rows) → None ≡ shown_clash (clash (e ∷ []) M) → None ≡ first_pair e (set.items M)
-unfolding clash
+pub found_none : (e : Edge) (M : Rows) → None ≡ shown_clash (violating_pair (e ∷ []) M) → None ≡ first_pair e (set.items M)
+unfolding violating_pair
 found_none e M is = no_pair e (first_pair e (set.items M)) is
 
 -- what is found by each of the added rows
@@ -156,15 +156,15 @@ none_shown (Some c) is = cc
 
 module _ (s : Sort) (M : Relation) (d : Delta) (is : IsOfSort M s) where
   -- the least refused row of the new view is the least refused added row
-  pub new_off : (P : Predicate) (A : Rows) (o : Option Row) → P ≡ s.predicate → A ≡ d.add → o ≡ off P A → off s.predicate (new_view M.rows d) ≡ o
-  new_off P A o same added found = (edit_checks_are s M.rows d is.1).0 ∙ sym (found ∙ (λ i. off (same i) (added i)))
+  pub new_off : (P : Predicate) (A : Rows) (o : Option Row) → P ≡ s.predicate → A ≡ d.add → o ≡ violating_row P A → violating_row s.predicate (new_view M.rows d) ≡ o
+  new_off P A o same added found = (edit_checks_are s M.rows d is.1).0 ∙ sym (found ∙ (λ i. violating_row (same i) (added i)))
 
   -- the first clash of the new view is the one near the added rows
-  pub new_clash : (T : List Edge) (o p : Option Clash) → T ≡ s.tree → p ≡ shown_clash (edit_clash T M.rows d) → p ≡ o → shown_clash (clash s.tree (new_view M.rows d)) ≡ o
+  pub new_clash : (T : List Edge) (o p : Option Clash) → T ≡ s.tree → p ≡ shown_clash (edit_clash T M.rows d) → p ≡ o → shown_clash (violating_pair s.tree (new_view M.rows d)) ≡ o
   new_clash T o p same found is_o = ap shown_clash (edit_checks_are s M.rows d is.1).1 ∙ sym (ap (λ F. shown_clash (edit_clash F M.rows d)) same) ∙ sym found ∙ is_o
 
   -- where neither is there, the new view is of the sort
-  pub new_is_of : AppliesTo d M → off s.predicate (new_view M.rows d) ≡ None → shown_clash (clash s.tree (new_view M.rows d)) ≡ None → IsOf (new_view M.rows d) s
+  pub new_is_of : AppliesTo d M → violating_row s.predicate (new_view M.rows d) ≡ None → shown_clash (violating_pair s.tree (new_view M.rows d)) ≡ None → IsOf (new_view M.rows d) s
   new_is_of applies none met = record {
     columns = λ r i. elim (from_new_view M.rows d r i) [ inl old ↦ is.1.columns r old.0 | inr new ↦ subst (λ U. Fits U r) is.0 (applies.1 r new) ];
     off = none;

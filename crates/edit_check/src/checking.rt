@@ -11,7 +11,7 @@ ghost use Rattle.lens_specs.specs.Names.{Within};
 ghost use Rattle.lens_specs.specs.Predicate.{holds};
 ghost use Rattle.lens_specs.specs.Relation.{has, minus, project, union};
 ghost use Rattle.lens_specs.specs.Rows.{agree, at};
-ghost use Rattle.lens_specs.specs.Sort.{IsOfSort, first_pair, off};
+ghost use Rattle.lens_specs.specs.Sort.{IsOfSort, first_pair, violating_row};
 ghost use Rattle.lens_laws.specs.Checks.{edit_clash, near};
 ghost use Rattle.fd_tree.specs.ClashView.{shown_clash};
 ghost use Rattle.edit_check.specs.Checked.{IsChecked};
@@ -59,7 +59,7 @@ pub fn check_edit<K: Look, L: Ledger>(
 
 // The least row that the predicate refuses.
 fn least_refused<'a>(pred: &Pred, rows: &'a RowSet) -> Option<&'a Row>
-    ensures { option_copied result ≡ off pred.now rows.now }
+    ensures { option_copied result ≡ violating_row pred.now rows.now }
 {
     first_refused(pred, rows.rows())
 }

@@ -9,7 +9,7 @@ ghost use Rattle.lens_specs.specs.Dependencies.{AllEdges, Edge as EdgeOf};
 ghost use Rattle.lens_specs.specs.Rename.{renamed_tree};
 ghost use Rattle.lens_specs.specs.TreeForm as spec;
 ghost use Rattle.lens_specs.specs.TreeForm.{tree_of, tree_without};
-ghost use Rattle.lens_specs.specs.Sort.{clash};
+ghost use Rattle.lens_specs.specs.Sort.{violating_pair};
 ghost use Rattle.fd_laws.specs.Trees.{IsTree};
 ghost use Rattle.fd_closure.specs.Sides.{coded_edge};
 ghost use Rattle.fd_tree.specs.ClashView.{shown_clash};
@@ -125,7 +125,7 @@ impl Tree {
     /// The first of the edges that the relation violates, with the least pair of its rows; `None`
     /// where it meets all.
     pub fn meets(&self, alloc: Global, relation: &Relation) -> Result<Option<Clash>, NoMemory>
-        ensures { IfOk result (λ found. found ≡ shown_clash (clash self.now relation.now.rows)) }
+        ensures { IfOk result (λ found. found ≡ shown_clash (violating_pair self.now relation.now.rows)) }
     {
         first_clash(alloc, &self.edges, relation.rows())
     }

@@ -16,7 +16,7 @@ use Rattle.lens_laws.specs.Work.{count_of}
 use Rattle.lens_specs.specs.Common.{Lens, Tables, base, drop, rename, rows_or_none, select, sort_of, tables_of, Name, Names, one, Relation, Rows}
 use Rattle.lens_specs.specs.Lens.{join}
 use Rattle.server_specs.specs.Answer.{Answer}
-use Rattle.sheet_specs.specs.Sheets.{unsheet}
+use Rattle.csv_specs.specs.Sheets.{unsheet}
 use Rattle.server_specs.specs.Exporting.{import_settled, read_settled}
 use Rattle.server_specs.specs.Batching.{batch_answer, edits_from}
 use Rattle.server_specs.specs.Changing.{tested}

@@ -1,7 +1,7 @@
 -- The call of a start, by what came of it.
 use Rattle.std.proofs.Common.{◌≡◌, ℕ, List, [], ◌∷◌, inl, inr}
 use Rattle.std.specs.Prelude.{Option, Err}
-use Rattle.lens_specs.specs.Keeping.{Kept, Tells}
+use Rattle.lens_specs.specs.Keeping.{Kept, IfObserved}
 use Rattle.table_keeper.specs.Asking.{done_call, stopped_call}
 use Rattle.table_keeper.specs.declared.calls.Asked.TheVariants.{Load}
 use Rattle.table_keeper.specs.declared.calls.Call.{Call}
@@ -24,6 +24,6 @@ load_done (opening.Damaged damage) count calls is = is
 load_done opening.NoMemory count calls is = inl is
 
 -- what was loaded, where it does not open to a state
-pub start_told : (why : OpenFault) (contents : Option Kept) (k : Kept) → Tells contents k → IsDatabaseOf (Err why) k → Opens contents (Err (of_opening why))
+pub start_told : (why : OpenFault) (contents : Option Kept) (k : Kept) → IfObserved contents k → IsDatabaseOf (Err why) k → Opens contents (Err (of_opening why))
 start_told (opening.Damaged damage) contents k told is = (k, told, is)
 start_told opening.NoMemory contents k told is = tt

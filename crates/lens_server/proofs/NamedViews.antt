@@ -7,7 +7,7 @@ use Rattle.std.specs.declared.alloc.Global.{Global}
 use Rattle.signed_delta.specs.declared.delta.TableDelta.{TableDelta}
 use Rattle.std.specs.FinMap as finmap
 use Rattle.lens_specs.specs.Common.{Lens, Tables, sort_of, Name, Rows}
-use Rattle.sheet_specs.specs.Sheets.{unsheet}
+use Rattle.csv_specs.specs.Sheets.{unsheet}
 use Rattle.catalog_specs.specs.Catalogue.{catalogue}
 use Rattle.request_text.specs.Answers.{answer_view, edit_refusal_view}
 use Rattle.server_specs.specs.Answer.{Answer, told, unknown_name}

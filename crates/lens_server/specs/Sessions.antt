@@ -1,5 +1,5 @@
 -- The words of one line of a session: the step that it is, and what the keeper is asked and tells.
-pub use Rattle.lens_specs.specs.Keeping.{Follows, Stays, Tells}
+pub use Rattle.lens_specs.specs.Keeping.{Follows, Stays, IfObserved}
 pub use Rattle.io_specs.specs.Calls.{Adds}
 pub use Rattle.io_specs.specs.Faults.{Rose}
 pub use Rattle.io_specs.specs.Lines.{marked}

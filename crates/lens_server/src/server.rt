@@ -3,7 +3,7 @@ ghost use Rattle.std.specs.Prelude.{◌≡◌, ◌⊎◌, ◌≤◌, ◌<◌, �
 ghost use Rattle.server_specs.specs.State as state;
 ghost use Rattle.lens_server.specs.Counting.{most_looked, most_walked};
 ghost use Rattle.lens_server.specs.Databases.{IsKeyed, state_of};
-ghost use Rattle.lens_server.specs.Sessions.{Adds, CommitsFor, Follows, IsExportLine, ReadsBack, Rose, Stays, Step, Tells, Valid, answer, marked, memory, request, text};
+ghost use Rattle.lens_server.specs.Sessions.{Adds, CommitsFor, Follows, IsExportLine, ReadsBack, Rose, Stays, Step, IfObserved, Valid, answer, marked, memory, request, text};
 ghost use Rattle.database_opening.specs.Openings.{IsDatabaseOf};
 ghost use Rattle.lens_server.specs.Starting.{IsLoad, Opens};
 ghost use Rattle.lens_server.specs.StateCode.{coded_state};
@@ -80,7 +80,7 @@ impl Server {
         looked: &mut Steps<M>,
     ) -> Reply
         requires room { self.old.version < 2 ^ 64 - 1 }
-        requires told { Tells (K.contents keeper.old) (state.kept self.old) }
+        requires told { IfObserved (K.contents keeper.old) (state.kept self.old) }
         ensures step { Step self.old (K.faults keeper.old) (marked line.now) result self.new
             (K.faults keeper.new) }
         ensures told { Follows (λ _ now. now ≡ state.kept self.new) (K.contents keeper.old)

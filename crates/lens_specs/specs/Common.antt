@@ -11,12 +11,12 @@ unfoldable pub use Rattle.lens_specs.specs.Dependencies.{closure}
 pub use Rattle.lens_specs.specs.TreeForm.{TreeForm, is_tree, kept_edge, not_tree, reduce_all, reduce_edge, with_right}
 unfoldable pub use Rattle.lens_specs.specs.TreeForm.{outputs, tree_of, tree_without}
 pub use Rattle.lens_specs.specs.Predicate.{Formula, Formulas, Op, Predicate, all_of, any_of, compare, compare_columns, eq, falsity, formula_mentions, formulas, ge, gt, holds, le, lt, mentioned, mentions, names_in, names_of, names_of_all, ne, negation, no_formulas, null_at, one_of, truth, without_name}
-pub use Rattle.lens_specs.specs.Sort.{Clash, IsOf, IsOfSort, Sort, clash, clashes, first_pair, off}
+pub use Rattle.lens_specs.specs.Sort.{Clash, IsOf, IsOfSort, Sort, violating_pair, clashes, first_pair, violating_row}
 pub use Rattle.lens_specs.specs.Lens.{Lens, Tables, base, drop, drop_sort, join_sort, nodes_of, rename, rename_sort, rows_or_none, select, select_sort, sort_of, table, tree_or_none, view, view_names}
 unfoldable pub use Rattle.lens_specs.specs.Lens.{get, put, tables_of}
 pub use Rattle.lens_specs.specs.Delta.{Applies, AppliesTo, Delta, TableDelta, changes, differences, is_empty}
 unfoldable pub use Rattle.lens_specs.specs.Delta.{diff, new_view}
-pub use Rattle.lens_specs.specs.Keeping.{CanChange, Change, Follows, Kept, Tells, changed, rows, rows_at}
+pub use Rattle.lens_specs.specs.Keeping.{CanChange, Change, Follows, Kept, IfObserved, changed, rows, rows_at}
 pub use Rattle.lens_specs.specs.Nodes.{join_left_after, join_right_after}
 unfoldable pub use Rattle.lens_specs.specs.Nodes.{drop_get, drop_put, join_get, join_left, join_over, join_put_left, join_put_left_kept, join_put_right, join_right, rename_get, rename_put, select_get, select_put}
 pub use Rattle.lens_specs.specs.Refusal.{Refusal, first_mixed, is_column, kind_clash, or_else, tables_limit, too_large, too_much, unknown_column, unknown_name, unlike_kinds, unsteady, views_limit, when}

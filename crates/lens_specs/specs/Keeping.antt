@@ -54,9 +54,9 @@ abbrev pub Stays : Option Kept → Option Kept → Type 0
 Stays = Follows (λ old new. new ≡ old)
 
 -- the contents are these, if they are told
-abbrev pub Tells : Option Kept → Kept → Type 0
-Tells None kept = Unit {0}
-Tells (Some told) kept = told ≡ kept
+abbrev pub IfObserved : Option Kept → Kept → Type 0
+IfObserved None kept = Unit {0}
+IfObserved (Some told) kept = told ≡ kept
 
 -- each difference applies to a table that is there, and no later one is of the same table
 abbrev pub AllApply : List TableDelta → finmap.FinMap bytes_cmp Rows → Type 0

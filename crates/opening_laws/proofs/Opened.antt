@@ -13,7 +13,7 @@ use Rattle.plain_values.proofs.Lists.{all_from, all_at, find_none}
 use Rattle.plain_values.proofs.Tests.{map_none, none_is}
 use Rattle.fd_laws.proofs.Common.{name_total, name_exact, name_itself, tied_name, tied_row, row_itself}
 use Rattle.lens_laws.proofs.Sorts.{find_nothing, none_off, off_none}
-use Rattle.lens_specs.specs.Common.{Name, is_among, Columns, Fits, fits_at, Rows, Relation, has, holds, Sort, clash, IsOf, Tables, Lens, sort_of, Kept}
+use Rattle.lens_specs.specs.Common.{Name, is_among, Columns, Fits, fits_at, Rows, Relation, has, holds, Sort, violating_pair, IsOf, Tables, Lens, sort_of, Kept}
 use Rattle.lens_specs.specs.Keeping.{nothing}
 use Rattle.io_specs.specs.Lines.{Line}
 use Rattle.catalog_specs.specs.Catalogue.{Catalogue, catalogue, is_table_of}
@@ -98,17 +98,17 @@ no_bad s M h = find_nothing (λ r. not (is_fit s.columns r && holds s.predicate 
 -- rows with no damage are of the sort
 pub rows_whole : (q : Name) (s : Sort) (M : Rows) → damage_of_rows q s M ≡ None → IsOf M s
 rows_whole q s M e =
-    let w = or_none (option_map (bad_row q) (first_bad s M)) (option_map (clash_of_table q) (clash s.tree M)) e in
+    let w = or_none (option_map (bad_row q) (first_bad s M)) (option_map (clash_of_table q) (violating_pair s.tree M)) e in
     let good = none_bad s M (map_none (bad_row q) (first_bad s M) w.0) in
     record {
       columns = λ r i. fit_is s.columns r (good r i).0;
       off = none_off s.predicate M (λ r i. (good r i).1);
-      clash = map_none (clash_of_table q) (clash s.tree M) w.1;
+      clash = map_none (clash_of_table q) (violating_pair s.tree M) w.1;
     }
 
 -- and rows of the sort have none
 pub whole_rows : (q : Name) (s : Sort) (M : Rows) → IsOf M s → damage_of_rows q s M ≡ None
-whole_rows q s M h = none_or (option_map (bad_row q) (first_bad s M)) (option_map (clash_of_table q) (clash s.tree M)) (ap (option_map (bad_row q)) (no_bad s M h)) (ap (option_map (clash_of_table q)) h.clash)
+whole_rows q s M h = none_or (option_map (bad_row q) (first_bad s M)) (option_map (clash_of_table q) (violating_pair s.tree M)) (ap (option_map (bad_row q)) (no_bad s M h)) (ap (option_map (clash_of_table q)) h.clash)
 
 -- ---- the damage at a name
 

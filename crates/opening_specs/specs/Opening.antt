@@ -7,7 +7,7 @@ use Rattle.serde_json.specs.Written.{compact_text}
 use Rattle.plain_values.specs.Order.{bytes_cmp}
 use Rattle.plain_values.specs.SortedSet as set
 use Rattle.plain_values.specs.Row.{Row}
-use Rattle.lens_specs.specs.Common.{Name, Names, Columns, fits_at, Rows, Relation, holds, Sort, Clash, clash, Lens, sort_of, Kept, Tells}
+use Rattle.lens_specs.specs.Common.{Name, Names, Columns, fits_at, Rows, Relation, holds, Sort, Clash, violating_pair, Lens, sort_of, Kept, IfObserved}
 use Rattle.catalog_specs.specs.Catalogue.{Catalogue, catalogue, is_table_of}
 use Rattle.catalog_specs.specs.Judging.{first_refused}
 use Rattle.server_specs.specs.State.{State}
@@ -45,7 +45,7 @@ clash_of_table name found = clash_in name found.first found.second
 
 -- the least bad row of a table, or else its first clash
 abbrev pub damage_of_rows : Name → Sort → Rows → Option Damage
-damage_of_rows name sort rows = or_damage (option_map (bad_row name) (first_bad sort rows)) (option_map (clash_of_table name) (clash sort.tree rows))
+damage_of_rows name sort rows = or_damage (option_map (bad_row name) (first_bad sort rows)) (option_map (clash_of_table name) (violating_pair sort.tree rows))
 
 -- the damage at a name, by the sort of the table that is defined and the rows that are kept
 abbrev pub damage_at : Name → Option Sort → Option Rows → Option Damage
@@ -111,7 +111,7 @@ opened kept = unless_damaged (first_damage kept) kept
 
 -- what was loaded is told, where the contents are told, and opens to this
 abbrev pub IsOpened : Option Kept → Result State Damage → Type 0
-IsOpened contents result = (loaded : Kept) × Tells contents loaded × (opened loaded ≡ result)
+IsOpened contents result = (loaded : Kept) × IfObserved contents loaded × (opened loaded ≡ result)
 
 -- ---- the line that tells a damage
 

@@ -10,7 +10,7 @@ use Rattle.plain_values.specs.Order.{bytes_cmp}
 use Rattle.plain_values.specs.Row.{row_cmp, Row}
 use Rattle.plain_values.specs.SortedSet as set
 use Rattle.plain_values.specs.declared.value.Kind.{Kind}
-use Rattle.lens_specs.specs.Common.{Columns, AppliesTo, Delta, diff, new_view, AllEdges, Edge, Lens, Tables, base, sort_of, Name, Names, Predicate, holds, Fits, Relation, Rows, has, minus, IsOfSort, Sort, off}
+use Rattle.lens_specs.specs.Common.{Columns, AppliesTo, Delta, diff, new_view, AllEdges, Edge, Lens, Tables, base, sort_of, Name, Names, Predicate, holds, Fits, Relation, Rows, has, minus, IsOfSort, Sort, violating_row}
 use Rattle.lens_specs.specs.Sort as spec
 use Rattle.plain_values.proofs.Lists.{all_at}
 use Rattle.fd_laws.proofs.Common.{name_exact, name_itself, name_total, sets, row_itself, tied_row}
@@ -46,7 +46,7 @@ columns_same U V there back = finmap.same_map name_total name_exact U V (λ c. s
 -- ---- rows
 
 -- the predicate refuses none of rows that are all tested to pass it
-pub none_refused : (P : Predicate) (M : Rows) → list_all (holds P) (set.items M) ≡ true → off P M ≡ None
+pub none_refused : (P : Predicate) (M : Rows) → list_all (holds P) (set.items M) ≡ true → violating_row P M ≡ None
 none_refused P M all = none_off P M (λ r i. all_at (eq_by_cmp row_cmp) tied_row row_itself (holds P) (set.items M) all r (sym (set.contains-items M r) ∙ i))
 
 -- no clash is shown

@@ -3,7 +3,7 @@ use Rattle.std.proofs.Common.{◌≡◌, ◌≢◌, ◌≤◌, ◌+◌, ℕ, Lis
 use Rattle.std.specs.Prelude.{None, Some, Option, Result, Ok, Err, OnErr, Bool, true, false, not, if◌then◌else◌, count_by}
 use Rattle.std.specs.List.{AllByRecursion}
 use Rattle.std.proofs.lemmas.List.Sums.{sum_by-append, count_by-le-length}
-use Rattle.lens_specs.specs.Keeping.{Kept, Follows, Tells}
+use Rattle.lens_specs.specs.Keeping.{Kept, Follows, IfObserved}
 use Rattle.io_specs.specs.Calls.{Adds}
 use Rattle.io_specs.specs.Lines.{Line}
 use Rattle.io_specs.proofs.Calls.{Adds-none}
@@ -27,13 +27,13 @@ use Rattle.rehearsal.proofs.Joined.{Session-append, Session-one, commits-append,
 abbrev IsStored : State → Option Kept → Option Kept → Type 0
 IsStored s = Follows (λ _ now. now ≡ kept s)
 
-told_now : (s : State) (contents contents' : Option Kept) → IsStored s contents contents' → Tells contents' (kept s)
+told_now : (s : State) (contents contents' : Option Kept) → IsStored s contents contents' → IfObserved contents' (kept s)
 told_now s None None h = tt
 told_now s None (Some now) h = absurd h
 told_now s (Some old) None h = absurd h
 told_now s (Some old) (Some now) h = h
 
-stored_same : (s : State) (contents : Option Kept) → Tells contents (kept s) → IsStored s contents contents
+stored_same : (s : State) (contents : Option Kept) → IfObserved contents (kept s) → IsStored s contents contents
 stored_same s None h = tt
 stored_same s (Some now) h = h
 
@@ -74,7 +74,7 @@ counted-one t t' accepts reply is same =
     is ∙ tally_by t accepts ∙ ap (λ b. record { accepted = t.accepted + (0 + (if b then 1 else 0)); refused = t.refused + (0 + (if not b then 1 else 0)) }) same
 
 -- nothing was answered yet
-pub Passed-nil : (p : Point) → Tells p.contents (kept p.state) → Passed p [] [] p
+pub Passed-nil : (p : Point) → IfObserved p.contents (kept p.state) → Passed p [] [] p
 Passed-nil p told = record { session = Session-nil p.state p.faults; found_memory = tt; counted_are = counted-nil p.tally; stored = stored_same p.state p.contents told; commits = Adds-none _ p.calls refl; few = omega arith; few_looked = omega arith }
 
 -- a stage after another
@@ -103,7 +103,7 @@ Passed-step a b l reply step found count stored commits few few_looked = record 
   few_looked = few-one most_looked a.state a.faults l reply b.state b.faults step a.looked b.looked few_looked;
 }
 
-pub told-Passed : (a b : Point) (lines : List Line) (replies : List (List ℕ)) → Passed a lines replies b → Tells b.contents (kept b.state)
+pub told-Passed : (a b : Point) (lines : List Line) (replies : List (List ℕ)) → Passed a lines replies b → IfObserved b.contents (kept b.state)
 told-Passed a b lines replies p = told_now b.state a.contents b.contents p.stored
 
 pub Room-Passed : (a b : Point) (lines : List Line) (replies : List (List ℕ)) (most more : ℕ) → HasRoom a.state.version a.tally most → Passed a lines replies b → length lines + more ≤ most
@@ -140,7 +140,7 @@ ends-none [] p = tt
 ends-none (x ∷ xs) p = (λ _. p.0, ends-none xs p.1)
 
 -- before the first line
-pub Halted-first : (p : Point) (lines : List Line) → Tells p.contents (kept p.state) → Halted p lines p
+pub Halted-first : (p : Point) (lines : List Line) → IfObserved p.contents (kept p.state) → Halted p lines p
 Halted-first p lines told = record { taken = []; rest = lines; front = refl; replies = []; session = Session-nil p.state p.faults; ends = tt; stored = stored_same p.state p.contents told; commits = Adds-none _ p.calls refl; few = omega arith; few_looked = omega arith }
 
 -- after the last line

@@ -1,7 +1,7 @@
 //! The rehearsal through the server.
 ghost use Rattle.std.specs.Prelude.{◌≡◌, ◌≤◌, ◌<◌, ◌+◌, ◌*◌, ◌-◌, ◌^◌, [], ◌∷◌, length, map, string_bytes, IfOk, OnOk, OnErr};
 ghost use Rattle.std.specs.List.{flat_map};
-ghost use Rattle.lens_specs.specs.Keeping.{Follows, Tells};
+ghost use Rattle.lens_specs.specs.Keeping.{Follows, IfObserved};
 ghost use Rattle.io_specs.specs.Lines.{marked};
 ghost use Rattle.server_specs.specs.State as state;
 ghost use Rattle.rehearsal.specs.Rehearsal.{below, definition_lines, read_line, read_lines, rehearsal, table_lines, view_lines};
@@ -32,7 +32,7 @@ pub fn rehearse<K: Keeper, L: Ledger, M: Ledger>(
     looked: &mut Steps<M>,
 ) -> Result<Vec<u8>, NoMemory>
     requires room { server.old.version + 3 * number + 6 < 2 ^ 64 - 1 }
-    requires told { Tells (K.contents keeper.old) (state.kept server.old) }
+    requires told { IfObserved (K.contents keeper.old) (state.kept server.old) }
     ensures done { IfOk result (λ line. (done : Rehearsed server.old (K.faults keeper.old)
         (rehearsal number) line.items server.new (K.faults keeper.new) (K.calls keeper.old)
         (K.calls keeper.new) walked.old walked.new)
@@ -64,7 +64,7 @@ fn define<K: Keeper, L: Ledger, M: Ledger>(
     tally: &mut Tally,
 ) -> Result<(), NoMemory>
     requires room { HasRoom server.old.version tally.old 3 }
-    requires told { Tells (K.contents keeper.old) (state.kept server.old) }
+    requires told { IfObserved (K.contents keeper.old) (state.kept server.old) }
     ensures done { OnOk result (Passes
         (at server.old (K.faults keeper.old) (K.contents keeper.old)
         (K.calls keeper.old) tally.old walked.old looked.old)
@@ -102,7 +102,7 @@ fn fill_tables<K: Keeper, L: Ledger, M: Ledger>(
     tally: &mut Tally,
 ) -> Result<(), NoMemory>
     requires room { HasRoom server.old.version tally.old (2 * number) }
-    requires told { Tells (K.contents keeper.old) (state.kept server.old) }
+    requires told { IfObserved (K.contents keeper.old) (state.kept server.old) }
     ensures done { OnOk result (Passes
         (at server.old (K.faults keeper.old) (K.contents keeper.old)
         (K.calls keeper.old) tally.old walked.old looked.old)
@@ -143,7 +143,7 @@ fn edit_view<K: Keeper, L: Ledger, M: Ledger>(
     tally: &mut Tally,
 ) -> Result<(), NoMemory>
     requires room { HasRoom server.old.version tally.old number }
-    requires told { Tells (K.contents keeper.old) (state.kept server.old) }
+    requires told { IfObserved (K.contents keeper.old) (state.kept server.old) }
     ensures done { OnOk result (Passes
         (at server.old (K.faults keeper.old) (K.contents keeper.old)
         (K.calls keeper.old) tally.old walked.old looked.old)
@@ -183,7 +183,7 @@ fn read_all<K: Keeper, L: Ledger, M: Ledger>(
     tally: &mut Tally,
 ) -> Result<Shown, NoMemory>
     requires room { HasRoom server.old.version tally.old 3 }
-    requires told { Tells (K.contents keeper.old) (state.kept server.old) }
+    requires told { IfObserved (K.contents keeper.old) (state.kept server.old) }
     ensures done { IfOk result (λ shown. Shows
         (at server.old (K.faults keeper.old) (K.contents keeper.old)
         (K.calls keeper.old) tally.old walked.old looked.old)
@@ -220,7 +220,7 @@ fn read<K: Keeper, L: Ledger, M: Ledger>(
 ) -> Result<usize, NoMemory>
     requires short { length view.now ≤ 64 }
     requires room { HasRoom server.old.version tally.old 1 }
-    requires told { Tells (K.contents keeper.old) (state.kept server.old) }
+    requires told { IfObserved (K.contents keeper.old) (state.kept server.old) }
     ensures done { IfOk result (λ rows. Answers
         (at server.old (K.faults keeper.old) (K.contents keeper.old)
         (K.calls keeper.old) tally.old walked.old looked.old)
@@ -258,7 +258,7 @@ fn ask_each<K: Keeper, L: Ledger, M: Ledger>(
     tally: &mut Tally,
 ) -> Result<(), NoMemory>
     requires room { HasRoom server.old.version tally.old (length lines.now) }
-    requires told { Tells (K.contents keeper.old) (state.kept server.old) }
+    requires told { IfObserved (K.contents keeper.old) (state.kept server.old) }
     ensures done { OnOk result (Passes
         (at server.old (K.faults keeper.old) (K.contents keeper.old)
         (K.calls keeper.old) tally.old walked.old looked.old)
@@ -298,7 +298,7 @@ fn ask<K: Keeper, L: Ledger, M: Ledger>(
     tally: &mut Tally,
 ) -> Result<usize, NoMemory>
     requires room { HasRoom server.old.version tally.old 1 }
-    requires told { Tells (K.contents keeper.old) (state.kept server.old) }
+    requires told { IfObserved (K.contents keeper.old) (state.kept server.old) }
     ensures done { IfOk result (λ rows. Answers
         (at server.old (K.faults keeper.old) (K.contents keeper.old)
         (K.calls keeper.old) tally.old walked.old looked.old)

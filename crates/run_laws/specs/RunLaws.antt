@@ -32,7 +32,7 @@ use Rattle.server_laws.specs.UndoLaws.{AreIn, befores_after, move, taken_back}
 use Rattle.server_laws.specs.UpdateLaws.{RestsOnExport, RestsOnRead}
 use Rattle.lens_io.specs.Calls.{Call as Take}
 use Rattle.lens_io.specs.declared.told.Offer.{Offer}
-use Rattle.command_words.specs.Settings.{Settings}
+use Rattle.arguments.specs.Settings.{Settings}
 use Rattle.table_keeper.specs.declared.calls.Call.{Call}
 use Rattle.serving.specs.Running.{Runs}
 

@@ -7,7 +7,7 @@ use Rattle.serde_json.specs.Data.{Data, null, boolean, number, string, array, ob
 use Rattle.plain_values.specs.Row.{Row}
 use Rattle.plain_values.specs.declared.value.Kind.{Kind}
 use Rattle.plain_values.specs.declared.value.Value.{Value}
-use Rattle.lens_specs.specs.Common.{Name, Rows, off, Clash, clash as first_clash, Tables, Lens, sort_of, get, put as put_rows, TableDelta, changes, differences, Refusal, too_large}
+use Rattle.lens_specs.specs.Common.{Name, Rows, violating_row, Clash, violating_pair, Tables, Lens, sort_of, get, put as put_rows, TableDelta, changes, differences, Refusal, too_large}
 use Rattle.io_specs.specs.Lines as lines
 use Rattle.io_specs.specs.Lines.{Line, line}
 use Rattle.grammar_specs.specs.Meaning.{Definition, table, view}
@@ -34,8 +34,8 @@ use Rattle.server_specs.specs.Answering.{answer, answer_request}
 use Rattle.server_laws.specs.Answers.{IsRefusal, IsFailure, IsAccepted, IsChange, told_version, version_of_refusal}
 use Rattle.server_laws.specs.AnswerLaws.{IsQuestion}
 use Rattle.server_laws.specs.PutLaws.{AllFit}
-use Rattle.sheet_specs.specs.Sheets.{unsheet}
-use Rattle.sheet_specs.proofs.Fitting.{unsheet_fits}
+use Rattle.csv_specs.specs.Sheets.{unsheet}
+use Rattle.csv_specs.proofs.Fitting.{unsheet_fits}
 
 -- the answer r to a state s, where it may be only a question
 pub record IsSaid (s : State) (question : Type 0) (r : Answer × State) : Type 0 where
@@ -143,7 +143,7 @@ clash_last s (Some c) rows why e = same_present s (refusals.clash c.edge c.first
 tested_present : (s : State) (L : Lens) (on : Option ℕ) (r : Result Rows EditRefusal) → AllPresent s r → AllPresent s (tested s L on r)
 tested_present s L on (Err bad) h why e = h why e
 tested_present s L on (Ok N) h why e = stale_first s (is_stale s L on) (changed_at s L) (of_sort (sort_of L) N)
-    (off_first s (off (sort_of L).predicate N) (unless_clash (first_clash (sort_of L).tree N) N) (clash_last s (first_clash (sort_of L).tree N) N)) why e
+    (off_first s (violating_row (sort_of L).predicate N) (unless_clash (violating_pair (sort_of L).tree N) N) (clash_last s (violating_pair (sort_of L).tree N) N)) why e
 
 -- rows that are read and then refused tell the state's version, if any
 read_present : (s : State) (L : Lens) (on : Option ℕ) (M : Rows) → AllPresent s (tested s L on (Ok M))

@@ -5,7 +5,7 @@ use Rattle.plain_values.specs.SortedSet as set
 use Rattle.plain_values.specs.Row.{Row}
 use Rattle.fd_laws.proofs.Relations.{from_union, from_minus}
 use Rattle.lens_laws.proofs.Lenses.{get_sort}
-use Rattle.lens_specs.specs.Common.{Rows, minus, Sort, off, Clash, clash as first_clash, IsOf, Lens, sort_of, get, new_view}
+use Rattle.lens_specs.specs.Common.{Rows, minus, Sort, violating_row, Clash, violating_pair, IsOf, Lens, sort_of, get, new_view}
 use Rattle.server_specs.specs.State.{State}
 use Rattle.server_specs.specs.EditRefusal.{EditRefusal, Listed, in_rows, in_remove, in_add}
 use Rattle.server_specs.specs.Sending.{BadRow, rows_in}
@@ -25,15 +25,15 @@ not_clash None M N e = (refl, cc)
 not_clash (Some c) M N e = cc
 
 -- what passes is what was tested: the predicate refuses no row of it, and no rows clash
-pub passed_sort : (t : Sort) (M N : Rows) → of_sort t M ≡ Ok N → (M ≡ N) × (off t.predicate M ≡ None) × (first_clash t.tree M ≡ None)
+pub passed_sort : (t : Sort) (M N : Rows) → of_sort t M ≡ Ok N → (M ≡ N) × (violating_row t.predicate M ≡ None) × (violating_pair t.tree M ≡ None)
 passed_sort t M N e =
-    let a = not_off (off t.predicate M) (unless_clash (first_clash t.tree M) M) N e in
-    let b = not_clash (first_clash t.tree M) M N a.1 in
+    let a = not_off (violating_row t.predicate M) (unless_clash (violating_pair t.tree M) M) N e in
+    let b = not_clash (violating_pair t.tree M) M N a.1 in
     (b.1, a.0, b.0)
 
 -- and what is so passes
-pub passes_sort : (t : Sort) (N : Rows) → off t.predicate N ≡ None → first_clash t.tree N ≡ None → of_sort t N ≡ Ok N
-passes_sort t N none met = ap (λ o. unless_off o (unless_clash (first_clash t.tree N) N)) none ∙ ap (λ c. unless_clash c N) met
+pub passes_sort : (t : Sort) (N : Rows) → violating_row t.predicate N ≡ None → violating_pair t.tree N ≡ None → of_sort t N ≡ Ok N
+passes_sort t N none met = ap (λ o. unless_off o (unless_clash (violating_pair t.tree N) N)) none ∙ ap (λ c. unless_clash c N) met
 
 -- the rows that come, if any do, are of the lens's sort
 abbrev pub GivesTyped : Lens → Result Rows EditRefusal → Type 0

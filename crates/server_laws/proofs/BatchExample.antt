@@ -12,7 +12,7 @@ use Rattle.plain_values.proofs.Lists.{absurd_false}
 use Rattle.fd_laws.proofs.Common.{name_total, name_itself, from_those}
 use Rattle.lens_laws.proofs.Deltas.{from_new_view, in_new_view_added}
 use Rattle.lens_laws.proofs.Sorts.{none_clash, none_off}
-use Rattle.lens_specs.specs.Common.{Delta, TableDelta, changes, new_view, get, put as put_rows, sort_of, rows_or_none, table as rows_of_table, select_get, holds, Relation, Rows, has, clash, tree_of}
+use Rattle.lens_specs.specs.Common.{Delta, TableDelta, changes, new_view, get, put as put_rows, sort_of, rows_or_none, table as rows_of_table, select_get, holds, Relation, Rows, has, violating_pair, tree_of}
 use Rattle.io_specs.specs.Lines.{Line, line}
 use Rattle.server_specs.specs.Answer.{text, told}
 use Rattle.server_specs.specs.Answering.{answer}
@@ -80,7 +80,7 @@ sends_view = by_rows (edited no_items items) (record { asked = edit_asked; lens 
 view_fits : AllFit U M
 view_fits r i = all_fit r (subst (λ q. has N q ≡ true) (sym (only_row r i)) there)
 
-no_clash : clash (sort_of V).tree M ≡ None
+no_clash : violating_pair (sort_of V).tree M ≡ None
 unfolding tree_of
 no_clash = none_clash [] M tt
 

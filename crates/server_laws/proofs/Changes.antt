@@ -22,8 +22,8 @@ use Rattle.server_specs.specs.Changing.{Sent, whole, edited, as_set, set_in, edi
 use Rattle.server_specs.specs.Batching.{batch_settled}
 use Rattle.server_specs.specs.Undoing.{undone}
 use Rattle.server_specs.specs.Exporting.{import_settled, imported_by, read_settled}
-use Rattle.sheet_specs.specs.Sheets.{unsheet}
-use Rattle.sheet_specs.proofs.Fitting.{unsheet_fits}
+use Rattle.csv_specs.specs.Sheets.{unsheet}
+use Rattle.csv_specs.proofs.Fitting.{unsheet_fits}
 use Rattle.server_specs.specs.Answering.{answer, answer_request}
 use Rattle.server_specs.specs.Validity.{Valid}
 use Rattle.server_laws.proofs.AnswerFacts.{asked_refuses}

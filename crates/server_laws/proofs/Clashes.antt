@@ -11,7 +11,7 @@ use Rattle.fd_laws.proofs.Rows.{row_total, row_exact}
 use Rattle.lens_laws.proofs.Sorts.{clash_none}
 use Rattle.lens_laws.specs.Checks.{IsClash, IsLeastClash, IsFirstClash}
 use Rattle.lens_laws.proofs.EditChecks.{later_both}
-use Rattle.lens_specs.specs.Common.{Rows, Edge, Meets, MeetsTree, Clash, clash}
+use Rattle.lens_specs.specs.Common.{Rows, Edge, Meets, MeetsTree, Clash, violating_pair}
 
 -- two rows that are both no later are one
 pub least_is_one : (a b : Row) (o : Ordering) → row_cmp a b ≡ o → o ≢ Greater → row_cmp b a ≢ Greater → a ≡ b
@@ -60,6 +60,6 @@ first_is_one : (T : List Edge) (M : Rows) (c d : Clash) → IsFirstClash 0 T M c
 first_is_one T M c d a b = unique M 0 c d a.before a.after b.before b.after (sym a.parts ∙ b.parts) a.place b.place a.met b.met a.least b.least
 
 -- a clash that is the first is the one that is found
-pub clash_of_first : (T : List Edge) (M : Rows) (c : Clash) → IsFirstClash 0 T M c → (o : Option Clash) → clash T M ≡ o → o ≡ Some c
+pub clash_of_first : (T : List Edge) (M : Rows) (c : Clash) → IsFirstClash 0 T M c → (o : Option Clash) → violating_pair T M ≡ o → o ≡ Some c
 clash_of_first T M c a None is = absurd (met_not_first M a.before c.edge a.after c.first c.second (subst (MeetsTree M) a.parts (clash_none T M is)) a.least.clash)
 clash_of_first T M c a (Some d) is = ap Some (first_is_one T M d c (clash_is T M d is) a)

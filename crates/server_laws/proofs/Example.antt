@@ -16,7 +16,7 @@ use Rattle.plain_values.specs.declared.value.Value.TheVariants.{Int}
 use Rattle.plain_values.proofs.Lists.{absurd_false}
 use Rattle.fd_laws.proofs.Common.{name_total, name_itself, from_those, row_total, tied_row, row_itself}
 use Rattle.lens_laws.proofs.Sorts.{none_clash, none_off}
-use Rattle.lens_specs.specs.Common.{Name, Columns, Fits, Rows, Relation, has, gt, compare, Predicate, holds, mentions, Refusal, unknown_column, or_else, when, too_large, tables_limit, views_limit, unknown_name, unlike_kinds, unsteady, outputs, tree_of, clash, sort, table_sort, select_fault, unless_refused, select_get, Lens, select, select_sort, sort_of, get, rows_or_none, table as rows_of_table}
+use Rattle.lens_specs.specs.Common.{Name, Columns, Fits, Rows, Relation, has, gt, compare, Predicate, holds, mentions, Refusal, unknown_column, or_else, when, too_large, tables_limit, views_limit, unknown_name, unlike_kinds, unsteady, outputs, tree_of, violating_pair, sort, table_sort, select_fault, unless_refused, select_get, Lens, select, select_sort, sort_of, get, rows_or_none, table as rows_of_table}
 use Rattle.plain_values.proofs.FitsLemmas.{fits_same, fits_cond}
 use Rattle.plain_values.proofs.ValueLemmas.{int_fits}
 use Rattle.plain_values.proofs.Tests.{or_no}
@@ -204,7 +204,7 @@ row_holds = ap (λ o. compared gt o (Some (Int (pos 0))) && true) (finmap.get-fr
 rows_put : IsPut state v V N
 rows_put = record { valid = valid; lens = known_view; rows = all_fit }
 
-none_clashes : clash (sort_of V).tree N ≡ None
+none_clashes : violating_pair (sort_of V).tree N ≡ None
 unfolding tree_of
 none_clashes = none_clash [] N tt
 

@@ -21,9 +21,9 @@ use Rattle.fd_laws.proofs.Common.{name_total, row_total}
 use Rattle.lens_specs.specs.Common.{get, has}
 use Rattle.io_specs.specs.Lines.{Line, line}
 use Rattle.catalog_specs.specs.Catalogue.{catalogue}
-use Rattle.sheet_specs.specs.Fields.{field_of}
-use Rattle.sheet_specs.specs.SheetLaws.{AreRight, is_right}
-use Rattle.sheet_specs.specs.Sheets.{record_of, sheet, text_of}
+use Rattle.csv_specs.specs.Fields.{field_of}
+use Rattle.csv_specs.specs.SheetLaws.{AreRight, is_right}
+use Rattle.csv_specs.specs.Sheets.{record_of, sheet, text_of}
 use Rattle.server_specs.specs.State.{State}
 use Rattle.server_specs.specs.Answer.{exported, text}
 use Rattle.server_specs.specs.Request.{export, import, request}

@@ -6,8 +6,8 @@ use Rattle.plain_values.specs.SortedSet as set
 use Rattle.lens_specs.specs.Common.{Lens, get, sort_of, tables_of, Name, Rows}
 use Rattle.io_specs.specs.Lines.{Line}
 use Rattle.catalog_specs.specs.Catalogue.{catalogue}
-use Rattle.sheet_specs.specs.Sheets.{sheet, unsheet}
-use Rattle.sheet_specs.proofs.RoundTrip.{sheets_read_back}
+use Rattle.csv_specs.specs.Sheets.{sheet, unsheet}
+use Rattle.csv_specs.proofs.RoundTrip.{sheets_read_back}
 use Rattle.plain_values.specs.Value.{is_nullable}
 use Rattle.plain_values.specs.declared.value.Kind.{Kind}
 use Rattle.plain_values.proofs.Lists.{none_found}

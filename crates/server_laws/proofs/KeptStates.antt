@@ -2,7 +2,7 @@
 use Rattle.std.proofs.Common.{◌≡◌, ◌-◌, ℕ, length, List, [], ◌∷◌, Option, Some, None, Result, Ok, Err, is_some, refl, sym, ap, subst}
 use Rattle.std.specs.Prelude.{slice_get}
 use Rattle.std.specs.FinMap as finmap
-use Rattle.lens_specs.specs.Common.{Name, Rows, off, clash, Tables, Lens, sort_of, TableDelta, changes, differences, Change, rows, LeadTo, inverted}
+use Rattle.lens_specs.specs.Common.{Name, Rows, violating_row, violating_pair, Tables, Lens, sort_of, TableDelta, changes, differences, Change, rows, LeadTo, inverted}
 use Rattle.grammar_specs.specs.Meaning.{Definition, table, view}
 use Rattle.grammar_laws.specs.Reading.{reading}
 use Rattle.lens_specs.specs.Keeping.{define}
@@ -34,7 +34,7 @@ use Rattle.server_laws.specs.KeptLaws.{KeptFollows, table_made}
 use Rattle.server_laws.specs.PutLaws.{put_set}
 
 pub puts_kept : (s : State) → Valid s → (name : Name) (L : Lens) → finmap.get (catalogue s.texts) name ≡ Some L
-    → (N : Rows) → off (sort_of L).predicate N ≡ None → clash (sort_of L).tree N ≡ None → KeptFollows (rows (changes L N s.tables)) s (put_set N L s).1
+    → (N : Rows) → violating_row (sort_of L).predicate N ≡ None → violating_pair (sort_of L).tree N ≡ None → KeptFollows (rows (changes L N s.tables)) s (put_set N L s).1
 puts_kept s v name L e N none met = subst (λ r. KeptFollows (rows (changes L N s.tables)) s r.1) (sym (put_is_accept N L s none met))
     (accept_is_kept L N s (are_there L s.tables (lens_here s v name L e).are) (changes L N s.tables) refl)
 

@@ -18,7 +18,7 @@ use Rattle.server_specs.specs.Answering.{answer, answer_request}
 use Rattle.server_specs.specs.Session.{Exchange, Chain, Session, last_state, last_count}
 use Rattle.server_specs.specs.Validity.{Valid}
 use Rattle.server_specs.specs.Exporting.{first_nullable, sheet_told}
-use Rattle.sheet_specs.specs.Sheets.{sheet}
+use Rattle.csv_specs.specs.Sheets.{sheet}
 use Rattle.server_laws.proofs.Exports.{export_is, exports_sheets}
 use Rattle.server_laws.proofs.AnswerFacts.{asked_refuses, of_import, read_refuses}
 use Rattle.server_laws.proofs.Asked.{asked_is, read_fresh}

@@ -15,7 +15,7 @@ use Rattle.fd_laws.proofs.Names.{name_total, name_exact, name_itself, tied_name,
 use Rattle.lens_laws.specs.Checks.{IsOff}
 use Rattle.lens_laws.specs.Edits.{AreDiffs}
 use Rattle.lens_laws.specs.Lenses.{AreOf}
-use Rattle.lens_specs.specs.Common.{Name, is_among, Rows, Predicate, holds, Edge, Sort, off, Clash, clash as first_clash, IsOf, Tables, Lens, base, select, drop, rename, sort_of, tables_of, table, rows_or_none, get, put, TableDelta, diff, is_empty, differences, changes}
+use Rattle.lens_specs.specs.Common.{Name, is_among, Rows, Predicate, holds, Edge, Sort, violating_row, Clash, violating_pair, IsOf, Tables, Lens, base, select, drop, rename, sort_of, tables_of, table, rows_or_none, get, put, TableDelta, diff, is_empty, differences, changes}
 use Rattle.lens_specs.specs.Lens.{join}
 use Rattle.catalog_specs.specs.Catalogue.{catalogue}
 use Rattle.server_specs.specs.State.{State}
@@ -87,16 +87,16 @@ passes None (Some c) L N s h = absurd h
 passes (Some r) c L N s h = absurd h
 
 -- where nothing is refused, a put is `accept`
-pub put_is_accept : (N : Rows) (L : Lens) (s : State) → off (sort_of L).predicate N ≡ None → first_clash (sort_of L).tree N ≡ None → put_set N L s ≡ accept (put L N s.tables) (changes L N s.tables) s
+pub put_is_accept : (N : Rows) (L : Lens) (s : State) → violating_row (sort_of L).predicate N ≡ None → violating_pair (sort_of L).tree N ≡ None → put_set N L s ≡ accept (put L N s.tables) (changes L N s.tables) s
 put_is_accept N L s none met = ap (λ r. settled r L s) (passes_sort (sort_of L) N none met)
 
 -- an accepted put, as `accept`
 pub accepted_is : (L : Lens) (N : Rows) (s : State) → IsAccepted (put_set N L s).0 → put_set N L s ≡ accept (put L N s.tables) (changes L N s.tables) s
-accepted_is L N s h = let w = passes (off (sort_of L).predicate N) (first_clash (sort_of L).tree N) L N s h in put_is_accept N L s w.0 w.1
+accepted_is L N s h = let w = passes (violating_row (sort_of L).predicate N) (violating_pair (sort_of L).tree N) L N s h in put_is_accept N L s w.0 w.1
 
 typed_of : (L : Lens) (N : Rows) (s : State) → AllFit (sort_of L).columns N → IsAccepted (put_set N L s).0 → IsOf N (sort_of L)
 typed_of L N s fits h =
-    let w = passes (off (sort_of L).predicate N) (first_clash (sort_of L).tree N) L N s h in
+    let w = passes (violating_row (sort_of L).predicate N) (violating_pair (sort_of L).tree N) L N s h in
     record { columns = fits; off = w.0; clash = w.1 }
 
 pub accepted_where : (L : Lens) (N : Rows) (s : State) → AllFit (sort_of L).columns N → IsAccepted (put_set N L s).0 ↔ IsOf N (sort_of L)
@@ -115,11 +115,11 @@ either_case None (Some c) L N s = inr (inr (c.edge, c.first, c.second, refl))
 either_case (Some row) c L N s = inr (inl (row, refl))
 
 pub accepted_or_refused : (L : Lens) (N : Rows) (s : State) → IsSettled s (put_set N L s)
-accepted_or_refused L N s = either_case (off (sort_of L).predicate N) (first_clash (sort_of L).tree N) L N s
+accepted_or_refused L N s = either_case (violating_row (sort_of L).predicate N) (violating_pair (sort_of L).tree N) L N s
 
 -- ---- what is refused for a row
 
-off_of_least : (P : Predicate) (N : Rows) (row : Row) → IsOff (holds P) N row → (o : Option Row) → off P N ≡ o → o ≡ Some row
+off_of_least : (P : Predicate) (N : Rows) (row : Row) → IsOff (holds P) N row → (o : Option Row) → violating_row P N ≡ o → o ≡ Some row
 off_of_least P N row w None is = absurd (true≢false (sym (off_none P N is row w.there) ∙ w.refused))
 off_of_least P N row w (Some r) is =
     let v = off_is P N r is in
@@ -132,8 +132,8 @@ refusing (Some r) c L N s row e = let f : off_predicate r ≡ off_predicate row 
 
 pub refused_by : (L : Lens) (N : Rows) (s : State) (row : Row) → (put_set N L s ≡ (off_predicate row, s)) ↔ IsOff (holds (sort_of L).predicate) N row
 refused_by L N s row = (
-  λ e. off_is (sort_of L).predicate N row (refusing (off (sort_of L).predicate N) (first_clash (sort_of L).tree N) L N s row e),
-  λ w. ap (λ o. by_tests o (first_clash (sort_of L).tree N) L N s) (off_of_least (sort_of L).predicate N row w (off (sort_of L).predicate N) refl),
+  λ e. off_is (sort_of L).predicate N row (refusing (violating_row (sort_of L).predicate N) (violating_pair (sort_of L).tree N) L N s row e),
+  λ w. ap (λ o. by_tests o (violating_pair (sort_of L).tree N) L N s) (off_of_least (sort_of L).predicate N row w (violating_row (sort_of L).predicate N) refl),
 )
 
 -- ---- what is refused for a clash
@@ -160,7 +160,7 @@ clashing (Some r) c L N s edge first second e = let f : off_predicate r ≡ clas
 
 clashes_from : (L : Lens) (N : Rows) (s : State) (edge : Edge) (first second : Row) → put_set N L s ≡ (clash edge first second, s) → IsFirstClashOf (sort_of L) N edge first second
 clashes_from L N s edge first second e =
-    let w = clashing (off (sort_of L).predicate N) (first_clash (sort_of L).tree N) L N s edge first second e in
+    let w = clashing (violating_row (sort_of L).predicate N) (violating_pair (sort_of L).tree N) L N s edge first second e in
     (off_none (sort_of L).predicate N w.not_off, (w.found, clash_is (sort_of L).tree N w.found w.is, w.edge_is, w.first_is, w.second_is))
 
 as_clash : (c : Clash) (edge : Edge) (first second : Row) (s : State) → c.edge ≡ edge → c.first ≡ first → c.second ≡ second → ◌≡◌ {A = Answer × State} (clash c.edge c.first c.second, s) (clash edge first second, s)
@@ -169,8 +169,8 @@ as_clash c edge first second s e f g = λ i. (clash (e i) (f i) (g i), s)
 pub clashes_by : (L : Lens) (N : Rows) (s : State) (edge : Edge) (first second : Row) → (put_set N L s ≡ (clash edge first second, s)) ↔ IsFirstClashOf (sort_of L) N edge first second
 clashes_by L N s edge first second = (
   clashes_from L N s edge first second,
-  λ h. ap (λ o. by_tests o (first_clash (sort_of L).tree N) L N s) (none_off (sort_of L).predicate N h.0)
-      ∙ ap (λ c. by_tests None c L N s) (clash_of_first (sort_of L).tree N h.1.0 h.1.1 (first_clash (sort_of L).tree N) refl)
+  λ h. ap (λ o. by_tests o (violating_pair (sort_of L).tree N) L N s) (none_off (sort_of L).predicate N h.0)
+      ∙ ap (λ c. by_tests None c L N s) (clash_of_first (sort_of L).tree N h.1.0 h.1.1 (violating_pair (sort_of L).tree N) refl)
       ∙ as_clash h.1.0 edge first second s h.1.2 h.1.3 h.1.4,
 )
 

@@ -1,7 +1,7 @@
 -- Over a session, an import of what an export gave changes nothing.
 use Rattle.std.proofs.Common.{◌∙◌, Some, Ok, ap, sym, subst}
 use Rattle.lens_specs.specs.Lens.{get, sort_of}
-use Rattle.sheet_specs.specs.Sheets.{sheet}
+use Rattle.csv_specs.specs.Sheets.{sheet}
 use Rattle.server_specs.specs.Request.{import}
 use Rattle.server_specs.specs.Changing.{is_stale}
 use Rattle.server_specs.specs.Session.{Chain, last_state}

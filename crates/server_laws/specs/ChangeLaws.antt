@@ -9,7 +9,7 @@ use Rattle.lens_laws.specs.Checks.{IsOff}
 use Rattle.lens_laws.specs.Edits.{AreDiffs}
 use Rattle.io_specs.specs.Lines.{Line}
 use Rattle.catalog_specs.specs.Catalogue.{catalogue}
-use Rattle.sheet_specs.specs.Sheets.{unsheet}
+use Rattle.csv_specs.specs.Sheets.{unsheet}
 use Rattle.server_specs.specs.State.{State}
 use Rattle.server_specs.specs.EditRefusal.{EditRefusal, in_remove}
 use Rattle.server_specs.specs.Answer.{shown, changed, stale, off_predicate, clash, unknown_name, bad_row, told}

@@ -1,7 +1,7 @@
 -- What a keeper keeps follows the states.
 use Rattle.std.specs.Prelude.{◌≡◌, List, ℕ, Option, Some, None, Ok}
 use Rattle.std.specs.FinMap as finmap
-use Rattle.lens_specs.specs.Common.{Name, Rows, off, clash, Lens, sort_of, changes, Change, rows, changed, CanChange}
+use Rattle.lens_specs.specs.Common.{Name, Rows, violating_row, violating_pair, Lens, sort_of, changes, Change, rows, changed, CanChange}
 use Rattle.grammar_specs.specs.Meaning.{Definition, table, view}
 use Rattle.io_specs.specs.Lines.{Line}
 use Rattle.grammar_laws.specs.Reading.{reading}
@@ -29,7 +29,7 @@ table_made (view name expr) = None
 -- a put that is not refused changes what is kept by its changes
 abbrev pub PutsAreKept : Type 0
 PutsAreKept = (s : State) → Valid s → (name : Name) (L : Lens) → finmap.get (catalogue s.texts) name ≡ Some L
-    → (N : Rows) → off (sort_of L).predicate N ≡ None → clash (sort_of L).tree N ≡ None → KeptFollows (rows (changes L N s.tables)) s (put_set N L s).1
+    → (N : Rows) → violating_row (sort_of L).predicate N ≡ None → violating_pair (sort_of L).tree N ≡ None → KeptFollows (rows (changes L N s.tables)) s (put_set N L s).1
 
 -- a definition that is taken is kept, with its table
 abbrev pub DefinitionsAreKept : Type 0

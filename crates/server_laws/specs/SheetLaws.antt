@@ -5,8 +5,8 @@ use Rattle.plain_values.specs.SortedSet as set
 use Rattle.lens_specs.specs.Common.{Name, Rows, Tables, Lens, sort_of, get, tables_of}
 use Rattle.io_specs.specs.Lines.{Line}
 use Rattle.catalog_specs.specs.Catalogue.{catalogue}
-use Rattle.sheet_specs.specs.SheetLaws.{AreRight}
-use Rattle.sheet_specs.specs.Sheets.{sheet, unsheet}
+use Rattle.csv_specs.specs.SheetLaws.{AreRight}
+use Rattle.csv_specs.specs.Sheets.{sheet, unsheet}
 use Rattle.server_specs.specs.State.{State}
 use Rattle.server_specs.specs.Answer.{exported, changed, unknown_name, nullable_column, bad_record}
 use Rattle.server_specs.specs.Request.{export, import, request}

@@ -15,7 +15,7 @@ use Rattle.server_specs.specs.Changing.{Sent, whole, edited, tested, asked_view,
 use Rattle.server_specs.specs.Batching.{edits_from, batch_settled}
 use Rattle.server_specs.specs.Undoing.{undone}
 use Rattle.server_specs.specs.Exporting.{first_nullable, read_settled, import_settled, imported_by}
-use Rattle.sheet_specs.specs.Sheets.{unsheet}
+use Rattle.csv_specs.specs.Sheets.{unsheet}
 use Rattle.server_specs.specs.Answering.{answer, answer_request}
 use Rattle.server_specs.specs.Session.{Step, answered, not_stored, found_memory, out_of_memory}
 

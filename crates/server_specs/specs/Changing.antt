@@ -5,7 +5,7 @@ use Rattle.serde_json.specs.Data.{Items}
 use Rattle.plain_values.specs.Order.{bytes_cmp}
 use Rattle.plain_values.specs.SortedSet as set
 use Rattle.plain_values.specs.Row.{Row}
-use Rattle.lens_specs.specs.Common.{Name, Columns, Rows, Sort, off, Clash, clash as first_clash, Tables, Lens, get, put as put_rows, sort_of, tables_of, TableDelta, changes, new_view}
+use Rattle.lens_specs.specs.Common.{Name, Columns, Rows, Sort, violating_row, Clash, violating_pair, Tables, Lens, get, put as put_rows, sort_of, tables_of, TableDelta, changes, new_view}
 use Rattle.catalog_specs.specs.Catalogue.{catalogue}
 use Rattle.server_specs.specs.State.{State, unchanged, remember}
 use Rattle.server_specs.specs.EditRefusal.{EditRefusal, Listed, in_rows, in_remove, in_add, bad_row, stale, off_predicate, clash}
@@ -80,7 +80,7 @@ unless_clash (Some found) rows = Err (clash found.edge found.first found.second)
 
 -- the rows, where they are of the sort, or else why not
 abbrev pub of_sort : Sort → Rows → Result Rows EditRefusal
-of_sort sort rows = unless_off (off sort.predicate rows) (unless_clash (first_clash sort.tree rows) rows)
+of_sort sort rows = unless_off (violating_row sort.predicate rows) (unless_clash (violating_pair sort.tree rows) rows)
 
 -- the rows of a new view through the tests of its version and its sort
 abbrev pub tested : State → Lens → Option ℕ → Result Rows EditRefusal → Result Rows EditRefusal

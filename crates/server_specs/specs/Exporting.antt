@@ -4,7 +4,7 @@ use Rattle.std.specs.FinMap as finmap
 use Rattle.plain_values.specs.Value.{is_nullable}
 use Rattle.lens_specs.specs.Common.{Name, Columns, Rows, Lens, get, sort_of}
 use Rattle.catalog_specs.specs.Catalogue.{catalogue}
-use Rattle.sheet_specs.specs.Sheets.{sheet, unsheet}
+use Rattle.csv_specs.specs.Sheets.{sheet, unsheet}
 use Rattle.server_specs.specs.State.{State, unchanged}
 use Rattle.server_specs.specs.Answer.{Answer, exported, nullable_column, bad_record, unknown_name}
 use Rattle.server_specs.specs.Questions.{about}

@@ -4,7 +4,7 @@ use Rattle.std.specs.Prelude.{◌↔◌, ◌⊎◌, Option, None, Some, IfSome, 
 use Rattle.io_specs.specs.Calls.{Adds}
 use Rattle.io_specs.proofs.Calls.{Adds-none, Adds-then, Adds-weaker}
 use Rattle.io_specs.specs.Lines.{Line}
-use Rattle.lens_specs.specs.Keeping.{Follows, Kept, Tells}
+use Rattle.lens_specs.specs.Keeping.{Follows, Kept, IfObserved}
 use Rattle.server_specs.specs.Session.{Session}
 use Rattle.server_specs.specs.State.{State, kept}
 use Rattle.opening_specs.specs.Opening.{Damage, opened}
@@ -170,7 +170,7 @@ undamaged_now store stays (Some old) (Some now) before start status first other 
 )
 
 -- what was loaded is damaged, and is what is kept
-damaged_now : (contents' : Option Kept) (loaded : Kept) (status : ℕ) (damage : Damage) → status ≡ 7 → opened loaded ≡ Err damage → Tells contents' loaded → IfSome contents' (λ now. (status ≡ 7) ↔ IsDamaged now)
+damaged_now : (contents' : Option Kept) (loaded : Kept) (status : ℕ) (damage : Damage) → status ≡ 7 → opened loaded ≡ Err damage → IfObserved contents' loaded → IfSome contents' (λ now. (status ≡ 7) ↔ IsDamaged now)
 damaged_now None loaded status damage seven opens told = tt
 damaged_now (Some now) loaded status damage seven opens told = ((λ _. (damage, ap opened told ∙ opens)), (λ _. seven))
 

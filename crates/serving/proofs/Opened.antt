@@ -2,7 +2,7 @@
 use Rattle.std.proofs.Common.{◌≡◌, ◌≢◌, ◌≤◌, ℕ, Bool, true, false, List, length, Option, Some, None, is_some, Result, Ok, Err, refl, sym, ap, subst, ◌∙◌}
 use Rattle.std.specs.Prelude.{◌↔◌, IfOk}
 use Rattle.io_specs.specs.Calls.{Adds}
-use Rattle.lens_specs.specs.Keeping.{Kept, Follows, Stays, Tells}
+use Rattle.lens_specs.specs.Keeping.{Kept, Follows, Stays, IfObserved}
 use Rattle.server_specs.specs.State.{State, kept}
 use Rattle.opening_specs.specs.Opening.{Damage, IsOpened, damage_text}
 use Rattle.opening_laws.proofs.Opened.{opened_is_kept, opened_at_start}
@@ -10,7 +10,7 @@ use Rattle.std.specs.Io.KnownBytes.{Appends}
 use Rattle.lens_io.specs.Bytes.{AppendsFront, GivesUnlessFailed}
 use Rattle.lens_io.specs.Calls.{Call as Take, OffersRest}
 use Rattle.lens_io.specs.declared.told.Offer.{Offer}
-use Rattle.command_words.specs.Settings.{Settings}
+use Rattle.arguments.specs.Settings.{Settings}
 use Rattle.lens_server.specs.Starting.{Opens}
 use Rattle.lens_server.specs.declared.startup.fault.StartFault.{StartFault}
 use Rattle.lens_server.specs.declared.startup.fault.StartFault.TheVariants as fault
@@ -35,13 +35,13 @@ stays_on (Some old) None c p q = absurd p
 stays_on (Some old) (Some m) None p q = absurd q
 stays_on (Some old) (Some m) (Some now) p q = q ∙ p
 
-told_before : (a b : Option Kept) (k : Kept) → Stays a b → Tells b k → Tells a k
+told_before : (a b : Option Kept) (k : Kept) → Stays a b → IfObserved b k → IfObserved a k
 told_before None None k p t = tt
 told_before None (Some m) k p t = absurd p
 told_before (Some old) None k p t = absurd p
 told_before (Some old) (Some now) k p t = sym p ∙ t
 
-told_after : (a b : Option Kept) (k : Kept) → Stays a b → Tells a k → Tells b k
+told_after : (a b : Option Kept) (k : Kept) → Stays a b → IfObserved a k → IfObserved b k
 told_after None None k p t = tt
 told_after None (Some m) k p t = absurd p
 told_after (Some old) None k p t = absurd p
@@ -89,8 +89,8 @@ at_first chosen (Ok s) w = ap (λ (t : State). t.version) (opened_at_start w.0 s
 at_first chosen (Err e) w = tt
 
 -- and the contents are those that are kept of it
-pub told_kept : (chosen now : Option Kept) (result : Result State StartFault) → Opens chosen result → Stays chosen now → IfOk result (λ s. Tells now (kept s))
-told_kept chosen now (Ok s) w stays = subst (Tells now) (sym (opened_is_kept w.0 s w.2)) (told_after chosen now w.0 stays w.1)
+pub told_kept : (chosen now : Option Kept) (result : Result State StartFault) → Opens chosen result → Stays chosen now → IfOk result (λ s. IfObserved now (kept s))
+told_kept chosen now (Ok s) w stays = subst (IfObserved now) (sym (opened_is_kept w.0 s w.2)) (told_after chosen now w.0 stays w.1)
 told_kept chosen now (Err e) w stays = tt
 
 -- ---- a run from the state that was started

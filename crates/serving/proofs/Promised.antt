@@ -5,10 +5,10 @@ use Rattle.io_specs.specs.Calls.{Adds}
 use Rattle.io_specs.specs.Faults.{Rose}
 use Rattle.lens_io.specs.Bytes.{GivesUnlessFailed}
 use Rattle.lens_io.specs.Calls.{OffersRest}
-use Rattle.command_words.specs.Settings.{Settings}
+use Rattle.arguments.specs.Settings.{Settings}
 use Rattle.table_keeper.specs.declared.keeper.KeepFault.TheVariants as keep
 use Rattle.serving.specs.Opening.{IsUnserved}
-use Rattle.serving.specs.Promises.{NoneFailed, Promises, RefusesBy, RehearsesBy, RunsBy, StopsShortBy, Told, Untouched}
+use Rattle.serving.specs.Promises.{NoneFailed, Promises, RefusesBy, RehearsesBy, RunsBy, StopsShortBy, Observed, Untouched}
 use Rattle.serving.specs.Running.{FailsBy, IsAtEntry, IsDamaged, IsServed, LacksMemoryBy, before, opening_fault, place_after, usage}
 use Rattle.serving.proofs.Calls.{lacks_unasked, some_all, unasked_tells}
 use Rattle.serving.proofs.Opened.{stays_same}
@@ -26,7 +26,7 @@ ended status (inr (inl three)) = inr (inr (inl three))
 ended status (inr (inr (inl six))) = inr (inr (inr (inl six)))
 ended status (inr (inr (inr seven))) = inr (inr (inr (inr seven)))
 
-completed : (status : ℕ) (old new : Told) → IsServed status ⊎ IsUnserved status → (status ≡ 4 → Rose old.source_faults new.source_faults) → (status ≡ 5 → Rose old.sink_faults new.sink_faults)
+completed : (status : ℕ) (old new : Observed) → IsServed status ⊎ IsUnserved status → (status ≡ 4 → Rose old.source_faults new.source_faults) → (status ≡ 5 → Rose old.sink_faults new.sink_faults)
     → (status ≡ 6 → Rose old.keeper_faults new.keeper_faults) → NoneFailed old new → (status ≡ 0) ⊎ ((status ≡ 3) ⊎ ((status ≡ 7) ⊎ (status ≡ 8)))
 completed status old new (inl (inl zero)) read write store none = inl zero
 completed status old new (inl (inr (inl four))) read write store none = absurd (none.0 (read four))
@@ -50,7 +50,7 @@ completed_told status most (Some bytes) all long = λ short. unless_longer statu
 
 -- ---- no rehearsal
 
-pub promised_input : (s : Settings) (stays : Bool) (status : ℕ) (old new : Told) → s.rehearse ≡ None
+pub promised_input : (s : Settings) (stays : Bool) (status : ℕ) (old new : Observed) → s.rehearse ≡ None
     → (IsServed status → RunsBy s stays status old new)
     → (status ≡ 7 → RefusesBy s stays old new)
     → (status ≢ 3 → status ≢ 6 → IsAtEntry s.store stays → IfSome old.contents (λ kept. (status ≡ 7) ↔ IsDamaged kept))
@@ -119,7 +119,7 @@ pub summarized : (status : ℕ) → (status ≡ 0) ⊎ (status ≡ 5) → IsServ
 summarized status (inl zero) = inl zero
 summarized status (inr five) = inr (inr (inl five))
 
-pub promised_rehearsal : (s : Settings) (n : ℕ) (stays : Bool) (status : ℕ) (old new : Told) → s.rehearse ≡ Some n
+pub promised_rehearsal : (s : Settings) (n : ℕ) (stays : Bool) (status : ℕ) (old new : Observed) → s.rehearse ≡ Some n
     → ((status ≡ 0) ⊎ (status ≡ 5) → RehearsesBy s n stays status old new)
     → (status ≡ 3 → StopsShortBy s n stays old new)
     → (status ≡ 7 → RefusesBy s stays old new)
@@ -189,7 +189,7 @@ promised_rehearsal s n stays status old new some rehearses stops damaged exactly
 
 -- ---- words that are refused
 
-pub promised_usage : (stays : Bool) (old new : Told) → GivesUnlessFailed old.given new.given old.sink_faults new.sink_faults usage → Adds (OffersRest (length usage)) old.offered new.offered
+pub promised_usage : (stays : Bool) (old new : Observed) → GivesUnlessFailed old.given new.given old.sink_faults new.sink_faults usage → Adds (OffersRest (length usage)) old.offered new.offered
     → old.source_faults ≤ new.source_faults → old.sink_faults ≤ new.sink_faults → old.keeper_faults ≤ new.keeper_faults → new.walked ≡ old.walked → Promises None stays 2 old new
 promised_usage stays old new gave offers source_later sink_later keeper_later walks = record {
   lines = record {
@@ -219,7 +219,7 @@ promised_usage stays old new gave offers source_later sink_later keeper_later wa
 
 -- ---- memory that ran out at the words
 
-pub promised_nothing : (asked : Option Settings) (stays : Bool) (t : Told) → Promises asked stays 3 t t
+pub promised_nothing : (asked : Option Settings) (stays : Bool) (t : Observed) → Promises asked stays 3 t t
 promised_nothing asked stays t = record {
   lines = record {
     serves = some_all asked (λ s. s.rehearse ≡ None → IsServed 3 → RunsBy s stays 3 t t) (λ s none served. absurd (omega (arith, served)));

@@ -6,7 +6,7 @@ use Rattle.io_specs.specs.Calls.{Adds}
 use Rattle.io_specs.proofs.Calls.{Adds-none, Adds-then, Adds-weaker}
 use Rattle.std.specs.Io.KnownBytes.{Appends}
 use Rattle.std.proofs.KnownBytes.{Appends-trans}
-use Rattle.lens_specs.specs.Common.{Kept, Follows, Tells, Lens, Name}
+use Rattle.lens_specs.specs.Common.{Kept, Follows, IfObserved, Lens, Name}
 use Rattle.io_specs.specs.Lines.{Line, too_long, whole}
 use Rattle.server_specs.specs.State.{State, kept}
 use Rattle.server_specs.specs.Answer.{Answer, long_line, memory, text}
@@ -41,13 +41,13 @@ use Rattle.serving.specs.Running.{Serves, AreFirst, BreaksOff, joined, line_of, 
 abbrev pub IsStored : State → Option Kept → Option Kept → Type 0
 IsStored server = Follows (λ _ now. now ≡ kept server)
 
-pub told_now : (server : State) (contents contents' : Option Kept) → IsStored server contents contents' → Tells contents' (kept server)
+pub told_now : (server : State) (contents contents' : Option Kept) → IsStored server contents contents' → IfObserved contents' (kept server)
 told_now server None None h = tt
 told_now server None (Some now) h = absurd h
 told_now server (Some old) None h = absurd h
 told_now server (Some old) (Some now) h = h
 
-pub stored_same : (server : State) (contents : Option Kept) → Tells contents (kept server) → IsStored server contents contents
+pub stored_same : (server : State) (contents : Option Kept) → IfObserved contents (kept server) → IsStored server contents contents
 stored_same server None h = tt
 stored_same server (Some now) h = h
 
@@ -76,7 +76,7 @@ pub record Served (first : State) (limit : ℕ) (cutter : Cutter) (server : Stat
   pub within : cutter.taken ≤ cutter.limit + 1
   pub going : cutter.done ≡ false
 
-pub Served-nil : (first : State) (limit : ℕ) (left given : Option (List ℕ)) (asked : Option (List Take)) (offered : Option (List Offer)) (count : ℕ) (contents : Option Kept) (calls : Option (List Call)) (walked : ℕ) → Tells contents (kept first)
+pub Served-nil : (first : State) (limit : ℕ) (left given : Option (List ℕ)) (asked : Option (List Take)) (offered : Option (List Offer)) (count : ℕ) (contents : Option Kept) (calls : Option (List Call)) (walked : ℕ) → IfObserved contents (kept first)
     → Served first limit (record { pending = []; line = []; taken = 0; limit = limit; ended = false; done = false }) first left left given given asked asked offered offered count count contents contents calls calls walked walked
 Served-nil first limit left given asked offered count contents calls walked told = record {
   lines = [];

@@ -1,6 +1,6 @@
 -- How a run opens its store.
 use Rattle.std.specs.Prelude.{◌≡◌, ◌⊎◌, ℕ, Bool, List, [], ◌∷◌, Option, None, Some, Result, Ok, Err}
-use Rattle.lens_specs.specs.Keeping.{Kept, Tells}
+use Rattle.lens_specs.specs.Keeping.{Kept, IfObserved}
 use Rattle.server_specs.specs.State.{State}
 use Rattle.opening_specs.specs.Opening.{Damage}
 use Rattle.lens_server.specs.Starting.{damage_view}
@@ -16,7 +16,7 @@ use Rattle.serving.specs.Running.{FailsBy, Loads, OpensBy, StopsBy}
 -- The state, or the damage, is what was loaded opens to, unless the keeper failed or memory ran out. What is damaged is what is kept then, where that is told.
 abbrev pub OpensTo : Option (List ℕ) → Bool → Option Kept → Option Kept → ℕ → ℕ → Result State StartFault → Type 0
 OpensTo store stays contents contents' count start (Ok s) = Loads store stays contents count start (Ok s)
-OpensTo store stays contents contents' count start (Err (fault.Damaged damage)) = (loads : Loads store stays contents count start (Err (damage_view damage))) × Tells contents' loads.loaded
+OpensTo store stays contents contents' count start (Err (fault.Damaged damage)) = (loads : Loads store stays contents count start (Err (damage_view damage))) × IfObserved contents' loads.loaded
 OpensTo store stays contents contents' count start (Err fault.StoreFault) = Unit {0}
 OpensTo store stays contents contents' count start (Err fault.NoMemory) = Unit {0}
 

@@ -6,7 +6,7 @@ pub use Rattle.io_specs.specs.Faults.{Rose}
 use Rattle.lens_io.specs.Bytes.{GivesUnlessFailed}
 use Rattle.lens_io.specs.Calls.{Call as Take, OffersRest}
 use Rattle.lens_io.specs.declared.told.Offer.{Offer}
-use Rattle.command_words.specs.Settings.{Settings}
+use Rattle.arguments.specs.Settings.{Settings}
 use Rattle.table_keeper.specs.declared.calls.Call.{Call}
 use Rattle.table_keeper.specs.declared.keeper.KeepFault.TheVariants as keep
 pub use Rattle.serving.specs.Opening.{IsUnserved}
@@ -15,7 +15,7 @@ use Rattle.serving.specs.Running.{FailsBy, IsAtEntry, IsDamaged, LacksMemoryBy, 
 
 -- What the devices tell at one moment: what the source has left and what it was asked, what the sink has taken and what it was offered, what the keeper has, what it was
 -- asked and where it keeps, where they tell it; how often each of them failed; and how many rows were walked.
-pub record Told : Type 0 where
+pub record Observed : Type 0 where
   pub left : Option (List ℕ)
   pub asked : Option (List Take)
   pub given : Option (List ℕ)
@@ -29,31 +29,31 @@ pub record Told : Type 0 where
   pub walked : ℕ
 
 -- The lines of the source were served, without a rehearsal, or those of the rehearsal were.
-abbrev pub RunsBy : Settings → Bool → ℕ → Told → Told → Type 0
+abbrev pub RunsBy : Settings → Bool → ℕ → Observed → Observed → Type 0
 RunsBy s stays status old new =
     Runs s stays status old.left new.left old.given new.given old.asked new.asked old.offered new.offered old.keeper_faults new.keeper_faults old.contents new.contents old.calls new.calls old.walked new.walked
 
-abbrev pub RehearsesBy : Settings → ℕ → Bool → ℕ → Told → Told → Type 0
+abbrev pub RehearsesBy : Settings → ℕ → Bool → ℕ → Observed → Observed → Type 0
 RehearsesBy s n stays status old new =
     Rehearses s n stays status old.given new.given old.offered new.offered old.keeper_faults new.keeper_faults old.contents new.contents old.calls new.calls old.walked new.walked
 
 -- Memory ran out in a rehearsal.
-abbrev pub StopsShortBy : Settings → ℕ → Bool → Told → Told → Type 0
+abbrev pub StopsShortBy : Settings → ℕ → Bool → Observed → Observed → Type 0
 StopsShortBy s n stays old new = StopsShort s n stays old.keeper_faults new.keeper_faults old.contents new.contents old.calls new.calls old.walked new.walked
 
 -- What was loaded is damaged, and its first damage was told.
-abbrev pub RefusesBy : Settings → Bool → Told → Told → Type 0
+abbrev pub RefusesBy : Settings → Bool → Observed → Observed → Type 0
 RefusesBy s stays old new =
     Refuses s stays old.given new.given old.offered new.offered old.sink_faults new.sink_faults old.keeper_faults old.contents new.contents old.calls new.calls
 
 -- what is kept is as at entry, unless another place was chosen
-abbrev pub Untouched : Settings → Bool → Told → Told → Type 0
+abbrev pub Untouched : Settings → Bool → Observed → Observed → Type 0
 Untouched s stays old new = StaysAtEntry s.store stays old.contents new.contents
 
 -- ---- the statuses
 
 -- 0, 4, 5 and 8: lines were served; in a rehearsal 0 and 5 alone.
-pub record AtLines (asked : Option Settings) (stays : Bool) (status : ℕ) (old new : Told) : Type 0 where
+pub record AtLines (asked : Option Settings) (stays : Bool) (status : ℕ) (old new : Observed) : Type 0 where
   -- the replies are those of the server to the lines that came, and they are given in time; the keeper has the last state
   pub serves : IfSome asked (λ s. s.rehearse ≡ None → IsServed status → RunsBy s stays status old new)
   -- in a rehearsal they are those to its lines, and their summary is given
@@ -65,19 +65,19 @@ pub record AtLines (asked : Option Settings) (stays : Bool) (status : ℕ) (old 
   pub input : status ≡ 8 → IfSome asked (λ s. IfSome old.left (λ bytes. s.max_input < length bytes))
 
 -- 2: exactly where the words are refused, unless memory ran out. The usage line is given; a front of it only where the sink failed.
-pub record AtWords (asked : Option Settings) (status : ℕ) (old new : Told) : Type 0 where
+pub record AtWords (asked : Option Settings) (status : ℕ) (old new : Observed) : Type 0 where
   pub words : status ≢ 3 → (status ≡ 2) ↔ (asked ≡ None)
   pub usage_offers : status ≡ 2 → Adds (OffersRest (length usage)) old.offered new.offered
   pub usage : status ≡ 2 → GivesUnlessFailed old.given new.given old.sink_faults new.sink_faults usage
 
 -- 3: memory ran out, before the source was asked, or in a rehearsal.
-pub record AtMemory (asked : Option Settings) (stays : Bool) (status : ℕ) (old new : Told) : Type 0 where
+pub record AtMemory (asked : Option Settings) (stays : Bool) (status : ℕ) (old new : Observed) : Type 0 where
   pub memory_changes_nothing : status ≡ 3 → IfSome asked (λ s. s.rehearse ≡ None → Untouched s stays old new)
   pub memory_calls : status ≡ 3 → IfSome asked (λ s. s.rehearse ≡ None → Adds (LacksMemoryBy s.store) old.calls new.calls)
   pub memory_stops : status ≡ 3 → IfSome asked (λ s. IfSome s.rehearse (λ n. StopsShortBy s n stays old new))
 
 -- 6: the keeper failed at the start: exactly where a call that opens the store failed, of those that were told.
-pub record AtStore (asked : Option Settings) (stays : Bool) (status : ℕ) (old new : Told) : Type 0 where
+pub record AtStore (asked : Option Settings) (stays : Bool) (status : ℕ) (old new : Observed) : Type 0 where
   pub store : status ≡ 6 → Rose old.keeper_faults new.keeper_faults
   pub store_calls : status ≡ 6 → IfSome asked (λ s. Adds (FailsBy s.store) old.calls new.calls)
   pub store_exactly : IfSome asked (λ s. Adds (λ calls. (status ≡ 6) ↔ (opening_fault s.store calls ≡ Some keep.Failed)) old.calls new.calls)
@@ -86,19 +86,19 @@ pub record AtStore (asked : Option Settings) (stays : Bool) (status : ℕ) (old 
 -- 7: what is kept is damaged, and the first damage is told. Unless memory ran out or the keeper failed, this is exactly where what is
 -- kept at entry is damaged, where no other place is chosen or the contents stay where one is; and exactly where what is kept in the
 -- end is damaged, wherever it lies.
-pub record AtDamage (asked : Option Settings) (stays : Bool) (status : ℕ) (old new : Told) : Type 0 where
+pub record AtDamage (asked : Option Settings) (stays : Bool) (status : ℕ) (old new : Observed) : Type 0 where
   pub damaged : status ≡ 7 → IfSome asked (λ s. RefusesBy s stays old new)
   pub damaged_exactly : status ≢ 3 → status ≢ 6 → IfSome asked (λ s. IsAtEntry s.store stays → IfSome old.contents (λ kept. (status ≡ 7) ↔ IsDamaged kept))
   pub damaged_exactly_now : status ≢ 3 → status ≢ 6 → IfSome asked (λ _. IfSome new.contents (λ kept. (status ≡ 7) ↔ IsDamaged kept))
   pub damage_changes_nothing : status ≡ 7 → IfSome asked (λ s. Untouched s stays old new)
 
 -- none of the counts of faults rose
-abbrev pub NoneFailed : Told → Told → Type 0
+abbrev pub NoneFailed : Observed → Observed → Type 0
 NoneFailed old new =
     (Rose old.source_faults new.source_faults → ⊥) × (Rose old.sink_faults new.sink_faults → ⊥) × (Rose old.keeper_faults new.keeper_faults → ⊥)
 
 -- Any status.
-pub record AtAny (asked : Option Settings) (status : ℕ) (old new : Told) : Type 0 where
+pub record AtAny (asked : Option Settings) (status : ℕ) (old new : Observed) : Type 0 where
   pub others : IsServed status ⊎ ((status ≡ 2) ⊎ ((status ≡ 3) ⊎ ((status ≡ 6) ⊎ (status ≡ 7))))
   -- with no fault and no damage the input is served to its end or to the limit; one that is told to be no longer, to its end
   pub complete : IfSome asked (λ _. NoneFailed old new → (status ≡ 0) ⊎ ((status ≡ 3) ⊎ ((status ≡ 7) ⊎ (status ≡ 8))))
@@ -115,7 +115,7 @@ pub record AtAny (asked : Option Settings) (status : ℕ) (old new : Told) : Typ
 
 -- ---- all of them
 
-pub record Promises (asked : Option Settings) (stays : Bool) (status : ℕ) (old new : Told) : Type 0 where
+pub record Promises (asked : Option Settings) (stays : Bool) (status : ℕ) (old new : Observed) : Type 0 where
   pub lines : AtLines asked stays status old new
   pub usage : AtWords asked status old new
   pub memory : AtMemory asked stays status old new

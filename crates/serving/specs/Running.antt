@@ -1,13 +1,13 @@
 -- What one run of the program does.
 use Rattle.std.specs.Prelude.{◌≡◌, ◌≢◌, ◌≤◌, ◌+◌, ◌-◌, ◌⊎◌, ℕ, Bool, true, List, [], ◌∷◌, ◌++◌, flat_map, length, take, codes, Option, Some, None, Result, Ok, Err}
 use Rattle.std.specs.Io.KnownBytes.{Appends, Consumes, IsAtEnd}
-use Rattle.lens_specs.specs.Keeping.{Kept, Follows, Stays, Tells}
+use Rattle.lens_specs.specs.Keeping.{Kept, Follows, Stays, IfObserved}
 use Rattle.io_specs.specs.Calls.{Adds}
 use Rattle.io_specs.specs.Lines.{Line, line, too_long, lines, whole}
 use Rattle.server_specs.specs.State.{State, kept}
 use Rattle.server_specs.specs.Session.{Session}
 use Rattle.opening_specs.specs.Opening.{Damage, opened, damage_text}
-use Rattle.command_words.specs.Settings.{Settings}
+use Rattle.arguments.specs.Settings.{Settings}
 use Rattle.lens_server.specs.Committing.{CommitsForAll}
 use Rattle.table_keeper.specs.Asking.{done_call, stopped_call}
 use Rattle.table_keeper.specs.declared.calls.Asked.TheVariants.{Attach, Load}
@@ -123,7 +123,7 @@ StaysAtEntry store stays contents contents' = IsAtEntry store stays → Stays co
 -- this one then, and had not fallen.
 pub record Loads (store : Option (List ℕ)) (stays : Bool) (contents : Option Kept) (count start : ℕ) (result : Result State Damage) : Type 0 where
   pub loaded : Kept
-  pub at_entry : IsAtEntry store stays → Tells contents loaded
+  pub at_entry : IsAtEntry store stays → IfObserved contents loaded
   pub opens : opened loaded ≡ result
   pub later : count ≤ start
 
@@ -204,7 +204,7 @@ pub record Refuses (s : Settings) (stays : Bool) (given given' : Option (List �
   pub damage : Damage
   pub start : ℕ
   pub loads : Loads s.store stays contents count start (Err damage)
-  pub still_kept : Tells contents' loads.loaded
+  pub still_kept : IfObserved contents' loads.loaded
   pub opened_by : Adds (OpensBy s.store start) calls calls'
   pub told : GivesUnlessFailed given given' failures failures' (damage_text damage)
   pub offers : Adds (OffersRest (length (damage_text damage))) offered offered'

@@ -1,6 +1,6 @@
 //! The lines of the source are answered, one after another.
 ghost use Rattle.std.specs.Prelude.{◌≡◌, ◌≤◌, ◌<◌, ◌⊎◌, ◌+◌, ◌-◌, ◌^◌, [], false, true, length, None, Some};
-ghost use Rattle.lens_specs.specs.Keeping.{Follows, Tells};
+ghost use Rattle.lens_specs.specs.Keeping.{Follows, IfObserved};
 ghost use Rattle.server_specs.specs.Answer.{memory, text};
 ghost use Rattle.server_specs.specs.Answering.{answer};
 ghost use Rattle.server_specs.specs.Request.{request};
@@ -10,13 +10,13 @@ ghost use Rattle.server_laws.specs.SheetLaws.{IsExportLine, ReadsBack};
 ghost use Rattle.lens_io.specs.Cutting.{is_last};
 ghost use Rattle.lens_server.specs.Committing.{CommitsFor};
 ghost use Rattle.lens_server.specs.Counting.{most_walked};
-ghost use Rattle.command_words.specs.Views.{settings_view};
+ghost use Rattle.arguments.specs.Views.{settings_view};
 ghost use Rattle.serving.specs.Promises.{Adds, IsServed, IsUnserved, Promises, Rose};
 ghost use Rattle.serving.specs.Running.{Serves, line_of, status_of};
 
 use crate::giving::give_reply;
 use crate::opening::{open, refuse};
-use command_words::Settings;
+use arguments::Settings;
 use lens_io::{Cut, Failed, LineCutter, Sink, Source};
 use lens_server::Server;
 use reply_printing::{Reply, long_reply};
@@ -111,7 +111,7 @@ fn serve<S: Source, W: Sink, K: Keeper, L: Ledger, M: Ledger>(
       done = false;
     } }
     requires room { server.old.version + cutter.old.limit + 1 < 2 ^ 64 - 1 }
-    requires told { Tells (K.contents keeper.old) (state.kept server.old) }
+    requires told { IfObserved (K.contents keeper.old) (state.kept server.old) }
     ensures serves { Serves server.old cutter.old.limit result (S.left source.old) (S.left source.new)
         (W.taken sink.old) (W.taken sink.new) (S.asked source.old) (S.asked source.new)
         (W.offered sink.old) (W.offered sink.new) (K.faults keeper.old) (K.faults keeper.new)
@@ -161,7 +161,7 @@ fn reply_to<K: Keeper, L: Ledger, M: Ledger>(
     looked: &mut Steps<M>,
 ) -> Reply
     requires room { server.old.version < 2 ^ 64 - 1 }
-    requires told { Tells (K.contents keeper.old) (state.kept server.old) }
+    requires told { IfObserved (K.contents keeper.old) (state.kept server.old) }
     requires line { is_last cut ≡ false }
     requires short { cut ≡ Cut.Line → length line.now ≤ 16777216 }
     ensures step { Step server.old (K.faults keeper.old) (line_of cut line.now) result

@@ -3,7 +3,7 @@ ghost use Rattle.std.specs.Prelude.{◌≡◌, ◌≢◌, ◌≤◌, ◌↔◌, 
 ghost use Rattle.std.specs.Option.{option_copied};
 ghost use Rattle.io_specs.specs.Calls.{Adds};
 ghost use Rattle.io_specs.specs.Faults.{Rose};
-ghost use Rattle.lens_specs.specs.Keeping.{Tells};
+ghost use Rattle.lens_specs.specs.Keeping.{IfObserved};
 ghost use Rattle.server_specs.specs.State.{kept};
 ghost use Rattle.opening_specs.specs.Opening.{damage_text};
 ghost use Rattle.lens_io.specs.Bytes.{GivesUnlessFailed};
@@ -27,7 +27,7 @@ pub fn open<K: Keeper>(
     ensures opens { OpensTo (option_copied place.entry) K.stays (K.contents keeper.old)
         (K.contents keeper.new) (K.faults keeper.old) (K.faults keeper.new) result }
     ensures first { IfOk result (λ server. server.version ≡ 0) }
-    ensures told { IfOk result (λ server. Tells (K.contents keeper.new) (kept server)) }
+    ensures told { IfOk result (λ server. IfObserved (K.contents keeper.new) (kept server)) }
     ensures as_told { is_some (K.contents keeper.new) ≡ is_some (K.contents keeper.old) }
     ensures stays { StaysAtEntry (option_copied place.entry) K.stays (K.contents keeper.old)
         (K.contents keeper.new) }
@@ -78,7 +78,7 @@ fn choose_place<K: Keeper>(
     }
 }
 
-/// Tells why no server was started: the status, and the line of a damage.
+/// IfObserved why no server was started: the status, and the line of a damage.
 pub fn refuse<W: Sink>(alloc: Global, sink: &mut W, fault: StartFault) -> u8
     ensures damaged { result ≡ 7 → IsDamage fault (λ damage.
         GivesUnlessFailed (W.taken sink.old) (W.taken sink.new) (W.faults sink.old)

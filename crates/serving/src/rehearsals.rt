@@ -1,11 +1,11 @@
 //! The lines of a rehearsal are answered in place of the source's.
 ghost use Rattle.std.specs.Prelude.{◌≡◌, ◌≤◌, ◌⊎◌, Some};
-ghost use Rattle.command_words.specs.Views.{settings_view};
+ghost use Rattle.arguments.specs.Views.{settings_view};
 ghost use Rattle.serving.specs.Promises.{IsServed, IsUnserved, Promises};
 
 use crate::giving::give_summary;
 use crate::opening::{open, refuse};
-use command_words::Settings;
+use arguments::Settings;
 use lens_io::Sink;
 use rehearsal::rehearse;
 use std::alloc::Global;

@@ -1,13 +1,13 @@
 //! The whole program but for its devices: lines in, replies out.
 ghost use Rattle.std.specs.Prelude.{◌≡◌, ◌⊎◌, map, string_bytes, None, IfSome};
-ghost use Rattle.command_words.specs.Settings.{settings};
+ghost use Rattle.arguments.specs.Settings.{settings};
 ghost use Rattle.serving.specs.Opening.{IsUnserved};
 ghost use Rattle.serving.specs.Promises.{Promises};
 
 use crate::giving::tell_usage;
 use crate::input::serve_input;
 use crate::rehearsals::rehearse_over;
-use command_words::{WordsFault, read_settings};
+use arguments::{WordsFault, read_settings};
 use lens_io::{Sink, Source};
 use std::alloc::Global;
 use std::marker::Brand;

@@ -1,7 +1,7 @@
 //! How many rows a line goes over, and how many it looks at by key, as the counters of a server
 //! tell.
 ghost use Rattle.std.specs.Prelude.{◌≡◌, OnOk};
-ghost use Rattle.lens_specs.specs.Keeping.{Tells};
+ghost use Rattle.lens_specs.specs.Keeping.{IfObserved};
 ghost use Rattle.server_specs.specs.State.{kept};
 
 use crate::runs::expect;
@@ -51,8 +51,8 @@ fn ask<K: Keeper, L: Ledger, M: Ledger>(
     walked: &mut Steps<L>,
     looked: &mut Steps<M>,
 ) -> Result<[u64; 2], Fail>
-    requires { Tells (K.contents keeper.old) (kept server.old) }
-    ensures { OnOk result (Tells (K.contents keeper.new) (kept server.new)) }
+    requires { IfObserved (K.contents keeper.old) (kept server.old) }
+    ensures { OnOk result (IfObserved (K.contents keeper.new) (kept server.new)) }
 {
     if 100 <= server.version() {
         return Err(Fail::from("the version"));

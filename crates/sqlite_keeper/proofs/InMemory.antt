@@ -3,7 +3,7 @@ use Rattle.std.proofs.Common.{◌≡◌, ◌∙◌, List, [], ◌∷◌, Option,
 use Rattle.std.specs.FinMap as finmap
 use Rattle.std.proofs.lemmas.List.{nil_from_length}
 use Rattle.plain_values.specs.Order.{bytes_cmp}
-use Rattle.lens_specs.specs.Common.{Name, Relation, Change, Follows, Kept, Tells, changed}
+use Rattle.lens_specs.specs.Common.{Name, Relation, Change, Follows, Kept, IfObserved, changed}
 use Rattle.lens_specs.specs.Keeping.{nothing}
 use Rattle.server_specs.specs.State.{State, fresh, kept, rows_of_each}
 use Rattle.memory_store.specs.InMemory.{after}
@@ -29,7 +29,7 @@ kept_after (made change ∷ turns) first last k is takes =
     kept_after turns takes.0 last (changed change k) (changed_some change (held first) (held takes.0) k is takes.1) takes.2
 kept_after (refused change ∷ turns) first last k is takes = kept_after turns takes.0 last k (takes.1 ∙ is) takes.2
 
-told_is : (told : Option Kept) (contents k : Kept) → told ≡ Some k → Tells told contents → contents ≡ k
+told_is : (told : Option Kept) (contents k : Kept) → told ≡ Some k → IfObserved told contents → contents ≡ k
 told_is None contents k is tells = cc
 told_is (Some t) contents k is tells = sym tells ∙ one_value t k is
 

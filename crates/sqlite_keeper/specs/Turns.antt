@@ -1,6 +1,6 @@
 -- What a keeper is asked while no file is attached, call after call, and what it keeps then.
 use Rattle.std.specs.Prelude.{◌≡◌, List, [], ◌∷◌, Some}
-use Rattle.lens_specs.specs.Keeping.{Change, Follows, Kept, Tells, changed, nothing}
+use Rattle.lens_specs.specs.Keeping.{Change, Follows, Kept, IfObserved, changed, nothing}
 use Rattle.server_specs.specs.State.{State, fresh, kept}
 use Rattle.memory_store.specs.InMemory.{after}
 use Rattle.sqlite_keeper.specs.Unattached.{held}
@@ -15,7 +15,7 @@ pub data Turn : Type 0 where
 
 -- what a call does to a keeper, in the words of the clauses of `load` and `commit`
 abbrev pub Takes : Turn → SqliteKeeper → SqliteKeeper → Type 0
-Takes (gave contents) old new = Tells (held old) contents × (held new ≡ held old)
+Takes (gave contents) old new = IfObserved (held old) contents × (held new ≡ held old)
 Takes gave_nothing old new = held new ≡ held old
 Takes (made change) old new = Follows (λ before later. later ≡ changed change before) (held old) (held new)
 Takes (refused change) old new = held new ≡ held old

@@ -2,7 +2,7 @@
 ghost use Rattle.std.specs.Prelude.{◌≡◌, ◌≤◌, Err, IfOk, IsSome, None, OnErr, OnOk, Some, false};
 ghost use Rattle.io_specs.specs.Faults.{Rose};
 ghost use Rattle.lens_specs.specs.Keeping as keeping;
-ghost use Rattle.lens_specs.specs.Keeping.{Follows, Stays, Tells, changed};
+ghost use Rattle.lens_specs.specs.Keeping.{Follows, Stays, IfObserved, changed};
 ghost use Rattle.table_keeper.specs.Changes.{change_view, kept_view};
 ghost use Rattle.table_keeper.specs.Places.{Rise};
 ghost use Rattle.sqlite_keeper.specs.Refusals.{fault_of};
@@ -97,8 +97,8 @@ impl Keeper for SqliteKeeper<'_> {
     }
 
     fn load(&mut self, alloc: Global) -> Result<Kept, KeepFault>
-        ensures ok { IfOk result (λ kept. Tells (held self.old) (kept_view kept)) }
-        ensures told { IfOk result (λ kept. Tells (told_by self.old) (kept_view kept)) }
+        ensures ok { IfOk result (λ kept. IfObserved (held self.old) (kept_view kept)) }
+        ensures told { IfOk result (λ kept. IfObserved (told_by self.old) (kept_view kept)) }
         ensures rising { IfOk result (λ kept. Rise kept.tables.items) }
         ensures held { held self.new ≡ held self.old }
         ensures place { place_of self.new ≡ place_of self.old }

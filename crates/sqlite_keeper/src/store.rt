@@ -1,6 +1,6 @@
 //! Where definitions and rows are kept.
 ghost use Rattle.std.specs.Prelude.{◌≡◌, Err, IfOk, IsSome, OnErr, OnOk};
-ghost use Rattle.lens_specs.specs.Keeping.{Follows, Tells, changed};
+ghost use Rattle.lens_specs.specs.Keeping.{Follows, IfObserved, changed};
 ghost use Rattle.table_keeper.specs.Changes.{change_view, kept_view};
 ghost use Rattle.table_keeper.specs.Places.{Rise};
 ghost use Rattle.sqlite_keeper.specs.Unattached.{in_memory};
@@ -32,7 +32,7 @@ impl Drop for Store<'_> {
 impl Store<'_> {
     /// What is kept, with its tables in rising order of names.
     pub fn load(&mut self, alloc: Global) -> Result<Kept, Refusal>
-        ensures ok { IfOk result (λ kept. Tells (in_memory self.old) (kept_view kept)) }
+        ensures ok { IfOk result (λ kept. IfObserved (in_memory self.old) (kept_view kept)) }
         ensures rising { IfOk result (λ kept. Rise kept.tables.items) }
         ensures kept { in_memory self.new ≡ in_memory self.old }
         // Memory has no other fault than to run out.

@@ -1,5 +1,5 @@
 //! Calls of a keeper by themselves.
-ghost use Rattle.lens_specs.specs.Keeping.{Tells, nothing};
+ghost use Rattle.lens_specs.specs.Keeping.{IfObserved, nothing};
 
 use crate::runs::{expect, follow_with};
 use lens_values::{Name, Row, Text, Value};
@@ -26,7 +26,7 @@ fn keep_table<K: Keeper>(
     text: &str,
     rows: Vec<Row>,
 ) -> Result<(), Fail>
-    requires nothing { Tells (K.contents keeper.old) nothing }
+    requires nothing { IfObserved (K.contents keeper.old) nothing }
 {
     let table = Name::new(table)?;
     let text = Text::new(alloc, text)?;
@@ -44,7 +44,7 @@ fn keep_table<K: Keeper>(
 
 // What a keeper of nothing gives once it has the table n and the row in it.
 fn table_with_a_row<K: Keeper>(alloc: Global, keeper: &mut K) -> Result<Kept, Fail>
-    requires nothing { Tells (K.contents keeper.old) nothing }
+    requires nothing { IfObserved (K.contents keeper.old) nothing }
 {
     let rows = vec![in alloc; row(alloc)?]?;
     keep_table(alloc, keeper, "n", TABLE, rows)?;
@@ -90,7 +90,7 @@ const CLASHING: &str = r#"{"do":"list"}
 
 // Fails if a run over a keeper of nothing, which is then given these, does not tell the damage.
 fn damage_is_told<K: Keeper>(alloc: Global, keeper: &mut K) -> Result<(), Fail>
-    requires nothing { Tells (K.contents keeper.old) nothing }
+    requires nothing { IfObserved (K.contents keeper.old) nothing }
 {
     let rows = vec![in alloc; album(alloc, 3)?, album(alloc, 4)?]?;
     keep_table(alloc, keeper, "albums", ALBUMS, rows)?;

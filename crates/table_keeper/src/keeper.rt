@@ -5,7 +5,7 @@ ghost use Rattle.std.specs.List.Sorted.{IsStrictlySortedBy};
 ghost use Rattle.plain_values.specs.Order.{bytes_cmp};
 ghost use Rattle.io_specs.specs.Faults.{Rose};
 ghost use Rattle.lens_specs.specs.Keeping as keeping;
-ghost use Rattle.lens_specs.specs.Keeping.{CanCommit, Follows, Stays, Tells, changed};
+ghost use Rattle.lens_specs.specs.Keeping.{CanCommit, Follows, Stays, IfObserved, changed};
 ghost use Rattle.table_keeper.specs.Asking.{AddsCall};
 ghost use Rattle.table_keeper.specs.Changes.{change_view, kept_view, names_of};
 ghost use Rattle.table_keeper.specs.declared.calls.Asked.TheVariants.{Attach, Commit, Load};
@@ -118,7 +118,7 @@ pub trait Keeper {
 
     /// Gives what is kept, with its tables in rising order of names.
     fn load(&mut self, alloc: Global) -> Result<Kept, KeepFault>
-        ensures ok { IfOk result (λ kept. Tells (contents self.old) (kept_view kept)) }
+        ensures ok { IfOk result (λ kept. IfObserved (contents self.old) (kept_view kept)) }
         ensures rising { IfOk result (λ kept. IsStrictlySortedBy bytes_cmp
             (names_of kept.tables.items)) }
         ensures kept { Stays (contents self.old) (contents self.new) }

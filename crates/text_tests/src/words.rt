@@ -1,6 +1,6 @@
 //! Words of the command line.
 use crate::samples::expect;
-use command_words::{Settings, WordsFault, read_settings};
+use arguments::{Settings, WordsFault, read_settings};
 use std::alloc::Global;
 use std::test::Fail;
 

@@ -1,7 +1,7 @@
 //! What lenses show of tables, and what puts to them make of these.
 ghost use Rattle.std.specs.Prelude.{◌≡◌, find, not, option_copied};
 ghost use Rattle.lens_specs.specs.Predicate.{holds};
-ghost use Rattle.lens_specs.specs.Sort.{IsOfSort, off};
+ghost use Rattle.lens_specs.specs.Sort.{IsOfSort, violating_row};
 ghost use Rattle.value_tests.specs.Filled.{Fills};
 
 use crate::lenses::lens;
@@ -149,9 +149,9 @@ fn lens_leads(
 }
 
 // The least row that the predicate refuses.
-#[tactic(auto, unfolding(lens_specs::specs::Sort::off))]
+#[tactic(auto, unfolding(lens_specs::specs::Sort::violating_row))]
 fn refused<'a>(pred: &Pred, rows: &'a RowSet) -> Option<&'a Row>
-    ensures { option_copied result ≡ off pred.now rows.now }
+    ensures { option_copied result ≡ violating_row pred.now rows.now }
 {
     first_refused(pred, rows.rows())
 }

@@ -2,7 +2,7 @@
 use Rattle.std.proofs.Common.{◌≡◌, ◌∙◌, ◌<◌, List, [], ◌∷◌, ◌++◌, length, slice_index_or, ap, sym, subst, refl, arith}
 use Rattle.std.specs.Prelude.{Option, Some, None, Err}
 use Rattle.lens_laws.proofs.Least.{clash_is}
-use Rattle.lens_specs.specs.Common.{Edge, Rows, clash}
+use Rattle.lens_specs.specs.Common.{Edge, Rows, violating_pair}
 use Rattle.lens_specs.specs.Sort as spec
 use Rattle.fd_tree.specs.ClashView.{shown_clash}
 use Rattle.fd_tree.specs.declared.clash.Clash.{Clash}
@@ -18,13 +18,13 @@ behind (k ∷ ks) e after d = let w = behind ks e after d in (omega (arith, w.0)
 -- the clash that was found is the definition's, and its edge is at its place
 pub record IsFoundClash (T : List Edge) (M : Rows) (found : Clash) : Type 0 where
   pub clash : spec.Clash
-  pub is : Rattle.lens_specs.specs.Sort.clash T M ≡ Some clash
+  pub is : Rattle.lens_specs.specs.Sort.violating_pair T M ≡ Some violating_pair
   pub below : found.edge < length T
   pub edge : (d : Edge) → clash.edge ≡ slice_index_or T found.edge d
   pub first : found.first ≡ clash.first
   pub second : found.second ≡ clash.second
 
-of_clash : (T : List Edge) (M : Rows) (found : Clash) (o : Option spec.Clash) → clash T M ≡ o → Some found ≡ shown_clash o → IsFoundClash T M found
+of_clash : (T : List Edge) (M : Rows) (found : Clash) (o : Option spec.Clash) → violating_pair T M ≡ o → Some found ≡ shown_clash o → IsFoundClash T M found
 of_clash T M found None is e = cc
 of_clash T M found (Some c) is e =
     let w = clash_is T M c is in
@@ -38,8 +38,8 @@ of_clash T M found (Some c) is e =
       second = cc;
     }
 
-pub found_clash : (T : List Edge) (M : Rows) (found : Clash) → Some found ≡ shown_clash (clash T M) → IsFoundClash T M found
-found_clash T M found e = of_clash T M found (clash T M) refl e
+pub found_clash : (T : List Edge) (M : Rows) (found : Clash) → Some found ≡ shown_clash (violating_pair T M) → IsFoundClash T M found
+found_clash T M found e = of_clash T M found (violating_pair T M) refl e
 
 -- a clash that is there is told
 pub clash_asked : (o : Option spec.Clash) (c : spec.Clash) (N : Rows) (why : EditRefusal) → o ≡ Some c → why ≡ refusals.clash c.edge c.first c.second → unless_clash o N ≡ Err why

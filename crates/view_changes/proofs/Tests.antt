@@ -4,7 +4,7 @@ use Rattle.std.specs.Prelude.{Vec}
 use Rattle.std.specs.declared.alloc.Global.{Global}
 use Rattle.lens_laws.proofs.Deltas.{diff_applies, diff_leads}
 use Rattle.lens_laws.specs.Finds.{AllFit}
-use Rattle.lens_specs.specs.Common.{AppliesTo, Delta, diff, new_view, Lens, Tables, get, sort_of, view, Rows, IsOf, Sort, clash}
+use Rattle.lens_specs.specs.Common.{AppliesTo, Delta, diff, new_view, Lens, Tables, get, sort_of, view, Rows, IsOf, Sort, violating_pair}
 use Rattle.fd_laws.proofs.Relations.{from_minus}
 use Rattle.lens_chain.specs.Edits.{edited}
 use Rattle.server_specs.specs.Changing.{changed_at, is_stale, of_sort, tested, unless_clash, unless_off, unless_stale}
@@ -24,7 +24,7 @@ diff_edits L db d N is fit = (
 
 -- rows of the sort pass its tests
 pub passes : (s : Sort) (N : Rows) → IsOf N s → of_sort s N ≡ Ok N
-passes s N is = ap (λ o. unless_off o (unless_clash (clash s.tree N) N)) is.off ∙ ap (λ o. unless_clash o N) is.clash
+passes s N is = ap (λ o. unless_off o (unless_clash (violating_pair s.tree N) N)) is.off ∙ ap (λ o. unless_clash o N) is.clash
 
 -- a change that is not stale comes to what the tests of the sort let through
 pub fresh_put : (s : State) (L : Lens) (db : Tables) (on : Option ℕ) (M N : Rows) (r : Result (Vec TableDelta Global) Refusal) → is_stale s L on ≡ false → M ≡ N

@@ -2,7 +2,7 @@
 use Rattle.std.specs.Prelude.{◌≡◌, ℕ, List, None, Some, Result, Ok, Err}
 use Rattle.lens_specs.specs.Common.{Columns, Rows}
 use Rattle.lens_laws.specs.Finds.{AllFit}
-use Rattle.sheet_specs.specs.Sheets.{unsheet}
+use Rattle.csv_specs.specs.Sheets.{unsheet}
 use Rattle.server_specs.specs.Exporting.{first_nullable}
 use Rattle.view_changes.specs.declared.sheets.SheetFault.{SheetFault}
 use Rattle.view_changes.specs.declared.sheets.SheetFault.TheVariants as fault

@@ -2,7 +2,7 @@
 use Rattle.std.specs.Prelude.{ℕ, ◌+◌, List, Ok, Err}
 use Rattle.serde_json.specs.Data.{Items}
 use Rattle.lens_specs.specs.Common.{diff, Lens, Tables, get, sort_of, Rows}
-use Rattle.sheet_specs.specs.Sheets.{unsheet}
+use Rattle.csv_specs.specs.Sheets.{unsheet}
 use Rattle.lens_laws.specs.Work.{count_of, rows_of}
 use Rattle.server_specs.specs.Answer.{Listed, in_add, in_remove, in_rows}
 use Rattle.server_specs.specs.Changing.{set_in}

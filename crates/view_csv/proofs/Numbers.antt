@@ -15,7 +15,7 @@ use Rattle.plain_values.specs.Bytes.{is_text}
 use Rattle.plain_values.specs.Text.{text_of}
 use Rattle.plain_values.specs.declared.text.TextFault.TheVariants as fault
 use Rattle.plain_values.proofs.Tests.{first_holds, second_holds}
-use Rattle.sheet_specs.specs.Fields.{are_digits, number_below_zero, number_in, number_of_digits, text_in}
+use Rattle.csv_specs.specs.Fields.{are_digits, number_below_zero, number_in, number_of_digits, text_in}
 
 own : IsNumeralModel (λ ds. list_all is_digit ds ≡ true) (digits_value 0)
 own = numerals_by_fold _ (search rules) digits_value (search rules)

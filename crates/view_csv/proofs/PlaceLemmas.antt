@@ -14,8 +14,8 @@ use Rattle.plain_values.specs.declared.value.Kind.{Kind}
 use Rattle.plain_values.specs.declared.value.Value.{Value}
 use Rattle.plain_values.proofs.Tests.{first_fails, second_fails}
 use Rattle.lens_specs.specs.Common.{Columns, Name}
-use Rattle.sheet_specs.specs.Fields.{is_same, value_in}
-use Rattle.sheet_specs.specs.Sheets.{Record, all_there, field_under, is_header, value_under}
+use Rattle.csv_specs.specs.Fields.{is_same, value_in}
+use Rattle.csv_specs.specs.Sheets.{Record, all_there, field_under, is_header, value_under}
 use Rattle.view_csv.specs.Places.{ArePlaces, is_name_at, value_at, values_at}
 
 eqb_yes : (m n : ℕ) → m ≡ n → (m == n) ≡ true

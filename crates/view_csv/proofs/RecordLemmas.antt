@@ -5,8 +5,8 @@ use Rattle.csv.specs.Reading.{ReadRecord, default_config, reader_state, strip_bo
 use Rattle.csv.specs.declared.parser.State.TheVariants as st
 use Rattle.csv.specs.declared.reader.Reader.{Reader}
 use Rattle.csv.proofs.ReadFacts.{rows-end, rows-more}
-use Rattle.sheet_specs.specs.Sheets.{Record}
-use Rattle.sheet_specs.proofs.Readings.{all_records, first_records}
+use Rattle.csv_specs.specs.Sheets.{Record}
+use Rattle.csv_specs.proofs.Readings.{all_records, first_records}
 use Rattle.view_csv.specs.Records.{HasRead, ReadsOn, records_in}
 
 -- a read carries what was read by one record, or shows that there is none

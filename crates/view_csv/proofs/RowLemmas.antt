@@ -11,7 +11,7 @@ use Rattle.plain_values.specs.SortedSet as set
 use Rattle.plain_values.specs.Row.{Row}
 use Rattle.plain_values.specs.declared.value.Kind.{Kind}
 use Rattle.plain_values.specs.Columns.{Columns, names}
-use Rattle.sheet_specs.specs.Sheets.{Record, as_set, is_header, row_in, row_of, rows_from, rows_of_records, unsheet, values_in, with_row}
+use Rattle.csv_specs.specs.Sheets.{Record, as_set, is_header, row_in, row_of, rows_from, rows_of_records, unsheet, values_in, with_row}
 use Rattle.view_csv.specs.Places.{ArePlaces, values_at}
 use Rattle.view_csv.specs.Records.{HasRead, records_in}
 use Rattle.view_csv.specs.Told.{told}

@@ -17,8 +17,8 @@ use Rattle.plain_values.specs.RowOrder.{row_cmp-IsAntisymmetric}
 use Rattle.plain_values.specs.SortedSet as set
 use Rattle.plain_values.proofs.Tests.{is_tie}
 use Rattle.lens_specs.specs.Common.{Columns, Rows, has}
-use Rattle.sheet_specs.specs.SheetLaws.{is_right}
-use Rattle.sheet_specs.specs.Sheets.{Record, record_of, sheet, text_of, unsheet}
+use Rattle.csv_specs.specs.SheetLaws.{is_right}
+use Rattle.csv_specs.specs.Sheets.{Record, record_of, sheet, text_of, unsheet}
 
 -- one more row
 pub text_more : (first : Record) (rows : List Row) (i : ℕ) (row : Row) → i < length rows → row ≡ get_or rows i row

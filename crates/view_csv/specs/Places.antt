@@ -6,8 +6,8 @@ use Rattle.csv.specs.Records.{field_at}
 use Rattle.plain_values.specs.declared.value.Kind.{Kind}
 use Rattle.plain_values.specs.declared.value.Value.{Value}
 use Rattle.lens_specs.specs.Common.{Columns, Name}
-use Rattle.sheet_specs.specs.Fields.{is_same, value_in}
-use Rattle.sheet_specs.specs.Sheets.{Record, all_there, values_in}
+use Rattle.csv_specs.specs.Fields.{is_same, value_in}
+use Rattle.csv_specs.specs.Sheets.{Record, all_there, values_in}
 
 -- whether the field is there, and is the name
 abbrev pub is_name_at : Name → Option (List ℕ) → Bool

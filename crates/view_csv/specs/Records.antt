@@ -5,7 +5,7 @@ use Rattle.csv.specs.Reading.{Reached, Ready, default_config, reader_config, rea
 use Rattle.csv.specs.declared.parser.State.TheVariants as st
 use Rattle.csv.specs.declared.reader.Reader.{Reader}
 use Rattle.csv.specs.declared.reader.Trim.TheVariants as trim
-use Rattle.sheet_specs.specs.Sheets.{Record}
+use Rattle.csv_specs.specs.Sheets.{Record}
 
 -- the records of a text that has at most one byte order mark in front
 abbrev pub records_in : List ℕ → List Record

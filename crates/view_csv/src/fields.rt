@@ -1,7 +1,7 @@
 //! The values that fields stand for.
 ghost use Rattle.std.specs.Prelude.{◌≡◌, IfOk, option_map};
 ghost use Rattle.plain_values.specs.declared.value.Value.TheVariants as value;
-ghost use Rattle.sheet_specs.specs.Fields.{flag_in, number_in, text_in, value_in};
+ghost use Rattle.csv_specs.specs.Fields.{flag_in, number_in, text_in, value_in};
 
 use lens_values::{Kind, NoMemory, Text, TextFault, Value};
 use std::alloc::Global;

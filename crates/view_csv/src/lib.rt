@@ -1,7 +1,7 @@
 //! Rows written as CSV and read from it, and the law that one undoes the other.
 #![tactic(auto)]
 
-ghost use Rattle.sheet_specs.specs.SheetLaws.{SheetsReadBack};
+ghost use Rattle.csv_specs.specs.SheetLaws.{SheetsReadBack};
 
 pub mod fault;
 mod fields;

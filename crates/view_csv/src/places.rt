@@ -4,8 +4,8 @@ ghost use Rattle.std.specs.List.{list_any, zip};
 ghost use Rattle.std.specs.FinMap as finmap;
 ghost use Rattle.csv.specs.Records.{field_at, fields_of};
 ghost use Rattle.plain_values.specs.SortedSet as set;
-ghost use Rattle.sheet_specs.specs.Fields.{is_same};
-ghost use Rattle.sheet_specs.specs.Sheets.{field_under, is_header};
+ghost use Rattle.csv_specs.specs.Fields.{is_same};
+ghost use Rattle.csv_specs.specs.Sheets.{field_under, is_header};
 ghost use Rattle.view_csv.specs.Places.{ArePlaces, is_name_at, value_at, values_at};
 
 use crate::fields::value_of;

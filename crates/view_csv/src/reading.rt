@@ -4,7 +4,7 @@ ghost use Rattle.std.specs.FinMap as finmap;
 ghost use Rattle.no_memory.specs.Gives.{Gives, GivesBy};
 ghost use Rattle.plain_values.specs.SortedSet as set;
 ghost use Rattle.lens_specs.specs.Columns.{Fits};
-ghost use Rattle.sheet_specs.specs.Sheets.{rows_from, unsheet};
+ghost use Rattle.csv_specs.specs.Sheets.{rows_from, unsheet};
 ghost use Rattle.view_csv.specs.Places.{ArePlaces};
 ghost use Rattle.view_csv.specs.Records.{HasRead, records_in};
 ghost use Rattle.view_csv.specs.Told.{told};

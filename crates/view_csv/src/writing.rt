@@ -9,9 +9,9 @@ ghost use Rattle.plain_values.specs.Bytes.{is_name};
 ghost use Rattle.plain_values.specs.SortedSet as set;
 ghost use Rattle.plain_values.specs.Value.{is_nullable};
 ghost use Rattle.lens_specs.specs.Columns.{Fits};
-ghost use Rattle.sheet_specs.specs.Fields.{field_of, flag_word};
-ghost use Rattle.sheet_specs.specs.SheetLaws.{is_right};
-ghost use Rattle.sheet_specs.specs.Sheets.{record_of, sheet, unsheet};
+ghost use Rattle.csv_specs.specs.Fields.{field_of, flag_word};
+ghost use Rattle.csv_specs.specs.SheetLaws.{is_right};
+ghost use Rattle.csv_specs.specs.Sheets.{record_of, sheet, unsheet};
 ghost use Rattle.view_csv.specs.Texts.{HasWritten};
 
 use csv::{ByteRecord, Writer, WriterBuilder};

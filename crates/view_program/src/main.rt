@@ -2,7 +2,7 @@
 #![tactic(auto)]
 
 ghost use Rattle.std.specs.Prelude.{◌≡◌, ◌≢◌, ◌↔◌, ◌⊎◌, IfSome, None, map, string_bytes};
-ghost use Rattle.command_words.specs.Settings.{settings};
+ghost use Rattle.arguments.specs.Settings.{settings};
 ghost use Rattle.serving.specs.Promises.{IsServed, IsUnserved};
 
 mod causes;

@@ -1,8 +1,8 @@
 use Rattle.std.proofs.Common.{◌∙◌, ap}
 use Rattle.std.specs.Prelude.{find, not}
-use Rattle.lens_specs.specs.Common.{holds, off}
+use Rattle.lens_specs.specs.Common.{holds, violating_row}
 use Rattle.edit_check.proofs.checking.least_refused.Goals as goal
 
 pub returns : goal.returns
-unfolding off
+unfolding violating_row
 returns c = c.first_refused.ensures ∙ ap (find (λ row. not (holds c.args.pred.now row))) c.rows.ensures

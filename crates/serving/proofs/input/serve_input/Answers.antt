@@ -1,5 +1,5 @@
 use Rattle.std.proofs.Common.{◌≡◌, ◌∙◌, Err, ap, arith, inl, inr, refl, rules}
-use Rattle.command_words.specs.Views.{settings_view}
+use Rattle.arguments.specs.Views.{settings_view}
 use Rattle.lens_server.specs.declared.startup.fault.StartFault.TheVariants as fault
 use Rattle.server_specs.specs.State.{kept}
 use Rattle.serving.proofs.Calls.{fails_by, lacks_by, refused_exactly, refused_exactly_now, refused_tells, served_tells, undamaged, undamaged_now}

@@ -1,6 +1,6 @@
-use Rattle.lens_specs.specs.Keeping.{Tells}
+use Rattle.lens_specs.specs.Keeping.{IfObserved}
 use Rattle.server_specs.specs.State.{kept}
 use Rattle.serving_tests.proofs.looks.rise.Given as goal
 
 abbrev pub invariant-loop-line : goal.invariant-loop-line
-invariant-loop-line g l = Tells (g.K.Keeper.contents l.keeper) (kept l.server)
+invariant-loop-line g l = IfObserved (g.K.Keeper.contents l.keeper) (kept l.server)

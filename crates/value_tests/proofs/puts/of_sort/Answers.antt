@@ -23,8 +23,8 @@ returns g c =
     let columns : M.columns ≡ s.columns = c.relation-made.ensures ∙ c.cols.ensures.value in
     let taken : spec.off s.predicate M.rows ≡ None =
     (λ i. spec.off (sym c.pred.ensures.value i) (sym c.rows.ensures.rows i)) ∙ sym c.refused.ensures ∙ no_row c.refused.result (sym c.is_some.ensures ∙ c.if-is_some.false) in
-    let found : c.expect-clash.result ≡ shown_clash (spec.clash c.tree.result.now M.rows) =
-    IfOk-at_ok (λ clash. clash ≡ shown_clash (spec.clash c.tree.result.now M.rows)) c.expect-clash.ensures c.meets.ensures in
-    let shown = ap (λ T. shown_clash (spec.clash T M.rows)) (sym c.tree.ensures.value) ∙ sym found in
-    let met : spec.clash s.tree M.rows ≡ None = no_clash (spec.clash s.tree M.rows) (ap is_some shown ∙ sym c.is_some-2.ensures ∙ c.if-is_some-2.false) in
+    let found : c.expect-clash.result ≡ shown_clash (spec.violating_pair c.tree.result.now M.rows) =
+    IfOk-at_ok (λ clash. clash ≡ shown_clash (spec.violating_pair c.tree.result.now M.rows)) c.expect-clash.ensures c.meets.ensures in
+    let shown = ap (λ T. shown_clash (spec.violating_pair T M.rows)) (sym c.tree.ensures.value) ∙ sym found in
+    let met : spec.violating_pair s.tree M.rows ≡ None = no_clash (spec.violating_pair s.tree M.rows) (ap is_some shown ∙ sym c.is_some-2.ensures ∙ c.if-is_some-2.false) in
     (columns, record { columns = λ r there. subst (λ U. Fits U r) columns (c.rows.ensures.fit r there); off = taken; clash = met })

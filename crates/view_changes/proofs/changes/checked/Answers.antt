@@ -6,7 +6,7 @@ use Rattle.lens_chain.specs.Edits.{edited, over}
 use Rattle.lens_laws.proofs.Lenses.{get_sort}
 use Rattle.edit_check.specs.Checked.{IsChecked}
 use Rattle.lens_probe.specs.Viewed.{asked_by, shown}
-use Rattle.lens_specs.specs.Common.{AllEdges, sort_of, Sort, IsOf, IsOfSort, clash, off}
+use Rattle.lens_specs.specs.Common.{AllEdges, sort_of, Sort, IsOf, IsOfSort, violating_pair, violating_row}
 use Rattle.server_specs.specs.Changing.{unless_clash, unless_off}
 use Rattle.server_specs.specs.EditRefusal as refusals
 use Rattle.lens_laws.proofs.Rules.{given_is}
@@ -43,15 +43,15 @@ returns-in-Err-OffPredicate-clause-tested g c =
     let s = sort_of v.lens in
     let N = edited v.lens (over v) c.args.delta.now in
     let sort : c.sort-sort.result.now ≡ s = given_is c.lens.result.now c.sort-sort.result.now c.sort-sort.ensures.typed c.sort-sort.ensures.given ∙ ap sort_of c.lens.ensures.lens in
-    let found : off s.predicate N ≡ Some c.in-Err-OffPredicate.row = ap (λ (t : Sort). off t.predicate N) (sym sort) ∙ subst (λ e. IsChecked c.sort-sort.result.now N (Err e)) c.in-Err-OffPredicate.field-0-is c.in-Err-OffPredicate.ensures.checked in
-    ap (λ o. unless_off o (unless_clash (clash s.tree N) N)) found
+    let found : violating_row s.predicate N ≡ Some c.in-Err-OffPredicate.row = ap (λ (t : Sort). violating_row t.predicate N) (sym sort) ∙ subst (λ e. IsChecked c.sort-sort.result.now N (Err e)) c.in-Err-OffPredicate.field-0-is c.in-Err-OffPredicate.ensures.checked in
+    ap (λ o. unless_off o (unless_clash (violating_pair s.tree N) N)) found
 
 pub clash_refusal-requires : goal.clash_refusal-requires
 clash_refusal-requires g c =
     let v = c.args.view.now in
     let N = edited v.lens (over v) c.args.delta.now in
     let edges : c.edges-edges.result.now ≡ c.sort-sort.result.now.tree = c.edges-edges.ensures.edges ∙ c.tree.ensures.value in
-    (found_clash c.edges-edges.result.now N c.in-Err-Clash.clash (sym (ap (λ T. shown_clash (clash T N)) edges ∙ (subst (λ e. IsChecked c.sort-sort.result.now N (Err e)) c.in-Err-Clash.field-0-is c.in-Err-Clash.ensures.checked).1))).below
+    (found_clash c.edges-edges.result.now N c.in-Err-Clash.clash (sym (ap (λ T. shown_clash (violating_pair T N)) edges ∙ (subst (λ e. IsChecked c.sort-sort.result.now N (Err e)) c.in-Err-Clash.field-0-is c.in-Err-Clash.ensures.checked).1))).below
 
 pub returns-in_ok-clash_refusal-in-Err-Clash-clause-tested : goal.returns-in_ok-clash_refusal-in-Err-Clash-clause-tested
 returns-in_ok-clash_refusal-in-Err-Clash-clause-tested g c =
@@ -61,11 +61,11 @@ returns-in_ok-clash_refusal-in-Err-Clash-clause-tested g c =
     let sort : c.sort-sort.result.now ≡ s = given_is c.lens.result.now c.sort-sort.result.now c.sort-sort.ensures.typed c.sort-sort.ensures.given ∙ ap sort_of c.lens.ensures.lens in
     let edges : c.edges-edges.result.now ≡ c.sort-sort.result.now.tree = c.edges-edges.ensures.edges ∙ c.tree.ensures.value in
     let T = c.edges-edges.result.now in
-    let w : IsFoundClash T N c.in-Err-Clash.clash = found_clash T N c.in-Err-Clash.clash (sym (ap (λ T. shown_clash (clash T N)) edges ∙ (subst (λ e. IsChecked c.sort-sort.result.now N (Err e)) c.in-Err-Clash.field-0-is c.in-Err-Clash.ensures.checked).1)) in
-    let fits : off s.predicate N ≡ None = ap (λ (t : Sort). off t.predicate N) (sym sort) ∙ (subst (λ e. IsChecked c.sort-sort.result.now N (Err e)) c.in-Err-Clash.field-0-is c.in-Err-Clash.ensures.checked).0 in
-    let same : clash s.tree N ≡ Some w.clash = ap (λ T. clash T N) (sym (edges ∙ ap (λ (t : Sort). t.tree) sort)) ∙ w.is in
-    ap (λ o. unless_off o (unless_clash (clash s.tree N) N)) fits
-    ∙ clash_asked (clash s.tree N) w.clash N _ same
+    let w : IsFoundClash T N c.in-Err-Clash.clash = found_clash T N c.in-Err-Clash.clash (sym (ap (λ T. shown_clash (violating_pair T N)) edges ∙ (subst (λ e. IsChecked c.sort-sort.result.now N (Err e)) c.in-Err-Clash.field-0-is c.in-Err-Clash.ensures.checked).1)) in
+    let fits : violating_row s.predicate N ≡ None = ap (λ (t : Sort). violating_row t.predicate N) (sym sort) ∙ (subst (λ e. IsChecked c.sort-sort.result.now N (Err e)) c.in-Err-Clash.field-0-is c.in-Err-Clash.ensures.checked).0 in
+    let same : violating_pair s.tree N ≡ Some w.clash = ap (λ T. violating_pair T N) (sym (edges ∙ ap (λ (t : Sort). t.tree) sort)) ∙ w.is in
+    ap (λ o. unless_off o (unless_clash (violating_pair s.tree N) N)) fits
+    ∙ clash_asked (violating_pair s.tree N) w.clash N _ same
     (c.in_ok-clash_refusal-in-Err-Clash.ensures w.clash.edge (w.edge w.clash.edge) ∙ (λ i. refusals.clash w.clash.edge (w.first i) (w.second i)))
 
 pub returns-in-Ok-clause-looks : goal.returns-in-Ok-clause-looks

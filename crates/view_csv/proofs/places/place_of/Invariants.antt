@@ -1,7 +1,7 @@
 use Rattle.std.proofs.Common.{◌≡◌, take, false}
 use Rattle.std.specs.List.{list_any}
 use Rattle.csv.specs.Records.{fields_of}
-use Rattle.sheet_specs.specs.Fields.{is_same}
+use Rattle.csv_specs.specs.Fields.{is_same}
 use Rattle.view_csv.proofs.places.place_of.Given as goal
 
 abbrev pub invariant-loop-place : goal.invariant-loop-place

@@ -1,8 +1,8 @@
 use Rattle.std.proofs.Common.{◌≡◌, take, length, map, true}
 use Rattle.std.specs.List.{list_all, list_any}
 use Rattle.csv.specs.Records.{fields_of}
-use Rattle.sheet_specs.specs.Fields.{is_same}
-use Rattle.sheet_specs.specs.Sheets.{Record, value_under}
+use Rattle.csv_specs.specs.Fields.{is_same}
+use Rattle.csv_specs.specs.Sheets.{Record, value_under}
 use Rattle.view_csv.specs.Places.{value_at}
 use Rattle.view_csv.proofs.places.places_under.Given as goal
 

@@ -1,8 +1,8 @@
 use Rattle.std.proofs.Common.{◌∙◌, ◌∷◌, [], Ok, ap, subst, sym}
 use Rattle.csv.specs.Records.{fields_of}
-use Rattle.sheet_specs.specs.Sheets.{Record, rows_from, unsheet}
+use Rattle.csv_specs.specs.Sheets.{Record, rows_from, unsheet}
 use Rattle.view_csv.specs.Places.{ArePlaces}
-use Rattle.sheet_specs.proofs.Fitting.{unsheet_fits}
+use Rattle.csv_specs.proofs.Fitting.{unsheet_fits}
 use Rattle.view_csv.specs.Told.{told}
 use Rattle.view_csv.proofs.RecordLemmas.{others_follow}
 use Rattle.view_csv.proofs.RowLemmas.{told_fault, told_ok, told_set, unsheet_no_header, unsheet_nothing, unsheet_rows}

@@ -2,7 +2,7 @@ use Rattle.std.proofs.Common.{◌∙◌, ◌∷◌, ◌++◌, [], Ok, ap, length
 use Rattle.std.proofs.lemmas.List.{length-append}
 use Rattle.plain_values.specs.SortedSet as set
 use Rattle.csv.specs.Records.{fields_of}
-use Rattle.sheet_specs.specs.Sheets.{Record, rows_from}
+use Rattle.csv_specs.specs.Sheets.{Record, rows_from}
 use Rattle.view_csv.specs.Told.{told}
 use Rattle.view_csv.proofs.RowLemmas.{names_are, no_row, row_made, rows_more, stopped, whole}
 use Rattle.view_csv.proofs.reading.rows_under.Goals as goal

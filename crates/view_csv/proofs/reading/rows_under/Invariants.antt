@@ -1,5 +1,5 @@
 use Rattle.std.proofs.Common.{◌≡◌, ◌∷◌, [], ◌+◌, length, List, Ok}
-use Rattle.sheet_specs.specs.Sheets.{Record, rows_from}
+use Rattle.csv_specs.specs.Sheets.{Record, rows_from}
 use Rattle.view_csv.specs.Places.{ArePlaces}
 use Rattle.view_csv.specs.Records.{HasRead}
 use Rattle.view_csv.proofs.reading.rows_under.Given as goal

@@ -1,8 +1,8 @@
 use Rattle.std.proofs.Common.{◌≡◌, [], map, take, true}
 use Rattle.std.specs.List.{list_all}
 use Rattle.csv.specs.Records.{fields_of, partial_of}
-use Rattle.sheet_specs.specs.Fields.{field_of}
-use Rattle.sheet_specs.specs.SheetLaws.{is_right}
+use Rattle.csv_specs.specs.Fields.{field_of}
+use Rattle.csv_specs.specs.SheetLaws.{is_right}
 use Rattle.view_csv.proofs.writing.put_values.Given as goal
 
 abbrev pub invariant-loop-value : goal.invariant-loop-value

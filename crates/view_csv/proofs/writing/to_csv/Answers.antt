@@ -3,8 +3,8 @@ use Rattle.std.proofs.lemmas.List.{append-nil}
 use Rattle.std.specs.FinMap as finmap
 use Rattle.std.specs.String.{string_bytes}
 use Rattle.csv.specs.Writing.{default_writer, row_text}
-use Rattle.sheet_specs.specs.Sheets.{record_of, sheet, text_of}
-use Rattle.sheet_specs.proofs.RoundTrip.{sheets_read_back}
+use Rattle.csv_specs.specs.Sheets.{record_of, sheet, text_of}
+use Rattle.csv_specs.proofs.RoundTrip.{sheets_read_back}
 use Rattle.view_csv.specs.Texts.{HasWritten}
 use Rattle.view_csv.proofs.TextLemmas.{all_right, right_more, text_given, text_more, text_reads, text_whole}
 use Rattle.view_csv.proofs.writing.to_csv.Goals as goal

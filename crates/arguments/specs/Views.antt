@@ -1,9 +1,9 @@
 -- What the structs of the code stand for: a text as its bytes.
 use Rattle.std.specs.Option.{option_copied}
-use Rattle.command_words.specs.Options.{Entries}
-use Rattle.command_words.specs.Settings.{Settings}
-use Rattle.command_words.specs.declared.parsing.Options as options
-use Rattle.command_words.specs.declared.settings.Settings as settings
+use Rattle.arguments.specs.Options.{Entries}
+use Rattle.arguments.specs.Settings.{Settings}
+use Rattle.arguments.specs.declared.parsing.Options as options
+use Rattle.arguments.specs.declared.settings.Settings as settings
 
 -- the values of the options
 abbrev pub options_view : options.Options → Entries

@@ -1,8 +1,8 @@
 //! The options as they are written.
 ghost use Rattle.std.specs.Prelude.{◌≡◌, ◌↔◌, Some, None, Err, IfOk, map, string_bytes};
 ghost use Rattle.clap.specs.declared.error.kind.ErrorKind.TheVariants.{OutOfMemory};
-ghost use Rattle.command_words.specs.Options.{entries};
-ghost use Rattle.command_words.specs.Views.{options_view};
+ghost use Rattle.arguments.specs.Options.{entries};
+ghost use Rattle.arguments.specs.Views.{options_view};
 
 use crate::settings::WordsFault;
 use clap::error::ErrorKind;

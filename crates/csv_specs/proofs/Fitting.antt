@@ -22,8 +22,8 @@ use Rattle.plain_values.proofs.FitsLemmas.{fits_along}
 use Rattle.plain_values.proofs.Tests.{is_tie}
 use Rattle.lens_specs.specs.Common.{Columns, Fits, Name, Rows, has}
 use Rattle.csv.specs.Reading.{default_config, records, strip_bom}
-use Rattle.sheet_specs.specs.Fields.{flag_in, number_in, text_in, value_in}
-use Rattle.sheet_specs.specs.Sheets.{Record, all_there, as_set, is_header, row_in, row_of, rows_from, rows_of_records, unsheet, value_under, values_in, with_row}
+use Rattle.csv_specs.specs.Fields.{flag_in, number_in, text_in, value_in}
+use Rattle.csv_specs.specs.Sheets.{Record, all_there, as_set, is_header, row_in, row_of, rows_from, rows_of_records, unsheet, value_under, values_in, with_row}
 
 -- ---- one value
 

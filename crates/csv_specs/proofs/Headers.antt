@@ -10,8 +10,8 @@ use Rattle.csv.specs.Reading.{strip_bom}
 use Rattle.csv.specs.Writing.{default_writer, needs_byte, row_text}
 use Rattle.plain_values.specs.Bytes.{is_lower, is_name}
 use Rattle.lens_specs.specs.Common.{Columns, Name}
-use Rattle.sheet_specs.specs.Fields.{is_same}
-use Rattle.sheet_specs.specs.Sheets.{Record, is_header}
+use Rattle.csv_specs.specs.Fields.{is_same}
+use Rattle.csv_specs.specs.Sheets.{Record, is_header}
 
 -- ---- the names of the columns are a header
 

@@ -3,7 +3,7 @@ use Rattle.std.specs.Prelude.{ℕ, ◌==◌, ◌&&◌, not, nat_le, List, Bool, 
 use Rattle.std.specs.Char.{is_ascii_digit}
 use Rattle.std.specs.List.{list_all}
 use Rattle.std.specs.Str.Parse.{digits_value}
-use Rattle.command_words.specs.Options.{Entries, entries}
+use Rattle.arguments.specs.Options.{Entries, entries}
 
 -- whether a text is 1 to 13 decimal digits
 abbrev pub is_number : List ℕ → Bool

@@ -3,7 +3,7 @@ ghost use Rattle.std.specs.Prelude.{◌≡◌, ◌≤◌, ◌^◌, Some, None, E
 ghost use Rattle.std.specs.Char.{is_ascii_digit};
 ghost use Rattle.std.specs.List.{list_all};
 ghost use Rattle.std.specs.Option.{ForSome, option_copied};
-ghost use Rattle.command_words.specs.Settings.{is_number, is_place, max_input_of, number_of, number_within, rehearse_of, store_of};
+ghost use Rattle.arguments.specs.Settings.{is_number, is_place, max_input_of, number_of, number_within, rehearse_of, store_of};
 
 use crate::settings::WordsFault;
 

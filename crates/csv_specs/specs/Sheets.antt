@@ -10,7 +10,7 @@ use Rattle.plain_values.specs.Row.{Row}
 use Rattle.plain_values.specs.declared.value.Kind.{Kind}
 use Rattle.plain_values.specs.declared.value.Value.{Value}
 use Rattle.lens_specs.specs.Common.{Columns, Name, Rows}
-use Rattle.sheet_specs.specs.Fields.{field_of, is_same, value_in}
+use Rattle.csv_specs.specs.Fields.{field_of, is_same, value_in}
 
 -- the fields of a record
 abbrev pub Record : Type 0

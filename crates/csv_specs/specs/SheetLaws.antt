@@ -10,7 +10,7 @@ use Rattle.plain_values.specs.declared.value.Value.{Value}
 use Rattle.plain_values.specs.declared.value.Value.TheVariants.{Null, Int, Text, Flag}
 use Rattle.lens_specs.specs.Common.{Columns, Fits, Rows, has}
 use Rattle.grammar_specs.specs.Writable.{is_literal}
-use Rattle.sheet_specs.specs.Sheets.{sheet, unsheet}
+use Rattle.csv_specs.specs.Sheets.{sheet, unsheet}
 
 -- null, a number of 64 bits, a text in UTF-8, or a truth value
 abbrev pub is_right : Value → Bool

@@ -3,9 +3,9 @@ use Rattle.clap.specs.Walk.{rule_of}
 use Rattle.clap.specs.Simple.{app_of, is_simple, with_rule}
 use Rattle.clap.specs.Faults.{is_simple_and_free}
 use Rattle.clap.specs.Matches.{found_of}
-use Rattle.command_words.specs.Options.{command, option}
-use Rattle.command_words.proofs.ParsingLemmas.{free, simple, told, refused}
-use Rattle.command_words.proofs.parsing.parse.Goals as goal
+use Rattle.arguments.specs.Options.{command, option}
+use Rattle.arguments.proofs.ParsingLemmas.{free, simple, told, refused}
+use Rattle.arguments.proofs.parsing.parse.Goals as goal
 
 pub returns-in-Ok-try_get_matches_from-clause-ok : goal.returns-in-Ok-try_get_matches_from-clause-ok
 returns-in-Ok-try_get_matches_from-clause-ok c =

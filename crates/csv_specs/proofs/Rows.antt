@@ -22,10 +22,10 @@ use Rattle.plain_values.specs.declared.value.Kind.{Kind}
 use Rattle.plain_values.specs.declared.value.Value.{Value}
 use Rattle.plain_values.proofs.FitsLemmas.{fits_along, fits_keys}
 use Rattle.lens_specs.specs.Common.{Columns, Fits, Name}
-use Rattle.sheet_specs.specs.Fields.{field_of, is_same, value_in}
-use Rattle.sheet_specs.specs.SheetLaws.{is_right}
-use Rattle.sheet_specs.specs.Sheets.{Record, all_there, field_under, record_of, row_in, row_of, rows_from, value_under, values_in, with_row}
-use Rattle.sheet_specs.proofs.Values.{value_back}
+use Rattle.csv_specs.specs.Fields.{field_of, is_same, value_in}
+use Rattle.csv_specs.specs.SheetLaws.{is_right}
+use Rattle.csv_specs.specs.Sheets.{Record, all_there, field_under, record_of, row_in, row_of, rows_from, value_under, values_in, with_row}
+use Rattle.csv_specs.proofs.Values.{value_back}
 
 -- ---- values under the names of their columns
 

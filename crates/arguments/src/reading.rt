@@ -1,7 +1,7 @@
 //! The settings that the words say.
 ghost use Rattle.std.specs.Prelude.{◌≡◌, Some, None, Err, IfOk, OnErr, map, string_bytes};
-ghost use Rattle.command_words.specs.Settings.{settings, settings_of};
-ghost use Rattle.command_words.specs.Views.{options_view, settings_view};
+ghost use Rattle.arguments.specs.Settings.{settings, settings_of};
+ghost use Rattle.arguments.specs.Views.{options_view, settings_view};
 
 use crate::parsing::{Options, parse};
 use crate::ranges::{max_input_in, place_in, rehearsal_in};

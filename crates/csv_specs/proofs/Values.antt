@@ -14,8 +14,8 @@ use Rattle.plain_values.specs.declared.value.Value.TheVariants.{Null, Int, Text,
 use Rattle.grammar_specs.specs.Tokens.{AreDigits, SpellsInteger, digits_value, is_digit, minus}
 use Rattle.grammar_specs.specs.Writable.{is_literal}
 use Rattle.grammar_laws.proofs.PrintNumbers.{decimal_spells, in_range}
-use Rattle.sheet_specs.specs.Fields.{are_digits, field_of, flag_in, flag_word, number_in, number_of_digits, value_in}
-use Rattle.sheet_specs.specs.SheetLaws.{is_right}
+use Rattle.csv_specs.specs.Fields.{are_digits, field_of, flag_in, flag_word, number_in, number_of_digits, value_in}
+use Rattle.csv_specs.specs.SheetLaws.{is_right}
 
 some_digits : (bytes : List ℕ) → AreDigits bytes → are_digits bytes ≡ true
 some_digits [] h = absurd (h.0 refl)

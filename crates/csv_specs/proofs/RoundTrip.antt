@@ -15,12 +15,12 @@ use Rattle.plain_values.specs.SortedSet as set
 use Rattle.plain_values.specs.Row.{Row}
 use Rattle.plain_values.proofs.FitsLemmas.{fits_keys}
 use Rattle.lens_specs.specs.Columns.{Columns, Fits}
-use Rattle.sheet_specs.specs.Fields.{field_of}
-use Rattle.sheet_specs.specs.SheetLaws.{SheetsReadBack}
-use Rattle.sheet_specs.specs.Sheets.{Record, as_set, record_of, records_of, row_in, rows_from, rows_of_records, sheet, text_of, unsheet}
-use Rattle.sheet_specs.proofs.Headers.{mark_free, names_head}
-use Rattle.sheet_specs.proofs.Readings.{all_records}
-use Rattle.sheet_specs.proofs.Rows.{along_members, row_back, rows_back}
+use Rattle.csv_specs.specs.Fields.{field_of}
+use Rattle.csv_specs.specs.SheetLaws.{SheetsReadBack}
+use Rattle.csv_specs.specs.Sheets.{Record, as_set, record_of, records_of, row_in, rows_from, rows_of_records, sheet, text_of, unsheet}
+use Rattle.csv_specs.proofs.Headers.{mark_free, names_head}
+use Rattle.csv_specs.proofs.Readings.{all_records}
+use Rattle.csv_specs.proofs.Rows.{along_members, row_back, rows_back}
 
 -- ---- all records that were written are read, and no others
 
