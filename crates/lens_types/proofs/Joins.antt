@@ -2,7 +2,7 @@
 use Rattle.std.proofs.Common.{List, ◌≡◌, ◌∙◌, ◌++◌, ℕ, Bool, true, false, cond, find, ap, sym, subst, refl, [], ◌∷◌}
 use Rattle.std.specs.Prelude.{Option, Some, None, option_map, Ok}
 use Rattle.std.specs.List.Sorted.{IsStrictlySortedBy}
-use Rattle.plain_values.specs.Columns as values
+use Rattle.lens_values.specs.Unions as unions
 use Rattle.plain_values.specs.declared.join_kind.JoinKind.TheVariants.{DeleteLeft}
 use Rattle.plain_values.specs.SortedSet as set
 use Rattle.fd_laws.proofs.Names.{name_total, one_is}
@@ -23,13 +23,13 @@ use Rattle.lens_types.proofs.Parts.{or_last, few_in_three}
 
 -- ---- columns
 
-made_from : (o : Option Name) (U V C : Columns) → values.union_from o U V ≡ Ok C → columns_from o U V ≡ Ok C
+made_from : (o : Option Name) (U V C : Columns) → unions.union_from o U V ≡ Ok C → columns_from o U V ≡ Ok C
 unfolding both_columns
 made_from None U V C e = (let is : both_columns U V ≡ C = cc in ap Ok is)
 made_from (Some c) U V C e = cc
 
 -- the columns of both that were made
-pub columns_made : (U V C : Columns) → values.union_of U V ≡ Ok C → joined_columns U V ≡ Ok C
+pub columns_made : (U V C : Columns) → unions.union_of U V ≡ Ok C → joined_columns U V ≡ Ok C
 columns_made U V C e = made_from (kinds_differ U V) U V C e
 
 alike_from : (o : Option Name) (U V C : Columns) → columns_from o U V ≡ Ok C → (option_map kind_clash o ≡ None) × (C ≡ both_columns U V)
