@@ -77,7 +77,7 @@ hidden_less rows hidden left k =
 pub none_both : (rows hidden : Rows) (list : List Keyed) → list ≡ [] → set.difference rows (set.intersection hidden (rows_of list)) ≡ rows
 none_both rows hidden list none = same_rows _ _ (λ x. let e = ap (λ l. set.contains (rows_of l) x) none in grind (arith, contained, e))
 
-at_place : {A : Type 0} (P : A → Type 0) (xs : List A) (i : ℕ) (x : A) → AllByRecursion P xs → i < length xs → x ≡ get_or xs i x → P x
+pub at_place : {A : Type 0} (P : A → Type 0) (xs : List A) (i : ℕ) (x : A) → AllByRecursion P xs → i < length xs → x ≡ get_or xs i x → P x
 at_place P [] i x all l e = absurd (omega arith)
 at_place P (y ∷ ys) zero x all l e = subst P (sym e) all.0
 at_place P (y ∷ ys) (suc i) x all l e = at_place P ys i x all.1 (omega arith) e

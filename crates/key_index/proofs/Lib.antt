@@ -8,6 +8,7 @@ pub mod Members
 pub mod Mixed
 pub mod Put
 pub mod Replaced
+pub mod Rising
 pub mod RowSets
 pub mod Sets
 pub mod Taken

@@ -6,6 +6,7 @@ ghost use Rattle.plain_values.specs.SortedSet as set;
 ghost use Rattle.lens_values.specs.contracts.row.Row as contract;
 ghost use Rattle.key_index.specs.Group.{pair, rows_in, singleton};
 
+use crate::row_list::RowList;
 use lens_values::{NoMemory, Row};
 use row_sets::{RowSet, RowTree};
 use std::alloc::Global;
@@ -13,19 +14,23 @@ use std::cmp::Ordering;
 use std::marker::Model;
 use std::mem;
 
-/// The rows of one key. Mostly there is one, or two while a change of it is staged, and then no tree
+// So many rows are kept as a list, and more as a tree.
+const MOST_LISTED: usize = 32;
+
+/// The rows of one key. Mostly there is one, or two while a change of it is staged, and then no list
 /// is made for them.
 #[derive(Drop)]
 pub struct Group {
     rows: Members,
 }
 
-// The rows themselves, where they are at most two, or a tree of them.
+// The rows themselves, where they are at most two, or a list or a tree of them.
 #[derive(Drop)]
 enum Members {
     Empty,
     One(Row),
     Two(Row, Row),
+    Few(RowList),
     Several(RowTree),
 }
 
@@ -54,6 +59,7 @@ impl Group {
         match &self.rows {
             Members::Empty => true,
             Members::One(_) | Members::Two(_, _) => false,
+            Members::Few(list) => list.count() == 0,
             Members::Several(tree) => tree.count() == 0,
         }
     }
@@ -66,6 +72,7 @@ impl Group {
             Members::Empty => Ok(RowSet::empty(alloc)),
             Members::One(one) => set_of_one(alloc, one),
             Members::Two(one, other) => set_of_two(alloc, one, other),
+            Members::Few(list) => list.rows(alloc),
             Members::Several(tree) => tree.rows(alloc),
         }
     }
@@ -79,6 +86,8 @@ impl Group {
             Members::Empty => self.rows = Members::One(row),
             Members::One(one) => self.rows = with_second(alloc, one, row)?,
             Members::Two(one, other) => self.rows = with_third(alloc, one, other, row)?,
+            Members::Few(list) if list.count() < MOST_LISTED => list.insert(row)?,
+            Members::Few(list) => self.rows = with_more(alloc, list, row)?,
             Members::Several(tree) => tree.insert(row)?,
         }
         Ok(())
@@ -102,6 +111,11 @@ impl Members {
             Members::Empty => Members::Empty,
             Members::One(one) => one_without(one, row),
             Members::Two(one, other) => two_without(one, other, row),
+            Members::Few(list) => {
+                let mut list = list;
+                list.remove(row);
+                Members::Few(list)
+            }
             Members::Several(tree) => {
                 let mut tree = tree;
                 tree.remove(row);
@@ -150,19 +164,18 @@ fn with_second(alloc: Global, one: &Row, row: Row) -> Result<Members, NoMemory>
 fn with_third(alloc: Global, one: &Row, other: &Row, row: Row) -> Result<Members, NoMemory>
     ensures { IfOk result (λ rows. rows_in rows ≡ set.insert (pair one.now other.now) row) }
 {
-    let mut tree = tree_of_two(alloc, one, other)?;
-    tree.insert(row)?;
-    Ok(Members::Several(tree))
+    let mut list = RowList::of(set_of_two(alloc, one, other)?);
+    list.insert(row)?;
+    Ok(Members::Few(list))
 }
 
-// The tree of two rows.
-fn tree_of_two(alloc: Global, one: &Row, other: &Row) -> Result<RowTree, NoMemory>
-    ensures { IfOk result (λ tree. tree ≡ pair one.now other.now) }
+// As many rows as a list has room for, and another, as a tree.
+fn with_more(alloc: Global, list: &RowList, row: Row) -> Result<Members, NoMemory>
+    ensures { IfOk result (λ rows. rows_in rows ≡ set.insert list.now row) }
 {
-    let mut tree = RowTree::new(alloc);
-    tree.insert(one.copy(alloc)?)?;
-    tree.insert(other.copy(alloc)?)?;
-    Ok(tree)
+    let mut tree = RowTree::of(alloc, list.rows(alloc)?)?;
+    tree.insert(row)?;
+    Ok(Members::Several(tree))
 }
 
 // The set of a copy of one row.

@@ -8,6 +8,7 @@ pub mod index;
 mod key;
 pub mod keyed;
 pub mod marks;
+mod row_list;
 
 pub use filling::{fill, indexes_of};
 pub use index::{Index, find_by, has_index};
