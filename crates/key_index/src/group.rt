@@ -43,12 +43,12 @@ impl Model for Group {
 }
 
 impl Group {
-    /// The set of one row.
-    pub fn of(row: Row) -> Group
-        ensures { result ≡ singleton row }
+    /// The set of no row.
+    pub fn empty() -> Group
+        ensures { result ≡ set.empty }
     {
         Group {
-            rows: Members::One(row),
+            rows: Members::Empty,
         }
     }
 

@@ -63,13 +63,11 @@ impl Index {
         ensures err { OnErr result ((q : _) → group_at self.new q ≡ group_at self.old q) }
         ensures cols { self.new.cols ≡ self.old.cols }
     {
-        match self.groups.get_mut(key) {
-            Some(group) => group.insert(alloc, row),
-            None => {
-                let _old = self.groups.insert(key.copy(alloc)?, Group::of(row))?;
-                Ok(())
-            }
-        }
+        let group = self
+            .groups
+            .entry(key.copy(alloc)?)?
+            .or_insert(Group::empty());
+        group.insert(alloc, row)
     }
 
     /// Takes a row out from under a key. It takes no memory.
