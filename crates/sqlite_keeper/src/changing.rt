@@ -14,6 +14,9 @@ use store_statements::{create_text, delete_text, insert_text};
 use table_keeper::Change;
 use view_lang::{Definition, parse};
 
+// A change of so many rows leaves a long log.
+const MANY_ROWS: usize = 1_000;
+
 /// Makes the change in one transaction, or leaves the database.
 pub fn change<S: Alter>(
     alloc: Global,
@@ -33,7 +36,28 @@ pub fn change<S: Alter>(
         Change::Rows { deltas } => change_tables(alloc, &mut transaction, known, deltas)?,
     }
     transaction.commit()?;
+    if has_many_rows(change) {
+        copy_log(conn);
+    }
     Ok(())
+}
+
+// Whether the change adds or removes many rows of some table.
+fn has_many_rows(change: &Change) -> bool {
+    match change {
+        Change::Define { .. } => false,
+        Change::Rows { deltas } => deltas.iter().any(|change| {
+            change.delta.remove().rows().len() >= MANY_ROWS
+                || change.delta.add().rows().len() >= MANY_ROWS
+        }),
+    }
+}
+
+// Has SQLite copy its log into the file now. Else the next change would copy the long log before
+// its own commit, and the client that sent it would wait. If the copy fails, this change is made
+// all the same, and the next change copies the log.
+fn copy_log<S: Alter>(conn: &mut Connection<S>) {
+    let _ = conn.execute("UPDATE lens_format SET number = 2", &[]);
 }
 
 // Adds a definition, and the table that it makes, if any.
