@@ -1,5 +1,5 @@
 -- What every answer says of the state after it.
-use Rattle.std.proofs.Common.{◌≡◌, ◌+◌, ◌-◌, ◌⊎◌, ℕ, zero, suc, length, List, [], ◌∷◌, Some, inl, inr, refl, subst}
+use Rattle.std.proofs.Common.{◌≡◌, ◌≤◌, ◌+◌, ◌-◌, ◌⊎◌, ℕ, zero, suc, length, List, [], ◌∷◌, Some, inl, inr, refl, sym, subst, arith}
 use Rattle.std.specs.Prelude.{IfSome, Result, slice_get}
 use Rattle.std.specs.List.{AllByRecursion}
 use Rattle.lens_specs.specs.Common.{TableDelta, Tables}
@@ -13,6 +13,7 @@ use Rattle.server_specs.specs.Changing.{accept}
 use Rattle.server_specs.specs.Undoing.{undone}
 use Rattle.server_specs.specs.Validity.{IsDifference, Valid}
 use Rattle.server_specs.specs.Answering.{answer}
+use Rattle.server_specs.specs.Session.{Step, answered, not_stored, found_memory, out_of_memory}
 use Rattle.server_laws.specs.Answers.{IsRefusal, IsFailure, IsChange, told_version}
 use Rattle.server_laws.specs.AnswerLaws.{IsQuestion}
 use Rattle.server_laws.proofs.Outcomes.{Outcome, is_told, is_refused, is_defined, is_changed, is_undone, outcome, questions_make_nothing}
@@ -68,3 +69,16 @@ said_outcome s (is_undone cs is) = said_undone s cs is
 
 pub said : (s : State) (l : Line) → IsSaid s (IsQuestion (request l)) (answer s l)
 said s l = said_outcome s (outcome s l)
+
+-- ---- steps
+
+version_answer : (s : State) (l : Line) → (answer s l).1.version ≤ s.version + 1
+version_answer s l = elim (said s l).moves [ inl stays ↦ subst (λ t. t.version ≤ s.version + 1) (sym stays) (omega arith) | inr rises ↦ omega arith ]
+
+-- a step raises the version by one at most
+pub version_step : (old : State) (count : ℕ) (l : Line) (reply : List ℕ) (new : State) (count' : ℕ) → Step old count l reply new count' → new.version ≤ old.version + 1
+version_step old count l reply new count' step = elim step.replied [
+  | found_memory (answered told is) ↦ subst (λ t. t.version ≤ old.version + 1) (sym is) (version_answer old l)
+  | out_of_memory short told is ↦ subst (λ t. t.version ≤ old.version + 1) (sym is) (omega arith)
+  | found_memory (not_stored told is moved rose) ↦ subst (λ t. t.version ≤ old.version + 1) (sym is) (omega arith)
+]
