@@ -9,7 +9,7 @@ use Rattle.server_specs.specs.State.{State}
 use Rattle.server_specs.specs.Answer.{Answer}
 use Rattle.server_specs.specs.Request.{Request, request}
 use Rattle.server_specs.specs.Session.{Exchange, Chain, Step, last_state, last_count, Session}
-use Rattle.server_specs.proofs.Versions.{version-step}
+use Rattle.server_laws.proofs.AnswerFacts.{version_step}
 use Rattle.table_keeper.specs.declared.calls.Call.{Call}
 use Rattle.lens_server.specs.Committing.{CommitsFor, CommitsForAll}
 use Rattle.rehearsal.specs.Walking.{most_in}
@@ -113,7 +113,7 @@ commits-one s count l reply last after step calls calls' h =
 
 version-chain : (s : State) (count : ℕ) (es : List Exchange) → Chain s count es → (last_state s es).version ≤ s.version + length es
 version-chain s count [] h = omega arith
-version-chain s count (e ∷ es) h = omega (arith, version-chain e.state e.count es h.1, version-step s count e.line e.reply e.state e.count h.0)
+version-chain s count (e ∷ es) h = omega (arith, version-chain e.state e.count es h.1, version_step s count e.line e.reply e.state e.count h.0)
 
 -- a line raises the version by one at most
 pub version-session : (s : State) (count : ℕ) (lines : List Line) (replies : List (List ℕ)) (last : State) (after : ℕ) → Session s count lines replies last after → last.version ≤ s.version + length lines

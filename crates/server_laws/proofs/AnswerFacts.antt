@@ -1,41 +1,22 @@
 -- What every answer says of the state after it.
-use Rattle.std.proofs.Common.{◌≡◌, ◌+◌, ◌-◌, ◌⊎◌, ℕ, zero, suc, length, Bool, true, false, List, [], ◌∷◌, Option, Some, None, Result, Ok, Err, inl, inr, refl, subst}
-use Rattle.std.specs.Prelude.{IfSome, codes, slice_get}
+use Rattle.std.proofs.Common.{◌≡◌, ◌≤◌, ◌+◌, ◌-◌, ◌⊎◌, ℕ, zero, suc, length, List, [], ◌∷◌, Some, inl, inr, refl, sym, subst, arith}
+use Rattle.std.specs.Prelude.{IfSome, Result, slice_get}
 use Rattle.std.specs.List.{AllByRecursion}
-use Rattle.std.specs.FinMap as finmap
-use Rattle.serde_json.specs.Data.{Data, null, boolean, number, string, array, object, Members}
-use Rattle.plain_values.specs.Row.{Row}
-use Rattle.plain_values.specs.declared.value.Kind.{Kind}
-use Rattle.plain_values.specs.declared.value.Value.{Value}
-use Rattle.lens_specs.specs.Common.{Name, Rows, violating_row, Clash, violating_pair, Tables, Lens, sort_of, get, put as put_rows, TableDelta, changes, differences, Refusal, too_large}
-use Rattle.io_specs.specs.Lines as lines
-use Rattle.io_specs.specs.Lines.{Line, line}
+use Rattle.lens_specs.specs.Common.{TableDelta, Tables}
 use Rattle.grammar_specs.specs.Meaning.{Definition, table, view}
-use Rattle.grammar_specs.specs.Faults as faults
-use Rattle.grammar_specs.specs.Faults.{syntax_at}
-use Rattle.grammar_laws.specs.Reading.{reading}
-use Rattle.catalog_specs.specs.Catalogue.{catalogue}
-use Rattle.catalog_specs.specs.Judging as judging
-use Rattle.catalog_specs.specs.Judging.{CatalogFault, language, rule, judged}
+use Rattle.io_specs.specs.Lines.{Line}
 use Rattle.server_specs.specs.State.{State}
-use Rattle.server_specs.specs.EditRefusal as refusals
-use Rattle.server_specs.specs.EditRefusal.{EditRefusal, Listed, in_rows, in_remove, in_add}
-use Rattle.server_specs.specs.Answer.{Answer, told, in_edit, nothing_to_undo, nullable_column, bad_record, long_line, not_json, bad_request, syntax, name_taken, unknown_name, refused}
-use Rattle.server_specs.specs.Request.{Request, define, read, find_at, put, edit, preview, describe, list, BatchEdit, batch, undo, export, import, Asked, json_of, asked_in, unless_wrong, request_in, request_of, request_from, request}
-use Rattle.server_specs.specs.Sending.{BadRow, rows_in, value_in}
-use Rattle.server_specs.specs.Questions.{about, find_told, finding_told, found_told, rows_told, sort_told}
-use Rattle.server_specs.specs.Defining.{limit_of, fault_answer, answer_definition}
-use Rattle.server_specs.specs.Changing.{Sent, whole, edited, as_set, set_in, edit_of, sent_view, is_stale, changed_at, unless_stale, unless_off, unless_clash, of_sort, tested, asked_view, accept, settled, foretold, changed_by}
-use Rattle.server_specs.specs.Batching.{at_tables, put_in, edit_tables, then_edits, edits_from, batch_settled}
+use Rattle.server_specs.specs.Answer.{Answer, defined}
+use Rattle.server_specs.specs.Request.{Request, request}
+use Rattle.server_specs.specs.Defining.{with_defined}
+use Rattle.server_specs.specs.Changing.{accept}
 use Rattle.server_specs.specs.Undoing.{undone}
-use Rattle.server_specs.specs.Exporting.{first_nullable, sheet_told, read_settled, import_settled, imported_by}
 use Rattle.server_specs.specs.Validity.{IsDifference, Valid}
-use Rattle.server_specs.specs.Answering.{answer, answer_request}
-use Rattle.server_laws.specs.Answers.{IsRefusal, IsFailure, IsAccepted, IsChange, told_version, version_of_refusal}
+use Rattle.server_specs.specs.Answering.{answer}
+use Rattle.server_specs.specs.Session.{Step, answered, not_stored, found_memory, out_of_memory}
+use Rattle.server_laws.specs.Answers.{IsRefusal, IsFailure, IsChange, told_version}
 use Rattle.server_laws.specs.AnswerLaws.{IsQuestion}
-use Rattle.server_laws.specs.PutLaws.{AllFit}
-use Rattle.csv_specs.specs.Sheets.{unsheet}
-use Rattle.csv_specs.proofs.Fitting.{unsheet_fits}
+use Rattle.server_laws.proofs.Outcomes.{Outcome, is_told, is_refused, is_defined, is_changed, is_undone, outcome, questions_make_nothing}
 
 -- the answer r to a state s, where it may be only a question
 pub record IsSaid (s : State) (question : Type 0) (r : Answer × State) : Type 0 where
@@ -47,196 +28,17 @@ pub record IsSaid (s : State) (question : Type 0) (r : Answer × State) : Type 0
   pub told : IfSome (told_version r.0) (λ version. version ≡ r.1.version)
   pub moves : (r.1 ≡ s) ⊎ (r.1.version ≡ s.version + 1)
 
--- ---- questions
+said_defined : (s : State) (text : List ℕ) (d : Definition) → IsSaid s ⊥ (defined (s.version + 1), with_defined text d s)
+said_defined s text (table name columns deps P) =
+    record { asked = λ q. absurd q; refusal = λ h. absurd h; failure = λ h. h; rises = λ _ h. refl; stays = λ _ h. absurd (h tt); told = refl; moves = inr refl }
+said_defined s text (view name expr) =
+    record { asked = λ q. absurd q; refusal = λ h. absurd h; failure = λ h. h; rises = λ _ h. refl; stays = λ _ h. absurd (h tt); told = refl; moves = inr refl }
 
--- no failure, and the version that is told is that of the state
-pub record IsTold (s : State) (a : Answer) : Type 0 where
-  pub failure : IsFailure a → ⊥
-  pub version : IfSome (told_version a) (λ version. version ≡ s.version)
-
--- an answer to a question leaves the state
-said_question : (s : State) (a : Answer) → IsTold s a → IsSaid s (Unit {0}) (a, s)
-said_question s a t = record { asked = λ _. refl; refusal = λ _. refl; failure = t.failure; rises = λ h. absurd (h tt); stays = λ _ _. refl; told = t.version; moves = inl refl }
-
--- ---- refusals
-
--- nothing is done
-pub record Refuses (s : State) (a : Answer) : Type 0 where
-  pub told : IsTold s a
-  pub refusal : IsRefusal a
-  pub accepted : IsAccepted a → ⊥
-  pub change : IsChange a → ⊥
-
-said_refusal : (s : State) (a : Answer) → Refuses s a → IsSaid s ⊥ (a, s)
-said_refusal s a h =
-    record { asked = λ q. absurd q; refusal = λ _. refl; failure = h.told.failure; rises = λ _ c. absurd (h.change c); stays = λ _ _. refl; told = h.told.version; moves = inl refl }
-
-unknown_refuses : (s : State) (name : Name) → Refuses s (unknown_name name)
-unknown_refuses s name = record { told = record { failure = λ h. h; version = tt }; refusal = tt; accepted = λ h. h; change = λ h. h }
-
-taken_refuses : (s : State) (name : Name) → Refuses s (name_taken name)
-taken_refuses s name = record { told = record { failure = λ h. h; version = tt }; refusal = tt; accepted = λ h. h; change = λ h. h }
-
-rule_refuses : (s : State) (r : Refusal) → Refuses s (refused r)
-rule_refuses s r = record { told = record { failure = λ h. h; version = tt }; refusal = tt; accepted = λ h. h; change = λ h. h }
-
-syntax_refuses : (s : State) (at : ℕ) → Refuses s (syntax at)
-syntax_refuses s at = record { told = record { failure = λ h. h; version = tt }; refusal = tt; accepted = λ h. h; change = λ h. h }
-
-long_refuses : (s : State) → Refuses s long_line
-long_refuses s = record { told = record { failure = λ h. h; version = tt }; refusal = tt; accepted = λ h. h; change = λ h. h }
-
-json_refuses : (s : State) → Refuses s not_json
-json_refuses s = record { told = record { failure = λ h. h; version = tt }; refusal = tt; accepted = λ h. h; change = λ h. h }
-
-request_refuses : (s : State) (name : List ℕ) → Refuses s (bad_request name)
-request_refuses s name = record { told = record { failure = λ h. h; version = tt }; refusal = tt; accepted = λ h. h; change = λ h. h }
-
--- the one refusal is the other
-same_refuses : {A : Type 0} (s : State) (a b : Answer) → Refuses s a → ◌≡◌ {A = Result A Answer} (Err a) (Err b) → Refuses s b
-same_refuses s a b h e = let is : a ≡ b = cc in subst (Refuses s) is h
-
--- each refusal of it is one
-abbrev pub AllRefuse : {A : Type 0} → State → Result A Answer → Type 0
-AllRefuse {A} s r = (a : Answer) → r ≡ Err a → Refuses s a
-
--- ---- refusals of changes
-
--- the version that it tells, if it tells one, is the state's
-abbrev pub IsPresent : State → EditRefusal → Type 0
-IsPresent s why = IfSome (version_of_refusal why) (λ version. version ≡ s.version)
-
--- each refusal of it is such a one
-abbrev pub AllPresent : {A : Type 0} → State → Result A EditRefusal → Type 0
-AllPresent {A} s r = (why : EditRefusal) → r ≡ Err why → IsPresent s why
-
-same_present : {A : Type 0} (s : State) (why other : EditRefusal) → IsPresent s why → ◌≡◌ {A = Result A EditRefusal} (Err why) (Err other) → IsPresent s other
-same_present s why other h e = let is : why ≡ other = cc in subst (IsPresent s) is h
-
-set_present : (s : State) (which : Listed) (r : Result (List Row) BadRow) → AllPresent s (as_set which r)
-set_present s which (Ok rows) why e = cc
-set_present s which (Err bad) why e = same_present s (refusals.bad_row which bad.0 bad.1) why tt e
-
-edit_present : (s : State) (old : Rows) (removed added : Result Rows EditRefusal) → AllPresent s removed → AllPresent s added → AllPresent s (edit_of old removed added)
-edit_present s old (Err bad) added h k why e = h why e
-edit_present s old (Ok R) (Err bad) h k why e = k why e
-edit_present s old (Ok R) (Ok A) h k why e = cc
-
-sent_present : (s : State) (L : Lens) (sent : Sent) → AllPresent s (sent_view sent L s)
-sent_present s L (whole rows) why e = set_present s in_rows (rows_in (sort_of L).columns rows) why e
-sent_present s L (edited remove add) why e =
-    edit_present s (get L s.tables) (set_in in_remove (sort_of L).columns remove) (set_in in_add (sort_of L).columns add)
-    (set_present s in_remove (rows_in (sort_of L).columns remove)) (set_present s in_add (rows_in (sort_of L).columns add)) why e
-
-stale_first : (s : State) (b : Bool) (at : ℕ) (later : Result Rows EditRefusal) → AllPresent s later → AllPresent s (unless_stale b at s.version later)
-stale_first s true at later h why e = same_present s (refusals.stale at s.version) why refl e
-stale_first s false at later h why e = h why e
-
-off_first : (s : State) (o : Option Row) (later : Result Rows EditRefusal) → AllPresent s later → AllPresent s (unless_off o later)
-off_first s None later h why e = h why e
-off_first s (Some row) later h why e = same_present s (refusals.off_predicate row) why tt e
-
-clash_last : (s : State) (c : Option Clash) (rows : Rows) → AllPresent s (unless_clash c rows)
-clash_last s None rows why e = cc
-clash_last s (Some c) rows why e = same_present s (refusals.clash c.edge c.first c.second) why tt e
-
-tested_present : (s : State) (L : Lens) (on : Option ℕ) (r : Result Rows EditRefusal) → AllPresent s r → AllPresent s (tested s L on r)
-tested_present s L on (Err bad) h why e = h why e
-tested_present s L on (Ok N) h why e = stale_first s (is_stale s L on) (changed_at s L) (of_sort (sort_of L) N)
-    (off_first s (violating_row (sort_of L).predicate N) (unless_clash (violating_pair (sort_of L).tree N) N) (clash_last s (violating_pair (sort_of L).tree N) N)) why e
-
--- rows that are read and then refused tell the state's version, if any
-read_present : (s : State) (L : Lens) (on : Option ℕ) (M : Rows) → AllPresent s (tested s L on (Ok M))
-read_present s L on M why e = tested_present s L on (Ok M) (λ other is. cc) why e
-
--- a change that is refused tells the state's version, if any
-pub asked_present : (s : State) (L : Lens) (sent : Sent) (on : Option ℕ) → AllPresent s (asked_view s L sent on)
-asked_present s L sent on why e = tested_present s L on (sent_view sent L s) (sent_present s L sent) why e
-
--- so the answer to a put, an edit or a preview refuses
-told_refuses : (s : State) (why : EditRefusal) → IsPresent s why → Refuses s (told why)
-told_refuses s (refusals.unknown_name name) h = unknown_refuses s name
-told_refuses s (refusals.bad_row which index name) h = record { told = record { failure = λ h. h; version = tt }; refusal = tt; accepted = λ h. h; change = λ h. h }
-told_refuses s (refusals.stale at version) h = record { told = record { failure = λ h. h; version = h }; refusal = tt; accepted = λ h. h; change = λ h. h }
-told_refuses s (refusals.off_predicate row) h = record { told = record { failure = λ h. h; version = tt }; refusal = tt; accepted = λ h. h; change = λ h. h }
-told_refuses s (refusals.clash edge first second) h = record { told = record { failure = λ h. h; version = tt }; refusal = tt; accepted = λ h. h; change = λ h. h }
-
--- and so does that to a batch
-edit_refuses : (s : State) (i : ℕ) (why : EditRefusal) → IsPresent s why → Refuses s (in_edit i why)
-edit_refuses s i why h = record { told = record { failure = λ h. h; version = h }; refusal = tt; accepted = λ h. h; change = λ h. h }
-
--- a change that is refused is refused so
-pub asked_refuses : (s : State) (L : Lens) (sent : Sent) (on : Option ℕ) (why : EditRefusal) → asked_view s L sent on ≡ Err why → Refuses s (told why)
-asked_refuses s L sent on why e = told_refuses s why (asked_present s L sent on why e)
-
--- an import whose rows are refused is refused so
-pub read_refuses : (s : State) (L : Lens) (on : Option ℕ) (M : Rows) (why : EditRefusal) → tested s L on (Ok M) ≡ Err why → Refuses s (told why)
-read_refuses s L on M why e = told_refuses s why (read_present s L on M why e)
-
--- ---- edits of a batch
-
-put_present : (s : State) (r : Result Rows EditRefusal) (L : Lens) (db : Tables) → AllPresent s r → AllPresent s (put_in r L db)
-put_present s (Err bad) L db h why e = same_present s bad why (h bad refl) e
-put_present s (Ok N) L db h why e = cc
-
-one_present : (s : State) (e : BatchEdit) (on : Option ℕ) (o : Option Lens) (db : Tables) → AllPresent s (edit_tables e on o s db)
-one_present s e on None db why is = same_present s (refusals.unknown_name e.view) why tt is
-one_present s e on (Some L) db why is = put_present s (asked_view (at_tables s db) L (edited e.remove e.add) on) L db (asked_present (at_tables s db) L (edited e.remove e.add) on) why is
-
-then_present : (s : State) (i : ℕ) (others : Tables → Result Tables (ℕ × EditRefusal)) (r : Result Tables EditRefusal) → AllPresent s r
-    → ((db : Tables) (found : ℕ × EditRefusal) → others db ≡ Err found → IsPresent s found.1)
-    → (found : ℕ × EditRefusal) → then_edits i others r ≡ Err found → IsPresent s found.1
-then_present s i others (Err why) h k found e = let is : (i, why) ≡ found = cc in subst (λ w. IsPresent s w.1) is (h why refl)
-then_present s i others (Ok db) h k found e = k db found e
-
--- an edit of a batch that is refused tells the state's version, if any
-edits_present : (s : State) (i : ℕ) (on : Option ℕ) (edits : List BatchEdit) (db : Tables) (found : ℕ × EditRefusal) → edits_from i on s edits db ≡ Err found → IsPresent s found.1
-edits_present s i on [] db found e = cc
-edits_present s i on (b ∷ edits) db found e =
-    then_present s i (edits_from (suc i) on s edits) (edit_tables b on (finmap.get (catalogue s.texts) b.view) s db) (one_present s b on (finmap.get (catalogue s.texts) b.view) db)
-    (λ d w. edits_present s (suc i) on edits d w) found e
-
--- ---- changes
-
-said_accept : (s : State) (db : Tables) (ds : List TableDelta) → IsSaid s ⊥ (accept db ds s)
-said_accept s db [] = record { asked = λ q. absurd q; refusal = λ h. refl; failure = λ h. h; rises = λ _ h. absurd h; stays = λ _ h. refl; told = refl; moves = inl refl }
-said_accept s db (d ∷ ds) = record { asked = λ q. absurd q; refusal = λ h. absurd h; failure = λ h. h; rises = λ _ h. refl; stays = λ _ h. absurd (h tt); told = refl; moves = inr refl }
-
-said_settled : (s : State) (L : Lens) (r : Result Rows EditRefusal) → AllPresent s r → IsSaid s ⊥ (settled r L s)
-said_settled s L (Err why) h = said_refusal s (told why) (told_refuses s why (h why refl))
-said_settled s L (Ok N) h = said_accept s (put_rows L N s.tables) (changes L N s.tables)
-
-said_changed : (s : State) (sent : Sent) (on : Option ℕ) (name : Name) (o : Option Lens) → IsSaid s ⊥ (changed_by sent on name o s)
-said_changed s sent on name None = said_refusal s (unknown_name name) (unknown_refuses s name)
-said_changed s sent on name (Some L) = said_settled s L (asked_view s L sent on) (asked_present s L sent on)
-
-said_batch : (s : State) (r : Result Tables (ℕ × EditRefusal)) → ((found : ℕ × EditRefusal) → r ≡ Err found → IsPresent s found.1) → IsSaid s ⊥ (batch_settled r s)
-said_batch s (Err found) h = said_refusal s (in_edit found.0 found.1) (edit_refuses s found.0 found.1 (h found refl))
-said_batch s (Ok db) h = said_accept s db (differences (finmap.keys s.tables) s.tables db)
-
--- what holds where an import is refused, and where the rows that it reads are put, holds of what it is answered
-module _ (P : Answer × State → Type 0) (s : State) (on : Option ℕ) (refuses : (a : Answer) → Refuses s a → P (a, s)) where
-  of_read : (L : Lens) (r : Result Rows ℕ) → ((M : Rows) → r ≡ Ok M → P (settled (tested s L on (Ok M)) L s)) → P (read_settled r on L s)
-  of_read L (Err place) puts = refuses (bad_record place) (record { told = record { failure = λ h. h; version = tt }; refusal = tt; accepted = λ h. h; change = λ h. h })
-  of_read L (Ok M) puts = puts M refl
-
-  of_plain : (L : Lens) (csv : List ℕ) (o : Option Name) → ((M : Rows) → unsheet (sort_of L).columns csv ≡ Ok M → P (settled (tested s L on (Ok M)) L s)) → P (import_settled o csv on L s)
-  of_plain L csv (Some column) puts = refuses (nullable_column column) (record { told = record { failure = λ h. h; version = tt }; refusal = tt; accepted = λ h. h; change = λ h. h })
-  of_plain L csv None puts = of_read L (unsheet (sort_of L).columns csv) puts
-
-  of_named : (csv : List ℕ) (name : Name) (o : Option Lens) → finmap.get (catalogue s.texts) name ≡ o
-      → ((L : Lens) → finmap.get (catalogue s.texts) name ≡ Some L → (M : Rows) → AllFit (sort_of L).columns M → P (settled (tested s L on (Ok M)) L s))
-      → P (imported_by csv on name o s)
-  of_named csv name None is puts = refuses (unknown_name name) (unknown_refuses s name)
-  of_named csv name (Some L) is puts = of_plain L csv (first_nullable (sort_of L).columns) (λ M e. puts L is M (unsheet_fits (sort_of L).columns csv M e))
-
-  pub of_import : (csv : List ℕ) (name : Name)
-      → ((L : Lens) → finmap.get (catalogue s.texts) name ≡ Some L → (M : Rows) → AllFit (sort_of L).columns M → P (settled (tested s L on (Ok M)) L s))
-      → P (imported_by csv on name (finmap.get (catalogue s.texts) name) s)
-  of_import csv name puts = of_named csv name (finmap.get (catalogue s.texts) name) refl puts
-
-said_import : (s : State) (csv : List ℕ) (on : Option ℕ) (name : Name) → IsSaid s ⊥ (imported_by csv on name (finmap.get (catalogue s.texts) name) s)
-said_import s csv on name = of_import (IsSaid s ⊥) s on (said_refusal s) csv name (λ L is M fits. said_settled s L (tested s L on (Ok M)) (read_present s L on M))
+said_accept : (s : State) (question : Type 0) → (question → ⊥) → (db : Tables) (ds : List TableDelta) → IsSaid s question (accept db ds s)
+said_accept s question changes db [] =
+    record { asked = λ q. absurd (changes q); refusal = λ h. refl; failure = λ h. h; rises = λ _ h. absurd h; stays = λ _ h. refl; told = refl; moves = inl refl }
+said_accept s question changes db (d ∷ ds) =
+    record { asked = λ q. absurd (changes q); refusal = λ h. absurd h; failure = λ h. h; rises = λ _ h. refl; stays = λ _ h. absurd (h tt); told = refl; moves = inr refl }
 
 -- what holds of each holds of the last
 pub last_is_one : {A : Type 0} (P : A → Type 0) (xs : List A) (i : ℕ) (x : A) → AllByRecursion P xs → slice_get xs i ≡ Some x → P x
@@ -244,9 +46,8 @@ last_is_one P [] i x h e = cc
 last_is_one P (y ∷ ys) zero x h e = let is : y ≡ x = cc in subst P is h.0
 last_is_one P (y ∷ ys) (suc i) x h e = last_is_one P ys i x h.1 e
 
-said_undone : (s : State) (o : Option (List TableDelta)) → slice_get s.past (length s.past - 1) ≡ o → IsSaid s ⊥ (undone o s)
-said_undone s None is = said_refusal s nothing_to_undo (record { told = record { failure = λ h. h; version = tt }; refusal = tt; accepted = λ h. h; change = λ h. h })
-said_undone s (Some []) is = record {
+said_undone : (s : State) (cs : List TableDelta) → slice_get s.past (length s.past - 1) ≡ Some cs → IsSaid s ⊥ (undone (Some cs) s)
+said_undone s [] is = record {
   asked = λ q. absurd q;
   refusal = λ h. absurd h;
   failure = λ h. h;
@@ -255,95 +56,29 @@ said_undone s (Some []) is = record {
   told = refl;
   moves = inr refl;
 }
-said_undone s (Some (c ∷ cs)) is = record { asked = λ q. absurd q; refusal = λ h. absurd h; failure = λ h. h; rises = λ _ h. refl; stays = λ _ h. absurd (h tt); told = refl; moves = inr refl }
+said_undone s (c ∷ cs) is = record { asked = λ q. absurd q; refusal = λ h. absurd h; failure = λ h. h; rises = λ _ h. refl; stays = λ _ h. absurd (h tt); told = refl; moves = inr refl }
 
-told_foretold : (s : State) (L : Lens) (r : Result Rows EditRefusal) → AllPresent s r → IsTold s (foretold r L s)
-told_foretold s L (Err why) h = (told_refuses s why (h why refl)).told
-told_foretold s L (Ok N) h = record { failure = λ h. h; version = refl }
-
-told_about : (s : State) (tell : Lens → Answer) (name : Name) (o : Option Lens) → ((L : Lens) → IsTold s (tell L)) → IsTold s (about tell name o)
-told_about s tell name None h = (unknown_refuses s name).told
-told_about s tell name (Some L) h = h L
-
-told_found : (s : State) (L : Lens) (column : Name) (v : Option Value) → IsTold s (found_told s L column v)
-told_found s L column None = record { failure = λ h. h; version = tt }
-told_found s L column (Some value) = record { failure = λ h. h; version = refl }
-
-told_column : (s : State) (L : Lens) (column : Name) (json : Data) (o : Option Kind) → IsTold s (find_told s L column json o)
-told_column s L column json None = record { failure = λ h. h; version = tt }
-told_column s L column json (Some kind) = told_found s L column (value_in kind json)
-
-told_sheet : (s : State) (L : Lens) (o : Option Name) → IsTold s (sheet_told o s L)
-told_sheet s L None = record { failure = λ h. h; version = refl }
-told_sheet s L (Some column) = record { failure = λ h. h; version = tt }
-
--- ---- definitions
-
--- a definition is refused for its fault
-pub fault_refuses : (s : State) (fault : CatalogFault) → Refuses s (fault_answer fault)
-fault_refuses s (language (syntax_at at)) = syntax_refuses s at
-fault_refuses s (language (faults.too_large what)) = rule_refuses s (too_large (limit_of what))
-fault_refuses s (judging.name_taken name) = taken_refuses s name
-fault_refuses s (judging.unknown_name name) = unknown_refuses s name
-fault_refuses s (rule first) = rule_refuses s first
-
-said_definition : (s : State) (text : List ℕ) (r : Result Definition CatalogFault) → IsSaid s ⊥ (answer_definition text r s)
-said_definition s text (Err fault) = said_refusal s (fault_answer fault) (fault_refuses s fault)
-said_definition s text (Ok (table name columns deps P)) =
-    record { asked = λ q. absurd q; refusal = λ h. absurd h; failure = λ h. h; rises = λ _ h. refl; stays = λ _ h. absurd (h tt); told = refl; moves = inr refl }
-said_definition s text (Ok (view name expr)) =
-    record { asked = λ q. absurd q; refusal = λ h. absurd h; failure = λ h. h; rises = λ _ h. refl; stays = λ _ h. absurd (h tt); told = refl; moves = inr refl }
-
--- ---- requests
-
-unless_wrong_err : (s : State) (o : Option (List ℕ)) (asked : Asked) (ms : Members) → AllRefuse s (unless_wrong o asked ms)
-unless_wrong_err s None asked ms a e = cc
-unless_wrong_err s (Some name) asked ms a e = same_refuses s (bad_request name) a (request_refuses s name) e
-
-request_in_err : (s : State) (o : Option Asked) (ms : Members) → AllRefuse s (request_in o ms)
-request_in_err s None ms a e = same_refuses s (bad_request (codes "do")) a (request_refuses s (codes "do")) e
-request_in_err s (Some asked) ms a e = unless_wrong_err s _ asked ms a e
-
-no_object : (s : State) → AllRefuse {A = Request} s (Err (bad_request (codes "do")))
-no_object s a e = same_refuses s (bad_request (codes "do")) a (request_refuses s (codes "do")) e
-
-request_of_err : (s : State) (d : Data) → AllRefuse s (request_of d)
-request_of_err s null a e = no_object s a e
-request_of_err s (boolean b) a e = no_object s a e
-request_of_err s (number n) a e = no_object s a e
-request_of_err s (string bytes) a e = no_object s a e
-request_of_err s (array ds) a e = no_object s a e
-request_of_err s (object ms) a e = request_in_err s (asked_in ms) ms a e
-
-request_from_err : (s : State) (o : Option Data) → AllRefuse s (request_from o)
-request_from_err s None a e = same_refuses s not_json a (json_refuses s) e
-request_from_err s (Some d) a e = request_of_err s d a e
-
--- a line that is no request is refused
-pub request_err : (s : State) (l : Line) → AllRefuse s (request l)
-unfolding request
-request_err s (line bytes) a e = request_from_err s (json_of bytes) a e
-request_err s lines.too_long a e = same_refuses s long_line a (long_refuses s) e
-
-said_request : (s : State) (r : Result Request Answer) → AllRefuse s r → IsSaid s (IsQuestion r) (answer_request r s)
-said_request s (Err refusal) h = said_refusal s refusal (h refusal refl)
-said_request s (Ok (define text)) h = said_definition s text (judged (catalogue s.texts) (reading text))
-said_request s (Ok (read name)) h = said_question s _ (told_about s (rows_told s) name (finmap.get (catalogue s.texts) name) (λ L. record { failure = λ h. h; version = refl }))
-said_request s (Ok (find_at name column json)) h =
-    said_question s _ (told_about s (finding_told s column json) name (finmap.get (catalogue s.texts) name) (λ L. told_column s L column json (finmap.get (sort_of L).columns column)))
-said_request s (Ok (put name rows on)) h = said_changed s (whole rows) on name (finmap.get (catalogue s.texts) name)
-said_request s (Ok (edit name remove add on)) h = said_changed s (edited remove add) on name (finmap.get (catalogue s.texts) name)
-said_request s (Ok (preview name remove add on)) h =
-    said_question s _ (told_about s (λ L. foretold (asked_view s L (edited remove add) on) L s) name (finmap.get (catalogue s.texts) name)
-    (λ L. told_foretold s L (asked_view s L (edited remove add) on) (asked_present s L (edited remove add) on)))
-said_request s (Ok (describe name)) h = said_question s _ (told_about s (sort_told s) name (finmap.get (catalogue s.texts) name) (λ L. record { failure = λ h. h; version = refl }))
-said_request s (Ok list) h = said_question s _ (record { failure = λ h. h; version = refl })
-said_request s (Ok (batch edits on)) h = said_batch s (edits_from 0 on s edits s.tables) (edits_present s 0 on edits s.tables)
-said_request s (Ok undo) h = said_undone s (slice_get s.past (length s.past - 1)) refl
-said_request s (Ok (export name)) h =
-    said_question s _ (told_about s (λ L. sheet_told (first_nullable (sort_of L).columns) s L) name (finmap.get (catalogue s.texts) name) (λ L. told_sheet s L (first_nullable (sort_of L).columns)))
-said_request s (Ok (import name csv on)) h = said_import s csv on name
+said_outcome : (s : State) {r : Result Request Answer} {t : Answer × State} → Outcome s r t → IsSaid s (IsQuestion r) t
+said_outcome s (is_told q told) =
+    record { asked = λ _. refl; refusal = λ _. refl; failure = told.failure; rises = λ h. absurd (h q); stays = λ _ _. refl; told = told.version; moves = inl refl }
+said_outcome s (is_refused h) =
+    record { asked = λ _. refl; refusal = λ _. refl; failure = h.told.failure; rises = λ _ c. absurd (h.change c); stays = λ _ _. refl; told = h.told.version; moves = inl refl }
+said_outcome s (is_defined text d j) = said_defined s text d
+said_outcome s {r = r} (is_changed ds db makes leads) = said_accept s (IsQuestion r) (λ q. questions_make_nothing r q makes) db ds
+said_outcome s (is_undone cs is) = said_undone s cs is
 
 pub said : (s : State) (l : Line) → IsSaid s (IsQuestion (request l)) (answer s l)
-unfolding answer
-said s l = said_request s (request l) (request_err s l)
+said s l = said_outcome s (outcome s l)
+
+-- ---- steps
+
+version_answer : (s : State) (l : Line) → (answer s l).1.version ≤ s.version + 1
+version_answer s l = elim (said s l).moves [ inl stays ↦ subst (λ t. t.version ≤ s.version + 1) (sym stays) (omega arith) | inr rises ↦ omega arith ]
+
+-- a step raises the version by one at most
+pub version_step : (old : State) (count : ℕ) (l : Line) (reply : List ℕ) (new : State) (count' : ℕ) → Step old count l reply new count' → new.version ≤ old.version + 1
+version_step old count l reply new count' step = elim step.replied [
+  | found_memory (answered told is) ↦ subst (λ t. t.version ≤ old.version + 1) (sym is) (version_answer old l)
+  | out_of_memory short told is ↦ subst (λ t. t.version ≤ old.version + 1) (sym is) (omega arith)
+  | found_memory (not_stored told is moved rose) ↦ subst (λ t. t.version ≤ old.version + 1) (sym is) (omega arith)
+]

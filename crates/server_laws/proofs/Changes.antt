@@ -26,7 +26,7 @@ use Rattle.csv_specs.specs.Sheets.{unsheet}
 use Rattle.csv_specs.proofs.Fitting.{unsheet_fits}
 use Rattle.server_specs.specs.Answering.{answer, answer_request}
 use Rattle.server_specs.specs.Validity.{Valid}
-use Rattle.server_laws.proofs.AnswerFacts.{asked_refuses}
+use Rattle.server_laws.proofs.Refusals.{asked_refuses}
 use Rattle.server_laws.proofs.Asked.{sent_fits}
 use Rattle.server_laws.proofs.Puts.{IsSettled, accepted_where, accepted_or_refused, refused_by, clashes_by, put_then_read, told, changes_told, changes_differ, others_stay, read_then_put}
 use Rattle.server_laws.proofs.Stored.{lens_here}

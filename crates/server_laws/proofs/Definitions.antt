@@ -1,6 +1,6 @@
 -- Definitions that are taken or refused, what a new name shows, and what stays.
 use Rattle.std.proofs.Common.{◌≡◌, ◌+◌, ℕ, true, false, cond, List, Option, Some, None, Result, Ok, Err, is_some, inl, inr, refl, sym, ap, subst, ◌∙◌}
-use Rattle.std.specs.Prelude.{◌↔◌, ◌-◌, length, slice_get}
+use Rattle.std.specs.Prelude.{◌↔◌}
 use Rattle.std.proofs.lemmas.Bool.{or_cases, true≢false, false_from_ne_true}
 use Rattle.std.specs.FinMap as finmap
 use Rattle.std.specs.Ordering.{eq_by_cmp}
@@ -19,17 +19,16 @@ use Rattle.catalog_specs.specs.Judging as judging
 use Rattle.catalog_specs.specs.Judging.{CatalogFault, language, is_taken, where_sorted, lens_in, where_lensed, judged}
 use Rattle.server_specs.specs.State.{State}
 use Rattle.server_specs.specs.Answer.{Answer, defined, shown, name_taken}
-use Rattle.server_specs.specs.Request.{Request, define, read, find_at, put, edit, preview, describe, list, batch, undo, export, import, request}
+use Rattle.server_specs.specs.Request.{Request, define, read, request}
 use Rattle.server_specs.specs.Defining.{text_answer, fault_answer, answer_definition, with_defined}
-use Rattle.server_specs.specs.Changing.{Sent, whole, edited, changed_at, asked_view, tested, changed_by}
-use Rattle.server_specs.specs.Batching.{edits_from}
+use Rattle.server_specs.specs.Changing.{changed_at}
 use Rattle.server_specs.specs.Answering.{answer, answer_request}
 use Rattle.server_specs.specs.Validity.{IsStored, Valid}
 use Rattle.server_laws.specs.Answers.{IsChange}
 use Rattle.server_laws.specs.DefineLaws.{judgement, defined_name}
-use Rattle.server_specs.specs.Exporting.{imported_by}
-use Rattle.server_laws.proofs.AnswerFacts.{fault_refuses, of_import}
-use Rattle.server_laws.proofs.Changes.{lines_read, texts_batch, texts_settled, texts_undone}
+use Rattle.server_laws.proofs.Outcomes.{Outcome, is_told, is_refused, is_defined, is_changed, is_undone, outcome}
+use Rattle.server_laws.proofs.Refusals.{fault_refuses}
+use Rattle.server_laws.proofs.Changes.{lines_read, texts_accept}
 use Rattle.server_laws.proofs.Stale.{latest_same}
 use Rattle.server_laws.proofs.Stored.{lens_here}
 use Rattle.server_laws.proofs.Taken.{BasesAre, judged_ok, get-new, get-other, not_free, lens_is}
@@ -133,36 +132,15 @@ stays_defined s text (view new expr) j name L e =
     let w = lens_taken s text new expr j in
     ap (λ k. finmap.get k name) (view_after s text new expr w.0 j w.1) ∙ beside (catalogue s.texts) new name w.0 L free e
 
-stays_definition : (s : State) (text : List ℕ) (r : Result Definition CatalogFault) → judgement s text ≡ r → (name : Name) (L : Lens) → Has s name L → Has (answer_definition text r s).1 name L
-stays_definition s text (Err fault) j name L e = e
-stays_definition s text (Ok d) j name L e = stays_defined s text d j name L e
-
-stays_changed : (s : State) (sent : Sent) (on : Option ℕ) (at : Name) (o : Option Lens) (name : Name) (L : Lens) → Has s name L → Has (changed_by sent on at o s).1 name L
-stays_changed s sent on at None name L e = e
-stays_changed s sent on at (Some M) name L e = ap (λ texts. finmap.get (catalogue texts) name) (texts_settled (asked_view s M sent on) M s) ∙ e
-
-stays_import : (s : State) (csv : List ℕ) (on : Option ℕ) (at : Name) (name : Name) (L : Lens) → Has s name L → Has (imported_by csv on at (finmap.get (catalogue s.texts) at) s).1 name L
-stays_import s csv on at name L e =
-    of_import (λ r. Has r.1 name L) s on (λ a refuses. e) csv at (λ M is N fits. ap (λ texts. finmap.get (catalogue texts) name) (texts_settled (tested s M on (Ok N)) M s) ∙ e)
-
-stays_request : (s : State) (r : Result Request Answer) (name : Name) (L : Lens) → Has s name L → Has (answer_request r s).1 name L
-stays_request s (Err refusal) name L e = e
-stays_request s (Ok (define text)) name L e = stays_definition s text (judgement s text) refl name L e
-stays_request s (Ok (read at)) name L e = e
-stays_request s (Ok (find_at at column json)) name L e = e
-stays_request s (Ok (put at rows on)) name L e = stays_changed s (whole rows) on at (finmap.get (catalogue s.texts) at) name L e
-stays_request s (Ok (edit at remove add on)) name L e = stays_changed s (edited remove add) on at (finmap.get (catalogue s.texts) at) name L e
-stays_request s (Ok (preview at remove add on)) name L e = e
-stays_request s (Ok (describe at)) name L e = e
-stays_request s (Ok list) name L e = e
-stays_request s (Ok (batch edits on)) name L e = ap (λ texts. finmap.get (catalogue texts) name) (texts_batch (edits_from 0 on s edits s.tables) s) ∙ e
-stays_request s (Ok undo) name L e = ap (λ texts. finmap.get (catalogue texts) name) (texts_undone (slice_get s.past (length s.past - 1)) s) ∙ e
-stays_request s (Ok (export at)) name L e = e
-stays_request s (Ok (import at csv on)) name L e = stays_import s csv on at name L e
+stays_outcome : (s : State) {r : Result Request Answer} {t : Answer × State} → Outcome s r t → (name : Name) (L : Lens) → Has s name L → Has t.1 name L
+stays_outcome s (is_told q told) name L e = e
+stays_outcome s (is_refused refuses) name L e = e
+stays_outcome s (is_defined text d j) name L e = stays_defined s text d j name L e
+stays_outcome s (is_changed ds db makes leads) name L e = ap (λ texts. finmap.get (catalogue texts) name) (texts_accept db ds s) ∙ e
+stays_outcome s (is_undone cs is) name L e = e
 
 pub lenses_stay : (s : State) (l : Line) (name : Name) (L : Lens) → Has s name L → Has (answer s l).1 name L
-unfolding answer
-lenses_stay s l name L e = stays_request s (request l) name L e
+lenses_stay s l name L e = stays_outcome s (outcome s l) name L e
 
 -- ---- what a definition leaves
 

@@ -7,6 +7,8 @@ pub mod Asked
 pub mod Edited
 pub mod Remembered
 pub mod Led
+pub mod Refusals
+pub mod Outcomes
 pub mod Valid
 pub mod AnswerFacts
 pub mod Texts

@@ -20,7 +20,7 @@ use Rattle.server_specs.specs.Validity.{Valid}
 use Rattle.server_specs.specs.Exporting.{first_nullable, sheet_told}
 use Rattle.csv_specs.specs.Sheets.{sheet}
 use Rattle.server_laws.proofs.Exports.{export_is, exports_sheets}
-use Rattle.server_laws.proofs.AnswerFacts.{asked_refuses, of_import, read_refuses}
+use Rattle.server_laws.proofs.Refusals.{asked_refuses, of_import, read_refuses}
 use Rattle.server_laws.proofs.Asked.{asked_is, read_fresh}
 use Rattle.server_laws.proofs.Batches.{accepted_tables}
 use Rattle.server_laws.proofs.Edited.{put_ok, then_ok}

@@ -1,5 +1,5 @@
 -- What undo brings back, over a session.
-use Rattle.std.proofs.Common.{◌≡◌, ◌∙◌, ◌+◌, ◌-◌, ℕ, zero, suc, get_or, Bool, true, false, cond, List, [], ◌∷◌, ◌++◌, length, take, drop, reverse, Option, Some, None, Result, Ok, Err, is_some, ap, sym, subst, refl, inl, inr, arith}
+use Rattle.std.proofs.Common.{◌≡◌, ◌∙◌, ◌+◌, ◌-◌, ℕ, zero, suc, get_or, Bool, true, false, cond, List, [], ◌∷◌, ◌++◌, length, take, drop, reverse, Option, Some, None, Result, Ok, is_some, ap, sym, subst, refl, inl, inr, arith}
 use Rattle.std.specs.Prelude.{◌↔◌, nat_eq, slice_get}
 use Rattle.std.proofs.lemmas.Bool.{ne_eqb, true≢false, false_from_ne_true}
 use Rattle.std.proofs.lemmas.Bool.Decides.{eqb_tells}
@@ -10,33 +10,27 @@ use Rattle.std.specs.Ordering.{eq_by_cmp}
 use Rattle.plain_values.specs.Order.{bytes_cmp}
 use Rattle.plain_values.specs.SortedSet as set
 use Rattle.fd_laws.proofs.Names.{name_total, tied_name}
-use Rattle.lens_specs.specs.Common.{TableDelta, changes, differences, Lens, Tables, put as put_rows, Name, Relation, Rows, LeadTo, inverted, with_deltas}
+use Rattle.lens_specs.specs.Common.{TableDelta, Tables, Name, Relation, LeadTo, inverted, with_deltas}
 use Rattle.grammar_specs.specs.Meaning.{Definition, table, view}
 use Rattle.grammar_laws.specs.Reading.{reading}
 use Rattle.io_specs.specs.Lines.{Line}
 use Rattle.catalog_specs.specs.Catalogue.{Catalogue, catalogue}
-use Rattle.catalog_specs.specs.Judging.{CatalogFault, judged}
+use Rattle.catalog_specs.specs.Judging.{judged}
 use Rattle.server_specs.specs.State.{State, remember}
-use Rattle.server_specs.specs.EditRefusal.{EditRefusal}
 use Rattle.server_specs.specs.Answer.{Answer, told, changed, nothing_to_undo}
-use Rattle.server_specs.specs.Request.{Request, define, read, find_at, put, edit, preview, describe, list, batch, undo, export, import, request}
-use Rattle.server_specs.specs.Defining.{answer_definition, with_defined}
-use Rattle.server_specs.specs.Changing.{Sent, whole, edited, accept, asked_view, tested, changed_by, settled}
-use Rattle.server_specs.specs.Batching.{batch_settled, edits_from}
+use Rattle.server_specs.specs.Request.{Request, undo, request}
+use Rattle.server_specs.specs.Defining.{with_defined}
+use Rattle.server_specs.specs.Changing.{accept}
 use Rattle.server_specs.specs.Undoing.{undone}
 use Rattle.server_specs.specs.Answering.{answer, answer_request}
 use Rattle.server_specs.specs.Session.{Replies, answered, not_stored, found_memory, out_of_memory, Exchange, Chain, Session, last_state, last_count}
 use Rattle.server_specs.specs.Validity.{AreStored, CanUndo, Valid}
 use Rattle.server_laws.specs.Answers.{IsChange}
 use Rattle.server_laws.specs.UndoLaws.{AreIn, Move, stays, made, taken_back, befores_after, move, move_of, move_to, moved}
-use Rattle.server_specs.specs.Exporting.{imported_by}
-use Rattle.server_laws.proofs.AnswerFacts.{Refuses, asked_refuses, of_import, read_refuses}
-use Rattle.server_laws.proofs.Asked.{GivesTyped, asked_typed, read_typed}
-use Rattle.server_laws.proofs.Edited.{edits_stored}
-use Rattle.server_laws.proofs.Led.{IsChangeTo, put_change, tables_change}
+use Rattle.server_laws.proofs.Outcomes.{Outcome, is_told, is_refused, is_defined, is_changed, is_undone, outcome, questions_make_nothing}
+use Rattle.server_laws.proofs.Led.{IsChangeTo}
 use Rattle.lens_laws.proofs.Moves.{all_there}
 use Rattle.server_laws.proofs.Remembered.{reverse_last, with_new}
-use Rattle.server_laws.proofs.Stored.{IsHere, lens_here}
 use Rattle.server_laws.proofs.Taken.{judged_ok}
 use Rattle.server_laws.proofs.Valid.{no_table, valid_chain, valid_step}
 
@@ -107,35 +101,9 @@ accept_recalls : (s : State) (ds : List TableDelta) (db : Tables) (befores : Lis
 accept_recalls s [] db befores c h = still_recalls s made befores h
 accept_recalls s (d ∷ ds) db befores c h = raised s (accept db (d ∷ ds) s).1 made befores refl (recalls_more s.tables db (d ∷ ds) s.past befores c.back h)
 
-settled_recalls : (s : State) (L : Lens) → Valid s → IsHere s L → (r : Result Rows EditRefusal) → GivesTyped L r → (befores : List Tables) → Recalls s.tables (reverse s.past) befores → Goes s (settled r L s).1 made befores
-settled_recalls s L v here (Err why) typed befores h = still_recalls s made befores h
-settled_recalls s L v here (Ok N) typed befores h = accept_recalls s (changes L N s.tables) (put_rows L N s.tables) befores (put_change s L N v here (typed N refl)) h
-
-changed_recalls : (s : State) → Valid s → (sent : Sent) (on : Option ℕ) (name : Name) (o : Option Lens) → finmap.get (catalogue s.texts) name ≡ o → (befores : List Tables) → Recalls s.tables (reverse s.past) befores
-    → Goes s (changed_by sent on name o s).1 made befores
-changed_recalls s v sent on name None is befores h = still_recalls s made befores h
-changed_recalls s v sent on name (Some L) is befores h =
-    let here = lens_here s v name L is in settled_recalls s L v here (asked_view s L sent on) (asked_typed s L here sent on) befores h
-
-import_recalls : (s : State) → Valid s → (csv : List ℕ) (on : Option ℕ) (name : Name) (befores : List Tables) → Recalls s.tables (reverse s.past) befores
-    → Goes s (imported_by csv on name (finmap.get (catalogue s.texts) name) s).1 made befores
-import_recalls s v csv on name befores h =
-    of_import (λ r. Goes s r.1 made befores) s on (λ a refuses. still_recalls s made befores h) csv name
-    (λ L is M fits. settled_recalls s L v (lens_here s v name L is) (tested s L on (Ok M)) (read_typed s L on M fits) befores h)
-
-batch_recalls : (s : State) → Valid s → (r : Result Tables (ℕ × EditRefusal)) → ((db : Tables) → r ≡ Ok db → AreStored (catalogue s.texts) db) → (befores : List Tables) → Recalls s.tables (reverse s.past) befores
-    → Goes s (batch_settled r s).1 made befores
-batch_recalls s v (Err found) stored befores h = still_recalls s made befores h
-batch_recalls s v (Ok db) stored befores h = accept_recalls s (differences (finmap.keys s.tables) s.tables db) db befores (tables_change s db v (stored db refl)) h
-
 without_first : (db : Tables) (cs : List TableDelta) (past : List (List TableDelta)) (befores : List Tables) → Recalls db (cs ∷ past) befores → Recalls (with_deltas (inverted cs) db) past (drop 1 befores)
 without_first db cs past [] h = absurd h
 without_first db cs past (b ∷ befores) h = h.1
-
-undone_recalls : (s : State) → Valid s → (o : Option (List TableDelta)) → slice_get s.past (length s.past - 1) ≡ o → (befores : List Tables) → Recalls s.tables (reverse s.past) befores → Goes s (undone o s).1 taken_back befores
-undone_recalls s v None is befores h = still_recalls s taken_back befores h
-undone_recalls s v (Some cs) is befores h =
-    raised s (undone (Some cs) s).1 taken_back befores refl (without_first s.tables cs (reverse (take (length s.past - 1) s.past)) befores (subst (λ p. Recalls s.tables p befores) (reverse_last s.past cs is) h))
 
 defined_recalls : (s : State) → Valid s → (text : List ℕ) (d : Definition) → judged (catalogue s.texts) (reading text) ≡ Ok d → (befores : List Tables) → Recalls s.tables (reverse s.past) befores
     → Goes s (with_defined text d s) stays befores
@@ -147,29 +115,20 @@ defined_recalls s v text (table name columns deps P) j befores h =
     s.tables (reverse s.past) befores v.tables v.past h)
 defined_recalls s v text (view name expr) j befores h = raised s (with_defined text (view name expr) s) stays befores refl h
 
-definition_recalls : (s : State) → Valid s → (text : List ℕ) (r : Result Definition CatalogFault) → judged (catalogue s.texts) (reading text) ≡ r → (befores : List Tables) → Recalls s.tables (reverse s.past) befores
-    → Goes s (answer_definition text r s).1 stays befores
-definition_recalls s v text (Err fault) j befores h = still_recalls s stays befores h
-definition_recalls s v text (Ok d) j befores h = defined_recalls s v text d j befores h
+undone_recalls : (s : State) (cs : List TableDelta) → slice_get s.past (length s.past - 1) ≡ Some cs → (befores : List Tables) → Recalls s.tables (reverse s.past) befores
+    → Goes s (undone (Some cs) s).1 taken_back befores
+undone_recalls s cs is befores h =
+    raised s (undone (Some cs) s).1 taken_back befores refl (without_first s.tables cs (reverse (take (length s.past - 1) s.past)) befores (subst (λ p. Recalls s.tables p befores) (reverse_last s.past cs is) h))
 
-request_recalls : (s : State) → Valid s → (r : Result Request Answer) (befores : List Tables) → Recalls s.tables (reverse s.past) befores → Goes s (answer_request r s).1 (move_of r) befores
-request_recalls s v (Err refusal) befores h = still_recalls s stays befores h
-request_recalls s v (Ok (define text)) befores h = definition_recalls s v text (judged (catalogue s.texts) (reading text)) refl befores h
-request_recalls s v (Ok (read name)) befores h = still_recalls s stays befores h
-request_recalls s v (Ok (find_at name column json)) befores h = still_recalls s stays befores h
-request_recalls s v (Ok (put name rows on)) befores h = changed_recalls s v (whole rows) on name (finmap.get (catalogue s.texts) name) refl befores h
-request_recalls s v (Ok (edit name remove add on)) befores h = changed_recalls s v (edited remove add) on name (finmap.get (catalogue s.texts) name) refl befores h
-request_recalls s v (Ok (preview name remove add on)) befores h = still_recalls s stays befores h
-request_recalls s v (Ok (describe name)) befores h = still_recalls s stays befores h
-request_recalls s v (Ok list) befores h = still_recalls s stays befores h
-request_recalls s v (Ok (batch edits on)) befores h = batch_recalls s v (edits_from 0 on s edits s.tables) (λ db is. edits_stored s v 0 on edits s.tables db v.tables is) befores h
-request_recalls s v (Ok undo) befores h = undone_recalls s v (slice_get s.past (length s.past - 1)) refl befores h
-request_recalls s v (Ok (export name)) befores h = still_recalls s stays befores h
-request_recalls s v (Ok (import name csv on)) befores h = import_recalls s v csv on name befores h
+outcome_recalls : (s : State) → Valid s → {r : Result Request Answer} {t : Answer × State} → Outcome s r t → (befores : List Tables) → Recalls s.tables (reverse s.past) befores → Goes s t.1 (move_of r) befores
+outcome_recalls s v {r = r} (is_told q told) befores h = still_recalls s (move_of r) befores h
+outcome_recalls s v {r = r} (is_refused refuses) befores h = still_recalls s (move_of r) befores h
+outcome_recalls s v (is_defined text d j) befores h = defined_recalls s v text d j befores h
+outcome_recalls s v (is_changed ds db makes leads) befores h = subst (λ m. Goes s (accept db ds s).1 m befores) (sym makes) (accept_recalls s ds db befores (leads v) h)
+outcome_recalls s v (is_undone cs is) befores h = undone_recalls s cs is befores h
 
 answer_recalls : (s : State) → Valid s → (l : Line) (befores : List Tables) → Recalls s.tables (reverse s.past) befores → Goes s (answer s l).1 (move_of (request l)) befores
-unfolding answer
-answer_recalls s v l befores h = request_recalls s v (request l) befores h
+answer_recalls s v l befores h = outcome_recalls s v (outcome s l) befores h
 
 -- ---- sessions
 
@@ -206,19 +165,8 @@ moved_on s t m e = by_test (nat_eq s.version t.version) e
     by_test false e = (refl, e)
 
 is_undo : (r : Result Request Answer) → move_of r ≡ taken_back → r ≡ Ok undo
-is_undo (Err refusal) e = cc
-is_undo (Ok (define text)) e = cc
-is_undo (Ok (read name)) e = cc
-is_undo (Ok (find_at name column json)) e = cc
-is_undo (Ok (put name rows on)) e = cc
-is_undo (Ok (edit name remove add on)) e = cc
-is_undo (Ok (preview name remove add on)) e = cc
-is_undo (Ok (describe name)) e = cc
-is_undo (Ok list) e = cc
-is_undo (Ok (batch edits on)) e = cc
 is_undo (Ok undo) e = refl
-is_undo (Ok (export name)) e = cc
-is_undo (Ok (import name csv on)) e = cc
+is_undo r e = cc
 
 -- the tables before the last change are first, and an undo brings them back
 Restores : State → State → List Tables → Type 0
@@ -299,44 +247,15 @@ accept_back : (s : State) (ds : List TableDelta) (db : Tables) → IsChangeTo s 
 accept_back s [] db c h = absurd h
 accept_back s (d ∷ ds) db c h = record { cs = d ∷ ds; last = remembered_last (d ∷ ds) s.past; back = c.back.1 }
 
-settled_back : (s : State) (L : Lens) → Valid s → IsHere s L → (r : Result Rows EditRefusal) → ((why : EditRefusal) → r ≡ Err why → Refuses s (told why)) → GivesTyped L r
-    → IsChange (settled r L s).0 → IsBack s (settled r L s).1
-settled_back s L v here (Err why) refuses typed h = absurd ((refuses why refl).change h)
-settled_back s L v here (Ok N) refuses typed h = accept_back s (changes L N s.tables) (put_rows L N s.tables) (put_change s L N v here (typed N refl)) h
-
-changed_back : (s : State) → Valid s → (sent : Sent) (on : Option ℕ) (name : Name) (o : Option Lens) → finmap.get (catalogue s.texts) name ≡ o → IsChange (changed_by sent on name o s).0 → IsBack s (changed_by sent on name o s).1
-changed_back s v sent on name None is h = absurd h
-changed_back s v sent on name (Some L) is h =
-    let here = lens_here s v name L is in settled_back s L v here (asked_view s L sent on) (asked_refuses s L sent on) (asked_typed s L here sent on) h
-
-import_back : (s : State) → Valid s → (csv : List ℕ) (on : Option ℕ) (name : Name) → IsChange (imported_by csv on name (finmap.get (catalogue s.texts) name) s).0
-    → IsBack s (imported_by csv on name (finmap.get (catalogue s.texts) name) s).1
-import_back s v csv on name =
-    of_import (λ r. IsChange r.0 → IsBack s r.1) s on (λ a refuses h. absurd (refuses.change h)) csv name
-    (λ L is M fits. settled_back s L v (lens_here s v name L is) (tested s L on (Ok M)) (read_refuses s L on M) (read_typed s L on M fits))
-
-batch_back : (s : State) → Valid s → (r : Result Tables (ℕ × EditRefusal)) → ((db : Tables) → r ≡ Ok db → AreStored (catalogue s.texts) db) → IsChange (batch_settled r s).0 → IsBack s (batch_settled r s).1
-batch_back s v (Err found) stored h = absurd h
-batch_back s v (Ok db) stored h = accept_back s (differences (finmap.keys s.tables) s.tables db) db (tables_change s db v (stored db refl)) h
-
-request_back : (s : State) → Valid s → (r : Result Request Answer) → move_of r ≡ made → IsChange (answer_request r s).0 → IsBack s (answer_request r s).1
-request_back s v (Err refusal) m h = cc
-request_back s v (Ok (define text)) m h = cc
-request_back s v (Ok (read name)) m h = cc
-request_back s v (Ok (find_at name column json)) m h = cc
-request_back s v (Ok (put name rows on)) m h = changed_back s v (whole rows) on name (finmap.get (catalogue s.texts) name) refl h
-request_back s v (Ok (edit name remove add on)) m h = changed_back s v (edited remove add) on name (finmap.get (catalogue s.texts) name) refl h
-request_back s v (Ok (preview name remove add on)) m h = cc
-request_back s v (Ok (describe name)) m h = cc
-request_back s v (Ok list) m h = cc
-request_back s v (Ok (batch edits on)) m h = batch_back s v (edits_from 0 on s edits s.tables) (λ db is. edits_stored s v 0 on edits s.tables db v.tables is) h
-request_back s v (Ok undo) m h = cc
-request_back s v (Ok (export name)) m h = cc
-request_back s v (Ok (import name csv on)) m h = import_back s v csv on name h
+outcome_back : (s : State) → Valid s → {r : Result Request Answer} {t : Answer × State} → Outcome s r t → move_of r ≡ made → IsChange t.0 → IsBack s t.1
+outcome_back s v {r = r} (is_told q told) m h = absurd (questions_make_nothing r q m)
+outcome_back s v (is_refused refuses) m h = absurd (refuses.change h)
+outcome_back s v (is_defined text d j) m h = cc
+outcome_back s v (is_changed ds db makes leads) m h = accept_back s ds db (leads v) h
+outcome_back s v (is_undone cs is) m h = cc
 
 answer_back : (s : State) → Valid s → (l : Line) → move_of (request l) ≡ made → IsChange (answer s l).0 → IsBack s (answer s l).1
-unfolding answer
-answer_back s v l m h = request_back s v (request l) m h
+answer_back s v l m h = outcome_back s v (outcome s l) m h
 
 pub undone_at_once : (s : State) → Valid s → (l m : Line) → move_of (request l) ≡ made → IsChange (answer s l).0 → request m ≡ Ok undo → (answer (answer s l).1 m).1.tables ≡ s.tables
 undone_at_once s v l m makes h asked =

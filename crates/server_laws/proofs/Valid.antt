@@ -12,32 +12,29 @@ use Rattle.plain_values.specs.SortedSet as set
 use Rattle.plain_values.proofs.Lists.{absurd_false}
 use Rattle.fd_laws.proofs.Names.{name_total, tied_name}
 use Rattle.lens_laws.proofs.Sorts.{none_off, none_clash}
-use Rattle.lens_specs.specs.Common.{Name, Columns, Fits, Relation, Rows, has, Predicate, Edge, MeetsTree, Sort, IsOf, Tables, Lens, sort_of, put, TableDelta, changes, differences, LeadTo, inverted, with_deltas}
+use Rattle.lens_specs.specs.Common.{Name, Columns, Fits, Relation, Rows, has, Predicate, Edge, MeetsTree, Sort, IsOf, Tables, Lens, sort_of, put, TableDelta, changes, LeadTo, inverted, with_deltas}
 use Rattle.grammar_specs.specs.Meaning.{Definition, table, view}
 use Rattle.io_specs.specs.Lines.{Line}
 use Rattle.grammar_laws.specs.Reading.{reading}
 use Rattle.catalog_specs.specs.Catalogue.{Catalogue, catalogue, with_definition, lens_of, with_lens, sort_with, table_lens, is_table_of}
-use Rattle.catalog_specs.specs.Judging.{CatalogFault, judged, is_taken}
+use Rattle.catalog_specs.specs.Judging.{judged, is_taken}
 use Rattle.catalog_specs.proofs.Catalogues.{catalogue-push}
 use Rattle.server_specs.specs.State.{State, fresh, remember}
 use Rattle.server_specs.specs.EditRefusal.{EditRefusal}
 use Rattle.server_specs.specs.Answer.{Answer}
-use Rattle.server_specs.specs.Request.{Request, define, read, find_at, put as put_request, edit, preview, describe, list, batch, undo, export, import, request}
-use Rattle.server_specs.specs.Defining.{answer_definition, with_defined}
-use Rattle.server_specs.specs.Changing.{Sent, whole, edited, of_sort, asked_view, tested, accept, with_last, settled, changed_by}
-use Rattle.server_specs.specs.Answering.{answer, answer_request}
+use Rattle.server_specs.specs.Request.{Request}
+use Rattle.server_specs.specs.Defining.{with_defined}
+use Rattle.server_specs.specs.Changing.{of_sort, accept, with_last, settled}
+use Rattle.server_specs.specs.Answering.{answer}
 use Rattle.server_specs.specs.Session.{Replies, answered, not_stored, found_memory, out_of_memory, Exchange, Chain, last_state, Session}
 use Rattle.server_specs.specs.Validity.{AreStored, CanUndo, IsDifference, IsStoredAs, IsStored, Valid}
-use Rattle.server_specs.specs.Batching.{batch_settled, edits_from}
 use Rattle.server_specs.specs.Undoing.{undone}
-use Rattle.server_specs.specs.Exporting.{imported_by}
-use Rattle.server_laws.proofs.AnswerFacts.{of_import}
-use Rattle.server_laws.proofs.Asked.{GivesTyped, sort_typed, asked_typed, read_typed}
-use Rattle.server_laws.proofs.Edited.{edits_stored}
-use Rattle.server_laws.proofs.Led.{IsChangeTo, led_names, put_change, tables_change}
+use Rattle.server_laws.proofs.Outcomes.{Outcome, is_told, is_refused, is_defined, is_changed, is_undone, outcome}
+use Rattle.server_laws.proofs.Asked.{GivesTyped, sort_typed}
+use Rattle.server_laws.proofs.Led.{IsChangeTo, led_names, put_change}
 use Rattle.lens_laws.proofs.Moves.{AllThere, all_there}
 use Rattle.server_laws.proofs.Remembered.{all_taken, can_undo_more, can_undo_still, can_undo_with, differences_remembered, few_remembered, reverse_last}
-use Rattle.server_laws.proofs.Stored.{as_stored, IsHere, lens_here}
+use Rattle.server_laws.proofs.Stored.{as_stored, IsHere}
 use Rattle.server_laws.proofs.Taken.{IsTaken, judged_ok, not_own, lens_is, lens_is_known, all_known, first_refused-push}
 use Rattle.server_laws.specs.PutLaws.{put_set}
 
@@ -125,18 +122,6 @@ valid_settled s L v here (Ok N) typed = valid_accept s (changes L N s.tables) (p
 
 pub valid_put_set : (s : State) (L : Lens) (N : Rows) → Valid s → IsHere s L → ((r : Row) → has N r ≡ true → Fits (sort_of L).columns r) → Valid (put_set N L s).1
 valid_put_set s L N v here fits = valid_settled s L v here (of_sort (sort_of L) N) (sort_typed L N fits)
-
-valid_changed : (s : State) → Valid s → (sent : Sent) (on : Option ℕ) (name : Name) (o : Option Lens) → finmap.get (catalogue s.texts) name ≡ o → Valid (changed_by sent on name o s).1
-valid_changed s v sent on name None is = v
-valid_changed s v sent on name (Some L) is = let here = lens_here s v name L is in valid_settled s L v here (asked_view s L sent on) (asked_typed s L here sent on)
-
-valid_import : (s : State) → Valid s → (csv : List ℕ) (on : Option ℕ) (name : Name) → Valid (imported_by csv on name (finmap.get (catalogue s.texts) name) s).1
-valid_import s v csv on name =
-    of_import (λ r. Valid r.1) s on (λ a refuses. v) csv name (λ L is M fits. valid_settled s L v (lens_here s v name L is) (tested s L on (Ok M)) (read_typed s L on M fits))
-
-valid_batch : (s : State) → Valid s → (r : Result Tables (ℕ × EditRefusal)) → ((db : Tables) → r ≡ Ok db → AreStored (catalogue s.texts) db) → Valid (batch_settled r s).1
-valid_batch s v (Err found) stored = v
-valid_batch s v (Ok db) stored = valid_accept s (differences (finmap.keys s.tables) s.tables db) db v (tables_change s db v (stored db refl))
 
 -- ---- undone changes
 
@@ -256,30 +241,17 @@ valid_taken s text (view name expr) v j h =
       past = undo_after s text (view name expr) j s.tables (can_undo_still known (with_lens name (lens_of expr known) known) stored s.tables (reverse s.past) v.past);
     }
 
-valid_definition : (s : State) (text : List ℕ) → Valid s → (r : Result Definition CatalogFault) → judged (catalogue s.texts) (reading text) ≡ r → Valid (answer_definition text r s).1
-valid_definition s text v (Err fault) j = v
-valid_definition s text v (Ok d) j = valid_taken s text d v j (judged_ok (catalogue s.texts) (reading text) d j).1
-
 -- ---- answers and sessions
 
-valid_request : (s : State) (r : Result Request Answer) → Valid s → Valid (answer_request r s).1
-valid_request s (Err refusal) v = v
-valid_request s (Ok (define text)) v = valid_definition s text v (judged (catalogue s.texts) (reading text)) refl
-valid_request s (Ok (read name)) v = v
-valid_request s (Ok (find_at name column json)) v = v
-valid_request s (Ok (put_request name rows on)) v = valid_changed s v (whole rows) on name (finmap.get (catalogue s.texts) name) refl
-valid_request s (Ok (edit name remove add on)) v = valid_changed s v (edited remove add) on name (finmap.get (catalogue s.texts) name) refl
-valid_request s (Ok (preview name remove add on)) v = v
-valid_request s (Ok (describe name)) v = v
-valid_request s (Ok list) v = v
-valid_request s (Ok (batch edits on)) v = valid_batch s v (edits_from 0 on s edits s.tables) (λ db is. edits_stored s v 0 on edits s.tables db v.tables is)
-valid_request s (Ok undo) v = valid_undone s v (slice_get s.past (length s.past - 1)) refl
-valid_request s (Ok (export name)) v = v
-valid_request s (Ok (import name csv on)) v = valid_import s v csv on name
+valid_outcome : (s : State) → Valid s → {r : Result Request Answer} {t : Answer × State} → Outcome s r t → Valid t.1
+valid_outcome s v (is_told q told) = v
+valid_outcome s v (is_refused refuses) = v
+valid_outcome s v (is_defined text d j) = valid_taken s text d v j (judged_ok (catalogue s.texts) (reading text) d j).1
+valid_outcome s v (is_changed ds db makes leads) = valid_accept s ds db v (leads v)
+valid_outcome s v (is_undone cs is) = valid_undone s v (Some cs) is
 
 pub valid_answer : (s : State) (l : Line) → Valid s → Valid (answer s l).1
-unfolding answer
-valid_answer s l v = valid_request s (request l) v
+valid_answer s l v = valid_outcome s v (outcome s l)
 
 pub valid_step : (s : State) (count : ℕ) (l : Line) (reply : List ℕ) (t : State) (count' : ℕ) → Valid s → Replies s count l reply t count' → Valid t
 valid_step s count l reply t count' v r = elim r [

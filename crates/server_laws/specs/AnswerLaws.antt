@@ -1,11 +1,11 @@
 -- The laws of answers: what a refusal and a question leave, and how the version rises.
-use Rattle.std.specs.Prelude.{◌≡◌, ◌+◌, ◌⊎◌, Some, IfSome, Result, Ok, Err}
+use Rattle.std.specs.Prelude.{◌≡◌, ◌+◌, ◌⊎◌, Some, IfSome, Result, Ok}
 use Rattle.std.specs.FinMap as finmap
 use Rattle.lens_specs.specs.Relation.{Name}
 use Rattle.io_specs.specs.Lines.{Line}
 use Rattle.server_specs.specs.State.{State}
 use Rattle.server_specs.specs.Answer.{Answer}
-use Rattle.server_specs.specs.Request.{Request, define, read, find_at, put, edit, preview, describe, list, batch, undo, export, import, request}
+use Rattle.server_specs.specs.Request.{Request, read, find_at, preview, describe, list, export, request}
 use Rattle.server_specs.specs.Answering.{answer}
 use Rattle.server_specs.specs.Validity.{Valid}
 use Rattle.server_laws.specs.Answers.{IsRefusal, IsFailure, IsChange, told_version}
@@ -16,19 +16,13 @@ RefusalsChangeNothing = (s : State) (l : Line) → IsRefusal (answer s l).0 → 
 
 -- what is only asked, or foretold
 abbrev pub IsQuestion : Result Request Answer → Type 0
-IsQuestion (Err refusal) = ⊥
-IsQuestion (Ok (define text)) = ⊥
 IsQuestion (Ok (read name)) = Unit {0}
 IsQuestion (Ok (find_at name column json)) = Unit {0}
-IsQuestion (Ok (put name rows on)) = ⊥
-IsQuestion (Ok (edit name remove add on)) = ⊥
 IsQuestion (Ok (preview name remove add on)) = Unit {0}
 IsQuestion (Ok (describe name)) = Unit {0}
 IsQuestion (Ok list) = Unit {0}
-IsQuestion (Ok (batch edits on)) = ⊥
-IsQuestion (Ok undo) = ⊥
 IsQuestion (Ok (export name)) = Unit {0}
-IsQuestion (Ok (import name csv on)) = ⊥
+IsQuestion other = ⊥
 
 -- a question leaves the state as it was
 abbrev pub QuestionsChangeNothing : Type 0

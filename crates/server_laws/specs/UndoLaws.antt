@@ -1,11 +1,11 @@
 -- The laws of undo.
-use Rattle.std.specs.Prelude.{◌≡◌, ◌↔◌, ◌++◌, ℕ, true, nat_eq, List, [], ◌∷◌, drop, is_some, Result, Ok, Err, if◌then◌else◌}
+use Rattle.std.specs.Prelude.{◌≡◌, ◌↔◌, ◌++◌, ℕ, true, nat_eq, List, [], ◌∷◌, drop, is_some, Result, Ok, if◌then◌else◌}
 use Rattle.std.specs.FinMap as finmap
 use Rattle.lens_specs.specs.Common.{Name, Tables}
 use Rattle.io_specs.specs.Lines.{Line}
 use Rattle.server_specs.specs.State.{State}
 use Rattle.server_specs.specs.Answer.{Answer, nothing_to_undo}
-use Rattle.server_specs.specs.Request.{Request, define, read, find_at, put, edit, preview, describe, list, batch, undo, export, import, request}
+use Rattle.server_specs.specs.Request.{Request, put, edit, batch, undo, import, request}
 use Rattle.server_specs.specs.Answering.{answer}
 use Rattle.server_specs.specs.Session.{Exchange, Session, last_state}
 use Rattle.server_specs.specs.Validity.{Valid}
@@ -25,19 +25,12 @@ pub data Move : Type 0 where
 
 -- what a request that raises the version does to them
 abbrev pub move_of : Result Request Answer → Move
-move_of (Err refusal) = stays
-move_of (Ok (define text)) = stays
-move_of (Ok (read name)) = stays
-move_of (Ok (find_at name column json)) = stays
 move_of (Ok (put name rows on)) = made
 move_of (Ok (edit name remove add on)) = made
-move_of (Ok (preview name remove add on)) = stays
-move_of (Ok (describe name)) = stays
-move_of (Ok list) = stays
+move_of (Ok (import name csv on)) = made
 move_of (Ok (batch edits on)) = made
 move_of (Ok undo) = taken_back
-move_of (Ok (export name)) = stays
-move_of (Ok (import name csv on)) = made
+move_of other = stays
 
 -- a change of the tables and then an undo leave them as they were
 abbrev pub UndoneAtOnce : Type 0

@@ -15,7 +15,7 @@ use Rattle.server_specs.specs.Request.{Request, export, request}
 use Rattle.server_specs.specs.Session.{Exchange, Session, answered, found_memory, last_state}
 use Rattle.server_specs.specs.Session as steps
 use Rattle.server_specs.proofs.Sessions.{Session-nil}
-use Rattle.server_specs.proofs.Versions.{version-step}
+use Rattle.server_laws.proofs.AnswerFacts.{version_step}
 use Rattle.server_laws.specs.SheetLaws.{IsExportLine, ReadsBack}
 use Rattle.lens_io.specs.declared.cutting.Cut.{Cut}
 use Rattle.lens_io.specs.declared.cutting.Cut.TheVariants as cut
@@ -355,7 +355,7 @@ Served-more first limit c cutter cutter' server server' left0 left left' given0 
       commits = commits_more first count0 s.lines s.replies server count s.session (line_of c cutter'.line) reply server' count' step calls0 calls calls' s.commits commits;
       stored = stored_next server server' contents0 contents contents' s.stored told;
       gave = subst (Appends given0 given') (sym (joined-push s.replies reply)) (Appends-trans given0 given given' (joined s.replies) reply s.gave gave);
-      version = omega (arith, s.version, version-step server count (line_of c cutter'.line) reply server' count' step, length-append s.lines (line_of c cutter'.line ∷ []));
+      version = omega (arith, s.version, version_step server count (line_of c cutter'.line) reply server' count' step, length-append s.lines (line_of c cutter'.line ∷ []));
       as_many = omega (arith, s.as_many, length-append s.lines (line_of c cutter'.line ∷ []), length-append s.replies (reply ∷ []));
       limit_is = limit_kept ∙ s.limit_is;
       within = omega (arith, t.step.most, limit_kept);
