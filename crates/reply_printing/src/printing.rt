@@ -8,7 +8,7 @@ ghost use Rattle.reply_printing.specs.Printing.{Adds, array, begin_object, boole
 
 use crate::reply::Reply;
 use fd_tree::Edge;
-use json::Writer;
+use crate::json_text::JsonText;
 use lens_values::{Name, Names, NoMemory, Row, Value};
 use row_sets::RowSet;
 use signed_delta::TableDelta;
@@ -18,7 +18,7 @@ use std::alloc::Global;
 const FIRST_ROOM: usize = 512;
 
 /// An object that is begun.
-pub(crate) fn begun(alloc: Global) -> Result<Writer, NoMemory>
+pub(crate) fn begun(alloc: Global) -> Result<JsonText, NoMemory>
     ensures before { IfOk result (λ out. out.before ≡ []) }
     ensures tokens { IfOk result (λ out. out.tokens ≡ begin_object ∷ []) }
 {
@@ -26,29 +26,29 @@ pub(crate) fn begun(alloc: Global) -> Result<Writer, NoMemory>
 }
 
 /// An object that is begun, with room for so many bytes beside a few members.
-pub(crate) fn begun_beside(alloc: Global, bytes: usize) -> Result<Writer, NoMemory>
+pub(crate) fn begun_beside(alloc: Global, bytes: usize) -> Result<JsonText, NoMemory>
     ensures before { IfOk result (λ out. out.before ≡ []) }
     ensures tokens { IfOk result (λ out. out.tokens ≡ begin_object ∷ []) }
 {
     let room = bytes.saturating_add(FIRST_ROOM);
-    let mut out = Writer::new(Vec::with_capacity(alloc, room)?);
+    let mut out = JsonText::new(alloc, room)?;
     out.begin_object()?;
     Ok(out)
 }
 
 /// The line of an object that is ended here.
-pub(crate) fn ended(mut out: Writer) -> Result<Reply, NoMemory>
+pub(crate) fn ended(mut out: JsonText) -> Result<Reply, NoMemory>
     requires { out.before ≡ [] }
     ensures { IfOk result (λ reply. reply ≡ print (out.tokens ++ end_object ∷ []) ++ 10 ∷ []) }
 {
     out.end_object()?;
-    let mut bytes = out.into_inner();
+    let mut bytes = out.into_bytes();
     bytes.push(b'\n')?;
     Ok(Reply::made(bytes))
 }
 
 /// A member that is true or false.
-pub(crate) fn print_flag(out: &mut Writer, name: &str, flag: bool) -> Result<(), NoMemory>
+pub(crate) fn print_flag(out: &mut JsonText, name: &str, flag: bool) -> Result<(), NoMemory>
     ensures { OnOk result (Adds out.old out.new (key name.now ∷ boolean flag ∷ [])) }
 {
     out.key(name)?;
@@ -57,7 +57,7 @@ pub(crate) fn print_flag(out: &mut Writer, name: &str, flag: bool) -> Result<(),
 }
 
 /// A member that is a number.
-pub(crate) fn print_number(out: &mut Writer, name: &str, n: u64) -> Result<(), NoMemory>
+pub(crate) fn print_number(out: &mut JsonText, name: &str, n: u64) -> Result<(), NoMemory>
     ensures { OnOk result (Adds out.old out.new (key name.now ∷ number (decimal n) ∷ [])) }
 {
     out.key(name)?;
@@ -66,7 +66,7 @@ pub(crate) fn print_number(out: &mut Writer, name: &str, n: u64) -> Result<(), N
 }
 
 /// A member that is a text.
-pub(crate) fn print_text(out: &mut Writer, name: &str, value: &str) -> Result<(), NoMemory>
+pub(crate) fn print_text(out: &mut JsonText, name: &str, value: &str) -> Result<(), NoMemory>
     ensures { OnOk result (Adds out.old out.new (key name.now ∷ string value.now ∷ [])) }
 {
     out.key(name)?;
@@ -75,14 +75,14 @@ pub(crate) fn print_text(out: &mut Writer, name: &str, value: &str) -> Result<()
 }
 
 /// A member that is a name.
-pub(crate) fn print_name(out: &mut Writer, name: &str, value: &Name) -> Result<(), NoMemory>
+pub(crate) fn print_name(out: &mut JsonText, name: &str, value: &Name) -> Result<(), NoMemory>
     ensures { OnOk result (Adds out.old out.new (key name.now ∷ string value.now ∷ [])) }
 {
     print_text(out, name, value.as_str())
 }
 
 /// A member that is an array of names.
-pub(crate) fn print_names(out: &mut Writer, name: &str, names: &Names) -> Result<(), NoMemory>
+pub(crate) fn print_names(out: &mut JsonText, name: &str, names: &Names) -> Result<(), NoMemory>
     ensures { OnOk result (Adds out.old out.new (key name.now ∷ data_tokens (set_data names.now))) }
 {
     out.key(name)?;
@@ -90,7 +90,7 @@ pub(crate) fn print_names(out: &mut Writer, name: &str, names: &Names) -> Result
     Ok(())
 }
 
-fn print_name_list(out: &mut Writer, names: &[Name]) -> Result<(), NoMemory>
+fn print_name_list(out: &mut JsonText, names: &[Name]) -> Result<(), NoMemory>
     ensures { OnOk result (Adds out.old out.new (data_tokens (array (names_data names.now)))) }
 {
     out.begin_array()?;
@@ -102,7 +102,7 @@ fn print_name_list(out: &mut Writer, names: &[Name]) -> Result<(), NoMemory>
 }
 
 /// A member that is the two sides of an edge.
-pub(crate) fn print_edge(out: &mut Writer, name: &str, edge: &Edge) -> Result<(), NoMemory>
+pub(crate) fn print_edge(out: &mut JsonText, name: &str, edge: &Edge) -> Result<(), NoMemory>
     ensures { OnOk result (Adds out.old out.new (key name.now ∷ data_tokens (edge_data edge.now))) }
 {
     out.key(name)?;
@@ -111,7 +111,7 @@ pub(crate) fn print_edge(out: &mut Writer, name: &str, edge: &Edge) -> Result<()
 }
 
 /// The two sides of an edge.
-pub(crate) fn print_sides(out: &mut Writer, edge: &Edge) -> Result<(), NoMemory>
+pub(crate) fn print_sides(out: &mut JsonText, edge: &Edge) -> Result<(), NoMemory>
     ensures { OnOk result (Adds out.old out.new (data_tokens (edge_data edge.now))) }
 {
     out.begin_object()?;
@@ -123,7 +123,7 @@ pub(crate) fn print_sides(out: &mut Writer, edge: &Edge) -> Result<(), NoMemory>
 
 /// A member that is an array of two rows.
 pub(crate) fn print_pair(
-    out: &mut Writer,
+    out: &mut JsonText,
     name: &str,
     first: &Row,
     second: &Row,
@@ -141,7 +141,7 @@ pub(crate) fn print_pair(
 
 /// A member that is an array of differences of tables.
 pub(crate) fn print_changes(
-    out: &mut Writer,
+    out: &mut JsonText,
     name: &str,
     changes: &[TableDelta],
 ) -> Result<(), NoMemory>
@@ -153,7 +153,7 @@ pub(crate) fn print_changes(
     Ok(())
 }
 
-fn print_list(out: &mut Writer, changes: &[TableDelta]) -> Result<(), NoMemory>
+fn print_list(out: &mut JsonText, changes: &[TableDelta]) -> Result<(), NoMemory>
     ensures { OnOk result (Adds out.old out.new
         (data_tokens (array (changes_data (map table_delta changes.now))))) }
 {
@@ -165,7 +165,7 @@ fn print_list(out: &mut Writer, changes: &[TableDelta]) -> Result<(), NoMemory>
     Ok(())
 }
 
-fn print_change(out: &mut Writer, change: &TableDelta) -> Result<(), NoMemory>
+fn print_change(out: &mut JsonText, change: &TableDelta) -> Result<(), NoMemory>
     ensures { OnOk result (Adds out.old out.new
         (data_tokens (change_data (table_delta change.now)))) }
 {
@@ -178,7 +178,7 @@ fn print_change(out: &mut Writer, change: &TableDelta) -> Result<(), NoMemory>
 }
 
 /// A member that is an array of rows.
-pub(crate) fn print_set(out: &mut Writer, name: &str, rows: &RowSet) -> Result<(), NoMemory>
+pub(crate) fn print_set(out: &mut JsonText, name: &str, rows: &RowSet) -> Result<(), NoMemory>
     ensures { OnOk result (Adds out.old out.new
         (key name.now ∷ data_tokens (array (rows_data (set.items rows.now))))) }
 {
@@ -187,7 +187,7 @@ pub(crate) fn print_set(out: &mut Writer, name: &str, rows: &RowSet) -> Result<(
     Ok(())
 }
 
-fn print_rows(out: &mut Writer, rows: &RowSet) -> Result<(), NoMemory>
+fn print_rows(out: &mut JsonText, rows: &RowSet) -> Result<(), NoMemory>
     ensures { OnOk result (Adds out.old out.new
         (data_tokens (array (rows_data (set.items rows.now))))) }
 {
@@ -200,7 +200,7 @@ fn print_rows(out: &mut Writer, rows: &RowSet) -> Result<(), NoMemory>
 }
 
 /// A member that is a row.
-pub(crate) fn print_row(out: &mut Writer, name: &str, row: &Row) -> Result<(), NoMemory>
+pub(crate) fn print_row(out: &mut JsonText, name: &str, row: &Row) -> Result<(), NoMemory>
     ensures { OnOk result (Adds out.old out.new (key name.now ∷ data_tokens (row_data row.now))) }
 {
     out.key(name)?;
@@ -208,19 +208,19 @@ pub(crate) fn print_row(out: &mut Writer, name: &str, row: &Row) -> Result<(), N
     Ok(())
 }
 
-fn print_object(out: &mut Writer, row: &Row) -> Result<(), NoMemory>
+fn print_object(out: &mut JsonText, row: &Row) -> Result<(), NoMemory>
     ensures { OnOk result (Adds out.old out.new (data_tokens (row_data row.now))) }
 {
     out.begin_object()?;
     for (name, value) in row.names().as_slice().iter().zip(row.values()) {
-        out.key(name.as_str())?;
+        out.name_key(name)?;
         print_value(out, value)?;
     }
     out.end_object()?;
     Ok(())
 }
 
-fn print_value(out: &mut Writer, value: &Value) -> Result<(), NoMemory>
+fn print_value(out: &mut JsonText, value: &Value) -> Result<(), NoMemory>
     ensures { OnOk result (Adds out.old out.new (data_tokens (value_data value.now))) }
 {
     match value {
