@@ -11,7 +11,8 @@ unfoldable pub use Rattle.lens_specs.specs.Dependencies.{closure}
 pub use Rattle.lens_specs.specs.TreeForm.{TreeForm, is_tree, kept_edge, not_tree, reduce_all, reduce_edge, with_right}
 unfoldable pub use Rattle.lens_specs.specs.TreeForm.{outputs, tree_of, tree_without}
 pub use Rattle.lens_specs.specs.Predicate.{Formula, Formulas, Op, Predicate, all_of, any_of, compare, compare_columns, eq, falsity, formula_mentions, formulas, ge, gt, holds, le, lt, mentioned, mentions, names_in, names_of, names_of_all, ne, negation, no_formulas, null_at, one_of, truth, without_name}
-pub use Rattle.lens_specs.specs.Sort.{Clash, IsOf, IsOfSort, Sort, violating_pair, clashes, first_pair, violating_row}
+pub use Rattle.lens_specs.specs.Sort.{Clash, IsOf, IsOfSort, Sort, clashes, first_pair}
+unfoldable pub use Rattle.lens_specs.specs.Sort.{violating_pair, violating_row}
 pub use Rattle.lens_specs.specs.Lens.{Lens, Tables, base, drop, drop_sort, join_sort, nodes_of, rename, rename_sort, rows_or_none, select, select_sort, sort_of, table, tree_or_none, view, view_names}
 unfoldable pub use Rattle.lens_specs.specs.Lens.{get, put, tables_of}
 pub use Rattle.lens_specs.specs.Delta.{Applies, AppliesTo, Delta, TableDelta, changes, differences, is_empty}

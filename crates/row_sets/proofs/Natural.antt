@@ -113,7 +113,7 @@ in_both U V c both = set.contains-intersection nat_list_cmp_total (names U) (nam
 pair_fits : (U V : Columns) (m n : Row) → Fits U m → Fits V n → agree (set.intersection (names U) (names V)) m n ≡ true → Fits (override U V) (override n m)
 pair_fits U V m n fit fit' agrees c =
     fits_same _ _ _ _ (sym (get-both n m c)) (sym (get-both U V c))
-    (one_fits (finmap.get m c) (finmap.get n c) (finmap.get U c) (finmap.get V c) (fit c) (fit' c) (λ both. agree_at (set.intersection (names U) (names V)) m n c agrees (in_both U V c both)))
+    (one_fits (finmap.get m c) (finmap.get n c) (finmap.get U c) (finmap.get V c) (fit c) (fit' c) (λ both. agree_at (set.intersection (names U) (names V)) m n agrees c (in_both U V c both)))
 
 pub joined_fit : (U V : Columns) (M N : Rows) → ((m : Row) → set.contains M m ≡ true → Fits U m) → ((n : Row) → set.contains N n ≡ true → Fits V n)
     → (row : Row) → set.contains (pairs_on (set.intersection (names U) (names V)) M N) row ≡ true → Fits (override U V) row

@@ -11,9 +11,9 @@ use Rattle.lens_laws.proofs.Lenses.{put_leaves}
 use Rattle.plain_values.proofs.Lists.{in_head, in_tail}
 use Rattle.fd_laws.proofs.Names.{name_total, name_exact, name_itself, tied_name}
 use Rattle.server_laws.proofs.Differences.{Distinct, items_distinct, other_name, empty_same, not_later}
-use Rattle.lens_specs.specs.Common.{Name, Names, is_among, Rows, Relation, Columns, Tables, Lens, base, select, drop, rename, tables_of, table, put, rows_or_none, Delta, TableDelta, diff, new_view, Applies, is_empty, differences, changes, rows, rows_at, with_deltas, changed, AllApply, CanChange}
+use Rattle.lens_specs.specs.Common.{Name, Names, is_among, Rows, Relation, Columns, Tables, Lens, base, select, drop, rename, tables_of, table, put, rows_or_none, Delta, TableDelta, diff, new_view, Applies, is_empty, differences, changes, rows, rows_at, changed, CanChange}
 use Rattle.lens_specs.specs.Lens.{join}
-use Rattle.lens_specs.specs.Keeping.{define, or_empty}
+use Rattle.lens_specs.specs.Keeping.{define, or_empty, AllApply, with_deltas}
 use Rattle.server_specs.specs.State.{State, rows_of_each, kept}
 use Rattle.server_specs.specs.Changing.{accept}
 use Rattle.server_laws.specs.KeptLaws.{KeptFollows}

@@ -6,8 +6,8 @@ use Rattle.std.specs.List.{AllByRecursion, list_any}
 use Rattle.std.specs.Cmp.Lexicographic.{pointwise, texts_ties}
 use Rattle.plain_values.specs.Order.{bytes_cmp}
 use Rattle.plain_values.proofs.Tests.{first_fails, second_fails}
-use Rattle.lens_specs.specs.Common.{Name, Rows, TableDelta, new_view, AllApply, rows_at, with_deltas}
-use Rattle.lens_specs.specs.Keeping.{or_empty}
+use Rattle.lens_specs.specs.Common.{Name, Rows, TableDelta, new_view, rows_at}
+use Rattle.lens_specs.specs.Keeping.{or_empty, AllApply, with_deltas}
 use Rattle.signed_delta.specs.declared.delta.TableDelta as code
 use Rattle.signed_delta.specs.Tables.{table_delta}
 use Rattle.table_keeper.specs.Places.{IsThere, entry_after, with_entries}
