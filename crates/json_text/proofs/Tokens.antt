@@ -1,7 +1,7 @@
 -- The bytes of tokens at the end of a text.
 use Rattle.std.proofs.Common.{◌≡◌, ◌∙◌, Bool, true, false, cond, ℕ, List, [], ◌∷◌, ◌++◌, fold, ap, sym, refl, append_assoc, append-nil}
-use Rattle.json.specs.Token.{Token}
-use Rattle.json.specs.Print.{begins, ends, print_from, token_text}
+use Rattle.json.specs.Token.{Token, string}
+use Rattle.json.specs.Print.{begins, ends, print, print_from, quoted, token_text}
 use Rattle.json.proofs.Printed.Tokens.{print_from-append}
 use Rattle.json_text.specs.Written.{Written, Adds, AddsBytes, comma}
 
@@ -12,7 +12,7 @@ print_begun true t h = rw h (ap (λ l. 44 ∷ l) (append-nil (token_text t)))
 print_begun false t h = append-nil (token_text t)
 
 -- a closing bracket has none
-print_ended : (after : Bool) (t : Token) → begins t ≡ false → print_from after (t ∷ []) ≡ token_text t
+pub print_ended : (after : Bool) (t : Token) → begins t ≡ false → print_from after (t ∷ []) ≡ token_text t
 unfolding print_from
 print_ended true t h = rw h (append-nil (token_text t))
 print_ended false t h = append-nil (token_text t)
@@ -35,6 +35,14 @@ bytes_follow {a} {b} {c} {xs} {ys} first second = record {
   bytes = second.bytes ∙ ap (λ l. l ++ ys) first.bytes ∙ append_assoc a.bytes xs ys;
   after_value = second.after_value;
 }
+
+-- the same bytes, where it is then said whether a value has ended
+pub ended_as : {a b c : Written} {xs : List ℕ} {m : Bool} (n : Bool) → AddsBytes a b xs m → c.bytes ≡ b.bytes → c.after_value ≡ n → AddsBytes a c xs n
+ended_as n added same now = record { bytes = same ∙ added.bytes; after_value = now }
+
+pub print_string : (s : List ℕ) → print (string s ∷ []) ≡ quoted s
+unfolding print_from
+print_string s = append-nil (quoted s)
 
 fold_follow : (b : Bool) (ts us : List Token) → fold (λ _ t. ends t) (fold (λ _ t. ends t) b ts) us ≡ fold (λ _ t. ends t) b (ts ++ us)
 fold_follow b [] us = refl

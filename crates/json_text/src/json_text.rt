@@ -239,7 +239,8 @@ impl JsonText {
         ensures { OnOk result
             (AddsBytes self.old self.new (quoted text.now) self.old.after_value) }
     {
-        self.take(b"")?;
+        self.taken.extend_from_slice(&self.gathered[..self.len])?;
+        self.len = 0;
         let mut out = Writer::new(mem::replace(&mut self.taken, Vec::new(self.alloc)));
         out.string(text)?;
         self.taken = out.into_inner();

@@ -8,14 +8,18 @@ ghost use Rattle.reply_printing.specs.Printing.{Adds, array, data_tokens, key, o
 
 use crate::printing::{print_sides, print_text};
 use fd_tree::Edge;
-use crate::json_text::JsonText;
+use json_text::JsonText;
 use lens_pred::Formula;
 use lens_values::{Columns, Kind, NoMemory, Text};
 use std::alloc::Global;
 use view_lang::print_formula;
 
 /// A member that is an object from the columns to the texts of their kinds.
-pub(crate) fn print_columns(out: &mut JsonText, name: &str, columns: &Columns) -> Result<(), NoMemory>
+pub(crate) fn print_columns(
+    out: &mut JsonText,
+    name: &str,
+    columns: &Columns,
+) -> Result<(), NoMemory>
     ensures { OnOk result (Adds out.old out.new
         (key name.now ∷ data_tokens (object (columns_data (finmap.entries columns.now))))) }
 {

@@ -3,7 +3,6 @@
 
 pub mod answer;
 mod describing;
-mod json_text;
 mod edit_refusals;
 pub mod json_values;
 pub mod lists;

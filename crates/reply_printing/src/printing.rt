@@ -1,14 +1,14 @@
 //! Replies printed token by token.
-ghost use Rattle.std.specs.Prelude.{◌≡◌, [], ◌∷◌, ◌++◌, IfOk, OnOk, map, decimal};
+ghost use Rattle.std.specs.Prelude.{◌≡◌, [], ◌∷◌, ◌++◌, IfOk, OnOk, false, map, decimal};
 ghost use Rattle.std.specs.FinMap as finmap;
 ghost use Rattle.plain_values.specs.SortedSet as set;
 ghost use Rattle.server_specs.specs.Answer.{value_data, row_data, rows_data, pair_data, names_data, set_data, edge_data, change_data, changes_data};
 ghost use Rattle.signed_delta.specs.Tables.{table_delta};
-ghost use Rattle.reply_printing.specs.Printing.{Adds, array, begin_object, boolean, data_tokens, end_object, key, number, print, string};
+ghost use Rattle.reply_printing.specs.Printing.{Adds, array, boolean, data_tokens, key, number, string};
 
 use crate::reply::Reply;
 use fd_tree::Edge;
-use crate::json_text::JsonText;
+use json_text::JsonText;
 use lens_values::{Name, Names, NoMemory, Row, Value};
 use row_sets::RowSet;
 use signed_delta::TableDelta;
@@ -19,30 +19,28 @@ const FIRST_ROOM: usize = 512;
 
 /// An object that is begun.
 pub(crate) fn begun(alloc: Global) -> Result<JsonText, NoMemory>
-    ensures before { IfOk result (λ out. out.before ≡ []) }
-    ensures tokens { IfOk result (λ out. out.tokens ≡ begin_object ∷ []) }
+    ensures bytes { IfOk result (λ out. out.bytes ≡ 123 ∷ []) }
+    ensures after_value { IfOk result (λ out. out.after_value ≡ false) }
 {
     begun_beside(alloc, 0)
 }
 
 /// An object that is begun, with room for so many bytes beside a few members.
 pub(crate) fn begun_beside(alloc: Global, bytes: usize) -> Result<JsonText, NoMemory>
-    ensures before { IfOk result (λ out. out.before ≡ []) }
-    ensures tokens { IfOk result (λ out. out.tokens ≡ begin_object ∷ []) }
+    ensures bytes { IfOk result (λ out. out.bytes ≡ 123 ∷ []) }
+    ensures after_value { IfOk result (λ out. out.after_value ≡ false) }
 {
-    let room = bytes.saturating_add(FIRST_ROOM);
-    let mut out = JsonText::new(alloc, room)?;
+    let mut out = JsonText::new(alloc, bytes.saturating_add(FIRST_ROOM))?;
     out.begin_object()?;
     Ok(out)
 }
 
 /// The line of an object that is ended here.
 pub(crate) fn ended(mut out: JsonText) -> Result<Reply, NoMemory>
-    requires { out.before ≡ [] }
-    ensures { IfOk result (λ reply. reply ≡ print (out.tokens ++ end_object ∷ []) ++ 10 ∷ []) }
+    ensures { IfOk result (λ reply. reply ≡ (out.bytes ++ 125 ∷ []) ++ 10 ∷ []) }
 {
     out.end_object()?;
-    let mut bytes = out.into_bytes();
+    let mut bytes = out.into_bytes()?;
     bytes.push(b'\n')?;
     Ok(Reply::made(bytes))
 }

@@ -13,7 +13,7 @@ use crate::printing::{
 };
 use crate::reply::Reply;
 use fd_tree::Edge;
-use crate::json_text::JsonText;
+use json_text::JsonText;
 use lens_values::{Name, Names, NoMemory, Row};
 use line_texts::Member;
 use std::alloc::Global;
