@@ -4,14 +4,21 @@ use Rattle.std.specs.Prelude.{Option, Some, None}
 use Rattle.std.proofs.lemmas.List.{take_more}
 use Rattle.json.specs.Token.{end_object}
 use Rattle.json.specs.Tree.{members_tokens}
+use Rattle.json.specs.Print.{print_from}
 use Rattle.serde_json.specs.Data.{Members}
 use Rattle.serde_json.specs.Written.{members_outline}
+use Rattle.json_text.specs.Written.{Adds, Written}
 use Rattle.server_specs.specs.Answer.{answer_data, refused_edit_data}
 use Rattle.server_specs.specs.EditRefusal as refusals
 use Rattle.reply_printing.specs.Answers.{refused_in}
 use Rattle.reply_printing.specs.Refusals.{part_tokens, parts_data, parts_tokens, with_part}
 use Rattle.reply_printing.specs.declared.refusals.Part.{Part}
 use Rattle.reply_printing.specs.declared.refusals.Part.TheVariants as part
+
+-- no token adds nothing
+pub adds_none : {a : Written} → Adds a a []
+unfolding print_from
+adds_none {a} = record { bytes = sym (append-nil a.bytes); after_value = refl }
 
 parts_push : (parts : List Part) (p : Part) → parts_tokens (parts ++ p ∷ []) ≡ parts_tokens parts ++ part_tokens p
 parts_push [] p = append-nil (part_tokens p)

@@ -1,11 +1,10 @@
 -- The tokens of a reply, one part after another.
 use Rattle.std.proofs.Common.{◌≡◌, ◌∙◌, ◌<◌, ◌+◌, ℕ, List, [], ◌∷◌, ◌++◌, take, length, get_or, map, ap, sym, subst, refl, append_assoc, append-nil}
-use Rattle.std.specs.Prelude.{Ok}
 use Rattle.std.proofs.lemmas.List.{take_more}
 use Rattle.json.specs.Token as token
 use Rattle.json.specs.Token.{Token, end_object, end_array, key}
 use Rattle.json.specs.Tree.{items_tokens, members_tokens}
-use Rattle.json.specs.Written.{Written, Writes}
+use Rattle.json_text.specs.Written.{Written, Adds}
 use Rattle.serde_json.specs.Data.{Data, array, string}
 use Rattle.serde_json.specs.Written.{items_outline, members_outline}
 use Rattle.plain_values.specs.declared.value.Kind.{Kind}
@@ -19,19 +18,7 @@ use Rattle.lens_pred.specs.declared.formula.Formula.{Formula}
 use Rattle.server_specs.specs.Answer.{value_data, pairs_data, row_data, rows_data, names_data, change_data, changes_data, columns_data, conjuncts_data, edge_data, edges_data, texts_data, kind_text}
 use Rattle.signed_delta.specs.Tables.{table_delta}
 use Rattle.signed_delta.specs.declared.delta.TableDelta.{TableDelta}
-use Rattle.reply_printing.specs.Printing.{Adds, data_tokens}
-
--- ---- one write after another
-
-pub follow : {a b c : Written} {xs ys : List Token} → Adds a b xs → Adds b c ys → Adds a c (xs ++ ys)
-follow {a = a} {xs = xs} {ys = ys} first second = record {
-  before = second.before ∙ first.before;
-  after = second.after ∙ ap (λ ts. ts ++ ys) first.after ∙ append_assoc a.tokens xs ys;
-}
-
--- one token
-pub added : {E : Type 0} {u : Unit {0}} {a b : Written} {t : Token} → Writes {E = E} (Ok u) a b t → Adds a b (t ∷ [])
-added wrote = record { before = wrote.room.0; after = wrote.ok }
+use Rattle.reply_printing.specs.Printing.{data_tokens}
 
 -- the same tokens
 pub adds_same : {a b : Written} {xs : List Token} (ys : List Token) → xs ≡ ys → Adds a b xs → Adds a b ys

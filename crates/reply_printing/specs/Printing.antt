@@ -1,23 +1,17 @@
--- The tokens that a call adds to a writer, and the line of a JSON value.
+-- The tokens of JSON data, and its line.
 use Rattle.std.specs.Prelude.{◌≡◌, ℕ, List, [], ◌∷◌, ◌++◌, Option, Some, None, codes, decimal}
 use Rattle.json.specs.Token.{Token}
 use Rattle.json.specs.Tree.{json_tokens}
-use Rattle.json.specs.Written.{Written}
 use Rattle.serde_json.specs.Data.{Data}
 use Rattle.serde_json.specs.Written.{compact_text, outline}
--- the words of tokens and of JSON that go with it
-pub use Rattle.json.specs.Print.{print}
+-- the words of texts, tokens and JSON that go with it
+pub use Rattle.json_text.specs.Written.{Adds}
 pub use Rattle.json.specs.Token.{begin_object, boolean, end_object, key, number, string}
 pub use Rattle.serde_json.specs.Data.{array, object}
 
 -- the tokens of the data
 abbrev pub data_tokens : Data → List Token
 data_tokens d = json_tokens (outline d)
-
--- these tokens were added at the end of the text
-pub record Adds (old new : Written) (tokens : List Token) : Type 0 where
-  pub before : new.before ≡ old.before
-  pub after : new.tokens ≡ old.tokens ++ tokens
 
 -- the tokens of the place of an edit in its batch, if it is one of a batch
 abbrev pub place_tokens : Option ℕ → List Token

@@ -8,14 +8,18 @@ ghost use Rattle.reply_printing.specs.Printing.{Adds, array, data_tokens, key, o
 
 use crate::printing::{print_sides, print_text};
 use fd_tree::Edge;
-use json::Writer;
+use json_text::JsonText;
 use lens_pred::Formula;
 use lens_values::{Columns, Kind, NoMemory, Text};
 use std::alloc::Global;
 use view_lang::print_formula;
 
 /// A member that is an object from the columns to the texts of their kinds.
-pub(crate) fn print_columns(out: &mut Writer, name: &str, columns: &Columns) -> Result<(), NoMemory>
+pub(crate) fn print_columns(
+    out: &mut JsonText,
+    name: &str,
+    columns: &Columns,
+) -> Result<(), NoMemory>
     ensures { OnOk result (Adds out.old out.new
         (key name.now ∷ data_tokens (object (columns_data (finmap.entries columns.now))))) }
 {
@@ -24,7 +28,7 @@ pub(crate) fn print_columns(out: &mut Writer, name: &str, columns: &Columns) -> 
     Ok(())
 }
 
-fn print_kinds(out: &mut Writer, columns: &Columns) -> Result<(), NoMemory>
+fn print_kinds(out: &mut JsonText, columns: &Columns) -> Result<(), NoMemory>
     ensures { OnOk result (Adds out.old out.new
         (data_tokens (object (columns_data (finmap.entries columns.now))))) }
 {
@@ -50,7 +54,7 @@ fn kind_text(kind: Kind) -> &'static str
 }
 
 /// A member that is an array of edges.
-pub(crate) fn print_edges(out: &mut Writer, name: &str, edges: &[Edge]) -> Result<(), NoMemory>
+pub(crate) fn print_edges(out: &mut JsonText, name: &str, edges: &[Edge]) -> Result<(), NoMemory>
     ensures { OnOk result (Adds out.old out.new
         (key name.now ∷ data_tokens (array (edges_data edges.now)))) }
 {
@@ -59,7 +63,7 @@ pub(crate) fn print_edges(out: &mut Writer, name: &str, edges: &[Edge]) -> Resul
     Ok(())
 }
 
-fn print_edge_list(out: &mut Writer, edges: &[Edge]) -> Result<(), NoMemory>
+fn print_edge_list(out: &mut JsonText, edges: &[Edge]) -> Result<(), NoMemory>
     ensures { OnOk result (Adds out.old out.new (data_tokens (array (edges_data edges.now)))) }
 {
     out.begin_array()?;
@@ -73,7 +77,7 @@ fn print_edge_list(out: &mut Writer, edges: &[Edge]) -> Result<(), NoMemory>
 /// A member that is an array of the printed texts of conjuncts.
 pub(crate) fn print_conjuncts(
     alloc: Global,
-    out: &mut Writer,
+    out: &mut JsonText,
     name: &str,
     conjuncts: &[Formula],
 ) -> Result<(), NoMemory>
@@ -87,7 +91,7 @@ pub(crate) fn print_conjuncts(
 
 fn print_conjunct_list(
     alloc: Global,
-    out: &mut Writer,
+    out: &mut JsonText,
     conjuncts: &[Formula],
 ) -> Result<(), NoMemory>
     ensures { OnOk result (Adds out.old out.new
@@ -101,7 +105,7 @@ fn print_conjunct_list(
     Ok(())
 }
 
-fn print_conjunct(alloc: Global, out: &mut Writer, conjunct: &Formula) -> Result<(), NoMemory>
+fn print_conjunct(alloc: Global, out: &mut JsonText, conjunct: &Formula) -> Result<(), NoMemory>
     ensures { OnOk result (Adds out.old out.new
         (string (printed_formula (formula_view conjunct.now)) ∷ [])) }
 {
@@ -111,7 +115,7 @@ fn print_conjunct(alloc: Global, out: &mut Writer, conjunct: &Formula) -> Result
 }
 
 /// A member that is an array of texts.
-pub(crate) fn print_texts(out: &mut Writer, name: &str, texts: &[Text]) -> Result<(), NoMemory>
+pub(crate) fn print_texts(out: &mut JsonText, name: &str, texts: &[Text]) -> Result<(), NoMemory>
     ensures { OnOk result (Adds out.old out.new
         (key name.now ∷ data_tokens (array (texts_data texts.now)))) }
 {
@@ -120,7 +124,7 @@ pub(crate) fn print_texts(out: &mut Writer, name: &str, texts: &[Text]) -> Resul
     Ok(())
 }
 
-fn print_text_list(out: &mut Writer, texts: &[Text]) -> Result<(), NoMemory>
+fn print_text_list(out: &mut JsonText, texts: &[Text]) -> Result<(), NoMemory>
     ensures { OnOk result (Adds out.old out.new (data_tokens (array (texts_data texts.now)))) }
 {
     out.begin_array()?;

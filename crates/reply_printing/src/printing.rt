@@ -1,14 +1,14 @@
 //! Replies printed token by token.
-ghost use Rattle.std.specs.Prelude.{◌≡◌, [], ◌∷◌, ◌++◌, IfOk, OnOk, map, decimal};
+ghost use Rattle.std.specs.Prelude.{◌≡◌, [], ◌∷◌, ◌++◌, IfOk, OnOk, false, map, decimal};
 ghost use Rattle.std.specs.FinMap as finmap;
 ghost use Rattle.plain_values.specs.SortedSet as set;
 ghost use Rattle.server_specs.specs.Answer.{value_data, row_data, rows_data, pair_data, names_data, set_data, edge_data, change_data, changes_data};
 ghost use Rattle.signed_delta.specs.Tables.{table_delta};
-ghost use Rattle.reply_printing.specs.Printing.{Adds, array, begin_object, boolean, data_tokens, end_object, key, number, print, string};
+ghost use Rattle.reply_printing.specs.Printing.{Adds, array, boolean, data_tokens, key, number, string};
 
 use crate::reply::Reply;
 use fd_tree::Edge;
-use json::Writer;
+use json_text::JsonText;
 use lens_values::{Name, Names, NoMemory, Row, Value};
 use row_sets::RowSet;
 use signed_delta::TableDelta;
@@ -18,37 +18,35 @@ use std::alloc::Global;
 const FIRST_ROOM: usize = 512;
 
 /// An object that is begun.
-pub(crate) fn begun(alloc: Global) -> Result<Writer, NoMemory>
-    ensures before { IfOk result (λ out. out.before ≡ []) }
-    ensures tokens { IfOk result (λ out. out.tokens ≡ begin_object ∷ []) }
+pub(crate) fn begun(alloc: Global) -> Result<JsonText, NoMemory>
+    ensures bytes { IfOk result (λ out. out.bytes ≡ 123 ∷ []) }
+    ensures after_value { IfOk result (λ out. out.after_value ≡ false) }
 {
     begun_beside(alloc, 0)
 }
 
 /// An object that is begun, with room for so many bytes beside a few members.
-pub(crate) fn begun_beside(alloc: Global, bytes: usize) -> Result<Writer, NoMemory>
-    ensures before { IfOk result (λ out. out.before ≡ []) }
-    ensures tokens { IfOk result (λ out. out.tokens ≡ begin_object ∷ []) }
+pub(crate) fn begun_beside(alloc: Global, bytes: usize) -> Result<JsonText, NoMemory>
+    ensures bytes { IfOk result (λ out. out.bytes ≡ 123 ∷ []) }
+    ensures after_value { IfOk result (λ out. out.after_value ≡ false) }
 {
-    let room = bytes.saturating_add(FIRST_ROOM);
-    let mut out = Writer::new(Vec::with_capacity(alloc, room)?);
+    let mut out = JsonText::new(alloc, bytes.saturating_add(FIRST_ROOM))?;
     out.begin_object()?;
     Ok(out)
 }
 
 /// The line of an object that is ended here.
-pub(crate) fn ended(mut out: Writer) -> Result<Reply, NoMemory>
-    requires { out.before ≡ [] }
-    ensures { IfOk result (λ reply. reply ≡ print (out.tokens ++ end_object ∷ []) ++ 10 ∷ []) }
+pub(crate) fn ended(mut out: JsonText) -> Result<Reply, NoMemory>
+    ensures { IfOk result (λ reply. reply ≡ (out.bytes ++ 125 ∷ []) ++ 10 ∷ []) }
 {
     out.end_object()?;
-    let mut bytes = out.into_inner();
+    let mut bytes = out.into_bytes()?;
     bytes.push(b'\n')?;
     Ok(Reply::made(bytes))
 }
 
 /// A member that is true or false.
-pub(crate) fn print_flag(out: &mut Writer, name: &str, flag: bool) -> Result<(), NoMemory>
+pub(crate) fn print_flag(out: &mut JsonText, name: &str, flag: bool) -> Result<(), NoMemory>
     ensures { OnOk result (Adds out.old out.new (key name.now ∷ boolean flag ∷ [])) }
 {
     out.key(name)?;
@@ -57,7 +55,7 @@ pub(crate) fn print_flag(out: &mut Writer, name: &str, flag: bool) -> Result<(),
 }
 
 /// A member that is a number.
-pub(crate) fn print_number(out: &mut Writer, name: &str, n: u64) -> Result<(), NoMemory>
+pub(crate) fn print_number(out: &mut JsonText, name: &str, n: u64) -> Result<(), NoMemory>
     ensures { OnOk result (Adds out.old out.new (key name.now ∷ number (decimal n) ∷ [])) }
 {
     out.key(name)?;
@@ -66,7 +64,7 @@ pub(crate) fn print_number(out: &mut Writer, name: &str, n: u64) -> Result<(), N
 }
 
 /// A member that is a text.
-pub(crate) fn print_text(out: &mut Writer, name: &str, value: &str) -> Result<(), NoMemory>
+pub(crate) fn print_text(out: &mut JsonText, name: &str, value: &str) -> Result<(), NoMemory>
     ensures { OnOk result (Adds out.old out.new (key name.now ∷ string value.now ∷ [])) }
 {
     out.key(name)?;
@@ -75,14 +73,14 @@ pub(crate) fn print_text(out: &mut Writer, name: &str, value: &str) -> Result<()
 }
 
 /// A member that is a name.
-pub(crate) fn print_name(out: &mut Writer, name: &str, value: &Name) -> Result<(), NoMemory>
+pub(crate) fn print_name(out: &mut JsonText, name: &str, value: &Name) -> Result<(), NoMemory>
     ensures { OnOk result (Adds out.old out.new (key name.now ∷ string value.now ∷ [])) }
 {
     print_text(out, name, value.as_str())
 }
 
 /// A member that is an array of names.
-pub(crate) fn print_names(out: &mut Writer, name: &str, names: &Names) -> Result<(), NoMemory>
+pub(crate) fn print_names(out: &mut JsonText, name: &str, names: &Names) -> Result<(), NoMemory>
     ensures { OnOk result (Adds out.old out.new (key name.now ∷ data_tokens (set_data names.now))) }
 {
     out.key(name)?;
@@ -90,7 +88,7 @@ pub(crate) fn print_names(out: &mut Writer, name: &str, names: &Names) -> Result
     Ok(())
 }
 
-fn print_name_list(out: &mut Writer, names: &[Name]) -> Result<(), NoMemory>
+fn print_name_list(out: &mut JsonText, names: &[Name]) -> Result<(), NoMemory>
     ensures { OnOk result (Adds out.old out.new (data_tokens (array (names_data names.now)))) }
 {
     out.begin_array()?;
@@ -102,7 +100,7 @@ fn print_name_list(out: &mut Writer, names: &[Name]) -> Result<(), NoMemory>
 }
 
 /// A member that is the two sides of an edge.
-pub(crate) fn print_edge(out: &mut Writer, name: &str, edge: &Edge) -> Result<(), NoMemory>
+pub(crate) fn print_edge(out: &mut JsonText, name: &str, edge: &Edge) -> Result<(), NoMemory>
     ensures { OnOk result (Adds out.old out.new (key name.now ∷ data_tokens (edge_data edge.now))) }
 {
     out.key(name)?;
@@ -111,7 +109,7 @@ pub(crate) fn print_edge(out: &mut Writer, name: &str, edge: &Edge) -> Result<()
 }
 
 /// The two sides of an edge.
-pub(crate) fn print_sides(out: &mut Writer, edge: &Edge) -> Result<(), NoMemory>
+pub(crate) fn print_sides(out: &mut JsonText, edge: &Edge) -> Result<(), NoMemory>
     ensures { OnOk result (Adds out.old out.new (data_tokens (edge_data edge.now))) }
 {
     out.begin_object()?;
@@ -123,7 +121,7 @@ pub(crate) fn print_sides(out: &mut Writer, edge: &Edge) -> Result<(), NoMemory>
 
 /// A member that is an array of two rows.
 pub(crate) fn print_pair(
-    out: &mut Writer,
+    out: &mut JsonText,
     name: &str,
     first: &Row,
     second: &Row,
@@ -141,7 +139,7 @@ pub(crate) fn print_pair(
 
 /// A member that is an array of differences of tables.
 pub(crate) fn print_changes(
-    out: &mut Writer,
+    out: &mut JsonText,
     name: &str,
     changes: &[TableDelta],
 ) -> Result<(), NoMemory>
@@ -153,7 +151,7 @@ pub(crate) fn print_changes(
     Ok(())
 }
 
-fn print_list(out: &mut Writer, changes: &[TableDelta]) -> Result<(), NoMemory>
+fn print_list(out: &mut JsonText, changes: &[TableDelta]) -> Result<(), NoMemory>
     ensures { OnOk result (Adds out.old out.new
         (data_tokens (array (changes_data (map table_delta changes.now))))) }
 {
@@ -165,7 +163,7 @@ fn print_list(out: &mut Writer, changes: &[TableDelta]) -> Result<(), NoMemory>
     Ok(())
 }
 
-fn print_change(out: &mut Writer, change: &TableDelta) -> Result<(), NoMemory>
+fn print_change(out: &mut JsonText, change: &TableDelta) -> Result<(), NoMemory>
     ensures { OnOk result (Adds out.old out.new
         (data_tokens (change_data (table_delta change.now)))) }
 {
@@ -178,7 +176,7 @@ fn print_change(out: &mut Writer, change: &TableDelta) -> Result<(), NoMemory>
 }
 
 /// A member that is an array of rows.
-pub(crate) fn print_set(out: &mut Writer, name: &str, rows: &RowSet) -> Result<(), NoMemory>
+pub(crate) fn print_set(out: &mut JsonText, name: &str, rows: &RowSet) -> Result<(), NoMemory>
     ensures { OnOk result (Adds out.old out.new
         (key name.now ∷ data_tokens (array (rows_data (set.items rows.now))))) }
 {
@@ -187,7 +185,7 @@ pub(crate) fn print_set(out: &mut Writer, name: &str, rows: &RowSet) -> Result<(
     Ok(())
 }
 
-fn print_rows(out: &mut Writer, rows: &RowSet) -> Result<(), NoMemory>
+fn print_rows(out: &mut JsonText, rows: &RowSet) -> Result<(), NoMemory>
     ensures { OnOk result (Adds out.old out.new
         (data_tokens (array (rows_data (set.items rows.now))))) }
 {
@@ -200,7 +198,7 @@ fn print_rows(out: &mut Writer, rows: &RowSet) -> Result<(), NoMemory>
 }
 
 /// A member that is a row.
-pub(crate) fn print_row(out: &mut Writer, name: &str, row: &Row) -> Result<(), NoMemory>
+pub(crate) fn print_row(out: &mut JsonText, name: &str, row: &Row) -> Result<(), NoMemory>
     ensures { OnOk result (Adds out.old out.new (key name.now ∷ data_tokens (row_data row.now))) }
 {
     out.key(name)?;
@@ -208,19 +206,19 @@ pub(crate) fn print_row(out: &mut Writer, name: &str, row: &Row) -> Result<(), N
     Ok(())
 }
 
-fn print_object(out: &mut Writer, row: &Row) -> Result<(), NoMemory>
+fn print_object(out: &mut JsonText, row: &Row) -> Result<(), NoMemory>
     ensures { OnOk result (Adds out.old out.new (data_tokens (row_data row.now))) }
 {
     out.begin_object()?;
     for (name, value) in row.names().as_slice().iter().zip(row.values()) {
-        out.key(name.as_str())?;
+        out.name_key(name)?;
         print_value(out, value)?;
     }
     out.end_object()?;
     Ok(())
 }
 
-fn print_value(out: &mut Writer, value: &Value) -> Result<(), NoMemory>
+fn print_value(out: &mut JsonText, value: &Value) -> Result<(), NoMemory>
     ensures { OnOk result (Adds out.old out.new (data_tokens (value_data value.now))) }
 {
     match value {

@@ -13,7 +13,7 @@ use crate::printing::{
 };
 use crate::reply::Reply;
 use fd_tree::Edge;
-use json::Writer;
+use json_text::JsonText;
 use lens_values::{Name, Names, NoMemory, Row};
 use line_texts::Member;
 use std::alloc::Global;
@@ -79,7 +79,7 @@ pub(crate) fn refuse_column(alloc: Global, number: u64, col: &Name) -> Result<Re
     )
 }
 
-fn print_parts(out: &mut Writer, parts: &[Part<'_>]) -> Result<(), NoMemory>
+fn print_parts(out: &mut JsonText, parts: &[Part<'_>]) -> Result<(), NoMemory>
     ensures { OnOk result (Adds out.old out.new (parts_tokens parts.now)) }
 {
     for part in parts {
@@ -88,7 +88,7 @@ fn print_parts(out: &mut Writer, parts: &[Part<'_>]) -> Result<(), NoMemory>
     Ok(())
 }
 
-fn print_part(out: &mut Writer, part: &Part<'_>) -> Result<(), NoMemory>
+fn print_part(out: &mut JsonText, part: &Part<'_>) -> Result<(), NoMemory>
     ensures { OnOk result (Adds out.old out.new (part_tokens part.now)) }
 {
     match part {
@@ -108,7 +108,7 @@ fn print_part(out: &mut Writer, part: &Part<'_>) -> Result<(), NoMemory>
     }
 }
 
-fn print_place(out: &mut Writer, edit: Option<usize>) -> Result<(), NoMemory>
+fn print_place(out: &mut JsonText, edit: Option<usize>) -> Result<(), NoMemory>
     ensures { OnOk result (Adds out.old out.new (place_tokens edit)) }
 {
     match edit {

@@ -18,6 +18,23 @@ use row_sets::RowSet;
 use signed_delta::TableDelta;
 use std::alloc::Global;
 
+// How many bytes most rows take. A reply of longer rows grows.
+const ROOM_OF_ROW: usize = 64;
+
+fn room_of(rows: usize) -> usize {
+    rows.saturating_mul(ROOM_OF_ROW)
+}
+
+fn rows_changed(changed: &[TableDelta]) -> usize {
+    let mut rows = 0usize;
+    for change in changed {
+        rows = rows
+            .saturating_add(change.delta.add().rows().len())
+            .saturating_add(change.delta.remove().rows().len());
+    }
+    rows
+}
+
 /// The line of a definition that was taken, with the version after it.
 pub(crate) fn defined_text(alloc: Global, version: u64) -> Result<Reply, NoMemory>
     ensures { IfOk result (λ reply. reply ≡ spec.text (spec.defined version)) }
@@ -32,7 +49,7 @@ pub(crate) fn defined_text(alloc: Global, version: u64) -> Result<Reply, NoMemor
 pub(crate) fn shown_text(alloc: Global, rows: &RowSet, version: u64) -> Result<Reply, NoMemory>
     ensures { IfOk result (λ reply. reply ≡ spec.text (spec.shown rows.now version)) }
 {
-    let mut out = begun(alloc)?;
+    let mut out = begun_beside(alloc, room_of(rows.rows().len()))?;
     print_flag(&mut out, "ok", true)?;
     print_set(&mut out, "rows", rows)?;
     print_number(&mut out, "version", version)?;
@@ -48,7 +65,7 @@ pub(crate) fn changed_text(
     ensures { IfOk result (λ reply.
         reply ≡ spec.text (spec.changed (map table_delta changed.now) version)) }
 {
-    let mut out = begun(alloc)?;
+    let mut out = begun_beside(alloc, room_of(rows_changed(changed)))?;
     print_changes(&mut out, "changed", changed)?;
     print_flag(&mut out, "ok", true)?;
     print_number(&mut out, "version", version)?;

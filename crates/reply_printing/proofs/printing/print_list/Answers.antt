@@ -5,11 +5,12 @@ use Rattle.serde_json.specs.Data.{array}
 use Rattle.server_specs.specs.Answer.{changes_data}
 use Rattle.signed_delta.specs.Tables.{table_delta}
 use Rattle.reply_printing.specs.Printing.{data_tokens}
-use Rattle.reply_printing.proofs.Tokens.{added, adds_same, follow, each_more, each_none, each_tokens, difference_data, changes_whole}
+use Rattle.json_text.proofs.Tokens.{follow}
+use Rattle.reply_printing.proofs.Tokens.{adds_same, each_more, each_none, each_tokens, difference_data, changes_whole}
 use Rattle.reply_printing.proofs.printing.print_list.Goals as goal
 
 pub loop-change-init : goal.loop-change-init
-loop-change-init c = adds_same _ (ap (λ ts. begin_array ∷ ts) (sym (each_none difference_data))) (added c.in_ok-begin_array.ensures)
+loop-change-init c = adds_same _ (ap (λ ts. begin_array ∷ ts) (sym (each_none difference_data))) c.in_ok-begin_array.ensures
 
 pub loop-change-preserved : goal.loop-change-preserved
 loop-change-preserved c =
@@ -22,4 +23,4 @@ returns c =
     adds_same (data_tokens (array (changes_data (map table_delta c.args.changes.now))))
     (ap (λ cs. begin_array ∷ (each_tokens difference_data cs ++ end_array ∷ [])) (take_all c.loop-change.change-index c.args.changes.now (omega arith))
     ∙ ap (λ ts. begin_array ∷ ts) (sym (changes_whole c.args.changes.now)))
-    (follow c.loop-change.invariant (added c.in_ok-end_array.ensures))
+    (follow c.loop-change.invariant c.in_ok-end_array.ensures)

@@ -2,15 +2,16 @@ use Rattle.std.proofs.Common.{◌∙◌, ◌∷◌, ◌++◌, [], length, take, 
 use Rattle.std.specs.FinMap as finmap
 use Rattle.std.proofs.lemmas.Slice.Zip.{zip_end, zip_turn}
 use Rattle.std.proofs.lemmas.List.{length_push}
-use Rattle.json.specs.Token.{begin_object, end_object, key}
+use Rattle.json.specs.Token.{begin_object, end_object}
 use Rattle.server_specs.specs.Answer.{row_data, value_data}
 use Rattle.reply_printing.specs.Printing.{data_tokens}
 use Rattle.reply_printing.proofs.Entries.{entries_whole, entry_turn}
-use Rattle.reply_printing.proofs.Tokens.{added, adds_same, follow, pairs_more, pairs_none, pairs_tokens, pairs_whole}
+use Rattle.json_text.proofs.Tokens.{follow}
+use Rattle.reply_printing.proofs.Tokens.{adds_same, pairs_more, pairs_none, pairs_tokens, pairs_whole}
 use Rattle.reply_printing.proofs.printing.print_object.Goals as goal
 
 pub loop-name-init : goal.loop-name-init
-loop-name-init c = adds_same _ (ap (λ ts. begin_object ∷ ts) (sym (pairs_none value_data))) (added c.in_ok-begin_object.ensures)
+loop-name-init c = adds_same _ (ap (λ ts. begin_object ∷ ts) (sym (pairs_none value_data))) c.in_ok-begin_object.ensures
 
 pub loop-name-preserved : goal.loop-name-preserved
 loop-name-preserved c =
@@ -22,11 +23,10 @@ loop-name-preserved c =
     let here =
     entry_turn c.args.row.now c.as_slice.result.now c.values.result.now (c.as_slice.ensures ∙ c.names.ensures) c.values.ensures (length xs) c.in-Some.name.now c.in-Some.value.now turn in
     adds_same _
-    (ap (λ name. (begin_object ∷ pairs_tokens value_data (take (length xs) pairs)) ++ key name ∷ data_tokens (value_data c.in-Some.value.now)) c.as_str.ensures
-    ∙ ap (λ ts. begin_object ∷ ts)
+    (ap (λ ts. begin_object ∷ ts)
     (sym (pairs_more value_data pairs (length xs) (c.in-Some.name.now, c.in-Some.value.now) here.0 here.1)
     ∙ ap (λ n. pairs_tokens value_data (take n pairs)) (sym (length_push xs (c.in-Some.name, c.in-Some.value)))))
-    (follow c.loop-name.invariant (follow (added c.in_ok-key.ensures) c.in_ok-print_value.ensures))
+    (follow c.loop-name.invariant (follow c.in_ok-name_key.ensures c.in_ok-print_value.ensures))
 
 pub returns : goal.returns
 returns c =
@@ -37,4 +37,4 @@ returns c =
     let all = entries_whole c.args.row.now c.as_slice.result.now c.values.result.now (c.as_slice.ensures ∙ c.names.ensures) c.values.ensures (length xs) ended in
     adds_same (data_tokens (row_data c.args.row.now))
     (ap (λ ps. begin_object ∷ (pairs_tokens value_data ps ++ end_object ∷ [])) all ∙ ap (λ ts. begin_object ∷ ts) (sym (pairs_whole (finmap.entries c.args.row.now))))
-    (follow c.loop-name.invariant (added c.in_ok-end_object.ensures))
+    (follow c.loop-name.invariant c.in_ok-end_object.ensures)

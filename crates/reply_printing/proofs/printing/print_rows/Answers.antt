@@ -6,11 +6,12 @@ use Rattle.plain_values.specs.SortedSet as set
 use Rattle.lens_specs.specs.Relation.{Rows}
 use Rattle.server_specs.specs.Answer.{row_data, rows_data}
 use Rattle.reply_printing.specs.Printing.{data_tokens}
-use Rattle.reply_printing.proofs.Tokens.{added, adds_same, follow, each_more, each_none, each_tokens, rows_whole}
+use Rattle.json_text.proofs.Tokens.{follow}
+use Rattle.reply_printing.proofs.Tokens.{adds_same, each_more, each_none, each_tokens, rows_whole}
 use Rattle.reply_printing.proofs.printing.print_rows.Goals as goal
 
 pub loop-row-init : goal.loop-row-init
-loop-row-init c = adds_same _ (ap (λ ts. begin_array ∷ ts) (sym (each_none row_data))) (added c.in_ok-begin_array.ensures)
+loop-row-init c = adds_same _ (ap (λ ts. begin_array ∷ ts) (sym (each_none row_data))) c.in_ok-begin_array.ensures
 
 pub loop-row-preserved : goal.loop-row-preserved
 loop-row-preserved c =
@@ -23,4 +24,4 @@ returns c =
     let rows : Rows = c.args.rows.now in
     adds_same (data_tokens (array (rows_data (set.items rows))))
     (ap (λ rs. begin_array ∷ (each_tokens row_data rs ++ end_array ∷ [])) all ∙ ap (λ ts. begin_array ∷ ts) (sym (rows_whole (set.items rows))))
-    (follow c.loop-row.invariant (added c.in_ok-end_array.ensures))
+    (follow c.loop-row.invariant c.in_ok-end_array.ensures)

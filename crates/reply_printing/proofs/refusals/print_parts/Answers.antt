@@ -1,9 +1,13 @@
 use Rattle.std.proofs.Common.{ap, arith, sym}
 use Rattle.std.proofs.lemmas.List.{take_all}
 use Rattle.reply_printing.specs.Refusals.{parts_tokens}
-use Rattle.reply_printing.proofs.Parts.{parts_more}
-use Rattle.reply_printing.proofs.Tokens.{adds_same, follow}
+use Rattle.reply_printing.proofs.Parts.{adds_none, parts_more}
+use Rattle.json_text.proofs.Tokens.{follow}
+use Rattle.reply_printing.proofs.Tokens.{adds_same}
 use Rattle.reply_printing.proofs.refusals.print_parts.Goals as goal
+
+pub loop-part-init : goal.loop-part-init
+loop-part-init c = adds_none
 
 pub loop-part-preserved : goal.loop-part-preserved
 loop-part-preserved c =

@@ -9,6 +9,6 @@ use Rattle.reply_printing.proofs.refusals.refused_text.Goals as goal
 pub returns : goal.returns
 returns c =
     subst (λ line. IfOk c.ended.result (λ reply. reply ≡ line))
-    (object_line (object (parts_data c.args.parts.now)) c.in_ok-out.ensures.before c.in_ok-out.ensures.tokens c.in_ok-print_parts.ensures
+    (object_line (object (parts_data c.args.parts.now)) c.in_ok-out.ensures.bytes c.in_ok-out.ensures.after_value c.in_ok-print_parts.ensures
     (ap (λ ts. begin_object ∷ ts) (parts_whole c.args.parts.now)))
     c.ended.ensures

@@ -1,13 +1,13 @@
 use Rattle.std.proofs.Common.{◌≡◌, IfOk, append_assoc, subst}
 use Rattle.server_specs.specs.Answer as spec
 use Rattle.reply_printing.proofs.Lines.{line_is}
-use Rattle.reply_printing.proofs.Tokens.{follow}
+use Rattle.json_text.proofs.Tokens.{follow}
 use Rattle.reply_printing.proofs.results.shown_text.Goals as goal
 
 pub returns : goal.returns
 returns c =
     subst (λ line. IfOk c.ended.result (λ reply. reply ≡ line))
-    (line_is (spec.shown c.args.rows.now c.args.version) c.in_ok-out.ensures.before c.in_ok-out.ensures.tokens
+    (line_is (spec.shown c.args.rows.now c.args.version) c.in_ok-out.ensures.bytes c.in_ok-out.ensures.after_value
     (follow c.in_ok-print_flag.ensures (follow c.in_ok-print_set.ensures c.in_ok-print_number.ensures))
     (simp append_assoc))
     c.ended.ensures

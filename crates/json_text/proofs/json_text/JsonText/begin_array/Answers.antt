@@ -1,0 +1,8 @@
+use Rattle.std.proofs.Common.{refl}
+use Rattle.std.proofs.lemmas.Result.{on_ok_weaker}
+use Rattle.json.specs.Token as token
+use Rattle.json_text.proofs.Tokens.{token_begun}
+use Rattle.json_text.proofs.json_text.JsonText.begin_array.Goals as goal
+
+pub returns : goal.returns
+returns c = on_ok_weaker c.begin.result (λ added. token_begun token.begin_array refl added) c.begin.ensures

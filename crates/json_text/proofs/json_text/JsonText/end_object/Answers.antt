@@ -1,0 +1,8 @@
+use Rattle.std.proofs.Common.{refl}
+use Rattle.std.proofs.lemmas.Result.{on_ok_weaker}
+use Rattle.json.specs.Token as token
+use Rattle.json_text.proofs.Tokens.{token_ended}
+use Rattle.json_text.proofs.json_text.JsonText.end_object.Goals as goal
+
+pub returns : goal.returns
+returns c = on_ok_weaker c.end.result (λ added. token_ended token.end_object refl added) c.end.ensures

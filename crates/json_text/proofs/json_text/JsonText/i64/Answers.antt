@@ -1,0 +1,13 @@
+use Rattle.std.proofs.Common.{◌≡◌, ◌++◌, true, refl, rules, subst}
+use Rattle.std.specs.Fmt.{signed_decimal}
+use Rattle.std.proofs.lemmas.Result.{on_ok_weaker}
+use Rattle.json.specs.Token.{number}
+use Rattle.json_text.specs.Written.{AddsBytes, comma}
+use Rattle.json_text.proofs.Tokens.{token_begun}
+use Rattle.json_text.proofs.json_text.JsonText.i64.Goals as goal
+
+pub returns : goal.returns
+returns c =
+    let old = c.args.self.now in
+    let text : c.format.result.now ≡ signed_decimal c.args.n = search rules in
+    on_ok_weaker c.word.result (λ added. token_begun (number (signed_decimal c.args.n)) refl (subst (λ l. AddsBytes old c.word.new.self (comma old ++ l) true) text added)) c.word.ensures

@@ -1,0 +1,5 @@
+use Rattle.reply_printing.proofs.Parts.{adds_none}
+use Rattle.reply_printing.proofs.refusals.print_place.Goals as goal
+
+pub returns-in-None : goal.returns-in-None
+returns-in-None c = rw c.in-None.is adds_none
