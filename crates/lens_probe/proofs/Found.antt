@@ -28,17 +28,11 @@ use Rattle.lens_laws.proofs.PastedFinds.{found_are_over, left_pairs_are, right_p
 use Rattle.signed_delta.proofs.Looks.{passed_are}
 use Rattle.base_index.specs.Held.{State, is_indexed, no_relation, relation_in}
 use Rattle.lens_probe.specs.Looking.{MayFind, both_of, find_part, pairs_of}
-use Rattle.lens_probe.proofs.Listed.{own_parts, parts}
+use Rattle.view_reading.proofs.Bases.{rows_shown}
+use Rattle.view_reading.proofs.Listed.{own_parts, parts}
 use Rattle.lens_probe.proofs.Viewing.{under_drop, under_left, under_right, under_select}
 
 -- ---- a table
-
-base_there : (t : Name) (s : Sort) (db : Tables) → AreOf (base t s) db → is_some (finmap.get db t) ≡ true
-base_there t s db are = ap is_some are.1
-
--- the table of a lens is there
-pub table_there : (L : Lens) (t : Name) (s : Sort) (db : Tables) → base t s ≡ L → AreOf L db → is_some (finmap.get db t) ≡ true
-table_there L t s db is are = base_there t s db (subst (λ M. AreOf M db) (sym is) are)
 
 base_indexed : (t : Name) (s : Sort) (st : State) (C : Names) → MayFind (base t s) st C → IsTrue (is_indexed st t C)
 base_indexed t s st C may = may.1.indexed t C (contains_map (λ D. (t, D)) (keys_at (base t s) may.0) C may.2)
@@ -46,15 +40,6 @@ base_indexed t s st C may = may.1.indexed t C (contains_map (λ D. (t, D)) (keys
 -- and may be asked by what the lens may be asked by
 pub table_indexed : (L : Lens) (t : Name) (s : Sort) (st : State) (C : Names) → base t s ≡ L → MayFind L st C → IsTrue (is_indexed st t C)
 table_indexed L t s st C is may = base_indexed t s st C (subst (λ M. MayFind M st C) (sym is) may)
-
-rows_found : (o : Option Relation) → (unwrap_or o no_relation).rows ≡ rows_or_none o
-rows_found None = refl
-rows_found (Some r) = refl
-
--- the rows of the table are those that the lens shows
-pub rows_shown : (L : Lens) (t : Name) (s : Sort) (db : Tables) → base t s ≡ L → (relation_in db t).rows ≡ get L db
-unfolding get
-rows_shown L t s db is = rows_found (finmap.get db t) ∙ ap (λ M. get M db) is
 
 pub table_finds : (r : Result Rows NoMemory) (L : Lens) (t : Name) (s : Sort) (db : Tables) (C : Names) (k : Row) → base t s ≡ L → IfOk r (λ found. found ≡ those (agree C k) (relation_in db t).rows)
     → IfOk r (λ found. found ≡ find_by C k (get L db))
