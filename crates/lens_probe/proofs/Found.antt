@@ -1,8 +1,7 @@
 -- Look-ups by key at each root of a lens.
-use Rattle.std.proofs.Common.{◌≡◌, ◌∙◌, ◌∷◌, ◌++◌, ◌+◌, ◌<◌, ℕ, Bool, List, [], Some, ap, arith, cond, filter, get_or, length, map, refl, subst, sym, take, true, false}
-use Rattle.std.specs.Prelude.{IfOk, IsTrue, None, Option, Result, flat_map, is_some, unwrap_or}
+use Rattle.std.proofs.Common.{◌≡◌, ◌∙◌, ◌∷◌, ◌++◌, ◌+◌, ◌<◌, ℕ, Bool, List, [], ap, arith, cond, filter, get_or, length, map, refl, subst, sym, take, true, false}
+use Rattle.std.specs.Prelude.{IfOk, IsTrue, Result, flat_map}
 use Rattle.std.specs.List.{Contains, list_all}
-use Rattle.std.specs.FinMap as finmap
 use Rattle.std.proofs.lemmas.Bool.{and_from, and_parts}
 use Rattle.std.proofs.lemmas.List.{flat_map_more, take_all, take_more}
 use Rattle.no_memory.specs.declared.NoMemory.{NoMemory}
@@ -12,7 +11,7 @@ use Rattle.plain_values.specs.Row.{Row}
 use Rattle.plain_values.specs.declared.value.Value.{Value}
 use Rattle.plain_values.specs.declared.join_kind.JoinKind.{JoinKind}
 use Rattle.plain_values.proofs.Tests.{same_bool}
-use Rattle.lens_specs.specs.Common.{Lens, Tables, base, select, drop, get, rows_or_none, sort_of, view_names, Name, Names, Within, one, share, Predicate, holds, Relation, Rows, project, those, drop_get, agree, cut, Sort}
+use Rattle.lens_specs.specs.Common.{Lens, Tables, base, select, drop, get, sort_of, view_names, Name, Names, Within, one, share, Predicate, holds, Rows, project, those, drop_get, agree, cut, Sort}
 use Rattle.lens_specs.specs.Lens.{join}
 use Rattle.fd_laws.proofs.Common.{names-without, name_exact, name_total, from_those, agree-cut, agree_back, agree_on, agree_within, row_exact, row_total}
 use Rattle.fd_laws.proofs.Names.{subset_is}
@@ -26,7 +25,7 @@ use Rattle.lens_laws.proofs.Lenses.{get_sort}
 use Rattle.lens_laws.proofs.NodeFinds.{find_alike, find_cut, fits_is_over}
 use Rattle.lens_laws.proofs.PastedFinds.{found_are_over, left_pairs_are, right_pairs_are, shared_within}
 use Rattle.signed_delta.proofs.Looks.{passed_are}
-use Rattle.base_index.specs.Held.{State, is_indexed, no_relation, relation_in}
+use Rattle.base_index.specs.Held.{State, is_indexed, relation_in}
 use Rattle.lens_probe.specs.Looking.{MayFind, both_of, find_part, pairs_of}
 use Rattle.view_reading.proofs.Bases.{rows_shown}
 use Rattle.view_reading.proofs.Listed.{own_parts, parts}

@@ -1,17 +1,15 @@
 -- A rename: its rows by key, whether it has a row, and how many looks they take.
-use Rattle.std.proofs.Common.{◌≡◌, ◌∙◌, ◌∷◌, ℕ, List, [], ap, is_some, map, subst, sym, true, false}
+use Rattle.std.proofs.Common.{◌≡◌, ◌∙◌, ℕ, ap, is_some, map, subst, sym, true, false}
 use Rattle.std.specs.Prelude.{IfOk, Result, if◌then◌else◌}
-use Rattle.std.specs.List.{Contains, list_any}
 use Rattle.std.specs.Ordering.{eq_by_cmp}
 use Rattle.std.proofs.lemmas.Bool.{false_from_ne_true}
 use Rattle.no_memory.specs.declared.NoMemory.{NoMemory}
 use Rattle.plain_values.specs.Order.{bytes_cmp}
-use Rattle.plain_values.specs.Row.{row_cmp, Row}
+use Rattle.plain_values.specs.Row.{Row}
 use Rattle.plain_values.specs.SortedSet as set
 use Rattle.lens_specs.specs.Common.{Fits, Lens, Tables, get, rename, sort_of, view_names, Name, Names, Within, rename_get, Rows, has, image, renamed_names, renamed_row, agree, at}
-use Rattle.plain_values.proofs.Lists.{absurd_false, from_map, in_map}
-use Rattle.fd_laws.proofs.Common.{name_itself, from_image, from_those, same_rel, row_itself, row_total, tied_row}
-use Rattle.fd_laws.proofs.Relations.{in_image}
+use Rattle.plain_values.proofs.Lists.{absurd_false}
+use Rattle.fd_laws.proofs.Common.{name_itself, from_those}
 use Rattle.lens_laws.specs.Asked.{keys_at}
 use Rattle.lens_laws.specs.Finds.{IsOver}
 use Rattle.lens_laws.specs.KeyedDeltas.{find_by}
@@ -21,7 +19,7 @@ use Rattle.lens_laws.specs.Shapes.{shape_of}
 use Rattle.lens_laws.specs.Work.{size}
 use Rattle.lens_laws.proofs.Asked.{hands_down, keys_reach}
 use Rattle.lens_laws.proofs.Lenses.{get_sort}
-use Rattle.lens_laws.proofs.NodeFinds.{fits_is_over, over_renamed, contained}
+use Rattle.lens_laws.proofs.NodeFinds.{fits_is_over, over_renamed}
 use Rattle.lens_laws.proofs.NodeLaws.{rename_can}
 use Rattle.lens_laws.proofs.Rename.{find_rename, has_rename, not_old}
 use Rattle.lens_laws.proofs.RenameSorts.{names-renamed}
