@@ -26,7 +26,7 @@ use Rattle.lens_laws.proofs.NodeFinds.{cut_is_over, fits_is_over, has_part}
 use Rattle.lens_laws.proofs.NodeFinds.{has_in_join}
 use Rattle.base_index.specs.Held.{State, relation_in}
 use Rattle.lens_probe.specs.Looking.{MayFind, MayLook}
-use Rattle.lens_probe.proofs.Found.{rows_shown}
+use Rattle.view_reading.proofs.Bases.{rows_shown}
 use Rattle.lens_probe.proofs.Viewing.{under_drop, under_left, under_right, under_select}
 
 -- ---- a table

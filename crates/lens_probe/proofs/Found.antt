@@ -1,8 +1,7 @@
 -- Look-ups by key at each root of a lens.
-use Rattle.std.proofs.Common.{◌≡◌, ◌∙◌, ◌∷◌, ◌++◌, ◌+◌, ◌<◌, ℕ, Bool, List, [], Some, ap, arith, cond, filter, get_or, length, map, refl, subst, sym, take, true, false}
-use Rattle.std.specs.Prelude.{IfOk, IsTrue, None, Option, Result, flat_map, is_some, unwrap_or}
+use Rattle.std.proofs.Common.{◌≡◌, ◌∙◌, ◌∷◌, ◌++◌, ◌+◌, ◌<◌, ℕ, Bool, List, [], ap, arith, cond, filter, get_or, length, map, refl, subst, sym, take, true, false}
+use Rattle.std.specs.Prelude.{IfOk, IsTrue, Result, flat_map}
 use Rattle.std.specs.List.{Contains, list_all}
-use Rattle.std.specs.FinMap as finmap
 use Rattle.std.proofs.lemmas.Bool.{and_from, and_parts}
 use Rattle.std.proofs.lemmas.List.{flat_map_more, take_all, take_more}
 use Rattle.no_memory.specs.declared.NoMemory.{NoMemory}
@@ -12,7 +11,7 @@ use Rattle.plain_values.specs.Row.{Row}
 use Rattle.plain_values.specs.declared.value.Value.{Value}
 use Rattle.plain_values.specs.declared.join_kind.JoinKind.{JoinKind}
 use Rattle.plain_values.proofs.Tests.{same_bool}
-use Rattle.lens_specs.specs.Common.{Lens, Tables, base, select, drop, get, rows_or_none, sort_of, view_names, Name, Names, Within, one, share, Predicate, holds, Relation, Rows, project, those, drop_get, agree, cut, Sort}
+use Rattle.lens_specs.specs.Common.{Lens, Tables, base, select, drop, get, sort_of, view_names, Name, Names, Within, one, share, Predicate, holds, Rows, project, those, drop_get, agree, cut, Sort}
 use Rattle.lens_specs.specs.Lens.{join}
 use Rattle.fd_laws.proofs.Common.{names-without, name_exact, name_total, from_those, agree-cut, agree_back, agree_on, agree_within, row_exact, row_total}
 use Rattle.fd_laws.proofs.Names.{subset_is}
@@ -26,19 +25,13 @@ use Rattle.lens_laws.proofs.Lenses.{get_sort}
 use Rattle.lens_laws.proofs.NodeFinds.{find_alike, find_cut, fits_is_over}
 use Rattle.lens_laws.proofs.PastedFinds.{found_are_over, left_pairs_are, right_pairs_are, shared_within}
 use Rattle.signed_delta.proofs.Looks.{passed_are}
-use Rattle.base_index.specs.Held.{State, is_indexed, no_relation, relation_in}
+use Rattle.base_index.specs.Held.{State, is_indexed, relation_in}
 use Rattle.lens_probe.specs.Looking.{MayFind, both_of, find_part, pairs_of}
-use Rattle.lens_probe.proofs.Listed.{own_parts, parts}
+use Rattle.view_reading.proofs.Bases.{rows_shown}
+use Rattle.view_reading.proofs.Listed.{own_parts, parts}
 use Rattle.lens_probe.proofs.Viewing.{under_drop, under_left, under_right, under_select}
 
 -- ---- a table
-
-base_there : (t : Name) (s : Sort) (db : Tables) → AreOf (base t s) db → is_some (finmap.get db t) ≡ true
-base_there t s db are = ap is_some are.1
-
--- the table of a lens is there
-pub table_there : (L : Lens) (t : Name) (s : Sort) (db : Tables) → base t s ≡ L → AreOf L db → is_some (finmap.get db t) ≡ true
-table_there L t s db is are = base_there t s db (subst (λ M. AreOf M db) (sym is) are)
 
 base_indexed : (t : Name) (s : Sort) (st : State) (C : Names) → MayFind (base t s) st C → IsTrue (is_indexed st t C)
 base_indexed t s st C may = may.1.indexed t C (contains_map (λ D. (t, D)) (keys_at (base t s) may.0) C may.2)
@@ -46,15 +39,6 @@ base_indexed t s st C may = may.1.indexed t C (contains_map (λ D. (t, D)) (keys
 -- and may be asked by what the lens may be asked by
 pub table_indexed : (L : Lens) (t : Name) (s : Sort) (st : State) (C : Names) → base t s ≡ L → MayFind L st C → IsTrue (is_indexed st t C)
 table_indexed L t s st C is may = base_indexed t s st C (subst (λ M. MayFind M st C) (sym is) may)
-
-rows_found : (o : Option Relation) → (unwrap_or o no_relation).rows ≡ rows_or_none o
-rows_found None = refl
-rows_found (Some r) = refl
-
--- the rows of the table are those that the lens shows
-pub rows_shown : (L : Lens) (t : Name) (s : Sort) (db : Tables) → base t s ≡ L → (relation_in db t).rows ≡ get L db
-unfolding get
-rows_shown L t s db is = rows_found (finmap.get db t) ∙ ap (λ M. get M db) is
 
 pub table_finds : (r : Result Rows NoMemory) (L : Lens) (t : Name) (s : Sort) (db : Tables) (C : Names) (k : Row) → base t s ≡ L → IfOk r (λ found. found ≡ those (agree C k) (relation_in db t).rows)
     → IfOk r (λ found. found ≡ find_by C k (get L db))

@@ -1,17 +1,15 @@
--- A rename: its rows by key, whether it has a row, its rows in a list, and how many looks they take.
-use Rattle.std.proofs.Common.{◌≡◌, ◌∙◌, ◌∷◌, ℕ, List, [], ap, is_some, map, subst, sym, true, false}
+-- A rename: its rows by key, whether it has a row, and how many looks they take.
+use Rattle.std.proofs.Common.{◌≡◌, ◌∙◌, ℕ, ap, is_some, map, subst, sym, true, false}
 use Rattle.std.specs.Prelude.{IfOk, Result, if◌then◌else◌}
-use Rattle.std.specs.List.{Contains, list_any}
 use Rattle.std.specs.Ordering.{eq_by_cmp}
 use Rattle.std.proofs.lemmas.Bool.{false_from_ne_true}
 use Rattle.no_memory.specs.declared.NoMemory.{NoMemory}
 use Rattle.plain_values.specs.Order.{bytes_cmp}
-use Rattle.plain_values.specs.Row.{row_cmp, Row}
+use Rattle.plain_values.specs.Row.{Row}
 use Rattle.plain_values.specs.SortedSet as set
 use Rattle.lens_specs.specs.Common.{Fits, Lens, Tables, get, rename, sort_of, view_names, Name, Names, Within, rename_get, Rows, has, image, renamed_names, renamed_row, agree, at}
-use Rattle.plain_values.proofs.Lists.{absurd_false, from_map, in_map}
-use Rattle.fd_laws.proofs.Common.{name_itself, from_image, from_those, same_rel, row_itself, row_total, tied_row}
-use Rattle.fd_laws.proofs.Relations.{in_image}
+use Rattle.plain_values.proofs.Lists.{absurd_false}
+use Rattle.fd_laws.proofs.Common.{name_itself, from_those}
 use Rattle.lens_laws.specs.Asked.{keys_at}
 use Rattle.lens_laws.specs.Finds.{IsOver}
 use Rattle.lens_laws.specs.KeyedDeltas.{find_by}
@@ -21,7 +19,7 @@ use Rattle.lens_laws.specs.Shapes.{shape_of}
 use Rattle.lens_laws.specs.Work.{size}
 use Rattle.lens_laws.proofs.Asked.{hands_down, keys_reach}
 use Rattle.lens_laws.proofs.Lenses.{get_sort}
-use Rattle.lens_laws.proofs.NodeFinds.{fits_is_over, over_renamed, contained}
+use Rattle.lens_laws.proofs.NodeFinds.{fits_is_over, over_renamed}
 use Rattle.lens_laws.proofs.NodeLaws.{rename_can}
 use Rattle.lens_laws.proofs.Rename.{find_rename, has_rename, not_old}
 use Rattle.lens_laws.proofs.RenameSorts.{names-renamed}
@@ -61,14 +59,6 @@ module _ (A B : Name) (S : Lens) (typed : IsTyped (rename A B S)) where
   unfolding get
   renamed_has db r q are fits is =
       ap (has (get S db)) is ∙ sym (has_rename (shape_of (sort_of S)) A B can (get S db) (to_in (get S db) (sort_of S) (get_sort S db typed.0 are)) r fits).0
-
-  -- each row of the source has just its columns
-  pub source_over : (db : Tables) (C : Names) (r : Row) → AreOf S db → C ≡ view_names S → has (get S db) r ≡ true → IsOver C r
-  source_over db C r are cols i = subst (λ D. IsOver D r) (sym cols) (fits_is_over (sort_of S).columns r ((get_sort S db typed.0 are).columns r i))
-
-  -- none of which is the new name
-  pub new_is_free : (C : Names) → C ≡ view_names S → set.contains C B ≡ false
-  new_is_free C cols = ap (λ D. set.contains D B) cols ∙ typed.1.free
 
   module _ (st : State) (C : Names) (may : MayFind (rename A B S) st C) where
     within : Within C (view_names (rename A B S))
@@ -151,38 +141,3 @@ module _ (L S : Lens) (A B : Name) (is : rename A B S ≡ L) (typed : IsTyped L)
 
   pub looks_in : (st : State) (w : ℕ) → LooksWithin L st w → LooksWithin S st w
   looks_in st w f = old_looks A B S here st w (subst (λ M. LooksWithin M st w) (sym is) f)
-
-  -- the rows of the source, in a list, have its columns
-  pub listed_over : (db : Tables) (C : Names) (rows : List Row) → AreOf L db → C ≡ view_names S → set.from_list rows ≡ get S db → (r : Row) → Contains rows r → IsOver C r
-  listed_over db C rows are cols shown r i =
-      source_over A B S here db C r (are_here db are) cols (ap (λ M. has M r) (sym shown) ∙ set.contains-from_list row_total rows r ∙ contained rows r i)
-
-  pub free_in : (C : Names) → C ≡ view_names S → set.contains C B ≡ false
-  free_in C cols = new_is_free A B S here C cols
-
--- ---- lists
-
--- whether the list has the row
-abbrev stands : List Row → Row → Type 0
-stands rows r = list_any (eq_by_cmp row_cmp r) rows ≡ true
-
-in_list : (rows : List Row) (M : Rows) → set.from_list rows ≡ M → (r : Row) → has M r ≡ true → stands rows r
-in_list rows M is r there = sym (set.contains-from_list row_total rows r) ∙ ap (λ N. has N r) is ∙ there
-
-from_list : (rows : List Row) (M : Rows) → set.from_list rows ≡ M → (r : Row) → stands rows r → has M r ≡ true
-from_list rows M is r there = ap (λ N. has N r) (sym is) ∙ set.contains-from_list row_total rows r ∙ there
-
--- the renamed rows of a list, as a set, are the renamed rows of the set
-listed_renamed : (A B : Name) (rows : List Row) (M : Rows) → set.from_list rows ≡ M → set.from_list (map (renamed_row A B) rows) ≡ image (renamed_row A B) M
-listed_renamed A B rows M is = same_rel _ _
-    (λ q i.
-    let w = from_map (eq_by_cmp row_cmp) tied_row row_itself (eq_by_cmp row_cmp) tied_row row_itself (renamed_row A B) rows q (sym (set.contains-from_list row_total (map (renamed_row A B) rows) q) ∙ i) in
-    ap (has (image (renamed_row A B) M)) w.2 ∙ in_image (renamed_row A B) M w.0 (from_list rows M is w.0 w.1))
-    (λ q i.
-    let w = from_image (renamed_row A B) M q i in
-    set.contains-from_list row_total (map (renamed_row A B) rows) q ∙ ap (λ r. list_any (eq_by_cmp row_cmp r) (map (renamed_row A B) rows)) w.2
-    ∙ in_map (eq_by_cmp row_cmp) tied_row row_itself (eq_by_cmp row_cmp) tied_row row_itself (renamed_row A B) rows w.0 (in_list rows M is w.0 w.1))
-
-pub renamed_listed : (L S : Lens) (A B : Name) (db : Tables) (rows : List Row) → rename A B S ≡ L → set.from_list rows ≡ get S db → set.from_list (map (renamed_row A B) rows) ≡ get L db
-unfolding get rename_get
-renamed_listed L S A B db rows is shown = listed_renamed A B rows (get S db) shown ∙ ap (λ K. get K db) is

@@ -24,7 +24,7 @@ use Rattle.lens_probe.specs.Viewed.{FindsAtMost, IsViewed, IsWithin, Viewed, ask
 use Rattle.fd_tree.specs.Sides.{HasLeft}
 use Rattle.plain_values.proofs.NamesLemmas.{same_is}
 use Rattle.std.proofs.lemmas.Bool.{or_cases}
-use Rattle.lens_probe.proofs.Found.{rows_shown}
+use Rattle.view_reading.proofs.Bases.{rows_shown}
 use Rattle.lens_probe.proofs.Viewing.{under_drop, under_left, under_right, under_select}
 
 -- a look-up gives no more rows than the lens's size

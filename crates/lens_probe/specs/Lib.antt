@@ -3,6 +3,4 @@ pub mod NearRows
 pub mod Looking
 pub mod Needs
 pub mod Reading
-pub mod Unfiltered
-pub mod KnownRows
 pub mod Viewed

@@ -13,7 +13,6 @@ ghost use Rattle.signed_delta.specs.Keys.{IsKey};
 ghost use Rattle.lens_probe.specs.NearRows.{AreKnown, of_join};
 ghost use Rattle.lens_probe.specs.Looking.{ArePartners, FindsWithin, MayFind, find_part, pairs_of};
 
-use crate::columns::{names_of, shared_names};
 use crate::near::{Near, known_rows};
 use crate::pairing::add_pairs;
 use crate::selecting::selected;
@@ -24,6 +23,7 @@ use row_sets::RowSet;
 use std::alloc::Global;
 use std::sync::ledger::Ledger;
 use step_counter::Steps;
+use view_reading::{names_of, shared_names};
 
 /// A look-up in tables: the columns to go by, and a key over these columns.
 #[derive(Clone, Copy)]

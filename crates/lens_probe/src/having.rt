@@ -9,7 +9,6 @@ ghost use Rattle.lens_laws.specs.Work.{size};
 ghost use Rattle.lens_probe.specs.NearRows.{AreKnown, of_join};
 ghost use Rattle.lens_probe.specs.Looking.{LooksWithin, MayLook};
 
-use crate::columns::names_of;
 use crate::finding::{Query, find_in};
 use crate::near::Near;
 use base_index::Tables;
@@ -18,6 +17,7 @@ use lens_values::{NoMemory, Row};
 use std::alloc::Global;
 use std::sync::ledger::Ledger;
 use step_counter::Steps;
+use view_reading::names_of;
 
 /// Whether the row is among those that the lens shows of the tables.
 pub(crate) fn has_in<L: Ledger>(

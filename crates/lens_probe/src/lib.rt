@@ -2,18 +2,13 @@
 //! given values in given columns.
 #![tactic(auto)]
 
-mod columns;
-mod differing;
 mod finding;
 mod handed;
 mod having;
-mod known;
 mod near;
 mod needed;
 mod pairing;
-mod reading;
 mod selecting;
-mod unfiltered;
 pub mod view;
 
 pub use near::Near;

@@ -6,11 +6,11 @@ ghost use Rattle.lens_specs.specs.Rename.{renamed_names};
 ghost use Rattle.lens_laws.specs.Asked.{asked, keys_at, side_keys};
 ghost use Rattle.lens_probe.specs.Needs.{pair_of};
 
-use crate::columns::{names_of, shared_names};
 use base_index::Need;
 use lens_types::{Node, TypedLens};
 use lens_values::{Name, Names, NoMemory};
 use std::alloc::Global;
+use view_reading::{names_of, shared_names};
 
 /// The indexes that a view of the lens needs: the tables, and the columns by which they may be
 /// asked.

@@ -12,12 +12,10 @@ ghost use Rattle.lens_probe.specs.Reading.{rows_under};
 ghost use Rattle.lens_probe.specs.Viewed.{AreIndexed, AreNear, CanAsk, IsViewed, IsWithin, Viewed, asked_by, both_sides};
 ghost use Rattle.lens_probe.specs.Viewed.{is_left_side, only_source, shown, sides_of, source_of, viewed, viewed_code};
 
-use crate::differing::difference_in;
 use crate::finding::{Query, find_in};
 use crate::handed::HandedDown;
 use crate::having::has_in;
 use crate::near::{Near, near_each};
-use crate::reading::read_in;
 use base_index::Tables;
 use fd_tree::Edge;
 use lens_types::{Node, Sort, TypedLens};
@@ -28,6 +26,7 @@ use std::alloc::Global;
 use std::marker::Model;
 use std::sync::ledger::Ledger;
 use step_counter::Steps;
+use view_reading::{difference_in, read_in};
 
 /// What a lens shows of tables, by key. A contract sees the lens, the sets of columns that were
 /// handed down to it, and the tables.

@@ -14,7 +14,8 @@ use Rattle.signed_delta.proofs.Counts.{at_end, next, one_more}
 use Rattle.lens_probe.specs.NearRows.{AreKnown, of_join}
 use Rattle.lens_probe.specs.Looking.{ArePartners, FindsWithin, MayFind, pairs_of}
 use Rattle.lens_probe.proofs.Found.{drop_finds, found_by_whole, left_asked, left_finds, left_matches, next_pairs, partners_again, right_asked, right_finds, right_matches, rows_over, select_finds, shared_in, shown_to, found_whole, source_of_drop, source_of_select, table_finds, whole_part}
-use Rattle.lens_probe.proofs.RenamedViews.{found_there, key_lacks, names_are, old_asked, old_finds, old_over, new_is_free, rename_size, renamed_finds, source_over}
+use Rattle.view_reading.proofs.RenamedRows.{new_is_free, source_over}
+use Rattle.lens_probe.proofs.RenamedViews.{found_there, key_lacks, names_are, old_asked, old_finds, old_over, rename_size, renamed_finds}
 use Rattle.lens_probe.proofs.Sizes.{dropped_size, left_first, left_part, left_shared, pairs_looks, part_few, right_first, right_part, right_shared, selected_size, table_looks, under_dropped, under_selected}
 use Rattle.lens_probe.proofs.finding.+find.Goals as goal
 

@@ -1,8 +1,8 @@
 use Rattle.std.proofs.Common.{refl, subst, sym}
 use Rattle.plain_values.specs.SortedSet as set
 use Rattle.lens_specs.specs.Lens.{sort_of, view_names}
-use Rattle.lens_probe.specs.KnownRows.{AreOver}
-use Rattle.lens_probe.proofs.KnownParts.{all_over}
+use Rattle.view_reading.specs.KnownRows.{AreOver}
+use Rattle.view_reading.proofs.KnownParts.{all_over}
 use Rattle.lens_probe.proofs.view.View.difference.Goals as goal
 
 pub difference_in-requires-clause-known : goal.difference_in-requires-clause-known

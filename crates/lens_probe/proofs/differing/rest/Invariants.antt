@@ -1,6 +1,0 @@
-use Rattle.std.proofs.Common.{◌≡◌, take}
-use Rattle.lens_probe.specs.KnownRows.{unmarked}
-use Rattle.lens_probe.proofs.differing.rest.Given as goal
-
-abbrev pub invariant-loop-place : goal.invariant-loop-place
-invariant-loop-place l = l.rest.items ≡ unmarked (take l.place l.are_parts) (take l.place l.known)

@@ -1,7 +1,0 @@
-use Rattle.std.proofs.Common.{rules}
-use Rattle.std.proofs.lemmas.Fn.{filter_same}
-use Rattle.lens_specs.specs.Predicate.{holds}
-use Rattle.lens_probe.proofs.reading.selected.Goals as goal
-
-pub returns : goal.returns
-returns c = filter_same _ (holds c.args.pred.now) _ (λ x b f' k. search rules) _ _ c.retain.ensures.filtered
