@@ -65,6 +65,13 @@ nothing_new F M A gone new meets rest none is =
     ] in
     none_touched F M A gone new (λ m i. let w = from_touched F M A m i in w.1 (revise_own F M A m meets there w.0)) rest is
 
+-- and so does one with no rows in place of them
+pub all_there : (F : List Edge) (M A gone new : Rows) → MeetsTree M F → ((a : Row) → has A a ≡ true → has M a ≡ true) → new ≡ set.empty → gone ≡ set.empty
+    → ◌≡◌ {A = Delta} (record { remove = gone; add = new }) (merge_delta F M A)
+all_there F M A gone new meets there none is =
+    let rest : new ≡ minus A M = none ∙ same_rel _ _ (λ r i. absurd_false _ i (set.contains-empty _ r)) (λ r i. let w = from_minus A M r i in absurd_false _ (there r w.0) w.1) in
+    none_touched F M A gone new (λ m i. let w = from_touched F M A m i in w.1 (revise_own F M A m meets there w.0)) rest is
+
 -- a merge without dependencies revises no row
 pub no_edges : (F : List Edge) (M A gone new : Rows) → length F ≡ 0 → new ≡ minus A M → gone ≡ set.empty
     → ◌≡◌ {A = Delta} (record { remove = gone; add = new }) (merge_delta F M A)

@@ -64,6 +64,10 @@ pub record CanEdit (K L : List Names) (A B : Relation) (F G : List Edge) (d : De
   pub applies : Applies d (joined A B)
   pub view : AreJoined A.columns B.columns F G (edited A B d)
 
+-- each row that the edit adds agrees on C with one that it removes
+abbrev pub AreExchanged : Names → Delta → Type 0
+AreExchanged C d = (row : Row) → has d.add row ≡ true → (gone : Row) × (has d.remove gone ≡ true) × (agree C gone row ≡ true)
+
 -- two of the rows that agree on S are one
 abbrev pub AreKeyed : Names → Rows → Type 0
 AreKeyed S N = (m n : Row) → has N m ≡ true → has N n ≡ true → agree S m n ≡ true → m ≡ n

@@ -60,6 +60,35 @@ pub fn merge_change<K: Look, L: Ledger>(
     Ok(Change { remove, add })
 }
 
+/// The same, where it may be known that the source has all of the rows: then nothing is looked for.
+pub fn merge_known<K: Look, L: Ledger>(
+    alloc: Global,
+    source: &Source<'_, K>,
+    rows: &RowSet,
+    all_there: bool,
+    looked: &mut Steps<L>,
+) -> Result<Change, NoMemory>
+    requires can { let a = source.now.look.now in
+        CanRevise (K.asked a) (K.relation a) source.now.tree.now rows.now }
+    requires there { all_there ≡ true → (row : _) → has rows.now row ≡ true
+        → has (K.relation source.now.look.now).rows row ≡ true }
+    ensures change { let M = (K.relation source.now.look.now).rows in
+        IfOk result (λ change. record { remove = change.remove; add = change.add }
+        ≡ merge_delta source.now.tree.now M rows.now) }
+    ensures looks { (n : ℕ) → K.within source.now.look.now n → looked.new ≤ looked.old
+        + n * length (set.items rows.now) * (length source.now.tree.now + 1) }
+    ensures tree { OnOk result (IsTree source.now.tree.now) }
+{
+    if !all_there {
+        return merge_change(alloc, source, rows, looked);
+    }
+    // Called for its contract: the edges are a tree.
+    let _edges = source.tree.edges();
+    let remove = RowSet::empty(alloc);
+    let add = RowSet::empty(alloc);
+    Ok(Change { remove, add })
+}
+
 /// The change that leads to the rows without these: those of them that it adds are not added, and
 /// the others go too.
 pub fn without(alloc: Global, change: Delta, rows: &RowSet) -> Result<Delta, NoMemory>

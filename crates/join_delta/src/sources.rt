@@ -1,18 +1,18 @@
 //! Both sources of a join, merged with an edit of it.
-ghost use Rattle.std.specs.Prelude.{◌≡◌, ◌≢◌, ◌≤◌, ◌+◌, ◌*◌, ℕ, true, length, Contains, IfOk, OnOk, is_some};
+ghost use Rattle.std.specs.Prelude.{◌≡◌, ◌≢◌, ◌≤◌, ◌+◌, ◌*◌, ℕ, true, [], ◌∷◌, length, Contains, IfOk, IfSome, OnOk, is_some};
 ghost use Rattle.plain_values.specs.SortedSet as set;
 ghost use Rattle.lens_specs.specs.Relation.{minus, union};
 ghost use Rattle.lens_specs.specs.Rows.{at};
 ghost use Rattle.lens_laws.specs.KeyedDeltas.{suspects as suspects_of};
 ghost use Rattle.lens_laws.specs.Work.{rows_of};
-ghost use Rattle.join_delta.specs.Joined.{CanEdit, IsSource};
+ghost use Rattle.join_delta.specs.Joined.{AreExchanged, CanEdit, IsSource};
 ghost use Rattle.join_delta.specs.Surplus.{IsMerged};
 
-use crate::merging::{Change, merge_change};
+use crate::merging::{Change, merge_change, merge_known};
 use crate::over::over_pairs;
 use crate::sides::{Sides, sides_of};
 use crate::source::Source;
-use lens_values::NoMemory;
+use lens_values::{Names, NoMemory, Row};
 use row_sets::RowSet;
 use signed_delta::{Delta, Look, find_each};
 use std::alloc::Global;
@@ -66,7 +66,8 @@ pub fn merge_sources<A: Look, B: Look, L: Ledger>(
 {
     let sides = sides_of(alloc, left.look.columns(), right.look.columns())?;
     let right_rows = delta.add().project(alloc, &sides.right)?;
-    let change = merge_change(alloc, right, &right_rows, looked)?;
+    let stay = exchanges(delta, &sides.right);
+    let change = merge_known(alloc, right, &right_rows, stay, looked)?;
     let left_rows = delta.add().project(alloc, &sides.left)?;
     let merged = merge_change(alloc, left, &left_rows, looked)?;
     let right_change = Delta::new(change.remove, change.add);
@@ -90,6 +91,26 @@ pub fn merge_sources<A: Look, B: Look, L: Ledger>(
         parts: right_rows,
         over,
     })
+}
+
+// Whether the edit exchanges one row for another that agrees with it on the columns.
+fn exchanges(delta: &Delta, cols: &Names) -> bool
+    ensures { result ≡ true → AreExchanged cols.now delta.now }
+{
+    match (only_row(delta.remove()), only_row(delta.add())) {
+        (Some(gone), Some(row)) => gone.agree_on(row, cols),
+        _ => false,
+    }
+}
+
+// The row of a set that has one row alone.
+fn only_row(rows: &RowSet) -> Option<&Row>
+    ensures { IfSome result (λ row. set.items rows.now ≡ row.now ∷ []) }
+{
+    match rows.rows() {
+        [row] => Some(row),
+        _ => None,
+    }
 }
 
 // The left rows that may have to go: the parts of removed rows, and those that agree with a new

@@ -2,22 +2,24 @@ use Rattle.std.proofs.Common.{◌≡◌, ◌∙◌, ℕ, ◌+◌, ◌*◌, ◌�
 use Rattle.std.specs.List.{Contains}
 use Rattle.plain_values.specs.SortedSet as set
 use Rattle.plain_values.specs.Row.{Row}
-use Rattle.lens_specs.specs.Common.{Fits, names, Delta, new_view, has, minus, project}
+use Rattle.plain_values.proofs.Agreement.{parts_same}
+use Rattle.lens_specs.specs.Common.{Fits, names, Delta, new_view, has, minus, project, agree, cut}
 use Rattle.lens_laws.specs.KeyedDeltas.{join_delta_right, merge_delta, suspects}
 use Rattle.lens_laws.specs.Work.{count_of, rows_of}
 use Rattle.signed_delta.proofs.Counts.{minus_len, union_len}
 use Rattle.signed_delta.proofs.Gives.{gives_by_edges}
 use Rattle.join_delta.specs.Joined.{AreKeyed, shared_names}
-use Rattle.fd_laws.proofs.Relations.{from_minus, from_union}
+use Rattle.fd_laws.proofs.Relations.{from_minus, from_project, from_union}
+use Rattle.lens_laws.proofs.Join.{from_natural}
 use Rattle.join_delta.proofs.Carried.{apart, join_edit, left_merges, left_parts_fit, lefts_within, merge_fits, merged_left, merged_right, right_is, right_keyed, right_parts_fit, surplus_is, surplus_made, suspects_fit}
 use Rattle.join_delta.proofs.Counted.{after_left, after_right, after_suspects, after_tests, left_looks, new_few, new_right, part_few, revised_few, right_looks, suspect_looks, suspects_few, test_looks, tested_few}
 use Rattle.join_delta.proofs.Near.{shared_right}
 use Rattle.join_delta.proofs.sources.merge_sources.Given.{Over}
-use Rattle.join_delta.proofs.sources.merge_sources.Goals.{After-merge_change, After-merge_change-2, After-over_pairs, After-suspects}
+use Rattle.join_delta.proofs.sources.merge_sources.Goals.{After-merge_known, After-merge_change, After-over_pairs, After-suspects}
 use Rattle.join_delta.proofs.sources.merge_sources.Goals as goal
 
-pub merge_change-requires : goal.merge_change-requires
-merge_change-requires g c =
+pub merge_known-requires-clause-can : goal.merge_known-requires-clause-can
+merge_known-requires-clause-can g c =
     let R = g.A.Look.relation c.args.left.now.look.now in
     let Q = g.B.Look.relation c.args.right.now.look.now in
     let F = c.args.left.now.tree.now in
@@ -32,6 +34,21 @@ merge_change-requires g c =
       fit = λ row there. right_parts_fit c.requires row (ap (λ N. has N row) (sym right_rows) ∙ there);
     }
 
+pub merge_known-requires-clause-there : goal.merge_known-requires-clause-there
+unfolding cut
+merge_known-requires-clause-there g c = λ stay row there.
+    let R = g.A.Look.relation c.args.left.now.look.now in
+    let Q = g.B.Look.relation c.args.right.now.look.now in
+    let V = names Q.columns in
+    let d = c.args.delta.now in
+    let columns : c.in_ok-sides.sides.right ≡ V = c.in_ok-sides.ensures.right ∙ ap names c.columns-2.ensures.columns in
+    let right_rows : c.in_ok-right_rows.right_rows ≡ project V d.add = c.in_ok-right_rows.ensures ∙ (λ i. project (columns i) (c.add.ensures i)) in
+    let added = from_project V d.add row (ap (λ N. has N row) (sym right_rows) ∙ there) in
+    let gone = c.exchanges-stay.ensures stay added.0 added.1 in
+    let alike : agree V gone.0 added.0 ≡ true = ap (λ C. agree C gone.0 added.0) (sym columns) ∙ gone.2 in
+    ap (has Q.rows) (added.2 ∙ parts_same V gone.0 added.0 alike)
+    ∙ (from_natural R.columns Q.columns R.rows Q.rows c.columns.ensures.fit c.columns-2.ensures.fit gone.0 (c.requires.applies.removes gone.0 gone.1)).1
+
 pub new-right_change-requires : goal.new-right_change-requires
 new-right_change-requires g c =
     let R = g.A.Look.relation c.args.left.now.look.now in
@@ -45,8 +62,8 @@ new-right_change-requires g c =
     apart Q.rows (merged_right q) c.in_ok-change.change.remove c.in_ok-change.change.add
     (c.in_ok-change.ensures.change ∙ ap (merge_delta G Q.rows) right_rows ∙ right_is q)
 
-pub merge_change-requires-2 : goal.merge_change-requires-2
-merge_change-requires-2 g c =
+pub merge_change-requires : goal.merge_change-requires
+merge_change-requires g c =
     let R = g.A.Look.relation c.args.left.now.look.now in
     let Q = g.B.Look.relation c.args.right.now.look.now in
     let F = c.args.left.now.tree.now in
@@ -134,28 +151,28 @@ new-left_change-requires g c =
 
 -- ---- looks, call by call
 
-right_few : (g : Over) (c : After-merge_change g) → count_of c.in_ok-right_rows.right_rows ≤ count_of c.args.delta.now.add
+right_few : (g : Over) (c : After-merge_known g) → count_of c.in_ok-right_rows.right_rows ≤ count_of c.args.delta.now.add
 right_few g c = part_few c.in_ok-sides.sides.right c.in_ok-sides.sides.right c.add.result.now c.args.delta.now.add c.in_ok-right_rows.right_rows c.in_ok-right_rows.ensures c.add.ensures
 
-right_step : (g : Over) (c : After-merge_change g) (a b : ℕ) → g.A.Look.within c.args.left.now.look.now a → g.B.Look.within c.args.right.now.look.now b → length c.args.right.now.tree.now ≤ 64
-    → c.merge_change.new.looked ≤ c.args.looked.now + 65 * (rows_of c.args.delta.now * (a * b))
+right_step : (g : Over) (c : After-merge_known g) (a b : ℕ) → g.A.Look.within c.args.left.now.look.now a → g.B.Look.within c.args.right.now.look.now b → length c.args.right.now.tree.now ≤ 64
+    → c.merge_known.new.looked ≤ c.args.looked.now + 65 * (rows_of c.args.delta.now * (a * b))
 right_step g c a b v w edges =
     let few = right_few g c in
     right_looks a b (c.columns.ensures.some a v) (c.columns-2.ensures.some b w) (count_of c.in_ok-right_rows.right_rows) (length c.args.right.now.tree.now) (rows_of c.args.delta.now)
-    c.args.looked.now c.merge_change.new.looked (omega arith) edges (c.merge_change.ensures.looks b w)
+    c.args.looked.now c.merge_known.new.looked (omega arith) edges (c.merge_known.ensures.looks b w)
 
-left_few : (g : Over) (c : After-merge_change-2 g) → count_of c.in_ok-left_rows.left_rows ≤ count_of c.args.delta.now.add
+left_few : (g : Over) (c : After-merge_change g) → count_of c.in_ok-left_rows.left_rows ≤ count_of c.args.delta.now.add
 left_few g c = part_few c.in_ok-sides.sides.left c.in_ok-sides.sides.left c.add-2.result.now c.args.delta.now.add c.in_ok-left_rows.left_rows c.in_ok-left_rows.ensures c.add-2.ensures
 
-left_step : (g : Over) (c : After-merge_change-2 g) (a b : ℕ) → g.A.Look.within c.args.left.now.look.now a → g.B.Look.within c.args.right.now.look.now b → length c.args.left.now.tree.now ≤ 64
-    → c.merge_change-2.new.looked ≤ c.merge_change.new.looked + 65 * (rows_of c.args.delta.now * (a * b))
+left_step : (g : Over) (c : After-merge_change g) (a b : ℕ) → g.A.Look.within c.args.left.now.look.now a → g.B.Look.within c.args.right.now.look.now b → length c.args.left.now.tree.now ≤ 64
+    → c.merge_change.new.looked ≤ c.merge_known.new.looked + 65 * (rows_of c.args.delta.now * (a * b))
 left_step g c a b v w edges =
     let few = left_few g c in
     left_looks a b (c.columns.ensures.some a v) (c.columns-2.ensures.some b w) (count_of c.in_ok-left_rows.left_rows) (length c.args.left.now.tree.now) (rows_of c.args.delta.now)
-    c.merge_change.new.looked c.merge_change-2.new.looked (omega arith) edges (c.merge_change-2.ensures.looks a v)
+    c.merge_known.new.looked c.merge_change.new.looked (omega arith) edges (c.merge_change.ensures.looks a v)
 
 suspect_step : (g : Over) (c : After-suspects g) (a b : ℕ) → g.A.Look.within c.args.left.now.look.now a → g.B.Look.within c.args.right.now.look.now b → length c.args.right.now.tree.now ≤ 64
-    → c.suspects.new.looked ≤ c.merge_change-2.new.looked + 65 * (rows_of c.args.delta.now * (a * b))
+    → c.suspects.new.looked ≤ c.merge_change.new.looked + 65 * (rows_of c.args.delta.now * (a * b))
 suspect_step g c a b v w edges =
     let N = (g.B.Look.relation c.args.right.now.look.now).rows in
     let G = c.args.right.now.tree.now in
@@ -163,7 +180,7 @@ suspect_step g c a b v w edges =
     let new = new_right (g.B.Look.asked c.args.right.now.look.now) G N c.in_ok-right_rows.right_rows c.new-right_change.result b edges (c.columns-2.ensures.gives b w) c.requires.right_asked
     (c.new-right_change.ensures ∙ c.in_ok-change.ensures.change) in
     suspect_looks a b (c.columns.ensures.some a v) (c.columns-2.ensures.some b w) (count_of c.in_ok-right_rows.right_rows) (count_of c.new-right_change.result.add) (rows_of c.args.delta.now)
-    c.merge_change-2.new.looked c.suspects.new.looked (omega (arith, few)) new (c.suspects.ensures.looks a v)
+    c.merge_change.new.looked c.suspects.new.looked (omega (arith, few)) new (c.suspects.ensures.looks a v)
 
 -- the right rows are told apart
 right_rows_keyed : (g : Over) (c : After-over_pairs g) → AreKeyed c.in_ok-sides.sides.shared (new_view (g.B.Look.relation c.args.right.now.look.now).rows c.new-right_change.result)
@@ -256,8 +273,8 @@ returns g c =
       left = record { fit = c.columns.ensures.fit; tree = c.in_ok-merged.ensures.tree; some = c.columns.ensures.some; gives = c.columns.ensures.gives };
       right = record { fit = c.columns-2.ensures.fit; tree = c.in_ok-change.ensures.tree; some = c.columns-2.ensures.some; gives = c.columns-2.ensures.gives };
       looks = λ a b v w edges more.
-          after_tests a b (c.columns.ensures.some a v) (c.columns-2.ensures.some b w) (rows_of d) c.args.looked.now c.merge_change.new.looked c.merge_change-2.new.looked c.suspects.new.looked c.over_pairs.new.looked
-          (right_step g e.After-merge_change a b v w more) (left_step g e.After-merge_change-2 a b v w edges) (suspect_step g e.After-suspects a b v w more) (test_step g e.After-over_pairs a b v w edges more);
+          after_tests a b (c.columns.ensures.some a v) (c.columns-2.ensures.some b w) (rows_of d) c.args.looked.now c.merge_known.new.looked c.merge_change.new.looked c.suspects.new.looked c.over_pairs.new.looked
+          (right_step g e.After-merge_known a b v w more) (left_step g e.After-merge_change a b v w edges) (suspect_step g e.After-suspects a b v w more) (test_step g e.After-over_pairs a b v w edges more);
       few = λ a b v w edges more.
           let pairs = c.in_ok-over.ensures.few (right_rows_keyed g e.After-over_pairs) in
           let few = tested_step g e.After-over_pairs a b v w edges more in
@@ -267,35 +284,35 @@ returns g c =
 pub returns-in_err-change-clause-looks : goal.returns-in_err-change-clause-looks
 returns-in_err-change-clause-looks g c = λ a b v w edges more.
     let e = goal.at.returns-in_err-change-clause-looks g c in
-    after_right a b (c.columns.ensures.some a v) (c.columns-2.ensures.some b w) (rows_of c.args.delta.now) c.args.looked.now c.merge_change.new.looked
-    (right_step g e.After-merge_change a b v w more)
+    after_right a b (c.columns.ensures.some a v) (c.columns-2.ensures.some b w) (rows_of c.args.delta.now) c.args.looked.now c.merge_known.new.looked
+    (right_step g e.After-merge_known a b v w more)
 
 pub returns-in_err-left_rows-clause-looks : goal.returns-in_err-left_rows-clause-looks
 returns-in_err-left_rows-clause-looks g c = λ a b v w edges more.
     let e = goal.at.returns-in_err-left_rows-clause-looks g c in
-    after_right a b (c.columns.ensures.some a v) (c.columns-2.ensures.some b w) (rows_of c.args.delta.now) c.args.looked.now c.merge_change.new.looked
-    (right_step g e.After-merge_change a b v w more)
+    after_right a b (c.columns.ensures.some a v) (c.columns-2.ensures.some b w) (rows_of c.args.delta.now) c.args.looked.now c.merge_known.new.looked
+    (right_step g e.After-merge_known a b v w more)
 
 pub returns-in_err-merged-clause-looks : goal.returns-in_err-merged-clause-looks
 returns-in_err-merged-clause-looks g c = λ a b v w edges more.
     let e = goal.at.returns-in_err-merged-clause-looks g c in
-    after_left a b (c.columns.ensures.some a v) (c.columns-2.ensures.some b w) (rows_of c.args.delta.now) c.args.looked.now c.merge_change.new.looked c.merge_change-2.new.looked
-    (right_step g e.After-merge_change a b v w more) (left_step g e.After-merge_change-2 a b v w edges)
+    after_left a b (c.columns.ensures.some a v) (c.columns-2.ensures.some b w) (rows_of c.args.delta.now) c.args.looked.now c.merge_known.new.looked c.merge_change.new.looked
+    (right_step g e.After-merge_known a b v w more) (left_step g e.After-merge_change a b v w edges)
 
 pub returns-in_err-suspects-clause-looks : goal.returns-in_err-suspects-clause-looks
 returns-in_err-suspects-clause-looks g c = λ a b v w edges more.
     let e = goal.at.returns-in_err-suspects-clause-looks g c in
-    after_suspects a b (c.columns.ensures.some a v) (c.columns-2.ensures.some b w) (rows_of c.args.delta.now) c.args.looked.now c.merge_change.new.looked c.merge_change-2.new.looked c.suspects.new.looked
-    (right_step g e.After-merge_change a b v w more) (left_step g e.After-merge_change-2 a b v w edges) (suspect_step g e.After-suspects a b v w more)
+    after_suspects a b (c.columns.ensures.some a v) (c.columns-2.ensures.some b w) (rows_of c.args.delta.now) c.args.looked.now c.merge_known.new.looked c.merge_change.new.looked c.suspects.new.looked
+    (right_step g e.After-merge_known a b v w more) (left_step g e.After-merge_change a b v w edges) (suspect_step g e.After-suspects a b v w more)
 
 pub returns-in_err-tested-clause-looks : goal.returns-in_err-tested-clause-looks
 returns-in_err-tested-clause-looks g c = λ a b v w edges more.
     let e = goal.at.returns-in_err-tested-clause-looks g c in
-    after_suspects a b (c.columns.ensures.some a v) (c.columns-2.ensures.some b w) (rows_of c.args.delta.now) c.args.looked.now c.merge_change.new.looked c.merge_change-2.new.looked c.suspects.new.looked
-    (right_step g e.After-merge_change a b v w more) (left_step g e.After-merge_change-2 a b v w edges) (suspect_step g e.After-suspects a b v w more)
+    after_suspects a b (c.columns.ensures.some a v) (c.columns-2.ensures.some b w) (rows_of c.args.delta.now) c.args.looked.now c.merge_known.new.looked c.merge_change.new.looked c.suspects.new.looked
+    (right_step g e.After-merge_known a b v w more) (left_step g e.After-merge_change a b v w edges) (suspect_step g e.After-suspects a b v w more)
 
 pub returns-in_err-over-clause-looks : goal.returns-in_err-over-clause-looks
 returns-in_err-over-clause-looks g c = λ a b v w edges more.
     let e = goal.at.returns-in_err-over-clause-looks g c in
-    after_tests a b (c.columns.ensures.some a v) (c.columns-2.ensures.some b w) (rows_of c.args.delta.now) c.args.looked.now c.merge_change.new.looked c.merge_change-2.new.looked c.suspects.new.looked c.over_pairs.new.looked
-    (right_step g e.After-merge_change a b v w more) (left_step g e.After-merge_change-2 a b v w edges) (suspect_step g e.After-suspects a b v w more) (test_step g e.After-over_pairs a b v w edges more)
+    after_tests a b (c.columns.ensures.some a v) (c.columns-2.ensures.some b w) (rows_of c.args.delta.now) c.args.looked.now c.merge_known.new.looked c.merge_change.new.looked c.suspects.new.looked c.over_pairs.new.looked
+    (right_step g e.After-merge_known a b v w more) (left_step g e.After-merge_change a b v w edges) (suspect_step g e.After-suspects a b v w more) (test_step g e.After-over_pairs a b v w edges more)

@@ -1,7 +1,7 @@
-use Rattle.std.proofs.Common.{◌≡◌, ◌∙◌, ◌+◌, ◌*◌, ◌≤◌, arith, ap, subst}
+use Rattle.std.proofs.Common.{◌+◌, arith, subst}
 use Rattle.lens_chain.proofs.Counted.{within_size}
-use Rattle.lens_chain.specs.Edits.{edited, over}
-use Rattle.lens_laws.specs.Work.{count_of, rows_of, size, work}
+use Rattle.lens_chain.specs.Edits.{over}
+use Rattle.lens_laws.specs.Work.{count_of, rows_of, size}
 use Rattle.lens_specs.specs.Common.{new_view, get, sort_of}
 use Rattle.server_specs.specs.Changing.{of_sort}
 use Rattle.view_changes.specs.Puts.{IsPut}
