@@ -2,6 +2,6 @@ pub mod Keyed
 pub mod LensNeeds
 pub mod Walked
 pub mod Grown
-pub mod Changed
+pub mod ChangePlans
 pub mod Indexed
-pub mod Settled
+pub mod SettledPlans

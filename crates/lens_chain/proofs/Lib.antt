@@ -2,4 +2,4 @@ pub mod Chain
 pub mod Entries
 pub mod Gathered
 pub mod Premises
-pub mod Counted
+pub mod EditLooks

@@ -1,4 +1,4 @@
-mod Walks
+mod HandedSteps
 pub mod Contained
 pub mod Found
 pub mod Viewing

@@ -1,8 +1,8 @@
-pub mod Batched
-pub mod Counted
+pub mod BatchSteps
+pub mod WalkedRows
 pub mod Defined
 pub mod Exported
 pub mod Loaded
-pub mod Looked
+pub mod LooksByName
 pub mod Stepping
 pub mod NamedViews

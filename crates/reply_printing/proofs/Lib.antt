@@ -1,5 +1,5 @@
-pub mod Entries
+pub mod RowEntries
 pub mod Lines
-pub mod Members
-pub mod Parts
+pub mod RisingMembers
+pub mod RefusalTokens
 pub mod Tokens

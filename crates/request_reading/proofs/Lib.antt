@@ -1,7 +1,7 @@
-pub mod Batched
+pub mod BatchEdits
 pub mod Beside
-pub mod Columns
-pub mod Faults
+pub mod ColumnMembers
+pub mod MemberFaults
 pub mod Objects
 pub mod Others
 pub mod Rising

@@ -1,2 +1,2 @@
-pub mod Columns
+pub mod ViewColumns
 pub mod Formulas

@@ -1,4 +1,4 @@
-pub mod Clashes
-pub mod Looks
+pub mod FoundClashes
+pub mod ChangeLooks
 pub mod SentRows
-pub mod Tests
+pub mod ChangeTests

@@ -2,7 +2,7 @@ use Rattle.std.proofs.Common.{◌≡◌, ◌∙◌, Err, ap, refl, subst, sym}
 use Rattle.base_index.specs.Held.{Held, IsQuiet}
 use Rattle.database.proofs.Indexed.{keyed_after, state_after, unstaged_same}
 use Rattle.database.proofs.Keyed.{same_keyed}
-use Rattle.database.proofs.Settled.{outcome_failed, outcome_given_up, outcome_made, staged_can}
+use Rattle.database.proofs.SettledPlans.{outcome_failed, outcome_given_up, outcome_made, staged_can}
 use Rattle.lens_specs.specs.Keeping.{CanCommit, Follows, changed}
 use Rattle.table_keeper.specs.Changes.{change_view}
 use Rattle.database.specs.Outcomes.{Outcome}

@@ -2,7 +2,7 @@ use Rattle.std.proofs.Common.{◌∙◌, ap, refl, subst}
 use Rattle.server_specs.specs.Answer.{text}
 use Rattle.database.specs.Plans.{Leads}
 use Rattle.database.specs.States.{state_of}
-use Rattle.database.proofs.Settled.{outcome_given_up, outcome_unchanged, raised}
+use Rattle.database.proofs.SettledPlans.{outcome_given_up, outcome_unchanged, raised}
 use Rattle.database.proofs.commit.settle.Goals as goal
 
 pub returns-in_err-reply-clause-outcome : goal.returns-in_err-reply-clause-outcome

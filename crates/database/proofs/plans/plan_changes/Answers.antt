@@ -3,7 +3,7 @@ use Rattle.std.specs.Prelude.{◌==◌, length, map}
 use Rattle.reply_printing.specs.Answers.{answer_view}
 use Rattle.server_specs.specs.Answer.{changed}
 use Rattle.signed_delta.specs.Tables.{table_delta}
-use Rattle.database.proofs.Changed.{change_to, changes_planned, nothing_planned, told_none, told_some}
+use Rattle.database.proofs.ChangePlans.{change_to, changes_planned, nothing_planned, told_none, told_some}
 use Rattle.database.proofs.plans.plan_changes.Goals as goal
 
 pub returns-then-is_empty : goal.returns-then-is_empty

@@ -1,6 +1,6 @@
 use Rattle.std.proofs.Common.{◌≡◌, ◌∙◌, ap, refl, subst, sym, true}
 use Rattle.std.specs.List.{list_all}
-use Rattle.join_delta.proofs.Carried.{lefts_within}
+use Rattle.join_delta.proofs.CarriedJoin.{lefts_within}
 use Rattle.plain_values.specs.SortedSet as set
 use Rattle.lens_specs.specs.Common.{Fits, names, select_get, holds}
 use Rattle.select_delta.specs.Selected.{AreSelected}

@@ -1,5 +1,5 @@
 use Rattle.std.proofs.Common.{rules}
-use Rattle.join_delta.proofs.Carried.{lefts_within}
+use Rattle.join_delta.proofs.CarriedJoin.{lefts_within}
 use Rattle.lens_specs.specs.Columns.{names}
 use Rattle.delta_tests.proofs.Tested.{lefts_asked}
 use Rattle.delta_tests.proofs.edits.touched.Goals as goal

@@ -2,7 +2,7 @@ use Rattle.std.proofs.Common.{◌≡◌, ◌∙◌}
 use Rattle.lens_specs.specs.Delta.{Delta, diff}
 use Rattle.lens_laws.specs.Work.{rows_of}
 use Rattle.drop_delta.specs.Dropped.{edited_source, filled_in}
-use Rattle.drop_delta.proofs.Counted.{few_are, looks_are}
+use Rattle.drop_delta.proofs.DropLooks.{few_are, looks_are}
 use Rattle.drop_delta.proofs.Filling.{apart, carried, have, removed_fit}
 use Rattle.drop_delta.proofs.editing.drop_delta.Goals as goal
 

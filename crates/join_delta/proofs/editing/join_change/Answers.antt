@@ -5,13 +5,13 @@ use Rattle.lens_specs.specs.Common.{names, Delta, diff, join_over, Rows, has, mi
 use Rattle.lens_laws.specs.Work.{node_work, rows_down, rows_of}
 use Rattle.signed_delta.proofs.Gives.{gives_by_edges}
 use Rattle.join_delta.specs.Joined.{AtSizes, edited, left_after, right_after, shared_names}
-use Rattle.join_delta.proofs.Carried.{diff_apart, join_edit, merged_left, merged_right}
-use Rattle.join_delta.proofs.Counted.{gives_with, in_work}
-use Rattle.join_delta.proofs.Near.{shared_right}
+use Rattle.join_delta.proofs.CarriedJoin.{diff_apart, join_edit, merged_left, merged_right}
+use Rattle.join_delta.proofs.JoinLooks.{gives_with, in_work}
+use Rattle.join_delta.proofs.NearPairs.{shared_right}
 use Rattle.join_delta.specs.Deleted.{free_of, left_deleted, right_deleted}
 use Rattle.join_delta.proofs.Freed.{free_made, parts_stand}
-use Rattle.join_delta.proofs.Looked.{after_asking}
-use Rattle.join_delta.proofs.Taken.{freed, left_beside, left_few, left_there, left_without, none_added, over_there, right_few, right_there, right_without}
+use Rattle.join_delta.proofs.JoinBounds.{after_asking}
+use Rattle.join_delta.proofs.CarriedBySide.{freed, left_beside, left_few, left_there, left_without, none_added, over_there, right_few, right_there, right_without}
 use Rattle.join_delta.proofs.editing.join_change.Given.{Over}
 use Rattle.join_delta.proofs.editing.join_change.Goals.{After-right_parts}
 use Rattle.join_delta.proofs.editing.join_change.Goals as goal

@@ -8,9 +8,9 @@ use Rattle.lens_laws.proofs.Counts.{count-none}
 use Rattle.signed_delta.proofs.Counts.{those_len}
 use Rattle.join_delta.specs.Joined.{AreKeyed, edited}
 use Rattle.join_delta.specs.Pairs.{shows}
-use Rattle.join_delta.proofs.Counted.{found_looks, over_looks}
-use Rattle.join_delta.proofs.Keyed.{near_keyed, pairs_few}
-use Rattle.join_delta.proofs.Near.{left_fits, none_left, over_made, right_fits, shared_left}
+use Rattle.join_delta.proofs.JoinLooks.{found_looks, over_looks}
+use Rattle.join_delta.proofs.OnePartner.{near_keyed, pairs_few}
+use Rattle.join_delta.proofs.NearPairs.{left_fits, none_left, over_made, right_fits, shared_left}
 use Rattle.join_delta.proofs.over.over_pairs.Given.{Over}
 use Rattle.join_delta.proofs.over.over_pairs.Goals.{After-lacking}
 use Rattle.join_delta.proofs.over.over_pairs.Goals as goal

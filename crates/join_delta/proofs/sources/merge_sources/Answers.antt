@@ -11,9 +11,9 @@ use Rattle.signed_delta.proofs.Gives.{gives_by_edges}
 use Rattle.join_delta.specs.Joined.{AreKeyed, shared_names}
 use Rattle.fd_laws.proofs.Relations.{from_minus, from_project, from_union}
 use Rattle.lens_laws.proofs.Join.{from_natural}
-use Rattle.join_delta.proofs.Carried.{apart, join_edit, left_merges, left_parts_fit, lefts_within, merge_fits, merged_left, merged_right, right_is, right_keyed, right_parts_fit, surplus_is, surplus_made, suspects_fit}
-use Rattle.join_delta.proofs.Counted.{after_left, after_right, after_suspects, after_tests, left_looks, new_few, new_right, part_few, revised_few, right_looks, suspect_looks, suspects_few, test_looks, tested_few}
-use Rattle.join_delta.proofs.Near.{shared_right}
+use Rattle.join_delta.proofs.CarriedJoin.{apart, join_edit, left_merges, left_parts_fit, lefts_within, merge_fits, merged_left, merged_right, right_is, right_keyed, right_parts_fit, surplus_is, surplus_made, suspects_fit}
+use Rattle.join_delta.proofs.JoinLooks.{after_left, after_right, after_suspects, after_tests, left_looks, new_few, new_right, part_few, revised_few, right_looks, suspect_looks, suspects_few, test_looks, tested_few}
+use Rattle.join_delta.proofs.NearPairs.{shared_right}
 use Rattle.join_delta.proofs.sources.merge_sources.Given.{Over}
 use Rattle.join_delta.proofs.sources.merge_sources.Goals.{After-merge_known, After-merge_change, After-over_pairs, After-suspects}
 use Rattle.join_delta.proofs.sources.merge_sources.Goals as goal

@@ -5,7 +5,7 @@ use Rattle.lens_laws.specs.KeyedDeltas as keyed
 use Rattle.lens_laws.specs.Work.{rows_down, rows_of, size}
 use Rattle.lens_probe.specs.Viewed.{FindsAtMost, IsWithin}
 use Rattle.lens_chain.specs.Edits.{IsEdit, over}
-use Rattle.lens_chain.proofs.Counted.{within_size}
+use Rattle.lens_chain.proofs.EditLooks.{within_size}
 use Rattle.lens_chain.proofs.Premises.{drop_applies, drop_apart, drop_carried, drop_decides, drop_fit, drop_some, drop_within}
 use Rattle.lens_chain.proofs.nodes.under_drop.Goals as goal
 

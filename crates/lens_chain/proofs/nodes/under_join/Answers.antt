@@ -13,7 +13,7 @@ use Rattle.lens_laws.specs.Work.{node_work, rows_down, rows_of, size}
 use Rattle.lens_probe.specs.Viewed.{FindsAtMost, IsWithin, Viewed, asked_by, shown}
 use Rattle.join_delta.specs.Joined.{AreJoined, IsJoinChange}
 use Rattle.lens_chain.specs.Edits.{IsEdit, edited, over}
-use Rattle.lens_chain.proofs.Counted.{edges_few, join_size, within_size}
+use Rattle.lens_chain.proofs.EditLooks.{edges_few, join_size, within_size}
 use Rattle.lens_chain.proofs.Premises.{edges_asked, edges_within, join_applies, join_carried_left, join_carried_right, join_fit, join_meets, meets_tree, tree_is}
 use Rattle.lens_chain.proofs.nodes.under_join.Goals as goal
 

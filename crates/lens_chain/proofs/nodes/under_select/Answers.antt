@@ -7,7 +7,7 @@ use Rattle.lens_laws.specs.Work.{rows_down, rows_of, size}
 use Rattle.lens_probe.specs.Viewed.{FindsAtMost, IsWithin, asked_by}
 use Rattle.select_delta.specs.Selected.{AreSelected}
 use Rattle.lens_chain.specs.Edits.{IsEdit, over}
-use Rattle.lens_chain.proofs.Counted.{edges_few, within_size}
+use Rattle.lens_chain.proofs.EditLooks.{edges_few, within_size}
 use Rattle.lens_chain.proofs.Premises.{edges_asked, lefts_within, meets_tree, select_applies, select_carried, select_view, tree_is}
 use Rattle.lens_chain.proofs.nodes.under_select.Goals as goal
 

@@ -7,8 +7,8 @@ use Rattle.server_specs.specs.Changing as changing
 use Rattle.server_specs.specs.Changing.{asked_view}
 use Rattle.lens_server.specs.Counting.{edit_looks}
 use Rattle.lens_server.specs.Databases.{lens_of, state_of}
-use Rattle.lens_server.proofs.Batched.{edit_gives, edit_opens, edit_unknown}
-use Rattle.lens_server.proofs.Looked.{at_lens}
+use Rattle.lens_server.proofs.BatchSteps.{edit_gives, edit_opens, edit_unknown}
+use Rattle.lens_server.proofs.LooksByName.{at_lens}
 use Rattle.lens_server.proofs.NamedViews.{seen_put}
 use Rattle.std.proofs.Common.{refl}
 use Rattle.lens_server.proofs.batches.edit_deltas.Goals as goal

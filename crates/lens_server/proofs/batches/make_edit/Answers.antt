@@ -4,7 +4,7 @@ use Rattle.base_index.specs.Held.{AllApply, with_deltas}
 use Rattle.catalog_specs.specs.Catalogue.{catalogue}
 use Rattle.server_specs.specs.Validity.{AreStored}
 use Rattle.signed_delta.specs.Tables.{table_delta}
-use Rattle.lens_server.proofs.Batched.{holding_itself, still_holding}
+use Rattle.lens_server.proofs.BatchSteps.{holding_itself, still_holding}
 use Rattle.lens_server.proofs.batches.make_edit.Goals as goal
 
 pub stage-requires-clause-apply : goal.stage-requires-clause-apply

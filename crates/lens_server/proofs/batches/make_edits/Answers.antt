@@ -6,7 +6,7 @@ use Rattle.request_text.specs.Edits.{edit_view}
 use Rattle.server_specs.specs.Batching.{edits_from}
 use Rattle.lens_server.specs.Counting.{batch_looks}
 use Rattle.database.specs.States.{state_of}
-use Rattle.lens_server.proofs.Batched.{batch_stopped, edits_made, entries_more, holding_itself, holding_on, looks_made, looks_within, one_longer}
+use Rattle.lens_server.proofs.BatchSteps.{batch_stopped, edits_made, entries_more, holding_itself, holding_on, looks_made, looks_within, one_longer}
 use Rattle.lens_server.proofs.batches.make_edits.Goals as goal
 
 pub loop-edit-init : goal.loop-edit-init

@@ -1,4 +1,4 @@
-use Rattle.lens_server.proofs.Batched.{held_can, taken_back}
+use Rattle.lens_server.proofs.BatchSteps.{held_can, taken_back}
 use Rattle.lens_server.proofs.batches.plan_batch.Goals as goal
 
 pub make_edits-made-requires : goal.make_edits-made-requires

@@ -5,7 +5,7 @@ use Rattle.server_specs.specs.Request.{request}
 use Rattle.database.specs.Outcomes.{Outcome}
 use Rattle.database.specs.States.{state_of}
 use Rattle.database.proofs.Keyed.{same_state}
-use Rattle.database.proofs.Settled.{outcome_given_up, still_ready}
+use Rattle.database.proofs.SettledPlans.{outcome_given_up, still_ready}
 use Rattle.lens_server.proofs.dispatch.answer_line.Goals as goal
 
 pub settle-requires-clause-ready : goal.settle-requires-clause-ready

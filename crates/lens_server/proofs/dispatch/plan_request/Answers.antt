@@ -1,6 +1,6 @@
 use Rattle.std.proofs.Common.{◌∙◌, ◌≤◌, ◌+◌, Ok, arith, subst, sym}
 use Rattle.request_text.specs.Requests.{request_view}
-use Rattle.lens_server.proofs.Counted.{batch_texts, change_walks, definition_walks, undo_texts}
+use Rattle.lens_server.proofs.WalkedRows.{batch_texts, change_walks, definition_walks, undo_texts}
 use Rattle.lens_server.specs.Counting.{Walks, most_looked, most_walked, row_count}
 use Rattle.database.specs.States.{state_of}
 use Rattle.lens_server.proofs.dispatch.plan_request.Goals as goal

@@ -2,7 +2,7 @@ use Rattle.std.proofs.Common.{sym}
 use Rattle.std.specs.Prelude.{map}
 use Rattle.edit_batches.specs.Histories.{deltas_of}
 use Rattle.signed_delta.specs.Tables.{table_delta}
-use Rattle.database.proofs.Changed.{undo_planned}
+use Rattle.database.proofs.ChangePlans.{undo_planned}
 use Rattle.lens_server.proofs.undo.plan_undo.Goals as goal
 
 pub returns-in_ok-inverted-in-Some : goal.returns-in_ok-inverted-in-Some

@@ -6,7 +6,7 @@ use Rattle.request_text.specs.Answers.{answer_view}
 use Rattle.server_specs.specs.Changing.{tested}
 use Rattle.lens_server.specs.Counting.{differs_by}
 use Rattle.lens_server.specs.Databases.{IsPlan, lens_of, state_of}
-use Rattle.lens_server.proofs.Counted.{read_few}
+use Rattle.lens_server.proofs.WalkedRows.{read_few}
 use Rattle.lens_server.proofs.NamedViews.{import_read, import_refused, imported_is, seen_put, unchanged_plan}
 use Rattle.lens_server.proofs.views.plan_import.Goals as goal
 

@@ -12,7 +12,7 @@ use Rattle.lens_server.specs.Databases.{IsPlan, lens_of, state_of}
 use Rattle.lens_server.specs.ViewRequests.{IsToldBack, told_of, walks_of}
 use Rattle.lens_probe.specs.Viewed.{is_left_side}
 use Rattle.view_answers.specs.Sheets.{SheetReadsBack}
-use Rattle.lens_server.proofs.Counted.{change_walks, import_texts, read_few}
+use Rattle.lens_server.proofs.WalkedRows.{change_walks, import_texts, read_few}
 use Rattle.lens_server.proofs.NamedViews.{failed_walks, found_few, seen_answer, seen_put, sheet_seen, unchanged_plan, unchanged_walks}
 use Rattle.lens_server.proofs.views.plan_opened.Goals as goal
 

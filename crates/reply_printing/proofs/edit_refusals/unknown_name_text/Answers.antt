@@ -2,7 +2,7 @@ use Rattle.std.proofs.Common.{◌≡◌, IfOk, subst, sym}
 use Rattle.server_specs.specs.Answer.{text}
 use Rattle.server_specs.specs.EditRefusal as refusals
 use Rattle.reply_printing.specs.Printing.{json_line}
-use Rattle.reply_printing.proofs.Parts.{edit_refused}
+use Rattle.reply_printing.proofs.RefusalTokens.{edit_refused}
 use Rattle.reply_printing.proofs.edit_refusals.unknown_name_text.Goals as goal
 
 pub returns : goal.returns

@@ -6,8 +6,8 @@ use Rattle.serde_json.specs.Data.{put}
 use Rattle.plain_values.specs.Order.{bytes_cmp}
 use Rattle.plain_values.specs.SortedMap.{keys_rise}
 use Rattle.server_specs.specs.Answer.{pairs_data}
-use Rattle.reply_printing.proofs.Entries.{entry_turn}
-use Rattle.reply_printing.proofs.Members.{put_more}
+use Rattle.reply_printing.proofs.RowEntries.{entry_turn}
+use Rattle.reply_printing.proofs.RisingMembers.{put_more}
 use Rattle.reply_printing.proofs.json_values.members_json.Goals as goal
 
 pub loop-name-preserved : goal.loop-name-preserved

@@ -5,7 +5,7 @@ use Rattle.std.proofs.lemmas.List.{length_push}
 use Rattle.json.specs.Token.{begin_object, end_object}
 use Rattle.server_specs.specs.Answer.{row_data, value_data}
 use Rattle.reply_printing.specs.Printing.{data_tokens}
-use Rattle.reply_printing.proofs.Entries.{entries_whole, entry_turn}
+use Rattle.reply_printing.proofs.RowEntries.{entries_whole, entry_turn}
 use Rattle.json_text.proofs.Tokens.{follow}
 use Rattle.reply_printing.proofs.Tokens.{adds_same, pairs_more, pairs_none, pairs_tokens, pairs_whole}
 use Rattle.reply_printing.proofs.printing.print_object.Goals as goal

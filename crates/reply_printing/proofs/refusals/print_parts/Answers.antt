@@ -1,7 +1,7 @@
 use Rattle.std.proofs.Common.{ap, arith, sym}
 use Rattle.std.proofs.lemmas.List.{take_all}
 use Rattle.reply_printing.specs.Refusals.{parts_tokens}
-use Rattle.reply_printing.proofs.Parts.{adds_none, parts_more}
+use Rattle.reply_printing.proofs.RefusalTokens.{adds_none, parts_more}
 use Rattle.json_text.proofs.Tokens.{follow}
 use Rattle.reply_printing.proofs.Tokens.{adds_same}
 use Rattle.reply_printing.proofs.refusals.print_parts.Goals as goal

@@ -1,4 +1,4 @@
-use Rattle.reply_printing.proofs.Parts.{adds_none}
+use Rattle.reply_printing.proofs.RefusalTokens.{adds_none}
 use Rattle.reply_printing.proofs.refusals.print_place.Goals as goal
 
 pub returns-in-None : goal.returns-in-None

@@ -3,7 +3,7 @@ use Rattle.json.specs.Token.{begin_object}
 use Rattle.serde_json.specs.Data.{object}
 use Rattle.reply_printing.specs.Refusals.{parts_data}
 use Rattle.reply_printing.proofs.Lines.{object_line}
-use Rattle.reply_printing.proofs.Parts.{parts_whole}
+use Rattle.reply_printing.proofs.RefusalTokens.{parts_whole}
 use Rattle.reply_printing.proofs.refusals.refused_text.Goals as goal
 
 pub returns : goal.returns

@@ -10,8 +10,8 @@ use Rattle.signed_delta.proofs.Gives.{gives_by_edges}
 use Rattle.revision.specs.Near.{HasChanged}
 use Rattle.revision.specs.Touching.{all_touched}
 use Rattle.select_delta.specs.Selected.{edited_source}
-use Rattle.select_delta.proofs.Carried.{added_fit, apart, carried, carried_alone, is_difference}
-use Rattle.select_delta.proofs.Counted.{looks_are}
+use Rattle.select_delta.proofs.CarriedSelection.{added_fit, apart, carried, carried_alone, is_difference}
+use Rattle.select_delta.proofs.SelectionLooks.{looks_are}
 use Rattle.select_delta.proofs.editing.select_delta.Given.{Over}
 use Rattle.select_delta.proofs.editing.select_delta.Goals.{In_ok-add}
 use Rattle.select_delta.proofs.editing.select_delta.Goals as goal

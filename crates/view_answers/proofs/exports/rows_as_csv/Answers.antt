@@ -4,7 +4,7 @@ use Rattle.std.specs.List.{list_all}
 use Rattle.std.specs.FinMap as finmap
 use Rattle.plain_values.specs.Value.{is_nullable}
 use Rattle.lens_specs.specs.Common.{Columns, sort_of, Relation}
-use Rattle.view_answers.proofs.Columns.{all_plain, has_columns}
+use Rattle.view_answers.proofs.ViewColumns.{all_plain, has_columns}
 use Rattle.view_answers.proofs.exports.rows_as_csv.Goals as goal
 
 pub to_csv-requires-clause-some : goal.to_csv-requires-clause-some

@@ -5,8 +5,8 @@ use Rattle.lens_laws.specs.Work.{rows_of, work}
 use Rattle.lens_specs.specs.Lens.{sort_of}
 use Rattle.server_specs.specs.Changing.{of_sort}
 use Rattle.view_changes.specs.Puts.{IsPut}
-use Rattle.view_changes.proofs.Looks.{once_of_two, twice}
-use Rattle.view_changes.proofs.Tests.{passes, tested_put}
+use Rattle.view_changes.proofs.ChangeLooks.{once_of_two, twice}
+use Rattle.view_changes.proofs.ChangeTests.{passes, tested_put}
 use Rattle.view_changes.proofs.changes.carried.Goals as goal
 
 pub put_delta-requires : goal.put_delta-requires

@@ -11,9 +11,9 @@ use Rattle.server_specs.specs.Changing.{unless_clash, unless_off}
 use Rattle.server_specs.specs.EditRefusal as refusals
 use Rattle.lens_laws.proofs.Rules.{given_is}
 use Rattle.lens_laws.specs.Work.{size}
-use Rattle.lens_chain.proofs.Counted.{edges_few, within_size}
-use Rattle.view_changes.proofs.Looks.{check_within}
-use Rattle.view_changes.proofs.Clashes.{IsFoundClash, clash_asked, found_clash}
+use Rattle.lens_chain.proofs.EditLooks.{edges_few, within_size}
+use Rattle.view_changes.proofs.ChangeLooks.{check_within}
+use Rattle.view_changes.proofs.FoundClashes.{IsFoundClash, clash_asked, found_clash}
 use Rattle.view_changes.proofs.changes.checked.Goals as goal
 
 pub check_edit-requires-clause-sort : goal.check_edit-requires-clause-sort

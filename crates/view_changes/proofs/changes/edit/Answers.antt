@@ -1,6 +1,6 @@
 use Rattle.std.proofs.Common.{◌≡◌, ◌∙◌, ◌+◌, ◌*◌, ◌≤◌, Ok, Err, ap, arith, subst, sym}
 use Rattle.std.proofs.lemmas.Result.{err_from_is_err_and}
-use Rattle.lens_chain.proofs.Counted.{within_size}
+use Rattle.lens_chain.proofs.EditLooks.{within_size}
 use Rattle.lens_laws.specs.Finds.{AllFit}
 use Rattle.lens_laws.specs.Work.{count_of, size, work}
 use Rattle.lens_probe.specs.Viewed.{FindsAtMost, IsViewed, Viewed}
@@ -10,8 +10,8 @@ use Rattle.server_specs.specs.Answer.{in_add, in_remove}
 use Rattle.server_specs.specs.Changing.{asked_view, edit_of, edited, of_sort, sent_view, tested}
 use Rattle.view_changes.specs.Puts.{IsPut}
 use Rattle.view_changes.specs.Sizes.{sent_by}
-use Rattle.view_changes.proofs.Looks.{near_alone, near_first, sent_is}
-use Rattle.view_changes.proofs.Tests.{fresh_put, stale_put}
+use Rattle.view_changes.proofs.ChangeLooks.{near_alone, near_first, sent_is}
+use Rattle.view_changes.proofs.ChangeTests.{fresh_put, stale_put}
 use Rattle.view_changes.proofs.changes.edit.Goals as goal
 
 pub near-requires-clause-removed : goal.near-requires-clause-removed

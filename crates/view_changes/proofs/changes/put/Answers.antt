@@ -3,7 +3,7 @@ use Rattle.lens_laws.specs.Work.{work}
 use Rattle.opened_view.specs.Seen.{seen, tables_under}
 use Rattle.server_specs.specs.Changing.{tested}
 use Rattle.view_changes.specs.Puts.{IsPut}
-use Rattle.view_changes.proofs.Looks.{changed_is}
+use Rattle.view_changes.proofs.ChangeLooks.{changed_is}
 use Rattle.view_changes.proofs.changes.put.Goals as goal
 
 pub put_rows-requires : goal.put_rows-requires

@@ -6,7 +6,7 @@ use Rattle.opened_view.specs.Seen.{seen, tables_under}
 use Rattle.server_specs.specs.Changing.{tested}
 use Rattle.std.specs.Prelude.{Ok}
 use Rattle.view_changes.specs.Puts.{IsPut}
-use Rattle.view_changes.proofs.Tests.{diff_edits, fresh_put, stale_put}
+use Rattle.view_changes.proofs.ChangeTests.{diff_edits, fresh_put, stale_put}
 use Rattle.view_changes.proofs.changes.put_rows.Goals as goal
 
 pub carried-requires : goal.carried-requires

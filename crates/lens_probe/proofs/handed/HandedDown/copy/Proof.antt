@@ -25,7 +25,7 @@ use denote.Triple.Entry.{alive}
 use denote.Triple.Spec.{Meets, triple_of}
 use denote.Triple.Table.{entered}
 use denote.Triple.Walked.{says, Stays, stay_dropped, walk_of, ends_at, walk_Meets, Goes-dropped}
-use Rattle.lens_probe.proofs.Walks.{none, none_made}
+use Rattle.lens_probe.proofs.HandedSteps.{none, none_made}
 use Rattle.lens_probe.specs.contracts.handed.HandedDown as Handed
 use Rattle.lens_probe.specs.contracts.handed.HandedDown.copy as F
 use Rattle.lens_probe.specs.contracts.handed.HandedDown.copy.Key.{name as #self}

@@ -23,7 +23,7 @@ use denote.Triple.Entry.{alive}
 use denote.Triple.Spec.{Meets, triple_of}
 use denote.Triple.Table.{entered}
 use denote.Triple.Walked.{says, Stays, walk_of, ends_at, walk_Meets}
-use Rattle.lens_probe.proofs.Walks.{none, none_made}
+use Rattle.lens_probe.proofs.HandedSteps.{none, none_made}
 use Rattle.lens_probe.specs.contracts.handed.HandedDown as Handed
 use Rattle.lens_probe.specs.contracts.handed.HandedDown.none as F
 use Rattle.lens_probe.specs.contracts.handed.HandedDown.none.Key.{name as #self}

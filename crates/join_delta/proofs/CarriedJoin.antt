@@ -20,7 +20,7 @@ use Rattle.fd_laws.proofs.TreeForms.{append_parts}
 use Rattle.signed_delta.specs.Disjoint.{AreApart}
 use Rattle.signed_delta.proofs.Differences.{sides_apart}
 use Rattle.revision.proofs.Runs.{revised_fit}
-use Rattle.join_delta.proofs.Keyed.{decided_keyed}
+use Rattle.join_delta.proofs.OnePartner.{decided_keyed}
 use Rattle.join_delta.proofs.NoRows.{minus_none}
 use Rattle.join_delta.specs.Joined.{AreJoined, AreKeyed, CanBeJoined, CanEdit, edited, joined, shared_names}
 

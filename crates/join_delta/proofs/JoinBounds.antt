@@ -1,7 +1,7 @@
 -- How many looks an edit of a join takes, where a and b bound one question on the left and on the right.
 use Rattle.std.proofs.Common.{◌≡◌, ℕ, ◌+◌, ◌*◌, ◌≤◌, arith}
 use Rattle.std.proofs.lemmas.Nat.{mul-le}
-use Rattle.join_delta.proofs.Counted.{one_a}
+use Rattle.join_delta.proofs.JoinLooks.{one_a}
 
 -- those of the merge, and a question on the left for each pair
 pub after_asking : (a b : ℕ) → 1 ≤ a → 1 ≤ b → (d p old l1 l2 : ℕ) → l1 ≤ old + 582 * (d * (a * b) * (a * b)) → p ≤ 129 * (d * (a * b)) → l2 ≤ l1 + a * p → l2 ≤ old + 711 * (d * (a * b) * (a * b))

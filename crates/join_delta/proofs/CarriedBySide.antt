@@ -19,7 +19,7 @@ use Rattle.plain_values.proofs.Lists.{absurd_false}
 use Rattle.fd_laws.proofs.Relations.{from_minus, from_project, from_those, in_minus, in_project, in_those, same_rel}
 use Rattle.join_delta.specs.Joined.{edited, shared_names}
 use Rattle.join_delta.specs.Deleted.{left_deleted, right_deleted}
-use Rattle.join_delta.proofs.Carried.{IsJoinEdit, left_is, merged_left, merged_right, of_left, of_right, of_view, over_left, over_right, passes, right_is}
+use Rattle.join_delta.proofs.CarriedJoin.{IsJoinEdit, left_is, merged_left, merged_right, of_left, of_right, of_view, over_left, over_right, passes, right_is}
 
 -- ---- what is joined too much, by whether the view has the right part
 module _ (U V : Names) (F G : List Edge) (O M N : Rows) where
