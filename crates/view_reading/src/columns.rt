@@ -15,11 +15,7 @@ pub fn names_of(lens: &TypedLens) -> &Names
 }
 
 /// The names of the columns that both lenses show.
-pub fn shared_names(
-    alloc: Global,
-    left: &TypedLens,
-    right: &TypedLens,
-) -> Result<Names, NoMemory>
+pub fn shared_names(alloc: Global, left: &TypedLens, right: &TypedLens) -> Result<Names, NoMemory>
     ensures { IfOk result (λ shared.
         shared ≡ set.intersection (view_names left.now) (view_names right.now)) }
 {
