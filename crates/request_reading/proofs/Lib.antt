@@ -1,7 +1,7 @@
-pub mod BatchEdits
+pub mod Batched
 pub mod Beside
-pub mod ColumnMembers
-pub mod MemberFaults
+pub mod Columns
+pub mod Faults
 pub mod Objects
 pub mod Others
 pub mod Rising

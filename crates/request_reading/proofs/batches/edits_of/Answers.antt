@@ -5,7 +5,7 @@ use Rattle.std.specs.Vec.Iter.{into_iter_items}
 use Rattle.borrowed_json.specs.Meaning.{items_data}
 use Rattle.server_specs.specs.Request.{each_edit}
 use Rattle.request_reading.specs.Edits.{edit_view}
-use Rattle.request_reading.proofs.BatchEdits.{edits_none, edits_push}
+use Rattle.request_reading.proofs.Batched.{edits_none, edits_push}
 use Rattle.request_reading.proofs.batches.edits_of.Goals as goal
 
 pub loop-json-preserved : goal.loop-json-preserved

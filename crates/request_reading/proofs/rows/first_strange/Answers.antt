@@ -2,7 +2,7 @@ use Rattle.std.proofs.Common.{◌≡◌, ◌∙◌, ap, sym, cond, option_map, t
 use Rattle.server_specs.specs.Request.{first_other, least_of}
 use Rattle.server_specs.specs.Sending.{is_column_of}
 use Rattle.borrowed_json.specs.Meaning.{members_data}
-use Rattle.request_reading.proofs.ColumnMembers.{column_told}
+use Rattle.request_reading.proofs.Columns.{column_told}
 use Rattle.request_reading.proofs.Others.{other_more}
 use Rattle.request_reading.proofs.rows.first_strange.Goals as goal
 use Rattle.request_reading.proofs.rows.first_strange.Goals.{then-not-is_column, else-not-is_column}

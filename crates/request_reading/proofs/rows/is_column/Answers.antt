@@ -2,7 +2,7 @@ use Rattle.std.proofs.Common.{◌∙◌, rules}
 use Rattle.std.proofs.lemmas.Iterator.{YieldsList-from_slice}
 use Rattle.std.proofs.lemmas.Iterator.Search.{any_from_yields_List}
 use Rattle.server_specs.specs.Request.{is_key}
-use Rattle.request_reading.proofs.ColumnMembers.{keys_any}
+use Rattle.request_reading.proofs.Columns.{keys_any}
 use Rattle.request_reading.proofs.rows.is_column.Goals as goal
 use borrow.Author.Tests.{tests}
 

@@ -2,7 +2,7 @@ use Rattle.std.proofs.Common.{◌≡◌, ◌++◌, ◌∙◌, ◌∷◌, [], Ok,
 use Rattle.std.specs.Vec.Iter.{into_iter_items}
 use Rattle.borrowed_json.specs.Meaning.{value_data, items_data}
 use Rattle.server_specs.specs.Sending as spec
-use Rattle.request_reading.proofs.MemberFaults.{told_at}
+use Rattle.request_reading.proofs.Faults.{told_at}
 use Rattle.request_reading.proofs.Sending.{rows_push, rows_bad}
 use Rattle.request_reading.proofs.rows.rows_in.Goals as goal
 

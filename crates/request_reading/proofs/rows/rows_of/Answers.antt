@@ -1,6 +1,6 @@
 use Rattle.std.proofs.Common.{◌∙◌, ap}
 use Rattle.plain_values.specs.SortedSet as set
-use Rattle.request_reading.proofs.ColumnMembers.{columns_named}
+use Rattle.request_reading.proofs.Columns.{columns_named}
 use Rattle.request_reading.proofs.rows.rows_of.Goals as goal
 
 pub rows_in-requires : goal.rows_in-requires

@@ -1,5 +1,5 @@
 use Rattle.std.proofs.Common.{◌∙◌, length, ap, sym}
-use Rattle.request_reading.proofs.ColumnMembers.{none_beside}
+use Rattle.request_reading.proofs.Columns.{none_beside}
 use Rattle.request_reading.proofs.rows.strange_beside.Goals as goal
 
 pub returns-then-members-pairs : goal.returns-then-members-pairs
