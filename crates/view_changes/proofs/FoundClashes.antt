@@ -18,7 +18,7 @@ behind (k ∷ ks) e after d = let w = behind ks e after d in (omega (arith, w.0)
 -- the clash that was found is the definition's, and its edge is at its place
 pub record IsFoundClash (T : List Edge) (M : Rows) (found : Clash) : Type 0 where
   pub clash : spec.Clash
-  pub is : Rattle.lens_specs.specs.Sort.violating_pair T M ≡ Some violating_pair
+  pub is : Rattle.lens_specs.specs.Sort.violating_pair T M ≡ Some clash
   pub below : found.edge < length T
   pub edge : (d : Edge) → clash.edge ≡ slice_index_or T found.edge d
   pub first : found.first ≡ clash.first
