@@ -21,8 +21,8 @@ returns g c =
     let s = c.args.sort.now in
     let M = c.relation-made.result in
     let columns : M.columns ≡ s.columns = c.relation-made.ensures ∙ c.cols.ensures.value in
-    let taken : spec.off s.predicate M.rows ≡ None =
-    (λ i. spec.off (sym c.pred.ensures.value i) (sym c.rows.ensures.rows i)) ∙ sym c.refused.ensures ∙ no_row c.refused.result (sym c.is_some.ensures ∙ c.if-is_some.false) in
+    let taken : spec.violating_row s.predicate M.rows ≡ None =
+    (λ i. spec.violating_row (sym c.pred.ensures.value i) (sym c.rows.ensures.rows i)) ∙ sym c.refused.ensures ∙ no_row c.refused.result (sym c.is_some.ensures ∙ c.if-is_some.false) in
     let found : c.expect-clash.result ≡ shown_clash (spec.violating_pair c.tree.result.now M.rows) =
     IfOk-at_ok (λ clash. clash ≡ shown_clash (spec.violating_pair c.tree.result.now M.rows)) c.expect-clash.ensures c.meets.ensures in
     let shown = ap (λ T. shown_clash (spec.violating_pair T M.rows)) (sym c.tree.ensures.value) ∙ sym found in
