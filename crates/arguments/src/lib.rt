@@ -7,4 +7,4 @@ pub mod reading;
 pub mod settings;
 
 pub use reading::read_settings;
-pub use settings::{Settings, WordsFault};
+pub use settings::{ArgumentsFault, Settings};

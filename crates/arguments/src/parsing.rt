@@ -1,15 +1,15 @@
-//! The options as they are written.
+//! The options as the command line writes them: `ranges` judges their texts.
 ghost use Rattle.std.specs.Prelude.{◌≡◌, ◌↔◌, Some, None, Err, IfOk, map, string_bytes};
 ghost use Rattle.clap.specs.declared.error.kind.ErrorKind.TheVariants.{OutOfMemory};
 ghost use Rattle.arguments.specs.Options.{entries};
 ghost use Rattle.arguments.specs.Views.{options_view};
 
-use crate::settings::WordsFault;
+use crate::settings::ArgumentsFault;
 use clap::error::ErrorKind;
 use clap::{Arg, Command};
 use std::alloc::Global;
 
-/// The values of the options, as they are written.
+/// The text of each option that the command line gives.
 #[derive(Drop)]
 pub struct Options<'a> {
     pub store: Option<&'a str>,
@@ -18,23 +18,23 @@ pub struct Options<'a> {
 }
 
 /// Parses the words. `Refused`: the command does not take them; `NoMemory`.
-pub fn parse<'a>(alloc: Global, words: &'a [String]) -> Result<Options<'a>, WordsFault>
+pub fn parse<'a>(alloc: Global, words: &'a [String]) -> Result<Options<'a>, ArgumentsFault>
     ensures ok { IfOk result (λ options.
         entries (map string_bytes words.now) ≡ Some (options_view options)) }
-    ensures refused { result ≡ Err WordsFault.Refused
+    ensures refused { result ≡ Err ArgumentsFault.Refused
         → entries (map string_bytes words.now) ≡ None }
 {
     let store = Arg::new(alloc, "store").long("store");
     let max_input = Arg::new(alloc, "max-input").long("max-input");
     let rehearse = Arg::new(alloc, "rehearse").long("rehearse");
     let Ok(command) = Command::new(alloc, "view_program").arg(store) else {
-        return Err(WordsFault::NoMemory);
+        return Err(ArgumentsFault::NoMemory);
     };
     let Ok(command) = command.arg(max_input) else {
-        return Err(WordsFault::NoMemory);
+        return Err(ArgumentsFault::NoMemory);
     };
     let Ok(command) = command.arg(rehearse) else {
-        return Err(WordsFault::NoMemory);
+        return Err(ArgumentsFault::NoMemory);
     };
     match command.try_get_matches_from(words) {
         Ok(matches) => Ok(Options {
@@ -46,11 +46,11 @@ pub fn parse<'a>(alloc: Global, words: &'a [String]) -> Result<Options<'a>, Word
     }
 }
 
-fn fault_of(kind: ErrorKind) -> WordsFault
-    ensures { (result ≡ WordsFault.NoMemory) ↔ (kind ≡ OutOfMemory) }
+fn fault_of(kind: ErrorKind) -> ArgumentsFault
+    ensures { (result ≡ ArgumentsFault.NoMemory) ↔ (kind ≡ OutOfMemory) }
 {
     match kind {
-        ErrorKind::OutOfMemory => WordsFault::NoMemory,
-        _ => WordsFault::Refused,
+        ErrorKind::OutOfMemory => ArgumentsFault::NoMemory,
+        _ => ArgumentsFault::Refused,
     }
 }

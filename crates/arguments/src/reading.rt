@@ -5,7 +5,7 @@ ghost use Rattle.arguments.specs.Views.{options_view, settings_view};
 
 use crate::parsing::{Options, parse};
 use crate::ranges::{max_input_in, place_in, rehearsal_in};
-use crate::settings::{Settings, WordsFault};
+use crate::settings::{ArgumentsFault, Settings};
 use std::alloc::Global;
 
 /// Reads the settings from the words of the command line, the program's name first: `--store PATH`,
@@ -13,10 +13,10 @@ use std::alloc::Global;
 /// value of one, or a value is out of its range, or a place is given beside a rehearsal.
 /// `NoMemory`: memory ran out.
 #[tactic(auto, unfolding(crate::specs::Settings::settings))]
-pub fn read_settings<'a>(alloc: Global, words: &'a [String]) -> Result<Settings<'a>, WordsFault>
+pub fn read_settings<'a>(alloc: Global, words: &'a [String]) -> Result<Settings<'a>, ArgumentsFault>
     ensures ok { IfOk result (λ s.
         settings (map string_bytes words.now) ≡ Some (settings_view s)) }
-    ensures refused { result ≡ Err WordsFault.Refused
+    ensures refused { result ≡ Err ArgumentsFault.Refused
         → settings (map string_bytes words.now) ≡ None }
 {
     let options = parse(alloc, words)?;
@@ -24,17 +24,17 @@ pub fn read_settings<'a>(alloc: Global, words: &'a [String]) -> Result<Settings<
 }
 
 // The settings that the options say.
-fn settings_in<'a>(options: Options<'a>) -> Result<Settings<'a>, WordsFault>
+fn settings_in<'a>(options: Options<'a>) -> Result<Settings<'a>, ArgumentsFault>
     ensures ok { IfOk result (λ s.
         settings_of (options_view options.entry) ≡ Some (settings_view s)) }
     ensures refused { OnErr result (settings_of (options_view options.entry) ≡ None) }
-    ensures fault { OnErr result (result ≡ Err WordsFault.Refused) }
+    ensures fault { OnErr result (result ≡ Err ArgumentsFault.Refused) }
 {
     let store = place_in(options.store)?;
     let max_input = max_input_in(options.max_input)?;
     let rehearse = rehearsal_in(options.rehearse)?;
     if store.is_some() && rehearse.is_some() {
-        return Err(WordsFault::Refused);
+        return Err(ArgumentsFault::Refused);
     }
     Ok(Settings {
         store,

@@ -16,10 +16,10 @@ pub struct Settings<'a> {
     ghost rehearsal_most: { ForSome rehearse (λ n. n ≤ 100000) },
 }
 
-/// Why words give no settings.
+/// Why arguments give no settings.
 #[derive(Clone, Copy, Debug, PartialEq, Eq)]
-pub enum WordsFault {
-    /// The words are refused.
+pub enum ArgumentsFault {
+    /// The arguments are rejected.
     Refused,
     /// Memory ran out.
     NoMemory,

@@ -69,7 +69,7 @@ impl Body {
         requires { IsWhole (parts_of self.now) }
         ensures { result ≡ has (rows_seen (parts_of self.now)) row.now }
     {
-        self.is_there(row) && self.is_shown(row)
+        self.is_there(row) && self.is_not_gone(row)
     }
 
     // Whether the row is there, and not only to be added.
@@ -80,8 +80,8 @@ impl Body {
         self.rows.has(row) && !is_listed(&self.add[self.added..], row)
     }
 
-    /// Whether the row is not one that is hidden and gone already.
-    pub fn is_shown(&self, row: &Row) -> bool
+    /// Whether the row is not gone. A hidden row is gone, unless the staged change is to remove it.
+    pub fn is_not_gone(&self, row: &Row) -> bool
         requires { IsWhole (parts_of self.now) }
         ensures { result ≡ not (has (set.difference self.now.hidden (to_go (parts_of self.now))) row.now) }
     {
@@ -119,7 +119,8 @@ impl Body {
         old.minus(alloc, &gone)
     }
 
-    // Those of the rows that are not hidden and gone already.
+    // Those of the rows that are not gone. A hidden row is gone, unless the staged change is to
+    // remove it.
     fn shown_of(&self, alloc: Global, rows: &RowSet) -> Result<RowSet, NoMemory>
         requires { IsWhole (parts_of self.now) }
         ensures { IfOk result (λ shown. shown
@@ -127,7 +128,7 @@ impl Body {
     {
         let mut some = Vec::new(alloc);
         for row in rows.rows() {
-            if self.is_shown(row) {
+            if self.is_not_gone(row) {
                 some.push(row.copy(alloc)?)?;
             }
         }

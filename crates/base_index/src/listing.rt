@@ -1,5 +1,5 @@
 //! Rows of a table that are listed to be removed or added, before they are settled.
-ghost use Rattle.std.specs.Prelude.{◌≡◌, ◌≤◌, OnOk, OnErr, true, false, length, take, drop};
+ghost use Rattle.std.specs.Prelude.{◌≡◌, ◌≤◌, ◌++◌, OnOk, OnErr, true, false, length, take, drop};
 ghost use Rattle.std.specs.Prelude.{if◌then◌else◌};
 ghost use Rattle.std.specs.List.Sorted.{IsStrictlySortedBy};
 ghost use Rattle.plain_values.specs.Row.{row_cmp};
@@ -77,7 +77,7 @@ impl Body {
         Ok(())
     }
 
-    // The same, where there is room.
+    // What `list` does, after `reserve` has made room for the rows.
     fn list_rows(&mut self, alloc: Global, delta: &Delta) -> Result<(), NoMemory>
         requires whole { IsWhole (parts_of self.old) }
         requires quiet { rows_next (parts_of self.old) ≡ rows_seen (parts_of self.old) }
@@ -108,10 +108,10 @@ impl Body {
             ≡ set.union (rows_next (parts_of self.old)) rows.now) }
         ensures kept { Keeps (parts_of self.old) (parts_of self.new) }
     {
-        let mut list = all_with_keys(alloc, &self.indexes, rows.rows())?;
+        let list = all_with_keys(alloc, &self.indexes, rows.rows())?;
         let indexes = indexes_of(alloc, &self.indexes, &list)?;
         let tree = RowTree::of(alloc, rows.copy(alloc)?)?;
-        self.add.append(&mut list)?;
+        put_behind(&mut self.add, list)?;
         self.rows = tree;
         self.indexes = indexes;
         Ok(())
@@ -187,6 +187,18 @@ impl Body {
         }
         add_row(alloc, &mut self.rows, &mut self.indexes, &mut self.add, row)
     }
+}
+
+// Puts the rows behind those of a list, which takes the rows' own memory if it is empty.
+fn put_behind(list: &mut Vec<Keyed>, mut rows: Vec<Keyed>) -> Result<(), NoMemory>
+    ensures items { OnOk result (list.new.items ≡ list.old.items ++ rows.items) }
+    ensures stay { OnErr result (list.new.items ≡ list.old.items) }
+{
+    if list.is_empty() {
+        *list = rows;
+        return Ok(());
+    }
+    Ok(list.append(&mut rows)?)
 }
 
 // Hides the row and marks its keys, if rows are to be hidden. After `NoMemory` it is not hidden.

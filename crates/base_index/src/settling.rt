@@ -1,4 +1,4 @@
-//! What is staged in a table is settled, and what is held is kept or taken back.
+//! Settles what is staged in a table, and keeps or takes back what changed since `hold`.
 ghost use Rattle.std.specs.Prelude.{◌≡◌, Some, true, false, []};
 ghost use Rattle.std.specs.Prelude.{if◌then◌else◌};
 ghost use Rattle.plain_values.specs.SortedSet as set;

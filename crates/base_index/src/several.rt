@@ -1,4 +1,4 @@
-//! Several tables, one after another.
+//! A list of tables: how one is found by its name, and what is done to each of them in turn.
 ghost use Rattle.std.specs.Prelude.{◌≡◌, ◌+◌, ◌≤◌, length, map, sum_by, take, option_copied};
 ghost use Rattle.std.specs.Prelude.{OnOk, OnErr, true, false};
 ghost use Rattle.base_index.specs.Several.{AreHeld, AreQuiet, CanStage, CanStageAll, first};

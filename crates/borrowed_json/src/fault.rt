@@ -1,4 +1,4 @@
-//! Why a text is not read.
+//! Why a text cannot be read.
 ghost use Rattle.std.specs.Prelude.{◌≡◌};
 ghost use Rattle.borrowed_json.specs.declared.fault.Fault.TheVariants as fault;
 
@@ -6,7 +6,7 @@ use json::Invalid;
 use no_memory::NoMemory;
 use std::alloc::{AllocError, AllocFailed};
 
-/// Why a text is not read.
+/// Why a text cannot be read.
 #[derive(Debug, Drop)]
 pub(crate) enum Fault {
     /// It is no JSON of the wanted form.

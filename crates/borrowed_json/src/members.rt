@@ -7,7 +7,7 @@ ghost use Rattle.borrowed_json.specs.Places.{IsLast};
 
 use crate::value::{Entry, Value};
 
-/// The member of this name: the last, where several have it.
+/// The last member of this name.
 pub fn member<'v, 'a>(members: &'v [Entry<'a>], name: &str) -> Option<&'v Value<'a>>
     ensures { option_map (λ value. value_data value.now) result
         ≡ get_member name.now (members_data members.now) }
@@ -16,7 +16,7 @@ pub fn member<'v, 'a>(members: &'v [Entry<'a>], name: &str) -> Option<&'v Value<
     Some(&members[place].1)
 }
 
-/// The member of this name, moved out of its object: the last, where several have it.
+/// The last member of this name, moved out of its object.
 pub fn take_member<'a>(members: &mut Vec<Entry<'a>>, name: &str) -> Option<Value<'a>>
     ensures taken { option_map value_data result
         ≡ get_member name.now (members_data members.old.items) }

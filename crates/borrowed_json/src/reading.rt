@@ -34,6 +34,7 @@ pub fn read_line<'a>(
     }
 }
 
+// Reads a text that is one value. It is no JSON if something stands behind the value.
 fn read_text<'a>(
     alloc: Global,
     text: &'a str,
@@ -50,7 +51,7 @@ fn read_text<'a>(
     }
 }
 
-// The next value. Arrays and objects may nest so deep in it.
+// Reads the next value. Arrays and objects may nest `depth` deep in it.
 #[cycle(reading)]
 #[inline(always)]
 fn read_value<'a>(alloc: Global, reader: &mut Reader<'a>, depth: usize) -> Result<Value<'a>, Fault>
@@ -107,7 +108,7 @@ fn read_items<'a>(
     Ok(fitted(alloc, list)?)
 }
 
-// The members of an object, behind its brace.
+// Reads the members of an object, whose opening brace is read already.
 #[cycle(reading)]
 #[inline(never)]
 fn read_members<'a>(

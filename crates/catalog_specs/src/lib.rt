@@ -1,3 +1,3 @@
-//! The catalogue of definitions: the lens that each name has, and which definition is taken, as
-//! definitions in `specs/`.
+//! The catalogue of definitions: the lens that each name has, and which definition the catalogue
+//! accepts, as definitions in `specs/`.
 #![tactic(auto)]

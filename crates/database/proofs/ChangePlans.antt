@@ -21,7 +21,7 @@ use Rattle.signed_delta.specs.Tables.{table_delta}
 use Rattle.signed_delta.specs.declared.delta.TableDelta.{TableDelta as DeltaOf}
 use Rattle.table_keeper.specs.Changes.{change_view}
 use Rattle.table_keeper.specs.declared.keeper.Change.TheVariants.{Rows as RowsChange}
-use Rattle.database.specs.Plans.{CanAccept, CanStage, CanTake, IsChange, IsPlan, IsStaged, Leads, after, change_of, changed_tables, definition_of, past_after, texts_with}
+use Rattle.database.specs.Plans.{CanAccept, CanStage, CanTake, IsChange, IsPlan, IsStaged, Leads, after, change_of, changed_tables, definition_of, last_after, past_after, texts_with}
 use Rattle.database.specs.States.{state_of}
 use Rattle.database.specs.declared.plan.PastStep.{PastStep}
 use Rattle.database.specs.declared.plan.PastStep.TheVariants.{Gains, Loses}
@@ -44,7 +44,8 @@ led_planned database plan step ds next p leads valid texts version last past =
       texts = (texts ∙ ap (λ ch. texts_with (definition_of ch) s.texts) (sym p.change)) i;
       tables = (sym leads.1 ∙ ap (λ l. with_deltas l s.tables) (sym p.are) ∙ ap (λ ch. changed_tables ch s.tables) (sym p.change)) i;
       version = version i;
-      last = (last ∙ sym p.last) i;
+      last = (last ∙ ap (λ l. with_last (s.version + 1) l s.last) (sym p.are) ∙ ap (λ ch. last_after None (change_of ch) (s.version + 1) s.last) (sym p.change)
+          ∙ ap (λ o. last_after o (change_of staged.change) (s.version + 1) s.last) (sym p.last)) i;
       past = (past p.kept p.are ∙ ap (λ ch. past_after step (change_of ch) s.past) (sym p.change) ∙ ap (λ q. past_after q (change_of staged.change) s.past) (sym p.past)) i;
     }) in
     let change : rows ds ≡ change_view (change_of staged.change) = ap rows (sym p.are) ∙ ap (λ ch. change_view (change_of ch)) (sym p.change) in

@@ -1,5 +1,5 @@
 -- Databases whose lenses have their indexes after a change.
-use Rattle.std.proofs.Common.{◌≡◌, ◌∙◌, ◌++◌, ◌+◌, ◌<◌, ℕ, true, false, List, [], ◌∷◌, length, Option, Some, None, ap, sym, subst, refl}
+use Rattle.std.proofs.Common.{◌≡◌, ◌∙◌, ◌++◌, ◌+◌, ◌<◌, ℕ, true, false, List, [], ◌∷◌, length, map, Option, Some, None, ap, is_some, sym, subst, refl}
 use Rattle.std.specs.Prelude.{◌^◌}
 use Rattle.std.specs.FinMap as finmap
 use Rattle.std.specs.List.{Contains}
@@ -7,12 +7,16 @@ use Rattle.std.specs.Ordering.{eq_by_cmp}
 use Rattle.plain_values.specs.Order.{bytes_cmp}
 use Rattle.fd_laws.proofs.Names.{tied_name}
 use Rattle.lens_laws.specs.Asked.{asked}
-use Rattle.lens_specs.specs.Common.{Lens, Tables, Name, Names}
+use Rattle.lens_laws.proofs.Moves.{AllThere as TablesThere, all_there}
+use Rattle.lens_specs.specs.Common.{Lens, Tables, TableDelta, Name, Names}
 use Rattle.catalog_specs.specs.Catalogue.{catalogue}
 use Rattle.server_laws.proofs.Stored.{AreStored}
 use Rattle.server_laws.proofs.Taken.{get-new, get-other}
 use Rattle.server_laws.specs.StateLaws.{AreShort}
+use Rattle.server_specs.specs.State.{State}
 use Rattle.server_specs.specs.Validity.{Valid}
+use Rattle.signed_delta.specs.Tables.{table_delta}
+use Rattle.opened_view.specs.Moving.{AreThere}
 use Rattle.base_index.proofs.Known.{still_indexed}
 use Rattle.base_index.specs.Held as held
 use Rattle.base_index.specs.Held.{Held, IsNew, IsQuiet, IsThere, is_indexed}
@@ -23,7 +27,7 @@ use Rattle.view_catalog.specs.declared.prepared.Prepared.{Prepared}
 use Rattle.database.proofs.Grown.{AllIndexed, asked_there, now_indexed}
 use Rattle.database.specs.Defining.{tables_with}
 use Rattle.database.specs.Keyed.{IsKeyed}
-use Rattle.database.specs.Plans.{CanStage, CanTake, IsFree, IsStaged, after, change_of, changed_tables, definition_of, past_after, texts_with}
+use Rattle.database.specs.Plans.{CanMove, CanStage, CanTake, IsFree, IsStaged, after, change_of, changed_tables, definition_of, last_after, past_after, texts_with}
 use Rattle.database.specs.Staging.{defined_by, needs_of, next_state, table_of}
 use Rattle.database.specs.States.{state_of}
 use Rattle.database.specs.declared.plan.Staged.{Staged}
@@ -105,12 +109,23 @@ keyed_after staged old new v keyed h texts quiet held present =
 
 -- the state after it
 pub state_after : (staged : Staged) (old new : Database) → new.catalog.texts ≡ texts_with (definition_of staged.change) old.catalog.texts
-    → new.tables.present ≡ next_state staged.change old.tables.present → new.version ≡ old.version + 1 → new.last ≡ staged.last
+    → new.tables.present ≡ next_state staged.change old.tables.present → new.version ≡ old.version + 1 → new.last ≡ last_after staged.last (change_of staged.change) (old.version + 1) old.last
     → new.past ≡ past_after staged.past (change_of staged.change) old.past → state_of new ≡ after staged (state_of old)
 state_after staged old new texts present version last past =
     let tables : new.tables.present.relations ≡ changed_tables staged.change old.tables.present.relations =
     ap (λ st. st.relations) present ∙ next_relations staged.change old.tables.present in
     (λ i. record { texts = texts i; tables = tables i; version = version i; last = last i; past = past i })
+
+-- ---- the last changes
+
+named : (last : finmap.FinMap bytes_cmp ℕ) (db : Tables) (ds : List TableDelta) → ((q : Name) → is_some (finmap.get last q) ≡ is_some (finmap.get db q)) → TablesThere ds db → AreThere last ds
+named last db [] h there = tt
+named last db (d ∷ ds) h there = (h d.table ∙ there.0, named last db ds h there.1)
+
+-- each of the tables that a staged change changes has a last change
+pub last_there : (change : StagedChange) (s : State) → Valid s → CanStage change s.tables → CanMove (change_of change) s.last
+last_there (Define text table p) s v can = tt
+last_there (RowsChange deltas) s v can = named s.last s.tables (map table_delta deltas.items) v.last (all_there (map table_delta deltas.items) s.tables can)
 
 -- ---- a change that is dropped
 

@@ -3,6 +3,7 @@ use Rattle.std.specs.Prelude.{◌≡◌, ◌<◌, ◌+◌, ◌-◌, ◌^◌, ℕ
 use Rattle.std.specs.declared.alloc.Global.{Global}
 use Rattle.std.specs.FinMap as finmap
 use Rattle.lens_specs.specs.Common.{TableDelta, Tables, Name, AreDeltas, LeadTo}
+use Rattle.plain_values.specs.Order.{bytes_cmp}
 use Rattle.base_index.specs.Held.{AllApply, with_deltas}
 use Rattle.catalog_specs.specs.Catalogue.{catalogue}
 use Rattle.reply_printing.specs.Answers.{answer_view}
@@ -12,6 +13,7 @@ use Rattle.server_specs.specs.State.{State, remember}
 use Rattle.server_specs.specs.Validity.{AreStored, Valid}
 use Rattle.server_laws.specs.KeptLaws.{KeptFollows}
 use Rattle.signed_delta.specs.Tables.{table_delta}
+use Rattle.opened_view.specs.Moving.{AreThere}
 use Rattle.signed_delta.specs.declared.delta.TableDelta.{TableDelta as DeltaOf}
 use Rattle.table_keeper.specs.Changes.{change_view}
 use Rattle.table_keeper.specs.declared.keeper.Change.{Change}
@@ -56,13 +58,28 @@ past_after Gains (Rows deltas) past = remember (map table_delta deltas.items) pa
 past_after Gains (Define text table) past = past
 past_after Loses change past = take (length past - 1) past
 
+-- the last changes
+abbrev pub LastOf : Type 0
+LastOf = finmap.FinMap bytes_cmp ℕ
+
+-- the last changes after a change: those that a definition brings along, or each of the changed tables' at the version
+abbrev pub last_after : Option LastOf → Change → ℕ → LastOf → LastOf
+last_after (Some last) change version old = last
+last_after None (Rows deltas) version old = with_last version (map table_delta deltas.items) old
+last_after None (Define text table) version old = old
+
+-- each of the changed tables has a last change
+abbrev pub CanMove : Change → LastOf → Type 0
+CanMove (Rows deltas) last = AreThere last (map table_delta deltas.items)
+CanMove (Define text table) last = Unit {0}
+
 -- the state after a change
 abbrev pub after : Staged → State → State
 after staged s = record {
   texts = texts_with (definition_of staged.change) s.texts;
   tables = changed_tables staged.change s.tables;
   version = s.version + 1;
-  last = staged.last;
+  last = last_after staged.last (change_of staged.change) (s.version + 1) s.last;
   past = past_after staged.past (change_of staged.change) s.past;
 }
 
@@ -112,7 +129,7 @@ pub record IsChange (deltas : List TableDelta) (step : PastStep) (database : Dat
   pub staged : Staged
   pub is : plan.staged ≡ Some staged
   pub change : staged.change ≡ staged_change.Rows kept
-  pub last : staged.last ≡ with_last (database.version + 1) deltas database.last
+  pub last : staged.last ≡ None
   pub past : staged.past ≡ step
 
 -- differences of tables by rising names, none of them empty, lead from the tables of the database to these, which are its catalogue's

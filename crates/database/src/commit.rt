@@ -7,7 +7,7 @@ ghost use Rattle.server_specs.specs.Answer.{text};
 ghost use Rattle.server_specs.specs.State.{State};
 ghost use Rattle.database.specs.Keyed.{IsKeyed};
 ghost use Rattle.database.specs.Outcomes.{IsReady, NotKept, Outcome};
-ghost use Rattle.database.specs.Plans.{CanStage, CanTake, IsFree, IsPlan, IsPlanned, IsStaged, Leads, past_after, texts_with};
+ghost use Rattle.database.specs.Plans.{CanMove, CanStage, CanTake, IsFree, IsPlan, IsPlanned, IsStaged, Leads, last_after, past_after, texts_with};
 ghost use Rattle.database.specs.Staging.{defined_by, next_state, steps_in, steps_of, table_of, walked_by};
 ghost use Rattle.database.specs.States.{state_of};
 
@@ -173,24 +173,41 @@ fn make(
     database: &mut Database,
     change: Change,
     definition: Option<Prepared>,
-    last: LastChanges,
+    last: Option<LastChanges>,
     past: PastStep,
 )
     requires definition { CanTake definition database.old.catalog }
+    requires last { CanMove change database.old.last }
     requires room { database.old.version < 2 ^ 64 - 1 }
     ensures catalog { database.new.catalog.texts
         ≡ texts_with definition database.old.catalog.texts }
     ensures tables { database.new.tables
         ≡ record database.old.tables { present = database.old.tables.next } }
     ensures version { database.new.version ≡ database.old.version + 1 }
-    ensures last { database.new.last ≡ last }
+    ensures last { database.new.last
+        ≡ last_after last change (database.old.version + 1) database.old.last }
     ensures past { database.new.past ≡ past_after past change database.old.past }
 {
     admit(&mut database.catalog, definition);
     database.tables.settle();
-    database.last = last;
     database.version += 1;
+    move_last(&mut database.last, last, &change, database.version);
     remember(&mut database.past, past, change);
+}
+
+/// Takes the last changes that a definition brings, or moves those of the changed tables to the
+/// version. It takes no memory.
+fn move_last(last: &mut LastChanges, defined: Option<LastChanges>, change: &Change, version: u64)
+    requires { CanMove change.now last.old }
+    ensures { last.new ≡ last_after defined change.now version last.old }
+{
+    match defined {
+        Some(defined) => *last = defined,
+        None => match change {
+            Change::Rows { deltas } => last.move_on(deltas.as_slice(), version),
+            Change::Define { .. } => {}
+        },
+    }
 }
 
 /// Remembers the change, or forgets the last one. It takes no memory.

@@ -61,8 +61,9 @@ impl StagedChange {
 pub struct Staged {
     /// What it makes of the definitions or of the tables.
     pub change: StagedChange,
-    /// The last change of each table after it.
-    pub last: LastChanges,
+    /// The last changes after a definition. `None` where rows change: those of the changed tables
+    /// are moved when the change is made.
+    pub last: Option<LastChanges>,
     /// What it does to the changes that can be undone.
     pub past: PastStep,
 }

@@ -46,7 +46,6 @@ pub fn plan_tables(
     ensures { IfOk result (IsChange (map table_delta deltas.items) past database.now) }
 {
     let version = database.version + 1;
-    let last = database.last.with_all(alloc, deltas.as_slice(), version)?;
     let kept = copied(alloc, deltas.as_slice())?;
     Ok(Plan {
         answer: Answer::Changed {
@@ -55,7 +54,7 @@ pub fn plan_tables(
         },
         staged: Some(Staged {
             change: StagedChange::Rows { deltas: kept },
-            last,
+            last: None,
             past,
         }),
     })

@@ -1,4 +1,4 @@
-//! The damage of what is kept, where it does not open.
+//! The damage of a store that does not open.
 ghost use Rattle.std.specs.Prelude.{◌≡◌, IfOk, codes};
 ghost use Rattle.serde_json.specs.Data.{member, no_members, object};
 ghost use Rattle.serde_json.specs.View.{view};
@@ -10,11 +10,11 @@ use reply_printing::row_value;
 use serde_json::{Value, json};
 use std::alloc::Global;
 
-/// Why what is kept does not open to a database: the first such place, the definitions in order
-/// and then the tables by rising name.
+/// Why a store does not open to a database: its first damage. The definitions come first, in their
+/// order, and then the tables, by rising name.
 #[derive(Debug, Drop)]
 pub enum Damage {
-    /// This definition, counted from 0, is refused after those before it.
+    /// This definition, counted from 0, is rejected after those before it.
     Definition {
         index: usize,
     },
@@ -26,8 +26,8 @@ pub enum Damage {
     Strange {
         table: Name,
     },
-    /// This row does not fit the columns of its table, or the table's predicate refuses it; it is
-    /// the least such row.
+    /// This row does not fit the columns of its table, or the table's predicate rejects the row. It
+    /// is the first such row in row order.
     BadRow {
         table: Name,
         row: Row,

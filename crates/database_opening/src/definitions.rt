@@ -1,4 +1,4 @@
-//! Definitions that are taken again.
+//! The definitions of a store, which are accepted again when the store is opened.
 ghost use Rattle.std.specs.Prelude.{◌≡◌, ◌++◌, ◌∷◌, [], IfErr, IfOk, IsOk, OnOk};
 ghost use Rattle.std.specs.Option.{option_to_list};
 ghost use Rattle.catalog_specs.specs.Catalogue.{catalogue};

@@ -1,4 +1,4 @@
-//! A database is opened over what is kept.
+//! Opens a database over what a store holds.
 ghost use Rattle.std.specs.Prelude.{◌≡◌, IfOk, None, map};
 ghost use Rattle.opening_specs.specs.Opening as opening;
 ghost use Rattle.opening_specs.specs.Opening.{mapped};

@@ -1,4 +1,4 @@
-//! The damage of the tables that are kept.
+//! The damage of the stored tables.
 ghost use Rattle.std.specs.Prelude.{◌≡◌, ◌&&◌, ◌++◌, IfOk, find, not, option_copied, option_map};
 ghost use Rattle.std.specs.FinMap as finmap;
 ghost use Rattle.plain_values.specs.SortedSet as set;
@@ -68,7 +68,7 @@ fn first_damage(
     Ok(None)
 }
 
-/// The damage at the name.
+/// The damage of the table of this name: it is missing, it is not defined, or its rows are wrong.
 fn damage_at(
     alloc: Global,
     catalog: &Catalog,
@@ -130,7 +130,7 @@ fn damage_of_rows(
     }
 }
 
-/// The least row that does not fit the columns, or that the predicate refuses.
+/// The first row in row order that does not fit the columns, or that the predicate rejects.
 fn first_bad<'a>(sort: &Sort, rows: &'a RowSet) -> Option<&'a Row>
     ensures { option_copied result ≡ first_bad sort.now rows.now }
 {

@@ -35,7 +35,7 @@ within_all U (e ∷ es) so =
     let sides = and_parts (set.is_subset e.left U) (set.is_subset e.right U) here.0 in
     ((subset_is e.left U sides.0, subset_is e.right U sides.1), within_all U es here.1)
 
--- the same, from what the code tests
+-- within_all, from what the code tests
 pub tested_within : (C U : Names) (T : List Edge) (so : Bool) → C ≡ U
     → so ≡ list_all (λ (e : Edge). set.is_subset e.left C && set.is_subset e.right C) T → so ≡ true → EdgesWithin U T
 tested_within C U T so is tested holds_so =

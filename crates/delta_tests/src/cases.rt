@@ -157,7 +157,8 @@ fn is_answered<L: Ledger>(alloc: Global, text: &str, looked: &mut Steps<L>) -> R
     }
 }
 
-// The same of further rows with the columns of the relation.
+// Whether the case has this answer, if its call is no drop: it then takes further rows, which have
+// the columns of the relation.
 fn answer_is<L: Ledger>(
     alloc: Global,
     case: &Case<'_>,

@@ -26,7 +26,8 @@ use std::test::Fail;
 use step_counter::Steps;
 use whole_put::{get_drop, get_join, get_select};
 
-/// Whether rows to remove and rows to add change this in the relation.
+/// Whether an edit with rows to remove and rows to add is the difference that the answer says: the
+/// rows that go, and the rows that come.
 pub(crate) fn changed<L: Ledger>(
     alloc: Global,
     look: &Held,
@@ -42,7 +43,7 @@ pub(crate) fn changed<L: Ledger>(
     is_delta(alloc, &delta, answer)
 }
 
-/// Whether the relation has the first of the rows, and has not the second.
+/// Whether the answer is right about which of the rows the relation has, and which it lacks.
 pub(crate) fn told_apart<L: Ledger>(
     alloc: Global,
     look: &Held,
@@ -147,8 +148,8 @@ fn edit_of_selection(
     edit_between(alloc, &old, view)
 }
 
-/// Whether putting these rows changes this in the relation, where they lack the column that its
-/// further key determines.
+/// Whether a put of these rows, which lack the column that the relation's further key determines,
+/// changes in the relation what the answer says.
 pub(crate) fn dropped<L: Ledger>(
     alloc: Global,
     look: &Held,

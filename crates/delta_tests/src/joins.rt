@@ -121,7 +121,7 @@ pub(crate) fn join_is<L: Ledger>(
     left_join_is(alloc, &join, &left, looked)
 }
 
-// The same with this left side.
+// What `join_is` checks, with this left side.
 fn left_join_is<L: Ledger>(
     alloc: Global,
     join: &Join<'_>,
@@ -132,7 +132,7 @@ fn left_join_is<L: Ledger>(
     both_join_is(alloc, join, left, &right, looked)
 }
 
-// The same with both sides.
+// What `join_is` checks, with both of these sides.
 fn both_join_is<L: Ledger>(
     alloc: Global,
     join: &Join<'_>,

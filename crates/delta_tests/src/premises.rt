@@ -35,7 +35,7 @@ fn are_within(tree: &Tree, cols: &Names) -> bool
         .all(|edge| edge.left.within(cols) && edge.right.within(cols))
 }
 
-/// Whether the relation meets the tree.
+/// Whether the relation satisfies the dependencies of the tree.
 pub(crate) fn is_met(alloc: Global, tree: &Tree, relation: &Relation) -> Result<bool, NoMemory>
     ensures met { IfOk result (λ met. met ≡ true → MeetsTree relation.now.rows tree.now) }
 {

@@ -1,4 +1,4 @@
-//! The edit of a relation without one of its columns, taken to the relation.
+//! Carries an edit of a relation without one of its columns down to the relation.
 ghost use Rattle.std.specs.Prelude.{◌≡◌, ◌≢◌, ◌≤◌, ◌+◌, ◌*◌, ℕ, true, false, length, slice_get, Contains, IfOk, IfSome, Some};
 ghost use Rattle.std.specs.FinMap as finmap;
 ghost use Rattle.std.specs.List.{filter_map};
@@ -85,9 +85,9 @@ struct FilledSides {
     add: RowSet,
 }
 
-// The rows to remove and those to add, each with the column filled in. They are walked turn by
-// turn: mostly a removed row and the added row at its place have the same key, and the source is
-// then asked for it once.
+// The rows to remove and those to add, each with the column filled in. The loop takes a removed row
+// and the added row at its place in turn: mostly both have the same key, and it asks the source for
+// that key once.
 fn filled_sides<S: Look, L: Ledger>(
     alloc: Global,
     source: &S,
@@ -243,7 +243,8 @@ fn with_value(
     row.paste(alloc, &single)
 }
 
-// The values that the row with this value in the column has under the names, in their order.
+// The values of the row under the names, in their order, as if the row had this value in the
+// column. A name that the row lacks has none.
 fn values_with(
     alloc: Global,
     row: &Row,

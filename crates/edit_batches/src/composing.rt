@@ -104,7 +104,7 @@ fn compose_pair(alloc: Global, before: &Delta, later: &Delta) -> Result<Delta, N
     Ok(Delta::new(gone, come))
 }
 
-// The same, where the later one may take back some of what the one before does.
+// What `compose_pair` returns, if the later one may take back some of what the one before does.
 fn compose_meeting(alloc: Global, before: &Delta, later: &Delta) -> Result<Delta, NoMemory>
     ensures { IfOk result (λ both. both ≡ compose_delta before.now later.now) }
 {

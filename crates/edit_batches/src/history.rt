@@ -44,8 +44,7 @@ impl History {
         Ok(History { ring })
     }
 
-    /// Adds a change, and gives the oldest one where there were as many as there may be. It takes no
-    /// memory.
+    /// Adds a change, and returns the oldest change if the history was full. It takes no memory.
     pub fn push(&mut self, entry: Entry) -> Option<Entry>
         ensures list { self.new ≡ keep_last 16 (self.old ++ entry.deltas ∷ []) }
         ensures oldest { option_map deltas_of result

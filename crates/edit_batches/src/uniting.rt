@@ -1,5 +1,5 @@
-//! Rows of two sets: whether they share one, and all of both, with few comparisons where the rows of
-//! one set all come behind those of the other.
+//! Whether two sets share a row, and the union of both. If all rows of one set come behind those of
+//! the other, this takes few comparisons.
 ghost use Rattle.std.specs.Prelude.{◌≡◌, ◌++◌, false, true, IfOk};
 ghost use Rattle.std.specs.List.Sorted.{IsStrictlySortedBy};
 ghost use Rattle.plain_values.specs.Row.{row_cmp};
@@ -11,7 +11,7 @@ use row_sets::RowSet;
 use std::alloc::Global;
 use std::cmp::Ordering;
 
-/// Whether a row may be in both sets. It is not where this is false.
+/// Whether the sets may share a row. If this is false, they share none.
 pub fn meet(one: &RowSet, other: &RowSet) -> bool
     ensures { result ≡ false → AreApart one.now other.now }
 {

@@ -51,7 +51,7 @@ pub fn check_edit<K: Look, L: Ledger>(
         let row = row.copy(alloc)?;
         return Err(EditFault::OffPredicate { row });
     }
-    match clash_of_edit(alloc, sort.tree(), view, delta, looked)? {
+    match violating_pair_of_edit(alloc, sort.tree(), view, delta, looked)? {
         Some(clash) => Err(EditFault::Clash { clash }),
         None => Ok(()),
     }
@@ -71,8 +71,9 @@ fn first_refused<'a>(pred: &Pred, rows: &'a [Row]) -> Option<&'a Row>
     rows.iter().find(|row| !pred.holds(row))
 }
 
-// The first edge on which rows near the added ones clash, with the least pair of them.
-fn clash_of_edit<K: Look, L: Ledger>(
+// The first edge that the added rows and the rows near them do not satisfy, with the first two rows
+// that violate it.
+fn violating_pair_of_edit<K: Look, L: Ledger>(
     alloc: Global,
     tree: &Tree,
     view: &K,
@@ -105,7 +106,7 @@ fn clash_of_edit<K: Look, L: Ledger>(
     Ok(None)
 }
 
-// The least two rows near the added ones that clash on the edge.
+// The first two rows that violate the edge, of the added rows and the rows near them.
 fn pair_of_edit<K: Look, L: Ledger>(
     alloc: Global,
     edge: &Edge,
@@ -137,8 +138,8 @@ fn pair_of_edit<K: Look, L: Ledger>(
     }
 }
 
-// Whether each added row agrees with a removed one on both sides of the edge. With those the rows
-// met the edge, so that the added ones bring no clash.
+// Whether each added row agrees with a removed one on both sides of the edge. The view satisfied
+// the edge with the removed rows, so the added rows bring no violating pair.
 fn all_replaced(alloc: Global, edge: &Edge, delta: &Delta) -> Result<bool, NoMemory>
     ensures { IfOk result (λ all. all ≡ true → AreReplaced edge.now delta.now) }
 {
@@ -178,7 +179,7 @@ fn kept_agree(edge: &Edge, row: &Row, found: &RowSet, removed: &RowSet) -> bool
     found.rows().iter().all(|other| row.agree_on(other, &edge.right) || removed.has(other))
 }
 
-// The same of any added rows.
+// What `all_replaced` tests, for any number of added rows.
 fn all_replace_alike(alloc: Global, edge: &Edge, delta: &Delta) -> Result<bool, NoMemory>
     ensures { let C = set.union edge.now.left edge.now.right in
         IfOk result (λ all. all
@@ -204,7 +205,8 @@ fn all_parts_in(alloc: Global, rows: &[Row], cols: &Names, parts: &RowSet) -> Re
     Ok(true)
 }
 
-// The least two that clash on the edge, of the added rows and the found ones that are not removed.
+// The first two rows that violate the edge, of the added rows and the found ones that are not
+// removed.
 fn pair_near(
     alloc: Global,
     edge: &Edge,
@@ -221,7 +223,7 @@ fn pair_near(
     first_pair(alloc, edge, &rows)
 }
 
-// The least two of the rows that clash on the edge.
+// The first two of the rows that violate the edge.
 fn first_pair(alloc: Global, edge: &Edge, rows: &RowSet) -> Result<Option<(Row, Row)>, NoMemory>
     ensures { IfOk result (λ pair. pair ≡ first_pair edge.now (set.items rows.now)) }
 {

@@ -1,4 +1,4 @@
-//! Why an edit of a view is refused.
+//! Why an edit of a view is rejected.
 
 use fd_tree::Clash;
 use lens_values::{NoMemory, Row};
@@ -7,14 +7,14 @@ use thiserror::Error;
 /// Why an edit of a view is refused.
 #[derive(Debug, Drop, Error)]
 pub enum EditFault {
-    /// The view's predicate refuses an added row.
-    #[error("the view's predicate refuses an added row")]
+    /// The view's predicate rejects an added row.
+    #[error("the view's predicate rejects an added row")]
     OffPredicate {
         /// The least such row.
         row: Row,
     },
     /// Two rows of the new view agree on the left side of an edge and not on its right side.
-    #[error("two rows clash on the dependency at place {}", .clash.edge)]
+    #[error("two rows violate the dependency at place {}", .clash.edge)]
     Clash {
         /// The first such edge, by its place, with the least such rows.
         clash: Clash,

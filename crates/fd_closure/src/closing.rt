@@ -15,8 +15,8 @@ use crate::index::{entries_of, indexed};
 use lens_values::{Name, Names, NoMemory};
 use std::alloc::Global;
 
-/// The least set of columns that has these, and with the left side of a dependency its right side.
-/// Its work grows with the size of the dependencies.
+/// The least set of columns that has these columns, and that has the right side of each dependency
+/// whose left side it has. The work grows with the size of the dependencies.
 pub fn closure(alloc: Global, cols: &Names, deps: &[Dep]) -> Result<Names, NoMemory>
     ensures { IfOk result (λ found. found ≡ spec.closure cols.now deps.now) }
 {

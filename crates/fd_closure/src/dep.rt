@@ -31,7 +31,7 @@ impl Model for Dep {
 }
 
 impl Dep {
-    /// The dependency of these sides, or `EmptySide` where one of them is empty.
+    /// The dependency of these sides, or `EmptySide` if one of them is empty.
     pub fn new(left: Names, right: Names) -> Result<Dep, EmptySide>
         ensures { result ≡ dep_of left right }
     {

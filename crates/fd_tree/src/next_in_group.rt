@@ -24,7 +24,8 @@ pub fn next_places(
     }
 }
 
-// The same by hashing, or `None` where two rows that differ on the columns have one hash.
+// The places that `next_places` returns, found by hashing, or `None` if two rows that differ on the
+// columns have one hash.
 fn next_by_hash(
     alloc: Global,
     rows: &[Row],
@@ -57,7 +58,7 @@ fn is_alike(rows: &[Row], cols: &Names, place: usize, next: Option<usize>) -> bo
     }
 }
 
-// The same by the values that the rows have in the columns.
+// The places that `next_places` returns, found by the values that the rows have in the columns.
 fn next_by_part(alloc: Global, rows: &[Row], cols: &Names) -> Result<Vec<Option<usize>>, NoMemory>
     ensures { IfOk result (λ places. places.items ≡ later_places (agree cols.now) 0 rows.now) }
 {

@@ -45,7 +45,7 @@ pub fn find_rows<J: Ledger, K: Ledger>(
     Ok(Relation::with_rows(columns, rows))
 }
 
-// The same rows as a set. The columns are this column alone.
+// The rows that `find_rows` returns, as a set. The columns are this column alone.
 fn rows_found<J: Ledger, K: Ledger>(
     alloc: Global,
     view: &View<'_>,
@@ -84,7 +84,7 @@ fn with_value(alloc: Global, rows: RowSet, col: &Name, value: &Value) -> Result<
     Ok(RowSet::from_rising(some))
 }
 
-// The same of a list.
+// Those of the rows of a list that have the value in the column.
 fn kept(alloc: Global, rows: Vec<Row>, col: &Name, value: &Value) -> Result<Vec<Row>, NoMemory>
     ensures { IfOk result (λ some. some.items
         ≡ filter (λ row. same_value (Some value.now) (at row col.now)) rows.items) }

@@ -4,7 +4,7 @@ use Rattle.std.specs.Prelude.{Some, None}
 use Rattle.std.proofs.lemmas.Option.{none-some}
 use Rattle.lens_specs.specs.Predicate.{eq, ne, lt, le, gt, ge}
 use Rattle.plain_values.specs.Bytes.{is_name}
-use Rattle.grammar_specs.specs.Tokens.{Token, word, integer, open_paren, close_paren, comma, arrow, operator, Spells}
+use Rattle.grammar_specs.specs.Tokens.{Token, word, integer, operator, Spells}
 use Rattle.grammar_specs.specs.Tokens as tokens
 use Rattle.grammar_specs.specs.Texts.{NoToken}
 use Rattle.grammar_laws.specs.Front.{token_at, token_in_front, IsInFront}
@@ -25,16 +25,13 @@ spelled_some (word w) bytes h = let P : List ℕ → Type 0 = λ x. 0 < length x
 spelled_some (integer z) bytes (inl h) = list_some bytes h.0.0
 spelled_some (integer z) bytes (inr h) = omega (arith, ap length h.1)
 spelled_some (tokens.text value) bytes h = omega (arith, ap length h.0)
-spelled_some open_paren bytes h = omega (arith, ap length h)
-spelled_some close_paren bytes h = omega (arith, ap length h)
-spelled_some comma bytes h = omega (arith, ap length h)
-spelled_some arrow bytes h = omega (arith, ap length h)
 spelled_some (operator eq) bytes h = omega (arith, ap length h)
 spelled_some (operator ne) bytes h = omega (arith, ap length h)
 spelled_some (operator lt) bytes h = omega (arith, ap length h)
 spelled_some (operator le) bytes h = omega (arith, ap length h)
 spelled_some (operator gt) bytes h = omega (arith, ap length h)
 spelled_some (operator ge) bytes h = omega (arith, ap length h)
+spelled_some other bytes h = omega (arith, ap length h)
 
 pub drop_front : (xs ys : List ℕ) → drop (length xs) (xs ++ ys) ≡ ys
 drop_front [] ys = refl

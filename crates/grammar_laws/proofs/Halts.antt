@@ -5,12 +5,8 @@ use Rattle.std.proofs.lemmas.List.{map-append}
 use Rattle.std.proofs.lemmas.Option.{none-some, same_Some}
 use Rattle.grammar_specs.specs.Tokens.{Token, is_blank}
 use Rattle.grammar_specs.specs.Texts.{Placed, tokens_in, AreBlank, Stand, NoToken, IsText, GoesWrong}
-use Rattle.grammar_specs.specs.Nesting.{is_too_deep}
 use Rattle.grammar_specs.specs.Faults.{Begins, BeginsTooDeep, IsStopped, Stops, IsNestingFault}
 use Rattle.grammar_laws.specs.Front.{drop_while, token_in_front}
-use Rattle.grammar_laws.proofs.WrittenDefs.{at_start}
-use Rattle.grammar_laws.proofs.DefLevels.{levels}
-use Rattle.grammar_laws.proofs.Depths.{too_deep_levels, levels_too_deep, deep_more}
 use Rattle.grammar_laws.proofs.Longest.{dropped, token_stands}
 use Rattle.grammar_laws.proofs.Stands.{stand_parts, stand_next, GoesOn, one_ahead}
 
@@ -94,14 +90,11 @@ no_further text f g m at h stand begins =
       | inr behind ↦ (behind.more, behind.joined)
     ]
 
--- where some tokens in front are too deep, those before the halt are
-pub deep_before : (text : List ℕ) (front : Placed) (at : ℕ) → Halts text front at → IsNestingFault text → BeginsTooDeep (tokens_in front)
-deep_before text front at h fault =
-    let deep = fault.3 in
-    let begins : Begins (tokens_in fault.0) = (deep.0, deep.1, deep.2, deep.3) in
-    let longer = no_further text front fault.0 fault.1 at h fault.2 begins in
-    levels_too_deep (tokens_in front) h.begins
-    (ap (λ x. is_too_deep (levels at_start x)) (ap tokens_in longer.1 ∙ map-append (λ q. q.1) fault.0 longer.0) ∙ deep_more (tokens_in fault.0) (tokens_in longer.0) begins (too_deep_levels (tokens_in fault.0) deep))
+-- tokens that are too deep stand before the halt
+pub deep_before : (text : List ℕ) (front : Placed) (at : ℕ) → Halts text front at → IsNestingFault text → (xs more : List Token) × (tokens_in front ≡ xs ++ more) × BeginsTooDeep xs
+deep_before text front at h (deep, left, stand, is) =
+    let behind = no_further text front deep left at h stand (is.0, is.1, is.2, is.3) in
+    (tokens_in deep, tokens_in behind.0, ap tokens_in behind.1 ∙ map-append (λ p. p.1) deep behind.0, is)
 
 -- ---- a text halts at one place
 

@@ -1,16 +1,17 @@
 -- A text has one answer.
-use Rattle.std.proofs.Common.{◌≡◌, ◌⊎◌, inl, inr, ℕ, ◌<◌, true, List, [], ◌∷◌, ◌++◌, length, refl, sym, ap, ◌∙◌, append-nil, arith, length-append}
+use Rattle.std.proofs.Common.{◌≡◌, ◌⊎◌, inl, inr, ℕ, ◌+◌, ◌<◌, true, List, [], ◌∷◌, ◌++◌, length, refl, sym, ap, subst, ◌∙◌, append-nil, arith, length-append}
 use Rattle.std.specs.Prelude.{Some, Result, Ok, Err}
 use Rattle.grammar_specs.specs.Tokens.{Token, is_blank}
 use Rattle.grammar_specs.specs.Texts.{Placed, tokens_in, IsText}
 use Rattle.grammar_specs.specs.Written.{Written, written_tokens, is_definition}
 use Rattle.grammar_specs.specs.Meaning.{Definition, meaning, Says}
-use Rattle.grammar_specs.specs.Faults.{Fault, syntax_at, too_large, columns, predicate, nested, IsUnfinished, Stops, IsSyntaxFault, IsNestingFault, SaysFlat, Answers}
+use Rattle.grammar_specs.specs.Nesting.{max_nesting}
+use Rattle.grammar_specs.specs.Faults.{Fault, syntax_at, too_large, columns, predicate, nested, Begins, BeginsTooDeep, IsUnfinished, Stops, IsSyntaxFault, IsNestingFault, SaysFlat, Answers}
 use Rattle.grammar_laws.specs.Front.{drop_while, token_in_front}
 use Rattle.grammar_laws.specs.Reading.{limited}
-use Rattle.grammar_laws.proofs.Exact.{one_definition}
 use Rattle.grammar_laws.proofs.Stands.{stand_parts, stand_next}
 use Rattle.grammar_laws.proofs.Halts.{Halts, halts_at_end, stops_halts, deep_before, one_halt}
+use Rattle.grammar_laws.proofs.FirstDeep.{one_flat, deep_on}
 
 -- ---- a definition that is said
 
@@ -36,13 +37,6 @@ wrote text d says =
       whole = is.3;
       halts = halts_at_end text is.1 is.3 (says.0, [], is.0, sym is.2 ∙ sym (append-nil (tokens_in is.1)));
     }
-
-one_meaning : (text : List ℕ) (d e : Definition) → Says text d → Says text e → d ≡ e
-one_meaning text d e says_d says_e =
-    let v = wrote text d says_d in
-    let w = wrote text e says_e in
-    let same = one_halt text v.placed w.placed (length text) (length text) v.halts w.halts in
-    sym v.means ∙ ap meaning (one_definition v.written w.written v.good w.good (sym v.spelled ∙ ap tokens_in same.0 ∙ w.spelled)) ∙ w.means
 
 -- ---- a definition or a fault
 
@@ -70,9 +64,6 @@ no_fault text d at says fault =
 one_offset : (text : List ℕ) (i j : ℕ) → IsSyntaxFault text i → IsSyntaxFault text j → i ≡ j
 one_offset text i j f g = (one_halt text f.0 g.0 i j (stops_halts text f.0 i f.1) (stops_halts text g.0 j g.1)).1
 
-no_depth : (text : List ℕ) (at : ℕ) → IsSyntaxFault text at → IsNestingFault text → ⊥
-no_depth text at fault deep = fault.2 (deep_before text fault.0 at (stops_halts text fault.0 at fault.1) deep)
-
 -- ---- the answer
 
 -- a definition within the limits or not, a syntax fault, or tokens that are too deep
@@ -89,17 +80,32 @@ kind_of text (Err (too_large nested)) h = inr (inr (h, refl))
 kind_of text (Err (too_large columns)) h = inl (h.0, h.1, sym (rw h.2 refl))
 kind_of text (Err (too_large predicate)) h = inl (h.0, h.1, sym (rw (h.2, h.3) refl))
 
-same_kind : (text : List ℕ) (a b : Result Definition Fault) → Kinds text a → Kinds text b → a ≡ b
-same_kind text a b (inl h) (inl k) = h.2 ∙ ap limited (one_meaning text h.0 k.0 h.1.0 k.1.0) ∙ sym k.2
-same_kind text a b (inl h) (inr (inl k)) = absurd (no_fault text h.0 k.0 h.1.0 k.1)
-same_kind text a b (inl h) (inr (inr k)) = absurd (h.1.1 k.0)
-same_kind text a b (inr (inl h)) (inl k) = absurd (no_fault text k.0 h.0 k.1.0 h.1)
-same_kind text a b (inr (inl h)) (inr (inl k)) = h.2 ∙ ap (λ i. Err (syntax_at i)) (one_offset text h.0 k.0 h.1 k.1) ∙ sym k.2
-same_kind text a b (inr (inl h)) (inr (inr k)) = absurd (no_depth text h.0 h.1 k.0)
-same_kind text a b (inr (inr h)) (inl k) = absurd (k.1.1 h.0)
-same_kind text a b (inr (inr h)) (inr (inl k)) = absurd (no_depth text k.0 k.1 h.0)
-same_kind text a b (inr (inr h)) (inr (inr k)) = h.1 ∙ sym k.1
+module _ (n : ℕ) (e : 0 + n ≡ max_nesting) where
+  one_meaning : (text : List ℕ) (c d : Definition) → SaysFlat text c → SaysFlat text d → c ≡ d
+  one_meaning text c d says_c says_d =
+      let v = wrote text c says_c.0 in
+      let w = wrote text d says_d.0 in
+      let same = one_halt text v.placed w.placed (length text) (length text) v.halts w.halts in
+      let one = one_flat n e v.written w.written v.good w.good (sym v.spelled ∙ ap tokens_in same.0 ∙ w.spelled) (λ deep. says_c.1 (v.placed, v.whole.0, v.whole.1, subst BeginsTooDeep (sym v.spelled) deep)) in
+      sym v.means ∙ ap meaning one ∙ w.means
 
--- a text has one answer
-pub one_answer : (text : List ℕ) (a b : Result Definition Fault) → Answers text a → Answers text b → a ≡ b
-one_answer text a b h k = same_kind text a b (kind_of text a h) (kind_of text b k)
+  no_depth : (text : List ℕ) (at : ℕ) → IsSyntaxFault text at → IsNestingFault text → ⊥
+  no_depth text at (front, stops, flat) fault =
+      let h = stops_halts text front at stops in
+      let d = deep_before text front at h fault in
+      flat (subst BeginsTooDeep (sym d.2) (deep_on n e d.0 d.1 d.3 (subst Begins d.2 h.begins)))
+
+  same_kind : (text : List ℕ) (a b : Result Definition Fault) → Kinds text a → Kinds text b → a ≡ b
+  same_kind text a b (inl h) (inl k) = h.2 ∙ ap limited (one_meaning text h.0 k.0 h.1 k.1) ∙ sym k.2
+  same_kind text a b (inl h) (inr (inl k)) = absurd (no_fault text h.0 k.0 h.1.0 k.1)
+  same_kind text a b (inl h) (inr (inr k)) = absurd (h.1.1 k.0)
+  same_kind text a b (inr (inl h)) (inl k) = absurd (no_fault text k.0 h.0 k.1.0 h.1)
+  same_kind text a b (inr (inl h)) (inr (inl k)) = h.2 ∙ ap (λ i. Err (syntax_at i)) (one_offset text h.0 k.0 h.1 k.1) ∙ sym k.2
+  same_kind text a b (inr (inl h)) (inr (inr k)) = absurd (no_depth text h.0 h.1 k.0)
+  same_kind text a b (inr (inr h)) (inl k) = absurd (k.1.1 h.0)
+  same_kind text a b (inr (inr h)) (inr (inl k)) = absurd (no_depth text k.0 k.1 h.0)
+  same_kind text a b (inr (inr h)) (inr (inr k)) = h.1 ∙ sym k.1
+
+  -- a text has one answer
+  pub one_answer : (text : List ℕ) (a b : Result Definition Fault) → Answers text a → Answers text b → a ≡ b
+  one_answer text a b h k = same_kind text a b (kind_of text a h) (kind_of text b k)

@@ -1,6 +1,6 @@
 -- What an option that is there was made of.
 use Rattle.std.proofs.Common.{◌≡◌, refl, Bool, true, false, cond}
-use Rattle.std.specs.Prelude.{Option, Some, None, option_map, option_and_then, ◌&&◌}
+use Rattle.std.specs.Prelude.{Option, Some, None, option_map, option_and_then}
 use Rattle.std.proofs.lemmas.Option.{same_Some}
 
 pub bind_some : {A B : Type 0} (f : A → Option B) (o : Option A) (b : B) → option_and_then f o ≡ Some b → (a : A) × (o ≡ Some a) × (f a ≡ Some b)
@@ -26,9 +26,3 @@ map_then f (Some a) b e k = k a refl (same_Some (f a) b e)
 pub cond_then : {A : Type 0} {P : Type 0} (v : Bool) (x y : Option A) (a : A) → cond v x y ≡ Some a → (v ≡ true → x ≡ Some a → P) → (v ≡ false → y ≡ Some a → P) → P
 cond_then true x y a e f g = f refl e
 cond_then false x y a e f g = g refl e
-
--- one of two ways
-pub opt_then : {A B : Type 0} {P : Type 0} (o : Option A) (f : A → Option B) (y : Option B) (b : B) → elim o [ None ↦ y | Some a ↦ f a ] ≡ Some b
-    → ((a : A) → o ≡ Some a → f a ≡ Some b → P) → (y ≡ Some b → P) → P
-opt_then None f y b e k l = l e
-opt_then (Some a) f y b e k l = k a refl e

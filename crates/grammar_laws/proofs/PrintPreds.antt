@@ -2,7 +2,7 @@
 use Rattle.std.proofs.Common.{◌≡◌, true, List, [], ◌∷◌, ◌++◌, refl, sym, ap, ◌∙◌, append_assoc, append-nil}
 use Rattle.std.specs.Prelude.{not, ◌&&◌}
 use Rattle.std.proofs.lemmas.Bool.{and_parts, true≢false}
-use Rattle.lens_specs.specs.Predicate.{Formula, truth, falsity, compare, compare_columns, one_of, null_at, negation, all_of, any_of, Formulas, no_formulas, formulas, Predicate}
+use Rattle.lens_specs.specs.Predicate.{Formula, negation, all_of, any_of, Formulas, no_formulas, formulas, Predicate}
 use Rattle.grammar_specs.specs.Written.{All, only, joined, Pred, alone, either}
 use Rattle.grammar_specs.specs.Meaning.{part_meaning, all_conjuncts, pred_disjuncts, pred_meaning, predicate_of, condition_meaning, conjuncts, disjuncts, conjunction, disjunction, formulas_of, list_of}
 use Rattle.grammar_specs.specs.Printing.{part_of, all_parts, more_parts, all_of_formula, any_alls, more_alls, pred_of, joined_parts, predicate_written, condition_written}
@@ -12,27 +12,13 @@ use Rattle.grammar_specs.specs.Writable.{is_conjunction, is_disjunction, are_sev
 
 -- a formula of another kind is its one conjunct
 pub one_conjunct : (f : Formula) → not (is_conjunction f) ≡ true → conjuncts f ≡ f ∷ []
-one_conjunct truth h = refl
-one_conjunct falsity h = refl
-one_conjunct (compare c op v) h = refl
-one_conjunct (compare_columns c op d) h = refl
-one_conjunct (one_of c vs) h = refl
-one_conjunct (null_at c) h = refl
-one_conjunct (negation f) h = refl
 one_conjunct (all_of fs) h = absurd (true≢false (sym h))
-one_conjunct (any_of fs) h = refl
+one_conjunct other h = refl
 
 -- a formula of another kind is its one disjunct
 pub one_disjunct : (f : Formula) → not (is_disjunction f) ≡ true → disjuncts f ≡ f ∷ []
-one_disjunct truth h = refl
-one_disjunct falsity h = refl
-one_disjunct (compare c op v) h = refl
-one_disjunct (compare_columns c op d) h = refl
-one_disjunct (one_of c vs) h = refl
-one_disjunct (null_at c) h = refl
-one_disjunct (negation f) h = refl
-one_disjunct (all_of fs) h = refl
 one_disjunct (any_of fs) h = absurd (true≢false (sym h))
+one_disjunct other h = refl
 
 pub formulas_again : (fs : Formulas) → formulas_of (list_of fs) ≡ fs
 formulas_again no_formulas = refl
@@ -61,12 +47,6 @@ one_more a f fs e = ap (λ l. (all_conjuncts a ++ l) ++ fs) e ∙ append_assoc (
 
 mutual
   part_said : (f : Formula) → is_written_formula f ≡ true → part_meaning (part_of f) ≡ f
-  part_said truth h = refl
-  part_said falsity h = refl
-  part_said (compare c op v) h = refl
-  part_said (compare_columns c op d) h = refl
-  part_said (one_of c vs) h = refl
-  part_said (null_at c) h = refl
   part_said (negation f) h = ap negation (part_said f h)
   part_said (all_of fs) h =
       let parts = and_parts _ _ h in
@@ -74,6 +54,7 @@ mutual
   part_said (any_of fs) h =
       let parts = and_parts _ _ h in
       ap disjunction (any_said fs parts.0 parts.1) ∙ several_any fs parts.0
+  part_said other h = refl
 
   all_said : (fs : Formulas) → are_several fs ≡ true → are_in_all fs ≡ true → all_conjuncts (all_parts fs) ≡ list_of fs
   all_said no_formulas s h = absurd (true≢false (sym s))
@@ -90,12 +71,6 @@ mutual
       more_said (joined a (part_of f)) fs rest.1 ∙ one_more a f (list_of fs) (ap conjuncts (part_said f first.1) ∙ one_conjunct f first.0)
 
   member_said : (f : Formula) → is_written_formula f ≡ true → conjunction (all_conjuncts (all_of_formula f)) ≡ f
-  member_said truth h = refl
-  member_said falsity h = refl
-  member_said (compare c op v) h = refl
-  member_said (compare_columns c op d) h = refl
-  member_said (one_of c vs) h = refl
-  member_said (null_at c) h = refl
   member_said (negation f) h = ap negation (part_said f h)
   member_said (all_of fs) h =
       let parts = and_parts _ _ h in
@@ -103,6 +78,7 @@ mutual
   member_said (any_of fs) h =
       let parts = and_parts _ _ h in
       ap (λ f. conjunction (conjuncts f)) (ap disjunction (any_said fs parts.0 parts.1) ∙ several_any fs parts.0)
+  member_said other h = refl
 
   any_said : (fs : Formulas) → are_several fs ≡ true → are_in_any fs ≡ true → pred_disjuncts (any_alls fs) ≡ list_of fs
   any_said no_formulas s h = absurd (true≢false (sym s))
@@ -123,15 +99,10 @@ mutual
 -- ---- predicates
 
 pred_said : (f : Formula) → is_written_formula f ≡ true → pred_meaning (pred_of f) ≡ f
-pred_said truth h = refl
-pred_said falsity h = refl
-pred_said (compare c op v) h = refl
-pred_said (compare_columns c op d) h = refl
-pred_said (one_of c vs) h = refl
-pred_said (null_at c) h = refl
 pred_said (negation f) h = ap negation (part_said f h)
 pred_said (all_of fs) h = part_said (all_of fs) h
 pred_said (any_of fs) h = part_said (any_of fs) h
+pred_said other h = refl
 
 -- a conjunct
 part_conjunct : (f : Formula) → (not (is_conjunction f) && is_written_formula f) ≡ true → conjuncts (part_meaning (part_of f)) ≡ f ∷ []

@@ -2,7 +2,7 @@
 use Rattle.std.proofs.Common.{◌≡◌, ℕ, ◌+◌, Bool, true, false, cond, List, [], ◌∷◌, ◌++◌, length, refl, sym, ap, subst, ◌∙◌, append_assoc, append-nil}
 use Rattle.std.proofs.lemmas.Bool.{and_parts, true≢false}
 use Rattle.lens_specs.specs.Predicate.{eq, ne, lt, le, gt, ge}
-use Rattle.grammar_specs.specs.Tokens.{Token, word, integer, text, open_paren, close_paren, comma, arrow, operator, goes_on, Ends}
+use Rattle.grammar_specs.specs.Tokens.{Token, open_paren, close_paren, comma, operator, goes_on, Ends}
 use Rattle.grammar_specs.specs.Texts.{Placed, tokens_in, AreBlank, Stand, IsText}
 use Rattle.grammar_specs.specs.Printing.{token_bytes, opens, closes, gap, spaced}
 use Rattle.grammar_laws.proofs.PrintTokens.{are_printable, printable_spells}
@@ -16,31 +16,19 @@ record Stops (t : Token) : Type 0 where
   at_comma : goes_on t 44 ≡ false
 
 stops : (t : Token) → Stops t
-stops (word w) = record { at_blank = refl; at_close = refl; at_comma = refl }
-stops (integer z) = record { at_blank = refl; at_close = refl; at_comma = refl }
-stops (text value) = record { at_blank = refl; at_close = refl; at_comma = refl }
-stops open_paren = record { at_blank = refl; at_close = refl; at_comma = refl }
-stops close_paren = record { at_blank = refl; at_close = refl; at_comma = refl }
-stops comma = record { at_blank = refl; at_close = refl; at_comma = refl }
-stops arrow = record { at_blank = refl; at_close = refl; at_comma = refl }
 stops (operator eq) = record { at_blank = refl; at_close = refl; at_comma = refl }
 stops (operator ne) = record { at_blank = refl; at_close = refl; at_comma = refl }
 stops (operator lt) = record { at_blank = refl; at_close = refl; at_comma = refl }
 stops (operator le) = record { at_blank = refl; at_close = refl; at_comma = refl }
 stops (operator gt) = record { at_blank = refl; at_close = refl; at_comma = refl }
 stops (operator ge) = record { at_blank = refl; at_close = refl; at_comma = refl }
+stops other = record { at_blank = refl; at_close = refl; at_comma = refl }
 
 -- "(" ends before anything
 opens_ends : (t : Token) (bytes : List ℕ) → opens t ≡ true → Ends t bytes
 opens_ends t [] h = tt
 opens_ends open_paren (b ∷ bytes) h = refl
-opens_ends (word w) (b ∷ bytes) h = absurd (true≢false (sym h))
-opens_ends (integer z) (b ∷ bytes) h = absurd (true≢false (sym h))
-opens_ends (text value) (b ∷ bytes) h = absurd (true≢false (sym h))
-opens_ends close_paren (b ∷ bytes) h = absurd (true≢false (sym h))
-opens_ends comma (b ∷ bytes) h = absurd (true≢false (sym h))
-opens_ends arrow (b ∷ bytes) h = absurd (true≢false (sym h))
-opens_ends (operator op) (b ∷ bytes) h = absurd (true≢false (sym h))
+opens_ends other (b ∷ bytes) h = absurd (true≢false (sym h))
 
 -- the first token's bytes are in front
 front_bytes : (t : Token) (ts : List Token) → (rest : List ℕ) × (spaced (t ∷ ts) ≡ token_bytes t ++ rest)
@@ -52,12 +40,7 @@ gap_ends : (s t : Token) (ts : List Token) (opens_it : Bool) → opens s ≡ ope
 gap_ends s t ts true e = opens_ends s (spaced (t ∷ ts)) e
 gap_ends s close_paren ts false e = subst (Ends s) (sym (front_bytes close_paren ts).1) (stops s).at_close
 gap_ends s comma ts false e = subst (Ends s) (sym (front_bytes comma ts).1) (stops s).at_comma
-gap_ends s (word w) ts false e = (stops s).at_blank
-gap_ends s (integer z) ts false e = (stops s).at_blank
-gap_ends s (text value) ts false e = (stops s).at_blank
-gap_ends s open_paren ts false e = (stops s).at_blank
-gap_ends s arrow ts false e = (stops s).at_blank
-gap_ends s (operator op) ts false e = (stops s).at_blank
+gap_ends s other ts false e = (stops s).at_blank
 
 either_blank : (b c : Bool) → AreBlank (cond b [] (cond c [] (32 ∷ [])))
 either_blank true c = refl

@@ -8,7 +8,7 @@ use Rattle.plain_values.specs.Bytes.{is_name, is_text}
 use Rattle.plain_values.specs.declared.value.Value.{Value}
 use Rattle.plain_values.specs.declared.value.Value.TheVariants.{Null, Int, Text, Flag}
 use Rattle.lens_specs.specs.Names.{Name}
-use Rattle.grammar_specs.specs.Tokens.{Token, word, integer, text, open_paren, close_paren, comma, arrow, operator, Spells, is_free_name}
+use Rattle.grammar_specs.specs.Tokens.{Token, word, integer, text, comma, Spells, is_free_name}
 use Rattle.grammar_specs.specs.Written.{literal, literals}
 use Rattle.grammar_specs.specs.Printing.{token_bytes}
 use Rattle.grammar_specs.specs.Writable.{is_literal}
@@ -19,31 +19,19 @@ abbrev pub is_printable : Token → Bool
 is_printable (word w) = is_name w
 is_printable (integer z) = in_range z
 is_printable (text value) = is_text value
-is_printable open_paren = true
-is_printable close_paren = true
-is_printable comma = true
-is_printable arrow = true
-is_printable (operator op) = true
+is_printable other = true
 
 pub printable_spells : (t : Token) → is_printable t ≡ true → Spells t (token_bytes t)
 printable_spells (word w) h = (refl, h)
 printable_spells (integer z) h = decimal_spells z h
 printable_spells (text value) h = (refl, h)
-printable_spells open_paren h = refl
-printable_spells close_paren h = refl
-printable_spells comma h = refl
-printable_spells arrow h = refl
-printable_spells (operator op) h = refl
+printable_spells other h = refl
 
 pub spells_printable : (t : Token) (bytes : List ℕ) → Spells t bytes → is_printable t ≡ true
 spells_printable (word w) bytes h = h.1
 spells_printable (integer z) bytes h = spelled_range z bytes h
 spells_printable (text value) bytes h = h.1
-spells_printable open_paren bytes h = refl
-spells_printable close_paren bytes h = refl
-spells_printable comma bytes h = refl
-spells_printable arrow bytes h = refl
-spells_printable (operator op) bytes h = refl
+spells_printable other bytes h = refl
 
 -- ---- lists of tokens
 

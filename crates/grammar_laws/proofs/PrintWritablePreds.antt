@@ -4,7 +4,7 @@ use Rattle.std.specs.Prelude.{◌&&◌, codes, not, Option, Some, None}
 use Rattle.std.specs.List.{list_all}
 use Rattle.std.proofs.lemmas.Bool.{and_parts, and_from, false≢true}
 use Rattle.std.proofs.lemmas.List.Folds.{list_all-append}
-use Rattle.lens_specs.specs.Predicate.{Formula, truth, falsity, compare, compare_columns, one_of, null_at, negation, all_of, any_of, Formulas, no_formulas, formulas}
+use Rattle.lens_specs.specs.Predicate.{Formula, truth, falsity, all_of, any_of, Formulas, no_formulas, formulas}
 use Rattle.grammar_specs.specs.Tokens.{word, close_paren}
 use Rattle.grammar_specs.specs.Written.{Part, literally, compares, compares_columns, is_in, tests_null, negated, grouped, All, only, joined, Pred, alone, either, literals, part_tokens, all_tokens, pred_tokens, where_tokens, is_some_list, is_part, is_all, is_pred, is_condition}
 use Rattle.grammar_specs.specs.Meaning.{part_meaning, all_conjuncts, pred_disjuncts, pred_meaning, predicate_of, condition_meaning, conjuncts, disjuncts, conjunction, disjunction, formulas_of, list_of}
@@ -41,24 +41,14 @@ any_in (f ∷ fs) = ap (λ b. is_disjunct f && b) (any_in fs)
 conjuncts_writable : (f : Formula) → is_written_formula f ≡ true → is_written_predicate (conjuncts f) ≡ true
 conjuncts_writable truth h = refl
 conjuncts_writable falsity h = refl
-conjuncts_writable (compare c op v) h = and_from _ true h refl
-conjuncts_writable (compare_columns c op d) h = and_from _ true h refl
-conjuncts_writable (one_of c vs) h = and_from _ true h refl
-conjuncts_writable (null_at c) h = and_from _ true h refl
-conjuncts_writable (negation f) h = and_from _ true h refl
 conjuncts_writable (all_of fs) h = sym (in_all_again fs) ∙ (and_parts _ _ h).1
-conjuncts_writable (any_of fs) h = and_from _ true h refl
+conjuncts_writable other h = and_from _ true h refl
 
 disjuncts_writable : (f : Formula) → is_written_formula f ≡ true → list_all is_disjunct (disjuncts f) ≡ true
 disjuncts_writable truth h = refl
 disjuncts_writable falsity h = refl
-disjuncts_writable (compare c op v) h = and_from _ true h refl
-disjuncts_writable (compare_columns c op d) h = and_from _ true h refl
-disjuncts_writable (one_of c vs) h = and_from _ true h refl
-disjuncts_writable (null_at c) h = and_from _ true h refl
-disjuncts_writable (negation f) h = and_from _ true h refl
-disjuncts_writable (all_of fs) h = and_from _ true h refl
 disjuncts_writable (any_of fs) h = sym (in_any_again fs) ∙ (and_parts _ _ h).1
+disjuncts_writable other h = and_from _ true h refl
 
 -- one formula, or a conjunction of several
 conjunction_writable : (fs : List Formula) → list_all is_conjunct fs ≡ true → is_written_formula (conjunction fs) ≡ true
@@ -106,16 +96,9 @@ mutual
 -- ---- predicates
 
 some_conjuncts : (f : Formula) → is_written_formula f ≡ true → is_some_list (conjuncts f) ≡ true
-some_conjuncts truth h = refl
-some_conjuncts falsity h = refl
-some_conjuncts (compare c op v) h = refl
-some_conjuncts (compare_columns c op d) h = refl
-some_conjuncts (one_of c vs) h = refl
-some_conjuncts (null_at c) h = refl
-some_conjuncts (negation f) h = refl
 some_conjuncts (all_of no_formulas) h = absurd (false≢true h)
 some_conjuncts (all_of (formulas f fs)) h = refl
-some_conjuncts (any_of fs) h = refl
+some_conjuncts other h = refl
 
 -- a predicate has a conjunct, and can be written
 pub predicate_writable : (o : Pred) → is_pred o ≡ true → are_printable (pred_tokens o) ≡ true → (is_some_list (predicate_of o) && is_written_predicate (predicate_of o)) ≡ true

@@ -15,7 +15,7 @@ use Rattle.plain_values.specs.declared.value.Value.{Value}
 use Rattle.lens_specs.specs.Common.{Name, Names, Columns, Edge, Predicate}
 use Rattle.grammar_specs.specs.Tokens.{Token, word, comma, arrow, close_paren, is_free_name}
 use Rattle.grammar_specs.specs.Written as written
-use Rattle.grammar_specs.specs.Written.{Operand, bare, enclosed, Dep, literal, join_word, kind_tokens, pred_tokens, operand_tokens, expr_tokens, column_tokens, columns_tokens, dep_tokens, deps_tokens, where_tokens, written_tokens, is_some_list, is_operand, is_expr, is_dep, is_condition, is_definition}
+use Rattle.grammar_specs.specs.Written.{Operand, enclosed, Dep, literal, join_word, kind_tokens, pred_tokens, operand_tokens, expr_tokens, column_tokens, columns_tokens, dep_tokens, deps_tokens, where_tokens, written_tokens, is_operand, is_expr, is_dep, is_condition, is_definition}
 use Rattle.grammar_specs.specs.Meaning.{Expr, named, select, drop, rename, join, Definition, table, view}
 use Rattle.grammar_specs.specs.Printing.{predicate_written, operand_of, expr_written, dep_written, condition_written, definition_written}
 use Rattle.grammar_specs.specs.Writable.{is_literal, are_free, is_written_predicate, is_written_expr, is_written_dep, is_writable}

@@ -4,15 +4,12 @@ use Rattle.std.proofs.lemmas.Bool.{and_from, true≢false}
 use Rattle.grammar_specs.specs.Texts.{Placed, tokens_in, Stand}
 use Rattle.grammar_specs.specs.Written.{Written, written_tokens}
 use Rattle.grammar_specs.specs.Meaning.{Definition, IsWritten}
-use Rattle.grammar_specs.specs.Nesting.{nesting, is_too_deep}
+use Rattle.grammar_specs.specs.Nesting.{nesting, max_nesting, is_too_deep}
 use Rattle.grammar_specs.specs.Faults.{IsNestingFault}
 use Rattle.grammar_specs.specs.Printing.{printed, definition_written}
 use Rattle.grammar_specs.specs.Writable.{is_writable}
 use Rattle.grammar_laws.specs.PrintLaws.{SaidIsWritable, PrintedIsSaid, PrintedIsRead}
-use Rattle.grammar_laws.proofs.WrittenDefs.{at_start}
-use Rattle.grammar_laws.proofs.DefLevels.{levels}
-use Rattle.grammar_laws.proofs.WrittenLevels.{written_levels}
-use Rattle.grammar_laws.proofs.Depths.{too_deep_levels}
+use Rattle.grammar_laws.proofs.FirstDeep.{deep_whole, deep_too}
 use Rattle.grammar_laws.proofs.Halts.{halts_at_end, deep_before}
 use Rattle.grammar_laws.proofs.PrintTokens.{are_printable, spells_printable}
 use Rattle.grammar_laws.proofs.PrintDefs.{definition_said}
@@ -50,8 +47,8 @@ printed_is_said d h = (definition_written d, printed_is_written d h, definition_
 -- what is written is as deep as its text
 written_flat : (text : List ℕ) (w : Written) → IsWritten text w → is_too_deep (nesting w) ≡ false → IsNestingFault text → ⊥
 written_flat text w is flat fault =
-    let deep = deep_before text is.1 (length text) (halts_at_end text is.1 is.3 (w, [], is.0, sym is.2 ∙ sym (append-nil (tokens_in is.1)))) fault in
-    true≢false (sym (too_deep_levels (tokens_in is.1) deep) ∙ ap (λ ts. is_too_deep (levels at_start ts)) is.2 ∙ ap is_too_deep (written_levels w is.0) ∙ flat)
+    let d = deep_before text is.1 (length text) (halts_at_end text is.1 is.3 (w, [], is.0, sym is.2 ∙ sym (append-nil (tokens_in is.1)))) fault in
+    true≢false (sym (deep_whole (length d.0) (nesting w) (deep_too max_nesting refl d.0 d.1 w d.3 is.0 (sym is.2 ∙ d.2))) ∙ flat)
 
 -- within the limits it is the answer of that text
 pub printed_is_read : PrintedIsRead

@@ -1,18 +1,124 @@
--- Reading a text gives its answer, and there is no other.
-use Rattle.std.proofs.Common.{◌≡◌, ℕ, zero, suc, ◌-◌, ◌^◌, ◌<◌, Bool, true, false, cond, List, [], ◌∷◌, length, refl, ap, arith}
-use Rattle.std.specs.Prelude.{nat_lt, Option, Some, None, Ok, Err}
+-- Cutting a text and reading its tokens alone gives the answer of the text, and there is no other.
+use Rattle.std.proofs.Common.{◌≡◌, inl, inr, ℕ, zero, suc, true, false, cond, ◌+◌, ◌-◌, ◌^◌, ◌<◌, ◌≤◌, List, [], ◌∷◌, ◌++◌, length, refl, sym, ap, subst, ◌∙◌, append_assoc, append-nil, arith, length-append}
+use Rattle.std.specs.Prelude.{Option, Some, None, Ok, Err, unwrap_or, take_while}
+use Rattle.std.proofs.lemmas.List.{map-append}
 use Rattle.grammar_specs.specs.Tokens.{Token, is_blank}
-use Rattle.grammar_specs.specs.Meaning.{Definition}
+use Rattle.grammar_specs.specs.Texts.{Placed, tokens_in, AreBlank, Stand, IsText, GoesWrong}
+use Rattle.grammar_specs.specs.Written.{Written}
+use Rattle.grammar_specs.specs.Meaning.{Definition, meaning}
 use Rattle.grammar_specs.specs.Nesting.{max_nesting}
-use Rattle.grammar_specs.specs.Faults.{syntax_at, too_large, columns, predicate, nested, has_few_columns, has_few_nodes, SaysFlat, Answers}
-use Rattle.grammar_laws.specs.DefParse.{Parse, at_start, step, ended, count}
-use Rattle.grammar_laws.specs.Front.{drop_while, token_at}
-use Rattle.grammar_laws.specs.Reading.{limited, at_end, read_within, reading}
+use Rattle.grammar_specs.specs.Faults.{too_large, columns, predicate, has_few_columns, has_few_nodes, IsNestingFault, IsSyntaxFault, SaysFlat, Answers}
+use Rattle.grammar_laws.specs.Front.{drop_while, token_at, token_in_front}
+use Rattle.grammar_laws.specs.Steps.{Outcome, read, stopped, too_deep}
+use Rattle.grammar_laws.specs.DefRules.{alone}
+use Rattle.grammar_laws.specs.Reading.{Cut, with_first, cut_within, limited, next_offset, answer, cut, reading_within, reading}
 use Rattle.grammar_laws.specs.Laws.{ReadingAnswers, AnswersAreRead}
-use Rattle.grammar_laws.proofs.ReadTo.{ReadTo, read_none, taken, blanks_off, read_more, goes_too_deep, stops_at_token, stops_at_wrong, stops_at_end, says_flat, syntax_fault}
+use Rattle.grammar_laws.proofs.FrontLists.{front_passes}
+use Rattle.grammar_laws.proofs.FrontTokens.{spelled_some, no_token}
+use Rattle.grammar_laws.proofs.Longest as longest
+use Rattle.grammar_laws.proofs.Longest.{parted, stops, token_stands}
+use Rattle.grammar_laws.proofs.Stands.{stand_more, stand_before, stand_parts, stand_next, GoesOn, one_ahead}
+use Rattle.grammar_laws.proofs.Halts.{nothing_ahead}
 use Rattle.grammar_laws.proofs.OneAnswer.{one_answer}
+use Rattle.grammar_laws.proofs.DefAnswers as tokens
+use Rattle.grammar_laws.proofs.DefAnswers.{Spelled, StopsBefore}
 
--- ---- the end of the text
+-- ---- the tokens of a text
+
+-- what is left before blanks is no shorter than behind them
+blanks_off : (left : List ℕ) → length (drop_while is_blank left) ≤ length left
+blanks_off left = omega (arith, ap length (parted is_blank left), length-append (take_while is_blank left) (drop_while is_blank left))
+
+left_within : (text left : List ℕ) (front : Placed) → Stand 0 text front left → length left ≤ length text
+left_within text left front stand = let before = stand_before 0 text left front stand in omega (arith, ap length before.1, length-append before.0 left)
+
+-- the token with those before it, from this offset
+record Taken (text : List ℕ) (front : Placed) (ahead : List ℕ) (f : Token × List ℕ) : Type 0 where
+  stand : Stand 0 text (front ++ (length text - length ahead, f.0) ∷ []) f.1
+  shorter : length f.1 < length ahead
+
+taken : (text left : List ℕ) (front : Placed) (b : ℕ) (rest : List ℕ) (f : Token × List ℕ) → Stand 0 text front left → drop_while is_blank left ≡ b ∷ rest → token_at b rest ≡ Some f → Taken text front (b ∷ rest) f
+taken text left front b rest f stand ahead found =
+    let here = token_stands b rest f found in
+    let blanks : List ℕ = take_while is_blank left in
+    let split : left ≡ blanks ++ (b ∷ rest) = parted is_blank left ∙ ap (λ x. blanks ++ x) ahead in
+    let size : length (b ∷ rest) ≡ length here.bytes + length f.1 = ap length here.shape ∙ length-append here.bytes f.1 in
+    let within : length (b ∷ rest) ≤ length text = omega (arith, left_within text left front stand, ap length split, length-append blanks (b ∷ rest)) in
+    record {
+      stand = stand_more 0 text left front (length text - length (b ∷ rest)) f.0 blanks here.bytes f.1 stand
+          (split ∙ ap (λ x. blanks ++ x) here.shape ∙ sym (append_assoc blanks here.bytes f.1)) (front_passes is_blank left) here.spells here.ends (omega (arith, size, within));
+      shorter = omega (arith, size, spelled_some f.0 here.bytes here.spells);
+    }
+
+all_blank : (left : List ℕ) → drop_while is_blank left ≡ [] → AreBlank left
+all_blank left e = subst AreBlank (sym (parted is_blank left ∙ ap (λ x. take_while is_blank left ++ x) e ∙ append-nil (take_while is_blank left))) (front_passes is_blank left)
+
+-- the text ends there, or something at this offset is no token
+abbrev Ends : List ℕ → Placed → List ℕ → Option ℕ → Type 0
+Ends text front left None = AreBlank left
+Ends text front left (Some at) = GoesWrong front at text
+
+record CutOf (text : List ℕ) (front : Placed) (c : Cut) : Type 0 where
+  left : List ℕ
+  stand : Stand 0 text (front ++ c.0) left
+  ends : Ends text (front ++ c.0) left c.1
+
+-- what stands in front with nothing behind it
+cut_here : (text left : List ℕ) (front : Placed) (wrong : Option ℕ) → Stand 0 text front left → Ends text front left wrong → CutOf text front ([], wrong)
+cut_here text left front wrong stand ends =
+    record { left = left; stand = subst (λ x. Stand 0 text x left) (sym (append-nil front)) stand; ends = subst (λ x. Ends text x left wrong) (sym (append-nil front)) ends }
+
+wrong_at : (text left : List ℕ) (front : Placed) (b : ℕ) (rest : List ℕ) → Stand 0 text front left → drop_while is_blank left ≡ b ∷ rest → token_at b rest ≡ None → GoesWrong front (length text - suc (length rest)) text
+wrong_at text left front b rest stand ahead none =
+    let before = stand_before 0 text left front stand in
+    let blanks : List ℕ = take_while is_blank left in
+    let split : left ≡ blanks ++ b ∷ rest = parted is_blank left ∙ ap (λ x. blanks ++ x) ahead in (
+      before.0,
+      blanks,
+      b,
+      rest,
+      before.1 ∙ ap (λ x. before.0 ++ x) split ∙ sym (append_assoc before.0 blanks (b ∷ rest)),
+      omega (arith, ap length before.1, length-append before.0 left, ap length split, length-append blanks (b ∷ rest)),
+      subst (Stand 0 text front) split stand,
+      front_passes is_blank left,
+      subst (longest.Stops is_blank) ahead (stops is_blank left),
+      no_token (b ∷ rest) (sym none),
+    )
+
+-- cutting with so many turns
+abbrev Cuts : ℕ → List ℕ → Type 0
+Cuts turns text = (left : List ℕ) (front : Placed) → length left < turns → Stand 0 text front left → CutOf text front (cut_within turns (length text) left)
+
+cut_token : (turns : ℕ) (text left : List ℕ) (front : Placed) (b : ℕ) (rest : List ℕ) → Cuts turns text → length left < suc turns → Stand 0 text front left → drop_while is_blank left ≡ b ∷ rest → (o : Option (Token × List ℕ)) → token_at b rest ≡ o
+    → CutOf text front (elim o [ None ↦ ([], Some (length text - suc (length rest))) | Some f ↦ with_first (length text - suc (length rest), f.0) (cut_within turns (length text) f.1) ])
+cut_token turns text left front b rest again enough stand ahead None none = cut_here text left front (Some (length text - suc (length rest))) stand (wrong_at text left front b rest stand ahead none)
+cut_token turns text left front b rest again enough stand ahead (Some f) found =
+    let p : ℕ × Token = (length text - suc (length rest), f.0) in
+    let k = taken text left front b rest f stand ahead found in
+    let c = again f.1 (front ++ p ∷ []) (omega (arith, enough, k.shorter, blanks_off left, ap length ahead)) k.stand in
+    let others : Cut = cut_within turns (length text) f.1 in
+    let same : (front ++ p ∷ []) ++ others.0 ≡ front ++ p ∷ others.0 = append_assoc front (p ∷ []) others.0 in
+    record { left = c.left; stand = subst (λ x. Stand 0 text x c.left) same c.stand; ends = subst (λ x. Ends text x c.left others.1) same c.ends }
+
+cut_next : (turns : ℕ) (text left : List ℕ) (front : Placed) → Cuts turns text → length left < suc turns → Stand 0 text front left → (ahead : List ℕ) → drop_while is_blank left ≡ ahead
+    → CutOf text front (elim ahead [
+      | [] ↦ ([], None)
+      | b ∷ rest ↦ elim (token_at b rest) [ None ↦ ([], Some (length text - suc (length rest))) | Some f ↦ with_first (length text - suc (length rest), f.0) (cut_within turns (length text) f.1) ]
+    ])
+cut_next turns text left front again enough stand [] shape = cut_here text left front None stand (all_blank left shape)
+cut_next turns text left front again enough stand (b ∷ rest) shape = cut_token turns text left front b rest again enough stand shape (token_at b rest) refl
+
+cuts : (turns : ℕ) (text : List ℕ) → Cuts turns text
+cuts zero text left front enough stand = absurd (omega arith)
+cuts (suc turns) text left front enough stand = cut_next turns text left front (cuts turns text) enough stand (drop_while is_blank left) refl
+
+-- there are no more tokens than bytes
+stand_long : (k : ℕ) (bytes : List ℕ) (ps : Placed) (left : List ℕ) → Stand k bytes ps left → length ps ≤ length bytes
+stand_long k bytes [] left stand = omega arith
+stand_long k bytes (p ∷ ps) left stand =
+    omega (arith, stand_long (k + length stand.0 + length stand.1) stand.2 ps left stand.8, ap length stand.3, length-append stand.0 stand.1, length-append (stand.0 ++ stand.1) stand.2, spelled_some p.1 stand.1 stand.6)
+
+-- ---- the answer
 
 limited_answers : (text : List ℕ) (d : Definition) → SaysFlat text d → Answers text (limited d)
 limited_answers text d says =
@@ -21,64 +127,70 @@ limited_answers text d says =
       | false ↦ λ many. (d, says, many)
     ] refl
 
-end_answers : (text : List ℕ) (p : Parse) (left : List ℕ) (r : ReadTo text p left) → length text < 2 ^ 64 → drop_while is_blank left ≡ [] → (o : Option Definition) → ended p ≡ o → Answers text (at_end (length text) o)
-end_answers text p left r h end None e = syntax_fault text p left r (length text) (stops_at_end text p left r h end e)
-end_answers text p left r h end (Some d) e = limited_answers text d (says_flat text p left r d h end e)
+none_some : {A : Type 0} (a : A) → None ≡ Some a → ⊥
+none_some a e = cc
 
--- ---- one token after another
+-- behind the last token none goes on
+ends_there : (ps g : Placed) (left m : List ℕ) → AreBlank left → GoesOn ps left g m → g ≡ ps
+ends_there ps g left m blank ahead = goes ahead.more ahead.joined ahead.stand
+  where
+    goes : (more : Placed) → g ≡ ps ++ more → Stand ahead.at left more m → g ≡ ps
+    goes [] joined stand = joined ∙ append-nil ps
+    goes (p ∷ more) joined stand =
+        let next = stand_next ahead.at left p more m stand in
+        absurd (none_some (p.1, stand.2) (ap token_in_front (sym (nothing_ahead left blank)) ∙ next.token))
 
--- reading with so many turns gives the answer
-abbrev Answered : ℕ → List ℕ → Type 0
-Answered turns text = (p : Parse) (left : List ℕ) → length left < turns → ReadTo text p left → Answers text (read_within turns (length text) p left)
+no_nesting_fault : (text left : List ℕ) (ps : Placed) (w : Written) → Stand 0 text ps left → AreBlank left → Spelled ps w → IsNestingFault text → ⊥
+no_nesting_fault text left ps w stand blank r fault =
+    let g : Placed = fault.0 in
+    elim (one_ahead 0 text ps g left fault.1 stand fault.2) [
+      | inl ahead ↦ r.flat (tokens_in g) [] (ap tokens_in (sym (ends_there ps g left fault.1 blank ahead)) ∙ sym (append-nil (tokens_in g))) fault.3
+      | inr behind ↦ r.flat (tokens_in g) (tokens_in behind.more) (ap tokens_in behind.joined ∙ map-append (λ p. p.1) g behind.more) fault.3
+    ]
 
--- a token is ahead of what is left
-record Ahead (text : List ℕ) (p : Parse) (left : List ℕ) (b : ℕ) (rest : List ℕ) : Type 0 where
-  short : length text < 2 ^ 64
-  before : ReadTo text p left
-  shape : drop_while is_blank left ≡ b ∷ rest
+module _ (text : List ℕ) (ps : Placed) (left : List ℕ) (stand : Stand 0 text ps left) where
+  read_answers : (w : Written) (rest : Placed) (wrong : Option ℕ) → Ends text ps left wrong → Spelled ps w → Answers text (answer (read w rest) wrong (length text))
+  read_answers w rest None ends r = limited_answers text (meaning w) ((w, (r.good, ps, sym r.spelled, (left, stand, ends)), refl), no_nesting_fault text left ps w stand ends r)
+  read_answers w rest (Some at) ends r =
+      (ps, inr (inl (ends, (w, [], r.good, r.spelled ∙ sym (append-nil (tokens_in ps))))), λ deep. r.flat (tokens_in ps) [] (sym (append-nil (tokens_in ps))) deep)
 
-depth_answers : (turns : ℕ) (text : List ℕ) (p q : Parse) (left : List ℕ) (b : ℕ) (rest : List ℕ) (f : Token × List ℕ) (a : Ahead text p left b rest) → Answered turns text → length left < suc turns
-    → token_at b rest ≡ Some f → step p f.0 ≡ Some q → (v : Bool) → nat_lt max_nesting (count q) ≡ v → Answers text (cond v (Err (too_large nested)) (read_within turns (length text) q f.1))
-depth_answers turns text p q left b rest f a goes_on enough found e true deep = goes_too_deep text p q left b rest f a.before a.short a.shape found e deep
-depth_answers turns text p q left b rest f a goes_on enough found e false few =
-    let shorter = (taken text left a.before.front b rest f a.before.stand a.shape found).shorter in
-    goes_on q f.1 (omega (arith, enough, shorter, blanks_off left, ap length a.shape)) (read_more text p q left b rest f a.before a.shape found e few)
+  stopped_answers : (rest : Placed) (wrong : Option ℕ) → Ends text ps left wrong → StopsBefore ps rest → IsSyntaxFault text (next_offset rest (unwrap_or wrong (length text)))
+  stopped_answers [] None ends h =
+      let whole : h.front ≡ ps = sym (h.split ∙ append-nil h.front) in (
+        h.front,
+        inr (inr (refl, subst (λ x. IsText x text) (sym whole) (left, stand, ends), (h.begins, λ w good spelled. h.last w [] good (spelled ∙ sym (append-nil (tokens_in h.front))) refl))),
+        λ deep. h.flat (tokens_in h.front) [] (sym (append-nil (tokens_in h.front))) deep,
+      )
+  stopped_answers [] (Some at) ends h =
+      let whole : h.front ≡ ps = sym (h.split ∙ append-nil h.front) in
+      (h.front, inr (inl (subst (λ x. GoesWrong x at text) (sym whole) ends, h.begins)), λ deep. h.flat (tokens_in h.front) [] (sym (append-nil (tokens_in h.front))) deep)
+  stopped_answers (p ∷ rest) wrong ends h =
+      let split : ps ≡ (h.front ++ p ∷ []) ++ rest = h.split ∙ sym (append_assoc h.front (p ∷ []) rest) in
+      let parts = stand_parts 0 text (h.front ++ p ∷ []) rest left (subst (λ x. Stand 0 text x left) split stand) in (
+        h.front,
+        inl (p.1, parts.middle, parts.first, (h.begins, λ begins. h.last begins.0 (p.1 ∷ begins.1) begins.2 (begins.3 ∙ append_assoc (tokens_in h.front) (p.1 ∷ []) begins.1) refl)),
+        λ deep. h.flat (tokens_in h.front) [] (sym (append-nil (tokens_in h.front))) deep,
+      )
 
-step_answers : (turns : ℕ) (text : List ℕ) (p : Parse) (left : List ℕ) (b : ℕ) (rest : List ℕ) (f : Token × List ℕ) (a : Ahead text p left b rest) → Answered turns text → length left < suc turns
-    → token_at b rest ≡ Some f → (o : Option Parse) → step p f.0 ≡ o
-    → Answers text (elim o [ None ↦ Err (syntax_at (length text - suc (length rest))) | Some q ↦ cond (nat_lt max_nesting (count q)) (Err (too_large nested)) (read_within turns (length text) q f.1) ])
-step_answers turns text p left b rest f a goes_on enough found None e = syntax_fault text p left a.before _ (stops_at_token text p left b rest f a.before a.short a.shape found e)
-step_answers turns text p left b rest f a goes_on enough found (Some q) e = depth_answers turns text p q left b rest f a goes_on enough found e (nat_lt max_nesting (count q)) refl
+  by_outcome : (n : ℕ) → 0 + n ≡ max_nesting → length ps < 2 ^ 64 → (wrong : Option ℕ) → Ends text ps left wrong → (o : Outcome Written) → alone n ps ≡ o → Answers text (answer o wrong (length text))
+  by_outcome n e few wrong ends (read w rest) is = read_answers w rest wrong ends (tokens.reads n e ps w rest few is)
+  by_outcome n e few wrong ends (stopped rest) is = stopped_answers rest wrong ends (tokens.stops n e ps rest few is)
+  by_outcome n e few wrong ends too_deep is =
+      let deep = tokens.goes_deep n e ps few is in
+      let parts = stand_parts 0 text deep.0 deep.1 left (subst (λ x. Stand 0 text x left) deep.2 stand) in
+      (deep.0, parts.middle, parts.first, deep.3)
 
-token_answers : (turns : ℕ) (text : List ℕ) (p : Parse) (left : List ℕ) (b : ℕ) (rest : List ℕ) (a : Ahead text p left b rest) → Answered turns text → length left < suc turns → (o : Option (Token × List ℕ)) → token_at b rest ≡ o
-    → Answers text (elim o [
-      | None ↦ Err (syntax_at (length text - suc (length rest)))
-      | Some f ↦ elim (step p f.0) [ None ↦ Err (syntax_at (length text - suc (length rest))) | Some q ↦ cond (nat_lt max_nesting (count q)) (Err (too_large nested)) (read_within turns (length text) q f.1) ]
-    ])
-token_answers turns text p left b rest a goes_on enough None none = syntax_fault text p left a.before _ (stops_at_wrong text p left b rest a.before a.short a.shape none)
-token_answers turns text p left b rest a goes_on enough (Some f) found = step_answers turns text p left b rest f a goes_on enough found (step p f.0) refl
-
-turn_answers : (turns : ℕ) (text : List ℕ) (p : Parse) (left : List ℕ) (r : ReadTo text p left) → length text < 2 ^ 64 → Answered turns text → length left < suc turns → (ahead : List ℕ) → drop_while is_blank left ≡ ahead
-    → Answers text (elim ahead [
-      | [] ↦ at_end (length text) (ended p)
-      | b ∷ rest ↦ elim (token_at b rest) [
-        | None ↦ Err (syntax_at (length text - suc (length rest)))
-        | Some f ↦ elim (step p f.0) [ None ↦ Err (syntax_at (length text - suc (length rest))) | Some q ↦ cond (nat_lt max_nesting (count q)) (Err (too_large nested)) (read_within turns (length text) q f.1) ]
-      ]
-    ])
-turn_answers turns text p left r h goes_on enough [] shape = end_answers text p left r h shape (ended p) refl
-turn_answers turns text p left r h goes_on enough (b ∷ rest) shape = token_answers turns text p left b rest (record { short = h; before = r; shape = shape }) goes_on enough (token_at b rest) refl
-
-answered : (turns : ℕ) (text : List ℕ) → length text < 2 ^ 64 → Answered turns text
-answered zero text h p left enough r = absurd (omega arith)
-answered (suc turns) text h p left enough r = turn_answers turns text p left r h (answered turns text h) enough (drop_while is_blank left) refl
+within_answers : (n : ℕ) → 0 + n ≡ max_nesting → (text : List ℕ) → length text < 2 ^ 64 → Answers text (reading_within n text)
+within_answers n e text short =
+    let c = cuts (suc (length text)) text text [] (omega arith) refl in
+    by_outcome text (cut text).0 c.left c.stand n e (omega (arith, short, stand_long 0 text (cut text).0 c.left c.stand)) (cut text).1 c.ends (alone n (cut text).0) refl
 
 -- ---- the laws
 
 -- reading a text gives the text's answer
 pub reading_answers : ReadingAnswers
-reading_answers text h = answered (suc (length text)) text h at_start text (omega arith) (read_none text)
+reading_answers text h = within_answers max_nesting refl text h
 
 -- a text has no other answer
 pub answers_are_read : AnswersAreRead
-answers_are_read text answer h is = one_answer text answer (reading text) is (reading_answers text h)
+answers_are_read text answer h is = one_answer max_nesting refl text answer (reading text) is (reading_answers text h)

@@ -1,8 +1,9 @@
 pub mod Front
 pub mod Tests
-pub mod PredParse
-pub mod ExprParse
-pub mod DefParse
+pub mod Steps
+pub mod PredRules
+pub mod ExprRules
+pub mod DefRules
 pub mod Reading
 pub mod Laws
 pub mod PrintLaws

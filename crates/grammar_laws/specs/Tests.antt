@@ -8,7 +8,7 @@ use Rattle.plain_values.specs.declared.value.Kind.TheVariants as kind
 use Rattle.plain_values.specs.declared.value.Value.{Value}
 use Rattle.plain_values.specs.declared.value.Value.TheVariants.{Null, Int, Text, Flag}
 use Rattle.lens_specs.specs.Common.{Name, Op, eq}
-use Rattle.grammar_specs.specs.Tokens.{Token, word, integer, text, open_paren, close_paren, comma, arrow, operator, is_reserved}
+use Rattle.grammar_specs.specs.Tokens.{Token, word, integer, text, open_paren, close_paren, comma, arrow, operator, is_free_name}
 
 -- the two words are one
 abbrev pub is_word : List ℕ → List ℕ → Bool
@@ -17,35 +17,17 @@ is_word w v = pointwise nat_eq w v
 -- whether it is this word
 abbrev pub is_keyword : List ℕ → Token → Bool
 is_keyword k (word w) = is_word w k
-is_keyword k (integer z) = false
-is_keyword k (text b) = false
-is_keyword k open_paren = false
-is_keyword k close_paren = false
-is_keyword k comma = false
-is_keyword k arrow = false
-is_keyword k (operator op) = false
+is_keyword k other = false
 
--- the name that it is, which is no reserved word
-abbrev pub name_in : Token → Option Name
-name_in (word w) = if is_reserved w then None else Some w
-name_in (integer z) = None
-name_in (text b) = None
-name_in open_paren = None
-name_in close_paren = None
-name_in comma = None
-name_in arrow = None
-name_in (operator op) = None
+-- the name that it is, which can be one
+abbrev pub free_in : Token → Option Name
+free_in (word w) = if is_free_name w then Some w else None
+free_in other = None
 
 -- the comparison that it is
 abbrev pub op_in : Token → Option Op
-op_in (word w) = None
-op_in (integer z) = None
-op_in (text b) = None
-op_in open_paren = None
-op_in close_paren = None
-op_in comma = None
-op_in arrow = None
 op_in (operator op) = Some op
+op_in other = None
 
 -- the truth value of the word
 abbrev pub flag_named : List ℕ → Option Bool
@@ -62,24 +44,14 @@ join_kind_named w = if is_word w (codes "join_dl") then Some DeleteLeft else if 
 -- the truth value that it is
 abbrev pub flag_in : Token → Option Bool
 flag_in (word w) = flag_named w
-flag_in (integer z) = None
-flag_in (text b) = None
-flag_in open_paren = None
-flag_in close_paren = None
-flag_in comma = None
-flag_in arrow = None
-flag_in (operator op) = None
+flag_in other = None
 
 -- the literal that it is
 abbrev pub literal_in : Token → Option Value
 literal_in (word w) = if is_word w (codes "true") then Some (Flag true) else if is_word w (codes "false") then Some (Flag false) else None
 literal_in (integer z) = Some (Int z)
 literal_in (text b) = Some (Text b)
-literal_in open_paren = None
-literal_in close_paren = None
-literal_in comma = None
-literal_in arrow = None
-literal_in (operator op) = None
+literal_in other = None
 
 -- the default that it is: a literal, or null
 abbrev pub fill_in : Token → Option Value
@@ -88,24 +60,12 @@ fill_in t = if is_keyword (codes "null") t then Some Null else literal_in t
 -- the kind that it is
 abbrev pub kind_in : Token → Option Kind
 kind_in (word w) = kind_named w
-kind_in (integer z) = None
-kind_in (text b) = None
-kind_in open_paren = None
-kind_in close_paren = None
-kind_in comma = None
-kind_in arrow = None
-kind_in (operator op) = None
+kind_in other = None
 
 -- the kind of joins that it begins
 abbrev pub join_kind_in : Token → Option JoinKind
 join_kind_in (word w) = join_kind_named w
-join_kind_in (integer z) = None
-join_kind_in (text b) = None
-join_kind_in open_paren = None
-join_kind_in close_paren = None
-join_kind_in comma = None
-join_kind_in arrow = None
-join_kind_in (operator op) = None
+join_kind_in other = None
 
 -- the kind that takes null too
 abbrev pub with_null : Kind → Kind

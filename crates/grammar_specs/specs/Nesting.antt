@@ -4,7 +4,7 @@ use Rattle.std.specs.List.{list_any}
 use Rattle.grammar_specs.specs.Tokens.{Token}
 use Rattle.grammar_specs.specs.Written.{Part, literally, compares, compares_columns, is_in, tests_null, negated, grouped, All, only, joined, Pred, alone, either, Operand, bare, enclosed, Expr, named, select, drop, rename, join, Written, table, view, part_tokens, columns_tokens, deps_tokens}
 
--- the same number at each of the tokens
+-- n, at each of the tokens
 abbrev pub at_each : ℕ → List Token → List ℕ
 at_each n tokens = map (λ _. n) tokens
 

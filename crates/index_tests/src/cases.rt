@@ -90,7 +90,7 @@ const FIRST_STEPS: &str = "
     finds k:int | k=1 | k=1
     shows k=1";
 
-// Fails, with the step, where the table is not as a step says.
+// Takes the steps in turn. It fails, with the step, if the table is not as the step says.
 fn follow<L: Ledger>(alloc: Global, trial: &mut Trial<L>, steps: &str) -> Result<(), Fail> {
     for step in steps.lines() {
         if !is_so(alloc, trial, step.trim())? {
@@ -100,7 +100,7 @@ fn follow<L: Ledger>(alloc: Global, trial: &mut Trial<L>, steps: &str) -> Result
     Ok(())
 }
 
-// Takes the steps of the table of tracks.
+// Takes `STEPS` in a table of tracks.
 fn all<L: Ledger>(alloc: Global, blank: Blank) -> Result<(), Fail>
     requires name { blank.name ≡ L.name }
     requires parts { blank.parts ≡ L.parts }
@@ -115,7 +115,7 @@ fn tables_are_changed_held_and_asked(rt: HostRuntime) -> Result<(), Fail> {
     all::<Brand>(rt.alloc(), Blank::new(1))
 }
 
-// Takes the steps of the table of one column.
+// Takes `FIRST_STEPS` in a table of one column.
 fn first<L: Ledger>(alloc: Global, blank: Blank) -> Result<(), Fail>
     requires name { blank.name ≡ L.name }
     requires parts { blank.parts ≡ L.parts }
@@ -130,14 +130,17 @@ fn a_row_is_seen_once_it_is_settled(rt: HostRuntime) -> Result<(), Fail> {
     first::<Brand>(rt.alloc(), Blank::new(1))
 }
 
-// Takes the step, and says whether it is as it says.
+// Takes the step, and returns whether the table allows the change, or is as the step says.
 fn is_so<L: Ledger>(alloc: Global, trial: &mut Trial<L>, step: &str) -> Result<bool, Fail> {
     let (word, rest) = step.split_once(' ').unwrap_or((step, ""));
     match word {
         "" => Ok(true),
         "index" => indexes(alloc, trial, rest),
         "unindexed" => is_unindexed(alloc, trial, rest),
-        "stage" => trial.stages(rest),
+        "stage" => {
+            trial.stages(rest)?;
+            Ok(true)
+        }
         "shows" => trial.shows(rest),
         "has" => has(alloc, trial, rest),
         "lacks" => Ok(!has(alloc, trial, rest)?),
@@ -146,14 +149,20 @@ fn is_so<L: Ledger>(alloc: Global, trial: &mut Trial<L>, step: &str) -> Result<b
     }
 }
 
-// Takes the step that is this word alone, if the table allows it.
+// Takes the step that is this word alone, if the table's state allows the step.
 fn is_done<L: Ledger>(trial: &mut Trial<L>, word: &str) -> bool {
     match word {
-        "settle" => trial.settles(),
-        "drop" => trial.drops(),
-        "hold" => trial.holds(),
-        "keep" => trial.keeps(),
-        "back" => trial.goes_back(),
+        "settle" => {
+            trial.settles();
+            true
+        }
+        "drop" => {
+            trial.drops();
+            true
+        }
+        "hold" => trial.holds().is_done(),
+        "keep" => trial.keeps().is_done(),
+        "back" => trial.goes_back().is_done(),
         _ => false,
     }
 }
@@ -161,7 +170,7 @@ fn is_done<L: Ledger>(trial: &mut Trial<L>, word: &str) -> bool {
 // Stages an index by the columns.
 fn indexes<L: Ledger>(alloc: Global, trial: &mut Trial<L>, listed: &str) -> Result<bool, Fail> {
     let columns = columns(alloc, listed)?;
-    trial.stages_index(&columns)
+    Ok(trial.stages_index(&columns)?.is_done())
 }
 
 // Whether the table cannot be asked by the columns.
@@ -183,7 +192,7 @@ fn finds<L: Ledger>(alloc: Global, trial: &mut Trial<L>, text: &str) -> Result<b
     finds_by(alloc, trial, &columns, rest)
 }
 
-// The same by a key of these columns, as `a=1 | a=1 b=1; a=1 b=2`.
+// What `finds` checks, for a key of these columns, as `a=1 | a=1 b=1; a=1 b=2`.
 fn finds_by<L: Ledger>(
     alloc: Global,
     trial: &mut Trial<L>,

@@ -14,6 +14,24 @@ use std::sync::ledger::{Blank, Ledger};
 use std::test::Fail;
 use step_counter::Steps;
 
+/// Whether the table was in a state that allows a step.
+#[derive(Clone, Copy, Debug, PartialEq, Eq)]
+pub(crate) enum Outcome {
+    /// The step was done.
+    Done,
+    /// The table's state does not allow the step.
+    NotAllowed,
+}
+
+impl Outcome {
+    pub(crate) fn is_done(self) -> bool {
+        match self {
+            Outcome::Done => true,
+            Outcome::NotAllowed => false,
+        }
+    }
+}
+
 /// A table that is there, whether it is held, and the steps that it took to ask it.
 #[derive(Drop)]
 pub(crate) struct Trial<L: Ledger> {
@@ -66,18 +84,18 @@ impl<L: Ledger> Trial<L> {
     }
 
     /// Stages nothing but an index by the columns, unless the table is held.
-    pub(crate) fn stages_index(&mut self, columns: &Columns) -> Result<bool, Fail> {
+    pub(crate) fn stages_index(&mut self, columns: &Columns) -> Result<Outcome, Fail> {
         if self.held {
-            return Ok(false);
+            return Ok(Outcome::NotAllowed);
         }
         let needs = [need(self.alloc, self.name, columns)?];
         self.tables.unstage();
         self.tables.stage_definition(None, &needs, &mut self.steps)?;
-        Ok(true)
+        Ok(Outcome::Done)
     }
 
     /// Stages nothing but the change that makes these all rows of the table.
-    pub(crate) fn stages(&mut self, rows: &str) -> Result<bool, Fail> {
+    pub(crate) fn stages(&mut self, rows: &str) -> Result<(), Fail> {
         let old = shown(self.alloc, &self.tables, &self.name, &mut self.steps)?;
         let new = relation(self.alloc, old.columns(), rows)?;
         let delta = diff(self.alloc, &old, &new)?;
@@ -86,51 +104,50 @@ impl<L: Ledger> Trial<L> {
             table: self.name,
             delta,
         }])?;
-        Ok(true)
+        Ok(())
     }
 
     /// Makes what is staged present.
-    pub(crate) fn settles(&mut self) -> bool {
+    pub(crate) fn settles(&mut self) {
         self.tables.settle();
-        true
     }
 
     /// Drops what is staged.
-    pub(crate) fn drops(&mut self) -> bool {
+    pub(crate) fn drops(&mut self) {
         self.tables.unstage();
-        true
     }
 
     /// Remembers the table as it is, unless it is held.
-    pub(crate) fn holds(&mut self) -> bool {
+    pub(crate) fn holds(&mut self) -> Outcome {
         if self.held {
-            return false;
+            return Outcome::NotAllowed;
         }
         self.tables.unstage();
         self.tables.hold();
         self.held = true;
-        true
+        Outcome::Done
     }
 
-    /// Lets the table stand as it is, if it is held.
-    pub(crate) fn keeps(&mut self) -> bool {
+    /// Gives up what was remembered when the table was held. The table stays as it is. It is
+    /// not allowed if the table is not held.
+    pub(crate) fn keeps(&mut self) -> Outcome {
         if !self.held {
-            return false;
+            return Outcome::NotAllowed;
         }
         self.tables.unstage();
         self.tables.keep();
         self.held = false;
-        true
+        Outcome::Done
     }
 
     /// Makes the table what it was when it was held, if it is.
-    pub(crate) fn goes_back(&mut self) -> bool {
+    pub(crate) fn goes_back(&mut self) -> Outcome {
         if !self.held {
-            return false;
+            return Outcome::NotAllowed;
         }
         self.tables.back();
         self.held = false;
-        true
+        Outcome::Done
     }
 
     /// Whether a walk finds just these rows, in a step a row, and they are counted.
@@ -156,11 +173,12 @@ impl<L: Ledger> Trial<L> {
         )
     }
 
-    /// Whether just these rows are found by a key, which may have more than the columns.
+    /// Whether the key finds these rows and no others. The key may have more columns than the
+    /// index.
     pub(crate) fn finds(&mut self, columns: &Columns, key: &Row, rows: &str) -> Result<bool, Fail> {
         let need = need(self.alloc, self.name, columns)?;
         if !self.tables.has_index(&need) {
-            return Err(Fail::from("a key by which no index goes"));
+            return Err(Fail::from("no index has these columns"));
         }
         let found = self
             .tables

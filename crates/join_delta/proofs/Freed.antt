@@ -108,7 +108,7 @@ module _ (U V : Columns) (M N : Rows) (d : Delta) (P added : Rows) (fit_left : (
       (in_minus P own q v.0 (false_from_ne_true _ (λ h. absurd_false _ (own_there q h) v.1)))
       (false_from_ne_true _ (λ h. absurd_false _ (shown_there q h) v.1)))
 
-  -- the same, from what the code makes one after the other
+  -- free_are, from what the code makes one after the other
   pub free_made : (SH : Names) (parts others made_old made_shown : Rows) → SH ≡ shared_names U V → parts ≡ P
       → others ≡ minus parts (project (names V) d.add) → made_old ≡ minus others added → made_shown ≡ those (is_shown SH M d.remove) made_old
       → minus others made_shown ≡ minus P (project (names V) (new_view (join_get (names U) (names V) M N) d))

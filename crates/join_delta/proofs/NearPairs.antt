@@ -143,7 +143,7 @@ module _ (U V : Columns) (M N X : Rows) (change d : Delta) (fit_left : (m : Row)
   unfolding join_get
   pairs_are = natural_is U V X near near_fits
 
-  -- the same, from what the code makes one after the other
+  -- pairs_are, from what the code makes one after the other
   module _ (SH UN VN : Names) (found made_near made_pairs : Rows) (sh : SH ≡ S) (un : UN ≡ names U) (vn : VN ≡ names V) (is_found : found ≡ found_each SH N (set.items X))
       (is_near : made_near ≡ new_view found change) (is_pairs : made_pairs ≡ pairs_on SH X made_near) where
     near_is : made_near ≡ near

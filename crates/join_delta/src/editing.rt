@@ -1,4 +1,4 @@
-//! The edit of a join, taken to both sources by the side on which the join deletes.
+//! Carries an edit of a join down to both sources, by the side on which the join deletes.
 ghost use Rattle.std.specs.Prelude.{◌≤◌, ◌+◌, IfOk};
 ghost use Rattle.plain_values.specs.declared.join_kind.JoinKind.TheVariants.{DeleteBoth, DeleteLeft, DeleteRight};
 ghost use Rattle.lens_laws.specs.Work.{node_work, rows_of};
@@ -48,7 +48,7 @@ pub fn join_delta<A: Look, B: Look, L: Ledger>(
     join_change(alloc, JoinKind::DeleteLeft, &left, &right, delta, looked)
 }
 
-/// The same of a join that deletes on the right where it can, and else on the left.
+/// What `join_delta` returns, for a join that deletes on the right if it can, and else on the left.
 pub fn join_dr_delta<A: Look, B: Look, L: Ledger>(
     alloc: Global,
     left: &A,
@@ -79,7 +79,7 @@ pub fn join_dr_delta<A: Look, B: Look, L: Ledger>(
     join_change(alloc, JoinKind::DeleteRight, &left, &right, delta, looked)
 }
 
-/// The same of a join that deletes on the left, and on the right where it can.
+/// What `join_delta` returns, for a join that deletes on the left, and on the right if it can.
 pub fn join_both_delta<A: Look, B: Look, L: Ledger>(
     alloc: Global,
     left: &A,

@@ -60,7 +60,8 @@ pub fn merge_change<K: Look, L: Ledger>(
     Ok(Change { remove, add })
 }
 
-/// The same, where it may be known that the source has all of the rows: then nothing is looked for.
+/// What `merge_change` returns. The caller may know that the source has all of the rows: then this
+/// function looks for nothing.
 pub fn merge_known<K: Look, L: Ledger>(
     alloc: Global,
     source: &Source<'_, K>,

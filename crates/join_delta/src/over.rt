@@ -17,8 +17,8 @@ use std::alloc::Global;
 use std::sync::ledger::Ledger;
 use step_counter::Steps;
 
-/// The rows that these, which are over the left columns, join with the right source, as it is after
-/// its change, and that the edited view lacks.
+/// Joins these rows, which have the left columns, with the right source as it is after its change,
+/// and returns the joined rows that the edited view lacks.
 pub fn over_pairs<A: Look, B: Look, L: Ledger>(
     alloc: Global,
     rows: &RowSet,

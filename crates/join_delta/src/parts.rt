@@ -15,8 +15,8 @@ use std::alloc::Global;
 use std::sync::ledger::Ledger;
 use step_counter::Steps;
 
-/// The right parts that are deleted: where the join deletes on the right, those of the rows that are
-/// joined too much that the edited view lacks.
+/// The right parts that the join deletes. If it deletes on the right, these are the right parts of
+/// the rows that are joined too much, but not those that the edited view has.
 pub fn right_parts<A: Look, L: Ledger>(
     alloc: Global,
     kind: JoinKind,
@@ -145,7 +145,7 @@ fn one_stays(alloc: Global, rows: &[Row], part: &Row, removed: &RowSet) -> Resul
     Ok(false)
 }
 
-// The left parts of those of the rows whose right part is not among these.
+// The left parts of those rows joined too much whose right part is not in `free`.
 fn kept_parts(alloc: Global, merged: &Merged, free: &RowSet) -> Result<RowSet, NoMemory>
     ensures { let C = merged.now.sides.right in
         let pairs = those (λ row. not (has free.now (restrict C row))) merged.now.over in
@@ -155,7 +155,7 @@ fn kept_parts(alloc: Global, merged: &Merged, free: &RowSet) -> Result<RowSet, N
     pairs.project(alloc, &merged.sides.left)
 }
 
-// Those of the rows whose part is not among these.
+// Those of the rows whose part in the columns is not among `parts`.
 fn with_other_parts(
     alloc: Global,
     rows: &RowSet,

@@ -36,7 +36,7 @@ bytes_follow {a} {b} {c} {xs} {ys} first second = record {
   after_value = second.after_value;
 }
 
--- the same bytes, where it is then said whether a value has ended
+-- added bytes are added still if it is then said whether a value has ended
 pub ended_as : {a b c : Written} {xs : List ℕ} {m : Bool} (n : Bool) → AddsBytes a b xs m → c.bytes ≡ b.bytes → c.after_value ≡ n → AddsBytes a c xs n
 ended_as n added same now = record { bytes = same ∙ added.bytes; after_value = now }
 

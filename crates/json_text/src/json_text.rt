@@ -13,9 +13,9 @@ use std::alloc::Global;
 use std::marker::Model;
 use std::mem;
 
-// How many bytes are gathered before the text takes them, so that few tokens cost a call of its
-// vector.
-const GATHERED: usize = 256;
+// How many bytes the buffer has. They join the text when it is full, so that few tokens cost a call
+// of the text's vector.
+const BUFFER: usize = 256;
 
 // A longer text is left to json's writer, which tests many bytes at once.
 const SHORT: usize = 32;
@@ -25,10 +25,11 @@ const SHORT: usize = 32;
 #[derive(Drop)]
 pub struct JsonText {
     alloc: Global,
-    taken: Vec<u8>,
-    // The bytes that come next are the first `len`.
-    gathered: [u8; 256],
+    text: Vec<u8>,
+    // Its first `len` bytes come after those of `text`.
+    buffer: [u8; 256],
     len: usize,
+    // Whether a value has just ended. Then a comma comes before the next value or member.
     after_value: bool,
 }
 
@@ -40,21 +41,21 @@ impl Model for JsonText {
 
     ghost coded = { written_code };
 
-    ghost view = { λ t. record { bytes = t.taken.items ++ take t.len t.gathered; after_value = t.after_value } };
+    ghost view = { λ t. record { bytes = t.text.items ++ take t.len t.buffer; after_value = t.after_value } };
 
     ghost invariant = { λ t. t.len ≤ 256 };
 }
 
 impl JsonText {
-    /// No text yet, with room for so many bytes, or `NoMemory`.
+    /// An empty text, with room for `room` bytes, or `NoMemory`.
     pub fn new(alloc: Global, room: usize) -> Result<JsonText, NoMemory>
         ensures bytes { IfOk result (λ text. text.bytes ≡ []) }
         ensures after_value { IfOk result (λ text. text.after_value ≡ false) }
     {
         Ok(JsonText {
             alloc,
-            taken: Vec::with_capacity(alloc, room)?,
-            gathered: [0; 256],
+            text: Vec::with_capacity(alloc, room)?,
+            buffer: [0; 256],
             len: 0,
             after_value: false,
         })
@@ -65,13 +66,13 @@ impl JsonText {
         ensures { IfOk result (λ bytes. bytes.items ≡ self.bytes) }
     {
         let JsonText {
-            mut taken,
-            gathered,
+            mut text,
+            buffer,
             len,
             ..
         } = self;
-        taken.extend_from_slice(&gathered[..len])?;
-        Ok(taken)
+        text.extend_from_slice(&buffer[..len])?;
+        Ok(text)
     }
 
     /// Begins an object. `NoMemory` is the only error of this and of each other token.
@@ -168,7 +169,7 @@ impl JsonText {
         self.word("null")
     }
 
-    // A bracket that begins a value.
+    // Adds a bracket that begins a value.
     fn begin(&mut self, bracket: u8) -> Result<(), NoMemory>
         ensures { OnOk result (AddsBytes self.old self.new (comma self.old ++ bracket ∷ []) false) }
     {
@@ -178,7 +179,7 @@ impl JsonText {
         Ok(())
     }
 
-    // A bracket that ends a value.
+    // Adds a bracket that ends a value.
     fn end(&mut self, bracket: u8) -> Result<(), NoMemory>
         ensures { OnOk result (AddsBytes self.old self.new (bracket ∷ []) true) }
     {
@@ -187,7 +188,7 @@ impl JsonText {
         Ok(())
     }
 
-    // A value that is one word without quotes.
+    // Adds a value that is one word without quotes.
     #[inline(always)]
     fn word(&mut self, word: &str) -> Result<(), NoMemory>
         ensures { OnOk result (AddsBytes self.old self.new (comma self.old ++ word.now) true) }
@@ -239,11 +240,11 @@ impl JsonText {
         ensures { OnOk result
             (AddsBytes self.old self.new (quoted text.now) self.old.after_value) }
     {
-        self.taken.extend_from_slice(&self.gathered[..self.len])?;
+        self.text.extend_from_slice(&self.buffer[..self.len])?;
         self.len = 0;
-        let mut out = Writer::new(mem::replace(&mut self.taken, Vec::new(self.alloc)));
+        let mut out = Writer::new(mem::replace(&mut self.text, Vec::new(self.alloc)));
         out.string(text)?;
-        self.taken = out.into_inner();
+        self.text = out.into_inner();
         Ok(())
     }
 
@@ -252,10 +253,10 @@ impl JsonText {
     fn put(&mut self, bytes: &[u8]) -> Result<(), NoMemory>
         ensures { OnOk result (AddsBytes self.old self.new bytes.now self.old.after_value) }
     {
-        if bytes.len() > GATHERED - self.len {
-            return self.take(bytes);
+        if bytes.len() > BUFFER - self.len {
+            return self.flush_and_append(bytes);
         }
-        self.len = place(&mut self.gathered, self.len, bytes);
+        self.len = place(&mut self.buffer, self.len, bytes);
         Ok(())
     }
 
@@ -264,22 +265,22 @@ impl JsonText {
     fn put_byte(&mut self, byte: u8) -> Result<(), NoMemory>
         ensures { OnOk result (AddsBytes self.old self.new (byte ∷ []) self.old.after_value) }
     {
-        if self.len == GATHERED {
-            return self.take(&[byte]);
+        if self.len == BUFFER {
+            return self.flush_and_append(&[byte]);
         }
-        self.len = place_byte(&mut self.gathered, self.len, byte);
+        self.len = place_byte(&mut self.buffer, self.len, byte);
         Ok(())
     }
 
-    // What was gathered is taken, and these bytes behind it.
+    // Appends the bytes of the buffer to the text, and these bytes after them.
     #[cold]
     #[inline(never)]
-    fn take(&mut self, bytes: &[u8]) -> Result<(), NoMemory>
+    fn flush_and_append(&mut self, bytes: &[u8]) -> Result<(), NoMemory>
         ensures { OnOk result (AddsBytes self.old self.new bytes.now self.old.after_value) }
     {
-        self.taken.extend_from_slice(&self.gathered[..self.len])?;
+        self.text.extend_from_slice(&self.buffer[..self.len])?;
         self.len = 0;
-        self.taken.extend_from_slice(bytes)?;
+        self.text.extend_from_slice(bytes)?;
         Ok(())
     }
 }

@@ -15,7 +15,7 @@ pub(crate) fn place(buffer: &mut [u8], at: usize, bytes: &[u8]) -> usize
     end
 }
 
-// The same of one byte.
+// Writes the byte at the place, and returns the place behind it.
 #[inline(always)]
 pub(crate) fn place_byte(buffer: &mut [u8], at: usize, byte: u8) -> usize
     requires { at < length buffer.old }

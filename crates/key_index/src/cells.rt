@@ -1,4 +1,4 @@
-//! What rows have in some columns: its hash, and how that of two rows compares.
+//! The values that a row has in some columns: their hash, and how the values of two rows compare.
 ghost use Rattle.std.specs.Prelude.{◌≡◌, option_copied};
 ghost use Rattle.std.specs.FinMap as finmap;
 ghost use Rattle.std.specs.Option.{option_cmp};
@@ -27,17 +27,17 @@ pub fn hash_cells(row: &Row, cols: &Names) -> u64
 pub fn cells_cmp(row: &Row, cols: &Names, other: &Row, others: &Names) -> Ordering
     ensures { result ≡ cells_cmp (key_of cols.now row.now) (key_of others.now other.now) }
 {
-    let names = cols.as_slice();
-    let their = others.as_slice();
-    for place in 0..names.len().min(their.len()) {
-        let mine = cell(row, &names[place], place);
-        let its = cell(other, &their[place], place);
-        match cell_cmp(mine, its) {
+    let own_cols = cols.as_slice();
+    let other_cols = others.as_slice();
+    for place in 0..own_cols.len().min(other_cols.len()) {
+        let own_cell = cell(row, &own_cols[place], place);
+        let other_cell = cell(other, &other_cols[place], place);
+        match cell_cmp(own_cell, other_cell) {
             Ordering::Equal => (),
             order => return order,
         }
     }
-    names.len().cmp(&their.len())
+    own_cols.len().cmp(&other_cols.len())
 }
 
 // How a cell stands to another. No value is before each value.
@@ -52,7 +52,8 @@ fn cell_cmp(cell: Option<&Value>, other: Option<&Value>) -> Ordering
     }
 }
 
-// What the row has under a name, which stands at this place in rows that have few columns.
+// The row's value under the name. The name stands at `place` in the key, and mostly also in a row
+// of few columns, so that place is tried first.
 fn cell<'a>(row: &'a Row, name: &Name, place: usize) -> Option<&'a Value>
     ensures { option_copied result ≡ finmap.get row.now name.now }
 {

@@ -1,4 +1,4 @@
-//! Indexes that are filled by a walk along rows.
+//! Fills indexes by a scan of rows.
 ghost use Rattle.std.specs.Prelude.{◌≡◌, ◌+◌, ◌≤◌, [], length, IfOk, OnOk};
 ghost use Rattle.key_index.specs.Lists.{AreKeyed, IsTableOf, SameCols, rows_of, set_of};
 

@@ -103,7 +103,7 @@ impl Group {
 }
 
 impl Members {
-    // These rows without one.
+    // These rows without `row`.
     fn without(self, row: &Row) -> Members
         ensures { rows_in result ≡ set.remove (rows_in self) row.now }
     {
@@ -125,7 +125,7 @@ impl Members {
     }
 }
 
-// One row, unless it is that one.
+// What is left of `one` without `row`.
 fn one_without(one: Row, row: &Row) -> Members
     ensures { rows_in result ≡ set.remove (singleton one) row.now }
 {
@@ -136,7 +136,7 @@ fn one_without(one: Row, row: &Row) -> Members
     }
 }
 
-// Two rows without one.
+// What is left of two rows without `row`.
 fn two_without(one: Row, other: Row, row: &Row) -> Members
     ensures { rows_in result ≡ set.remove (pair one other) row.now }
 {

@@ -79,14 +79,14 @@ impl LineCutter {
         })
     }
 
-    /// Finds the next line. It asks the source only where no whole line waits.
+    /// Finds the next line. It asks the source only if no whole line waits.
     pub fn next<S: Source>(&mut self, source: &mut S) -> Cut
         requires { self.old.done ≡ false }
         ensures cuts { Cuts result self.old.pending self.new.line self.new.pending self.old.taken self.new.taken
             self.old.limit self.old.ended self.new.ended (S.left source.old) (S.left source.new)
             (S.asked source.old) (S.asked source.new) }
 
-        // The source is not asked where a whole line waits.
+        // The cutter does not ask the source if a whole line waits.
         ensures asks { NeedsNone self.old.pending self.old.taken self.old.limit self.old.ended
             → source.new ≡ source.old }
 

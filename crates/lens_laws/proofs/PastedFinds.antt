@@ -54,7 +54,7 @@ module _ (UC VC : Columns) (M N : Rows) (hM : AllFit UC M) (hN : AllFit VC N) (C
       (λ n m i j. both_is_paste VC m n (hN n (from_those (agree P (cut P k)) N n i).0)))
       ∙ right_first_is UC VC M N hM hN C k
 
--- ---- the same with names for the steps of a function: the names of both sides, those shared, the key's part, the key cut down, and what the first look-up gives
+-- ---- the lists that a join finds, with names for the steps of a function: the names of both sides, those shared, the key's part, the key cut down, and what the first look-up gives
 pub key_is_over : (C L P : Names) (k q : Row) → IsOver C k → P ≡ set.intersection C L → q ≡ restrict P k → IsOver P q
 unfolding cut
 key_is_over C L P k q o eP eq = subst (IsOver P) (sym eq) (subst (λ Z. IsOver Z (restrict Z k)) (sym eP) (cut_is_over C (set.intersection C L) k o (λ c i. (from_shared C L c i).0)))

@@ -47,7 +47,7 @@ KeyedWork = (L : Lens) (d e w : ℕ) → e ≤ 8192 → e * d * size L w ≤ wor
 abbrev pub SelectWork : Type 0
 SelectWork = (P : Predicate) (L : Lens) (d e w x : ℕ) → let n = size (select P L) w in x ≤ node_work d n → e ≤ rows_down d n → x + work L e w ≤ work (select P L) d w
 
--- the same of a drop
+-- what a drop does itself, and what its source does with the rows handed down
 abbrev pub DropWork : Type 0
 DropWork = (A : Name) (X : Names) (a : Value) (L : Lens) (d e w x : ℕ) → let n = size (drop A X a L) w in x ≤ node_work d n → e ≤ rows_down d n → x + work L e w ≤ work (drop A X a L) d w
 

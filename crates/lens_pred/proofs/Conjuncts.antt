@@ -55,7 +55,7 @@ same_not false false e = refl
 pub none_fails : {X : Type 0} (p : X → Bool) (xs : List X) (b : Bool) → is_some (find (λ x. not (p x)) xs) ≡ not b → b ≡ list_all p xs
 none_fails p xs b e = same_not (list_all p xs) b (sym (some_fails p xs) ∙ e)
 
--- ---- the same of a predicate as of the list of its formulas
+-- ---- a predicate has the rows, names, nodes and faults of kind that the list of its formulas has
 
 pub holds-list_view : (P : Predicate) (r : Row) → all_hold (list_view P) r ≡ holds P r
 holds-list_view [] r = refl

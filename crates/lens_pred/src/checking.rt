@@ -88,7 +88,7 @@ fn are_like(left: Option<Kind>, right: Option<Kind>) -> bool
     }
 }
 
-// Whether the column of this kind is there, and the value is null or of its base.
+// Whether the column is there, with this kind, and the value is null or fits the kind.
 fn is_like(value: &Value, kind: Option<Kind>) -> bool
     ensures { result ≡ is_like value.now kind }
 {
@@ -98,7 +98,7 @@ fn is_like(value: &Value, kind: Option<Kind>) -> bool
     }
 }
 
-// Whether the column of this kind is there, and each of the values is null or of its base.
+// Whether the column is there, with this kind, and each of the values is null or fits the kind.
 fn all_like(kind: Option<Kind>, values: &[Value]) -> bool
     ensures { result ≡ list_all (λ v. is_like v kind) values.now }
 {

@@ -22,8 +22,10 @@ use Rattle.lens_laws.specs.Lenses.{IsTyped}
 use Rattle.lens_laws.proofs.Asked.{contains_head, drop_key}
 use Rattle.lens_laws.proofs.Join.{parts_fit}
 use Rattle.lens_laws.proofs.Lenses.{get_sort}
-use Rattle.lens_laws.proofs.NodeFinds.{cut_is_over, fits_is_over, has_part}
+use Rattle.lens_laws.proofs.NodeFinds.{fits_is_over, has_part}
 use Rattle.lens_laws.proofs.NodeFinds.{has_in_join}
+use Rattle.signed_delta.specs.Keys.{HasColumns}
+use Rattle.signed_delta.proofs.Looks.{find_by-restrict}
 use Rattle.base_index.specs.Held.{State, relation_in}
 use Rattle.lens_probe.specs.Looking.{MayFind, MayLook}
 use Rattle.view_reading.proofs.Bases.{rows_shown}
@@ -73,12 +75,11 @@ source_of_drop L S A X v st is typed may = drop_looks A X v S st (subst IsTyped 
 drop_within : (A : Name) (X : Names) (v : Value) (S : Lens) → IsTyped (drop A X v S) → Within X (view_names (drop A X v S))
 drop_within A X v S typed = subst (Within X) (sym (names-without (sort_of S).columns A)) (drop_key A X v S typed)
 
--- the row's part in the columns that determine is a key
-pub drop_over : (L S : Lens) (A : Name) (X : Names) (v : Value) (r q : Row) → drop A X v S ≡ L → IsTyped L → Fits (sort_of L).columns r → q ≡ restrict X r → IsOver X q
-unfolding cut
-drop_over L S A X v r q is typed fits part =
+-- the row has the columns that determine
+pub drop_over : (L S : Lens) (A : Name) (X : Names) (v : Value) (r : Row) → drop A X v S ≡ L → IsTyped L → Fits (sort_of L).columns r → HasColumns X r
+drop_over L S A X v r is typed fits c i =
     let within = subst (λ M. IsTyped M → Within X (view_names M)) is (drop_within A X v S) typed in
-    subst (IsOver X) (sym part) (cut_is_over (view_names L) X r (fits_is_over (sort_of L).columns r fits) within)
+    fits_is_over (sort_of L).columns r fits c ∙ within c i
 
 -- two rows over C agree on it where one is the part of the other
 agrees_as_part : (C : Names) (r m : Row) → IsOver C r → agree C r m ≡ eq_by_cmp row_cmp r (cut C m)
@@ -97,24 +98,24 @@ agrees_as_part C r m over = same_bool _ _
 any_alike : (p q : Row → Bool) (rows : List Row) → ((m : Row) → p m ≡ q m) → list_any p rows ≡ list_any q rows
 any_alike p q rows same = ap (λ f. list_any f rows) (λ i m. same m i)
 
-dropped_has : (A : Name) (X : Names) (v : Value) (S : Lens) (db : Tables) (r q : Row) (D : Names) (F : Rows) (rows : List Row) → IsTyped (drop A X v S) → Fits (sort_of (drop A X v S)).columns r
-    → D ≡ view_names (drop A X v S) → q ≡ restrict X r → F ≡ find_by X q (get S db) → rows ≡ set.items F → list_any (agree D r) rows ≡ has (get (drop A X v S) db) r
+dropped_has : (A : Name) (X : Names) (v : Value) (S : Lens) (db : Tables) (r : Row) (D : Names) (F : Rows) (rows : List Row) → IsTyped (drop A X v S) → Fits (sort_of (drop A X v S)).columns r
+    → D ≡ view_names (drop A X v S) → F ≡ find_by X r (get S db) → rows ≡ set.items F → list_any (agree D r) rows ≡ has (get (drop A X v S) db) r
 unfolding cut get drop_get
-dropped_has A X v S db r q D F rows typed fits cols part found listed =
+dropped_has A X v S db r D F rows typed fits cols found listed =
     let E = set.difference (view_names S) (one A) in
     let U = (sort_of (drop A X v S)).columns in
     let same : D ≡ E = cols ∙ names-without (sort_of S).columns A in
     let over : IsOver E r = subst (λ C. IsOver C r) (names-without (sort_of S).columns A) (fits_is_over U r fits) in
     ap (λ C. list_any (agree C r) rows) same
-    ∙ ap (list_any (agree E r)) (listed ∙ ap set.items (found ∙ ap (λ z. find_by X z (get S db)) part))
+    ∙ ap (list_any (agree E r)) (listed ∙ ap set.items (found ∙ sym (find_by-restrict X r (get S db))))
     ∙ any_alike (agree E r) (λ m. eq_by_cmp row_cmp r (cut E m)) _ (λ m. agrees_as_part E r m over)
     ∙ has_part E X (get S db) r (drop_key A X v S typed)
 
 -- one of the rows found agrees with the row where the projection has it
-pub drop_has : (L S : Lens) (A : Name) (X : Names) (v : Value) (db : Tables) (r q : Row) (D : Names) (F : Rows) (rows : List Row) → drop A X v S ≡ L → IsTyped L → Fits (sort_of L).columns r
-    → D ≡ view_names L → q ≡ restrict X r → F ≡ find_by X q (get S db) → rows ≡ set.items F → list_any (agree D r) rows ≡ has (get L db) r
-drop_has L S A X v db r q D F rows is typed fits cols part found listed =
-    dropped_has A X v S db r q D F rows (subst IsTyped (sym is) typed) (subst (λ M. Fits (sort_of M).columns r) (sym is) fits) (cols ∙ ap view_names (sym is)) part found listed
+pub drop_has : (L S : Lens) (A : Name) (X : Names) (v : Value) (db : Tables) (r : Row) (D : Names) (F : Rows) (rows : List Row) → drop A X v S ≡ L → IsTyped L → Fits (sort_of L).columns r
+    → D ≡ view_names L → F ≡ find_by X r (get S db) → rows ≡ set.items F → list_any (agree D r) rows ≡ has (get L db) r
+drop_has L S A X v db r D F rows is typed fits cols found listed =
+    dropped_has A X v S db r D F rows (subst IsTyped (sym is) typed) (subst (λ M. Fits (sort_of M).columns r) (sym is) fits) (cols ∙ ap view_names (sym is)) found listed
     ∙ ap (λ M. has (get M db) r) is
 
 -- ---- a join

@@ -16,7 +16,7 @@ use Rattle.lens_specs.specs.Lens.{join}
 use Rattle.fd_laws.proofs.Common.{names-without, name_exact, name_total, from_those, agree-cut, agree_back, agree_on, agree_within, row_exact, row_total}
 use Rattle.fd_laws.proofs.Names.{subset_is}
 use Rattle.lens_laws.specs.Asked.{keys_at, Reaches}
-use Rattle.lens_laws.specs.Finds.{AllFit, IsOver}
+use Rattle.lens_laws.specs.Finds.{AllFit}
 use Rattle.lens_laws.specs.KeyedDeltas.{find_by}
 use Rattle.lens_laws.specs.Lenses.{AreOf, IsTyped}
 use Rattle.lens_laws.proofs.Asked.{contains_map, keys_are, keys_reach}
@@ -24,11 +24,13 @@ use Rattle.lens_laws.proofs.Finds.{find_project, find_select}
 use Rattle.lens_laws.proofs.Lenses.{get_sort}
 use Rattle.lens_laws.proofs.NodeFinds.{find_alike, find_cut, fits_is_over}
 use Rattle.lens_laws.proofs.PastedFinds.{found_are_over, left_pairs_are, right_pairs_are, shared_within}
+use Rattle.signed_delta.specs.Keys.{HasColumns}
 use Rattle.signed_delta.proofs.Looks.{passed_are}
 use Rattle.base_index.specs.Held.{State, is_indexed, relation_in}
 use Rattle.lens_probe.specs.Looking.{MayFind, both_of, find_part, pairs_of}
 use Rattle.view_reading.proofs.Bases.{rows_shown}
 use Rattle.view_reading.proofs.Listed.{own_parts, parts}
+use Rattle.lens_probe.proofs.KeyColumns.{has_as_part}
 use Rattle.lens_probe.proofs.Viewing.{under_drop, under_left, under_right, under_select}
 
 -- ---- a table
@@ -188,10 +190,10 @@ module _ (kind : JoinKind) (A B : Lens) (st : State) (C : Names) (typed : IsType
 
 -- each row that a side finds has the shared columns
 pub rows_over : (A : Lens) (st : State) (C S : Names) (k : Row) (F : Rows) (rows : List Row) → IsTyped A → AreOf A st.relations → Within S (view_names A) → F ≡ find_part C k (view_names A) (get A st.relations) → rows ≡ set.items F
-    → (m : Row) → Contains rows m → IsOver S (restrict S m)
-rows_over A st C S k F rows typed are within found listed =
+    → (m : Row) → Contains rows m → HasColumns S m
+rows_over A st C S k F rows typed are within found listed m i =
     let P = set.intersection C (view_names A) in
-    found_are_over (sort_of A).columns S P (restrict P k) (get A st.relations) F rows (get_sort A st.relations typed are).columns within found listed
+    has_as_part S m (found_are_over (sort_of A).columns S P (restrict P k) (get A st.relations) F rows (get_sort A st.relations typed are).columns within found listed m i)
 
 -- columns that are all among others are what both have
 pub whole_part : (C U : Names) → set.is_subset C U ≡ true → set.intersection C U ≡ C

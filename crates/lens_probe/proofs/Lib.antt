@@ -1,4 +1,5 @@
 mod HandedSteps
+mod KeyColumns
 pub mod Contained
 pub mod Found
 pub mod Viewing

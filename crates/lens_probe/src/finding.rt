@@ -9,7 +9,7 @@ ghost use Rattle.lens_specs.specs.Rows.{agree};
 ghost use Rattle.lens_laws.specs.KeyedDeltas.{find_by};
 ghost use Rattle.lens_laws.specs.Lenses.{IsTyped};
 ghost use Rattle.lens_laws.specs.Work.{size};
-ghost use Rattle.signed_delta.specs.Keys.{IsKey};
+ghost use Rattle.signed_delta.specs.Keys.{HasColumns};
 ghost use Rattle.lens_probe.specs.NearRows.{AreKnown, of_join};
 ghost use Rattle.lens_probe.specs.Looking.{ArePartners, FindsWithin, MayFind, find_part, pairs_of};
 
@@ -25,7 +25,7 @@ use std::sync::ledger::Ledger;
 use step_counter::Steps;
 use view_reading::{names_of, shared_names};
 
-/// A look-up in tables: the columns to go by, and a key over these columns.
+/// A look-up in tables: the columns to go by, and a row that has them.
 #[derive(Clone, Copy)]
 pub(crate) struct Query<'a> {
     pub(crate) tables: &'a Tables,
@@ -33,8 +33,7 @@ pub(crate) struct Query<'a> {
     pub(crate) key: &'a Row,
 }
 
-// Rows of one side of a join that agree on the shared columns with a row of the other side, of which
-// the key is the part in these columns.
+// Rows of one side of a join that agree on the shared columns with the key, a row of the other side.
 #[derive(Drop)]
 struct Partners {
     key: Row,
@@ -53,7 +52,7 @@ pub(crate) fn find_in<L: Ledger>(
 ) -> Result<RowSet, NoMemory>
     requires near { AreKnown (of_join lens.now query.now.tables.now.present.relations) near.now }
     requires asked { MayFind lens.now query.now.tables.now.present query.now.cols.now }
-    requires key { IsKey query.now.cols.now query.now.key.now }
+    requires key { HasColumns query.now.cols.now query.now.key.now }
     ensures found { let shown = get lens.now query.now.tables.now.present.relations in
         IfOk result (λ found. found ≡ find_by query.now.cols.now query.now.key.now shown) }
     ensures looks { (w : ℕ)
@@ -91,7 +90,7 @@ fn find_parts<L: Ledger>(
     requires near { AreKnown (of_join lens.now query.now.tables.now.present.relations) near.now }
     requires kept { Within query.now.cols.now kept.now }
     requires asked { MayFind lens.now query.now.tables.now.present query.now.cols.now }
-    requires key { IsKey query.now.cols.now query.now.key.now }
+    requires key { HasColumns query.now.cols.now query.now.key.now }
     ensures found { let shown = get lens.now query.now.tables.now.present.relations in
         IfOk result (λ found.
         found ≡ project kept.now (find_by query.now.cols.now query.now.key.now shown)) }
@@ -128,7 +127,7 @@ fn find_renamed<L: Ledger>(
     requires typed { IsTyped (rename col.now to.now of.now) }
     requires asked { let st = query.now.tables.now.present in
         MayFind (rename col.now to.now of.now) st query.now.cols.now }
-    requires key { IsKey query.now.cols.now query.now.key.now }
+    requires key { HasColumns query.now.cols.now query.now.key.now }
     ensures found { let L = rename col.now to.now of.now in
         let shown = get L query.now.tables.now.present.relations in
         IfOk result (λ found. found ≡ find_by query.now.cols.now query.now.key.now shown) }
@@ -137,7 +136,9 @@ fn find_renamed<L: Ledger>(
         → looked.new ≤ looked.old + size L w }
 {
     let cols = query.cols.rename(alloc, to, col)?;
-    let key = rename_row(alloc, query.key, to, col)?;
+    // The key may also have a column of the old name, which is none of the query's.
+    let part = query.key.project(alloc, query.cols)?;
+    let key = rename_row(alloc, &part, to, col)?;
     let asked = Query {
         cols: &cols,
         key: &key,
@@ -163,7 +164,7 @@ fn find_joined<L: Ledger>(
     requires kept { Within query.now.cols.now kept.now }
     requires asked { let st = query.now.tables.now.present in
         MayFind (join _kind left.now right.now) st query.now.cols.now }
-    requires key { IsKey query.now.cols.now query.now.key.now }
+    requires key { HasColumns query.now.cols.now query.now.key.now }
     ensures found { let shown = get (join _kind left.now right.now) query.now.tables.now.present.relations in
         IfOk result (λ found.
         found ≡ project kept.now (find_by query.now.cols.now query.now.key.now shown)) }
@@ -198,7 +199,7 @@ fn pairs_from<L: Ledger>(
         MayFind side.now st (set.intersection query.now.cols.now (view_names side.now)) }
     requires other { MayFind other.now query.now.tables.now.present shared.now }
     requires shared { Within shared.now (view_names side.now) }
-    requires key { IsKey query.now.cols.now query.now.key.now }
+    requires key { HasColumns query.now.cols.now query.now.key.now }
     ensures found { let db = query.now.tables.now.present.relations in
         let C = query.now.cols.now in
         let found = find_part C query.now.key.now (view_names side.now) (get side.now db) in
@@ -223,8 +224,8 @@ fn pairs_from<L: Ledger>(
     RowSet::new(alloc, pairs)
 }
 
-// The rows of a side of the join that agree with its part of the key. Mostly the whole key is its
-// part, and nothing is allocated.
+// The rows of a side of the join that agree with the key on its columns. Mostly the columns are all
+// its own, and nothing is allocated.
 #[cycle(find)]
 fn find_by_part<L: Ledger>(
     alloc: Global,
@@ -234,7 +235,7 @@ fn find_by_part<L: Ledger>(
 ) -> Result<RowSet, NoMemory>
     requires asked { let st = query.now.tables.now.present in
         MayFind side.now st (set.intersection query.now.cols.now (view_names side.now)) }
-    requires key { IsKey query.now.cols.now query.now.key.now }
+    requires key { HasColumns query.now.cols.now query.now.key.now }
     ensures found { let shown = get side.now query.now.tables.now.present.relations in
         IfOk result (λ found.
         found ≡ find_part query.now.cols.now query.now.key.now (view_names side.now) shown) }
@@ -247,10 +248,8 @@ fn find_by_part<L: Ledger>(
         return find_in(alloc, side, &[], query, looked);
     }
     let part = query.cols.meet(alloc, names_of(side))?;
-    let part_key = query.key.project(alloc, &part)?;
     let asked = Query {
         cols: &part,
-        key: &part_key,
         ..*query
     };
     find_in(alloc, side, &[], &asked, looked)
@@ -271,8 +270,7 @@ fn pair_each<L: Ledger>(
     looked: &mut Steps<L>,
 ) -> Result<Vec<Row>, NoMemory>
     requires asked { MayFind other.now query.now.tables.now.present shared.now }
-    requires over { (row : _) → Contains rows.now row
-        → IsKey shared.now (restrict shared.now row) }
+    requires have { (row : _) → Contains rows.now row → HasColumns shared.now row }
     ensures pairs { let others = get other.now query.now.tables.now.present.relations in
         let C = query.now.cols.now in
         IfOk result (λ pairs.
@@ -311,7 +309,7 @@ fn partners_of<L: Ledger>(
     looked: &mut Steps<L>,
 ) -> Result<Partners, NoMemory>
     requires asked { MayFind other.now query.now.tables.now.present shared.now }
-    requires over { IsKey shared.now (restrict shared.now row.now) }
+    requires have { HasColumns shared.now row.now }
     requires last { let others = get other.now query.now.tables.now.present.relations in
         IfSome last (ArePartners shared.now others) }
     ensures partners { let others = get other.now query.now.tables.now.present.relations in
@@ -327,12 +325,12 @@ fn partners_of<L: Ledger>(
             return Ok(last);
         }
     }
-    let key = row.project(alloc, shared)?;
     let asked = Query {
         cols: shared,
-        key: &key,
+        key: row,
         ..*query
     };
     let rows = find_in(alloc, other, &[], &asked, looked)?;
+    let key = row.copy(alloc)?;
     Ok(Partners { key, rows })
 }

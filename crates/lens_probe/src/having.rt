@@ -45,11 +45,10 @@ pub(crate) fn has_in<L: Ledger>(
             has_in(alloc, of, near, tables, row, looked)
         }
         Node::Drop { by, of, .. } => {
-            let key = row.project(alloc, by)?;
             let query = Query {
                 tables,
                 cols: by,
-                key: &key,
+                key: row,
             };
             let found = find_in(alloc, of, near, &query, looked)?;
             Ok(any_agrees(lens, found.rows(), row))

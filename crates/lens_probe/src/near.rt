@@ -7,13 +7,13 @@ ghost use Rattle.lens_specs.specs.Relation.{Rows};
 ghost use Rattle.lens_laws.specs.Finds.{AllFit};
 ghost use Rattle.lens_laws.specs.KeyedDeltas.{find_by};
 ghost use Rattle.lens_laws.specs.Work.{size};
-ghost use Rattle.signed_delta.specs.Keys.{IsKey};
-ghost use Rattle.lens_probe.specs.NearRows.{AreKnown, first_join, of_join};
+ghost use Rattle.signed_delta.specs.Keys.{HasColumns};
+ghost use Rattle.lens_probe.specs.NearRows.{AreKnown, of_join};
 ghost use Rattle.lens_probe.specs.Looking.{FindsWithin, LooksWithin, MayFind, MayLook};
 
 use crate::finding::{Query, find_in};
 use base_index::Tables;
-use lens_types::{Node, TypedLens};
+use lens_types::{Node, TypedLens, rename_row};
 use lens_values::{Names, NoMemory, Row};
 use row_sets::RowSet;
 use std::alloc::Global;
@@ -23,7 +23,7 @@ use step_counter::Steps;
 // For more rows nothing is found beforehand: each of them would be sought among all.
 const FEW: usize = 8;
 
-/// The rows of a join that agree with the key on these columns.
+/// The rows of a join that agree with the key, a row of the view over it, on these columns.
 #[derive(Drop)]
 pub struct Near {
     cols: Names,
@@ -55,7 +55,7 @@ pub(crate) fn known_rows<'a>(near: &'a [Near], query: &Query<'_>) -> Option<&'a 
 }
 
 /// What is known, and what the first join down the lens shows by the key of each of the rows, if a
-/// column of it is dropped. Of many rows nothing is found.
+/// column is dropped over it. Of many rows nothing is found.
 pub(crate) fn near_each<L: Ledger>(
     alloc: Global,
     lens: &TypedLens,
@@ -101,28 +101,54 @@ fn near_row<L: Ledger>(
 {
     match lens.node() {
         Node::Select { of, .. } => near_row(alloc, of, tables, row, known, looked),
-        Node::Drop { by, of, .. } if is_join(of) => {
-            let key = row.project(alloc, by)?;
-            near_key(alloc, of, tables, by, key, known, looked)
+        Node::Rename { col, to, of } => {
+            let old_row = rename_row(alloc, row, to, col)?;
+            near_row(alloc, of, tables, &old_row, known, looked)
         }
-        Node::Base { .. } | Node::Drop { .. } | Node::Rename { .. } | Node::Join { .. } => {
-            Ok(known)
-        }
+        Node::Drop { by, of, .. } => near_part(alloc, of, tables, by, row, known, looked),
+        Node::Base { .. } | Node::Join { .. } => Ok(known),
     }
 }
 
-// What is known, and the rows of the lens by the key.
-fn near_key<L: Ledger>(
+// What is known, and what the first join down the lens shows by the row's part in these columns, if
+// none is renamed over it.
+fn near_part<L: Ledger>(
     alloc: Global,
     lens: &TypedLens,
     tables: &Tables,
     cols: &Names,
-    key: Row,
+    row: &Row,
     known: Vec<Near>,
     looked: &mut Steps<L>,
 ) -> Result<Vec<Near>, NoMemory>
     requires asked { MayFind lens.now tables.now.present cols.now }
-    requires key { IsKey cols.now key }
+    requires key { HasColumns cols.now row.now }
+    requires known { AreKnown (of_join lens.now tables.now.present.relations) known.items }
+    ensures near { IfOk result (λ near.
+        AreKnown (of_join lens.now tables.now.present.relations) near.items) }
+    ensures looks { (w : ℕ) → FindsWithin lens.now tables.now.present cols.now w
+        → looked.new ≤ looked.old + size lens.now w }
+{
+    match lens.node() {
+        Node::Select { of, .. } => near_part(alloc, of, tables, cols, row, known, looked),
+        Node::Drop { of, .. } => near_part(alloc, of, tables, cols, row, known, looked),
+        Node::Join { .. } => near_pairs(alloc, lens, tables, cols, row, known, looked),
+        Node::Base { .. } | Node::Rename { .. } => Ok(known),
+    }
+}
+
+// The same of the join itself. What is known already is not sought again.
+fn near_pairs<L: Ledger>(
+    alloc: Global,
+    lens: &TypedLens,
+    tables: &Tables,
+    cols: &Names,
+    row: &Row,
+    known: Vec<Near>,
+    looked: &mut Steps<L>,
+) -> Result<Vec<Near>, NoMemory>
+    requires asked { MayFind lens.now tables.now.present cols.now }
+    requires key { HasColumns cols.now row.now }
     requires known { AreKnown (get lens.now tables.now.present.relations) known.items }
     ensures near { IfOk result (λ near.
         AreKnown (get lens.now tables.now.present.relations) near.items) }
@@ -132,24 +158,15 @@ fn near_key<L: Ledger>(
     let query = Query {
         tables,
         cols,
-        key: &key,
+        key: row,
     };
     if known_rows(&known, &query).is_some() {
         return Ok(known);
     }
     let rows = find_in(alloc, lens, &[], &query, looked)?;
     let cols = cols.copy(alloc)?;
+    let key = row.copy(alloc)?;
     let mut near = known;
     near.push(Near { cols, key, rows })?;
     Ok(near)
-}
-
-// Whether the root of the lens is a join.
-fn is_join(lens: &TypedLens) -> bool
-    ensures { result ≡ true → first_join lens.now ≡ lens.now }
-{
-    match lens.node() {
-        Node::Join { .. } => true,
-        Node::Base { .. } | Node::Select { .. } | Node::Drop { .. } | Node::Rename { .. } => false,
-    }
 }

@@ -234,11 +234,10 @@ impl<'a> Look for View<'a> {
         key: &Row,
         looked: &mut Steps<L>,
     ) -> Result<RowSet, NoMemory> {
-        let part = key.project(alloc, cols)?;
         let query = Query {
             tables: self.tables,
             cols,
-            key: &part,
+            key,
         };
         find_in(alloc, self.lens, self.near, &query, looked)
     }

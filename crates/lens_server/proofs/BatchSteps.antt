@@ -115,7 +115,7 @@ taken_back old mid held back k is h taken = record {
   past = h.past;
 }
 
--- the same database
+-- before the first edit there is one database
 pub holding_itself : (database : Database) → CanEdit database → IsHolding database database
 holding_itself database can = record { texts = refl; version = refl; last = refl; past = refl; held = refl; indexes = refl; can = can }
 

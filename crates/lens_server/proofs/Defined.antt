@@ -30,7 +30,7 @@ use Rattle.view_catalog.specs.Admissions.{IsAdmissible, table_in}
 use Rattle.view_catalog.specs.Judgements.{name_in}
 use Rattle.view_catalog.specs.declared.prepared.Prepared.{Prepared}
 use Rattle.database.specs.Defining.{last_with, tables_with}
-use Rattle.database.specs.Plans.{CanTake, IsPlan, IsStaged, Leads, after, texts_with}
+use Rattle.database.specs.Plans.{CanTake, IsPlan, IsStaged, Leads, after, last_after, texts_with}
 use Rattle.database.specs.States.{state_of}
 use Rattle.database.specs.declared.plan.Plan.{Plan}
 use Rattle.database.specs.declared.plan.Staged.{Staged}
@@ -98,7 +98,7 @@ past_stays step change past e = ap (λ p. past_after p change past) e
 pub definition_planned : (database : Database) (prepared : Prepared) (plan : Plan) (staged : Staged) → Valid (state_of database) → 0 < database.catalog.room → IsAdmissible database.catalog.texts prepared
     → answer_view plan.answer ≡ defined (database.version + 1) → plan.staged ≡ Some staged
     → staged.change ≡ Define prepared.text (table_in prepared.name prepared.lens) prepared → length prepared.text < 2 ^ 64
-    → staged.last ≡ last_with (table_in prepared.name prepared.lens) (database.version + 1) database.last → staged.past ≡ Stays
+    → staged.last ≡ Some (last_with (table_in prepared.name prepared.lens) (database.version + 1) database.last) → staged.past ≡ Stays
     → IsPlan plan (define_answer prepared.text (state_of database)) database
 definition_planned database prepared plan staged v room a answer is change short last past =
     let s = state_of database in
@@ -110,7 +110,7 @@ definition_planned database prepared plan staged v room a answer is change short
       texts = texts_with (definition_of (sym change i)) s.texts;
       tables = (sym made.tables ∙ ap (λ ch. changed_tables ch s.tables) (sym change)) i;
       version = s.version + 1;
-      last = (sym made.last ∙ sym last) i;
+      last = (sym made.last ∙ ap (λ o. last_after o (change_of staged.change) (s.version + 1) s.last) (sym last)) i;
       past = past_stays staged.past (change_of staged.change) s.past (sym past) i;
     }) in
     let defines : change_view (change_of staged.change) ≡ define prepared.text name = ap (λ ch. change_view (change_of ch)) change in

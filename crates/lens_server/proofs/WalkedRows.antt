@@ -90,10 +90,6 @@ some_less : (b : Bool) (n : ℕ) → cond b n 0 ≤ n
 some_less true n = omega arith
 some_less false n = omega arith
 
-other_less : (b : Bool) (n : ℕ) → cond b 0 n ≤ n
-other_less true n = omega arith
-other_less false n = omega arith
-
 -- and all tables have no fewer
 pub under_few : (L : Lens) (db : Tables) → IsTyped L → rows_under L db ≤ row_count db
 under_few L db h =

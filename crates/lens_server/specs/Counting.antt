@@ -10,7 +10,7 @@ use Rattle.lens_laws.specs.Work.{fan, work}
 use Rattle.server_specs.specs.Answer.{Answer}
 use Rattle.server_specs.specs.Batching.{edit_tables}
 use Rattle.server_specs.specs.EditRefusal.{EditRefusal}
-use Rattle.server_specs.specs.Request.{BatchEdit, Request, define, read, find_at, put, edit, preview, describe, list, batch, undo, export, import}
+use Rattle.server_specs.specs.Request.{BatchEdit, Request, find_at, put, edit, preview, batch, undo, import}
 use Rattle.server_specs.specs.State.{State}
 use Rattle.database.specs.Staging.{steps_of}
 pub use Rattle.opened_view.specs.Counters.{RisesBy, row_count}
@@ -26,19 +26,12 @@ is_asked_by column (Some L) = is_left_side (one column) (sort_of L).tree
 
 -- whether rows are found by key alone: by an edit, a preview, a batch, an undo, and a find by the left side of a dependency
 abbrev pub is_by_key : Result Request Answer → State → Bool
-is_by_key (Err refusal) s = false
-is_by_key (Ok (define text)) s = false
-is_by_key (Ok (read name)) s = false
 is_by_key (Ok (find_at name column json)) s = is_asked_by column (finmap.get (catalogue s.texts) name)
-is_by_key (Ok (put name rows on)) s = false
 is_by_key (Ok (edit name remove add on)) s = true
 is_by_key (Ok (preview name remove add on)) s = true
-is_by_key (Ok (describe name)) s = false
-is_by_key (Ok list) s = false
 is_by_key (Ok (batch edits on)) s = true
 is_by_key (Ok undo) s = true
-is_by_key (Ok (export name)) s = false
-is_by_key (Ok (import name text on)) s = false
+is_by_key other s = false
 
 -- the most rows that it may walk: none by key, and else as many as there are
 abbrev pub most_walked : Result Request Answer → State → ℕ
@@ -83,16 +76,10 @@ batch_looks on s (e ∷ edits) db =
 
 -- the most rows that a line may look at: by the rows that it changes, and not by the sizes of tables
 abbrev pub most_looked : Result Request Answer → State → ℕ
-most_looked (Err refusal) s = 0
-most_looked (Ok (define text)) s = 0
-most_looked (Ok (read name)) s = 0
 most_looked (Ok (find_at name column json)) s = of_lens (find_looks s.tables column) (finmap.get (catalogue s.texts) name)
-most_looked (Ok (export name)) s = 0
 most_looked (Ok (put name rows on)) s = of_lens (put_looks s.tables rows) (finmap.get (catalogue s.texts) name)
 most_looked (Ok (import name text on)) s = of_lens (import_looks s.tables text) (finmap.get (catalogue s.texts) name)
 most_looked (Ok (edit name remove add on)) s = of_lens (edit_looks s.tables remove add) (finmap.get (catalogue s.texts) name)
 most_looked (Ok (preview name remove add on)) s = of_lens (edit_looks s.tables remove add) (finmap.get (catalogue s.texts) name)
-most_looked (Ok (describe name)) s = 0
-most_looked (Ok list) s = 0
 most_looked (Ok (batch edits on)) s = batch_looks on s edits s.tables
-most_looked (Ok undo) s = 0
+most_looked other s = 0

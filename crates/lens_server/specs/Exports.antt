@@ -1,10 +1,10 @@
 -- What is exported reads back.
-use Rattle.std.specs.Prelude.{Option, Some, None, Result, Ok, Err}
+use Rattle.std.specs.Prelude.{Option, Some, None, Result, Ok}
 use Rattle.std.specs.FinMap as finmap
 use Rattle.lens_specs.specs.Lens.{Lens, Tables}
 use Rattle.catalog_specs.specs.Catalogue.{catalogue}
 use Rattle.server_specs.specs.Answer.{Answer}
-use Rattle.server_specs.specs.Request.{Request, define, read, find_at, put, edit, preview, describe, list, batch, undo, export, import}
+use Rattle.server_specs.specs.Request.{Request, export}
 use Rattle.server_specs.specs.State.{State}
 use Rattle.view_answers.specs.Sheets.{SheetReadsBack}
 
@@ -15,16 +15,5 @@ NamedReadsBack (Some L) db = SheetReadsBack L db
 
 -- so it is with the view that a request exports, if it exports one
 abbrev pub ExportReadsBack : Result Request Answer → State → Type 0
-ExportReadsBack (Err refusal) s = Unit {0}
-ExportReadsBack (Ok (define text)) s = Unit {0}
-ExportReadsBack (Ok (read name)) s = Unit {0}
-ExportReadsBack (Ok (find_at name column json)) s = Unit {0}
-ExportReadsBack (Ok (put name rows on)) s = Unit {0}
-ExportReadsBack (Ok (edit name remove add on)) s = Unit {0}
-ExportReadsBack (Ok (preview name remove add on)) s = Unit {0}
-ExportReadsBack (Ok (describe name)) s = Unit {0}
-ExportReadsBack (Ok list) s = Unit {0}
-ExportReadsBack (Ok (batch edits on)) s = Unit {0}
-ExportReadsBack (Ok undo) s = Unit {0}
 ExportReadsBack (Ok (export name)) s = NamedReadsBack (finmap.get (catalogue s.texts) name) s.tables
-ExportReadsBack (Ok (import name text on)) s = Unit {0}
+ExportReadsBack other s = Unit {0}

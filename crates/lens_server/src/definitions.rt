@@ -53,7 +53,7 @@ fn plan_prepared(alloc: Global, database: &Database, prepared: Prepared) -> Resu
                 table,
                 prepared,
             },
-            last,
+            last: Some(last),
             past: PastStep::Stays,
         }),
     })

@@ -22,6 +22,9 @@ use std::sync::ledger::Ledger;
 use step_counter::Steps;
 use table_keeper::Keeper;
 
+// For how long a line, in bytes, the room to read it is kept.
+const LONG_LINE: usize = 65_536;
+
 /// Answers a line that is not too long. An edit, a preview, a batch, an undo and a find by the left
 /// side of a dependency walk no table. The scratch is what reading the line needs.
 pub fn answer_line<K: Keeper, L: Ledger, M: Ledger>(
@@ -51,7 +54,15 @@ pub fn answer_line<K: Keeper, L: Ledger, M: Ledger>(
     ensures walks_on { walked.old ≤ walked.new }
 {
     let plan = plan_line(alloc, database, scratch, line, walked, looked)?;
+    shrink(alloc, scratch, line);
     settle(alloc, database, keeper, plan, walked)
+}
+
+// Lets the room for a long line go, since the change of its rows needs memory next.
+fn shrink(alloc: Global, scratch: &mut Scratch, line: &[u8]) {
+    if line.len() > LONG_LINE {
+        *scratch = Scratch::new(alloc);
+    }
 }
 
 /// Plans the answer to a line.

@@ -1,3 +1,3 @@
 //! What the product means: names, rows, relations, dependencies, predicates, sorts, lenses,
-//! changes, lines, and what is kept, as definitions in `specs/`.
+//! changes, lines, and what is stored, as definitions in `specs/`.
 #![tactic(auto)]

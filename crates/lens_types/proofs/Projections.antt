@@ -47,7 +47,7 @@ filled : (n : ℕ) (s : Sort) (A : Name) (X : Names) (a : Value) → None ≡ co
 filled n s A X a none =
     ap (λ o. unless_refused o (drop_sort s A)) (parted n s A X a ∙ ap (λ o. or_else o (or_else (option_map mixed_conjunct (first_mixed A s.predicate)) (or_else (when (not (default_holds A a s.predicate)) default_refused) (too_much n (drop_sort s A))))) (sym none))
 
--- the same, by what is left of the predicate
+-- the sort of a projection, or why it is refused, by what is left of the predicate
 with_rest : (n : ℕ) (s : Sort) (A : Name) → Result Predicate Refusal → Result Sort Refusal
 with_rest n s A r = elim r as (λ _. Result Sort Refusal) [ Ok Q ↦ unless_refused (too_much n (drop_sort s A)) (drop_sort s A) | Err why ↦ Err why ]
 

@@ -18,6 +18,6 @@ abbrev pub unfilled_from : Option ℕ → Name → Value → Predicate → Resul
 unfilled_from (Some i) A a P = Err (mixed_conjunct i)
 unfilled_from None A a P = if default_holds A a P then Ok (without_name A P) else Err default_refused
 
--- the same, by the first conjunct that is mixed
+-- unfilled_from, by the first conjunct that is mixed
 abbrev pub unfilled : Name → Value → Predicate → Result Predicate Refusal
 unfilled A a P = unfilled_from (first_mixed A P) A a P

@@ -8,7 +8,7 @@ abbrev pub columns_from : Option Name → Columns → Columns → Result Columns
 columns_from (Some name) U V = Err (kind_clash name)
 columns_from None U V = Ok (both_columns U V)
 
--- the same, by the least shared column with two kinds
+-- the columns of both, unless a shared one has two kinds: the first of those in their order is named
 abbrev pub joined_columns : Columns → Columns → Result Columns Refusal
 joined_columns U V = columns_from (kinds_differ U V) U V
 

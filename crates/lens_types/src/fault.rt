@@ -18,9 +18,9 @@ pub enum TypeFault {
         /// The name.
         name: Name,
     },
-    /// The column is of another kind than the value that fills it, or is shared by the sides of a
-    /// join with another kind in each.
-    #[error("column {} has two kinds", .name.as_str())]
+    /// The column is of another type than the value that fills it, or is shared by the sides of a
+    /// join with another type in each.
+    #[error("column {} has two types", .name.as_str())]
     KindClash {
         /// The column.
         name: Name,
@@ -33,15 +33,15 @@ pub enum TypeFault {
         /// A side of another.
         b: Names,
     },
-    /// The column is compared with a value or a column of another kind.
-    #[error("column {} is compared with a value or a column of another kind", .name.as_str())]
+    /// The column is compared with a value or a column of another type.
+    #[error("column {} is compared with a value or a column of another type", .name.as_str())]
     PredKind {
         /// The column.
         name: Name,
     },
     /// A conjunct of the selected source is not steady: it mentions a column that a dependency
     /// writes, and not the right side of one dependency alone.
-    #[error("a conjunct of the source mentions {} and is not steady", .col.as_str())]
+    #[error("a conjunct of the source mentions {} and is not stable under revision", .col.as_str())]
     SourceMentionsOutput {
         /// The least such column.
         col: Name,
@@ -69,7 +69,7 @@ pub enum TypeFault {
     },
     /// A conjunct of a side of a join is not steady: it mentions a column that a dependency
     /// writes, and not the right side of one dependency alone.
-    #[error("a conjunct of the {} side mentions {} and is not steady", .side.word(), .col.as_str())]
+    #[error("a conjunct of the {} side mentions {} and is not stable under revision", .side.word(), .col.as_str())]
     SideMentionsOutput {
         /// The side.
         side: Side,

@@ -20,8 +20,8 @@ use lens_values::{Columns, Name, Names, NoMemory};
 use std::alloc::Global;
 use view_limits::Side;
 
-/// The columns, the predicate and the tree of the join, or the first refusal. The lens has `nodes`
-/// nodes, and `twice` is the least table that both sides are over.
+/// The columns, the predicate and the tree of the join, or the first refusal. The join has `nodes`
+/// nodes, and `twice` is the first table, by name, that both sides are over.
 pub fn joined_parts(
     alloc: Global,
     left: &Sort,

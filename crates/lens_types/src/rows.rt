@@ -42,7 +42,7 @@ pub fn rename_rows(
     Ok(list)
 }
 
-/// The same of a set of rows.
+/// The rows that `rename_rows` returns, for a set of rows and as a set.
 pub fn rename_set(
     alloc: Global,
     rows: &RowSet,

@@ -1,4 +1,4 @@
-//! Conjuncts that a merge along a tree keeps.
+//! Conjuncts that a merge along a tree keeps: they are stable under revision, or *steady*.
 ghost use Rattle.std.specs.Prelude.{◌≡◌, ◌++◌, IfOk, OnOk, filter, find, not};
 ghost use Rattle.std.specs.List.{list_all, list_any};
 ghost use Rattle.plain_values.specs.SortedSet as set;
@@ -13,8 +13,8 @@ use lens_pred::{Formula, Pred};
 use lens_values::{Name, Names, NoMemory};
 use std::alloc::Global;
 
-/// The least column that an edge writes and that a conjunct mentions which is not steady for the
-/// tree. `None` where each conjunct is steady.
+/// The first column, by name, that an edge writes and that a conjunct mentions, if that conjunct is
+/// not steady for the tree. `None` if each conjunct is steady.
 pub fn unsteady(alloc: Global, pred: &Pred, tree: &Tree) -> Result<Option<Name>, NoMemory>
     ensures { IfOk result (λ col. col ≡ unsteady pred.now tree.now) }
 {

@@ -120,7 +120,7 @@ impl Columns {
         kind_in(self.pairs(), name)
     }
 
-    /// The names of the columns, where they stand.
+    /// The names of the columns, borrowed from them.
     pub fn name_set(&self) -> &Names
         ensures { result.now ≡ names self.now }
     {

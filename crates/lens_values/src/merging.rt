@@ -34,8 +34,8 @@ impl<V> Keyed<Name> for (Name, V) {
     }
 }
 
-/// Copies of the members of both lists in rising order of keys. Where both lists have a key, the
-/// left one's member is taken.
+/// Copies of the members of both lists in rising order of keys. If both lists have a key, the
+/// result has the left list's member.
 pub fn union<K: Ord, T: Keyed<K> + TryClone + Drop>(
     alloc: Global,
     left: &[T],

@@ -103,8 +103,8 @@ impl Names {
         place_in(self.as_slice(), name)
     }
 
-    // The same, where the name may stand at the place `near` or behind it. A walk that takes rising
-    // names one after another so meets each with few steps.
+    // What `place_of` returns. The name may stand at the place `near` or behind it, so that a walk
+    // that takes rising names one after another finds each with few steps.
     #[inline]
     pub(crate) fn place_near(&self, name: &Name, near: usize) -> Option<usize>
         ensures { result ≡ position (eq_by_cmp bytes_cmp name.now) (set.items self.now) }

@@ -1,4 +1,4 @@
-//! Names of members.
+//! Names of members of JSON objects.
 ghost use Rattle.std.specs.Prelude.{◌≡◌, ℕ, List, IfOk, string_bytes};
 
 use no_memory::NoMemory;
@@ -25,7 +25,7 @@ impl Member {
         Member { text }
     }
 
-    /// A name of its own, or `NoMemory`.
+    /// The name of these bytes, with a copy of the text, or `NoMemory`.
     pub fn copy_of(alloc: Global, text: &str) -> Result<Member, NoMemory>
         ensures { IfOk result (λ member. member ≡ text.now) }
     {

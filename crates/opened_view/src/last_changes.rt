@@ -1,10 +1,11 @@
 //! The version that changed each table last.
-ghost use Rattle.std.specs.Prelude.{◌≡◌, ℕ, IfOk, OnErr, OnOk, map};
+ghost use Rattle.std.specs.Prelude.{◌≡◌, ℕ, IfOk, OnErr, OnOk, is_some, map, true};
 ghost use Rattle.std.specs.Coded.{coded_list, coded_ℕ};
 ghost use Rattle.std.specs.FinMap as finmap;
 ghost use Rattle.plain_values.specs.Order.{bytes_cmp};
 ghost use Rattle.server_specs.specs.Changing.{last_change, latest, with_last};
 ghost use Rattle.signed_delta.specs.Tables.{table_delta};
+ghost use Rattle.opened_view.specs.Moving.{AreThere};
 
 use lens_values::{Name, NoMemory};
 use signed_delta::TableDelta;
@@ -45,21 +46,24 @@ impl LastChanges {
         Ok(after)
     }
 
-    /// The last changes once the version changed each of these tables.
-    pub fn with_all(
-        &self,
-        alloc: Global,
-        changes: &[TableDelta],
-        version: u64,
-    ) -> Result<LastChanges, NoMemory>
-        ensures { IfOk result (λ after.
-            after ≡ with_last version (map table_delta changes.now) self.now) }
+    /// The version changed each of these tables, whose last changes are there. It takes no memory.
+    pub fn move_on(&mut self, changes: &[TableDelta], version: u64)
+        requires { AreThere self.old (map table_delta changes.now) }
+        ensures { self.new ≡ with_last version (map table_delta changes.now) self.old }
     {
-        let mut after = self.copy(alloc)?;
         for change in changes {
-            after.set(&change.table, version)?;
+            self.move_one(&change.table, version);
         }
-        Ok(after)
+    }
+
+    // The version changed the table, whose last change is there.
+    fn move_one(&mut self, table: &Name, version: u64)
+        requires { is_some (finmap.get self.old table.now) ≡ true }
+        ensures { self.new ≡ finmap.insert self.old table.now version }
+    {
+        if let Some(last) = self.versions.get_mut(table) {
+            *last = version;
+        }
     }
 
     /// Equal last changes.
@@ -88,10 +92,7 @@ impl LastChanges {
     fn last_change(&self, table: &Name) -> u64
         ensures { result ≡ last_change self.now table.now }
     {
-        match self.versions.get(table) {
-            Some(version) => *version,
-            None => 0,
-        }
+        self.versions.get(table).copied().unwrap_or(0)
     }
 
     /// The version changed the table.

@@ -3,7 +3,7 @@
 
 ghost use Rattle.opening_laws.specs.OpenLaws.{KeptIsOpened, NothingOpens, OpenedIsAtStart, OpenedIsKept, OpenedIsValid, OpensWhereKept, SessionsOpenAgain};
 
-/// A store opens exactly where it is what is kept of a valid state. Its texts and its rows are
+/// A store opens if and only if it is what is stored of a valid state. Its texts and its rows are
 /// then those of that state, and every version is 0. So what any session leaves opens again.
 pub fn stores_open()
     ensures nothing { NothingOpens }

@@ -1,3 +1,2 @@
-//! What a store opens to: the state of what is kept, or its first damage, as definitions in
-//! `specs/`.
+//! What a store opens to: the state that it holds, or its first damage, as definitions in `specs/`.
 #![tactic(auto)]

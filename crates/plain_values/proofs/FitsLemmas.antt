@@ -40,7 +40,7 @@ fits_nowhere (Some v) (Some k) e h = cc
 pub none_fits : (o : Option Value) (k : Option Kind) → o ≡ None → k ≡ None → fits_at o k ≡ true
 none_fits o k e f = λ i. fits_at (e i) (f i)
 
--- the same value fits in a column of the same kind
+-- if a value fits in a column, an equal value fits in a column of an equal kind
 pub fits_same : (o p : Option Value) (k j : Option Kind) → o ≡ p → k ≡ j → fits_at o k ≡ true → fits_at p j ≡ true
 fits_same o p k j e f h = (λ i. fits_at (sym e i) (sym f i)) ∙ h
 

@@ -111,7 +111,7 @@ impl Name {
         &self.bytes[..self.len]
     }
 
-    /// The name, or `to` where it is `from`.
+    /// The name, or `to` if the name is `from`.
     pub fn rename(&self, from: &Name, to: &Name) -> Name
         ensures { result ≡ renamed from.now to.now self.now }
     {

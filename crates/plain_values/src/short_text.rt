@@ -77,7 +77,7 @@ impl ShortText {
     }
 }
 
-// The number that eight of the bytes spell, the greatest first.
+// The number that eight of the bytes, from `start` on, spell in big-endian order.
 fn number(bytes: &[u8; 22], start: usize) -> u64
     requires { start + 8 ≤ 22 }
     ensures { result ≡ spelt 8 0 (drop start bytes.now) }
@@ -94,7 +94,7 @@ fn number(bytes: &[u8; 22], start: usize) -> u64
     ])
 }
 
-// The number that the last six of the bytes spell, the greatest first.
+// The number that the last six of the bytes spell in big-endian order.
 fn last_number(bytes: &[u8; 22]) -> u64
     ensures { result ≡ spelt 6 0 (drop 16 bytes.now) }
 {

@@ -1,4 +1,4 @@
-//! The same edits by differences of tables by key, and by puts to whole relations.
+//! Each edit is made twice: by differences of tables by key, and by puts to whole relations.
 ghost use Rattle.std.specs.Prelude.{◌≡◌};
 ghost use Rattle.lens_specs.specs.Lens.{sort_of};
 ghost use Rattle.lens_specs.specs.Sort.{IsOfSort};

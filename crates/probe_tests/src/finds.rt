@@ -26,7 +26,7 @@ fn is_found<L: Ledger, M: Ledger>(
     are_rows(alloc, found.rows(), rows.trim())
 }
 
-// The same of each of the finds, with a counter of looks of their own.
+// Whether each of the finds gives its rows, with a counter of index probes of their own.
 fn are_found_looking<L: Ledger, M: Ledger>(
     alloc: Global,
     view: &View<'_>,

@@ -19,7 +19,7 @@ use std::test::Fail;
 use step_counter::Steps;
 use whole_put::Db;
 
-/// The same tables as whole relations and by key.
+/// Tables that are kept twice: as whole relations, and by key.
 #[derive(Drop)]
 pub(crate) struct Shelf {
     pub(crate) db: Db,

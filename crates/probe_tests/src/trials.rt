@@ -21,15 +21,17 @@ use std::test::Fail;
 use step_counter::Steps;
 use whole_put::Db;
 
-// Trials, each of a lens, of tables (where these are the base or the shop, as listed below), and of
-// what is asked of the view.
+// Trials, each of a lens, of tables (or the name of tables that stand below, `base` or `shop`), and
+// of what is asked of the view:
 //
-// stock: whether it shows and finds what it should, and a put changes the tables as it should.
-// check: which edits are accepted, and why others are refused, given by the rows that it is to show.
-// find: which rows it has by values in single columns.
+// - stock: whether the view shows and finds what it should, and a put changes the tables as it
+//   should.
+// - check: which edits are accepted, and why others are rejected, given by the rows that the view
+//   is to show.
+// - find: which rows the view has by values in single columns.
 //
-// The others are edits, by which both engines change the tables exactly alike: the rows that the view
-// is to show, edit by edit.
+// The others are edits, by which both engines change the tables exactly alike: the rows that the
+// view is to show, edit by edit.
 const TRIALS: &str = "
 tracks; join_dl albums; drop date track 2018; above quantity 2
 / base
@@ -178,7 +180,7 @@ fn passes<L: Ledger>(alloc: Global, trial: &str, looked: &mut Steps<L>) -> Resul
     passes_with(alloc, rest, &lens, looked)
 }
 
-// The same with this lens.
+// Whether the rest of the trial, tables and a question, is passed with this lens.
 fn passes_with<L: Ledger>(
     alloc: Global,
     trial: &str,
@@ -199,7 +201,7 @@ fn listed(tables: &str) -> &str {
     }
 }
 
-// The same with this lens over these tables.
+// Whether the question of the trial is passed with this lens over these tables.
 fn passes_over<L: Ledger>(
     alloc: Global,
     question: &str,

@@ -41,7 +41,7 @@ pub(crate) fn table_lines(alloc: Global, number: u64, i: u64) -> Result<Vec<Stri
     Ok(vec![in alloc; album, track]?)
 }
 
-/// The edit of the view for `i`, where the view shows its album.
+/// The edit of the view for `i`, if the view shows the album of `i`.
 pub(crate) fn view_lines(alloc: Global, i: u64) -> Result<Vec<String>, NoMemory>
     ensures { IfOk result
         (λ lines. map (λ line. marked (string_bytes line)) lines.items ≡ view_lines i) }
@@ -70,6 +70,7 @@ fn define_line(alloc: Global, text: &str) -> Result<String, NoMemory>
     json_text(alloc, &request)
 }
 
+// The edit that adds the album of `i`.
 fn album_line(alloc: Global, i: u64) -> Result<String, NoMemory>
     ensures { IfOk result (λ line. marked (string_bytes line) ≡ album_line i) }
 {
@@ -79,6 +80,7 @@ fn album_line(alloc: Global, i: u64) -> Result<String, NoMemory>
     json_text(alloc, &request)
 }
 
+// The edit that adds the track of `i`, on its own album and on the next one.
 fn track_line(alloc: Global, number: u64, i: u64) -> Result<String, NoMemory>
     requires { i < number }
     ensures { IfOk result (λ line. marked (string_bytes line) ≡ track_line number i) }
@@ -90,6 +92,8 @@ fn track_line(alloc: Global, number: u64, i: u64) -> Result<String, NoMemory>
     json_text(alloc, &request)
 }
 
+// The edit of the view that exchanges the row of the album of `i` for one with the rating 3 and a
+// new track.
 fn stock_line(alloc: Global, i: u64) -> Result<String, NoMemory>
     ensures { IfOk result (λ line. marked (string_bytes line) ≡ stock_line i) }
 {

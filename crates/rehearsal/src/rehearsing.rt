@@ -173,7 +173,7 @@ fn edit_view<K: Keeper, L: Ledger, M: Ledger>(
     Ok(())
 }
 
-/// The three reads.
+/// Reads the two tables and the view, and returns how many rows each shows.
 fn read_all<K: Keeper, L: Ledger, M: Ledger>(
     alloc: Global,
     server: &mut Server,
@@ -208,7 +208,7 @@ fn read_all<K: Keeper, L: Ledger, M: Ledger>(
     })
 }
 
-/// Reads a table or a view, and gives how many rows were shown.
+/// Reads a table or a view, and returns how many rows the reply shows.
 fn read<K: Keeper, L: Ledger, M: Ledger>(
     alloc: Global,
     server: &mut Server,

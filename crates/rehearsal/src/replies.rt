@@ -1,4 +1,4 @@
-//! What a reply tells.
+//! What a reply reports.
 ghost use Rattle.std.specs.Prelude.{◌≡◌, ◌↔◌, IfOk, IsTrue, codes, false, option_and_then, option_map, unwrap_or};
 ghost use Rattle.serde_json.specs.Events.{items_len};
 ghost use Rattle.serde_json.specs.Find as find;
@@ -56,6 +56,7 @@ fn accepts(json: &Json) -> bool
     json.get("ok").and_then(Json::as_bool).unwrap_or(false)
 }
 
+// How many rows the reply shows: 0 if it has no list of rows.
 fn rows_in(json: &Json) -> usize
     ensures { result ≡ unwrap_or (option_map items_len
         (option_and_then find.as_array (find.get (codes "rows") (view json.now)))) 0 }

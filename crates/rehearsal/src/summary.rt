@@ -25,6 +25,7 @@ pub(crate) fn summary_line(
     Ok(line)
 }
 
+// The summary as JSON.
 fn summary_of(alloc: Global, tally: Tally, shown: Shown, version: u64) -> Result<Json, NoMemory>
     ensures { IfOk result (λ summary. view summary ≡ summary_data tally.accepted tally.refused
         (rows_data shown.albums shown.tracks shown.stock) version) }

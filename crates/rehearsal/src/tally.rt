@@ -1,7 +1,7 @@
 //! What is counted in a rehearsal.
 ghost use Rattle.std.specs.Prelude.{◌≡◌, ◌+◌, ◌<◌, ◌^◌, if◌then◌else◌};
 
-/// How many lines were accepted, and how many were refused.
+/// How many lines the server accepted, and how many it rejected.
 #[derive(Clone, Copy, Debug)]
 pub(crate) struct Tally {
     pub accepted: u64,
@@ -27,7 +27,7 @@ impl Tally {
         }
     }
 
-    /// Counts a line that was accepted, or one that was refused.
+    /// Counts a line as accepted, or else as rejected.
     pub(crate) fn count(&mut self, accepts: bool)
         requires accepted_fits { self.old.accepted + 1 < 2 ^ 64 }
         requires refused_fits { self.old.refused + 1 < 2 ^ 64 }

@@ -20,7 +20,7 @@ use Rattle.signed_delta.specs.Tables.{table_delta}
 use Rattle.signed_delta.specs.declared.delta.TableDelta.{TableDelta}
 use Rattle.reply_printing.specs.Printing.{data_tokens}
 
--- the same tokens
+-- a writer that adds some tokens adds any tokens that are equal to them
 pub adds_same : {a b : Written} {xs : List Token} (ys : List Token) → xs ≡ ys → Adds a b xs → Adds a b ys
 adds_same {a = a} {b = b} ys e adds = subst (Adds a b) e adds
 

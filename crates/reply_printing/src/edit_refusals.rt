@@ -1,4 +1,4 @@
-//! Replies that refuse an edit, alone or at its place in a batch. `NoMemory` is the only error.
+//! Replies that reject an edit, alone or at its place in a batch. `NoMemory` is the only error.
 ghost use Rattle.std.specs.Prelude.{◌≡◌, IfOk};
 ghost use Rattle.server_specs.specs.Answer.{text};
 ghost use Rattle.server_specs.specs.EditRefusal as refusals;
@@ -32,7 +32,7 @@ pub(crate) fn unknown_name_text(
     )
 }
 
-/// The line that refuses a list of which this element is no row of the columns.
+/// The line that rejects a list of rows, because the element at `index` is no row of the columns.
 pub(crate) fn bad_row_text(
     alloc: Global,
     edit: Option<usize>,

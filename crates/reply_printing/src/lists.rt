@@ -1,4 +1,4 @@
-//! What answers hold, each seen by contracts as the definitions speak of it.
+//! Lists that answers hold. A contract sees each list as the definitions write it.
 ghost use Rattle.std.specs.Prelude.{◌≡◌, ℕ, List, map};
 ghost use Rattle.std.specs.Coded.{coded_list};
 ghost use Rattle.lens_specs.specs.Delta as delta;

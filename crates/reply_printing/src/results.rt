@@ -1,4 +1,5 @@
-//! Replies that tell what was done, or show what was asked for. `NoMemory` is the only error.
+//! Replies that report what the server did, or show what was asked for. `NoMemory` is the only
+//! error.
 ghost use Rattle.std.specs.Prelude.{◌≡◌, IfOk, map};
 ghost use Rattle.lens_pred.specs.View.{predicate_view};
 ghost use Rattle.server_specs.specs.Answer as spec;
@@ -56,7 +57,7 @@ pub(crate) fn shown_text(alloc: Global, rows: &RowSet, version: u64) -> Result<R
     ended(out)
 }
 
-/// The line that tells these changes, and the version.
+/// The line that reports these changes, and the version.
 pub(crate) fn changed_text(
     alloc: Global,
     changed: &[TableDelta],

@@ -84,7 +84,7 @@ pub column_told : (columns : Columns) (pairs : List (Name × Kind)) (k s : Name)
 column_told columns pairs k s r b are is told same =
     sym (column_named columns k) ∙ (λ i. list_any (is_key (sym is i)) (sorted.keys_of (sym are i))) ∙ sym told ∙ same
 
--- the same, where the columns are known to be found
+-- none_strange, if the columns are known to be found
 pub none_beside : (columns : Columns) (ms : List (Bor (List ℕ) × Json)) → length ms ≡ length (finmap.entries columns)
     → IsOk (pairs_in (finmap.entries columns) (members_data ms)) → first_other (is_column_of columns) (members_data ms) ≡ None
 none_beside columns ms count found =

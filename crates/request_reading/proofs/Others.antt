@@ -106,7 +106,7 @@ pub other_push : (passes : List ℕ → Bool) (ms : List (Bor (List ℕ) × Valu
     → first_other passes (members_data (ms ++ m ∷ [])) ≡ (if passes m.0.now then first_other passes (members_data ms) else lesser (Some m.0.now) (first_other passes (members_data ms)))
 other_push passes ms m = ap (first_other passes) (data_push ms m) ∙ other_put passes m.0.now (value_data m.1) (members_data ms) (rises_data ms)
 
--- the same, where the members are read one after another
+-- other_push, for members that are read one after another
 pub other_more : (passes : List ℕ → Bool) (ms : List (Bor (List ℕ) × Value)) (i : ℕ) (m : Bor (List ℕ) × Value) → i < length ms → m ≡ get_or ms i m
     → first_other passes (members_data (take (i + 1) ms))
     ≡ (if passes m.0.now then first_other passes (members_data (take i ms)) else lesser (Some m.0.now) (first_other passes (members_data (take i ms))))

@@ -17,7 +17,7 @@ abbrev pub found_unless : {A : Type 0} → Option (List ℕ) → A → Result A 
 found_unless None found = Ok found
 found_unless (Some name) found = Err name
 
--- the same, while the members are read one after another
+-- found_unless of the first wrong member, computed while the members are read one after another
 abbrev checked : {A : Type 0} → List Wanted → Members → A → Result A (List ℕ)
 checked [] ms found = Ok found
 checked (w ∷ ws) ms found = cond (is_wrong ms w) (Err w.name) (checked ws ms found)

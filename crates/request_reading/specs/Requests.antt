@@ -54,10 +54,11 @@ name_at k ms = option_and_then spec.name_in (get_member k ms)
 abbrev pub rows_at : List ℕ → Members → Option Items
 rows_at k ms = option_and_then as_array (get_member k ms)
 
--- the same, or the member that is wrong
+-- the name that is there, or the member that is wrong
 abbrev pub name_in : List ℕ → Members → Result Name (List ℕ)
 name_in k ms = ok_or (name_at k ms) k
 
+-- the rows that are there, or the member that is wrong
 abbrev pub rows_in : List ℕ → Members → Result Items (List ℕ)
 rows_in k ms = ok_or (rows_at k ms) k
 

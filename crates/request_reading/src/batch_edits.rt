@@ -41,6 +41,13 @@ impl<'a> BatchEdits<'a> {
         BatchEdits { list }
     }
 
+    /// The edits in their order.
+    pub fn as_slice(&self) -> &[BatchEdit<'a>]
+        ensures { map edit_view result.now ≡ self.now }
+    {
+        self.list.as_slice()
+    }
+
     /// The edits in their order, handed on without a copy.
     pub fn into_list(self) -> Vec<BatchEdit<'a>>
         ensures { map edit_view result.items ≡ self.entry }

@@ -256,7 +256,8 @@ fn are_beside(columns: &[(Name, Kind)], members: &[Entry<'_>]) -> bool
     true
 }
 
-// The value that the members have for the column, which stands at this place if they are beside.
+// The value that the members have for the column. If the members are in the order of the columns
+// (`beside`), it stands at `place`, and is not looked for.
 fn value_at(
     alloc: Global,
     members: &[Entry<'_>],
@@ -274,7 +275,8 @@ fn value_at(
     }
 }
 
-// The member of this name, which stands at this place if the members are beside the columns.
+// The member of this name. If the members are in the order of the columns (`beside`), it stands at
+// `place`, and is not looked for.
 fn member_at<'v, 'a>(
     members: &'v [Entry<'a>],
     beside: bool,

@@ -35,6 +35,13 @@ impl<'a> JsonRows<'a> {
     }
 
     /// The elements in the order in which they were sent.
+    pub fn as_slice(&self) -> &[Json<'a>]
+        ensures { items_data result.now ≡ self.now }
+    {
+        self.list.as_slice()
+    }
+
+    /// The elements in the order in which they were sent, handed on without a copy.
     pub fn into_list(self) -> Vec<Json<'a>>
         ensures { items_data result.items ≡ self.entry }
     {

@@ -14,7 +14,7 @@ is_like e p q = agree e.left q p && agree e.right q p
 abbrev pub near_along : Edge → Rows → Row → List Row → List Row
 near_along e M p rows = cond (list_any (is_like e p) rows) rows (rows ++ set.items (find_by e.left p M))
 
--- the same along each edge in turn
+-- the rows, and those that near_along adds along each edge in turn
 unfoldable pub near_from : List Edge → Rows → Row → List Row → List Row
 near_from [] M p rows = rows
 near_from (e ∷ es) M p rows = near_from es M p (near_along e M p rows)

@@ -43,7 +43,8 @@ pub fn near_rows<K: Look, L: Ledger>(
     }
 }
 
-// The same, row by row: an edge by which a row can change nothing is not asked for it.
+// What `near_rows` returns, found row by row: an edge is not asked for a row by which it can change
+// nothing.
 fn near_by_rows<K: Look, L: Ledger>(
     alloc: Global,
     tree: &Tree,
@@ -67,8 +68,8 @@ fn near_by_rows<K: Look, L: Ledger>(
     Ok(union)
 }
 
-// The same, edge by edge: rows that have the same on the left side of an edge ask for it once, and
-// rows by which it can change nothing do not ask.
+// What `near_rows` returns, found edge by edge: rows that agree on the left side of an edge ask for
+// it once, and rows by which the edge can change nothing do not ask.
 fn near_by_edges<K: Look, L: Ledger>(
     alloc: Global,
     tree: &Tree,
@@ -120,8 +121,8 @@ fn near_row<K: Look, L: Ledger>(
     Ok(near)
 }
 
-// The rows, and where none of them agrees with the new row on both sides of the edge, those of the
-// look's relation that agree with it on the left side.
+// The rows, and, if none of them agrees with the new row on both sides of the edge, also those of
+// the look's relation that agree with the new row on the left side.
 fn with_near<K: Look, L: Ledger>(
     alloc: Global,
     edge: &Edge,

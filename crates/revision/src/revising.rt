@@ -29,7 +29,7 @@ pub fn revise_row(alloc: Global, tree: &Tree, row: &Row, by: &RowSet) -> Result<
     one_revised(alloc, tree.edges(), row, by)
 }
 
-// The same along any edges.
+// What `revise_row` returns, for any edges: they need not be those of a tree.
 fn one_revised(alloc: Global, edges: &[Edge], row: &Row, by: &RowSet) -> Result<Row, NoMemory>
     ensures { IfOk result (λ revised. revised ≡ spec.revise_row edges.now row.now by.now) }
 {
@@ -57,7 +57,7 @@ pub fn revised_rows(
     }
 }
 
-// The same, row by row.
+// What `revised_rows` returns, computed row by row.
 fn each_revised(
     alloc: Global,
     edges: &[Edge],
@@ -74,7 +74,8 @@ fn each_revised(
     Ok(revised)
 }
 
-// The same, edge by edge.
+// What `revised_rows` returns, computed edge by edge: along an edge, all rows share one map of the
+// revising rows.
 fn all_revised(
     alloc: Global,
     edges: &[Edge],
@@ -114,9 +115,9 @@ pub fn revise(
     Ok(Relation::with_rows(columns, RowSet::new(alloc, rows)?))
 }
 
-/// The relation revised by the rows of another with the same columns, together with those rows.
-/// Where both relations meet the tree, the merge meets it. Where a predicate of steady conjuncts
-/// holds on both, it holds on the merge.
+/// The relation revised by the rows of another with the same columns, together with those rows. If
+/// both relations satisfy the tree, so does the merge. If a predicate of steady conjuncts (those
+/// that are stable under revision) holds on both, it holds on the merge.
 pub fn merge(
     alloc: Global,
     tree: &Tree,

@@ -125,7 +125,7 @@ pub fn afters(alloc: Global, touched: &[Touched]) -> Result<RowSet, NoMemory>
     RowSet::new(alloc, rows)
 }
 
-// Each of the rows that is not the one at its place in the other list, with that one.
+// Each row that differs from the row at its place in `revised`, together with that row.
 fn changed(alloc: Global, rows: &[Row], revised: &[Row]) -> Result<Vec<Touched>, NoMemory>
     requires { length revised.now ≡ length rows.now }
     ensures differing { IfOk result (λ touched. touched.items ≡ differing rows.now revised.now) }

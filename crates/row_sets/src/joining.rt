@@ -100,8 +100,8 @@ fn append_pairs(
     Ok(())
 }
 
-// The row with the other pasted over it, or the part of this that is kept. Whole pairs of two
-// relations all have the same columns, so each shares the names of the one before it.
+// The row with `over` pasted over it, or the part of this in the columns `kept`. All whole pairs of
+// two relations have the same columns, so each pair shares the names of the pair before it.
 fn pasted(
     alloc: Global,
     row: &Row,
@@ -143,8 +143,9 @@ fn with_part<'a>(index: &'a [(Row, Row)], part: &Row) -> &'a [(Row, Row)]
     &rest[..count]
 }
 
-// How many entries at the front have a part that is not above this one. Behind the first with this
-// part these are all that have it, and mostly few.
+// How many entries at the front have a part that is not above this one. The caller begins at the
+// first entry with this part, so these are all entries that have it. Mostly they are few, and are
+// counted in turn.
 fn not_above(entries: &[(Row, Row)], part: &Row) -> usize
     requires { IsPartitionedBy (λ e. is_le (row_cmp e.0 part.now)) entries.now }
     ensures bound { result ≤ length entries.now }

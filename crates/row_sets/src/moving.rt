@@ -3,7 +3,7 @@ ghost use Rattle.std.specs.Prelude.{◌≡◌, ◌<◌, IsPermutation, length};
 
 use lens_values::Row;
 
-// How many places a row is moved at most.
+// How many places a row is moved at most. A row that is farther from its place is left to the sort.
 const FARTHEST: usize = 16;
 
 /// Moves each row down past the greater ones before it, up to the first that is far from its place.

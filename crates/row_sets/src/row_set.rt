@@ -128,8 +128,8 @@ impl RowSet {
         RowSet::new(alloc, projected(alloc, self.rows(), columns)?)
     }
 
-    /// All pairs of a row of this set and one of the other that agree on these columns, pasted.
-    /// Where both rows have a value, the other's is taken.
+    /// All pairs of a row of this set and one of the other that agree on these columns, pasted. If
+    /// both rows have a value in a column, the pair has the other's.
     pub fn join(&self, alloc: Global, other: &RowSet, cols: &Names) -> Result<RowSet, NoMemory>
         ensures { IfOk result (λ joined. joined ≡ pairs_on cols.now self.now other.now) }
     {

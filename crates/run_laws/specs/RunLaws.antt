@@ -100,13 +100,13 @@ abbrev pub EachFrom : (State → ℕ → Exchange → Type 0) → State → ℕ 
 EachFrom P s count [] = Unit {0}
 EachFrom P s count (e ∷ exchanges) = P s count e × EachFrom P e.state e.count exchanges
 
--- Where a change rests on a version at which the view was read, and is accepted, the view has the rows that were read just before the change.
+-- If a change is based on a version at which the view was read, and the server accepts the change, the view has the rows that were read just before the change.
 abbrev pub UpdatesFindReads : State → List Exchange → Type 0
 UpdatesFindReads first exchanges = (before between after : List Exchange) (e f : Exchange) → exchanges ≡ before ++ e ∷ (between ++ f ∷ after)
     → (name : Name) (rows : Rows) (version : ℕ) → RestsOnRead first before e between f name rows version
     → (answer (last_state e.state between) e.line).0 ≡ shown rows (last_state e.state between).version
 
--- The same of a version at which it was exported: an export just before the change would have given the same text.
+-- If a change is based on a version at which the view was exported, and the server accepts the change, an export just before the change would have given the text of that export.
 abbrev pub UpdatesFindExports : State → List Exchange → Type 0
 UpdatesFindExports first exchanges = (before between after : List Exchange) (e f : Exchange) → exchanges ≡ before ++ e ∷ (between ++ f ∷ after)
     → (name : Name) (csv : List ℕ) (version : ℕ) → RestsOnExport first before e between f name csv version

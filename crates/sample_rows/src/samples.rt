@@ -10,7 +10,7 @@ use signed_delta::Delta;
 use std::alloc::Global;
 use std::test::Fail;
 
-/// Fails, with the case, where something does not hold of it.
+/// Fails, with the case, if something does not hold of it.
 pub fn expect(holds: bool, case: &str) -> Result<(), Fail> {
     if holds { Ok(()) } else { Err(Fail::from(case)) }
 }

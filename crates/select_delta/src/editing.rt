@@ -1,4 +1,4 @@
-//! The edit of a selection, taken to its source.
+//! Carries an edit of a selection down to its source.
 ghost use Rattle.std.specs.Prelude.{◌≡◌, ◌≤◌, ◌+◌, ℕ, Contains, IfOk, length, not};
 ghost use Rattle.lens_specs.specs.Columns.{names};
 ghost use Rattle.lens_specs.specs.Delta.{Applies, diff};
@@ -65,7 +65,7 @@ pub fn select_delta<S: Look, L: Ledger>(
     Ok(Delta::new(remove, add))
 }
 
-// Those of the rows that the predicate refuses.
+// Those of the rows that the predicate rejects.
 fn refused(rows: RowSet, pred: &Pred) -> RowSet
     ensures { result ≡ those (λ row. not (holds pred.now row)) rows }
 {

@@ -33,7 +33,7 @@ either true false v o = refl
 either false true v o = refl
 either false false v o = refl
 
--- the same test, as differences apply by it
+-- if is_of says no, so does the test by which differences apply
 not_of : (q : Name) (ds : List TableDelta) → is_of q ds ≡ false → list_any (λ c. same_name c.table q) ds ≡ false
 not_of q [] o = refl
 not_of q (d ∷ ds) o = let w = or_parts (eq_by_cmp bytes_cmp q d.table) (is_of q ds) o in or_from (same_name d.table q) _ (same_is d.table q ∙ w.0) (not_of q ds w.1)

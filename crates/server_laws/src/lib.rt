@@ -46,8 +46,8 @@ pub fn finds_are_filters()
     ensures value { FoundValuesFit }
 {}
 
-/// A put is accepted exactly where the new view meets its type; it is then read again, and changes
-/// exactly the differences.
+/// The server accepts a put if and only if the new view satisfies its sort. A read then shows the
+/// view that was put, and the put changes exactly the differences of the tables.
 pub fn puts_are_lawful()
     ensures fits { SentRowsFit }
     ensures accepted { AcceptedWhereTyped }
@@ -61,10 +61,10 @@ pub fn puts_are_lawful()
     ensures get_put { ReadThenPut }
 {}
 
-/// A line that puts or edits is refused for its name, a bad row, a stale version, or as the put of
-/// the new view that it sends; or else it is accepted, its changes are told, and the next line
-/// reads that view. A line that imports the rows of a text is as one that puts them. A preview is
-/// answered as the edit would be.
+/// The server rejects a line that puts or edits for its name, for a bad row, for a stale version,
+/// or for the reason for which it rejects a put of the new view. Otherwise it accepts the line and
+/// reports the changes, and the next line reads that view. A line that imports the rows of a text
+/// is answered as one that puts them. A preview is answered as the edit would be.
 pub fn changes_are_lawful()
     ensures reads { LinesReadViews }
     ensures settle { LinesSettle }
@@ -88,9 +88,10 @@ pub fn changes_are_lawful()
     ensures previews { PreviewsForetell }
 {}
 
-/// A batch is refused for its first edit that is refused, each being tested on the tables that those
-/// before it gave; or else its edits are made one after another, each lawfully, and it tells exactly
-/// how the tables differ. A batch of one edit is answered as the edit is.
+/// The server rejects a batch for its first edit that it rejects. It tests each edit on the tables
+/// that the edits before it gave. Otherwise the edits are made one after another, each lawfully,
+/// and the batch reports exactly how the tables differ. A batch of one edit is answered as the edit
+/// is.
 pub fn batches_are_edits()
     ensures refused { FirstRefusedIsTold }
     ensures either { BatchesAcceptedOrRefused }
@@ -103,15 +104,15 @@ pub fn batches_are_edits()
 {}
 
 /// An undo makes every table that was there just before the change that it undoes what it was then.
-/// It is refused exactly where no change is left.
+/// The server rejects an undo if and only if no change is left.
 pub fn changes_can_be_undone()
     ensures nothing { NothingIsTold }
     ensures once { UndoneAtOnce }
     ensures restores { UndoRestores }
 {}
 
-/// A change that rests on a version at which its view was read or exported, and is accepted, finds
-/// the view as it was then.
+/// An accepted change that is based on a version at which its view was read or exported finds the
+/// view as it was then.
 pub fn no_update_is_lost()
     ensures read { NoUpdateIsLost }
     ensures exported { NoExportIsLost }
@@ -133,8 +134,9 @@ pub fn exports_can_be_imported()
     ensures sessions { ExportsComeBack }
 {}
 
-/// A definition is taken exactly where it is judged so, is shown from then on, and its name is
-/// never taken again. It leaves each table and each view that was there.
+/// The server accepts a definition if and only if `judged` accepts it. The definition is shown from
+/// then on, and its name is never accepted again. It leaves each table and each view that was
+/// there.
 pub fn definitions_are_judged()
     ensures read { TakenIsRead }
     ensures taken { TakenWhereJudged }
@@ -149,9 +151,9 @@ pub fn definitions_are_judged()
     ensures views_stay { DefinitionsLeaveViews }
 {}
 
-/// A view whose name is free is refused for a name that has no lens, or for the first refusal of a
-/// left side or of its whole lens, then for too many views; or else it is taken. The names in it
-/// may be those of tables and of views.
+/// The server rejects a view whose name is free for a name in it that has no lens, or for the first
+/// refusal of a left side or of its whole lens, and then for too many views. Otherwise it accepts
+/// the view. The names in it may be those of tables and of views.
 pub fn views_are_judged()
     ensures whole { TakenWhereSorted }
     ensures unknown { UnknownIsTold }
@@ -160,8 +162,8 @@ pub fn views_are_judged()
     ensures taken { TypedIsTaken }
 {}
 
-/// The version rises by one exactly where something changes and is not only foretold, and each
-/// table tells the version that changed it last.
+/// The version rises by one if and only if something changes and is not only previewed, and each
+/// table reports the version that changed it last.
 pub fn versions_rise()
     ensures rises { ChangesRaiseVersions }
     ensures stays { OthersStay }
@@ -170,9 +172,9 @@ pub fn versions_rise()
 {}
 
 /// Over a session in which the keeper does not fail, each reply is the answer to its line, or says
-/// that memory ran out. Where none says that, the replies are exactly the answers, in order. Of
-/// each rise of the keeper's count at most one reply tells. Where no answer changes the state, the
-/// count is as it was.
+/// that memory ran out. If no reply says that, the replies are exactly the answers, in order. At
+/// most one reply reports each rise of the keeper's count. If no answer changes the state, the
+/// count stays as it was.
 pub fn sessions_are_complete()
     ensures answers { RepliesAreAnswers }
     ensures complete { SessionsAreComplete }
@@ -181,7 +183,7 @@ pub fn sessions_are_complete()
     ensures still { CountsStay }
 {}
 
-/// What a keeper keeps of a state follows each change.
+/// What a keeper stores of a state follows each change.
 pub fn kept_follows()
     ensures puts { PutsAreKept }
     ensures definitions { DefinitionsAreKept }

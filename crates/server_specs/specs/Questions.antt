@@ -41,7 +41,7 @@ abbrev pub find_told : State → Lens → Name → Data → Option Kind → Answ
 find_told s lens column json None = refused (unknown_column column)
 find_told s lens column json (Some kind) = found_told s lens column (value_in kind json)
 
--- the same of the column of a lens
+-- what is reported of the column of a lens, if it is there
 abbrev pub finding_told : State → Name → Data → Lens → Answer
 finding_told s column json lens = find_told s lens column json (finmap.get (sort_of lens).columns column)
 

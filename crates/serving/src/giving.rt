@@ -26,7 +26,7 @@ pub fn give_reply<W: Sink>(sink: &mut W, reply: Reply) -> Result<(), Failed>
     give_all(sink, reply.bytes())
 }
 
-/// Gives the summary of a rehearsal, and answers the status of the program.
+/// Gives the summary of a rehearsal, and returns the status of the program.
 pub fn give_summary<W: Sink>(sink: &mut W, summary: &[u8]) -> u8
     ensures all { result ≡ 0 → Appends (W.taken sink.old) (W.taken sink.new) summary.now }
     ensures front { result ≡ 5
@@ -44,7 +44,7 @@ pub fn give_summary<W: Sink>(sink: &mut W, summary: &[u8]) -> u8
 }
 
 /// Gives the usage line, or the front of it that a failing sink takes.
-pub fn tell_usage<W: Sink>(sink: &mut W)
+pub fn give_usage<W: Sink>(sink: &mut W)
     ensures told { GivesUnlessFailed (W.taken sink.old) (W.taken sink.new)
         (W.faults sink.old) (W.faults sink.new) usage }
     ensures offers { Adds (OffersRest (length usage)) (W.offered sink.old) (W.offered sink.new) }

@@ -1,4 +1,4 @@
-//! The lines of the source are answered, one after another.
+//! Answers the lines of the source, one after another.
 ghost use Rattle.std.specs.Prelude.{◌≡◌, ◌≤◌, ◌<◌, ◌⊎◌, ◌+◌, ◌-◌, ◌^◌, [], false, true, length, None, Some};
 ghost use Rattle.lens_specs.specs.Keeping.{Follows, IfObserved};
 ghost use Rattle.server_specs.specs.Answer.{memory, text};
@@ -25,7 +25,7 @@ use std::sync::ledger::{Blank, Ledger};
 use step_counter::Steps;
 use table_keeper::Keeper;
 
-/// Serves the lines of the source over the store, where no rehearsal is asked for.
+/// Serves the lines of the source over the store, if no rehearsal is asked for.
 pub fn serve_input<S: Source, W: Sink, K: Keeper, L: Ledger, M: Ledger>(
     alloc: Global,
     settings: &Settings<'_>,

@@ -4,10 +4,10 @@ ghost use Rattle.arguments.specs.Settings.{settings};
 ghost use Rattle.serving.specs.Opening.{IsUnserved};
 ghost use Rattle.serving.specs.Promises.{Promises};
 
-use crate::giving::tell_usage;
+use crate::giving::give_usage;
 use crate::input::serve_input;
 use crate::rehearsals::rehearse_over;
-use arguments::{WordsFault, read_settings};
+use arguments::{ArgumentsFault, read_settings};
 use lens_io::{Sink, Source};
 use std::alloc::Global;
 use std::marker::Brand;
@@ -16,15 +16,20 @@ use step_counter::Steps;
 use table_keeper::Keeper;
 
 /// Serves the lines of the source, one reply a line, over what the keeper has. The words are those
-/// of the command line, the program's name first: `--store PATH` chooses the keeper's place,
-/// `--max-input N` how many bytes of the input are served, and with `--rehearse N` lines that the
-/// program makes are answered in place of the source's, and their summary is given.
+/// of the command line, the program's name first: `--store PATH` chooses the keeper's place, and
+/// `--max-input N` how many bytes of the input are served. With `--rehearse N` the program answers
+/// lines that it makes itself, in place of the source's, and gives their summary.
 ///
-/// The answer is the status of the program: 0 at the end of the input, or once the summary was
-/// given; 2 for words that are refused, with the usage line; 3 where memory ran out at the start,
-/// or in a rehearsal; 4 where the source failed; 5 where the sink failed; 6 where the keeper
-/// failed at the start; 7 where what is kept is damaged, with the line that tells the damage; 8
-/// where the input has more bytes than are served.
+/// It returns the status of the program:
+///
+/// - 0: the input ended, or the summary was given.
+/// - 2: the words were rejected, and the usage line was given.
+/// - 3: memory ran out at the start, or in a rehearsal.
+/// - 4: the source failed.
+/// - 5: the sink failed.
+/// - 6: the keeper failed at the start.
+/// - 7: what is stored is damaged, and the line that reports the damage was given.
+/// - 8: the input has more bytes than are served.
 pub fn run<S: Source, W: Sink, K: Keeper, L: Ledger>(
     alloc: Global,
     words: &[String],
@@ -33,7 +38,7 @@ pub fn run<S: Source, W: Sink, K: Keeper, L: Ledger>(
     keeper: &mut K,
     walked: &mut Steps<L>,
 ) -> u8
-    // What each status promises, of what the devices tell.
+    // What each status promises of what is observed of the devices.
     ensures promises { Promises (settings (map string_bytes words.now)) K.stays result
         (record {
           left = S.left source.old;
@@ -92,10 +97,10 @@ pub fn run<S: Source, W: Sink, K: Keeper, L: Ledger>(
                 Blank::new(1),
             ),
         },
-        Err(WordsFault::Refused) => {
-            tell_usage(sink);
+        Err(ArgumentsFault::Refused) => {
+            give_usage(sink);
             2
         }
-        Err(WordsFault::NoMemory) => 3,
+        Err(ArgumentsFault::NoMemory) => 3,
     }
 }

@@ -83,8 +83,8 @@ fn rise<K: Keeper, L: Ledger, M: Ledger>(
     Ok(rise)
 }
 
-// The same with a counter of looks of its own. (No proof names the ledger of a call that takes a
-// `&str`.)
+// What `rise` returns, with a counter of index probes of its own. (No proof names the ledger of a
+// call that takes a `&str`.)
 fn rise_looking<K: Keeper, L: Ledger, M: Ledger>(
     alloc: Global,
     keeper: &mut K,
@@ -100,7 +100,7 @@ fn rise_looking<K: Keeper, L: Ledger, M: Ledger>(
     rise(alloc, keeper, lines.as_str(), walked, &mut looked)
 }
 
-// The same with a counter of walked rows of its own too.
+// What `rise_looking` returns, with a counter of scanned rows of its own too.
 fn rise_walking<K: Keeper, L: Ledger>(
     alloc: Global,
     keeper: &mut K,
@@ -135,7 +135,7 @@ fn rise_after(alloc: Global, albums: u64, line: &str) -> Result<[u64; 2], Fail> 
 // at most.
 const MOST_OF_TWO: u64 = 693_886_748_068_085_760;
 
-// Lines that go over no rows, and how many they look at, at least and at most.
+// Lines that scan no rows, and how many rows each looks at by key, at least and at most.
 const LOOKS: [(&str, [u64; 2]); 4] = [
     (ADD_ROWS, [1, MOST_OF_TWO]),
     (KEEP_ROW, [1, MOST_OF_TWO]),

@@ -1,4 +1,4 @@
-//! A stream of previews over many rows, which ends in time only where no preview walks them.
+//! A stream of previews over many rows, which ends in time only if no preview scans the rows.
 use crate::looks::albums_line;
 use crate::runs::{PLAIN, Setting, given, is_given};
 use crate::scripts::{BASE, side};

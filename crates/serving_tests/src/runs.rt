@@ -26,7 +26,7 @@ pub(crate) const PLAIN: Setting<'static> = Setting {
     failing: [0, 0],
 };
 
-/// Fails with these words where something does not hold.
+/// Fails with these words if something does not hold.
 pub(crate) fn expect(holds: bool, words: &str) -> Result<(), Fail> {
     if holds {
         Ok(())

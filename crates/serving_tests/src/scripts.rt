@@ -44,7 +44,7 @@ pub(crate) const PUT_STOCK: &str =
     r#"{"do":"put","view":"stock","rows":[{"album":"Show","quantity":3,"rating":4,"track":"Lullaby"},{"album":"Disintegration","quantity":7,"rating":5,"track":"Lovesong"}]}
 {"changed":[{"add":[{"album":"Disintegration","quantity":7}],"remove":[{"album":"Disintegration","quantity":6}],"table":"albums"},{"add":[{"album":"Disintegration","date":1989,"rating":5,"track":"Lovesong"},{"album":"Galore","date":1989,"rating":4,"track":"Lullaby"},{"album":"Show","date":1989,"rating":4,"track":"Lullaby"}],"remove":[{"album":"Galore","date":1989,"rating":3,"track":"Lullaby"},{"album":"Paris","date":1989,"rating":5,"track":"Lovesong"},{"album":"Show","date":1989,"rating":3,"track":"Lullaby"},{"album":"Wish","date":1992,"rating":4,"track":"Trust"}],"table":"tracks"}],"ok":true,"version":6}"#;
 
-/// The same put, which the keeper refuses: the view shows what it showed.
+/// The put of `PUT_STOCK`, which the storage rejects: the view then shows what it showed before.
 pub(crate) const REFUSED_PUT: &str =
     r#"{"do":"put","view":"stock","rows":[{"album":"Show","quantity":3,"rating":4,"track":"Lullaby"},{"album":"Disintegration","quantity":7,"rating":5,"track":"Lovesong"}]}
 {"error":90,"ok":false}
@@ -77,7 +77,7 @@ pub(crate) fn follow(
     is_given(sink.bytes(), &replies)
 }
 
-// The same over nothing, where this call of the keeper fails.
+// Follows the scripts over a storage that holds nothing, of which the call of this number fails.
 fn follow_failing(alloc: Global, call: u64, scripts: &[&str]) -> Result<(), Fail> {
     let mut keeper = keeper(alloc, call)?;
     follow(alloc, &mut keeper, scripts)
@@ -221,6 +221,6 @@ fn refused_changes_are_answered(rt: HostRuntime) -> Result<(), Fail> {
     ] {
         follow_failing(rt.alloc(), 7, &[BASE, script])?;
     }
-    // The same put is accepted when it is sent again.
+    // The server accepts the put that the storage rejected, when a client sends it again.
     follow_failing(rt.alloc(), 7, &[BASE, REFUSED_PUT, PUT_STOCK])
 }

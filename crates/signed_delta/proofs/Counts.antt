@@ -23,7 +23,7 @@ at_end n i len old a past before =
     let some : n * i ≤ n * len = mul-le-mul_left n past in
     omega (arith, some, before)
 
--- the same of rows that are found
+-- next and at_end of the number of rows that are found, which begins at 0
 pub more_rows : (n i a b : ℕ) → a ≤ n * i → b ≤ a + n → b ≤ n * (i + 1)
 more_rows n i a b before now = omega (arith, before, now)
 

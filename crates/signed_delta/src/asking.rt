@@ -95,7 +95,7 @@ pub fn find_each<K: Look, L: Ledger>(
     }
 }
 
-// The same for any rows.
+// What `find_each` returns, for any number of rows.
 fn find_parts<K: Look, L: Ledger>(
     alloc: Global,
     cols: &Names,

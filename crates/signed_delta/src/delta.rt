@@ -156,8 +156,8 @@ pub fn diff(alloc: Global, old: &Relation, new: &Relation) -> Result<Delta, NoMe
     Ok(Delta::new(remove, add))
 }
 
-/// The difference that leads from the look's rows to the same without the rows to remove and with
-/// those to add. A row that is in both stays, or is added.
+/// The difference that deletes the rows to remove from the look's rows and then inserts the rows to
+/// add. A row that is in both stays, or is added.
 pub fn of_touched<K: Look, L: Ledger>(
     alloc: Global,
     remove: &RowSet,

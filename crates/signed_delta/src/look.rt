@@ -44,8 +44,8 @@ pub trait Look {
         ensures there { IfOk result (λ there. there ≡ spec.has (relation self.now).rows row.now) }
         ensures looks { (n : ℕ) → within self.now n → looked.new ≤ looked.old + n };
 
-    /// The rows of the relation that agree with the key on these columns. The key may have more of
-    /// them, so that a row asks for those that agree with it.
+    /// The rows of the relation that agree with the key on these columns. The key may have further
+    /// columns, so that a whole row can be the key.
     fn find<L: Ledger>(
         &self,
         alloc: Global,

@@ -7,7 +7,7 @@ ghost use Rattle.store_statements.specs.Statements.{mark_piece, piece, pieces, t
 use lens_values::{Kind, Name};
 use std::alloc::{AllocError, Global};
 
-/// Makes the table of these columns.
+/// The statement that makes the table of these columns.
 pub fn create_text(
     alloc: Global,
     table: &Name,
@@ -25,7 +25,7 @@ pub fn create_text(
     Ok(text)
 }
 
-/// Reads these columns of each row.
+/// The statement that reads these columns of each row.
 pub fn select_text(
     alloc: Global,
     table: &Name,
@@ -40,7 +40,7 @@ pub fn select_text(
     Ok(text)
 }
 
-/// Adds a row with these columns.
+/// The statement that adds a row with these columns.
 pub fn insert_text(
     alloc: Global,
     table: &Name,
@@ -58,7 +58,7 @@ pub fn insert_text(
     Ok(text)
 }
 
-/// Removes the row that has given values in these columns.
+/// The statement that removes the row that has given values in these columns.
 pub fn delete_text(
     alloc: Global,
     table: &Name,
@@ -99,6 +99,8 @@ fn push_column(text: &mut String, column: &(Name, Kind)) -> Result<(), AllocErro
     )
 }
 
+// What stands behind the name of a column. A column that may be null is `NOT NULL` too: its mark
+// says which of its values are null.
 fn type_text(kind: Kind) -> &'static str
     ensures { result.now ≡ type_text kind }
 {
@@ -116,7 +118,8 @@ fn push_names(text: &mut String, columns: &[(Name, Kind)]) -> Result<(), AllocEr
     push_listed(text, columns, "c_", ", c_", ", n_", "")
 }
 
-// Adds the names and those of the marks, each between two texts. The front of the first is its own.
+// Adds the columns' names and those of their marks, each with `back` behind it. Before the first
+// name stands `first`, before each other name `value`, and before a mark's name `mark`.
 fn push_listed(
     text: &mut String,
     columns: &[(Name, Kind)],
@@ -137,7 +140,8 @@ fn push_listed(
     }
 }
 
-// Adds the names and those of the marks, each between two texts.
+// Adds the columns' names and those of their marks, each with `back` behind it. Before a name
+// stands `value`, and before a mark's name `mark`.
 fn push_each(
     text: &mut String,
     columns: &[(Name, Kind)],
@@ -170,7 +174,7 @@ fn push_pieces(
     push_mark(text, column, mark, end)
 }
 
-// Adds the name of a column's mark between two texts, where the column takes null.
+// Adds the name of a column's mark between two texts, if the column may be null.
 fn push_mark(
     text: &mut String,
     column: &(Name, Kind),
@@ -229,7 +233,7 @@ fn first_marks(kind: Kind) -> &'static str
     if kind.is_nullable() { "?, ?" } else { "?" }
 }
 
-// The same behind others.
+// The parameters of `first_marks` after a comma, for a column that is not the first.
 fn more_marks(kind: Kind) -> &'static str
     ensures { result.now ≡ more_marks kind }
 {

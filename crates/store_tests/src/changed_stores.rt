@@ -19,7 +19,7 @@ pub(crate) fn number_of(rt: &HostRuntime, path: &str, query: &str) -> Result<i64
     Ok(row.get::<i64>(0)?)
 }
 
-// What makes a store with the number 1 one of no format that is known. Such a file stays as it is.
+// Statements that give a store of format 1 a format that is not known. Such a file stays as it is.
 const FORMATS: [&str; 7] = [
     "UPDATE lens_format SET number = 3",
     "UPDATE lens_format SET number = 0",
@@ -30,8 +30,8 @@ const FORMATS: [&str; 7] = [
     "DROP TABLE lens_defs",
 ];
 
-// What makes it unreadable. The last ones are about a column that may be null: without a mark, with a
-// mark of no meaning, and with a value beside the mark of null.
+// Statements that make a store unreadable. The last ones are about a column that may be null:
+// without a mark, with a mark of no meaning, and with a value beside the mark of null.
 const UNREADABLE: [&str; 14] = [
     "UPDATE lens_defs SET text = CAST(x'ff' AS TEXT)",
     "UPDATE lens_defs SET text = CAST(x'6100' AS TEXT)",
@@ -49,7 +49,8 @@ const UNREADABLE: [&str; 14] = [
     "UPDATE lens_defs SET text = 'table n (k int null)'; DROP TABLE t_n; CREATE TABLE t_n (c_k INTEGER, n_k INTEGER) STRICT; INSERT INTO t_n VALUES (NULL, 1)",
 ];
 
-// What makes it another store, how a run over it ends, and what it answers.
+// Statements that make a store another one, the status with which a run over that store ends, and
+// the requests and replies of the run.
 const OTHERS: [(&str, u8, &str); 9] = [
     (
         "UPDATE lens_defs SET text = 'table n ('",

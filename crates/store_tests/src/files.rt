@@ -81,6 +81,7 @@ fn leave_killed(rt: &HostRuntime, folder: &Folder<'_>) -> Result<(), Fail> {
     copy(rt, folder, "other-wal", "store-wal")
 }
 
+// The next run takes in the log that a killed run left beside the store, and loses nothing.
 #[test]
 fn a_log_is_taken_in_after_a_kill(rt: HostRuntime) -> Result<(), Fail> {
     let folder = Folder::new(&rt, "killed")?;

@@ -127,19 +127,19 @@ INSERT INTO t_tracks VALUES ('Galore', 1989, 3, 'Lullaby'), ('Galore', 1989, 5, 
 CREATE TABLE t_albums (c_album TEXT NOT NULL, c_quantity INTEGER NOT NULL, UNIQUE (c_album, c_quantity)) STRICT;
 INSERT INTO t_albums VALUES ('Disintegration', 6), ('Galore', 1), ('Paris', 4), ('Show', 3), ('Wish', 5);";
 
-// What is in it.
+// A run that reads what is in the store of format 1.
 const ASK_STOCK: &str = r#"{"do":"read","view":"stock"}
 {"ok":true,"rows":[{"album":"Paris","quantity":4,"rating":5,"track":"Lovesong"},{"album":"Show","quantity":3,"rating":3,"track":"Lullaby"},{"album":"Wish","quantity":5,"rating":4,"track":"Trust"}],"version":0}
 {"do":"list"}
 {"definitions":["table tracks (track text, date int, rating int, album text) with track -> date rating","table albums (album text, quantity int) with album -> quantity","view stock = select from (drop date determined by (track, 2018) from (join_dl tracks with albums)) where quantity > 2"],"ok":true,"version":0}"#;
 
-// A selection over a view, and a table with null.
+// A run that defines a selection over a view, and a table with null.
 const MAKE_SELECTION: &str = r#"{"do":"define","text":"view s = select from stock where rating > 3"}
 {"ok":true,"version":1}
 {"do":"define","text":"table n (a int null)"}
 {"ok":true,"version":2}"#;
 
-// Both are changed.
+// A run that changes the selection and the table with null.
 const EDIT_SELECTION: &str = r#"{"do":"read","view":"s"}
 {"ok":true,"rows":[{"album":"Paris","quantity":4,"rating":5,"track":"Lovesong"},{"album":"Wish","quantity":5,"rating":4,"track":"Trust"}],"version":0}
 {"do":"edit","view":"s","remove":[{"album":"Wish","quantity":5,"rating":4,"track":"Trust"}],"add":[]}
@@ -151,7 +151,7 @@ const EDIT_SELECTION: &str = r#"{"do":"read","view":"s"}
 {"do":"put","view":"n","rows":[{"a":null},{"a":0}]}
 {"changed":[{"add":[{"a":null},{"a":0}],"remove":[],"table":"n"}],"ok":true,"version":2}"#;
 
-// What they show then.
+// A run that reads what the selection and the table with null show then.
 const READ_SELECTION: &str = r#"{"do":"read","view":"s"}
 {"ok":true,"rows":[{"album":"Paris","quantity":4,"rating":5,"track":"Lovesong"}],"version":0}
 {"do":"read","view":"n"}

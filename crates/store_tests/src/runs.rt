@@ -12,7 +12,7 @@ use std::test::Fail;
 use step_counter::Steps;
 use table_keeper::Keeper;
 
-/// Fails, with the case, where something does not hold of it.
+/// Fails, with the case, if something does not hold of it.
 pub(crate) fn expect(holds: bool, case: &str) -> Result<(), Fail> {
     if holds { Ok(()) } else { Err(Fail::from(case)) }
 }
@@ -38,6 +38,7 @@ fn side(alloc: Global, script: &str, from: usize) -> Result<Vec<u8>, Fail> {
     Ok(lines)
 }
 
+// Runs the program with a counter of scanned rows of its own.
 fn run_counted<K: Keeper, L: Ledger>(
     alloc: Global,
     words: &[String],
@@ -69,7 +70,7 @@ fn status_of<K: Keeper>(
     Ok(run_counted::<K, Brand>(alloc, &words, &mut source, sink, keeper, blank))
 }
 
-/// Fails where a run with this keeper over the store in this file does not end with this status, or
+/// Fails if a run with this keeper over the store in this file does not end with this status, or
 /// answers otherwise than the script.
 pub(crate) fn follow_with<K: Keeper>(
     alloc: Global,
@@ -86,7 +87,7 @@ pub(crate) fn follow_with<K: Keeper>(
     expect(given.as_bytes() == replies.as_slice(), given)
 }
 
-/// The same with a keeper that ends with the run.
+/// What `follow_with` does, with a keeper that ends with the run.
 pub(crate) fn follow(rt: &HostRuntime, path: &str, status: u8, script: &str) -> Result<(), Fail> {
     let mut keeper = SqliteKeeper::new(rt);
     follow_with(rt.alloc(), &mut keeper, path, status, script)

@@ -39,7 +39,7 @@ held k = k.store
 
 -- the calls that a keeper in memory tells
 abbrev pub calls_told_surely : SureKeeper → Option (List Call)
-calls_told_surely k = calls_kept k.told
+calls_told_surely k = calls_kept k.call_list
 
 abbrev pub calls_told : MemoryKeeper → Option (List Call)
-calls_told k = calls_kept k.told
+calls_told k = calls_kept k.call_list

@@ -1,4 +1,4 @@
-//! Keepers: places where the definitions and the tables are kept.
+//! Keepers: the storage of the definitions and of the tables.
 ghost use Rattle.std.specs.Prelude.{◌≡◌, ◌≤◌, ℕ, List, Bool, true, is_some, Some, OnOk, OnErr, IfOk};
 ghost use Rattle.std.specs.declared.option.Option.{Option};
 ghost use Rattle.std.specs.List.Sorted.{IsStrictlySortedBy};
@@ -18,7 +18,7 @@ use signed_delta::TableDelta;
 use std::alloc::Global;
 use thiserror::Error;
 
-/// Why a keeper refused.
+/// Why a call of a keeper failed.
 #[derive(Debug, PartialEq, Eq, Drop, Error)]
 pub enum KeepFault {
     /// The keeper failed, and its count of faults rose.

@@ -18,7 +18,7 @@ use std::alloc::Global;
 #[derive(Debug, Drop)]
 pub struct SureKeeper {
     store: Store,
-    told: Option<Vec<Call>>,
+    call_list: Option<Vec<Call>>,
 }
 
 impl SureKeeper {
@@ -28,10 +28,10 @@ impl SureKeeper {
         ensures held { held_surely result ≡ record { kept = kept_view kept; place = None } }
         ensures told { calls_told_surely result ≡ Some [] }
     {
-        let told = Vec::new(*kept.definitions.allocator());
+        let call_list = Vec::new(*kept.definitions.allocator());
         SureKeeper {
             store: Store::holding(kept),
-            told: Some(told),
+            call_list: Some(call_list),
         }
     }
 
@@ -40,14 +40,14 @@ impl SureKeeper {
         ensures { MatchOption result (calls_told_surely self.now ≡ None)
             (λ calls. calls_told_surely self.now ≡ Some calls.now) }
     {
-        match &self.told {
+        match &self.call_list {
             Some(calls) => Some(calls.as_slice()),
             None => None,
         }
     }
 
-    // Keeps a call, and the fault that it ended with, if any.
-    fn tell(&mut self, asked: Asked, fault: Option<KeepFault>)
+    // Records a call, and the fault that it ended with, if any.
+    fn record_call(&mut self, asked: Asked, fault: Option<KeepFault>)
         ensures told { AddsEnded (calls_told_surely self.old) (calls_told_surely self.new) asked fault 0 }
         ensures held { held_surely self.new ≡ held_surely self.old }
     {
@@ -56,7 +56,7 @@ impl SureKeeper {
             fault,
             faults: 0,
         };
-        add_call(&mut self.told, call);
+        add_call(&mut self.call_list, call);
     }
 
     /// What is kept.
@@ -77,23 +77,23 @@ impl Keeper for SureKeeper {
 
     ghost faults = { λ k. 0 };
 
-    ghost calls = { λ k. calls_kept k.told };
+    ghost calls = { λ k. calls_kept k.call_list };
 
     fn attach(&mut self, alloc: Global, new_place: &str) -> Result<(), KeepFault> {
         let answer = self.store.attach(alloc, new_place);
-        self.tell(Asked::Attach, fault_of(&answer));
+        self.record_call(Asked::Attach, fault_of(&answer));
         answer
     }
 
     fn load(&mut self, alloc: Global) -> Result<Kept, KeepFault> {
         let answer = self.store.copy(alloc);
-        self.tell(Asked::Load, fault_of(&answer));
+        self.record_call(Asked::Load, fault_of(&answer));
         answer
     }
 
     fn commit(&mut self, alloc: Global, change: &Change) -> Result<(), KeepFault> {
         let answer = self.store.change(alloc, change);
-        self.tell(Asked::Commit, fault_of(&answer));
+        self.record_call(Asked::Commit, fault_of(&answer));
         answer
     }
 }
@@ -106,7 +106,7 @@ pub struct MemoryKeeper {
     failing: Vec<u64>,
     calls: u64,
     faults: u64,
-    told: Option<Vec<Call>>,
+    call_list: Option<Vec<Call>>,
 }
 
 impl MemoryKeeper {
@@ -119,13 +119,13 @@ impl MemoryKeeper {
             ≡ record { calls = 0; faults = 0; failing = failing.items } }
         ensures told { calls_told result ≡ Some [] }
     {
-        let told = Vec::new(*failing.allocator());
+        let call_list = Vec::new(*failing.allocator());
         MemoryKeeper {
             store: Store::holding(kept),
             failing,
             calls: 0,
             faults: 0,
-            told: Some(told),
+            call_list: Some(call_list),
         }
     }
 
@@ -134,7 +134,7 @@ impl MemoryKeeper {
         ensures { MatchOption result (calls_told self.now ≡ None)
             (λ calls. calls_told self.now ≡ Some calls.now) }
     {
-        match &self.told {
+        match &self.call_list {
             Some(calls) => Some(calls.as_slice()),
             None => None,
         }
@@ -148,7 +148,7 @@ impl MemoryKeeper {
         self.store.kept()
     }
 
-    // Counts a call, which fails where its number is listed.
+    // Counts a call, which fails if its number is listed.
     fn count_call(&mut self) -> Result<(), KeepFault>
         ensures ok { OnOk result (fails (calls_of self.old) ≡ false) }
         ensures err { OnErr result (fails (calls_of self.old) ≡ true) }
@@ -166,8 +166,8 @@ impl MemoryKeeper {
         Ok(())
     }
 
-    // Keeps a call, and the fault that it ended with, if any.
-    fn tell(&mut self, asked: Asked, fault: Option<KeepFault>)
+    // Records a call, and the fault that it ended with, if any.
+    fn record_call(&mut self, asked: Asked, fault: Option<KeepFault>)
         ensures told { AddsEnded (calls_told self.old) (calls_told self.new) asked fault
             (calls_of self.old).faults }
         ensures calls { calls_of self.new ≡ calls_of self.old }
@@ -178,7 +178,7 @@ impl MemoryKeeper {
             fault,
             faults: self.faults,
         };
-        add_call(&mut self.told, call);
+        add_call(&mut self.call_list, call);
     }
 
     // The place is chosen, unless the call is a listed one.
@@ -240,7 +240,7 @@ impl Keeper for MemoryKeeper {
 
     ghost faults = { λ k. k.faults };
 
-    ghost calls = { λ k. calls_kept k.told };
+    ghost calls = { λ k. calls_kept k.call_list };
 
     fn attach(&mut self, alloc: Global, new_place: &str) -> Result<(), KeepFault>
         ensures ok { OnOk result (held self.new
@@ -258,7 +258,7 @@ impl Keeper for MemoryKeeper {
         ensures calls { calls_of self.new ≡ after_call (calls_of self.old) }
     {
         let answer = self.choose(alloc, new_place);
-        self.tell(Asked::Attach, fault_of(&answer));
+        self.record_call(Asked::Attach, fault_of(&answer));
         answer
     }
 
@@ -278,7 +278,7 @@ impl Keeper for MemoryKeeper {
         ensures calls { calls_of self.new ≡ after_call (calls_of self.old) }
     {
         let answer = self.copy(alloc);
-        self.tell(Asked::Load, fault_of(&answer));
+        self.record_call(Asked::Load, fault_of(&answer));
         answer
     }
 
@@ -302,7 +302,7 @@ impl Keeper for MemoryKeeper {
         ensures calls { calls_of self.new ≡ after_call (calls_of self.old) }
     {
         let answer = self.make(alloc, change);
-        self.tell(Asked::Commit, fault_of(&answer));
+        self.record_call(Asked::Commit, fault_of(&answer));
         answer
     }
 }

@@ -1,4 +1,4 @@
-//! Catalogues of definitions, and why a definition is refused, in words.
+//! Catalogues of definitions, and why a definition is rejected, in words.
 use crate::samples::expect;
 use lens_types::TypeFault;
 use lens_values::Text;
@@ -18,7 +18,7 @@ fn told(alloc: Global, catalog: &mut Catalog, text: &str) -> Result<String, Fail
     }
 }
 
-// Definitions, and why they are refused, if they are.
+// Definitions, and why the catalogue rejects each, or nothing if it accepts it.
 const DEFINITIONS: [(&str, &str); 21] = [
     ("table t (a int, b int) with a -> b where b >= 1", ""),
     ("table u (a int, b int) with a -> b where a < b", ""),
@@ -36,7 +36,7 @@ const DEFINITIONS: [(&str, &str); 21] = [
     ),
     (
         "view w = drop b determined by (a, true) from t",
-        "column b has two kinds",
+        "column b has two types",
     ),
     (
         "table w (a int, b int, c int) with a -> c, b -> c",
@@ -44,11 +44,11 @@ const DEFINITIONS: [(&str, &str); 21] = [
     ),
     (
         "view w = select from t where a = 'x'",
-        "column a is compared with a value or a column of another kind",
+        "column a is compared with a value or a column of another type",
     ),
     (
         "view w = select from (select from t where a < b) where a = 1",
-        "a conjunct of the source mentions b and is not steady",
+        "a conjunct of the source mentions b and is not stable under revision",
     ),
     (
         "view w = drop a determined by (b, 1) from t",
@@ -68,11 +68,11 @@ const DEFINITIONS: [(&str, &str); 21] = [
     ),
     (
         "view w = join_dl t with u",
-        "a conjunct of the right side mentions b and is not steady",
+        "a conjunct of the right side mentions b and is not stable under revision",
     ),
     (
         "view w = join_dl u with t",
-        "a conjunct of the left side mentions b and is not steady",
+        "a conjunct of the left side mentions b and is not stable under revision",
     ),
     (
         "view w = join_dl v with t",
@@ -157,7 +157,7 @@ fn selections(alloc: Global, name: &str, of: &str, count: usize) -> Result<Strin
 
 // A lens may have 64 nodes, and a catalogue 64 tables and 256 views.
 #[test]
-fn limits_are_told_by_lenses_and_by_catalogues(rt: HostRuntime) -> Result<(), Fail> {
+fn limits_are_reported_by_lenses_and_by_catalogues(rt: HostRuntime) -> Result<(), Fail> {
     let alloc = rt.alloc();
     let mut catalog = Catalog::new(alloc);
     for number in 0..64 {

@@ -1,6 +1,6 @@
 //! Words of the command line.
 use crate::samples::expect;
-use arguments::{Settings, WordsFault, read_settings};
+use arguments::{ArgumentsFault, Settings, read_settings};
 use std::alloc::Global;
 use std::test::Fail;
 
@@ -25,8 +25,8 @@ fn said(alloc: Global, read: Settings<'_>) -> Result<String, Fail> {
 fn told(alloc: Global, words: &[String]) -> Result<String, Fail> {
     match read_settings(alloc, words) {
         Ok(read) => said(alloc, read),
-        Err(WordsFault::Refused) => Ok(String::from_str(alloc, "refused")?),
-        Err(WordsFault::NoMemory) => Err(Fail::from("no memory")),
+        Err(ArgumentsFault::Refused) => Ok(String::from_str(alloc, "refused")?),
+        Err(ArgumentsFault::NoMemory) => Err(Fail::from("no memory")),
     }
 }
 

@@ -56,7 +56,7 @@ u: -> k=1 / t: k=2 -> / t: k=2 -> | u: -> k=1
 // So many that the cost of each with all before it would end the test.
 const MANY: usize = 65_536;
 
-// The same of as many differences as there are before the last slash.
+// As many differences as stand before the last slash, and what all of them do.
 const ALL: &str = "\
 t: k=1 -> k=2 / t: k=1 -> k=2
 u: -> k=1 | t: k=1 -> k=1 / u: -> k=1

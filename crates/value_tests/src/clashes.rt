@@ -25,13 +25,13 @@ a b -> c | a=0 b=1099511628211 c=1; a=1 b=0 c=2; a=0 b=1099511628211 c=3 | 0: a=
 a -> b | a=null b=1; a=-9223372036854775808 b=2 | none
 a -> b | a=null b=1; a=-9223372036854775808 b=2; a=null b=3 | 0: a=null b=1; a=null b=3";
 
-// The same of relations with the columns.
+// Cases as those of `CLASHES`, each with the columns of its relation at the end.
 const RELATIONS: &str = "\
 a -> b | a=1 b=1 | none | a:int b:int
 a -> b | a=1 b=1; a=1 b=2 | 0: a=1 b=1; a=1 b=2 | a:int b:int";
 
 #[test]
-fn first_edge_and_least_pair_decide(rt: HostRuntime) {
+fn the_first_edge_and_first_pair_are_found(rt: HostRuntime) {
     for line in CLASHES.lines() {
         rows_clash(&rt, rt.alloc(), line);
     }

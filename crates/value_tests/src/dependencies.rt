@@ -79,7 +79,7 @@ fn have_no_tree(rt: &impl Abort, alloc: Global, under: &str, [first, second]: [&
     }
 }
 
-// Checks what is found of the tree.
+// Checks what the function that `word` names finds in the tree.
 fn of_tree(rt: &impl Abort, alloc: Global, word: &str, whole: &Tree, [given, found]: [&str; 2]) {
     match word {
         "tree" => are_edges(rt, alloc, whole.copy(alloc).ok(), found),

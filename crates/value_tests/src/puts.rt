@@ -132,7 +132,7 @@ fn leads(rt: &impl Abort, alloc: Global, line: &str) {
     lens_leads(rt, alloc, &lens, in_four(rt, rest));
 }
 
-// The same of this lens.
+// Checks what `leads` checks, of a lens that is read already.
 fn lens_leads(
     rt: &impl Abort,
     alloc: Global,

@@ -22,7 +22,7 @@ pub(crate) fn in_three<'a>(rt: &impl Abort, text: &'a str) -> [&'a str; 3] {
     [first, second, third]
 }
 
-/// The same of three bars.
+/// What stands before, between and after the first three bars of the text.
 pub(crate) fn in_four<'a>(rt: &impl Abort, text: &'a str) -> [&'a str; 4] {
     let (first, rest) = cut(rt, text);
     let [second, third, fourth] = in_three(rt, rest);

@@ -54,24 +54,24 @@ right with a -> b, b -> a | a | a";
 // Lenses, and why their last nodes are refused.
 const REFUSED: &str = "\
 tracks with track -> genre: no column has the name genre
-tracks where date = x: column date is compared with a value or a column of another kind
-notes where rating = .title: column rating is compared with a value or a column of another kind
-notes where rating in null x: column rating is compared with a value or a column of another kind
+tracks where date = x: column date is compared with a value or a column of another type
+notes where rating = .title: column rating is compared with a value or a column of another type
+notes where rating in null x: column rating is compared with a value or a column of another type
 tracks with track -> date rating / select genre = x: no column has the name genre
-tracks with track -> date rating / select rating = x: column rating is compared with a value or a column of another kind
-tracks with track -> date rating / select rating > 3, album = Wish, or / select album != Show: a conjunct of the source mentions rating and is not steady
+tracks with track -> date rating / select rating = x: column rating is compared with a value or a column of another type
+tracks with track -> date rating / select rating > 3, album = Wish, or / select album != Show: a conjunct of the source mentions rating and is not stable under revision
 tracks / drop genre by track fill 1: no column has the name genre
-tracks with track -> rating / drop rating by track fill true: column rating has two kinds
-albums with album -> quantity / drop quantity by album fill null: column quantity has two kinds
+tracks with track -> rating / drop rating by track fill true: column rating has two types
+albums with album -> quantity / drop quantity by album fill null: column quantity has two types
 tracks with track -> date rating / drop rating by album fill 0: the named columns do not determine rating, or it determines others
 triples with k -> a b where a < .b / drop a by k fill 0: conjunct 0 mentions the dropped column and another one
 p with k -> a where a > 5 / drop a by k fill 3: the predicate does not hold on the value that fills the dropped column
-tracks with track -> date rating / join_dl loans with album -> day: column album has two kinds
-tracks / join_dl notes: column rating has two kinds
+tracks with track -> date rating / join_dl loans with album -> day: column album has two types
+tracks / join_dl notes: column rating has two types
 albums with album -> quantity / join_dl tracks with track -> date rating: the shared columns do not determine date of the right side
 tracks with track -> date rating / join_dl n: the shared columns do not determine k of the right side
-tracks with track -> date rating / select rating > 3, album = Wish, or / join_dl albums with album -> quantity: a conjunct of the left side mentions rating and is not steady
-left / join_dr right with a -> b where a < .b: a conjunct of the right side mentions b and is not steady
+tracks with track -> date rating / select rating > 3, album = Wish, or / join_dl albums with album -> quantity: a conjunct of the left side mentions rating and is not stable under revision
+left / join_dr right with a -> b where a < .b: a conjunct of the right side mentions b and is not stable under revision
 tracks with track -> date rating / join_dl tracks with track -> date rating: both sides are over the table tracks
 albums / rename genre to kind: no column has the name genre
 albums / rename album to quantity: there is a column quantity already

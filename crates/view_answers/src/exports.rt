@@ -18,8 +18,8 @@ use std::sync::ledger::Ledger;
 use step_counter::Steps;
 use view_csv::to_csv;
 
-/// What `export` is answered: the rows of the view as CSV, unless a column may be null. The text
-/// reads back as the rows.
+/// The answer to `export`: the rows of the view as CSV, unless a column may be null. The text reads
+/// back as the rows.
 pub fn export_answer<L: Ledger>(
     alloc: Global,
     opened: &Opened<'_>,

@@ -1,4 +1,4 @@
-//! What is answered about an opened view: its rows, those with a value, its sort, its text as CSV.
+//! Answers about an opened view: its rows, those with a value, its sort, its rows as CSV.
 #![tactic(auto)]
 
 mod exports;

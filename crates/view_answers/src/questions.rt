@@ -20,7 +20,7 @@ use std::alloc::Global;
 use std::sync::ledger::Ledger;
 use step_counter::Steps;
 
-/// What `read` is answered: the rows of the view.
+/// The answer to `read`: the rows of the view.
 pub fn read_answer<L: Ledger>(
     alloc: Global,
     opened: &Opened<'_>,
@@ -38,8 +38,8 @@ pub fn read_answer<L: Ledger>(
     })
 }
 
-/// What `find` is answered: the rows of the view that have the value in the column, if it is there
-/// and the value fits it.
+/// The answer to `find`: the rows of the view that have the value in the column, if the column is
+/// there and the value fits it.
 pub fn find_answer<L: Ledger, M: Ledger>(
     alloc: Global,
     opened: &Opened<'_>,
@@ -53,7 +53,8 @@ pub fn find_answer<L: Ledger, M: Ledger>(
     ensures walked { RisesBy (rows_under (lens_of opened.now) (tables_under opened.now))
         walked.old walked.new }
 
-    // By the left side of a dependency they are found by key, and no row is walked.
+    // If the column is the left side of a dependency, the rows are found by key, and no row is
+    // scanned.
     ensures by_key { is_left_side (one column.now) (sort_of (lens_of opened.now)).tree ≡ true
         → walked.new ≡ walked.old }
     ensures looked { (w : ℕ) → FindsAtMost opened.now.view w
@@ -93,7 +94,7 @@ fn found_answer<L: Ledger, M: Ledger>(
     })
 }
 
-/// What `type` is answered: the columns, the dependencies, the conjuncts and the tables.
+/// The answer to `type`: the columns, the dependencies, the conjuncts and the tables.
 pub fn type_answer(alloc: Global, opened: &Opened<'_>) -> Result<Answer, NoMemory>
     ensures { IfOk result (λ answer.
         answer_view answer ≡ sort_told (seen opened.now) (lens_of opened.now)) }

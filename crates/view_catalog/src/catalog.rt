@@ -1,4 +1,4 @@
-//! The definitions that were taken, and the lens of each name.
+//! The definitions that were accepted, and the lens of each name.
 ghost use Rattle.std.specs.Prelude.{◌≡◌, ◌+◌, ◌^◌, ◌<◌, ◌≤◌, ◌++◌, ◌∷◌, [], None, OnOk, length, option_copied};
 ghost use Rattle.std.specs.FinMap as finmap;
 ghost use Rattle.catalog_specs.specs.Catalogue.{catalogue};

@@ -1,4 +1,4 @@
-//! Which definitions are taken.
+//! Which definitions the catalogue accepts, and why it rejects the others.
 ghost use Rattle.std.specs.Prelude.{◌≡◌, ◌<◌, ◌^◌, Ok, length};
 ghost use Rattle.std.specs.FinMap as finmap;
 ghost use Rattle.grammar_laws.specs.Reading.{reading};
@@ -119,8 +119,8 @@ fn over_limit(what: Limit) -> CatalogFault
     }
 }
 
-/// The lens of the expression, or why it has none: operands are judged before the node over them,
-/// the left one first. The name of a view stands for its lens, as that of a table does.
+/// The lens of the expression, or why it has none. Operands are judged before the node over them,
+/// the left one first. The name of a view stands for its lens, as the name of a table does.
 fn lens_in(alloc: Global, catalog: &Catalog, expr: Expr) -> Result<TypedLens, CatalogFault>
     ensures { Decides (λ lens. lens) result
         (lens_in (catalogue catalog.now.texts) (expr_view expr)) }

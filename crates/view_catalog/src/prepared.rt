@@ -48,7 +48,7 @@ impl Prepared {
     }
 }
 
-/// Whether the lens is the table of the name itself.
+/// Whether the lens is nothing but the table of this name.
 pub(crate) fn is_table(lens: &TypedLens, name: &Name) -> bool
     ensures { result ≡ is_table_of name.now lens.now }
 {

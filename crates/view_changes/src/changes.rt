@@ -51,9 +51,9 @@ pub fn put<L: Ledger, M: Ledger>(
     put_rows(alloc, opened, &rows, on, walked, looked)
 }
 
-/// What changes in the tables when these rows, which fit, become all rows of the view, or the
-/// first refusal: the version on which it rests, a row that the predicate refuses, two rows that
-/// clash. The tables are walked.
+/// What changes in the tables if these rows, which fit, become all rows of the view, or the first
+/// reason to reject them: the version on which the put is based, a row that the predicate rejects,
+/// two rows that violate a dependency. The tables are scanned.
 pub fn put_rows<L: Ledger, M: Ledger>(
     alloc: Global,
     opened: &Opened<'_>,
@@ -75,9 +75,9 @@ pub fn put_rows<L: Ledger, M: Ledger>(
     carried(alloc, &opened.view, delta, looked)
 }
 
-/// What changes in the tables when rows of the view are removed and others added, or the first
-/// refusal: a bad row to remove, a bad row to add, and then as for a put. Rows are found by key
-/// alone.
+/// What changes in the tables if rows of the view are removed and others added, or the first reason
+/// to reject the edit: a bad row to remove, a bad row to add, and then the reasons of `put_rows`.
+/// Rows are found by key alone.
 pub fn edit<M: Ledger>(
     alloc: Global,
     opened: &Opened<'_>,
@@ -119,7 +119,7 @@ fn set_in(
     }
 }
 
-/// Nothing, where the version on which a change rests is not stale.
+/// `Ok` if the change is based on no version, or on one that is not stale.
 fn not_stale(alloc: Global, opened: &Opened<'_>, on: Option<u64>) -> Result<(), Refusal>
     ensures { IsFresh (seen opened.now) (lens_of opened.now) on result }
 {
@@ -139,15 +139,15 @@ fn not_stale(alloc: Global, opened: &Opened<'_>, on: Option<u64>) -> Result<(), 
     Ok(())
 }
 
-/// Whether the version on which a change rests is before the last change or yet to come.
+/// Whether the version on which a change is based is before the last change or yet to come.
 fn is_outside(on: u64, changed_at: u64, version: u64) -> bool
     ensures { result ≡ is_outside on changed_at version }
 {
     on < changed_at || version < on
 }
 
-/// What changes in the tables when these rows, which fit, are removed and added, where the view is
-/// of its sort after it.
+/// What changes in the tables if these rows, which fit, are removed and added, or why the view
+/// would not be of its sort after that.
 fn carried_rows<M: Ledger>(
     alloc: Global,
     view: &View<'_>,
@@ -169,7 +169,7 @@ fn carried_rows<M: Ledger>(
     carried(alloc, view, delta, looked)
 }
 
-/// What the difference changes in the tables, where the view is of its sort after it.
+/// What the difference changes in the tables, or why the view would not be of its sort after it.
 fn carried<M: Ledger>(
     alloc: Global,
     view: &View<'_>,
@@ -187,7 +187,7 @@ fn carried<M: Ledger>(
     Ok(deltas)
 }
 
-/// Nothing, where the view is of its sort after the difference.
+/// `Ok` if the view is of its sort after the difference.
 fn checked<M: Ledger>(
     alloc: Global,
     view: &View<'_>,

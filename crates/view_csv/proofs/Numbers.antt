@@ -93,7 +93,7 @@ no_number (b ∷ ds) h = elim (cases_Bool (b == 45)) [
   | inr unsigned ↦ sym (rw unsigned (not_digits (b ∷ ds) (b ∷ ds) (nat_lt (digits_value 0 (b ∷ ds)) (2 ^ 63)) (pos (digits_value 0 (b ∷ ds))) (ascii_digits (b ∷ ds)) h))
 ]
 
--- the same, of a field that is not empty
+-- what `parse` gives is the number of the field, if the field is not empty and does not begin with a plus sign
 pub parsed_field : {E : Type 0} (field text : List ℕ) (r : Result ℤ E) → text ≡ field → ParsesSigned w64 10 text r → 0 < length field → get_or field 0 0 ≢ 43 → result_ok r ≡ number_in field
 parsed_field [] text r e p some no_plus = absurd (omega arith)
 parsed_field (b ∷ ds) text r e p some no_plus = parsed b ds r (subst (λ t. ParsesSigned w64 10 t r) e p) no_plus

@@ -165,7 +165,7 @@ module _ (header : Record) where
   }
 
 module _ (header : Record) (columns : Columns) (cols : List (Name × Kind)) (same : cols ≡ finmap.entries columns) where
-  -- the same, of a column that is met on the way
+  -- not_header, of a column that a loop over the columns meets
   pub not_header_at : (i : ℕ) (item : Name × Kind) → i < length cols → item ≡ get_or cols i item → false ≡ list_any (is_same item.0) header → false ≡ is_header columns header
   not_header_at i item h is e =
       not_header header columns i item (subst (λ l. i < length l) same h) (e ∙ ap (λ (c : Name × Kind). list_any (is_same c.0) header) (is ∙ ap (λ l. get_or l i item) same))

@@ -1,4 +1,4 @@
-//! Why a text is no sheet of rows.
+//! Why a text as CSV gives no rows.
 ghost use Rattle.std.specs.Prelude.{◌≡◌};
 ghost use Rattle.view_csv.specs.declared.fault.CsvFault.TheVariants as fault;
 

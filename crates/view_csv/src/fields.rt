@@ -40,6 +40,7 @@ fn number_of(field: &[u8]) -> Option<i64>
     }
 }
 
+// The field as a text value. `None`: the field is no UTF-8, or no text that a column may hold.
 fn text_value(alloc: Global, field: &[u8]) -> Result<Option<Value>, NoMemory>
     ensures { IfOk result (λ found. found ≡ option_map value.Text (text_in field.now)) }
 {

@@ -1,4 +1,4 @@
-//! The rows of a text.
+//! Reads the rows of a text as CSV.
 ghost use Rattle.std.specs.Prelude.{◌≡◌, [], ◌∷◌, IfOk, length, true};
 ghost use Rattle.std.specs.FinMap as finmap;
 ghost use Rattle.no_memory.specs.Gives.{Gives, GivesBy};

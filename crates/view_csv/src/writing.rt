@@ -1,4 +1,4 @@
-//! The text of rows.
+//! Writes rows as CSV.
 ghost use Rattle.std.specs.Prelude.{◌≡◌, ◌≢◌, ◌++◌, ◌∷◌, [], IfOk, Ok, OnOk, Some, not, true};
 ghost use Rattle.std.specs.List.{list_all};
 ghost use Rattle.std.specs.FinMap as finmap;
@@ -82,6 +82,7 @@ fn put_value(fields: &mut ByteRecord, value: &Value) -> Result<(), NoMemory>
     Ok(())
 }
 
+// How a truth value is written.
 fn word_of(flag: bool) -> &'static str
     ensures { result.now ≡ flag_word flag }
 {

@@ -5,7 +5,6 @@ use Rattle.lens_specs.specs.Predicate.{Formula, truth, falsity, compare, compare
 use Rattle.grammar_specs.specs.Meaning.{conjuncts, disjuncts, list_of}
 use Rattle.lens_pred.specs.NormalForm.{is_all_of, is_any_of}
 use Rattle.lens_pred.specs.View.{formula_view, list_view, predicate_view}
-use Rattle.grammar_laws.specs.PredParse.{with_nots}
 use Rattle.lens_pred.specs.declared.formula.Formula as code
 
 one_conjunct : (f : Formula) → is_all_of f ≡ false → conjuncts f ≡ f ∷ []
@@ -51,10 +50,3 @@ list_again (f ∷ fs) = ap (λ l. f ∷ l) (list_again fs)
 -- the list of the members
 pub listed : (xs : List Formula) (fs : Formulas) → list_view xs ≡ fs → xs ≡ list_of fs
 listed xs fs e = sym (list_again xs) ∙ ap list_of e
-
-one_less : (n k : ℕ) → k < n → n - k ≡ suc (n - (k + 1))
-one_less n k h = omega arith
-
--- one "not" more is before the formula
-pub nots_more : (n k : ℕ) (f g : Formula) → k < n → g ≡ negation f → with_nots (n - (k + 1)) g ≡ with_nots (n - k) f
-nots_more n k f g h e = ap (with_nots (n - (k + 1))) e ∙ sym (ap (λ m. with_nots m f) (one_less n k h))

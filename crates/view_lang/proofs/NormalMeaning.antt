@@ -1,5 +1,5 @@
 -- What a predicate means is in normal form.
-use Rattle.std.proofs.Common.{◌≡◌, Bool, true, false, List, [], ◌∷◌, ◌++◌, refl}
+use Rattle.std.proofs.Common.{◌≡◌, ℕ, ◌-◌, ◌≤◌, Bool, true, false, List, [], ◌∷◌, ◌++◌, refl, subst, arith}
 use Rattle.std.specs.Prelude.{not, ◌&&◌}
 use Rattle.std.specs.List.{list_all}
 use Rattle.std.proofs.lemmas.Bool.{and_from}
@@ -8,8 +8,14 @@ use Rattle.plain_values.specs.declared.value.Value.{Value}
 use Rattle.plain_values.proofs.Tests.{first_holds, second_holds}
 use Rattle.lens_specs.specs.Predicate.{Formula, truth, falsity, compare, compare_columns, one_of, null_at, negation, all_of, any_of, Formulas, no_formulas, formulas}
 use Rattle.grammar_specs.specs.Tokens.{is_free_name}
+use Rattle.grammar_specs.specs.Texts.{Placed}
+use Rattle.grammar_specs.specs.Nesting.{max_nesting}
 use Rattle.grammar_specs.specs.Written.{Part, literally, compares, compares_columns, is_in, tests_null, negated, grouped, All, only, joined, Pred, alone, either, is_some_list, are_constants, is_part, is_all, is_pred}
 use Rattle.grammar_specs.specs.Meaning.{list_of, formulas_of, conjuncts, disjuncts, conjunction, disjunction, constant, part_meaning, all_conjuncts, pred_disjuncts, pred_meaning}
+use Rattle.grammar_laws.specs.Steps.{read}
+use Rattle.grammar_laws.specs.PredRules.{part, pred}
+use Rattle.grammar_laws.proofs.Sound.{Sound}
+use Rattle.grammar_laws.proofs.PredSound.{part_local, pred_trees, pred_of_sound, part_sound}
 use Rattle.lens_pred.specs.NormalForm.{is_all_of, is_any_of, none_is, has_two, has_one, is_normal, are_normal, is_conjunct}
 
 -- in normal form, and no disjunction
@@ -117,3 +123,13 @@ mutual
 -- the conjuncts of a predicate are normal
 pub meaning_normal : (p : Pred) → is_pred p ≡ true → list_all is_conjunct (conjuncts (pred_meaning p)) ≡ true
 meaning_normal p h = (conjuncts_normal (pred_meaning p) (disjunction_normal (pred_disjuncts p) (pred_normal p h))).0
+
+-- a predicate that was read is one of the language
+pub is_read_well : (n : ℕ) (ps rest : Placed) (o : Pred) → n ≤ 32 → pred n ps ≡ read o rest → is_pred o ≡ true
+is_read_well n ps rest o h e =
+    let k = max_nesting - n in
+    let sound = pred_of_sound k (part n) (part_local n) (λ qs. part_sound n k qs (omega arith)) ps in
+    good k (subst (Sound (pred_trees k) [] ps) e sound)
+  where
+    good : (k : ℕ) → Sound (pred_trees k) [] ps (read o rest) → is_pred o ≡ true
+    good k s = s.holds.is.good

@@ -1,15 +1,11 @@
 -- The operands that stand in parentheses.
-use Rattle.std.proofs.Common.{◌≡◌, ◌∷◌, ◌++◌, List, [], map, refl, ap, sym, subst, append_assoc, rules}
-use Rattle.std.specs.Prelude.{codes}
-use Rattle.plain_values.specs.declared.value.Value.{Value}
+use Rattle.std.proofs.Common.{◌≡◌, ◌∷◌, ◌++◌, [], refl, sym, subst, rules}
 use Rattle.lens_specs.specs.Names.{Name}
 use Rattle.grammar_specs.specs.Meaning as meaning
-use Rattle.grammar_specs.specs.Tokens.{word, open_paren, close_paren, comma}
+use Rattle.grammar_specs.specs.Tokens.{open_paren, close_paren}
 use Rattle.grammar_specs.specs.Printing.{operand_of, expr_written}
-use Rattle.grammar_specs.specs.Written as written
-use Rattle.grammar_specs.specs.Written.{Operand, literal, operand_tokens, expr_tokens}
+use Rattle.grammar_specs.specs.Written.{operand_tokens, expr_tokens}
 use Rattle.view_lang.specs.ExprViews.{expr_view}
-use Rattle.view_lang.specs.PrintAdds.{drop_from}
 use Rattle.view_lang.specs.declared.expr.Expr.{Expr, Named, Select', Drop', Rename', Join', the_lemmas}
 use Rattle.view_lang.specs.declared.expr.Expr.TheVariants.{outs-Select', outs-Drop', outs-Rename', outs-Join'}
 
@@ -28,9 +24,3 @@ enclosed_unless_named (Rename' c d b e) other =
     let seen : expr_view (Rename' c d b e) ≡ meaning.rename c d (expr_view e) = search (rules, the_lemmas, outs-Rename') in subst IsEnclosed (sym seen) refl
 enclosed_unless_named (Join' k b e d f) other =
     let seen : expr_view (Join' k b e d f) ≡ meaning.join k (expr_view e) (expr_view f) = search (rules, the_lemmas, outs-Join') in subst IsEnclosed (sym seen) refl
-
--- a drop and its operand
-pub drop_whole : (c : Name) (by : List Name) (v : Value) (o : Operand) → drop_from c by v ++ operand_tokens o ≡ expr_tokens (written.drop c by v o)
-drop_whole c by v o =
-    ap (λ ts. word (codes "drop") ∷ word c ∷ word (codes "determined") ∷ word (codes "by") ∷ open_paren ∷ ts)
-    (append_assoc (map word by) (comma ∷ literal v ∷ close_paren ∷ word (codes "from") ∷ []) (operand_tokens o))

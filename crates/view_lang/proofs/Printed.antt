@@ -4,16 +4,7 @@ use Rattle.std.specs.Prelude.{string_bytes}
 use Rattle.grammar_specs.specs.Tokens.{Token}
 use Rattle.grammar_specs.specs.Printing.{token_bytes, opens, closes, gap, spaced}
 use Rattle.view_lang.specs.declared.printing.printer.Printer.{Printer}
-use Rattle.view_lang.specs.PrintAdds.{blank, before, bytes_after, glued_after, Puts, Adds}
-
--- ---- one token
-
--- a token with its blank
-pub added : {old new : Printer} (t : Token) → Puts old new (before old.glued t ++ token_bytes t) (opens t) → Adds old new (t ∷ [])
-added {old = old} t puts = record {
-  text = puts.text ∙ ap (λ bytes. string_bytes old.text ++ bytes) (sym (append-nil (before old.glued t ++ token_bytes t)));
-  next = puts.next;
-}
+use Rattle.view_lang.specs.PrintAdds.{blank, before, bytes_after, glued_after, Adds}
 
 -- ---- one part after another
 
@@ -39,10 +30,6 @@ follow {a = a} {b = b} {xs = xs} {ys = ys} first second = record {
       ∙ ap (λ bytes. string_bytes a.text ++ bytes) (sym (bytes-append a.glued xs ys));
   next = second.next ∙ ap (λ glued. glued_after glued ys) first.next ∙ sym (glued-append a.glued xs ys);
 }
-
--- nothing
-pub adds_none : (a : Printer) → Adds a a []
-adds_none a = record { text = sym (append-nil (string_bytes a.text)); next = refl }
 
 -- the same tokens
 pub adds_same : {a b : Printer} {xs : List Token} (ys : List Token) → xs ≡ ys → Adds a b xs → Adds a b ys
@@ -72,7 +59,7 @@ spaced_on s (t ∷ ts) =
     ∙ sym (append_assoc (token_bytes s) (gap s t) (spaced (t ∷ ts)))
 
 -- from the start on, the bytes are those of the tokens with blanks between them
-pub spaced_whole : (ts : List Token) → bytes_after true ts ≡ spaced ts
+spaced_whole : (ts : List Token) → bytes_after true ts ≡ spaced ts
 spaced_whole [] = refl
 spaced_whole (t ∷ ts) = ap (λ bytes. bytes ++ token_bytes t ++ bytes_after (opens t) ts) (before_first (closes t)) ∙ spaced_on t ts
 

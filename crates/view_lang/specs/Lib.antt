@@ -1,8 +1,6 @@
 pub mod TokenViews
-pub mod PredViews
-pub mod PredBounds
+pub mod Outcomes
 pub mod ExprViews
-pub mod ExprsViews
 pub mod DefViews
 pub mod DefBounds
 pub mod Reads

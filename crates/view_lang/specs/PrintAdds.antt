@@ -1,11 +1,7 @@
 -- What is added to the text of a printer.
-use Rattle.std.specs.Prelude.{◌≡◌, ℕ, Bool, List, [], ◌∷◌, ◌++◌, string_bytes, flat_map, map, codes, if◌then◌else◌}
-use Rattle.plain_values.specs.declared.value.Kind.{Kind}
-use Rattle.plain_values.specs.declared.value.Value.{Value}
-use Rattle.lens_specs.specs.Common.{Name, Formula, Predicate}
-use Rattle.grammar_specs.specs.Tokens.{Token, word, open_paren, close_paren, comma}
-use Rattle.grammar_specs.specs.Written.{Dep, literal, part_tokens, all_tokens, column_tokens, dep_tokens}
-use Rattle.grammar_specs.specs.Printing.{part_of, all_of_formula, token_bytes, opens, closes}
+use Rattle.std.specs.Prelude.{◌≡◌, ℕ, zero, suc, Bool, List, [], ◌∷◌, ◌++◌, string_bytes, if◌then◌else◌}
+use Rattle.grammar_specs.specs.Tokens.{Token}
+use Rattle.grammar_specs.specs.Printing.{token_bytes, opens, closes}
 use Rattle.view_lang.specs.declared.printing.printer.Printer.{Printer}
 
 -- the whitespace before a token that does not close: a space, unless it is glued to the last
@@ -36,49 +32,7 @@ pub record Adds (old new : Printer) (tokens : List Token) : Type 0 where
   pub text : string_bytes new.text ≡ string_bytes old.text ++ bytes_after old.glued tokens
   pub next : new.glued ≡ glued_after old.glued tokens
 
--- ---- the tokens of what follows a first member
-
--- a part behind an "and"
-abbrev pub and_part : Formula → List Token
-and_part f = word (codes "and") ∷ part_tokens (part_of f)
-
-abbrev pub and_parts : Predicate → List Token
-and_parts fs = flat_map and_part fs
-
--- a member of a disjunction behind an "or"
-abbrev pub or_all : Formula → List Token
-or_all f = word (codes "or") ∷ all_tokens (all_of_formula f)
-
-abbrev pub or_alls : Predicate → List Token
-or_alls fs = flat_map or_all fs
-
--- a literal behind a comma
-abbrev pub comma_literal : Value → List Token
-comma_literal v = comma ∷ literal v ∷ []
-
-abbrev pub comma_literals : List Value → List Token
-comma_literals vs = flat_map comma_literal vs
-
--- a column behind a comma
-abbrev pub comma_column : Name × Kind → List Token
-comma_column c = comma ∷ column_tokens c
-
-abbrev pub comma_columns : List (Name × Kind) → List Token
-comma_columns cs = flat_map comma_column cs
-
--- a dependency behind a comma
-abbrev pub comma_dep : Dep → List Token
-comma_dep d = comma ∷ dep_tokens d
-
-abbrev pub comma_deps : List Dep → List Token
-comma_deps ds = flat_map comma_dep ds
-
--- ---- the tokens of a drop and of a rename, up to their operands
-
-abbrev pub drop_from : Name → List Name → Value → List Token
-drop_from c by v =
-    word (codes "drop") ∷ word c ∷ word (codes "determined") ∷ word (codes "by") ∷ open_paren
-    ∷ (map word by ++ comma ∷ literal v ∷ close_paren ∷ word (codes "from") ∷ [])
-
-abbrev pub rename_from : Name → Name → List Token
-rename_from c d = word (codes "rename") ∷ word c ∷ word (codes "to") ∷ word d ∷ word (codes "from") ∷ []
+-- the token before every item but the first
+abbrev pub before_item : ℕ → Token → List Token
+before_item zero t = []
+before_item (suc i) t = t ∷ []

@@ -8,6 +8,9 @@ use Rattle.grammar_specs.specs.Tokens as tokens
 use Rattle.grammar_laws.specs.Front.{sign_of, positive_of, negative_of}
 use Rattle.view_lang.specs.declared.parsing.token.Token as code
 use Rattle.view_lang.specs.declared.parsing.token.Token.TheVariants as token
+use Rattle.view_lang.specs.declared.parsing.token.Sign.{Sign}
+use Rattle.view_lang.specs.declared.parsing.token.Sign.TheVariants as sign
+use Rattle.grammar_laws.specs.Tests.{is_open, is_close, is_comma, is_arrow, is_equals}
 use Rattle.lens_pred.specs.Op.{op_view}
 
 -- what a token of the code stands for
@@ -20,6 +23,14 @@ token_view token.CloseParen = close_paren
 token_view token.Comma = comma
 token_view token.Arrow = arrow
 token_view (token.Operator op) = operator (op_view op)
+
+-- whether a token is this sign
+abbrev pub is_sign : Sign → Token → Bool
+is_sign sign.Open = is_open
+is_sign sign.Close = is_close
+is_sign sign.Comma = is_comma
+is_sign sign.Arrow = is_arrow
+is_sign sign.Equals = is_equals
 
 -- ---- the token in front of a text, with its length
 
@@ -62,17 +73,3 @@ is_integer_text (b ∷ digits) = (is_digit b || b == 45) && list_all is_digit di
 abbrev pub integer_at : List ℕ → Option Token
 integer_at [] = None
 integer_at (b ∷ digits) = if is_digit b then positive_of (b ∷ digits) else negative_of digits
-
--- ---- operators and punctuation
-
--- the operator of two bytes
-abbrev pub long_sign_at : ℕ → ℕ → Option Token
-long_sign_at first second =
-    if first == 33 && second == 61 then Some (operator ne) else if first == 60 && second == 61 then Some (operator le)
-    else if first == 62 && second == 61 then Some (operator ge) else None
-
--- the operator or the punctuation of one byte
-abbrev pub short_sign_at : ℕ → Option Token
-short_sign_at first =
-    if first == 40 then Some open_paren else if first == 41 then Some close_paren else if first == 44 then Some comma
-    else if first == 61 then Some (operator eq) else if first == 60 then Some (operator lt) else if first == 62 then Some (operator gt) else None

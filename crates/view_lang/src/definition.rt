@@ -6,7 +6,6 @@ use crate::expr::Expr;
 use fd_closure::Dep;
 use lens_pred::Pred;
 use lens_values::{Columns, Name, NoMemory};
-use std::alloc::AllocError;
 use std::marker::Model;
 use thiserror::Error;
 use view_limits::Limit;
@@ -87,14 +86,6 @@ pub enum LangFault {
     /// Memory ran out.
     #[error("memory ran out")]
     NoMemory,
-}
-
-impl From<AllocError> for LangFault {
-    ghost from_gives = { λ _ why. why ≡ faults.NoMemory };
-
-    fn from(_: AllocError) -> LangFault {
-        LangFault::NoMemory
-    }
 }
 
 impl From<NoMemory> for LangFault {

@@ -8,43 +8,31 @@ use lens_values::{JoinKind, Name, Names, Value};
 pub enum Expr {
     /// A table or a view by its name.
     Named {
-        /// Its name.
         name: Name,
     },
-    /// The rows on which a predicate holds.
+    /// The rows of an expression on which a predicate holds.
     Select {
-        /// The predicate.
         pred: Pred,
-        /// The expression whose rows they are.
         of: Box<Expr>,
     },
-    /// A drop of one column, which other columns determine.
+    /// A drop of the column `col`, which the columns `by` determine. `fill` is its value on a row for
+    /// which they determine none.
     Drop {
-        /// The column that is left out.
         col: Name,
-        /// The columns that determine it.
         by: Names,
-        /// The value of the column on a row for which the others determine none.
         fill: Value,
-        /// The expression whose rows they are.
         of: Box<Expr>,
     },
-    /// One column under another name.
+    /// The column `col` under the name `to`.
     Rename {
-        /// The column.
         col: Name,
-        /// Its new name.
         to: Name,
-        /// The expression whose rows they are.
         of: Box<Expr>,
     },
-    /// A join.
+    /// A join, which deletes on the side that its kind says.
     Join {
-        /// On which side it deletes.
         kind: JoinKind,
-        /// The left side.
         left: Box<Expr>,
-        /// The right side.
         right: Box<Expr>,
     },
 }

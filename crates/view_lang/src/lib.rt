@@ -5,6 +5,7 @@ pub mod definition;
 pub mod expr;
 pub mod parsing;
 pub mod printing;
+mod words;
 
 pub use definition::{Definition, Deps, LangFault};
 pub use expr::Expr;

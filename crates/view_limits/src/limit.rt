@@ -1,6 +1,6 @@
 //! The limits of a definition and of a server.
 
-/// A limit.
+/// What a definition or a server may have only so many of.
 #[derive(Clone, Copy, Debug, PartialEq, Eq)]
 pub enum Limit {
     /// The columns of a table or a view.

@@ -12,5 +12,5 @@ cause_line status =
     (for_status 4 status (codes "view_program: the input cannot be read")
     (for_status 5 status (codes "view_program: the output cannot be written")
     (for_status 6 status (codes "view_program: the store cannot be opened: no such folder, not a store, or in use by another program")
-    (for_status 7 status (codes "view_program: the store is damaged, as the line on standard output tells")
+    (for_status 7 status (codes "view_program: the store is damaged, as the line on standard output reports")
     (for_status 8 status (codes "view_program: the input is longer than --max-input allows") None)))))

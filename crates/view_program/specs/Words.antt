@@ -1,9 +1,9 @@
 -- What the program does where the words of its command line cannot be read.
 use Rattle.std.specs.Prelude.{ℕ}
-use Rattle.view_program.specs.declared.words.WordsFault.{WordsFault}
-use Rattle.view_program.specs.declared.words.WordsFault.TheVariants.{NoMemory, Unreadable}
+use Rattle.view_program.specs.declared.words.ArgumentsReadFault.{ArgumentsReadFault}
+use Rattle.view_program.specs.declared.words.ArgumentsReadFault.TheVariants.{NoMemory, Unreadable}
 
 -- the status for such a fault
-abbrev pub word_status : WordsFault → ℕ
+abbrev pub word_status : ArgumentsReadFault → ℕ
 word_status NoMemory = 3
 word_status Unreadable = 2

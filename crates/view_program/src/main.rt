@@ -23,7 +23,7 @@ fn main(rt: HostRuntime) -> ExitCode {
         Err(fault) => words::status_of(fault),
     };
     if let Some(cause) = causes::cause_of(status) {
-        // There is nobody to tell where standard error cannot be written.
+        // If standard error cannot be written, nobody is left who could be told.
         let _ = rt.eprintln(cause);
     }
     ExitCode::from(status)

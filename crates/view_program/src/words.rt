@@ -9,17 +9,17 @@ use std::env::Args;
 use std::rt::Env;
 use std::{env, io};
 
-/// Why the words cannot be read.
+/// Why the arguments cannot be read.
 #[derive(Clone, Copy, Debug, PartialEq, Eq)]
-pub enum WordsFault {
+pub enum ArgumentsReadFault {
     /// Memory ran out.
     NoMemory,
-    /// A word is not text.
+    /// An argument is not text.
     Unreadable,
 }
 
 /// The words, the program's name among them as the first.
-pub fn collected(rt: &(impl Env + AllocGlobal)) -> Result<Vec<String>, WordsFault> {
+pub fn collected(rt: &(impl Env + AllocGlobal)) -> Result<Vec<String>, ArgumentsReadFault> {
     let args = match env::args(rt) {
         Ok(args) => args,
         Err(error) => return Err(fault_of(error.kind())),
@@ -27,34 +27,36 @@ pub fn collected(rt: &(impl Env + AllocGlobal)) -> Result<Vec<String>, WordsFaul
     gathered(rt.alloc(), args)
 }
 
-fn gathered(alloc: Global, args: Args) -> Result<Vec<String>, WordsFault>
+// The words in a list. Only want of memory can fail here.
+fn gathered(alloc: Global, args: Args) -> Result<Vec<String>, ArgumentsReadFault>
     ensures all { IfOk result (λ words. words.items ≡ into_iter_items args) }
-    ensures memory { OnErr result (result ≡ Err WordsFault.NoMemory) }
+    ensures memory { OnErr result (result ≡ Err ArgumentsReadFault.NoMemory) }
 {
     let mut words = Vec::new(alloc);
     for word in args {
         if words.push(word).is_err() {
-            return Err(WordsFault::NoMemory);
+            return Err(ArgumentsReadFault::NoMemory);
         }
     }
     Ok(words)
 }
 
-fn fault_of(kind: io::ErrorKind) -> WordsFault
-    ensures { (result ≡ WordsFault.NoMemory) ↔ (kind ≡ OutOfMemory) }
+// Why the words cannot be read, by the kind of the system's error.
+fn fault_of(kind: io::ErrorKind) -> ArgumentsReadFault
+    ensures { (result ≡ ArgumentsReadFault.NoMemory) ↔ (kind ≡ OutOfMemory) }
 {
     match kind {
-        io::ErrorKind::OutOfMemory => WordsFault::NoMemory,
-        _ => WordsFault::Unreadable,
+        io::ErrorKind::OutOfMemory => ArgumentsReadFault::NoMemory,
+        _ => ArgumentsReadFault::Unreadable,
     }
 }
 
-/// The status of the program where its words cannot be read.
-pub fn status_of(fault: WordsFault) -> u8
+/// The status of the program if its words cannot be read.
+pub fn status_of(fault: ArgumentsReadFault) -> u8
     ensures { result ≡ word_status fault }
 {
     match fault {
-        WordsFault::NoMemory => 3,
-        WordsFault::Unreadable => 2,
+        ArgumentsReadFault::NoMemory => 3,
+        ArgumentsReadFault::Unreadable => 2,
     }
 }

@@ -1,6 +1,6 @@
 -- Lists whose rows, taken as a set, are those that a lens shows.
 use Rattle.std.proofs.Common.{◌≡◌, ◌∙◌, ◌∷◌, Bool, List, [], ap, cond, filter, map, refl, subst, sym, true}
-use Rattle.std.specs.Prelude.{◌&&◌, None}
+use Rattle.std.specs.Prelude.{◌&&◌, ◌||◌, None}
 use Rattle.std.specs.List.{list_any}
 use Rattle.std.specs.Ordering.{eq_by_cmp}
 use Rattle.plain_values.specs.Part.{restrict}
@@ -24,7 +24,7 @@ use Rattle.row_sets.proofs.Natural.{natural_is}
 use Rattle.view_reading.specs.Reading.{rows_for}
 use Rattle.view_reading.specs.Unfiltered.{passes}
 use Rattle.view_reading.proofs.KnownParts.{cut_whole}
-use Rattle.view_reading.proofs.Sides.{tested_first, was_there}
+use Rattle.view_reading.proofs.Sides.{pairs_pass, tested_first, was_there}
 
 -- ---- lists and sets
 
@@ -183,6 +183,21 @@ selected_pairs kind P C L A B db is typed are within =
     (λ n i. (get_sort B db both.1 there.1).columns n (was_there (holds P) asks_right (get B db) n i)))
     ∙ ap (project C) (tested_first (holds P) U V (get A db) (get B db) asks_left asks_right (λ all. sees_from P U (mentions_shown P A all)) (λ all. sees_from P V (mentions_shown P B all)))
     ∙ ap (λ K. project C (those (holds P) (get K db))) is
+
+-- where one of them is, the predicate holds on all parts
+pub tested_parts : (P : Predicate) (C : Names) (A B : Lens) (db : Tables) → IsTyped B → AreOf B db → PredWithin P C
+    → (set.is_subset (mentioned P) (view_names A) || set.is_subset (mentioned P) (view_names B)) ≡ true
+    → project C (pairs_shown A B (rows_for P A db) (rows_for P B db)) ≡ those (holds P) (project C (pairs_shown A B (rows_for P A db) (rows_for P B db)))
+tested_parts P C A B db typed are within some =
+    let U = view_names A in
+    let V = view_names B in
+    let asks_left = set.is_subset (mentioned P) U in
+    let asks_right = set.is_subset (mentioned P) V in
+    let pasted = natural_is (sort_of A).columns (sort_of B).columns (rows_for P A db) (rows_for P B db)
+    (λ n i. (get_sort B db typed are).columns n (was_there (holds P) asks_right (get B db) n i)) in
+    let all = pairs_pass (holds P) U V (get A db) (get B db) asks_left asks_right some (λ is. sees_from P U (mentions_shown P A is)) (λ is. sees_from P V (mentions_shown P B is)) in
+    ap (project C) (pasted ∙ sym all ∙ ap (those (holds P)) (sym pasted))
+    ∙ parts_of_chosen (holds P) C (pairs_shown A B (rows_for P A db) (rows_for P B db)) (λ r. sees_from P C within (cut C r) r (agree-cut C r))
 
 pub selected_whole : (kind : JoinKind) (P : Predicate) (L A B : Lens) (db : Tables) → join kind A B ≡ L → IsTyped L → AreOf L db → PredWithin P (view_names L)
     → those (holds P) (project (view_names L) (pairs_shown A B (rows_for P A db) (rows_for P B db))) ≡ get (select P L) db

@@ -1,6 +1,7 @@
 -- A test that is made on the rows of the sides of a join, before they are joined.
 use Rattle.std.proofs.Common.{◌≡◌, ◌∙◌, Bool, ap, cond, inl, inr, refl, subst, sym, true, false}
-use Rattle.std.proofs.lemmas.Bool.{and_from, cases_Bool}
+use Rattle.std.specs.Prelude.{◌||◌}
+use Rattle.std.proofs.lemmas.Bool.{and_from, cases_Bool, false≢true, or_cases}
 use Rattle.plain_values.specs.SortedSet as set
 use Rattle.plain_values.specs.Row.{Row}
 use Rattle.lens_specs.specs.Common.{Names, Rows, has, those, agree, paste}
@@ -50,3 +51,22 @@ module _ (p : Row → Bool) where
       in_those p (natural U V (tested left M) (tested right N)) q
       (subst (λ r. has (natural U V (tested left M) (tested right N)) r ≡ true) (sym v.5) (in_join S V (tested left M) (tested right N) v.0 v.1 mine other v.4))
       w.1)
+
+  passed : (is : Bool) (M : Rows) (r : Row) → is ≡ true → has (tested is M) r ≡ true → p r ≡ true
+  passed true M r _ h = (from_those p M r h).1
+  passed false M r is h = absurd (false≢true is)
+
+  -- where a side is tested, each pair passes
+  pub pairs_pass : (U V : Names) (M N : Rows) (left right : Bool) → (left || right) ≡ true → (left ≡ true → Sees p U) → (right ≡ true → Sees p V)
+      → those p (natural U V (tested left M) (tested right N)) ≡ natural U V (tested left M) (tested right N)
+  pairs_pass U V M N left right some sees_left sees_right =
+      let S = set.intersection U V in
+      let pairs = natural U V (tested left M) (tested right N) in
+      same_rel _ _ (λ q i. (from_those p pairs q i).0)
+      (λ q i. let v = from_join S V (tested left M) (tested right N) q i in
+      let pair = paste v.0 V v.1 in
+      let passes : p pair ≡ true = elim (or_cases left right some) [
+        | inl is ↦ sym (sees_left is v.0 pair (agree-left U V v.0 v.1 v.4)) ∙ passed left M v.0 is v.2
+        | inr is ↦ sym (sees_right is v.1 pair (agree_back V pair v.1 (agree-paste v.0 V v.1))) ∙ passed right N v.1 is v.3
+      ] in
+      in_those p pairs q i (ap p v.5 ∙ passes))

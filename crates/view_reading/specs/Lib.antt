@@ -1,3 +1,4 @@
 pub mod Reading
 pub mod Unfiltered
 pub mod KnownRows
+pub mod Pasting

@@ -4,7 +4,9 @@
 
 mod columns;
 mod differing;
+mod joining;
 mod known;
+mod pasting;
 mod reading;
 mod unfiltered;
 

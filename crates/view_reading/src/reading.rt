@@ -1,17 +1,18 @@
 //! Whole views.
-ghost use Rattle.std.specs.Prelude.{◌≡◌, ◌+◌, ◌≤◌, IfOk, filter, map};
+ghost use Rattle.std.specs.Prelude.{◌≡◌, ◌+◌, ◌≤◌, ◌||◌, IfOk, filter, map};
 ghost use Rattle.plain_values.specs.Part.{restrict};
 ghost use Rattle.plain_values.specs.SortedSet as set;
 ghost use Rattle.lens_specs.specs.Lens as spec;
 ghost use Rattle.lens_specs.specs.Lens.{get, select, view_names};
-ghost use Rattle.lens_specs.specs.Predicate.{holds};
+ghost use Rattle.lens_specs.specs.Predicate.{holds, mentioned};
 ghost use Rattle.lens_specs.specs.Relation.{project, those};
-ghost use Rattle.lens_laws.specs.Lenses.{AreOf};
+ghost use Rattle.lens_laws.specs.Lenses.{AreOf, IsTyped};
 ghost use Rattle.lens_laws.specs.Passes.{PredWithin};
 ghost use Rattle.row_sets.specs.Joins.{pairs_on};
 ghost use Rattle.view_reading.specs.Reading.{rows_for, rows_under};
 
-use crate::columns::{names_of, shared_names};
+use crate::columns::names_of;
+use crate::joining::{Side, joined_parts};
 use base_index::Tables;
 use lens_pred::Pred;
 use lens_types::{Node, TypedLens, rename_rows};
@@ -140,8 +141,9 @@ fn pair_parts_in<L: Ledger>(
 {
     let left_rows = row_set_in(alloc, left, tables, walked)?;
     let right_rows = row_set_in(alloc, right, tables, walked)?;
-    let shared = shared_names(alloc, left, right)?;
-    left_rows.joined_parts(alloc, &right_rows, &shared, kept)
+    let left_side = side(left, &left_rows);
+    let right_side = side(right, &right_rows);
+    joined_parts(alloc, &left_side, &right_side, kept)
 }
 
 /// The rows of the lens on which the predicate holds, in no certain order and perhaps more than
@@ -206,7 +208,7 @@ fn selected_parts_in<L: Ledger>(
 }
 
 // The parts in these columns on which the predicate holds, of the pairs of those rows of both lenses
-// that it needs.
+// that it needs. It mentions none but these columns.
 #[cycle(rows)]
 fn selected_pairs_in<L: Ledger>(
     alloc: Global,
@@ -217,6 +219,7 @@ fn selected_pairs_in<L: Ledger>(
     tables: &Tables,
     walked: &mut Steps<L>,
 ) -> Result<Vec<Row>, NoMemory>
+    requires kept { PredWithin pred.now kept.now }
     requires left { AreOf left.now tables.now.present.relations }
     requires right { AreOf right.now tables.now.present.relations }
     ensures value { let db = tables.now.present.relations in
@@ -230,9 +233,38 @@ fn selected_pairs_in<L: Ledger>(
 {
     let left_rows = side_in(alloc, pred, left, tables, walked)?;
     let right_rows = side_in(alloc, pred, right, tables, walked)?;
-    let shared = shared_names(alloc, left, right)?;
-    let parts = left_rows.joined_parts(alloc, &right_rows, &shared, kept)?;
+    let left_side = side(left, &left_rows);
+    let right_side = side(right, &right_rows);
+    let parts = joined_parts(alloc, &left_side, &right_side, kept)?;
+    if is_tested(alloc, pred, left, right)? {
+        return Ok(parts);
+    }
     Ok(selected(pred, parts))
+}
+
+// Whether the rows of one of the sides are tested before they are joined, since it shows each column
+// that the predicate mentions. Then the predicate holds on the pairs too.
+fn is_tested(
+    alloc: Global,
+    pred: &Pred,
+    left: &TypedLens,
+    right: &TypedLens,
+) -> Result<bool, NoMemory>
+    ensures { IfOk result (λ so. so ≡ (set.is_subset (mentioned pred.now) (view_names left.now)
+        || set.is_subset (mentioned pred.now) (view_names right.now))) }
+{
+    let tested = pred.mentions(alloc)?;
+    Ok(tested.within(names_of(left)) || tested.within(names_of(right)))
+}
+
+// The side of a join that has these rows of the lens.
+fn side<'a>(lens: &'a TypedLens, rows: &'a RowSet) -> Side<'a>
+    ensures rows { result.rows.now ≡ rows.now }
+    ensures cols { result.cols.now ≡ view_names lens.now }
+    ensures typed { IsTyped lens.now }
+{
+    let cols = lens.sort().cols().name_set();
+    Side { rows, cols }
 }
 
 // The rows of one side of a join: where it shows each column that the predicate mentions, only

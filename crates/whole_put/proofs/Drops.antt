@@ -70,7 +70,7 @@ map_twice : (f g : Row → Row) (rows : List Row) → map f (map g rows) ≡ map
 map_twice f g [] = refl
 map_twice f g (r ∷ rows) = ap (λ rest. f (g r) ∷ rest) (map_twice f g rows)
 
--- the same, from the values that the body computes in turn
+-- filled_are, from the values that the body computes in turn
 pub made : (A : Name) (X : Names) (a : Value) (default : Row) (e : Edge) (N M : Rows) (filled moved : List Row) (rows : Rows) → default ≡ finmap.from_entries ((A, a) ∷ []) → e ≡ edge X (one A)
     → filled ≡ map (override default) (set.items N) → moved ≡ map (λ m. along e m M) filled → rows ≡ set.from_list moved → rows ≡ drop_put A X a N M
 unfolding image

@@ -201,7 +201,7 @@ fn right_without(
     }
 }
 
-// The rows without the parts of the surplus that is not kept.
+// The rows of `source` without the parts of those rows of `over` that are not in `kept`.
 fn without_others(
     alloc: Global,
     source: &Relation,

@@ -1,4 +1,4 @@
-//! A relation taken apart.
+//! A relation as its columns and its rows.
 ghost use Rattle.std.specs.Prelude.{◌≡◌};
 ghost use Rattle.lens_specs.specs.Relation.{IsRelation};
 

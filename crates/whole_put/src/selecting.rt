@@ -24,10 +24,11 @@ pub fn get_select(alloc: Global, pred: &Pred, source: &Relation) -> Result<Relat
     part(alloc, pred, true, source)
 }
 
-/// The source after a put of the view (Bohannon, Pierce and Vaughan, PODS 2006): the rows that the
-/// predicate refuses, revised by the view along the tree, without those that it then holds on, and
-/// the view. Where the predicate holds on each row of the view, the view is read again; and where
-/// the source meets the tree, to put back what is read changes nothing.
+/// The source after a put of the view (Bohannon, Pierce and Vaughan, PODS 2006): the view, together
+/// with the rows that the predicate rejects, after the view has revised these along the tree, and
+/// without those on which the predicate then holds. If the predicate holds on each row of the view,
+/// a read shows the view again. If the source satisfies the tree, to put back what is read changes
+/// nothing.
 pub fn put_select(
     alloc: Global,
     tree: &Tree,

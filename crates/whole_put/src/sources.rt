@@ -102,7 +102,8 @@ impl Sources {
         }
     }
 
-    /// What the left source shows, and its sources; and the same of the right one.
+    /// What the left source shows, with the sources under it, and what the right source shows, with
+    /// the sources under that one.
     pub fn both(&self) -> ((&Relation, &Sources), (&Relation, &Sources))
         requires { is_some (both_of self.now) ≡ true }
         ensures { both_of self.now

@@ -140,7 +140,8 @@ pub(super) const TEXTS: &str =
 {"do":"define","text":"table t (c int, c1 int, c2 int, c3 int, c4 int, c5 int, c6 int, c7 int, c8 int, c9 int, c10 int, c11 int, c12 int, c13 int, c14 int, c15 int, c16 int, c17 int, c18 int, c19 int, c20 int, c21 int, c22 int, c23 int, c24 int, c25 int, c26 int, c27 int, c28 int, c29 int, c30 int, c31 int, c32 int, c33 int, c34 int, c35 int, c36 int, c37 int, c38 int, c39 int, c40 int, c41 int, c42 int, c43 int, c44 int, c45 int, c46 int, c47 int, c48 int, c49 int, c50 int, c51 int, c52 int, c53 int, c54 int, c55 int, c56 int, c57 int, c58 int, c59 int, c60 int, c61 int, c62 int, c63 int, c64 int) where and"}
 {"at":589,"error":20,"ok":false}"#;
 
-/// What is wrong with a definition otherwise comes before there are too many.
+/// If a server has all the tables and views that it may have, it rejects a definition as one too
+/// many, but first for any other fault.
 pub(super) const FULL: &str = r#"{"do":"define","text":"table w (a int)"}
 {"error":34,"ok":false,"what":"tables"}
 {"do":"define","text":"view w = t5"}
@@ -164,7 +165,7 @@ pub(super) const FULL: &str = r#"{"do":"define","text":"table w (a int)"}
 {"do":"read","view":"v319"}
 {"ok":true,"rows":[],"version":320}"#;
 
-/// A table in each fifth place, and views between, 64 and 256 in all.
+/// Defines 64 tables and 256 views: a table in each fifth place, and views between.
 pub(super) fn filled(alloc: Global) -> Result<String, Fail> {
     let mut script = String::new(alloc);
     for number in 0..320 {

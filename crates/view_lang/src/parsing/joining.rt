@@ -3,7 +3,6 @@ ghost use Rattle.std.specs.Prelude.{◌≡◌, ◌++◌, true, IfOk, OnOk};
 ghost use Rattle.grammar_specs.specs.Meaning as meaning;
 ghost use Rattle.lens_pred.specs.NormalForm.{is_all_of, is_any_of};
 ghost use Rattle.lens_pred.specs.View.{formula_view, predicate_view};
-ghost use Rattle.grammar_laws.specs.PredParse.{with_nots as with_nots_of, alternatives as alternatives_of};
 
 use lens_pred::{Formula, Formulas};
 use lens_values::NoMemory;
@@ -14,17 +13,6 @@ pub fn constant(flag: bool) -> Formula
     ensures { formula_view result ≡ meaning.constant flag }
 {
     if flag { Formula::True } else { Formula::False }
-}
-
-/// The formula with this many "not"s before it.
-pub fn with_nots(alloc: Global, nots: usize, part: Formula) -> Result<Formula, NoMemory>
-    ensures { IfOk result (λ f. formula_view f ≡ with_nots_of nots (formula_view part)) }
-{
-    let mut formula = part;
-    for _ in 0..nots {
-        formula = Formula::Not(Box::new(alloc, formula)?);
-    }
-    Ok(formula)
 }
 
 fn is_and(formula: &Formula) -> bool
@@ -85,10 +73,9 @@ pub fn push_disjuncts(alloc: Global, ors: &mut Vec<Formula>, all: Formula) -> Re
 }
 
 /// The one formula, or the conjunction of several.
-pub fn conjunction(list: Vec<Formula>) -> Formula
+pub fn conjunction(mut list: Vec<Formula>) -> Formula
     ensures { formula_view result ≡ meaning.conjunction (predicate_view list.items) }
 {
-    let mut list = list;
     if list.len() > 1 {
         return Formula::And(Formulas::new(list));
     }
@@ -99,10 +86,9 @@ pub fn conjunction(list: Vec<Formula>) -> Formula
 }
 
 /// The one formula, or the disjunction of several.
-pub fn disjunction(list: Vec<Formula>) -> Formula
+pub fn disjunction(mut list: Vec<Formula>) -> Formula
     ensures { formula_view result ≡ meaning.disjunction (predicate_view list.items) }
 {
-    let mut list = list;
     if list.len() > 1 {
         return Formula::Or(Formulas::new(list));
     }
@@ -112,19 +98,17 @@ pub fn disjunction(list: Vec<Formula>) -> Formula
     }
 }
 
-/// Adds one alternative.
-pub fn alternatives(
+/// Adds the disjuncts of the conjunction of these at the end.
+pub fn push_alternative(
     alloc: Global,
-    ors: Vec<Formula>,
+    ors: &mut Vec<Formula>,
     ands: Vec<Formula>,
-) -> Result<Vec<Formula>, NoMemory>
-    ensures { IfOk result (λ list.
-        predicate_view list.items
-        ≡ alternatives_of (predicate_view ors.items) (predicate_view ands.items)) }
+) -> Result<(), NoMemory>
+    ensures { OnOk result (predicate_view ors.new.items
+        ≡ predicate_view ors.old.items
+        ++ meaning.disjuncts (meaning.conjunction (predicate_view ands.items))) }
 {
-    let mut list = ors;
-    push_disjuncts(alloc, &mut list, conjunction(ands))?;
-    Ok(list)
+    push_disjuncts(alloc, ors, conjunction(ands))
 }
 
 /// The conjuncts of the formula.

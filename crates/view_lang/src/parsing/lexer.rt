@@ -5,7 +5,7 @@ ghost use Rattle.std.specs.List.{prefix_len};
 ghost use Rattle.plain_values.specs.Bytes as bytes;
 ghost use Rattle.grammar_specs.specs.Tokens as language;
 ghost use Rattle.grammar_laws.specs.Front.{quoted_in, text_at, word_at, plain_in_front, token_in_front};
-ghost use Rattle.view_lang.specs.TokenViews.{token_view, front_of, IsFront, integer_at, is_integer_text, begins_word, begins_integer, begins_arrow, long_sign_at, short_sign_at, sign_in_front};
+ghost use Rattle.view_lang.specs.TokenViews.{token_view, front_of, IsFront, integer_at, is_integer_text, begins_word, begins_integer, begins_arrow, sign_in_front};
 
 use crate::parsing::token::Token;
 use lens_pred::Op;
@@ -118,45 +118,24 @@ fn integer(text: &[u8]) -> Option<(Token, usize)>
     Some((integer_token(&text[..len])?, len))
 }
 
-/// The operator of two bytes.
-fn long_sign(first: u8, second: u8) -> Option<Token>
-    ensures { option_map token_view result ≡ long_sign_at first second }
-{
-    match (first, second) {
-        (b'!', b'=') => Some(Token::Operator(Op::Ne)),
-        (b'<', b'=') => Some(Token::Operator(Op::Le)),
-        (b'>', b'=') => Some(Token::Operator(Op::Ge)),
-        _ => None,
-    }
-}
-
-/// The operator or the punctuation of one byte.
-fn short_sign(first: u8) -> Option<Token>
-    ensures { option_map token_view result ≡ short_sign_at first }
-{
-    match first {
-        b'(' => Some(Token::OpenParen),
-        b')' => Some(Token::CloseParen),
-        b',' => Some(Token::Comma),
-        b'=' => Some(Token::Operator(Op::Eq)),
-        b'<' => Some(Token::Operator(Op::Lt)),
-        b'>' => Some(Token::Operator(Op::Gt)),
-        _ => None,
-    }
-}
-
 /// The operator or the punctuation in front of the text, and its length.
 fn sign(text: &[u8]) -> Option<(Token, usize)>
     requires { 0 < length text.now }
     ensures value { front_of text.now result ≡ sign_in_front text.now }
     ensures within { IsFront text.now result }
 {
-    if text.len() > 1
-        && let Some(token) = long_sign(text[0], text[1])
-    {
-        return Some((token, 2));
+    match text {
+        [b'!', b'=', ..] => Some((Token::Operator(Op::Ne), 2)),
+        [b'<', b'=', ..] => Some((Token::Operator(Op::Le), 2)),
+        [b'>', b'=', ..] => Some((Token::Operator(Op::Ge), 2)),
+        [b'(', ..] => Some((Token::OpenParen, 1)),
+        [b')', ..] => Some((Token::CloseParen, 1)),
+        [b',', ..] => Some((Token::Comma, 1)),
+        [b'=', ..] => Some((Token::Operator(Op::Eq), 1)),
+        [b'<', ..] => Some((Token::Operator(Op::Lt), 1)),
+        [b'>', ..] => Some((Token::Operator(Op::Gt), 1)),
+        _ => None,
     }
-    Some((short_sign(text[0])?, 1))
 }
 
 /// The token in front of the text that is no text literal, and its length.

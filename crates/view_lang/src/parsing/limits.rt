@@ -1,6 +1,5 @@
 //! How large a definition may be.
-ghost use Rattle.std.specs.Prelude.{◌≡◌, nat_le, Ok, Err, if◌then◌else◌};
-ghost use Rattle.std.specs.FinMap as map_of;
+ghost use Rattle.std.specs.Prelude.{◌≡◌, Ok, Err, if◌then◌else◌};
 ghost use Rattle.grammar_specs.specs.Faults as faults;
 ghost use Rattle.view_lang.specs.DefViews.{definition_view};
 ghost use Rattle.view_lang.specs.ExprViews.{expr_view};
@@ -8,7 +7,6 @@ ghost use Rattle.view_lang.specs.ExprViews.{expr_view};
 use crate::definition::{Definition, LangFault};
 use crate::expr::Expr;
 use lens_pred::Pred;
-use lens_values::Columns;
 use view_limits::Limit;
 
 /// The most columns of a table.
@@ -23,13 +21,6 @@ fn is_small(pred: &Pred) -> bool
     ensures { result ≡ faults.is_small pred.now }
 {
     pred.nodes() <= MAX_NODES
-}
-
-/// Whether there are few enough columns.
-fn are_few(cols: &Columns) -> bool
-    ensures { result ≡ nat_le (map_of.len cols.now) 64 }
-{
-    cols.pairs().len() <= MAX_COLUMNS
 }
 
 impl Expr {
@@ -54,7 +45,7 @@ fn has_few_columns(definition: &Definition) -> bool
     ensures { result ≡ faults.has_few_columns (definition_view definition.now) }
 {
     match definition {
-        Definition::Table { cols, .. } => are_few(cols),
+        Definition::Table { cols, .. } => cols.pairs().len() <= MAX_COLUMNS,
         Definition::View { .. } => true,
     }
 }

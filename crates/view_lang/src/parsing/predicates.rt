@@ -1,161 +1,169 @@
-//! A predicate that is being read.
-ghost use Rattle.std.specs.Prelude.{◌≡◌, ◌+◌, ◌-◌, ◌^◌, min, [], IfOk, OnOk, option_map, is_some};
-ghost use Rattle.std.specs.Bool.{then_some};
-ghost use Rattle.lens_pred.specs.View.{formula_view};
-ghost use Rattle.view_lang.specs.TokenViews.{token_view};
-ghost use Rattle.grammar_laws.specs.PredParse as pred;
-ghost use Rattle.view_lang.specs.PredViews.{open_view, opens_view, preds_view};
+//! Predicates, a function for each rule of the grammar.
+ghost use Rattle.std.specs.Prelude.{◌≡◌, ◌≤◌};
+ghost use Rattle.lens_pred.specs.Op.{op_view};
+ghost use Rattle.lens_pred.specs.View.{formula_view, predicate_view};
+ghost use Rattle.grammar_specs.specs.Written as written;
+ghost use Rattle.grammar_laws.specs.Tests.{is_open};
+ghost use Rattle.grammar_laws.specs.Steps.{read, and_then, need, passing};
+ghost use Rattle.grammar_laws.specs.PredRules as rules;
+ghost use Rattle.view_lang.specs.DefBounds.{AreNormal};
+ghost use Rattle.view_lang.specs.Outcomes.{Follows, IsPart, IsAll, IsPred, IsPredicate, AreItems};
 
-mod behind;
-mod part;
-
-use crate::parsing::joining::{push_conjuncts, with_nots};
-use crate::parsing::predicates::behind::ended_behind;
-use crate::parsing::token::Token;
-use lens_pred::{Formula, Op};
-use lens_values::{Name, NoMemory, Value};
+use crate::parsing::joining::{
+    conjuncts_of, constant, disjunction, push_alternative, push_conjuncts,
+};
+use crate::parsing::reader::{Halt, Reader};
+use crate::parsing::token::Sign;
+use lens_pred::{Formula, Op, Pred, Values};
+use lens_values::{Name, Value};
 use std::alloc::Global;
-use std::mem;
 
-/// The parts of a predicate read so far, joined by "or" and by "and".
-#[derive(Drop)]
-pub struct Level {
-    ors: Vec<Formula>,
-    ands: Vec<Formula>,
-    /// The number of "not"s before the next part.
-    nots: usize,
-}
-
-/// The place of the next token in a predicate.
-#[derive(Drop)]
-pub enum Place {
-    /// Where a part begins.
-    Part,
-    /// Behind a column.
-    Compared { col: Name },
-    /// Behind a column and the operator of a comparison.
-    Against { col: Name, op: Op },
-    /// Behind a column and "in".
-    InOpen { col: Name },
-    /// Behind a column, "in", a parenthesis and these values, each with a comma behind it.
-    InValue { col: Name, values: Vec<Value> },
-    /// The same, with no comma behind the last value.
-    InNext { col: Name, values: Vec<Value> },
-    /// Behind a column and "is".
-    AtNull { col: Name },
-    /// Behind a part.
-    Behind,
-}
-
-/// A predicate that is being read: the innermost level, and the levels around its open parentheses.
-#[derive(Drop)]
-pub struct Preds {
-    outer: Vec<Level>,
-    level: Level,
-    place: Place,
-}
-
-/// The level before the first part.
-fn fresh(alloc: Global) -> Level
-    ensures { open_view result ≡ pred.fresh }
+/// The predicate of conjuncts in normal form.
+pub fn predicate_of(conjuncts: Vec<Formula>) -> Pred
+    requires { AreNormal (predicate_view conjuncts.items) }
+    ensures { result ≡ predicate_view conjuncts.items }
 {
-    Level {
-        ors: Vec::new(alloc),
-        ands: Vec::new(alloc),
-        nots: 0,
+    match Pred::new(conjuncts) {
+        Ok(pred) => pred,
+        Err(_) => unreachable!(),
     }
 }
 
-/// The state before the first token of a predicate.
-pub fn begun(alloc: Global) -> Preds
-    ensures { preds_view result ≡ pred.inside [] pred.fresh pred.at_part }
-{
-    Preds {
-        outer: Vec::new(alloc),
-        level: fresh(alloc),
-        place: Place::Part,
-    }
-}
-
-/// Counts the parentheses and "not"s that are open outside, and adds these.
-fn count_open(outer: &[Level], inner: usize) -> usize
-    ensures { result ≡ min (inner + pred.open_count (opens_view outer.now)) (2 ^ 64 - 1) }
-{
-    let mut total = inner;
-    for level in outer {
-        total = total.saturating_add(level.nots).saturating_add(1);
-    }
-    total
-}
-
-impl Preds {
-    ghost use Rattle.view_lang.specs.PredBounds.{HasFewNots};
-
-    /// Moves past this part.
-    fn add(&mut self, alloc: Global, part: Formula) -> Result<(), NoMemory>
-        ensures { OnOk result (preds_view self.new
-            ≡ pred.add (opens_view self.old.outer.items) (open_view self.old.level)
-            (formula_view part)) }
+impl Reader {
+    /// Reads the right side of a comparison.
+    fn comparison(&mut self, col: Name, op: Op) -> Result<Formula, Halt>
+        ensures { Follows IsPart (rules.comparison col (op_view op)) self.old self.new result }
     {
-        let part = with_nots(alloc, self.level.nots, part)?;
-        push_conjuncts(alloc, &mut self.level.ands, part)?;
-        self.place = Place::Behind;
-        Ok(())
-    }
-
-    /// Reads the next token. False where no predicate continues with it.
-    pub fn step(&mut self, alloc: Global, token: &Token) -> Result<bool, NoMemory>
-        requires { HasFewNots (preds_view self.old) }
-        ensures { IfOk result (λ goes.
-            then_some goes (preds_view self.new)
-            ≡ pred.step (preds_view self.old) (token_view token.now)) }
-    {
-        match mem::replace(&mut self.place, Place::Part) {
-            Place::Part => self.begin_part(alloc, token),
-            Place::Compared { col } => Ok(self.behind_name(col, token)),
-            Place::Against { col, op } => self.behind_op(alloc, col, op, token),
-            Place::InOpen { col } => Ok(self.open_values(alloc, col, token)),
-            Place::InValue { col, values } => self.next_value(alloc, col, values, token),
-            Place::InNext { col, values } => self.end_value(alloc, col, values, token),
-            Place::AtNull { col } => self.at_null(alloc, col, token),
-            Place::Behind => self.step_behind(alloc, token),
+        if let Some(other) = self.take_name() {
+            return Ok(Formula::CompareCols { col, op, other });
         }
+        let value = self.need_literal()?;
+        Ok(Formula::Compare { col, op, value })
     }
 
-    /// Counts the parentheses and "not"s that are open, up to `usize::MAX`.
-    pub fn count(&self) -> usize
-        ensures { result ≡ min (pred.count (preds_view self.now)) (2 ^ 64 - 1) }
+    /// Reads values with commas between them.
+    #[tactic(auto, using(crate::proofs::Turns::values_turn))]
+    fn all_values(&mut self, alloc: Global) -> Result<Vec<Value>, Halt>
+        ensures { Follows AreItems rules.all_values self.old self.new result }
     {
-        match self.place {
-            Place::Behind => count_open(&self.outer, 0),
-            _ => count_open(&self.outer, self.level.nots),
+        let mut values = Vec::new(alloc);
+        values.push(self.need_literal()?)?;
+        while self.take(Sign::Comma) {
+            values.push(self.need_literal()?)?;
         }
+        Ok(values)
     }
 
-    /// Whether the predicate can end here.
-    #[tactic(auto, using(crate::proofs::Opens::ends_inner, crate::proofs::Opens::ends_outer))]
-    pub fn is_ended(&self) -> bool
-        ensures { result ≡ is_some (pred.ended (preds_view self.now)) }
+    /// Reads the values behind "in".
+    fn values(&mut self, alloc: Global, col: Name) -> Result<Formula, Halt>
+        ensures { Follows IsPart (rules.values col) self.old self.new result }
     {
-        match self.place {
-            Place::Behind => self.outer.is_empty(),
-            _ => false,
-        }
+        self.need(Sign::Open)?;
+        let values = self.all_values(alloc)?;
+        self.need(Sign::Close)?;
+        let values = Values::new(values);
+        Ok(Formula::OneOf { col, values })
     }
 
-    /// The formula of the predicate, if it can end here.
-    pub fn ended(self, alloc: Global) -> Result<Option<Formula>, NoMemory>
-        ensures { IfOk result (λ found. option_map formula_view found
-            ≡ pred.ended (preds_view self)) }
+    /// Reads what follows the name of a column.
+    fn behind_name(&mut self, alloc: Global, col: Name) -> Result<Formula, Halt>
+        ensures { Follows IsPart (rules.behind_name col) self.old self.new result }
     {
-        let Preds {
-            outer,
-            level,
-            place,
-        } = self;
-        match place {
-            Place::Behind => ended_behind(alloc, outer, level),
-            _ => Ok(None),
+        if let Some(op) = self.take_op() {
+            return self.comparison(col, op);
         }
+        if self.take_word("in") {
+            return self.values(alloc, col);
+        }
+        self.need_word("is")?;
+        self.need_word("null")?;
+        Ok(Formula::IsNull { col })
+    }
+
+    /// Reads a part, within which so many more parentheses and "not"s may be opened.
+    #[cycle(pred)]
+    fn part(&mut self, alloc: Global, left: usize) -> Result<Formula, Halt>
+        ensures { Follows IsPart (rules.part left) self.old self.new result }
+    {
+        if let Some(col) = self.take_name() {
+            return self.behind_name(alloc, col);
+        }
+        if let Some(flag) = self.take_flag() {
+            return Ok(constant(flag));
+        }
+        if self.take_word("not") {
+            return self.negated(alloc, left);
+        }
+        self.grouped(alloc, left)
+    }
+
+    /// Reads the part behind "not", where so many parentheses and "not"s may be opened, that "not"
+    /// included.
+    #[cycle(pred)]
+    fn negated(&mut self, alloc: Global, left: usize) -> Result<Formula, Halt>
+        ensures { Follows IsPart
+            (λ ps. and_then (rules.within left ps) (λ p. read (written.negated p)))
+            self.old self.new result }
+    {
+        if left == 0 {
+            return Err(Halt::TooDeep);
+        }
+        let part = self.part(alloc, left - 1)?;
+        Ok(Formula::Not(Box::new(alloc, part)?))
+    }
+
+    /// Reads a predicate in parentheses, where so many parentheses and "not"s may be opened, those
+    /// included.
+    #[cycle(pred)]
+    fn grouped(&mut self, alloc: Global, left: usize) -> Result<Formula, Halt>
+        ensures { Follows IsPart
+            (need (passing is_open) (λ _ ps. and_then (rules.pred_of (rules.within left) ps)
+            (λ o. rules.closed (written.grouped o))))
+            self.old self.new result }
+    {
+        self.need(Sign::Open)?;
+        if left == 0 {
+            return Err(Halt::TooDeep);
+        }
+        let inner = self.pred(alloc, left - 1)?;
+        self.need(Sign::Close)?;
+        Ok(inner)
+    }
+
+    /// Reads parts joined by "and".
+    #[cycle(pred)]
+    #[tactic(auto, using(crate::proofs::Turns::parts_turn))]
+    fn all(&mut self, alloc: Global, left: usize) -> Result<Vec<Formula>, Halt>
+        ensures { Follows IsAll (rules.all_of (rules.part left)) self.old self.new result }
+    {
+        let mut ands = Vec::new(alloc);
+        push_conjuncts(alloc, &mut ands, self.part(alloc, left)?)?;
+        while self.take_word("and") {
+            push_conjuncts(alloc, &mut ands, self.part(alloc, left)?)?;
+        }
+        Ok(ands)
+    }
+
+    /// Reads the formula of a predicate, within which so many more parentheses and "not"s may be opened.
+    #[cycle(pred)]
+    #[tactic(auto, using(crate::proofs::Turns::alls_turn))]
+    fn pred(&mut self, alloc: Global, left: usize) -> Result<Formula, Halt>
+        ensures { Follows IsPred (rules.pred left) self.old self.new result }
+    {
+        let mut ors = Vec::new(alloc);
+        push_alternative(alloc, &mut ors, self.all(alloc, left)?)?;
+        while self.take_word("or") {
+            push_alternative(alloc, &mut ors, self.all(alloc, left)?)?;
+        }
+        Ok(disjunction(ors))
+    }
+
+    /// Reads a predicate, within which so many more parentheses and "not"s may be opened.
+    pub fn predicate(&mut self, alloc: Global, left: usize) -> Result<Pred, Halt>
+        requires { left ≤ 32 }
+        ensures { Follows IsPredicate (rules.pred left) self.old self.new result }
+    {
+        let formula = self.pred(alloc, left)?;
+        Ok(predicate_of(conjuncts_of(alloc, formula)?))
     }
 }

@@ -1,12 +1,12 @@
 //! One token of the language.
-ghost use Rattle.std.specs.Prelude.{◌≡◌, IfOk, option_map};
+ghost use Rattle.std.specs.Prelude.{◌≡◌, is_some, option_map};
 ghost use Rattle.grammar_specs.specs.Tokens as language;
 ghost use Rattle.lens_pred.specs.Op.{op_view};
 ghost use Rattle.grammar_laws.specs.Tests as tests;
 
+use crate::words::{flag_word, join_word, kind_word};
 use lens_pred::Op;
-use lens_values::{JoinKind, Kind, Name, NoMemory, Text, Value};
-use std::alloc::Global;
+use lens_values::{JoinKind, Kind, Name, Text, Value};
 
 /// A word, an integer, a text, an operator or punctuation.
 #[derive(Drop)]
@@ -29,84 +29,75 @@ pub enum Token {
     Operator(Op),
 }
 
-/// Words that cannot be names.
-const RESERVED: [&str; 26] = [
-    "table",
-    "view",
-    "select",
-    "from",
-    "where",
-    "drop",
-    "determined",
-    "by",
-    "join_dl",
-    "with",
-    "int",
-    "text",
-    "bool",
-    "and",
-    "or",
-    "not",
-    "in",
-    "true",
-    "false",
-    "rename",
-    "to",
-    "null",
-    "is",
-    "join_dr",
-    "join_both",
+/// Punctuation, and the `=` before an expression.
+#[derive(Clone, Copy)]
+pub enum Sign {
+    /// `(`
+    Open,
+    /// `)`
+    Close,
+    /// `,`
+    Comma,
+    /// `->`
+    Arrow,
+    /// `=`
+    Equals,
+}
+
+/// Words that cannot be names, by their lengths.
+const SHORT_WORDS: [&str; 24] = [
+    "table", "view", "select", "from", "where", "drop", "by", "join_dl", "with", "int", "text",
+    "bool", "and", "or", "not", "in", "true", "false", "rename", "to", "null", "is", "join_dr",
     "as",
 ];
+
+const LONG_WORDS: [&str; 2] = ["determined", "join_both"];
 
 fn is_reserved(word: &str) -> bool
     ensures { result ≡ language.is_reserved word.now }
 {
-    RESERVED.contains(&word)
+    SHORT_WORDS.contains(&word) || LONG_WORDS.contains(&word)
+}
+
+/// Whether the word can be a name.
+fn is_free(word: &Name) -> bool
+    ensures { result ≡ language.is_free_name word.now }
+{
+    // A word is spelled as a name, which its bytes say.
+    let _bytes = word.as_bytes();
+    !is_reserved(word.as_str())
 }
 
 fn flag_named(word: &str) -> Option<bool>
     ensures { result ≡ tests.flag_named word.now }
 {
-    if word == "true" {
-        Some(true)
-    } else if word == "false" {
-        Some(false)
-    } else {
-        None
-    }
+    [true, false]
+        .into_iter()
+        .find(|flag| flag_word(*flag) == word)
 }
 
 fn kind_named(word: &str) -> Option<Kind>
     ensures { result ≡ tests.kind_named word.now }
 {
-    if word == "int" {
-        Some(Kind::Int)
-    } else if word == "text" {
-        Some(Kind::Text)
-    } else if word == "bool" {
-        Some(Kind::Flag)
-    } else {
-        None
-    }
+    [Kind::Int, Kind::Text, Kind::Flag]
+        .into_iter()
+        .find(|kind| kind_word(*kind) == word)
 }
 
 fn join_kind_named(word: &str) -> Option<JoinKind>
     ensures { result ≡ tests.join_kind_named word.now }
 {
-    if word == "join_dl" {
-        Some(JoinKind::DeleteLeft)
-    } else if word == "join_dr" {
-        Some(JoinKind::DeleteRight)
-    } else if word == "join_both" {
-        Some(JoinKind::DeleteBoth)
-    } else {
-        None
-    }
+    [
+        JoinKind::DeleteLeft,
+        JoinKind::DeleteRight,
+        JoinKind::DeleteBoth,
+    ]
+    .into_iter()
+    .find(|kind| join_word(*kind) == word)
 }
 
 impl Token {
-    ghost use Rattle.view_lang.specs.TokenViews.{token_view};
+    ghost use Rattle.view_lang.specs.TokenViews.{token_view, is_sign};
 
     /// Whether the token is this word.
     pub fn is_keyword(&self, word: &str) -> bool
@@ -118,12 +109,25 @@ impl Token {
         }
     }
 
-    /// The name, if the token is a name.
+    /// Whether the token is this sign.
+    pub fn is(&self, sign: Sign) -> bool
+        ensures { result ≡ is_sign sign (token_view self.now) }
+    {
+        match sign {
+            Sign::Open => matches!(self, Token::OpenParen),
+            Sign::Close => matches!(self, Token::CloseParen),
+            Sign::Comma => matches!(self, Token::Comma),
+            Sign::Arrow => matches!(self, Token::Arrow),
+            Sign::Equals => matches!(self, Token::Operator(Op::Eq)),
+        }
+    }
+
+    /// The name, if the token can be one.
     pub fn name(&self) -> Option<Name>
-        ensures { result ≡ tests.name_in (token_view self.now) }
+        ensures { result ≡ tests.free_in (token_view self.now) }
     {
         match self {
-            Token::Word(name) if !is_reserved(name.as_str()) => Some(*name),
+            Token::Word(name) if is_free(name) => Some(*name),
             _ => None,
         }
     }
@@ -168,60 +172,26 @@ impl Token {
         }
     }
 
-    /// A copy of the literal, if the token is one.
-    pub fn literal(&self, alloc: Global) -> Result<Option<Value>, NoMemory>
-        ensures { IfOk result (λ found. found ≡ tests.literal_in (token_view self.now)) }
+    /// Whether the token is a literal.
+    pub fn is_literal(&self) -> bool
+        ensures { result ≡ is_some (tests.literal_in (token_view self.now)) }
     {
         match self {
-            Token::Word(name) => Ok(flag_named(name.as_str()).map(Value::Flag)),
-            Token::Integer(number) => Ok(Some(Value::Int(*number))),
-            Token::Text(text) => Ok(Some(Value::Text(text.copy(alloc)?))),
-            _ => Ok(None),
+            Token::Word(name) => flag_named(name.as_str()).is_some(),
+            Token::Integer(_) | Token::Text(_) => true,
+            _ => false,
         }
     }
 
-    /// A copy of the default, if the token is one: a literal, or null.
-    pub fn fill(&self, alloc: Global) -> Result<Option<Value>, NoMemory>
-        ensures { IfOk result (λ found. found ≡ tests.fill_in (token_view self.now)) }
+    /// The literal, if the token is one.
+    pub fn into_literal(self) -> Option<Value>
+        ensures { result ≡ tests.literal_in (token_view self) }
     {
-        if self.is_keyword("null") {
-            return Ok(Some(Value::Null));
+        match self {
+            Token::Word(name) => flag_named(name.as_str()).map(Value::Flag),
+            Token::Integer(number) => Some(Value::Int(number)),
+            Token::Text(text) => Some(Value::Text(text)),
+            _ => None,
         }
-        self.literal(alloc)
-    }
-
-    /// Whether it is `(`.
-    pub fn is_open(&self) -> bool
-        ensures { result ≡ tests.is_open (token_view self.now) }
-    {
-        matches!(self, Token::OpenParen)
-    }
-
-    /// Whether it is `)`.
-    pub fn is_close(&self) -> bool
-        ensures { result ≡ tests.is_close (token_view self.now) }
-    {
-        matches!(self, Token::CloseParen)
-    }
-
-    /// Whether it is `,`.
-    pub fn is_comma(&self) -> bool
-        ensures { result ≡ tests.is_comma (token_view self.now) }
-    {
-        matches!(self, Token::Comma)
-    }
-
-    /// Whether it is `->`.
-    pub fn is_arrow(&self) -> bool
-        ensures { result ≡ tests.is_arrow (token_view self.now) }
-    {
-        matches!(self, Token::Arrow)
-    }
-
-    /// Whether it is `=`.
-    pub fn is_equals(&self) -> bool
-        ensures { result ≡ tests.is_equals (token_view self.now) }
-    {
-        matches!(self, Token::Operator(Op::Eq))
     }
 }

@@ -1,11 +1,12 @@
 //! Tokens written one after another, with spaces between them.
 ghost use Rattle.std.specs.Prelude.{◌≡◌, [], ◌∷◌, ◌++◌, OnOk, IsTrue, false, string_bytes};
 ghost use Rattle.grammar_specs.specs.Tokens as token;
-ghost use Rattle.grammar_specs.specs.Tokens.{op_bytes, quotes_doubled};
+ghost use Rattle.grammar_specs.specs.Tokens.{quotes_doubled};
 ghost use Rattle.grammar_specs.specs.Written.{literal};
 ghost use Rattle.lens_pred.specs.Op.{op_view};
-ghost use Rattle.view_lang.specs.PrintAdds.{blank, Puts, Adds};
+ghost use Rattle.view_lang.specs.PrintAdds.{blank, before_item, Puts, Adds};
 
+use crate::words::{flag_word, operator_sign};
 use lens_pred::Op;
 use lens_values::{Name, NoMemory, Value};
 use std::alloc::Global;
@@ -13,7 +14,8 @@ use std::alloc::Global;
 /// A text to which tokens are added.
 #[derive(Drop)]
 pub(crate) struct Printer {
-    text: String,
+    /// What is written so far.
+    pub(crate) text: String,
     // Whether the next token follows without a space: at the start, and after an open parenthesis.
     glued: bool,
 }
@@ -24,18 +26,8 @@ impl Printer {
         ensures text { string_bytes result.text ≡ [] }
         ensures glued { IsTrue result.glued }
     {
-        Printer {
-            text: String::new(alloc),
-            glued: true,
-        }
-    }
-
-    /// The text.
-    pub(crate) fn into_text(self) -> String
-        ensures { result ≡ self.text }
-    {
-        let Printer { text, .. } = self;
-        text
+        let text = String::new(alloc);
+        Printer { text, glued: true }
     }
 
     /// A word.
@@ -58,10 +50,14 @@ impl Printer {
     {
         match value {
             Value::Null => self.word("null"),
-            Value::Int(number) => self.integer(*number),
+            Value::Int(number) => {
+                self.space()?;
+                write!(self.text, "{number}")?;
+                self.glued = false;
+                Ok(())
+            }
             Value::Text(text) => self.quoted(text.as_str()),
-            Value::Flag(true) => self.word("true"),
-            Value::Flag(false) => self.word("false"),
+            Value::Flag(flag) => self.word(flag_word(*flag)),
         }
     }
 
@@ -69,7 +65,7 @@ impl Printer {
     pub(crate) fn operator(&mut self, op: Op) -> Result<(), NoMemory>
         ensures { OnOk result (Adds self.old self.new (token.operator (op_view op) ∷ [])) }
     {
-        self.put(sign_of(op))
+        self.put(operator_sign(op))
     }
 
     /// `->`
@@ -102,14 +98,18 @@ impl Printer {
         self.glue(",")
     }
 
-    // A number in decimal.
-    fn integer(&mut self, number: i64) -> Result<(), NoMemory>
-        ensures { OnOk result (Adds self.old self.new (token.integer number ∷ [])) }
+    /// `,` before every item but the first.
+    pub(crate) fn comma_between(&mut self, index: usize) -> Result<(), NoMemory>
+        ensures { OnOk result (Adds self.old self.new (before_item index token.comma)) }
     {
-        self.space()?;
-        write!(self.text, "{number}")?;
-        self.glued = false;
-        Ok(())
+        if index == 0 { Ok(()) } else { self.comma() }
+    }
+
+    /// The word before every item but the first.
+    pub(crate) fn word_between(&mut self, index: usize, word: &str) -> Result<(), NoMemory>
+        ensures { OnOk result (Adds self.old self.new (before_item index (token.word word.now))) }
+    {
+        if index == 0 { Ok(()) } else { self.word(word) }
     }
 
     // A text between quotes, with each quote in it written twice.
@@ -140,10 +140,9 @@ impl Printer {
             (blank self.old.glued ++ spelling.now) false) }
     {
         self.space()?;
-        self.text.push_str(spelling)?;
-        self.glued = false;
-        Ok(())
+        self.glue(spelling)
     }
+
     // A token of this spelling that closes.
     fn glue(&mut self, spelling: &str) -> Result<(), NoMemory>
         ensures { OnOk result (Puts self.old self.new spelling.now false) }
@@ -166,17 +165,4 @@ fn push_doubled(text: &mut String, value: &str) -> Result<(), NoMemory>
         text.push(c)?;
     }
     Ok(())
-}
-
-fn sign_of(op: Op) -> &'static str
-    ensures { result.now ≡ op_bytes (op_view op) }
-{
-    match op {
-        Op::Eq => "=",
-        Op::Ne => "!=",
-        Op::Lt => "<",
-        Op::Le => "<=",
-        Op::Gt => ">",
-        Op::Ge => ">=",
-    }
 }

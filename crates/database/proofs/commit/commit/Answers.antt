@@ -1,12 +1,12 @@
-use Rattle.std.proofs.Common.{◌≡◌, ◌∙◌, Err, ap, refl, subst, sym}
+use Rattle.std.proofs.Common.{◌≡◌, ◌∙◌, ◌+◌, Err, ap, refl, subst, sym}
 use Rattle.base_index.specs.Held.{Held, IsQuiet}
-use Rattle.database.proofs.Indexed.{keyed_after, state_after, unstaged_same}
+use Rattle.database.proofs.Indexed.{keyed_after, last_there, state_after, unstaged_same}
 use Rattle.database.proofs.Keyed.{same_keyed}
 use Rattle.database.proofs.SettledPlans.{outcome_failed, outcome_given_up, outcome_made, staged_can}
 use Rattle.lens_specs.specs.Keeping.{CanCommit, Follows, changed}
 use Rattle.table_keeper.specs.Changes.{change_view}
 use Rattle.database.specs.Outcomes.{Outcome}
-use Rattle.database.specs.Plans.{CanTake, change_of, definition_of, past_after, texts_with}
+use Rattle.database.specs.Plans.{CanMove, CanTake, change_of, definition_of, last_after, past_after, texts_with}
 use Rattle.database.specs.Staging.{next_state}
 use Rattle.database.specs.States.{state_of}
 use Rattle.database.proofs.commit.commit.Goals as goal
@@ -18,6 +18,11 @@ commit-requires g c =
 
 pub make-requires-clause-definition : goal.make-requires-clause-definition
 make-requires-clause-definition g c = subst (λ o. CanTake o c.args.database.now.catalog) (sym c.into_parts-change.ensures.definition) c.requires.staged.definition
+
+pub make-requires-clause-last : goal.make-requires-clause-last
+make-requires-clause-last g c =
+    let database = c.args.database.now in
+    subst (λ change. CanMove change database.last) (sym c.into_parts-change.ensures.change) (last_there c.args.staged.change (state_of database) c.requires.ready.can.valid c.requires.staged.tables)
 
 pub returns-in_err-stage-clause-outcome : goal.returns-in_err-stage-clause-outcome
 returns-in_err-stage-clause-outcome g c =
@@ -42,11 +47,13 @@ returns-in-Ok-clause-outcome g c =
     c.make.ensures.catalog ∙ ap (λ o. texts_with o database.catalog.texts) c.into_parts-change.ensures.definition in
     let past : c.make.new.database.past ≡ past_after staged.past (change_of staged.change) database.past =
     c.make.ensures.past ∙ ap (λ change. past_after staged.past change database.past) c.into_parts-change.ensures.change in
+    let last : c.make.new.database.last ≡ last_after staged.last (change_of staged.change) (database.version + 1) database.last =
+    c.make.ensures.last ∙ ap (λ change. last_after staged.last change (database.version + 1) database.last) c.into_parts-change.ensures.change in
     let follows : Follows (λ a b. b ≡ changed (change_view (change_of staged.change)) a) (g.K.Keeper.contents c.args.keeper.now) (g.K.Keeper.contents c.commit.new.self) =
     subst (λ change. Follows (λ a b. b ≡ changed (change_view change) a) (g.K.Keeper.contents c.args.keeper.now) (g.K.Keeper.contents c.commit.new.self)) c.into_parts-change.ensures.change c.in-Ok.ensures.ok in
     λ answer leads said. outcome_made staged database answer (g.K.Keeper.faults c.args.keeper.now) (g.K.Keeper.faults c.commit.new.self) (g.K.Keeper.contents c.args.keeper.now)
     (g.K.Keeper.contents c.commit.new.self) (g.K.Keeper.calls c.args.keeper.now) (g.K.Keeper.calls c.commit.new.self) c.args.reply c.requires.staged c.requires.ready.told follows c.in-Ok.ensures.call c.commit.ensures.later said leads.0 (state_of c.make.new.database)
-    (state_after staged database c.make.new.database catalog present c.make.ensures.version c.make.ensures.last past)
+    (state_after staged database c.make.new.database catalog present c.make.ensures.version last past)
 
 pub returns-in-Ok-clause-keyed : goal.returns-in-Ok-clause-keyed
 returns-in-Ok-clause-keyed g c =

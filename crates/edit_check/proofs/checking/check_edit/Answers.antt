@@ -8,8 +8,8 @@ returns-in-Some-clause-checked g c =
     new_off c.args.sort.now (g.K.Look.relation c.args.view.now) c.args.delta.now c.requires.sort c.pred.result.now c.add.result.now (Some c.in_ok-row.row) c.pred.ensures.value c.add.ensures
     (ap Some c.in_ok-row.ensures ∙ c.in-Some.ensures)
 
-pub clash_of_edit-requires-clause-columns : goal.clash_of_edit-requires-clause-columns
-clash_of_edit-requires-clause-columns g c =
+pub violating_pair_of_edit-requires-clause-columns : goal.violating_pair_of_edit-requires-clause-columns
+violating_pair_of_edit-requires-clause-columns g c =
     let M = g.K.Look.relation c.args.view.now in
     subst (λ T. AllEdges (λ e. Within e.left (names M.columns)) T) (sym c.tree.ensures.value) (lefts_within c.args.sort.now M c.tree.ensures.sound c.requires.sort)
 
@@ -31,7 +31,7 @@ returns-in-None-clause-checked g c =
     (new_off s M d c.requires.sort c.pred.result.now c.add.result.now None c.pred.ensures.value c.add.ensures c.in_default.ensures)
     (new_clash s M d c.requires.sort c.tree.result.now None c.in_ok-clash.field-0 c.tree.ensures.value c.in_ok-clash.ensures.clash c.in-None.is)
 
-pub clash_of_edit-requires-clause-meets : goal.clash_of_edit-requires-clause-meets
-clash_of_edit-requires-clause-meets g c =
+pub violating_pair_of_edit-requires-clause-meets : goal.violating_pair_of_edit-requires-clause-meets
+violating_pair_of_edit-requires-clause-meets g c =
     let M = g.K.Look.relation c.args.view.now in
     subst (MeetsTree M.rows) (sym c.tree.ensures.value) (meets_of c.args.sort.now M c.requires.sort)

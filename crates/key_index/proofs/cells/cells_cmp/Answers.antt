@@ -11,15 +11,15 @@ use Rattle.key_index.proofs.cells.cells_cmp.Goals as goal
 
 pub returns : goal.returns
 returns c =
-    let names = c.as_slice-names.result.now in
-    let their = c.as_slice-their.result.now in
-    let own = map (λ n. finmap.get c.args.row.now n) names in
-    let other = map (λ n. finmap.get c.args.other.now n) their in
-    let long = length-map names (λ n. finmap.get c.args.row.now n) in
-    let longer = length-map their (λ n. finmap.get c.args.other.now n) in
+    let own_cols = c.as_slice-own_cols.result.now in
+    let other_cols = c.as_slice-other_cols.result.now in
+    let own = map (λ n. finmap.get c.args.row.now n) own_cols in
+    let other = map (λ n. finmap.get c.args.other.now n) other_cols in
+    let long = length-map own_cols (λ n. finmap.get c.args.row.now n) in
+    let longer = length-map other_cols (λ n. finmap.get c.args.other.now n) in
     let end : c.loop-place.place ≡ min (length own) (length other) = omega (arith, long, longer, c.loop-place-test.false, c.loop-place.auto.place-end, c.min-place-end.ensures) in
     c.cmp.ensures ∙ (λ i. nat_cmp (sym long i) (sym longer i)) ∙ sym (cmp_ends (option_cmp value_cmp) own other)
     ∙ ap (λ n. cells_cmp (drop n own) (drop n other)) (sym end)
-    ∙ (λ i. cells_cmp (drop-map (λ n. finmap.get c.args.row.now n) c.loop-place.place names i) (drop-map (λ n. finmap.get c.args.other.now n) c.loop-place.place their i))
+    ∙ (λ i. cells_cmp (drop-map (λ n. finmap.get c.args.row.now n) c.loop-place.place own_cols i) (drop-map (λ n. finmap.get c.args.other.now n) c.loop-place.place other_cols i))
     ∙ sym c.loop-place.invariant
-    ∙ (λ i. cells_cmp (map (λ n. finmap.get c.args.row.now n) (c.as_slice-names.ensures i)) (map (λ n. finmap.get c.args.other.now n) (c.as_slice-their.ensures i)))
+    ∙ (λ i. cells_cmp (map (λ n. finmap.get c.args.row.now n) (c.as_slice-own_cols.ensures i)) (map (λ n. finmap.get c.args.other.now n) (c.as_slice-other_cols.ensures i)))

@@ -1,18 +1,16 @@
 use Rattle.std.proofs.Common.{◌≡◌, ◌∙◌, ◌+◌, ◌≤◌, ap, arith, length, refl, subst, sym}
 use Rattle.std.specs.Prelude.{IfOk, IfSome}
 use Rattle.std.proofs.lemmas.Result.{IfOk-weaker}
-use Rattle.plain_values.specs.Part.{restrict}
 use Rattle.plain_values.specs.SortedSet as set
 use Rattle.lens_specs.specs.Common.{Within, share, get, nodes_of, rename, view_names, project}
-use Rattle.lens_specs.specs.Lens.{join}
-use Rattle.lens_laws.proofs.PastedFinds.{key_is_over}
-use Rattle.lens_laws.specs.Finds.{IsOver}
 use Rattle.lens_laws.specs.KeyedDeltas.{find_by}
 use Rattle.lens_laws.specs.Lenses.{IsTyped}
 use Rattle.lens_laws.specs.Work.{size}
 use Rattle.signed_delta.proofs.Counts.{at_end, next, one_more}
+use Rattle.signed_delta.proofs.Looks.{find_by-restrict}
 use Rattle.lens_probe.specs.NearRows.{AreKnown, of_join}
 use Rattle.lens_probe.specs.Looking.{ArePartners, FindsWithin, MayFind, pairs_of}
+use Rattle.lens_probe.proofs.KeyColumns.{has_shared, part_is_key}
 use Rattle.lens_probe.proofs.Found.{drop_finds, found_by_whole, left_asked, left_finds, left_matches, next_pairs, partners_again, right_asked, right_finds, right_matches, rows_over, select_finds, shared_in, shown_to, found_whole, source_of_drop, source_of_select, table_finds, whole_part}
 use Rattle.view_reading.proofs.RenamedRows.{new_is_free, source_over}
 use Rattle.lens_probe.proofs.RenamedViews.{found_there, key_lacks, names_are, old_asked, old_finds, old_over, rename_size, renamed_finds}
@@ -145,7 +143,9 @@ find_in-returns-in-Rename-clause-looks g t c = λ w few.
 
 pub find_renamed-rename_row-requires : goal.find_renamed-rename_row-requires
 find_renamed-rename_row-requires g t c =
-    record { free = key_lacks c.args.col.now c.args.to.now c.args.of.now c.requires.typed c.args.query.now.tables.now.present c.args.query.now.cols.now c.requires.asked c.args.query.now.key.now c.requires.key }
+    let C = c.args.query.now.cols.now in
+    let over = part_is_key C c.args.query.now.key.now c.in_ok-part.part c.requires.key c.in_ok-part.ensures in
+    record { free = key_lacks c.args.col.now c.args.to.now c.args.of.now c.requires.typed c.args.query.now.tables.now.present C c.requires.asked c.in_ok-part.part over }
 
 pub find_renamed-find_in-requires : goal.find_renamed-find_in-requires
 find_renamed-find_in-requires g t c κs within =
@@ -156,8 +156,9 @@ find_renamed-find_in-requires g t c κs within =
     let C = c.args.query.now.cols.now in
     let cols = names_are B A C c.in_ok-cols.cols c.in_ok-cols.ensures in
     let asked = old_asked A B S c.requires.typed st C c.requires.asked c.in_ok-cols.cols cols in
-    let over = old_over A B S c.requires.typed st C c.requires.asked c.in_ok-cols.cols c.args.query.now.key.now c.in_ok-key.key c.requires.key cols c.in_ok-key.ensures in
-    (omega (arith, c.decreases), (within, (c.requires.near, (asked, over))))
+    let part = part_is_key C c.args.query.now.key.now c.in_ok-part.part c.requires.key c.in_ok-part.ensures in
+    let over = old_over A B S c.requires.typed st C c.requires.asked c.in_ok-cols.cols c.in_ok-part.part c.in_ok-key.key part cols c.in_ok-key.ensures in
+    (omega (arith, c.decreases), (within, (c.requires.near, (asked, λ name i. over name ∙ i))))
 
 pub find_renamed-rename_set-requires-clause-over : goal.find_renamed-rename_set-requires-clause-over
 find_renamed-rename_set-requires-clause-over g t c = λ row i.
@@ -172,8 +173,12 @@ pub find_renamed-returns-clause-found : goal.find_renamed-returns-clause-found
 find_renamed-returns-clause-found g t c =
     let C = c.args.query.now.cols.now in
     let cols = names_are c.args.to.now c.args.col.now C c.in_ok-cols.cols c.in_ok-cols.ensures in
-    renamed_finds c.args.col.now c.args.to.now c.args.of.now c.requires.typed c.args.query.now.tables.now.present C c.requires.asked c.rename_set.result c.in_ok-cols.cols c.args.query.now.key.now c.in_ok-key.key c.in_ok-found.found
-    cols c.in_ok-key.ensures c.in_ok-found.ensures.found c.rename_set.ensures
+    let shown = get (rename c.args.col.now c.args.to.now c.args.of.now) c.args.query.now.tables.now.present.relations in
+    let whole : find_by C c.in_ok-part.part shown ≡ find_by C c.args.query.now.key.now shown =
+    ap (λ k. find_by C k shown) c.in_ok-part.ensures ∙ find_by-restrict C c.args.query.now.key.now shown in
+    subst (λ M. IfOk c.rename_set.result (λ all. all ≡ M)) whole
+    (renamed_finds c.args.col.now c.args.to.now c.args.of.now c.requires.typed c.args.query.now.tables.now.present C c.requires.asked c.rename_set.result c.in_ok-cols.cols c.in_ok-part.part c.in_ok-key.key c.in_ok-found.found
+    cols c.in_ok-key.ensures c.in_ok-found.ensures.found c.rename_set.ensures)
 
 -- ---- a join
 
@@ -247,7 +252,7 @@ find_by_part-find_in-requires-2 g t c κs within =
     let C = c.args.query.now.cols.now in
     let U = view_names c.args.side.now in
     let part = c.in_ok-part.ensures ∙ ap (set.intersection C) c.names_of-2.ensures in
-    let key = key_is_over C U c.in_ok-part.part c.args.query.now.key.now c.in_ok-part_key.part_key c.requires.key part c.in_ok-part_key.ensures in
+    let key = has_shared C U c.in_ok-part.part c.args.query.now.key.now part c.requires.key in
     (omega (arith, c.decreases), (within, (λ k d low. absurd (omega (arith, low)), (subst (MayFind c.args.side.now c.args.query.now.tables.now.present) (sym part) c.requires.asked, key))))
 
 pub find_by_part-returns-clause-found : goal.find_by_part-returns-clause-found
@@ -256,13 +261,14 @@ find_by_part-returns-clause-found g t c =
     let k = c.args.query.now.key.now in
     let N = get c.args.side.now c.args.query.now.tables.now.present.relations in
     let part = c.in_ok-part.ensures ∙ ap (set.intersection C) c.names_of-2.ensures in
-    subst (λ M. IfOk c.find_in-2.result (λ found. found ≡ M)) (ap (λ q. find_by c.in_ok-part.part q N) c.in_ok-part_key.ensures ∙ ap (λ P. find_by P (restrict P k) N) part) c.find_in-2.ensures.found
+    let U = view_names c.args.side.now in
+    subst (λ M. IfOk c.find_in-2.result (λ found. found ≡ M)) (ap (λ P. find_by P k N) part ∙ sym (find_by-restrict (set.intersection C U) k N)) c.find_in-2.ensures.found
 
 -- ---- the rows of the other side
 
 pub pair_each-partners_of-requires : goal.pair_each-partners_of-requires
 pair_each-partners_of-requires g t c κs within =
-    (omega (arith, c.decreases), (within, (c.requires.asked, (c.requires.over c.row-item.result (c.loop-row.row-index, c.loop-row-test.true, sym c.row-item.is), c.loop-row.invariant.1))))
+    (omega (arith, c.decreases), (within, (c.requires.asked, (c.requires.have c.row-item.result (c.loop-row.row-index, c.loop-row-test.true, sym c.row-item.is), c.loop-row.invariant.1))))
 
 pub pair_each-loop-row-preserved : goal.pair_each-loop-row-preserved
 pair_each-loop-row-preserved g t c = (
@@ -275,7 +281,7 @@ pair_each-loop-row-preserved g t c = (
 -- ---- the partners of a row
 
 pub partners_of-find_in-requires : goal.partners_of-find_in-requires
-partners_of-find_in-requires g t c κs within = (omega (arith, c.decreases), (within, (λ k d low. absurd (omega (arith, low)), (c.requires.asked, subst (IsOver c.args.shared.now) (sym c.in_ok-key.ensures) c.requires.over))))
+partners_of-find_in-requires g t c κs within = (omega (arith, c.decreases), (within, (λ k d low. absurd (omega (arith, low)), (c.requires.asked, c.requires.have))))
 
 pub partners_of-returns-then-agree_on-clause-rows : goal.partners_of-returns-then-agree_on-clause-rows
 partners_of-returns-then-agree_on-clause-rows g t c =
@@ -284,6 +290,17 @@ partners_of-returns-then-agree_on-clause-rows g t c =
     let k = c.in-Some.last.key in
     let found : c.in-Some.last.rows ≡ find_by S k N = subst (λ o. IfSome o (ArePartners S N)) c.in-Some.is c.requires.last in
     partners_again S N c.args.row.now k c.in-Some.last.rows found (sym c.agree_on.ensures ∙ c.if-agree_on.true)
+
+pub partners_of-returns-clause-partners : goal.partners_of-returns-clause-partners
+partners_of-returns-clause-partners g t c =
+    let N = get c.args.other.now c.args.query.now.tables.now.present.relations in
+    c.in_ok-rows.ensures.found ∙ ap (λ k. find_by c.args.shared.now k N) (sym c.in_ok-key.ensures)
+
+pub partners_of-returns-clause-rows : goal.partners_of-returns-clause-rows
+partners_of-returns-clause-rows g t c =
+    let S = c.args.shared.now in
+    let N = get c.args.other.now c.args.query.now.tables.now.present.relations in
+    c.in_ok-rows.ensures.found ∙ sym (find_by-restrict S c.args.row.now N)
 
 -- ---- how many looks it takes
 

@@ -1,7 +1,6 @@
 use Rattle.std.proofs.Common.{◌≡◌, ◌∙◌, ◌+◌, ◌≤◌, ap, arith, refl, subst, sym}
 use Rattle.std.specs.Prelude.{IfOk}
-use Rattle.lens_specs.specs.Common.{get, nodes_of, rename, view_names, has}
-use Rattle.lens_specs.specs.Lens.{join}
+use Rattle.lens_specs.specs.Common.{get, nodes_of, view_names, has}
 use Rattle.lens_probe.specs.NearRows.{AreKnown, of_join}
 use Rattle.lens_probe.proofs.Contained.{drop_has, drop_over, join_has, join_lacks, left_of_join, left_part_fits, refused_has, right_of_join, right_part_fits, select_fits, selected_has, source_of_drop, source_of_select, table_has}
 use Rattle.lens_probe.proofs.RenamedViews.{fits_in, has_in_rename, lacks_in, looks_in, size_in, source_looks}
@@ -57,14 +56,14 @@ find_in-requires-clause-asked g t c =
 pub find_in-requires-clause-key : goal.find_in-requires-clause-key
 find_in-requires-clause-key g t c =
     let is = c.in-Drop.ensures.is in
-    drop_over c.args.lens.now c.in-Drop.of.now c.in-Drop.col.now c.in-Drop.by.now c.in-Drop.fill.now c.args.row.now c.in_ok-key-in-Drop.key is c.node.ensures.typed c.requires.fits c.in_ok-key-in-Drop.ensures
+    drop_over c.args.lens.now c.in-Drop.of.now c.in-Drop.col.now c.in-Drop.by.now c.in-Drop.fill.now c.args.row.now is c.node.ensures.typed c.requires.fits
 
 pub returns-in_ok-found-in-Drop-clause-there : goal.returns-in_ok-found-in-Drop-clause-there
 returns-in_ok-found-in-Drop-clause-there g t c =
     let is = c.in-Drop.ensures.is in
     c.any_agrees.ensures
-    ∙ drop_has c.args.lens.now c.in-Drop.of.now c.in-Drop.col.now c.in-Drop.by.now c.in-Drop.fill.now c.args.tables.now.present.relations c.args.row.now c.in_ok-key-in-Drop.key (view_names c.args.lens.now) c.in_ok-found-in-Drop.found c.rows.result.now is
-    c.node.ensures.typed c.requires.fits refl c.in_ok-key-in-Drop.ensures c.in_ok-found-in-Drop.ensures.found c.rows.ensures
+    ∙ drop_has c.args.lens.now c.in-Drop.of.now c.in-Drop.col.now c.in-Drop.by.now c.in-Drop.fill.now c.args.tables.now.present.relations c.args.row.now (view_names c.args.lens.now) c.in_ok-found-in-Drop.found c.rows.result.now is
+    c.node.ensures.typed c.requires.fits refl c.in_ok-found-in-Drop.ensures.found c.rows.ensures
 
 -- ---- a rename
 

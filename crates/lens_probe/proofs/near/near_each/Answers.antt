@@ -1,4 +1,4 @@
-use Rattle.std.proofs.Common.{◌≤◌, ◌+◌, ◌*◌, ap, arith, length}
+use Rattle.std.proofs.Common.{ap, arith, length}
 use Rattle.plain_values.specs.SortedSet as set
 use Rattle.lens_laws.specs.Work.{size}
 use Rattle.signed_delta.proofs.Counts.{at_end, next, one_more}

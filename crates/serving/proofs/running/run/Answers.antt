@@ -10,7 +10,7 @@ returns-in-None-clause-promises g c = rw c.in-Ok.ensures.ok c.serve_input.ensure
 
 pub returns-in-Err-Refused-clause-promises : goal.returns-in-Err-Refused-clause-promises
 returns-in-Err-Refused-clause-promises g c =
-    rw (c.in-Err-Refused.ensures.refused (ap Err c.in-Err-Refused.field-0-is)) (promised_usage g.K.Keeper.stays _ _ c.tell_usage.ensures.told c.tell_usage.ensures.offers (omega arith) c.tell_usage.ensures.later (omega arith) refl)
+    rw (c.in-Err-Refused.ensures.refused (ap Err c.in-Err-Refused.field-0-is)) (promised_usage g.K.Keeper.stays _ _ c.give_usage.ensures.told c.give_usage.ensures.offers (omega arith) c.give_usage.ensures.later (omega arith) refl)
 
 pub returns-in-Err-NoMemory-clause-promises : goal.returns-in-Err-NoMemory-clause-promises
 returns-in-Err-NoMemory-clause-promises g c = promised_nothing _ g.K.Keeper.stays _

@@ -1,5 +1,5 @@
 use Rattle.std.proofs.Common.{arith}
-use Rattle.view_lang.proofs.ReadFrom.{blanks_end}
+use Rattle.view_lang.proofs.Cuts.{blanks_end}
 use Rattle.view_lang.proofs.parsing.behind_blanks.Goals as goal
 
 pub overflow_add-result : goal.overflow_add-result

@@ -10,7 +10,8 @@ use Rattle.lens_laws.specs.Passes.{PredWithin}
 use Rattle.row_sets.specs.Joins.{pairs_on}
 use Rattle.view_reading.specs.Reading.{rows_for}
 use Rattle.view_reading.proofs.Bases.{rows_shown}
-use Rattle.view_reading.proofs.Listed.{dropped_shown, joined_shown, joined_whole, mentions_shown, pairs_shown, parts, passed_parts, rows_for_shown, selected_listed, selected_pairs, selected_shown, selected_whole, shown_before}
+use Rattle.view_reading.proofs.Listed.{dropped_shown, joined_shown, joined_whole, mentions_shown, pairs_shown, parts, passed_parts, rows_for_shown, selected_listed, selected_pairs, selected_shown, selected_whole, shown_before, tested_parts}
+use Rattle.view_reading.proofs.NamedRows.{needed_named, shown_named}
 use Rattle.view_reading.proofs.RenamedRows.{free_in, listed_over, renamed_listed}
 use Rattle.view_reading.proofs.reading.+rows.Goals as goal
 
@@ -122,6 +123,17 @@ selected_in-returns-in-Drop-clause-value g t c =
     (λ parts made. made ∙ ap (λ D. project D (get (select P C) db)) c.names_of.ensures ∙ selected_shown P L C c.in-Drop.col.now c.in-Drop.by.now c.in-Drop.fill.now db is c.requires.columns)
     c.selected_parts_in.ensures.value
 
+pub selected_in-selected_pairs_in-requires : goal.selected_in-selected_pairs_in-requires
+selected_in-selected_pairs_in-requires g t c κs within =
+    let L = c.args.of.now in
+    let db = c.args.tables.now.present.relations in
+    let A = c.in-Join.left.now in
+    let B = c.in-Join.right.now in
+    let is : join c.in-Join.kind A B ≡ L = c.in-Join.ensures.is in
+    let kept = subst (PredWithin c.args.pred.now) (sym c.names_of-in-Join.ensures) c.requires.columns in
+    let there : AreOf (join c.in-Join.kind A B) db = subst (λ K. AreOf K db) (sym is) c.requires.tables in
+    (omega (arith, c.decreases, ap nodes_of is), (within, (kept, (there.0, there.1))))
+
 pub selected_in-returns-in-Join-clause-value : goal.selected_in-returns-in-Join-clause-value
 selected_in-returns-in-Join-clause-value g t c =
     let P = c.args.pred.now in
@@ -159,19 +171,46 @@ selected_parts_in-returns-in_ok-rows-in-Base-clause-value g t c =
     IfOk-weaker c.parts.result _ _
     (λ made of. ap set.from_list of ∙ parts c.args.kept.now c.in_ok-rows-in-Base.rows.items _ c.in_ok-rows-in-Base.ensures.value) c.parts.ensures
 
+pub selected_pairs_in-joined_parts-requires-clause-left : goal.selected_pairs_in-joined_parts-requires-clause-left
+selected_pairs_in-joined_parts-requires-clause-left g t c =
+    needed_named c.args.pred.now c.args.left.now c.args.tables.now.present.relations _ _ c.side-left_side.ensures.typed c.requires.left c.side-left_side.ensures.cols (c.side-left_side.ensures.rows ∙ c.in_ok-left_rows.ensures.value)
+
+pub selected_pairs_in-joined_parts-requires-clause-right : goal.selected_pairs_in-joined_parts-requires-clause-right
+selected_pairs_in-joined_parts-requires-clause-right g t c =
+    needed_named c.args.pred.now c.args.right.now c.args.tables.now.present.relations _ _ c.side-right_side.ensures.typed c.requires.right c.side-right_side.ensures.cols (c.side-right_side.ensures.rows ∙ c.in_ok-right_rows.ensures.value)
+
+pub selected_pairs_in-returns-then-branch-clause-value : goal.selected_pairs_in-returns-then-branch-clause-value
+selected_pairs_in-returns-then-branch-clause-value g t c =
+    let left = c.side-left_side.ensures.rows ∙ c.in_ok-left_rows.ensures.value in
+    let right = c.side-right_side.ensures.rows ∙ c.in_ok-right_rows.ensures.value in
+    c.in_ok-parts.ensures
+    ∙ (λ i. project c.args.kept.now (pairs_on (set.intersection (c.side-left_side.ensures.cols i) (c.side-right_side.ensures.cols i)) (left i) (right i)))
+    ∙ tested_parts c.args.pred.now c.args.kept.now c.args.left.now c.args.right.now c.args.tables.now.present.relations c.side-right_side.ensures.typed c.requires.right c.requires.kept
+    (sym c.in_ok-is_tested.ensures ∙ c.if-branch.true)
+
 pub selected_pairs_in-returns-clause-value : goal.selected_pairs_in-returns-clause-value
 selected_pairs_in-returns-clause-value g t c =
-    let P = c.args.pred.now in
-    let S = set.intersection (view_names c.args.left.now) (view_names c.args.right.now) in
+    let left = c.side-left_side.ensures.rows ∙ c.in_ok-left_rows.ensures.value in
+    let right = c.side-right_side.ensures.rows ∙ c.in_ok-right_rows.ensures.value in
     let paired = c.in_ok-parts.ensures
-    ∙ (λ i. project c.args.kept.now (pairs_on (c.in_ok-shared.ensures i) (c.in_ok-left_rows.ensures.value i) (c.in_ok-right_rows.ensures.value i))) in
-    ap set.from_list c.selected.ensures ∙ passed_parts P c.in_ok-parts.parts.items _ paired
+    ∙ (λ i. project c.args.kept.now (pairs_on (set.intersection (c.side-left_side.ensures.cols i) (c.side-right_side.ensures.cols i)) (left i) (right i))) in
+    ap set.from_list c.selected.ensures ∙ passed_parts c.args.pred.now c.in_ok-parts.parts.items _ paired
+
+pub pair_parts_in-joined_parts-requires-clause-left : goal.pair_parts_in-joined_parts-requires-clause-left
+pair_parts_in-joined_parts-requires-clause-left g t c =
+    shown_named c.args.left.now c.args.tables.now.present.relations _ _ c.side-left_side.ensures.typed c.requires.left c.side-left_side.ensures.cols (c.side-left_side.ensures.rows ∙ c.in_ok-left_rows.ensures.value)
+
+pub pair_parts_in-joined_parts-requires-clause-right : goal.pair_parts_in-joined_parts-requires-clause-right
+pair_parts_in-joined_parts-requires-clause-right g t c =
+    shown_named c.args.right.now c.args.tables.now.present.relations _ _ c.side-right_side.ensures.typed c.requires.right c.side-right_side.ensures.cols (c.side-right_side.ensures.rows ∙ c.in_ok-right_rows.ensures.value)
 
 pub pair_parts_in-returns-clause-value : goal.pair_parts_in-returns-clause-value
 pair_parts_in-returns-clause-value g t c =
+    let left = c.side-left_side.ensures.rows ∙ c.in_ok-left_rows.ensures.value in
+    let right = c.side-right_side.ensures.rows ∙ c.in_ok-right_rows.ensures.value in
     IfOk-weaker c.joined_parts.result _ _
     (λ parts made. made
-    ∙ (λ i. project c.args.kept.now (pairs_on (c.in_ok-shared.ensures i) (c.in_ok-left_rows.ensures.value i) (c.in_ok-right_rows.ensures.value i))))
+    ∙ (λ i. project c.args.kept.now (pairs_on (set.intersection (c.side-left_side.ensures.cols i) (c.side-right_side.ensures.cols i)) (left i) (right i))))
     c.joined_parts.ensures
 
 -- ---- a side of a join

@@ -12,12 +12,12 @@ indexes_of-requires c =
     subst (λ xs. AreKeyed xs c.deref-3.result.now) (c.deref.ensures.value ∙ sym c.deref-2.ensures.value)
     (subst (AreKeyed c.deref.result.now) (sym c.deref-3.ensures.value) c.in_ok-list.ensures.keys)
 
-pub returns-in_err-append-clause-kept : goal.returns-in_err-append-clause-kept
-returns-in_err-append-clause-kept c =
+pub returns-in_err-put_behind-clause-kept : goal.returns-in_err-put_behind-clause-kept
+returns-in_err-put_behind-clause-kept c =
     let p = parts_of c.args.self.now in
     record {
-      seen = λ i. rows_seen (record p { add = c.in_err-append.ensures.items i });
-      held = λ i. rows_held (record p { add = c.in_err-append.ensures.items i });
+      seen = λ i. rows_seen (record p { add = c.in_err-put_behind.ensures.stay i });
+      held = λ i. rows_held (record p { add = c.in_err-put_behind.ensures.stay i });
       is_held = (kept_itself p).is_held;
       columns = (kept_itself p).columns;
       cols = same_itself p.indexes;
@@ -33,7 +33,7 @@ returns-clause-whole c =
     let index : IsTableOf c.args.rows.now ixs = subst (λ s. IsTableOf s ixs) (ap rows_of c.deref-3.ensures.value ∙ is) c.in_ok-indexes.ensures.table in
     let cols : SameCols p.indexes ixs = subst (λ xs. SameCols xs ixs) c.deref-2.ensures.value c.in_ok-indexes.ensures.cols in
     let tree : c.in_ok-tree.tree ≡ c.args.rows.now = c.in_ok-tree.ensures ∙ c.in_ok-copy.ensures in
-    let items : c.append.new.self.items ≡ p.add ++ list = c.in_ok-append.ensures.items in
+    let items : c.put_behind.new.list.items ≡ p.add ++ list = c.in_ok-put_behind.ensures.items in
     subst IsWhole (sym (λ i. record p { rows = tree i; indexes = ixs; add = items i }))
     (first_whole p c.requires.whole c.requires.empty list c.args.rows.now ixs is index cols keyed c.requires.fits)
 
@@ -47,7 +47,7 @@ returns-clause-next c =
     let index : IsTableOf c.args.rows.now ixs = subst (λ s. IsTableOf s ixs) (ap rows_of c.deref-3.ensures.value ∙ is) c.in_ok-indexes.ensures.table in
     let cols : SameCols p.indexes ixs = subst (λ xs. SameCols xs ixs) c.deref-2.ensures.value c.in_ok-indexes.ensures.cols in
     let tree : c.in_ok-tree.tree ≡ c.args.rows.now = c.in_ok-tree.ensures ∙ c.in_ok-copy.ensures in
-    let items : c.append.new.self.items ≡ p.add ++ list = c.in_ok-append.ensures.items in
+    let items : c.put_behind.new.list.items ≡ p.add ++ list = c.in_ok-put_behind.ensures.items in
     (λ i. rows_next (record p { rows = tree i; indexes = ixs; add = items i }))
     ∙ first_next p c.requires.whole c.requires.empty list c.args.rows.now ixs is index cols keyed c.requires.fits
 
@@ -61,7 +61,7 @@ returns-clause-kept c =
     let index : IsTableOf c.args.rows.now ixs = subst (λ s. IsTableOf s ixs) (ap rows_of c.deref-3.ensures.value ∙ is) c.in_ok-indexes.ensures.table in
     let cols : SameCols p.indexes ixs = subst (λ xs. SameCols xs ixs) c.deref-2.ensures.value c.in_ok-indexes.ensures.cols in
     let tree : c.in_ok-tree.tree ≡ c.args.rows.now = c.in_ok-tree.ensures ∙ c.in_ok-copy.ensures in
-    let items : c.append.new.self.items ≡ p.add ++ list = c.in_ok-append.ensures.items in
+    let items : c.put_behind.new.list.items ≡ p.add ++ list = c.in_ok-put_behind.ensures.items in
     record {
       seen = (λ i. rows_seen (record p { rows = tree i; indexes = ixs; add = items i }))
           ∙ first_seen p c.requires.whole c.requires.empty list c.args.rows.now ixs is index cols keyed c.requires.fits;

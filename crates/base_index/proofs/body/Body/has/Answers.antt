@@ -5,7 +5,7 @@ use Rattle.base_index.proofs.body.Body.has.Goals as goal
 pub returns-then-is_there : goal.returns-then-is_there
 returns-then-is_there c =
     let t = c.is_there.ensures in
-    let s = c.is_shown.ensures in
+    let s = c.is_not_gone.ensures in
     grind (arith, contained, t, s, c.if-is_there.true)
 
 pub returns-else-is_there : goal.returns-else-is_there

@@ -1,4 +1,4 @@
-use Rattle.std.proofs.Common.{◌+◌, ◌*◌, ◌≤◌, arith, length, subst, sym}
+use Rattle.std.proofs.Common.{arith, length, subst, sym}
 use Rattle.plain_values.specs.SortedSet as set
 use Rattle.lens_laws.specs.Work.{size}
 use Rattle.lens_probe.specs.Viewed.{IsWithin, Viewed, viewed}

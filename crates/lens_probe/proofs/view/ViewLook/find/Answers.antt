@@ -1,30 +1,12 @@
-use Rattle.std.proofs.Common.{◌≡◌, ◌∙◌, IfOk, ap, arith, is_some, subst, sym}
+use Rattle.std.proofs.Common.{◌≡◌, IfOk, arith, subst, sym}
 use Rattle.std.specs.List.{Contains}
-use Rattle.plain_values.specs.Part.{restrict}
-use Rattle.plain_values.specs.Row.{Row}
-use Rattle.lens_specs.specs.Common.{Names, at, cut}
-use Rattle.fd_laws.proofs.Rows.{at-cut, cut_column}
 use Rattle.lens_laws.specs.KeyedDeltas.{find_by}
-use Rattle.signed_delta.specs.Keys.{HasColumns, IsKey}
-use Rattle.signed_delta.proofs.Looks.{find_by-restrict}
 use Rattle.lens_probe.specs.Viewed.{IsWithin, Viewed, asked_by, shown, viewed}
 use Rattle.lens_probe.proofs.Sizes.{found_few, viewed_finds, viewed_gives}
 use Rattle.lens_probe.proofs.view.ViewLook.find.Goals as goal
 
--- a row's part in columns that it has is a key of them
-part_is_key : (C : Names) (r part : Row) → HasColumns C r → part ≡ restrict C r → IsKey C part
-unfolding cut
-part_is_key C r part have is c = ap (λ k. is_some (at k c)) is ∙ ap is_some (at-cut C r c) ∙ cut_column C c (at r c) (have c)
-
-pub find_in-requires-clause-key : goal.find_in-requires-clause-key
-find_in-requires-clause-key g c = part_is_key c.args.cols.now c.args.key.now c.in_ok-part.part c.requires.key c.in_ok-part.ensures
-
 pub returns-clause-found : goal.returns-clause-found
-returns-clause-found g c =
-    let v = viewed c.self.inside.lens.now c.self.inside.handed.sets c.self.inside.tables.now in
-    let C = c.args.cols.now in
-    let found = subst (λ N. IfOk c.find_in.result (λ found. found ≡ N)) (ap (λ k. find_by C k (shown v).rows) c.in_ok-part.ensures ∙ find_by-restrict C c.args.key.now (shown v).rows) c.find_in.ensures.found in
-    subst (λ (x : Viewed). IfOk c.find_in.result (λ found. found ≡ find_by C c.args.key.now (shown x).rows)) c.self.view_is found
+returns-clause-found g c = subst (λ (x : Viewed). IfOk c.find_in.result (λ found. found ≡ find_by c.args.cols.now c.args.key.now (shown x).rows)) c.self.view_is c.find_in.ensures.found
 
 pub returns-clause-looks : goal.returns-clause-looks
 returns-clause-looks g c = λ n within.
@@ -40,6 +22,5 @@ returns-clause-few g c =
     let v = viewed c.self.inside.lens.now c.self.inside.handed.sets c.self.inside.tables.now in
     let C = c.args.cols.now in
     let asked : Contains (asked_by v) C = subst (λ (x : Viewed). Contains (asked_by x) C) (sym c.self.view_is) c.requires.asked in
-    let found = subst (λ N. IfOk c.find_in.result (λ found. found ≡ N)) (ap (λ k. find_by C k (shown v).rows) c.in_ok-part.ensures ∙ find_by-restrict C c.args.key.now (shown v).rows) c.find_in.ensures.found in
-    found_few c.find_in.result (find_by C c.args.key.now (shown v).rows) (IsWithin c.args.self.now) found
+    found_few c.find_in.result (find_by C c.args.key.now (shown v).rows) (IsWithin c.args.self.now) c.find_in.ensures.found
     (λ n within. viewed_gives v n c.self.invariant.0 (subst (λ (x : Viewed). IsWithin x n) (sym c.self.view_is) within) C c.args.key.now asked)

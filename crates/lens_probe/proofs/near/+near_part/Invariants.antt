@@ -1,0 +1,5 @@
+use Rattle.lens_specs.specs.Lens.{nodes_of}
+use Rattle.lens_probe.proofs.near.+near_part.Given as goal
+
+abbrev pub decreases-near_part : goal.decreases-near_part
+decreases-near_part g l = nodes_of l.lens.now

@@ -1,0 +1,111 @@
+use Rattle.std.proofs.Common.{◌≡◌, suc, ◌-◌, ◌++◌, length, refl, ap, ◌∙◌, rules, arith}
+use Rattle.lens_specs.specs.Predicate.{negation}
+use Rattle.lens_pred.specs.View.{formula_view, predicate_view}
+use Rattle.lens_pred.specs.declared.formula.Formula.{Not, the_lemmas}
+use Rattle.grammar_specs.specs.Written.{only, joined, alone, either}
+use Rattle.grammar_specs.specs.Meaning.{conjuncts, disjuncts, conjunction}
+use Rattle.grammar_laws.specs.Steps.{read, and_then}
+use Rattle.grammar_laws.specs.PredRules as pred
+use Rattle.view_lang.specs.Outcomes.{reader_view, IsPart, IsAll, IsPred}
+use Rattle.view_lang.proofs.Turns.{parts_turn, alls_turn, given_ok, then_err, stops, unread, fewer_passed}
+use Rattle.view_lang.proofs.parsing.reader.Reader.+pred.Goals as goal
+
+pub all-loop-alloc-init : goal.all-loop-alloc-init
+all-loop-alloc-init t c =
+    let one = given_ok IsPart _ c.in_ok-part.field-0 _ c.in_ok-part.ensures.0 in (
+      only one.0,
+      c.in_ok-push_conjuncts.ensures ∙ (λ i. predicate_view (c.new-ands.ensures.items i) ++ conjuncts (one.2 i)),
+      ap (λ o. and_then o (λ p. pred.more_parts (pred.part c.args.left) (only p))) one.1,
+      c.in_ok-part.ensures.1,
+    )
+
+pub all-returns-in_err-part-2 : goal.all-returns-in_err-part-2
+all-returns-in_err-part-2 t c =
+    let done = c.loop-alloc.invariant in (
+      rw (done.2, parts_turn c.args.left done.0 (reader_view c.loop-alloc.self), ← c.take_word.ensures.0, c.loop-alloc-test.true)
+          (stops IsAll IsAll _ _ _ _ _ (then_err IsPart IsAll _ _ _ _ c.in_err-part-2.ensures.0) c.from_residual-in_err-part-2.ensures.1),
+      omega (arith, done.3, fewer_passed _ _ _ c.loop-alloc-test.true c.take_word.ensures.2, c.part-in-loop-alloc.ensures.1),
+    )
+
+pub all-loop-alloc-preserved : goal.all-loop-alloc-preserved
+all-loop-alloc-preserved t c =
+    let done = c.loop-alloc.invariant in
+    let one = given_ok IsPart _ c.in_ok-part-2.field-0 _ c.in_ok-part-2.ensures.0 in (
+      joined done.0 one.0,
+      c.in_ok-push_conjuncts-2.ensures ∙ (λ i. done.1 i ++ conjuncts (one.2 i)),
+      rw (done.2, parts_turn c.args.left done.0 (reader_view c.loop-alloc.self), ← c.take_word.ensures.0, c.loop-alloc-test.true)
+          (ap (λ o. and_then (and_then o (λ p. read (joined done.0 p))) (pred.more_parts (pred.part c.args.left))) one.1),
+      omega (arith, done.3, fewer_passed _ _ _ c.loop-alloc-test.true c.take_word.ensures.2, c.part-in-loop-alloc.ensures.1),
+    )
+
+pub pred-loop-alloc-init : goal.pred-loop-alloc-init
+pred-loop-alloc-init t c =
+    let one = given_ok IsAll _ c.in_ok-all.field-0 _ c.in_ok-all.ensures.0 in (
+      alone one.0,
+      c.in_ok-push_alternative.ensures ∙ (λ i. predicate_view (c.new-ors.ensures.items i) ++ disjuncts (conjunction (one.2 i))),
+      ap (λ o. and_then o (λ a. pred.more_alls (pred.part c.args.left) (alone a))) one.1,
+      c.in_ok-all.ensures.1,
+    )
+
+pub pred-returns-in_err-all-2 : goal.pred-returns-in_err-all-2
+pred-returns-in_err-all-2 t c =
+    let done = c.loop-alloc.invariant in (
+      rw (done.2, alls_turn c.args.left done.0 (reader_view c.loop-alloc.self), ← c.take_word.ensures.0, c.loop-alloc-test.true)
+          (stops IsPred IsPred _ _ _ _ _ (then_err IsAll IsPred _ _ _ _ c.in_err-all-2.ensures.0) c.from_residual-in_err-all-2.ensures.1),
+      omega (arith, done.3, fewer_passed _ _ _ c.loop-alloc-test.true c.take_word.ensures.2, c.all-in-loop-alloc.ensures.1),
+    )
+
+pub pred-loop-alloc-preserved : goal.pred-loop-alloc-preserved
+pred-loop-alloc-preserved t c =
+    let done = c.loop-alloc.invariant in
+    let one = given_ok IsAll _ c.in_ok-all-2.field-0 _ c.in_ok-all-2.ensures.0 in (
+      either done.0 one.0,
+      c.in_ok-push_alternative-2.ensures ∙ (λ i. done.1 i ++ disjuncts (conjunction (one.2 i))),
+      rw (done.2, alls_turn c.args.left done.0 (reader_view c.loop-alloc.self), ← c.take_word.ensures.0, c.loop-alloc-test.true)
+          (ap (λ o. and_then (and_then o (λ a. read (either done.0 a))) (pred.more_alls (pred.part c.args.left))) one.1),
+      omega (arith, done.3, fewer_passed _ _ _ c.loop-alloc-test.true c.take_word.ensures.2, c.all-in-loop-alloc.ensures.1),
+    )
+
+-- one fewer may be opened within
+pub negated-returns-then-left-eq0 : goal.negated-returns-then-left-eq0
+negated-returns-then-left-eq0 t c = (rw c.if-left-eq0.true tt, omega arith)
+
+pub negated-returns-in_err-part : goal.negated-returns-in_err-part
+negated-returns-in_err-part t c =
+    let one_less : c.args.left ≡ suc (c.args.left - 1) = omega (arith, c.if-left-eq0.false) in
+    (rw (ap pred.within one_less) (stops IsPart IsPart _ _ _ _ _ c.in_err-part.ensures.0 c.from_residual.ensures.1), c.part.ensures.1)
+
+pub negated-returns : goal.negated-returns
+negated-returns t c =
+    let one_less : c.args.left ≡ suc (c.args.left - 1) = omega (arith, c.if-left-eq0.false) in
+    let one = given_ok IsPart _ c.in_ok-part.part _ c.in_ok-part.ensures.0 in
+    let seen : formula_view (Not c.in_ok-new.field-0) ≡ negation (formula_view c.in_ok-new.field-0.value) = search (rules, the_lemmas) in
+    (rw (ap pred.within one_less, one.1) (seen ∙ ap (λ f. negation (formula_view f)) c.in_ok-new.ensures.ok ∙ ap negation one.2, refl), c.part.ensures.1)
+
+pub grouped-returns-then-left-eq0 : goal.grouped-returns-then-left-eq0
+grouped-returns-then-left-eq0 t c = (rw (← c.in_ok-need.ensures.0.0, c.if-left-eq0.true) tt, omega (arith, c.in_ok-need.ensures.0.2 refl))
+
+pub grouped-returns-in_err-inner : goal.grouped-returns-in_err-inner
+grouped-returns-in_err-inner t c =
+    let one_less : c.args.left ≡ suc (c.args.left - 1) = omega (arith, c.if-left-eq0.false) in (
+      rw (← c.in_ok-need.ensures.0.0, ap pred.within one_less) (stops IsPred IsPart _ _ _ _ _ c.in_err-inner.ensures.0 c.from_residual-in_err-inner.ensures.1),
+      omega (arith, c.in_ok-need.ensures.0.2 refl, c.pred.ensures.1),
+    )
+
+pub grouped-returns-in_err-need-2 : goal.grouped-returns-in_err-need-2
+grouped-returns-in_err-need-2 t c =
+    let one_less : c.args.left ≡ suc (c.args.left - 1) = omega (arith, c.if-left-eq0.false) in
+    let one = given_ok IsPred _ c.in_ok-inner.inner _ c.in_ok-inner.ensures.0 in
+    let same = ap reader_view (c.in_err-need-2.ensures.0.1 refl) in (
+      rw (← c.in_ok-need.ensures.0.0, ap pred.within one_less, one.1, ← c.in_err-need-2.ensures.0.0)
+          (unread IsPart _ _ _ _ same c.in_err-need-2.ensures.1 c.from_residual-in_err-need-2.ensures.1),
+      omega (arith, ap length same, c.in_ok-need.ensures.0.2 refl, c.pred.ensures.1),
+    )
+
+pub grouped-returns : goal.grouped-returns
+grouped-returns t c =
+    let one_less : c.args.left ≡ suc (c.args.left - 1) = omega (arith, c.if-left-eq0.false) in
+    let one = given_ok IsPred _ c.in_ok-inner.inner _ c.in_ok-inner.ensures.0 in (
+      rw (← c.in_ok-need.ensures.0.0, ap pred.within one_less, one.1, ← c.in_ok-need-2.ensures.0.0) (one.2, refl),
+      omega (arith, c.in_ok-need.ensures.0.2 refl, c.pred.ensures.1, c.in_ok-need-2.ensures.0.2 refl),
+    )
