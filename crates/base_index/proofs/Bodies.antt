@@ -1,29 +1,16 @@
 -- What holds of the parts of a table.
-use Rattle.std.proofs.Common.{◌≡◌, ℕ, ◌≤◌, ◌+◌, ◌-◌, List, [], ◌∷◌, length, take, ap, sym, ◌∙◌, subst, refl, Bool, true, false, arith, zero, suc}
-use Rattle.std.specs.Prelude.{◌||◌, Option, Some, None, Result, Ok, Err, OnOk, OnErr, if◌then◌else◌}
-use Rattle.std.specs.List.{AllByRecursion, list_any}
-use Rattle.std.specs.List.Sorted.{IsStrictlySortedBy}
-use Rattle.std.specs.Cmp.{eq_by_cmp_equiv, tied_itself}
+use Rattle.std.proofs.Common.{◌≡◌, ℕ, ◌≤◌, ◌+◌, ◌-◌, List, [], ◌∷◌, length, take, ap, sym, ◌∙◌, subst, refl, Bool, true, false, arith, zero, suc, ◌||◌, Option, Some, None, Result, Ok, Err, OnOk, OnErr, if◌then◌else◌}
+use Rattle.plain_values.proofs.Common.{AllByRecursion, list_any, IsStrictlySortedBy, eq_by_cmp_equiv, tied_itself, eq_by_cmp, is_eq, Less, take_all, length-map, length-take-le, nil_from_length, false≢true, row_cmp, Row, row_cmp_total}
 use Rattle.std.specs.FinMap as finmap
-use Rattle.std.specs.Ordering.{eq_by_cmp, is_eq}
-use Rattle.std.specs.declared.cmp.Ordering.TheVariants.{Less}
-use Rattle.std.proofs.lemmas.List.{take_all, length-map, length-take-le, nil_from_length}
-use Rattle.std.proofs.lemmas.Bool.{false≢true}
-use Rattle.plain_values.specs.Row.{row_cmp, Row}
-use Rattle.plain_values.specs.RowOrder.{row_cmp_total}
 use Rattle.plain_values.specs.SortedSet as set
 use Rattle.lens_specs.specs.Common.{Delta, new_view, Rows, has}
-use Rattle.key_index.specs.Lists.{AreKeyed, IsTableOf, cols_of, rows_of, set_of}
+use Rattle.key_index.proofs.Common.{AreKeyed, IsTableOf, cols_of, rows_of, set_of, same_itself, same_trans, listed_whole, none_keyed, contained, same_rows, HasMarks, no_row_less, none_back_of, none_behind}
 use Rattle.base_index.specs.Parts.{IsCalm, IsWhole, Keeps, Parts, rows_held, rows_next, rows_seen, to_come, to_go}
 use Rattle.key_index.specs.declared.index.Index.{Index}
 use Rattle.key_index.specs.declared.keyed.Keyed.{Keyed}
-use Rattle.key_index.proofs.Lists.{same_itself, same_trans}
-use Rattle.key_index.proofs.Sets.{listed_whole}
-use Rattle.key_index.proofs.Whole.{first_indexes, none_keyed}
+use Rattle.key_index.proofs.Whole.{first_indexes}
 use Rattle.signed_delta.proofs.Differences.{items_rise}
-use Rattle.key_index.proofs.RowSets.{contained, same_rows}
-use Rattle.key_index.specs.Marks.{HasMarks}
-use Rattle.key_index.proofs.Fronts.{above, no_row_less, none_back_of, none_behind}
+use Rattle.key_index.proofs.Fronts.{above}
 
 -- nothing is hidden where nothing is held
 pub free_hidden : (p : Parts) → IsWhole p → p.held ≡ false → (x : Row) → has p.hidden x ≡ false

@@ -1,10 +1,7 @@
 -- What lists of tables stand for while they are held.
-use Rattle.std.proofs.Common.{◌≡◌, ℕ, List, [], ◌∷◌, ◌++◌, length, take, map, ap, sym, ◌∙◌, subst, refl, Bool, true, false, cond, zero, suc, arith}
-use Rattle.std.specs.Prelude.{if◌then◌else◌, Option, Some, None, is_some, unwrap_or}
+use Rattle.std.proofs.Common.{◌≡◌, ℕ, List, [], ◌∷◌, ◌++◌, length, take, map, ap, sym, ◌∙◌, subst, refl, Bool, true, false, cond, zero, suc, arith, if◌then◌else◌, Option, Some, None, is_some, unwrap_or}
 use Rattle.std.specs.FinMap as finmap
-use Rattle.std.proofs.lemmas.Simd.{map-map}
-use Rattle.std.proofs.lemmas.List.{take_all}
-use Rattle.std.proofs.lemmas.Bool.{false≢true}
+use Rattle.plain_values.proofs.Common.{map-map, take_all, false≢true}
 use Rattle.lens_specs.specs.Common.{Name, Names, Columns, Relation, Rows}
 use Rattle.signed_delta.specs.declared.delta.TableDelta.{TableDelta}
 use Rattle.base_index.specs.declared.need.Need.{Need}

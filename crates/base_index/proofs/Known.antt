@@ -4,20 +4,11 @@
 --     asked, still_indexed                 a table may be asked by each set of its list, and after a definition too
 --     get_other, get_changed, changed_at   a table that no difference names, and one that a difference names
 --     there_after                          no table goes by differences
-use Rattle.std.proofs.Common.{◌≡◌, ℕ, ◌<◌, List, [], ◌∷◌, ◌++◌, length, get_or, ap, sym, ◌∙◌, refl, Bool, true, false, cond, zero, suc, arith}
-use Rattle.std.specs.Prelude.{◌||◌, ◌&&◌, not, Option, Some, None, is_some, unwrap_or}
-use Rattle.std.specs.Option.{option_map}
-use Rattle.std.specs.List.{Contains, list_any, slice_index_or}
-use Rattle.std.specs.Ordering.{eq_by_cmp, is_eq}
-use Rattle.std.specs.Cmp.{eq_by_cmp_equiv, tied_itself}
-use Rattle.std.specs.Cmp.Lexicographic.{lists_equiv, nat_list_cmp_total, nat_list_eq_equiv}
+use Rattle.std.proofs.Common.{◌≡◌, ℕ, ◌<◌, List, [], ◌∷◌, ◌++◌, length, get_or, ap, sym, ◌∙◌, refl, Bool, true, false, cond, zero, suc, arith, ◌||◌, ◌&&◌, not, Option, Some, None, is_some, unwrap_or}
+use Rattle.plain_values.proofs.Common.{option_map, Contains, list_any, slice_index_or, eq_by_cmp, is_eq, eq_by_cmp_equiv, tied_itself, nat_list_cmp_total, nat_list_eq_equiv, list_any-append, false≢true, or_parts, bytes_cmp, exact, is_tie}
+use Rattle.std.specs.Cmp.Lexicographic.{lists_equiv}
 use Rattle.std.specs.FinMap as finmap
-use Rattle.std.proofs.lemmas.List.Folds.{list_any-append}
-use Rattle.std.proofs.lemmas.Bool.{false≢true, or_parts}
-use Rattle.plain_values.specs.Order.{bytes_cmp}
 use Rattle.plain_values.specs.SortedSet as set
-use Rattle.plain_values.proofs.Maps.{exact}
-use Rattle.plain_values.proofs.Tests.{is_tie}
 use Rattle.lens_specs.specs.Common.{TableDelta, Tables, Name, Names, Columns}
 use Rattle.base_index.specs.Held.{AllApply, IsNew, IsThere, State, after, defined, indexes_in, is_indexed, no_relation, relation_in, with_deltas, with_table}
 use Rattle.base_index.specs.Need.{has_cols, is_fresh, same_name, same_names, with_need, with_needs}

@@ -1,21 +1,14 @@
 -- The parts of a table where what is staged is settled, and where rows are held, kept or taken back.
-use Rattle.std.proofs.Common.{◌≡◌, List, [], ◌∷◌, length, take, drop, ap, sym, ◌∙◌, refl, true, false, arith}
-use Rattle.std.specs.Prelude.{Some}
-use Rattle.std.proofs.lemmas.List.{length-take-le, nil_from_length}
-use Rattle.std.proofs.lemmas.Bool.{false≢true}
-use Rattle.plain_values.specs.Row.{row_cmp, Row}
+use Rattle.std.proofs.Common.{◌≡◌, List, [], ◌∷◌, length, take, drop, ap, sym, ◌∙◌, refl, true, false, arith, Some}
+use Rattle.plain_values.proofs.Common.{length-take-le, nil_from_length, false≢true, row_cmp, Row}
 use Rattle.plain_values.specs.SortedSet as set
-use Rattle.lens_specs.specs.Relation.{Rows, has}
-use Rattle.key_index.specs.Lists.{IsTableOf, SameCols, rows_of, set_of}
+use Rattle.lens_specs.specs.Common.{Rows, has}
+use Rattle.key_index.proofs.Common.{IsTableOf, SameCols, rows_of, set_of, all_keep_keys, none_keyed, contained, same_rows, front_keyed}
 use Rattle.base_index.specs.Parts.{IsCalm, IsWhole, Parts, rows_held, rows_next, rows_seen, to_go}
 use Rattle.key_index.specs.declared.index.Index.{Index}
 use Rattle.key_index.specs.declared.keyed.Keyed.{Keyed}
-use Rattle.key_index.proofs.Lists.{all_keep_keys}
-use Rattle.key_index.proofs.Whole.{none_keyed}
-use Rattle.key_index.proofs.RowSets.{contained, same_rows}
 use Rattle.key_index.specs.declared.marks.Marks.{Marks}
 use Rattle.base_index.proofs.Bodies.{calm_back, calm_come, calm_go, free_hidden}
-use Rattle.key_index.proofs.Fronts.{front_keyed}
 
 -- ---- what is staged is present, while the rows are held
 

@@ -1,24 +1,21 @@
 -- The parts of a table where rows are listed to be removed or added, and where they are dropped.
-use Rattle.std.proofs.Common.{◌≡◌, List, [], ◌∷◌, ◌++◌, length, take, drop, ap, sym, ◌∙◌, subst, refl, true, false, arith, zero, suc}
-use Rattle.std.specs.Prelude.{◌&&◌, ◌||◌, Some, None, if◌then◌else◌}
-use Rattle.std.specs.List.{list_any}
-use Rattle.std.specs.Ordering.{eq_by_cmp}
-use Rattle.std.proofs.lemmas.List.{length-append, length-take-le, drop-append-le, nil_from_length}
-use Rattle.std.proofs.lemmas.Bool.{false≢true}
-use Rattle.plain_values.specs.Row.{row_cmp, Row}
+use Rattle.std.proofs.Common.{◌≡◌, List, [], ◌∷◌, ◌++◌, length, take, drop, ap, sym, ◌∙◌, subst, refl, true, false, arith, zero, suc, ◌&&◌, ◌||◌, Some, None, if◌then◌else◌}
+use Rattle.plain_values.proofs.Common.{list_any, eq_by_cmp, length-append, length-take-le, drop-append-le, nil_from_length, false≢true, row_cmp, Row}
 use Rattle.plain_values.specs.SortedSet as set
-use Rattle.lens_specs.specs.Relation.{Fits, Rows, has}
-use Rattle.key_index.specs.Lists.{AreKeyed, HasKeys, IsListed, IsTableOf, SameCols, rows_of, set_of}
+use Rattle.lens_specs.specs.Common.{Rows, has}
+use Rattle.lens_specs.specs.Relation.{Fits}
+use Rattle.key_index.proofs.Common.{AreKeyed, HasKeys, IsTableOf, SameCols, rows_of, set_of, all_keep_keys, contained, same_rows, HasMarks, front_keyed, none_behind}
+use Rattle.key_index.specs.Lists.{IsListed}
 use Rattle.base_index.specs.Parts.{IsCalm, IsWhole, Parts, rows_held, rows_next, rows_seen, to_come, to_go}
 use Rattle.key_index.specs.declared.index.Index.{Index}
 use Rattle.key_index.specs.declared.keyed.Keyed.{Keyed}
-use Rattle.key_index.proofs.Lists.{all_keep_keys, in_pushed, pushed_keyed}
+use Rattle.key_index.proofs.Lists.{in_pushed, pushed_keyed}
 use Rattle.key_index.proofs.Groups.{tied}
-use Rattle.key_index.proofs.RowSets.{at_tie, contained, same_rows}
-use Rattle.key_index.specs.Marks.{AreMarked, HasMarks, StayMarked}
+use Rattle.key_index.proofs.RowSets.{at_tie}
+use Rattle.key_index.specs.Marks.{AreMarked, StayMarked}
 use Rattle.key_index.specs.declared.marks.Marks.{Marks}
 use Rattle.key_index.proofs.Marked.{keyed_marks, more_marks, same_marks, tied_marks}
-use Rattle.key_index.proofs.Fronts.{front_keyed, in_hidden, in_listed, in_parts, none_back, none_behind, one_behind}
+use Rattle.key_index.proofs.Fronts.{in_hidden, in_listed, in_parts, none_back, one_behind}
 
 -- ---- what is staged is dropped
 

@@ -1,12 +1,10 @@
 -- What a judgement that accepts says, of a definition and of an expression.
-use Rattle.std.proofs.Common.{◌≡◌, Bool, true, false, cond, List, Option, Some, None, option_map, Result, Ok, Err, refl, ap, ◌∙◌}
-use Rattle.std.specs.Prelude.{nat_le}
+use Rattle.std.proofs.Common.{◌≡◌, Bool, true, false, cond, List, Option, Some, None, option_map, Result, Ok, Err, refl, ap, ◌∙◌, nat_le}
 use Rattle.std.specs.FinMap as finmap
 use Rattle.plain_values.specs.declared.join_kind.JoinKind.{JoinKind}
-use Rattle.lens_specs.specs.Common.{Name, Edge, TreeForm, is_tree, not_tree, tree_of, Sort, Refusal, unknown_column, or_else, unknown_name, unlike_kinds, too_much, tables_limit, views_limit, Columns, Predicate, Lens, select, drop, rename, tree_or_none, sort, table_sort, table_sort_with, unknown_in, unless_refused}
-use Rattle.lens_specs.specs.Refusal.{Limit, predicate_kind}
-use Rattle.lens_specs.specs.Lens.{join}
-use Rattle.grammar_specs.specs.Meaning.{Definition, Expr, named}
+use Rattle.lens_specs.specs.Common.{Name, Edge, TreeForm, is_tree, not_tree, tree_of, Sort, Refusal, unknown_column, or_else, unknown_name, unlike_kinds, too_much, tables_limit, views_limit, Columns, Predicate, Lens, select, drop, rename, tree_or_none, sort, table_sort, table_sort_with, unknown_in, unless_refused, predicate_kind, join}
+use Rattle.lens_specs.specs.Refusal.{Limit}
+use Rattle.grammar_specs.specs.Common.{Definition, Expr, named}
 use Rattle.grammar_specs.specs.Meaning as language
 use Rattle.catalog_specs.specs.Catalogue.{Catalogue, lens_of, join_of, sort_with}
 use Rattle.catalog_specs.specs.Judging.{CatalogFault, table_count, view_count, unless_full, where_sorted, lens_named, where_typed, over, over_both, lens_in, where_lensed}

@@ -1,25 +1,13 @@
 -- Rows that are read fit their columns.
-use Rattle.std.proofs.Common.{◌≡◌, ℕ, suc, Bool, true, false, cond, List, [], ◌∷◌, length, map, refl, sym, ap, subst, ◌∙◌, arith, inl, inr}
-use Rattle.std.specs.Prelude.{◌||◌, Option, Some, None, option_map, Result, Ok, Err}
-use Rattle.std.specs.Option.{option_and_then}
-use Rattle.std.specs.List.{AllByRecursion, list_any, zip}
-use Rattle.std.specs.List.Sorted.{IsStrictlySortedBy}
+use Rattle.std.proofs.Common.{◌≡◌, ℕ, suc, Bool, true, false, cond, List, [], ◌∷◌, length, map, refl, sym, ap, subst, ◌∙◌, arith, inl, inr, ◌||◌, Option, Some, None, option_map, Result, Ok, Err}
+use Rattle.plain_values.proofs.Common.{option_and_then, AllByRecursion, list_any, zip, IsStrictlySortedBy, eq_by_cmp, bytes_decides, nat_list_cmp_total, pointwise, and_from, cases_Bool, bytes_cmp, pair_fits, row_cmp, Row, row_cmp-IsAntisymmetric, row_cmp_total, entries-from_entries, keys_of, keys_rise, fits, fits_along, is_tie}
 use Rattle.std.specs.FinMap as finmap
-use Rattle.std.specs.Ordering.{eq_by_cmp}
-use Rattle.std.specs.Cmp.Lexicographic.{bytes_decides, nat_list_cmp_total, pointwise}
-use Rattle.std.proofs.lemmas.Bool.{and_from, cases_Bool}
-use Rattle.plain_values.specs.Order.{bytes_cmp}
-use Rattle.plain_values.specs.Row.{pair_fits, row_cmp, Row}
-use Rattle.plain_values.specs.RowOrder.{row_cmp-IsAntisymmetric, row_cmp_total}
-use Rattle.plain_values.specs.SortedMap.{entries-from_entries, keys_of, keys_rise}
 use Rattle.plain_values.specs.SortedSet as set
-use Rattle.plain_values.specs.Value.{base_of, fits, same_kind}
+use Rattle.plain_values.specs.Value.{base_of, same_kind}
 use Rattle.plain_values.specs.declared.value.Kind.{Kind}
 use Rattle.plain_values.specs.declared.value.Kind.TheVariants as kind
 use Rattle.plain_values.specs.declared.value.Value.{Value}
 use Rattle.plain_values.specs.declared.value.Value.TheVariants.{Int, Text, Flag}
-use Rattle.plain_values.proofs.FitsLemmas.{fits_along}
-use Rattle.plain_values.proofs.Tests.{is_tie}
 use Rattle.lens_specs.specs.Common.{Columns, Fits, Name, Rows, has}
 use Rattle.csv.specs.Reading.{default_config, records, strip_bom}
 use Rattle.csv_specs.specs.Fields.{flag_in, number_in, text_in, value_in}

@@ -1,14 +1,9 @@
 -- The header that is written is one, and no byte order mark.
-use Rattle.std.proofs.Common.{◌≡◌, ℕ, Bool, true, false, List, [], ◌∷◌, ◌++◌, length, refl, ap, ◌∙◌, arith, inl, inr}
-use Rattle.std.specs.Prelude.{◌&&◌, ◌||◌, ◌==◌, not, nat_le}
-use Rattle.std.specs.List.{list_all, list_any}
+use Rattle.std.proofs.Common.{◌≡◌, ℕ, Bool, true, false, List, [], ◌∷◌, ◌++◌, length, refl, ap, ◌∙◌, arith, inl, inr, ◌&&◌, ◌||◌, ◌==◌, not, nat_le}
+use Rattle.plain_values.proofs.Common.{list_all, list_any, bytes_decides, and_from, and_parts, cases_Bool, nat_tests, is_lower, is_name}
 use Rattle.std.specs.FinMap as finmap
-use Rattle.std.specs.Cmp.Lexicographic.{bytes_decides}
-use Rattle.std.proofs.lemmas.Bool.{and_from, and_parts, cases_Bool}
-use Rattle.std.proofs.lemmas.Bool.Decides.{nat_tests}
 use Rattle.csv.specs.Reading.{strip_bom}
 use Rattle.csv.specs.Writing.{default_writer, needs_byte, row_text}
-use Rattle.plain_values.specs.Bytes.{is_lower, is_name}
 use Rattle.lens_specs.specs.Common.{Columns, Name}
 use Rattle.csv_specs.specs.Fields.{is_same}
 use Rattle.csv_specs.specs.Sheets.{Record, is_header}

@@ -1,7 +1,6 @@
 -- What was read record by record is all the records of a text.
-use Rattle.std.proofs.Common.{◌≡◌, ◌≤◌, ◌<◌, ◌+◌, ◌∙◌, [], ◌∷◌, ◌++◌, ℕ, suc, List, Bool, true, false, Option, Some, None, refl, sym, ap, subst, arith, length, cond}
-use Rattle.std.specs.Prelude.{◌==◌, ◌&&◌, ◌-◌}
-use Rattle.std.proofs.lemmas.List.{append-nil}
+use Rattle.std.proofs.Common.{◌≡◌, ◌≤◌, ◌<◌, ◌+◌, ◌∙◌, [], ◌∷◌, ◌++◌, ℕ, suc, List, Bool, true, false, Option, Some, None, refl, sym, ap, subst, arith, length, cond, ◌==◌, ◌&&◌, ◌-◌}
+use Rattle.plain_values.proofs.Common.{append-nil}
 use Rattle.csv.specs.Machine.{Read, after_end, ends_at_end, ends_with, field_after, fields_after, in_field, is_byte, is_end, next_record, start_field, start_record, step}
 use Rattle.csv.specs.Reading.{AreRecords, Reached, records, records_from, records_next}
 use Rattle.csv.specs.declared.parser.Action.{Action}
@@ -97,9 +96,6 @@ record Takes (n : ℕ) (p : Read) : Type 0 where
 
 takes : (n m : ℕ) (p : Read) → n < m → Leaves n p → Takes m p
 takes n m p h r = record { fresh = r.fresh; shorter = omega (arith, h, r.short) }
-
-some_inside : {A : Type 0} (x y : A) → ◌≡◌ {A = Option A} (Some x) (Some y) → x ≡ y
-some_inside x y e = cc
 
 begins : (cfg : Config) (s : State) (fields : List (List ℕ)) (field xs : List ℕ) (p : Read) → ends_at_end s ≡ false → next_record cfg s fields field xs ≡ Some p → Takes (length xs) p
 unfolding next_record

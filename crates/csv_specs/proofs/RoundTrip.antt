@@ -1,20 +1,14 @@
 -- The text of rows reads back as them.
 use Rattle.std.proofs.Common.{◌≡◌, ◌≢◌, ℕ, true, cond, List, [], ◌∷◌, length, map, refl, sym, ap, ◌∙◌, arith, Ok, Err, Some, None}
-use Rattle.std.specs.List.{AllByRecursion, list_all}
+use Rattle.plain_values.proofs.Common.{AllByRecursion, list_all, and_parts, length-map, is_name, row_cmp_total, row_cmp-IsAntisymmetric, Row, fits_keys}
 use Rattle.std.specs.FinMap as finmap
-use Rattle.std.proofs.lemmas.Bool.{and_parts}
-use Rattle.std.proofs.lemmas.List.{length-map}
 use Rattle.csv.specs.Machine.{next_record}
 use Rattle.csv.specs.Reading.{Reached, default_config, records, strip_bom}
 use Rattle.csv.specs.Writing.{read_back}
 use Rattle.csv.specs.declared.parser.State.TheVariants as st
 use Rattle.csv.proofs.RoundTrip.{read-write}
-use Rattle.plain_values.specs.Bytes.{is_name}
-use Rattle.plain_values.specs.RowOrder.{row_cmp_total, row_cmp-IsAntisymmetric}
 use Rattle.plain_values.specs.SortedSet as set
-use Rattle.plain_values.specs.Row.{Row}
-use Rattle.plain_values.proofs.FitsLemmas.{fits_keys}
-use Rattle.lens_specs.specs.Columns.{Columns, Fits}
+use Rattle.lens_specs.specs.Common.{Columns, Fits}
 use Rattle.csv_specs.specs.Fields.{field_of}
 use Rattle.csv_specs.specs.SheetLaws.{SheetsReadBack}
 use Rattle.csv_specs.specs.Sheets.{Record, as_set, record_of, records_of, row_in, rows_from, rows_of_records, sheet, text_of, unsheet}

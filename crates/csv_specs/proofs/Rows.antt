@@ -1,26 +1,9 @@
 -- The record of a row reads back as it.
-use Rattle.std.proofs.Common.{◌≡◌, ℕ, suc, true, false, cond, List, [], ◌∷◌, length, map, refl, sym, ap, ◌∙◌, arith, inl, inr}
-use Rattle.std.specs.Prelude.{◌||◌, ◌==◌, not, nat_eq, Some, None, option_map, Ok}
-use Rattle.std.specs.declared.cmp.Ordering.{Ordering}
-use Rattle.std.specs.declared.cmp.Ordering.TheVariants.{Less, Equal}
-use Rattle.std.specs.Option.{option_and_then}
-use Rattle.std.specs.List.{AllByRecursion, list_all, list_any, zip}
-use Rattle.std.specs.List.Sorted.{IsStrictlySortedBy}
+use Rattle.std.proofs.Common.{◌≡◌, ℕ, suc, true, false, cond, List, [], ◌∷◌, length, map, refl, sym, ap, ◌∙◌, arith, inl, inr, ◌||◌, ◌==◌, not, nat_eq, Some, None, option_map, Ok}
+use Rattle.plain_values.proofs.Common.{Ordering, Less, Equal, option_and_then, AllByRecursion, list_all, list_any, zip, IsStrictlySortedBy, eq_by_cmp, is_eq, tied_itself, bytes_decides, nat_list_cmp_total, pointwise, and_parts, cases_Bool, or_right, nat_tests, length-map, bytes_cmp, pair_fits, row_cmp, Row, row_cmp_total, from_entries-entries, keys_of, keys_rise, values_of, is_nullable, fits_along, fits_keys}
 use Rattle.std.specs.FinMap as finmap
-use Rattle.std.specs.Ordering.{eq_by_cmp, is_eq}
-use Rattle.std.specs.Cmp.{tied_itself}
-use Rattle.std.specs.Cmp.Lexicographic.{bytes_decides, nat_list_cmp_total, pointwise}
-use Rattle.std.proofs.lemmas.Bool.{and_parts, cases_Bool, or_right}
-use Rattle.std.proofs.lemmas.Bool.Decides.{nat_tests}
-use Rattle.std.proofs.lemmas.List.{length-map}
-use Rattle.plain_values.specs.Order.{bytes_cmp}
-use Rattle.plain_values.specs.Row.{pair_fits, row_cmp, Row}
-use Rattle.plain_values.specs.RowOrder.{row_cmp_total}
-use Rattle.plain_values.specs.SortedMap.{from_entries-entries, keys_of, keys_rise, values_of}
-use Rattle.plain_values.specs.Value.{is_nullable}
 use Rattle.plain_values.specs.declared.value.Kind.{Kind}
 use Rattle.plain_values.specs.declared.value.Value.{Value}
-use Rattle.plain_values.proofs.FitsLemmas.{fits_along, fits_keys}
 use Rattle.lens_specs.specs.Common.{Columns, Fits, Name}
 use Rattle.csv_specs.specs.Fields.{field_of, is_same, value_in}
 use Rattle.csv_specs.specs.SheetLaws.{is_right}

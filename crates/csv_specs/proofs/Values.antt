@@ -1,18 +1,11 @@
 -- The field of a value stands for it.
-use Rattle.std.proofs.Common.{◌≡◌, ◌^◌, ℕ, Bool, true, false, List, [], ◌∷◌, length, refl, sym, ap, ◌∙◌, arith, inl, inr, pos, negsuc, ℤ}
-use Rattle.std.specs.Prelude.{◌&&◌, ◌==◌, not, nat_le, nat_lt, Some, None, option_map}
-use Rattle.std.specs.Fmt.{signed_decimal}
-use Rattle.std.specs.Str.{is_utf8}
-use Rattle.std.proofs.lemmas.Bool.{and_from, and_parts, true≢false, cond-true}
-use Rattle.std.proofs.lemmas.Bool.Decides.{nat_tests}
-use Rattle.plain_values.specs.Bytes.{is_text}
-use Rattle.plain_values.specs.Value.{fits, is_nullable}
+use Rattle.std.proofs.Common.{◌≡◌, ◌^◌, ℕ, Bool, true, false, List, [], ◌∷◌, length, refl, sym, ap, ◌∙◌, arith, inl, inr, pos, negsuc, ℤ, ◌&&◌, ◌==◌, not, nat_le, nat_lt, Some, None, option_map}
+use Rattle.plain_values.proofs.Common.{signed_decimal, is_utf8, and_from, and_parts, true≢false, cond-true, nat_tests, is_text, fits, is_nullable}
 use Rattle.plain_values.specs.declared.value.Kind.{Kind}
 use Rattle.plain_values.specs.declared.value.Kind.TheVariants as kind
 use Rattle.plain_values.specs.declared.value.Value.{Value}
 use Rattle.plain_values.specs.declared.value.Value.TheVariants.{Null, Int, Text, Flag}
-use Rattle.grammar_specs.specs.Tokens.{AreDigits, SpellsInteger, digits_value, is_digit, minus}
-use Rattle.grammar_specs.specs.Writable.{is_literal}
+use Rattle.grammar_specs.specs.Common.{AreDigits, SpellsInteger, digits_value, is_digit, minus, is_literal}
 use Rattle.grammar_laws.proofs.PrintNumbers.{decimal_spells, in_range}
 use Rattle.csv_specs.specs.Fields.{are_digits, field_of, flag_in, flag_word, number_in, number_of_digits, value_in}
 use Rattle.csv_specs.specs.SheetLaws.{is_right}

@@ -1,18 +1,13 @@
 -- The plan of a change of tables.
-use Rattle.std.proofs.Common.{◌≡◌, ◌∙◌, ◌+◌, ◌-◌, ℕ, suc, true, false, List, [], ◌∷◌, Some, ap, sym, subst, refl, arith}
-use Rattle.std.proofs.lemmas.Bool.Decides.{nat_tests}
-use Rattle.std.specs.Prelude.{◌≢◌, ◌==◌, IfOk, Result, Ok, Err, None, Vec, length, map, slice_get}
-use Rattle.std.specs.declared.alloc.Global.{Global}
+use Rattle.std.proofs.Common.{◌≡◌, ◌∙◌, ◌+◌, ◌-◌, ℕ, suc, true, false, List, [], ◌∷◌, Some, ap, sym, subst, refl, arith, ◌≢◌, ◌==◌, IfOk, Result, Ok, Err, None, Vec, length, map, slice_get}
+use Rattle.plain_values.proofs.Common.{nat_tests, Global}
 use Rattle.no_memory.specs.declared.NoMemory.{NoMemory}
 use Rattle.lens_specs.specs.Common.{TableDelta, rows, Tables, LeadTo, inverted}
-use Rattle.lens_laws.proofs.Alone.{are_differences}
+use Rattle.lens_laws.proofs.Common.{are_differences}
 use Rattle.base_index.specs.Held.{AllApply, with_deltas}
 use Rattle.reply_printing.specs.Answers.{answer_view}
 use Rattle.server_specs.specs.Answer as answers
-use Rattle.server_specs.specs.Changing.{accept, with_last}
-use Rattle.server_specs.specs.State.{State, remember}
-use Rattle.server_specs.specs.Undoing.{undone}
-use Rattle.server_specs.specs.Validity.{Valid}
+use Rattle.server_specs.specs.Common.{accept, with_last, State, remember, undone, Valid}
 use Rattle.server_laws.specs.KeptLaws.{KeptFollows}
 use Rattle.server_laws.proofs.KeptStates.{led_is_kept}
 use Rattle.server_laws.proofs.Led.{IsChangeTo, tables_change}

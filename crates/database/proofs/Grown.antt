@@ -1,26 +1,18 @@
 -- The catalogue with one definition more, and the indexes that its lenses have then.
-use Rattle.std.proofs.Common.{◌≡◌, ◌∙◌, ◌++◌, ◌∷◌, ℕ, List, [], Option, None, Some, ap, inl, inr, is_some, map, refl, subst, sym, true}
-use Rattle.std.specs.Prelude.{if◌then◌else◌}
-use Rattle.std.proofs.lemmas.Bool.{cases_Bool}
-use Rattle.std.proofs.lemmas.List.Elements.{Contains-append_cases}
-use Rattle.std.specs.Cmp.Lexicographic.{texts_ties}
+use Rattle.std.proofs.Common.{◌≡◌, ◌∙◌, ◌++◌, ◌∷◌, ℕ, List, [], Option, None, Some, ap, inl, inr, is_some, map, refl, subst, sym, true, if◌then◌else◌}
+use Rattle.plain_values.proofs.Common.{cases_Bool, Contains-append_cases, texts_ties, Contains, eq_by_cmp, bytes_cmp}
 use Rattle.std.specs.FinMap as finmap
-use Rattle.std.specs.List.{Contains}
-use Rattle.std.specs.Ordering.{eq_by_cmp}
-use Rattle.plain_values.specs.Order.{bytes_cmp}
 use Rattle.plain_values.specs.SortedSet as set
-use Rattle.fd_laws.proofs.Names.{tied_name}
-use Rattle.lens_specs.specs.Common.{Columns, renamed_names, Lens, base, drop, rename, select, sort_of, view_names, Name, Names, Relation, Sort}
-use Rattle.lens_specs.specs.Lens.{join}
-use Rattle.lens_laws.specs.Asked.{asked, keys_at, side_keys}
-use Rattle.lens_laws.proofs.Asked.{contains_map, from_map_contains}
+use Rattle.fd_laws.proofs.Common.{tied_name}
+use Rattle.lens_specs.specs.Common.{Columns, renamed_names, Lens, base, drop, rename, select, sort_of, view_names, Name, Names, Relation, Sort, join}
+use Rattle.lens_laws.proofs.Common.{asked, keys_at, contains_map}
+use Rattle.lens_laws.specs.Asked.{side_keys}
+use Rattle.lens_laws.proofs.Asked.{from_map_contains}
 use Rattle.lens_probe.specs.Viewed.{AreIndexed}
 use Rattle.base_index.specs.Held.{IsNew, IsThere, State, defined}
 use Rattle.base_index.specs.declared.need.Need.{Need}
 use Rattle.base_index.proofs.Known.{get_old, indexed, still_indexed, there_new}
-use Rattle.catalog_specs.specs.Catalogue.{Catalogue, catalogue, is_table_of}
-use Rattle.catalog_specs.specs.Judging.{first_refused}
-use Rattle.server_specs.specs.Validity.{IsRelationOf, IsStored}
+use Rattle.server_specs.specs.Common.{Catalogue, catalogue, is_table_of, first_refused, IsRelationOf, IsStored}
 use Rattle.server_laws.proofs.Stored.{AreStored, as_relation}
 use Rattle.server_laws.proofs.Taken.{AllKnown, BasesAre, all_known, first_refused-push, get-new, get-other}
 use Rattle.view_catalog.specs.Admissions.{IsAdmissible, table_in}

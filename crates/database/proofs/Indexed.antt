@@ -1,25 +1,21 @@
 -- Databases whose lenses have their indexes after a change.
-use Rattle.std.proofs.Common.{◌≡◌, ◌∙◌, ◌++◌, ◌+◌, ◌<◌, ℕ, true, false, List, [], ◌∷◌, length, map, Option, Some, None, ap, is_some, sym, subst, refl}
-use Rattle.std.specs.Prelude.{◌^◌}
+use Rattle.std.proofs.Common.{◌≡◌, ◌∙◌, ◌++◌, ◌+◌, ◌<◌, ℕ, true, false, List, [], ◌∷◌, length, map, Option, Some, None, ap, is_some, sym, subst, refl, ◌^◌}
 use Rattle.std.specs.FinMap as finmap
-use Rattle.std.specs.List.{Contains}
-use Rattle.std.specs.Ordering.{eq_by_cmp}
-use Rattle.plain_values.specs.Order.{bytes_cmp}
-use Rattle.fd_laws.proofs.Names.{tied_name}
-use Rattle.lens_laws.specs.Asked.{asked}
-use Rattle.lens_laws.proofs.Moves.{AllThere as TablesThere, all_there}
+use Rattle.plain_values.proofs.Common.{Contains, eq_by_cmp, bytes_cmp}
+use Rattle.fd_laws.proofs.Common.{tied_name}
+use Rattle.lens_laws.proofs.Common.{asked, all_there}
+use Rattle.lens_laws.proofs.Moves.{AllThere as TablesThere}
 use Rattle.lens_specs.specs.Common.{Lens, Tables, TableDelta, Name, Names}
-use Rattle.catalog_specs.specs.Catalogue.{catalogue}
+use Rattle.server_specs.specs.Common.{catalogue, State, Valid}
 use Rattle.server_laws.proofs.Stored.{AreStored}
 use Rattle.server_laws.proofs.Taken.{get-new, get-other}
 use Rattle.server_laws.specs.StateLaws.{AreShort}
-use Rattle.server_specs.specs.State.{State}
-use Rattle.server_specs.specs.Validity.{Valid}
 use Rattle.signed_delta.specs.Tables.{table_delta}
 use Rattle.opened_view.specs.Moving.{AreThere}
 use Rattle.base_index.proofs.Known.{still_indexed}
 use Rattle.base_index.specs.Held as held
 use Rattle.base_index.specs.Held.{Held, IsNew, IsQuiet, IsThere, is_indexed}
+use Rattle.table_keeper.specs.declared.keeper.Change.{Change}
 use Rattle.view_catalog.proofs.Growth.{grown_by}
 use Rattle.view_catalog.specs.Admissions.{IsAdmissible}
 use Rattle.view_catalog.specs.Contents.{Contents}
@@ -89,11 +85,34 @@ change_indexed : (change : StagedChange) (catalog : Contents) (st : held.State) 
 change_indexed (Define text table p) catalog st can take there later all = definition_indexed catalog.texts p table st take.1 can.1 there later all
 change_indexed (RowsChange deltas) catalog st can take there later all = λ name L e. all name L e
 
--- a change that was staged and settled leaves the lenses able to ask their tables
-pub keyed_after : (staged : Staged) (old new : Database) → Valid (state_of old) → IsKeyed old → IsStaged staged old
-    → new.catalog.texts ≡ texts_with (definition_of staged.change) old.catalog.texts
-    → IsQuiet new.tables → new.tables.held ≡ old.tables.held → new.tables.present ≡ next_state staged.change old.tables.present → IsKeyed new
-keyed_after staged old new v keyed h texts quiet held present =
+-- the database is what a staged change makes of the old one
+pub record Made (staged : Staged) (old new : Database) : Type 0 where
+  pub texts : new.catalog.texts ≡ texts_with (definition_of staged.change) old.catalog.texts
+  pub present : new.tables.present ≡ next_state staged.change old.tables.present
+  pub quiet : IsQuiet new.tables
+  pub held : new.tables.held ≡ old.tables.held
+  pub version : new.version ≡ old.version + 1
+  pub last : new.last ≡ last_after staged.last (change_of staged.change) (old.version + 1) old.last
+  pub past : new.past ≡ past_after staged.past (change_of staged.change) old.past
+
+-- it is made by the parts of the change, over the tables that were staged
+pub made : (staged : Staged) (old new : Database) (mid : Held) (change : Change) (definition : Option Prepared) → change ≡ change_of staged.change → definition ≡ definition_of staged.change
+    → mid ≡ record old.tables { next = next_state staged.change old.tables.present } → new.catalog.texts ≡ texts_with definition old.catalog.texts
+    → new.tables ≡ record mid { present = mid.next } → new.version ≡ old.version + 1 → new.last ≡ last_after staged.last change (old.version + 1) old.last
+    → new.past ≡ past_after staged.past change old.past → Made staged old new
+made staged old new mid change definition is_change is_definition is_mid texts tables version last past = record {
+  texts = texts ∙ ap (λ o. texts_with o old.catalog.texts) is_definition;
+  present = ap (λ (t : Held). t.present) tables ∙ ap (λ (t : Held). t.next) is_mid;
+  quiet = ap (λ (t : Held). t.next) tables ∙ sym (ap (λ (t : Held). t.present) tables);
+  held = ap (λ (t : Held). t.held) tables ∙ ap (λ (t : Held). t.held) is_mid;
+  version = version;
+  last = last ∙ ap (λ o. last_after staged.last o (old.version + 1) old.last) is_change;
+  past = past ∙ ap (λ o. past_after staged.past o old.past) is_change;
+}
+
+-- it leaves the lenses able to ask their tables
+pub keyed_after : (staged : Staged) (old new : Database) → Valid (state_of old) → IsKeyed old → IsStaged staged old → Made staged old new → IsKeyed new
+keyed_after staged old new v keyed h m =
     let more = texts_with (definition_of staged.change) old.catalog.texts in
     let next = next_state staged.change old.tables.present in
     let stored : AreStored (catalogue more) next.relations =
@@ -101,20 +120,18 @@ keyed_after staged old new v keyed h texts quiet held present =
     let all = change_indexed staged.change old.catalog old.tables.present h.tables h.definition
     (asked_there old.catalog.texts old.tables.present v.definitions v.tables) (asked_there more next h.valid.definitions stored) keyed.indexed in
     record {
-      quiet = quiet;
-      free = held ∙ keyed.free;
-      short = subst AreShort (sym texts) (change_short staged.change old.catalog.texts old.tables.present.relations h.tables keyed.short);
-      indexed = subst (AllIndexed (catalogue new.catalog.texts)) (sym present) (subst (λ ts. AllIndexed (catalogue ts) next) (sym texts) all);
+      quiet = m.quiet;
+      free = m.held ∙ keyed.free;
+      short = subst AreShort (sym m.texts) (change_short staged.change old.catalog.texts old.tables.present.relations h.tables keyed.short);
+      indexed = subst (AllIndexed (catalogue new.catalog.texts)) (sym m.present) (subst (λ ts. AllIndexed (catalogue ts) next) (sym m.texts) all);
     }
 
--- the state after it
-pub state_after : (staged : Staged) (old new : Database) → new.catalog.texts ≡ texts_with (definition_of staged.change) old.catalog.texts
-    → new.tables.present ≡ next_state staged.change old.tables.present → new.version ≡ old.version + 1 → new.last ≡ last_after staged.last (change_of staged.change) (old.version + 1) old.last
-    → new.past ≡ past_after staged.past (change_of staged.change) old.past → state_of new ≡ after staged (state_of old)
-state_after staged old new texts present version last past =
+-- and its state is the one after the change
+pub state_after : (staged : Staged) (old new : Database) → Made staged old new → state_of new ≡ after staged (state_of old)
+state_after staged old new m =
     let tables : new.tables.present.relations ≡ changed_tables staged.change old.tables.present.relations =
-    ap (λ st. st.relations) present ∙ next_relations staged.change old.tables.present in
-    (λ i. record { texts = texts i; tables = tables i; version = version i; last = last i; past = past i })
+    ap (λ (st : held.State). st.relations) m.present ∙ next_relations staged.change old.tables.present in
+    (λ i. record { texts = m.texts i; tables = tables i; version = m.version i; last = m.last i; past = m.past i })
 
 -- ---- the last changes
 
@@ -130,5 +147,6 @@ last_there (RowsChange deltas) s v can = named s.last s.tables (map table_delta 
 -- ---- a change that is dropped
 
 -- tables that are staged and unstaged are as they were
-pub unstaged_same : (tables : Held) (next : held.State) → IsQuiet tables → record (record tables { next = next }) { next = tables.present } ≡ tables
-unstaged_same tables next quiet = (λ i. record { present = tables.present; next = sym quiet i; held = tables.held })
+pub unstaged_same : (tables mid back : Held) (next : held.State) → IsQuiet tables → mid ≡ record tables { next = next } → back ≡ record mid { next = mid.present } → back ≡ tables
+unstaged_same tables mid back next quiet is_mid is_back =
+    is_back ∙ ap (λ (t : Held). record t { next = t.present }) is_mid ∙ (λ i. record { present = tables.present; next = sym quiet i; held = tables.held })

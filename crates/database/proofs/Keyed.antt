@@ -2,14 +2,13 @@
 use Rattle.std.proofs.Common.{◌≡◌, ◌∙◌, [], Some, ap, subst, sym}
 use Rattle.std.specs.FinMap as finmap
 use Rattle.base_index.specs.Held.{IsQuiet}
-use Rattle.lens_laws.specs.Asked.{asked}
+use Rattle.lens_laws.proofs.Common.{asked}
 use Rattle.lens_probe.specs.Viewed.{AreIndexed}
 use Rattle.lens_specs.specs.Common.{Lens, Name}
-use Rattle.catalog_specs.specs.Catalogue.{catalogue}
+use Rattle.server_specs.specs.Common.{catalogue, Valid}
 use Rattle.server_laws.proofs.Keys.{all_keyed}
 use Rattle.server_laws.proofs.Stored.{lens_over}
 use Rattle.server_laws.specs.StateLaws.{AreShort}
-use Rattle.server_specs.specs.Validity.{Valid}
 use Rattle.database.specs.Keyed.{IsKeyed, IsOpen, IsSame}
 use Rattle.database.specs.Opening.{CanOpen}
 use Rattle.database.specs.States.{state_of}

@@ -1,7 +1,7 @@
 -- What a definition's lens needs.
 use Rattle.std.proofs.Common.{◌≡◌, ◌∙◌, List, [], ◌∷◌, ap, map, refl, sym}
 use Rattle.base_index.specs.declared.need.Need.{Need}
-use Rattle.lens_laws.specs.Asked.{asked}
+use Rattle.lens_laws.proofs.Common.{asked}
 use Rattle.lens_probe.specs.Needs.{pair_of}
 use Rattle.lens_specs.specs.Common.{Lens, Name, Names}
 use Rattle.database.specs.Staging.{needs_of}

@@ -1,16 +1,10 @@
 -- What becomes of a plan.
-use Rattle.std.proofs.Common.{◌≡◌, ◌∙◌, ◌+◌, ◌<◌, ◌≤◌, ℕ, List, [], ◌∷◌, ap, sym, subst, refl, inl, inr, arith}
-use Rattle.std.specs.Prelude.{◌≢◌, ◌↔◌, ◌-◌, ◌^◌, Option, Some, None, Result, Ok, Err, IsErr}
-use Rattle.std.proofs.lemmas.Bool.{true≢false}
+use Rattle.std.proofs.Common.{◌≡◌, ◌∙◌, ◌+◌, ◌<◌, ◌≤◌, ℕ, List, [], ◌∷◌, ap, sym, subst, refl, inl, inr, arith, ◌≢◌, ◌↔◌, ◌-◌, ◌^◌, Option, Some, None, Result, Ok, Err, IsErr}
+use Rattle.plain_values.proofs.Common.{true≢false}
 use Rattle.no_memory.specs.declared.NoMemory.{NoMemory}
-use Rattle.io_specs.specs.Calls.{Adds}
-use Rattle.io_specs.specs.Faults.{Rose}
+use Rattle.server_specs.specs.Common.{Adds, Rose, Answer, memory, text, answered, not_stored, State, kept, Valid}
 use Rattle.io_specs.proofs.Calls.{Adds-none, Adds-weaker}
-use Rattle.lens_specs.specs.Keeping.{CanChange, CanCommit, Change, Follows, Kept, Stays, IfObserved, changed}
-use Rattle.server_specs.specs.Answer.{Answer, memory, text}
-use Rattle.server_specs.specs.Session.{answered, not_stored}
-use Rattle.server_specs.specs.State.{State, kept}
-use Rattle.server_specs.specs.Validity.{Valid}
+use Rattle.lens_specs.specs.Common.{CanChange, CanCommit, Change, Follows, Kept, Stays, IfObserved, changed}
 use Rattle.table_keeper.specs.Asking.{AddsEnded}
 use Rattle.table_keeper.specs.Changes.{change_view}
 use Rattle.table_keeper.specs.declared.calls.Asked.TheVariants.{Commit}

@@ -1,8 +1,8 @@
 -- How many rows are walked for a change that is staged.
-use Rattle.std.proofs.Common.{◌≤◌, ℕ, cond, Bool, true, false, List, [], ◌∷◌, Option, Some, None, arith}
-use Rattle.std.proofs.lemmas.List.Sums.{sum_by-le-sum_by}
+use Rattle.std.proofs.Common.{◌≤◌, ℕ, cond, Bool, true, false, List, Option, Some, None, arith}
+use Rattle.plain_values.proofs.Common.{sum_by-le-sum_by}
 use Rattle.std.specs.FinMap as finmap
-use Rattle.lens_laws.specs.Work.{count_of}
+use Rattle.lens_laws.proofs.Common.{count_of}
 use Rattle.base_index.specs.Held as held
 use Rattle.base_index.specs.Held.{indexes_in, walked_for}
 use Rattle.base_index.specs.Need.{rows_walked}

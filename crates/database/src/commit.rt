@@ -1,5 +1,5 @@
-//! A plan is settled: the answer is printed, the change is staged and committed, and then it is
-//! made.
+//! Plans are settled: `settle` prints the answer, stages the change in the tables, has the keeper
+//! commit it, and then makes it.
 ghost use Rattle.std.specs.Prelude.{◌≡◌, ◌<◌, ◌+◌, ◌-◌, ◌^◌, ◌≤◌, IfOk, None, OnErr, OnOk, Some};
 ghost use Rattle.base_index.specs.Held.{IsQuiet};
 ghost use Rattle.server_specs.specs.Answer as spec;
@@ -93,7 +93,7 @@ fn commit<K: Keeper, L: Ledger>(
     }
 }
 
-/// The reply where the keeper failed, unless it only lacked memory.
+/// The reply if the keeper failed. `NoMemory`: the keeper only lacked memory.
 fn not_kept(fault: KeepFault) -> Result<Reply, NoMemory>
     ensures { NotKept fault result }
 {
@@ -129,7 +129,7 @@ fn stage<L: Ledger>(
     }
 }
 
-/// Stages the table of a definition, if it is one, and the indexes that its lens needs.
+/// Stages the table that a definition makes, if it makes one, and the indexes that its lens needs.
 pub fn stage_definition<L: Ledger>(
     alloc: Global,
     tables: &mut Tables,
@@ -195,8 +195,8 @@ fn make(
     remember(&mut database.past, past, change);
 }
 
-/// Takes the last changes that a definition brings, or moves those of the changed tables to the
-/// version. It takes no memory.
+/// Sets the last changes to those that a definition brings. If rows change, sets the last change of
+/// each changed table to the version. It takes no memory.
 fn move_last(last: &mut LastChanges, defined: Option<LastChanges>, change: &Change, version: u64)
     requires { CanMove change.now last.old }
     ensures { last.new ≡ last_after defined change.now version last.old }

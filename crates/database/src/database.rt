@@ -1,4 +1,4 @@
-//! What the server holds, and a view of it that is opened.
+//! The database: what a server holds between two requests.
 ghost use Rattle.std.specs.Prelude.{◌≡◌, IfSome, option_map};
 ghost use Rattle.std.specs.FinMap as finmap;
 
@@ -29,7 +29,7 @@ impl Database {
     ghost use Rattle.database.specs.Opening.{CanOpen, IsOpened};
     ghost use Rattle.opened_view.specs.Seen.{lens_of};
 
-    /// Opens the view of the name, where it has a lens.
+    /// Opens the view of this name. `None`: the catalogue has no lens of this name.
     pub fn open_view(&self, name: &Name) -> Option<Opened<'_>>
         requires { CanOpen self.now }
         ensures known { option_map lens_of result

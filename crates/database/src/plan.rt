@@ -1,4 +1,4 @@
-//! What a request comes to: its answer, and the change to make.
+//! Plans: the answer to a request, and the change that the database is to make before it gives it.
 ghost use Rattle.std.specs.Prelude.{◌≡◌, None};
 ghost use Rattle.database.specs.Plans.{change_of, definition_of};
 
@@ -61,14 +61,14 @@ impl StagedChange {
 pub struct Staged {
     /// What it makes of the definitions or of the tables.
     pub change: StagedChange,
-    /// The last changes after a definition. `None` where rows change: those of the changed tables
-    /// are moved when the change is made.
+    /// The last changes after a definition. `None` if rows change: the commit then moves the last
+    /// change of each changed table on.
     pub last: Option<LastChanges>,
     /// What it does to the changes that can be undone.
     pub past: PastStep,
 }
 
-/// The answer to a request, and what is changed before it is given.
+/// The answer to a request, and the change that the database makes before it gives the answer.
 #[derive(Drop)]
 pub struct Plan {
     /// The answer.
@@ -78,7 +78,7 @@ pub struct Plan {
 }
 
 impl Plan {
-    /// The answer, where nothing changes.
+    /// A plan that gives the answer and changes nothing.
     pub fn unchanged(answer: Answer) -> Plan
         ensures answer { result.answer ≡ answer }
         ensures staged { result.staged ≡ None }

@@ -1,5 +1,5 @@
 //! Plans of changes of tables.
-ghost use Rattle.std.specs.Prelude.{◌≡◌, ◌<◌, ◌+◌, ◌-◌, ◌^◌, IfOk, map};
+ghost use Rattle.std.specs.Prelude.{◌<◌, ◌+◌, ◌-◌, ◌^◌, IfOk, map};
 ghost use Rattle.lens_specs.specs.Lens.{Tables};
 ghost use Rattle.server_specs.specs.Changing.{accept};
 ghost use Rattle.server_specs.specs.Validity.{Valid};
@@ -13,8 +13,8 @@ use reply_printing::{Answer, Changes};
 use signed_delta::TableDelta;
 use std::alloc::Global;
 
-/// Plans that the tables differ so, and that the change can be undone. Where none differs, nothing
-/// changes.
+/// Plans that the tables change by these differences, and that `undo` can take the change back. If
+/// no table differs, the plan changes nothing.
 pub fn plan_changes(
     alloc: Global,
     database: &Database,
@@ -35,7 +35,8 @@ pub fn plan_changes(
     plan_tables(alloc, database, deltas, PastStep::Gains)
 }
 
-/// Plans that the tables differ so, which the changes that can be undone gain or lose.
+/// Plans that the tables change by these differences. `past` says whether the changes that can be
+/// undone gain this one or lose their last one.
 pub fn plan_tables(
     alloc: Global,
     database: &Database,

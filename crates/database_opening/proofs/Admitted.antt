@@ -1,25 +1,15 @@
 -- Definitions that are taken one after another.
-use Rattle.std.proofs.Common.{◌≡◌, ◌∙◌, ◌++◌, ◌||◌, ◌+◌, ◌<◌, ◌≤◌, ℕ, arith, suc, is_some, Bool, true, false, cond, List, [], ◌∷◌, length, Option, Some, None, Result, Ok, Err, ap, sym, subst, refl, inl, inr}
-use Rattle.std.specs.Prelude.{◌^◌, sum_by, IsOk, if◌then◌else◌, is_err, option_map}
-use Rattle.std.specs.Option.{option_to_list}
-use Rattle.std.proofs.lemmas.Bool.{cases_Bool, or_parts, true≢false}
-use Rattle.std.proofs.lemmas.List.Folds.{list_any-append}
+use Rattle.std.proofs.Common.{◌≡◌, ◌∙◌, ◌++◌, ◌||◌, ◌+◌, ◌<◌, ◌≤◌, ℕ, arith, suc, is_some, Bool, true, false, cond, List, [], ◌∷◌, length, Option, Some, None, Result, Ok, Err, ap, sym, subst, refl, inl, inr, ◌^◌, sum_by, IsOk, if◌then◌else◌, is_err, option_map}
+use Rattle.plain_values.proofs.Common.{option_to_list, cases_Bool, or_parts, true≢false, list_any-append, eq_by_cmp, Less, Equal, Greater, sum_by-cons, bytes_cmp, place_none}
 use Rattle.std.specs.FinMap as finmap
-use Rattle.std.specs.Ordering.{eq_by_cmp}
-use Rattle.std.specs.declared.cmp.Ordering.TheVariants.{Less, Equal, Greater}
-use Rattle.std.proofs.lemmas.List.Sums.{sum_by-cons}
-use Rattle.plain_values.specs.Order.{bytes_cmp}
 use Rattle.fd_laws.proofs.Common.{name_itself, name_total, tied_name}
-use Rattle.lens_laws.specs.Work.{count_of}
-use Rattle.lens_laws.proofs.Counts.{count-none}
+use Rattle.lens_laws.proofs.Common.{count_of, count-none}
 use Rattle.opened_view.specs.Counters.{row_count}
 use Rattle.plain_values.specs.SortedSet as set
-use Rattle.plain_values.proofs.Tests.{place_none}
 use Rattle.lens_specs.specs.Common.{Lens, Tables, sort_of, Name, is_among, Relation, Sort}
 use Rattle.base_index.specs.Held.{IsNew, IsQuiet, State, no_tables, with_table}
 use Rattle.grammar_laws.specs.Reading.{reading}
-use Rattle.catalog_specs.specs.Catalogue.{Catalogue, catalogue, catalogue_onto, is_table_of, with_definition}
-use Rattle.catalog_specs.specs.Judging.{first_refused, judged, refused_from}
+use Rattle.server_specs.specs.Common.{Catalogue, catalogue, catalogue_onto, is_table_of, with_definition, first_refused, judged, refused_from}
 use Rattle.opening_specs.specs.Opening.{definition, sort_where, table_sort_of}
 use Rattle.view_catalog.specs.Admissions.{IsAdmissible, table_in}
 use Rattle.view_catalog.specs.Faults.{IsRefused}

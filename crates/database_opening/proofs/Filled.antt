@@ -1,14 +1,7 @@
 -- Tables with no row that are filled with the kept rows.
-use Rattle.std.proofs.Common.{◌≡◌, ◌∙◌, ◌||◌, ℕ, Bool, List, [], ◌∷◌, map, Option, Some, None, is_some, true, false, cond, ap, sym, subst, refl}
-use Rattle.std.specs.Prelude.{◌&&◌, not, option_map, unwrap_or}
-use Rattle.std.proofs.lemmas.Bool.{true≢false}
+use Rattle.std.proofs.Common.{◌≡◌, ◌∙◌, ◌||◌, ℕ, Bool, List, [], ◌∷◌, map, Option, Some, None, is_some, true, false, cond, ap, sym, subst, refl, ◌&&◌, not, option_map, unwrap_or}
+use Rattle.plain_values.proofs.Common.{true≢false, AllByRecursion, list_any, IsStrictlySortedBy, eq_by_cmp, is_eq, Less, bytes_cmp, row_cmp}
 use Rattle.std.specs.FinMap as finmap
-use Rattle.std.specs.List.{AllByRecursion, list_any}
-use Rattle.std.specs.List.Sorted.{IsStrictlySortedBy}
-use Rattle.std.specs.Ordering.{eq_by_cmp, is_eq}
-use Rattle.std.specs.declared.cmp.Ordering.TheVariants.{Less}
-use Rattle.plain_values.specs.Order.{bytes_cmp}
-use Rattle.plain_values.specs.Row.{row_cmp}
 use Rattle.plain_values.specs.SortedSet as set
 use Rattle.fd_laws.proofs.Common.{name_exact, name_total, tied_name, row_exact, row_total}
 use Rattle.lens_specs.specs.Common.{AppliesTo, Delta, new_view, Lens, Tables, sort_of, Name, Relation, Rows, Sort}
@@ -16,12 +9,10 @@ use Rattle.base_index.specs.Held.{AllApply, Held, IsQuiet, State, after, no_rela
 use Rattle.base_index.specs.Need.{same_name}
 use Rattle.base_index.proofs.Fields.{same_is}
 use Rattle.base_index.proofs.Known.{get_changed, get_other}
-use Rattle.catalog_specs.specs.Catalogue.{Catalogue, catalogue, is_table_of}
-use Rattle.catalog_specs.specs.Judging.{first_refused}
-use Rattle.lens_laws.specs.Asked.{asked}
+use Rattle.server_specs.specs.Common.{Catalogue, catalogue, is_table_of, first_refused, IsStored, IsStoredAs}
+use Rattle.lens_laws.proofs.Common.{asked}
 use Rattle.lens_probe.specs.Viewed.{AreIndexed}
 use Rattle.server_laws.specs.StateLaws.{AreShort}
-use Rattle.server_specs.specs.Validity.{IsStored, IsStoredAs}
 use Rattle.opening_specs.specs.Opening as opening
 use Rattle.opening_specs.specs.Opening.{as_table, columns_of, damage_at, definition, first_damage, mapped, sort_where, table_sort_of}
 use Rattle.opening_laws.proofs.Opened.{get-mapped, none_or, state_is_valid}

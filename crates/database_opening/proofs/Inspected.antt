@@ -1,20 +1,11 @@
 -- The damage of tables, from what is found at each name.
-use Rattle.std.proofs.Common.{◌≡◌, ◌∙◌, ◌++◌, ◌&&◌, Bool, true, false, cond, List, [], ◌∷◌, filter, Option, None, ap, sym, subst, refl}
-use Rattle.std.specs.Prelude.{◌↔◌, IsTrue}
-use Rattle.std.proofs.lemmas.Bool.{or_parts}
-use Rattle.std.proofs.lemmas.List.Folds.{list_any-append}
-use Rattle.std.proofs.lemmas.List.Kept.{IsStrictlySortedBy-filter}
+use Rattle.std.proofs.Common.{◌≡◌, ◌∙◌, ◌++◌, Bool, true, false, cond, List, [], ◌∷◌, filter, Option, None, ap, sym, subst, refl, ◌↔◌, IsTrue}
+use Rattle.plain_values.proofs.Common.{or_parts, list_any-append, IsStrictlySortedBy-filter, eq_by_cmp, and_comm, bytes_cmp, keys_rise, Row, same_bool, none_is}
 use Rattle.std.specs.FinMap as finmap
-use Rattle.std.specs.Ordering.{eq_by_cmp}
-use Rattle.std.proofs.Math.Bool.{and_comm}
-use Rattle.plain_values.specs.Order.{bytes_cmp}
-use Rattle.plain_values.specs.SortedMap.{keys_rise}
 use Rattle.plain_values.specs.SortedSet as set
-use Rattle.fd_laws.proofs.Names.{name_exact, name_total}
-use Rattle.plain_values.specs.Row.{Row}
-use Rattle.plain_values.proofs.Tests.{same_bool, none_is}
+use Rattle.fd_laws.proofs.Common.{name_exact, name_total}
 use Rattle.lens_specs.specs.Common.{Columns, Fits, Name, Names, is_among, Rows}
-use Rattle.catalog_specs.specs.Catalogue.{Catalogue}
+use Rattle.server_specs.specs.Common.{Catalogue}
 use Rattle.opening_specs.specs.Opening.{Damage, all_names, damage_among, damage_at, is_fit, or_damage, table_sort_of}
 use Rattle.opening_laws.proofs.Opened.{fit_is, is_fit_from, no_keys}
 use Rattle.table_keeper.specs.Changes.{names_of}

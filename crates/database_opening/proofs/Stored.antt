@@ -1,23 +1,15 @@
 -- Tables that are stored as they are kept.
-use Rattle.std.proofs.Common.{◌≡◌, ◌∙◌, ◌++◌, ◌||◌, ◌<◌, ℕ, zero, suc, List, [], ◌∷◌, length, get_or, map, Some, None, Ok, Err, is_some, true, ap, sym, subst, refl, arith}
-use Rattle.std.specs.Prelude.{option_map}
-use Rattle.std.proofs.lemmas.List.{map_push}
-use Rattle.std.proofs.lemmas.List.Folds.{list_any-append}
+use Rattle.std.proofs.Common.{◌≡◌, ◌∙◌, ◌++◌, ◌<◌, ℕ, zero, suc, List, [], ◌∷◌, length, get_or, map, Some, None, Ok, Err, is_some, true, ap, sym, subst, refl, arith, option_map}
+use Rattle.plain_values.proofs.Common.{map_push, list_any-append, AllByRecursion, HoldsAt, eq_by_cmp, or_right, bytes_cmp, Row}
 use Rattle.std.specs.FinMap as finmap
-use Rattle.std.specs.List.{AllByRecursion, HoldsAt}
-use Rattle.std.specs.Ordering.{eq_by_cmp}
-use Rattle.std.proofs.lemmas.Bool.{or_right}
-use Rattle.plain_values.specs.Order.{bytes_cmp}
 use Rattle.plain_values.specs.SortedSet as set
-use Rattle.plain_values.specs.Row.{Row}
-use Rattle.fd_laws.proofs.Names.{name_exact, name_total}
+use Rattle.fd_laws.proofs.Common.{name_exact, name_total}
 use Rattle.lens_specs.specs.Common.{Fits, Kept, Name, is_among, Rows, has, Sort}
-use Rattle.catalog_specs.specs.Catalogue.{Catalogue, catalogue}
-use Rattle.catalog_specs.specs.Judging.{first_refused}
+use Rattle.server_specs.specs.Common.{Catalogue, catalogue, first_refused}
 use Rattle.opening_specs.specs.Opening as opening
 use Rattle.opening_specs.specs.Opening.{all_names, damage_at, definition, mapped, opened, or_damage, table_sort_of, unless_damaged}
 use Rattle.opening_laws.proofs.Opened.{find-mapped, get-mapped, rows_whole, whole_among}
-use Rattle.lens_laws.proofs.Entries.{with_all, with_all_in_none, with_last}
+use Rattle.lens_laws.proofs.Common.{with_all, with_all_in_none, with_last}
 use Rattle.table_keeper.specs.Changes.{names_of, rows_of}
 use Rattle.table_keeper.specs.Places.{Rise, rows_in}
 use Rattle.table_keeper.specs.declared.keeper.KeptTable.{KeptTable}

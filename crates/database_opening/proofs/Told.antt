@@ -1,8 +1,9 @@
 -- The line that tells a damage.
 use Rattle.std.proofs.Common.{◌≡◌, ◌∙◌, ◌||◌, false, ap, refl}
 use Rattle.serde_json.specs.Written.{has_float}
-use Rattle.plain_values.specs.Row.{Row}
-use Rattle.server_specs.specs.Answer.{pair_data, row_data}
+use Rattle.plain_values.proofs.Common.{Row}
+use Rattle.server_specs.specs.Common.{row_data}
+use Rattle.server_specs.specs.Answer.{pair_data}
 use Rattle.server_specs.proofs.Plain.{plain_row}
 use Rattle.opening_specs.specs.Opening.{Damage, definition, missing, strange, bad_row, clash_in, damage_data}
 

@@ -1,11 +1,9 @@
 -- How many rows an edit without a column becomes, and how many looks it takes.
 use Rattle.std.proofs.Common.{◌≡◌, ℕ, ◌+◌, ◌*◌, ◌<◌, ◌≤◌, ◌++◌, ◌∷◌, [], List, ap, length, map, take, arith, length-append}
-use Rattle.std.proofs.lemmas.List.{length-map, length-take}
-use Rattle.std.proofs.lemmas.Nat.{mul-le}
+use Rattle.plain_values.proofs.Common.{length-map, length-take, mul-le, Row}
 use Rattle.plain_values.specs.SortedSet as set
-use Rattle.plain_values.specs.Row.{Row}
 use Rattle.lens_specs.specs.Common.{Delta, Rows, image}
-use Rattle.lens_laws.specs.Work.{count_of, node_work, rows_down, rows_of}
+use Rattle.lens_laws.proofs.Common.{count_of, node_work, rows_down, rows_of}
 use Rattle.signed_delta.proofs.Counts.{listed_len}
 
 -- ---- one node

@@ -1,31 +1,13 @@
 -- Rows that are filled in, and the edit that they make.
-use Rattle.std.proofs.Common.{◌≡◌, ℕ, length, List, [], ◌∷◌, is_some, map, refl, sym, ap, ◌∙◌, subst, Bool, true, false, cond, Option, Some, None, inl, inr, ◌<◌, ◌≤◌, ◌+◌, ◌++◌, get_or, take, arith}
-use Rattle.std.specs.Prelude.{filter, slice_get, unwrap_or}
-use Rattle.std.specs.List.{find}
+use Rattle.std.proofs.Common.{◌≡◌, ℕ, length, List, [], ◌∷◌, is_some, map, refl, sym, ap, ◌∙◌, subst, Bool, true, false, cond, Option, Some, None, inl, inr, ◌<◌, ◌≤◌, ◌+◌, ◌++◌, get_or, take, arith, filter, slice_get, unwrap_or}
+use Rattle.plain_values.proofs.Common.{find, nat_list_cmp_total, eq_by_cmp, cases_Bool, true≢false, map_more, take_all, bytes_cmp, override, restrict, Row}
 use Rattle.std.specs.FinMap as finmap
-use Rattle.std.specs.Cmp.Lexicographic.{nat_list_cmp_total}
-use Rattle.std.specs.Ordering.{eq_by_cmp}
-use Rattle.std.proofs.lemmas.Bool.{cases_Bool, true≢false}
-use Rattle.std.proofs.lemmas.List.{map_more, take_all}
-use Rattle.plain_values.specs.Order.{bytes_cmp}
-use Rattle.plain_values.specs.Part.{override, restrict}
 use Rattle.plain_values.specs.SortedSet as set
-use Rattle.plain_values.specs.Row.{Row}
 use Rattle.plain_values.specs.declared.value.Kind.{Kind}
 use Rattle.plain_values.specs.declared.value.Value.{Value}
-use Rattle.lens_specs.specs.Common.{Columns, Fits, fits_at, names, without_column, Applies, Delta, diff, Edge, Meets, edge, Name, Names, Within, one, drop_get, drop_put, Rows, first_row, has, image, along, revise, revise_row, agree, at, cut, with_at}
-use Rattle.lens_specs.specs.Revision.{moved}
-use Rattle.lens_laws.specs.KeyedDeltas.{drop_delta, find_by}
-use Rattle.lens_laws.specs.Shapes.{CanDrop, IsIn, Shape, drop_shape}
-use Rattle.fd_laws.specs.Trees.{IsTree}
-use Rattle.fd_laws.proofs.Common.{fits_names, names-get, names-without, from_rest, name_itself, one_is, one_itself, from_image, from_project, same_rel, agree_back, agree_from, same_row}
-use Rattle.fd_laws.proofs.Columns.{fits_cut, fits_none, get-without_other, no_kind}
-use Rattle.lens_laws.proofs.Deltas.{from_new_view}
-use Rattle.lens_laws.proofs.DropDelta.{drop_delta_is}
-use Rattle.fd_laws.proofs.Names.{in_rest}
-use Rattle.fd_laws.proofs.Relations.{first_some, in_image}
-use Rattle.fd_laws.proofs.Rows.{agree_alike, at-paste_in, at-paste_out, at-with_at, at-with_other}
-use Rattle.fd_laws.proofs.Trees.{to_tree_without}
+use Rattle.lens_specs.specs.Common.{Columns, Fits, fits_at, names, without_column, Applies, Delta, diff, Edge, Meets, edge, Name, Names, Within, one, drop_get, drop_put, Rows, first_row, has, image, along, revise, revise_row, agree, at, cut, with_at, moved}
+use Rattle.lens_laws.proofs.Common.{drop_delta, find_by, CanDrop, IsIn, Shape, drop_shape, from_new_view, drop_delta_is}
+use Rattle.fd_laws.proofs.Common.{IsTree, fits_names, names-get, names-without, from_rest, name_itself, one_is, one_itself, from_image, from_project, same_rel, agree_back, agree_from, same_row, fits_cut, fits_none, get-without_other, no_kind, in_rest, first_some, in_image, agree_alike, at-paste_in, at-paste_out, at-with_at, at-with_other, to_tree_without}
 use Rattle.signed_delta.specs.Disjoint.{AreApart}
 use Rattle.signed_delta.proofs.Differences.{sides_apart}
 use Rattle.revision.proofs.Changed.{items_those}

@@ -1,22 +1,12 @@
 -- A row with a value written in one column.
-use Rattle.std.proofs.Common.{◌≡◌, ◌∙◌, ◌∷◌, List, [], Some, ap, cond, inl, inr, is_some, length, subst, sym, true}
-use Rattle.std.specs.Prelude.{None, Option}
-use Rattle.std.specs.List.{filter_map}
+use Rattle.std.proofs.Common.{◌≡◌, ◌∙◌, ◌∷◌, List, [], Some, ap, cond, inl, inr, is_some, length, subst, sym, true, None, Option}
+use Rattle.plain_values.proofs.Common.{filter_map, nat_list_cmp_total, eq_by_cmp, cases_Bool, false_from_ne_true, bytes_cmp, override, Row, absurd_false}
 use Rattle.std.specs.FinMap as finmap
-use Rattle.std.specs.Cmp.Lexicographic.{nat_list_cmp_total}
-use Rattle.std.specs.Ordering.{eq_by_cmp}
-use Rattle.std.proofs.lemmas.Bool.{cases_Bool, false_from_ne_true}
-use Rattle.plain_values.specs.Order.{bytes_cmp}
-use Rattle.plain_values.specs.Part.{override}
 use Rattle.plain_values.specs.SortedSet as set
-use Rattle.plain_values.specs.Row.{Row}
 use Rattle.plain_values.specs.declared.value.Value.{Value}
 use Rattle.lens_values.proofs.Cells.{Knows, full_knows}
 use Rattle.lens_specs.specs.Common.{Name, Names, one, at, with_at}
-use Rattle.plain_values.proofs.Lists.{absurd_false}
-use Rattle.fd_laws.proofs.Common.{name_itself, one_is, one_itself, tied_name, same_row}
-use Rattle.fd_laws.proofs.Names.{subset_from}
-use Rattle.fd_laws.proofs.Rows.{at-with_at}
+use Rattle.fd_laws.proofs.Common.{name_itself, one_is, one_itself, tied_name, same_row, subset_from, at-with_at}
 use Rattle.row_sets.proofs.Natural.{first_of, get-both}
 
 first_chosen : (b : _) (v : Value) (o : Option Value) → first_of (cond b (Some v) None) o ≡ cond b (Some v) o

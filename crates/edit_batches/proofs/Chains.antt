@@ -1,7 +1,6 @@
 -- Differences that lead on from one another.
-use Rattle.std.proofs.Common.{◌≡◌, ◌∙◌, ◌≤◌, ◌<◌, List, [], ◌∷◌, ◌++◌, map, length, slice_index_or, IfOk, ap, sym, subst, refl, arith}
-use Rattle.std.specs.Prelude.{Result, Ok, Err}
-use Rattle.std.proofs.lemmas.List.{map-append}
+use Rattle.std.proofs.Common.{◌≡◌, ◌∙◌, ◌≤◌, ◌<◌, List, [], ◌∷◌, ◌++◌, map, length, slice_index_or, IfOk, ap, sym, subst, refl, arith, Result, Ok, Err}
+use Rattle.plain_values.proofs.Common.{map-append}
 use Rattle.lens_specs.specs.Common.{TableDelta, Tables, LeadTo, composed}
 use Rattle.edit_batches.specs.Chains.{Chain}
 use Rattle.edit_batches.proofs.Moves.{composed_lead}

@@ -1,7 +1,6 @@
 -- What is made of the parts of a list.
 use Rattle.std.proofs.Common.{◌≡◌, ℕ, ◌-◌, Bool, true, false, cond, List, [], ◌∷◌, ◌++◌, Some, None, length, map, nat_lt, slice_get, take, drop, ap, sym, ◌∙◌, refl, zero, suc}
-use Rattle.std.specs.Option.{option_map}
-use Rattle.std.proofs.lemmas.List.{length-map, map-append, take-map}
+use Rattle.plain_values.proofs.Common.{option_map, length-map, map-append, take-map}
 use Rattle.circular_buffer.specs.Buffer.{keep_last}
 
 drop_mapped : {A B : Type 0} (f : A → B) (n : ℕ) (xs : List A) → map f (drop n xs) ≡ drop n (map f xs)

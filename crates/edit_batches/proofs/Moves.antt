@@ -1,23 +1,13 @@
 -- One difference of tables after another.
-use Rattle.std.proofs.Common.{◌≡◌, ◌<◌, ◌+◌, ℕ, drop, get_or, add-one, drop-cons, List, [], ◌∷◌, ◌++◌, length, map, ap, sym, ◌∙◌, subst, refl, Bool, true, false, cond, arith}
-use Rattle.std.specs.Prelude.{◌&&◌, ◌||◌, Option, Some, None, is_some, unwrap_or}
-use Rattle.std.specs.Option.{option_map}
-use Rattle.std.specs.List.{AllByRecursion, list_all, list_any}
-use Rattle.std.specs.List.Sorted.{IsStrictlySortedBy}
-use Rattle.plain_values.specs.SortedMap.{keys_rise}
-use Rattle.std.specs.Cmp.Lexicographic.{nat_list_cmp_total}
+use Rattle.std.proofs.Common.{◌≡◌, ◌<◌, ◌+◌, ℕ, drop, get_or, add-one, drop-cons, List, [], ◌∷◌, ◌++◌, length, map, ap, sym, ◌∙◌, subst, refl, Bool, true, false, cond, arith, ◌&&◌, ◌||◌, Option, Some, None, is_some, unwrap_or}
+use Rattle.plain_values.proofs.Common.{option_map, AllByRecursion, list_all, list_any, IsStrictlySortedBy, keys_rise, nat_list_cmp_total, eq_by_cmp, is_lt, Ordering, Less, false≢true, or_parts, exact, bytes_cmp}
 use Rattle.std.specs.FinMap as finmap
-use Rattle.std.specs.Ordering.{eq_by_cmp, is_lt}
-use Rattle.std.specs.declared.cmp.Ordering.{Ordering}
-use Rattle.std.specs.declared.cmp.Ordering.TheVariants.{Less}
-use Rattle.std.proofs.lemmas.Bool.{false≢true, or_parts}
-use Rattle.plain_values.proofs.Maps.{exact}
-use Rattle.plain_values.specs.Order.{bytes_cmp}
 use Rattle.plain_values.specs.SortedSet as set
-use Rattle.lens_specs.specs.Common.{AppliesTo, Delta, TableDelta, is_empty, new_view, Tables, Name, Fits, Relation, has, minus, union, AllApply, AreDeltas, LeadTo, after, composed, no_relation}
-use Rattle.fd_laws.proofs.Names.{name_itself, tied_name}
-use Rattle.lens_specs.specs.TableDeltas.{compose_delta, composed_at, delta_for, names_of_both, relation_in}
-use Rattle.lens_laws.proofs.Moves.{AllThere, Apart, EachApplies, IsMove, absent_nothing, all_there, empty_is, get_moved, lead_moves, nothing, nothing_applies, nothing_empty, rising_apart, same_is, same_name, unnamed}
+use Rattle.lens_specs.specs.Common.{AppliesTo, Delta, TableDelta, is_empty, new_view, Tables, Name, Fits, Relation, has, minus, union, AllApply, AreDeltas, LeadTo, after, composed, no_relation, compose_delta, composed_at, delta_for, relation_in}
+use Rattle.fd_laws.proofs.Common.{name_itself, tied_name}
+use Rattle.lens_specs.specs.TableDeltas.{names_of_both}
+use Rattle.lens_laws.proofs.Common.{AllThere, all_there, same_is, same_name}
+use Rattle.lens_laws.proofs.Moves.{Apart, EachApplies, IsMove, absent_nothing, empty_is, get_moved, lead_moves, nothing, nothing_applies, nothing_empty, rising_apart, unnamed}
 use Rattle.signed_delta.specs.Disjoint.{AreApart}
 use Rattle.signed_delta.specs.Tables.{table_delta}
 use Rattle.signed_delta.specs.declared.delta.TableDelta.{TableDelta as Told}

@@ -1,11 +1,8 @@
 -- What sets of rows have, for `grind`: list `contained`, and the facts at the row.
-use Rattle.std.proofs.Common.{◌≡◌, false}
-use Rattle.std.specs.Prelude.{◌&&◌, ◌||◌, not}
-use Rattle.std.specs.Ordering.{eq_by_cmp}
-use Rattle.plain_values.specs.Row.{row_cmp, Row}
-use Rattle.plain_values.specs.RowOrder.{row_cmp_total, row_cmp-IsAntisymmetric}
+use Rattle.std.proofs.Common.{◌≡◌, false, ◌&&◌, ◌||◌, not}
+use Rattle.plain_values.proofs.Common.{eq_by_cmp, row_cmp, Row, row_cmp_total, row_cmp-IsAntisymmetric}
 use Rattle.plain_values.specs.SortedSet as set
-use Rattle.lens_specs.specs.Relation.{Rows}
+use Rattle.lens_specs.specs.Common.{Rows}
 
 -- two sets that have the same rows are one
 pub same_rows : (s t : Rows) → ((x : Row) → set.contains s x ≡ set.contains t x) → s ≡ t

@@ -1,18 +1,8 @@
 -- Lists of rows that rise, one behind the other, and sets that share no row.
-use Rattle.std.proofs.Common.{◌≡◌, ◌∙◌, ℕ, ◌+◌, ◌-◌, ◌<◌, length, take, get_or, zero, suc, List, [], ◌∷◌, ◌++◌, ap, sym, subst, refl, true, false, arith}
-use Rattle.std.proofs.lemmas.List.{take_more}
-use Rattle.std.specs.Prelude.{◌||◌, Some, filter, not}
-use Rattle.std.specs.List.{AllByRecursion, slice_get}
-use Rattle.std.specs.List.Sorted.{IsStrictlySortedBy}
-use Rattle.std.specs.Ordering.{eq_by_cmp, is_eq, is_lt}
-use Rattle.std.specs.declared.cmp.Ordering.TheVariants.{Less}
-use Rattle.std.proofs.lemmas.Option.{same_Some}
-use Rattle.plain_values.specs.Row.{row_cmp, Row}
-use Rattle.plain_values.specs.RowOrder.{row_cmp_total}
+use Rattle.std.proofs.Common.{◌≡◌, ◌∙◌, ℕ, ◌+◌, ◌-◌, ◌<◌, length, take, get_or, zero, suc, List, [], ◌∷◌, ◌++◌, ap, sym, subst, refl, true, false, arith, ◌||◌, Some, filter, not}
+use Rattle.plain_values.proofs.Common.{take_more, AllByRecursion, slice_get, IsStrictlySortedBy, eq_by_cmp, is_eq, is_lt, Less, same_Some, row_cmp, Row, row_cmp_total, is_tie, is_less}
 use Rattle.plain_values.specs.SortedSet as set
-use Rattle.plain_values.proofs.Tests.{is_tie, is_less}
-use Rattle.lens_specs.specs.Common.{Delta, Rows, has, minus, union}
-use Rattle.lens_specs.specs.TableDeltas.{compose_delta}
+use Rattle.lens_specs.specs.Common.{Delta, Rows, has, minus, union, compose_delta}
 use Rattle.lens_values.proofs.Walks.{any_none}
 use Rattle.row_sets.specs.Members.{is_in}
 use Rattle.signed_delta.proofs.Differences.{rest_is, turned_apart}

@@ -1,23 +1,14 @@
 -- The check of an edit is that of its new view.
 use Rattle.std.proofs.Common.{◌≡◌, ◌∙◌, ◌<◌, ◌&&◌, ◌||◌, ℕ, zero, suc, List, [], ◌∷◌, length, get_or, Option, Some, None, true, false, ap, sym, subst, refl, inl, inr, is_some, unwrap_or, arith}
-use Rattle.std.specs.List.{list_all, list_any}
-use Rattle.std.specs.Ordering.{eq_by_cmp}
-use Rattle.std.proofs.lemmas.Bool.{and_parts, or_cases}
-use Rattle.plain_values.specs.Part.{restrict}
-use Rattle.plain_values.specs.Row.{row_cmp, Row}
+use Rattle.plain_values.proofs.Common.{list_all, list_any, eq_by_cmp, and_parts, or_cases, restrict, row_cmp, Row, absurd_false, all_at, any_from, in_cons}
 use Rattle.plain_values.specs.SortedSet as set
-use Rattle.lens_specs.specs.Common.{Columns, Fits, names, AppliesTo, Delta, new_view, AllEdges, Edge, Meets, MeetsTree, Name, Names, Within, Predicate, Relation, Rows, has, minus, project, union, agree, at, cut, IsOf, IsOfSort, Sort, violating_pair, first_pair, violating_row}
+use Rattle.lens_specs.specs.Common.{Columns, Fits, names, AppliesTo, Delta, new_view, AllEdges, Edge, Meets, MeetsTree, Name, Names, Within, Predicate, Relation, Rows, has, minus, project, union, agree, at, cut, IsOf, IsOfSort, Sort, violating_pair, first_pair, violating_row, clash_of}
 use Rattle.lens_specs.specs.Sort as spec
-use Rattle.lens_specs.specs.Sort.{clash_of}
-use Rattle.fd_laws.proofs.Common.{fits_names, from_minus, from_project, from_union, in_those, same_rel, sets, agree-cut, agree_back, agree_itself, agree_on, agree_within, row_itself, tied_row, each_edge}
-use Rattle.plain_values.proofs.Lists.{absurd_false, all_at, any_from, in_cons}
-use Rattle.fd_laws.proofs.Names.{union_left, union_right}
-use Rattle.lens_laws.specs.Checks.{edit_clash, near}
-use Rattle.lens_laws.specs.KeyedDeltas.{find_by, found_each}
-use Rattle.lens_laws.specs.Passes.{IsSound}
-use Rattle.lens_laws.proofs.Deltas.{from_found_each, from_new_view}
+use Rattle.fd_laws.proofs.Common.{fits_names, from_minus, from_project, from_union, in_those, same_rel, sets, agree-cut, agree_back, agree_itself, agree_on, agree_within, row_itself, tied_row, each_edge, union_left, union_right}
+use Rattle.lens_laws.proofs.Common.{edit_clash, find_by, found_each, IsSound, from_found_each, from_new_view, clash_none}
+use Rattle.lens_laws.specs.Checks.{near}
 use Rattle.lens_laws.proofs.EditChecks.{edit_checks_are}
-use Rattle.lens_laws.proofs.Sorts.{clash_none, meets_none_each}
+use Rattle.lens_laws.proofs.Sorts.{meets_none_each}
 use Rattle.fd_tree.specs.ClashView.{shown, shown_clash}
 use Rattle.fd_tree.specs.declared.clash.Clash.{Clash}
 use Rattle.edit_check.specs.Replaced.{Alike, AreReplaced}

@@ -1,15 +1,10 @@
 -- What a name that comes in does to those that came in before.
-use Rattle.std.proofs.Common.{◌≡◌, ℕ, ◌+◌, ◌<◌, ◌≤◌, Bool, true, false, cond, List, [], ◌∷◌, ◌++◌, length, get_or, take, refl, sym, ap, ◌∙◌, inl, inr, arith}
-use Rattle.std.specs.Prelude.{◌||◌}
-use Rattle.std.specs.Ordering.{eq_by_cmp}
-use Rattle.std.specs.BTreeMap.{is_at}
-use Rattle.std.specs.Cmp.{eq_by_cmp_equiv}
-use Rattle.std.proofs.lemmas.Bool.{cases_lt}
-use Rattle.std.proofs.lemmas.List.{get_or_append_left, get_or_push, length_push, take-append-le, take_at, length-take, take-take}
-use Rattle.std.proofs.lemmas.List.Folds.{list_any-append, list_any_more}
-use Rattle.plain_values.specs.Order.{bytes_cmp}
-use Rattle.fd_laws.proofs.Names.{name_total, tied_name}
-use Rattle.lens_specs.specs.Names.{Name, is_among}
+use Rattle.std.proofs.Common.{◌≡◌, ℕ, ◌+◌, ◌<◌, ◌≤◌, Bool, true, false, cond, List, [], ◌∷◌, ◌++◌, length, get_or, take, refl, sym, ap, ◌∙◌, inl, inr, arith, ◌||◌}
+use Rattle.plain_values.proofs.Common.{eq_by_cmp, is_at, eq_by_cmp_equiv, cases_lt, length_push, take-append-le, take_at, length-take, take-take, list_any-append, bytes_cmp}
+use Rattle.std.proofs.lemmas.List.{get_or_append_left, get_or_push}
+use Rattle.std.proofs.lemmas.List.Folds.{list_any_more}
+use Rattle.fd_laws.proofs.Common.{name_total, tied_name}
+use Rattle.lens_specs.specs.Common.{Name, is_among}
 use Rattle.fd_closure.specs.Arrival.{IsOnce, with_name}
 
 or_last : (a t : Bool) → (a || (t || false)) ≡ (a || t)

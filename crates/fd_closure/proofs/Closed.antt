@@ -1,18 +1,9 @@
 -- When no name is left to take up, the names are the closure.
-use Rattle.std.proofs.Common.{◌≡◌, ℕ, zero, suc, ◌+◌, ◌<◌, ◌≤◌, Bool, true, false, List, [], ◌∷◌, ◌++◌, length, get_or, take, refl, sym, ap, ◌∙◌, subst, inl, inr, nat_eq, arith}
-use Rattle.std.specs.Prelude.{◌≢◌, ◌&&◌, filter, not}
-use Rattle.std.specs.List.{count_by, list_any}
-use Rattle.std.specs.Ordering.{eq_by_cmp, is_eq}
-use Rattle.std.proofs.lemmas.Bool.{eqb-true, eq-eqb, false≢true, or_cases, or_left, or_right}
-use Rattle.std.proofs.lemmas.List.{get_or_default, length-take, take-take, take_more}
-use Rattle.std.proofs.lemmas.List.Folds.{list_any_at}
-use Rattle.plain_values.specs.Order.{bytes_cmp}
+use Rattle.std.proofs.Common.{◌≡◌, ℕ, zero, suc, ◌+◌, ◌<◌, ◌≤◌, Bool, true, false, List, [], ◌∷◌, ◌++◌, length, get_or, take, refl, sym, ap, ◌∙◌, subst, inl, inr, nat_eq, arith, ◌≢◌, ◌&&◌, filter, not}
+use Rattle.plain_values.proofs.Common.{count_by, list_any, eq_by_cmp, is_eq, eqb-true, eq-eqb, false≢true, or_cases, or_left, or_right, get_or_default, length-take, take-take, take_more, list_any_at, bytes_cmp, in_head, same_bool}
 use Rattle.plain_values.specs.SortedSet as set
 use Rattle.fd_laws.proofs.Common.{closure_is, name_exact, name_itself, name_total, tied_name}
-use Rattle.plain_values.proofs.Lists.{in_head}
-use Rattle.plain_values.proofs.Tests.{same_bool}
-use Rattle.lens_specs.specs.Common.{Name, Names, Within, is_among, AllEdges, Edge, closure}
-use Rattle.lens_specs.specs.Dependencies.{IsClosed}
+use Rattle.lens_specs.specs.Common.{Name, Names, Within, is_among, AllEdges, Edge, closure, IsClosed}
 use Rattle.fd_closure.specs.Arrival.{AllIn, HaveAll, IsOnce}
 use Rattle.fd_closure.specs.Entries.{Entry, entries_from}
 use Rattle.fd_closure.specs.Lacks.{uses}

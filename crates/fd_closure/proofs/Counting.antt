@@ -1,14 +1,10 @@
 -- What the edges lack, as names are taken up.
-use Rattle.std.proofs.Common.{◌≡◌, ℕ, ◌+◌, ◌-◌, ◌<◌, ◌≤◌, Bool, true, false, cond, List, [], ◌∷◌, ◌++◌, length, get_or, set, take, refl, sym, ap, ◌∙◌, subst, inl, inr, nat_eq, arith, get_or-set_same, get_or-set_other}
-use Rattle.std.specs.Prelude.{◌&&◌, ◌||◌, ◌≢◌, not, filter}
-use Rattle.std.specs.List.{count_by}
-use Rattle.std.specs.Ordering.{eq_by_cmp, is_eq}
-use Rattle.std.proofs.lemmas.Bool.{and_from, and_parts, cases_Bool, cases_eq, eqb-true, eq-eqb, or_cases, true≢false, or_left, or_right}
-use Rattle.std.proofs.lemmas.List.Sums.{sum_by_more, sum_by-take-le}
-use Rattle.std.proofs.Math.Bool.{and-true}
-use Rattle.plain_values.specs.Order.{bytes_cmp}
+use Rattle.std.proofs.Common.{◌≡◌, ℕ, ◌+◌, ◌-◌, ◌<◌, ◌≤◌, Bool, true, false, cond, List, [], ◌∷◌, ◌++◌, length, get_or, set, take, refl, sym, ap, ◌∙◌, subst, inl, inr, nat_eq, arith, get_or-set_same, get_or-set_other, ◌&&◌, ◌||◌, ◌≢◌, not, filter}
+use Rattle.plain_values.proofs.Common.{count_by, eq_by_cmp, is_eq, and_from, and_parts, cases_Bool, eqb-true, eq-eqb, or_cases, true≢false, or_left, or_right, sum_by-take-le, and-true, bytes_cmp}
+use Rattle.std.proofs.lemmas.Bool.{cases_eq}
+use Rattle.std.proofs.lemmas.List.Sums.{sum_by_more}
 use Rattle.plain_values.specs.SortedSet as names
-use Rattle.fd_laws.proofs.Names.{name_itself, tied_name}
+use Rattle.fd_laws.proofs.Common.{name_itself, tied_name}
 use Rattle.lens_specs.specs.Common.{Name, Names, is_among, Edge}
 use Rattle.fd_closure.specs.Arrival.{AllIn}
 use Rattle.fd_closure.specs.Entries.{Entry}

@@ -1,19 +1,9 @@
 -- What an index of the left sides has, and in which order.
-use Rattle.std.proofs.Common.{◌≡◌, ℕ, zero, suc, ◌+◌, ◌<◌, Bool, true, false, cond, List, [], ◌∷◌, ◌++◌, length, get_or, map, append_assoc, refl, sym, ap, ◌∙◌, subst, inl, inr, arith, append-nil}
-use Rattle.std.specs.Prelude.{filter}
-use Rattle.std.specs.declared.cmp.Ordering.{Ordering}
-use Rattle.std.specs.declared.cmp.Ordering.TheVariants.{Less, Equal, Greater}
-use Rattle.std.specs.List.{list_any}
-use Rattle.std.specs.List.Sorted.{IsStrictlySortedBy}
-use Rattle.std.specs.Ordering.{eq_by_cmp, is_eq, is_gt, nat_cmp, ordering_then}
-use Rattle.std.specs.Cmp.{IsTotalOrder, nat_cmp_total, on_total, then_total, tied_itself, unsigned_tied}
-use Rattle.std.proofs.lemmas.Bool.{cases_lt, eqb-true, false≢true}
-use Rattle.std.proofs.lemmas.List.Folds.{list_any_at}
-use Rattle.std.proofs.lemmas.Map.Keys.{Less-from_sorted}
-use Rattle.plain_values.specs.Order.{bytes_cmp}
+use Rattle.std.proofs.Common.{◌≡◌, ℕ, zero, suc, ◌+◌, ◌<◌, Bool, true, false, cond, List, [], ◌∷◌, ◌++◌, length, get_or, map, append_assoc, refl, sym, ap, ◌∙◌, subst, inl, inr, arith, append-nil, filter}
+use Rattle.plain_values.proofs.Common.{Ordering, Less, Equal, Greater, list_any, IsStrictlySortedBy, eq_by_cmp, is_eq, is_gt, nat_cmp, ordering_then, IsTotalOrder, nat_cmp_total, on_total, then_total, tied_itself, cases_lt, eqb-true, false≢true, list_any_at, Less-from_sorted, bytes_cmp, in_append_left, in_append_right, from_append, in_map, from_map}
+use Rattle.std.specs.Cmp.{unsigned_tied}
 use Rattle.plain_values.specs.SortedSet as set
-use Rattle.plain_values.proofs.Lists.{in_append_left, in_append_right, from_append, in_map, from_map}
-use Rattle.fd_laws.proofs.Names.{name_total, name_itself, tied_name}
+use Rattle.fd_laws.proofs.Common.{name_total, name_itself, tied_name}
 use Rattle.lens_specs.specs.Common.{Name, Edge}
 use Rattle.fd_closure.specs.Entries.{Entry, PlacesBelow, entries_from, entry_cmp}
 use Rattle.lens_values.proofs.Groups.{Ascend}

@@ -1,8 +1,6 @@
 -- Closures, and what they say of relations.
 use Rattle.std.proofs.Common.{Option, is_some, pos, ◌≡◌, ℕ, zero, suc, ◌≤◌, Bool, true, false, cond, ◌&&◌, ◌||◌, List, [], ◌∷◌, length, refl, sym, ap, ◌∙◌, subst, ◌⊎◌, inl, inr, Some, None, arith, unwrap_or}
-use Rattle.std.proofs.lemmas.Bool.{cases_Bool, and_parts, and_from, or_cases, true≢false, false≢true, or_left, or_right}
-use Rattle.std.specs.Ordering.{eq_by_cmp}
-use Rattle.std.specs.List.{list_any}
+use Rattle.plain_values.proofs.Common.{cases_Bool, and_parts, and_from, or_cases, true≢false, false≢true, or_left, or_right, eq_by_cmp, list_any, fits, int_fits, fits_same, bytes_cmp, Row, row_cmp}
 use Rattle.std.specs.FinMap as map
 use Rattle.plain_values.specs.SortedSet as set
 use Rattle.fd_laws.proofs.Names.{name_total, name_exact, tied_name, apart_back, union_left, subset_from, union_within, subset_is, union_right, within_trans}
@@ -11,14 +9,10 @@ use Rattle.fd_laws.proofs.Trees.{at_edge, each_edge, both_edges}
 use Rattle.plain_values.specs.declared.value.Kind.{Kind}
 use Rattle.plain_values.specs.declared.value.Kind.TheVariants.{Int, Text, Flag, IntOrNull, TextOrNull, FlagOrNull}
 use Rattle.fd_laws.specs.Witness.{low, high, row_of}
-use Rattle.plain_values.specs.Value.{fits}
-use Rattle.plain_values.proofs.ValueLemmas.{int_fits, text_fits, flag_fits, int_fits_null, text_fits_null, flag_fits_null}
-use Rattle.plain_values.proofs.FitsLemmas.{fits_same}
-use Rattle.lens_specs.specs.Common.{Columns, names, Fits, fits_at, Name, Names, Within, at, agree, same_value, Rows, has, Edge, AllEdges, Meets, MeetsTree, closure, outputs}
-use Rattle.plain_values.specs.Order.{bytes_cmp}
-use Rattle.plain_values.specs.Row.{Row, row_cmp}
+use Rattle.plain_values.proofs.ValueLemmas.{text_fits, flag_fits, int_fits_null, text_fits_null, flag_fits_null}
+use Rattle.lens_specs.specs.Common.{Columns, names, Fits, fits_at, Name, Names, Within, at, agree, same_value, Rows, has, Edge, AllEdges, Meets, MeetsTree, closure, outputs, IsClosed, IsClosure, first_edge, rest_edges}
 use Rattle.plain_values.specs.declared.value.Value.{Value}
-use Rattle.lens_specs.specs.Dependencies.{IsClosed, IsClosure, first_edge, rest_edges, is_ready, grow}
+use Rattle.lens_specs.specs.Dependencies.{is_ready, grow}
 use Rattle.fd_laws.specs.Trees.{Among, IsTree}
 
 module _ (p : Edge → Bool) where

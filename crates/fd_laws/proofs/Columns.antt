@@ -1,18 +1,13 @@
 -- Laws of columns, by the kind that each has.
 use Rattle.std.proofs.Common.{◌≡◌, true, false, cond, List, [], ◌∷◌, ◌++◌, Option, Some, None, refl, sym, ap, ◌∙◌, inl, inr, is_some}
-use Rattle.std.proofs.lemmas.Bool.{cases_Bool, true≢false, or_left, false_from_ne_true}
+use Rattle.plain_values.proofs.Common.{cases_Bool, true≢false, or_left, false_from_ne_true, eq_by_cmp, bytes_cmp, Row, absurd_false, fits_same, none_fits, same_bool}
 use Rattle.std.specs.FinMap as map
-use Rattle.std.specs.Ordering.{eq_by_cmp}
-use Rattle.plain_values.specs.Order.{bytes_cmp}
 use Rattle.plain_values.specs.SortedSet as set
 use Rattle.plain_values.specs.declared.value.Kind.{Kind}
-use Rattle.plain_values.specs.Row.{Row}
-use Rattle.plain_values.proofs.Lists.{absurd_false}
 use Rattle.fd_laws.proofs.Names.{name_total, name_exact, name_itself, one_is, in_rest, from_rest, in_left, in_right, in_neither}
-use Rattle.fd_laws.proofs.Rows.{at-cut, no_value, same_row, agree_at}
-use Rattle.lens_specs.specs.Common.{Name, Names, one, at, cut, agree, Columns, names, Fits, without_column, both_columns}
-use Rattle.plain_values.proofs.FitsLemmas.{fits_some, fits_same, none_fits}
-use Rattle.plain_values.proofs.Tests.{same_bool}
+use Rattle.fd_laws.proofs.Rows.{at-cut, no_value}
+use Rattle.lens_specs.specs.Common.{Name, Names, one, at, cut, Columns, names, Fits, without_column, both_columns}
+use Rattle.plain_values.proofs.FitsLemmas.{fits_some}
 
 -- a column is there where it has a kind
 pub names-get : (U : Columns) (c : Name) → set.contains (names U) c ≡ is_some (map.get U c)
@@ -87,10 +82,3 @@ fits_cut U W C r h inside outside c = elim (cases_Bool (set.contains C c)) [
   | inl i ↦ fits_same _ _ _ _ (sym (at-cut C r c ∙ ap (λ b. cond b (at r c) None) i)) (inside c i) (h c)
   | inr o ↦ none_fits _ _ (at-cut C r c ∙ ap (λ b. cond b (at r c) None) o) (outside c o)
 ]
-
--- two rows that fit and agree on the columns
-pub same_on : (U : Columns) (a b : Row) → Fits U a → Fits U b → agree (names U) a b ≡ true → a ≡ b
-same_on U a b ha hb g = same_row a b (λ c. elim (cases_Bool (set.contains (names U) c)) [
-  | inl i ↦ agree_at (names U) a b g c i
-  | inr o ↦ fits_none U a ha c o ∙ sym (fits_none U b hb c o)
-])

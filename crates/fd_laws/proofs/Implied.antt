@@ -1,9 +1,8 @@
 -- What `implies` answers.
 use Rattle.std.proofs.Common.{◌≡◌, true, false, List, [], ◌∷◌, sym, ◌∙◌}
-use Rattle.std.proofs.lemmas.Bool.{true≢false}
+use Rattle.plain_values.proofs.Common.{true≢false, Row}
 use Rattle.std.specs.FinMap as map
 use Rattle.plain_values.specs.SortedSet as set
-use Rattle.plain_values.specs.Row.{Row}
 use Rattle.fd_laws.proofs.Closures.{closure_is, implies_sound, implies_complete, witness, witness_fits, zero_row, one_row, zero_in, one_in}
 use Rattle.fd_laws.proofs.Names.{subset_is, subset_from}
 use Rattle.lens_specs.specs.Common.{Within, Columns, Fits, names, Rows, Edge, Meets, MeetsTree, closure}

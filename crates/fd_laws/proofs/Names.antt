@@ -1,13 +1,8 @@
 -- Laws of names and of sets of them.
 use Rattle.std.proofs.Common.{◌≡◌, Bool, true, false, not, ◌&&◌, refl, sym, ap, ◌∙◌, inl, inr, nat_eq}
-use Rattle.std.proofs.lemmas.Bool.{cases_Bool, and_parts, and_from, or_cases, or_from, not-true, not_from_false, true≢false, eqb-true, or_left, or_right}
-use Rattle.std.proofs.lemmas.Map.Lookups.{exact_bytes}
-use Rattle.std.specs.Cmp.{IsTotalOrder, tied_itself, Equal-is}
-use Rattle.std.specs.Cmp.Lexicographic.{nat_list_cmp_total}
-use Rattle.std.specs.Ordering.{eq_by_cmp, is_eq}
+use Rattle.plain_values.proofs.Common.{cases_Bool, and_parts, and_from, or_cases, or_from, not-true, not_from_false, true≢false, eqb-true, or_left, or_right, exact_bytes, IsTotalOrder, tied_itself, Equal-is, nat_list_cmp_total, eq_by_cmp, is_eq, bytes_cmp}
 use Rattle.plain_values.specs.SortedSet as set
-use Rattle.lens_specs.specs.Names.{Name, Names, Disjoint, Within, one}
-use Rattle.plain_values.specs.Order.{bytes_cmp}
+use Rattle.lens_specs.specs.Common.{Name, Names, Disjoint, Within, one}
 
 pub name_total : IsTotalOrder bytes_cmp
 name_total = nat_list_cmp_total

@@ -1,13 +1,12 @@
 -- The outputs of a tree form, and lists of dependencies that the same relations meet.
 use Rattle.std.proofs.Common.{◌≡◌, true, false, List, [], ◌∷◌, sym, ap, ◌∙◌, None}
 use Rattle.plain_values.specs.SortedSet as set
-use Rattle.plain_values.proofs.Tests.{same_bool}
+use Rattle.plain_values.proofs.Common.{same_bool}
 use Rattle.fd_laws.proofs.Closures.{closure_is, implies_complete, witness, implied, implied_output, output_implied}
 use Rattle.fd_laws.proofs.Names.{name_total, name_exact, union_left, union_right, within_trans}
 use Rattle.fd_laws.proofs.TreeForms.{tree_of_is}
 use Rattle.fd_laws.proofs.Trees.{each_edge}
-use Rattle.lens_specs.specs.Common.{Name, Names, Within, Rows, Edge, MeetsTree, closure, outputs, tree_of, is_tree}
-use Rattle.lens_specs.specs.Dependencies.{IsClosure}
+use Rattle.lens_specs.specs.Common.{Name, Names, Within, Rows, Edge, MeetsTree, closure, outputs, tree_of, is_tree, IsClosure}
 use Rattle.fd_laws.specs.Trees.{EdgesWithin}
 
 columns_of : List Edge → Names

@@ -1,15 +1,10 @@
 -- Laws of relations, by their rows.
 use Rattle.std.proofs.Common.{◌≡◌, Bool, true, false, not, ◌&&◌, ◌||◌, Some, None, sym, ◌∙◌, ◌⊎◌}
-use Rattle.std.proofs.lemmas.Bool.{and_parts, and_from, or_cases, not-true, not_from_false, or_left, or_right}
-use Rattle.std.specs.Ordering.{eq_by_cmp}
-use Rattle.std.specs.List.{list_any}
+use Rattle.plain_values.proofs.Common.{and_parts, and_from, or_cases, not-true, not_from_false, or_left, or_right, eq_by_cmp, list_any, find_some, find_none, in_filter, from_filter, in_map, from_map, in_flat_map, from_flat_map, Row, row_cmp, same_bool}
 use Rattle.plain_values.specs.SortedSet as set
-use Rattle.plain_values.proofs.Lists.{find_some, find_none, in_filter, from_filter, in_map, from_map, in_flat_map, from_flat_map}
 use Rattle.fd_laws.proofs.Rows.{row_total, row_exact, tied_row, row_itself}
-use Rattle.lens_specs.specs.Common.{Names, agree, paste, cut, Rows, has, those, union, minus, image, project, first_row}
-use Rattle.plain_values.specs.Row.{Row, row_cmp}
-use Rattle.plain_values.proofs.Tests.{same_bool}
-use Rattle.lens_specs.specs.Relation.{joined_with, join}
+use Rattle.lens_specs.specs.Common.{Names, agree, paste, cut, Rows, has, those, union, minus, image, project, first_row, joined_with}
+use Rattle.lens_specs.specs.Relation.{join}
 
 listed : (M : Rows) (r : Row) → has M r ≡ true → list_any (eq_by_cmp row_cmp r) (set.items M) ≡ true
 listed M r h = sym (set.contains-items M r) ∙ h

@@ -1,14 +1,10 @@
 -- Names, edges and trees with a new name for a column: what was a tree is one.
 use Rattle.std.proofs.Common.{◌≡◌, true, false, cond, List, [], ◌∷◌, map, sym, ap, ◌∙◌, inl, inr}
-use Rattle.std.proofs.lemmas.Bool.{cases_Bool, false_from_ne_true}
-use Rattle.std.specs.Ordering.{eq_by_cmp}
-use Rattle.plain_values.specs.Order.{bytes_cmp}
+use Rattle.plain_values.proofs.Common.{cases_Bool, false_from_ne_true, eq_by_cmp, bytes_cmp, in_map, from_map, absurd_false}
 use Rattle.plain_values.specs.SortedSet as set
-use Rattle.plain_values.proofs.Lists.{in_map, from_map, absurd_false}
 use Rattle.fd_laws.proofs.Names.{name_total, name_itself, tied_name}
 use Rattle.fd_laws.specs.Trees.{EdgesWithin, IsBefore, IsTree}
-use Rattle.lens_specs.specs.Common.{Edge, AllEdges, Name, Names, Within, Disjoint, renamed, renamed_names, renamed_tree}
-use Rattle.lens_specs.specs.Rename.{renamed_edge}
+use Rattle.lens_specs.specs.Common.{Edge, AllEdges, Name, Names, Within, Disjoint, renamed, renamed_names, renamed_tree, renamed_edge}
 
 -- ---- names
 pub other_name : (c A : Name) (C : Names) → set.contains C c ≡ true → set.contains C A ≡ false → eq_by_cmp bytes_cmp c A ≡ false

@@ -1,20 +1,12 @@
 -- Laws of rows, by what they have in a column.
 use Rattle.std.proofs.Common.{is_some, ◌≡◌, Bool, true, false, cond, ◌||◌, List, [], ◌∷◌, Option, Some, None, refl, sym, ap, ◌∙◌, inl, inr}
-use Rattle.std.proofs.lemmas.Bool.{true≢false, cases_Bool}
-use Rattle.plain_values.specs.RowOrder.{row_cmp_total, row_cmp-IsAntisymmetric}
-use Rattle.std.specs.Cmp.{IsTotalOrder, tied_itself, Equal-is}
-use Rattle.std.specs.Ordering.{eq_by_cmp, is_eq}
-use Rattle.std.specs.List.{list_any}
+use Rattle.plain_values.proofs.Common.{true≢false, cases_Bool, row_cmp_total, row_cmp-IsAntisymmetric, IsTotalOrder, tied_itself, Equal-is, eq_by_cmp, is_eq, list_any, bytes_cmp, Row, row_cmp, same_bool}
 use Rattle.std.specs.FinMap as map
 use Rattle.plain_values.specs.SortedSet as set
 pub use Rattle.plain_values.proofs.Agreement.{agree_at, agree_from, same_value-is, same_value-refl}
 use Rattle.fd_laws.proofs.Names.{name_itself, name_total, one_itself, name_exact, tied_name}
-use Rattle.lens_specs.specs.Common.{one, Name, Names, Disjoint, Within, at, agree, with_at, paste, cut}
-use Rattle.plain_values.specs.Order.{bytes_cmp}
+use Rattle.lens_specs.specs.Common.{one, Name, Names, Disjoint, Within, at, agree, with_at, paste, cut, paste_list}
 use Rattle.plain_values.specs.declared.value.Value.{Value}
-use Rattle.plain_values.specs.Row.{Row, row_cmp}
-use Rattle.plain_values.proofs.Tests.{same_bool}
-use Rattle.lens_specs.specs.Rows.{paste_list}
 
 pub row_total : IsTotalOrder row_cmp
 row_total = row_cmp_total

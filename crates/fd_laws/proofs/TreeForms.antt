@@ -1,18 +1,13 @@
 -- The tree form says what the dependencies say, and has the order that revision needs.
 use Rattle.std.proofs.Common.{◌≡◌, ℕ, zero, suc, ◌≤◌, Bool, true, false, cond, List, [], ◌∷◌, ◌++◌, length, refl, sym, ap, ◌∙◌, subst, ◌⊎◌, inl, inr, Some, None, arith, nat_eq}
-use Rattle.std.proofs.lemmas.Bool.{cases_Bool, and_parts, and_from, or_cases, and_cases, not-false, not_from_false, true≢false, false≢true}
-use Rattle.std.specs.Ordering.{eq_by_cmp}
+use Rattle.plain_values.proofs.Common.{cases_Bool, and_parts, and_from, or_cases, not-false, not_from_false, true≢false, false≢true, eq_by_cmp, any_at, same_is, bytes_cmp}
+use Rattle.std.proofs.lemmas.Bool.{and_cases}
 use Rattle.plain_values.specs.SortedSet as set
 use Rattle.fd_laws.proofs.Closures.{closure_is, implied, first_passes, none_passes, all_from_rest, all_rest, length_rest}
-use Rattle.plain_values.proofs.Lists.{any_at}
 use Rattle.fd_laws.proofs.Names.{within_trans, union_within, name_total, tied_name, name_itself, none_of_len, in_rest, from_rest, apart_back, subset_is, union_left, union_right, apart_fewer, apart_union}
 use Rattle.fd_laws.proofs.Rows.{agree_at, agree_from}
 use Rattle.fd_laws.proofs.Trees.{each_edge, both_edges}
-use Rattle.lens_specs.specs.Common.{Name, Names, Within, Disjoint, share, same_names, Rows, Edge, edge, AllEdges, Meets, MeetsTree, closure, kept_edge, TreeForm, reduce_edge, reduce_all, with_right, tree_of, is_tree, not_tree}
-use Rattle.plain_values.proofs.NamesLemmas.{same_is}
-use Rattle.plain_values.specs.Order.{bytes_cmp}
-use Rattle.lens_specs.specs.Dependencies.{first_edge, rest_edges}
-use Rattle.lens_specs.specs.TreeForm.{cleaned, add_edge, grouped, narrowed_by, bad_left, bad_right, bad_fit, first_later, first_other, writes_to, is_free, stuck, put_first, ordered, reduced}
+use Rattle.lens_specs.specs.Common.{Name, Names, Within, Disjoint, share, same_names, Rows, Edge, edge, AllEdges, Meets, MeetsTree, closure, kept_edge, TreeForm, reduce_edge, reduce_all, with_right, tree_of, is_tree, not_tree, first_edge, rest_edges, cleaned, add_edge, grouped, narrowed_by, bad_left, bad_right, bad_fit, first_later, first_other, writes_to, is_free, stuck, put_first, ordered, reduced}
 use Rattle.fd_laws.specs.Trees.{IsTree, IsBefore}
 
 share_not : (X Y : Names) → share X Y ≡ false → Disjoint X Y

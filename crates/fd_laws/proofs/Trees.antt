@@ -1,16 +1,12 @@
 -- Laws of revision and merge.
 use Rattle.std.proofs.Common.{subst, true≢false, nat_eq, ◌≡◌, true, false, List, [], ◌∷◌, Option, Some, None, refl, sym, ap, ◌∙◌, ◌⊎◌, inl, inr, arith}
-use Rattle.std.proofs.lemmas.Bool.{cases_Bool, or_parts, or_from, false_from_ne_true}
+use Rattle.plain_values.proofs.Common.{cases_Bool, or_parts, or_from, false_from_ne_true, absurd_false, Row}
 use Rattle.plain_values.specs.SortedSet as set
-use Rattle.plain_values.proofs.Lists.{absurd_false}
 use Rattle.fd_laws.proofs.Names.{name_total, one_is, in_rest, apart_rest, rest_apart, none_of_len}
 use Rattle.fd_laws.proofs.Relations.{in_union_left, in_union_right, from_union, in_image, from_image, first_some, first_none}
 use Rattle.fd_laws.proofs.Rows.{at-paste_in, same_row, agree_at, agree_from, agree_itself, agree_back, agree_on, agree_within, agree-paste, at-paste_out, paste_same}
-use Rattle.lens_specs.specs.Common.{one, Name, Names, Disjoint, at, agree, paste, Rows, has, first_row, kept_edge, tree_without, outputs, Edge, Meets, AllEdges, MeetsTree, along, revise_row, revise, merge}
-use Rattle.plain_values.specs.Row.{Row}
+use Rattle.lens_specs.specs.Common.{one, Name, Names, Disjoint, at, agree, paste, Rows, has, first_row, kept_edge, tree_without, outputs, Edge, Meets, AllEdges, MeetsTree, along, revise_row, revise, merge, narrowed, moved}
 use Rattle.fd_laws.specs.Trees.{Among, IsBefore, IsTree}
-use Rattle.lens_specs.specs.TreeForm.{narrowed}
-use Rattle.lens_specs.specs.Revision.{moved}
 
 pub paste_alike : (r : Row) (Y : Names) (a b : Row) → agree Y a b ≡ true → paste r Y a ≡ paste r Y b
 paste_alike r Y a b g = same_row _ _ (λ c. elim (cases_Bool (set.contains Y c)) [
@@ -214,16 +210,6 @@ from_revise T M L r i = from_image (λ m. revise_row T m L) M r i
 pub all_edges : (P : Edge → Type 0) → ((e : Edge) → P e) → (T : List Edge) → AllEdges P T
 all_edges P f [] = tt
 all_edges P f (e ∷ es) = (f e, all_edges P f es)
-
--- where L meets the edge, any row that agrees will do
-pub along_by : (e : Edge) (m : Row) (L : Rows) (l : Row) → Meets L e.left e.right → has L l ≡ true → agree e.left m l ≡ true → along e m L ≡ paste m e.right l
-along_by e m L l ml il g = elim (along_cases e m L) [
-  | inl t ↦ t.3 ∙ paste_alike m e.right t.0 l (ml t.0 l t.1 il (agree_on e.left t.0 m l (agree_back e.left m t.0 t.2) g))
-  | inr k ↦ absurd_false _ g (k.0 l il)
-]
-
-pub along_none : (e : Edge) (m : Row) (L : Rows) → ((l : Row) → has L l ≡ true → agree e.left m l ≡ false) → along e m L ≡ m
-along_none e m L none = elim (along_cases e m L) [ inl t ↦ absurd_false _ t.2 (none t.0 t.1) | inr k ↦ k.1 ]
 
 -- ---- trees with columns taken out
 pub at_edge : (P : Edge → Type 0) (T : List Edge) (e : Edge) → Among e T → AllEdges P T → P e

@@ -1,18 +1,9 @@
 -- A tree with a new name for a column.
 use Rattle.std.proofs.Common.{◌≡◌, true, false, List, [], ◌∷◌, length, refl, sym, ◌∙◌, inl, inr, arith}
-use Rattle.std.proofs.lemmas.Bool.{or_cases, true≢false, or_left, false_from_ne_true}
-use Rattle.std.specs.List.{list_any}
-use Rattle.std.specs.Ordering.{eq_by_cmp}
-use Rattle.plain_values.specs.Order.{bytes_cmp}
+use Rattle.plain_values.proofs.Common.{or_cases, true≢false, or_left, false_from_ne_true, list_any, eq_by_cmp, bytes_cmp, absurd_false}
 use Rattle.plain_values.specs.SortedSet as set
-use Rattle.plain_values.proofs.Lists.{absurd_false}
-use Rattle.fd_laws.proofs.Common.{name_total, name_itself}
-use Rattle.fd_laws.proofs.Names.{union_left, union_right}
-use Rattle.fd_laws.proofs.Outputs.{within_more}
-use Rattle.fd_laws.proofs.Renames.{in_renamed, renamed_is_tree}
-use Rattle.fd_laws.specs.Trees.{EdgesWithin, IsTree}
-use Rattle.lens_specs.specs.Common.{Edge, AllEdges, Name, Names, renamed, renamed_names, renamed_tree}
-use Rattle.lens_specs.specs.Rename.{renamed_edge}
+use Rattle.fd_laws.proofs.Common.{name_total, name_itself, union_left, union_right, within_more, in_renamed, renamed_is_tree, EdgesWithin, IsTree}
+use Rattle.lens_specs.specs.Common.{Edge, AllEdges, Name, Names, renamed, renamed_names, renamed_tree, renamed_edge}
 use Rattle.fd_tree.specs.Sides.{HasLeft}
 
 -- neither side has the name

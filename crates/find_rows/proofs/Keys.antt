@@ -1,20 +1,13 @@
 -- Keys of one column, and what they find.
-use Rattle.std.proofs.Common.{◌≡◌, ◌∙◌, ◌∷◌, [], Some, ap, cond, inl, inr, is_some, sym, subst, true}
-use Rattle.std.specs.Prelude.{None}
+use Rattle.std.proofs.Common.{◌≡◌, ◌∙◌, ◌∷◌, [], Some, ap, cond, inl, inr, is_some, sym, subst, true, None}
 use Rattle.std.specs.FinMap as finmap
-use Rattle.std.specs.Cmp.Lexicographic.{nat_list_cmp_total}
-use Rattle.std.specs.Ordering.{eq_by_cmp}
-use Rattle.std.proofs.lemmas.Bool.{cases_Bool}
-use Rattle.plain_values.specs.Order.{bytes_cmp}
+use Rattle.plain_values.proofs.Common.{nat_list_cmp_total, eq_by_cmp, cases_Bool, bytes_cmp, Row, absurd_false, same_bool}
 use Rattle.plain_values.specs.SortedSet as set
-use Rattle.plain_values.specs.Row.{Row}
 use Rattle.plain_values.specs.declared.value.Value.{Value}
 use Rattle.lens_specs.specs.Common.{Name, one, Rows, has, those, Columns, Fits, agree, at, same_value}
-use Rattle.plain_values.proofs.Lists.{absurd_false}
-use Rattle.plain_values.proofs.Tests.{same_bool}
-use Rattle.fd_laws.proofs.Common.{name_itself, one_is, one_itself, tied_name, from_those, agree_at, agree_from}
-use Rattle.fd_laws.proofs.Rows.{same_value-is, same_value-refl}
-use Rattle.lens_laws.specs.KeyedDeltas.{find_by}
+use Rattle.fd_laws.proofs.Common.{name_itself, one_is, one_itself, tied_name, from_those, agree_at, agree_from, same_value-is}
+use Rattle.fd_laws.proofs.Rows.{same_value-refl}
+use Rattle.lens_laws.proofs.Common.{find_by}
 use Rattle.signed_delta.specs.Keys.{HasColumns}
 use Rattle.find_rows.specs.Found.{rows_with}
 

@@ -1,11 +1,8 @@
 -- What each outcome of reading tokens says of the definitions that begin with them.
 use Rattle.std.proofs.Common.{◌≡◌, inl, inr, ℕ, ◌+◌, ◌^◌, ◌<◌, true, List, [], ◌∷◌, ◌++◌, length, refl, sym, ap, subst, ◌∙◌, append_assoc, append-nil}
-use Rattle.std.proofs.lemmas.List.{append_cancel_right, map-append}
-use Rattle.grammar_specs.specs.Tokens.{Token}
-use Rattle.grammar_specs.specs.Texts.{Placed, tokens_in}
-use Rattle.grammar_specs.specs.Nesting.{max_nesting}
-use Rattle.grammar_specs.specs.Written.{Written, written_tokens, is_definition}
-use Rattle.grammar_specs.specs.Faults.{Begins, BeginsTooDeep}
+use Rattle.plain_values.proofs.Common.{map-append}
+use Rattle.std.proofs.lemmas.List.{append_cancel_right}
+use Rattle.grammar_specs.specs.Common.{Token, Placed, tokens_in, max_nesting, Written, written_tokens, is_definition, Begins, BeginsTooDeep}
 use Rattle.grammar_laws.specs.Steps.{next, Outcome, read, stopped, too_deep, and_then}
 use Rattle.grammar_laws.specs.DefRules.{definition, at_last, alone}
 use Rattle.grammar_laws.proofs.Local.{Alike, none, more, Same, Local}
@@ -19,15 +16,6 @@ use Rattle.grammar_laws.proofs.FirstDeep.{deep_at, begins_deep, read_or_deep}
 alike_placed : (front : Placed) → Alike front (placed (tokens_in front))
 alike_placed [] = none
 alike_placed (p ∷ front) = more refl (alike_placed front)
-
-not_read : {A : Type 0} (a : A) (ps qs : Placed) → read a ps ≡ stopped qs → ⊥
-not_read a ps qs e = cc
-
-deep_not_stopped : {A : Type 0} (qs : Placed) → ◌≡◌ {A = Outcome A} too_deep (stopped qs) → ⊥
-deep_not_stopped qs e = cc
-
-deep_not_read : {A : Type 0} (a : A) (qs : Placed) → too_deep ≡ read a qs → ⊥
-deep_not_read a qs e = cc
 
 -- what is read alone is read to its end
 pub read_to_end : (o : Outcome Written) (w : Written) (rest : Placed) → and_then o at_last ≡ read w rest → rest ≡ []
@@ -57,8 +45,8 @@ module _ (n : ℕ) (e : 0 + n ≡ max_nesting) where
       let stops : alone n (placed (written_tokens w)) ≡ stopped (placed ts) =
       ap (λ x. alone n (placed x)) spelled ∙ ap (alone n) (map-append (λ t. (0, t)) (tokens_in s.front) ts) ∙ s.same (placed (tokens_in s.front)) (placed ts) (alike_placed s.front) same in
       elim (read_or_deep n e w good) [
-        | inl reads ↦ not_read w [] (placed ts) (sym reads ∙ stops)
-        | inr d ↦ deep_not_stopped (placed ts) (sym (deep_at (alone n) d.0 (written_tokens w) d.1.tail d.2 d.1.split) ∙ stops)
+        | inl reads ↦ let clash : read w [] ≡ stopped (placed ts) = sym reads ∙ stops in cc
+        | inr d ↦ let clash : too_deep ≡ stopped (placed ts) = sym (deep_at (alone n) d.0 (written_tokens w) d.1.tail d.2 d.1.split) ∙ stops in cc
       ]
 
   -- where the rule was not too deep, none of what is in front is
@@ -82,15 +70,15 @@ module _ (n : ℕ) (e : 0 + n ≡ max_nesting) where
         split = s.split;
         begins = subst (λ x. Begins (tokens_in x)) (append_cancel_right h.front s.front rest (sym h.split ∙ s.split)) (h.is.tree, h.is.more, h.is.good, h.is.spelled);
         last = no_more ps rest s;
-        flat = flat_before ps rest stopped s (deep_not_stopped rest);
+        flat = flat_before ps rest stopped s (λ e. cc);
       }
 
   -- some of them are too deep
   pub goes_deep : (ps : Placed) → length ps < 2 ^ 64 → alone n ps ≡ too_deep → (front rest : Placed) × (ps ≡ front ++ rest) × BeginsTooDeep (tokens_in front)
   goes_deep ps few is =
       let h : (rest : Placed) × Front [] ps rest (BegunDeep written_trees) = (subst (Sound written_trees [] ps) is (alone_sound n e ps few)).holds in
-      let b = h.1.is in
-      (h.1.front, h.0, h.1.split, (b.tree, b.more, b.good, b.spelled, b.deep))
+      let b = h.1.is.begun in
+      (h.1.front, h.0, h.1.split, (b.tree, b.more, b.good, b.spelled, h.1.is.deep))
 
   -- they spell this definition
   pub reads : (ps : Placed) (w : Written) (rest : Placed) → length ps < 2 ^ 64 → alone n ps ≡ read w rest → Spelled ps w
@@ -102,5 +90,5 @@ module _ (n : ℕ) (e : 0 + n ≡ max_nesting) where
       record {
         good = h.is.good;
         spelled = h.is.spelled ∙ ap tokens_in (whole h.front h.split);
-        flat = λ xs ys split. flat_before ps rest (read w) s (deep_not_read w rest) xs ys (ap tokens_in (whole s.front s.split) ∙ split);
+        flat = λ xs ys split. flat_before ps rest (read w) s (λ e. cc) xs ys (ap tokens_in (whole s.front s.split) ∙ split);
       }

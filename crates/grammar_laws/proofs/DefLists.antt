@@ -1,54 +1,33 @@
 -- The columns and the dependencies of a definition, and one more behind them.
-use Rattle.std.proofs.Common.{◌≡◌, ℕ, suc, ◌≤◌, ◌<◌, ◌^◌, Bool, true, false, cond, List, [], ◌∷◌, ◌++◌, length, refl, sym, ap, subst, ◌∙◌, append_assoc, append-nil, arith, length-append}
-use Rattle.std.specs.Prelude.{◌&&◌, ◌||◌, not, codes, map, flat_map}
-use Rattle.std.specs.List.{list_any, list_all}
-use Rattle.plain_values.specs.Value.{is_nullable}
+use Rattle.std.proofs.Common.{◌≡◌, ℕ, ◌≤◌, ◌<◌, ◌^◌, true, false, cond, List, [], ◌∷◌, ◌++◌, length, refl, sym, ap, subst, ◌∙◌, append_assoc, append-nil, arith, length-append, ◌&&◌, ◌||◌, not, codes, map, flat_map}
+use Rattle.plain_values.proofs.Common.{list_any, is_nullable, first_holds, second_holds, length-map}
 use Rattle.plain_values.specs.declared.value.Kind.{Kind}
 use Rattle.plain_values.specs.declared.value.Kind.TheVariants as kind
-use Rattle.plain_values.proofs.Tests.{first_holds, second_holds}
 use Rattle.lens_specs.specs.Common.{Name}
-use Rattle.grammar_specs.specs.Tokens.{Token, word, comma, is_free_name}
-use Rattle.grammar_specs.specs.Written.{Dep, kind_word, null_tokens, column_tokens, columns_tokens, dep_tokens, deps_tokens, is_some_list, is_column_of, are_columns}
+use Rattle.grammar_specs.specs.Common.{word, comma, is_free_name, Dep, kind_word, column_tokens, columns_tokens, dep_tokens, deps_tokens, is_some_list, is_column_of, are_columns}
+use Rattle.grammar_specs.specs.Written.{null_tokens}
 use Rattle.grammar_laws.specs.Tests.{is_word, with_null}
 use Rattle.grammar_laws.specs.DefRules.{Columns}
 use Rattle.grammar_laws.proofs.FreshNames.{new_name, new_name_free, new_name_new}
-use Rattle.grammar_laws.proofs.PredSound.{conj}
+use Rattle.grammar_laws.proofs.PredSound.{separated, conj}
 
 -- ---- one more
 
--- behind another, where this is known of those behind it
-spread : {A : Type 0} (f : A → List Token) (y : A) (xs : List A) (x : A) → flat_map (λ y. comma ∷ f y) (xs ++ x ∷ []) ≡ (flat_map (λ y. comma ∷ f y) xs ++ comma ∷ []) ++ f x
-    → f y ++ flat_map (λ y. comma ∷ f y) (xs ++ x ∷ []) ≡ ((f y ++ flat_map (λ y. comma ∷ f y) xs) ++ comma ∷ []) ++ f x
-spread f y xs x e =
-    let more : List Token = flat_map (λ y. comma ∷ f y) xs in
-    ap (λ l. f y ++ l) e ∙ sym (append_assoc (f y) (more ++ comma ∷ []) (f x)) ∙ ap (λ l. l ++ f x) (sym (append_assoc (f y) more (comma ∷ [])))
-
-separated : {A : Type 0} (f : A → List Token) (xs : List A) (x : A) → flat_map (λ y. comma ∷ f y) (xs ++ x ∷ []) ≡ (flat_map (λ y. comma ∷ f y) xs ++ comma ∷ []) ++ f x
-separated f [] x = ap (λ l. comma ∷ l) (append-nil (f x))
-separated f (y ∷ xs) x = ap (λ l. comma ∷ l) (spread f y xs x (separated f xs x))
-
 pub columns_pushed : (d : Name × Kind) (cs : Columns) (c : Name × Kind) → columns_tokens (d ∷ (cs ++ c ∷ [])) ≡ (columns_tokens (d ∷ cs) ++ comma ∷ []) ++ column_tokens c
-columns_pushed d cs c = spread column_tokens d cs c (separated column_tokens cs c)
+columns_pushed d cs c = separated column_tokens (column_tokens d) cs c
 
 pub deps_pushed : (d : Dep) (ds : List Dep) (e : Dep) → deps_tokens (d ∷ (ds ++ e ∷ [])) ≡ (deps_tokens (d ∷ ds) ++ comma ∷ []) ++ dep_tokens e
-deps_pushed d ds e = ap (λ l. word (codes "with") ∷ l) (spread dep_tokens d ds e (separated dep_tokens ds e))
-
-pub all_pushed : {A : Type 0} (p : A → Bool) (xs : List A) (x : A) → list_all p xs ≡ true → p x ≡ true → list_all p (xs ++ x ∷ []) ≡ true
-all_pushed p [] x h good = conj good refl
-all_pushed p (y ∷ xs) x h good = conj (first_holds (p y) (list_all p xs) h) (all_pushed p xs x (second_holds (p y) (list_all p xs) h) good)
+deps_pushed d ds e = ap (λ l. word (codes "with") ∷ l) (separated dep_tokens (dep_tokens d) ds e)
 
 some_more : {A : Type 0} (xs : List A) (x : A) → is_some_list (xs ++ x ∷ []) ≡ true
 some_more [] x = refl
 some_more (y ∷ xs) x = refl
 
 columns_good : (front cs : Columns) (c : Name × Kind) → are_columns front cs ≡ true → is_free_name c.0 ≡ true → not (is_column_of (front ++ cs) c.0) ≡ true → are_columns front (cs ++ c ∷ []) ≡ true
-columns_good front [] c h free other =
-    let P : Columns → Type 0 = λ x. not (is_column_of x c.0) ≡ true in
-    rw (free, subst P (append-nil front) other) refl
+columns_good front [] c h free other = rw (free, subst (λ x. not (is_column_of x c.0) ≡ true) (append-nil front) other) refl
 columns_good front (d ∷ cs) c h free other =
-    let P : Columns → Type 0 = λ x. not (is_column_of x c.0) ≡ true in
     conj (first_holds (is_free_name d.0 && not (is_column_of front d.0)) (are_columns (front ++ d ∷ []) cs) h)
-    (columns_good (front ++ d ∷ []) cs c (second_holds (is_free_name d.0 && not (is_column_of front d.0)) (are_columns (front ++ d ∷ []) cs) h) free (subst P (sym (append_assoc front (d ∷ []) cs)) other))
+    (columns_good (front ++ d ∷ []) cs c (second_holds (is_free_name d.0 && not (is_column_of front d.0)) (are_columns (front ++ d ∷ []) cs) h) free (subst (λ x. not (is_column_of x c.0) ≡ true) (sym (append_assoc front (d ∷ []) cs)) other))
 
 -- a new column
 pub column_good : (cs : Columns) (c : Name) (k : Kind) → are_columns [] cs ≡ true → (is_free_name c && not (is_column_of cs c)) ≡ true → (is_some_list (cs ++ (c, k) ∷ []) && are_columns [] (cs ++ (c, k) ∷ [])) ≡ true
@@ -73,10 +52,6 @@ sought : (cs : Columns) (n : Name) → is_column_of cs n ≡ list_any (λ m. is_
 sought [] n = refl
 sought (c ∷ cs) n = ap (λ x. is_word c.0 n || x) (sought cs n)
 
-names_count : (cs : Columns) → length (map (λ c. c.0) cs) ≡ length cs
-names_count [] = refl
-names_count (c ∷ cs) = ap suc (names_count cs)
-
 pub new_column : Columns → Name
 new_column cs = new_name (map (λ c. c.0) cs)
 
@@ -84,7 +59,7 @@ pub new_column_good : (cs : Columns) → length cs < 2 ^ 64 → (is_free_name (n
 unfolding new_column
 new_column_good cs few =
     conj (new_name_free (map (λ c. c.0) cs))
-    (ap not (sought cs (new_column cs) ∙ new_name_new (map (λ c. c.0) cs) (rw (names_count cs) few)))
+    (ap not (sought cs (new_column cs) ∙ new_name_new (map (λ c. c.0) cs) (simp length-map few)))
 
 more_each : (cs : Columns) → length cs ≤ length (flat_map (λ c. comma ∷ column_tokens c) cs)
 more_each [] = omega arith

@@ -1,31 +1,23 @@
 -- What the rules of definitions read is spelled so, and where they stop a definition begins.
-use Rattle.std.proofs.Common.{◌≡◌, ℕ, ◌+◌, ◌<◌, ◌^◌, true, List, [], ◌∷◌, ◌++◌, length, refl, sym, ap, subst, ◌∙◌, append_assoc, append-nil, arith}
-use Rattle.std.specs.Prelude.{◌&&◌, not, codes, map, Option, Some, None, cond}
-use Rattle.std.specs.List.{list_all}
-use Rattle.std.proofs.lemmas.List.{map-append, length-map}
-use Rattle.std.proofs.lemmas.Option.{same_Some, option_and_then_some}
-use Rattle.std.proofs.lemmas.Bool.{not-true}
-use Rattle.plain_values.specs.Value.{is_nullable}
+use Rattle.std.proofs.Common.{◌≡◌, ℕ, ◌+◌, ◌<◌, ◌^◌, true, List, [], ◌∷◌, ◌++◌, length, refl, sym, ap, subst, ◌∙◌, append_assoc, append-nil, arith, ◌&&◌, not, codes, map, Option, Some, None, cond}
+use Rattle.plain_values.proofs.Common.{list_all, map-append, length-map, same_Some, option_and_then_some, not-true, is_nullable, first_holds, second_holds}
 use Rattle.plain_values.specs.declared.value.Kind as kinds
 use Rattle.plain_values.specs.declared.value.Kind.TheVariants.{Int}
-use Rattle.plain_values.proofs.Tests.{first_holds, second_holds}
 use Rattle.lens_specs.specs.Common.{Name}
-use Rattle.grammar_specs.specs.Tokens.{Token, word, open_paren, close_paren, comma, arrow, is_free_name}
-use Rattle.grammar_specs.specs.Texts.{Placed}
-use Rattle.grammar_specs.specs.Nesting.{at_each, where_nesting, nesting, max_nesting}
-use Rattle.grammar_specs.specs.Written.{Pred, named, Dep, Written, table, view, kind_word, column_tokens, columns_tokens, dep_tokens, deps_tokens, where_tokens, written_tokens, is_some_list, are_free_names, is_column_of, are_columns, is_dep, is_condition, is_definition}
+use Rattle.grammar_specs.specs.Common.{Token, word, open_paren, close_paren, comma, arrow, is_free_name, Placed, at_each, where_nesting, nesting, max_nesting, Pred, Dep, Written, kind_word, column_tokens, columns_tokens, dep_tokens, deps_tokens, where_tokens, written_tokens, is_some_list, is_column_of, are_columns, is_dep, is_condition, is_definition}
+use Rattle.grammar_specs.specs.Written.{named, table, view}
 use Rattle.grammar_laws.specs.Tests.{free_in, with_null, is_comma}
-use Rattle.grammar_laws.specs.Steps.{next, read, stopped, and_then, passing}
+use Rattle.grammar_laws.specs.Steps.{Outcome, next, read, stopped, and_then, passing}
 use Rattle.grammar_laws.specs.PredRules.{pred, part}
 use Rattle.grammar_laws.specs.ExprRules.{all_names, operand, expr}
 use Rattle.grammar_laws.specs.DefRules.{Columns, new_name, behind_kind, column, next_column, all_columns, dep, next_dep, more_deps, all_deps, condition, behind_columns, table_rule, view_rule, definition, at_last, alone}
 use Rattle.grammar_laws.proofs.Options.{cond_none}
 use Rattle.grammar_laws.proofs.Local.{IsLocal, Alike, none, local_read, local_then, local_repeat}
-use Rattle.grammar_laws.proofs.Sound.{Trees, Kind, begun, Sound, sound_read, sound_stopped, sound_weaker, sound_choose, sound_need, Within, sound_then, sound_more, sound_repeat}
+use Rattle.grammar_laws.proofs.Sound.{Trees, Kind, begun, Sound, sound_read, sound_stopped, sound_weaker, sound_choose, sound_need, Within, sound_then, within, sound_last, sound_more, sound_repeat}
 use Rattle.grammar_laws.proofs.TokenKinds.{keyword_kind, open_kind, close_kind, comma_kind, arrow_kind, equals_kind, name_kind, name_is, kind_kind}
-use Rattle.grammar_laws.proofs.PredSound.{need_local, choose_local, conj, pred_of_local, part_local, pred_of_sound, part_sound}
-use Rattle.grammar_laws.proofs.ExprSound.{some_name, word_local, all_names_local, names_trees, all_names_sound, expr_of_local, operand_local, expr_of_sound, operand_sound}
-use Rattle.grammar_laws.proofs.DefLists.{columns_pushed, deps_pushed, all_pushed, column_good, without_null, null_behind, new_column, new_column_good, columns_few}
+use Rattle.grammar_laws.proofs.PredSound.{all_pushed, need_local, choose_local, conj, pred_of_local, part_local, pred_of_sound, part_sound}
+use Rattle.grammar_laws.proofs.ExprSound.{names_level, some_name, word_local, all_names_local, all_names_sound, expr_of_local, operand_local, expr_of_sound, operand_sound}
+use Rattle.grammar_laws.proofs.DefLists.{columns_pushed, deps_pushed, column_good, without_null, null_behind, new_column, new_column_good, columns_few}
 
 -- ---- the rules are local
 
@@ -118,16 +110,13 @@ levels ts pre ys e = ap (at_each 0) e ∙ map-append (λ _. 0) pre ys
 -- a tree that stands last in another, where nothing is open before it
 last_within : {A B : Type 0} {inner : Trees A} {outer : Trees B} {pre : List Token} (wrap : A → B) → ((a : A) → inner.ok a ≡ true → outer.ok (wrap a) ≡ true) → ((a : A) → outer.tokens (wrap a) ≡ pre ++ inner.tokens a)
     → ((a : A) → outer.nesting (wrap a) ≡ at_each 0 pre ++ inner.nesting a) → Within inner outer pre
-last_within {A} {B} {inner} {outer} {pre} wrap good spelled nested = record {
-  wrap = wrap;
-  after = [];
-  levels = at_each 0 pre;
-  levels_after = [];
-  good = good;
-  spelled = λ a. spelled a ∙ ap (λ x. pre ++ x) (sym (append-nil (inner.tokens a)));
-  nested = λ a. nested a ∙ ap (λ x. at_each 0 pre ++ x) (sym (append-nil (inner.nesting a)));
-  long = simp length-map;
-}
+last_within {A} {B} {inner} {outer} {pre} wrap good spelled nested =
+    within wrap [] (at_each 0 pre) [] (simp length-map) good (λ a. spelled a ∙ ap (λ x. pre ++ x) (sym (append-nil (inner.tokens a)))) (λ a. nested a ∙ ap (λ x. at_each 0 pre ++ x) (sym (append-nil (inner.nesting a))))
+
+-- the same, where it is the last that is read
+sound_end : {A B : Type 0} {inner : Trees A} {outer : Trees B} {pre : List Token} (wrap : A → B) → ((a : A) → inner.ok a ≡ true → outer.ok (wrap a) ≡ true) → ((a : A) → outer.tokens (wrap a) ≡ pre ++ inner.tokens a)
+    → ((a : A) → outer.nesting (wrap a) ≡ at_each 0 pre ++ inner.nesting a) → {ps : Placed} {o : Outcome A} → Sound inner [] ps o → Sound outer pre ps (and_then o (λ a. read (wrap a)))
+sound_end {A} {B} {inner} {outer} {pre} wrap good spelled nested h = sound_last wrap (at_each 0 pre) (simp length-map) good spelled nested h
 
 -- ---- columns
 
@@ -147,22 +136,17 @@ new_kind cs = record {
   found = λ c new. rw (first_holds (is_free_name c) (not (is_column_of cs c)) new, not-true (is_column_of cs c) (second_holds (is_free_name c) (not (is_column_of cs c)) new)) refl;
 }
 
-one_more : (pre : List Token) (s t : Token) → pre ++ s ∷ t ∷ [] ≡ (pre ++ s ∷ []) ++ t ∷ []
-one_more pre s t = sym (append_assoc pre (s ∷ []) (t ∷ []))
-
-two_more : (pre : List Token) (s t u : Token) → pre ++ s ∷ t ∷ u ∷ [] ≡ ((pre ++ s ∷ []) ++ t ∷ []) ++ u ∷ []
-two_more pre s t u = sym (append_assoc pre (s ∷ []) (t ∷ u ∷ [])) ∙ one_more (pre ++ s ∷ []) t u
-
 column_sound : (cs : Columns) (pre : List Token) (ps : Placed) → are_columns [] cs ≡ true → length cs < 2 ^ 64 → ((c : Name × kinds.Kind) → columns_tokens (cs ++ c ∷ []) ≡ pre ++ column_tokens c) → Sound columns_trees pre ps (column cs ps)
 column_sound cs pre ps ok few spelled =
     sound_need (new_kind cs) _
-    (record { tree = cs ++ (new_column cs, Int) ∷ []; more = column_tokens (new_column cs, Int); good = column_good cs (new_column cs) Int ok (new_column_good cs few); spelled = spelled (new_column cs, Int) }) (λ c qs new _.
+    (begun (cs ++ (new_column cs, Int) ∷ []) (column_tokens (new_column cs, Int)) (column_good cs (new_column cs) Int ok (new_column_good cs few)) (spelled (new_column cs, Int))) (λ c qs new _.
     sound_need kind_kind _
-    (record { tree = cs ++ (c, Int) ∷ []; more = word (codes "int") ∷ []; good = column_good cs c Int ok new; spelled = spelled (c, Int) ∙ one_more pre (word c) (word (codes "int")) }) (λ k rs base _.
+    (begun (cs ++ (c, Int) ∷ []) (word (codes "int") ∷ []) (column_good cs c Int ok new) (spelled (c, Int) ∙ sym (append_assoc pre (word c ∷ []) (word (codes "int") ∷ [])))) (λ k rs base _.
     let kept = not-true (is_nullable k) base in
     sound_choose (keyword_kind (codes "null")) _ _ (λ _ ss _ _. sound_read (column_good cs c (with_null k) ok new)
-    (spelled (c, with_null k) ∙ ap (λ x. pre ++ x) (null_behind c k kept) ∙ two_more pre (word c) (word (kind_word k)) (word (codes "null"))))
-    (sound_read (column_good cs c k ok new) (spelled (c, k) ∙ ap (λ x. pre ++ x) (without_null c k kept) ∙ one_more pre (word c) (word (kind_word k))))))
+    (spelled (c, with_null k) ∙ ap (λ x. pre ++ x) (null_behind c k kept) ∙ sym (append_assoc pre (word c ∷ []) (word (kind_word k) ∷ word (codes "null") ∷ []))
+    ∙ sym (append_assoc (pre ++ word c ∷ []) (word (kind_word k) ∷ []) (word (codes "null") ∷ []))))
+    (sound_read (column_good cs c k ok new) (spelled (c, k) ∙ ap (λ x. pre ++ x) (without_null c k kept) ∙ sym (append_assoc pre (word c ∷ []) (word (kind_word k) ∷ []))))))
 
 next_column_sound : (cs : Columns) (b : Unit {0}) (qs : Placed) → (is_some_list cs && are_columns [] cs) ≡ true → true ≡ true → length (columns_tokens cs) < 2 ^ 64 → Sound columns_trees (columns_tokens cs ++ comma ∷ []) qs (next_column cs b qs)
 next_column_sound [] b qs ok _ few = cc
@@ -175,44 +159,24 @@ all_columns_sound ps few =
 
 -- ---- dependencies
 
-names_level : (ns : List Name) → at_each 0 (map word ns) ≡ map (λ _. 0) ns
-names_level [] = refl
-names_level (n ∷ ns) = ap (λ x. 0 ∷ x) (names_level ns)
-
-left_within : Within (names_trees 0) dep_trees []
-unfolding some_name
-left_within = record {
-  wrap = λ l. (l, some_name ∷ []);
-  after = arrow ∷ word some_name ∷ [];
-  levels = [];
-  levels_after = 0 ∷ 0 ∷ [];
-  good = λ l h. conj h refl;
-  spelled = λ l. refl;
-  nested = λ l. levels (dep_tokens (l, some_name ∷ [])) (map word l) (arrow ∷ word some_name ∷ []) refl ∙ ap (λ x. x ++ 0 ∷ 0 ∷ []) (names_level l);
-  long = refl;
-}
-
-right_within : (l : List Name) → are_free_names l ≡ true → Within (names_trees 0) dep_trees (map word l ++ arrow ∷ [])
-right_within l left =
-    let spelled : (r : List Name) → dep_tokens (l, r) ≡ (map word l ++ arrow ∷ []) ++ map word r = λ r. sym (append_assoc (map word l) (arrow ∷ []) (map word r)) in
-    last_within (λ r. (l, r)) (λ r right. conj left right) spelled
-    (λ r. levels (dep_tokens (l, r)) (map word l ++ arrow ∷ []) (map word r) (spelled r) ∙ ap (λ x. at_each 0 (map word l ++ arrow ∷ []) ++ x) (names_level r))
-
 dep_sound : (ps : Placed) → Sound dep_trees [] ps (dep ps)
 unfolding some_name
 dep_sound ps =
-    sound_then left_within _ (all_names_sound 0 ps) (λ l rest left _.
-    sound_need arrow_kind _ (record { tree = (l, some_name ∷ []); more = arrow ∷ word some_name ∷ []; good = conj left refl; spelled = refl }) (λ _ qs _ _.
-    sound_then (right_within l left) _ (all_names_sound 0 qs) (λ r last right _.
-    sound_read (conj left right) (sym (append_assoc (map word l) (arrow ∷ []) (map word r))))))
+    let some : List Name = some_name ∷ [] in
+    sound_then
+    (within (λ l. (l, some)) (arrow ∷ map word some) [] (0 ∷ 0 ∷ []) refl (λ l h. conj h refl) (λ l. refl)
+    (λ l. levels (dep_tokens (l, some)) (map word l) (arrow ∷ map word some) refl ∙ ap (λ x. x ++ 0 ∷ 0 ∷ []) (names_level 0 l))) _ (all_names_sound 0 ps) (λ l rest left _.
+    sound_need arrow_kind _ (begun (l, some) _ (conj left refl) refl) (λ _ qs _ _.
+    let pre : List Token = map word l ++ arrow ∷ [] in
+    let spelled : (r : List Name) → dep_tokens (l, r) ≡ pre ++ map word r = λ r. sym (append_assoc (map word l) (arrow ∷ []) (map word r)) in
+    sound_end (λ r. (l, r)) (λ r right. conj left right) spelled
+    (λ r. levels (dep_tokens (l, r)) pre (map word r) (spelled r) ∙ ap (λ x. at_each 0 pre ++ x) (names_level 0 r)) (all_names_sound 0 qs)))
 
 next_dep_sound : (ds : List Dep) (b : Unit {0}) (qs : Placed) → (is_some_list ds && list_all is_dep ds) ≡ true → true ≡ true → Sound some_deps_trees (deps_tokens ds ++ comma ∷ []) qs (next_dep ds b qs)
 next_dep_sound [] b qs ok _ = cc
 next_dep_sound (c ∷ ds) b qs ok _ =
-    let pre : List Token = deps_tokens (c ∷ ds) ++ comma ∷ [] in
-    let good : (d : Dep) → is_dep d ≡ true → list_all is_dep (c ∷ (ds ++ d ∷ [])) ≡ true = λ d. all_pushed is_dep (c ∷ ds) d ok in
-    sound_then
-    (last_within (λ d. c ∷ (ds ++ d ∷ [])) good (deps_pushed c ds) (λ d. levels (deps_tokens (c ∷ (ds ++ d ∷ []))) pre (dep_tokens d) (deps_pushed c ds d))) _ (dep_sound qs) (λ d rest fine _. sound_read (good d fine) (deps_pushed c ds d))
+    sound_end (λ d. c ∷ (ds ++ d ∷ [])) (λ d. all_pushed is_dep (c ∷ ds) d ok) (deps_pushed c ds)
+    (λ d. levels (deps_tokens (c ∷ (ds ++ d ∷ []))) (deps_tokens (c ∷ ds) ++ comma ∷ []) (dep_tokens d) (deps_pushed c ds d)) (dep_sound qs)
 
 first_dep : (d : Dep) → deps_tokens (d ∷ []) ≡ word (codes "with") ∷ dep_tokens d
 first_dep d = ap (λ x. word (codes "with") ∷ x) (append-nil (dep_tokens d))
@@ -249,18 +213,6 @@ unfolding table_front
 front_levels name cs xs =
     ap (λ x. 0 ∷ 0 ∷ 0 ∷ x) (sym (append_assoc (at_each 0 (columns_tokens cs)) (0 ∷ []) xs) ∙ ap (λ x. x ++ xs) (sym (map-append (λ _. 0) (columns_tokens cs) (close_paren ∷ []))))
 
-columns_within : (name : Name) → is_free_name name ≡ true → Within columns_trees written_trees (word (codes "table") ∷ word name ∷ open_paren ∷ [])
-columns_within name free = record {
-  wrap = λ cs. table name cs [] None;
-  after = close_paren ∷ [];
-  levels = 0 ∷ 0 ∷ 0 ∷ [];
-  levels_after = 0 ∷ [];
-  good = λ cs h. table_good name cs [] None free h refl refl;
-  spelled = λ cs. refl;
-  nested = λ cs. refl;
-  long = refl;
-}
-
 -- behind the columns of a table
 module _ (name : Name) (cs : Columns) (free : is_free_name name ≡ true) (columns : (is_some_list cs && are_columns [] cs) ≡ true) where
   deps_within : Within deps_trees written_trees (table_front name cs)
@@ -272,11 +224,11 @@ module _ (name : Name) (cs : Columns) (free : is_free_name name ≡ true) (colum
   table_spelled : (ds : List Dep) (p : Option Pred) → written_tokens (table name cs ds p) ≡ (table_front name cs ++ deps_tokens ds) ++ where_tokens p
   table_spelled ds p = front_tokens name cs (deps_tokens ds ++ where_tokens p) ∙ sym (append_assoc (table_front name cs) (deps_tokens ds) (where_tokens p))
 
-  condition_within : (ds : List Dep) → list_all is_dep ds ≡ true → Within condition_trees written_trees (table_front name cs ++ deps_tokens ds)
-  condition_within ds deps =
-      last_within (λ p. table name cs ds p) (λ p h. table_good name cs ds p free columns deps h) (table_spelled ds)
+  behind_sound : (ds : List Dep) → list_all is_dep ds ≡ true → {ps : Placed} {o : Outcome (Option Pred)} → Sound condition_trees [] ps o → Sound written_trees (table_front name cs ++ deps_tokens ds) ps (and_then o (λ p. read (table name cs ds p)))
+  behind_sound ds deps h =
+      sound_end (λ p. table name cs ds p) (λ p h. table_good name cs ds p free columns deps h) (table_spelled ds)
       (λ p. front_levels name cs (at_each 0 (deps_tokens ds) ++ where_nesting p) ∙ sym (append_assoc (at_each 0 (table_front name cs)) (at_each 0 (deps_tokens ds)) (where_nesting p))
-      ∙ ap (λ x. x ++ where_nesting p) (sym (map-append (λ _. 0) (table_front name cs) (deps_tokens ds))))
+      ∙ ap (λ x. x ++ where_nesting p) (sym (map-append (λ _. 0) (table_front name cs) (deps_tokens ds)))) h
 
 some_columns : Columns
 some_columns = (some_name, Int) ∷ []
@@ -285,28 +237,23 @@ module _ (n : ℕ) (e : 0 + n ≡ max_nesting) where
   condition_sound : (ps : Placed) → Sound condition_trees [] ps (condition n ps)
   condition_sound ps =
       sound_choose (keyword_kind (codes "where")) _ _ (λ _ qs _ _.
-      sound_then (last_within (λ p. Some p) (λ p h. h) (λ p. refl) (λ p. refl)) _ (pred_of_sound 0 (part n) (part_local n) (λ rs. part_sound n 0 rs e) qs) (λ p rest good _. sound_read good refl))
-      (sound_read refl refl)
+      sound_end (λ p. Some p) (λ p h. h) (λ p. refl) (λ p. refl) (pred_of_sound 0 (part n) (part_local n) (λ rs. part_sound n 0 rs e) qs)) (sound_read refl refl)
 
   table_sound : (ps : Placed) → length ps < 2 ^ 64 → Sound written_trees (word (codes "table") ∷ []) ps (table_rule n ps)
   unfolding some_name some_columns table_front
   table_sound ps few =
       sound_need name_kind _ (begun (table some_name some_columns [] None) _ refl refl) (λ name qs free short.
       sound_need open_kind _ (begun (table name some_columns [] None) _ (table_good name some_columns [] None free refl refl refl) refl) (λ _ rs _ shorter.
-      sound_then (columns_within name free) _ (all_columns_sound rs (omega (arith, few, short, shorter))) (λ cs ss columns _.
+      sound_then (within (λ cs. table name cs [] None) (close_paren ∷ []) (0 ∷ 0 ∷ 0 ∷ []) (0 ∷ []) refl (λ cs h. table_good name cs [] None free h refl refl) (λ cs. refl) (λ cs. refl)) _ (all_columns_sound rs (omega (arith, few, short, shorter))) (λ cs ss columns _.
       sound_need close_kind _ (begun (table name cs [] None) _ (table_good name cs [] None free columns refl refl) refl) (λ _ us _ _.
-      sound_then (deps_within name cs free columns) _ (all_deps_sound us) (λ ds vs deps _.
-      sound_then (condition_within name cs free columns ds deps) _ (condition_sound vs) (λ p last condition _.
-      sound_read (table_good name cs ds p free columns deps condition) (table_spelled name cs free columns ds p)))))))
+      sound_then (deps_within name cs free columns) _ (all_deps_sound us) (λ ds vs deps _. behind_sound name cs free columns ds deps (condition_sound vs))))))
 
   view_sound : (ps : Placed) → Sound written_trees (word (codes "view") ∷ []) ps (view_rule n ps)
   unfolding some_name
   view_sound ps =
       sound_need name_kind _ (begun (view some_name (named some_name)) _ refl refl) (λ name qs free _.
       sound_need equals_kind _ (begun (view name (named some_name)) _ (conj free refl) refl) (λ _ rs _ _.
-      sound_then
-      (last_within (λ x. view name x) (λ x h. conj free h) (λ x. refl) (λ x. refl)) _ (expr_of_sound n 0 e (operand n) (λ ss. operand_sound n 0 ss e) rs) (λ x last good _.
-      sound_read (conj free good) refl)))
+      sound_end (λ x. view name x) (λ x h. conj free h) (λ x. refl) (λ x. refl) (expr_of_sound n 0 e (operand n) (λ ss. operand_sound n 0 ss e) rs)))
 
   pub definition_sound : (ps : Placed) → length ps < 2 ^ 64 → Sound written_trees [] ps (definition n ps)
   unfolding some_name

@@ -1,25 +1,19 @@
 -- What the rules of expressions read is spelled so, and where they stop an expression begins.
-use Rattle.std.proofs.Common.{◌≡◌, ℕ, zero, suc, ◌+◌, true, false, List, [], ◌∷◌, ◌++◌, length, refl, sym, ap, subst, ◌∙◌, append_assoc, append-nil, arith, length-append}
-use Rattle.std.specs.Prelude.{◌&&◌, codes, nat_lt, map}
-use Rattle.std.specs.List.{list_all}
-use Rattle.std.proofs.lemmas.Bool.Decides.{nat_tests}
-use Rattle.std.proofs.lemmas.List.{map-append}
+use Rattle.std.proofs.Common.{◌≡◌, ℕ, zero, suc, ◌+◌, true, List, [], ◌∷◌, ◌++◌, length, refl, sym, ap, subst, append_assoc, arith, length-append, codes, map}
+use Rattle.plain_values.proofs.Common.{map-append, length-map}
 use Rattle.plain_values.specs.declared.join_kind.JoinKind.{JoinKind}
-use Rattle.plain_values.specs.declared.value.Value.{Value}
 use Rattle.plain_values.specs.declared.value.Value.TheVariants.{Null}
 use Rattle.lens_specs.specs.Common.{Name}
-use Rattle.grammar_specs.specs.Tokens.{Token, word, open_paren, close_paren, comma, is_free_name}
-use Rattle.grammar_specs.specs.Texts.{Placed}
-use Rattle.grammar_specs.specs.Nesting.{operand_nesting, expr_nesting, pred_nesting, max_nesting}
-use Rattle.grammar_specs.specs.Written.{literally, only, Pred, alone, Operand, bare, enclosed, Expr, named, select, drop, rename, join, literal, join_word, pred_tokens, operand_tokens, expr_tokens, is_operand, is_expr, are_free_names}
+use Rattle.grammar_specs.specs.Common.{Token, word, open_paren, close_paren, comma, is_free_name, Placed, operand_nesting, expr_nesting, pred_nesting, max_nesting, literally, only, Pred, alone, Operand, bare, enclosed, select, drop, rename, join, literal, join_word, pred_tokens, operand_tokens, expr_tokens, is_operand, is_expr, are_free_names}
+use Rattle.grammar_specs.specs.Written.{Expr, named}
 use Rattle.grammar_laws.specs.Tests.{is_keyword, is_close}
 use Rattle.grammar_laws.specs.Steps.{Outcome, read, too_deep, and_then, need, passing}
 use Rattle.grammar_laws.specs.PredRules.{pred, part}
 use Rattle.grammar_laws.specs.ExprRules.{all_names, operand_of, select_of, drop_from, drop_of, rename_of, join_of, expr_of, operand}
 use Rattle.grammar_laws.proofs.Local.{IsLocal, local_read, local_then, local_repeat}
-use Rattle.grammar_laws.proofs.Sound.{Trees, begun, Sound, sound_read, sound_deep, sound_choose, sound_need, Within, sound_then, sound_repeat}
+use Rattle.grammar_laws.proofs.Sound.{Trees, begun, Sound, sound_read, sound_deep, sound_choose, sound_need, sound_then, within, sound_last, one_longer, sound_repeat}
 use Rattle.grammar_laws.proofs.TokenKinds.{keyword_kind, open_kind, close_kind, comma_kind, name_kind, fill_kind, join_kind}
-use Rattle.grammar_laws.proofs.PredSound.{need_local, choose_local, conj, pred_trees, pred_of_local, part_local, pred_of_sound, part_sound, pred_long}
+use Rattle.grammar_laws.proofs.PredSound.{all_pushed, need_local, choose_local, conj, pred_of_local, part_local, pred_of_sound, part_sound, pred_long, over}
 
 -- ---- the rules are local
 
@@ -98,13 +92,9 @@ some_operand = bare some_name
 some_pred : Pred
 some_pred = alone (only (literally true))
 
-names_more : (ns : List Name) (n : Name) → list_all is_free_name ns ≡ true → is_free_name n ≡ true → list_all is_free_name (ns ++ n ∷ []) ≡ true
-names_more [] n all good = rw good refl
-names_more (m ∷ ns) n all good = elim (is_free_name m) as (λ b. (b && list_all is_free_name ns) ≡ true → (b && list_all is_free_name (ns ++ n ∷ [])) ≡ true) [ true ↦ λ h. names_more ns n h good | false ↦ λ h. cc ] all
-
 name_sound : (k : ℕ) (ns : List Name) (n : Name) (ps : Placed) → are_free_names ns ≡ true → is_free_name n ≡ true → Sound (names_trees k) (map word ns ++ word n ∷ []) ps (read (ns ++ n ∷ []) ps)
 name_sound k [] n ps ok good = cc
-name_sound k (m ∷ ns) n ps ok good = sound_read (names_more (m ∷ ns) n ok good) (map-append word (m ∷ ns) (n ∷ []))
+name_sound k (m ∷ ns) n ps ok good = sound_read (all_pushed is_free_name (m ∷ ns) n ok good) (map-append word (m ∷ ns) (n ∷ []))
 
 pub all_names_sound : (k : ℕ) (ps : Placed) → Sound (names_trees k) [] ps (all_names ps)
 unfolding some_name
@@ -113,9 +103,6 @@ all_names_sound k ps =
     sound_repeat name_kind _ name_local (name_sound k) _ (rw good refl))
 
 -- ---- operands
-
-enclosed_within : (k : ℕ) → Within (expr_trees (suc k)) (operand_trees k) (open_paren ∷ [])
-enclosed_within k = record { wrap = enclosed; after = close_paren ∷ []; levels = suc k ∷ []; levels_after = suc k ∷ []; good = λ e h. h; spelled = λ e. refl; nested = λ e. refl; long = refl }
 
 -- an operand, where this is known of what is read behind a parenthesis
 operand_of_sound : (k : ℕ) (within : Placed → Outcome Expr) (ps : Placed)
@@ -127,22 +114,12 @@ operand_of_sound k within ps behind_open =
 
 -- ---- expressions
 
-select_within : (k : ℕ) → Within (operand_trees k) (expr_trees k) (word (codes "select") ∷ word (codes "from") ∷ [])
-unfolding some_pred
-select_within k = record {
-  wrap = λ o. select o some_pred;
-  after = word (codes "where") ∷ pred_tokens some_pred;
-  levels = k ∷ k ∷ [];
-  levels_after = k ∷ pred_nesting k some_pred;
-  good = λ o h. conj h refl;
-  spelled = λ o. refl;
-  nested = λ o. refl;
-  long = refl;
-}
-
 pub names_long : (k : ℕ) (by : List Name) → length (map (λ _. k) by) ≡ length (map word by)
-names_long k [] = refl
-names_long k (n ∷ by) = ap suc (names_long k by)
+names_long k by = simp length-map
+
+pub names_level : (k : ℕ) (ns : List Name) → map (λ _. k) (map word ns) ≡ map (λ _. k) ns
+names_level k [] = refl
+names_level k (n ∷ ns) = ap (λ x. k ∷ x) (names_level k ns)
 
 mutual
   pub operand_long : (k : ℕ) (o : Operand) → length (operand_nesting k o) ≡ length (operand_tokens o)
@@ -159,98 +136,23 @@ mutual
   expr_long k (join j o q) =
       omega (arith, operand_long k o, operand_long k q, length-append (operand_nesting k o) (k ∷ operand_nesting k q), length-append (operand_tokens o) (word (codes "with") ∷ operand_tokens q))
 
-where_within : (k : ℕ) (o : Operand) → is_operand o ≡ true → Within (pred_trees k) (expr_trees k) (word (codes "select") ∷ word (codes "from") ∷ (operand_tokens o ++ word (codes "where") ∷ []))
-where_within k o ok = record {
-  wrap = select o;
-  after = [];
-  levels = k ∷ k ∷ (operand_nesting k o ++ k ∷ []);
-  levels_after = [];
-  good = λ p h. conj ok h;
-  spelled = λ p. simp (append_assoc, append-nil);
-  nested = λ p. simp (append_assoc, append-nil);
-  long = omega (arith, operand_long k o, length-append (operand_nesting k o) (k ∷ []), length-append (operand_tokens o) (word (codes "where") ∷ []));
-}
-
-rename_within : (k : ℕ) (c d : Name) → is_free_name c ≡ true → is_free_name d ≡ true → Within (operand_trees k) (expr_trees k) (word (codes "rename") ∷ word c ∷ word (codes "to") ∷ word d ∷ word (codes "from") ∷ [])
-rename_within k c d free other = record {
-  wrap = rename c d;
-  after = [];
-  levels = k ∷ k ∷ k ∷ k ∷ k ∷ [];
-  levels_after = [];
-  good = λ o h. conj (conj free other) h;
-  spelled = λ o. simp append-nil;
-  nested = λ o. simp append-nil;
-  long = refl;
-}
-
-join_within : (k : ℕ) (j : JoinKind) → Within (operand_trees k) (expr_trees k) (word (join_word j) ∷ [])
-unfolding some_operand some_name
-join_within k j = record {
-  wrap = λ o. join j o some_operand;
-  after = word (codes "with") ∷ operand_tokens some_operand;
-  levels = k ∷ [];
-  levels_after = k ∷ operand_nesting k some_operand;
-  good = λ o h. conj h refl;
-  spelled = λ o. refl;
-  nested = λ o. refl;
-  long = refl;
-}
-
-with_within : (k : ℕ) (j : JoinKind) (o : Operand) → is_operand o ≡ true → Within (operand_trees k) (expr_trees k) (word (join_word j) ∷ (operand_tokens o ++ word (codes "with") ∷ []))
-with_within k j o ok = record {
-  wrap = join j o;
-  after = [];
-  levels = k ∷ (operand_nesting k o ++ k ∷ []);
-  levels_after = [];
-  good = λ q h. conj ok h;
-  spelled = λ q. simp (append_assoc, append-nil);
-  nested = λ q. simp (append_assoc, append-nil);
-  long = omega (arith, operand_long k o, length-append (operand_nesting k o) (k ∷ []), length-append (operand_tokens o) (word (codes "with") ∷ []));
-}
-
-names_within : (k : ℕ) (c : Name) → is_free_name c ≡ true → Within (names_trees k) (expr_trees k) (word (codes "drop") ∷ word c ∷ word (codes "determined") ∷ word (codes "by") ∷ open_paren ∷ [])
-unfolding some_operand some_name
-names_within k c free = record {
-  wrap = λ by. drop c by Null some_operand;
-  after = comma ∷ literal Null ∷ close_paren ∷ word (codes "from") ∷ operand_tokens some_operand;
-  levels = k ∷ k ∷ k ∷ k ∷ k ∷ [];
-  levels_after = k ∷ k ∷ k ∷ k ∷ operand_nesting k some_operand;
-  good = λ by h. conj (conj free h) refl;
-  spelled = λ by. refl;
-  nested = λ by. refl;
-  long = refl;
-}
-
 -- up to the names, and up to the operand
 abbrev drop_front : Name → List Name → List Token
 drop_front c by = word (codes "drop") ∷ word c ∷ word (codes "determined") ∷ word (codes "by") ∷ open_paren ∷ map word by
 
-dropped_within : (k : ℕ) (c : Name) (by : List Name) (v : Value) → is_free_name c ≡ true → are_free_names by ≡ true
-    → Within (operand_trees k) (expr_trees k) (drop_front c by ++ comma ∷ literal v ∷ close_paren ∷ word (codes "from") ∷ [])
-dropped_within k c by v free names = record {
-  wrap = drop c by v;
-  after = [];
-  levels = k ∷ k ∷ k ∷ k ∷ k ∷ (map (λ _. k) by ++ k ∷ k ∷ k ∷ k ∷ []);
-  levels_after = [];
-  good = λ o h. conj (conj free names) h;
-  spelled = λ o.
-      ap (λ x. drop_front c by ++ comma ∷ literal v ∷ close_paren ∷ word (codes "from") ∷ x) (sym (append-nil (operand_tokens o)))
-      ∙ sym (append_assoc (drop_front c by) (comma ∷ literal v ∷ close_paren ∷ word (codes "from") ∷ []) (operand_tokens o ++ []));
-  nested = λ o.
-      ap (λ x. k ∷ k ∷ k ∷ k ∷ k ∷ (map (λ _. k) by ++ k ∷ k ∷ k ∷ k ∷ x)) (sym (append-nil (operand_nesting k o)))
-      ∙ sym (append_assoc (k ∷ k ∷ k ∷ k ∷ k ∷ map (λ _. k) by) (k ∷ k ∷ k ∷ k ∷ []) (operand_nesting k o ++ []));
-  long = omega (arith, names_long k by, length-append (map (λ _. k) by) (k ∷ k ∷ k ∷ k ∷ []), length-append (map word by) (comma ∷ literal v ∷ close_paren ∷ word (codes "from") ∷ []));
-}
-
-module _ (n k : ℕ) (within : k + n ≡ max_nesting) (operand : Placed → Outcome Operand) (sound : (ps : Placed) → Sound (operand_trees k) [] ps (operand ps)) where
+module _ (n k : ℕ) (flat : k + n ≡ max_nesting) (operand : Placed → Outcome Operand) (sound : (ps : Placed) → Sound (operand_trees k) [] ps (operand ps)) where
   select_sound : (ps : Placed) → Sound (expr_trees k) (word (codes "select") ∷ []) ps (select_of n operand ps)
   unfolding some_operand some_name some_pred
   select_sound ps =
       sound_need (keyword_kind (codes "from")) _ (begun (select some_operand some_pred) _ refl refl) (λ _ qs _ _.
-      sound_then (select_within k) _ (sound qs) (λ o rest good _.
+      sound_then
+      (within (λ o. select o some_pred) (word (codes "where") ∷ pred_tokens some_pred) (k ∷ k ∷ []) (k ∷ pred_nesting k some_pred) refl (λ o h. conj h refl) (λ o. refl) (λ o. refl)) _ (sound qs) (λ o rest good _.
       sound_need (keyword_kind (codes "where")) _ (begun (select o some_pred) _ (conj good refl) refl) (λ _ more _ _.
-      sound_then (where_within k o good) _ (pred_of_sound k (part n) (part_local n) (λ rs. part_sound n k rs within) more)
-      (λ p last fine _. sound_read (conj good fine) (simp append_assoc)))))
+      let front : List Token = word (codes "select") ∷ word (codes "from") ∷ operand_tokens o in
+      let levels : List ℕ = k ∷ k ∷ operand_nesting k o in
+      sound_last (select o) (levels ++ k ∷ []) (one_longer levels front k (word (codes "where")) (ap (λ l. suc (suc l)) (operand_long k o))) (λ p h. conj good h)
+      (λ p. sym (append_assoc front (word (codes "where") ∷ []) (pred_tokens p))) (λ p. sym (append_assoc levels (k ∷ []) (pred_nesting k p)))
+      (pred_of_sound k (part n) (part_local n) (λ rs. part_sound n k rs flat) more))))
 
   rename_sound : (ps : Placed) → Sound (expr_trees k) (word (codes "rename") ∷ []) ps (rename_of operand ps)
   unfolding some_operand some_name
@@ -259,42 +161,48 @@ module _ (n k : ℕ) (within : k + n ≡ max_nesting) (operand : Placed → Outc
       sound_need (keyword_kind (codes "to")) _ (begun (rename c some_name some_operand) _ (conj (conj free refl) refl) refl) (λ _ rs _ _.
       sound_need name_kind _ (begun (rename c some_name some_operand) _ (conj (conj free refl) refl) refl) (λ d ss other _.
       sound_need (keyword_kind (codes "from")) _ (begun (rename c d some_operand) _ (conj (conj free other) refl) refl) (λ _ more _ _.
-      sound_then (rename_within k c d free other) _ (sound more) (λ o last good _. sound_read (conj (conj free other) good) refl)))))
+      sound_last (rename c d) (k ∷ k ∷ k ∷ k ∷ k ∷ []) refl (λ o h. conj (conj free other) h) (λ o. refl) (λ o. refl) (sound more)))))
 
   join_sound : (j : JoinKind) (ps : Placed) → Sound (expr_trees k) (word (join_word j) ∷ []) ps (join_of operand j ps)
   unfolding some_operand some_name
   join_sound j ps =
-      sound_then (join_within k j) _ (sound ps) (λ o rest good _.
+      sound_then
+      (within (λ o. join j o some_operand) (word (codes "with") ∷ operand_tokens some_operand) (k ∷ []) (k ∷ operand_nesting k some_operand) refl (λ o h. conj h refl) (λ o. refl) (λ o. refl)) _ (sound ps) (λ o rest good _.
       sound_need (keyword_kind (codes "with")) _ (begun (join j o some_operand) _ (conj good refl) refl) (λ _ more _ _.
-      sound_then (with_within k j o good) _ (sound more) (λ q last fine _. sound_read (conj good fine) (simp append_assoc))))
-
-  drop_ok : (c : Name) (by : List Name) (o : Operand) → is_free_name c ≡ true → are_free_names by ≡ true → is_operand o ≡ true → (is_free_name c && are_free_names by && is_operand o) ≡ true
-  drop_ok c by o free names good = conj (conj free names) good
+      let front : List Token = word (join_word j) ∷ operand_tokens o in
+      sound_last (join j o) (k ∷ (operand_nesting k o ++ k ∷ [])) (one_longer (k ∷ operand_nesting k o) front k (word (codes "with")) (ap suc (operand_long k o))) (λ q h. conj good h)
+      (λ q. sym (append_assoc front (word (codes "with") ∷ []) (operand_tokens q))) (λ q. sym (append_assoc (k ∷ operand_nesting k o) (k ∷ []) (operand_nesting k q))) (sound more)))
 
   drop_from_sound : (c : Name) (by : List Name) (ps : Placed) → is_free_name c ≡ true → are_free_names by ≡ true → Sound (expr_trees k) (drop_front c by) ps (drop_from operand c by ps)
   unfolding some_operand some_name
   drop_from_sound c by ps free names =
-      let some : is_expr (drop c by Null some_operand) ≡ true = drop_ok c by some_operand free names refl in
+      let some : is_expr (drop c by Null some_operand) ≡ true = conj (conj free names) refl in
       sound_need comma_kind _ (begun (drop c by Null some_operand) _ some refl) (λ _ qs _ _.
       sound_need fill_kind _
       (begun (drop c by Null some_operand) (literal Null ∷ close_paren ∷ word (codes "from") ∷ operand_tokens some_operand) some (simp append_assoc)) (λ v rs _ _.
       sound_need close_kind _
-      (begun (drop c by v some_operand) (close_paren ∷ word (codes "from") ∷ operand_tokens some_operand) (drop_ok c by some_operand free names refl) (simp append_assoc)) (λ _ ss _ _.
+      (begun (drop c by v some_operand) (close_paren ∷ word (codes "from") ∷ operand_tokens some_operand) (conj (conj free names) refl) (simp append_assoc)) (λ _ ss _ _.
       sound_need (keyword_kind (codes "from")) _
-      (begun (drop c by v some_operand) (word (codes "from") ∷ operand_tokens some_operand) (drop_ok c by some_operand free names refl) (simp append_assoc)) (λ _ more _ _.
-      let whole : drop_front c by ++ comma ∷ literal v ∷ close_paren ∷ word (codes "from") ∷ [] ≡ (((drop_front c by ++ comma ∷ []) ++ literal v ∷ []) ++ close_paren ∷ []) ++ word (codes "from") ∷ [] = simp append_assoc in
+      (begun (drop c by v some_operand) (word (codes "from") ∷ operand_tokens some_operand) (conj (conj free names) refl) (simp append_assoc)) (λ _ more _ _.
+      let behind : List Token = comma ∷ literal v ∷ close_paren ∷ word (codes "from") ∷ [] in
+      let whole : drop_front c by ++ behind ≡ (((drop_front c by ++ comma ∷ []) ++ literal v ∷ []) ++ close_paren ∷ []) ++ word (codes "from") ∷ [] = simp append_assoc in
+      let fours : List ℕ = k ∷ k ∷ k ∷ k ∷ [] in
+      let levels : List ℕ = k ∷ k ∷ k ∷ k ∷ k ∷ map (λ _. k) by in
       subst (λ x. Sound (expr_trees k) x more (and_then (operand more) (λ o. read (drop c by v o)))) whole
-      (sound_then (dropped_within k c by v free names) _ (sound more) (λ o last good _. sound_read (drop_ok c by o free names good) (simp append_assoc)))))))
+      (sound_last (drop c by v) (levels ++ fours) (omega (arith, names_long k by, length-append levels fours, length-append (drop_front c by) behind)) (λ o h. conj (conj free names) h)
+      (λ o. sym (append_assoc (drop_front c by) behind (operand_tokens o))) (λ o. sym (append_assoc levels fours (operand_nesting k o))) (sound more))))))
 
   drop_sound : (ps : Placed) → Sound (expr_trees k) (word (codes "drop") ∷ []) ps (drop_of operand ps)
   unfolding some_operand some_name
   drop_sound ps =
-      let some : (c : Name) → is_free_name c ≡ true → is_expr (drop c (some_name ∷ []) Null some_operand) ≡ true = λ c free. drop_ok c (some_name ∷ []) some_operand free refl refl in
+      let some : (c : Name) → is_free_name c ≡ true → is_expr (drop c (some_name ∷ []) Null some_operand) ≡ true = λ c free. conj (conj free refl) refl in
       sound_need name_kind _ (begun (drop some_name (some_name ∷ []) Null some_operand) _ refl refl) (λ c qs free _.
       sound_need (keyword_kind (codes "determined")) _ (begun (drop c (some_name ∷ []) Null some_operand) _ (some c free) refl) (λ _ rs _ _.
       sound_need (keyword_kind (codes "by")) _ (begun (drop c (some_name ∷ []) Null some_operand) _ (some c free) refl) (λ _ ss _ _.
       sound_need open_kind _ (begun (drop c (some_name ∷ []) Null some_operand) _ (some c free) refl) (λ _ more _ _.
-      sound_then (names_within k c free) _ (all_names_sound k more) (λ by last names _. drop_from_sound c by last free names)))))
+      sound_then
+      (within (λ by. drop c by Null some_operand) (comma ∷ literal Null ∷ close_paren ∷ word (codes "from") ∷ operand_tokens some_operand) (k ∷ k ∷ k ∷ k ∷ k ∷ []) (k ∷ k ∷ k ∷ k ∷ operand_nesting k some_operand) refl
+      (λ by h. conj (conj free h) refl) (λ by. refl) (λ by. refl)) _ (all_names_sound k more) (λ by last names _. drop_from_sound c by last free names)))))
 
   pub expr_of_sound : (ps : Placed) → Sound (expr_trees k) [] ps (expr_of n operand ps)
   unfolding some_name
@@ -303,18 +211,12 @@ module _ (n k : ℕ) (within : k + n ≡ max_nesting) (operand : Placed → Outc
       (sound_choose (keyword_kind (codes "drop")) _ _ (λ _ qs _ _. drop_sound qs) (sound_choose (keyword_kind (codes "rename")) _ _ (λ _ qs _ _. rename_sound qs)
       (sound_need join_kind _ (begun (named some_name) _ refl refl) (λ j qs _ _. join_sound j qs)))))
 
-over : (k : ℕ) → k + 0 ≡ max_nesting → nat_lt max_nesting (suc k) ≡ true
-over k e = grind (arith, nat_tests)
-
-open_too_deep : (k : ℕ) (qs : Placed) → k + 0 ≡ max_nesting → Sound (operand_trees k) (open_paren ∷ []) qs too_deep
-unfolding some_name
-open_too_deep k qs e = sound_deep (record { tree = enclosed (named some_name); more = word some_name ∷ close_paren ∷ []; good = refl; spelled = refl; deep = rw (over k e) refl })
-
 -- what an operand reads is spelled so, where so many stand open and so many more may be opened
 pub operand_sound : (n k : ℕ) (ps : Placed) → k + n ≡ max_nesting → Sound (operand_trees k) [] ps (operand n ps)
-operand_sound zero k ps e = operand_of_sound k (λ _. too_deep) ps (λ qs. open_too_deep k qs e)
+unfolding some_name
+operand_sound zero k ps e = operand_of_sound k (λ _. too_deep) ps (λ qs. sound_deep (record { begun = begun (enclosed (named some_name)) _ refl refl; deep = rw (over k e) refl }))
 operand_sound (suc n) k ps e =
     let deeper : suc k + n ≡ max_nesting = omega (arith, e) in
     operand_of_sound k (expr_of n (operand n)) ps (λ qs.
-    sound_then (enclosed_within k) _ (expr_of_sound n (suc k) deeper (operand n) (λ rs. operand_sound n (suc k) rs deeper) qs) (λ x rest good _.
-    sound_need close_kind _ (record { tree = enclosed x; more = close_paren ∷ []; good = good; spelled = refl }) (λ _ last _ _. sound_read good refl)))
+    sound_then (within enclosed (close_paren ∷ []) (suc k ∷ []) (suc k ∷ []) refl (λ x h. h) (λ x. refl) (λ x. refl)) _ (expr_of_sound n (suc k) deeper (operand n) (λ rs. operand_sound n (suc k) rs deeper) qs) (λ x rest good _.
+    sound_need close_kind _ (begun (enclosed x) _ good refl) (λ _ last _ _. sound_read good refl)))

@@ -1,18 +1,11 @@
 -- The first token at which too many stand open is one, whatever definition the tokens begin.
-use Rattle.std.proofs.Common.{◌≡◌, ◌⊎◌, inl, inr, ℕ, ◌+◌, ◌≤◌, Bool, true, false, cond, List, [], ◌∷◌, ◌++◌, length, take, drop, refl, sym, ap, subst, ◌∙◌, append_assoc, append-nil, arith, length-append}
-use Rattle.std.specs.Prelude.{◌||◌, Option, Some, None, option_map, nat_lt}
-use Rattle.std.proofs.lemmas.List.{map-append, take-append-drop, take-take}
-use Rattle.std.proofs.lemmas.List.Folds.{list_any-append}
-use Rattle.std.proofs.lemmas.Option.{same_Some}
-use Rattle.grammar_specs.specs.Tokens.{Token}
-use Rattle.grammar_specs.specs.Texts.{Placed}
-use Rattle.grammar_specs.specs.Nesting.{nesting, max_nesting, is_too_deep}
-use Rattle.grammar_specs.specs.Written.{Written, written_tokens, is_definition}
-use Rattle.grammar_specs.specs.Faults.{Begins, BeginsTooDeep}
+use Rattle.plain_values.proofs.Common.{nat_tests, map-append, take-append-drop, take-take, list_any-append, same_Some}
+use Rattle.std.proofs.Common.{◌≡◌, ◌⊎◌, inl, inr, ℕ, ◌+◌, ◌≤◌, Bool, true, false, cond, List, [], ◌∷◌, ◌++◌, length, take, drop, refl, sym, ap, subst, ◌∙◌, append_assoc, append-nil, arith, length-append, ◌||◌, Option, Some, None, option_map, nat_lt}
+use Rattle.grammar_specs.specs.Common.{Token, Placed, nesting, max_nesting, is_too_deep, Written, written_tokens, is_definition, Begins, BeginsTooDeep}
 use Rattle.grammar_laws.specs.Steps.{Outcome, read, too_deep}
 use Rattle.grammar_laws.specs.DefRules.{alone}
 use Rattle.grammar_laws.proofs.Options.{map_then, cond_then}
-use Rattle.grammar_laws.proofs.Completes.{AtEnd, Deepens, Reads, until, placed}
+use Rattle.grammar_laws.proofs.Completes.{AtEnd, Deepens, ReadsTo, until, placed}
 use Rattle.grammar_laws.proofs.DefCompletes.{at_end, alone_read}
 
 -- ---- up to the first token at which too many stand open
@@ -27,8 +20,7 @@ deep_here : (n : ℕ) (ns : List ℕ) (t : Token) (ts us : List Token) → nat_l
 deep_here n ns t ts us here one = subst (λ vs. FirstDeep (n ∷ ns) (t ∷ ts) vs) one (record { tail = ts; split = refl; deep = rw here refl })
 
 or_true : (b c : Bool) → c ≡ true → (b || c) ≡ true
-or_true true c h = refl
-or_true false c h = h
+or_true b c h = grind (arith, nat_tests)
 
 deep_later : (n : ℕ) (ns : List ℕ) (t : Token) (ts us vs : List Token) → FirstDeep ns ts vs → t ∷ vs ≡ us → FirstDeep (n ∷ ns) (t ∷ ts) us
 deep_later n ns t ts us vs h same =
@@ -90,9 +82,6 @@ no_later P us vs xs ys h k e =
 
 -- ---- in definitions
 
-not_read : {A : Type 0} (a : A) (ps : Placed) → too_deep ≡ read a ps → ⊥
-not_read a ps e = cc
-
 -- tokens in which a definition begins too deep, up to where it is so first
 pub record BeginsDeep (P : Placed → Outcome Written) (xs : List Token) : Type 0 where
   pub front : List Token
@@ -107,19 +96,19 @@ module _ (n : ℕ) (e : 0 + n ≡ max_nesting) where
         front = found.0;
         tail = found.1;
         split = found.3;
-        deepens = subst (λ o. Reads (alone n) o (written_tokens h.0) at_end (read h.0)) (ap (until (nesting h.0)) h.3 ∙ found.2) (alone_read n e h.0 h.2);
+        deepens = subst (λ o. ReadsTo (alone n) o (written_tokens h.0) at_end (read h.0)) (ap (until (nesting h.0)) h.3 ∙ found.2) (alone_read n e h.0 h.2).holds;
       }
 
   -- it is read, or too deep in some of its tokens
   abbrev ReadOrDeep : Written → Type 0
   ReadOrDeep w = (alone n (placed (written_tokens w)) ≡ read w []) ⊎ ((us : List Token) × FirstDeep (nesting w) (written_tokens w) us × Deepens (alone n) us)
 
-  by_first : (w : Written) (o : Option (List Token)) → until (nesting w) (written_tokens w) ≡ o → Reads (alone n) o (written_tokens w) at_end (read w) → ReadOrDeep w
+  by_first : (w : Written) (o : Option (List Token)) → until (nesting w) (written_tokens w) ≡ o → ReadsTo (alone n) o (written_tokens w) at_end (read w) → ReadOrDeep w
   by_first w None is h = inl (ap (alone n) (sym (append-nil (placed (written_tokens w)))) ∙ h [] refl)
   by_first w (Some us) is h = inr (us, first_deep (nesting w) (written_tokens w) us is, h)
 
   pub read_or_deep : (w : Written) → is_definition w ≡ true → ReadOrDeep w
-  read_or_deep w good = by_first w (until (nesting w) (written_tokens w)) refl (alone_read n e w good)
+  read_or_deep w good = by_first w (until (nesting w) (written_tokens w)) refl (alone_read n e w good).holds
 
   flat_read : (w : Written) → is_definition w ≡ true → (BeginsTooDeep (written_tokens w) → ⊥) → alone n (placed (written_tokens w)) ≡ read w []
   flat_read w good flat = elim (read_or_deep w good) [
@@ -141,7 +130,7 @@ module _ (n : ℕ) (e : 0 + n ≡ max_nesting) where
       let d = begins_deep xs deep in
       let behind : written_tokens w ≡ d.front ++ (d.tail ++ ts) = spelled ∙ ap (λ x. x ++ ts) d.split ∙ append_assoc d.front d.tail ts in
       elim (read_or_deep w good) [
-        | inl reads ↦ absurd (not_read w [] (sym (deep_at (alone n) d.front (written_tokens w) (d.tail ++ ts) d.deepens behind) ∙ reads))
+        | inl reads ↦ let clash : too_deep ≡ read w [] = sym (deep_at (alone n) d.front (written_tokens w) (d.tail ++ ts) d.deepens behind) ∙ reads in cc
         | inr f ↦
             let few = no_later (alone n) d.front f.0 (d.tail ++ ts) f.1.tail d.deepens f.2 (sym behind ∙ f.1.split) in
             deep_more (length f.0) (length xs) (nesting w) (omega (arith, few, ap length d.split, length-append d.front d.tail)) f.1.deep

@@ -1,13 +1,13 @@
 -- The front of a list that passes a test.
-use Rattle.std.proofs.Common.{◌≡◌, ℕ, ◌+◌, suc, Bool, true, false, cond, List, [], ◌∷◌, length, take, drop, refl, sym, ap, ◌∙◌, arith}
-use Rattle.std.specs.Prelude.{◌&&◌, ◌||◌, ◌==◌, not, nat_le, Some, None, take_while}
-use Rattle.std.specs.List.{list_all, prefix_len}
-use Rattle.std.proofs.lemmas.List.Sums.{take_while-cons}
-use Rattle.std.proofs.lemmas.Bool.Decides.{nat_tests}
-use Rattle.std.proofs.Math.Bool.{and-true}
-use Rattle.plain_values.specs.Bytes.{is_name_byte, is_lower}
-use Rattle.grammar_specs.specs.Tokens.{word, is_digit}
+use Rattle.std.proofs.Common.{◌≡◌, ℕ, ◌+◌, suc, Bool, true, false, cond, List, [], ◌∷◌, length, take, drop, refl, sym, ap, ◌∙◌, arith, ◌&&◌, ◌||◌, ◌==◌, nat_le, Some, None, take_while}
+use Rattle.plain_values.proofs.Common.{list_all, prefix_len, take_while-cons, nat_tests, and-true, is_name_byte, is_lower}
+use Rattle.grammar_specs.specs.Common.{word, is_digit}
 use Rattle.grammar_laws.specs.Front.{drop_while, word_of, word_at}
+
+-- the rest does not go on with a passing byte
+abbrev pub Stops : (ℕ → Bool) → List ℕ → Type 0
+Stops p [] = Unit {0}
+Stops p (b ∷ rest) = p b ≡ false
 
 pub one_more : (n : ℕ) → 1 + n ≡ suc n
 one_more n = omega arith
@@ -43,13 +43,8 @@ lower_passes b e = ap (λ v. v || (nat_le 48 b && nat_le b 57)) e
 some_length : (n : ℕ) → (suc n == 0) ≡ false
 some_length n = grind (arith, nat_tests)
 
-joined : (a b c d : Bool) → a ≡ false → c ≡ true → d ≡ true → (not a && b && (c && d)) ≡ b
-joined a b c d ea ec ed = rw (ea, ec, ed) (and-true b)
-
 pub word_is : (b : ℕ) (w : List ℕ) → is_lower b ≡ true → list_all is_name_byte w ≡ true → word_at (b ∷ w) ≡ word_of (b ∷ w)
-word_is b w e all =
-    ap (λ v. cond v (Some (word (b ∷ w))) None)
-    (joined (suc (length w) == 0) (nat_le (suc (length w)) 32) (is_lower b) (is_name_byte b && list_all is_name_byte w) (some_length (length w)) e (rw (lower_passes b e, all) refl))
+word_is b w e all = rw (some_length (length w), e, all) (ap (λ v. cond v (Some (word (b ∷ w))) None) (and-true (nat_le (suc (length w)) 32)))
 
 pub not_digit : (b : ℕ) → is_digit b ≡ true → is_lower b ≡ false
 not_digit b e = grind (arith, nat_tests)

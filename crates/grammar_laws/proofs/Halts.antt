@@ -1,11 +1,8 @@
 -- Where tokens stop to begin a definition, none of a text goes further.
-use Rattle.std.proofs.Common.{◌≡◌, inl, inr, ℕ, ◌+◌, List, [], ◌∷◌, ◌++◌, length, refl, sym, ap, subst, ◌∙◌, append_assoc, append-nil, arith, length-append}
-use Rattle.std.specs.Prelude.{Some}
-use Rattle.std.proofs.lemmas.List.{map-append}
-use Rattle.std.proofs.lemmas.Option.{none-some, same_Some}
-use Rattle.grammar_specs.specs.Tokens.{Token, is_blank}
-use Rattle.grammar_specs.specs.Texts.{Placed, tokens_in, AreBlank, Stand, NoToken, IsText, GoesWrong}
-use Rattle.grammar_specs.specs.Faults.{Begins, BeginsTooDeep, IsStopped, Stops, IsNestingFault}
+use Rattle.std.proofs.Common.{◌≡◌, inl, inr, ℕ, ◌+◌, List, [], ◌∷◌, ◌++◌, length, refl, sym, ap, subst, ◌∙◌, append_assoc, append-nil, arith, length-append, Some}
+use Rattle.plain_values.proofs.Common.{map-append, none-some, same_Some}
+use Rattle.grammar_specs.specs.Common.{Token, is_blank, Placed, tokens_in, AreBlank, Stand, IsText, GoesWrong, Begins, BeginsTooDeep, Stops, IsNestingFault}
+use Rattle.grammar_specs.specs.Faults.{IsStopped}
 use Rattle.grammar_laws.specs.Front.{drop_while, token_in_front}
 use Rattle.grammar_laws.proofs.Longest.{dropped, token_stands}
 use Rattle.grammar_laws.proofs.Stands.{stand_parts, stand_next, GoesOn, one_ahead}
@@ -32,10 +29,6 @@ halts_at_token text front at token left stand stopped =
       last = λ t rest found begins. let same = same_Some (t, rest) (token, parts.second.2) (sym found ∙ next.token) in stopped.1 (subst (λ x. Begins (tokens_in front ++ x ∷ [])) (ap (λ x. x.0) same) begins);
     }
 
--- where no token stands none is found
-none_found : (b : ℕ) (rest : List ℕ) → NoToken (b ∷ rest) → (t : Token) (more : List ℕ) → token_in_front (b ∷ rest) ≡ Some (t, more) → ⊥
-none_found b rest none t more found = let here = token_stands b rest (t, more) found in none t here.bytes more here.shape here.spells here.ends
-
 halts_at_wrong : (text : List ℕ) (front : Placed) (at : ℕ) → GoesWrong front at text → Begins (tokens_in front) → Halts text front at
 halts_at_wrong text front at wrong begins =
     let rest : List ℕ = wrong.2 ∷ wrong.3 in
@@ -45,7 +38,7 @@ halts_at_wrong text front at wrong begins =
       stand = wrong.6;
       place = omega (arith, wrong.5, ap length ahead, ap length wrong.4, length-append (wrong.0 ++ wrong.1) rest, length-append wrong.0 wrong.1);
       begins = begins;
-      last = λ t more found _. none_found wrong.2 wrong.3 wrong.9 t more (ap token_in_front (sym ahead) ∙ found);
+      last = λ t more found _. let here = token_stands wrong.2 wrong.3 (t, more) (ap token_in_front (sym ahead) ∙ found) in wrong.9 t here.bytes more here.shape here.spells here.ends;
     }
 
 pub nothing_ahead : (left : List ℕ) → AreBlank left → drop_while is_blank left ≡ []

@@ -1,6 +1,5 @@
 pub mod Options
 pub mod Words
-pub mod TokenTests
 pub mod FreshNames
 pub mod FrontLists
 pub mod Quotes
@@ -11,6 +10,7 @@ pub mod PrintPreds
 pub mod PrintDefs
 pub mod PrintNumbers
 pub mod PrintTokens
+pub mod PrintTrees
 pub mod PrintSpaced
 pub mod PrintablePreds
 pub mod PrintColumns

@@ -1,8 +1,6 @@
 -- A rule reads the same tokens wherever they stand, and the next one behind them decides.
-use Rattle.std.proofs.Common.{◌≡◌, ℕ, zero, suc, ◌≤◌, [], ◌∷◌, ◌++◌, length, refl, sym, ap, subst, ◌∙◌, append_assoc, arith, length-append}
-use Rattle.std.specs.Prelude.{Option, Some, None, option_and_then}
-use Rattle.grammar_specs.specs.Tokens.{Token}
-use Rattle.grammar_specs.specs.Texts.{Placed}
+use Rattle.std.proofs.Common.{◌≡◌, ℕ, zero, suc, ◌≤◌, [], ◌∷◌, ◌++◌, length, refl, sym, ap, subst, ◌∙◌, append_assoc, arith, length-append, Option, Some, None, option_and_then}
+use Rattle.grammar_specs.specs.Common.{Token, Placed}
 use Rattle.grammar_laws.specs.Steps.{next, Outcome, read, stopped, too_deep, and_then, chosen, choose, repeat_within, repeat}
 
 -- the same tokens, perhaps at other places
@@ -67,14 +65,14 @@ same_then P Q ps a rest last again s t = record {
       ap (λ o. and_then o Q) first ∙ t.same h.second others h.behind e;
 }
 
-local_second : {A B : Type 0} (P : Placed → Outcome A) (Q : A → Placed → Outcome B) (ps : Placed) (a : A) (rest : Placed) → Same P ps rest (read a) → (o : Outcome B) → Local (Q a) rest o → Local (λ qs. and_then (P qs) Q) ps o
-local_second P Q ps a rest s (read b last) t = same_then P Q ps a rest last (read b) s t
-local_second P Q ps a rest s (stopped last) t = same_then P Q ps a rest last stopped s t
-local_second P Q ps a rest s too_deep t = tt
+local_as : {A : Type 0} (P Q : Placed → Outcome A) (ps qs : Placed) → ((rest : Placed) (again : Placed → Outcome A) → Same P ps rest again → Same Q qs rest again) → (o : Outcome A) → Local P ps o → Local Q qs o
+local_as P Q ps qs f (read b rest) s = f rest (read b) s
+local_as P Q ps qs f (stopped rest) s = f rest stopped s
+local_as P Q ps qs f too_deep s = tt
 
 local_first : {A B : Type 0} (P : Placed → Outcome A) (Q : A → Placed → Outcome B) (ps : Placed) (o : Outcome A) → P ps ≡ o → Local P ps o → ((a : A) (rest : Placed) → P ps ≡ read a rest → IsLocal (Q a) rest)
     → Local (λ qs. and_then (P qs) Q) ps (and_then o Q)
-local_first P Q ps (read a rest) e s k = local_second P Q ps a rest s (Q a rest) (k a rest e)
+local_first P Q ps (read a rest) e s k = local_as (Q a) (λ qs. and_then (P qs) Q) rest ps (λ last again t. same_then P Q ps a rest last again s t) (Q a rest) (k a rest e)
 local_first P Q ps (stopped rest) e s k = record { front = s.front; split = s.split; same = λ qs others alike n. ap (λ o. and_then o Q) (s.same qs others alike n) }
 local_first P Q ps too_deep e s k = tt
 
@@ -87,18 +85,12 @@ choose_else : {A B : Type 0} (f : Token → Option A) (k : A → Placed → Outc
 choose_else f k e [] miss = refl
 choose_else f k e (q ∷ qs) miss = ap (λ o. chosen o k e q qs) miss
 
-local_else : {A B : Type 0} (f : Token → Option A) (k : A → Placed → Outcome B) (e : Placed → Outcome B) (ps : Placed) (o : Outcome B) → option_and_then f (next ps) ≡ None → Local e ps o → Local (choose f k e) ps o
-local_else f k e ps (read b rest) miss s = record {
+same_else : {A B : Type 0} (f : Token → Option A) (k : A → Placed → Outcome B) (e : Placed → Outcome B) (ps rest : Placed) (again : Placed → Outcome B) → option_and_then f (next ps) ≡ None → Same e ps rest again → Same (choose f k e) ps rest again
+same_else f k e ps rest again miss s = record {
   front = s.front;
   split = s.split;
   same = λ qs others alike n. choose_else f k e (qs ++ others) (ap (option_and_then f) (sym (ap next s.split ∙ next_alike s.front qs rest others alike n)) ∙ miss) ∙ s.same qs others alike n;
 }
-local_else f k e ps (stopped rest) miss s = record {
-  front = s.front;
-  split = s.split;
-  same = λ qs others alike n. choose_else f k e (qs ++ others) (ap (option_and_then f) (sym (ap next s.split ∙ next_alike s.front qs rest others alike n)) ∙ miss) ∙ s.same qs others alike n;
-}
-local_else f k e ps too_deep miss s = tt
 
 same_behind : {A B : Type 0} (f : Token → Option A) (k : A → Placed → Outcome B) (e : Placed → Outcome B) (p : ℕ × Token) (ps rest : Placed) (a : A) (again : Placed → Outcome B) → f p.1 ≡ Some a → Same (k a) ps rest again
     → Same (choose f k e) (p ∷ ps) rest again
@@ -108,19 +100,14 @@ same_behind f k e p ps rest a again is s = record { front = p ∷ s.front; split
     behind [] others alike n = elim alike [ ]
     behind (q ∷ qs) others (more same alike) n = ap (λ o. chosen o k e q (qs ++ others)) (sym (ap f same) ∙ is) ∙ s.same qs others alike n
 
-local_behind : {A B : Type 0} (f : Token → Option A) (k : A → Placed → Outcome B) (e : Placed → Outcome B) (p : ℕ × Token) (ps : Placed) (a : A) (o : Outcome B) → f p.1 ≡ Some a → Local (k a) ps o → Local (choose f k e) (p ∷ ps) o
-local_behind f k e p ps a (read b rest) is s = same_behind f k e p ps rest a (read b) is s
-local_behind f k e p ps a (stopped rest) is s = same_behind f k e p ps rest a stopped is s
-local_behind f k e p ps a too_deep is s = tt
-
 local_chosen : {A B : Type 0} (f : Token → Option A) (k : A → Placed → Outcome B) (e : Placed → Outcome B) (p : ℕ × Token) (ps : Placed) (o : Option A) → f p.1 ≡ o
     → ((a : A) → f p.1 ≡ Some a → IsLocal (k a) ps) → IsLocal e (p ∷ ps) → Local (choose f k e) (p ∷ ps) (chosen o k e p ps)
-local_chosen f k e p ps None is s t = local_else f k e (p ∷ ps) (e (p ∷ ps)) is t
-local_chosen f k e p ps (Some a) is s t = local_behind f k e p ps a (k a ps) is (s a is)
+local_chosen f k e p ps None is s t = local_as e (choose f k e) (p ∷ ps) (p ∷ ps) (λ rest again h. same_else f k e (p ∷ ps) rest again is h) (e (p ∷ ps)) t
+local_chosen f k e p ps (Some a) is s t = local_as (k a) (choose f k e) ps (p ∷ ps) (λ rest again h. same_behind f k e p ps rest a again is h) (k a ps) (s a is)
 
 pub local_choose : {A B : Type 0} (f : Token → Option A) (k : A → Placed → Outcome B) (e : Placed → Outcome B) (ps : Placed) → ((a : A) (p : ℕ × Token) (qs : Placed) → ps ≡ p ∷ qs → IsLocal (k a) qs) → IsLocal e ps
     → IsLocal (choose f k e) ps
-local_choose f k e [] s t = local_else f k e [] (e []) refl t
+local_choose f k e [] s t = local_as e (choose f k e) [] [] (λ rest again h. same_else f k e [] rest again refl h) (e []) t
 local_choose f k e (p ∷ ps) s t = local_chosen f k e p ps (f p.1) refl (λ a _. s a p ps refl) t
 
 -- ---- again and again

@@ -1,12 +1,9 @@
 -- A text has one answer.
-use Rattle.std.proofs.Common.{◌≡◌, ◌⊎◌, inl, inr, ℕ, ◌+◌, ◌<◌, true, List, [], ◌∷◌, ◌++◌, length, refl, sym, ap, subst, ◌∙◌, append-nil, arith, length-append}
-use Rattle.std.specs.Prelude.{Some, Result, Ok, Err}
-use Rattle.grammar_specs.specs.Tokens.{Token, is_blank}
-use Rattle.grammar_specs.specs.Texts.{Placed, tokens_in, IsText}
-use Rattle.grammar_specs.specs.Written.{Written, written_tokens, is_definition}
-use Rattle.grammar_specs.specs.Meaning.{Definition, meaning, Says}
-use Rattle.grammar_specs.specs.Nesting.{max_nesting}
-use Rattle.grammar_specs.specs.Faults.{Fault, syntax_at, too_large, columns, predicate, nested, Begins, BeginsTooDeep, IsUnfinished, Stops, IsSyntaxFault, IsNestingFault, SaysFlat, Answers}
+use Rattle.grammar_specs.specs.Meaning.{IsWritten}
+use Rattle.std.proofs.Common.{◌≡◌, ◌⊎◌, inl, inr, ℕ, ◌+◌, ◌<◌, List, [], ◌∷◌, ◌++◌, length, refl, sym, ap, subst, ◌∙◌, append-nil, arith, length-append, Some, Result, Ok, Err}
+use Rattle.grammar_specs.specs.Common.{Token, is_blank, Placed, tokens_in, Written, Definition, meaning, max_nesting, Fault, syntax_at, too_large, columns, predicate, nested, Begins, BeginsTooDeep, Stops, IsSyntaxFault, IsNestingFault, SaysFlat, Answers}
+use Rattle.grammar_specs.specs.Meaning.{Says}
+use Rattle.grammar_specs.specs.Faults.{IsUnfinished}
 use Rattle.grammar_laws.specs.Front.{drop_while, token_in_front}
 use Rattle.grammar_laws.specs.Reading.{limited}
 use Rattle.grammar_laws.proofs.Stands.{stand_parts, stand_next}
@@ -15,28 +12,8 @@ use Rattle.grammar_laws.proofs.FirstDeep.{one_flat, deep_on}
 
 -- ---- a definition that is said
 
--- what is written in a text, to its end
-record Wrote (text : List ℕ) (d : Definition) : Type 0 where
-  written : Written
-  good : is_definition written ≡ true
-  means : meaning written ≡ d
-  placed : Placed
-  spelled : tokens_in placed ≡ written_tokens written
-  whole : IsText placed text
-  halts : Halts text placed (length text)
-
-wrote : (text : List ℕ) (d : Definition) → Says text d → Wrote text d
-wrote text d says =
-    let is = says.1 in
-    record {
-      written = says.0;
-      good = is.0;
-      means = says.2;
-      placed = is.1;
-      spelled = is.2;
-      whole = is.3;
-      halts = halts_at_end text is.1 is.3 (says.0, [], is.0, sym is.2 ∙ sym (append-nil (tokens_in is.1)));
-    }
+written_halts : (text : List ℕ) (w : Written) (is : IsWritten text w) → Halts text is.1 (length text)
+written_halts text w is = halts_at_end text is.1 is.3 (w, [], is.0, sym is.2 ∙ sym (append-nil (tokens_in is.1)))
 
 -- ---- a definition or a fault
 
@@ -56,10 +33,9 @@ stops_late text front at (inr (inl h)) e =
 stops_late text front at (inr (inr h)) e = h.2
 
 no_fault : (text : List ℕ) (d : Definition) (at : ℕ) → Says text d → IsSyntaxFault text at → ⊥
-no_fault text d at says fault =
-    let w = wrote text d says in
-    let same = one_halt text w.placed fault.0 (length text) at w.halts (stops_halts text fault.0 at fault.1) in
-    (stops_late text fault.0 at fault.1 (sym same.1)).1 w.written w.good (sym w.spelled ∙ ap tokens_in same.0)
+no_fault text d at (w, is, means) fault =
+    let same = one_halt text is.1 fault.0 (length text) at (written_halts text w is) (stops_halts text fault.0 at fault.1) in
+    (stops_late text fault.0 at fault.1 (sym same.1)).1 w is.0 (sym is.2 ∙ ap tokens_in same.0)
 
 one_offset : (text : List ℕ) (i j : ℕ) → IsSyntaxFault text i → IsSyntaxFault text j → i ≡ j
 one_offset text i j f g = (one_halt text f.0 g.0 i j (stops_halts text f.0 i f.1) (stops_halts text g.0 j g.1)).1
@@ -82,12 +58,10 @@ kind_of text (Err (too_large predicate)) h = inl (h.0, h.1, sym (rw (h.2, h.3) r
 
 module _ (n : ℕ) (e : 0 + n ≡ max_nesting) where
   one_meaning : (text : List ℕ) (c d : Definition) → SaysFlat text c → SaysFlat text d → c ≡ d
-  one_meaning text c d says_c says_d =
-      let v = wrote text c says_c.0 in
-      let w = wrote text d says_d.0 in
-      let same = one_halt text v.placed w.placed (length text) (length text) v.halts w.halts in
-      let one = one_flat n e v.written w.written v.good w.good (sym v.spelled ∙ ap tokens_in same.0 ∙ w.spelled) (λ deep. says_c.1 (v.placed, v.whole.0, v.whole.1, subst BeginsTooDeep (sym v.spelled) deep)) in
-      sym v.means ∙ ap meaning one ∙ w.means
+  one_meaning text c d ((v, is_v, means_v), flat) ((w, is_w, means_w), _) =
+      let same = one_halt text is_v.1 is_w.1 (length text) (length text) (written_halts text v is_v) (written_halts text w is_w) in
+      let one = one_flat n e v w is_v.0 is_w.0 (sym is_v.2 ∙ ap tokens_in same.0 ∙ is_w.2) (λ deep. flat (is_v.1, is_v.3.0, is_v.3.1, subst BeginsTooDeep (sym is_v.2) deep)) in
+      sym means_v ∙ ap meaning one ∙ means_w
 
   no_depth : (text : List ℕ) (at : ℕ) → IsSyntaxFault text at → IsNestingFault text → ⊥
   no_depth text at (front, stops, flat) fault =

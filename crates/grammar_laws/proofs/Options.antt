@@ -1,7 +1,6 @@
 -- What an option that is there was made of.
-use Rattle.std.proofs.Common.{◌≡◌, refl, Bool, true, false, cond}
-use Rattle.std.specs.Prelude.{Option, Some, None, option_map, option_and_then}
-use Rattle.std.proofs.lemmas.Option.{same_Some}
+use Rattle.std.proofs.Common.{◌≡◌, refl, Bool, true, false, cond, Option, Some, None, option_map, option_and_then}
+use Rattle.plain_values.proofs.Common.{same_Some}
 
 pub bind_some : {A B : Type 0} (f : A → Option B) (o : Option A) (b : B) → option_and_then f o ≡ Some b → (a : A) × (o ≡ Some a) × (f a ≡ Some b)
 bind_some f None b e = cc

@@ -1,22 +1,15 @@
 -- What the rules of predicates read is spelled so, and where they stop a predicate begins.
-use Rattle.std.proofs.Common.{◌≡◌, ℕ, zero, suc, ◌+◌, Bool, true, false, List, [], ◌∷◌, ◌++◌, length, refl, sym, ap, ◌∙◌, append_assoc, append-nil, arith, length-append}
-use Rattle.std.specs.Prelude.{◌&&◌, not, codes, nat_lt, flat_map, Option}
-use Rattle.std.specs.List.{list_all}
-use Rattle.std.proofs.lemmas.Bool.Decides.{nat_tests}
-use Rattle.std.proofs.lemmas.List.{map-append, length-map}
-use Rattle.plain_values.specs.Value.{is_null}
+use Rattle.std.proofs.Common.{◌≡◌, ℕ, zero, suc, ◌+◌, Bool, true, List, [], ◌∷◌, ◌++◌, length, refl, sym, ap, ◌∙◌, append_assoc, append-nil, arith, length-append, ◌&&◌, not, codes, nat_lt, flat_map, Option}
+use Rattle.plain_values.proofs.Common.{list_all, nat_tests, map-append, length-map, is_null, list_all-append}
 use Rattle.plain_values.specs.declared.value.Value.{Value}
 use Rattle.plain_values.specs.declared.value.Value.TheVariants.{Flag}
 use Rattle.lens_specs.specs.Common.{Name, Op, eq}
-use Rattle.grammar_specs.specs.Tokens.{Token, word, open_paren, close_paren, comma, operator, is_free_name}
-use Rattle.grammar_specs.specs.Texts.{Placed}
-use Rattle.grammar_specs.specs.Nesting.{part_nesting, all_nesting, pred_nesting, at_each, max_nesting}
-use Rattle.grammar_specs.specs.Written.{Part, literally, compares, is_in, tests_null, negated, grouped, All, only, joined, Pred, alone, either, literal, literals, part_tokens, all_tokens, pred_tokens, are_constants, is_part, is_all, is_pred}
+use Rattle.grammar_specs.specs.Common.{Token, word, open_paren, close_paren, comma, operator, is_free_name, Placed, part_nesting, all_nesting, pred_nesting, at_each, max_nesting, Part, literally, compares, is_in, tests_null, negated, grouped, All, only, joined, Pred, alone, either, literal, literals, part_tokens, all_tokens, pred_tokens, are_constants, is_part, is_all, is_pred}
 use Rattle.grammar_laws.specs.Tests.{is_keyword, literal_in, is_open}
 use Rattle.grammar_laws.specs.Steps.{Outcome, read, stopped, too_deep, and_then, choose, need, passing}
 use Rattle.grammar_laws.specs.PredRules.{comparison, closed, all_values, values, behind_name, part_of, all_of, pred_of, part}
 use Rattle.grammar_laws.proofs.Local.{IsLocal, local_read, local_stopped, local_then, local_choose, local_repeat}
-use Rattle.grammar_laws.proofs.Sound.{Trees, begun, Sound, sound_read, sound_deep, sound_choose, sound_need, Within, sound_then, sound_repeat}
+use Rattle.grammar_laws.proofs.Sound.{Trees, begun, Sound, sound_read, sound_deep, sound_choose, sound_need, sound_then, within, sound_last, one_longer, sound_repeat}
 use Rattle.grammar_laws.proofs.TokenKinds.{keyword_kind, open_kind, close_kind, comma_kind, name_kind, literal_kind, flag_kind, op_kind}
 
 -- ---- the rules are local
@@ -94,41 +87,25 @@ yes = Flag true
 
 -- ---- values
 
-pushed : (v : Value) (vs : List Value) → flat_map (λ w. comma ∷ literal w ∷ []) (vs ++ v ∷ []) ≡ flat_map (λ w. comma ∷ literal w ∷ []) vs ++ comma ∷ literal v ∷ []
-pushed v [] = refl
-pushed v (w ∷ vs) = ap (λ x. comma ∷ literal w ∷ x) (pushed v vs)
+-- one more behind a comma
+pub separated : {A : Type 0} (f : A → List Token) (front : List Token) (xs : List A) (x : A) → front ++ flat_map (λ y. comma ∷ f y) (xs ++ x ∷ []) ≡ ((front ++ flat_map (λ y. comma ∷ f y) xs) ++ comma ∷ []) ++ f x
+separated f front [] x = simp (append-nil, append_assoc)
+separated f front (y ∷ xs) x = sym (append_assoc front (comma ∷ f y) _) ∙ separated f (front ++ comma ∷ f y) xs x ∙ ap (λ l. (l ++ comma ∷ []) ++ f x) (append_assoc front (comma ∷ f y) _)
 
-all_more : (v : Value) (vs : List Value) → not (is_null v) ≡ true → list_all (λ v. not (is_null v)) vs ≡ true → list_all (λ v. not (is_null v)) (vs ++ v ∷ []) ≡ true
-all_more v [] one h = rw one refl
-all_more v (w ∷ vs) one h =
-    elim (not (is_null w)) as (λ b. (b && list_all (λ v. not (is_null v)) vs) ≡ true → (b && list_all (λ v. not (is_null v)) (vs ++ v ∷ [])) ≡ true) [ true ↦ λ h. all_more v vs one h | false ↦ λ h. cc ] h
+pub conj : {a b : Bool} → a ≡ true → b ≡ true → (a && b) ≡ true
+conj {a} {b} h k = rw (h, k) refl
+
+pub all_pushed : {A : Type 0} (p : A → Bool) (xs : List A) (x : A) → list_all p xs ≡ true → p x ≡ true → list_all p (xs ++ x ∷ []) ≡ true
+all_pushed p xs x h good = list_all-append p xs (x ∷ []) ∙ conj h (conj good refl)
 
 -- a value more
 value_sound : (k : ℕ) (vs : List Value) (b : Unit {0}) (ps : Placed) → are_constants vs ≡ true → true ≡ true → Sound (values_trees k) (literals vs ++ comma ∷ []) ps (need literal_in (λ v. read (vs ++ v ∷ [])) ps)
 unfolding yes
 value_sound k [] b ps ok _ = cc
 value_sound k (w ∷ vs) b ps ok _ =
-    let more : (v : Value) → literals (w ∷ (vs ++ v ∷ [])) ≡ (literals (w ∷ vs) ++ comma ∷ []) ++ literal v ∷ [] = λ v. ap (λ x. literal w ∷ x) (pushed v vs ∙ sym (append_assoc (flat_map (λ w. comma ∷ literal w ∷ []) vs) (comma ∷ []) (literal v ∷ []))) in
-    sound_need literal_kind _ (record { tree = w ∷ (vs ++ yes ∷ []); more = literal yes ∷ []; good = all_more yes (w ∷ vs) refl ok; spelled = more yes })
-    (λ v qs good _. sound_read (all_more v (w ∷ vs) good ok) (more v))
-
-pub conj : {a b : Bool} → a ≡ true → b ≡ true → (a && b) ≡ true
-conj {a} {b} h k = rw (h, k) refl
-
-at_each_append : (k : ℕ) (xs ys : List Token) → at_each k (xs ++ ys) ≡ at_each k xs ++ at_each k ys
-at_each_append k xs ys = map-append (λ _. k) xs ys
-
-values_within : (k : ℕ) (c : Name) → is_free_name c ≡ true → Within (values_trees k) (part_trees k) (word c ∷ word (codes "in") ∷ open_paren ∷ [])
-values_within k c free = record {
-  wrap = is_in c;
-  after = close_paren ∷ [];
-  levels = k ∷ k ∷ k ∷ [];
-  levels_after = k ∷ [];
-  good = λ vs h. conj free h;
-  spelled = λ vs. refl;
-  nested = λ vs. ap (λ x. k ∷ k ∷ k ∷ x) (at_each_append k (literals vs) (close_paren ∷ []));
-  long = refl;
-}
+    let more : (v : Value) → literals (w ∷ (vs ++ v ∷ [])) ≡ (literals (w ∷ vs) ++ comma ∷ []) ++ literal v ∷ [] = λ v. separated (λ v. literal v ∷ []) (literal w ∷ []) vs v in
+    sound_need literal_kind _ (record { tree = w ∷ (vs ++ yes ∷ []); more = literal yes ∷ []; good = all_pushed (λ v. not (is_null v)) (w ∷ vs) yes ok refl; spelled = more yes })
+    (λ v qs good _. sound_read (all_pushed (λ v. not (is_null v)) (w ∷ vs) v ok good) (more v))
 
 -- behind ")"
 closed_sound : (k : ℕ) (p : Part) (pre : List Token) (ps : Placed) → is_part p ≡ true → part_tokens p ≡ pre ++ close_paren ∷ [] → Sound (part_trees k) pre ps (closed p ps)
@@ -144,7 +121,8 @@ values_sound : (k : ℕ) (c : Name) (ps : Placed) → is_free_name c ≡ true �
 unfolding yes
 values_sound k c ps free =
     sound_need open_kind _ (begun (is_in c (yes ∷ [])) _ (conj free refl) refl) (λ _ qs _ _.
-    sound_then (values_within k c free) _ (all_values_sound k qs)
+    sound_then
+    (within (is_in c) (close_paren ∷ []) (k ∷ k ∷ k ∷ []) (k ∷ []) refl (λ vs h. conj free h) (λ vs. refl) (λ vs. ap (λ x. k ∷ k ∷ k ∷ x) (map-append (λ _. k) (literals vs) (close_paren ∷ [])))) _ (all_values_sound k qs)
     (λ vs rest good _. closed_sound k (is_in c vs) (word c ∷ word (codes "in") ∷ open_paren ∷ literals vs) rest (conj free good) refl))
 
 comparison_sound : (k : ℕ) (c : Name) (op : Op) (ps : Placed) → is_free_name c ≡ true → Sound (part_trees k) (word c ∷ operator op ∷ []) ps (comparison c op ps)
@@ -162,21 +140,6 @@ behind_name_sound k c ps free =
     sound_need (keyword_kind (codes "null")) _ (begun (tests_null c) _ free refl) (λ _ rs _ _. sound_read free refl))))
 
 -- ---- parts
-
-negated_within : (k : ℕ) → Within (part_trees (suc k)) (part_trees k) (word (codes "not") ∷ [])
-negated_within k = record {
-  wrap = negated;
-  after = [];
-  levels = suc k ∷ [];
-  levels_after = [];
-  good = λ p h. h;
-  spelled = λ p. ap (λ x. word (codes "not") ∷ x) (sym (append-nil (part_tokens p)));
-  nested = λ p. ap (λ x. suc k ∷ x) (sym (append-nil (part_nesting (suc k) p)));
-  long = refl;
-}
-
-grouped_within : (k : ℕ) → Within (pred_trees (suc k)) (part_trees k) (open_paren ∷ [])
-grouped_within k = record { wrap = grouped; after = close_paren ∷ []; levels = suc k ∷ []; levels_after = suc k ∷ []; good = λ o h. h; spelled = λ o. refl; nested = λ o. refl; long = refl }
 
 -- a part, where this is known of what is read behind a "not" and a parenthesis
 part_of_sound : (k : ℕ) (inner : Placed → Outcome Part) (within : Placed → Outcome Pred) (ps : Placed) → ((qs : Placed) → Sound (part_trees k) (word (codes "not") ∷ []) qs (and_then (inner qs) (λ p. read (negated p))))
@@ -202,67 +165,34 @@ mutual
   pred_long k (alone a) = all_long k a
   pred_long k (either o a) = omega (arith, pred_long k o, all_long k a, length-append (pred_nesting k o) (k ∷ all_nesting k a), length-append (pred_tokens o) (word (codes "or") ∷ all_tokens a))
 
-only_within : (k : ℕ) → Within (part_trees k) (all_trees k) []
-only_within k = record { wrap = only; after = []; levels = []; levels_after = []; good = λ p h. h; spelled = λ p. sym (append-nil (part_tokens p)); nested = λ p. sym (append-nil (part_nesting k p)); long = refl }
-
-joined_within : (k : ℕ) (a : All) → is_all a ≡ true → Within (part_trees k) (all_trees k) (all_tokens a ++ word (codes "and") ∷ [])
-joined_within k a ok = record {
-  wrap = joined a;
-  after = [];
-  levels = all_nesting k a ++ k ∷ [];
-  levels_after = [];
-  good = λ p h. conj ok h;
-  spelled = λ p. simp (append_assoc, append-nil);
-  nested = λ p. simp (append_assoc, append-nil);
-  long = omega (arith, all_long k a, length-append (all_nesting k a) (k ∷ []), length-append (all_tokens a) (word (codes "and") ∷ []));
-}
-
-alone_within : (k : ℕ) → Within (all_trees k) (pred_trees k) []
-alone_within k = record { wrap = alone; after = []; levels = []; levels_after = []; good = λ a h. h; spelled = λ a. sym (append-nil (all_tokens a)); nested = λ a. sym (append-nil (all_nesting k a)); long = refl }
-
-either_within : (k : ℕ) (o : Pred) → is_pred o ≡ true → Within (all_trees k) (pred_trees k) (pred_tokens o ++ word (codes "or") ∷ [])
-either_within k o ok = record {
-  wrap = either o;
-  after = [];
-  levels = pred_nesting k o ++ k ∷ [];
-  levels_after = [];
-  good = λ a h. conj ok h;
-  spelled = λ a. simp (append_assoc, append-nil);
-  nested = λ a. simp (append_assoc, append-nil);
-  long = omega (arith, pred_long k o, length-append (pred_nesting k o) (k ∷ []), length-append (pred_tokens o) (word (codes "or") ∷ []));
-}
-
 module _ (k : ℕ) (part : Placed → Outcome Part) (local : (ps : Placed) → IsLocal part ps) (sound : (ps : Placed) → Sound (part_trees k) [] ps (part ps)) where
   pub all_sound : (ps : Placed) → Sound (all_trees k) [] ps (all_of part ps)
   all_sound ps =
-      sound_then (only_within k) _ (sound ps) (λ p rest good _.
-      sound_repeat (keyword_kind (codes "and")) _ (joined_local part local) (λ a b qs ok _. sound_then (joined_within k a ok) _ (sound qs)
-      (λ p more good _. sound_read (conj ok good) (sym (append_assoc (all_tokens a) (word (codes "and") ∷ []) (part_tokens p))))) _ good)
+      sound_then (within only [] [] [] refl (λ p h. h) (λ p. sym (append-nil (part_tokens p))) (λ p. sym (append-nil (part_nesting k p)))) _ (sound ps) (λ p rest good _.
+      sound_repeat (keyword_kind (codes "and")) _ (joined_local part local) (λ a b qs ok _.
+      sound_last (joined a) (all_nesting k a ++ k ∷ []) (one_longer (all_nesting k a) (all_tokens a) k (word (codes "and")) (all_long k a)) (λ p h. conj ok h)
+      (λ p. sym (append_assoc (all_tokens a) (word (codes "and") ∷ []) (part_tokens p))) (λ p. sym (append_assoc (all_nesting k a) (k ∷ []) (part_nesting k p))) (sound qs)) _ good)
 
   pub pred_of_sound : (ps : Placed) → Sound (pred_trees k) [] ps (pred_of part ps)
   pred_of_sound ps =
-      sound_then (alone_within k) _ (all_sound ps) (λ a rest good _.
-      sound_repeat (keyword_kind (codes "or")) _ (either_local part local) (λ o b qs ok _. sound_then (either_within k o ok) _ (all_sound qs)
-      (λ a more good _. sound_read (conj ok good) (sym (append_assoc (pred_tokens o) (word (codes "or") ∷ []) (all_tokens a))))) _ good)
+      sound_then (within alone [] [] [] refl (λ a h. h) (λ a. sym (append-nil (all_tokens a))) (λ a. sym (append-nil (all_nesting k a)))) _ (all_sound ps) (λ a rest good _.
+      sound_repeat (keyword_kind (codes "or")) _ (either_local part local) (λ o b qs ok _.
+      sound_last (either o) (pred_nesting k o ++ k ∷ []) (one_longer (pred_nesting k o) (pred_tokens o) k (word (codes "or")) (pred_long k o)) (λ a h. conj ok h)
+      (λ a. sym (append_assoc (pred_tokens o) (word (codes "or") ∷ []) (all_tokens a))) (λ a. sym (append_assoc (pred_nesting k o) (k ∷ []) (all_nesting k a))) (all_sound qs)) _ good)
 
 -- ---- within what may be open
 
-over : (k : ℕ) → k + 0 ≡ max_nesting → nat_lt max_nesting (suc k) ≡ true
+pub over : (k : ℕ) → k + 0 ≡ max_nesting → nat_lt max_nesting (suc k) ≡ true
 over k e = grind (arith, nat_tests)
-
-not_too_deep : (k : ℕ) (qs : Placed) → k + 0 ≡ max_nesting → Sound (part_trees k) (word (codes "not") ∷ []) qs too_deep
-not_too_deep k qs e = sound_deep (record { tree = negated (literally true); more = literal (Flag true) ∷ []; good = refl; spelled = refl; deep = rw (over k e) refl })
-
-open_too_deep : (k : ℕ) (qs : Placed) → k + 0 ≡ max_nesting → Sound (part_trees k) (open_paren ∷ []) qs too_deep
-open_too_deep k qs e =
-    sound_deep (record { tree = grouped (alone (only (literally true))); more = literal (Flag true) ∷ close_paren ∷ []; good = refl; spelled = refl; deep = rw (over k e) refl })
 
 -- what a part reads is spelled so, where so many stand open and so many more may be opened
 pub part_sound : (n k : ℕ) (ps : Placed) → k + n ≡ max_nesting → Sound (part_trees k) [] ps (part n ps)
-part_sound zero k ps e = part_of_sound k (λ _. too_deep) (λ _. too_deep) ps (λ qs. not_too_deep k qs e) (λ qs. open_too_deep k qs e)
+part_sound zero k ps e =
+    part_of_sound k (λ _. too_deep) (λ _. too_deep) ps (λ qs. sound_deep (record { begun = begun (negated (literally true)) _ refl refl; deep = rw (over k e) refl }))
+    (λ qs. sound_deep (record { begun = begun (grouped (alone (only (literally true)))) _ refl refl; deep = rw (over k e) refl }))
 part_sound (suc n) k ps e =
     let deeper : suc k + n ≡ max_nesting = omega (arith, e) in
     part_of_sound k (part n) (pred_of (part n)) ps
-    (λ qs. sound_then (negated_within k) _ (part_sound n (suc k) qs deeper) (λ p rest good _. sound_read good refl)) (λ qs. sound_then (grouped_within k) _
-    (pred_of_sound (suc k) (part n) (part_local n) (λ rs. part_sound n (suc k) rs deeper) qs)
+    (λ qs. sound_last negated (suc k ∷ []) refl (λ p h. h) (λ p. refl) (λ p. refl) (part_sound n (suc k) qs deeper)) (λ qs.
+    sound_then (within grouped (close_paren ∷ []) (suc k ∷ []) (suc k ∷ []) refl (λ o h. h) (λ o. refl) (λ o. refl)) _ (pred_of_sound (suc k) (part n) (part_local n) (λ rs. part_sound n (suc k) rs deeper) qs)
     (λ o rest good _. closed_sound k (grouped o) (open_paren ∷ pred_tokens o) rest good refl))

@@ -1,19 +1,10 @@
 -- No column of a map stands twice among its entries.
-use Rattle.std.proofs.Common.{◌≡◌, true, false, List, [], ◌∷◌, ◌++◌, refl, sym, ap, ◌∙◌}
-use Rattle.std.specs.Prelude.{◌||◌, nat_eq, not}
+use Rattle.std.proofs.Common.{◌≡◌, true, false, List, [], ◌∷◌, ◌++◌, refl, sym, ap, ◌∙◌, ◌||◌, nat_eq, not}
 use Rattle.std.specs.FinMap as map_of
-use Rattle.std.specs.Cmp.{tied_itself}
-use Rattle.std.specs.Cmp.Lexicographic.{nat_list_cmp_total, pointwise}
-use Rattle.std.specs.List.{list_all, AllByRecursion}
-use Rattle.std.specs.List.Sorted.{IsStrictlySortedBy}
-use Rattle.std.specs.declared.cmp.Ordering.TheVariants.{Less, Equal}
-use Rattle.std.proofs.lemmas.Bool.{and_parts, and_from}
-use Rattle.plain_values.specs.Order.{bytes_cmp}
-use Rattle.plain_values.specs.SortedMap.{keys_of, keys_rise}
+use Rattle.plain_values.proofs.Common.{tied_itself, nat_list_cmp_total, pointwise, list_all, AllByRecursion, IsStrictlySortedBy, Less, Equal, and_parts, and_from, bytes_cmp, keys_of, keys_rise}
 use Rattle.plain_values.specs.declared.value.Kind.{Kind}
 use Rattle.lens_specs.specs.Common.{Name, Columns}
-use Rattle.grammar_specs.specs.Tokens.{is_free_name}
-use Rattle.grammar_specs.specs.Written.{is_column_of, are_columns}
+use Rattle.grammar_specs.specs.Common.{is_free_name, is_column_of, are_columns}
 use Rattle.grammar_laws.proofs.Words.{same_word}
 
 -- columns as they are written
@@ -25,14 +16,11 @@ abbrev Precede : Cols → List Name → Type 0
 Precede [] names = Unit {0}
 Precede (c ∷ columns) names = AllByRecursion (λ y. bytes_cmp c.0 y ≡ Less) names × Precede columns names
 
-not_less : Equal ≡ Less → ⊥
-not_less e = cc
-
 -- what is before a name is another
 before_differs : (x y : Name) → bytes_cmp x y ≡ Less → pointwise nat_eq x y ≡ false
 before_differs x y less =
     elim (pointwise nat_eq x y) as (λ v. pointwise nat_eq x y ≡ v → v ≡ false) [
-      | true ↦ λ same. absurd (not_less (sym (tied_itself nat_list_cmp_total x) ∙ ap (bytes_cmp x) (same_word x y same) ∙ less))
+      | true ↦ λ same. let clash : Equal ≡ Less = sym (tied_itself nat_list_cmp_total x) ∙ ap (bytes_cmp x) (same_word x y same) ∙ less in cc
       | false ↦ λ _. refl
     ] refl
 

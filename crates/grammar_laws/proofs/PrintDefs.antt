@@ -1,16 +1,10 @@
 -- The definition that is written for one means it.
 use Rattle.std.proofs.Common.{◌≡◌, true, List, [], ◌∷◌, map, refl, ap}
-use Rattle.std.specs.Cmp.Lexicographic.{nat_list_cmp_total}
-use Rattle.std.proofs.lemmas.Bool.{and_parts}
-use Rattle.std.proofs.lemmas.Map.Lookups.{exact_bytes}
-use Rattle.plain_values.specs.Order.{bytes_cmp}
+use Rattle.plain_values.proofs.Common.{nat_list_cmp_total, and_parts, exact_bytes, bytes_cmp, from_entries-entries}
 use Rattle.plain_values.specs.SortedSet as set
-use Rattle.plain_values.specs.SortedMap.{from_entries-entries}
 use Rattle.lens_specs.specs.Common.{Names, Edge, edge, Predicate}
-use Rattle.grammar_specs.specs.Written.{is_some_list}
-use Rattle.grammar_specs.specs.Meaning.{Expr, named, select, drop, rename, join, Definition, table, view, predicate_of, operand_meaning, expr_meaning, dep_meaning, meaning}
-use Rattle.grammar_specs.specs.Printing.{predicate_written, operand_of, expr_written, dep_written, definition_written}
-use Rattle.grammar_specs.specs.Writable.{is_written_predicate, is_written_expr, is_writable}
+use Rattle.grammar_specs.specs.Common.{is_some_list, Expr, named, Definition, table, view, predicate_of, operand_meaning, expr_meaning, dep_meaning, meaning, predicate_written, operand_of, expr_written, dep_written, definition_written, is_written_predicate, is_written_expr, is_writable}
+use Rattle.grammar_specs.specs.Meaning.{select, drop, rename, join}
 use Rattle.grammar_laws.proofs.PrintPreds.{some_said, condition_said}
 
 -- the names of a set make it
@@ -42,10 +36,7 @@ operand_said (join k e f) h =
 -- with parentheses around it or without
 expr_said : (e : Expr) → is_written_expr e ≡ true → expr_meaning (expr_written e) ≡ e
 expr_said (named n) h = refl
-expr_said (select P e) h = operand_said (select P e) h
-expr_said (drop A by v e) h = operand_said (drop A by v e) h
-expr_said (rename A B e) h = operand_said (rename A B e) h
-expr_said (join k e f) h = operand_said (join k e f) h
+expr_said other h = operand_said other h
 
 pub definition_said : (d : Definition) → is_writable d ≡ true → meaning (definition_written d) ≡ d
 definition_said (table name U F P) h =

@@ -1,12 +1,9 @@
 -- A number in decimal is spelled by its digits.
-use Rattle.std.proofs.Common.{◌≡◌, ◌≢◌, inl, inr, ℕ, zero, suc, ◌+◌, ◌*◌, ◌-◌, ◌/◌, ◌%◌, ◌^◌, ◌<◌, ◌≤◌, Bool, true, List, [], ◌∷◌, ◌++◌, refl, sym, ap, ◌∙◌, arith}
-use Rattle.std.specs.Prelude.{ℤ, pos, negsuc, nat_lt, nat_le}
-use Rattle.std.specs.Fmt.{decimal, signed_decimal}
+use Rattle.std.proofs.Common.{length, length-append, ◌≡◌, inl, inr, ℕ, zero, suc, ◌+◌, ◌*◌, ◌-◌, ◌/◌, ◌%◌, ◌^◌, ◌<◌, ◌≤◌, Bool, true, List, [], ◌∷◌, ◌++◌, refl, sym, ap, ◌∙◌, arith, ℤ, pos, negsuc, nat_lt, nat_le}
+use Rattle.plain_values.proofs.Common.{signed_decimal, and_from, nat_tests, list_all-append}
+use Rattle.std.specs.Fmt.{decimal}
 use Rattle.std.proofs.lemmas.Fmt.{decimal_by_steps}
-use Rattle.std.proofs.lemmas.Bool.{and_from}
-use Rattle.std.proofs.lemmas.Bool.Decides.{nat_tests}
-use Rattle.std.proofs.lemmas.List.Folds.{list_all-append}
-use Rattle.grammar_specs.specs.Tokens.{is_digit, digits_value, minus, AreDigits, SpellsInteger}
+use Rattle.grammar_specs.specs.Common.{is_digit, digits_value, minus, AreDigits, SpellsInteger}
 
 -- the bytes are digits, and are worth the number
 record Digits (n : ℕ) (bytes : List ℕ) : Type 0 where
@@ -27,13 +24,9 @@ value-append : (k : ℕ) (bytes : List ℕ) (b : ℕ) → digits_value k (bytes 
 value-append k [] b = refl
 value-append k (c ∷ bytes) b = value-append (10 * k + (c - 48)) bytes b
 
-not_empty : (bytes : List ℕ) (b : ℕ) → bytes ++ b ∷ [] ≢ []
-not_empty [] b e = cc
-not_empty (c ∷ bytes) b e = cc
-
 digit_more : (n : ℕ) (bytes : List ℕ) → 10 ≤ n → Digits (n / 10) bytes → Digits n (bytes ++ (48 + n % 10) ∷ [])
 digit_more n bytes h d = record {
-  are = (not_empty bytes (48 + n % 10), list_all-append is_digit bytes ((48 + n % 10) ∷ []) ∙ and_from _ _ d.are.1 (and_from (is_digit (48 + n % 10)) true (is_glyph (n % 10) (omega arith)) refl));
+  are = (λ e. absurd (omega (arith, ap length e, length-append bytes ((48 + n % 10) ∷ []))), list_all-append is_digit bytes ((48 + n % 10) ∷ []) ∙ and_from _ _ d.are.1 (and_from (is_digit (48 + n % 10)) true (is_glyph (n % 10) (omega arith)) refl));
   worth = value-append 0 bytes (48 + n % 10) ∙ omega (arith, d.worth);
 }
 
@@ -45,32 +38,21 @@ abbrev pub in_range : ℤ → Bool
 in_range (pos n) = nat_lt n (2 ^ 63)
 in_range (negsuc n) = nat_lt n (2 ^ 63)
 
-below : (n : ℕ) → nat_lt n (2 ^ 63) ≡ true → n < 2 ^ 63
-below n h = grind (arith, nat_tests)
-
-is_below : (n : ℕ) → n < 2 ^ 63 → nat_lt n (2 ^ 63) ≡ true
-is_below n h = grind (arith, nat_tests)
-
-is_within : (n : ℕ) → n ≤ 2 ^ 63 → nat_le n (2 ^ 63) ≡ true
-is_within n h = grind (arith, nat_tests)
-
-one_less : (n : ℕ) → nat_le (suc n) (2 ^ 63) ≡ true → nat_lt n (2 ^ 63) ≡ true
-one_less n h = grind (arith, nat_tests)
-
 -- is spelled in decimal
 pub decimal_spells : (z : ℤ) → in_range z ≡ true → SpellsInteger z (signed_decimal z)
 decimal_spells (pos n) h =
-    let small = below n h in
+    let small : n < 2 ^ 63 = grind (arith, nat_tests) in
     let d = decimal_digits n (omega (arith, small)) in
-    inl (d.are, ap pos (sym d.worth), is_below (digits_value 0 (decimal n)) (omega (arith, small, d.worth)))
+    inl (d.are, ap pos (sym d.worth), ap (λ k. nat_lt k (2 ^ 63)) d.worth ∙ h)
 decimal_spells (negsuc n) h =
-    let small = below n h in
+    let small : n < 2 ^ 63 = grind (arith, nat_tests) in
     let d = decimal_digits (suc n) (omega (arith, small)) in
-    inr (decimal (suc n), refl, d.are, sym (ap minus d.worth), is_within (digits_value 0 (decimal (suc n))) (omega (arith, small, d.worth)))
+    let within : nat_le (suc n) (2 ^ 63) ≡ true = grind (arith, nat_tests) in
+    inr (decimal (suc n), refl, d.are, sym (ap minus d.worth), ap (λ k. nat_le k (2 ^ 63)) d.worth ∙ within)
 
 minus_range : (n : ℕ) → nat_le n (2 ^ 63) ≡ true → in_range (minus n) ≡ true
 minus_range zero h = refl
-minus_range (suc n) h = one_less n h
+minus_range (suc n) h = grind (arith, nat_tests)
 
 -- and what is spelled is one
 pub spelled_range : (z : ℤ) (bytes : List ℕ) → SpellsInteger z bytes → in_range z ≡ true

@@ -1,12 +1,9 @@
 -- The predicate that is written for a formula means it.
-use Rattle.std.proofs.Common.{◌≡◌, true, List, [], ◌∷◌, ◌++◌, refl, sym, ap, ◌∙◌, append_assoc, append-nil}
-use Rattle.std.specs.Prelude.{not, ◌&&◌}
-use Rattle.std.proofs.lemmas.Bool.{and_parts, true≢false}
-use Rattle.lens_specs.specs.Predicate.{Formula, negation, all_of, any_of, Formulas, no_formulas, formulas, Predicate}
-use Rattle.grammar_specs.specs.Written.{All, only, joined, Pred, alone, either}
-use Rattle.grammar_specs.specs.Meaning.{part_meaning, all_conjuncts, pred_disjuncts, pred_meaning, predicate_of, condition_meaning, conjuncts, disjuncts, conjunction, disjunction, formulas_of, list_of}
-use Rattle.grammar_specs.specs.Printing.{part_of, all_parts, more_parts, all_of_formula, any_alls, more_alls, pred_of, joined_parts, predicate_written, condition_written}
-use Rattle.grammar_specs.specs.Writable.{is_conjunction, is_disjunction, are_several, is_written_formula, are_in_all, are_in_any, is_written_predicate}
+use Rattle.std.proofs.Common.{◌≡◌, true, List, [], ◌∷◌, ◌++◌, refl, sym, ap, ◌∙◌, append_assoc, append-nil, not, ◌&&◌}
+use Rattle.plain_values.proofs.Common.{and_parts, true≢false}
+use Rattle.lens_specs.specs.Common.{Formula, negation, all_of, any_of, Formulas, no_formulas, formulas, Predicate}
+use Rattle.grammar_specs.specs.Common.{All, only, joined, Pred, alone, either, part_meaning, all_conjuncts, pred_disjuncts, pred_meaning, predicate_of, condition_meaning, conjuncts, disjuncts, conjunction, disjunction, formulas_of, list_of, part_of, all_parts, more_parts, all_of_formula, any_alls, more_alls, pred_of, joined_parts, predicate_written, condition_written, is_conjunction, is_disjunction, is_written_formula, are_in_all, are_in_any, is_written_predicate}
+use Rattle.grammar_specs.specs.Writable.{are_several}
 
 -- ---- pieces
 

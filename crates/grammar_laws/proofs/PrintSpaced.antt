@@ -1,28 +1,17 @@
 -- Tokens printed with blanks between them stand in the text.
 use Rattle.std.proofs.Common.{◌≡◌, ℕ, ◌+◌, Bool, true, false, cond, List, [], ◌∷◌, ◌++◌, length, refl, sym, ap, subst, ◌∙◌, append_assoc, append-nil}
-use Rattle.std.proofs.lemmas.Bool.{and_parts, true≢false}
-use Rattle.lens_specs.specs.Predicate.{eq, ne, lt, le, gt, ge}
-use Rattle.grammar_specs.specs.Tokens.{Token, open_paren, close_paren, comma, operator, goes_on, Ends}
-use Rattle.grammar_specs.specs.Texts.{Placed, tokens_in, AreBlank, Stand, IsText}
-use Rattle.grammar_specs.specs.Printing.{token_bytes, opens, closes, gap, spaced}
+use Rattle.plain_values.proofs.Common.{and_parts, true≢false}
+use Rattle.lens_specs.specs.Common.{eq}
+use Rattle.grammar_specs.specs.Common.{Token, open_paren, close_paren, comma, operator, goes_on, Ends, Placed, tokens_in, AreBlank, Stand, IsText, token_bytes, opens, closes, gap, spaced}
 use Rattle.grammar_laws.proofs.PrintTokens.{are_printable, printable_spells}
 
 -- ---- where a token ends
 
 -- no token goes on with a blank, with ")" or with ","
-record Stops (t : Token) : Type 0 where
-  at_blank : goes_on t 32 ≡ false
-  at_close : goes_on t 41 ≡ false
-  at_comma : goes_on t 44 ≡ false
-
-stops : (t : Token) → Stops t
-stops (operator eq) = record { at_blank = refl; at_close = refl; at_comma = refl }
-stops (operator ne) = record { at_blank = refl; at_close = refl; at_comma = refl }
-stops (operator lt) = record { at_blank = refl; at_close = refl; at_comma = refl }
-stops (operator le) = record { at_blank = refl; at_close = refl; at_comma = refl }
-stops (operator gt) = record { at_blank = refl; at_close = refl; at_comma = refl }
-stops (operator ge) = record { at_blank = refl; at_close = refl; at_comma = refl }
-stops other = record { at_blank = refl; at_close = refl; at_comma = refl }
+stops : (t : Token) → (goes_on t 32 ≡ false) × (goes_on t 41 ≡ false) × (goes_on t 44 ≡ false)
+stops (operator eq) = (refl, refl, refl)
+stops (operator other) = (refl, refl, refl)
+stops other = (refl, refl, refl)
 
 -- "(" ends before anything
 opens_ends : (t : Token) (bytes : List ℕ) → opens t ≡ true → Ends t bytes
@@ -38,9 +27,9 @@ front_bytes t (u ∷ ts) = (gap t u ++ spaced (u ∷ ts), append_assoc (token_by
 -- a token ends at what is printed behind it
 gap_ends : (s t : Token) (ts : List Token) (opens_it : Bool) → opens s ≡ opens_it → Ends s (cond opens_it [] (cond (closes t) [] (32 ∷ [])) ++ spaced (t ∷ ts))
 gap_ends s t ts true e = opens_ends s (spaced (t ∷ ts)) e
-gap_ends s close_paren ts false e = subst (Ends s) (sym (front_bytes close_paren ts).1) (stops s).at_close
-gap_ends s comma ts false e = subst (Ends s) (sym (front_bytes comma ts).1) (stops s).at_comma
-gap_ends s other ts false e = (stops s).at_blank
+gap_ends s close_paren ts false e = subst (Ends s) (sym (front_bytes close_paren ts).1) (stops s).1
+gap_ends s comma ts false e = subst (Ends s) (sym (front_bytes comma ts).1) (stops s).2
+gap_ends s other ts false e = (stops s).0
 
 either_blank : (b c : Bool) → AreBlank (cond b [] (cond c [] (32 ∷ [])))
 either_blank true c = refl
@@ -58,9 +47,6 @@ record Placing (at : ℕ) (bytes : List ℕ) (ts : List Token) : Type 0 where
   tokens : tokens_in placed ≡ ts
   stand : Stand at bytes placed []
 
-regrouped : (a b c d : List ℕ) → a ++ ((b ++ c) ++ d) ≡ (a ++ b) ++ (c ++ d)
-regrouped a b c d = ap (λ x. a ++ x) (append_assoc b c d) ∙ sym (append_assoc a b (c ++ d))
-
 spaced_stands : (t : Token) (ts : List Token) (at : ℕ) (blanks : List ℕ) → AreBlank blanks → are_printable (t ∷ ts) ≡ true → Placing at (blanks ++ spaced (t ∷ ts)) (t ∷ ts)
 spaced_stands t [] at blanks blank h = record {
   placed = (at + length blanks, t) ∷ [];
@@ -77,7 +63,7 @@ spaced_stands t (u ∷ ts) at blanks blank h =
         blanks,
         token_bytes t,
         gap t u ++ spaced (u ∷ ts),
-        regrouped blanks (token_bytes t) (gap t u) (spaced (u ∷ ts)),
+        ap (λ x. blanks ++ x) (append_assoc (token_bytes t) (gap t u) (spaced (u ∷ ts))) ∙ sym (append_assoc blanks (token_bytes t) (gap t u ++ spaced (u ∷ ts))),
         blank,
         refl,
         printable_spells t both.0,

@@ -1,17 +1,10 @@
 -- A token that can be printed is spelled by its bytes, and one that is spelled can be printed.
-use Rattle.std.proofs.Common.{◌≡◌, ℕ, Bool, true, false, List, [], ◌∷◌, ◌++◌, map, refl, sym, ◌∙◌}
-use Rattle.std.specs.Prelude.{◌&&◌, flat_map, pos, negsuc}
-use Rattle.std.specs.List.{list_all}
-use Rattle.std.proofs.lemmas.Bool.{and_parts, and_from}
-use Rattle.std.proofs.lemmas.List.Folds.{list_all-append}
-use Rattle.plain_values.specs.Bytes.{is_name, is_text}
+use Rattle.std.proofs.Common.{◌≡◌, ℕ, Bool, true, false, List, [], ◌∷◌, ◌++◌, map, refl, sym, ◌∙◌, ◌&&◌, flat_map, pos, negsuc}
+use Rattle.plain_values.proofs.Common.{list_all, and_parts, and_from, list_all-append, is_name, is_text}
 use Rattle.plain_values.specs.declared.value.Value.{Value}
-use Rattle.plain_values.specs.declared.value.Value.TheVariants.{Null, Int, Text, Flag}
-use Rattle.lens_specs.specs.Names.{Name}
-use Rattle.grammar_specs.specs.Tokens.{Token, word, integer, text, comma, Spells, is_free_name}
-use Rattle.grammar_specs.specs.Written.{literal, literals}
-use Rattle.grammar_specs.specs.Printing.{token_bytes}
-use Rattle.grammar_specs.specs.Writable.{is_literal}
+use Rattle.plain_values.specs.declared.value.Value.TheVariants.{Int, Flag}
+use Rattle.lens_specs.specs.Common.{Name}
+use Rattle.grammar_specs.specs.Common.{Token, word, integer, text, comma, Spells, is_free_name, literal, literals, token_bytes, is_literal}
 use Rattle.grammar_laws.proofs.PrintNumbers.{in_range, decimal_spells, spelled_range}
 
 -- a word has the form of a name, an integer has 64 bits, and a text is one
@@ -47,12 +40,11 @@ each_printable xs ys h = and_parts _ _ (sym (list_all-append is_printable xs ys)
 
 -- a literal can be printed where it can be written
 pub literal_printable : (v : Value) → is_printable (literal v) ≡ is_literal v
-literal_printable Null = refl
 literal_printable (Int (pos n)) = refl
 literal_printable (Int (negsuc n)) = refl
-literal_printable (Text bytes) = refl
 literal_printable (Flag true) = refl
 literal_printable (Flag false) = refl
+literal_printable other = refl
 
 more_printable : (vs : List Value) → are_printable (flat_map (λ w. comma ∷ literal w ∷ []) vs) ≡ list_all is_literal vs
 more_printable [] = refl

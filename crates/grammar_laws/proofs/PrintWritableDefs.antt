@@ -1,20 +1,13 @@
 -- What a definition means can be written.
 use Rattle.std.proofs.Common.{◌≡◌, true, List, [], ◌∷◌, ◌++◌, map, refl, sym, ap, ◌∙◌}
-use Rattle.std.specs.Prelude.{codes}
 use Rattle.std.specs.FinMap as map_of
-use Rattle.std.specs.Cmp.Lexicographic.{nat_list_cmp_total}
-use Rattle.std.specs.List.{list_all}
-use Rattle.std.specs.declared.cmp.Ordering.TheVariants.{Less, Equal, Greater}
-use Rattle.std.proofs.lemmas.Bool.{and_parts, and_from}
-use Rattle.plain_values.specs.Order.{bytes_cmp}
+use Rattle.plain_values.proofs.Common.{nat_list_cmp_total, list_all, Less, Equal, Greater, and_parts, and_from, bytes_cmp, keys_of, entries-from_entries}
 use Rattle.plain_values.specs.SortedSet as set
-use Rattle.plain_values.specs.SortedMap.{keys_of, entries-from_entries}
-use Rattle.lens_specs.specs.Names.{Name, Names}
-use Rattle.grammar_specs.specs.Tokens.{word, comma, close_paren, is_free_name}
-use Rattle.grammar_specs.specs.Written.{Operand, bare, enclosed, Expr, named, select, drop, rename, join, Dep, Written, table, view, literal, pred_tokens, operand_tokens, expr_tokens, columns_tokens, deps_tokens, where_tokens, written_tokens, is_some_list, are_free_names, is_operand, is_expr, are_columns, is_dep, is_definition}
-use Rattle.grammar_specs.specs.Meaning.{operand_meaning, expr_meaning, dep_meaning, meaning}
-use Rattle.grammar_specs.specs.Writable.{are_free, is_written_expr, is_written_dep, is_writable}
-use Rattle.grammar_laws.proofs.PrintTokens.{are_printable, each_printable, literal_printable}
+use Rattle.lens_specs.specs.Common.{Name, Names}
+use Rattle.grammar_specs.specs.Common.{close_paren, is_free_name, Operand, bare, enclosed, select, drop, rename, join, Dep, Written, columns_tokens, deps_tokens, where_tokens, written_tokens, is_some_list, are_free_names, are_columns, is_dep, is_definition, operand_meaning, expr_meaning, dep_meaning, meaning, are_free, is_written_expr, is_written_dep, is_writable}
+use Rattle.grammar_specs.specs.Written.{Expr, named, table, view}
+use Rattle.grammar_laws.proofs.PrintTokens.{are_printable, each_printable}
+use Rattle.grammar_laws.proofs.PrintTrees.{is_good_operand, is_good_expr, expr_good}
 use Rattle.grammar_laws.proofs.PrintColumns.{Cols}
 use Rattle.grammar_laws.proofs.PrintWritablePreds.{predicate_writable, condition_writable}
 
@@ -78,31 +71,20 @@ entries_some (c ∷ columns) h = ap is_some_list (map_of.entries-insert nat_list
 -- ---- expressions
 
 mutual
-  operand_writable : (o : Operand) → is_operand o ≡ true → are_printable (operand_tokens o) ≡ true → is_written_expr (operand_meaning o) ≡ true
-  operand_writable (bare n) h k = h
-  operand_writable (enclosed e) h k = expr_writable e h (each_printable (expr_tokens e) (close_paren ∷ []) k).0
+  operand_writable : (o : Operand) → is_good_operand o ≡ true → is_written_expr (operand_meaning o) ≡ true
+  operand_writable (bare n) h = h
+  operand_writable (enclosed e) h = expr_writable e h
 
-  expr_writable : (e : Expr) → is_expr e ≡ true → are_printable (expr_tokens e) ≡ true → is_written_expr (expr_meaning e) ≡ true
-  expr_writable (named n) h k = h
-  expr_writable (select o p) h k =
-      let good = and_parts _ _ h in
-      let spelled = each_printable (operand_tokens o) (word (codes "where") ∷ pred_tokens p) k in
-      and_from _ _ (predicate_writable p good.1 spelled.1) (operand_writable o good.0 spelled.0)
-  expr_writable (drop c by v o) h k =
-      let good = and_parts _ _ h in
-      let names = and_parts _ _ good.0 in
-      let rest = and_parts _ _ k in
-      let behind = each_printable (map word by) (comma ∷ literal v ∷ close_paren ∷ word (codes "from") ∷ operand_tokens o) rest.1 in
-      let fill = and_parts _ _ behind.1 in
-      and_from _ _ (and_from _ _ (and_from _ _ names.0 (names_free by names.1)) (sym (literal_printable v) ∙ fill.0)) (operand_writable o good.1 fill.1)
-  expr_writable (rename c d o) h k =
-      let good = and_parts _ _ h in
-      let from_new = and_parts _ _ (and_parts _ _ k).1 in
-      and_from _ _ good.0 (operand_writable o good.1 from_new.1)
-  expr_writable (join kind o q) h k =
-      let good = and_parts _ _ h in
-      let spelled = each_printable (operand_tokens o) (word (codes "with") ∷ operand_tokens q) (and_parts _ _ k).1 in
-      and_from _ _ (operand_writable o good.0 spelled.0) (operand_writable q good.1 spelled.1)
+  expr_writable : (e : Expr) → is_good_expr e ≡ true → is_written_expr (expr_meaning e) ≡ true
+  expr_writable (named n) h = h
+  expr_writable (select o p) h = let both = and_parts _ _ h in and_from _ _ (predicate_writable p both.0) (operand_writable o both.1)
+  expr_writable (drop c by v o) h =
+      let both = and_parts _ _ h in
+      let front = and_parts _ _ both.0 in
+      let names = and_parts _ _ front.0 in
+      and_from _ _ (and_from _ _ (and_from _ _ names.0 (names_free by names.1)) front.1) (operand_writable o both.1)
+  expr_writable (rename c d o) h = let both = and_parts _ _ h in and_from _ _ both.0 (operand_writable o both.1)
+  expr_writable (join kind o q) h = let both = and_parts _ _ h in and_from _ _ (operand_writable o both.0) (operand_writable q both.1)
 
 -- ---- definitions
 
@@ -128,4 +110,4 @@ meaning_writable (table name columns deps condition) h k =
     (condition_writable condition three.1 last.1)
 meaning_writable (view name e) h k =
     let both = and_parts _ _ h in
-    and_from _ _ both.0 (expr_writable e both.1 (and_parts _ _ k).1)
+    and_from _ _ both.0 (expr_writable e (sym (expr_good e) ∙ and_from _ _ both.1 (and_parts _ _ k).1))

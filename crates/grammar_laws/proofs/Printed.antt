@@ -1,13 +1,9 @@
 -- A printed definition says what was printed and is read as that, and only what can be written is said.
 use Rattle.std.proofs.Common.{◌≡◌, ℕ, ◌+◌, true, false, List, [], ◌∷◌, length, refl, sym, ap, ◌∙◌, append-nil}
-use Rattle.std.proofs.lemmas.Bool.{and_from, true≢false}
-use Rattle.grammar_specs.specs.Texts.{Placed, tokens_in, Stand}
-use Rattle.grammar_specs.specs.Written.{Written, written_tokens}
-use Rattle.grammar_specs.specs.Meaning.{Definition, IsWritten}
-use Rattle.grammar_specs.specs.Nesting.{nesting, max_nesting, is_too_deep}
-use Rattle.grammar_specs.specs.Faults.{IsNestingFault}
-use Rattle.grammar_specs.specs.Printing.{printed, definition_written}
-use Rattle.grammar_specs.specs.Writable.{is_writable}
+use Rattle.plain_values.proofs.Common.{and_from, true≢false}
+use Rattle.grammar_specs.specs.Common.{Placed, tokens_in, Stand, Written, written_tokens, Definition, nesting, max_nesting, is_too_deep, IsNestingFault, definition_written, is_writable}
+use Rattle.grammar_specs.specs.Meaning.{IsWritten}
+use Rattle.grammar_specs.specs.Printing.{printed}
 use Rattle.grammar_laws.specs.PrintLaws.{SaidIsWritable, PrintedIsSaid, PrintedIsRead}
 use Rattle.grammar_laws.proofs.FirstDeep.{deep_whole, deep_too}
 use Rattle.grammar_laws.proofs.Halts.{halts_at_end, deep_before}

@@ -1,18 +1,16 @@
 -- The value of a text behind its first quote.
-use Rattle.std.proofs.Common.{◌≡◌, ◌≢◌, ℕ, suc, ◌<◌, true, false, cond, List, [], ◌∷◌, ◌++◌, length, get_or, drop, ◌+◌, lit<, length-append, refl, sym, ap, subst, ◌∙◌, append_assoc, append-nil, arith, eqb-true}
-use Rattle.std.specs.Prelude.{Option, Some, None, option_map}
-use Rattle.std.proofs.lemmas.Bool.Decides.{nat_tests}
-use Rattle.grammar_specs.specs.Tokens.{is_quote, quotes_doubled}
-use Rattle.std.specs.Str.{IsUtf8}
-use Rattle.std.proofs.lemmas.Str.{IsUtf8-drop, IsCharBoundary-after_ascii}
-use Rattle.std.proofs.lemmas.Option.{same_Some}
+use Rattle.grammar_laws.proofs.FrontLists.{Stops}
+use Rattle.std.proofs.Math.Seq.{drop-append-add, get_or-append_seam}
+use Rattle.std.proofs.Common.{◌≡◌, ◌≢◌, ℕ, suc, ◌<◌, true, false, cond, List, [], ◌∷◌, ◌++◌, length, get_or, ◌+◌, lit<, length-append, refl, sym, ap, subst, ◌∙◌, append_assoc, append-nil, arith, eqb-true, Option, Some, None, option_map}
+use Rattle.plain_values.proofs.Common.{nat_tests, IsUtf8, IsCharBoundary-after_ascii, same_Some}
+use Rattle.grammar_specs.specs.Common.{is_quote, quotes_doubled}
+use Rattle.std.proofs.lemmas.Str.{IsUtf8-drop}
 use Rattle.grammar_laws.specs.Front.{with_front, quoted_in}
 use Rattle.grammar_laws.proofs.Options.{map_then}
 
 -- the rest does not begin with a quote
 abbrev pub Unquoted : List ℕ → Type 0
-Unquoted [] = Unit {0}
-Unquoted (b ∷ rest) = is_quote b ≡ false
+Unquoted = Stops is_quote
 
 quote_is : (b : ℕ) → is_quote b ≡ true → b ≡ 39
 quote_is b e = eqb-true b 39 e
@@ -37,18 +35,18 @@ unquoted_step b [] e = ap (λ v. cond v (Some ([], [])) None) e
 unquoted_step b (c ∷ rest) e =
     ap (λ v. cond v (cond (is_quote c) (option_map (with_front (39 ∷ [])) (quoted_in rest)) (Some ([], c ∷ rest))) (option_map (with_front (b ∷ [])) (quoted_in (c ∷ rest)))) e
 
-twice : (b : ℕ) (xs : List ℕ) (o : Option (List ℕ × List ℕ)) → option_map (with_front (b ∷ [])) (option_map (with_front xs) o) ≡ option_map (with_front (b ∷ xs)) o
-twice b xs None = refl
-twice b xs (Some q) = refl
+with_nothing : (o : Option (List ℕ × List ℕ)) → o ≡ option_map (with_front []) o
+with_nothing None = refl
+with_nothing (Some q) = refl
+
+with_both : (xs ys : List ℕ) (o : Option (List ℕ × List ℕ)) → option_map (with_front xs) (option_map (with_front ys) o) ≡ option_map (with_front (xs ++ ys)) o
+with_both xs ys None = refl
+with_both xs ys (Some q) = ap (λ x. Some (x, q.1)) (sym (append_assoc xs ys q.0))
 
 -- a piece with no quote is the value's
 pub piece_in : (xs rest : List ℕ) → NoQuote xs → quoted_in (xs ++ rest) ≡ option_map (with_front xs) (quoted_in rest)
-piece_in [] rest h = same (quoted_in rest)
-  where
-    same : (o : Option (List ℕ × List ℕ)) → o ≡ option_map (with_front []) o
-    same None = refl
-    same (Some q) = refl
-piece_in (x ∷ xs) rest h = unquoted_step x (xs ++ rest) h.0 ∙ ap (option_map (with_front (x ∷ []))) (piece_in xs rest h.1) ∙ twice x xs (quoted_in rest)
+piece_in [] rest h = with_nothing (quoted_in rest)
+piece_in (x ∷ xs) rest h = unquoted_step x (xs ++ rest) h.0 ∙ ap (option_map (with_front (x ∷ []))) (piece_in xs rest h.1) ∙ with_both (x ∷ []) xs (quoted_in rest)
 
 pub never_closed : (xs : List ℕ) → NoQuote xs → quoted_in xs ≡ None
 never_closed xs h = ap quoted_in (sym (append-nil xs)) ∙ piece_in xs [] h
@@ -69,22 +67,14 @@ abbrev pub Gathers : List ℕ → List ℕ → List ℕ → Type 0
 Gathers text value rest = quoted_in text ≡ option_map (with_front value) (quoted_in rest)
 
 pub gathers_none : (text value : List ℕ) → value ≡ [] → Gathers text value text
-gathers_none text value e = subst (λ v. Gathers text v text) (sym e) (same (quoted_in text))
-  where
-    same : (o : Option (List ℕ × List ℕ)) → o ≡ option_map (with_front []) o
-    same None = refl
-    same (Some q) = refl
-
-joined : (xs ys zs : List ℕ) (o : Option (List ℕ × List ℕ)) → option_map (with_front xs) (option_map (with_front ys) (option_map (with_front zs) o)) ≡ option_map (with_front ((xs ++ ys) ++ zs)) o
-joined xs ys zs None = refl
-joined xs ys zs (Some q) = ap (λ x. Some (x, q.1)) (sym (append_assoc (xs ++ ys) zs q.0 ∙ append_assoc xs ys (zs ++ q.0)))
+gathers_none text value e = subst (λ v. Gathers text v text) (sym e) (with_nothing (quoted_in text))
 
 -- a piece and a doubled quote more
 pub gathers_more : (text value rest piece more next : List ℕ) → Gathers text value rest → rest ≡ piece ++ 39 ∷ 39 ∷ more → NoQuote piece → next ≡ (value ++ piece) ++ 39 ∷ [] → Gathers text next more
 gathers_more text value rest piece more next g e none is =
     g ∙ ap (λ r. option_map (with_front value) (quoted_in r)) e
     ∙ ap (option_map (with_front value)) (piece_in piece (39 ∷ 39 ∷ more) none)
-    ∙ joined value piece (39 ∷ []) (quoted_in more)
+    ∙ with_both value piece (option_map (with_front (39 ∷ [])) (quoted_in more)) ∙ with_both (value ++ piece) (39 ∷ []) (quoted_in more)
     ∙ ap (λ v. option_map (with_front v) (quoted_in more)) (sym is)
 
 -- a piece and the closing quote
@@ -150,28 +140,12 @@ quoted_found (b ∷ c ∷ rest) q e =
 
 -- ---- what follows an ASCII byte of a text is text
 
-byte_at : (xs ys : List ℕ) (q : ℕ) → get_or (xs ++ q ∷ ys) (length xs) 0 ≡ q
-byte_at [] ys q = refl
-byte_at (x ∷ xs) ys q = byte_at xs ys q
-
-past_byte : (xs ys : List ℕ) (q : ℕ) → drop (suc (length xs)) (xs ++ q ∷ ys) ≡ ys
-past_byte [] ys q = refl
-past_byte (x ∷ xs) ys q = past_byte xs ys q
-
-one_past : (n : ℕ) → n + 1 ≡ suc n
-one_past n = omega arith
-
-within_front : (xs ys : List ℕ) (q : ℕ) → length xs < length (xs ++ q ∷ ys)
-within_front xs ys q = omega (arith, length-append xs (q ∷ ys))
-
-same_below : (a b n : ℕ) → a ≡ b → b < n → a < n
-same_below a b n e h = omega arith
-
 text_behind : (xs ys : List ℕ) (q : ℕ) → IsUtf8 (xs ++ q ∷ ys) → q < 128 → IsUtf8 ys
 text_behind xs ys q u small =
     let bs : List ℕ = xs ++ q ∷ ys in
-    subst IsUtf8 (ap (λ k. drop k bs) (one_past (length xs)) ∙ past_byte xs ys q)
-    (IsUtf8-drop bs (length xs + 1) u (IsCharBoundary-after_ascii bs (length xs) u (within_front xs ys q) (same_below (get_or bs (length xs) 0) q 128 (byte_at xs ys q) small)))
+    let inside : length xs < length bs = omega (arith, length-append xs (q ∷ ys)) in
+    let ascii : get_or bs (length xs) 0 < 128 = omega (arith, small, get_or-append_seam xs q ys 0) in
+    subst IsUtf8 (drop-append-add xs (q ∷ ys) 1) (IsUtf8-drop bs (length xs + 1) u (IsCharBoundary-after_ascii bs (length xs) u inside ascii))
 
 -- behind a piece and two quotes
 pub text_more : (rest piece behind more : List ℕ) → IsUtf8 rest → rest ≡ piece ++ 39 ∷ behind → behind ≡ 39 ∷ more → IsUtf8 more

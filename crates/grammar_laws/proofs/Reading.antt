@@ -1,24 +1,17 @@
 -- Cutting a text and reading its tokens alone gives the answer of the text, and there is no other.
-use Rattle.std.proofs.Common.{◌≡◌, inl, inr, ℕ, zero, suc, true, false, cond, ◌+◌, ◌-◌, ◌^◌, ◌<◌, ◌≤◌, List, [], ◌∷◌, ◌++◌, length, refl, sym, ap, subst, ◌∙◌, append_assoc, append-nil, arith, length-append}
-use Rattle.std.specs.Prelude.{Option, Some, None, Ok, Err, unwrap_or, take_while}
-use Rattle.std.proofs.lemmas.List.{map-append}
-use Rattle.grammar_specs.specs.Tokens.{Token, is_blank}
-use Rattle.grammar_specs.specs.Texts.{Placed, tokens_in, AreBlank, Stand, IsText, GoesWrong}
-use Rattle.grammar_specs.specs.Written.{Written}
-use Rattle.grammar_specs.specs.Meaning.{Definition, meaning}
-use Rattle.grammar_specs.specs.Nesting.{max_nesting}
-use Rattle.grammar_specs.specs.Faults.{too_large, columns, predicate, has_few_columns, has_few_nodes, IsNestingFault, IsSyntaxFault, SaysFlat, Answers}
-use Rattle.grammar_laws.specs.Front.{drop_while, token_at, token_in_front}
+use Rattle.std.proofs.Common.{◌≡◌, inl, inr, ℕ, zero, suc, true, false, cond, ◌+◌, ◌-◌, ◌^◌, ◌<◌, ◌≤◌, List, [], ◌∷◌, ◌++◌, length, refl, sym, ap, subst, ◌∙◌, append_assoc, append-nil, arith, length-append, Option, Some, None, Ok, Err, unwrap_or, take_while}
+use Rattle.grammar_specs.specs.Common.{Token, is_blank, Placed, tokens_in, AreBlank, Stand, IsText, GoesWrong, Written, Definition, meaning, max_nesting, too_large, columns, predicate, has_few_columns, has_few_nodes, IsNestingFault, IsSyntaxFault, SaysFlat, Answers}
+use Rattle.grammar_laws.specs.Front.{drop_while, token_at}
 use Rattle.grammar_laws.specs.Steps.{Outcome, read, stopped, too_deep}
 use Rattle.grammar_laws.specs.DefRules.{alone}
 use Rattle.grammar_laws.specs.Reading.{Cut, with_first, cut_within, limited, next_offset, answer, cut, reading_within, reading}
 use Rattle.grammar_laws.specs.Laws.{ReadingAnswers, AnswersAreRead}
 use Rattle.grammar_laws.proofs.FrontLists.{front_passes}
 use Rattle.grammar_laws.proofs.FrontTokens.{spelled_some, no_token}
-use Rattle.grammar_laws.proofs.Longest as longest
+use Rattle.grammar_laws.proofs.FrontLists as lists
 use Rattle.grammar_laws.proofs.Longest.{parted, stops, token_stands}
-use Rattle.grammar_laws.proofs.Stands.{stand_more, stand_before, stand_parts, stand_next, GoesOn, one_ahead}
-use Rattle.grammar_laws.proofs.Halts.{nothing_ahead}
+use Rattle.grammar_laws.proofs.Stands.{stand_more, stand_before, stand_parts}
+use Rattle.grammar_laws.proofs.Halts.{halts_at_end, deep_before}
 use Rattle.grammar_laws.proofs.OneAnswer.{one_answer}
 use Rattle.grammar_laws.proofs.DefAnswers as tokens
 use Rattle.grammar_laws.proofs.DefAnswers.{Spelled, StopsBefore}
@@ -81,7 +74,7 @@ wrong_at text left front b rest stand ahead none =
       omega (arith, ap length before.1, length-append before.0 left, ap length split, length-append blanks (b ∷ rest)),
       subst (Stand 0 text front) split stand,
       front_passes is_blank left,
-      subst (longest.Stops is_blank) ahead (stops is_blank left),
+      subst (lists.Stops is_blank) ahead (stops is_blank left),
       no_token (b ∷ rest) (sym none),
     )
 
@@ -127,26 +120,10 @@ limited_answers text d says =
       | false ↦ λ many. (d, says, many)
     ] refl
 
-none_some : {A : Type 0} (a : A) → None ≡ Some a → ⊥
-none_some a e = cc
-
--- behind the last token none goes on
-ends_there : (ps g : Placed) (left m : List ℕ) → AreBlank left → GoesOn ps left g m → g ≡ ps
-ends_there ps g left m blank ahead = goes ahead.more ahead.joined ahead.stand
-  where
-    goes : (more : Placed) → g ≡ ps ++ more → Stand ahead.at left more m → g ≡ ps
-    goes [] joined stand = joined ∙ append-nil ps
-    goes (p ∷ more) joined stand =
-        let next = stand_next ahead.at left p more m stand in
-        absurd (none_some (p.1, stand.2) (ap token_in_front (sym (nothing_ahead left blank)) ∙ next.token))
-
 no_nesting_fault : (text left : List ℕ) (ps : Placed) (w : Written) → Stand 0 text ps left → AreBlank left → Spelled ps w → IsNestingFault text → ⊥
 no_nesting_fault text left ps w stand blank r fault =
-    let g : Placed = fault.0 in
-    elim (one_ahead 0 text ps g left fault.1 stand fault.2) [
-      | inl ahead ↦ r.flat (tokens_in g) [] (ap tokens_in (sym (ends_there ps g left fault.1 blank ahead)) ∙ sym (append-nil (tokens_in g))) fault.3
-      | inr behind ↦ r.flat (tokens_in g) (tokens_in behind.more) (ap tokens_in behind.joined ∙ map-append (λ p. p.1) g behind.more) fault.3
-    ]
+    let d = deep_before text ps (length text) (halts_at_end text ps (left, stand, blank) (w, [], r.good, r.spelled ∙ sym (append-nil (tokens_in ps)))) fault in
+    r.flat d.0 d.1 d.2 d.3
 
 module _ (text : List ℕ) (ps : Placed) (left : List ℕ) (stand : Stand 0 text ps left) where
   read_answers : (w : Written) (rest : Placed) (wrong : Option ℕ) → Ends text ps left wrong → Spelled ps w → Answers text (answer (read w rest) wrong (length text))

@@ -1,10 +1,7 @@
 -- What a rule reads is spelled by a tree, and where it stops a tree begins.
-use Rattle.std.proofs.Common.{◌≡◌, ℕ, zero, suc, ◌+◌, ◌≤◌, ◌<◌, Bool, true, false, List, [], ◌∷◌, ◌++◌, length, take, refl, sym, ap, subst, ◌∙◌, append_assoc, append-nil, arith, length-append}
-use Rattle.std.specs.Prelude.{Option, Some, None, ◌||◌, nat_lt}
-use Rattle.std.proofs.lemmas.List.{map-append, length-map}
-use Rattle.grammar_specs.specs.Tokens.{Token}
-use Rattle.grammar_specs.specs.Texts.{Placed, tokens_in}
-use Rattle.grammar_specs.specs.Nesting.{max_nesting, is_too_deep}
+use Rattle.std.proofs.Common.{◌≡◌, ℕ, zero, suc, ◌+◌, ◌≤◌, ◌<◌, Bool, true, false, List, [], ◌∷◌, ◌++◌, length, take, refl, sym, ap, subst, ◌∙◌, append_assoc, append-nil, arith, length-append, Option, Some, None, ◌||◌, nat_lt}
+use Rattle.plain_values.proofs.Common.{map-append, length-map}
+use Rattle.grammar_specs.specs.Common.{Token, Placed, tokens_in, max_nesting, is_too_deep}
 use Rattle.grammar_laws.specs.Steps.{Outcome, read, stopped, too_deep, and_then, chosen, choose, need, repeat}
 use Rattle.grammar_laws.proofs.Local.{IsLocal, repeat_turn}
 
@@ -21,16 +18,13 @@ pub record Begun {A : Type 0} (m : Trees A) (ts : List Token) : Type 0 where
   pub good : m.ok tree ≡ true
   pub spelled : m.tokens tree ≡ ts ++ more
 
-pub begun : {A : Type 0} {m : Trees A} {ts : List Token} (tree : A) (more : List Token) → m.ok tree ≡ true → m.tokens tree ≡ ts ++ more → Begun m ts
+abbrev pub begun : {A : Type 0} {m : Trees A} {ts : List Token} (tree : A) (more : List Token) → m.ok tree ≡ true → m.tokens tree ≡ ts ++ more → Begun m ts
 begun {A} {m} {ts} tree more good spelled = record { tree = tree; more = more; good = good; spelled = spelled }
 
 -- and too many stand open in them
 pub record BegunDeep {A : Type 0} (m : Trees A) (ts : List Token) : Type 0 where
-  pub tree : A
-  pub more : List Token
-  pub good : m.ok tree ≡ true
-  pub spelled : m.tokens tree ≡ ts ++ more
-  pub deep : is_too_deep (take (length ts) (m.nesting tree)) ≡ true
+  pub begun : Begun m ts
+  pub deep : is_too_deep (take (length ts) (m.nesting begun.tree)) ≡ true
 
 -- the tree is spelled by these tokens
 pub record Done {A : Type 0} (m : Trees A) (a : A) (ts : List Token) : Type 0 where
@@ -67,12 +61,11 @@ sound_deep {A} {m} {pre} {ps} h = record { holds = (ps, here pre ps (BegunDeep m
 -- the same for trees of which more are good
 pub sound_weaker : {A : Type 0} (m : Trees A) (ok : A → Bool) → ((a : A) → m.ok a ≡ true → ok a ≡ true) → (pre : List Token) (ps : Placed) (o : Outcome A) → Sound m pre ps o → Sound (record { ok = ok; tokens = m.tokens; nesting = m.nesting }) pre ps o
 sound_weaker m ok f pre ps (read a rest) h = let x = h.holds in record { holds = record { front = x.front; split = x.split; is = record { good = f a x.is.good; spelled = x.is.spelled } } }
-sound_weaker m ok f pre ps (stopped rest) h =
-    let x = h.holds in record { holds = record { front = x.front; split = x.split; is = record { tree = x.is.tree; more = x.is.more; good = f x.is.tree x.is.good; spelled = x.is.spelled } } }
+sound_weaker m ok f pre ps (stopped rest) h = let x = h.holds in record { holds = record { front = x.front; split = x.split; is = begun x.is.tree x.is.more (f x.is.tree x.is.good) x.is.spelled } }
 sound_weaker m ok f pre ps too_deep h =
-    let x = h.holds in
-    let b = x.1.is in
-    record { holds = (x.0, record { front = x.1.front; split = x.1.split; is = record { tree = b.tree; more = b.more; good = f b.tree b.good; spelled = b.spelled; deep = b.deep } }) }
+    let x = h.holds.1 in
+    let b = x.is.begun in
+    record { holds = (h.holds.0, record { front = x.front; split = x.split; is = record { begun = begun b.tree b.more (f b.tree b.good) b.spelled; deep = x.is.deep } }) }
 
 -- ---- further on
 
@@ -136,28 +129,19 @@ pub record Within {A B : Type 0} (inner : Trees A) (outer : Trees B) (pre : List
   pub nested : (a : A) → outer.nesting (wrap a) ≡ levels ++ (inner.nesting a ++ levels_after)
   pub long : length levels ≡ length pre
 
-regroup : (pre ts more after : List Token) → pre ++ ((ts ++ more) ++ after) ≡ (pre ++ ts) ++ (more ++ after)
-regroup pre ts more after = ap (λ x. pre ++ x) (append_assoc ts more after) ∙ sym (append_assoc pre ts (more ++ after))
-
-begun_within : {A B : Type 0} (inner : Trees A) (outer : Trees B) (pre ts : List Token) → Within inner outer pre → Begun inner ts → Begun outer (pre ++ ts)
-begun_within inner outer pre ts w h = record {
-  tree = w.wrap h.tree;
-  more = h.more ++ w.after;
-  good = w.good h.tree h.good;
-  spelled = w.spelled h.tree ∙ ap (λ x. pre ++ (x ++ w.after)) h.spelled ∙ regroup pre ts h.more w.after;
-}
+abbrev begun_within : {A B : Type 0} (inner : Trees A) (outer : Trees B) (pre ts : List Token) → Within inner outer pre → Begun inner ts → Begun outer (pre ++ ts)
+begun_within inner outer pre ts w h =
+    begun (w.wrap h.tree) (h.more ++ w.after) (w.good h.tree h.good) (w.spelled h.tree ∙ ap (λ x. pre ++ x) (ap (λ x. x ++ w.after) h.spelled ∙ append_assoc ts h.more w.after) ∙ sym (append_assoc pre ts (h.more ++ w.after)))
 
 deep_within : {A B : Type 0} (inner : Trees A) (outer : Trees B) (pre ts : List Token) → Within inner outer pre → BegunDeep inner ts → BegunDeep outer (pre ++ ts)
-deep_within inner outer pre ts w h = record {
-  tree = w.wrap h.tree;
-  more = h.more ++ w.after;
-  good = w.good h.tree h.good;
-  spelled = w.spelled h.tree ∙ ap (λ x. pre ++ (x ++ w.after)) h.spelled ∙ regroup pre ts h.more w.after;
-  deep =
-      subst (λ x. is_too_deep (take (length (pre ++ ts)) x) ≡ true) (sym (w.nested h.tree))
-      (deep_behind w.levels (inner.nesting h.tree ++ w.levels_after) (length ts) (length (pre ++ ts)) (omega (arith, length-append pre ts, w.long))
-      (deep_front (length ts) (inner.nesting h.tree) w.levels_after h.deep));
-}
+deep_within inner outer pre ts w h =
+    let a = h.begun.tree in
+    record {
+      begun = begun_within inner outer pre ts w h.begun;
+      deep =
+          subst (λ x. is_too_deep (take (length (pre ++ ts)) x) ≡ true) (sym (w.nested a))
+          (deep_behind w.levels (inner.nesting a ++ w.levels_after) (length ts) (length (pre ++ ts)) (omega (arith, length-append pre ts, w.long)) (deep_front (length ts) (inner.nesting a) w.levels_after h.deep));
+    }
 
 pub sound_then : {A B : Type 0} {inner : Trees A} {outer : Trees B} {pre : List Token} (w : Within inner outer pre) {ps : Placed} {o : Outcome A} (k : A → Placed → Outcome B) → Sound inner [] ps o
     → ((a : A) (rest : Placed) → inner.ok a ≡ true → length rest ≤ length ps → Sound outer (pre ++ inner.tokens a) rest (k a rest)) → Sound outer pre ps (and_then o k)
@@ -169,6 +153,24 @@ sound_then {A} {B} {inner} {outer} {pre} w {ps} {o = stopped rest} k h next =
     let x = h.holds in record { holds = record { front = x.front; split = x.split; is = begun_within inner outer pre (tokens_in x.front) w x.is } }
 sound_then {A} {B} {inner} {outer} {pre} w {ps} {o = too_deep} k h next =
     let x = h.holds in record { holds = (x.0, record { front = x.1.front; split = x.1.split; is = deep_within inner outer pre (tokens_in x.1.front) w x.1.is }) }
+
+-- between these tokens
+pub within : {A B : Type 0} {inner : Trees A} {outer : Trees B} {pre : List Token} (wrap : A → B) (after : List Token) (levels levels_after : List ℕ) → length levels ≡ length pre → ((a : A) → inner.ok a ≡ true → outer.ok (wrap a) ≡ true)
+    → ((a : A) → outer.tokens (wrap a) ≡ pre ++ (inner.tokens a ++ after)) → ((a : A) → outer.nesting (wrap a) ≡ levels ++ (inner.nesting a ++ levels_after)) → Within inner outer pre
+within {A} {B} {inner} {outer} {pre} wrap after levels levels_after long good spelled nested =
+    record { wrap = wrap; after = after; levels = levels; levels_after = levels_after; good = good; spelled = spelled; nested = nested; long = long }
+
+-- the tree that is read is the last part of another
+pub sound_last : {A B : Type 0} {inner : Trees A} {outer : Trees B} {pre : List Token} (wrap : A → B) (levels : List ℕ) → length levels ≡ length pre → ((a : A) → inner.ok a ≡ true → outer.ok (wrap a) ≡ true)
+    → ((a : A) → outer.tokens (wrap a) ≡ pre ++ inner.tokens a) → ((a : A) → outer.nesting (wrap a) ≡ levels ++ inner.nesting a) → {ps : Placed} {o : Outcome A} → Sound inner [] ps o → Sound outer pre ps (and_then o (λ a. read (wrap a)))
+sound_last {A} {B} {inner} {outer} {pre} wrap levels long good spelled nested h =
+    sound_then
+    (within wrap [] levels [] long good (λ a. spelled a ∙ ap (λ x. pre ++ x) (sym (append-nil (inner.tokens a)))) (λ a. nested a ∙ ap (λ x. levels ++ x) (sym (append-nil (inner.nesting a))))) _ h
+    (λ a rest fine _. sound_read (good a fine) (spelled a))
+
+-- one level and one token more
+pub one_longer : (ns : List ℕ) (ts : List Token) (n : ℕ) (t : Token) → length ns ≡ length ts → length (ns ++ n ∷ []) ≡ length (ts ++ t ∷ [])
+one_longer ns ts n t e = omega (arith, e, length-append ns (n ∷ []), length-append ts (t ∷ []))
 
 -- ---- again and again
 
@@ -202,9 +204,6 @@ module _ {A B : Type 0} (m : Trees A) (f : Token → Option B) (d : Kind B f) (s
   pub sound_more : (pre : List Token) (qs : Placed) (o : Outcome A) → length pre + length qs < total → Sound m pre qs o → Sound m pre qs (and_then o (repeat f step))
   sound_more pre qs o fits h = goes_on (length qs) (turns (length qs)) pre qs o (omega arith) fits h
 
-  sound_turns : (a : A) (ps : Placed) → length (m.tokens a) + length ps < total → m.ok a ≡ true → Sound m (m.tokens a) ps (repeat f step a ps)
-  sound_turns a ps fits ok = turns (length ps) a ps (omega arith) fits ok
-
 pub sound_repeat : {A B : Type 0} {m : Trees A} {f : Token → Option B} (d : Kind B f) (step : A → B → Placed → Outcome A) → ((a : A) (b : B) (ps : Placed) → IsLocal (step a b) ps)
     → ((a : A) (b : B) (qs : Placed) → m.ok a ≡ true → d.good b ≡ true → Sound m (m.tokens a ++ d.spell b ∷ []) qs (step a b qs)) → (a : A) {ps : Placed} → m.ok a ≡ true → Sound m (m.tokens a) ps (repeat f step a ps)
-sound_repeat {A} {B} {m} {f} d step local each a {ps} ok = sound_turns m f d step local (suc (length (m.tokens a) + length ps)) (λ a b qs ok good _. each a b qs ok good) a ps (omega arith) ok
+sound_repeat {A} {B} {m} {f} d step local each a {ps} ok = turns m f d step local (suc (length (m.tokens a) + length ps)) (λ a b qs ok good _. each a b qs ok good) (length ps) a ps (omega arith) (omega arith) ok

@@ -1,30 +1,15 @@
 -- Tokens that stand one after another in a text: there is one way to go on.
-use Rattle.std.proofs.Common.{◌≡◌, ◌⊎◌, inl, inr, ℕ, ◌+◌, Bool, true, false, List, [], ◌∷◌, ◌++◌, length, refl, sym, ap, subst, ◌∙◌, append_assoc, eqb-true, arith, length-append}
-use Rattle.std.specs.Prelude.{◌||◌, ◌==◌, Some, None}
-use Rattle.std.proofs.Math.Bool.{and-false}
-use Rattle.std.proofs.lemmas.Option.{same_Some, none-some}
-use Rattle.grammar_specs.specs.Tokens.{Token, Spells, Ends, is_blank}
-use Rattle.grammar_specs.specs.Texts.{Placed, AreBlank, Stand}
+use Rattle.plain_values.proofs.Common.{nat_tests, same_Some, none-some}
+use Rattle.std.proofs.Common.{◌≡◌, ◌⊎◌, inl, inr, ℕ, ◌+◌, true, false, List, [], ◌∷◌, ◌++◌, length, refl, sym, ap, subst, ◌∙◌, append_assoc, arith, length-append, Some, None}
+use Rattle.grammar_specs.specs.Common.{Token, Spells, Ends, is_blank, Placed, AreBlank, Stand}
 use Rattle.grammar_laws.specs.Front.{drop_while, token_at, token_in_front}
 use Rattle.grammar_laws.proofs.Longest.{dropped, token_front}
 
 -- ---- no token begins with a blank
 
-no_sign : (k : ℕ) → ((c : ℕ) (rest : List ℕ) → token_at k (c ∷ rest) ≡ None) → token_at k [] ≡ None → (b : ℕ) (rest : List ℕ) → (b == k) ≡ true → token_at b rest ≡ None
-no_sign k some none b [] e = let P : ℕ → Type 0 = λ x. token_at x [] ≡ None in subst P (sym (eqb-true b k e)) none
-no_sign k some none b (c ∷ rest) e = let P : ℕ → Type 0 = λ x. token_at x (c ∷ rest) ≡ None in subst P (sym (eqb-true b k e)) (some c rest)
-
-one_of_four : (P : Type 0) (a b c d : Bool) → (a || b || c || d) ≡ true → (a ≡ true → P) → (b ≡ true → P) → (c ≡ true → P) → (d ≡ true → P) → P
-one_of_four P true b c d e pa pb pc pd = pa refl
-one_of_four P false true c d e pa pb pc pd = pb refl
-one_of_four P false false true d e pa pb pc pd = pc refl
-one_of_four P false false false d e pa pb pc pd = pd e
-
 blank_none : (b : ℕ) (rest : List ℕ) → is_blank b ≡ true → token_at b rest ≡ None
-blank_none b rest e =
-    one_of_four (token_at b rest ≡ None) (b == 32) (b == 9) (b == 10) (b == 13) e
-    (no_sign 32 (λ c more. rw (and-false (c == 61)) refl) refl b rest) (no_sign 9 (λ c more. rw (and-false (c == 61)) refl) refl b rest)
-    (no_sign 10 (λ c more. rw (and-false (c == 61)) refl) refl b rest) (no_sign 13 (λ c more. rw (and-false (c == 61)) refl) refl b rest)
+blank_none b [] e = grind (arith, nat_tests)
+blank_none b (c ∷ rest) e = grind (arith, nat_tests)
 
 found_visible : (b : ℕ) (rest : List ℕ) (f : Token × List ℕ) → token_at b rest ≡ Some f → is_blank b ≡ false
 found_visible b rest f e = elim (is_blank b) as (λ v. is_blank b ≡ v → v ≡ false) [ true ↦ λ is. absurd (none-some f (sym (blank_none b rest is) ∙ e)) | false ↦ λ _. refl ] refl

@@ -1,8 +1,6 @@
 -- Words that compare as equal are equal.
-use Rattle.std.proofs.Common.{◌≡◌, ℕ, true, List, [], ◌∷◌, refl, ap, ◌∙◌, eqb-true, arith}
-use Rattle.std.proofs.lemmas.Bool.Decides.{nat_tests}
-use Rattle.std.specs.Prelude.{◌&&◌, nat_eq}
-use Rattle.plain_values.proofs.Tests.{first_holds, second_holds}
+use Rattle.std.proofs.Common.{◌≡◌, ℕ, true, List, [], ◌∷◌, refl, ap, ◌∙◌, eqb-true, arith, ◌&&◌, nat_eq}
+use Rattle.plain_values.proofs.Common.{nat_tests, first_holds, second_holds}
 use Rattle.grammar_laws.specs.Tests.{is_word}
 
 pub same_word : (w k : List ℕ) → is_word w k ≡ true → w ≡ k

@@ -1,8 +1,9 @@
-pub mod Tokens
-pub mod Texts
-pub mod Written
+pub mod Common
+pub mod Faults
 pub mod Meaning
 pub mod Nesting
-pub mod Faults
 pub mod Printing
+pub mod Texts
+pub mod Tokens
 pub mod Writable
+pub mod Written

@@ -2,12 +2,12 @@
 ghost use Rattle.std.specs.Prelude.{◌≡◌};
 
 use crate::trial::Trial;
-use lens_values::Columns;
-use sample_rows::{columns, row};
+use sample_rows::expect;
 use std::alloc::Global;
 use std::marker::Brand;
 use std::sync::ledger::{Blank, Ledger};
 use std::test::Fail;
+use step_counter::Steps;
 
 const TRACKS: &str = "album:text title:text year:int?";
 
@@ -90,24 +90,30 @@ const FIRST_STEPS: &str = "
     finds k:int | k=1 | k=1
     shows k=1";
 
-// Takes the steps in turn. It fails, with the step, if the table is not as the step says.
-fn follow<L: Ledger>(alloc: Global, trial: &mut Trial<L>, steps: &str) -> Result<(), Fail> {
-    for step in steps.lines() {
-        if !is_so(alloc, trial, step.trim())? {
-            return Err(Fail::from(step));
-        }
+// Takes the steps in turn, in a new table. It fails, with the step, if the table is not as the step
+// says.
+fn follow<L: Ledger>(
+    alloc: Global,
+    table: &str,
+    columns: &str,
+    lines: &str,
+    steps: &mut Steps<L>,
+) -> Result<(), Fail> {
+    let mut trial = Trial::new(alloc, table, columns, steps)?;
+    for step in lines.lines() {
+        expect(is_so(&mut trial, step.trim(), steps)?, step)?;
     }
     Ok(())
 }
 
-// Takes `STEPS` in a table of tracks.
 fn all<L: Ledger>(alloc: Global, blank: Blank) -> Result<(), Fail>
     requires name { blank.name ≡ L.name }
     requires parts { blank.parts ≡ L.parts }
     requires one { blank.parts ≡ 1 }
 {
-    let mut trial = Trial::<L>::new(alloc, blank, "tracks", TRACKS)?;
-    follow(alloc, &mut trial, STEPS)
+    let mut steps = Steps::<L>::new(blank);
+    follow(alloc, "n", "k:int", FIRST_STEPS, &mut steps)?;
+    follow(alloc, "tracks", TRACKS, STEPS, &mut steps)
 }
 
 #[test]
@@ -115,42 +121,27 @@ fn tables_are_changed_held_and_asked(rt: HostRuntime) -> Result<(), Fail> {
     all::<Brand>(rt.alloc(), Blank::new(1))
 }
 
-// Takes `FIRST_STEPS` in a table of one column.
-fn first<L: Ledger>(alloc: Global, blank: Blank) -> Result<(), Fail>
-    requires name { blank.name ≡ L.name }
-    requires parts { blank.parts ≡ L.parts }
-    requires one { blank.parts ≡ 1 }
-{
-    let mut trial = Trial::<L>::new(alloc, blank, "n", "k:int")?;
-    follow(alloc, &mut trial, FIRST_STEPS)
-}
-
-#[test]
-fn a_row_is_seen_once_it_is_settled(rt: HostRuntime) -> Result<(), Fail> {
-    first::<Brand>(rt.alloc(), Blank::new(1))
-}
-
 // Takes the step, and returns whether the table allows the change, or is as the step says.
-fn is_so<L: Ledger>(alloc: Global, trial: &mut Trial<L>, step: &str) -> Result<bool, Fail> {
+fn is_so<L: Ledger>(trial: &mut Trial, step: &str, steps: &mut Steps<L>) -> Result<bool, Fail> {
     let (word, rest) = step.split_once(' ').unwrap_or((step, ""));
     match word {
         "" => Ok(true),
-        "index" => indexes(alloc, trial, rest),
-        "unindexed" => is_unindexed(alloc, trial, rest),
+        "index" => trial.stages_index(rest, steps),
+        "unindexed" => Ok(!trial.may_be_asked(rest)?),
         "stage" => {
-            trial.stages(rest)?;
+            trial.stages(rest, steps)?;
             Ok(true)
         }
-        "shows" => trial.shows(rest),
-        "has" => has(alloc, trial, rest),
-        "lacks" => Ok(!has(alloc, trial, rest)?),
-        "finds" => finds(alloc, trial, rest),
+        "shows" => trial.shows(rest, steps),
+        "has" => trial.has(rest, steps),
+        "lacks" => Ok(!trial.has(rest, steps)?),
+        "finds" => trial.finds(rest, steps),
         _ => Ok(is_done(trial, word)),
     }
 }
 
 // Takes the step that is this word alone, if the table's state allows the step.
-fn is_done<L: Ledger>(trial: &mut Trial<L>, word: &str) -> bool {
+fn is_done(trial: &mut Trial, word: &str) -> bool {
     match word {
         "settle" => {
             trial.settles();
@@ -160,46 +151,9 @@ fn is_done<L: Ledger>(trial: &mut Trial<L>, word: &str) -> bool {
             trial.drops();
             true
         }
-        "hold" => trial.holds().is_done(),
-        "keep" => trial.keeps().is_done(),
-        "back" => trial.goes_back().is_done(),
+        "hold" => trial.holds(),
+        "keep" => trial.keeps(),
+        "back" => trial.goes_back(),
         _ => false,
     }
-}
-
-// Stages an index by the columns.
-fn indexes<L: Ledger>(alloc: Global, trial: &mut Trial<L>, listed: &str) -> Result<bool, Fail> {
-    let columns = columns(alloc, listed)?;
-    Ok(trial.stages_index(&columns)?.is_done())
-}
-
-// Whether the table cannot be asked by the columns.
-fn is_unindexed<L: Ledger>(alloc: Global, trial: &Trial<L>, listed: &str) -> Result<bool, Fail> {
-    let columns = columns(alloc, listed)?;
-    Ok(!trial.may_be_asked(&columns)?)
-}
-
-// Whether the table has the row.
-fn has<L: Ledger>(alloc: Global, trial: &mut Trial<L>, text: &str) -> Result<bool, Fail> {
-    let row = row(alloc, text)?;
-    Ok(trial.has(&row))
-}
-
-// Whether just the rows are found by the key, as `a:int | a=1 | a=1 b=1; a=1 b=2`.
-fn finds<L: Ledger>(alloc: Global, trial: &mut Trial<L>, text: &str) -> Result<bool, Fail> {
-    let (listed, rest) = text.split_once('|').ok_or("no key")?;
-    let columns = columns(alloc, listed)?;
-    finds_by(alloc, trial, &columns, rest)
-}
-
-// What `finds` checks, for a key of these columns, as `a=1 | a=1 b=1; a=1 b=2`.
-fn finds_by<L: Ledger>(
-    alloc: Global,
-    trial: &mut Trial<L>,
-    columns: &Columns,
-    text: &str,
-) -> Result<bool, Fail> {
-    let (key, rows) = text.split_once('|').ok_or("no rows")?;
-    let key = row(alloc, key)?;
-    trial.finds(columns, &key, rows)
 }

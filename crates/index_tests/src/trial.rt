@@ -1,48 +1,28 @@
 //! A table, changed and asked.
 ghost use Rattle.std.specs.Prelude.{◌≡◌, IfOk};
-ghost use Rattle.lens_specs.specs.Columns.{names};
 ghost use Rattle.base_index.specs.Held.{IsThere, relation_in};
 
 use base_index::{Need, Tables};
-use lens_values::{Columns, Name, Row};
+use lens_values::Name;
 use row_sets::Relation;
-use sample_rows::{are_rows, columns, relation};
+use sample_rows::{are_rows, columns, relation, row};
 use signed_delta::{TableDelta, diff};
 use std::alloc::Global;
 use std::marker::Model;
-use std::sync::ledger::{Blank, Ledger};
+use std::sync::ledger::Ledger;
 use std::test::Fail;
 use step_counter::Steps;
 
-/// Whether the table was in a state that allows a step.
-#[derive(Clone, Copy, Debug, PartialEq, Eq)]
-pub(crate) enum Outcome {
-    /// The step was done.
-    Done,
-    /// The table's state does not allow the step.
-    NotAllowed,
-}
-
-impl Outcome {
-    pub(crate) fn is_done(self) -> bool {
-        match self {
-            Outcome::Done => true,
-            Outcome::NotAllowed => false,
-        }
-    }
-}
-
-/// A table that is there, whether it is held, and the steps that it took to ask it.
+/// A table that is there, and whether it is held.
 #[derive(Drop)]
-pub(crate) struct Trial<L: Ledger> {
+pub(crate) struct Trial {
     alloc: Global,
     tables: Tables,
     name: Name,
     held: bool,
-    steps: Steps<L>,
 }
 
-impl<L: Ledger> Model for Trial<L> {
+impl Model for Trial {
     ghost use Rattle.base_index.specs.Held as spec;
 
     ghost Value = { spec.Held };
@@ -56,47 +36,49 @@ impl<L: Ledger> Model for Trial<L> {
     ghost invariant = { λ t. Stays t.tables t.name t.held };
 }
 
-impl<L: Ledger> Trial<L> {
+impl Trial {
     /// A table of this name and these columns with no row and no index.
-    pub(crate) fn new(
+    pub(crate) fn new<L: Ledger>(
         alloc: Global,
-        blank: Blank,
         table: &str,
         listed: &str,
-    ) -> Result<Trial<L>, Fail>
-        requires name { blank.name ≡ L.name }
-        requires parts { blank.parts ≡ L.parts }
-        requires one { blank.parts ≡ 1 }
-    {
-        let mut steps = Steps::<L>::new(blank);
+        steps: &mut Steps<L>,
+    ) -> Result<Trial, Fail> {
         let name = Name::new(table)?;
         let columns = columns(alloc, listed)?;
         let mut tables = Tables::new(alloc);
-        tables.stage_definition(Some((name, columns)), &[], &mut steps)?;
+        tables.stage_definition(Some((name, columns)), &[], steps)?;
         tables.settle();
         Ok(Trial {
             alloc,
             tables,
             name,
             held: false,
-            steps,
         })
     }
 
     /// Stages nothing but an index by the columns, unless the table is held.
-    pub(crate) fn stages_index(&mut self, columns: &Columns) -> Result<Outcome, Fail> {
+    pub(crate) fn stages_index<L: Ledger>(
+        &mut self,
+        listed: &str,
+        steps: &mut Steps<L>,
+    ) -> Result<bool, Fail> {
         if self.held {
-            return Ok(Outcome::NotAllowed);
+            return Ok(false);
         }
-        let needs = [need(self.alloc, self.name, columns)?];
+        let needs = [need(self.alloc, self.name, listed)?];
         self.tables.unstage();
-        self.tables.stage_definition(None, &needs, &mut self.steps)?;
-        Ok(Outcome::Done)
+        self.tables.stage_definition(None, &needs, steps)?;
+        Ok(true)
     }
 
     /// Stages nothing but the change that makes these all rows of the table.
-    pub(crate) fn stages(&mut self, rows: &str) -> Result<(), Fail> {
-        let old = shown(self.alloc, &self.tables, &self.name, &mut self.steps)?;
+    pub(crate) fn stages<L: Ledger>(
+        &mut self,
+        rows: &str,
+        steps: &mut Steps<L>,
+    ) -> Result<(), Fail> {
+        let old = shown(self.alloc, &self.tables, &self.name, steps)?;
         let new = relation(self.alloc, old.columns(), rows)?;
         let delta = diff(self.alloc, &old, &new)?;
         self.tables.unstage();
@@ -118,80 +100,79 @@ impl<L: Ledger> Trial<L> {
     }
 
     /// Remembers the table as it is, unless it is held.
-    pub(crate) fn holds(&mut self) -> Outcome {
+    pub(crate) fn holds(&mut self) -> bool {
         if self.held {
-            return Outcome::NotAllowed;
+            return false;
         }
         self.tables.unstage();
         self.tables.hold();
         self.held = true;
-        Outcome::Done
+        true
     }
 
-    /// Gives up what was remembered when the table was held. The table stays as it is. It is
-    /// not allowed if the table is not held.
-    pub(crate) fn keeps(&mut self) -> Outcome {
+    /// Gives up what was remembered when the table was held, if it is. The table stays as it is.
+    pub(crate) fn keeps(&mut self) -> bool {
         if !self.held {
-            return Outcome::NotAllowed;
+            return false;
         }
         self.tables.unstage();
         self.tables.keep();
         self.held = false;
-        Outcome::Done
+        true
     }
 
     /// Makes the table what it was when it was held, if it is.
-    pub(crate) fn goes_back(&mut self) -> Outcome {
+    pub(crate) fn goes_back(&mut self) -> bool {
         if !self.held {
-            return Outcome::NotAllowed;
+            return false;
         }
         self.tables.back();
         self.held = false;
-        Outcome::Done
+        true
     }
 
-    /// Whether a walk finds just these rows, in a step a row, and they are counted.
-    pub(crate) fn shows(&mut self, rows: &str) -> Result<bool, Fail> {
-        let before = self.steps.number();
-        let walked = self.tables.walk(&self.name, &mut self.steps)?;
-        let steps = self.steps.number().saturating_sub(before);
+    /// Whether a scan finds just these rows, in a step a row, and they are counted.
+    pub(crate) fn shows<L: Ledger>(&self, rows: &str, steps: &mut Steps<L>) -> Result<bool, Fail> {
+        let before = steps.number();
+        let walked = self.tables.walk(&self.name, steps)?;
+        let taken = steps.number().saturating_sub(before);
         let count = walked.rows().len();
-        let counted = self.tables.count(&self.name) == count && steps == count as u64;
+        let counted = self.tables.count(&self.name) == count && taken == count as u64;
         Ok(counted && are_rows(self.alloc, &walked, rows)?)
     }
 
     /// Whether the table has the row.
-    pub(crate) fn has(&mut self, row: &Row) -> bool {
-        self.tables.has(&self.name, row, &mut self.steps)
+    pub(crate) fn has<L: Ledger>(&self, text: &str, steps: &mut Steps<L>) -> Result<bool, Fail> {
+        let row = row(self.alloc, text)?;
+        Ok(self.tables.has(&self.name, &row, steps))
     }
 
     /// Whether the table may be asked by the columns.
-    pub(crate) fn may_be_asked(&self, columns: &Columns) -> Result<bool, Fail> {
-        Ok(
-            self.tables
-                .has_index(&need(self.alloc, self.name, columns)?),
-        )
+    pub(crate) fn may_be_asked(&self, listed: &str) -> Result<bool, Fail> {
+        let need = need(self.alloc, self.name, listed)?;
+        Ok(self.tables.has_index(&need))
     }
 
-    /// Whether the key finds these rows and no others. The key may have more columns than the
-    /// index.
-    pub(crate) fn finds(&mut self, columns: &Columns, key: &Row, rows: &str) -> Result<bool, Fail> {
-        let need = need(self.alloc, self.name, columns)?;
+    /// Whether just the rows are found by the key, as `a:int | a=1 | a=1 b=1; a=1 b=2`. The key may
+    /// have more columns than the index.
+    pub(crate) fn finds<L: Ledger>(&self, text: &str, steps: &mut Steps<L>) -> Result<bool, Fail> {
+        let (listed, rest) = text.split_once('|').ok_or("no key")?;
+        let (key, rows) = rest.split_once('|').ok_or("no rows")?;
+        let key = row(self.alloc, key)?;
+        let need = need(self.alloc, self.name, listed)?;
         if !self.tables.has_index(&need) {
             return Err(Fail::from("no index has these columns"));
         }
-        let found = self
-            .tables
-            .find(&self.name, &need.cols, key, &mut self.steps)?;
+        let found = self.tables.find(&self.name, &need.cols, &key, steps)?;
         are_rows(self.alloc, &found, rows)
     }
 }
 
 // The need to ask the table by the columns.
-fn need(alloc: Global, table: Name, columns: &Columns) -> Result<Need, Fail>
-    ensures { IfOk result (λ need.
-        need ≡ record { table = table; cols = names columns.now }) }
+fn need(alloc: Global, table: Name, listed: &str) -> Result<Need, Fail>
+    ensures { IfOk result (λ need. need.table ≡ table) }
 {
+    let columns = columns(alloc, listed)?;
     Ok(Need {
         table,
         cols: columns.names(alloc)?,

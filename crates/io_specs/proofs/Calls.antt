@@ -1,6 +1,5 @@
 -- Calls that were told, one after another.
-use Rattle.std.proofs.Common.{List, [], ◌++◌, sym, ap, ◌∙◌, append_assoc, append-nil}
-use Rattle.std.specs.Prelude.{Option, None, Some}
+use Rattle.std.proofs.Common.{List, [], ◌++◌, sym, ap, ◌∙◌, append_assoc, append-nil, Option, None, Some}
 use Rattle.io_specs.specs.Calls.{Adds}
 
 -- what holds of the calls that were added may be put otherwise

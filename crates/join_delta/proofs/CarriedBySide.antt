@@ -1,22 +1,15 @@
 -- An edit of a join, carried down to both sources by the side on which the join deletes.
 use Rattle.std.proofs.Common.{◌≡◌, ◌≤◌, ◌*◌, ◌∷◌, ℕ, List, ◌++◌, length, not, sym, ap, ◌∙◌, refl, subst, true, false, inl, inr}
-use Rattle.std.proofs.lemmas.Bool.{cases_Bool, not-true, not_from_false, false_from_ne_true}
-use Rattle.plain_values.specs.Part.{restrict}
-use Rattle.plain_values.specs.Row.{row_cmp, Row}
+use Rattle.plain_values.proofs.Common.{cases_Bool, not-true, not_from_false, false_from_ne_true, restrict, row_cmp, Row, absurd_false}
 use Rattle.plain_values.specs.SortedSet as set
 use Rattle.plain_values.specs.declared.join_kind.JoinKind.{JoinKind}
 use Rattle.plain_values.specs.declared.join_kind.JoinKind.TheVariants.{DeleteBoth, DeleteLeft, DeleteRight}
-use Rattle.lens_specs.specs.Common.{names, Applies, Delta, diff, new_view, Edge, Names, join_left_after, join_over, join_put_left, join_put_left_kept, join_put_right, join_right, join_right_after, Relation, Rows, has, minus, project, those, cut}
-use Rattle.lens_specs.specs.Nodes.{join_free, join_kept}
+use Rattle.lens_specs.specs.Common.{names, Applies, Delta, diff, new_view, Edge, Names, join_left_after, join_over, join_put_left, join_put_left_kept, join_put_right, join_right, join_right_after, Relation, Rows, has, minus, project, those, cut, join_free, join_kept}
 use Rattle.lens_laws.specs.JoinKinds.{join_delta_left_kept, join_delta_right_free}
-use Rattle.lens_laws.specs.Asked.{left_sides}
-use Rattle.lens_laws.specs.Shapes.{Shape}
-use Rattle.lens_laws.specs.Work.{GivesAtMost, rows_down, rows_of}
+use Rattle.lens_laws.proofs.Common.{left_sides, Shape, GivesAtMost, rows_down, rows_of, diff_applies, diff_leads}
 use Rattle.lens_laws.proofs.DeltaCounts.{left_delta_small, left_kept_small, right_delta_small, right_free_small}
-use Rattle.lens_laws.proofs.Deltas.{diff_applies, diff_leads}
 use Rattle.lens_laws.proofs.JoinKindDeltas.{left_kept_is, right_free_is}
-use Rattle.plain_values.proofs.Lists.{absurd_false}
-use Rattle.fd_laws.proofs.Relations.{from_minus, from_project, from_those, in_minus, in_project, in_those, same_rel}
+use Rattle.fd_laws.proofs.Common.{from_minus, from_project, from_those, in_minus, in_project, in_those, same_rel}
 use Rattle.join_delta.specs.Joined.{edited, shared_names}
 use Rattle.join_delta.specs.Deleted.{left_deleted, right_deleted}
 use Rattle.join_delta.proofs.CarriedJoin.{IsJoinEdit, left_is, merged_left, merged_right, of_left, of_right, of_view, over_left, over_right, passes, right_is}

@@ -1,22 +1,15 @@
 -- An edit of a join, carried down to both sources.
 use Rattle.std.proofs.Common.{◌≡◌, List, ◌++◌, length, refl, sym, ap, ◌∙◌, subst, true, false, inl, inr, arith}
-use Rattle.std.proofs.lemmas.Bool.{cases_Bool, not-true, not_from_false, false_from_ne_true}
-use Rattle.std.specs.Ordering.{eq_by_cmp}
-use Rattle.plain_values.specs.Row.{row_cmp, Row}
+use Rattle.plain_values.proofs.Common.{cases_Bool, not-true, not_from_false, false_from_ne_true, eq_by_cmp, row_cmp, Row, absurd_false, any_at}
 use Rattle.plain_values.specs.SortedSet as set
 use Rattle.lens_specs.specs.Common.{Columns, Fits, names, Applies, Delta, diff, new_view, AllEdges, Edge, Meets, MeetsTree, Names, Within, join_get, join_left, join_over, join_put_left, join_right, IsRelation, Relation, Rows, has, minus, project, those, union, agree, cut, paste}
-use Rattle.lens_laws.specs.KeyedDeltas.{is_over, join_delta_left, join_delta_right, merge_delta, suspects, touched}
-use Rattle.fd_laws.specs.Trees.{EdgesWithin, IsTree}
-use Rattle.lens_laws.specs.Shapes.{CanJoin, IsIn, Shape, join_shape}
-use Rattle.fd_laws.proofs.Common.{closure_is, from_minus, from_project, from_those, from_union, in_join, in_minus, in_those, in_union_left, in_union_right, same_rel, sets, row_itself, tied_row, all_append, each_edge}
-use Rattle.fd_laws.proofs.Closures.{implies_sound}
-use Rattle.lens_laws.proofs.Deltas.{diff_leads, from_found_each, from_touched, in_new_view_added, merge_adds, merge_delta_is}
-use Rattle.lens_laws.proofs.Join.{from_natural, from_over, in_over, in_put_left, left_sort, natural_paste, not_over, part_left, parts_fit, right_sort, view_left}
+use Rattle.lens_laws.proofs.Common.{join_delta_right, merge_delta, suspects, touched, CanJoin, IsIn, Shape, join_shape, diff_leads, from_found_each, from_touched, in_new_view_added, from_natural, natural_paste, part_left, parts_fit}
+use Rattle.lens_laws.specs.KeyedDeltas.{is_over, join_delta_left}
+use Rattle.fd_laws.proofs.Common.{EdgesWithin, IsTree, closure_is, from_minus, from_project, from_those, from_union, in_join, in_minus, in_those, in_union_left, in_union_right, same_rel, sets, row_itself, tied_row, all_append, each_edge, implies_sound, from_join, append_parts}
+use Rattle.lens_laws.proofs.Deltas.{merge_adds, merge_delta_is}
+use Rattle.lens_laws.proofs.Join.{from_over, in_over, in_put_left, left_sort, not_over, right_sort, view_left}
 use Rattle.lens_laws.proofs.JoinDelta.{from_suspects, in_suspects, join_delta_left_is, join_delta_right_is, split_left, sub_left}
 use Rattle.lens_laws.proofs.JoinKindDeltas.{over_pair}
-use Rattle.plain_values.proofs.Lists.{absurd_false, any_at}
-use Rattle.fd_laws.proofs.Relations.{from_join}
-use Rattle.fd_laws.proofs.TreeForms.{append_parts}
 use Rattle.signed_delta.specs.Disjoint.{AreApart}
 use Rattle.signed_delta.proofs.Differences.{sides_apart}
 use Rattle.revision.proofs.Runs.{revised_fit}

@@ -1,12 +1,8 @@
 -- Edits that exchange one row for another.
 use Rattle.std.proofs.Common.{◌≡◌, ◌∙◌, ◌∷◌, [], ap, inl, inr, subst, sym, true}
-use Rattle.std.proofs.lemmas.Bool.{or_left}
-use Rattle.std.specs.List.{list_any}
-use Rattle.std.specs.Ordering.{eq_by_cmp}
-use Rattle.plain_values.specs.Row.{row_cmp, Row}
+use Rattle.plain_values.proofs.Common.{or_left, list_any, eq_by_cmp, row_cmp, Row, in_cons}
 use Rattle.plain_values.specs.SortedSet as set
 use Rattle.lens_specs.specs.Common.{Delta, Names, Rows, agree, has}
-use Rattle.plain_values.proofs.Lists.{in_cons}
 use Rattle.fd_laws.proofs.Common.{row_itself, tied_row}
 use Rattle.join_delta.specs.Joined.{AreExchanged}
 

@@ -1,16 +1,10 @@
 -- Right parts of rows joined too much, and which of them the edited view has.
 use Rattle.std.proofs.Common.{◌≡◌, sym, ap, ◌∙◌, true, false, not, inl, inr}
-use Rattle.std.specs.Ordering.{eq_by_cmp}
-use Rattle.std.proofs.lemmas.Bool.{not-true, false_from_ne_true}
-use Rattle.plain_values.specs.Part.{override, restrict}
-use Rattle.plain_values.specs.Row.{row_cmp, Row}
+use Rattle.plain_values.proofs.Common.{eq_by_cmp, not-true, false_from_ne_true, override, restrict, row_cmp, Row, absurd_false, any_at, any_from}
 use Rattle.plain_values.specs.SortedSet as set
 use Rattle.lens_specs.specs.Common.{Columns, Fits, names, Delta, new_view, Names, join_get, Rows, has, minus, project, those, agree, cut, paste}
-use Rattle.lens_laws.specs.KeyedDeltas.{find_by}
-use Rattle.lens_laws.proofs.Deltas.{from_new_view, in_new_view_added, in_new_view_kept}
-use Rattle.lens_laws.proofs.Join.{cut_right, from_natural, natural_paste}
+use Rattle.lens_laws.proofs.Common.{find_by, from_new_view, in_new_view_added, in_new_view_kept, cut_right, from_natural, natural_paste}
 use Rattle.lens_laws.proofs.PastedFinds.{both_is_paste}
-use Rattle.plain_values.proofs.Lists.{absurd_false, any_at, any_from}
 use Rattle.fd_laws.proofs.Common.{from_minus, from_project, from_those, in_join, in_minus, in_project, in_those, same_rel, agree-cut, agree_back, agree_on, row_itself, tied_row}
 use Rattle.join_delta.specs.Joined.{shared_names}
 use Rattle.join_delta.specs.Shown.{is_shown}

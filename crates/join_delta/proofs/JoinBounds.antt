@@ -1,6 +1,6 @@
 -- How many looks an edit of a join takes, where a and b bound one question on the left and on the right.
 use Rattle.std.proofs.Common.{◌≡◌, ℕ, ◌+◌, ◌*◌, ◌≤◌, arith}
-use Rattle.std.proofs.lemmas.Nat.{mul-le}
+use Rattle.plain_values.proofs.Common.{mul-le}
 use Rattle.join_delta.proofs.JoinLooks.{one_a}
 
 -- those of the merge, and a question on the left for each pair

@@ -1,18 +1,11 @@
 -- How many rows an edit of a join becomes, and how many looks it takes.
 use Rattle.std.proofs.Common.{◌≡◌, ℕ, suc, ◌+◌, ◌*◌, ◌≤◌, List, [], ◌∷◌, length, sym, ap, subst, inl, inr, arith}
-use Rattle.std.proofs.lemmas.Nat.{mul-le}
-use Rattle.std.specs.List.{Contains}
+use Rattle.plain_values.proofs.Common.{mul-le, Contains, Row, absurd_false}
 use Rattle.plain_values.specs.SortedSet as set
-use Rattle.plain_values.specs.Row.{Row}
 use Rattle.lens_specs.specs.Common.{Delta, AllEdges, Edge, Names, Rows, minus, project, union, revise}
-use Rattle.lens_laws.specs.Asked.{left_sides}
-use Rattle.lens_laws.specs.KeyedDeltas.{find_by, found_each, merge_delta, suspects, touched}
-use Rattle.lens_laws.specs.Work.{count_of, node_work, GivesAtMost}
-use Rattle.lens_laws.proofs.Counts.{count-none, count-within}
+use Rattle.lens_laws.proofs.Common.{left_sides, find_by, found_each, merge_delta, suspects, touched, count_of, node_work, GivesAtMost, count-none, count-within, contains_cases}
 use Rattle.lens_laws.proofs.DeltaCounts.{count-revise, touched_few, merge_adds_few}
-use Rattle.lens_laws.proofs.Asked.{contains_cases}
-use Rattle.plain_values.proofs.Lists.{absurd_false}
-use Rattle.fd_laws.proofs.Relations.{from_minus, from_union}
+use Rattle.fd_laws.proofs.Common.{from_minus, from_union}
 use Rattle.signed_delta.proofs.Gives.{gives_by_edges}
 use Rattle.signed_delta.proofs.Counts.{project_len, union_len}
 

@@ -1,17 +1,11 @@
 -- Pairs of left rows that the view lacks, found among those with the right rows near them.
 use Rattle.std.proofs.Common.{◌≡◌, List, not, is_some, length, sym, ap, ◌∙◌, subst, true, inl, inr, arith}
-use Rattle.std.proofs.lemmas.Bool.{and_from, and_parts, false_from_ne_true}
-use Rattle.plain_values.specs.Part.{restrict}
+use Rattle.plain_values.proofs.Common.{and_from, and_parts, false_from_ne_true, restrict, Row, absurd_false, same_bool}
 use Rattle.plain_values.specs.SortedSet as set
-use Rattle.plain_values.specs.Row.{Row}
 use Rattle.lens_specs.specs.Common.{Columns, Fits, names, Delta, new_view, Name, Names, join_get, Rows, has, minus, those, agree, at, cut, paste}
-use Rattle.lens_laws.specs.KeyedDeltas.{found_each}
-use Rattle.fd_laws.proofs.Common.{fits_names, from_shared, from_minus, from_those, in_join, in_minus, in_those, same_rel, sets}
-use Rattle.lens_laws.proofs.Deltas.{from_found_each, from_new_view, in_found_each, in_new_view_added, in_new_view_kept}
-use Rattle.lens_laws.proofs.Join.{cut_left, cut_right, from_natural, in_natural}
-use Rattle.plain_values.proofs.Lists.{absurd_false}
-use Rattle.plain_values.proofs.Tests.{same_bool}
-use Rattle.fd_laws.proofs.Relations.{from_join}
+use Rattle.lens_laws.proofs.Common.{found_each, from_found_each, from_new_view, in_found_each, in_new_view_added, in_new_view_kept, cut_right, from_natural}
+use Rattle.fd_laws.proofs.Common.{fits_names, from_shared, from_minus, from_those, in_join, in_minus, in_those, same_rel, sets, from_join}
+use Rattle.lens_laws.proofs.Join.{cut_left, in_natural}
 use Rattle.row_sets.specs.Joins.{pairs_on}
 use Rattle.row_sets.proofs.Natural.{natural_is}
 use Rattle.join_delta.specs.Joined.{shared_names}

@@ -1,16 +1,10 @@
 -- What sets without rows leave as it was.
 use Rattle.std.proofs.Common.{◌≡◌, List, [], ◌∷◌, length, refl, sym, ap, ◌∙◌, false, true, inl, inr, arith}
-use Rattle.std.specs.List.{list_any}
-use Rattle.std.specs.Ordering.{eq_by_cmp}
-use Rattle.std.proofs.lemmas.Bool.{and_parts, cases_Bool, eqb-true}
-use Rattle.plain_values.specs.Row.{row_cmp, Row}
+use Rattle.plain_values.proofs.Common.{list_any, eq_by_cmp, and_parts, cases_Bool, eqb-true, row_cmp, Row, absurd_false}
 use Rattle.plain_values.specs.SortedSet as set
 use Rattle.lens_specs.specs.Common.{Delta, is_empty, new_view, Edge, MeetsTree, Names, Rows, has, minus, union, revise, revise_row}
-use Rattle.lens_laws.specs.KeyedDeltas.{found_each, merge_delta, touched}
-use Rattle.lens_laws.proofs.Deltas.{from_touched}
-use Rattle.plain_values.proofs.Lists.{absurd_false}
-use Rattle.fd_laws.proofs.Common.{from_minus, from_union, in_minus, in_union_left, in_union_right, same_rel}
-use Rattle.fd_laws.proofs.Trees.{from_revise, revise_own}
+use Rattle.lens_laws.proofs.Common.{found_each, merge_delta, touched, from_touched}
+use Rattle.fd_laws.proofs.Common.{from_minus, from_union, in_minus, in_union_left, in_union_right, same_rel, from_revise, revise_own}
 
 none_listed : (rows : List Row) (r : Row) → length rows ≡ 0 → list_any (eq_by_cmp row_cmp r) rows ≡ false
 none_listed [] r none = refl
@@ -26,12 +20,6 @@ pub union_none : (M N : Rows) → length (set.items N) ≡ 0 → union M N ≡ M
 union_none M N none = same_rel _ M
     (λ r i. elim (from_union M N r i) [ inl j ↦ j | inr j ↦ absurd_false _ j (has_none N r none) ])
     (λ r i. in_union_left M N r i)
-
--- none of none goes
-pub none_gone : (M N K : Rows) → length (set.items N) ≡ 0 → union M (minus N K) ≡ M
-none_gone M N K none = same_rel _ M
-    (λ r i. elim (from_union M (minus N K) r i) [ inl j ↦ j | inr j ↦ absurd_false _ (from_minus N K r j).0 (has_none N r none) ])
-    (λ r i. in_union_left M (minus N K) r i)
 
 -- a change without rows leaves each row
 pub unchanged : (M : Rows) (d : Delta) → is_empty d ≡ true → new_view M d ≡ M

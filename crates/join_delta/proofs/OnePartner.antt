@@ -1,20 +1,11 @@
 -- Right rows that the shared columns tell apart, so that each left row has at most one of them.
 use Rattle.std.proofs.Common.{◌≡◌, ◌≤◌, List, [], ◌∷◌, length, length-append, map, refl, sym, ap, ◌∙◌, true, inl, inr, arith}
-use Rattle.std.proofs.lemmas.Bool.{cases_Bool}
-use Rattle.std.proofs.lemmas.List.{length-map}
-use Rattle.std.specs.List.{filter, flat_map, list_any}
-use Rattle.std.specs.Ordering.{eq_by_cmp}
-use Rattle.plain_values.specs.Part.{override}
-use Rattle.plain_values.specs.Row.{row_cmp, Row}
+use Rattle.plain_values.proofs.Common.{cases_Bool, length-map, filter, flat_map, list_any, eq_by_cmp, override, row_cmp, Row, in_head}
 use Rattle.plain_values.specs.SortedSet as set
 use Rattle.lens_specs.specs.Common.{Columns, Fits, names, Delta, new_view, Meets, Names, Rows, has, those, agree}
-use Rattle.lens_laws.specs.KeyedDeltas.{found_each}
-use Rattle.lens_laws.specs.Work.{count_of}
-use Rattle.lens_laws.proofs.Counts.{count-from_list, count-within}
-use Rattle.lens_laws.proofs.Deltas.{from_found_each, from_new_view, in_new_view_added, in_new_view_kept}
-use Rattle.fd_laws.proofs.Common.{from_those, agree_at, agree_back, agree_on, row_itself, row_total, same_row, tied_row}
-use Rattle.fd_laws.proofs.Columns.{fits_none}
-use Rattle.plain_values.proofs.Lists.{in_head}
+use Rattle.lens_laws.proofs.Common.{found_each, count_of, count-within, from_found_each, from_new_view, in_new_view_added, in_new_view_kept}
+use Rattle.lens_laws.proofs.Counts.{count-from_list}
+use Rattle.fd_laws.proofs.Common.{from_those, agree_at, agree_back, agree_on, row_itself, row_total, same_row, tied_row, fits_none}
 use Rattle.revision.proofs.Changed.{items_those}
 use Rattle.row_sets.specs.Joins.{pairs_on}
 use Rattle.join_delta.specs.Joined.{AreKeyed}

@@ -1,12 +1,9 @@
 -- Texts that need no escape.
 use Rattle.std.proofs.Common.{◌≡◌, ◌==◌, ℕ, true, List, [], ◌∷◌, ◌++◌, IsTrue, refl, arith}
-use Rattle.std.specs.List.{list_all}
-use Rattle.std.proofs.lemmas.Bool.{and_parts, or_parts, not-true, eqb-false, ltb-false}
-use Rattle.std.proofs.lemmas.Bool.Decides.{nat_tests}
+use Rattle.plain_values.proofs.Common.{list_all, and_parts, or_parts, not-true, eqb-false, ltb-false, nat_tests, is_name, is_name_byte}
 use Rattle.json.specs.Print.{escape, escape_byte}
 use Rattle.json.specs.Run.{is_plain, is_stop}
 use Rattle.json.proofs.Printed.Strings.{escape_byte_plain}
-use Rattle.plain_values.specs.Bytes.{is_name, is_name_byte}
 
 plain_byte : (x : ℕ) → is_plain x ≡ true → escape_byte x ≡ x ∷ []
 plain_byte x h =

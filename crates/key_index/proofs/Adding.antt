@@ -1,13 +1,8 @@
 -- Rows of a list that come one after another.
-use Rattle.std.proofs.Common.{◌≡◌, ℕ, ◌<◌, ◌+◌, List, [], ◌∷◌, length, take, get_or, ap, sym, ◌∙◌, refl, Bool, true, false, zero, suc, arith, add-one}
-use Rattle.std.specs.Prelude.{◌||◌}
-use Rattle.std.specs.Ordering.{eq_by_cmp, is_eq}
-use Rattle.std.specs.Cmp.{tied_itself}
-use Rattle.plain_values.specs.Row.{row_cmp, Row}
-use Rattle.plain_values.specs.RowOrder.{row_cmp_total, row_cmp-IsAntisymmetric}
+use Rattle.std.proofs.Common.{◌≡◌, ℕ, ◌<◌, ◌+◌, List, [], ◌∷◌, length, take, get_or, ap, sym, ◌∙◌, refl, Bool, true, false, zero, suc, arith, add-one, ◌||◌}
+use Rattle.plain_values.proofs.Common.{eq_by_cmp, is_eq, tied_itself, row_cmp, Row, row_cmp_total, row_cmp-IsAntisymmetric, or_swap}
 use Rattle.plain_values.specs.SortedSet as set
-use Rattle.plain_values.proofs.Tests.{or_swap}
-use Rattle.lens_specs.specs.Relation.{Rows}
+use Rattle.lens_specs.specs.Common.{Rows}
 use Rattle.key_index.specs.Lists.{set_of}
 
 or_true : (b : Bool) → (b || true) ≡ true

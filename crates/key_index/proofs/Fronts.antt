@@ -1,16 +1,8 @@
 -- Lists of rows: the first ones, and those behind.
-use Rattle.std.proofs.Common.{◌≡◌, ℕ, ◌≤◌, ◌<◌, ◌+◌, ◌-◌, List, [], ◌∷◌, ◌++◌, length, take, drop, get_or, ap, sym, ◌∙◌, subst, refl, Bool, true, false, arith, add-one, zero, suc}
-use Rattle.std.specs.Prelude.{◌&&◌, ◌||◌, if◌then◌else◌}
-use Rattle.std.specs.List.{AllByRecursion}
-use Rattle.std.specs.List.Sorted.{IsStrictlySortedBy}
-use Rattle.std.specs.Cmp.{tied_itself}
-use Rattle.std.specs.Ordering.{eq_by_cmp}
-use Rattle.std.specs.declared.cmp.Ordering.TheVariants.{Less, Equal}
-use Rattle.std.proofs.lemmas.List.{drop_all, take_all, length-drop, take-append-le, drop-append-le}
-use Rattle.plain_values.specs.Row.{row_cmp, Row}
-use Rattle.plain_values.specs.RowOrder.{row_cmp_total}
+use Rattle.std.proofs.Common.{◌≡◌, ℕ, ◌≤◌, ◌<◌, ◌+◌, ◌-◌, List, [], ◌∷◌, ◌++◌, length, take, drop, get_or, ap, sym, ◌∙◌, subst, refl, Bool, true, false, arith, add-one, zero, suc, ◌&&◌, ◌||◌, if◌then◌else◌}
+use Rattle.plain_values.proofs.Common.{AllByRecursion, IsStrictlySortedBy, tied_itself, eq_by_cmp, Less, Equal, drop_all, take_all, length-drop, take-append-le, drop-append-le, row_cmp, Row, row_cmp_total}
 use Rattle.plain_values.specs.SortedSet as set
-use Rattle.lens_specs.specs.Relation.{Rows, has}
+use Rattle.lens_specs.specs.Common.{Rows, has}
 use Rattle.key_index.specs.Lists.{AreKeyed, rows_of, set_of}
 use Rattle.key_index.specs.declared.index.Index.{Index}
 use Rattle.key_index.specs.declared.keyed.Keyed.{Keyed}

@@ -1,15 +1,9 @@
 -- What a change of one group does to the others.
-use Rattle.std.proofs.Common.{◌≡◌, [], ◌∷◌, length, ap, sym, ◌∙◌, refl, Bool, true, false, cond}
-use Rattle.std.specs.Prelude.{Option, Some, None, unwrap_or, not, ◌&&◌, Result, Ok, Err, IfOk, OnOk, OnErr}
-use Rattle.std.specs.Ordering.{eq_by_cmp}
-use Rattle.std.specs.BTreeMap.{BTreeMap, get}
-use Rattle.std.proofs.Math.Bool.{and-false}
-use Rattle.std.proofs.lemmas.List.{nil_from_length}
-use Rattle.plain_values.specs.Row.{row_cmp, Row}
-use Rattle.plain_values.specs.RowOrder.{row_cmp_total, row_cmp-IsAntisymmetric}
+use Rattle.std.proofs.Common.{◌≡◌, [], ◌∷◌, length, ap, sym, ◌∙◌, refl, Bool, true, false, cond, Option, Some, None, unwrap_or, not, ◌&&◌, Result, Ok, Err, IfOk, OnOk, OnErr}
+use Rattle.plain_values.proofs.Common.{eq_by_cmp, BTreeMap, and-false, nil_from_length, row_cmp, Row, row_cmp_total, row_cmp-IsAntisymmetric, is_tie}
+use Rattle.std.specs.BTreeMap.{get}
 use Rattle.plain_values.specs.SortedSet as set
-use Rattle.plain_values.proofs.Tests.{is_tie}
-use Rattle.lens_specs.specs.Relation.{Rows}
+use Rattle.lens_specs.specs.Common.{Rows}
 use Rattle.key_index.specs.Key.{Cells, cells_cmp, key_cmp}
 use Rattle.key_index.proofs.Keys.{key_tied, same_ties}
 

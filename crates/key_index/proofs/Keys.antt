@@ -1,22 +1,10 @@
 -- Keys that tie are equal, and a row has the key of another where the two agree.
-use Rattle.std.proofs.Common.{◌≡◌, ℕ, List, [], ◌∷◌, ap, sym, ◌∙◌, refl, true}
-use Rattle.std.specs.Prelude.{◌&&◌, Option, Some, None, map}
-use Rattle.std.specs.List.{list_all}
+use Rattle.std.proofs.Common.{◌≡◌, ℕ, List, [], ◌∷◌, ap, sym, ◌∙◌, refl, true, ◌&&◌, Option, Some, None, map}
+use Rattle.plain_values.proofs.Common.{list_all, IsAntisymmetric, slice_cmp-IsAntisymmetric, option_cmp, eq_by_cmp, is_eq, nat_cmp, ordering_then, nat_cmp_total, tied_itself, Ordering, Less, Equal, Greater, Names, agree, Row, same_value, value_cmp, value_cmp-IsAntisymmetric, is_tie}
 use Rattle.std.specs.FinMap as finmap
-use Rattle.std.specs.FinMap.{IsAntisymmetric, slice_cmp-IsAntisymmetric}
-use Rattle.std.specs.Option.{option_cmp}
-use Rattle.std.specs.Ordering.{eq_by_cmp, is_eq, nat_cmp, ordering_then}
-use Rattle.std.specs.Cmp.{nat_cmp_total, tied_itself}
-use Rattle.std.specs.declared.cmp.Ordering.{Ordering}
-use Rattle.std.specs.declared.cmp.Ordering.TheVariants.{Less, Equal, Greater}
-use Rattle.plain_values.specs.Names.{Names}
-use Rattle.plain_values.specs.Row.{agree, Row}
 use Rattle.plain_values.specs.SortedSet as set
-use Rattle.plain_values.specs.Value.{same_value, value_cmp}
-use Rattle.plain_values.specs.ValueOrder.{value_cmp-IsAntisymmetric}
 use Rattle.plain_values.specs.declared.value.Value.{Value}
-use Rattle.plain_values.proofs.Tests.{is_tie}
-use Rattle.lens_specs.specs.Relation.{Rows}
+use Rattle.lens_specs.specs.Common.{Rows}
 use Rattle.key_index.specs.Index.{has_key}
 use Rattle.key_index.specs.Key.{Cells, cells_cmp, hash_key, key_cmp, key_of}
 

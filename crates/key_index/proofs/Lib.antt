@@ -1,4 +1,5 @@
 pub mod Adding
+pub mod Common
 pub mod Fronts
 pub mod Groups
 pub mod Keys

@@ -1,14 +1,9 @@
 -- Lists of rows that go, and the keys that they keep.
-use Rattle.std.proofs.Common.{◌≡◌, ℕ, ◌<◌, List, [], ◌∷◌, ◌++◌, length, ap, sym, ◌∙◌, refl, Bool, true, false, arith, zero, suc}
-use Rattle.std.specs.Prelude.{not, ◌&&◌, ◌||◌, slice_index_or, Result, Ok, Err, OnOk, OnErr, is_err}
-use Rattle.std.specs.Ordering.{eq_by_cmp}
-use Rattle.std.proofs.lemmas.Bool.{false≢true}
+use Rattle.std.proofs.Common.{◌≡◌, ℕ, ◌<◌, List, [], ◌∷◌, ◌++◌, length, ap, sym, ◌∙◌, refl, Bool, true, false, arith, zero, suc, not, ◌&&◌, ◌||◌, slice_index_or, Result, Ok, Err, OnOk, OnErr, is_err}
+use Rattle.plain_values.proofs.Common.{eq_by_cmp, false≢true, row_cmp, Row, row_cmp_total, row_cmp-IsAntisymmetric, or_swap}
 use Rattle.key_index.specs.Key.{key_of}
-use Rattle.plain_values.specs.Row.{row_cmp, Row}
-use Rattle.plain_values.specs.RowOrder.{row_cmp_total, row_cmp-IsAntisymmetric}
 use Rattle.plain_values.specs.SortedSet as set
-use Rattle.plain_values.proofs.Tests.{or_swap}
-use Rattle.lens_specs.specs.Relation.{Rows}
+use Rattle.lens_specs.specs.Common.{Rows}
 use Rattle.key_index.specs.Lists.{rows_of, HasKeys, AreKeyed, SameCols}
 use Rattle.key_index.specs.declared.index.Index.{Index}
 use Rattle.key_index.specs.declared.keyed.Keyed.{Keyed}

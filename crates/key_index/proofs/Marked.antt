@@ -1,13 +1,8 @@
 -- Marks of the keys of hidden rows.
-use Rattle.std.proofs.Common.{◌≡◌, List, [], ◌∷◌, ap, sym, ◌∙◌, subst, refl, true, false, arith, suc}
-use Rattle.std.specs.Prelude.{◌||◌, slice_index_or}
-use Rattle.std.specs.Ordering.{eq_by_cmp}
-use Rattle.std.proofs.lemmas.Bool.{false≢true}
-use Rattle.plain_values.specs.Names.{Names}
-use Rattle.plain_values.specs.Row.{row_cmp, Row}
-use Rattle.plain_values.specs.RowOrder.{row_cmp_total, row_cmp-IsAntisymmetric}
+use Rattle.std.proofs.Common.{◌≡◌, List, [], ◌∷◌, ap, sym, ◌∙◌, subst, refl, true, false, arith, suc, ◌||◌, slice_index_or}
+use Rattle.plain_values.proofs.Common.{eq_by_cmp, false≢true, Names, row_cmp, Row, row_cmp_total, row_cmp-IsAntisymmetric}
 use Rattle.plain_values.specs.SortedSet as set
-use Rattle.lens_specs.specs.Relation.{Rows}
+use Rattle.lens_specs.specs.Common.{Rows}
 use Rattle.key_index.specs.Index.{has_key}
 use Rattle.key_index.specs.Key.{Cells, hash_key, key_of}
 use Rattle.key_index.specs.Lists.{HasKeys, SameCols, cols_of}

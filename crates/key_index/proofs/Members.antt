@@ -1,18 +1,9 @@
 -- Sets of few rows, with a row more and with a row less.
-use Rattle.std.proofs.Common.{◌≡◌, ap, sym, ◌∙◌, refl, Bool, true, false, ℕ, length, zero, suc, List, [], ◌∷◌}
-use Rattle.std.specs.Prelude.{not, ◌&&◌, ◌||◌, ◌==◌}
-use Rattle.std.specs.List.Sorted.{IsStrictlySortedBy}
-use Rattle.std.specs.Ordering.{eq_by_cmp, is_eq, ordering_reverse}
-use Rattle.std.specs.Cmp.{tied_itself}
-use Rattle.std.specs.declared.cmp.Ordering.{Ordering}
-use Rattle.std.specs.declared.cmp.Ordering.TheVariants.{Less, Equal, Greater}
+use Rattle.std.proofs.Common.{◌≡◌, ap, sym, ◌∙◌, refl, Bool, true, false, ℕ, length, zero, suc, List, [], ◌∷◌, not, ◌&&◌, ◌||◌, ◌==◌}
+use Rattle.plain_values.proofs.Common.{IsStrictlySortedBy, eq_by_cmp, is_eq, ordering_reverse, tied_itself, Ordering, Less, Equal, Greater, true≢false, row_cmp, Row, row_cmp_total, row_cmp-IsAntisymmetric, or_swap}
 use Rattle.std.proofs.Math.Dec.{eqb-suc-zero}
-use Rattle.std.proofs.lemmas.Bool.{true≢false}
-use Rattle.plain_values.specs.Row.{row_cmp, Row}
-use Rattle.plain_values.specs.RowOrder.{row_cmp_total, row_cmp-IsAntisymmetric}
 use Rattle.plain_values.specs.SortedSet as set
-use Rattle.plain_values.proofs.Tests.{or_swap}
-use Rattle.lens_specs.specs.Relation.{Rows}
+use Rattle.lens_specs.specs.Common.{Rows}
 use Rattle.key_index.specs.Group.{pair, singleton}
 use Rattle.key_index.proofs.Groups.{no_rows, nothing_left, tied}
 

@@ -1,10 +1,8 @@
 -- Indexes of which some have a row and the others do not.
-use Rattle.std.proofs.Common.{◌≡◌, ◌<◌, ◌≤◌, ℕ, List, [], ◌∷◌, length, set as put_at, sym, subst, arith, zero, suc, ◌⊎◌, ⊎_elim, inl, inr}
-use Rattle.std.specs.Prelude.{slice_index_or, Result, Ok, Err, OnErr}
-use Rattle.std.proofs.lemmas.Bool.{cases_lt}
+use Rattle.std.proofs.Common.{◌≡◌, ◌<◌, ◌≤◌, ℕ, List, [], ◌∷◌, length, set as put_at, sym, subst, arith, zero, suc, ◌⊎◌, ⊎_elim, inl, inr, slice_index_or, Result, Ok, Err, OnErr}
+use Rattle.plain_values.proofs.Common.{cases_lt, Row}
 use Rattle.plain_values.specs.SortedSet as set
-use Rattle.plain_values.specs.Row.{Row}
-use Rattle.lens_specs.specs.Relation.{Rows}
+use Rattle.lens_specs.specs.Common.{Rows}
 use Rattle.key_index.specs.Index.{group_at, IsIndexOf, IsPut}
 use Rattle.key_index.specs.Key.{Cells}
 use Rattle.key_index.specs.Lists.{IsMixed, IsTableOf, SameCols, HasKeys}

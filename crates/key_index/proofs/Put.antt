@@ -1,12 +1,8 @@
 -- An index into which a row was put is that of the rows with it.
-use Rattle.std.proofs.Common.{◌≡◌, ap, sym, ◌∙◌, refl, Bool, true, false, cond}
-use Rattle.std.specs.Prelude.{◌&&◌, ◌||◌}
-use Rattle.std.specs.Ordering.{eq_by_cmp}
-use Rattle.std.specs.Cmp.{eq_by_cmp_equiv}
-use Rattle.plain_values.specs.Row.{row_cmp, Row}
-use Rattle.plain_values.specs.RowOrder.{row_cmp_total, row_cmp-IsAntisymmetric}
+use Rattle.std.proofs.Common.{◌≡◌, ap, sym, ◌∙◌, refl, Bool, true, false, cond, ◌&&◌, ◌||◌}
+use Rattle.plain_values.proofs.Common.{eq_by_cmp, eq_by_cmp_equiv, row_cmp, Row, row_cmp_total, row_cmp-IsAntisymmetric}
 use Rattle.plain_values.specs.SortedSet as set
-use Rattle.lens_specs.specs.Relation.{Rows}
+use Rattle.lens_specs.specs.Common.{Rows}
 use Rattle.key_index.specs.Index.{group_at, has_key, IsIndexOf, IsPut}
 use Rattle.key_index.specs.Key.{Cells, cells_cmp, key_of}
 use Rattle.key_index.specs.KeyOrder.{cells_cmp_total}

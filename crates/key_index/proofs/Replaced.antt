@@ -1,8 +1,7 @@
 -- Indexes that are gone through one after another, where one is replaced by another of the same columns.
-use Rattle.std.proofs.Common.{◌≡◌, ◌+◌, ◌<◌, ◌≤◌, ℕ, List, length, set as put_at, ap, sym, ◌∙◌, subst, arith, ⊎_elim}
-use Rattle.std.specs.Prelude.{slice_index_or}
-use Rattle.std.proofs.lemmas.List.{get_or-set_other, get_or-set_same, length-set}
-use Rattle.std.proofs.lemmas.Bool.{cases_lt}
+use Rattle.std.proofs.Common.{◌≡◌, ◌+◌, ◌<◌, ◌≤◌, ℕ, List, length, set as put_at, ap, sym, ◌∙◌, subst, arith, ⊎_elim, slice_index_or}
+use Rattle.plain_values.proofs.Common.{get_or-set_other, get_or-set_same, cases_lt}
+use Rattle.std.proofs.lemmas.List.{length-set}
 use Rattle.key_index.specs.Lists.{SameCols}
 use Rattle.key_index.specs.declared.index.Index.{Index}
 

@@ -1,17 +1,8 @@
 -- Lists of rising rows, with a row more at the end and with a row less.
-use Rattle.std.proofs.Common.{◌≡◌, ℕ, ◌+◌, ◌-◌, ◌<◌, List, [], ◌∷◌, ◌++◌, length, get_or, take, drop, ap, sym, ◌∙◌, subst, refl, Bool, true, false, arith, zero, suc}
-use Rattle.std.specs.Prelude.{◌&&◌, ◌||◌, not, Option, Some, None}
-use Rattle.std.specs.List.{AllByRecursion, HoldsAt, remove, slice_get}
-use Rattle.std.proofs.lemmas.Option.{slice_get-get_or}
-use Rattle.std.specs.List.Sorted.{IsStrictlySortedBy}
-use Rattle.std.specs.Ordering.{eq_by_cmp, is_eq}
-use Rattle.std.specs.Cmp.{eq_by_cmp_equiv}
-use Rattle.std.specs.declared.cmp.Ordering.{Ordering}
-use Rattle.std.specs.declared.cmp.Ordering.TheVariants.{Less, Equal, Greater}
-use Rattle.plain_values.specs.Row.{row_cmp, Row}
-use Rattle.plain_values.specs.RowOrder.{row_cmp_total, row_cmp-IsAntisymmetric}
+use Rattle.std.proofs.Common.{◌≡◌, ℕ, ◌+◌, ◌-◌, ◌<◌, List, [], ◌∷◌, ◌++◌, length, get_or, take, drop, ap, sym, ◌∙◌, subst, refl, Bool, true, false, arith, zero, suc, ◌&&◌, ◌||◌, not, Option, Some, None}
+use Rattle.plain_values.proofs.Common.{AllByRecursion, HoldsAt, remove, slice_get, slice_get-get_or, IsStrictlySortedBy, eq_by_cmp, is_eq, eq_by_cmp_equiv, Ordering, Less, Equal, Greater, row_cmp, Row, row_cmp_total, row_cmp-IsAntisymmetric}
 use Rattle.plain_values.specs.SortedSet as set
-use Rattle.lens_specs.specs.Relation.{Rows}
+use Rattle.lens_specs.specs.Common.{Rows}
 use Rattle.key_index.specs.Lists.{set_of}
 use Rattle.key_index.proofs.Fronts.{above, at_place, in_listed}
 use Rattle.key_index.proofs.Groups.{tied}

@@ -1,11 +1,7 @@
 -- Sets of names that are the same, and rows after a difference.
-use Rattle.std.proofs.Common.{◌≡◌, ℕ, List, [], ◌∷◌, ap, sym, ◌∙◌, refl, Bool, true, false}
-use Rattle.std.specs.Prelude.{◌&&◌, ◌||◌, not}
-use Rattle.std.specs.Cmp.Lexicographic.{nat_list_cmp_total, pointwise, same_text}
-use Rattle.std.proofs.lemmas.Bool.{and_parts, false≢true}
-use Rattle.plain_values.specs.RowOrder.{row_cmp_total, row_cmp-IsAntisymmetric}
+use Rattle.std.proofs.Common.{◌≡◌, ℕ, List, [], ◌∷◌, ap, sym, ◌∙◌, refl, Bool, true, false, ◌&&◌, ◌||◌, not}
+use Rattle.plain_values.proofs.Common.{nat_list_cmp_total, pointwise, same_text, and_parts, false≢true, row_cmp_total, row_cmp-IsAntisymmetric, exact}
 use Rattle.plain_values.specs.SortedSet as set
-use Rattle.plain_values.proofs.Maps.{exact}
 use Rattle.lens_specs.specs.Common.{Applies, Delta, new_view, Names, Rows}
 use Rattle.key_index.specs.Cols.{same_name, same_names}
 

@@ -1,14 +1,8 @@
 -- What a table is seen as after its lists were gone through.
-use Rattle.std.proofs.Common.{◌≡◌, ◌≤◌, ◌<◌, ◌+◌, ℕ, List, [], ◌∷◌, length, take, drop, get_or, ap, sym, ◌∙◌, refl, arith, add-one, zero, suc, Bool, true, false}
-use Rattle.std.proofs.Math.Seq.{drop-cons}
-use Rattle.std.specs.Ordering.{eq_by_cmp}
-use Rattle.std.specs.Prelude.{not, ◌&&◌, ◌||◌, slice_index_or}
-use Rattle.std.proofs.lemmas.List.{take_all, length-take}
-use Rattle.plain_values.specs.Row.{row_cmp, Row}
-use Rattle.plain_values.specs.RowOrder.{row_cmp_total, row_cmp-IsAntisymmetric}
-use Rattle.plain_values.specs.Names.{Names}
+use Rattle.std.proofs.Common.{◌≡◌, ◌≤◌, ◌<◌, ◌+◌, ℕ, List, [], ◌∷◌, length, take, drop, get_or, ap, sym, ◌∙◌, refl, arith, add-one, zero, suc, Bool, true, false, not, ◌&&◌, ◌||◌, slice_index_or}
+use Rattle.plain_values.proofs.Common.{drop-cons, eq_by_cmp, take_all, length-take, row_cmp, Row, row_cmp_total, row_cmp-IsAntisymmetric, Names}
 use Rattle.plain_values.specs.SortedSet as set
-use Rattle.lens_specs.specs.Relation.{Rows}
+use Rattle.lens_specs.specs.Common.{Rows}
 use Rattle.key_index.specs.Lists.{rows_of, SameCols}
 use Rattle.key_index.specs.Lists.{cols_of}
 use Rattle.key_index.specs.declared.index.Index.{Index}
@@ -34,12 +28,6 @@ all_cols n indexes e = take_all n (cols_of indexes) (omega (arith, length-cols_o
 pub first_cols : (n : ℕ) (indexes : List Index) → take n (cols_of (take n indexes)) ≡ cols_of (take n indexes)
 first_cols n indexes = take_all n (cols_of (take n indexes)) (omega (arith, length-cols_of (take n indexes), length-take n indexes))
 
--- the row is in the table and not on the list
-pub there_unlisted : (rows : Rows) (list : List Keyed) (row : Row) (a b : Bool) → a ≡ set.contains rows row → b ≡ set.contains (rows_of list) row
-    → (a && not b) ≡ set.contains (set.difference rows (rows_of list)) row
-there_unlisted rows list row a b is listed =
-    (λ i. is i && not (listed i)) ∙ sym (set.contains-difference row_cmp_total rows (rows_of list) row)
-
 pub listed_at : (list : List Keyed) (row : Row) (i : ℕ) (k : Keyed) → i < length list → k ≡ get_or list i k
     → set.contains (rows_of (drop i list)) row ≡ (eq_by_cmp row_cmp row k.row || set.contains (rows_of (drop (i + 1) list)) row)
 listed_at list row i k h e =
@@ -54,9 +42,6 @@ col_at [] n at d none low high = absurd (omega arith)
 col_at (x ∷ xs) zero at d none low high = absurd (omega arith)
 col_at (x ∷ xs) (suc n) zero d none low high = refl
 col_at (x ∷ xs) (suc n) (suc at) d none low high = col_at xs n at d none (omega arith) (omega arith)
-
-pub within_shown : (indexes : List Index) (n at : ℕ) → at < length (take n (cols_of indexes)) → at < n
-within_shown indexes n at low = omega (arith, length-take n (cols_of indexes))
 
 moved_not : (a p l : Bool) → ((a && p) && not l) ≡ ((a && not l) && p)
 moved_not true true true = refl

@@ -1,19 +1,11 @@
 -- What holds of a table's fields after its lists were gone through.
-use Rattle.std.proofs.Common.{◌≡◌, ℕ, ◌+◌, ◌<◌, ◌≤◌, List, [], ◌∷◌, ◌++◌, length, take, drop, get_or, add-one, ap, sym, ◌∙◌, arith, zero, suc, Bool, true, false, refl}
-use Rattle.std.specs.Prelude.{◌&&◌, ◌||◌}
-use Rattle.std.specs.List.{list_any}
-use Rattle.std.proofs.lemmas.List.{take-map, length-take}
-use Rattle.std.proofs.Math.Seq.{drop-cons}
-use Rattle.plain_values.specs.Names.{Names}
-use Rattle.plain_values.specs.Row.{row_cmp, Row}
-use Rattle.plain_values.specs.RowOrder.{row_cmp_total, row_cmp-IsAntisymmetric}
+use Rattle.std.proofs.Common.{◌≡◌, ℕ, ◌+◌, ◌≤◌, List, [], ◌∷◌, ◌++◌, length, take, ap, sym, ◌∙◌, arith, zero, suc, Bool, true, false, refl, ◌&&◌, ◌||◌}
+use Rattle.plain_values.proofs.Common.{list_any, take-map, length-take, Names, row_cmp, Row, row_cmp_total, row_cmp-IsAntisymmetric}
 use Rattle.plain_values.specs.SortedSet as set
-use Rattle.lens_specs.specs.Relation.{Columns, Fits, Rows}
-use Rattle.row_sets.proofs.Fitting.{rest_fits}
+use Rattle.lens_specs.specs.Common.{Rows}
 use Rattle.key_index.specs.Index.{group_at, has_key}
 use Rattle.key_index.specs.Key.{Cells}
 use Rattle.key_index.specs.Lists.{AreKeyed, IsTableOf, cols_of, rows_of, set_of}
-use Rattle.key_index.specs.Cols.{has_cols, same_names}
 use Rattle.key_index.specs.declared.index.Index.{Index}
 use Rattle.key_index.specs.declared.keyed.Keyed.{Keyed}
 use Rattle.key_index.proofs.Lists.{none_less}
@@ -39,10 +31,6 @@ pub both_indexes : (rows : Rows) (xs ys : List Index) → IsTableOf rows xs → 
 both_indexes rows [] ys is others i d within = others i d within
 both_indexes rows (x ∷ xs) ys is others zero d within = is zero d (omega arith)
 both_indexes rows (x ∷ xs) ys is others (suc i) d within = both_indexes rows xs ys (λ j e inside. is (suc j) e (omega arith)) others i d (omega arith)
-
-pub fewer_fit : (columns : Columns) (rows less after : Rows) → after ≡ set.difference rows less
-    → ((row : Row) → set.contains rows row ≡ true → Fits columns row) → (row : Row) → set.contains after row ≡ true → Fits columns row
-fewer_fit columns rows less after is fit row there = rest_fits columns rows less fit row (ap (λ s. set.contains s row) (sym is) ∙ there)
 
 -- the rows are counted where none is listed
 pub counted : (rows : Rows) (list : List Keyed) (n : ℕ) → list ≡ [] → n ≡ length (set.items rows) → n ≡ length (set.items (set.difference rows (rows_of list)))
@@ -70,13 +58,6 @@ any_front p (suc n) (x ∷ xs) h = elim (p x) as (λ b. (b || list_any p (take n
 pub any_cols : (p : Names → Bool) (indexes : List Index) → list_any (λ index. p index.cols) indexes ≡ list_any p (cols_of indexes)
 any_cols p [] = refl
 any_cols p (x ∷ xs) = ap (λ b. p x.cols || b) (any_cols p xs)
-
--- whether an index is by the columns, one index after another
-pub cols_at : (C : Names) (indexes : List Index) (i : ℕ) (x : Index) → i < length indexes → x ≡ get_or indexes i x
-    → has_cols (cols_of (drop i indexes)) C ≡ (same_names x.cols C || has_cols (cols_of (drop (i + 1) indexes)) C)
-cols_at C indexes i x l e =
-    ap (λ xs. has_cols (cols_of xs) C) (drop-cons indexes i x l)
-    ∙ (λ j. same_names (sym e j).cols C || has_cols (cols_of (drop (sym (add-one i) j) indexes)) C)
 
 pub none_pass : (p : Row → Bool) → set.filter p (set.empty {R = row_cmp}) ≡ set.empty
 none_pass p = set.same_set row_cmp_total row_cmp-IsAntisymmetric _ _ (λ q.

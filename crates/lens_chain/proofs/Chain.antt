@@ -1,14 +1,10 @@
 -- What each node adds to the changes is what its sources add.
 use Rattle.std.proofs.Common.{◌≡◌, ◌∙◌, ap, sym, Some}
-use Rattle.std.proofs.lemmas.Option.{same_Some}
+use Rattle.plain_values.proofs.Common.{same_Some}
 use Rattle.plain_values.specs.declared.value.Value.{Value}
-use Rattle.lens_specs.specs.Common.{Delta, Lens, Tables, base, select, drop, rename, get, sort_of, view_names, Name, Names, Predicate, holds, Sort}
+use Rattle.lens_specs.specs.Common.{Delta, Lens, Tables, base, select, drop, rename, get, sort_of, view_names, Name, Names, Predicate, holds, Sort, join}
 use Rattle.plain_values.specs.declared.join_kind.JoinKind.{JoinKind}
-use Rattle.lens_specs.specs.Lens.{join}
-use Rattle.lens_laws.specs.Edits.{table_deltas}
-use Rattle.lens_laws.specs.JoinKinds.{left_delta, right_delta}
-use Rattle.lens_laws.specs.KeyedDeltas.{drop_delta, select_delta}
-use Rattle.lens_laws.specs.Rename.{rename_delta}
+use Rattle.lens_laws.proofs.Common.{table_deltas, left_delta, right_delta, drop_delta, select_delta, rename_delta}
 use Rattle.lens_probe.specs.Handed.{to_first, to_second}
 use Rattle.lens_probe.specs.Viewed.{Viewed, sides_of, source_of}
 use Rattle.lens_chain.specs.Changed.{Changed, with_change, with_changes}

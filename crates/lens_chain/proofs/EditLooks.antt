@@ -1,25 +1,16 @@
 -- How many looks an edit of a view takes, and how many rows each node hands down.
-use Rattle.std.proofs.Common.{◌≡◌, ◌∙◌, ℕ, ◌+◌, ◌*◌, ◌≤◌, ap, arith, length, refl, subst, sym}
-use Rattle.std.proofs.lemmas.List.{length-map}
-use Rattle.std.proofs.lemmas.Nat.{mul-le}
-use Rattle.std.proofs.lemmas.List.Elements.{Contains-append_left, Contains-append_right}
-use Rattle.std.specs.Cmp.Lexicographic.{nat_list_cmp_total}
+use Rattle.std.proofs.Common.{◌≡◌, ◌∙◌, ℕ, ◌+◌, ◌*◌, ◌≤◌, ap, arith, length, refl, subst, sym, List, Ok}
+use Rattle.plain_values.proofs.Common.{length-map, mul-le, Contains-append_left, Contains-append_right, nat_list_cmp_total, bytes_cmp, keys_rise}
 use Rattle.std.specs.FinMap as finmap
-use Rattle.std.specs.Prelude.{List, Ok}
-use Rattle.plain_values.specs.Order.{bytes_cmp}
-use Rattle.plain_values.specs.SortedMap.{keys_rise}
 use Rattle.plain_values.specs.SortedSet as set
 use Rattle.plain_values.specs.declared.join_kind.JoinKind.{JoinKind}
 use Rattle.plain_values.specs.declared.value.Value.{Value}
-use Rattle.lens_specs.specs.Common.{Columns, names, Delta, Edge, Lens, select, drop, rename, sort_of, Name, Names, Predicate, Sort}
-use Rattle.lens_specs.specs.Lens.{join}
+use Rattle.lens_specs.specs.Common.{Columns, names, Delta, Edge, Lens, select, drop, rename, sort_of, Name, Names, Predicate, Sort, join}
 use Rattle.lens_specs.specs.Typing as typing
-use Rattle.lens_laws.specs.Asked.{HasKeys, asked}
-use Rattle.lens_laws.specs.Lenses.{IsTyped}
-use Rattle.lens_laws.specs.Rename.{rename_delta}
-use Rattle.lens_laws.specs.Work.{TablesGiveAtMost, node_work, rows_down, rows_of, size, work}
+use Rattle.lens_laws.proofs.Common.{HasKeys, asked, IsTyped, rename_delta, node_work, rows_down, rows_of, size, work, size_some}
+use Rattle.lens_laws.specs.Work.{TablesGiveAtMost}
 use Rattle.lens_laws.proofs.DeltaCounts.{rename_delta_small}
-use Rattle.lens_laws.proofs.Work.{drop_work, join_work, node_within, rename_work, select_work, size_some, view_edges_few}
+use Rattle.lens_laws.proofs.Work.{drop_work, join_work, node_within, rename_work, select_work, view_edges_few}
 use Rattle.lens_probe.specs.Handed.{to_first, to_second}
 use Rattle.lens_probe.specs.Viewed.{FindsAtMost, IsWithin, Viewed}
 use Rattle.lens_chain.proofs.Chain.{first_of, second_of}

@@ -1,13 +1,9 @@
 -- Differences by names, and the entries of a map that has them.
 use Rattle.std.proofs.Common.{◌≡◌, ◌∙◌, true, List, [], ◌∷◌, ap, cond, refl, Some}
-use Rattle.std.specs.BTreeMap.{is_at}
-use Rattle.std.specs.Cmp.{both_ways}
+use Rattle.plain_values.proofs.Common.{is_at, both_ways, lookup, eq_by_cmp, bytes_cmp}
 use Rattle.std.specs.FinMap as finmap
-use Rattle.std.specs.Map.{lookup}
-use Rattle.std.specs.Ordering.{eq_by_cmp}
-use Rattle.fd_laws.proofs.Names.{name_itself, tied_name}
-use Rattle.plain_values.specs.Order.{bytes_cmp}
-use Rattle.lens_specs.specs.Names.{Name}
+use Rattle.fd_laws.proofs.Common.{name_itself, tied_name}
+use Rattle.lens_specs.specs.Common.{Name}
 
 found : {X : Type 0} (es : List (Name × X)) (q : Name) → lookup (is_at (bytes_cmp q)) es ≡ finmap.find bytes_cmp q es
 found [] q = refl

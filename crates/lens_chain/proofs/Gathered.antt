@@ -1,21 +1,11 @@
 -- The differences of an edit, gathered by name, are the changes of the put.
-use Rattle.std.proofs.Common.{◌≡◌, Bool, true, false, cond, not, ◌&&◌, ◌||◌, List, [], ◌∷◌, ◌++◌, map, refl, sym, ap, ◌∙◌, Option, Some, None}
-use Rattle.std.proofs.lemmas.List.Folds.{list_any-append}
-use Rattle.std.specs.declared.cmp.Ordering.TheVariants.{Less}
+use Rattle.std.proofs.Common.{◌≡◌, Bool, true, false, cond, not, ◌&&◌, ◌||◌, List, [], ◌∷◌, ◌++◌, map, refl, sym, ap, ◌∙◌, Option, Some, None, if◌then◌else◌}
+use Rattle.plain_values.proofs.Common.{list_any-append, Less, AllByRecursion, list_any, IsStrictlySortedBy, eq_by_cmp, bytes_cmp, entries-from_entries, keys_of, keys_rise}
 use Rattle.std.specs.FinMap as finmap
-use Rattle.std.specs.List.{AllByRecursion, list_any}
-use Rattle.std.specs.List.Sorted.{IsStrictlySortedBy}
-use Rattle.std.specs.Ordering.{eq_by_cmp}
-use Rattle.std.specs.Prelude.{if◌then◌else◌}
-use Rattle.plain_values.specs.Order.{bytes_cmp}
-use Rattle.plain_values.specs.SortedMap.{entries-from_entries, keys_of, keys_rise}
 use Rattle.plain_values.specs.SortedSet as set
-use Rattle.lens_specs.specs.Common.{Delta, TableDelta, changes, diff, differences, is_empty, Lens, Tables, base, select, drop, rename, get, put, sort_of, table, tables_of, view_names, Name, Names}
-use Rattle.lens_specs.specs.Lens.{join}
-use Rattle.fd_laws.proofs.Names.{name_exact, name_total, tied_name}
-use Rattle.lens_laws.specs.Edits.{AreDiffs, table_deltas}
-use Rattle.lens_laws.specs.JoinKinds.{left_delta, right_delta}
-use Rattle.lens_laws.specs.Lenses.{AreOf, IsTyped}
+use Rattle.lens_specs.specs.Common.{Delta, TableDelta, changes, diff, differences, is_empty, Lens, Tables, base, select, drop, rename, get, put, sort_of, table, tables_of, view_names, Name, Names, join}
+use Rattle.fd_laws.proofs.Common.{name_exact, name_total, tied_name}
+use Rattle.lens_laws.proofs.Common.{AreDiffs, table_deltas, left_delta, right_delta, AreOf, IsTyped}
 use Rattle.lens_laws.proofs.Edits.{table_deltas_are}
 use Rattle.lens_chain.specs.Changed.{Changed, in_order, of_entry, with_change, with_changes}
 use Rattle.lens_chain.specs.Edits.{IsEdit, edited}

@@ -1,41 +1,20 @@
 -- What the nodes ask of an edit and of their sources, and what they hand down.
-use Rattle.std.proofs.Common.{◌≡◌, true, false, List, [], ◌∷◌, ap, ◌∙◌, subst, sym}
-use Rattle.std.proofs.lemmas.Bool.{and_parts, false_from_ne_true}
-use Rattle.std.proofs.lemmas.List.Elements.{Contains-append_right}
-use Rattle.std.specs.List.{Contains}
-use Rattle.std.specs.Prelude.{Ok}
+use Rattle.std.proofs.Common.{◌≡◌, true, false, List, [], ◌∷◌, ap, ◌∙◌, subst, sym, Ok}
+use Rattle.plain_values.proofs.Common.{and_parts, false_from_ne_true, Contains-append_right, Contains, Row, absurd_false}
 use Rattle.plain_values.specs.SortedSet as set
-use Rattle.plain_values.specs.Row.{Row}
 use Rattle.plain_values.specs.declared.value.Value.{Value}
-use Rattle.lens_specs.specs.Common.{Fits, both_columns, without_column, Applies, Delta, diff, new_view, AllEdges, Edge, Meets, MeetsTree, Lens, Tables, select, drop, rename, get, select_sort, drop_sort, rename_sort, join_sort, sort_of, view_names, Name, Names, Within, one, drop_get, drop_put, join_get, join_left_after, join_right_after, rename_get, rename_put, select_get, select_put, Predicate, holds, without_name, Rows, has, image, renamed_names, renamed_row, agree, IsOf, Sort}
+use Rattle.lens_specs.specs.Common.{Fits, both_columns, without_column, Applies, Delta, diff, new_view, AllEdges, Edge, Meets, MeetsTree, Lens, Tables, select, drop, rename, get, select_sort, drop_sort, rename_sort, join_sort, sort_of, view_names, Name, Names, Within, one, drop_get, drop_put, join_get, join_left_after, join_right_after, rename_get, rename_put, select_get, select_put, Predicate, holds, without_name, Rows, has, image, renamed_names, renamed_row, agree, IsOf, Sort, join}
 use Rattle.plain_values.specs.declared.join_kind.JoinKind.{JoinKind}
-use Rattle.lens_specs.specs.Lens.{join}
 use Rattle.lens_specs.specs.Typing as typing
-use Rattle.fd_laws.specs.Trees.{EdgesWithin}
-use Rattle.plain_values.proofs.Lists.{absurd_false}
-use Rattle.fd_laws.proofs.Common.{name_itself, one_is, agree_at, agree_from, each_edge}
-use Rattle.fd_laws.proofs.Trees.{at_edge}
-use Rattle.lens_laws.specs.Asked.{HasKeys, IsFilled, keys_at, left_sides}
-use Rattle.lens_laws.specs.Finds.{IsOver}
-use Rattle.lens_laws.specs.JoinKinds.{left_delta, right_delta}
-use Rattle.lens_laws.specs.KeyedDeltas.{drop_delta, select_delta}
-use Rattle.lens_laws.specs.Lenses.{AreOf, IsTyped}
+use Rattle.fd_laws.proofs.Common.{EdgesWithin, name_itself, one_is, agree_at, agree_from, each_edge, at_edge}
+use Rattle.lens_laws.proofs.Common.{HasKeys, IsFilled, keys_at, left_sides, IsOver, left_delta, right_delta, drop_delta, select_delta, AreOf, IsTyped, rename_delta, IsIn, join_shape, shape_of, contains_head, contains_map, contains_tail, keyed, diff_applies, diff_leads, in_new_view_added, drop_delta_is, get_sort, fits_is_over, both_can, drop_law, join_law, rename_can, rename_node_law, select_law, sound, join_sort_is, not_old, names-renamed, given_is, select_delta_is, clash_none, to_in}
 use Rattle.lens_laws.specs.Passes.{alone_at}
-use Rattle.lens_laws.specs.Rename.{rename_delta}
-use Rattle.lens_laws.specs.Shapes.{IsIn, join_shape, select_shape, shape_of}
-use Rattle.lens_laws.proofs.Asked.{contains_head, contains_map, contains_tail, keyed}
-use Rattle.lens_laws.proofs.Deltas.{diff_applies, diff_leads, in_new_view_added}
-use Rattle.lens_laws.proofs.DropDelta.{drop_delta_is}
+use Rattle.lens_laws.specs.Shapes.{select_shape}
 use Rattle.lens_laws.proofs.JoinKindDeltas.{left_delta_is, right_delta_is}
-use Rattle.lens_laws.proofs.Lenses.{get_sort}
-use Rattle.lens_laws.proofs.NodeFinds.{fits_is_over}
-use Rattle.lens_laws.proofs.NodeLaws.{both_can, drop_can, drop_law, join_law, rename_can, rename_node_law, select_law, sound}
-use Rattle.lens_laws.proofs.Passes.{join_sort_is, select_sort_is}
-use Rattle.lens_laws.proofs.Rename.{not_old, rename_delta_is}
-use Rattle.lens_laws.proofs.RenameSorts.{names-renamed, rename_sort_is}
-use Rattle.lens_laws.proofs.Rules.{given_is}
-use Rattle.lens_laws.proofs.SelectDelta.{select_delta_is}
-use Rattle.lens_laws.proofs.Sorts.{clash_none, to_in}
+use Rattle.lens_laws.proofs.NodeLaws.{drop_can}
+use Rattle.lens_laws.proofs.Passes.{select_sort_is}
+use Rattle.lens_laws.proofs.Rename.{rename_delta_is}
+use Rattle.lens_laws.proofs.RenameSorts.{rename_sort_is}
 use Rattle.signed_delta.specs.Disjoint.{AreApart}
 use Rattle.signed_delta.proofs.Differences.{sides_apart}
 use Rattle.lens_chain.specs.Edits.{IsEdit, edited}

@@ -1,6 +1,5 @@
 -- The calls of a source that were made in need, one after another.
-use Rattle.std.proofs.Common.{◌≤◌, arith, slice_range, ◌≡◌, ◌≢◌, ◌+◌, ◌-◌, ℕ, Bool, false, List, [], ◌∷◌, ◌++◌, length, ap, sym, subst, ◌∙◌, refl, append_assoc, append-nil}
-use Rattle.std.specs.Prelude.{min}
+use Rattle.std.proofs.Common.{◌≤◌, arith, slice_range, ◌≡◌, ◌≢◌, ◌+◌, ◌-◌, ℕ, Bool, false, List, [], ◌∷◌, ◌++◌, length, ap, sym, subst, ◌∙◌, refl, append_assoc, append-nil, min}
 use Rattle.std.specs.declared.option.Option.{Option}
 use Rattle.io_specs.specs.Calls.{Adds}
 use Rattle.io_specs.proofs.Calls.{Adds-none, Adds-then, Adds-weaker}

@@ -1,11 +1,9 @@
 -- What a sink has taken, and what of the input was served, one call after another.
-use Rattle.std.proofs.Common.{◌≡◌, ◌≤◌, ◌+◌, ℕ, List, [], ◌++◌, take, drop, length, ap, sym, ◌∙◌, refl, subst, append_assoc, arith, ◌∷◌, ◌-◌, length-drop}
-use Rattle.std.specs.Prelude.{None, Some}
+use Rattle.std.proofs.Common.{◌≡◌, ◌≤◌, ◌+◌, ℕ, List, [], ◌++◌, take, drop, length, ap, sym, ◌∙◌, refl, subst, append_assoc, arith, ◌∷◌, ◌-◌, length-drop, None, Some}
 use Rattle.std.specs.declared.option.Option.{Option}
 use Rattle.std.specs.Io.KnownBytes.{Appends}
 use Rattle.std.proofs.Math.Seq.{take-add}
 use Rattle.std.proofs.lemmas.List.{take_all}
-use Rattle.lens_io.specs.Bytes.{AppendsFront}
 
 append_nil : (xs : List ℕ) → xs ≡ xs ++ []
 append_nil [] = refl
@@ -21,9 +19,6 @@ Appends-more (Some xs) None c bytes i n p q = absurd p
 Appends-more (Some xs) (Some ys) None bytes i n p q = absurd q
 Appends-more (Some xs) (Some ys) (Some zs) bytes i n p q =
     q ∙ ap (λ v. v ++ take n (drop i bytes)) p ∙ append_assoc xs (take i bytes) (take n (drop i bytes)) ∙ ap (λ v. xs ++ v) (sym (take-add i n bytes))
-
-pub front_of_all : (a b : Option (List ℕ)) (bytes : List ℕ) → Appends a b bytes → AppendsFront a b bytes
-front_of_all a b bytes h = (length bytes, subst (λ v. Appends a b v) (sym (take_all (length bytes) bytes (omega arith))) h)
 
 -- the rest of a slice from an index on
 pub rest_is : (bytes : List ℕ) (at : ℕ) → take (length bytes - at) (drop at bytes) ≡ drop at bytes

@@ -1,6 +1,5 @@
 -- What a cutter knows of the bytes that came, one call of the source after another, until a line is whole.
-use Rattle.std.proofs.Common.{◌≡◌, ◌≤◌, ◌<◌, ◌+◌, ◌-◌, ℕ, Bool, true, false, List, [], ◌∷◌, ◌++◌, take, drop, length, get_or, ap, sym, subst, ◌∙◌, refl, arith, append_assoc, append-nil, length-append, length-take-le, slice_range, inl, inr}
-use Rattle.std.specs.Prelude.{nat_lt, nat_eq, cond, ◌⊎◌}
+use Rattle.std.proofs.Common.{◌≡◌, ◌≤◌, ◌<◌, ◌+◌, ◌-◌, ℕ, Bool, true, false, List, [], ◌∷◌, ◌++◌, take, drop, length, get_or, ap, sym, subst, ◌∙◌, refl, arith, append_assoc, append-nil, length-append, length-take-le, slice_range, inl, inr, nat_lt, nat_eq, cond, ◌⊎◌}
 use Rattle.std.specs.declared.option.Option.{Option}
 use Rattle.std.specs.Io.KnownBytes.{Consumes, Keeps, IsAtEnd}
 use Rattle.std.proofs.KnownBytes.{Consumes-nil, Consumes-trans, Consumes-kept}
@@ -18,12 +17,6 @@ use Rattle.lens_io.proofs.Pieces.{clear-append, take_join, range_of, range_join,
 pub record Gathered (first : ℕ) (items0 items : List ℕ) (end : ℕ) (left0 left : Option (List ℕ)) : Type 0 where
   pub front : take first items ≡ take first items0
   pub consumed : Consumes left0 left (slice_range items first end)
-
--- what is there before the first call
-pub Gathered-nil : (first : ℕ) (items : List ℕ) (left : Option (List ℕ)) → Gathered first items items first left left
-Gathered-nil first items left =
-    let none : slice_range items first first ≡ [] = (let e : first - first ≡ 0 = omega arith in ap (λ n. take n (drop first items)) e) in
-    record { front = refl; consumed = subst (Consumes left left) (sym none) (Consumes-nil left) }
 
 range_front : (xs ys : List ℕ) (i j : ℕ) → i ≤ j → take j xs ≡ take j ys → slice_range xs i j ≡ slice_range ys i j
 range_front xs ys i j p is = range_of xs i j p ∙ ap (drop i) is ∙ sym (range_of ys i j p)

@@ -1,6 +1,5 @@
 -- The lines of the bytes, one line after another.
-use Rattle.std.proofs.Common.{◌≡◌, ◌≢◌, ◌≤◌, ◌<◌, ℕ, Bool, true, false, List, [], ◌∷◌, ◌++◌, length, ap, sym, ◌∙◌, refl}
-use Rattle.std.specs.Prelude.{◌==◌, cond}
+use Rattle.std.proofs.Common.{◌≡◌, ◌≢◌, ◌≤◌, ◌<◌, ℕ, Bool, true, false, List, [], ◌∷◌, ◌++◌, length, ap, sym, ◌∙◌, refl, ◌==◌, cond}
 use Rattle.std.proofs.lemmas.Bool.{le-leb, lt-leb, ne_eqb}
 use Rattle.io_specs.specs.Lines.{line, too_long}
 use Rattle.io_specs.specs.Lines.{onto_first, pieces, without_empty_end, without_end, marked, each_marked, lines, whole}

@@ -1,6 +1,5 @@
 -- The calls of a sink that was handed what was left, one after another.
-use Rattle.std.proofs.Common.{◌≡◌, ◌≢◌, ◌-◌, ℕ, List, [], ◌∷◌, ◌++◌, subst, sym, refl}
-use Rattle.std.specs.Prelude.{Option}
+use Rattle.std.proofs.Common.{◌≡◌, ◌≢◌, ◌-◌, ℕ, List, [], ◌∷◌, ◌++◌, subst, sym, refl, Option}
 use Rattle.io_specs.specs.Calls.{Adds}
 use Rattle.io_specs.proofs.Calls.{Adds-none, Adds-then, Adds-weaker}
 use Rattle.lens_io.specs.Calls.{AddsOffer, OffersAll, OffersRest}

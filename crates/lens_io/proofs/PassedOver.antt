@@ -1,14 +1,13 @@
 -- The rest of a line that is too long, passed over, one call of the source after another.
-use Rattle.std.proofs.Common.{◌≡◌, ◌≢◌, ◌≤◌, ◌<◌, ◌+◌, ◌-◌, ℕ, true, false, List, [], ◌∷◌, ◌++◌, length, get_or, ap, sym, subst, ◌∙◌, refl, arith, append_assoc, append-nil, length-append, slice_range, inl, inr}
+use Rattle.std.proofs.Common.{◌≡◌, ◌≢◌, ◌≤◌, ◌<◌, ◌+◌, ◌-◌, ℕ, true, false, List, [], ◌∷◌, ◌++◌, length, get_or, ap, sym, subst, ◌∙◌, refl, arith, append_assoc, append-nil, length-append, slice_range, inl, inr, min}
 use Rattle.std.specs.declared.option.Option.{Option}
 use Rattle.std.specs.Io.KnownBytes.{Consumes, IsAtEnd, Keeps}
-use Rattle.std.proofs.KnownBytes.{Consumes-kept, Consumes-nil, Consumes-trans}
+use Rattle.std.proofs.KnownBytes.{Consumes-kept, Consumes-trans}
 use Rattle.lens_io.specs.declared.cutting.Cut.TheVariants.{Failed, TooLong, Spent}
-use Rattle.std.specs.Prelude.{min}
 use Rattle.io_specs.specs.Calls.{Adds}
 use Rattle.lens_io.specs.Calls.{Call, AddsCall}
 use Rattle.lens_io.specs.Cutting.{Asks, HasNoNewline, Passed}
-use Rattle.lens_io.proofs.Asking.{Asking, Asking-last, Asking-nil, asked_more}
+use Rattle.lens_io.proofs.Asking.{Asking, Asking-last, asked_more}
 use Rattle.lens_io.proofs.Pieces.{clear-append, range_join, range_at, length-range}
 
 -- some bytes without a newline came
@@ -18,9 +17,6 @@ pub record PassedOver (before taken limit : ℕ) (left0 left : Option (List ℕ)
   pub consumed : Consumes left0 left came
   pub counted : taken ≡ before + length came
   pub asking : Asking [] before taken limit came asked0 asked
-
-pub PassedOver-nil : (before limit : ℕ) (left : Option (List ℕ)) (asked : Option (List Call)) → PassedOver before before limit left left asked asked
-PassedOver-nil before limit left asked = record { came = []; clear = tt; consumed = Consumes-nil left; counted = omega arith; asking = Asking-nil [] before limit asked tt }
 
 -- a piece of the rest of a line that is too long
 pub pass_more : (items slice : List ℕ) (before taken count stop limit : ℕ) (left0 left left' : Option (List ℕ)) (asked0 asked asked' : Option (List Call))

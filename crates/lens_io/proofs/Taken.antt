@@ -1,6 +1,5 @@
 -- The lines that were given so far are the first ones of the bytes that were taken.
-use Rattle.std.proofs.Common.{◌≡◌, ◌≢◌, ◌≤◌, ◌<◌, ◌+◌, ◌-◌, ℕ, Bool, true, false, List, [], ◌∷◌, ◌++◌, take, length, ap, sym, subst, ◌∙◌, refl, arith, append_assoc, append-nil, length-append, inl, inr}
-use Rattle.std.specs.Prelude.{None, Some, IfSome}
+use Rattle.std.proofs.Common.{◌≡◌, ◌≢◌, ◌≤◌, ◌<◌, ◌+◌, ◌-◌, ℕ, Bool, true, false, List, [], ◌∷◌, ◌++◌, take, length, ap, sym, subst, ◌∙◌, refl, arith, append_assoc, append-nil, length-append, inl, inr, None, Some, IfSome}
 use Rattle.std.specs.declared.option.Option.{Option}
 use Rattle.std.specs.Io.KnownBytes.{Consumes, IsAtEnd}
 use Rattle.std.proofs.KnownBytes.{Consumes-nil, Consumes-trans}

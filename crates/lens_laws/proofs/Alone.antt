@@ -1,27 +1,16 @@
 -- One list of differences alone leads from some tables to others.
-use Rattle.std.proofs.Common.{◌≡◌, ◌∙◌, ◌||◌, arith, Bool, true, false, cond, List, [], ◌∷◌, map, Option, Some, None, is_some, ap, sym, refl}
-use Rattle.std.specs.Prelude.{unwrap_or}
-use Rattle.std.specs.Option.{option_map}
-use Rattle.std.proofs.lemmas.Bool.{and_parts, and_from}
+use Rattle.std.proofs.Common.{◌≡◌, ◌∙◌, ◌||◌, arith, Bool, true, false, cond, List, [], ◌∷◌, map, Option, Some, None, is_some, ap, sym, refl, unwrap_or}
+use Rattle.plain_values.proofs.Common.{option_map, and_parts, and_from, AllByRecursion, list_all, IsStrictlySortedBy, eq_by_cmp, is_lt, Less, bytes_cmp, row_cmp, entries-from_entries, keys_of, keys_rise, is_less}
 use Rattle.std.specs.FinMap as finmap
-use Rattle.std.specs.List.{AllByRecursion, list_all}
-use Rattle.std.specs.List.Sorted.{IsStrictlySortedBy}
-use Rattle.std.specs.Ordering.{eq_by_cmp, is_lt}
-use Rattle.std.specs.declared.cmp.Ordering.TheVariants.{Less}
-use Rattle.plain_values.specs.Order.{bytes_cmp}
-use Rattle.plain_values.specs.Row.{row_cmp}
-use Rattle.plain_values.specs.SortedMap.{entries-from_entries, keys_of, keys_rise}
 use Rattle.plain_values.specs.SortedSet as set
-use Rattle.plain_values.proofs.Tests.{is_less}
 use Rattle.fd_laws.proofs.Common.{sets, name_exact, name_total, tied_name}
 use Rattle.lens_laws.proofs.Deltas.{applies_is}
-use Rattle.lens_specs.specs.Common.{AppliesTo, Delta, TableDelta, diff, differences, is_empty, Tables, rows_or_none, table, Name, is_among, Relation, Rows, minus, AreDeltas, LeadTo, after, no_relation}
-use Rattle.lens_specs.specs.TableDeltas.{delta_for}
+use Rattle.lens_specs.specs.Common.{AppliesTo, Delta, TableDelta, diff, differences, is_empty, Tables, rows_or_none, table, Name, is_among, Relation, Rows, minus, AreDeltas, LeadTo, after, no_relation, delta_for}
 use Rattle.lens_laws.proofs.Moves.{absent_nothing, all_there, empty_is, lead_moves, nothing, nothing_empty, same_rows}
 
 -- ---- what each table's difference is
 
-no_diff : (M : Rows) → diff M M ≡ nothing
+pub no_diff : (M : Rows) → diff M M ≡ nothing
 unfolding diff
 no_diff M = let none : minus M M ≡ set.empty = same_rows (minus M M) set.empty (λ x. grind (arith, sets, set.contains-empty row_cmp x)) in λ i. record { remove = none i; add = none i }
 
@@ -85,7 +74,8 @@ module _ (old new : Tables) where
   either_nothing true d e = e
   either_nothing false d e = refl
 
-  differences_for : (ts : List Name) (q : Name) → delta_for q (differences ts old new) ≡ cond (is_among q ts) (change q) nothing
+  -- the difference of each table in them
+  pub differences_for : (ts : List Name) (q : Name) → delta_for q (differences ts old new) ≡ cond (is_among q ts) (change q) nothing
   differences_for [] q = refl
   differences_for (t ∷ ts) q =
       let rest = differences_for ts q in

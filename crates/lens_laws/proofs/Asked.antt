@@ -1,29 +1,16 @@
 -- The sets by which the nodes are asked: each has a column, and each that is handed down is one of the child's.
-use Rattle.std.proofs.Common.{◌≡◌, Bool, true, false, cond, ℕ, zero, suc, ◌<◌, List, [], ◌∷◌, ◌++◌, length, map, refl, sym, ap, ◌∙◌, subst, ◌⊎◌, inl, inr, arith, nat_eq}
-use Rattle.std.proofs.lemmas.Bool.{or_cases, true≢false, false_from_ne_true}
-use Rattle.std.proofs.lemmas.List.Elements.{Contains-append_left, Contains-append_cases}
-use Rattle.std.specs.List.{Contains, list_any, filter, slice_index_or}
-use Rattle.std.specs.Ordering.{eq_by_cmp}
+use Rattle.std.proofs.Common.{◌≡◌, Bool, true, false, cond, suc, List, [], ◌∷◌, ◌++◌, length, map, refl, sym, ap, ◌∙◌, subst, ◌⊎◌, inl, inr, arith, nat_eq}
+use Rattle.plain_values.proofs.Common.{or_cases, true≢false, false_from_ne_true, Contains-append_left, Contains-append_cases, Contains, list_any, filter, eq_by_cmp, bytes_cmp, in_head, any_at, any_from, absurd_false, length-map}
 use Rattle.plain_values.specs.SortedSet as set
-use Rattle.plain_values.specs.Order.{bytes_cmp}
 use Rattle.plain_values.specs.declared.value.Value.{Value}
 use Rattle.plain_values.specs.declared.join_kind.JoinKind.{JoinKind}
-use Rattle.fd_laws.proofs.Common.{closure_is, names-without, name_total, name_itself, tied_name, from_shared, from_rest, one_is, all_append, both_edges, each_edge}
-use Rattle.fd_laws.proofs.Columns.{names-both}
-use Rattle.plain_values.proofs.Lists.{in_head, any_at, any_from, absurd_false}
-use Rattle.fd_laws.proofs.Names.{in_shared, in_rest, union_right}
+use Rattle.fd_laws.proofs.Common.{closure_is, names-without, name_total, name_itself, tied_name, from_shared, from_rest, one_is, all_append, both_edges, each_edge, names-both, in_shared, in_rest, union_right, in_renamed, at_edge, all_without}
 use Rattle.lens_laws.proofs.NodeLaws.{sound, rename_can}
-use Rattle.fd_laws.proofs.Renames.{in_renamed}
 use Rattle.lens_laws.proofs.Rename.{old_within}
 use Rattle.lens_laws.proofs.RenameSorts.{names-renamed}
 use Rattle.fd_laws.proofs.TreeForms.{tree_of_lefts, tree_of_rights}
-use Rattle.fd_laws.proofs.Trees.{at_edge, all_without}
-use Rattle.lens_specs.specs.Common.{names, Edge, AllEdges, closure, is_tree, kept_edge, tree_of, tree_without, Lens, base, select, drop, rename, sort_of, view_names, Name, Names, Within, share, one, renamed, renamed_names, renamed_tree}
-use Rattle.lens_specs.specs.Dependencies.{IsClosed}
-use Rattle.lens_specs.specs.TreeForm.{narrowed}
-use Rattle.std.proofs.lemmas.List.{length-map}
+use Rattle.lens_specs.specs.Common.{names, Edge, AllEdges, closure, is_tree, kept_edge, tree_of, tree_without, Lens, base, select, drop, rename, sort_of, view_names, Name, Names, Within, share, one, renamed, renamed_names, renamed_tree, IsClosed, narrowed, join}
 use Rattle.std.specs.FinMap as finmap
-use Rattle.lens_specs.specs.Lens.{join}
 use Rattle.lens_laws.specs.Asked.{IsFilled, left_sides, parts, keys_at, side_keys, AreKeys, HasKeys, HandsDown, MayBeAsked, Reaches}
 use Rattle.lens_laws.specs.Lenses.{IsTyped}
 use Rattle.lens_laws.specs.Shapes.{shape_of}
@@ -37,11 +24,7 @@ module _ {T : Type 0} where
   contains_tail x y xs h = (suc h.0, omega arith, h.2)
 
   pub contains_cases : (x y : T) (xs : List T) → Contains (y ∷ xs) x → (x ≡ y) ⊎ Contains xs x
-  contains_cases x y xs h = at_place h.0 h.1 h.2
-    where
-      at_place : (k : ℕ) → k < length (y ∷ xs) → slice_index_or (y ∷ xs) k x ≡ x → (x ≡ y) ⊎ Contains xs x
-      at_place zero l is = inl (sym is)
-      at_place (suc k) l is = inr (k, omega arith, is)
+  contains_cases x y xs h = grind arith
 
   pub contains_filter : (p : T → Bool) (xs : List T) (x : T) → Contains xs x → p x ≡ true → Contains (filter p xs) x
   contains_filter p [] x h t = absurd (omega arith)
@@ -105,12 +88,7 @@ shared_filled C D h = let w = shares_has C D h in filled_from _ w.0 (in_shared C
 
 -- columns of two sides, none of them of the first
 pub shares_other : (C U V : Names) → IsFilled C → Within C (set.union U V) → share C U ≡ false → share C V ≡ true
-shares_other C U V h w o =
-    let c = filled_has C h in
-    elim (or_cases _ _ (sym (set.contains-union name_total U V c.0) ∙ w c.0 c.1)) [
-      | inl i ↦ absurd_false _ (shares_from C U c.0 c.1 i) o
-      | inr i ↦ shares_from C V c.0 c.1 i
-    ]
+shares_other C U V h w o = grind (arith, filled_has, or_cases, set.contains-union name_total, absurd_false, shares_from)
 
 -- ---- what is handed down
 pub in_parts : (U : Names) (K : List Names) (C : Names) → Contains K C → share C U ≡ true → Contains (parts U K) (set.intersection C U)
@@ -217,11 +195,7 @@ shared_keyed kind A B h k = let b = keyed B h.1 k.1 in decided_filled _ (view_na
 
 -- the key of a drop, against its source's columns and its own
 pub drop_key : (A : Name) (X : Names) (a : Value) (L : Lens) → IsTyped (drop A X a L) → Within X (set.difference (view_names L) (one A))
-drop_key A X a L h =
-    let s = sort_of L in
-    let left : Within X (names s.columns) = subst (λ Z. Within Z (names s.columns)) h.1.left (at_edge (λ e. Within e.left (names s.columns) × Within e.right (names s.columns)) s.tree h.1.from h.1.among (sound L h.0).within).0 in
-    let out : set.contains X A ≡ false = subst (λ Z. set.contains Z A ≡ false) h.1.left (at_edge (λ e. set.contains e.left A ≡ false) s.tree h.1.from h.1.among h.1.lefts) in
-    λ c i. in_rest (names s.columns) (one A) c (left c i) (false_from_ne_true _ (λ j. absurd_false _ (ap (set.contains X) (sym (one_is A c j)) ∙ i) out))
+drop_key A X a L h = grind (arith, at_edge, sound, in_rest, false_from_ne_true, absurd_false, one_is)
 
 pub keys_are : (L : Lens) (K : List Names) → IsTyped L → HasKeys L → AreKeys (view_names L) K → AreKeys (view_names L) (keys_at L K)
 keys_are L K h k a C i = elim (Contains-append_cases K (left_sides (sort_of L).tree) C i) [

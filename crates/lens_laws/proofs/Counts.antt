@@ -1,12 +1,8 @@
 -- How many rows sets of rows have.
 use Rattle.std.proofs.Common.{◌≡◌, ℕ, suc, ◌+◌, ◌*◌, ◌≤◌, Bool, true, false, cond, List, [], ◌∷◌, length, map, sym, ap, ◌∙◌, subst, inl, inr, arith}
-use Rattle.std.proofs.lemmas.Bool.{cases_Bool}
-use Rattle.std.proofs.lemmas.List.{length-append, length-map}
-use Rattle.std.proofs.lemmas.Nat.{mul-le}
-use Rattle.std.specs.List.{filter, flat_map}
+use Rattle.plain_values.proofs.Common.{cases_Bool, length-append, length-map, mul-le, filter, flat_map, row_cmp, Row}
 use Rattle.std.specs.FinMap as finmap
 use Rattle.plain_values.specs.SortedSet as set
-use Rattle.plain_values.specs.Row.{row_cmp, Row}
 use Rattle.fd_laws.proofs.Common.{same_rel, in_those, from_those, row_total, row_exact}
 use Rattle.lens_specs.specs.Common.{Names, Rows, has, those, image, project, cut}
 use Rattle.lens_laws.specs.Finds.{matched}

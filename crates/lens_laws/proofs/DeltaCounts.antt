@@ -1,13 +1,11 @@
 -- How many rows the differences at the nodes have.
-use Rattle.std.proofs.Common.{◌≡◌, ℕ, suc, ◌+◌, ◌*◌, ◌≤◌, Bool, not, List, [], ◌∷◌, ◌++◌, length, arith}
-use Rattle.std.proofs.lemmas.List.{length-append}
-use Rattle.std.proofs.lemmas.Nat.{mul-le}
+use Rattle.std.proofs.Common.{◌≡◌, ℕ, suc, ◌+◌, ◌*◌, ◌≤◌, Bool, List, [], ◌∷◌, length, arith}
+use Rattle.plain_values.proofs.Common.{length-append, mul-le, Row}
 use Rattle.plain_values.specs.SortedSet as set
-use Rattle.plain_values.specs.Row.{Row}
 use Rattle.lens_laws.proofs.Asked.{contains_head, contains_tail}
 use Rattle.lens_laws.proofs.Counts.{count-from_list, count-none, count-those, count-within, count-image, count-project}
-use Rattle.fd_laws.proofs.Relations.{from_minus}
-use Rattle.lens_specs.specs.Common.{Delta, new_view, Edge, Name, Names, renamed_row, rename_put, Rows, those, union, minus, project, revise, revise_row}
+use Rattle.fd_laws.proofs.Common.{from_minus}
+use Rattle.lens_specs.specs.Common.{Delta, new_view, Edge, Name, Names, renamed_row, rename_put, Rows, union, minus, project, revise, revise_row}
 use Rattle.lens_laws.specs.Asked.{left_sides}
 use Rattle.lens_laws.specs.Rename.{rename_delta}
 use Rattle.lens_laws.specs.JoinKinds.{is_kept, is_free, less_delta, join_delta_left_kept, join_delta_right_free}
@@ -16,10 +14,7 @@ use Rattle.lens_laws.specs.Work.{count_of, rows_of, rows_down, GivesAtMost}
 
 count-union : (M N : Rows) → count_of (union M N) ≤ count_of M + count_of N
 unfolding set.union
-count-union M N =
-    let h = count-from_list (set.items M ++ set.items N) in
-    let e = length-append (set.items M) (set.items N) in
-    omega arith
+count-union M N = grind (arith, count-from_list, length-append)
 
 count-minus : (M N : Rows) → count_of (minus M N) ≤ count_of M
 count-minus M N = count-within (minus M N) M (λ r i. (from_minus M N r i).0)
@@ -60,23 +55,11 @@ touched_few F M L n few h =
 
 -- ---- one node
 within_down : (r a n t x y : ℕ) → 1 ≤ n → t ≤ 64 * (a * n) → x ≤ r + t → y ≤ a + t → x + y ≤ 512 * (r + a) * n
-within_down r a n t x y hn ht hx hy =
-    let p : a * n ≤ (r + a) * n = mul-le a n (r + a) n (omega arith) (omega arith) in
-    let q : (r + a) * 1 ≤ (r + a) * n = mul-le (r + a) 1 (r + a) n (omega arith) hn in
-    let e : 512 * (r + a) * n ≡ 512 * ((r + a) * n) = grind arith in
-    omega arith
+within_down r a n t x y hn ht hx hy = grind (arith, mul-le)
 
 pub select_delta_small : (F : List Edge) (P : Row → Bool) (M : Rows) (d : Delta) (n : ℕ) → length F ≤ 64 → 1 ≤ n → GivesAtMost n (left_sides F) M → rows_of (select_delta F P M d) ≤ rows_down (rows_of d) n
 unfolding select_delta select_touched
-select_delta_small F P M d n few some h =
-    let T = those (λ m. not (P m)) (touched F M d.add) in
-    let t = touched_few F M d.add n few h in
-    let a = count-those (λ m. not (P m)) (touched F M d.add) in
-    let b = count-union d.remove T in
-    let c = count-revise F T d.add in
-    let e = count-those (λ r. not (P r)) (revise F T d.add) in
-    let f = count-union d.add (those (λ r. not (P r)) (revise F T d.add)) in
-    within_down (count_of d.remove) (count_of d.add) n (count_of T) _ _ some (omega arith) b (omega arith)
+select_delta_small F P M d n few some h = grind (arith, touched_few, count-those, count-union, count-revise, within_down)
 
 pub rename_delta_small : (A B : Name) (d : Delta) → rows_of (rename_delta A B d) ≤ rows_of d
 unfolding rename_delta rename_put
@@ -88,12 +71,7 @@ merge_removes_few F M A n few h = touched_few F M A n few h
 
 pub merge_adds_few : (F : List Edge) (M A : Rows) (n : ℕ) → length F ≤ 64 → GivesAtMost n (left_sides F) M → count_of (merge_delta F M A).add ≤ 64 * (count_of A * n) + count_of A
 unfolding merge_delta
-merge_adds_few F M A n few h =
-    let t = touched_few F M A n few h in
-    let c = count-revise F (touched F M A) A in
-    let m = count-minus A M in
-    let u = count-union (revise F (touched F M A) A) (minus A M) in
-    omega arith
+merge_adds_few F M A n few h = grind (arith, touched_few, count-revise, count-minus, count-union)
 
 right_removes : (V : Names) (G : List Edge) (N : Rows) (d : Delta) (n : ℕ) → length G ≤ 64 → GivesAtMost n (left_sides G) N → count_of (join_delta_right V G N d).remove ≤ 64 * (count_of d.add * n)
 right_removes V G N d n few h =
@@ -111,41 +89,18 @@ right_adds V G N d n few h =
 
 -- every product with fewer factors is within the greatest one
 under : (a d n1 n2 : ℕ) → a ≤ d → 1 ≤ n1 → 1 ≤ n2 → (a ≤ d * (n1 * n2)) × (a * n1 ≤ d * (n1 * n2)) × (a * n2 ≤ d * (n1 * n2)) × (a * n2 * n1 ≤ d * (n1 * n2))
-under a d n1 n2 h h1 h2 =
-    let p : 1 * 1 ≤ n1 * n2 = mul-le 1 1 n1 n2 h1 h2 in
-    let q : n1 * 1 ≤ n1 * n2 = mul-le n1 1 n1 n2 (omega arith) h2 in
-    let r : 1 * n2 ≤ n1 * n2 = mul-le 1 n2 n1 n2 h1 (omega arith) in
-    let s : a * 1 ≤ d * (n1 * n2) = mul-le a 1 d (n1 * n2) h (omega arith) in
-    let t : a * n1 ≤ d * (n1 * n2) = mul-le a n1 d (n1 * n2) h (omega arith) in
-    let u : a * n2 ≤ d * (n1 * n2) = mul-le a n2 d (n1 * n2) h (omega arith) in
-    let v : a * (n1 * n2) ≤ d * (n1 * n2) = mul-le a (n1 * n2) d (n1 * n2) h (omega arith) in
-    let e : a * n2 * n1 ≡ a * (n1 * n2) = grind arith in
-    (omega arith, omega arith, omega arith, omega arith)
+under a d n1 n2 h h1 h2 = grind (arith, mul-le)
 
 pub right_delta_small : (V : Names) (G : List Edge) (N : Rows) (d : Delta) (n1 n2 : ℕ) → length G ≤ 64 → 1 ≤ n1 → 1 ≤ n2 → GivesAtMost n2 (left_sides G) N → rows_of (join_delta_right V G N d) ≤ rows_down (rows_of d) (2 * n1 * n2)
-right_delta_small V G N d n1 n2 few h1 h2 h =
-    let x = right_removes V G N d n2 few h in
-    let y = right_adds V G N d n2 few h in
-    let w = under (count_of d.add) (rows_of d) n1 n2 (omega arith) h1 h2 in
-    let w0 = w.0 in let w2 = w.2 in
-    let e : 512 * rows_of d * (2 * n1 * n2) ≡ 1024 * (rows_of d * (n1 * n2)) = grind arith in
-    omega arith
+right_delta_small V G N d n1 n2 few h1 h2 h = grind (arith, right_removes, right_adds, under)
 
 suspects_few : (S U : Names) (M : Rows) (d : Delta) (added : Rows) (n : ℕ) → ((k : Row) → count_of (find_by S k M) ≤ n) → count_of (suspects S U M d added) ≤ count_of d.remove + count_of added * n
 unfolding suspects
-suspects_few S U M d added n h =
-    let p = count-project U d.remove in
-    let f = count-found_each S M (set.items added) n h in
-    let u = count-union (project U d.remove) (found_each S M (set.items added)) in
-    omega arith
+suspects_few S U M d added n h = grind (arith, count-project, count-found_each, count-union)
 
 -- a difference less some rows has at most the suspects besides
 less_count : (test : Row → Bool) (suspected : Rows) (d : Delta) → rows_of (less_delta test suspected d) ≤ rows_of d + count_of suspected
-less_count test suspected d =
-    let e = count-those test suspected in
-    let f = count-union d.remove (those test suspected) in
-    let g = count-those (λ r. not (test r)) d.add in
-    omega arith
+less_count test suspected d = grind (arith, count-those, count-union)
 
 -- a source merged along F, less suspects under the key of what comes on the other side
 both_few : (S W : Names) (F : List Edge) (M : Rows) (d : Delta) (added : Rows) (test : Row → Bool) (a b : ℕ) → length F ≤ 64 → 1 ≤ a → 1 ≤ b → GivesAtMost a (S ∷ left_sides F) M

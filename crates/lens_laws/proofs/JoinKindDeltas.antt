@@ -1,18 +1,13 @@
 -- An edit of a join that deletes on the right, or on both sides, does to the sources what recomputing does.
-use Rattle.std.proofs.Common.{◌≡◌, Bool, true, false, not, List, sym, ap, ◌∙◌, inl, inr}
-use Rattle.std.proofs.lemmas.Bool.{cases_Bool, and_parts, and_from, not-true, not_from_false, false_from_ne_true}
-use Rattle.std.specs.Ordering.{eq_by_cmp}
+use Rattle.std.proofs.Common.{◌≡◌, Bool, true, false, not, List, sym, ap, ◌∙◌, inl, inr, arith}
+use Rattle.plain_values.proofs.Common.{cases_Bool, and_parts, and_from, not-true, not_from_false, false_from_ne_true, eq_by_cmp, row_cmp, Row, any_at, any_from, absurd_false}
 use Rattle.plain_values.specs.SortedSet as set
-use Rattle.plain_values.specs.Row.{row_cmp, Row}
 use Rattle.plain_values.specs.declared.join_kind.JoinKind.{JoinKind}
-use Rattle.plain_values.specs.declared.join_kind.JoinKind.TheVariants.{DeleteLeft, DeleteRight, DeleteBoth}
 use Rattle.lens_laws.proofs.Deltas.{from_new_view, in_new_view_kept, in_found_each, from_found_each, merge_delta_is, diff_leads}
 use Rattle.lens_laws.proofs.Join.{cut_left, cut_right, from_natural, natural_paste, left_sort, right_sort, part_left, from_over, in_over}
 use Rattle.lens_laws.proofs.JoinDelta.{join_delta_right_is, join_delta_left_is, split_left, sub_left, from_suspects, in_suspects}
-use Rattle.plain_values.proofs.Lists.{any_at, any_from, absurd_false}
 use Rattle.fd_laws.proofs.Common.{same_rel, in_those, from_those, in_union_left, in_union_right, from_union, in_minus, from_minus, in_project, from_project, in_join, tied_row, row_itself, agree_back}
-use Rattle.lens_specs.specs.Common.{names, Delta, diff, new_view, Applies, Edge, Names, join_get, join_left, join_right, join_over, join_put_left_kept, join_put_right, join_left_after, join_right_after, Rows, has, those, union, minus, project, agree, paste, cut}
-use Rattle.lens_specs.specs.Nodes.{join_kept, join_free}
+use Rattle.lens_specs.specs.Common.{names, Delta, diff, new_view, Applies, Edge, Names, join_get, join_left, join_right, join_over, join_put_left_kept, join_put_right, join_left_after, join_right_after, Rows, has, those, union, minus, project, agree, paste, cut, join_kept, join_free}
 use Rattle.lens_laws.specs.JoinKinds.{is_kept, is_free, less_delta, join_delta_left_kept, join_delta_right_free, left_delta, right_delta}
 use Rattle.lens_laws.specs.KeyedDeltas.{merge_delta, join_delta_right, suspects, is_over}
 use Rattle.lens_laws.specs.Shapes.{Shape, IsIn, CanJoin, join_shape}
@@ -184,10 +179,7 @@ module _ (s t : Shape) (H : List Edge) (can : CanJoin s t H) (M N : Rows) (d : D
 
   from_right_suspects : (q : Row) → has (suspects S V N d left.add) q ≡ true → has N q ≡ true
   unfolding suspects
-  from_right_suspects q i = elim (from_union _ _ q i) [
-    | inl j ↦ let w = from_project V d.remove q j in ap (has N) w.2 ∙ (from_natural s.columns t.columns M N m.columns n.columns w.0 (applies.removes w.0 w.1)).1
-    | inr j ↦ from_found_each S N _ q j
-  ]
+  from_right_suspects q i = grind (arith, from_union, from_project, from_natural, from_found_each)
 
   in_right_suspects : (q : Row) → has N q ≡ true → free q ≡ true → has (suspects S V N d left.add) q ≡ true
   unfolding suspects join_get
@@ -213,14 +205,10 @@ pub left_delta_is : (kind : JoinKind) (s t : Shape) (H : List Edge) → CanJoin 
     → Applies d (join_get (names s.columns) (names t.columns) M N) → IsIn (new_view (join_get (names s.columns) (names t.columns) M N) d) (join_shape s t H)
     → left_delta kind (names s.columns) (names t.columns) s.tree t.tree M N (new_view (join_get (names s.columns) (names t.columns) M N) d) d
     ≡ diff M (join_left_after kind (names s.columns) (names t.columns) s.tree t.tree (new_view (join_get (names s.columns) (names t.columns) M N) d) M N)
-left_delta_is DeleteLeft s t H can M N d m n applies o = join_delta_left_is s t H can M N d m n applies o
-left_delta_is DeleteRight s t H can M N d m n applies o = left_kept_is s t H can M N d m n applies o
-left_delta_is DeleteBoth s t H can M N d m n applies o = join_delta_left_is s t H can M N d m n applies o
+left_delta_is kind s t H can M N d m n applies o = grind (arith, join_delta_left_is, left_kept_is)
 
 pub right_delta_is : (kind : JoinKind) (s t : Shape) (H : List Edge) → CanJoin s t H → (M N : Rows) (d : Delta) → IsIn M s → IsIn N t
     → Applies d (join_get (names s.columns) (names t.columns) M N) → IsIn (new_view (join_get (names s.columns) (names t.columns) M N) d) (join_shape s t H)
     → right_delta kind (names s.columns) (names t.columns) s.tree t.tree M N (new_view (join_get (names s.columns) (names t.columns) M N) d) d
     ≡ diff N (join_right_after kind (names s.columns) (names t.columns) s.tree t.tree (new_view (join_get (names s.columns) (names t.columns) M N) d) M N)
-right_delta_is DeleteLeft s t H can M N d m n applies o = join_delta_right_is s t H can M N d m n applies o
-right_delta_is DeleteRight s t H can M N d m n applies o = right_free_is s t H can M N d m n applies o
-right_delta_is DeleteBoth s t H can M N d m n applies o = right_free_is s t H can M N d m n applies o
+right_delta_is kind s t H can M N d m n applies o = grind (arith, join_delta_right_is, right_free_is)

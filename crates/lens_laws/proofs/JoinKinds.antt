@@ -1,15 +1,11 @@
 -- The laws of the joins that delete on the right, or on both sides.
-use Rattle.std.proofs.Common.{◌≡◌, true, false, not, List, sym, ap, ◌∙◌, inl, inr}
-use Rattle.std.proofs.lemmas.Bool.{cases_Bool, not-true, not_from_false, false_from_ne_true}
+use Rattle.std.proofs.Common.{◌≡◌, true, false, not, List, sym, ap, ◌∙◌, inl, inr, arith}
+use Rattle.plain_values.proofs.Common.{cases_Bool, not-true, not_from_false, false_from_ne_true, absurd_false, Row}
 use Rattle.lens_laws.proofs.Join.{from_natural, in_natural, left_sort, right_sort, own_left, own_right, view_left, view_right, from_over, in_over, not_over, join_lawful}
-use Rattle.plain_values.proofs.Lists.{absurd_false}
-use Rattle.fd_laws.proofs.Common.{same_rel, in_those, from_those, in_minus, from_minus, in_project, from_project}
-use Rattle.fd_laws.proofs.Trees.{meets_fewer}
-use Rattle.plain_values.specs.Row.{Row}
+use Rattle.fd_laws.proofs.Common.{same_rel, in_those, from_those, in_minus, from_minus, in_project, from_project, meets_fewer}
 use Rattle.plain_values.specs.declared.join_kind.JoinKind.{JoinKind}
 use Rattle.plain_values.specs.declared.join_kind.JoinKind.TheVariants.{DeleteLeft, DeleteRight, DeleteBoth}
-use Rattle.lens_specs.specs.Common.{Fits, names, Edge, Names, join_get, join_left, join_right, join_over, join_put_left, join_put_left_kept, join_put_right, join_left_after, join_right_after, Rows, has, project, cut}
-use Rattle.lens_specs.specs.Nodes.{join_kept, join_free}
+use Rattle.lens_specs.specs.Common.{Fits, names, Edge, Names, join_get, join_left, join_right, join_over, join_put_left, join_put_left_kept, join_put_right, join_left_after, join_right_after, Rows, has, project, cut, join_kept, join_free}
 use Rattle.lens_laws.specs.Shapes.{Shape, IsIn, IsLawful2, CanJoin, join_shape}
 
 module _ (s t : Shape) (H : List Edge) (can : CanJoin s t H) where
@@ -80,10 +76,7 @@ module _ (s t : Shape) (H : List Edge) (can : CanJoin s t H) where
 
   -- a row that is joined and that the view lacks has gone on a side
   gone : (O M N : Rows) (w : Row) → has (join_over U V s.tree t.tree O M N) w ≡ true → has (project U (join_kept U V s.tree t.tree O M N)) (cut U w) ≡ false → has (project V (join_free U V s.tree t.tree O M N)) (cut V w) ≡ false → ⊥
-  gone O M N w i k f = elim (cases_Bool (has (project V O) (cut V w))) [
-    | inl y ↦ absurd_false _ (in_project U _ w (in_kept O M N w i y)) k
-    | inr z ↦ absurd_false _ (in_project V _ w (in_free O M N w i z)) f
-  ]
+  gone O M N w i k f = grind (arith, absurd_false, in_project, in_kept, in_free)
 
   joined : (O M N : Rows) → IsIn M s → IsIn N t → IsIn O both → (w : Row) → Fits both.columns w → has (join_left U s.tree O M) (cut U w) ≡ true → has (join_right V t.tree O N) (cut V w) ≡ true → has O w ≡ false → has (join_over U V s.tree t.tree O M N) w ≡ true
   joined O M N m n o w h i j z = in_over s t H can O M N w (in_natural s.columns t.columns _ _ (left_sort s t H can O M m o).columns (right_sort s t H can O N n o).columns w h i j) z

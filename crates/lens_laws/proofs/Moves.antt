@@ -1,22 +1,10 @@
 -- Differences of tables, table by table.
-use Rattle.std.proofs.Common.{◌≡◌, ◌∙◌, List, [], ◌∷◌, length, ap, sym, subst, refl, Bool, true, false, cond, arith}
-use Rattle.std.specs.Prelude.{◌&&◌, ◌||◌, ◌==◌, nat_eq, Option, Some, None, is_some, unwrap_or}
-use Rattle.std.specs.Option.{option_map}
-use Rattle.std.proofs.lemmas.Bool.{eqb-true, false≢true, or_parts, and_parts}
-use Rattle.std.specs.List.{list_all, list_any}
-use Rattle.std.specs.Cmp.{eq_by_cmp_equiv}
-use Rattle.std.specs.Cmp.Lexicographic.{pointwise, texts_ties}
+use Rattle.std.proofs.Common.{◌≡◌, ◌∙◌, List, [], ◌∷◌, length, ap, sym, subst, refl, Bool, true, false, cond, arith, ◌&&◌, ◌||◌, ◌==◌, nat_eq, Option, Some, None, is_some, unwrap_or}
+use Rattle.plain_values.proofs.Common.{option_map, eqb-true, false≢true, or_parts, and_parts, list_all, list_any, eq_by_cmp_equiv, pointwise, texts_ties, eq_by_cmp, is_lt, bytes_cmp, row_cmp, Row, row_cmp_total, row_cmp-IsAntisymmetric}
 use Rattle.std.specs.FinMap as finmap
-use Rattle.std.specs.Ordering.{eq_by_cmp, is_eq, is_lt}
-use Rattle.std.specs.declared.cmp.Ordering.{Ordering}
-use Rattle.std.specs.declared.cmp.Ordering.TheVariants.{Less, Equal, Greater}
-use Rattle.plain_values.specs.Order.{bytes_cmp}
-use Rattle.plain_values.specs.Row.{row_cmp, Row}
-use Rattle.plain_values.specs.RowOrder.{row_cmp_total, row_cmp-IsAntisymmetric}
 use Rattle.plain_values.specs.SortedSet as set
-use Rattle.lens_specs.specs.Common.{AppliesTo, Delta, TableDelta, is_empty, new_view, Tables, Name, Relation, Rows, has, AllApply, AreDeltas, LeadTo, after, no_relation, with_deltas}
+use Rattle.lens_specs.specs.Common.{AppliesTo, Delta, TableDelta, is_empty, new_view, Tables, Name, Relation, Rows, has, AllApply, AreDeltas, LeadTo, after, no_relation, with_deltas, delta_for, relation_in}
 use Rattle.fd_laws.proofs.Common.{name_total, tied_name, sets}
-use Rattle.lens_specs.specs.TableDeltas.{delta_for, relation_in}
 
 -- whether two names are the same
 abbrev pub same_name : Name → Name → Bool
@@ -33,10 +21,7 @@ abbrev pub nothing : Delta
 nothing = record { remove = set.empty; add = set.empty }
 
 pub nothing_applies : (r : Relation) → AppliesTo nothing r
-nothing_applies r = (
-  record { removes = λ x there. absurd (false≢true (sym (set.contains-empty row_cmp x) ∙ there)); adds = λ x there. absurd (false≢true (sym (set.contains-empty row_cmp x) ∙ there)) },
-  λ x there. absurd (false≢true (sym (set.contains-empty row_cmp x) ∙ there)),
-)
+nothing_applies r = grind (arith, false≢true, set.contains-empty row_cmp)
 
 pub after_nothing : (r : Relation) → after r nothing ≡ r
 unfolding new_view
@@ -101,7 +86,7 @@ still_there (c ∷ cs) T n r there = (
   still_there cs T n r there.1,
 )
 
-map_nothing : (o : Option Relation) → option_map (λ r. after r nothing) o ≡ o
+pub map_nothing : (o : Option Relation) → option_map (λ r. after r nothing) o ≡ o
 map_nothing None = refl
 map_nothing (Some r) = ap Some (after_nothing r)
 
@@ -153,12 +138,7 @@ unnamed (c ∷ cs) q none =
 -- ---- rising names
 
 lower : (n m : Name) → is_lt (bytes_cmp n m) ≡ true → same_name m n ≡ false
-lower n m less = same_is m n ∙ not_tied (bytes_cmp n m) less
-  where
-    not_tied : (o : Ordering) → is_lt o ≡ true → is_eq o ≡ false
-    not_tied Less e = refl
-    not_tied Equal e = cc
-    not_tied Greater e = refl
+lower n m less = grind (arith, same_is)
 
 below_all : (n : Name) (cs : List TableDelta) → list_all (λ later. is_lt (bytes_cmp n later.table)) cs ≡ true → list_any (λ later. same_name later.table n) cs ≡ false
 below_all n [] h = refl
@@ -178,9 +158,7 @@ no_rows s none = same_rows s set.empty (λ x. set.contains-items s x ∙ ap (lis
     no_item (x ∷ xs) none = absurd (omega arith)
 
 pub empty_is : (d : Delta) → is_empty d ≡ true → d ≡ nothing
-empty_is d none =
-    let parts = and_parts (length (set.items d.remove) == 0) (length (set.items d.add) == 0) none in
-    λ i. record { remove = no_rows d.remove parts.0 i; add = no_rows d.add parts.1 i }
+empty_is d none = grind (arith, and_parts, no_rows)
 
 no_items : length (set.items (set.empty {R = row_cmp})) ≡ 0
 no_items = ap length (set.items-from_list row_cmp_total [] (set.nothing_rises row_cmp_total))

@@ -1,21 +1,13 @@
 -- What the nodes find by look-ups in their sources is what a look-up in the whole gives.
-use Rattle.std.proofs.Common.{◌≡◌, ◌&&◌, Bool, true, false, cond, List, map, refl, sym, ap, ◌∙◌, is_some, Option, None, inl, inr, [], ◌∷◌, arith}
-use Rattle.std.proofs.lemmas.Bool.{and_from, and_parts, cases_Bool, or_left, or_right, false_from_ne_true}
-use Rattle.std.specs.List.{Contains, list_any, filter, flat_map}
-use Rattle.std.specs.Ordering.{eq_by_cmp}
+use Rattle.std.proofs.Common.{◌≡◌, ◌&&◌, Bool, true, false, cond, List, map, sym, ap, ◌∙◌, is_some, Option, None, inl, inr, [], ◌∷◌, arith}
+use Rattle.plain_values.proofs.Common.{and_from, and_parts, cases_Bool, or_left, or_right, false_from_ne_true, Contains, list_any, filter, flat_map, eq_by_cmp, row_cmp, Row, bytes_cmp, in_filter, from_filter, in_map, from_map, in_flat_map, from_flat_map, any_at, any_from, absurd_false, same_bool}
 use Rattle.plain_values.specs.SortedSet as set
-use Rattle.plain_values.specs.Row.{row_cmp, Row}
-use Rattle.plain_values.specs.Order.{bytes_cmp}
 use Rattle.plain_values.specs.declared.value.Value.{Value}
 use Rattle.lens_laws.proofs.Asked.{contains_cases}
-use Rattle.fd_laws.proofs.Common.{fits_names, name_itself, tied_name, from_shared, same_rel, in_those, from_those, in_project, from_project, in_join, row_total, tied_row, row_itself, agree_at, agree_from, agree_back, agree_on, agree_within, agree-cut, at-cut, cut_column}
-use Rattle.fd_laws.proofs.Renames.{in_renamed, from_renamed}
+use Rattle.fd_laws.proofs.Common.{fits_names, name_itself, tied_name, from_shared, same_rel, in_those, from_those, in_project, from_project, in_join, row_total, tied_row, row_itself, agree_at, agree_from, agree_back, agree_on, agree_within, agree-cut, at-cut, cut_column, in_renamed, from_renamed, agree_alike}
 use Rattle.lens_laws.proofs.Rename.{at-renamed}
 use Rattle.lens_laws.proofs.Join.{from_natural, in_natural, natural_paste}
-use Rattle.plain_values.proofs.Lists.{in_filter, from_filter, in_map, from_map, in_flat_map, from_flat_map, any_at, any_from, absurd_false}
-use Rattle.plain_values.proofs.Tests.{same_bool}
-use Rattle.fd_laws.proofs.Rows.{agree_alike}
-use Rattle.lens_specs.specs.Common.{Columns, Fits, both_columns, names, Name, Names, Within, renamed_names, renamed_row, join_get, Rows, has, those, project, at, agree, paste, cut}
+use Rattle.lens_specs.specs.Common.{Columns, Fits, both_columns, names, Name, Names, Within, renamed_names, renamed_row, join_get, Rows, has, those, project, agree, paste, cut}
 use Rattle.lens_laws.specs.Finds.{IsOver, matched}
 use Rattle.lens_laws.specs.KeyedDeltas.{find_by}
 
@@ -137,17 +129,11 @@ contains-old A B C apart c = elim (cases_Bool (eq_by_cmp bytes_cmp c A)) [
 ]
 
 some_cond : (b d : Bool) (x y : Option Value) → is_some (cond b x (cond d None y)) ≡ cond b (is_some x) (cond d false (is_some y))
-some_cond true d x y = refl
-some_cond false true x y = refl
-some_cond false false x y = refl
+some_cond b d x y = grind arith
 
 -- a key over new names is one over the old ones
 pub over_renamed : (A B : Name) (C : Names) (k : Row) → ((c : Name) → set.contains C c ≡ true → eq_by_cmp bytes_cmp c A ≡ false) → IsOver C k → IsOver (renamed_names B A C) (renamed_row B A k)
-over_renamed A B C k apart o c =
-    let a = eq_by_cmp bytes_cmp c A in let b = eq_by_cmp bytes_cmp c B in
-    ap is_some (at-renamed B A k c) ∙ some_cond a b (at k B) (at k c)
-    ∙ ap (λ x. cond a x (cond b false (is_some (at k c)))) (o B) ∙ ap (λ x. cond a (set.contains C B) (cond b false x)) (o c)
-    ∙ sym (contains-old A B C apart c)
+over_renamed A B C k apart o c = simp (at-renamed, some_cond, o, ← contains-old)
 
 -- a row of the source by a key within the part is one whose part is the row
 pub has_part : (D X : Names) (M : Rows) (r : Row) → Within X D → list_any (λ m. eq_by_cmp row_cmp r (cut D m)) (set.items (find_by X (cut X r) M)) ≡ has (project D M) r
@@ -165,9 +151,7 @@ has_part D X M r w = same_bool _ _
 -- a join has a row that fits where each side has its part
 pub has_in_join : (U V : Columns) (M N : Rows) → ((m : Row) → has M m ≡ true → Fits U m) → ((n : Row) → has N n ≡ true → Fits V n) → (r : Row) → Fits (both_columns U V) r
     → (has M (cut (names U) r) && has N (cut (names V) r)) ≡ has (join_get (names U) (names V) M N) r
-has_in_join U V M N hM hN r o = same_bool _ _
-    (λ h. let b = and_parts _ _ h in in_natural U V M N hM hN r o b.0 b.1)
-    (λ i. let u = from_natural U V M N hM hN r i in and_from _ _ u.0 u.1)
+has_in_join U V M N hM hN r o = grind (arith, same_bool, and_parts, in_natural, from_natural, and_from)
 
 module _ (UC VC : Columns) (M N : Rows) (hM : (m : Row) → has M m ≡ true → Fits UC m) (hN : (n : Row) → has N n ≡ true → Fits VC n) where
   abbrev U : Names

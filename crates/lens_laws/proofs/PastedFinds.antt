@@ -1,16 +1,11 @@
 -- What a join finds, as the list that a loop makes of the rows found on both sides.
-use Rattle.std.proofs.Common.{◌≡◌, cond, List, ◌++◌, map, is_some, sym, ap, ◌∙◌, subst}
-use Rattle.std.specs.List.{Contains}
+use Rattle.std.proofs.Common.{◌≡◌, cond, List, ◌++◌, map, is_some, sym, ap, ◌∙◌, subst, flat_map, filter, arith}
+use Rattle.plain_values.proofs.Common.{Contains, bytes_cmp, override, restrict, Row}
 use Rattle.std.specs.FinMap as finmap
-use Rattle.std.specs.Prelude.{flat_map, filter}
-use Rattle.plain_values.specs.Order.{bytes_cmp}
-use Rattle.plain_values.specs.Part.{override, restrict}
 use Rattle.plain_values.specs.SortedSet as set
-use Rattle.plain_values.specs.Row.{Row}
-use Rattle.fd_laws.proofs.Common.{fits_names, name_total, from_shared, from_those, same_row}
+use Rattle.fd_laws.proofs.Common.{fits_names, name_total, from_shared, from_those, same_row, at-paste}
 use Rattle.fd_laws.proofs.Columns.{find-append}
 use Rattle.lens_laws.proofs.NodeFinds.{cut_is_over, fits_is_over, has_contained, matched_same, matched_kept, left_first_is, right_first_is}
-use Rattle.fd_laws.proofs.Rows.{at-paste}
 use Rattle.lens_specs.specs.Common.{Columns, Fits, names, Names, Within, join_get, Rows, those, at, agree, paste, cut}
 use Rattle.lens_laws.specs.Finds.{AllFit, IsOver}
 use Rattle.lens_laws.specs.KeyedDeltas.{find_by}
@@ -55,10 +50,6 @@ module _ (UC VC : Columns) (M N : Rows) (hM : AllFit UC M) (hN : AllFit VC N) (C
       ∙ right_first_is UC VC M N hM hN C k
 
 -- ---- the lists that a join finds, with names for the steps of a function: the names of both sides, those shared, the key's part, the key cut down, and what the first look-up gives
-pub key_is_over : (C L P : Names) (k q : Row) → IsOver C k → P ≡ set.intersection C L → q ≡ restrict P k → IsOver P q
-unfolding cut
-key_is_over C L P k q o eP eq = subst (IsOver P) (sym eq) (subst (λ Z. IsOver Z (restrict Z k)) (sym eP) (cut_is_over C (set.intersection C L) k o (λ c i. (from_shared C L c i).0)))
-
 -- a row that one side gives has the columns of that side, so also those shared
 pub found_are_over : (U : Columns) (S P : Names) (q : Row) (M F : Rows) (rows : List Row) → AllFit U M → Within S (names U) → F ≡ find_by P q M → rows ≡ set.items F → (m : Row) → Contains rows m → IsOver S (restrict S m)
 unfolding cut
@@ -66,11 +57,7 @@ found_are_over U S P q M F rows h w eF er m i =
     cut_is_over (names U) S m (fits_is_over U m (h m (from_those (agree P q) M m (has_contained _ m (subst (λ z. Contains z m) (er ∙ ap set.items eF) i))).0)) w
 
 pub shared_within : (U V : Columns) (L R S : Names) → L ≡ names U → R ≡ names V → S ≡ set.intersection L R → Within S (names U) × Within S (names V)
-shared_within U V L R S eL eR eS =
-    let e : S ≡ set.intersection (names U) (names V) = eS ∙ ap (λ z. set.intersection z R) eL ∙ ap (set.intersection (names U)) eR in (
-      λ c i. (from_shared (names U) (names V) c (ap (λ Z. set.contains Z c) (sym e) ∙ i)).0,
-      λ c i. (from_shared (names U) (names V) c (ap (λ Z. set.contains Z c) (sym e) ∙ i)).1,
-    )
+shared_within U V L R S eL eR eS = grind (arith, from_shared)
 
 module _ (UC VC : Columns) (M N : Rows) (hM : AllFit UC M) (hN : AllFit VC N) (C : Names) (k : Row) (L R S P : Names) (q : Row) (F : Rows) (rows pairs : List Row)
     (eL : L ≡ names UC) (eR : R ≡ names VC) (eS : S ≡ set.intersection L R) (eq : q ≡ restrict P k) (er : rows ≡ set.items F) where

@@ -1,28 +1,16 @@
 -- The laws of rename.
-use Rattle.std.proofs.Common.{◌≡◌, Bool, true, false, cond, List, [], ◌∷◌, Option, Some, None, refl, sym, ap, ◌∙◌, subst, inl, inr}
-use Rattle.std.proofs.lemmas.Bool.{cases_Bool, false_from_ne_true}
-use Rattle.std.specs.Prelude.{if◌then◌else◌}
-use Rattle.std.specs.Ordering.{eq_by_cmp}
+use Rattle.std.proofs.Common.{◌≡◌, true, false, cond, List, [], ◌∷◌, Option, Some, None, sym, ap, ◌∙◌, subst, inl, inr, arith}
+use Rattle.plain_values.proofs.Common.{cases_Bool, false_from_ne_true, eq_by_cmp, bytes_cmp, Row, absurd_false, fits_same, fits_cond, none_fits, same_bool}
 use Rattle.std.specs.FinMap as finmap
-use Rattle.plain_values.specs.Order.{bytes_cmp}
 use Rattle.plain_values.specs.SortedSet as set
 use Rattle.plain_values.specs.declared.value.Kind.{Kind}
-use Rattle.plain_values.specs.Row.{Row}
-use Rattle.fd_laws.proofs.Common.{name_total, name_exact, name_itself, tied_name, same_rel, in_those, from_those, in_minus, from_minus, from_image, same_row, agree_at, agree_from}
-use Rattle.fd_laws.proofs.Columns.{fits_none, no_kind}
-use Rattle.plain_values.proofs.Lists.{absurd_false}
-use Rattle.fd_laws.proofs.Renames.{other_name, in_renamed, from_renamed}
+use Rattle.fd_laws.proofs.Common.{name_total, name_exact, name_itself, tied_name, same_rel, in_those, from_those, in_minus, from_minus, from_image, same_row, agree_at, agree_from, fits_none, no_kind, other_name, in_renamed, from_renamed, in_image, at-with_at, EdgesWithin}
 use Rattle.lens_laws.proofs.Deltas.{applies_is}
-use Rattle.fd_laws.proofs.Relations.{in_image}
-use Rattle.lens_specs.specs.Common.{Delta, diff, new_view, Applies, Columns, Fits, names, Edge, MeetsTree, Name, Names, Within, Rows, has, minus, at, agree, renamed, renamed_names, renamed_row, renamed_columns, renamed_tree, rename_get, rename_put}
+use Rattle.lens_specs.specs.Common.{Delta, diff, new_view, Applies, Columns, Fits, names, Edge, MeetsTree, Name, Names, Within, Rows, has, minus, at, agree, renamed, renamed_names, renamed_row, renamed_columns, renamed_tree, rename_get, rename_put, with_kind}
 use Rattle.lens_laws.specs.KeyedDeltas.{find_by}
-use Rattle.fd_laws.proofs.Rows.{at-with_at}
-use Rattle.plain_values.proofs.FitsLemmas.{fits_nowhere, fits_same, fits_cond, none_fits}
-use Rattle.plain_values.proofs.Tests.{same_bool}
-use Rattle.lens_specs.specs.Rename.{with_kind}
+use Rattle.plain_values.proofs.FitsLemmas.{fits_nowhere}
 use Rattle.lens_laws.specs.Rename.{rename_delta, CanRename, rename_shape}
 use Rattle.lens_laws.specs.Shapes.{Shape, IsIn, IsLawful}
-use Rattle.fd_laws.specs.Trees.{EdgesWithin}
 
 -- ---- what is at a name
 pub at-renamed : (A B : Name) (r : Row) (c : Name) → at (renamed_row A B r) c ≡ cond (eq_by_cmp bytes_cmp c B) (at r A) (cond (eq_by_cmp bytes_cmp c A) None (at r c))
@@ -47,11 +35,7 @@ renamed_twice A B c o = elim (cases_Bool (eq_by_cmp bytes_cmp c B)) [
 
 -- what a row turned back has at a name other than B is what the row has at the new name
 pub at-back : (A B : Name) (r : Row) (c : Name) → eq_by_cmp bytes_cmp c B ≡ false → at (renamed_row B A r) c ≡ at r (renamed A B c)
-at-back A B r c o = at-renamed B A r c ∙ ap (λ b. cond (eq_by_cmp bytes_cmp c A) (at r B) (cond b None (at r c))) o ∙ at_either (eq_by_cmp bytes_cmp c A)
-  where
-    at_either : (b : Bool) → cond b (at r B) (at r c) ≡ at r (if b then B else c)
-    at_either true = refl
-    at_either false = refl
+at-back A B r c o = grind (arith, at-renamed)
 
 -- turned there and back, where the row has no B
 pub there_and_back : (A B : Name) (r : Row) → at r B ≡ None → renamed_row B A (renamed_row A B r) ≡ r
@@ -72,10 +56,7 @@ there_and_back A B r none = same_row _ r (λ c. at-renamed B A (renamed_row A B 
 ])
 
 pub fits_renamed : (A B : Name) (U : Columns) (r : Row) → Fits U r → Fits (renamed_columns A B U) (renamed_row A B r)
-fits_renamed A B U r h c =
-    fits_same _ _ _ _ (sym (at-renamed A B r c)) (sym (get-renamed A B U c))
-    (fits_cond (eq_by_cmp bytes_cmp c B) (at r A) (cond (eq_by_cmp bytes_cmp c A) None (at r c)) (finmap.get U A) (cond (eq_by_cmp bytes_cmp c A) None (finmap.get U c)) (λ _. h A)
-    (λ _. fits_cond (eq_by_cmp bytes_cmp c A) None (at r c) None (finmap.get U c) (λ _. refl) (λ _. h c)))
+fits_renamed A B U r h c = grind (arith, fits_same, at-renamed, get-renamed, fits_cond)
 
 module _ (s : Shape) (A B : Name) (can : CanRename s A B) where
   abbrev U : Names
@@ -94,11 +75,7 @@ module _ (s : Shape) (A B : Name) (can : CanRename s A B) where
   row_none r h = fits_none s.columns r h B can.free
 
   view_none : (n : Row) → Fits view.columns n → at n A ≡ None
-  view_none n h = fits_nowhere (at n A) (finmap.get view.columns A)
-      (get-renamed A B s.columns A
-      ∙ ap (λ b. cond b (finmap.get s.columns A) (cond (eq_by_cmp bytes_cmp A A) None (finmap.get s.columns A))) apart_names
-      ∙ ap (λ b. cond b None (finmap.get s.columns A)) (name_itself A))
-      (h A)
+  view_none n h = grind (arith, fits_nowhere, get-renamed, apart_names, name_itself)
 
   there : (r : Row) → Fits s.columns r → renamed_row B A (renamed_row A B r) ≡ r
   there r h = there_and_back A B r (row_none r h)
@@ -107,25 +84,7 @@ module _ (s : Shape) (A B : Name) (can : CanRename s A B) where
   back n h = there_and_back B A n (view_none n h)
 
   fits_back : (n : Row) → Fits view.columns n → Fits s.columns (renamed_row B A n)
-  fits_back n h c = elim (cases_Bool (eq_by_cmp bytes_cmp c A)) [
-    | inl t ↦ fits_same (at n B) _ (finmap.get view.columns B) _
-        (sym (at-renamed B A n c ∙ ap (λ b. cond b (at n B) (cond (eq_by_cmp bytes_cmp c B) None (at n c))) t))
-        (get-renamed A B s.columns B
-        ∙ ap (λ b. cond b (finmap.get s.columns A) (cond (eq_by_cmp bytes_cmp B A) None (finmap.get s.columns B))) (name_itself B)
-        ∙ ap (finmap.get s.columns) (sym (tied_name c A t)))
-        (h B)
-    | inr f ↦
-        let other : at (renamed_row B A n) c ≡ cond (eq_by_cmp bytes_cmp c B) None (at n c) = at-renamed B A n c ∙ ap (λ b. cond b (at n B) (cond (eq_by_cmp bytes_cmp c B) None (at n c))) f in
-        elim (cases_Bool (eq_by_cmp bytes_cmp c B)) [
-          | inl t ↦ none_fits _ _ (other ∙ ap (λ b. cond b None (at n c)) t) (ap (finmap.get s.columns) (tied_name c B t) ∙ no_kind s.columns B can.free)
-          | inr g ↦ fits_same (at n c) _ (finmap.get view.columns c) _
-              (sym (other ∙ ap (λ b. cond b None (at n c)) g))
-              (get-renamed A B s.columns c
-              ∙ ap (λ b. cond b (finmap.get s.columns A) (cond (eq_by_cmp bytes_cmp c A) None (finmap.get s.columns c))) g
-              ∙ ap (λ b. cond b None (finmap.get s.columns c)) f)
-              (h c)
-        ]
-  ]
+  fits_back n h c = grind (arith, fits_same, at-renamed, get-renamed, name_itself, tied_name, none_fits, no_kind)
 
   -- rows turned back agree on columns where the rows agree on the renamed ones
   agree-back : (X : Names) → Within X U → (n p : Row) → agree X (renamed_row B A n) (renamed_row B A p) ≡ agree (renamed_names A B X) n p
@@ -140,11 +99,7 @@ module _ (s : Shape) (A B : Name) (can : CanRename s A B) where
   -- a row of what is read, turned back, is a row of the source
   from_get : (M : Rows) → IsIn M s → (q : Row) → has (rename_get A B M) q ≡ true → (has M (renamed_row B A q) ≡ true) × Fits view.columns q
   unfolding rename_get
-  from_get M m q i =
-      let w = from_image (renamed_row A B) M q i in (
-        ap (has M) (ap (renamed_row B A) w.2 ∙ there w.0 (m.columns w.0 w.1)) ∙ w.1,
-        subst (Fits view.columns) (sym w.2) (fits_renamed A B s.columns w.0 (m.columns w.0 w.1)),
-      )
+  from_get M m q i = grind (arith, from_image, there, fits_renamed)
 
   meets_there : (M N : Rows) (T : List Edge) → EdgesWithin U T → ((q : Row) → has N q ≡ true → has M (renamed_row B A q) ≡ true) → MeetsTree M T → MeetsTree N (renamed_tree A B T)
   meets_there M N [] w from mm = tt
@@ -215,9 +170,7 @@ module _ (s : Shape) (A B : Name) (can : CanRename s A B) where
 
   -- the columns asked for, under their old names, are columns
   pub old_within : (C : Names) → Within C (renamed_names A B U) → Within (renamed_names B A C) U
-  old_within C w d i =
-      let u = from_renamed B A C d i in let v = from_renamed A B U u.0 (w u.0 u.1) in
-      ap (set.contains U) (u.2 ∙ ap (renamed B A) v.2 ∙ renamed_twice B A v.0 (not_new v.0 v.1)) ∙ v.1
+  old_within C w d i = let u = from_renamed B A C d i in let v = from_renamed A B U u.0 (w u.0 u.1) in rw (u.2, v.2, renamed_twice B A v.0 (not_new v.0 v.1), v.1)
 
   old_new : (C : Names) → Within C (renamed_names A B U) → renamed_names A B (renamed_names B A C) ≡ C
   old_new C w = set.same_set name_total name_exact _ C (λ c. same_bool _ _

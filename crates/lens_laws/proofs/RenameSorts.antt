@@ -1,24 +1,16 @@
 -- A rename of sorts: the predicate and the tree with the new name say of a row what the old ones say of it turned back.
-use Rattle.std.proofs.Common.{◌≡◌, true, false, cond, not, ◌&&◌, ◌||◌, List, [], ◌∷◌, ◌++◌, Some, None, refl, sym, ap, ◌∙◌, subst, inl, inr, is_some}
-use Rattle.std.proofs.lemmas.Bool.{cases_Bool, or_cases, true≢false, or_left, or_right, false_from_ne_true}
+use Rattle.std.proofs.Common.{◌≡◌, true, false, cond, not, ◌&&◌, ◌||◌, List, [], ◌∷◌, ◌++◌, Some, None, refl, sym, ap, ◌∙◌, inl, inr, is_some, arith}
+use Rattle.plain_values.proofs.Common.{cases_Bool, or_cases, true≢false, or_left, or_right, false_from_ne_true, eq_by_cmp, bytes_cmp, Row, absurd_false, in_append_left, in_append_right, from_append, same_bool, or_no}
 use Rattle.std.specs.FinMap as finmap
-use Rattle.std.specs.Ordering.{eq_by_cmp}
-use Rattle.plain_values.specs.Order.{bytes_cmp}
 use Rattle.plain_values.specs.SortedSet as set
-use Rattle.plain_values.specs.Row.{Row}
-use Rattle.fd_laws.proofs.Common.{names-get, name_total, name_exact, name_itself, tied_name}
-use Rattle.plain_values.proofs.Lists.{absurd_false, in_append_left, in_append_right, from_append}
-use Rattle.plain_values.proofs.Tests.{same_bool, or_no}
-use Rattle.fd_laws.proofs.Renames.{other_name, in_renamed, from_renamed, renamed_is_tree, renamed_edges_within}
+use Rattle.fd_laws.proofs.Common.{names-get, name_total, name_exact, name_itself, tied_name, other_name, in_renamed, from_renamed, renamed_is_tree}
+use Rattle.fd_laws.proofs.Renames.{renamed_edges_within}
 use Rattle.lens_laws.proofs.Rename.{get-renamed, at-back, rename_lawful}
 use Rattle.lens_laws.proofs.Sorts.{lawful_of}
-use Rattle.lens_specs.specs.Common.{Columns, names, Name, is_among, Formula, truth, falsity, compare, compare_columns, one_of, null_at, negation, all_of, any_of, Formulas, no_formulas, formulas, holds, names_in, names_of_all, Predicate, mentions, formula_mentions, at, Sort, IsOf, renamed, renamed_names, renamed_row, renamed_columns, renamed_tree, renamed_predicate, rename_get, rename_put, rename_sort}
-use Rattle.lens_specs.specs.Predicate.{compared, has_null, is_one_of, formula_holds, all_hold, any_holds}
+use Rattle.lens_specs.specs.Common.{Columns, names, Name, is_among, Formula, truth, falsity, compare, compare_columns, one_of, null_at, negation, all_of, any_of, Formulas, no_formulas, formulas, holds, names_in, names_of_all, Predicate, mentions, formula_mentions, at, Sort, IsOf, renamed, renamed_names, renamed_row, renamed_columns, renamed_predicate, rename_get, rename_put, rename_sort, compared, has_null, is_one_of, formula_holds, all_hold, any_holds, renamed_formula, renamed_formulas}
 use Rattle.lens_laws.specs.Passes.{IsSound}
-use Rattle.lens_specs.specs.Rename.{renamed_formula, renamed_formulas}
 use Rattle.lens_laws.specs.Rename.{CanRename, rename_shape}
 use Rattle.lens_laws.specs.Shapes.{shape_of, IsLawfulNode}
-use Rattle.fd_laws.specs.Trees.{EdgesWithin}
 
 -- ---- predicates
 abbrev Lacks : List Name → Name → Type 0
@@ -141,20 +133,10 @@ module _ (s : Sort) (A B : Name) (sound : IsSound s) (column : set.contains (nam
   can_rename = record { column = column; free = free; within = sound.within }
 
   pub rename_sort_is : shape_of (rename_sort s A B) ≡ rename_shape (shape_of s) A B
-  rename_sort_is = λ i. record {
-    columns = renamed_columns A B s.columns;
-    holds = λ r. predicate_renamed s.predicate A B r (λ c h. other_name c B (names s.columns) (sound.pred c h) free) i;
-    tree = renamed_tree A B s.tree;
-  }
+  rename_sort_is = grind (arith, predicate_renamed, other_name)
 
   pub rename_is_sound : IsSound (rename_sort s A B)
-  rename_is_sound = record {
-    tree = renamed_is_tree A B (names s.columns) free s.tree sound.within sound.tree;
-    within = subst (λ W. EdgesWithin W (renamed_tree A B s.tree)) (sym (names-renamed A B s.columns column free)) (renamed_edges_within A B (names s.columns) free s.tree sound.within);
-    pred = λ q h.
-        let w = mentions_renamed s.predicate A B q h in
-        ap (λ W. set.contains W q) (names-renamed A B s.columns column free) ∙ ap (set.contains (renamed_names A B (names s.columns))) w.2 ∙ in_renamed A B (names s.columns) w.0 (sound.pred w.0 w.1);
-  }
+  rename_is_sound = grind (arith, renamed_is_tree, names-renamed, renamed_edges_within, mentions_renamed, in_renamed)
 
   pub rename_law : IsLawfulNode (λ M. IsOf M s) (λ N. IsOf N (rename_sort s A B)) (rename_get A B) (λ N M. rename_put A B N)
   rename_law = lawful_of s (rename_sort s A B) (rename_shape (shape_of s) A B) (rename_get A B) (λ N M. rename_put A B N) rename_sort_is (rename_lawful (shape_of s) A B can_rename)

@@ -1,15 +1,9 @@
 -- The test of the rule of sorts finds none exactly where all conjuncts are steady.
 use Rattle.std.proofs.Common.{◌≡◌, Bool, true, false, cond, not, List, [], ◌∷◌, refl, ap, ◌∙◌, sym, inl, inr, None}
-use Rattle.std.proofs.lemmas.Bool.{or_cases, or_parts, and_parts, and_from, true≢false, not-true, not_from_false, or_left, or_right, false_from_ne_true}
-use Rattle.std.specs.List.{list_all, list_any, filter, find}
-use Rattle.std.specs.Ordering.{eq_by_cmp}
-use Rattle.plain_values.specs.Order.{bytes_cmp}
+use Rattle.plain_values.proofs.Common.{or_cases, or_parts, and_parts, and_from, true≢false, not-true, not_from_false, or_left, or_right, false_from_ne_true, list_all, list_any, filter, find, eq_by_cmp, bytes_cmp, any_at, any_from, find_none, absurd_false}
 use Rattle.plain_values.specs.SortedSet as set
-use Rattle.plain_values.proofs.Lists.{any_at, any_from, find_none, absurd_false}
-use Rattle.fd_laws.proofs.Names.{name_itself, tied_name}
-use Rattle.fd_laws.specs.Trees.{Among}
-use Rattle.lens_specs.specs.Common.{Edge, Name, is_among, Formula, Predicate, names_in, mentions, formula_mentions, unsteady, outputs}
-use Rattle.lens_specs.specs.Refusal.{is_steady}
+use Rattle.fd_laws.proofs.Common.{name_itself, tied_name, Among}
+use Rattle.lens_specs.specs.Common.{Edge, Name, is_among, Formula, Predicate, names_in, mentions, formula_mentions, unsteady, outputs, is_steady}
 use Rattle.lens_laws.specs.Passes.{AllFormulas, IsSteady}
 
 -- ---- all names of a list

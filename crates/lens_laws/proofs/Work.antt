@@ -1,29 +1,20 @@
 -- What a view finds is within its size, and how sizes and work add up.
 use Rattle.std.proofs.Common.{◌≡◌, ℕ, suc, ◌+◌, ◌-◌, ◌*◌, ◌≤◌, Bool, true, cond, List, [], ◌∷◌, length, map, refl, sym, ap, ◌∙◌, subst, ◌⊎◌, inl, inr, arith}
-use Rattle.std.proofs.lemmas.Bool.{cases_Bool, and_from, not_from_false, or_left, false_from_ne_true}
+use Rattle.plain_values.proofs.Common.{cases_Bool, and_from, not_from_false, or_left, false_from_ne_true, Contains-append_left, Contains-append_right, mul-le, Contains, list_any, eq_by_cmp, row_cmp, Row, in_cons, absurd_false}
 use Rattle.std.specs.FinMap as finmap
-use Rattle.std.proofs.lemmas.List.Elements.{Contains-append_left, Contains-append_right}
-use Rattle.std.proofs.lemmas.Nat.{mul-le}
-use Rattle.std.specs.List.{Contains, list_any}
-use Rattle.std.specs.Ordering.{eq_by_cmp}
 use Rattle.plain_values.specs.SortedSet as set
-use Rattle.plain_values.specs.Row.{row_cmp, Row}
 use Rattle.plain_values.specs.declared.join_kind.JoinKind.{JoinKind}
 use Rattle.lens_laws.proofs.Asked.{names_len, rights_keyed, filled_from, filled_has, contains_head, contains_tail, contains_cases, contains_map, part_goes_down, shares_other, side_keys_are, shared_keyed, keys_are, drop_keys_are, renamed_keys_are}
 use Rattle.lens_laws.proofs.Rename.{find_rename}
 use Rattle.lens_laws.proofs.RenameSorts.{names-renamed}
 use Rattle.lens_laws.proofs.Sorts.{to_in}
-use Rattle.fd_laws.proofs.Common.{names-without, name_total, tied_name, from_shared, from_those, tied_row, row_itself, both_edges, each_edge}
-use Rattle.fd_laws.proofs.Columns.{names-both}
+use Rattle.fd_laws.proofs.Common.{names-without, name_total, tied_name, from_shared, from_those, tied_row, row_itself, both_edges, each_edge, names-both, IsBefore, IsTree}
 use Rattle.lens_laws.proofs.Counts.{count-those, count-image, count-project, count-matched}
 use Rattle.lens_laws.proofs.Finds.{find_select, find_project}
 use Rattle.lens_laws.proofs.Lenses.{get_sort}
-use Rattle.plain_values.proofs.Lists.{in_cons, absurd_false}
 use Rattle.lens_laws.proofs.NodeFinds.{find_alike, left_first_is, right_first_is}
-use Rattle.lens_specs.specs.Common.{Columns, Fits, names, Tables, Lens, base, select, drop, rename, sort_of, get, table, view_names, Name, Names, Within, share, one, renamed_names, renamed_row, join_get, drop_get, select_get, rename_get, Predicate, holds, Edge, AllEdges, Rows, has, those, project, agree, paste, cut}
-use Rattle.lens_specs.specs.Lens.{join}
+use Rattle.lens_specs.specs.Common.{Columns, Fits, names, Tables, Lens, base, select, drop, rename, sort_of, get, table, view_names, Name, Names, Within, share, one, renamed_names, join_get, drop_get, select_get, rename_get, Predicate, holds, Edge, AllEdges, Rows, has, those, project, agree, paste, cut, join}
 use Rattle.plain_values.specs.declared.value.Value.{Value}
-use Rattle.fd_laws.specs.Trees.{IsBefore, IsTree}
 use Rattle.lens_laws.proofs.NodeLaws.{sound, rename_can}
 use Rattle.lens_laws.specs.Asked.{IsFilled, keys_at, side_keys, asked, AreKeys, HasKeys}
 use Rattle.lens_laws.specs.Finds.{matched}
@@ -93,12 +84,7 @@ size_grows (join kind A B) v w h = mul-le (2 * size A v) (size B v) (2 * size A 
 
 -- the looks of a look-up in a join: one on a side, and one on the other for each row found
 pub join_looks : (a b : ℕ) → 1 ≤ a → 1 ≤ b → (a + a * b ≤ 2 * a * b) × (b + b * a ≤ 2 * a * b) × (a + b ≤ 2 * a * b)
-join_looks a b ha hb =
-    let p : a * 1 ≤ a * b = mul-le a 1 a b (omega arith) hb in
-    let q : 1 * b ≤ a * b = mul-le 1 b a b ha (omega arith) in
-    let e : 2 * a * b ≡ a * b + a * b = grind arith in
-    let f : b * a ≡ a * b = grind arith in
-    (omega arith, omega arith, omega arith)
+join_looks a b ha hb = grind (arith, mul-le)
 
 -- ---- what a view finds is within its size
 finds_in_join : (UC VC : Columns) (M N : Rows) → ((m : Row) → has M m ≡ true → Fits UC m) → ((n : Row) → has N n ≡ true → Fits VC n) → (K : List Names) (a b : ℕ) → AreKeys (set.union (names UC) (names VC)) K
@@ -126,28 +112,15 @@ finds_in_join UC VC M N hM hN K a b keys ha hb C k i =
     ]
 
 finds_in_select : (P : Row → Bool) (M : Rows) (K : List Names) (n : ℕ) → GivesAtMost n K M → GivesAtMost n K (select_get P M)
-finds_in_select P M K n h C k i =
-    let e : count_of (find_by C k (select_get P M)) ≡ count_of (those P (find_by C k M)) = ap count_of (find_select P C k M) in
-    let c = count-those P (find_by C k M) in
-    let d = h C k i in
-    omega arith
+finds_in_select P M K n h C k i = grind (arith, find_select, count-those)
 
 finds_in_project : (D : Names) (M : Rows) (K : List Names) (n : ℕ) → ((C : Names) → Contains K C → Within C D) → GivesAtMost n K M → GivesAtMost n K (project D M)
-finds_in_project D M K n w h C k i =
-    let e : count_of (find_by C k (project D M)) ≡ count_of (project D (find_by C k M)) = ap count_of (find_project C D k M (w C i)) in
-    let c = count-project D (find_by C k M) in
-    let d = h C k i in
-    omega arith
+finds_in_project D M K n w h C k i = grind (arith, find_project, count-project)
 
 finds_in_rename : (s : Shape) (A B : Name) → CanRename s A B → (M : Rows) → IsIn M s → (K : List Names) (n : ℕ) → ((C : Names) → Contains K C → Within C (renamed_names A B (names s.columns)))
     → GivesAtMost n (map (renamed_names B A) K) M → GivesAtMost n K (rename_get A B M)
 unfolding rename_get
-finds_in_rename s A B can M m K n w h C k i =
-    let found = find_by (renamed_names B A C) (renamed_row B A k) M in
-    let e : count_of (find_by C k (rename_get A B M)) ≡ count_of (rename_get A B found) = ap count_of (find_rename s A B can M m C (w C i) k) in
-    let c = count-image (renamed_row A B) found in
-    let d = h (renamed_names B A C) (renamed_row B A k) (contains_map (renamed_names B A) K C i) in
-    omega arith
+finds_in_rename s A B can M m K n w h C k i = grind (arith, find_rename, count-image, contains_map)
 
 pub view_gives : (L : Lens) (K : List Names) (db : Tables) (w : ℕ) → IsTyped L → HasKeys L → AreOf L db → AreKeys (view_names L) K → TablesGiveAtMost w (asked L K) db → GivesAtMost (size L w) (keys_at L K) (get L db)
 unfolding get drop_get size
@@ -245,10 +218,7 @@ per_row_grows (join kind A B) v w h =
     omega arith
 
 pub work_grows : (L : Lens) (d e v w : ℕ) → d ≤ e → v ≤ w → work L d v ≤ work L e w
-work_grows L d e v w h k =
-    let x = work_is L d v in let y = work_is L e w in
-    let z = mul-le d (per_row L v) e (per_row L w) h (per_row_grows L v w k) in
-    omega arith
+work_grows L d e v w h k = grind (arith, work_is, mul-le, per_row_grows)
 
 -- what a node does itself, and what its children do
 pub node_within : (L : Lens) (d w : ℕ) → node_work d (size L w) ≤ work L d w
@@ -282,10 +252,7 @@ rename_work A B L d e w x h k = let g = work_grows L e (rows_down d (size (renam
 
 pub join_work : (kind : JoinKind) (A B : Lens) (d e f w x : ℕ) → let n = size (join kind A B) w in x ≤ node_work d n → e ≤ rows_down d n → f ≤ rows_down d n → x + work A e w + work B f w ≤ work (join kind A B) d w
 unfolding work
-join_work kind A B d e f w x h k l =
-    let g = work_grows A e (rows_down d (size (join kind A B) w)) w w k (omega arith) in
-    let i = work_grows B f (rows_down d (size (join kind A B) w)) w w l (omega arith) in
-    omega arith
+join_work kind A B d e f w x h k l = grind (arith, work_grows)
 
 -- ---- edges with right sides apart are no more than the columns
 one_less : (U : Names) (c : Name) → set.contains U c ≡ true → suc (length (set.items (set.remove U c))) ≤ length (set.items U)
@@ -308,6 +275,4 @@ edges_few (e ∷ es) U tree full within =
     omega arith
 
 pub view_edges_few : (L : Lens) → IsTyped L → HasKeys L → length (sort_of L).tree ≤ length (set.items (view_names L))
-view_edges_few L h k =
-    edges_few (sort_of L).tree (view_names L) (sound L h).tree (rights_keyed L h k)
-    (each_edge (λ e. Within e.left (view_names L) × Within e.right (view_names L)) (λ e. Within e.right (view_names L)) (λ e w. w.1) (sort_of L).tree (sound L h).within)
+view_edges_few L h k = grind (arith, edges_few, sound, rights_keyed, each_edge)

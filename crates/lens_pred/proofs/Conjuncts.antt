@@ -1,17 +1,8 @@
 -- Predicates, which are lists, beside the lists of formulas inside a formula.
-use Rattle.std.proofs.Common.{◌≡◌, ℕ, suc, ◌+◌, ◌<◌, ◌≤◌, Bool, true, false, cond, List, [], ◌∷◌, ◌++◌, map, length, Option, Some, None, refl, sym, ap, ◌∙◌, arith}
-use Rattle.std.specs.Prelude.{not, ◌&&◌, ◌||◌, find, is_some, filter, position, option_map}
-use Rattle.std.specs.List.{list_any, list_all, position_from}
-use Rattle.std.proofs.lemmas.Iterator.Adapters.{position_from-zero}
-use Rattle.std.specs.Option.{option_or}
-use Rattle.std.specs.Ordering.{eq_by_cmp}
-use Rattle.std.proofs.lemmas.List.Folds.{find-append, list_any-append}
-use Rattle.plain_values.specs.Order.{bytes_cmp}
-use Rattle.plain_values.specs.Row.{Row}
-use Rattle.plain_values.proofs.Tests.{first_holds, second_holds}
-use Rattle.lens_specs.specs.Common.{Name, is_among, Columns, Formula, Predicate, holds, names_in, names_of, names_of_all, mentions, formula_mentions, unlike_kinds, first_mixed}
-use Rattle.lens_specs.specs.Predicate.{formula_holds, all_hold, formula_nodes, nodes_of_all, predicate_nodes}
-use Rattle.lens_specs.specs.Refusal.{unlike, unlike_all, or_name, is_mixed}
+use Rattle.std.proofs.Common.{◌≡◌, ℕ, suc, ◌+◌, ◌<◌, ◌≤◌, Bool, true, false, cond, List, [], ◌∷◌, ◌++◌, map, length, Option, Some, None, refl, sym, ap, ◌∙◌, arith, not, ◌&&◌, ◌||◌, find, is_some, filter, position, option_map}
+use Rattle.plain_values.proofs.Common.{list_any, list_all, position_from, position_from-zero, option_or, eq_by_cmp, find-append, list_any-append, bytes_cmp, Row, first_holds, second_holds}
+use Rattle.lens_specs.specs.Common.{Name, is_among, Columns, Formula, Predicate, holds, names_in, names_of, names_of_all, mentions, formula_mentions, unlike_kinds, first_mixed, formula_holds, all_hold, nodes_of_all, predicate_nodes, unlike, unlike_all, or_name, is_mixed}
+use Rattle.lens_specs.specs.Predicate.{formula_nodes}
 use Rattle.lens_pred.specs.NormalForm.{none_is, has_two}
 use Rattle.lens_pred.specs.View.{list_view, predicate_view}
 use Rattle.lens_pred.specs.declared.formula.Formula.{Formula as Declared}

@@ -1,8 +1,7 @@
 -- A formula with a new name for a column has the form of the old one.
 use Rattle.std.proofs.Common.{◌≡◌, Bool, not, ◌&&◌, [], ◌∷◌, refl, ap}
-use Rattle.std.specs.List.{list_all}
-use Rattle.lens_specs.specs.Common.{Name, Formula, truth, falsity, compare, compare_columns, one_of, null_at, negation, all_of, any_of, Formulas, no_formulas, formulas, Predicate, renamed_predicate}
-use Rattle.lens_specs.specs.Rename.{renamed_formula, renamed_formulas}
+use Rattle.plain_values.proofs.Common.{list_all}
+use Rattle.lens_specs.specs.Common.{Name, Formula, truth, falsity, compare, compare_columns, one_of, null_at, negation, all_of, any_of, Formulas, no_formulas, formulas, Predicate, renamed_predicate, renamed_formula, renamed_formulas}
 use Rattle.lens_pred.specs.NormalForm.{is_all_of, is_any_of, none_is, has_two, is_normal, are_normal, is_conjunct}
 use Rattle.lens_pred.specs.View.{list_view}
 

@@ -1,6 +1,6 @@
 -- A formula, level by level, beside the formula of the definition.
 use Rattle.std.proofs.Common.{◌≡◌, List, rules}
-use Rattle.lens_specs.specs.Names.{Name}
+use Rattle.lens_specs.specs.Common.{Name}
 use Rattle.lens_specs.specs.Predicate as spec
 use Rattle.plain_values.specs.declared.value.Value.{Value}
 use Rattle.lens_pred.specs.View.{formula_view, formulas_view}

@@ -1,28 +1,15 @@
 -- Whether a view has a row, at each root of a lens.
-use Rattle.std.proofs.Common.{◌≡◌, ◌∙◌, ◌&&◌, ◌∷◌, Bool, List, Some, ap, cond, refl, subst, sym, true, false}
-use Rattle.std.specs.Prelude.{None, Option, is_some}
-use Rattle.std.specs.List.{list_any}
-use Rattle.std.specs.Ordering.{eq_by_cmp}
-use Rattle.std.proofs.lemmas.List.Elements.{Contains-append_left}
+use Rattle.std.proofs.Common.{◌≡◌, ◌∙◌, ◌&&◌, ◌∷◌, Bool, List, Some, ap, cond, refl, subst, sym, true, false, None, Option, is_some}
+use Rattle.plain_values.proofs.Common.{list_any, eq_by_cmp, Contains-append_left, restrict, row_cmp, Row, same_bool}
 use Rattle.std.proofs.lemmas.Bool.{and_right}
-use Rattle.plain_values.specs.Part.{restrict}
-use Rattle.plain_values.specs.Row.{row_cmp, Row}
 use Rattle.plain_values.specs.SortedSet as set
 use Rattle.plain_values.specs.declared.value.Value.{Value}
-use Rattle.lens_specs.specs.Common.{Fits, Lens, Tables, base, select, drop, get, sort_of, view_names, Name, Names, Within, one, drop_get, select_get, Predicate, holds, Rows, has, agree, at, cut}
+use Rattle.lens_specs.specs.Common.{Fits, Lens, Tables, base, select, drop, get, sort_of, view_names, Name, Names, Within, one, drop_get, select_get, Predicate, holds, Rows, has, agree, at, cut, join}
 use Rattle.plain_values.specs.declared.join_kind.JoinKind.{JoinKind}
-use Rattle.plain_values.proofs.Tests.{same_bool}
-use Rattle.lens_specs.specs.Lens.{join}
-use Rattle.fd_laws.proofs.Common.{names-without, agree-cut, agree_at, at-cut, row_itself, same_row, tied_row}
-use Rattle.fd_laws.proofs.Relations.{has-those}
-use Rattle.lens_laws.specs.Asked.{keys_at}
-use Rattle.lens_laws.specs.Finds.{IsOver}
-use Rattle.lens_laws.specs.KeyedDeltas.{find_by}
-use Rattle.lens_laws.specs.Lenses.{IsTyped}
-use Rattle.lens_laws.proofs.Asked.{contains_head, drop_key}
-use Rattle.lens_laws.proofs.Join.{parts_fit}
-use Rattle.lens_laws.proofs.Lenses.{get_sort}
-use Rattle.lens_laws.proofs.NodeFinds.{fits_is_over, has_part}
+use Rattle.fd_laws.proofs.Common.{names-without, agree-cut, agree_at, at-cut, row_itself, same_row, tied_row, has-those}
+use Rattle.lens_laws.proofs.Common.{keys_at, IsOver, find_by, IsTyped, contains_head, parts_fit, get_sort, fits_is_over}
+use Rattle.lens_laws.proofs.Asked.{drop_key}
+use Rattle.lens_laws.proofs.NodeFinds.{has_part}
 use Rattle.lens_laws.proofs.NodeFinds.{has_in_join}
 use Rattle.signed_delta.specs.Keys.{HasColumns}
 use Rattle.signed_delta.proofs.Looks.{find_by-restrict}

@@ -1,32 +1,20 @@
 -- Look-ups by key at each root of a lens.
-use Rattle.std.proofs.Common.{◌≡◌, ◌∙◌, ◌∷◌, ◌++◌, ◌+◌, ◌<◌, ℕ, Bool, List, [], ap, arith, cond, filter, get_or, length, map, refl, subst, sym, take, true, false}
-use Rattle.std.specs.Prelude.{IfOk, IsTrue, Result, flat_map}
-use Rattle.std.specs.List.{Contains, list_all}
-use Rattle.std.proofs.lemmas.Bool.{and_from, and_parts}
-use Rattle.std.proofs.lemmas.List.{flat_map_more, take_all, take_more}
+use Rattle.std.proofs.Common.{◌≡◌, ◌∙◌, ◌∷◌, ◌++◌, ◌+◌, ◌<◌, ℕ, Bool, List, [], ap, arith, cond, filter, get_or, length, map, refl, subst, sym, take, true, false, IfOk, Result, flat_map}
+use Rattle.plain_values.proofs.Common.{Contains, list_all, and_from, and_parts, flat_map_more, take_all, take_more, override, restrict, Row, same_bool}
 use Rattle.no_memory.specs.declared.NoMemory.{NoMemory}
-use Rattle.plain_values.specs.Part.{override, restrict}
 use Rattle.plain_values.specs.SortedSet as set
-use Rattle.plain_values.specs.Row.{Row}
 use Rattle.plain_values.specs.declared.value.Value.{Value}
 use Rattle.plain_values.specs.declared.join_kind.JoinKind.{JoinKind}
-use Rattle.plain_values.proofs.Tests.{same_bool}
-use Rattle.lens_specs.specs.Common.{Lens, Tables, base, select, drop, get, sort_of, view_names, Name, Names, Within, one, share, Predicate, holds, Rows, project, those, drop_get, agree, cut, Sort}
-use Rattle.lens_specs.specs.Lens.{join}
-use Rattle.fd_laws.proofs.Common.{names-without, name_exact, name_total, from_those, agree-cut, agree_back, agree_on, agree_within, row_exact, row_total}
-use Rattle.fd_laws.proofs.Names.{subset_is}
-use Rattle.lens_laws.specs.Asked.{keys_at, Reaches}
-use Rattle.lens_laws.specs.Finds.{AllFit}
-use Rattle.lens_laws.specs.KeyedDeltas.{find_by}
-use Rattle.lens_laws.specs.Lenses.{AreOf, IsTyped}
-use Rattle.lens_laws.proofs.Asked.{contains_map, keys_are, keys_reach}
+use Rattle.lens_specs.specs.Common.{Lens, Tables, base, select, drop, get, sort_of, view_names, Name, Names, Within, one, share, Predicate, holds, Rows, project, those, drop_get, agree, cut, Sort, join}
+use Rattle.fd_laws.proofs.Common.{names-without, name_exact, name_total, from_those, agree-cut, agree_back, agree_on, agree_within, row_exact, row_total, subset_is}
+use Rattle.lens_laws.proofs.Common.{keys_at, Reaches, AllFit, find_by, AreOf, IsTyped, keys_reach, get_sort, find_alike, fits_is_over}
+use Rattle.lens_laws.proofs.Asked.{keys_are}
 use Rattle.lens_laws.proofs.Finds.{find_project, find_select}
-use Rattle.lens_laws.proofs.Lenses.{get_sort}
-use Rattle.lens_laws.proofs.NodeFinds.{find_alike, find_cut, fits_is_over}
+use Rattle.lens_laws.proofs.NodeFinds.{find_cut}
 use Rattle.lens_laws.proofs.PastedFinds.{found_are_over, left_pairs_are, right_pairs_are, shared_within}
 use Rattle.signed_delta.specs.Keys.{HasColumns}
 use Rattle.signed_delta.proofs.Looks.{passed_are}
-use Rattle.base_index.specs.Held.{State, is_indexed, relation_in}
+use Rattle.base_index.specs.Held.{State, relation_in}
 use Rattle.lens_probe.specs.Looking.{MayFind, both_of, find_part, pairs_of}
 use Rattle.view_reading.proofs.Bases.{rows_shown}
 use Rattle.view_reading.proofs.Listed.{own_parts, parts}
@@ -34,13 +22,6 @@ use Rattle.lens_probe.proofs.KeyColumns.{has_as_part}
 use Rattle.lens_probe.proofs.Viewing.{under_drop, under_left, under_right, under_select}
 
 -- ---- a table
-
-base_indexed : (t : Name) (s : Sort) (st : State) (C : Names) → MayFind (base t s) st C → IsTrue (is_indexed st t C)
-base_indexed t s st C may = may.1.indexed t C (contains_map (λ D. (t, D)) (keys_at (base t s) may.0) C may.2)
-
--- and may be asked by what the lens may be asked by
-pub table_indexed : (L : Lens) (t : Name) (s : Sort) (st : State) (C : Names) → base t s ≡ L → MayFind L st C → IsTrue (is_indexed st t C)
-table_indexed L t s st C is may = base_indexed t s st C (subst (λ M. MayFind M st C) (sym is) may)
 
 pub table_finds : (r : Result Rows NoMemory) (L : Lens) (t : Name) (s : Sort) (db : Tables) (C : Names) (k : Row) → base t s ≡ L → IfOk r (λ found. found ≡ those (agree C k) (relation_in db t).rows)
     → IfOk r (λ found. found ≡ find_by C k (get L db))

@@ -1,13 +1,9 @@
 -- Rows that have the columns of a look-up.
-use Rattle.std.proofs.Common.{◌≡◌, ◌∙◌, ap, cond, is_some, sym}
-use Rattle.std.specs.Prelude.{None}
-use Rattle.std.proofs.lemmas.Bool.{and_parts}
-use Rattle.plain_values.specs.Part.{restrict}
-use Rattle.plain_values.specs.Row.{Row}
+use Rattle.std.proofs.Common.{◌≡◌, ◌∙◌, ap, cond, is_some, sym, None}
+use Rattle.plain_values.proofs.Common.{and_parts, restrict, Row}
 use Rattle.plain_values.specs.SortedSet as set
 use Rattle.lens_specs.specs.Common.{Names, at, cut}
-use Rattle.fd_laws.proofs.Common.{name_total}
-use Rattle.fd_laws.proofs.Rows.{at-cut, cut_column}
+use Rattle.fd_laws.proofs.Common.{name_total, at-cut, cut_column}
 use Rattle.signed_delta.specs.Keys.{HasColumns, IsKey}
 
 -- a row's part in columns that it has is a key of them

@@ -1,12 +1,8 @@
 -- What is known of the first join down a lens.
 use Rattle.std.proofs.Common.{◌≡◌, ◌∙◌, ◌+◌, ◌*◌, ◌≤◌, ℕ, Some, ap, arith, sym, true}
-use Rattle.std.proofs.lemmas.Nat.{mul-le}
-use Rattle.std.proofs.lemmas.Option.{same_Some}
-use Rattle.plain_values.specs.Row.{Row}
-use Rattle.lens_specs.specs.Common.{Lens, base, select, drop, rename, Names, Rows, agree}
-use Rattle.lens_specs.specs.Lens.{join}
-use Rattle.lens_laws.specs.KeyedDeltas.{find_by}
-use Rattle.lens_laws.proofs.NodeFinds.{find_alike}
+use Rattle.plain_values.proofs.Common.{mul-le, same_Some, Row}
+use Rattle.lens_specs.specs.Common.{Lens, base, select, drop, rename, Names, Rows, agree, join}
+use Rattle.lens_laws.proofs.Common.{find_by, find_alike}
 use Rattle.lens_probe.specs.NearRows.{first_join}
 use Rattle.lens_probe.specs.Viewed.{only_source}
 

@@ -1,29 +1,12 @@
 -- A rename: its rows by key, whether it has a row, and how many looks they take.
-use Rattle.std.proofs.Common.{◌≡◌, ◌∙◌, ℕ, ap, is_some, map, subst, sym, true, false}
-use Rattle.std.specs.Prelude.{IfOk, Result, if◌then◌else◌}
-use Rattle.std.specs.Ordering.{eq_by_cmp}
-use Rattle.std.proofs.lemmas.Bool.{false_from_ne_true}
+use Rattle.std.proofs.Common.{◌≡◌, ◌∙◌, ℕ, ap, is_some, map, subst, sym, true, false, IfOk, Result, if◌then◌else◌}
+use Rattle.plain_values.proofs.Common.{eq_by_cmp, false_from_ne_true, bytes_cmp, Row, absurd_false}
 use Rattle.no_memory.specs.declared.NoMemory.{NoMemory}
-use Rattle.plain_values.specs.Order.{bytes_cmp}
-use Rattle.plain_values.specs.Row.{Row}
 use Rattle.plain_values.specs.SortedSet as set
 use Rattle.lens_specs.specs.Common.{Fits, Lens, Tables, get, rename, sort_of, view_names, Name, Names, Within, rename_get, Rows, has, image, renamed_names, renamed_row, agree, at}
-use Rattle.plain_values.proofs.Lists.{absurd_false}
 use Rattle.fd_laws.proofs.Common.{name_itself, from_those}
-use Rattle.lens_laws.specs.Asked.{keys_at}
-use Rattle.lens_laws.specs.Finds.{IsOver}
-use Rattle.lens_laws.specs.KeyedDeltas.{find_by}
-use Rattle.lens_laws.specs.Lenses.{AreOf, IsTyped}
-use Rattle.lens_laws.specs.Rename.{CanRename}
-use Rattle.lens_laws.specs.Shapes.{shape_of}
-use Rattle.lens_laws.specs.Work.{size}
-use Rattle.lens_laws.proofs.Asked.{hands_down, keys_reach}
-use Rattle.lens_laws.proofs.Lenses.{get_sort}
-use Rattle.lens_laws.proofs.NodeFinds.{fits_is_over, over_renamed}
-use Rattle.lens_laws.proofs.NodeLaws.{rename_can}
-use Rattle.lens_laws.proofs.Rename.{find_rename, has_rename, not_old}
-use Rattle.lens_laws.proofs.RenameSorts.{names-renamed}
-use Rattle.lens_laws.proofs.Sorts.{to_in}
+use Rattle.lens_laws.proofs.Common.{keys_at, IsOver, find_by, AreOf, IsTyped, CanRename, shape_of, size, hands_down, keys_reach, get_sort, fits_is_over, over_renamed, rename_can, has_rename, not_old, names-renamed, to_in}
+use Rattle.lens_laws.proofs.Rename.{find_rename}
 use Rattle.base_index.specs.Held.{State}
 use Rattle.lens_probe.specs.Looking.{FindsWithin, LooksWithin, MayFind, MayLook}
 use Rattle.lens_probe.proofs.Viewing.{under_rename}

@@ -1,29 +1,17 @@
 -- How many looks a look-up takes, at each root of a lens.
-use Rattle.std.proofs.Common.{◌≡◌, ◌∙◌, ◌∷◌, ◌+◌, ◌*◌, ◌≤◌, ◌≢◌, ℕ, List, [], ap, arith, length, subst, sym, true, false, inl, inr}
-use Rattle.std.specs.Prelude.{IfOk, OnErr, Result, Ok, Err}
-use Rattle.std.specs.List.{Contains}
-use Rattle.std.proofs.lemmas.List.Elements.{Contains-append_left, Contains-append_right}
-use Rattle.std.proofs.lemmas.Nat.{mul-le}
+use Rattle.std.proofs.Common.{◌≡◌, ◌∙◌, ◌∷◌, ◌+◌, ◌*◌, ◌≤◌, ◌≢◌, ℕ, List, [], ap, arith, length, subst, sym, true, false, inl, inr, IfOk, OnErr, Result, Ok, Err}
+use Rattle.plain_values.proofs.Common.{Contains, Contains-append_left, Contains-append_right, mul-le, restrict, Row, same_is, or_cases}
 use Rattle.no_memory.specs.declared.NoMemory.{NoMemory}
-use Rattle.plain_values.specs.Part.{restrict}
 use Rattle.plain_values.specs.SortedSet as set
-use Rattle.plain_values.specs.Row.{Row}
 use Rattle.plain_values.specs.declared.value.Value.{Value}
 use Rattle.plain_values.specs.declared.join_kind.JoinKind.{JoinKind}
-use Rattle.lens_specs.specs.Common.{Lens, base, select, drop, get, view_names, Name, Names, same_names, share, Predicate, Rows, those, agree, Sort, AllEdges, Edge}
-use Rattle.lens_specs.specs.Lens.{join}
-use Rattle.lens_laws.specs.Asked.{keys_at, left_sides, Reaches}
-use Rattle.lens_laws.specs.KeyedDeltas.{find_by}
-use Rattle.lens_laws.specs.Lenses.{IsTyped}
-use Rattle.lens_laws.specs.Work.{GivesAtMost, count_of, size}
-use Rattle.lens_laws.proofs.Asked.{contains_head, contains_map, contains_tail, keys_reach}
-use Rattle.lens_laws.proofs.Work.{join_looks, size_some, view_gives}
+use Rattle.lens_specs.specs.Common.{Lens, base, select, drop, get, view_names, Name, Names, same_names, share, Predicate, Rows, those, agree, Sort, AllEdges, Edge, join}
+use Rattle.lens_laws.proofs.Common.{keys_at, left_sides, Reaches, find_by, IsTyped, GivesAtMost, count_of, size, contains_head, contains_map, contains_tail, keys_reach, size_some}
+use Rattle.lens_laws.proofs.Work.{join_looks, view_gives}
 use Rattle.base_index.specs.Held.{State, relation_in}
 use Rattle.lens_probe.specs.Looking.{FindsWithin, LooksWithin, find_part}
 use Rattle.lens_probe.specs.Viewed.{FindsAtMost, IsViewed, IsWithin, Viewed, asked_by, is_left_side, shown}
 use Rattle.fd_tree.specs.Sides.{HasLeft}
-use Rattle.plain_values.proofs.NamesLemmas.{same_is}
-use Rattle.std.proofs.lemmas.Bool.{or_cases}
 use Rattle.view_reading.proofs.Bases.{rows_shown}
 use Rattle.lens_probe.proofs.Viewing.{under_drop, under_left, under_right, under_select}
 

@@ -1,14 +1,10 @@
 -- What the views of the sources of a lens may ask of the tables.
 use Rattle.std.proofs.Common.{◌≡◌, List, [], ◌∷◌, Some, ap, arith, subst, sym}
-use Rattle.std.proofs.lemmas.List.Elements.{Contains-append_left, Contains-append_right}
-use Rattle.std.proofs.lemmas.Option.{same_Some}
+use Rattle.plain_values.proofs.Common.{Contains-append_left, Contains-append_right, same_Some}
 use Rattle.plain_values.specs.declared.value.Value.{Value}
 use Rattle.plain_values.specs.declared.join_kind.JoinKind.{JoinKind}
-use Rattle.lens_specs.specs.Common.{Lens, base, select, drop, rename, Name, Names, Predicate}
-use Rattle.lens_specs.specs.Lens.{join}
-use Rattle.lens_laws.specs.Asked.{HasKeys, asked, keys_at}
-use Rattle.lens_laws.specs.Lenses.{AreOf, IsTyped}
-use Rattle.lens_laws.proofs.Asked.{hands_down}
+use Rattle.lens_specs.specs.Common.{Lens, base, select, drop, rename, Name, Names, Predicate, join}
+use Rattle.lens_laws.proofs.Common.{HasKeys, asked, keys_at, AreOf, IsTyped, hands_down}
 use Rattle.base_index.specs.Held.{State}
 use Rattle.lens_probe.specs.Handed.{to_first, to_second}
 use Rattle.lens_probe.specs.Viewed.{AreIndexed, CanAsk, IsViewed, Viewed, both_sides, only_source}

@@ -1,5 +1,5 @@
 -- Look-ups by key down a lens.
-use Rattle.std.specs.Prelude.{◌≡◌, ℕ, Bool, true, false, List, filter, flat_map, map}
+use Rattle.std.specs.Prelude.{◌≡◌, ◌+◌, ◌≤◌, ℕ, Bool, true, false, List, filter, flat_map, map}
 use Rattle.std.specs.List.{Contains}
 use Rattle.plain_values.specs.Part.{override, restrict}
 use Rattle.plain_values.specs.SortedSet as set
@@ -7,7 +7,7 @@ use Rattle.plain_values.specs.Row.{Row}
 use Rattle.lens_specs.specs.Common.{Lens, Names, Rows, agree}
 use Rattle.lens_laws.specs.Asked.{asked, keys_at}
 use Rattle.lens_laws.specs.KeyedDeltas.{find_by}
-use Rattle.lens_laws.specs.Work.{TablesGiveAtMost}
+use Rattle.lens_laws.specs.Work.{TablesGiveAtMost, size}
 use Rattle.base_index.specs.Held.{State}
 use Rattle.lens_probe.specs.declared.finding.Partners.{Partners}
 use Rattle.lens_probe.specs.Viewed.{CanAsk}
@@ -28,6 +28,14 @@ LooksWithin L st w = (K : List Names) × CanAsk L K st × TablesGiveAtMost w (as
 abbrev pub FindsWithin : Lens → State → Names → ℕ → Type 0
 FindsWithin L st C w =
     (K : List Names) × CanAsk L K st × Contains (keys_at L K) C × TablesGiveAtMost w (asked L K) st.relations
+
+-- between these counts no more rows were looked up than a look into the lens takes
+abbrev pub HasLooked : Lens → State → ℕ → ℕ → Type 0
+HasLooked L st old new = (w : ℕ) → LooksWithin L st w → new ≤ old + size L w
+
+-- and than a search in the lens by these columns takes
+abbrev pub HasFound : Lens → State → Names → ℕ → ℕ → Type 0
+HasFound L st C old new = (w : ℕ) → FindsWithin L st C w → new ≤ old + size L w
 
 -- the rows of M that agree with the part of the key in U
 abbrev pub find_part : Names → Row → Names → Rows → Rows

@@ -4,6 +4,7 @@ use Rattle.std.specs.List.{All}
 use Rattle.lens_specs.specs.Common.{Lens, Tables, base, select, drop, rename, get, Rows}
 use Rattle.lens_specs.specs.Lens.{join}
 use Rattle.lens_laws.specs.KeyedDeltas.{find_by}
+use Rattle.base_index.specs.Held.{State}
 use Rattle.lens_probe.specs.declared.near.Near.{Near}
 
 -- the first join down the lens, or its table where there is none
@@ -25,3 +26,7 @@ IsKnown M near = near.rows ≡ find_by near.cols near.key M
 -- each of these is
 abbrev pub AreKnown : Rows → List Near → Type 0
 AreKnown M near = All (IsKnown M) near
+
+-- these are rows of the first join down the lens, by their keys
+abbrev pub AreOfJoin : Lens → State → List Near → Type 0
+AreOfJoin L st near = AreKnown (of_join L st.relations) near

@@ -12,7 +12,7 @@ use Rattle.lens_types.specs.LensCode.{lens_code}
 use Rattle.base_index.specs.Held.{Held, State, coded_held, is_indexed}
 use Rattle.lens_probe.specs.declared.near.Near.{Near}
 use Rattle.lens_probe.specs.Handed.{to_first, to_second}
-use Rattle.lens_probe.specs.NearRows.{AreKnown, of_join}
+use Rattle.lens_probe.specs.NearRows.{AreOfJoin}
 
 -- the lens, the sets of columns that were handed down to it, and the tables
 pub record Viewed : Type 0 where
@@ -57,7 +57,7 @@ IsWithin v n = (w : ℕ) × FindsAtMost v w × (size v.lens w ≤ n)
 
 -- these rows of the first join down the lens are known
 abbrev pub AreNear : Viewed → List Near → Type 0
-AreNear v near = AreKnown (of_join v.lens v.tables.present.relations) near
+AreNear v near = AreOfJoin v.lens v.tables.present near
 
 -- whether the columns are the left side of one of the edges
 abbrev pub is_left_side : Names → List Edge → Bool

@@ -10,8 +10,8 @@ ghost use Rattle.lens_laws.specs.KeyedDeltas.{find_by};
 ghost use Rattle.lens_laws.specs.Lenses.{IsTyped};
 ghost use Rattle.lens_laws.specs.Work.{size};
 ghost use Rattle.signed_delta.specs.Keys.{HasColumns};
-ghost use Rattle.lens_probe.specs.NearRows.{AreKnown, of_join};
-ghost use Rattle.lens_probe.specs.Looking.{ArePartners, FindsWithin, MayFind, find_part, pairs_of};
+ghost use Rattle.lens_probe.specs.NearRows.{AreOfJoin};
+ghost use Rattle.lens_probe.specs.Looking.{ArePartners, FindsWithin, HasFound, MayFind, find_part, pairs_of};
 
 use crate::near::{Near, known_rows};
 use crate::pairing::add_pairs;
@@ -50,14 +50,13 @@ pub(crate) fn find_in<L: Ledger>(
     query: &Query<'_>,
     looked: &mut Steps<L>,
 ) -> Result<RowSet, NoMemory>
-    requires near { AreKnown (of_join lens.now query.now.tables.now.present.relations) near.now }
+    requires near { AreOfJoin lens.now query.now.tables.now.present near.now }
     requires asked { MayFind lens.now query.now.tables.now.present query.now.cols.now }
     requires key { HasColumns query.now.cols.now query.now.key.now }
     ensures found { let shown = get lens.now query.now.tables.now.present.relations in
         IfOk result (λ found. found ≡ find_by query.now.cols.now query.now.key.now shown) }
-    ensures looks { (w : ℕ)
-        → FindsWithin lens.now query.now.tables.now.present query.now.cols.now w
-        → looked.new ≤ looked.old + size lens.now w }
+    ensures looks { let st = query.now.tables.now.present in
+        HasFound lens.now st query.now.cols.now looked.old looked.new }
 {
     match lens.node() {
         Node::Base { table, .. } => query.tables.find(table, query.cols, query.key, looked),
@@ -76,8 +75,8 @@ pub(crate) fn find_in<L: Ledger>(
     }
 }
 
-// The parts of the same rows in some columns, among which are those of the query. Nothing else is
-// made of the pairs of a join.
+// The parts in some columns, among which are those of the query, of the rows that the lens shows and
+// that the query asks for. Nothing else is made of the pairs of a join.
 #[cycle(find)]
 fn find_parts<L: Ledger>(
     alloc: Global,
@@ -87,16 +86,15 @@ fn find_parts<L: Ledger>(
     query: &Query<'_>,
     looked: &mut Steps<L>,
 ) -> Result<RowSet, NoMemory>
-    requires near { AreKnown (of_join lens.now query.now.tables.now.present.relations) near.now }
+    requires near { AreOfJoin lens.now query.now.tables.now.present near.now }
     requires kept { Within query.now.cols.now kept.now }
     requires asked { MayFind lens.now query.now.tables.now.present query.now.cols.now }
     requires key { HasColumns query.now.cols.now query.now.key.now }
     ensures found { let shown = get lens.now query.now.tables.now.present.relations in
         IfOk result (λ found.
         found ≡ project kept.now (find_by query.now.cols.now query.now.key.now shown)) }
-    ensures looks { (w : ℕ)
-        → FindsWithin lens.now query.now.tables.now.present query.now.cols.now w
-        → looked.new ≤ looked.old + size lens.now w }
+    ensures looks { let st = query.now.tables.now.present in
+        HasFound lens.now st query.now.cols.now looked.old looked.new }
 {
     match lens.node() {
         Node::Join { kind, left, right } => {
@@ -112,7 +110,7 @@ fn find_parts<L: Ledger>(
     }
 }
 
-// The same of the rename, whose source is asked by the old name.
+// The rows that the rename shows and that the query asks for. Its source is asked by the old name.
 #[cycle(find)]
 fn find_renamed<L: Ledger>(
     alloc: Global,
@@ -123,7 +121,7 @@ fn find_renamed<L: Ledger>(
     query: &Query<'_>,
     looked: &mut Steps<L>,
 ) -> Result<RowSet, NoMemory>
-    requires near { AreKnown (of_join of.now query.now.tables.now.present.relations) near.now }
+    requires near { AreOfJoin of.now query.now.tables.now.present near.now }
     requires typed { IsTyped (rename col.now to.now of.now) }
     requires asked { let st = query.now.tables.now.present in
         MayFind (rename col.now to.now of.now) st query.now.cols.now }
@@ -131,9 +129,8 @@ fn find_renamed<L: Ledger>(
     ensures found { let L = rename col.now to.now of.now in
         let shown = get L query.now.tables.now.present.relations in
         IfOk result (λ found. found ≡ find_by query.now.cols.now query.now.key.now shown) }
-    ensures looks { (w : ℕ) → let L = rename col.now to.now of.now in
-        FindsWithin L query.now.tables.now.present query.now.cols.now w
-        → looked.new ≤ looked.old + size L w }
+    ensures looks { let st = query.now.tables.now.present in
+        HasFound (rename col.now to.now of.now) st query.now.cols.now looked.old looked.new }
 {
     let cols = query.cols.rename(alloc, to, col)?;
     // The key may also have a column of the old name, which is none of the query's.
@@ -148,8 +145,8 @@ fn find_renamed<L: Ledger>(
     rename_set(alloc, &found, names_of(of), col, to)
 }
 
-// The parts in the columns that are kept of the same rows of the join of both: the left side is asked
-// first where the key has a column of it.
+// The parts in the columns that are kept of the rows of the join of both that the query asks for. The
+// left side is asked first if the key has a column of it.
 #[cycle(find)]
 fn find_joined<L: Ledger>(
     alloc: Global,
@@ -168,9 +165,8 @@ fn find_joined<L: Ledger>(
     ensures found { let shown = get (join _kind left.now right.now) query.now.tables.now.present.relations in
         IfOk result (λ found.
         found ≡ project kept.now (find_by query.now.cols.now query.now.key.now shown)) }
-    ensures looks { (w : ℕ) → let L = join _kind left.now right.now in
-        FindsWithin L query.now.tables.now.present query.now.cols.now w
-        → looked.new ≤ looked.old + size L w }
+    ensures looks { let st = query.now.tables.now.present in
+        HasFound (join _kind left.now right.now) st query.now.cols.now looked.old looked.new }
 {
     let shared = shared_names(alloc, left, right)?;
     if query.cols.meets(names_of(left)) {
@@ -239,10 +235,8 @@ fn find_by_part<L: Ledger>(
     ensures found { let shown = get side.now query.now.tables.now.present.relations in
         IfOk result (λ found.
         found ≡ find_part query.now.cols.now query.now.key.now (view_names side.now) shown) }
-    ensures looks { (w : ℕ)
-        → let part = set.intersection query.now.cols.now (view_names side.now) in
-        FindsWithin side.now query.now.tables.now.present part w
-        → looked.new ≤ looked.old + size side.now w }
+    ensures looks { let part = set.intersection query.now.cols.now (view_names side.now) in
+        HasFound side.now query.now.tables.now.present part looked.old looked.new }
 {
     if query.cols.within(names_of(side)) {
         return find_in(alloc, side, &[], query, looked);
@@ -317,8 +311,8 @@ fn partners_of<L: Ledger>(
     ensures rows { let others = get other.now query.now.tables.now.present.relations in
         IfOk result (λ partners.
         partners.rows ≡ find_by shared.now (restrict shared.now row.now) others) }
-    ensures looks { (w : ℕ) → FindsWithin other.now query.now.tables.now.present shared.now w
-        → looked.new ≤ looked.old + size other.now w }
+    ensures looks { let st = query.now.tables.now.present in
+        HasFound other.now st shared.now looked.old looked.new }
 {
     if let Some(last) = last {
         if row.agree_on(&last.key, shared) {

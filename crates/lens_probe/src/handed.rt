@@ -28,7 +28,7 @@ impl HandedDown {
         HandedDown {}
     }
 
-    /// The same sets.
+    /// A copy, with equal sets.
     pub fn copy(&self) -> HandedDown
         ensures { result.sets ≡ self.now.sets }
     {

@@ -1,13 +1,12 @@
 //! Whether a view has a row.
-ghost use Rattle.std.specs.Prelude.{◌≡◌, ◌≤◌, ◌+◌, ℕ, IfOk};
+ghost use Rattle.std.specs.Prelude.{◌≡◌, IfOk};
 ghost use Rattle.std.specs.List.{list_any};
 ghost use Rattle.lens_specs.specs.Columns.{Fits};
 ghost use Rattle.lens_specs.specs.Lens.{get, sort_of, view_names};
 ghost use Rattle.lens_specs.specs.Relation.{has};
 ghost use Rattle.lens_specs.specs.Rows.{agree};
-ghost use Rattle.lens_laws.specs.Work.{size};
-ghost use Rattle.lens_probe.specs.NearRows.{AreKnown, of_join};
-ghost use Rattle.lens_probe.specs.Looking.{LooksWithin, MayLook};
+ghost use Rattle.lens_probe.specs.NearRows.{AreOfJoin};
+ghost use Rattle.lens_probe.specs.Looking.{HasLooked, MayLook};
 
 use crate::finding::{Query, find_in};
 use crate::near::Near;
@@ -28,13 +27,12 @@ pub(crate) fn has_in<L: Ledger>(
     row: &Row,
     looked: &mut Steps<L>,
 ) -> Result<bool, NoMemory>
-    requires near { AreKnown (of_join lens.now tables.now.present.relations) near.now }
+    requires near { AreOfJoin lens.now tables.now.present near.now }
     requires may { MayLook lens.now tables.now.present }
     requires fits { Fits (sort_of lens.now).columns row.now }
     ensures there { let shown = get lens.now tables.now.present.relations in
         IfOk result (λ there. there ≡ has shown row.now) }
-    ensures looks { (w : ℕ) → LooksWithin lens.now tables.now.present w
-        → looked.new ≤ looked.old + size lens.now w }
+    ensures looks { HasLooked lens.now tables.now.present looked.old looked.new }
 {
     match lens.node() {
         Node::Base { table, .. } => Ok(tables.has(table, row, looked)),

@@ -8,8 +8,8 @@ ghost use Rattle.lens_laws.specs.Finds.{AllFit};
 ghost use Rattle.lens_laws.specs.KeyedDeltas.{find_by};
 ghost use Rattle.lens_laws.specs.Work.{size};
 ghost use Rattle.signed_delta.specs.Keys.{HasColumns};
-ghost use Rattle.lens_probe.specs.NearRows.{AreKnown, of_join};
-ghost use Rattle.lens_probe.specs.Looking.{FindsWithin, LooksWithin, MayFind, MayLook};
+ghost use Rattle.lens_probe.specs.NearRows.{AreKnown, AreOfJoin};
+ghost use Rattle.lens_probe.specs.Looking.{HasFound, HasLooked, LooksWithin, MayFind, MayLook};
 
 use crate::finding::{Query, find_in};
 use base_index::Tables;
@@ -54,8 +54,7 @@ pub(crate) fn known_rows<'a>(near: &'a [Near], query: &Query<'_>) -> Option<&'a 
     None
 }
 
-/// What is known, and what the first join down the lens shows by the key of each of the rows, if a
-/// column is dropped over it. Of many rows nothing is found.
+/// What is known, and for each of the rows what `near_row` finds. Of many rows nothing is found.
 pub(crate) fn near_each<L: Ledger>(
     alloc: Global,
     lens: &TypedLens,
@@ -66,9 +65,8 @@ pub(crate) fn near_each<L: Ledger>(
 ) -> Result<Vec<Near>, NoMemory>
     requires may { MayLook lens.now tables.now.present }
     requires fit { AllFit (sort_of lens.now).columns rows.now }
-    requires known { AreKnown (of_join lens.now tables.now.present.relations) known.items }
-    ensures near { IfOk result (λ near.
-        AreKnown (of_join lens.now tables.now.present.relations) near.items) }
+    requires known { AreOfJoin lens.now tables.now.present known.items }
+    ensures near { IfOk result (λ near. AreOfJoin lens.now tables.now.present near.items) }
     ensures looks { (w : ℕ) → LooksWithin lens.now tables.now.present w
         → looked.new ≤ looked.old + size lens.now w * length (set.items rows.now) }
 {
@@ -82,7 +80,8 @@ pub(crate) fn near_each<L: Ledger>(
     Ok(near)
 }
 
-// The same of one row.
+// What is known, and what the first join down the lens shows by the key of the row, if a column is
+// dropped over the join.
 fn near_row<L: Ledger>(
     alloc: Global,
     lens: &TypedLens,
@@ -93,11 +92,9 @@ fn near_row<L: Ledger>(
 ) -> Result<Vec<Near>, NoMemory>
     requires may { MayLook lens.now tables.now.present }
     requires fits { Fits (sort_of lens.now).columns row.now }
-    requires known { AreKnown (of_join lens.now tables.now.present.relations) known.items }
-    ensures near { IfOk result (λ near.
-        AreKnown (of_join lens.now tables.now.present.relations) near.items) }
-    ensures looks { (w : ℕ) → LooksWithin lens.now tables.now.present w
-        → looked.new ≤ looked.old + size lens.now w }
+    requires known { AreOfJoin lens.now tables.now.present known.items }
+    ensures near { IfOk result (λ near. AreOfJoin lens.now tables.now.present near.items) }
+    ensures looks { HasLooked lens.now tables.now.present looked.old looked.new }
 {
     match lens.node() {
         Node::Select { of, .. } => near_row(alloc, of, tables, row, known, looked),
@@ -105,67 +102,66 @@ fn near_row<L: Ledger>(
             let old_row = rename_row(alloc, row, to, col)?;
             near_row(alloc, of, tables, &old_row, known, looked)
         }
-        Node::Drop { by, of, .. } => near_part(alloc, of, tables, by, row, known, looked),
+        Node::Drop { by, of, .. } => {
+            let query = Query {
+                tables,
+                cols: by,
+                key: row,
+            };
+            near_part(alloc, of, &query, known, looked)
+        }
         Node::Base { .. } | Node::Join { .. } => Ok(known),
     }
 }
 
-// What is known, and what the first join down the lens shows by the row's part in these columns, if
-// none is renamed over it.
+// What is known, and the rows of the first join down the lens that the query asks for, if no rename
+// stands over the join.
 fn near_part<L: Ledger>(
     alloc: Global,
     lens: &TypedLens,
-    tables: &Tables,
-    cols: &Names,
-    row: &Row,
+    query: &Query<'_>,
     known: Vec<Near>,
     looked: &mut Steps<L>,
 ) -> Result<Vec<Near>, NoMemory>
-    requires asked { MayFind lens.now tables.now.present cols.now }
-    requires key { HasColumns cols.now row.now }
-    requires known { AreKnown (of_join lens.now tables.now.present.relations) known.items }
+    requires asked { MayFind lens.now query.now.tables.now.present query.now.cols.now }
+    requires key { HasColumns query.now.cols.now query.now.key.now }
+    requires known { AreOfJoin lens.now query.now.tables.now.present known.items }
     ensures near { IfOk result (λ near.
-        AreKnown (of_join lens.now tables.now.present.relations) near.items) }
-    ensures looks { (w : ℕ) → FindsWithin lens.now tables.now.present cols.now w
-        → looked.new ≤ looked.old + size lens.now w }
+        AreOfJoin lens.now query.now.tables.now.present near.items) }
+    ensures looks { let st = query.now.tables.now.present in
+        HasFound lens.now st query.now.cols.now looked.old looked.new }
 {
     match lens.node() {
-        Node::Select { of, .. } => near_part(alloc, of, tables, cols, row, known, looked),
-        Node::Drop { of, .. } => near_part(alloc, of, tables, cols, row, known, looked),
-        Node::Join { .. } => near_pairs(alloc, lens, tables, cols, row, known, looked),
+        Node::Select { of, .. } => near_part(alloc, of, query, known, looked),
+        Node::Drop { of, .. } => near_part(alloc, of, query, known, looked),
+        Node::Join { .. } => near_pairs(alloc, lens, query, known, looked),
         Node::Base { .. } | Node::Rename { .. } => Ok(known),
     }
 }
 
-// The same of the join itself. What is known already is not sought again.
+// What is known, and the rows of the join that the query asks for. They are not sought again if they
+// are known.
 fn near_pairs<L: Ledger>(
     alloc: Global,
-    lens: &TypedLens,
-    tables: &Tables,
-    cols: &Names,
-    row: &Row,
+    join: &TypedLens,
+    query: &Query<'_>,
     known: Vec<Near>,
     looked: &mut Steps<L>,
 ) -> Result<Vec<Near>, NoMemory>
-    requires asked { MayFind lens.now tables.now.present cols.now }
-    requires key { HasColumns cols.now row.now }
-    requires known { AreKnown (get lens.now tables.now.present.relations) known.items }
+    requires asked { MayFind join.now query.now.tables.now.present query.now.cols.now }
+    requires key { HasColumns query.now.cols.now query.now.key.now }
+    requires known { AreKnown (get join.now query.now.tables.now.present.relations) known.items }
     ensures near { IfOk result (λ near.
-        AreKnown (get lens.now tables.now.present.relations) near.items) }
-    ensures looks { (w : ℕ) → FindsWithin lens.now tables.now.present cols.now w
-        → looked.new ≤ looked.old + size lens.now w }
+        AreKnown (get join.now query.now.tables.now.present.relations) near.items) }
+    ensures looks { let st = query.now.tables.now.present in
+        HasFound join.now st query.now.cols.now looked.old looked.new }
 {
-    let query = Query {
-        tables,
-        cols,
-        key: row,
-    };
-    if known_rows(&known, &query).is_some() {
+    if known_rows(&known, query).is_some() {
         return Ok(known);
     }
-    let rows = find_in(alloc, lens, &[], &query, looked)?;
-    let cols = cols.copy(alloc)?;
-    let key = row.copy(alloc)?;
+    let rows = find_in(alloc, join, &[], query, looked)?;
+    let cols = query.cols.copy(alloc)?;
+    let key = query.key.copy(alloc)?;
     let mut near = known;
     near.push(Near { cols, key, rows })?;
     Ok(near)

@@ -7,7 +7,7 @@ ghost use Rattle.lens_specs.specs.Sort.{IsOfSort};
 ghost use Rattle.lens_laws.specs.Asked.{HasKeys, asked};
 ghost use Rattle.lens_laws.specs.Finds.{AllFit};
 ghost use Rattle.lens_laws.specs.Lenses.{AreOf};
-ghost use Rattle.lens_probe.specs.NearRows.{AreKnown, of_join};
+ghost use Rattle.lens_probe.specs.NearRows.{AreOfJoin};
 ghost use Rattle.lens_probe.specs.Reading.{rows_under};
 ghost use Rattle.lens_probe.specs.Viewed.{AreIndexed, AreNear, CanAsk, IsViewed, IsWithin, Viewed, asked_by, both_sides};
 ghost use Rattle.lens_probe.specs.Viewed.{is_left_side, only_source, shown, sides_of, source_of, viewed, viewed_code};
@@ -47,7 +47,7 @@ impl<'a> Model for View<'a> {
 
     ghost view = { λ v. viewed v.lens.now v.handed.sets v.tables.now };
 
-    ghost invariant = { λ v. IsViewed (viewed v.lens.now v.handed.sets v.tables.now) × (v.sort.now ≡ sort_of v.lens.now) × AreKnown (of_join v.lens.now v.tables.now.present.relations) v.near.now };
+    ghost invariant = { λ v. IsViewed (viewed v.lens.now v.handed.sets v.tables.now) × (v.sort.now ≡ sort_of v.lens.now) × AreOfJoin v.lens.now v.tables.now.present v.near.now };
 }
 
 impl<'a> View<'a> {
@@ -70,7 +70,7 @@ impl<'a> View<'a> {
         near: &'a [Near],
     ) -> View<'a>
         requires asks { CanAsk lens.now handed.sets tables.now.present }
-        requires near { AreKnown (of_join lens.now tables.now.present.relations) near.now }
+        requires near { AreOfJoin lens.now tables.now.present near.now }
         ensures { result ≡ viewed lens.now handed.sets tables.now }
     {
         View {
@@ -175,7 +175,7 @@ impl<'a> View<'a> {
         near_each(alloc, self.lens, self.tables, added, near, looked)
     }
 
-    /// The same view, which does not look again for what was found.
+    /// This view, which takes from `near` what was found and does not look for it again.
     pub fn knowing<'b>(&'b self, near: &'b [Near]) -> View<'b>
         requires { AreNear self.now near.now }
         ensures { result ≡ self.now }

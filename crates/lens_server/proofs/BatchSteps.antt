@@ -1,29 +1,22 @@
 -- The edits of a batch, made one after another in tables that are held.
-use Rattle.std.proofs.Common.{◌≡◌, ◌∙◌, ◌+◌, ◌*◌, ◌≤◌, ℕ, suc, true, List, [], ◌∷◌, ◌++◌, map, length, Option, None, Some, is_some, Result, Ok, Err, ap, subst, sym, refl, arith}
-use Rattle.std.proofs.lemmas.List.{length-append, map-append}
-use Rattle.std.specs.Prelude.{Vec, unwrap_or}
-use Rattle.std.specs.declared.alloc.Global.{Global}
+use Rattle.std.proofs.Common.{◌≡◌, ◌∙◌, ◌+◌, ◌≤◌, ℕ, suc, true, List, [], ◌∷◌, ◌++◌, map, length, Option, None, Some, is_some, Result, Ok, Err, ap, subst, sym, refl, arith, Vec, unwrap_or}
+use Rattle.plain_values.proofs.Common.{length-append, map-append, Global}
 use Rattle.signed_delta.specs.Tables.{table_delta}
 use Rattle.signed_delta.specs.declared.delta.TableDelta.{TableDelta as DeltaOf}
 use Rattle.view_changes.specs.Puts.{IsPut}
 use Rattle.database.specs.Opening.{CanOpen}
 use Rattle.std.specs.FinMap as finmap
-use Rattle.lens_specs.specs.Common.{TableDelta, changes, Lens, Tables, put, sort_of, Name, Rows, IsOf, LeadTo}
-use Rattle.lens_laws.proofs.Lenses.{get_after}
+use Rattle.lens_specs.specs.Common.{TableDelta, changes, Lens, Tables, put, sort_of, Rows, IsOf, LeadTo}
+use Rattle.lens_laws.proofs.Common.{get_after}
 use Rattle.base_index.specs.Held as held_tables
 use Rattle.base_index.specs.Held.{Held, IsQuiet}
 use Rattle.base_index.specs.Need.{has_cols}
-use Rattle.catalog_specs.specs.Catalogue.{catalogue}
+use Rattle.server_specs.specs.Common.{catalogue, at_tables, edit_tables, edits_from, put_in, then_edits, asked_view, edited, EditRefusal, BatchEdit, State, AreStored, Valid}
 use Rattle.edit_batches.specs.Chains.{Chain}
 use Rattle.edit_batches.specs.Histories.{deltas_of}
 use Rattle.edit_batches.specs.declared.entries.Entry.{Entry}
 use Rattle.request_text.specs.Answers.{edit_refusal_view}
-use Rattle.server_specs.specs.Batching.{at_tables, edit_tables, edits_from, put_in, then_edits}
-use Rattle.server_specs.specs.Changing.{asked_view, edited}
-use Rattle.server_specs.specs.EditRefusal.{EditRefusal, unknown_name}
-use Rattle.server_specs.specs.Request.{BatchEdit}
-use Rattle.server_specs.specs.State.{State}
-use Rattle.server_specs.specs.Validity.{AreStored, Valid}
+use Rattle.server_specs.specs.EditRefusal.{unknown_name}
 use Rattle.server_laws.proofs.Led.{put_leads_to}
 use Rattle.server_laws.proofs.Stored.{lens_over, stored_put}
 use Rattle.lens_server.specs.Batches.{AreMade, CanEdit, Gives, IsHolding, IsMade, edit_on, fault_at}
@@ -60,7 +53,7 @@ edit_given database e on L N ds can known asked typed is =
 pub edit_gives : (database : Database) (e : BatchEdit) (on : Option ℕ) (L : Lens) (r : Result (Vec DeltaOf Global) Refusal) → CanEdit database → Some L ≡ finmap.get (catalogue database.catalog.texts) e.view
     → IsPut L database.tables.present.relations r (asked_view (state_of database) L (edited e.remove e.add) on) → Gives database on e r
 edit_gives database e on L (Ok deltas) can known h = edit_given database e on L h.0 (map table_delta deltas.items) can (sym known) h.1 h.2 h.3
-edit_gives database e on L (Err (refusal.Told told)) can known h = known_is database e on L (Err (edit_refusal_view told)) (sym known) h
+edit_gives database e on L (Err (refusal.Rejected told)) can known h = known_is database e on L (Err (edit_refusal_view told)) (sym known) h
 edit_gives database e on L (Err refusal.NoMemory) can known h = tt
 
 -- a database whose tables are held can open its views
@@ -70,11 +63,6 @@ edit_opens database can = record { taken = can.taken; stored = can.stored; short
 -- a name without a lens
 pub edit_unknown : (database : Database) (e : BatchEdit) (on : Option ℕ) → finmap.get (catalogue database.catalog.texts) e.view ≡ None → edit_on database on e ≡ Err (unknown_name e.view)
 edit_unknown database e on none = let s = state_of database in ap (λ o. edit_tables e on o s s.tables) none
-
--- a refusal is told as it was given
-pub refusal_told : (old new : Database) (on : Option ℕ) (e : BatchEdit) (why : Refusal) → Gives old on e (Err why) → IsMade old new on e (Err why)
-refusal_told old new on e (refusal.Told told) h = h
-refusal_told old new on e refusal.NoMemory h = tt
 
 -- ---- tables that are held
 
@@ -179,7 +167,7 @@ edits_refused old now k on e edits why h refused = ap (then_edits k (edits_from 
 pub batch_stopped : (old now new : Database) (k place : ℕ) (on : Option ℕ) (e : BatchEdit) (rest edits : List BatchEdit) (why : Refusal) (fault : BatchFault) → IsHolding old now
     → edits_from 0 on (state_of old) edits old.tables.present.relations ≡ edits_from k on (state_of old) (e ∷ rest) now.tables.present.relations → place ≡ k → IsMade now new on e (Err why) → fault ≡ fault_at place why
     → AreMade old new on edits (Err fault)
-batch_stopped old now new k place on e rest edits (refusal.Told why) fault h left here told is =
+batch_stopped old now new k place on e rest edits (refusal.Rejected why) fault h left here told is =
     subst (λ f. AreMade old new on edits (Err f)) (sym is)
     (left ∙ edits_refused old now k on e rest (edit_refusal_view why) h told ∙ ap (λ n. Err (n, edit_refusal_view why)) (sym here))
 batch_stopped old now new k place on e rest edits refusal.NoMemory fault h left here told is = subst (λ f. AreMade old new on edits (Err f)) (sym is) tt

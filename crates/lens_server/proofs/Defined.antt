@@ -1,25 +1,18 @@
 -- What a definition that was prepared makes of the state.
-use Rattle.std.specs.Prelude.{◌^◌, Option, is_some, length}
-use Rattle.lens_specs.specs.Common.{CanChange, Columns, TableDelta, Edge, Lens, Tables, Name, Predicate}
+use Rattle.std.proofs.Common.{◌^◌, Option, is_some, length, ◌≡◌, ◌∙◌, ◌+◌, ◌<◌, ℕ, false, List, [], ◌∷◌, ◌++◌, ap, sym, subst, refl, Some, None, Ok, if◌then◌else◌}
+use Rattle.lens_specs.specs.Common.{CanChange, Columns, TableDelta, Edge, Lens, Name, Predicate, define}
 use Rattle.server_laws.proofs.Kept.{get-rows_of, is_some-rows}
 use Rattle.server_specs.specs.State.{kept as kept_of}
 use Rattle.table_keeper.specs.declared.keeper.Change.{Change}
 use Rattle.database.specs.Plans.{CanStage, IsFree, change_of, changed_tables, definition_of, past_after}
 use Rattle.database.specs.declared.plan.PastStep.{PastStep}
 use Rattle.database.specs.declared.plan.PastStep.TheVariants.{Stays}
-use Rattle.std.proofs.Common.{◌≡◌, ◌∙◌, ◌+◌, ◌<◌, ℕ, false, List, [], ◌∷◌, ◌++◌, ap, sym, subst, refl}
-use Rattle.std.specs.Prelude.{Some, None, Ok, if◌then◌else◌}
 use Rattle.std.specs.FinMap as finmap
-use Rattle.lens_specs.specs.Keeping.{define}
-use Rattle.grammar_specs.specs.Meaning.{Definition, Expr, table, view}
+use Rattle.grammar_specs.specs.Common.{Definition, Expr, table, view}
 use Rattle.grammar_laws.specs.Reading.{reading}
-use Rattle.catalog_specs.specs.Catalogue.{catalogue, is_table_of, table_lens, with_lens}
-use Rattle.catalog_specs.specs.Judging.{judged}
+use Rattle.server_specs.specs.Common.{catalogue, is_table_of, table_lens, with_lens, judged, defined, answer_definition, with_defined, State, Valid}
 use Rattle.request_text.specs.Answers.{answer_view}
-use Rattle.server_specs.specs.Answer.{defined}
-use Rattle.server_specs.specs.Defining.{answer_definition, define_answer, with_defined}
-use Rattle.server_specs.specs.State.{State}
-use Rattle.server_specs.specs.Validity.{Valid}
+use Rattle.server_specs.specs.Defining.{define_answer}
 use Rattle.server_laws.specs.KeptLaws.{KeptFollows, table_made}
 use Rattle.server_laws.proofs.KeptStates.{definitions_kept}
 use Rattle.server_laws.proofs.Stored.{name_same}

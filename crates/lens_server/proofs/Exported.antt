@@ -1,27 +1,13 @@
 -- Lines that export a view: the text reads back.
-use Rattle.std.proofs.Common.{◌≡◌, ◌∙◌, ◌<◌, ◌≤◌, ◌&&◌, ℕ, Bool, true, false, cond, List, [], ◌∷◌, length, Option, Some, None, Result, Ok, Err, ap, subst, refl, inl, inr}
-use Rattle.std.specs.Prelude.{◌≢◌, ◌⊎◌, IfOk, MatchResult, find, not, option_map}
-use Rattle.std.specs.List.{list_all}
-use Rattle.std.proofs.lemmas.Bool.{lt-leb}
+use Rattle.std.proofs.Common.{◌≡◌, ◌∙◌, ◌<◌, ◌≤◌, ℕ, List, length, Some, None, Result, Ok, Err, ap, subst, inl, inr, ◌⊎◌, IfOk, MatchResult}
+use Rattle.plain_values.proofs.Common.{lt-leb}
 use Rattle.std.specs.FinMap as finmap
 use Rattle.no_memory.specs.declared.NoMemory.{NoMemory}
-use Rattle.plain_values.specs.Order.{bytes_cmp}
-use Rattle.plain_values.specs.SortedSet as set
-use Rattle.plain_values.specs.Value.{is_nullable}
-use Rattle.fd_laws.proofs.Names.{name_total}
-use Rattle.lens_laws.proofs.Asked.{keyed}
-use Rattle.lens_specs.specs.Common.{Columns, names, Lens, sort_of, Name}
-use Rattle.io_specs.specs.Lines.{line, marked}
-use Rattle.catalog_specs.specs.Catalogue.{catalogue}
-use Rattle.server_specs.specs.Answer.{Answer, long_line, memory, text}
-use Rattle.server_specs.specs.Exporting.{first_nullable}
-use Rattle.server_specs.specs.Request.{Request, export, request}
-use Rattle.server_specs.specs.State.{State}
+use Rattle.lens_specs.specs.Common.{Lens, sort_of, Name}
+use Rattle.server_specs.specs.Common.{line, marked, catalogue, Answer, long_line, memory, text, first_nullable, Request, export, request, State}
 use Rattle.server_laws.specs.SheetLaws.{IsExportLine, ReadsBack}
 use Rattle.lens_server.proofs.Stepping.{marked_short}
 use Rattle.lens_server.specs.Exports.{ExportReadsBack, NamedReadsBack}
-use Rattle.database.specs.Keyed.{IsOpen}
-use Rattle.database.specs.declared.database.Database.{Database}
 
 -- ---- lines
 

@@ -1,7 +1,6 @@
 -- The call of a start, by what came of it.
-use Rattle.std.proofs.Common.{◌≡◌, ℕ, List, [], ◌∷◌, inl, inr}
-use Rattle.std.specs.Prelude.{Option, Err}
-use Rattle.lens_specs.specs.Keeping.{Kept, IfObserved}
+use Rattle.std.proofs.Common.{◌≡◌, ℕ, List, [], ◌∷◌, inl, inr, Option, Err}
+use Rattle.lens_specs.specs.Common.{Kept, IfObserved}
 use Rattle.table_keeper.specs.Asking.{done_call, stopped_call}
 use Rattle.table_keeper.specs.declared.calls.Asked.TheVariants.{Load}
 use Rattle.table_keeper.specs.declared.calls.Call.{Call}

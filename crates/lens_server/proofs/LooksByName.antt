@@ -1,6 +1,6 @@
 -- How many rows are looked at by key, at the lens of a name.
 use Rattle.std.proofs.Common.{◌≡◌, ◌+◌, ◌≤◌, ℕ, Option, Some, subst, sym}
-use Rattle.lens_specs.specs.Lens.{Lens}
+use Rattle.lens_specs.specs.Common.{Lens}
 use Rattle.lens_server.specs.Counting.{of_lens}
 
 -- the lens of the name is there

@@ -1,22 +1,14 @@
 -- Requests that name a view, from what is told of its lens.
-use Rattle.std.proofs.Common.{◌≡◌, ◌∙◌, ◌+◌, ◌≤◌, ℕ, Bool, true, false, List, [], Option, Some, None, Result, Ok, Err, ap, refl, subst, sym, arith}
-use Rattle.std.specs.Prelude.{IsErr, Vec, if◌then◌else◌}
-use Rattle.std.proofs.lemmas.Bool.{true≢false}
+use Rattle.std.proofs.Common.{◌≡◌, ◌∙◌, ◌+◌, ◌≤◌, ℕ, Bool, true, false, List, [], Option, Some, None, Result, Ok, Err, ap, refl, subst, sym, arith, IsErr, Vec, if◌then◌else◌}
+use Rattle.plain_values.proofs.Common.{true≢false, Global}
 use Rattle.no_memory.specs.declared.NoMemory.{NoMemory}
-use Rattle.std.specs.declared.alloc.Global.{Global}
 use Rattle.signed_delta.specs.declared.delta.TableDelta.{TableDelta}
 use Rattle.std.specs.FinMap as finmap
 use Rattle.lens_specs.specs.Common.{Lens, Tables, sort_of, Name, Rows}
 use Rattle.csv_specs.specs.Sheets.{unsheet}
-use Rattle.catalog_specs.specs.Catalogue.{catalogue}
+use Rattle.server_specs.specs.Common.{catalogue, Answer, told, unknown_name, EditRefusal, answer_request, asked_view, changed_by, edited, foretold, settled, tested, whole, first_nullable, import_settled, imported_by, read_settled, sheet_told, about, finding_told, rows_told, sort_told, State}
 use Rattle.request_text.specs.Answers.{answer_view, edit_refusal_view}
-use Rattle.server_specs.specs.Answer.{Answer, told, unknown_name}
-use Rattle.server_specs.specs.EditRefusal.{EditRefusal}
-use Rattle.server_specs.specs.Answering.{answer_request}
-use Rattle.server_specs.specs.Changing.{asked_view, changed_by, edited, foretold, settled, tested, whole}
-use Rattle.server_specs.specs.Exporting.{first_nullable, import_settled, imported_by, read_settled, sheet_told}
-use Rattle.server_specs.specs.Questions.{about, finding_told, rows_told, sort_told}
-use Rattle.server_specs.specs.State.{State, unchanged}
+use Rattle.server_specs.specs.State.{unchanged}
 use Rattle.opened_view.specs.Seen.{lens_of, seen, tables_under}
 use Rattle.opened_view.specs.declared.opened.Opened.{Opened}
 use Rattle.view_changes.specs.Puts.{IsPut, TellsRefusal}
@@ -162,7 +154,7 @@ imported_is db L text rows e = ap (λ (r : Result Rows ℕ). elim r as (λ _. �
 -- what is asked is refused for what the answer tells
 pub refused_so : (L : Lens) (db : Tables) (r : Refusal) (expected : Result Rows EditRefusal) (answer : Answer) → IsPut L db (Err r) expected → TellsRefusal answer r
     → (why : EditRefusal) × (expected ≡ Err why) × (answer ≡ told why)
-refused_so L db (refusal.Told why) expected answer asks tells = (edit_refusal_view why, asks, tells)
+refused_so L db (refusal.Rejected why) expected answer asks tells = (edit_refusal_view why, asks, tells)
 refused_so L db refusal.NoMemory expected answer asks tells = absurd tells
 
 -- ---- what is seen of the database

@@ -1,17 +1,11 @@
 -- From the outcome of a line to a step of the session.
-use Rattle.std.proofs.Common.{◌≡◌, ◌≤◌, ◌<◌, ℕ, Bool, true, false, List, length, sym, subst, refl, inl}
-use Rattle.std.specs.Prelude.{Option, MatchResult, Result, Ok, Err, nat_le, if◌then◌else◌}
-use Rattle.std.proofs.lemmas.Bool.{le-leb, lt-leb}
+use Rattle.std.proofs.Common.{◌≡◌, ◌≤◌, ◌<◌, ℕ, Bool, true, false, List, length, sym, subst, refl, inl, Option, MatchResult, Result, Ok, Err, nat_le, if◌then◌else◌}
+use Rattle.plain_values.proofs.Common.{le-leb, lt-leb}
 use Rattle.no_memory.specs.declared.NoMemory.{NoMemory}
-use Rattle.io_specs.specs.Calls.{Adds}
+use Rattle.server_specs.specs.Common.{Adds, line, too_long, marked, memory, text, answer, answer_request, request, Step, Replies, found_memory, out_of_memory, State}
 use Rattle.io_specs.proofs.Calls.{Adds-none, Adds-weaker}
-use Rattle.lens_specs.specs.Keeping.{Kept}
-use Rattle.io_specs.specs.Lines.{line, too_long, marked}
-use Rattle.server_specs.specs.Answer.{memory, text}
-use Rattle.server_specs.specs.Answering.{answer, answer_request}
-use Rattle.server_specs.specs.Request.{request}
-use Rattle.server_specs.specs.Session.{Step, Becomes, Replies, found_memory, out_of_memory}
-use Rattle.server_specs.specs.State.{State}
+use Rattle.lens_specs.specs.Common.{Kept}
+use Rattle.server_specs.specs.Session.{Becomes}
 use Rattle.table_keeper.specs.declared.calls.Call.{Call}
 use Rattle.lens_server.specs.Committing.{Commits, CommitsFor}
 use Rattle.database.specs.Outcomes.{Outcome, reply_of}

@@ -1,27 +1,16 @@
 -- How many rows the tables of a lens have, and how many are walked for a change.
-use Rattle.std.proofs.Common.{◌≡◌, ◌∙◌, ◌+◌, ◌≤◌, ◌||◌, ◌++◌, ℕ, Bool, true, false, cond, List, [], ◌∷◌, length, Option, Some, None, Result, Ok, Err, ap, sym, subst, refl, arith}
-use Rattle.std.specs.Prelude.{◌-◌, IfOk, slice_get, sum_by}
-use Rattle.std.proofs.lemmas.Bool.{true≢false}
-use Rattle.std.proofs.lemmas.List.{length-append}
-use Rattle.std.proofs.lemmas.List.Sums.{sum_by-cons, sum_by-le-sum_by}
+use Rattle.std.proofs.Common.{◌≡◌, ◌∙◌, ◌+◌, ◌≤◌, ◌||◌, ◌++◌, ℕ, Bool, true, false, cond, List, [], ◌∷◌, length, Option, Some, None, Result, Ok, Err, ap, sym, subst, refl, arith, ◌-◌, IfOk, slice_get, sum_by}
+use Rattle.plain_values.proofs.Common.{true≢false, length-append, sum_by-cons, sum_by-le-sum_by, eq_by_cmp, bytes_cmp}
 use Rattle.std.specs.FinMap as finmap
-use Rattle.std.specs.Ordering.{eq_by_cmp}
 use Rattle.server_laws.proofs.Changes.{texts_settled, texts_batch, texts_undone}
 use Rattle.no_memory.specs.declared.NoMemory.{NoMemory}
-use Rattle.plain_values.specs.Order.{bytes_cmp}
 use Rattle.plain_values.specs.SortedSet as set
 use Rattle.fd_laws.proofs.Common.{name_total, one_itself, tied_name, row_total}
-use Rattle.lens_laws.specs.Lenses.{IsTyped}
-use Rattle.lens_laws.specs.Work.{count_of}
-use Rattle.lens_specs.specs.Common.{Lens, Tables, base, drop, rename, rows_or_none, select, sort_of, tables_of, Name, Names, one, Relation, Rows}
-use Rattle.lens_specs.specs.Lens.{join}
-use Rattle.server_specs.specs.Answer.{Answer}
+use Rattle.lens_laws.proofs.Common.{IsTyped, count_of}
+use Rattle.lens_specs.specs.Common.{Lens, Tables, base, drop, rename, rows_or_none, select, sort_of, tables_of, Name, Names, one, Relation, Rows, join}
+use Rattle.server_specs.specs.Common.{Answer, import_settled, read_settled, edits_from, tested, BatchEdit, State}
 use Rattle.csv_specs.specs.Sheets.{unsheet}
-use Rattle.server_specs.specs.Exporting.{import_settled, read_settled}
-use Rattle.server_specs.specs.Batching.{batch_answer, edits_from}
-use Rattle.server_specs.specs.Changing.{tested}
-use Rattle.server_specs.specs.Request.{BatchEdit}
-use Rattle.server_specs.specs.State.{State}
+use Rattle.server_specs.specs.Batching.{batch_answer}
 use Rattle.server_specs.specs.Undoing.{undo_answer}
 use Rattle.base_index.specs.Held as held
 use Rattle.lens_probe.specs.Reading.{rows_under}

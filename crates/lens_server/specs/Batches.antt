@@ -53,19 +53,19 @@ edit_on database on e = edit_tables e on (finmap.get (catalogue database.catalog
 abbrev pub Gives : Database → Option ℕ → BatchEdit → Result (Vec TableDelta Global) Refusal → Type 0
 Gives database on e (Ok deltas) = (db : Tables) × (edit_on database on e ≡ Ok db) × LeadTo (map table_delta deltas.items) database.tables.present.relations db
     × AreStored (catalogue database.catalog.texts) db
-Gives database on e (Err (refusal.Told why)) = edit_on database on e ≡ Err (edit_refusal_view why)
+Gives database on e (Err (refusal.Rejected why)) = edit_on database on e ≡ Err (edit_refusal_view why)
 Gives database on e (Err refusal.NoMemory) = Unit {0}
 
 -- the edit was made, and the entry tells how; or its refusal is told, unless memory ran out
 abbrev pub IsMade : Database → Database → Option ℕ → BatchEdit → Result Entry Refusal → Type 0
 IsMade old new on e (Ok entry) =
     (edit_on old on e ≡ Ok new.tables.present.relations) × LeadTo (deltas_of entry) old.tables.present.relations new.tables.present.relations
-IsMade old new on e (Err (refusal.Told why)) = edit_on old on e ≡ Err (edit_refusal_view why)
+IsMade old new on e (Err (refusal.Rejected why)) = edit_on old on e ≡ Err (edit_refusal_view why)
 IsMade old new on e (Err refusal.NoMemory) = Unit {0}
 
 -- the refusal of the edit at a place, or that memory ran out
 abbrev pub fault_at : ℕ → Refusal → BatchFault
-fault_at edit (refusal.Told why) = fault.Refused edit why
+fault_at edit (refusal.Rejected why) = fault.Refused edit why
 fault_at edit refusal.NoMemory = fault.NoMemory
 
 -- the edits were made, and the entries tell how, one after another; or the first that is refused is told, unless memory ran out

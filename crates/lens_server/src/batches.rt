@@ -1,5 +1,5 @@
 //! Batches: edits that are made one after another, or none of them.
-ghost use Rattle.std.specs.Prelude.{◌≡◌, ◌<◌, ◌+◌, ◌-◌, ◌≤◌, IfOk, IsSome, None, Ok, Some, map};
+ghost use Rattle.std.specs.Prelude.{◌≡◌, ◌+◌, ◌≤◌, IfOk, IsSome, None, Ok, Some, map};
 ghost use Rattle.std.specs.FinMap as finmap;
 ghost use Rattle.lens_specs.specs.Lens as lenses;
 ghost use Rattle.request_text.specs.Edits.{edit_view};
@@ -108,7 +108,7 @@ fn fault_at(edit: usize, refusal: Refusal) -> BatchFault
     ensures { result ≡ fault_at edit refusal }
 {
     match refusal {
-        Refusal::Told { refusal } => BatchFault::Refused { edit, refusal },
+        Refusal::Rejected { refusal } => BatchFault::Refused { edit, refusal },
         Refusal::NoMemory => BatchFault::NoMemory,
     }
 }
@@ -153,13 +153,13 @@ fn edit_deltas<M: Ledger>(
     let BatchEdit { view, remove, add } = edit;
     match database.open_view(&view) {
         Some(opened) => view_changes::edit(alloc, &opened, remove, add, on, looked),
-        None => Err(Refusal::Told {
+        None => Err(Refusal::Rejected {
             refusal: EditRefusal::UnknownName { name: view },
         }),
     }
 }
 
-/// Plans what all edits made of the tables. Where no table differs, nothing does.
+/// Plans what all edits made of the tables. If no table differs, the plan changes nothing.
 fn plan_all(alloc: Global, database: &Database, entries: &[Entry]) -> Result<Plan, NoMemory>
     requires { CanAnswer database.now }
     ensures { (db : lenses.Tables) → AreStored (catalogue database.now.catalog.texts) db

@@ -1,4 +1,4 @@
-//! Changes of views: they are planned, or foretold.
+//! Changes of views: the server plans them, or says for a preview what they would change.
 ghost use Rattle.std.specs.Prelude.{◌≡◌, IfOk, Result};
 ghost use Rattle.lens_specs.specs.Lens.{Lens};
 ghost use Rattle.lens_specs.specs.Relation.{Rows};

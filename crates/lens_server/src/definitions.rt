@@ -1,6 +1,5 @@
 //! Definitions of tables and views.
 ghost use Rattle.std.specs.Prelude.{◌≡◌, ◌<◌, ◌-◌, ◌^◌, IfOk, length};
-ghost use Rattle.catalog_specs.specs.Catalogue.{is_table_of};
 ghost use Rattle.request_text.specs.Answers.{answer_view};
 ghost use Rattle.server_specs.specs.Defining.{define_answer};
 ghost use Rattle.server_specs.specs.Questions.{list_answer};

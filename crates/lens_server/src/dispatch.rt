@@ -1,4 +1,4 @@
-//! One line, one answer.
+//! One line, one answer: the line is read as a request, planned by what it asks, and settled.
 ghost use Rattle.std.specs.Prelude.{◌≡◌, ◌+◌, ◌≤◌, IfOk, Ok};
 ghost use Rattle.io_specs.specs.Lines.{line as short};
 ghost use Rattle.request_text.specs.Requests.{request_view};
@@ -26,7 +26,8 @@ use table_keeper::Keeper;
 const LONG_LINE: usize = 65_536;
 
 /// Answers a line that is not too long. An edit, a preview, a batch, an undo and a find by the left
-/// side of a dependency walk no table. The scratch is what reading the line needs.
+/// side of a dependency scan no table. `scratch` is the room that reading a line needs, which stays
+/// from line to line.
 pub fn answer_line<K: Keeper, L: Ledger, M: Ledger>(
     alloc: Global,
     database: &mut Database,

@@ -1,4 +1,4 @@
-//! The answers that tell why a definition or a text is refused.
+//! The answers that say why the server rejects a definition or a text.
 ghost use Rattle.std.specs.Prelude.{◌≡◌, ◌≢◌, IfOk, OnOk};
 ghost use Rattle.lens_types.specs.Faults as types;
 ghost use Rattle.request_text.specs.Answers.{answer_view};
@@ -14,7 +14,7 @@ use view_catalog::CatalogFault;
 use view_changes::SheetFault;
 use view_lang::LangFault;
 
-/// The answer that tells the fault. `NoMemory` where memory ran out.
+/// The answer that names the fault of a definition. `NoMemory`: memory ran out.
 pub fn refusal(fault: CatalogFault) -> Result<Answer, NoMemory>
     ensures answer { IfOk result (λ answer.
         answer_view answer ≡ fault_answer (fault_view fault)) }
@@ -29,7 +29,7 @@ pub fn refusal(fault: CatalogFault) -> Result<Answer, NoMemory>
     }
 }
 
-/// The answer that tells the fault of a text, or the limit that is exceeded.
+/// The answer that names the fault of a text, or the limit that the text exceeds.
 fn text_refusal(fault: LangFault) -> Result<Answer, NoMemory>
     ensures { IfOk result (λ answer. answer_view answer ≡ fault_answer (language_view fault)) }
 {
@@ -40,7 +40,7 @@ fn text_refusal(fault: LangFault) -> Result<Answer, NoMemory>
     }
 }
 
-/// The answer that tells the rule that is broken.
+/// The answer that names the rule that the definition breaks.
 fn rule_refusal(fault: TypeFault) -> Answer
     ensures { answer_view result ≡ refused (types.fault_view fault) }
 {
@@ -61,7 +61,7 @@ fn rule_refusal(fault: TypeFault) -> Answer
     }
 }
 
-/// The answer that tells why a text gives no rows. `NoMemory` where memory ran out.
+/// The answer that says why a text gives no rows. `NoMemory`: memory ran out.
 pub fn sheet_refusal(fault: SheetFault) -> Result<Answer, NoMemory>
     ensures { IfOk result (λ answer. TellsSheet (answer_view answer) fault) }
 {

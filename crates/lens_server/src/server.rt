@@ -1,4 +1,4 @@
-//! The state, and what it answers.
+//! The server: it holds a database, and answers one line after another.
 ghost use Rattle.std.specs.Prelude.{◌≡◌, ◌⊎◌, ◌≤◌, ◌<◌, ◌+◌, ◌-◌, ◌^◌, Err, IfOk, MatchResult};
 ghost use Rattle.server_specs.specs.State as state;
 ghost use Rattle.lens_server.specs.Counting.{most_looked, most_walked};
@@ -140,8 +140,8 @@ impl Server {
     }
 }
 
-/// The database of what is kept, or its first damage, with a counter of its own: the tables have no
-/// rows while the definitions are taken.
+/// The database of what the keeper has, or the first damage of that. It counts steps by itself: no
+/// table has rows yet while the catalogue takes the definitions.
 fn database_counted<L: Ledger>(
     alloc: Global,
     kept: Kept,
@@ -158,7 +158,7 @@ fn database_counted<L: Ledger>(
     database_of(alloc, kept, &mut walked)
 }
 
-/// The reply, or that of memory where it ran out.
+/// The reply, or the reply `out of memory` if memory ran out.
 fn reply_or_memory(outcome: Result<Reply, NoMemory>) -> Reply
     ensures { MatchResult outcome (λ reply. result ≡ reply) (λ _. result ≡ text memory) }
 {

@@ -1,5 +1,5 @@
-//! Requests that name a view: it is opened once.
-ghost use Rattle.std.specs.Prelude.{◌≡◌, ◌+◌, ◌≤◌, IfOk, Ok};
+//! Requests that name a view: `plan_view` opens it once, for all that the request asks of it.
+ghost use Rattle.std.specs.Prelude.{◌+◌, ◌≤◌, IfOk, Ok};
 ghost use Rattle.lens_specs.specs.Lens.{sort_of};
 ghost use Rattle.server_specs.specs.Answering.{answer_request};
 ghost use Rattle.server_specs.specs.Exporting.{first_nullable, import_settled};
@@ -20,7 +20,7 @@ use step_counter::Steps;
 use view_answers::{export_answer, find_answer, read_answer, type_answer};
 use view_changes::{edit, put, put_rows, sheet_rows};
 
-/// What is asked of a view.
+/// What a request asks of a view.
 #[derive(Debug, Drop)]
 pub enum ViewRequest<'a> {
     /// Its rows.
@@ -58,7 +58,7 @@ pub enum ViewRequest<'a> {
     },
 }
 
-/// Plans the answer to what is asked of the view of the name.
+/// Plans the answer to what the request asks of the view of this name.
 pub fn plan_view<L: Ledger, M: Ledger>(
     alloc: Global,
     database: &Database,
@@ -85,7 +85,7 @@ pub fn plan_view<L: Ledger, M: Ledger>(
     }
 }
 
-/// Plans the answer to what is asked of a view of the database that is opened.
+/// Plans the answer to what the request asks of an opened view of the database.
 fn plan_opened<L: Ledger, M: Ledger>(
     alloc: Global,
     database: &Database,

@@ -3,8 +3,7 @@ use Rattle.std.proofs.Common.{◌≡◌, ◌∙◌, Bool, true, false, cond, not
 use Rattle.std.specs.FinMap as map
 use Rattle.plain_values.specs.Part.{exclude}
 use Rattle.plain_values.specs.SortedSet as set
-use Rattle.fd_laws.proofs.Common.{name_total, name_exact, one_is}
-use Rattle.fd_laws.proofs.Columns.{get-without_other, get-without_same}
+use Rattle.fd_laws.proofs.Common.{name_total, name_exact, one_is, get-without_other, get-without_same}
 use Rattle.lens_specs.specs.Common.{Name, one, Columns, without_column}
 
 outside : (U : Columns) (A c : Name) (b : Bool) → set.contains (one A) c ≡ b → cond (not b) (map.get U c) None ≡ map.get (without_column U A) c

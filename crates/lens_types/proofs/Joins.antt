@@ -1,19 +1,13 @@
 -- The sort of a join, by what its parts are refused for.
-use Rattle.std.proofs.Common.{List, ◌≡◌, ◌∙◌, ◌++◌, ℕ, Bool, true, false, cond, find, ap, sym, subst, refl, [], ◌∷◌}
-use Rattle.std.specs.Prelude.{Option, Some, None, option_map, Ok}
-use Rattle.std.specs.List.Sorted.{IsStrictlySortedBy}
+use Rattle.std.proofs.Common.{List, ◌≡◌, ◌∙◌, ◌++◌, ℕ, Bool, true, false, cond, find, ap, sym, subst, refl, [], ◌∷◌, Option, Some, None, option_map, Ok}
+use Rattle.plain_values.proofs.Common.{IsStrictlySortedBy}
 use Rattle.lens_values.specs.Unions as unions
 use Rattle.plain_values.specs.declared.join_kind.JoinKind.TheVariants.{DeleteLeft}
 use Rattle.plain_values.specs.SortedSet as set
-use Rattle.fd_laws.proofs.Names.{name_total, one_is}
-use Rattle.lens_specs.specs.Common.{Columns, both_columns, kinds_differ, Edge, base, join_sort, tables_of, tree_or_none, Name, one, Predicate, Refusal, kind_clash, or_else, too_much, unsteady, Sort, TreeForm, tree_of, sort, join_fault, undetermined, unless_refused}
-use Rattle.lens_specs.specs.Lens.{join}
-use Rattle.lens_specs.specs.Refusal.{left_side, right_side, not_determined, side_mentions_output, table_twice}
+use Rattle.fd_laws.proofs.Common.{name_total, one_is}
+use Rattle.lens_specs.specs.Common.{Columns, both_columns, kinds_differ, Edge, base, join_sort, tables_of, tree_or_none, Name, one, Predicate, Refusal, kind_clash, or_else, too_much, unsteady, Sort, TreeForm, tree_of, sort, join_fault, undetermined, unless_refused, join, left_side, right_side, not_determined, side_mentions_output, table_twice, form_fault, shared_table}
 use Rattle.lens_specs.specs.TreeForm as form
-use Rattle.lens_specs.specs.Typing.{form_fault, shared_table}
-use Rattle.lens_laws.specs.Passes.{IsSound}
-use Rattle.lens_laws.proofs.NodeLaws.{sound}
-use Rattle.lens_laws.proofs.Rules.{sort_is_typed, neither, unrefused}
+use Rattle.lens_laws.proofs.Common.{IsSound, sound, sort_is_typed, neither, unrefused}
 use Rattle.fd_tree.specs.Form.{form_of}
 use Rattle.lens_types.specs.Faults.{IsRefused, fault_view, of_fault}
 use Rattle.lens_types.specs.Joins.{columns_from, joined_columns, sides_fault}

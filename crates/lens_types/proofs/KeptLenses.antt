@@ -1,17 +1,13 @@
 -- What is kept of a lens, and what is kept of a lens made of it.
-use Rattle.std.proofs.Common.{Some, ◌≡◌, ◌∙◌, ◌+◌, ◌++◌, ◌≤◌, ℕ, suc, Bool, true, false, not, ap, sym, refl, arith, rules}
-use Rattle.std.specs.Prelude.{None, Option, option_map, Result, Ok, Err, IfOk, IsOk, nat_le}
+use Rattle.std.proofs.Common.{Some, ◌≡◌, ◌∙◌, ◌+◌, ◌++◌, ◌≤◌, ℕ, suc, Bool, true, false, not, ap, sym, refl, arith, rules, None, Option, option_map, Result, Ok, Err, IfOk, IsOk, nat_le}
 use Rattle.std.specs.FinMap as finmap
-use Rattle.std.proofs.lemmas.Bool.Decides.{nat_tests}
+use Rattle.plain_values.proofs.Common.{nat_tests}
 use Rattle.plain_values.specs.declared.value.Value.{Value}
 use Rattle.plain_values.specs.declared.join_kind.JoinKind.{JoinKind}
-use Rattle.lens_specs.specs.Common.{names, fits_at, kinds_differ, least_outside, Lens, base, select, drop, rename, join_sort, nodes_of, select_sort, drop_sort, rename_sort, tables_of, Name, Names, Predicate, Refusal, or_else, when, is_column, first_mixed, unsteady, unknown_name, unlike_kinds, too_much, Sort, tree_of, sort, select_fault, drop_fault, rename_fault, join_fault, is_determined, default_holds, undetermined}
-use Rattle.lens_specs.specs.Lens.{join}
+use Rattle.lens_specs.specs.Common.{names, fits_at, kinds_differ, least_outside, Lens, base, select, drop, rename, join_sort, nodes_of, select_sort, drop_sort, rename_sort, tables_of, Name, Names, Predicate, Refusal, or_else, when, is_column, first_mixed, unsteady, unknown_name, unlike_kinds, too_much, Sort, tree_of, sort, select_fault, drop_fault, rename_fault, join_fault, is_determined, default_holds, undetermined, join, and_then, form_fault, shared_table}
 use Rattle.lens_specs.specs.Refusal as refusal
-use Rattle.lens_specs.specs.Typing.{and_then, form_fault, shared_table}
-use Rattle.lens_laws.specs.Lenses.{IsTyped}
-use Rattle.lens_laws.specs.Passes.{IsSound}
-use Rattle.lens_laws.proofs.Rules.{bases_are_sound, sort_is_typed, neither, unrefused}
+use Rattle.lens_laws.proofs.Common.{IsTyped, IsSound, sort_is_typed, neither, unrefused}
+use Rattle.lens_laws.proofs.Rules.{bases_are_sound}
 use Rattle.lens_types.specs.Faults.{Decides, IsRefused, with_inputs}
 use Rattle.lens_types.specs.Kept.{IsKept}
 use Rattle.lens_types.specs.Sorts.{natural_join, selection, projection, renaming}

@@ -1,10 +1,8 @@
 -- Tests that are made one after another.
-use Rattle.std.proofs.Common.{◌≡◌, ℕ, Bool, true, false}
-use Rattle.std.specs.Prelude.{List, Option, Some, None, not, nat_le}
+use Rattle.std.proofs.Common.{◌≡◌, ℕ, Bool, true, false, List, Option, Some, None, not, nat_le}
 use Rattle.std.specs.FinMap as finmap
-use Rattle.lens_specs.specs.Common.{Columns, Edge, Predicate, Refusal, or_else, when, too_much, Sort}
-use Rattle.lens_specs.specs.Predicate.{predicate_nodes}
-use Rattle.lens_laws.specs.Passes.{IsSound}
+use Rattle.lens_specs.specs.Common.{Columns, Edge, Predicate, Refusal, or_else, when, too_much, Sort, predicate_nodes}
+use Rattle.lens_laws.proofs.Common.{IsSound}
 use Rattle.lens_types.specs.Sorts.{sort_from}
 
 -- another last test

@@ -1,15 +1,10 @@
 -- The sort of a projection, by what its parts are refused for.
-use Rattle.std.proofs.Common.{List, ◌≡◌, ◌∙◌, ℕ, Bool, true, false, cond, not, [], ap, sym, subst, refl}
-use Rattle.std.specs.Prelude.{Option, Some, None, option_map, Result, Ok, Err, if◌then◌else◌}
+use Rattle.std.proofs.Common.{List, ◌≡◌, ◌∙◌, ℕ, Bool, true, false, cond, not, [], ap, sym, subst, refl, Option, Some, None, option_map, Result, Ok, Err, if◌then◌else◌}
 use Rattle.std.specs.FinMap as map
 use Rattle.plain_values.specs.SortedSet as set
 use Rattle.plain_values.specs.declared.value.Value.{Value}
-use Rattle.lens_specs.specs.Common.{Name, Names, one, Columns, names, fits_at, least_outside, without_column, AllEdges, Edge, base, drop, drop_sort, Predicate, without_name, Refusal, unknown_column, kind_clash, or_else, when, is_column, first_mixed, too_much, Sort, tree_without, sort, drop_fault, is_determined, default_holds, unless_refused}
-use Rattle.lens_specs.specs.Refusal.{no_such_dependency, mixed_conjunct, default_refused}
-use Rattle.lens_laws.specs.Lenses.{IsTyped}
-use Rattle.lens_laws.specs.Passes.{IsSound}
-use Rattle.lens_laws.proofs.NodeLaws.{sound}
-use Rattle.lens_laws.proofs.Rules.{sort_is_typed, unrefused}
+use Rattle.lens_specs.specs.Common.{Name, Names, one, Columns, names, fits_at, least_outside, without_column, AllEdges, Edge, base, drop, drop_sort, Predicate, without_name, Refusal, unknown_column, kind_clash, or_else, when, is_column, first_mixed, too_much, Sort, tree_without, sort, drop_fault, is_determined, default_holds, unless_refused, no_such_dependency, mixed_conjunct, default_refused}
+use Rattle.lens_laws.proofs.Common.{IsTyped, IsSound, sound, sort_is_typed, unrefused}
 use Rattle.lens_types.specs.Drops.{column_fault, unfilled, unfilled_from}
 use Rattle.lens_types.specs.Faults.{IsRefused, fault_view, of_fault}
 use Rattle.lens_types.specs.Sorts.{sort_from, projection}

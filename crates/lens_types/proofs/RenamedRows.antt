@@ -1,22 +1,15 @@
 -- Rows with a new name for a column.
-use Rattle.std.proofs.Common.{◌≡◌, Bool, true, false, cond, List, [], ◌∷◌, ap, sym, subst, ◌∙◌, refl, is_some}
-use Rattle.std.specs.Prelude.{Option, None}
+use Rattle.std.proofs.Common.{◌≡◌, Bool, true, false, cond, List, [], ◌∷◌, ap, sym, subst, ◌∙◌, refl, is_some, Option, None}
 use Rattle.std.specs.FinMap as finmap
-use Rattle.std.specs.List.{filter_map, cons_option}
-use Rattle.std.specs.Ordering.{eq_by_cmp}
-use Rattle.std.proofs.lemmas.Bool.{or_left, or_right}
-use Rattle.plain_values.specs.Order.{bytes_cmp}
+use Rattle.plain_values.proofs.Common.{filter_map, cons_option, eq_by_cmp, or_left, or_right, bytes_cmp, Row}
 use Rattle.lens_values.specs.Paired.{AreAsMany, paired}
 use Rattle.plain_values.specs.SortedSet as set
-use Rattle.plain_values.specs.Row.{Row}
 use Rattle.plain_values.specs.declared.value.Value.{Value}
 use Rattle.lens_values.proofs.Cells.{all_made, all_many}
-use Rattle.fd_laws.proofs.Names.{name_itself}
-use Rattle.fd_laws.proofs.Renames.{other_name}
-use Rattle.lens_laws.proofs.NodeFinds.{over_renamed}
+use Rattle.fd_laws.proofs.Common.{name_itself, other_name}
+use Rattle.lens_laws.proofs.Common.{over_renamed, IsOver}
 use Rattle.lens_laws.proofs.Rename.{at-renamed}
 use Rattle.lens_specs.specs.Common.{Name, Names, is_among, renamed, renamed_names, renamed_row, at}
-use Rattle.lens_laws.specs.Finds.{IsOver}
 
 -- what a renamed row has at one of its names is what the row has at the old name
 value_there : (A B : Name) (r : Row) (c : Name) → is_some (at (renamed_row A B r) c) ≡ true → at (renamed_row A B r) c ≡ at r (renamed B A c)

@@ -1,21 +1,12 @@
 -- The sort of a rename, by what its parts are refused for.
-use Rattle.std.proofs.Common.{◌≡◌, ◌∙◌, ℕ, Bool, true, false, cond, not, List, [], ◌∷◌, map, ap, sym, subst, refl, inl, inr, is_some}
-use Rattle.std.specs.Prelude.{Option, Some, None, Ok}
-use Rattle.std.proofs.lemmas.Bool.{cases_Bool, true≢false, false_from_ne_true}
+use Rattle.std.proofs.Common.{◌≡◌, ◌∙◌, ℕ, Bool, true, false, cond, not, List, [], ◌∷◌, map, ap, sym, subst, refl, inl, inr, Option, Some, None, Ok}
+use Rattle.plain_values.proofs.Common.{cases_Bool, false_from_ne_true, eq_by_cmp, bytes_cmp, absurd_false}
 use Rattle.std.specs.FinMap as finmap
-use Rattle.std.specs.Ordering.{eq_by_cmp}
-use Rattle.plain_values.specs.Order.{bytes_cmp}
 use Rattle.plain_values.specs.SortedSet as set
-use Rattle.plain_values.specs.declared.value.Kind.{Kind}
-use Rattle.plain_values.proofs.Lists.{absurd_false}
 use Rattle.fd_laws.proofs.Common.{name_total, name_exact, name_itself, tied_name, each_edge}
-use Rattle.lens_specs.specs.Common.{Columns, names, AllEdges, Edge, base, rename, rename_sort, Name, Within, Predicate, unknown_column, or_else, when, is_column, too_much, renamed, renamed_columns, renamed_predicate, renamed_tree, Sort, sort, rename_fault, unless_refused}
-use Rattle.lens_specs.specs.Refusal.{column_taken}
-use Rattle.lens_laws.specs.Lenses.{IsTyped}
-use Rattle.lens_laws.specs.Passes.{IsSound}
-use Rattle.lens_laws.proofs.NodeLaws.{sound}
+use Rattle.lens_specs.specs.Common.{Columns, names, AllEdges, Edge, base, rename, rename_sort, Name, Within, Predicate, unknown_column, or_else, when, is_column, too_much, renamed, renamed_columns, renamed_predicate, renamed_tree, Sort, sort, rename_fault, unless_refused, column_taken}
+use Rattle.lens_laws.proofs.Common.{IsTyped, IsSound, sound, sort_is_typed, neither, unrefused}
 use Rattle.lens_laws.proofs.Rename.{get-renamed}
-use Rattle.lens_laws.proofs.Rules.{sort_is_typed, neither, unrefused}
 use Rattle.lens_types.specs.Faults.{IsRefused, fault_view, of_fault}
 use Rattle.lens_types.specs.Sorts.{sort_from, renaming}
 use Rattle.lens_types.specs.declared.fault.TypeFault.{TypeFault}
@@ -122,10 +113,6 @@ renaming_is_sound n s x A B h e =
 -- no column has the new name
 pub new_name : (n : ℕ) (s : Sort) (A B : Name) → IsSound s → None ≡ rename_fault n s A B → set.contains (names s.columns) B ≡ false
 new_name n s A B h e = (typed_once n s A B h (sym e)).1.free
-
-no_kind_at : (o : Option Kind) → is_some o ≡ false → o ≡ None
-no_kind_at None e = refl
-no_kind_at (Some k) e = absurd (true≢false e)
 
 -- and no edge has it
 abbrev pub Lacks : Name → Edge → Type 0

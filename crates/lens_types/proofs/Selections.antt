@@ -1,11 +1,7 @@
 -- The sort of a selection, by what its parts are refused for.
-use Rattle.std.proofs.Common.{◌≡◌, ◌∙◌, ℕ, ◌++◌, ap, sym, subst, refl}
-use Rattle.std.specs.Prelude.{[], Option, Some, None, option_map, Ok, Err}
-use Rattle.lens_specs.specs.Common.{Name, base, select, select_sort, Predicate, Refusal, or_else, unknown_name, unlike_kinds, unsteady, too_much, Sort, sort, select_fault, unless_refused}
-use Rattle.lens_specs.specs.Refusal.{source_mentions_output}
-use Rattle.lens_laws.specs.Passes.{IsSound}
-use Rattle.lens_laws.proofs.NodeLaws.{sound}
-use Rattle.lens_laws.proofs.Rules.{sort_is_typed, unrefused}
+use Rattle.std.proofs.Common.{◌≡◌, ◌∙◌, ℕ, ◌++◌, ap, sym, subst, refl, [], Option, Some, None, option_map, Ok, Err}
+use Rattle.lens_specs.specs.Common.{Name, base, select, select_sort, Predicate, Refusal, or_else, unknown_name, unlike_kinds, unsteady, too_much, Sort, sort, select_fault, unless_refused, source_mentions_output}
+use Rattle.lens_laws.proofs.Common.{IsSound, sound, sort_is_typed, unrefused}
 use Rattle.lens_pred.specs.Checked.{checked, fault_first}
 use Rattle.lens_pred.specs.declared.checking.PredFault.{PredFault}
 use Rattle.lens_pred.specs.declared.checking.PredFault.TheVariants as pred_fault
@@ -30,11 +26,6 @@ pred_refused n s P fault e = by_names (unknown_name s.columns P) (unlike_kinds s
 suited : (n : ℕ) (s : Sort) (P : Predicate) → checked s.columns P ≡ Ok tt
     → selection n s P ≡ unless_refused (or_else (option_map source_mentions_output (unsteady s.predicate s.tree)) (too_much n (select_sort s P))) (select_sort s P)
 suited n s P e = let w = passed (unknown_name s.columns P) (unlike_kinds s.columns P) e in rw (w.0, w.1) refl
-
-pub output_refused : (n : ℕ) (s : Sort) (P : Predicate) (col : Name) → checked s.columns P ≡ Ok tt → Some col ≡ unsteady s.predicate s.tree
-    → IsRefused (of_fault (type_fault.SourceMentionsOutput col)) tt (selection n s P)
-output_refused n s P col e is =
-    (suited n s P e ∙ ap (λ o. unless_refused (or_else (option_map source_mentions_output o) (too_much n (select_sort s P))) (select_sort s P)) (sym is), refl)
 
 -- the source's conjuncts are steady
 unmentioned : (n : ℕ) (s : Sort) (P Q : Predicate) → checked s.columns P ≡ Ok tt → None ≡ unsteady s.predicate s.tree → Q ≡ s.predicate ++ P

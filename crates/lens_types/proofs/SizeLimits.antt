@@ -1,11 +1,9 @@
 -- What is too large, by what is in excess.
-use Rattle.std.proofs.Common.{◌≡◌, ◌<◌, ◌≤◌, ℕ}
-use Rattle.std.specs.Prelude.{Some, None}
+use Rattle.std.proofs.Common.{◌≡◌, ◌<◌, ◌≤◌, ℕ, Some, None}
 use Rattle.std.specs.FinMap as finmap
-use Rattle.std.proofs.lemmas.Bool.{le-leb, lt-leb}
-use Rattle.lens_specs.specs.Common.{too_large, too_much, Sort}
-use Rattle.lens_specs.specs.Predicate.{predicate_nodes}
-use Rattle.lens_specs.specs.Refusal.{columns_limit, lens_limit, predicate_limit}
+use Rattle.plain_values.proofs.Common.{le-leb, lt-leb}
+use Rattle.lens_specs.specs.Common.{too_large, too_much, Sort, predicate_nodes, columns_limit}
+use Rattle.lens_specs.specs.Refusal.{lens_limit, predicate_limit}
 
 pub many_columns : (n : ℕ) (s : Sort) → 64 < finmap.len s.columns → too_much n s ≡ Some (too_large columns_limit)
 many_columns n s h = rw (lt-leb (finmap.len s.columns) 64 h)

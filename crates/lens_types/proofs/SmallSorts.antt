@@ -1,16 +1,14 @@
 -- A sort that is not refused has at most 64 columns.
-use Rattle.std.proofs.Common.{◌≡◌, ◌≤◌, ℕ, Bool, true, false, not, List, [], ◌++◌, refl, subst, arith}
-use Rattle.std.specs.Prelude.{Option, Some, None, option_map, Result, Ok, Err, nat_le}
+use Rattle.std.proofs.Common.{◌≡◌, ◌≤◌, ℕ, Bool, true, false, not, List, [], ◌++◌, refl, subst, arith, Option, Some, None, option_map, Result, Ok, Err, nat_le}
 use Rattle.std.specs.FinMap as finmap
-use Rattle.std.proofs.lemmas.Bool.Decides.{nat_tests}
+use Rattle.plain_values.proofs.Common.{nat_tests}
 use Rattle.plain_values.specs.declared.value.Value.{Value}
-use Rattle.lens_specs.specs.Common.{Columns, names, fits_at, kinds_differ, least_outside, Edge, base, rename, join_sort, select_sort, drop_sort, rename_sort, Name, Names, Predicate, Refusal, or_else, when, is_column, first_mixed, unsteady, unknown_name, unlike_kinds, too_much, Sort, TreeForm, tree_of, select_fault, drop_fault, rename_fault, join_fault, is_determined, default_holds, undetermined, table_sort_with, table_sort}
+use Rattle.lens_specs.specs.Common.{Columns, names, fits_at, kinds_differ, least_outside, Edge, base, rename, join_sort, select_sort, drop_sort, rename_sort, Name, Names, Predicate, Refusal, or_else, when, is_column, first_mixed, unsteady, unknown_name, unlike_kinds, too_much, Sort, TreeForm, tree_of, select_fault, drop_fault, rename_fault, join_fault, is_determined, default_holds, undetermined, table_sort_with, table_sort, form_fault}
 use Rattle.lens_specs.specs.Refusal as refusal
 use Rattle.lens_specs.specs.TreeForm as form
-use Rattle.lens_specs.specs.Typing.{form_fault}
 use Rattle.lens_types.specs.Sorts.{natural_join, selection, projection, renaming, sort_from}
 use Rattle.lens_laws.proofs.SmallSorts.{sort_is_small}
-use Rattle.lens_laws.proofs.Rules.{neither, unrefused}
+use Rattle.lens_laws.proofs.Common.{neither, unrefused}
 use Rattle.lens_types.proofs.Renamings.{two_nodes, renamed_once}
 
 -- it has at most 64 columns

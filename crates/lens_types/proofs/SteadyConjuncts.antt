@@ -1,10 +1,8 @@
 -- The least output that a conjunct mentions which is not steady, as the code finds it.
-use Rattle.std.proofs.Common.{◌≡◌, not, List, ap, ◌∙◌}
-use Rattle.std.specs.Prelude.{filter, find}
+use Rattle.std.proofs.Common.{◌≡◌, not, List, ap, ◌∙◌, filter, find}
 use Rattle.plain_values.specs.SortedSet as set
-use Rattle.lens_laws.proofs.Predicates.{mentioned_is}
-use Rattle.lens_specs.specs.Common.{Edge, Name, Names, Predicate, names_of, unsteady, outputs}
-use Rattle.lens_specs.specs.Refusal.{is_steady}
+use Rattle.lens_laws.proofs.Common.{mentioned_is}
+use Rattle.lens_specs.specs.Common.{Edge, Name, Names, Predicate, names_of, unsteady, outputs, is_steady}
 
 -- the conjuncts that are not steady
 abbrev pub others : List Edge → Predicate → Predicate

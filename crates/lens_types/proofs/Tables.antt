@@ -1,6 +1,5 @@
 -- The sort of a table, by what its parts are refused for.
-use Rattle.std.proofs.Common.{◌≡◌, ◌∙◌, List, ap, sym, refl}
-use Rattle.std.specs.Prelude.{◌≢◌, Option, Some, None, option_map, Result, Ok, Err}
+use Rattle.std.proofs.Common.{◌≡◌, ◌∙◌, List, ap, sym, refl, ◌≢◌, Option, Some, None, option_map, Result, Ok, Err}
 use Rattle.lens_specs.specs.Common.{Name, Names, Columns, Edge, Predicate, Refusal, unknown_column, or_else, unknown_name, unlike_kinds, too_much, Sort, TreeForm, tree_of, table_sort, table_sort_with, unknown_in, unless_refused}
 use Rattle.lens_specs.specs.Refusal as refusal
 use Rattle.lens_specs.specs.TreeForm as form

@@ -1,10 +1,9 @@
 -- Unknown columns of dependencies.
-use Rattle.std.proofs.Common.{◌≡◌, ◌∙◌, ◌+◌, ◌<◌, ℕ, suc, List, ◌∷◌, length, drop, get_or, add-one, ap, sym, refl}
-use Rattle.std.proofs.Math.Seq.{drop-cons}
-use Rattle.std.specs.Prelude.{Option, Some, None, is_some}
+use Rattle.std.proofs.Common.{◌≡◌, ◌∙◌, ◌+◌, ◌<◌, ℕ, suc, List, ◌∷◌, length, drop, get_or, add-one, ap, sym, refl, Option, Some, None, is_some}
+use Rattle.plain_values.proofs.Common.{drop-cons}
 use Rattle.std.specs.FinMap as finmap
 use Rattle.plain_values.specs.SortedSet as set
-use Rattle.fd_laws.proofs.Columns.{names-get}
+use Rattle.fd_laws.proofs.Common.{names-get}
 use Rattle.lens_specs.specs.Common.{Name, Columns, names, Edge, Refusal, or_else, unknown_in}
 use Rattle.lens_types.specs.Unknown.{unknown_of_edge}
 

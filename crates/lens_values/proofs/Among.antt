@@ -1,15 +1,6 @@
 -- Whether the members of one strictly rising list are all in another, by one walk along that.
-use Rattle.std.proofs.Common.{◌≡◌, ℕ, ◌<◌, ◌≤◌, ◌+◌, List, [], ◌∷◌, length, drop, get_or, ap, sym, ◌∙◌, refl, Bool, true, false, cond, zero, suc, arith}
-use Rattle.std.specs.Prelude.{◌&&◌, ◌||◌, ◌==◌}
-use Rattle.std.specs.declared.cmp.Ordering.{Ordering}
-use Rattle.std.specs.declared.cmp.Ordering.TheVariants.{Less, Equal, Greater}
-use Rattle.std.specs.Ordering.{eq_by_cmp, is_eq}
-use Rattle.std.specs.List.{AllByRecursion, list_all}
-use Rattle.std.specs.List.Sorted.{IsStrictlySortedBy}
-use Rattle.std.specs.Cmp.{IsTotalOrder, tied_back}
-use Rattle.std.proofs.lemmas.Bool.{eqb-true, eq-eqb, true≢false}
-use Rattle.std.proofs.lemmas.List.{drop_more, length-drop}
-use Rattle.plain_values.specs.Keys.{is_among}
+use Rattle.std.proofs.Common.{◌≡◌, ℕ, ◌<◌, ◌≤◌, ◌+◌, List, [], ◌∷◌, length, drop, get_or, ap, sym, ◌∙◌, refl, Bool, true, false, cond, zero, suc, arith, ◌&&◌, ◌||◌, ◌==◌}
+use Rattle.plain_values.proofs.Common.{Ordering, Less, Equal, Greater, eq_by_cmp, is_eq, AllByRecursion, list_all, IsStrictlySortedBy, IsTotalOrder, tied_back, eqb-true, eq-eqb, true≢false, drop_more, length-drop, is_among}
 use Rattle.lens_values.proofs.Walks.{any_none, apart, under}
 
 module _ {K : Type 0} (R : K → K → Ordering) where

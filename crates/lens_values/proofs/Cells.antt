@@ -1,27 +1,14 @@
 -- Names with a value for each, and the map that they are.
-use Rattle.std.proofs.Common.{◌≡◌, ℕ, ◌≤◌, ◌-◌, ◌+◌, List, [], ◌∷◌, ◌++◌, ◌<◌, length, ap, sym, subst, ◌∙◌, refl, Bool, true, false, cond, suc, arith, inl, inr, get_or, take, Bor}
+use Rattle.std.proofs.Common.{◌≡◌, ℕ, ◌≤◌, ◌-◌, ◌+◌, List, [], ◌∷◌, ◌++◌, ◌<◌, length, ap, sym, subst, ◌∙◌, refl, Bool, true, false, cond, suc, arith, inl, inr, get_or, take, Bor, Option, Some, None, IfSome, ◌&&◌, ◌||◌, filter, is_some, option_copied, option_map, position}
 use Rattle.std.proofs.Math.Dec.{ltb}
-use Rattle.std.specs.Prelude.{Option, Some, None, IfSome, ◌&&◌, ◌||◌, filter, is_some, option_copied, option_map, position}
-use Rattle.std.proofs.lemmas.Bool.{and_parts, cases_Bool, ltb-false, ltb-true}
-use Rattle.std.specs.List.{filter_map, list_any, position_from, slice_get, zip, cons_option}
-use Rattle.std.specs.List.Sorted.{IsStrictlySortedBy}
-use Rattle.std.specs.Ordering.{eq_by_cmp}
-use Rattle.std.specs.Cmp.Lexicographic.{nat_list_cmp_total}
+use Rattle.plain_values.proofs.Common.{and_parts, cases_Bool, ltb-false, ltb-true, filter_map, list_any, position_from, slice_get, zip, cons_option, IsStrictlySortedBy, eq_by_cmp, nat_list_cmp_total, position_from-zero, take_more, slice_get-get_or, Names, bytes_cmp, override, restrict, keys_of, values_of, entries-from_entries, exact, items_rise, is_tie, same_bool}
 use Rattle.std.specs.FinMap as finmap
-use Rattle.std.proofs.lemmas.Iterator.Adapters.{position_from-zero}
-use Rattle.std.proofs.lemmas.List.{take_more}
 use Rattle.std.proofs.lemmas.List.Elements.{filter_map-append}
-use Rattle.std.proofs.lemmas.Option.{slice_get_past, slice_get-get_or}
+use Rattle.std.proofs.lemmas.Option.{slice_get_past}
 use Rattle.std.proofs.lemmas.Slice.Zip.{firsts-zip, seconds-zip}
-use Rattle.plain_values.specs.Names.{Names}
-use Rattle.plain_values.specs.Order.{bytes_cmp}
 use Rattle.lens_values.specs.Paired.{AreAsMany, paired}
-use Rattle.plain_values.specs.Part.{override, restrict}
-use Rattle.plain_values.specs.SortedMap.{keys_of, values_of, entries-from_entries}
 use Rattle.plain_values.specs.SortedSet as set
-use Rattle.plain_values.proofs.Maps.{exact}
-use Rattle.plain_values.proofs.Sets.{items_rise, items-filter}
-use Rattle.plain_values.proofs.Tests.{is_tie, same_bool}
+use Rattle.plain_values.proofs.Sets.{items-filter}
 
 abbrev MapOf : Type 0 → Type 0
 MapOf X = finmap.FinMap bytes_cmp X

@@ -1,12 +1,9 @@
 -- Lists compared place by place.
 use Rattle.std.proofs.Common.{◌≡◌, ℕ, ◌<◌, ◌+◌, List, [], ◌∷◌, length, drop, get_or, ap, sym, ◌∙◌, refl, suc, add-one, arith, min}
-use Rattle.std.proofs.Math.Seq.{drop-cons}
-use Rattle.std.specs.declared.cmp.Ordering.{Ordering}
-use Rattle.std.specs.declared.cmp.Ordering.TheVariants.{Less, Equal, Greater}
+use Rattle.plain_values.proofs.Common.{drop-cons, Ordering, Less, Equal, Greater, nat_cmp, ordering_then, slice_cmp}
 use Rattle.std.specs.Cmp.{nat_cmp_is, ranked}
 use Rattle.std.proofs.Math.Nat.{suc-min-suc}
-use Rattle.std.specs.Ordering.{MatchOrdering, nat_cmp, ordering_then}
-use Rattle.std.specs.Cmp.Lexicographic.{slice_cmp}
+use Rattle.std.specs.Ordering.{MatchOrdering}
 
 raised : (m n : ℕ) (o : Ordering) → MatchOrdering o (m < n) (m ≡ n) (n < m) → MatchOrdering o (suc m < suc n) (suc m ≡ suc n) (suc n < suc m)
 raised m n Less h = omega (arith, h)

@@ -1,15 +1,7 @@
 -- The members of a list that tie with a key, where the list ascends by keys.
-use Rattle.std.proofs.Common.{inl, inr, ◌≡◌, ℕ, ◌+◌, ◌<◌, ◌≤◌, List, [], ◌∷◌, length, take, drop, length-drop, get_or, ap, sym, subst, ◌∙◌, refl, Bool, true, false, cond, zero, suc, arith}
-use Rattle.std.specs.Prelude.{filter}
-use Rattle.std.specs.declared.cmp.Ordering.{Ordering}
-use Rattle.std.specs.declared.cmp.Ordering.TheVariants.{Less, Equal, Greater}
-use Rattle.std.specs.List.{AllWithin}
-use Rattle.std.specs.List.Sorted.{IsPartitionedBy, IsPartitionPoint}
-use Rattle.std.specs.Ordering.{is_eq, is_gt, is_le, is_lt}
-use Rattle.std.specs.Cmp.{IsTotalOrder, upto}
-use Rattle.std.proofs.lemmas.Bool.{cases_lt, true≢false}
-use Rattle.std.proofs.lemmas.List.{get_or_default, get_or-drop, get_or-take, length-take-le}
-use Rattle.plain_values.proofs.Tests.{is_less}
+use Rattle.std.proofs.Common.{inl, inr, ◌≡◌, ℕ, ◌+◌, ◌<◌, ◌≤◌, List, [], ◌∷◌, length, take, drop, length-drop, get_or, ap, sym, subst, ◌∙◌, refl, Bool, true, false, cond, zero, suc, arith, filter}
+use Rattle.plain_values.proofs.Common.{Ordering, Less, Equal, Greater, AllWithin, IsPartitionedBy, IsPartitionPoint, is_eq, is_gt, is_le, is_lt, IsTotalOrder, upto, cases_lt, true≢false, get_or_default, length-take-le, is_less}
+use Rattle.std.proofs.lemmas.List.{get_or-drop, get_or-take}
 
 module _ {X : Type 0} (test : X → Bool) where
   from_next : (P : X → Type 0) (x : X) (xs : List X) (low high : ℕ) → AllWithin P (x ∷ xs) (suc low) (suc high) → AllWithin P xs low high

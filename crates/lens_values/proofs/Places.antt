@@ -1,22 +1,9 @@
 -- The place that a binary search finds in a strictly rising list, and a member put there.
-use Rattle.std.proofs.lemmas.Bool.{cases_lt}
-use Rattle.std.proofs.Common.{inl, inr, ◌≡◌, ℕ, ◌+◌, ◌-◌, ◌<◌, ◌≤◌, List, [], ◌∷◌, length, get_or, ap, sym, subst, ◌∙◌, refl, Bool, true, false, zero, suc, arith, Result, Ok, Err, map-id}
-use Rattle.std.specs.Prelude.{◌||◌, is_ok, Some, None, map, position, cond}
-use Rattle.std.specs.declared.cmp.Ordering.{Ordering}
-use Rattle.std.specs.declared.cmp.Ordering.TheVariants.{Less, Equal, Greater}
-use Rattle.std.specs.Ordering.{eq_by_cmp, is_eq, is_lt, on, ordering_reverse, ordering_index}
-use Rattle.std.specs.List.{AllByRecursion, AllWithin, HoldsAt, list_any, insert, position_from}
-use Rattle.std.specs.List.Sorted.{IsStrictlySortedBy, IsSearchInRange, IsBinarySearchResult, IsNonDecreasingBy, IsPartitionPoint}
-use Rattle.std.specs.Result.{result_ok}
-use Rattle.std.specs.Cmp.{IsTotalOrder, alike_right, tied_back}
-use Rattle.std.specs.FinMap.{IsAntisymmetric, find}
-use Rattle.std.proofs.lemmas.Iterator.Adapters.{position_from-zero}
+use Rattle.plain_values.proofs.Common.{cases_lt, Ordering, Less, Equal, Greater, eq_by_cmp, is_eq, is_lt, on, ordering_reverse, ordering_index, AllByRecursion, AllWithin, HoldsAt, list_any, insert, position_from, IsStrictlySortedBy, IsSearchInRange, IsBinarySearchResult, IsNonDecreasingBy, IsPartitionPoint, result_ok, IsTotalOrder, alike_right, tied_back, IsAntisymmetric, position_from-zero, Less-from_sorted, KeysRise, is_among, keys_of, or_swap}
+use Rattle.std.proofs.Common.{inl, inr, ◌≡◌, ℕ, ◌+◌, ◌-◌, ◌<◌, ◌≤◌, List, [], ◌∷◌, length, get_or, ap, sym, subst, ◌∙◌, refl, Bool, true, false, zero, suc, arith, Result, Ok, Err, map-id, ◌||◌, is_ok, Some, None, map, position, cond}
+use Rattle.std.specs.FinMap.{find}
 use Rattle.std.proofs.lemmas.List.Sorted.{searchable_from_sorted}
-use Rattle.std.proofs.lemmas.Map.Keys.{Less-from_sorted}
 use Rattle.plain_values.specs.SortedSet as set
-use Rattle.plain_values.specs.Keys.{KeysRise, is_among}
-use Rattle.plain_values.specs.SortedMap.{keys_of}
-use Rattle.plain_values.proofs.Tests.{or_swap}
 use Rattle.lens_values.proofs.Walks.{any_none, under, apart, below_all}
 
 or-true : (a : Bool) → (a || true) ≡ true

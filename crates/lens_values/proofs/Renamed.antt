@@ -1,15 +1,7 @@
 -- Names with one of them exchanged for another.
 use Rattle.std.proofs.Common.{◌≡◌, ℕ, false, cond, List, [], ◌∷◌, map, refl, ap, ◌∙◌, sym, inl, inr}
-use Rattle.std.proofs.lemmas.Bool.{cases_Bool, or_parts, true≢false}
-use Rattle.std.specs.List.{list_any}
-use Rattle.std.specs.Ordering.{eq_by_cmp}
-use Rattle.std.specs.Cmp.Lexicographic.{nat_list_cmp_total}
-use Rattle.plain_values.specs.Order.{bytes_cmp}
-use Rattle.plain_values.specs.Name.{renamed}
-use Rattle.plain_values.specs.Names.{Names}
+use Rattle.plain_values.proofs.Common.{cases_Bool, or_parts, true≢false, list_any, eq_by_cmp, nat_list_cmp_total, bytes_cmp, renamed, Names, exact, is_tie}
 use Rattle.plain_values.specs.SortedSet as set
-use Rattle.plain_values.proofs.Maps.{exact}
-use Rattle.plain_values.proofs.Tests.{is_tie}
 
 abbrev Name : Type 0
 Name = List ℕ

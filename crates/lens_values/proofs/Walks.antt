@@ -1,14 +1,6 @@
 -- Walks along two strictly rising lists.
-use Rattle.std.proofs.Common.{◌≡◌, ℕ, ◌+◌, ◌<◌, ◌≤◌, ◌-◌, List, [], ◌∷◌, ◌++◌, length, take, drop, get_or, ap, sym, subst, ◌∙◌, refl, Bool, true, false, cond, zero, suc, add-one, arith, append_assoc, map, append-nil}
-use Rattle.std.proofs.Math.Seq.{drop-cons}
-use Rattle.std.specs.Prelude.{not, filter, Option, Some, find, ◌||◌}
-use Rattle.std.specs.declared.cmp.Ordering.{Ordering}
-use Rattle.std.specs.declared.cmp.Ordering.TheVariants.{Less, Equal, Greater}
-use Rattle.std.specs.Ordering.{match_ordering, eq_by_cmp, is_eq, ordering_reverse, on}
-use Rattle.std.specs.List.{AllByRecursion, list_any}
-use Rattle.std.specs.List.Sorted.{IsStrictlySortedBy}
-use Rattle.std.specs.Cmp.{IsTotalOrder, alike_right, tied_back, on_total}
-use Rattle.plain_values.specs.Keys.{KeysRise, first_with, is_among}
+use Rattle.std.proofs.Common.{◌≡◌, ℕ, ◌+◌, ◌<◌, ◌≤◌, ◌-◌, List, [], ◌∷◌, ◌++◌, length, take, drop, get_or, ap, sym, subst, ◌∙◌, refl, Bool, true, false, cond, zero, suc, add-one, arith, append_assoc, map, append-nil, not, filter, Option, Some, find, ◌||◌}
+use Rattle.plain_values.proofs.Common.{drop-cons, get_or_default, take_rest, Ordering, Less, Equal, Greater, match_ordering, eq_by_cmp, is_eq, ordering_reverse, on, AllByRecursion, list_any, IsStrictlySortedBy, IsTotalOrder, alike_right, tied_back, on_total, KeysRise, first_with, is_among}
 
 All-map : {K : Type 0} {P Q : K → Type 0} → ((x : K) → P x → Q x) → (xs : List K) → AllByRecursion P xs → AllByRecursion Q xs
 All-map f [] a = tt
@@ -258,12 +250,23 @@ module _ {K X : Type 0} {R : K → K → Ordering} (o : IsTotalOrder R) (key : X
     keys_rise : IsStrictlySortedBy R ks → IsStrictlySortedBy R (k ∷ right (j + 1))
     keys_rise t = subst (IsStrictlySortedBy R) (at_place ks j k v c) (drop_rises o ks j t)
 
+    -- a copy of the member was added
+    pub pushed : (new : List X) (other copy : X) → new ≡ all ++ copy ∷ [] → copy ≡ other → other ≡ get_or xs i other → new ≡ all ++ x ∷ []
+    pushed new other copy added same at = added ∙ ap (λ y. all ++ y ∷ []) (same ∙ at ∙ get_or_default xs i other x u ∙ sym a)
+
+    -- how the member's key, as it was read, stands to the other
+    pub ranked : (own : K) (found rank : Ordering) → own ≡ key x → found ≡ R own k → found ≡ rank → R (key x) k ≡ rank
+    ranked own found rank is e r = ap (λ l. R l k) (sym is) ∙ sym e ∙ r
+
     -- the key is above the member, and so are all that follow
     pub missing_less : (whole : List X) → IsStrictlySortedBy R ks → R (key x) k ≡ Less → all ++ kept false (left i) (right j) ≡ whole → (all ++ x ∷ []) ++ kept false (left (i + 1)) (right j) ≡ whole
     missing_less whole t r h =
         append_assoc all (x ∷ []) (kept false (left (i + 1)) (right j))
         ∙ ap (λ l. all ++ x ∷ kept false (left (i + 1)) l) (at_place ks j k v c)
         ∙ ap (λ l. all ++ l) (sym (opened false ∙ kept_less false x k (left (i + 1)) (right (j + 1)) r (keys_rise t))) ∙ h
+
+    pub missing_pushed : (new whole : List X) → new ≡ all ++ x ∷ [] → IsStrictlySortedBy R ks → R (key x) k ≡ Less → all ++ kept false (left i) (right j) ≡ whole → new ++ kept false (left (i + 1)) (right j) ≡ whole
+    missing_pushed new whole is t r h = ap (λ l. l ++ kept false (left (i + 1)) (right j)) is ∙ missing_less whole t r h
 
     pub common_less : (whole : List X) → IsStrictlySortedBy R ks → R (key x) k ≡ Less → all ++ kept true (left i) (right j) ≡ whole → all ++ kept true (left (i + 1)) (right j) ≡ whole
     common_less whole t r h =
@@ -273,9 +276,10 @@ module _ {K X : Type 0} {R : K → K → Ordering} (o : IsTotalOrder R) (key : X
     pub missing_equal : (whole : List X) → KeysRise R key xs → R (key x) k ≡ Equal → all ++ kept false (left i) (right j) ≡ whole → all ++ kept false (left (i + 1)) (right (j + 1)) ≡ whole
     missing_equal whole s r h = ap (λ l. all ++ l) (sym (opened false ∙ kept_equal false x k (left (i + 1)) (right (j + 1)) r (members_rise s))) ∙ h
 
-    pub common_equal : (whole : List X) → KeysRise R key xs → R (key x) k ≡ Equal → all ++ kept true (left i) (right j) ≡ whole → (all ++ x ∷ []) ++ kept true (left (i + 1)) (right (j + 1)) ≡ whole
-    common_equal whole s r h =
-        append_assoc all (x ∷ []) (kept true (left (i + 1)) (right (j + 1)))
+    pub common_pushed : (new whole : List X) → new ≡ all ++ x ∷ [] → KeysRise R key xs → R (key x) k ≡ Equal → all ++ kept true (left i) (right j) ≡ whole → new ++ kept true (left (i + 1)) (right (j + 1)) ≡ whole
+    common_pushed new whole is s r h =
+        ap (λ l. l ++ kept true (left (i + 1)) (right (j + 1))) is
+        ∙ append_assoc all (x ∷ []) (kept true (left (i + 1)) (right (j + 1)))
         ∙ ap (λ l. all ++ l) (sym (opened true ∙ kept_equal true x k (left (i + 1)) (right (j + 1)) r (members_rise s))) ∙ h
 
     pub kept_past : (b : Bool) (whole : List X) → KeysRise R key xs → R (key x) k ≡ Greater → all ++ kept b (left i) (right j) ≡ whole → all ++ kept b (left i) (right (j + 1)) ≡ whole
@@ -296,3 +300,10 @@ module _ {K X : Type 0} {R : K → K → Ordering} (o : IsTotalOrder R) (key : X
 
     pub common_ends_right : length ks ≤ j → kept true (drop i xs) (drop j ks) ≡ []
     common_ends_right l = ap (λ l. kept true (drop i xs) l) (drop_past ks j l) ∙ common-nil (drop i xs)
+
+    -- then what was kept is all, with the rest of the members or without it
+    pub missing_all : (all new whole : List X) → kept false (drop i xs) (drop j ks) ≡ drop i xs → new ≡ all ++ take (length xs - i) (drop i xs) → all ++ kept false (drop i xs) (drop j ks) ≡ whole → new ≡ whole
+    missing_all all new whole ends is h = is ∙ ap (λ l. all ++ l) (take_rest xs i ∙ sym ends) ∙ h
+
+    pub common_all : (all whole : List X) → kept true (drop i xs) (drop j ks) ≡ [] → all ++ kept true (drop i xs) (drop j ks) ≡ whole → all ≡ whole
+    common_all all whole ends h = sym (append-nil all) ∙ ap (λ l. all ++ l) (sym ends) ∙ h

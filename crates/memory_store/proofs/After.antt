@@ -1,7 +1,6 @@
 -- Contents after changes.
-use Rattle.std.proofs.Common.{◌≡◌, List, [], ◌∷◌, ◌++◌, refl}
-use Rattle.std.specs.Prelude.{map}
-use Rattle.lens_specs.specs.Keeping.{Kept, changed}
+use Rattle.std.proofs.Common.{◌≡◌, List, [], ◌∷◌, ◌++◌, refl, map}
+use Rattle.lens_specs.specs.Common.{Kept, changed}
 use Rattle.table_keeper.specs.Changes.{change_view}
 use Rattle.table_keeper.specs.declared.keeper.Change.{Change}
 use Rattle.memory_store.specs.InMemory.{after}

@@ -1,17 +1,9 @@
 -- The rows of tables by name.
-use Rattle.std.proofs.Common.{◌≡◌, ◌∙◌, ◌<◌, ◌+◌, ℕ, zero, suc, arith, Bool, true, false, List, [], ◌∷◌, ◌++◌, get_or, length, take, cond, Some, None, ap, sym, subst, refl}
-use Rattle.std.specs.Prelude.{map}
-use Rattle.std.proofs.lemmas.List.{take_more}
-use Rattle.std.specs.BTreeMap.{is_at}
-use Rattle.std.specs.Cmp.{eq_by_cmp_equiv}
+use Rattle.std.proofs.Common.{◌≡◌, ◌∙◌, ◌<◌, ◌+◌, ℕ, zero, suc, arith, Bool, true, false, List, [], ◌∷◌, ◌++◌, get_or, length, take, cond, Some, None, ap, sym, subst, refl, map}
+use Rattle.plain_values.proofs.Common.{take_more, is_at, eq_by_cmp_equiv, AllByRecursion, IsStrictlySortedBy, lookup, eq_by_cmp, Less, bytes_cmp}
 use Rattle.std.specs.FinMap as finmap
-use Rattle.std.specs.List.{AllByRecursion}
-use Rattle.std.specs.List.Sorted.{IsStrictlySortedBy}
-use Rattle.std.specs.Map.{lookup}
-use Rattle.std.specs.Ordering.{eq_by_cmp}
-use Rattle.std.specs.declared.cmp.Ordering.TheVariants.{Less}
-use Rattle.plain_values.specs.Order.{bytes_cmp}
-use Rattle.lens_specs.specs.Relation.{Name, Rows}
+use Rattle.lens_specs.specs.Common.{Rows}
+use Rattle.lens_specs.specs.Relation.{Name}
 use Rattle.row_sets.proofs.Walks.{apart}
 use Rattle.table_keeper.specs.Changes.{names_of, rows_of}
 use Rattle.table_keeper.specs.Places.{Rise, rows_in}

@@ -1,10 +1,6 @@
 -- Rows that are put in and taken out one after the other.
-use Rattle.std.proofs.Common.{◌≡◌, ◌∙◌, Bool, true, false, List, [], ◌∷◌, ap, sym, refl}
-use Rattle.std.specs.Prelude.{◌||◌, ◌&&◌, not}
-use Rattle.std.specs.Ordering.{eq_by_cmp}
-use Rattle.std.proofs.Math.Bool.{or_comm, and_comm}
-use Rattle.plain_values.specs.Row.{row_cmp, Row}
-use Rattle.plain_values.specs.RowOrder.{row_cmp_total, row_cmp-IsAntisymmetric}
+use Rattle.std.proofs.Common.{◌≡◌, ◌∙◌, Bool, true, false, List, [], ◌∷◌, ap, sym, refl, ◌||◌, ◌&&◌, not}
+use Rattle.plain_values.proofs.Common.{eq_by_cmp, or_comm, and_comm, row_cmp, Row, row_cmp_total, row_cmp-IsAntisymmetric}
 use Rattle.plain_values.specs.SortedSet as set
 use Rattle.lens_specs.specs.Common.{Delta, new_view, Rows, has, minus, union}
 use Rattle.row_sets.specs.Members.{is_in}

@@ -1,8 +1,7 @@
 -- Last changes of tables that are changed again.
 use Rattle.std.proofs.Common.{◌≡◌, ◌∙◌, ◌∷◌, ℕ, Bool, List, [], Option, Some, ap, cond, is_some, refl, true, false}
 use Rattle.std.specs.FinMap as finmap
-use Rattle.std.specs.Ordering.{eq_by_cmp}
-use Rattle.plain_values.specs.Order.{bytes_cmp}
+use Rattle.plain_values.proofs.Common.{eq_by_cmp, bytes_cmp}
 use Rattle.fd_laws.proofs.Common.{name_total}
 use Rattle.lens_specs.specs.Common.{Name, TableDelta}
 use Rattle.opened_view.specs.Moving.{AreThere}

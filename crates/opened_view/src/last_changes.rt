@@ -37,7 +37,7 @@ impl LastChanges {
         }
     }
 
-    /// The last changes once the version changed this table.
+    /// These last changes, but with the version as the last change of this table.
     pub fn with(&self, alloc: Global, table: &Name, version: u64) -> Result<LastChanges, NoMemory>
         ensures { IfOk result (λ after. after ≡ finmap.insert self.now table.now version) }
     {
@@ -46,7 +46,8 @@ impl LastChanges {
         Ok(after)
     }
 
-    /// The version changed each of these tables, whose last changes are there. It takes no memory.
+    /// Sets the last change of each of these tables to the version. The tables are there already,
+    /// so it takes no memory.
     pub fn move_on(&mut self, changes: &[TableDelta], version: u64)
         requires { AreThere self.old (map table_delta changes.now) }
         ensures { self.new ≡ with_last version (map table_delta changes.now) self.old }
@@ -56,7 +57,7 @@ impl LastChanges {
         }
     }
 
-    // The version changed the table, whose last change is there.
+    // Sets the last change of the table, which is there already, to the version.
     fn move_one(&mut self, table: &Name, version: u64)
         requires { is_some (finmap.get self.old table.now) ≡ true }
         ensures { self.new ≡ finmap.insert self.old table.now version }
@@ -66,7 +67,7 @@ impl LastChanges {
         }
     }
 
-    /// Equal last changes.
+    /// A copy.
     pub fn copy(&self, alloc: Global) -> Result<LastChanges, NoMemory>
         ensures { IfOk result (λ copy. copy ≡ self.now) }
     {
@@ -95,7 +96,7 @@ impl LastChanges {
         self.versions.get(table).copied().unwrap_or(0)
     }
 
-    /// The version changed the table.
+    /// Sets the last change of the table to the version.
     pub fn set(&mut self, table: &Name, version: u64) -> Result<(), NoMemory>
         ensures ok { OnOk result (self.new ≡ finmap.insert self.old table.now version) }
         ensures err { OnErr result (self.new ≡ self.old) }

@@ -1,26 +1,14 @@
 -- A store that opens gives a valid state, of which the same is kept; and what is kept of a valid state opens.
-use Rattle.std.proofs.Common.{◌≡◌, ◌≤◌, ◌&&◌, ◌++◌, ℕ, Bool, true, false, cond, List, [], ◌∷◌, map, Option, Some, None, Result, Ok, is_some, inl, inr, refl, sym, ap, subst, ◌∙◌, arith}
-use Rattle.std.specs.Prelude.{◌↔◌, IfSome, not, option_map}
-use Rattle.std.proofs.lemmas.Bool.{cases_Bool, and_parts, or_cases, or_parts, true≢false, not-false, not_from_true, and_from}
-use Rattle.std.proofs.lemmas.List.Folds.{list_any-append}
+use Rattle.std.proofs.Common.{◌≡◌, ◌≤◌, ◌&&◌, ◌++◌, ℕ, Bool, true, false, cond, List, [], ◌∷◌, map, Option, Some, None, Result, Ok, is_some, inl, inr, refl, sym, ap, subst, ◌∙◌, arith, ◌↔◌, IfSome, not, option_map}
+use Rattle.plain_values.proofs.Common.{cases_Bool, and_parts, or_cases, or_parts, true≢false, not-false, not_from_true, and_from, list_any-append, list_any, eq_by_cmp, bytes_cmp, row_cmp, Row, all_at, find_none, map_none, none_is}
 use Rattle.std.specs.FinMap as finmap
-use Rattle.std.specs.List.{list_any}
-use Rattle.std.specs.Ordering.{eq_by_cmp}
-use Rattle.plain_values.specs.Order.{bytes_cmp}
-use Rattle.plain_values.specs.Row.{row_cmp, Row}
 use Rattle.plain_values.specs.SortedSet as set
-use Rattle.plain_values.proofs.Lists.{all_from, all_at, find_none}
-use Rattle.plain_values.proofs.Tests.{map_none, none_is}
+use Rattle.plain_values.proofs.Lists.{all_from}
 use Rattle.fd_laws.proofs.Common.{name_total, name_exact, name_itself, tied_name, tied_row, row_itself}
-use Rattle.lens_laws.proofs.Sorts.{find_nothing, none_off, off_none}
-use Rattle.lens_specs.specs.Common.{Name, is_among, Columns, Fits, fits_at, Rows, Relation, has, holds, Sort, violating_pair, IsOf, Tables, Lens, sort_of, Kept}
-use Rattle.lens_specs.specs.Keeping.{nothing}
-use Rattle.io_specs.specs.Lines.{Line}
-use Rattle.catalog_specs.specs.Catalogue.{Catalogue, catalogue, is_table_of}
-use Rattle.catalog_specs.specs.Judging.{first_refused}
-use Rattle.server_specs.specs.State.{State, fresh, kept}
-use Rattle.server_specs.specs.Session.{Session}
-use Rattle.server_specs.specs.Validity.{IsStoredAs, IsStored, Valid}
+use Rattle.lens_laws.proofs.Common.{none_off, off_none}
+use Rattle.lens_laws.proofs.Sorts.{find_nothing}
+use Rattle.lens_specs.specs.Common.{Name, is_among, Columns, Fits, fits_at, Rows, Relation, has, holds, Sort, violating_pair, IsOf, Tables, Lens, sort_of, Kept, nothing}
+use Rattle.server_specs.specs.Common.{Line, Catalogue, catalogue, is_table_of, first_refused, State, fresh, kept, Session, IsStoredAs, IsStored, Valid}
 use Rattle.server_laws.proofs.Kept.{rows_of, get-rows_of}
 use Rattle.server_laws.proofs.Valid.{fresh_is_valid, valid_session}
 use Rattle.opening_specs.specs.Opening.{Damage, definition, is_fit, or_damage, first_bad, clash_of_table, bad_row, damage_of_rows, damage_at, sort_where, table_sort_of, damage_among, all_names, first_damage, columns_of, as_table, mapped, state_of, unless_damaged, opened}

@@ -1,6 +1,5 @@
 -- What walks along columns show.
-use Rattle.std.proofs.Common.{◌≡◌, ℕ, List, [], ◌∷◌, ap, sym, subst, ◌∙◌, refl, Bool, true, false, cond, map}
-use Rattle.std.specs.Prelude.{◌↔◌, ◌&&◌, IsTrue, not, filter, find, is_some, Option, Some, None, option_map}
+use Rattle.std.proofs.Common.{◌≡◌, ℕ, List, [], ◌∷◌, ap, sym, subst, ◌∙◌, refl, Bool, true, false, cond, map, ◌↔◌, ◌&&◌, IsTrue, not, filter, find, is_some, Option, Some, None, option_map}
 use Rattle.std.specs.List.{AllByRecursion, list_all}
 use Rattle.std.specs.List.Sorted.{IsStrictlySortedBy}
 use Rattle.std.specs.Ordering.{eq_by_cmp, is_eq}

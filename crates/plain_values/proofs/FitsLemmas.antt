@@ -1,6 +1,5 @@
 -- What fits where.
-use Rattle.std.proofs.Common.{◌≡◌, ℕ, List, [], ◌∷◌, sym, ap, ◌∙◌, subst, refl, Bool, true, false, cond, inl, inr, length, arith, suc, nat_eq}
-use Rattle.std.specs.Prelude.{◌↔◌, ◌&&◌, IsTrue, is_some, Option, Some, None}
+use Rattle.std.proofs.Common.{◌≡◌, ℕ, List, [], ◌∷◌, sym, ap, ◌∙◌, subst, refl, Bool, true, false, cond, inl, inr, length, arith, suc, nat_eq, ◌↔◌, ◌&&◌, IsTrue, is_some, Option, Some, None}
 use Rattle.std.proofs.lemmas.Bool.{cases_Bool, and_parts, and_from}
 use Rattle.std.proofs.lemmas.Bool.Decides.{eqb_tells}
 use Rattle.std.specs.List.{list_all, zip}

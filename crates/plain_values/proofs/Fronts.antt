@@ -1,6 +1,5 @@
 -- The number that the first bytes of a text spell: it orders texts that begin otherwise.
-use Rattle.std.proofs.Common.{[], ◌∷◌, ◌<◌, ◌+◌, ◌*◌, zero, suc, ◌≡◌, sym, ap, subst, refl, ◌∙◌, length, List, ◌++◌, ℕ, IsTrue, true, arith, take, replicate}
-use Rattle.std.specs.Prelude.{◌&&◌, ◌==◌, ◌≢◌, not, nat_le, slice_index}
+use Rattle.std.proofs.Common.{[], ◌∷◌, ◌<◌, ◌+◌, ◌*◌, zero, suc, ◌≡◌, sym, ap, subst, refl, ◌∙◌, length, List, ◌++◌, ℕ, IsTrue, true, arith, take, replicate, ◌&&◌, ◌==◌, ◌≢◌, not, nat_le, slice_index}
 use Rattle.std.specs.List.{list_all}
 use Rattle.std.specs.declared.cmp.Ordering.{Ordering}
 use Rattle.std.specs.declared.cmp.Ordering.TheVariants.{Less, Equal, Greater}

@@ -1,5 +1,6 @@
 pub mod Agreement
 pub mod ColumnsLemmas
+pub mod Common
 pub mod FitsLemmas
 pub mod Fronts
 pub mod Lists

@@ -1,11 +1,9 @@
 -- A name that is written into an array of zeros.
-use Rattle.std.proofs.Common.{[], ◌∷◌, ◌<◌, ◌-◌, zero, suc}
-use Rattle.std.specs.Prelude.{◌&&◌, ◌==◌, not, nat_le, slice_index}
+use Rattle.std.proofs.Common.{[], ◌∷◌, ◌<◌, ◌-◌, zero, suc, ◌&&◌, ◌==◌, not, nat_le, slice_index, ◌≡◌, sym, length, List, ◌++◌, ℕ, IsTrue, true, arith, take, drop, subst, refl, replicate, length-append}
 use Rattle.std.specs.List.{list_all}
 use Rattle.std.specs.Str.{IsAscii, IsUtf8}
 use Rattle.std.proofs.lemmas.Str.{IsUtf8-from_ascii}
 use Rattle.std.proofs.lemmas.Bool.Decides.{nat_tests}
-use Rattle.std.proofs.Common.{◌≡◌, sym, length, List, ◌++◌, ℕ, IsTrue, true, arith, take, drop, subst, refl, replicate, length-append}
 use Rattle.std.proofs.lemmas.List.{drop-replicate, take_at}
 use Rattle.plain_values.specs.Bytes.{is_name, is_name_byte, is_lower}
 use Rattle.plain_values.specs.NameBytes.{KeepsName, spelt}

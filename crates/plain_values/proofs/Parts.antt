@@ -1,6 +1,5 @@
 -- The keys of the entries that pass.
-use Rattle.std.proofs.Common.{◌≡◌, List, [], ◌∷◌, ap, refl, Bool, true, false, cond, ◌∙◌}
-use Rattle.std.specs.Prelude.{filter}
+use Rattle.std.proofs.Common.{◌≡◌, List, [], ◌∷◌, ap, refl, Bool, true, false, cond, ◌∙◌, filter}
 use Rattle.plain_values.specs.SortedMap.{keys_of}
 
 module _ {K X : Type 0} (p : K → Bool) where

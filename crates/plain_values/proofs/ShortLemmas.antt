@@ -1,6 +1,5 @@
 -- Short texts compared by the numbers that their bytes spell: eight for each of the first two, and six for the last.
-use Rattle.std.proofs.Common.{[], ◌∷◌, ◌<◌, ◌≤◌, ◌+◌, ◌-◌, ◌*◌, zero, suc, ◌≡◌, sym, ap, subst, refl, ◌∙◌, length, List, ◌++◌, ℕ, IsTrue, Bool, true, false, arith, take, drop, replicate, get_or, length-append, length-drop}
-use Rattle.std.specs.Prelude.{◌&&◌, ◌||◌, ◌==◌, ◌≢◌, not, nat_le}
+use Rattle.std.proofs.Common.{[], ◌∷◌, ◌<◌, ◌≤◌, ◌+◌, ◌-◌, ◌*◌, zero, suc, ◌≡◌, sym, ap, subst, refl, ◌∙◌, length, List, ◌++◌, ℕ, IsTrue, Bool, true, false, arith, take, drop, replicate, get_or, length-append, length-drop, ◌&&◌, ◌||◌, ◌==◌, ◌≢◌, not, nat_le}
 use Rattle.std.specs.List.{list_all, list_any}
 use Rattle.std.specs.Str.{IsUtf8}
 use Rattle.std.specs.declared.cmp.Ordering.{Ordering}

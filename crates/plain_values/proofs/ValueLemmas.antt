@@ -2,7 +2,7 @@
 use Rattle.std.proofs.Common.{◌≡◌, ℕ, ℤ, Bool, true, List, refl, ap, sym, ◌∙◌, zero, suc, inl, inr, true≢false}
 use Rattle.std.proofs.lemmas.Bool.Decides.{eqb_tells}
 use Rattle.std.specs.Ordering.{is_eq}
-use Rattle.plain_values.specs.Value.{fits, is_nullable, kind_place, same_kind, value_cmp}
+use Rattle.plain_values.specs.Value.{fits, kind_place, same_kind, value_cmp}
 use Rattle.plain_values.specs.ValueOrder.{derived_cmp}
 use Rattle.plain_values.specs.declared.value.Kind.{Kind}
 use Rattle.plain_values.specs.declared.value.Kind.TheVariants.{Int, Text, Flag, IntOrNull, TextOrNull, FlagOrNull}
@@ -70,8 +70,3 @@ text_fits_null bytes = refl
 pub flag_fits_null : (b : Bool) → fits (value.Flag b) FlagOrNull ≡ true
 unfolding fits
 flag_fits_null b = refl
-
--- null fits each kind that takes it
-pub null_fits : (k : Kind) → is_nullable k ≡ true → fits value.Null k ≡ true
-unfolding fits
-null_fits k h = h

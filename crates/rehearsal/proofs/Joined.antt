@@ -1,14 +1,8 @@
 -- One session after another.
-use Rattle.std.proofs.Common.{◌≡◌, ◌≤◌, ◌+◌, ℕ, List, [], ◌∷◌, ◌++◌, map, length, refl, ap, sym, subst, ◌∙◌, arith, append-nil, append_assoc}
-use Rattle.std.specs.Prelude.{Option, Result}
+use Rattle.std.proofs.Common.{◌≡◌, ◌≤◌, ◌+◌, ℕ, List, [], ◌∷◌, ◌++◌, map, length, refl, ap, sym, subst, ◌∙◌, arith, append-nil, append_assoc, Option, Result}
 use Rattle.std.proofs.lemmas.List.{map-append, length-map}
-use Rattle.io_specs.specs.Calls.{Adds}
-use Rattle.io_specs.specs.Lines.{Line}
+use Rattle.server_specs.specs.Common.{Adds, Line, State, Answer, Request, request, Exchange, Chain, Step, last_state, last_count, Session}
 use Rattle.io_specs.proofs.Calls.{Adds-then, Adds-weaker}
-use Rattle.server_specs.specs.State.{State}
-use Rattle.server_specs.specs.Answer.{Answer}
-use Rattle.server_specs.specs.Request.{Request, request}
-use Rattle.server_specs.specs.Session.{Exchange, Chain, Step, last_state, last_count, Session}
 use Rattle.server_laws.proofs.AnswerFacts.{version_step}
 use Rattle.table_keeper.specs.declared.calls.Call.{Call}
 use Rattle.lens_server.specs.Committing.{CommitsFor, CommitsForAll}

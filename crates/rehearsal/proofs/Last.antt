@@ -1,7 +1,6 @@
 -- The end of a rehearsal.
-use Rattle.std.proofs.Common.{◌≡◌, ◌≤◌, ◌+◌, ℕ, List, [], ◌∷◌, ◌++◌, length, refl, ap, sym, ◌∙◌, arith}
-use Rattle.std.specs.Prelude.{count_by}
-use Rattle.io_specs.specs.Lines.{Line}
+use Rattle.std.proofs.Common.{◌≡◌, ◌≤◌, ◌+◌, ℕ, List, [], ◌∷◌, ◌++◌, length, refl, ap, sym, ◌∙◌, arith, count_by}
+use Rattle.server_specs.specs.Common.{Line}
 use Rattle.rehearsal.specs.Rehearsal.{read_lines}
 use Rattle.rehearsal.specs.Rehearsed.{Rehearsed}
 use Rattle.rehearsal.specs.Stages.{Point, Passed, Shows, counted}

@@ -1,9 +1,8 @@
 -- A loop over lines goes on.
-use Rattle.std.proofs.Common.{◌≡◌, ◌≤◌, ◌<◌, ◌+◌, ◌-◌, ◌*◌, ℕ, zero, suc, List, [], ◌∷◌, ◌++◌, map, take, drop, get_or, length, refl, ap, sym, subst, ◌∙◌, arith, append-nil, append_assoc, add-one, add-zero, add-suc, length-append, length-take-le, String, Global, string_bytes}
-use Rattle.std.specs.Prelude.{flat_map, Bool, true, false, if◌then◌else◌}
+use Rattle.std.proofs.Common.{◌≡◌, ◌≤◌, ◌<◌, ◌+◌, ◌-◌, ◌*◌, ℕ, zero, suc, List, [], ◌∷◌, ◌++◌, map, take, drop, get_or, length, refl, ap, sym, subst, ◌∙◌, arith, append-nil, append_assoc, add-one, add-zero, add-suc, length-append, length-take-le, String, Global, string_bytes, flat_map, Bool, true, false, if◌then◌else◌}
 use Rattle.std.proofs.lemmas.Grind.{flat_map-append}
 use Rattle.std.proofs.lemmas.List.{length-map, map_more, map-append, take-append-drop}
-use Rattle.io_specs.specs.Lines.{Line, marked}
+use Rattle.server_specs.specs.Common.{Line, marked}
 use Rattle.rehearsal.specs.Rehearsal.{below, table_lines, view_lines, stock_line}
 use Rattle.rehearsal.specs.Stages.{Point, Passed, Passes, Halted, HasRoom}
 use Rattle.rehearsal.proofs.Points.{Passed-append, Halted-first, Halted-after, Halted-early, told-Passed, Room-Passed}

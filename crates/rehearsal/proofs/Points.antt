@@ -1,16 +1,10 @@
 -- How a rehearsal goes on.
-use Rattle.std.proofs.Common.{◌≡◌, ◌≢◌, ◌≤◌, ◌+◌, ℕ, List, [], ◌∷◌, ◌++◌, length, refl, ap, sym, ◌∙◌, arith, append-nil, append_assoc}
-use Rattle.std.specs.Prelude.{None, Some, Option, Result, Ok, Err, OnErr, Bool, true, false, not, if◌then◌else◌, count_by}
+use Rattle.std.proofs.Common.{◌≡◌, ◌≢◌, ◌≤◌, ◌+◌, ℕ, List, [], ◌∷◌, ◌++◌, length, refl, ap, sym, ◌∙◌, arith, append-nil, append_assoc, None, Some, Option, Result, Ok, Err, OnErr, Bool, true, false, not, if◌then◌else◌, count_by}
 use Rattle.std.specs.List.{AllByRecursion}
 use Rattle.std.proofs.lemmas.List.Sums.{sum_by-append, count_by-le-length}
-use Rattle.lens_specs.specs.Keeping.{Kept, Follows, IfObserved}
-use Rattle.io_specs.specs.Calls.{Adds}
-use Rattle.io_specs.specs.Lines.{Line}
+use Rattle.lens_specs.specs.Common.{Kept, Follows, IfObserved}
+use Rattle.server_specs.specs.Common.{Adds, Line, State, kept, memory, text, Step, request}
 use Rattle.io_specs.proofs.Calls.{Adds-none}
-use Rattle.server_specs.specs.State.{State, kept}
-use Rattle.server_specs.specs.Answer.{memory, text}
-use Rattle.server_specs.specs.Session.{Step}
-use Rattle.server_specs.specs.Request.{request}
 use Rattle.server_specs.proofs.Sessions.{Session-nil}
 use Rattle.lens_server.specs.Committing.{CommitsFor}
 use Rattle.lens_server.specs.Counting.{most_looked, most_walked}
@@ -197,9 +191,6 @@ Halted-after a b c lines lines' replies p h = record {
 pub Stopped-Halted : (a b : Point) (lines : List Line) → Halted a lines b
     → (stopped : Stopped a.state a.faults lines b.state b.faults a.calls b.calls a.walked b.walked) × (b.looked ≤ a.looked + most_looked_in a.state stopped.session.exchanges)
 Stopped-Halted a b lines h = (record { taken = h.taken; rest = h.rest; front = h.front; replies = h.replies; session = h.session; ends = h.ends; commits = h.commits; few = h.few }, h.few_looked)
-
-pub later-Passed : (a b : Point) (lines : List Line) (replies : List (List ℕ)) → Passed a lines replies b → a.faults ≤ b.faults
-later-Passed a b lines replies p = later-session a.state a.faults lines replies b.state b.faults p.session
 
 pub later-Halted : (a b : Point) (lines : List Line) → Halted a lines b → a.faults ≤ b.faults
 later-Halted a b lines h = later-session a.state a.faults h.taken h.replies b.state b.faults h.session

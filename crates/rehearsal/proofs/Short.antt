@@ -1,6 +1,5 @@
 -- The lines that are made are short.
-use Rattle.std.proofs.Common.{◌≡◌, ◌≤◌, ◌+◌, ◌*◌, ◌/◌, ◌%◌, ◌==◌, ℕ, zero, suc, pos, negsuc, List, [], ◌∷◌, ◌++◌, Bool, true, false, cond, decimal, length, ap, arith, length-append}
-use Rattle.std.specs.Prelude.{nat_lt}
+use Rattle.std.proofs.Common.{◌≡◌, ◌≤◌, ◌+◌, ◌*◌, ◌/◌, ◌%◌, ◌==◌, ℕ, zero, suc, pos, negsuc, List, [], ◌∷◌, ◌++◌, Bool, true, false, cond, decimal, length, ap, arith, length-append, nat_lt}
 use Rattle.std.specs.Char.{digit_char}
 use Rattle.std.specs.Fmt.{digits, digits_onto, digit_glyph}
 use Rattle.std.proofs.lemmas.Bool.{le-leb}
@@ -8,7 +7,7 @@ use Rattle.json.specs.Print.{quoted, escape, escape_byte, escape_letter}
 use Rattle.rehearsal.specs.Rehearsal.{json_text}
 use Rattle.serde_json.specs.Data.{Num, unsigned, negative, float, Data, null, boolean, number, string, array, object, Items, no_items, item, Members, no_members, member}
 use Rattle.serde_json.specs.Written.{compact_text, items_text, members_text, comma_if, number_text}
-use Rattle.io_specs.specs.Lines.{line, too_long, marked}
+use Rattle.server_specs.specs.Common.{line, too_long, marked}
 
 -- ---- texts of numbers and strings
 

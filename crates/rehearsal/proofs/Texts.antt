@@ -1,10 +1,9 @@
 -- The texts of the lines.
-use Rattle.std.proofs.Common.{◌≡◌, ◌∙◌, ◌≤◌, ℕ, List, ap, String, Global, string_bytes}
-use Rattle.std.specs.Prelude.{IfOk}
+use Rattle.std.proofs.Common.{◌≡◌, ◌∙◌, ◌≤◌, ℕ, List, ap, String, Global, string_bytes, IfOk}
 use Rattle.std.specs.declared.result.Result.{Result}
 use Rattle.std.proofs.lemmas.Result.{IfOk-weaker}
 use Rattle.serde_json.specs.Data.{Data}
-use Rattle.io_specs.specs.Lines.{marked}
+use Rattle.server_specs.specs.Common.{marked}
 use Rattle.rehearsal.specs.Rehearsal.{json_text, line_of}
 use Rattle.rehearsal.proofs.Short.{most, marked-short}
 

@@ -1,7 +1,6 @@
 -- The four stages of a rehearsal, one after another.
-use Rattle.std.proofs.Common.{◌≡◌, ◌≤◌, ◌<◌, ◌+◌, ◌-◌, ◌*◌, ◌^◌, ℕ, List, ◌++◌, ap, arith, length-append}
-use Rattle.std.specs.Prelude.{flat_map}
-use Rattle.io_specs.specs.Lines.{Line}
+use Rattle.std.proofs.Common.{◌≡◌, ◌≤◌, ◌<◌, ◌+◌, ◌-◌, ◌*◌, ◌^◌, ℕ, List, ◌++◌, ap, arith, length-append, flat_map}
+use Rattle.server_specs.specs.Common.{Line}
 use Rattle.rehearsal.specs.Rehearsal.{below, definition_lines, read_lines, rehearsal, table_lines, view_lines}
 use Rattle.rehearsal.specs.Rehearsed.{Rehearsed}
 use Rattle.rehearsal.specs.Stages.{Point, Passes, Halted, HasRoom, Shows}

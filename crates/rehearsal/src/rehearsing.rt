@@ -10,7 +10,7 @@ ghost use Rattle.rehearsal.specs.Stages.{Answers, Halted, HasRoom, Passes, Shows
 ghost use Rattle.rehearsal.specs.Walking.{most_looked_in};
 
 use crate::lines::{definition_lines, read_line, table_lines, view_lines};
-use crate::replies::{read_reply, tells_no_memory};
+use crate::replies::{read_reply, reports_no_memory};
 use crate::summary::summary_line;
 use crate::tally::{Shown, Tally};
 use lens_server::Server;
@@ -314,10 +314,10 @@ fn ask<K: Keeper, L: Ledger, M: Ledger>(
     ensures place { K.place keeper.new ≡ K.place keeper.old }
 {
     let reply = server.answer(alloc, keeper, line, walked, looked);
-    if tells_no_memory(&reply) {
+    if reports_no_memory(&reply) {
         return Err(NoMemory);
     }
-    let told = read_reply(alloc, reply.bytes())?;
-    tally.count(told.accepts);
-    Ok(told.rows)
+    let reported = read_reply(alloc, reply.bytes())?;
+    tally.count(reported.accepts);
+    Ok(reported.rows)
 }

@@ -13,13 +13,13 @@ use std::alloc::Global;
 
 /// Whether a reply accepts its line, and how many rows it shows.
 #[derive(Clone, Copy, Debug)]
-pub(crate) struct Told {
+pub(crate) struct Reported {
     pub accepts: bool,
     pub rows: usize,
 }
 
 /// Whether the reply says that memory ran out.
-pub(crate) fn tells_no_memory(reply: &Reply) -> bool
+pub(crate) fn reports_no_memory(reply: &Reply) -> bool
     ensures { IsTrue result ↔ (reply.now ≡ text memory) }
 {
     let memory = memory_reply();
@@ -27,12 +27,12 @@ pub(crate) fn tells_no_memory(reply: &Reply) -> bool
 }
 
 /// Reads a reply.
-pub(crate) fn read_reply(alloc: Global, reply: &[u8]) -> Result<Told, NoMemory>
-    ensures accepts { IfOk result (λ told. told.accepts ≡ is_ok reply.now) }
-    ensures rows { IfOk result (λ told. told.rows ≡ rows_shown reply.now) }
+pub(crate) fn read_reply(alloc: Global, reply: &[u8]) -> Result<Reported, NoMemory>
+    ensures accepts { IfOk result (λ reported. reported.accepts ≡ is_ok reply.now) }
+    ensures rows { IfOk result (λ reported. reported.rows ≡ rows_shown reply.now) }
 {
     match Json::from_slice(alloc, reply) {
-        Ok(json) => Ok(Told {
+        Ok(json) => Ok(Reported {
             accepts: accepts(&json),
             rows: rows_in(&json),
         }),
@@ -40,7 +40,7 @@ pub(crate) fn read_reply(alloc: Global, reply: &[u8]) -> Result<Told, NoMemory>
             if e.is_memory() {
                 Err(NoMemory)
             } else {
-                Ok(Told {
+                Ok(Reported {
                     accepts: false,
                     rows: 0,
                 })

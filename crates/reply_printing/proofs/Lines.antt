@@ -7,7 +7,7 @@ use Rattle.serde_json.specs.Data.{Data}
 use Rattle.serde_json.proofs.Texts.{print-outline}
 use Rattle.json_text.specs.Written.{Written, Adds}
 use Rattle.json_text.proofs.Tokens.{print_ended}
-use Rattle.server_specs.specs.Answer.{Answer, answer_data, text}
+use Rattle.server_specs.specs.Common.{Answer, answer_data, text}
 use Rattle.reply_printing.specs.Printing.{data_tokens, json_line}
 
 -- the bracket that begins the object

@@ -1,14 +1,14 @@
 -- The tokens of a refusal's members, one after another.
-use Rattle.std.proofs.Common.{◌≡◌, ◌∙◌, ◌<◌, ◌+◌, ℕ, List, [], ◌∷◌, ◌++◌, take, length, get_or, ap, sym, refl, append_assoc, append-nil}
-use Rattle.std.specs.Prelude.{Option, Some, None}
-use Rattle.std.proofs.lemmas.List.{take_more}
+use Rattle.std.proofs.Common.{◌≡◌, ◌∙◌, ◌<◌, ◌+◌, ℕ, List, [], ◌∷◌, ◌++◌, take, length, get_or, ap, sym, refl, append_assoc, append-nil, Option, Some, None}
+use Rattle.plain_values.proofs.Common.{take_more}
 use Rattle.json.specs.Token.{end_object}
 use Rattle.json.specs.Tree.{members_tokens}
 use Rattle.json.specs.Print.{print_from}
 use Rattle.serde_json.specs.Data.{Members}
 use Rattle.serde_json.specs.Written.{members_outline}
 use Rattle.json_text.specs.Written.{Adds, Written}
-use Rattle.server_specs.specs.Answer.{answer_data, refused_edit_data}
+use Rattle.server_specs.specs.Common.{answer_data}
+use Rattle.server_specs.specs.Answer.{refused_edit_data}
 use Rattle.server_specs.specs.EditRefusal as refusals
 use Rattle.reply_printing.specs.Answers.{refused_in}
 use Rattle.reply_printing.specs.Refusals.{part_tokens, parts_data, parts_tokens, with_part}

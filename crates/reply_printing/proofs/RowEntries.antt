@@ -1,10 +1,7 @@
 -- The entries of a row, read as its names and values side by side.
 use Rattle.std.proofs.Common.{◌≡◌, ◌∙◌, ◌<◌, ◌+◌, ℕ, List, [], ◌∷◌, ◌++◌, length, min, take, get_or, ap, sym, arith}
 use Rattle.std.specs.FinMap as finmap
-use Rattle.std.proofs.lemmas.List.{take_all}
-use Rattle.std.proofs.lemmas.Slice.Zip.{get_or-zip, length-zip}
-use Rattle.plain_values.specs.SortedMap.{values_of}
-use Rattle.plain_values.specs.Row.{Row}
+use Rattle.plain_values.proofs.Common.{take_all, get_or-zip, length-zip, values_of, Row}
 use Rattle.plain_values.specs.declared.value.Value.{Value}
 use Rattle.lens_values.proofs.Cells.{as_many, pairs_are}
 use Rattle.lens_specs.specs.Relation.{Name}

@@ -1,6 +1,6 @@
 -- The tokens of a reply, one part after another.
 use Rattle.std.proofs.Common.{◌≡◌, ◌∙◌, ◌<◌, ◌+◌, ℕ, List, [], ◌∷◌, ◌++◌, take, length, get_or, map, ap, sym, subst, refl, append_assoc, append-nil}
-use Rattle.std.proofs.lemmas.List.{take_more}
+use Rattle.plain_values.proofs.Common.{take_more, Row}
 use Rattle.json.specs.Token as token
 use Rattle.json.specs.Token.{Token, end_object, end_array, key}
 use Rattle.json.specs.Tree.{items_tokens, members_tokens}
@@ -9,13 +9,13 @@ use Rattle.serde_json.specs.Data.{Data, array, string}
 use Rattle.serde_json.specs.Written.{items_outline, members_outline}
 use Rattle.plain_values.specs.declared.value.Kind.{Kind}
 use Rattle.plain_values.specs.declared.value.Value.{Value}
-use Rattle.plain_values.specs.Row.{Row}
 use Rattle.plain_values.specs.SortedSet as set
 use Rattle.lens_specs.specs.Common.{Name, Rows, Edge}
 use Rattle.grammar_specs.specs.Printing.{printed_formula}
 use Rattle.lens_pred.specs.View.{formula_view, predicate_view}
 use Rattle.lens_pred.specs.declared.formula.Formula.{Formula}
-use Rattle.server_specs.specs.Answer.{value_data, pairs_data, row_data, rows_data, names_data, change_data, changes_data, columns_data, conjuncts_data, edge_data, edges_data, texts_data, kind_text}
+use Rattle.server_specs.specs.Common.{value_data, pairs_data, row_data, rows_data, names_data, changes_data, columns_data, conjuncts_data, edge_data, edges_data, texts_data}
+use Rattle.server_specs.specs.Answer.{change_data, kind_text}
 use Rattle.signed_delta.specs.Tables.{table_delta}
 use Rattle.signed_delta.specs.declared.delta.TableDelta.{TableDelta}
 use Rattle.reply_printing.specs.Printing.{data_tokens}

@@ -1,10 +1,10 @@
 -- The edits of a batch, read one after another.
-use Rattle.std.proofs.Common.{◌≡◌, ◌∙◌, List, [], ◌∷◌, ◌++◌, ap, sym, refl}
-use Rattle.std.specs.Prelude.{◌&&◌, Option, Some, None, is_some}
-use Rattle.std.specs.List.{list_all}
+use Rattle.std.proofs.Common.{◌≡◌, ◌∙◌, List, [], ◌∷◌, ◌++◌, ap, sym, refl, ◌&&◌, Option, Some, None, is_some}
+use Rattle.plain_values.proofs.Common.{list_all}
 use Rattle.borrowed_json.specs.Meaning.{value_data, items_data}
 use Rattle.borrowed_json.specs.declared.value.Value.{Value as Json}
-use Rattle.server_specs.specs.Request.{BatchEdit, batch_edit_in, each_edit, with_edit}
+use Rattle.server_specs.specs.Common.{BatchEdit, each_edit}
+use Rattle.server_specs.specs.Request.{batch_edit_in, with_edit}
 
 -- ---- whether each is an edit
 

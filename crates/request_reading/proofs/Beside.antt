@@ -1,20 +1,12 @@
 -- Members that stand beside the columns, in their order.
 use Rattle.std.proofs.Common.{◌≡◌, ◌∙◌, ◌<◌, ◌+◌, ℕ, zero, suc, List, [], ◌∷◌, ◌++◌, length, take, get_or, map, Some, ap, sym, subst, refl, arith, Bor}
-use Rattle.std.specs.declared.cmp.Ordering.{Ordering}
-use Rattle.std.specs.declared.cmp.Ordering.TheVariants.{Less, Equal, Greater}
-use Rattle.std.specs.Ordering.{ordering_reverse}
-use Rattle.std.specs.Cmp.Lexicographic.{nat_list_cmp_total}
-use Rattle.std.specs.List.{AllByRecursion}
-use Rattle.std.specs.List.Sorted.{IsStrictlySortedBy}
-use Rattle.std.proofs.lemmas.List.{length-map, map-append, take_more}
+use Rattle.plain_values.proofs.Common.{Ordering, Less, Equal, Greater, ordering_reverse, nat_list_cmp_total, AllByRecursion, IsStrictlySortedBy, length-map, map-append, take_more, bytes_cmp, keys_of}
 use Rattle.serde_json.specs.Data.{Members, no_members, put}
 use Rattle.serde_json.specs.Find.{get_member}
 use Rattle.serde_json.proofs.Views.{get_member-put, get_member-put_other}
 use Rattle.borrowed_json.specs.Meaning.{members_onto, sent_data, members_data, value_data}
 use Rattle.borrowed_json.specs.Places.{IsLast}
 use Rattle.borrowed_json.specs.declared.value.Value.{Value as Json}
-use Rattle.plain_values.specs.Order.{bytes_cmp}
-use Rattle.plain_values.specs.SortedMap.{keys_of}
 use Rattle.plain_values.specs.declared.value.Kind.{Kind}
 use Rattle.lens_specs.specs.Relation.{Name}
 use Rattle.request_reading.specs.SentRows.{names_sent}

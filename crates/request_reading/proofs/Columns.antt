@@ -1,23 +1,17 @@
 -- Members beside columns.
-use Rattle.std.proofs.Common.{◌≡◌, ◌≤◌, ◌∙◌, ℕ, List, [], ◌∷◌, length, ap, sym, refl, arith, Bool, true, false, Bor}
-use Rattle.std.specs.Prelude.{◌||◌, Option, Some, None, option_and_then, Result, Ok, Err, IsOk}
+use Rattle.std.proofs.Common.{◌≡◌, ◌≤◌, ◌∙◌, ℕ, List, [], ◌∷◌, length, ap, sym, refl, arith, Bool, true, false, Bor, ◌||◌, Option, Some, None, option_and_then, Result, Ok, Err, IsOk}
 use Rattle.std.specs.FinMap as finmap
-use Rattle.std.specs.Ordering.{eq_by_cmp}
-use Rattle.std.specs.Cmp.Lexicographic.{nat_list_cmp_total, texts_ties}
-use Rattle.std.specs.List.{AllByRecursion, list_any}
+use Rattle.plain_values.proofs.Common.{eq_by_cmp, nat_list_cmp_total, texts_ties, AllByRecursion, list_any, bytes_cmp, keys_rise}
 use Rattle.borrowed_json.specs.declared.value.Value.{Value as Json}
 use Rattle.serde_json.specs.Data.{Data, Members}
 use Rattle.serde_json.specs.Find.{get_member}
 use Rattle.plain_values.specs.Columns as named
-use Rattle.plain_values.specs.Order.{bytes_cmp}
-use Rattle.plain_values.specs.SortedMap.{keys_rise}
 use Rattle.plain_values.specs.SortedMap as sorted
 use Rattle.plain_values.specs.SortedSet as set
 use Rattle.plain_values.specs.declared.value.Kind.{Kind}
 use Rattle.plain_values.specs.declared.value.Value.{Value}
 use Rattle.lens_specs.specs.Relation.{Name, Columns}
-use Rattle.server_specs.specs.Request.{first_other, is_key}
-use Rattle.server_specs.specs.Sending.{is_column_of, pairs_in, value_at, value_in, with_pair}
+use Rattle.server_specs.specs.Common.{first_other, is_key, is_column_of, pairs_in, value_at, value_in, with_pair}
 use Rattle.borrowed_json.specs.Meaning.{members_data}
 use Rattle.request_reading.proofs.Objects.{names_of, found_name, none_first, data_rises, data_counted}
 use Rattle.request_reading.proofs.Rising.{is_in, AllIn, all_in_self, same_names}

@@ -1,19 +1,12 @@
 -- Faults that blame a member.
-use Rattle.std.proofs.Common.{◌≡◌, ◌∙◌, ℕ, List, ap, sym}
-use Rattle.std.specs.Prelude.{Result, Err}
-use Rattle.server_specs.specs.Sending.{BadRow}
+use Rattle.std.proofs.Common.{◌≡◌, ◌∙◌, ℕ, List, ap, sym, Result, Err}
+use Rattle.server_specs.specs.Common.{BadRow}
 use Rattle.request_reading.specs.Blames.{Refuses}
-use Rattle.request_reading.specs.Requests.{and_then}
 use Rattle.request_reading.specs.RowFaults.{IsAt, TellsRow}
 use Rattle.request_reading.specs.declared.member_fault.MemberFault.{MemberFault}
 use Rattle.request_reading.specs.declared.member_fault.MemberFault.TheVariants as member
 use Rattle.request_reading.specs.declared.rows.RowsFault.{RowsFault}
 use Rattle.request_reading.specs.declared.rows.RowsFault.TheVariants as fault
-
--- the fault of a member is that of the whole request
-pub refused_later : {A B : Type 0} (f : MemberFault) (first : Result A (List ℕ)) (next : A → Result B (List ℕ)) → Refuses f first → Refuses f (and_then next first)
-refused_later (member.Wrong name) first next refuses = ap (and_then next) refuses
-refused_later member.NoMemory first next refuses = tt
 
 -- the fault of an element tells the bad row
 pub told_at : {A B : Type 0} (i : ℕ) (f : RowsFault) (of_element : MemberFault) (element : Result A (List ℕ)) (expected : Result B BadRow) → IsAt f i of_element → Refuses of_element element

@@ -1,18 +1,11 @@
 -- The names of an object's members.
-use Rattle.std.proofs.Common.{◌≡◌, ◌∙◌, ◌≤◌, ◌+◌, ℕ, List, [], ◌∷◌, length, Option, Some, None, cond, ap, refl, arith, Bool, true, Bor}
-use Rattle.std.specs.Prelude.{◌||◌}
-use Rattle.std.specs.declared.cmp.Ordering.{Ordering}
-use Rattle.std.specs.declared.cmp.Ordering.TheVariants.{Less, Equal, Greater}
-use Rattle.std.specs.Ordering.{nat_cmp, is_eq, match_ordering}
-use Rattle.std.specs.Cmp.Lexicographic.{slice_cmp, texts_ties}
-use Rattle.std.specs.List.{AllByRecursion, list_any}
-use Rattle.std.specs.List.Sorted.{IsStrictlySortedBy}
+use Rattle.std.proofs.Common.{◌≡◌, ◌∙◌, ◌≤◌, ◌+◌, ℕ, List, [], ◌∷◌, length, Option, Some, None, cond, ap, refl, arith, Bool, true, Bor, ◌||◌}
+use Rattle.plain_values.proofs.Common.{Ordering, Less, Equal, Greater, nat_cmp, is_eq, match_ordering, slice_cmp, texts_ties, AllByRecursion, list_any, IsStrictlySortedBy, bytes_cmp}
 use Rattle.serde_json.specs.Data.{Data, Members, no_members, member, put}
 use Rattle.serde_json.specs.Find.{get_member}
-use Rattle.plain_values.specs.Order.{bytes_cmp}
 use Rattle.borrowed_json.specs.Meaning.{value_data, members_onto, sent_data, members_data}
 use Rattle.borrowed_json.specs.declared.value.Value.{Value}
-use Rattle.server_specs.specs.Request.{first_other, is_key}
+use Rattle.server_specs.specs.Common.{first_other, is_key}
 use Rattle.request_reading.proofs.Others.{Rises, Below, rises_data}
 
 -- the names of the members

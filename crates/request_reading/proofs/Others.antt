@@ -1,16 +1,9 @@
 -- The first name that does not pass, while members are put in one after another.
-use Rattle.std.proofs.Common.{◌≡◌, ◌∙◌, ◌<◌, ◌+◌, ℕ, List, [], ◌∷◌, ◌++◌, length, take, get_or, Option, Some, ap, refl, sym, Bool, true, false, cond, Bor}
-use Rattle.std.specs.Prelude.{if◌then◌else◌}
-use Rattle.std.specs.declared.cmp.Ordering.{Ordering}
-use Rattle.std.specs.declared.cmp.Ordering.TheVariants.{Less, Equal, Greater}
-use Rattle.std.specs.Ordering.{is_eq, is_lt, match_ordering, ordering_reverse}
-use Rattle.std.specs.Cmp.Lexicographic.{nat_list_cmp_total}
-use Rattle.std.proofs.lemmas.List.{take_more}
+use Rattle.std.proofs.Common.{◌≡◌, ◌∙◌, ◌<◌, ◌+◌, ℕ, List, [], ◌∷◌, ◌++◌, length, take, get_or, Option, Some, ap, refl, sym, Bool, true, false, cond, Bor, if◌then◌else◌}
+use Rattle.plain_values.proofs.Common.{Ordering, Less, Equal, Greater, is_eq, is_lt, match_ordering, ordering_reverse, nat_list_cmp_total, take_more, bytes_eq-Decides, bytes_cmp}
 use Rattle.std.proofs.lemmas.Map.Text.{is_eq-slice_cmp}
-use Rattle.std.proofs.lemmas.Slice.Eq.{bytes_eq-Decides}
 use Rattle.serde_json.specs.Data.{Data, Members, no_members, member, put}
-use Rattle.plain_values.specs.Order.{bytes_cmp}
-use Rattle.server_specs.specs.Request.{first_other, lesser}
+use Rattle.server_specs.specs.Common.{first_other, lesser}
 use Rattle.borrowed_json.specs.Meaning.{members_onto, sent_data, members_data, value_data}
 use Rattle.borrowed_json.specs.declared.value.Value.{Value}
 use Rattle.borrowed_json.proofs.Trees.{data_push}

@@ -1,16 +1,8 @@
 -- Names that rise strictly, among others that do.
-use Rattle.std.proofs.Common.{◌≡◌, ◌∙◌, ◌≤◌, List, [], ◌∷◌, length, ap, sym, refl, arith, Bool, true, false}
-use Rattle.std.specs.Prelude.{◌||◌}
-use Rattle.std.specs.declared.cmp.Ordering.{Ordering}
-use Rattle.std.specs.declared.cmp.Ordering.TheVariants.{Less, Equal, Greater}
-use Rattle.std.specs.Ordering.{is_eq, ordering_reverse}
-use Rattle.std.specs.Cmp.Lexicographic.{nat_list_cmp_total, texts_ties}
-use Rattle.std.specs.List.{AllByRecursion, list_any}
-use Rattle.std.specs.List.Sorted.{IsStrictlySortedBy}
-use Rattle.std.proofs.lemmas.Slice.Eq.{bytes_eq-Decides}
-use Rattle.plain_values.specs.Order.{bytes_cmp}
+use Rattle.std.proofs.Common.{◌≡◌, ◌∙◌, ◌≤◌, List, [], ◌∷◌, length, ap, sym, refl, arith, Bool, true, false, ◌||◌}
+use Rattle.plain_values.proofs.Common.{Ordering, Less, Equal, Greater, is_eq, ordering_reverse, nat_list_cmp_total, texts_ties, AllByRecursion, list_any, IsStrictlySortedBy, bytes_eq-Decides, bytes_cmp}
 use Rattle.lens_specs.specs.Relation.{Name}
-use Rattle.server_specs.specs.Request.{is_key}
+use Rattle.server_specs.specs.Common.{is_key}
 
 -- whether the name is among these
 abbrev pub is_in : List Name → Name → Bool

@@ -1,12 +1,11 @@
 -- A request that is read member by member is the one that is said, where no member is wrong.
-use Rattle.std.proofs.Common.{◌≡◌, ◌∙◌, ℕ, List, [], ◌∷◌, true, false, cond, ap, sym, refl}
-use Rattle.std.specs.Prelude.{Option, Some, None, option_map, option_and_then, unwrap_or, is_some, not, find, codes, Result, Ok, Err}
+use Rattle.std.proofs.Common.{◌≡◌, ◌∙◌, ℕ, List, [], ◌∷◌, true, false, cond, ap, sym, refl, Option, Some, None, option_map, option_and_then, unwrap_or, is_some, not, find, codes, Result, Ok, Err}
 use Rattle.std.specs.Option.{ok_or}
 use Rattle.serde_json.specs.Data.{Data, Items, Members, no_items, null}
 use Rattle.serde_json.specs.Find.{get_member, as_array, as_str}
 use Rattle.lens_specs.specs.Relation.{Name}
-use Rattle.server_specs.specs.Answer.{Answer, bad_request}
-use Rattle.server_specs.specs.Request.{BatchEdit, Request, define, read, find_at, put, edit, preview, describe, batch, export, import, Asked, to_define, to_read, to_find, to_put, to_edit, to_preview, to_describe, to_list, to_batch, to_undo, to_export, to_import, edits_in, Wanted, a_word, a_text, a_name, some_rows, a_version, a_value, some_edits, needed, allowed, edit_members, is_wrong, first_wrong, first_other, is_wanted, least_of, lesser, least_wrong, wanted, said, name_at, string_at, rows_at, data_at, version_at, edits_at, text_in, name_in, version_in, asked_in, asked_by, unless_wrong}
+use Rattle.server_specs.specs.Common.{Answer, bad_request, BatchEdit, Request, define, read, find_at, put, edit, preview, describe, batch, export, import, Asked, Wanted, first_other, is_wanted, least_of, lesser, asked_in, unless_wrong}
+use Rattle.server_specs.specs.Request.{to_define, to_read, to_find, to_put, to_edit, to_preview, to_describe, to_list, to_batch, to_undo, to_export, to_import, edits_in, a_word, a_text, a_name, some_rows, a_version, a_value, some_edits, needed, allowed, edit_members, is_wrong, first_wrong, least_wrong, wanted, said, name_at, string_at, rows_at, data_at, version_at, edits_at, text_in, name_in, version_in, asked_by}
 use Rattle.request_reading.specs.RequestKinds.{is_among, names_of}
 use Rattle.request_reading.specs.Requests.{said_in, and_then, on_from}
 use Rattle.request_reading.specs.Requests as there

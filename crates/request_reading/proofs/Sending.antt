@@ -1,17 +1,14 @@
 -- Elements that are read one after another, until one is not right.
-use Rattle.std.proofs.Common.{◌≡◌, ◌∙◌, ◌<◌, ◌+◌, ◌≤◌, ℕ, zero, suc, List, [], ◌∷◌, ◌++◌, take, length, get_or, ap, sym, refl, arith}
-use Rattle.std.specs.Prelude.{Option, Some, None, Result, Ok, Err}
-use Rattle.std.specs.List.{zip}
-use Rattle.std.proofs.lemmas.List.{length-map, length-take-le, take_more}
+use Rattle.std.proofs.Common.{◌≡◌, ◌∙◌, ◌<◌, ◌+◌, ◌≤◌, ℕ, zero, suc, List, [], ◌∷◌, ◌++◌, take, length, get_or, ap, sym, refl, arith, Option, Some, None, Result, Ok, Err}
+use Rattle.plain_values.proofs.Common.{zip, length-map, length-take-le, take_more, keys_of, Row}
 use Rattle.serde_json.specs.Data.{Members}
 use Rattle.borrowed_json.specs.Meaning.{value_data, items_data}
 use Rattle.borrowed_json.specs.declared.value.Value.{Value as Json}
-use Rattle.plain_values.specs.SortedMap.{keys_of}
 use Rattle.plain_values.specs.declared.value.Kind.{Kind}
 use Rattle.plain_values.specs.declared.value.Value.{Value}
-use Rattle.plain_values.specs.Row.{Row}
 use Rattle.lens_specs.specs.Relation.{Name, Columns}
-use Rattle.server_specs.specs.Sending.{BadRow, value_at, with_pair, pairs_in, with_row, row_in, rows_in}
+use Rattle.server_specs.specs.Common.{BadRow, value_at, with_pair, pairs_in, with_row, rows_in}
+use Rattle.server_specs.specs.Sending.{row_in}
 
 -- ---- the values of the columns
 

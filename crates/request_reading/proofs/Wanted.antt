@@ -1,8 +1,7 @@
 -- The names of the members of a request.
-use Rattle.std.proofs.Common.{◌≡◌, ℕ, List, [], ◌∷◌, Bor, map, ap, refl}
-use Rattle.std.specs.Prelude.{◌||◌}
-use Rattle.std.specs.List.{list_any}
-use Rattle.server_specs.specs.Request.{Wanted, is_wanted, is_key}
+use Rattle.std.proofs.Common.{◌≡◌, ℕ, List, [], ◌∷◌, Bor, map, ap, refl, ◌||◌}
+use Rattle.plain_values.proofs.Common.{list_any}
+use Rattle.server_specs.specs.Common.{Wanted, is_wanted, is_key}
 use Rattle.request_reading.specs.RequestKinds.{is_among, names_of}
 
 -- a name among them is that of a wanted member

@@ -1,17 +1,11 @@
 -- The rows near the new ones, edge by edge: they are enough too.
-use Rattle.std.proofs.Common.{◌≡◌, ◌≢◌, ℕ, ◌+◌, ◌<◌, length, get_or, drop, List, [], ◌∷◌, refl, sym, ap, ◌∙◌, true, false, inl, inr}
-use Rattle.std.specs.Prelude.{Option, Some, None, not}
-use Rattle.std.proofs.lemmas.Bool.{cases_Bool, true≢false}
-use Rattle.std.proofs.lemmas.List.{drop_more}
-use Rattle.plain_values.specs.Row.{row_cmp, Row}
+use Rattle.std.proofs.Common.{◌≡◌, ◌≢◌, ℕ, ◌+◌, ◌<◌, length, get_or, drop, List, [], ◌∷◌, refl, sym, ap, ◌∙◌, true, false, inl, inr, Option, Some, None, not}
+use Rattle.plain_values.proofs.Common.{cases_Bool, true≢false, drop_more, row_cmp, Row, absurd_false}
 use Rattle.plain_values.specs.SortedSet as set
 use Rattle.lens_specs.specs.Common.{Edge, Meets, MeetsTree, Rows, first_row, has, union, agree}
-use Rattle.lens_laws.specs.KeyedDeltas.{found, found_each, is_changed, touched}
-use Rattle.lens_laws.proofs.Deltas.{from_found_each, in_found_each, in_touched, from_found}
-use Rattle.fd_laws.specs.Trees.{Among}
-use Rattle.plain_values.proofs.Lists.{absurd_false}
-use Rattle.fd_laws.proofs.Common.{from_those, from_union, in_those, in_union_left, in_union_right, agree_back, agree_itself, agree_on}
-use Rattle.fd_laws.proofs.Relations.{first_some}
+use Rattle.lens_laws.proofs.Common.{found, found_each, is_changed, touched, from_found_each, in_found_each}
+use Rattle.lens_laws.proofs.Deltas.{in_touched, from_found}
+use Rattle.fd_laws.proofs.Common.{Among, from_those, from_union, in_those, in_union_left, in_union_right, agree_back, agree_itself, agree_on, first_some}
 use Rattle.revision.specs.Near.{HasChanged, agrees_with, is_like_first, near_through, unlike}
 use Rattle.revision.proofs.Near.{apart_from, changes_at}
 

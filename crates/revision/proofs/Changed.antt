@@ -1,12 +1,9 @@
 -- Rows that revision changes, from those near the new rows.
-use Rattle.std.proofs.Common.{◌≡◌, ℕ, ◌<◌, length, get_or, List, [], ◌∷◌, is_some, map, refl, sym, ap, ◌∙◌, subst, Bool, true, false, cond, suc, zero, arith}
-use Rattle.std.specs.Prelude.{filter}
-use Rattle.std.proofs.lemmas.List.Kept.{IsStrictlySortedBy-filter}
-use Rattle.plain_values.specs.Row.{row_cmp, Row}
-use Rattle.plain_values.specs.SortedMap.{keys_rise}
+use Rattle.std.proofs.Common.{◌≡◌, ℕ, ◌<◌, length, get_or, List, [], ◌∷◌, is_some, map, refl, sym, ap, ◌∙◌, subst, Bool, true, false, cond, suc, zero, arith, filter}
+use Rattle.plain_values.proofs.Common.{IsStrictlySortedBy-filter, row_cmp, Row, keys_rise}
 use Rattle.plain_values.specs.SortedSet as set
 use Rattle.lens_specs.specs.Common.{Columns, Fits, names, Name, Names, Within, at, Rows, image, those, AllEdges, Edge, revise, revise_row}
-use Rattle.lens_laws.specs.KeyedDeltas.{found, is_changed, touched}
+use Rattle.lens_laws.proofs.Common.{found, is_changed, touched}
 use Rattle.fd_laws.proofs.Common.{fits_names, row_exact, row_total}
 use Rattle.revision.specs.Near.{HasChanged}
 use Rattle.revision.specs.Touching.{all_touched, becomes, differing}

@@ -1,20 +1,11 @@
 -- The rows near new ones are enough: revision changes none of the others.
-use Rattle.std.proofs.Common.{◌≡◌, ◌≢◌, ℕ, ◌+◌, ◌*◌, ◌<◌, length, get_or, drop, List, [], ◌∷◌, ◌++◌, refl, sym, ap, ◌∙◌, Bool, true, false, cond, inl, inr}
-use Rattle.std.specs.Prelude.{flat_map}
-use Rattle.std.specs.List.{list_any}
-use Rattle.std.specs.Ordering.{eq_by_cmp}
+use Rattle.std.proofs.Common.{◌≡◌, ◌≢◌, ℕ, ◌+◌, ◌*◌, ◌<◌, length, get_or, drop, List, [], ◌∷◌, ◌++◌, refl, sym, ap, ◌∙◌, Bool, true, false, cond, inl, inr, flat_map}
+use Rattle.plain_values.proofs.Common.{list_any, eq_by_cmp, and_parts, cases_Bool, not-true, true≢false, false_from_ne_true, drop_more, row_cmp, Row, absurd_false, from_append, from_flat_map, in_append_left, in_append_right, in_flat_map, any_from}
 use Rattle.std.proofs.Math.Nat.{mul_right_comm}
-use Rattle.std.proofs.lemmas.Bool.{and_parts, cases_Bool, not-true, true≢false, false_from_ne_true}
-use Rattle.std.proofs.lemmas.List.{drop_more}
-use Rattle.plain_values.specs.Row.{row_cmp, Row}
 use Rattle.plain_values.specs.SortedSet as set
 use Rattle.lens_specs.specs.Common.{Edge, Meets, MeetsTree, Rows, has, minus, those, along, revise_row, agree}
-use Rattle.lens_laws.specs.KeyedDeltas.{find_by, is_changed}
-use Rattle.fd_laws.specs.Trees.{Among}
-use Rattle.plain_values.proofs.Lists.{absurd_false, from_append, from_flat_map, in_append_left, in_append_right, in_flat_map, any_from}
-use Rattle.fd_laws.proofs.Common.{from_minus, from_those, in_minus, in_those, same_rel, agree_back, agree_itself, agree_on, row_itself, row_total, tied_row}
-use Rattle.fd_laws.proofs.Rows.{paste_same}
-use Rattle.fd_laws.proofs.Trees.{along_cases}
+use Rattle.lens_laws.proofs.Common.{find_by, is_changed}
+use Rattle.fd_laws.proofs.Common.{Among, from_minus, from_those, in_minus, in_those, same_rel, agree_back, agree_itself, agree_on, row_itself, row_total, tied_row, paste_same, along_cases}
 use Rattle.row_sets.specs.Members.{is_in}
 use Rattle.revision.specs.Near.{HasChanged, is_like, near_along, near_from}
 

@@ -1,25 +1,13 @@
 -- The natural join of relations, by putting agreeing rows together.
-use Rattle.std.proofs.Common.{◌≡◌, List, [], ◌∷◌, ◌++◌, ap, sym, subst, ◌∙◌, refl, Bool, true, false, cond, map}
-use Rattle.std.specs.Prelude.{◌||◌, ◌&&◌, filter, flat_map, is_some, Option, Some, None}
-use Rattle.std.specs.List.{AllByRecursion, list_any}
-use Rattle.std.specs.Ordering.{eq_by_cmp}
-use Rattle.std.specs.Cmp.Lexicographic.{nat_list_cmp_total}
+use Rattle.std.proofs.Common.{◌≡◌, List, [], ◌∷◌, ◌++◌, ap, sym, subst, ◌∙◌, refl, Bool, true, false, cond, map, ◌||◌, ◌&&◌, filter, flat_map, is_some, Option, Some, None}
+use Rattle.plain_values.proofs.Common.{AllByRecursion, list_any, eq_by_cmp, nat_list_cmp_total, bytes_cmp, override, row_cmp, Row, row_cmp_total, row_cmp-IsAntisymmetric, keys_rise, exact, fits_same, is_tie, first_holds, second_holds}
 use Rattle.std.specs.FinMap as finmap
-use Rattle.plain_values.specs.Order.{bytes_cmp}
-use Rattle.plain_values.specs.Part.{override}
-use Rattle.plain_values.specs.Row.{row_cmp, Row}
-use Rattle.plain_values.specs.RowOrder.{row_cmp_total, row_cmp-IsAntisymmetric}
-use Rattle.plain_values.specs.SortedMap.{keys_rise}
 use Rattle.plain_values.specs.SortedSet as set
 use Rattle.plain_values.specs.declared.value.Kind.{Kind}
 use Rattle.plain_values.specs.declared.value.Value.{Value}
-use Rattle.plain_values.proofs.Maps.{exact}
-use Rattle.lens_specs.specs.Common.{Name, Names, agree, paste, with_at, Columns, Fits, fits_at, names, Rows}
-use Rattle.lens_specs.specs.Rows.{paste_list}
-use Rattle.plain_values.proofs.FitsLemmas.{fits_same}
-use Rattle.plain_values.proofs.Tests.{is_tie, first_holds, second_holds}
+use Rattle.lens_specs.specs.Common.{Name, Names, agree, paste, with_at, Columns, Fits, fits_at, names, Rows, paste_list, joined_with, natural}
 use Rattle.plain_values.proofs.Agreement.{agree_at}
-use Rattle.lens_specs.specs.Relation.{join, joined_with, natural}
+use Rattle.lens_specs.specs.Relation.{join}
 use Rattle.row_sets.specs.Joins.{pairs_on}
 use Rattle.row_sets.proofs.Pairs.{all_members, any-filtered, any-flat_map, one_of}
 
@@ -115,14 +103,32 @@ pair_fits U V m n fit fit' agrees c =
     fits_same _ _ _ _ (sym (get-both n m c)) (sym (get-both U V c))
     (one_fits (finmap.get m c) (finmap.get n c) (finmap.get U c) (finmap.get V c) (fit c) (fit' c) (λ both. agree_at (set.intersection (names U) (names V)) m n agrees c (in_both U V c both)))
 
+-- a row of the right side agrees with the row of the left one, and the row is their pair
+right_of : (S : Names) (N : Rows) (m row : Row) → list_any (eq_by_cmp row_cmp row) (map (λ n. override n m) (filter (agree S m) (set.items N))) ≡ true
+    → (n : Row) × (set.contains N n ≡ true) × (agree S m n ≡ true) × (row ≡ override n m)
+right_of S N m row there =
+    let tied : Row → Bool = eq_by_cmp row_cmp row in
+    let w = one_of row_cmp_total row_cmp-IsAntisymmetric (λ n. agree S m n && tied (override n m)) (set.items N) (sym (any-filtered tied (λ n. override n m) (agree S m) (set.items N)) ∙ there) in (
+      w.0,
+      set.contains-items N w.0 ∙ w.1,
+      first_holds (agree S m w.0) (tied (override w.0 m)) w.2,
+      row_cmp-IsAntisymmetric row (override w.0 m) (is_tie _ (second_holds (agree S m w.0) (tied (override w.0 m)) w.2)),
+    )
+
+-- a row of the left side has such a row of the right one
+left_of : (S : Names) (M N : Rows) (row : Row) → set.contains (pairs_on S M N) row ≡ true
+    → (m : Row) × (set.contains M m ≡ true) × (list_any (eq_by_cmp row_cmp row) (map (λ n. override n m) (filter (agree S m) (set.items N))) ≡ true)
+left_of S M N row there =
+    let pairs : Row → List Row = λ m. map (λ n. override n m) (filter (agree S m) (set.items N)) in
+    let tied : Row → Bool = eq_by_cmp row_cmp row in
+    let w = one_of row_cmp_total row_cmp-IsAntisymmetric (λ m. list_any tied (pairs m)) (set.items M)
+    (sym (any-flat_map tied pairs (set.items M)) ∙ sym (set.contains-from_list row_cmp_total (flat_map pairs (set.items M)) row) ∙ there) in
+    (w.0, set.contains-items M w.0 ∙ w.1, w.2)
+
 pub joined_fit : (U V : Columns) (M N : Rows) → ((m : Row) → set.contains M m ≡ true → Fits U m) → ((n : Row) → set.contains N n ≡ true → Fits V n)
     → (row : Row) → set.contains (pairs_on (set.intersection (names U) (names V)) M N) row ≡ true → Fits (override U V) row
 joined_fit U V M N fit fit' row there =
     let S : Names = set.intersection (names U) (names V) in
-    let tied : Row → Bool = eq_by_cmp row_cmp row in
-    let w = one_of row_cmp_total row_cmp-IsAntisymmetric (λ m. list_any tied (map (λ n. override n m) (filter (agree S m) (set.items N)))) (set.items M)
-    (sym (any-flat_map tied (λ m. map (λ n. override n m) (filter (agree S m) (set.items N))) (set.items M))
-    ∙ sym (set.contains-from_list row_cmp_total (flat_map (λ m. map (λ n. override n m) (filter (agree S m) (set.items N))) (set.items M)) row) ∙ there) in
-    let v = one_of row_cmp_total row_cmp-IsAntisymmetric (λ n. agree S w.0 n && tied (override n w.0)) (set.items N) (sym (any-filtered tied (λ n. override n w.0) (agree S w.0) (set.items N)) ∙ w.2) in
-    let same : row ≡ override v.0 w.0 = row_cmp-IsAntisymmetric row (override v.0 w.0) (is_tie _ (second_holds (agree S w.0 v.0) (tied (override v.0 w.0)) v.2)) in
-    subst (Fits (override U V)) (sym same) (pair_fits U V w.0 v.0 (fit w.0 (set.contains-items M w.0 ∙ w.1)) (fit' v.0 (set.contains-items N v.0 ∙ v.1)) (first_holds (agree S w.0 v.0) (tied (override v.0 w.0)) v.2))
+    let left = left_of S M N row there in
+    let right = right_of S N left.0 row left.2 in
+    subst (Fits (override U V)) (sym right.3) (pair_fits U V left.0 right.0 (fit left.0 left.1) (fit' right.0 right.1) right.2)

@@ -1,22 +1,7 @@
 -- Pairs of rows that agree, and what an index of them finds.
-use Rattle.std.proofs.Common.{◌≡◌, List, [], ◌∷◌, ◌++◌, ap, sym, ◌∙◌, refl, Bool, true, false, cond, map, inl, inr, get_or, arith}
-use Rattle.std.specs.Prelude.{◌||◌, ◌&&◌, filter, flat_map}
-use Rattle.std.specs.declared.cmp.Ordering.{Ordering}
-use Rattle.std.specs.declared.cmp.Ordering.TheVariants.{Less, Equal, Greater}
-use Rattle.std.specs.List.{AllByRecursion, list_any}
-use Rattle.std.specs.Ordering.{eq_by_cmp, is_eq, is_gt, ordering_then}
-use Rattle.std.specs.List.Sorted.{IsStrictlySortedBy}
-use Rattle.std.specs.Cmp.{IsTotalOrder, on_total, then_total, tied_itself}
-use Rattle.std.specs.FinMap.{IsAntisymmetric}
-use Rattle.std.proofs.lemmas.Bool.{cases_lt}
-use Rattle.std.proofs.lemmas.List.Folds.{list_any-append}
-use Rattle.std.proofs.lemmas.Map.Keys.{Less-from_sorted}
-use Rattle.plain_values.specs.Part.{override, restrict}
-use Rattle.plain_values.specs.Row.{row_cmp, Row}
-use Rattle.plain_values.specs.RowOrder.{row_cmp_total, row_cmp-IsAntisymmetric}
+use Rattle.std.proofs.Common.{◌≡◌, List, [], ◌∷◌, ◌++◌, ap, sym, ◌∙◌, refl, Bool, true, false, cond, map, inl, inr, get_or, arith, ◌||◌, ◌&&◌, filter, flat_map}
+use Rattle.plain_values.proofs.Common.{Ordering, Less, Equal, Greater, AllByRecursion, list_any, eq_by_cmp, is_eq, is_gt, ordering_then, IsStrictlySortedBy, IsTotalOrder, on_total, then_total, tied_itself, IsAntisymmetric, cases_lt, list_any-append, Less-from_sorted, override, restrict, row_cmp, Row, row_cmp_total, row_cmp-IsAntisymmetric, is_tie, same_bool, then_equal, agree_parts}
 use Rattle.plain_values.specs.SortedSet as set
-use Rattle.plain_values.proofs.Tests.{is_tie, same_bool, then_equal}
-use Rattle.plain_values.proofs.Agreement.{agree_parts}
 use Rattle.lens_specs.specs.Common.{Names, agree, cut, Rows, image, project}
 use Rattle.row_sets.specs.Joins.{entry_cmp, pairs_on, with_key}
 use Rattle.lens_values.proofs.Groups.{Ascend}

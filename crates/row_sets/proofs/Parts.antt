@@ -1,19 +1,9 @@
 -- The part of rows that stands in some columns, and what still fits.
-use Rattle.std.proofs.Common.{◌≡◌, List, [], ◌∷◌, ap, sym, ◌∙◌, refl, Bool, true, false, None}
-use Rattle.std.specs.Prelude.{◌||◌, map}
-use Rattle.std.specs.Ordering.{eq_by_cmp, is_eq}
-use Rattle.std.specs.List.{list_any}
-use Rattle.std.specs.Cmp.{tied_itself}
+use Rattle.std.proofs.Common.{◌≡◌, List, [], ◌∷◌, ap, sym, ◌∙◌, refl, Bool, true, false, None, ◌||◌, map}
+use Rattle.plain_values.proofs.Common.{eq_by_cmp, is_eq, list_any, tied_itself, restrict, row_cmp, Row, row_cmp_total, row_cmp-IsAntisymmetric, fits_same, fits_cond, is_tie, exact}
 use Rattle.std.specs.FinMap as finmap
-use Rattle.plain_values.specs.Part.{restrict}
-use Rattle.plain_values.specs.Row.{row_cmp, Row}
-use Rattle.plain_values.specs.RowOrder.{row_cmp_total, row_cmp-IsAntisymmetric}
 use Rattle.plain_values.specs.SortedSet as set
-use Rattle.lens_specs.specs.Common.{Names, cut, Columns, Rows, Fits, image, project}
-use Rattle.lens_specs.specs.Columns.{columns_in}
-use Rattle.plain_values.proofs.FitsLemmas.{fits_same, fits_cond}
-use Rattle.plain_values.proofs.Tests.{is_tie}
-use Rattle.plain_values.proofs.Maps.{exact}
+use Rattle.lens_specs.specs.Common.{Names, cut, Columns, Rows, Fits, image, project, columns_in}
 use Rattle.row_sets.specs.Members.{is_in}
 
 pub parts_are : (C : Names) (rows : Rows) → set.from_list (map (restrict C) (set.items rows)) ≡ project C rows

@@ -1,8 +1,6 @@
 -- Rows behind ranks have the members that the rows have.
-use Rattle.std.proofs.Common.{◌≡◌, ◌∙◌, List, [], ◌∷◌, ap, refl, sym}
-use Rattle.std.specs.Prelude.{map, ◌||◌, Bool, IsPermutation}
-use Rattle.std.specs.List.{list_any}
-use Rattle.std.proofs.lemmas.List.Sorted.{list_any-IsPermutation}
+use Rattle.std.proofs.Common.{◌≡◌, ◌∙◌, List, [], ◌∷◌, ap, refl, sym, map, ◌||◌, Bool, IsPermutation}
+use Rattle.plain_values.proofs.Common.{list_any, list_any-IsPermutation}
 
 module _ {X Y : Type 0} (f : X → Y) (p : Y → Bool) where
   any_map : (xs : List X) → list_any p (map f xs) ≡ list_any (λ x. p (f x)) xs

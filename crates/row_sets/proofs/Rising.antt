@@ -1,16 +1,10 @@
 -- Lists put in order, and lists that rise strictly, from what a look at all neighbours answers.
-use Rattle.std.proofs.Common.{◌≡◌, ◌+◌, get_or, Bool, true, false, List, [], ◌∷◌, ap, sym, ◌∙◌, refl, arith}
-use Rattle.std.specs.Prelude.{IsTrue}
-use Rattle.std.specs.declared.cmp.Ordering.{Ordering}
-use Rattle.std.specs.declared.cmp.Ordering.TheVariants.{Less, Equal, Greater}
-use Rattle.std.specs.Cmp.{IsTotalOrder}
-use Rattle.std.specs.List.{IsAllAdjacentAnswer, list_any}
-use Rattle.std.specs.List.Sorted.{IsPermutation, IsSorted, IsStrictlySortedBy}
-use Rattle.std.specs.Ordering.{as_partial_cmp, eq_by_cmp, is_le, is_lt, ordering_reverse, partial_le}
-use Rattle.std.proofs.lemmas.Bool.{true≢false}
-use Rattle.std.proofs.lemmas.List.Sorted.{list_any-IsPermutation}
-use Rattle.std.proofs.lemmas.Map.Keys.{Less-from_sorted, sorted_from_all_adjacent}
-use Rattle.plain_values.specs.SortedSet.{nothing_rises}
+use Rattle.std.proofs.Common.{◌≡◌, ◌+◌, get_or, Bool, true, false, List, [], ◌∷◌, ap, sym, ◌∙◌, refl, arith, IsTrue}
+use Rattle.plain_values.proofs.Common.{Ordering, Less, Equal, Greater, IsTotalOrder, list_any, IsPermutation, IsStrictlySortedBy, eq_by_cmp, is_le, is_lt, ordering_reverse, true≢false, list_any-IsPermutation, Less-from_sorted, nothing_rises}
+use Rattle.std.specs.List.{IsAllAdjacentAnswer}
+use Rattle.std.specs.List.Sorted.{IsSorted}
+use Rattle.std.specs.Ordering.{as_partial_cmp, partial_le}
+use Rattle.std.proofs.lemmas.Map.Keys.{sorted_from_all_adjacent}
 
 less_is : (r : Ordering) → true ≡ is_lt r → r ≡ Less
 less_is Less e = refl

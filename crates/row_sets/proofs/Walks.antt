@@ -1,13 +1,6 @@
 -- Walks along two strictly rising lists, whose members are their own keys.
-use Rattle.std.proofs.Common.{◌≡◌, ℕ, ◌+◌, ◌<◌, ◌≤◌, List, [], ◌∷◌, ◌++◌, length, drop, get_or, ap, sym, subst, ◌∙◌, refl, Bool, false, zero, suc, arith, map-id}
-use Rattle.std.specs.Prelude.{not, filter}
-use Rattle.std.specs.declared.cmp.Ordering.{Ordering}
-use Rattle.std.specs.declared.cmp.Ordering.TheVariants.{Less, Equal, Greater}
-use Rattle.std.specs.List.{list_any}
-use Rattle.std.specs.List.Sorted.{IsStrictlySortedBy}
-use Rattle.std.specs.Ordering.{eq_by_cmp}
-use Rattle.std.specs.Cmp.{IsTotalOrder}
-use Rattle.plain_values.specs.Keys.{KeysRise}
+use Rattle.std.proofs.Common.{◌≡◌, ℕ, ◌+◌, ◌<◌, ◌≤◌, List, [], ◌∷◌, ◌++◌, length, drop, get_or, ap, sym, subst, ◌∙◌, refl, Bool, false, zero, suc, arith, map-id, not, filter}
+use Rattle.plain_values.proofs.Common.{Ordering, Less, Equal, Greater, list_any, IsStrictlySortedBy, eq_by_cmp, IsTotalOrder, KeysRise}
 use Rattle.lens_values.proofs.Walks.{kept_past, missing_less, missing_equal}
 pub use Rattle.lens_values.proofs.Walks.{any_none, apart, below_all, merge, merge_ends, merge_ends_right, under}
 

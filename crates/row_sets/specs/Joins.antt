@@ -1,5 +1,5 @@
 -- Pasted pairs of rows of two sets.
-use Rattle.std.specs.Prelude.{Option, Some, None, filter, flat_map, map}
+use Rattle.std.specs.Prelude.{filter, flat_map, map}
 use Rattle.std.specs.declared.cmp.Ordering.{Ordering}
 use Rattle.std.specs.Ordering.{on, then_cmp}
 use Rattle.plain_values.specs.Part.{override, restrict}
@@ -14,11 +14,6 @@ entry_cmp = then_cmp (on (λ e. e.0) row_cmp) (on (λ e. e.1) row_cmp)
 -- the row's part in the columns, and the row
 abbrev pub with_key : Names → Row → Row × Row
 with_key C r = (restrict C r, r)
-
--- the row, or its part in the columns that are kept
-abbrev pub kept_of : Option Names → Row → Row
-kept_of None r = r
-kept_of (Some C) r = restrict C r
 
 -- all pairs of rows that agree on C, pasted
 abbrev pub pairs_on : Names → Rows → Rows → Rows

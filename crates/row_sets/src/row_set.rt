@@ -9,7 +9,8 @@ ghost use Rattle.plain_values.specs.Row.{row_cmp};
 ghost use Rattle.plain_values.specs.SortedSet as set;
 ghost use Rattle.row_sets.specs.Joins.{pairs_on};
 
-use crate::joining::{indexed, paired};
+use crate::index::indexed;
+use crate::joining::paired;
 use crate::moving::order_nearly;
 use crate::ranking::by_rank;
 use lens_values::{Names, NoMemory, Row, copied, difference, union};
@@ -147,23 +148,7 @@ impl RowSet {
             set.from_list rows.items ≡ pairs_on cols.now self.now other.now) }
     {
         let index = indexed(alloc, other.rows(), cols)?;
-        paired(alloc, self.rows(), cols, &index, None)
-    }
-
-    /// The parts in the columns `kept` of the rows of the join on the others, in no certain order
-    /// and perhaps more than once. Nothing else is made of the rows.
-    pub fn joined_parts(
-        &self,
-        alloc: Global,
-        other: &RowSet,
-        cols: &Names,
-        kept: &Names,
-    ) -> Result<Vec<Row>, NoMemory>
-        ensures { IfOk result (λ parts.
-            set.from_list parts.items ≡ project kept.now (pairs_on cols.now self.now other.now)) }
-    {
-        let index = indexed(alloc, other.rows(), cols)?;
-        paired(alloc, self.rows(), cols, &index, Some(kept))
+        paired(alloc, self.rows(), cols, &index)
     }
 
     /// An equal set.

@@ -1,22 +1,12 @@
 -- From what a run promises to the law of runs.
-use Rattle.std.proofs.Common.{◌≡◌, ◌≤◌, ◌+◌, ℕ, List, [], ◌∷◌, ◌++◌, map, ap, subst, sym, refl, ◌∙◌, arith, append-nil, inl, inr}
-use Rattle.std.specs.Prelude.{Option, None, Some, Ok, IfSome, flat_map, min}
+use Rattle.std.proofs.Common.{◌≡◌, ◌≤◌, ◌+◌, ℕ, List, [], ◌∷◌, ◌++◌, map, ap, subst, sym, refl, ◌∙◌, arith, append-nil, inl, inr, Option, None, Some, Ok, IfSome, flat_map, min}
 use Rattle.std.specs.FinMap as finmap
 use Rattle.std.specs.Io.KnownBytes.{Appends, Consumes, IsAtEnd}
 use Rattle.lens_io.proofs.Taken.{if_some}
 use Rattle.lens_specs.specs.Common.{TableDelta, changes, differences, Lens, Tables, get, put, Name, Rows, AreDeltas, LeadTo}
-use Rattle.lens_laws.specs.Edits.{AreDiffs}
-use Rattle.io_specs.specs.Lines.{Line, lines}
-use Rattle.catalog_specs.specs.Catalogue.{catalogue}
-use Rattle.server_specs.specs.Answer.{Answer, changed, shown, text}
-use Rattle.server_specs.specs.Answering.{answer, answer_request}
-use Rattle.server_specs.specs.Batching.{edits_from}
-use Rattle.server_specs.specs.Changing.{accept}
-use Rattle.server_specs.specs.Questions.{about, find_told, finding_told, found_told, rows_with}
-use Rattle.server_specs.specs.Request.{BatchEdit}
-use Rattle.server_specs.specs.Session.{Chain, Exchange, Replies, Session, Step, answered, found_memory, last_state, not_stored, out_of_memory}
-use Rattle.server_specs.specs.State.{State}
-use Rattle.server_specs.specs.Validity.{Valid}
+use Rattle.lens_laws.proofs.Common.{AreDiffs}
+use Rattle.server_specs.specs.Common.{Line, catalogue, Answer, changed, shown, text, answer, answer_request, edits_from, accept, about, find_told, finding_told, found_told, rows_with, BatchEdit, Chain, Exchange, Replies, Session, Step, answered, found_memory, last_state, not_stored, out_of_memory, State, Valid}
+use Rattle.io_specs.specs.Lines.{lines}
 use Rattle.server_laws.specs.Answers.{IsAccepted}
 use Rattle.server_laws.specs.BatchLaws.{IsBatchLine}
 use Rattle.server_laws.specs.ChangeLaws.{SendsView, by_rows, by_text}

@@ -2,26 +2,14 @@
 ghost use Rattle.std.specs.Prelude.{◌≡◌, IfOk, OnOk};
 ghost use Rattle.lens_specs.specs.Relation.{IsRelation};
 
-use fd_closure::Dep;
-use fd_tree::Tree;
 use lens_values::{Columns, Kind, Name, Names, Row, Text, Value};
 use row_sets::{Relation, RowSet};
-use signed_delta::Delta;
 use std::alloc::Global;
 use std::test::Fail;
 
 /// Fails, with the case, if something does not hold of it.
 pub fn expect(holds: bool, case: &str) -> Result<(), Fail> {
     if holds { Ok(()) } else { Err(Fail::from(case)) }
-}
-
-/// What stands between the bars of the text.
-pub fn parts(alloc: Global, text: &str) -> Result<Vec<&str>, Fail> {
-    let mut list = Vec::new(alloc);
-    for part in text.split('|') {
-        list.push(part.trim())?;
-    }
-    Ok(list)
 }
 
 /// The names that the text lists, as `a b`.
@@ -119,32 +107,7 @@ fn add(relation: &mut Relation, row: Row) -> Result<(), Fail>
     Ok(())
 }
 
-/// The tree form of the dependencies that the text lists.
-pub fn tree(alloc: Global, text: &str) -> Result<Tree, Fail> {
-    Ok(Tree::of(alloc, &deps(alloc, text)?)?)
-}
-
-/// The dependencies that the text lists, as `a -> b, b -> c`.
-pub fn deps(alloc: Global, text: &str) -> Result<Vec<Dep>, Fail> {
-    let mut list = Vec::new(alloc);
-    for part in text.split_terminator(',') {
-        list.push(dep(alloc, part)?)?;
-    }
-    Ok(list)
-}
-
-// The dependency of the text, as `a -> b`.
-fn dep(alloc: Global, text: &str) -> Result<Dep, Fail> {
-    let (left, right) = text.split_once("->").ok_or("no arrow")?;
-    Ok(Dep::new(names(alloc, left)?, names(alloc, right)?)?)
-}
-
 /// Whether the set has the rows that the text lists, in this order, and no other.
 pub fn are_rows(alloc: Global, found: &RowSet, text: &str) -> Result<bool, Fail> {
     Ok(found.rows() == rows(alloc, text)?.as_slice())
-}
-
-/// Whether the difference removes the first rows and adds the second.
-pub fn is_delta(alloc: Global, delta: &Delta, [remove, add]: [&str; 2]) -> Result<bool, Fail> {
-    Ok(are_rows(alloc, delta.remove(), remove)? && are_rows(alloc, delta.add(), add)?)
 }

@@ -1,16 +1,11 @@
 -- An edit of a selection, carried down.
-use Rattle.std.proofs.Common.{◌≡◌, List, [], ◌∷◌, arith, length, map, sym, ap, ◌∙◌, true, refl}
-use Rattle.std.specs.Prelude.{Bool, not}
-use Rattle.std.proofs.lemmas.Bool.{true≢false}
-use Rattle.std.proofs.lemmas.List.{length-map}
-use Rattle.plain_values.specs.Row.{row_cmp, Row}
+use Rattle.std.proofs.Common.{◌≡◌, List, [], ◌∷◌, arith, length, map, sym, ap, ◌∙◌, true, refl, Bool, not}
+use Rattle.plain_values.proofs.Common.{true≢false, length-map, row_cmp, Row}
 use Rattle.plain_values.specs.SortedSet as set
 use Rattle.lens_specs.specs.Common.{Columns, Fits, Applies, Delta, diff, Edge, MeetsTree, select_get, Predicate, holds, Rows, has, those, union, revise, revise_row}
-use Rattle.lens_laws.specs.KeyedDeltas.{is_changed, select_delta, select_touched}
-use Rattle.fd_laws.specs.Trees.{IsTree}
-use Rattle.fd_laws.proofs.Common.{from_image, from_those, in_those, same_rel, sets, row_exact, row_total}
-use Rattle.lens_laws.proofs.Deltas.{in_new_view_added}
-use Rattle.lens_laws.proofs.SelectDelta.{select_delta_is}
+use Rattle.lens_laws.proofs.Common.{is_changed, select_delta, in_new_view_added, select_delta_is}
+use Rattle.lens_laws.specs.KeyedDeltas.{select_touched}
+use Rattle.fd_laws.proofs.Common.{IsTree, from_image, from_those, in_those, same_rel, sets, row_exact, row_total}
 use Rattle.signed_delta.specs.Disjoint.{AreApart}
 use Rattle.signed_delta.proofs.Differences.{sides_apart}
 use Rattle.revision.specs.Near.{HasChanged}

@@ -1,8 +1,8 @@
 -- How many looks an edit of a selection takes.
 use Rattle.std.proofs.Common.{◌≡◌, ℕ, ◌+◌, ◌*◌, ◌≤◌, ap, arith}
-use Rattle.std.proofs.lemmas.Nat.{mul-le}
+use Rattle.plain_values.proofs.Common.{mul-le}
 use Rattle.lens_specs.specs.Common.{Delta, Rows}
-use Rattle.lens_laws.specs.Work.{count_of, node_work, rows_of}
+use Rattle.lens_laws.proofs.Common.{count_of, node_work, rows_of}
 
 within_node : (r a n e : ℕ) → e ≤ 64 → 1 ≤ n → n * a * e ≤ 8192 * (r + a) * n * n
 within_node r a n e few some =

@@ -1,19 +1,9 @@
 -- What every answer says of the state after it.
-use Rattle.std.proofs.Common.{◌≡◌, ◌≤◌, ◌+◌, ◌-◌, ◌⊎◌, ℕ, zero, suc, length, List, [], ◌∷◌, Some, inl, inr, refl, sym, subst, arith}
-use Rattle.std.specs.Prelude.{IfSome, Result, slice_get}
-use Rattle.std.specs.List.{AllByRecursion}
+use Rattle.std.proofs.Common.{◌≡◌, ◌≤◌, ◌+◌, ◌-◌, ◌⊎◌, ℕ, zero, suc, length, List, [], ◌∷◌, Some, inl, inr, refl, sym, subst, arith, IfSome, Result, slice_get}
+use Rattle.plain_values.proofs.Common.{AllByRecursion}
 use Rattle.lens_specs.specs.Common.{TableDelta, Tables}
-use Rattle.grammar_specs.specs.Meaning.{Definition, table, view}
-use Rattle.io_specs.specs.Lines.{Line}
-use Rattle.server_specs.specs.State.{State}
-use Rattle.server_specs.specs.Answer.{Answer, defined}
-use Rattle.server_specs.specs.Request.{Request, request}
-use Rattle.server_specs.specs.Defining.{with_defined}
-use Rattle.server_specs.specs.Changing.{accept}
-use Rattle.server_specs.specs.Undoing.{undone}
-use Rattle.server_specs.specs.Validity.{IsDifference, Valid}
-use Rattle.server_specs.specs.Answering.{answer}
-use Rattle.server_specs.specs.Session.{Step, answered, not_stored, found_memory, out_of_memory}
+use Rattle.grammar_specs.specs.Common.{Definition, table, view}
+use Rattle.server_specs.specs.Common.{Line, State, Answer, defined, Request, request, with_defined, accept, undone, IsDifference, Valid, answer, Step, answered, not_stored, found_memory, out_of_memory}
 use Rattle.server_laws.specs.Answers.{IsRefusal, IsFailure, IsChange, told_version}
 use Rattle.server_laws.specs.AnswerLaws.{IsQuestion}
 use Rattle.server_laws.proofs.Outcomes.{Outcome, is_told, is_refused, is_defined, is_changed, is_undone, outcome, questions_make_nothing}

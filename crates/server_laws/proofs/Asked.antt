@@ -2,14 +2,11 @@
 use Rattle.std.proofs.Common.{◌≡◌, ℕ, Bool, true, false, List, Option, Some, None, Result, Ok, Err, inl, inr, refl, ap, subst, ◌∙◌}
 use Rattle.serde_json.specs.Data.{Items}
 use Rattle.plain_values.specs.SortedSet as set
-use Rattle.plain_values.specs.Row.{Row}
-use Rattle.fd_laws.proofs.Relations.{from_union, from_minus}
-use Rattle.lens_laws.proofs.Lenses.{get_sort}
+use Rattle.plain_values.proofs.Common.{Row}
+use Rattle.fd_laws.proofs.Common.{from_union, from_minus}
+use Rattle.lens_laws.proofs.Common.{get_sort}
 use Rattle.lens_specs.specs.Common.{Rows, minus, Sort, violating_row, Clash, violating_pair, IsOf, Lens, sort_of, get, new_view}
-use Rattle.server_specs.specs.State.{State}
-use Rattle.server_specs.specs.EditRefusal.{EditRefusal, Listed, in_rows, in_remove, in_add}
-use Rattle.server_specs.specs.Sending.{BadRow, rows_in}
-use Rattle.server_specs.specs.Changing.{Sent, whole, edited, as_set, set_in, edit_of, sent_view, is_stale, changed_at, unless_stale, unless_off, unless_clash, of_sort, tested, asked_view}
+use Rattle.server_specs.specs.Common.{State, EditRefusal, Listed, in_rows, in_remove, in_add, BadRow, rows_in, Sent, whole, edited, as_set, set_in, edit_of, sent_view, is_stale, changed_at, unless_stale, unless_off, unless_clash, of_sort, tested, asked_view}
 use Rattle.server_specs.proofs.Sent.{sent_fit}
 use Rattle.server_laws.proofs.Stored.{IsHere}
 use Rattle.server_laws.specs.PutLaws.{AllFit}

@@ -1,28 +1,20 @@
 -- Lines that send a batch.
 use Rattle.std.proofs.Common.{◌≡◌, ◌∙◌, ◌⊎◌, ◌+◌, ℕ, suc, List, [], ◌∷◌, ◌++◌, length, Option, Some, None, Result, Ok, Err, inl, inr, ap, sym, subst, refl, arith}
-use Rattle.std.specs.Prelude.{◌↔◌}
 use Rattle.std.specs.FinMap as finmap
-use Rattle.lens_laws.proofs.Lenses.{get_after, put_back, put_leaves}
+use Rattle.lens_laws.proofs.Common.{get_after, put_back, put_leaves, are_differences}
 use Rattle.lens_specs.specs.Common.{Lens, Tables, get, put, sort_of, TableDelta, changes, differences, Rows, IsOf, AreDeltas, LeadTo}
-use Rattle.io_specs.specs.Lines.{Line}
-use Rattle.catalog_specs.specs.Catalogue.{catalogue}
-use Rattle.server_specs.specs.State.{State}
+use Rattle.server_specs.specs.Common.{Line, catalogue, State, EditRefusal, in_add, in_remove, Answer, changed, in_edit, BatchEdit, request, accept, asked_view, changed_by, edited, set_in, settled, at_tables, batch_settled, edit_tables, edits_from, put_in, then_edits, answer, answer_request, AreStored, Valid}
 use Rattle.server_specs.specs.EditRefusal as refusals
-use Rattle.server_specs.specs.EditRefusal.{EditRefusal, in_add, in_remove}
-use Rattle.server_specs.specs.Answer.{Answer, changed, in_edit, told as told_answer}
-use Rattle.server_specs.specs.Request.{BatchEdit, batch as batch_request, edit as edit_request, request}
-use Rattle.server_specs.specs.Changing.{accept, asked_view, changed_by, edited, set_in, settled}
-use Rattle.server_specs.specs.Batching.{KnownEdit, at_tables, batch, batch_settled, edit_tables, edits_from, known_view, put_in, then_edits, with_known}
-use Rattle.server_specs.specs.Answering.{answer, answer_request}
-use Rattle.server_specs.specs.Validity.{AreStored, Valid}
+use Rattle.server_specs.specs.Answer.{told as told_answer}
+use Rattle.server_specs.specs.Request.{batch as batch_request}
+use Rattle.server_specs.specs.Batching.{KnownEdit, batch, known_view, with_known}
 use Rattle.server_laws.specs.Answers.{IsAccepted}
-use Rattle.server_laws.specs.BatchLaws.{AreKnown, AreLawful, IsBatchLine, IsFirstRefused, IsLawfulEdit}
-use Rattle.lens_laws.proofs.Alone.{are_differences}
+use Rattle.server_laws.specs.BatchLaws.{AreKnown, AreLawful, IsBatchLine, IsLawfulEdit, FirstRefusedIsTold, BatchesAcceptedOrRefused, BatchesAreMade, BatchesLead, EditsAreLawful, OneEditIsAnEdit}
 use Rattle.server_laws.proofs.Asked.{GivesTyped, asked_is, asked_typed, edit_ok, passed_sort}
 use Rattle.server_laws.proofs.Differences.{none_differ}
 use Rattle.server_laws.proofs.Edited.{IsEdited, edit_is, edit_stored, edits_stored, then_ok}
 use Rattle.server_laws.proofs.Led.{put_change, put_leads_to, tables_change, with_tables}
-use Rattle.server_laws.proofs.Puts.{told}
+use Rattle.server_laws.proofs.Puts.{told, accepts}
 use Rattle.server_laws.proofs.Stored.{IsHere, lens_here}
 
 -- ---- the answer
@@ -31,10 +23,6 @@ use Rattle.server_laws.proofs.Stored.{IsHere, lens_here}
 pub batch_is : (s : State) (l : Line) (edits : List BatchEdit) (on : Option ℕ) (r : Result Tables (ℕ × EditRefusal)) → IsBatchLine l edits on → edits_from 0 on s edits s.tables ≡ r → answer s l ≡ batch_settled r s
 unfolding answer
 batch_is s l edits on r asked is = ap (λ q. answer_request q s) asked ∙ ap (λ x. batch_settled x s) is
-
-accepts : (db : Tables) (ds : List TableDelta) (s : State) → IsAccepted (accept db ds s).0
-accepts db [] s = tt
-accepts db (d ∷ ds) s = tt
 
 -- ---- what is refused
 
@@ -102,8 +90,7 @@ edits-append j k s (b ∷ before) rest on db mid place e =
     let w = then_ok j (edits_from (suc j) on s before) (edit_tables b on (finmap.get (catalogue s.texts) b.view) s db) mid e in
     ap (then_edits j (edits_from (suc j) on s (before ++ rest))) w.1 ∙ edits-append (suc j) k s before rest on w.0 mid (omega arith) w.2
 
-pub first_refused_told : (s : State) (l : Line) (edits : List BatchEdit) (on : Option ℕ) → IsBatchLine l edits on → (i : ℕ) (why : EditRefusal)
-    → (answer s l ≡ (in_edit i why, s)) ↔ IsFirstRefused s edits on i why
+pub first_refused_told : FirstRefusedIsTold
 first_refused_told s l edits on asked i why = (
   λ e.
       let r = refused_by (edits_from 0 on s edits s.tables) i why s (sym (batch_is s l edits on (edits_from 0 on s edits s.tables) asked refl) ∙ e) in
@@ -121,8 +108,7 @@ accepted_or : (s : State) (r : Result Tables (ℕ × EditRefusal)) → IsAccepte
 accepted_or s (Ok db) = inl (accepts db (differences (finmap.keys s.tables) s.tables db) s)
 accepted_or s (Err found) = inr (found.0, found.1, refl)
 
-pub batch_accepted_or : (s : State) (l : Line) (edits : List BatchEdit) (on : Option ℕ) → IsBatchLine l edits on
-    → IsAccepted (answer s l).0 ⊎ ((i : ℕ) × (why : EditRefusal) × (answer s l ≡ (in_edit i why, s)))
+pub batch_accepted_or : BatchesAcceptedOrRefused
 batch_accepted_or s l edits on asked =
     subst (λ a. IsAccepted a.0 ⊎ ((i : ℕ) × (why : EditRefusal) × (a ≡ (in_edit i why, s)))) (sym (batch_is s l edits on (edits_from 0 on s edits s.tables) asked refl))
     (accepted_or s (edits_from 0 on s edits s.tables))
@@ -175,9 +161,7 @@ known_edits s v i (b ∷ edits) on db new stored e =
     let rest = known_edits s v (suc i) edits on w.0 new (edit_stored s b on db w.0 stored h) w.2 in
     (k.known ∷ rest.0, (k.lens, k.removes, k.adds, rest.1), rest.2 ∙ ap (batch rest.0) (sym k.is))
 
-pub batch_made : (s : State) → Valid s → (l : Line) (edits : List BatchEdit) (on : Option ℕ) → IsBatchLine l edits on → IsAccepted (answer s l).0
-    → (known : List KnownEdit) × AreKnown s edits known × ((answer s l).1.tables ≡ batch known s.tables)
-    × ((answer s l).0 ≡ changed (differences (finmap.keys s.tables) s.tables (answer s l).1.tables) (answer s l).1.version)
+pub batch_made : BatchesAreMade
 batch_made s v l edits on asked h =
     let w = accepted_tables s l edits on asked h in
     let is = batch_is s l edits on (Ok w.0) asked w.1 in
@@ -190,9 +174,7 @@ batch_made s v l edits on asked h =
       ap (λ a. a.0) is ∙ told s w.0 ds ∙ (λ i. changed (differences (finmap.keys s.tables) s.tables (sym tables i)) (sym is i).1.version),
     )
 
-pub batch_leads : (s : State) → Valid s → (l : Line) (edits : List BatchEdit) (on : Option ℕ) → IsBatchLine l edits on → IsAccepted (answer s l).0
-    → AreDeltas (differences (finmap.keys s.tables) s.tables (answer s l).1.tables)
-    × LeadTo (differences (finmap.keys s.tables) s.tables (answer s l).1.tables) s.tables (answer s l).1.tables
+pub batch_leads : BatchesLead
 batch_leads s v l edits on asked h =
     let w = accepted_tables s l edits on asked h in
     let change = tables_change s w.0 v (edits_stored s v 0 on edits s.tables w.0 v.tables w.1) in
@@ -201,21 +183,13 @@ batch_leads s v l edits on asked h =
 
 -- ---- each edit is lawful
 
-same_ok : {A B : Type 0} (r : Result A B) (x y : A) → r ≡ Ok x → r ≡ Ok y → x ≡ y
-same_ok (Ok z) x y e f = cc
-same_ok (Err z) x y e f = cc
-
-same_some : {A : Type 0} (o : Option A) (x y : A) → o ≡ Some x → o ≡ Some y → x ≡ y
-same_some None x y e f = cc
-same_some (Some z) x y e f = cc
-
 -- the lens and the sets of an edit are these alone
 one_known : (s : State) (e : BatchEdit) (db new : Tables) (h : IsKnown s e db new) (k : KnownEdit) → finmap.get (catalogue s.texts) e.view ≡ Some k.lens
     → set_in in_remove (sort_of k.lens).columns e.remove ≡ Ok k.remove → set_in in_add (sort_of k.lens).columns e.add ≡ Ok k.add → h.known ≡ k
 one_known s e db new h k lens removes adds =
-    let same : h.known.lens ≡ k.lens = same_some (finmap.get (catalogue s.texts) e.view) h.known.lens k.lens h.lens lens in
-    let remove : h.known.remove ≡ k.remove = same_ok (set_in in_remove (sort_of k.lens).columns e.remove) h.known.remove k.remove (ap (λ L. set_in in_remove (sort_of L).columns e.remove) (sym same) ∙ h.removes) removes in
-    let add : h.known.add ≡ k.add = same_ok (set_in in_add (sort_of k.lens).columns e.add) h.known.add k.add (ap (λ L. set_in in_add (sort_of L).columns e.add) (sym same) ∙ h.adds) adds in
+    let same : h.known.lens ≡ k.lens = (let l = h.lens in cc) in
+    let remove : h.known.remove ≡ k.remove = (let r = ap (λ L. set_in in_remove (sort_of L).columns e.remove) (sym same) ∙ h.removes in cc) in
+    let add : h.known.add ≡ k.add = (let a = ap (λ L. set_in in_add (sort_of L).columns e.add) (sym same) ∙ h.adds in cc) in
     λ i. record { lens = same i; remove = remove i; add = add i }
 
 -- a new view of the lens's sort is put lawfully
@@ -247,8 +221,7 @@ lawful_edits s v i (b ∷ edits) on db new stored e (k ∷ known) are =
     let l = lawful_edit s v b on db w.0 stored h k are.0 are.1 are.2 in
     (l.0, subst (AreLawful known) (sym l.1) (lawful_edits s v (suc i) edits on w.0 new (edit_stored s b on db w.0 stored h) w.2 known are.3))
 
-pub edits_lawful : (s : State) → Valid s → (l : Line) (edits : List BatchEdit) (on : Option ℕ) → IsBatchLine l edits on → IsAccepted (answer s l).0
-    → (known : List KnownEdit) → AreKnown s edits known → AreLawful known s.tables
+pub edits_lawful : EditsAreLawful
 edits_lawful s v l edits on asked h known are =
     let w = accepted_tables s l edits on asked h in
     lawful_edits s v 0 edits on s.tables w.0 v.tables w.1 known are
@@ -276,8 +249,7 @@ one_edit : (s : State) → Valid s → (e : BatchEdit) (on : Option ℕ) (o : Op
 one_edit s v e on None is = inr (refusals.unknown_name e.view, refl, refl)
 one_edit s v e on (Some L) is = let here = lens_here s v e.view L is in one_view s L v here on (asked_view s L (edited e.remove e.add) on) (asked_typed s L here (edited e.remove e.add) on)
 
-pub one_edit_is : (s : State) → Valid s → (l m : Line) (e : BatchEdit) (on : Option ℕ) → IsBatchLine l (e ∷ []) on → request m ≡ Ok (edit_request e.view e.remove e.add on)
-    → IsAlso s (answer s l) (answer s m)
+pub one_edit_is : OneEditIsAnEdit
 unfolding answer
 one_edit_is s v l m e on asked by_itself =
     subst (λ q. IsAlso s (answer_request q s) (answer_request (request m) s)) (sym asked)

@@ -1,38 +1,23 @@
 -- Lines that read, put, edit, import and preview.
-use Rattle.std.proofs.Common.{◌≡◌, ◌⊎◌, true, false, ℕ, List, [], ◌∷◌, Option, Some, None, Result, Ok, Err, inl, inr, refl, sym, ap, subst, ◌∙◌}
-use Rattle.std.specs.Prelude.{◌↔◌}
-use Rattle.std.proofs.lemmas.Bool.{cases_Bool}
+use Rattle.std.proofs.Common.{◌≡◌, ◌⊎◌, true, false, ℕ, List, [], ◌∷◌, Option, Some, None, Result, Ok, Err, inl, inr, refl, sym, ap, subst, ◌∙◌, ◌↔◌}
+use Rattle.plain_values.proofs.Common.{cases_Bool, Row}
 use Rattle.std.specs.FinMap as finmap
-use Rattle.serde_json.specs.Data.{Items}
 use Rattle.plain_values.specs.SortedSet as set
-use Rattle.plain_values.specs.Row.{Row}
-use Rattle.lens_laws.specs.Checks.{IsOff}
-use Rattle.lens_laws.specs.Edits.{AreDiffs}
+use Rattle.lens_laws.proofs.Common.{IsOff, AreDiffs}
 use Rattle.lens_specs.specs.Common.{Name, Rows, holds, Edge, IsOf, Tables, Lens, sort_of, get, put as put_rows, tables_of, TableDelta, changes, differences}
-use Rattle.io_specs.specs.Lines.{Line}
-use Rattle.catalog_specs.specs.Catalogue.{catalogue}
-use Rattle.server_specs.specs.State.{State}
+use Rattle.server_specs.specs.Common.{Line, catalogue, State, EditRefusal, in_remove, in_add, Answer, shown, changed, stale, off_predicate, clash, read, edit, import, request, about, rows_told, Sent, whole, edited, as_set, set_in, edit_of, sent_view, changed_at, is_stale, unless_stale, of_sort, tested, asked_view, accept, settled, foretold, changed_by, batch_settled, undone, import_settled, imported_by, read_settled, answer, answer_request, Valid}
 use Rattle.server_specs.specs.EditRefusal as refusals
-use Rattle.server_specs.specs.EditRefusal.{EditRefusal, in_remove, in_add}
-use Rattle.server_specs.specs.Answer.{Answer, shown, changed, stale, unknown_name, bad_row, off_predicate, clash, told as told_answer}
-use Rattle.server_specs.specs.Request.{read, edit, preview, import, request}
-use Rattle.server_specs.specs.Sending.{rows_in}
-use Rattle.server_specs.specs.Questions.{about, rows_told}
-use Rattle.server_specs.specs.Changing.{Sent, whole, edited, as_set, set_in, edit_of, sent_view, changed_at, is_stale, unless_stale, of_sort, tested, asked_view, accept, settled, foretold, changed_by}
-use Rattle.server_specs.specs.Batching.{batch_settled}
-use Rattle.server_specs.specs.Undoing.{undone}
-use Rattle.server_specs.specs.Exporting.{import_settled, imported_by, read_settled}
+use Rattle.server_specs.specs.Answer.{told as told_answer}
 use Rattle.csv_specs.specs.Sheets.{unsheet}
 use Rattle.csv_specs.proofs.Fitting.{unsheet_fits}
-use Rattle.server_specs.specs.Answering.{answer, answer_request}
-use Rattle.server_specs.specs.Validity.{Valid}
 use Rattle.server_laws.proofs.Refusals.{asked_refuses}
 use Rattle.server_laws.proofs.Asked.{sent_fits}
 use Rattle.server_laws.proofs.Puts.{IsSettled, accepted_where, accepted_or_refused, refused_by, clashes_by, put_then_read, told, changes_told, changes_differ, others_stay, read_then_put}
 use Rattle.server_laws.proofs.Stored.{lens_here}
 use Rattle.server_laws.specs.Answers.{IsAccepted, IsRefusal}
-use Rattle.server_laws.specs.ChangeLaws.{IsReadLine, change_request, IsChangeLine, IsImportLine, SendsView, by_rows, by_text}
+use Rattle.server_laws.specs.ChangeLaws.{IsReadLine, change_request, IsChangeLine, IsImportLine, SendsView, by_rows, by_text, UnknownNamesAreTold, RemovedComeFirst, NothingIsChanged, LinesLeaveOthers, PreviewsForetell}
 use Rattle.server_laws.specs.PutLaws.{AllFit, IsFirstClashOf, put_set}
+use Rattle.server_laws.specs.SheetLaws.{ImportsArePuts}
 
 pub lines_read : (s : State) (l : Line) (name : Name) (L : Lens) → IsReadLine s l name L → answer s l ≡ (shown (get L s.tables) s.version, s)
 unfolding answer
@@ -50,20 +35,17 @@ change_is s l name (edited remove add) on asked = ap (λ r. answer_request r s) 
 pub lines_settle : (s : State) (l : Line) (name : Name) (L : Lens) (sent : Sent) (on : Option ℕ) → IsChangeLine s l name L sent on → answer s l ≡ settled (asked_view s L sent on) L s
 lines_settle s l name L sent on h = change_is s l name sent on h.asked ∙ ap (λ o. changed_by sent on name o s) h.lens
 
-pub unknown_told : (s : State) (l : Line) (name : Name) (sent : Sent) (on : Option ℕ) → request l ≡ Ok (change_request sent name on) → finmap.get (catalogue s.texts) name ≡ None
-    → answer s l ≡ (unknown_name name, s)
+pub unknown_told : UnknownNamesAreTold
 unknown_told s l name sent on asked none = change_is s l name sent on asked ∙ ap (λ o. changed_by sent on name o s) none
 
 pub bad_told : (s : State) (l : Line) (name : Name) (L : Lens) (sent : Sent) (on : Option ℕ) → IsChangeLine s l name L sent on → (bad : EditRefusal) → sent_view sent L s ≡ Err bad → answer s l ≡ (told_answer bad, s)
 bad_told s l name L sent on h bad is = lines_settle s l name L sent on h ∙ ap (λ r. settled (tested s L on r) L s) is
 
-pub removed_first : (s : State) (l : Line) (name : Name) (L : Lens) (remove add : Items) (on : Option ℕ) → IsChangeLine s l name L (edited remove add) on
-    → (index : ℕ) (column : List ℕ) → rows_in (sort_of L).columns remove ≡ Err (index, column) → answer s l ≡ (bad_row in_remove index column, s)
+pub removed_first : RemovedComeFirst
 removed_first s l name L remove add on h index column is = bad_told s l name L (edited remove add) on h (refusals.bad_row in_remove index column)
     (ap (λ r. edit_of (get L s.tables) (as_set in_remove r) (set_in in_add (sort_of L).columns add)) is)
 
-pub others_left : (s : State) (l : Line) (name : Name) (L : Lens) (sent : Sent) (on : Option ℕ) → IsChangeLine s l name L sent on
-    → (t : Name) → set.contains (tables_of L) t ≡ false → finmap.get (answer s l).1.tables t ≡ finmap.get s.tables t
+pub others_left : LinesLeaveOthers
 others_left s l name L sent on h t o = ap (λ r. finmap.get r.1.tables t) (lines_settle s l name L sent on h) ∙ others_stay (asked_view s L sent on) L s t o
 
 pub texts_accept : (db : Tables) (ds : List TableDelta) (s : State) → (accept db ds s).1.texts ≡ s.texts
@@ -97,8 +79,7 @@ pub import_reads : (s : State) (l : Line) (name : Name) (L : Lens) (csv : List �
 import_reads s l name L csv on h =
     import_is s l name csv on h.asked ∙ ap (λ o. imported_by csv on name o s) h.lens ∙ ap (λ o. import_settled o csv on L s) h.plain
 
-pub imports_put : (s : State) (l : Line) (name : Name) (L : Lens) (csv : List ℕ) (on : Option ℕ) → IsImportLine s l name L csv on
-    → (N : Rows) → unsheet (sort_of L).columns csv ≡ Ok N → answer s l ≡ settled (tested s L on (Ok N)) L s
+pub imports_put : ImportsArePuts
 imports_put s l name L csv on h N is = import_reads s l name L csv on h ∙ ap (λ r. read_settled r on L s) is
 
 -- ---- lines that send a new view
@@ -182,8 +163,7 @@ module _ (s : State) (l : Line) (name : Name) (L : Lens) (on : Option ℕ) (N : 
       subst (λ r. (changes L N s.tables ≡ differences (set.items (tables_of L)) s.tables r.1.tables) × AreDiffs s.tables r.1.tables (changes L N s.tables)) (sym (accepted_puts accepted))
       (changes_differ L N s (put_accepted accepted))
 
-pub nothing_changed : (s : State) → Valid s → (l : Line) (name : Name) (L : Lens) (on : Option ℕ) → SendsView s l name L on (get L s.tables) → is_stale s L on ≡ false
-    → answer s l ≡ (changed [] s.version, s)
+pub nothing_changed : NothingIsChanged
 nothing_changed s v l name L on h fresh = puts_set s l name L on (get L s.tables) h fresh ∙ read_then_put s v name L (lens_sent s l name L on (get L s.tables) h)
 
 -- ---- previews
@@ -202,8 +182,7 @@ foretells_name : (s : State) (sent : Sent) (on : Option ℕ) (name : Name) (o : 
 foretells_name s sent on name None = inl (tt, refl)
 foretells_name s sent on name (Some L) = foretells_lens s L (asked_view s L sent on) (λ why e. (asked_refuses s L sent on why e).refusal)
 
-pub previews_foretell : (s : State) (l m : Line) (name : Name) (remove add : Items) (on : Option ℕ) → request l ≡ Ok (edit name remove add on) → request m ≡ Ok (preview name remove add on)
-    → Foretells s (answer s l) (answer s m).0
+pub previews_foretell : PreviewsForetell
 unfolding answer
 previews_foretell s l m name remove add on e f =
     subst (λ r. Foretells s (answer_request r s) (answer_request (request m) s).0) (sym e)

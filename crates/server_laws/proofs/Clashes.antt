@@ -1,14 +1,8 @@
 -- The first clash of rows with a tree is one.
-use Rattle.std.proofs.Common.{◌≡◌, ℕ, suc, ◌+◌, List, [], ◌∷◌, ◌++◌, length, Option, Some, None, refl, sym, ap, subst, ◌∙◌, arith}
-use Rattle.std.specs.Prelude.{◌≢◌}
-use Rattle.std.proofs.lemmas.Bool.{true≢false}
-use Rattle.std.specs.Ordering.{ordering_reverse}
-use Rattle.std.specs.declared.cmp.Ordering.{Ordering}
-use Rattle.std.specs.declared.cmp.Ordering.TheVariants.{Less, Equal, Greater}
-use Rattle.plain_values.specs.Row.{row_cmp, Row}
-use Rattle.lens_laws.proofs.Least.{clash_is}
-use Rattle.fd_laws.proofs.Rows.{row_total, row_exact}
-use Rattle.lens_laws.proofs.Sorts.{clash_none}
+use Rattle.std.proofs.Common.{◌≡◌, ℕ, suc, ◌+◌, List, [], ◌∷◌, ◌++◌, length, Option, Some, None, refl, sym, ap, subst, ◌∙◌, arith, ◌≢◌}
+use Rattle.plain_values.proofs.Common.{true≢false, ordering_reverse, Ordering, Less, Equal, Greater, row_cmp, Row}
+use Rattle.lens_laws.proofs.Common.{clash_is, clash_none}
+use Rattle.fd_laws.proofs.Common.{row_total, row_exact}
 use Rattle.lens_laws.specs.Checks.{IsClash, IsLeastClash, IsFirstClash}
 use Rattle.lens_laws.proofs.EditChecks.{later_both}
 use Rattle.lens_specs.specs.Common.{Rows, Edge, Meets, MeetsTree, Clash, violating_pair}
@@ -18,10 +12,6 @@ pub least_is_one : (a b : Row) (o : Ordering) → row_cmp a b ≡ o → o ≢ Gr
 least_is_one a b Less is h k = absurd (k (row_total.antisymm b a ∙ ap ordering_reverse is))
 least_is_one a b Equal is h k = row_exact a b is
 least_is_one a b Greater is h k = absurd (h refl)
-
--- a row is not before itself
-no_less : (r : Row) → row_cmp r r ≡ Less → ⊥
-no_less r e = let f : row_cmp r r ≡ Greater = row_total.antisymm r r ∙ ap ordering_reverse e in let g : Less ≡ Greater = sym e ∙ f in cc
 
 least_pairs : (e : Edge) (M : Rows) (r s p q : Row) → IsLeastClash e M r s → IsLeastClash e M p q → (r ≡ p) × (s ≡ q)
 least_pairs e M r s p q a b = later_both r s p q (a.least p q b.clash) (b.least r s a.clash)

@@ -1,31 +1,18 @@
 -- Definitions that are taken or refused, what a new name shows, and what stays.
-use Rattle.std.proofs.Common.{◌≡◌, ◌+◌, ℕ, true, false, cond, List, Option, Some, None, Result, Ok, Err, is_some, inl, inr, refl, sym, ap, subst, ◌∙◌}
-use Rattle.std.specs.Prelude.{◌↔◌}
-use Rattle.std.proofs.lemmas.Bool.{or_cases, true≢false, false_from_ne_true}
+use Rattle.std.proofs.Common.{◌≡◌, ◌+◌, ℕ, true, false, cond, List, Option, Some, None, Result, Ok, Err, is_some, inl, inr, refl, sym, ap, subst, ◌∙◌, ◌↔◌}
+use Rattle.plain_values.proofs.Common.{or_cases, true≢false, false_from_ne_true, eq_by_cmp, bytes_cmp}
 use Rattle.std.specs.FinMap as finmap
-use Rattle.std.specs.Ordering.{eq_by_cmp}
-use Rattle.plain_values.specs.Order.{bytes_cmp}
 use Rattle.plain_values.specs.SortedSet as set
-use Rattle.fd_laws.proofs.Names.{name_total, name_itself, tied_name, one_is}
-use Rattle.lens_laws.proofs.Lenses.{get_same}
-use Rattle.lens_specs.specs.Common.{Name, Columns, Relation, Edge, Predicate, Tables, Lens, base, select, drop, rename, get, tables_of, rows_or_none, table_sort}
-use Rattle.lens_specs.specs.Lens.{join}
-use Rattle.io_specs.specs.Lines.{Line}
-use Rattle.grammar_specs.specs.Meaning.{Definition, table, view, Expr}
-use Rattle.grammar_specs.specs.Faults.{Fault}
+use Rattle.fd_laws.proofs.Common.{name_total, name_itself, tied_name, one_is}
+use Rattle.lens_laws.proofs.Common.{get_same}
+use Rattle.lens_specs.specs.Common.{Name, Columns, Relation, Edge, Predicate, Tables, Lens, base, select, drop, rename, get, tables_of, rows_or_none, table_sort, join}
+use Rattle.server_specs.specs.Common.{Line, Catalogue, catalogue, table_lens, with_lens, CatalogFault, language, is_taken, where_sorted, lens_in, where_lensed, judged, State, Answer, defined, shown, Request, define, request, fault_answer, answer_definition, with_defined, answer, answer_request, IsStored, Valid}
+use Rattle.grammar_specs.specs.Common.{Definition, table, view, Expr, Fault}
 use Rattle.grammar_laws.specs.Reading.{reading}
-use Rattle.catalog_specs.specs.Catalogue.{Catalogue, catalogue, lens_of, table_lens, with_lens}
 use Rattle.catalog_specs.specs.Judging as judging
-use Rattle.catalog_specs.specs.Judging.{CatalogFault, language, is_taken, where_sorted, lens_in, where_lensed, judged}
-use Rattle.server_specs.specs.State.{State}
-use Rattle.server_specs.specs.Answer.{Answer, defined, shown, name_taken}
-use Rattle.server_specs.specs.Request.{Request, define, read, request}
-use Rattle.server_specs.specs.Defining.{text_answer, fault_answer, answer_definition, with_defined}
-use Rattle.server_specs.specs.Changing.{changed_at}
-use Rattle.server_specs.specs.Answering.{answer, answer_request}
-use Rattle.server_specs.specs.Validity.{IsStored, Valid}
+use Rattle.server_specs.specs.Defining.{text_answer}
 use Rattle.server_laws.specs.Answers.{IsChange}
-use Rattle.server_laws.specs.DefineLaws.{judgement, defined_name}
+use Rattle.server_laws.specs.DefineLaws.{judgement, defined_name, NewTablesAreEmpty, NewViewsShow, NamesAreTakenOnce, DefinitionsLeaveViews}
 use Rattle.server_laws.proofs.Outcomes.{Outcome, is_told, is_refused, is_defined, is_changed, is_undone, outcome}
 use Rattle.server_laws.proofs.Refusals.{fault_refuses}
 use Rattle.server_laws.proofs.Changes.{lines_read, texts_accept}
@@ -69,8 +56,7 @@ twice : (known : Catalogue) (d : Definition) → is_taken known (defined_name d)
 twice known (table name columns deps P) h = ap (λ b. cond b (Err (judging.name_taken name)) (where_sorted (table_sort columns deps P) known (table name columns deps P))) h
 twice known (view name expr) h = ap (λ b. cond b (Err (judging.name_taken name)) (where_lensed (lens_in known expr) known (view name expr))) h
 
-pub taken_once : (s : State) (l : Line) (text : List ℕ) (d : Definition) (L : Lens) → request l ≡ Ok (define text) → reading text ≡ Ok d → finmap.get (catalogue s.texts) (defined_name d) ≡ Some L
-    → answer s l ≡ (name_taken (defined_name d), s)
+pub taken_once : NamesAreTakenOnce
 taken_once s l text d L asked is e =
     refused_stays s l text (judging.name_taken (defined_name d)) asked (ap (judged (catalogue s.texts)) is ∙ twice (catalogue s.texts) d (ap is_some e))
 
@@ -92,8 +78,7 @@ no_rows db name columns deps P =
     let M : Relation = record { columns = columns; rows = set.empty } in
     ap rows_or_none (finmap.get-insert name_total db name M name ∙ ap (λ b. cond b (Some M) (finmap.get db name)) (name_itself name))
 
-pub tables_empty : (s : State) (l m : Line) (text : List ℕ) (name : Name) (columns : Columns) (deps : List Edge) (P : Predicate) → request l ≡ Ok (define text)
-    → judgement s text ≡ Ok (table name columns deps P) → request m ≡ Ok (read name) → answer (answer s l).1 m ≡ (shown set.empty (s.version + 1), (answer s l).1)
+pub tables_empty : NewTablesAreEmpty
 tables_empty s l m text name columns deps P asked j again =
     let t : State = with_defined text (table name columns deps P) s in
     let L : Lens = table_lens name columns deps P in
@@ -101,8 +86,7 @@ tables_empty s l m text name columns deps P asked j again =
     let reads : answer t m ≡ (shown set.empty (s.version + 1), t) = lines_read t m name L (record { asked = again; lens = known }) ∙ ap (λ N. (shown N (s.version + 1), t)) (no_rows s.tables name columns deps P) in
     subst (λ r. answer r.1 m ≡ (shown set.empty (s.version + 1), r.1)) (sym (taken_is_added s l text (table name columns deps P) asked j)) reads
 
-pub views_show : (s : State) (l m : Line) (text : List ℕ) (name : Name) (expr : Expr) → request l ≡ Ok (define text) → judgement s text ≡ Ok (view name expr) → request m ≡ Ok (read name)
-    → (L : Lens) × (lens_of expr (catalogue s.texts) ≡ Some L) × (answer (answer s l).1 m ≡ (shown (get L s.tables) (s.version + 1), (answer s l).1))
+pub views_show : NewViewsShow
 views_show s l m text name expr asked j again =
     let t : State = with_defined text (view name expr) s in
     let w = lens_taken s text name expr j in
@@ -190,8 +174,7 @@ leaves s l text asked = subst (λ r. Leaves s r.1) (sym (answer_is s l text (jud
 pub tables_left : (s : State) → Valid s → (l : Line) (text : List ℕ) → request l ≡ Ok (define text) → (t : Name) → is_some (finmap.get s.tables t) ≡ true → finmap.get (answer s l).1.tables t ≡ finmap.get s.tables t
 tables_left s v l text asked t h = (leaves s l text asked).tables t (stored_there t (finmap.get (catalogue s.texts) t) (finmap.get s.tables t) (v.tables t) h)
 
-pub views_left : (s : State) → Valid s → (l : Line) (text : List ℕ) → request l ≡ Ok (define text) → (name : Name) (L : Lens) → finmap.get (catalogue s.texts) name ≡ Some L
-    → (get L (answer s l).1.tables ≡ get L s.tables) × (changed_at (answer s l).1 L ≡ changed_at s L)
+pub views_left : DefinitionsLeaveViews
 views_left s v l text asked name L e =
     let w = leaves s l text asked in
     let bases = (lens_here s v name L e).known.bases in

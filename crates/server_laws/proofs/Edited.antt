@@ -1,15 +1,9 @@
 -- Edits of a batch, one after another.
 use Rattle.std.proofs.Common.{◌≡◌, ℕ, suc, List, [], ◌∷◌, Option, Some, None, Result, Ok, Err, subst, refl}
 use Rattle.std.specs.FinMap as finmap
-use Rattle.lens_laws.proofs.Lenses.{get_after}
+use Rattle.lens_laws.proofs.Common.{get_after}
 use Rattle.lens_specs.specs.Common.{Lens, Tables, put, sort_of, Rows, IsOf}
-use Rattle.catalog_specs.specs.Catalogue.{catalogue}
-use Rattle.server_specs.specs.State.{State}
-use Rattle.server_specs.specs.EditRefusal.{EditRefusal}
-use Rattle.server_specs.specs.Request.{BatchEdit}
-use Rattle.server_specs.specs.Batching.{at_tables, edit_tables, edits_from, put_in, then_edits}
-use Rattle.server_specs.specs.Changing.{asked_view, edited}
-use Rattle.server_specs.specs.Validity.{AreStored, Valid}
+use Rattle.server_specs.specs.Common.{catalogue, State, EditRefusal, BatchEdit, at_tables, edit_tables, edits_from, put_in, then_edits, asked_view, edited, AreStored, Valid}
 use Rattle.server_laws.proofs.Asked.{asked_typed}
 use Rattle.server_laws.proofs.Stored.{IsHere, lens_over, stored_put}
 

@@ -1,25 +1,15 @@
 -- Lines that export and import.
 use Rattle.std.proofs.Common.{◌≡◌, ◌∙◌, ℕ, false, List, Option, Some, None, option_map, Result, Ok, Err, ap, sym, refl}
-use Rattle.std.specs.List.{find}
+use Rattle.plain_values.proofs.Common.{find, is_nullable, none_found}
 use Rattle.std.specs.FinMap as finmap
 use Rattle.plain_values.specs.SortedSet as set
 use Rattle.lens_specs.specs.Common.{Lens, get, sort_of, tables_of, Name, Rows}
-use Rattle.io_specs.specs.Lines.{Line}
-use Rattle.catalog_specs.specs.Catalogue.{catalogue}
+use Rattle.server_specs.specs.Common.{Line, catalogue, State, Answer, export, request, about, tested, first_nullable, import_settled, imported_by, read_settled, sheet_told, answer, answer_request}
 use Rattle.csv_specs.specs.Sheets.{sheet, unsheet}
 use Rattle.csv_specs.proofs.RoundTrip.{sheets_read_back}
-use Rattle.plain_values.specs.Value.{is_nullable}
 use Rattle.plain_values.specs.declared.value.Kind.{Kind}
-use Rattle.plain_values.proofs.Lists.{none_found}
-use Rattle.lens_laws.proofs.Lenses.{get_sort}
+use Rattle.lens_laws.proofs.Common.{get_sort}
 use Rattle.server_laws.proofs.Stored.{lens_here}
-use Rattle.server_specs.specs.State.{State}
-use Rattle.server_specs.specs.Answer.{Answer}
-use Rattle.server_specs.specs.Request.{export, request}
-use Rattle.server_specs.specs.Questions.{about}
-use Rattle.server_specs.specs.Changing.{tested}
-use Rattle.server_specs.specs.Exporting.{first_nullable, import_settled, imported_by, read_settled, sheet_told}
-use Rattle.server_specs.specs.Answering.{answer, answer_request}
 use Rattle.server_laws.proofs.Changes.{import_is, import_reads, nothing_changed}
 use Rattle.server_laws.proofs.Puts.{others_stay}
 use Rattle.server_laws.specs.ChangeLaws.{by_text}

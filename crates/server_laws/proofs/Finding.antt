@@ -3,13 +3,7 @@ use Rattle.std.proofs.Common.{◌≡◌, ◌∙◌, ℕ, Some, Ok, ap, sym}
 use Rattle.std.specs.FinMap as finmap
 use Rattle.serde_json.specs.Data.{Data}
 use Rattle.lens_specs.specs.Common.{Lens, get, Name, Rows}
-use Rattle.io_specs.specs.Lines.{Line}
-use Rattle.catalog_specs.specs.Catalogue.{catalogue}
-use Rattle.server_specs.specs.State.{State}
-use Rattle.server_specs.specs.Answer.{shown}
-use Rattle.server_specs.specs.Request.{read, request}
-use Rattle.server_specs.specs.Questions.{about, find_told, finding_told, found_told, rows_told, rows_with}
-use Rattle.server_specs.specs.Answering.{answer, answer_request}
+use Rattle.server_specs.specs.Common.{Line, catalogue, State, shown, read, request, about, find_told, finding_told, found_told, rows_told, rows_with, answer, answer_request}
 use Rattle.server_laws.specs.FindLaws.{FindsAreFilters, FindsIn, FindsKnowTheirColumn, FindsKnowTheirView, FoundValuesFit}
 
 same_rows : (M N : Rows) (v w : ℕ) → shown M v ≡ shown N w → M ≡ N

@@ -1,40 +1,25 @@
 -- What is kept of valid states follows their changes.
-use Rattle.std.proofs.Common.{◌≡◌, ℕ, List, [], ◌∷◌, Some, None, Result, Ok, is_some, refl, sym, ap, subst}
+use Rattle.std.proofs.Common.{◌≡◌, List, [], ◌∷◌, Some, Result, is_some, refl, sym, ap, subst}
 use Rattle.std.specs.FinMap as finmap
-use Rattle.lens_specs.specs.Common.{Name, Rows, violating_row, violating_pair, Tables, Lens, sort_of, TableDelta, changes, Change, rows, LeadTo, inverted}
-use Rattle.grammar_specs.specs.Meaning.{Definition, table, view}
+use Rattle.lens_specs.specs.Common.{Tables, TableDelta, changes, Change, rows, LeadTo, inverted, define}
+use Rattle.grammar_specs.specs.Common.{table, view}
 use Rattle.grammar_laws.specs.Reading.{reading}
-use Rattle.lens_specs.specs.Keeping.{define}
-use Rattle.catalog_specs.specs.Catalogue.{catalogue}
-use Rattle.catalog_specs.specs.Judging.{judged}
-use Rattle.server_specs.specs.State.{State}
-use Rattle.server_specs.specs.Defining.{with_defined}
-use Rattle.server_specs.specs.Changing.{accept}
-use Rattle.server_specs.specs.Answering.{answer}
-use Rattle.server_specs.specs.Validity.{Valid}
-use Rattle.server_specs.specs.Undoing.{undone}
-use Rattle.server_specs.specs.Answer.{Answer, told}
-use Rattle.server_specs.specs.Request.{Request, request}
-use Rattle.io_specs.specs.Lines.{Line}
-use Rattle.server_laws.proofs.Led.{led_kept}
+use Rattle.server_specs.specs.Common.{catalogue, State, with_defined, accept, answer, Valid, undone, Answer, told, Request, request, Line}
 use Rattle.server_laws.proofs.Outcomes.{Outcome, is_told, is_refused, is_defined, is_changed, is_undone, outcome}
 use Rattle.server_laws.specs.Answers.{IsChange}
 use Rattle.server_laws.specs.AnswerLaws.{IsQuestion}
-use Rattle.server_laws.proofs.Kept.{accept_is_kept, table_is_kept, view_is_kept}
+use Rattle.server_laws.proofs.Kept.{accept_is_kept, table_is_kept, view_is_kept, led_kept, state_is_kept}
 use Rattle.server_laws.proofs.Puts.{put_is_accept}
 use Rattle.server_laws.proofs.Stored.{are_there, lens_here}
 use Rattle.server_laws.proofs.Taken.{judged_ok}
 use Rattle.server_laws.proofs.Valid.{no_table, undo_leads}
-use Rattle.server_laws.specs.KeptLaws.{KeptFollows, table_made}
-use Rattle.server_laws.specs.PutLaws.{put_set}
+use Rattle.server_laws.specs.KeptLaws.{KeptFollows, table_made, PutsAreKept, DefinitionsAreKept}
 
-pub puts_kept : (s : State) → Valid s → (name : Name) (L : Lens) → finmap.get (catalogue s.texts) name ≡ Some L
-    → (N : Rows) → violating_row (sort_of L).predicate N ≡ None → violating_pair (sort_of L).tree N ≡ None → KeptFollows (rows (changes L N s.tables)) s (put_set N L s).1
+pub puts_kept : PutsAreKept
 puts_kept s v name L e N none met = subst (λ r. KeptFollows (rows (changes L N s.tables)) s r.1) (sym (put_is_accept N L s none met))
     (accept_is_kept L N s (are_there L s.tables (lens_here s v name L e).are) (changes L N s.tables) refl)
 
-pub definitions_kept : (s : State) → Valid s → (text : List ℕ) (definition : Definition) → judged (catalogue s.texts) (reading text) ≡ Ok definition
-    → KeptFollows (define text (table_made definition)) s (with_defined text definition s)
+pub definitions_kept : DefinitionsAreKept
 definitions_kept s v text (table name columns deps P) j =
     let free = (judged_ok (catalogue s.texts) (reading text) (table name columns deps P) j).1.0 in
     table_is_kept text name columns s (with_defined text (table name columns deps P) s)
@@ -46,11 +31,8 @@ definitions_kept s v text (view name expr) j = view_is_kept text s (with_defined
 abbrev IsKept : Answer × State → State → Type 0
 IsKept r s = IsChange r.0 → (change : Change) × KeptFollows change s r.1
 
--- differences that lead to the tables after it
 pub led_is_kept : (s t : State) (ds : List TableDelta) → LeadTo ds s.tables t.tables → t.texts ≡ s.texts → KeptFollows (rows ds) s t
-led_is_kept s t ds leads texts =
-    let k = led_kept ds s.tables t.tables leads in
-    ((λ i. record { texts = texts i; rows = k.0 i }), k.1)
+led_is_kept s t ds leads texts = state_is_kept s t ds (led_kept ds s.tables t.tables leads) texts
 
 kept_accept : (s : State) (ds : List TableDelta) (db : Tables) → LeadTo ds s.tables db → IsKept (accept db ds s) s
 kept_accept s [] db leads h = absurd h

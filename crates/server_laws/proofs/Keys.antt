@@ -1,29 +1,21 @@
 -- The lenses of a valid state have keys.
-use Rattle.std.proofs.Common.{◌≡◌, ◌<◌, ℕ, true, List, [], ◌∷◌, cond, length, map, Some, None, Ok, is_some, sym, ap, subst, ◌∙◌, inl, inr}
-use Rattle.std.specs.Prelude.{◌^◌, is_err}
-use Rattle.std.specs.List.{list_all}
-use Rattle.std.proofs.lemmas.Bool.{and_parts, cases_Bool, or_left}
+use Rattle.std.proofs.Common.{◌≡◌, ◌<◌, ℕ, true, List, [], ◌∷◌, cond, length, map, Some, None, Ok, is_some, sym, ap, subst, ◌∙◌, inl, inr, ◌^◌, is_err}
+use Rattle.plain_values.proofs.Common.{list_all, and_parts, cases_Bool, or_left, eq_by_cmp, bytes_cmp, place_none}
 use Rattle.std.specs.FinMap as finmap
-use Rattle.std.specs.Ordering.{eq_by_cmp}
-use Rattle.plain_values.specs.Order.{bytes_cmp}
 use Rattle.plain_values.specs.SortedSet as set
 use Rattle.plain_values.specs.declared.value.Kind.{Kind}
-use Rattle.plain_values.proofs.Tests.{place_none}
 use Rattle.fd_laws.proofs.Common.{names-get, name_total, name_itself, tied_name}
 use Rattle.lens_laws.proofs.Asked.{filled_from}
 use Rattle.lens_laws.proofs.SmallSorts.{table_has_keys}
-use Rattle.lens_laws.specs.Asked.{HasKeys, IsFilled}
+use Rattle.lens_laws.proofs.Common.{HasKeys, IsFilled}
 use Rattle.lens_specs.specs.Common.{names, AllEdges, Lens, base, select, drop, rename, Name}
-use Rattle.grammar_specs.specs.Faults.{Answers}
+use Rattle.grammar_specs.specs.Common.{Answers, Definition, table, view, Expr, named, dep_meaning, meaning, Dep, Written, is_definition, is_dep, is_some_list}
 use Rattle.grammar_specs.specs.Meaning as language
-use Rattle.grammar_specs.specs.Meaning.{Definition, table, view, Expr, named, dep_meaning, meaning}
 use Rattle.grammar_specs.specs.Written as written
-use Rattle.grammar_specs.specs.Written.{Dep, Written, is_definition, is_dep, is_some_list}
 use Rattle.grammar_laws.proofs.Reading.{reading_answers}
 use Rattle.grammar_laws.specs.Reading.{reading}
 use Rattle.grammar_laws.proofs.Options.{map_some}
-use Rattle.catalog_specs.specs.Catalogue.{Catalogue, catalogue, catalogue_onto, lens_of, table_lens, with_definition, with_lens}
-use Rattle.catalog_specs.specs.Judging.{first_refused, judged, refused_from}
+use Rattle.server_specs.specs.Common.{Catalogue, catalogue, catalogue_onto, lens_of, table_lens, with_definition, with_lens, first_refused, judged, refused_from}
 use Rattle.server_laws.specs.StateLaws.{AreShort}
 use Rattle.server_laws.proofs.Taken.{IsTaken, get-new, get-other, judged_ok, lens_is, no_error, table_sort_is}
 use Rattle.server_laws.proofs.Views.{joined}

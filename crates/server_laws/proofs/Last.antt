@@ -1,25 +1,15 @@
 -- For each table, the version that changed it last.
 use Rattle.std.proofs.Common.{◌≡◌, ◌+◌, ℕ, Bool, true, false, cond, ◌||◌, List, [], ◌∷◌, Option, Some, Result, inl, inr, refl, sym, ap, ◌∙◌}
-use Rattle.std.proofs.lemmas.Bool.{cases_Bool, or_from, or_parts}
+use Rattle.plain_values.proofs.Common.{cases_Bool, or_from, or_parts, list_any, eq_by_cmp, bytes_cmp}
 use Rattle.std.specs.FinMap as finmap
-use Rattle.std.specs.List.{list_any}
-use Rattle.std.specs.Ordering.{eq_by_cmp}
-use Rattle.plain_values.specs.Order.{bytes_cmp}
 use Rattle.plain_values.specs.SortedSet as set
-use Rattle.fd_laws.proofs.Names.{name_total}
+use Rattle.fd_laws.proofs.Common.{name_total}
 use Rattle.lens_specs.specs.Common.{Name, Relation, Tables, TableDelta, LeadTo, inverted}
-use Rattle.grammar_specs.specs.Meaning.{Definition, table, view}
-use Rattle.io_specs.specs.Lines.{Line}
-use Rattle.server_specs.specs.State.{State}
-use Rattle.server_specs.specs.Answer.{Answer}
-use Rattle.server_specs.specs.Request.{Request}
-use Rattle.server_specs.specs.Defining.{with_defined}
-use Rattle.server_specs.specs.Changing.{accept, with_last}
-use Rattle.server_specs.specs.Answering.{answer}
-use Rattle.server_specs.specs.Validity.{Valid}
-use Rattle.server_specs.specs.Undoing.{undone}
+use Rattle.grammar_specs.specs.Common.{Definition, table, view}
+use Rattle.server_specs.specs.Common.{Line, State, Answer, Request, with_defined, accept, with_last, answer, Valid, undone}
 use Rattle.server_laws.proofs.Outcomes.{Outcome, is_told, is_refused, is_defined, is_changed, is_undone, outcome}
-use Rattle.lens_laws.proofs.Moves.{get_other, same_is, same_name}
+use Rattle.lens_laws.proofs.Common.{same_is, same_name}
+use Rattle.lens_laws.proofs.Moves.{get_other}
 use Rattle.server_laws.proofs.Valid.{undo_leads}
 use Rattle.server_laws.specs.AnswerLaws.{IsLast}
 

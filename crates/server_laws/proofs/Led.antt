@@ -1,27 +1,14 @@
 -- Changes of the tables of a state, by the differences that lead to the new ones.
-use Rattle.std.proofs.Common.{◌≡◌, ◌∙◌, Bool, true, false, cond, List, [], ◌∷◌, Option, Some, None, is_some, ap, sym, subst, refl}
-use Rattle.std.specs.Prelude.{unwrap_or}
-use Rattle.std.specs.Option.{option_map}
+use Rattle.std.proofs.Common.{◌≡◌, ◌∙◌, Bool, true, false, cond, List, [], ◌∷◌, Option, Some, is_some, ap, sym, refl}
+use Rattle.plain_values.proofs.Common.{IsStrictlySortedBy, eq_by_cmp, bytes_cmp, keys_rise}
 use Rattle.std.specs.FinMap as finmap
-use Rattle.std.specs.List.Sorted.{IsStrictlySortedBy}
-use Rattle.std.specs.Ordering.{eq_by_cmp}
-use Rattle.plain_values.specs.Order.{bytes_cmp}
-use Rattle.plain_values.specs.SortedMap.{keys_rise}
 use Rattle.plain_values.specs.SortedSet as set
-use Rattle.fd_laws.proofs.Names.{name_exact, name_total, tied_name}
-use Rattle.lens_laws.proofs.Lenses.{get_after, put_leaves}
-use Rattle.lens_specs.specs.Common.{Applies, TableDelta, changes, differences, new_view, Lens, Tables, put, sort_of, tables_of, Name, is_among, Relation, Rows, IsOf, AllApply, AreDeltas, LeadTo, after, inverted, no_relation, with_deltas}
-use Rattle.lens_specs.specs.Keeping as keeping
-use Rattle.catalog_specs.specs.Catalogue.{Catalogue, catalogue}
-use Rattle.server_specs.specs.State.{State}
-use Rattle.server_specs.specs.Changing.{accept}
-use Rattle.lens_specs.specs.TableDeltas.{relation_in}
-use Rattle.server_specs.specs.Validity.{AreStored, Valid}
+use Rattle.fd_laws.proofs.Common.{name_total, tied_name}
+use Rattle.lens_laws.proofs.Common.{get_after, put_leaves, AllThere, all_there, still_there}
+use Rattle.lens_specs.specs.Common.{TableDelta, changes, differences, Lens, Tables, put, sort_of, tables_of, Name, is_among, Relation, Rows, IsOf, AreDeltas, LeadTo, after, inverted, with_deltas, relation_in}
+use Rattle.server_specs.specs.Common.{Catalogue, catalogue, State, accept, AreStored, Valid}
 use Rattle.lens_laws.proofs.Alone.{difference_deltas}
-use Rattle.server_laws.proofs.Differences.{items_distinct, rising_distinct}
-use Rattle.server_laws.proofs.Kept.{get-rows_of, is_some-rows, rows_of}
 use Rattle.server_laws.proofs.Leading.{Differ, differences_back, differences_lead}
-use Rattle.lens_laws.proofs.Moves.{AllThere, all_there, still_there}
 use Rattle.server_laws.proofs.Stored.{IsHere, are_there, stored_absent, stored_alike, stored_put}
 
 -- the differences lead from the tables of the state to others of its catalogue, and taken back they lead from those
@@ -42,8 +29,8 @@ change_among : (s : State) (ts : List Name) (db : Tables) → IsStrictlySortedBy
 change_among s ts db rise stored differ = record {
   stored = stored;
   deltas = difference_deltas s.tables db ts rise;
-  leads = differences_lead ts s.tables db (rising_distinct ts rise) differ;
-  back = differences_back ts s.tables db (rising_distinct ts rise) differ;
+  leads = differences_lead ts s.tables db rise differ;
+  back = differences_back ts s.tables db rise differ;
 }
 
 -- a put over tables of the catalogue leaves tables of it
@@ -58,7 +45,7 @@ put_differs s L N stored here n =
 
 -- its changes lead to them
 pub put_leads_to : (s : State) (L : Lens) (N : Rows) → AreStored (catalogue s.texts) s.tables → IsHere s L → IsOf N (sort_of L) → LeadTo (changes L N s.tables) s.tables (put L N s.tables)
-put_leads_to s L N stored here n = differences_lead (set.items (tables_of L)) s.tables (put L N s.tables) (items_distinct (tables_of L)) (put_differs s L N stored here n)
+put_leads_to s L N stored here n = differences_lead (set.items (tables_of L)) s.tables (put L N s.tables) (keys_rise bytes_cmp (tables_of L)) (put_differs s L N stored here n)
 
 -- a put
 pub put_change : (s : State) (L : Lens) (N : Rows) → Valid s → IsHere s L → IsOf N (sort_of L) → IsChangeTo s (changes L N s.tables) (put L N s.tables)
@@ -89,45 +76,6 @@ names_stay (c ∷ cs) db there q =
 
 pub led_names : (cs : List TableDelta) (old new : Tables) → LeadTo cs old new → (q : Name) → is_some (finmap.get new q) ≡ is_some (finmap.get old q)
 led_names cs old new leads q = ap (λ db. is_some (finmap.get db q)) (sym leads.1) ∙ names_stay cs old (all_there cs old leads.0) q
-
--- ---- what is kept
-
--- one table in the place of another
-kept_one : (db : Tables) (t : Name) (M : Relation) → rows_of (finmap.insert db t M) ≡ finmap.insert (rows_of db) t M.rows
-kept_one db t M = finmap.same_map name_total name_exact _ _ (λ q.
-    get-rows_of (finmap.insert db t M) q ∙ ap (option_map (λ r. r.rows)) (finmap.get-insert name_total db t M q) ∙ either (eq_by_cmp bytes_cmp q t) (finmap.get db q)
-    ∙ ap (λ o. cond (eq_by_cmp bytes_cmp q t) (Some M.rows) o) (sym (get-rows_of db q)) ∙ sym (finmap.get-insert name_total (rows_of db) t M.rows q))
-  where
-    either : (b : Bool) (o : Option Relation) → option_map (λ r. r.rows) (cond b (Some M) o) ≡ cond b (Some M.rows) (option_map (λ r. r.rows) o)
-    either true o = refl
-    either false o = refl
-
--- the kept rows of a table are those of its relation
-kept_rows : (db : Tables) (t : Name) → keeping.rows_at (rows_of db) t ≡ (relation_in db t).rows
-kept_rows db t = ap keeping.or_empty (get-rows_of db t) ∙ either (finmap.get db t)
-  where
-    either : (o : Option Relation) → keeping.or_empty (option_map (λ r. r.rows) o) ≡ (unwrap_or o no_relation).rows
-    either None = refl
-    either (Some r) = refl
-
-kept_with : (cs : List TableDelta) (db : Tables) → rows_of (with_deltas cs db) ≡ keeping.with_deltas cs (rows_of db)
-kept_with [] db = refl
-kept_with (c ∷ cs) db =
-    kept_with cs (finmap.insert db c.table (after (relation_in db c.table) c.delta))
-    ∙ ap (keeping.with_deltas cs) (kept_one db c.table (after (relation_in db c.table) c.delta) ∙ ap (λ N. finmap.insert (rows_of db) c.table (new_view N c.delta)) (sym (kept_rows db c.table)))
-
-kept_applies : (cs : List TableDelta) (db : Tables) → AllApply cs db → keeping.AllApply cs (rows_of db)
-kept_applies [] db all = tt
-kept_applies (c ∷ cs) db all = (
-  ap is_some (get-rows_of db c.table) ∙ is_some-rows (finmap.get db c.table) ∙ all.0,
-  subst (Applies c.delta) (sym (kept_rows db c.table)) all.1.0,
-  all.2,
-  kept_applies cs db all.3,
-)
-
--- what is kept of the new tables is what was kept of the old ones, after the differences, which apply to it
-pub led_kept : (cs : List TableDelta) (old new : Tables) → LeadTo cs old new → (rows_of new ≡ keeping.with_deltas cs (rows_of old)) × keeping.AllApply cs (rows_of old)
-led_kept cs old new leads = (ap rows_of (sym leads.1) ∙ kept_with cs old, kept_applies cs old leads.0)
 
 -- the tables after a change that is accepted are those that it leads to
 pub with_tables : (s : State) (ds : List TableDelta) (db : Tables) → LeadTo ds s.tables db → (accept db ds s).1.tables ≡ db

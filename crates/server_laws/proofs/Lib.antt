@@ -28,11 +28,8 @@ pub mod Since
 pub mod Exports
 pub mod NoLost
 pub mod Returned
-pub mod Example
 pub mod OneEdge
-pub mod DropExample
-pub mod UpdateExample
-mod BatchExample
+pub mod Example
+pub mod ChangeExample
 pub mod Finding
-pub mod UndoExample
 pub mod ExportExample

@@ -1,23 +1,10 @@
 -- No update is lost.
-use Rattle.std.proofs.Common.{◌≡◌, ◌≤◌, true, false, ℕ, suc, List, [], ◌∷◌, ◌++◌, Option, Some, None, Result, Ok, Err, inl, inr, refl, sym, ap, subst, ◌∙◌, arith}
-use Rattle.std.specs.Prelude.{unwrap_or}
+use Rattle.std.proofs.Common.{◌≡◌, ◌≤◌, true, false, ℕ, suc, List, [], ◌∷◌, ◌++◌, Option, Some, None, Result, Ok, Err, inl, inr, refl, sym, ap, subst, ◌∙◌, arith, unwrap_or}
 use Rattle.std.specs.FinMap as finmap
 use Rattle.plain_values.specs.SortedSet as set
-use Rattle.lens_laws.proofs.Lenses.{get_same}
+use Rattle.lens_laws.proofs.Common.{get_same}
 use Rattle.lens_specs.specs.Common.{Name, Rows, Lens, Tables, get, sort_of, tables_of}
-use Rattle.io_specs.specs.Lines.{Line}
-use Rattle.catalog_specs.specs.Catalogue.{catalogue}
-use Rattle.server_specs.specs.State.{State}
-use Rattle.server_specs.specs.EditRefusal.{EditRefusal}
-use Rattle.server_specs.specs.Answer.{exported, shown}
-use Rattle.server_specs.specs.Request.{BatchEdit, export, import, read, request}
-use Rattle.server_specs.specs.Batching.{at_tables, edit_tables, edits_from}
-use Rattle.server_specs.specs.Questions.{about, rows_told}
-use Rattle.server_specs.specs.Changing.{Sent, edited, last_change, changed_at, is_stale, asked_view, tested, settled}
-use Rattle.server_specs.specs.Answering.{answer, answer_request}
-use Rattle.server_specs.specs.Session.{Exchange, Chain, Session, last_state, last_count}
-use Rattle.server_specs.specs.Validity.{Valid}
-use Rattle.server_specs.specs.Exporting.{first_nullable, sheet_told}
+use Rattle.server_specs.specs.Common.{Line, catalogue, State, EditRefusal, exported, shown, BatchEdit, export, import, read, request, at_tables, edit_tables, edits_from, about, rows_told, Sent, edited, last_change, changed_at, is_stale, asked_view, tested, settled, answer, answer_request, Exchange, Chain, last_state, last_count, Valid, first_nullable, sheet_told}
 use Rattle.csv_specs.specs.Sheets.{sheet}
 use Rattle.server_laws.proofs.Exports.{export_is, exports_sheets}
 use Rattle.server_laws.proofs.Refusals.{asked_refuses, of_import, read_refuses}
@@ -31,7 +18,8 @@ use Rattle.server_laws.proofs.Stale.{last_is_greatest, not_after}
 use Rattle.server_laws.proofs.Valid.{valid_chain, valid_step}
 use Rattle.server_laws.specs.Answers.{IsAccepted}
 use Rattle.server_laws.specs.ChangeLaws.{change_request}
-use Rattle.server_laws.specs.UpdateLaws.{ChangesOn, HasEditOf, by_itself, by_import, in_batch, RestsOnExport, RestsOnRead}
+use Rattle.server_laws.specs.UpdateLaws.{ChangesOn, HasEditOf, by_itself, by_import, in_batch, NoUpdateIsLost, NoExportIsLost}
+use Rattle.server_laws.proofs.Recalled.{front_of, rest_of}
 
 -- ---- what rests on a version that is not stale
 
@@ -56,13 +44,9 @@ record IsShown (s : State) (name : Name) (rows : Rows) (version : ℕ) : Type 0 
   rows_are : get lens s.tables ≡ rows
   version_is : s.version ≡ version
 
-two_shown : (M N : Rows) (v w : ℕ) → shown M v ≡ shown N w → (M ≡ N) × (v ≡ w)
-two_shown M N v w e = (cc, cc)
-
 shown_by : (s : State) (name : Name) (rows : Rows) (version : ℕ) (o : Option Lens) → finmap.get (catalogue s.texts) name ≡ o → about (rows_told s) name o ≡ shown rows version → IsShown s name rows version
 shown_by s name rows version None is e = cc
-shown_by s name rows version (Some L) is e =
-    let w = two_shown (get L s.tables) rows s.version version e in record { lens = L; has = is; rows_are = w.0; version_is = w.1 }
+shown_by s name rows version (Some L) is e = record { lens = L; has = is; rows_are = cc; version_is = cc }
 
 read_shows : (s : State) (l : Line) (name : Name) → request l ≡ Ok (read name) → (rows : Rows) (version : ℕ) → (answer s l).0 ≡ shown rows version → IsShown s name rows version
 unfolding answer
@@ -92,10 +76,6 @@ fresh_among s i on (b ∷ edits) db new e name L has among =
       | inr behind ↦ fresh_among s (suc i) on edits w.0 new w.2 name L has behind
     ]
 
--- the name has one lens
-one_lens : (o : Option Lens) (K L : Lens) → o ≡ Some K → o ≡ Some L → K ≡ L
-one_lens o K L is has = cc
-
 fresh_read : (s : State) (L : Lens) (on : Option ℕ) (M : Rows) (r : Result Rows EditRefusal) → tested s L on (Ok M) ≡ r → IsAccepted (settled r L s).0 → is_stale s L on ≡ false
 fresh_read s L on M (Err why) is h = absurd ((read_refuses s L on M why is).accepted h)
 fresh_read s L on M (Ok N) is h = read_fresh s L on M N is
@@ -103,7 +83,7 @@ fresh_read s L on M (Ok N) is h = read_fresh s L on M N is
 fresh_import : (s : State) (l : Line) (name : Name) (L : Lens) (csv : List ℕ) (on : Option ℕ) → request l ≡ Ok (import name csv on) → Has s name L → IsAccepted (answer s l).0 → is_stale s L on ≡ false
 fresh_import s l name L csv on asked has accepted =
     of_import (λ r. IsAccepted r.0 → is_stale s L on ≡ false) s on (λ a refuses h. absurd (refuses.accepted h)) csv name
-    (λ K is M fits h. subst (λ J. is_stale s J on ≡ false) (one_lens (finmap.get (catalogue s.texts) name) K L is has) (fresh_read s K on M (tested s K on (Ok M)) refl h))
+    (λ K is M fits h. (let same : K ≡ L = cc in subst (λ J. is_stale s J on ≡ false) same (fresh_read s K on M (tested s K on (Ok M)) refl h)))
     (subst (λ r. IsAccepted r.0) (import_is s l name csv on asked) accepted)
 
 -- an accepted change that rests on a version rests on one that is not stale
@@ -143,8 +123,7 @@ two_exported csv text v w e = (cc, cc)
 
 exported_plain : (s : State) (name : Name) (L : Lens) (csv : List ℕ) (version : ℕ) → Has s name L → (o : Option Name) → first_nullable (sort_of L).columns ≡ o → sheet_told o s L ≡ exported csv version → IsExported s name csv version
 exported_plain s name L csv version has (Some column) is e = cc
-exported_plain s name L csv version has None is e =
-    let w = two_exported (sheet (sort_of L).columns (get L s.tables)) csv s.version version e in record { lens = L; has = has; plain = is; csv_is = w.0; version_is = w.1 }
+exported_plain s name L csv version has None is e = record { lens = L; has = has; plain = is; csv_is = cc; version_is = cc }
 
 exported_by : (s : State) (name : Name) (csv : List ℕ) (version : ℕ) (o : Option Lens) → finmap.get (catalogue s.texts) name ≡ o
     → about (λ L. sheet_told (first_nullable (sort_of L).columns) s L) name o ≡ exported csv version → IsExported s name csv version
@@ -166,16 +145,6 @@ exported_since s t w l m name csv version asked e rests accepted =
 
 -- ---- sessions
 
--- the part of a chain that comes after some exchanges
-rest_of : (s : State) (count : ℕ) (before rest : List Exchange) → Chain s count (before ++ rest) → Chain (last_state s before) (last_count count before) rest
-rest_of s count [] rest c = c
-rest_of s count (e ∷ es) rest c = rest_of e.state e.count es rest c.1
-
--- and the part before
-front_of : (s : State) (count : ℕ) (before rest : List Exchange) → Chain s count (before ++ rest) → Chain s count before
-front_of s count [] rest c = tt
-front_of s count (e ∷ es) rest c = (c.0, front_of e.state e.count es rest c.1)
-
 -- the state before the second of two exchanges is valid
 pub chain_valid : (s : State) (count : ℕ) → Valid s → (before between after : List Exchange) (e f : Exchange) → Chain s count (before ++ e ∷ (between ++ f ∷ after)) → Valid (last_state e.state between)
 chain_valid s count v before between after e f c =
@@ -194,18 +163,12 @@ chain_keeps s count v before between after e f c =
     since_on t e.state (last_state e.state between) (since_step t n e.line e.reply e.state e.count w rest.0.replied)
     (since_chain e.state e.count between (valid_step t n e.line e.reply e.state e.count w rest.0.replied) (front_of e.state e.count between (f ∷ after) rest.1))
 
-pub no_update_lost : (s : State) (count : ℕ) (lines : List Line) (replies : List (List ℕ)) (last : State) (count' : ℕ) → Valid s
-    → (session : Session s count lines replies last count') → (before between after : List Exchange) (e f : Exchange)
-    → session.exchanges ≡ before ++ e ∷ (between ++ f ∷ after) → (name : Name) (rows : Rows) (version : ℕ) → RestsOnRead s before e between f name rows version
-    → (answer (last_state e.state between) e.line).0 ≡ shown rows (last_state e.state between).version
+pub no_update_lost : NoUpdateIsLost
 no_update_lost s count lines replies last count' v session before between after e f parts name rows version h =
     kept_since (last_state s before) (last_state e.state between) (chain_keeps s count v before between after e f (subst (Chain s count) parts session.chain))
     e.line f.line name rows version h.asked h.told h.rests h.accepted
 
-pub no_export_lost : (s : State) (count : ℕ) (lines : List Line) (replies : List (List ℕ)) (last : State) (count' : ℕ) → Valid s
-    → (session : Session s count lines replies last count') → (before between after : List Exchange) (e f : Exchange)
-    → session.exchanges ≡ before ++ e ∷ (between ++ f ∷ after) → (name : Name) (csv : List ℕ) (version : ℕ) → RestsOnExport s before e between f name csv version
-    → (answer (last_state e.state between) e.line).0 ≡ exported csv (last_state e.state between).version
+pub no_export_lost : NoExportIsLost
 no_export_lost s count lines replies last count' v session before between after e f parts name csv version h =
     exported_since (last_state s before) (last_state e.state between) (chain_keeps s count v before between after e f (subst (Chain s count) parts session.chain))
     e.line f.line name csv version h.asked h.told h.rests h.accepted

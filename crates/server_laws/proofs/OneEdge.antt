@@ -1,19 +1,10 @@
 -- The tree of one dependency, computed: that of a table whose first column decides the other one.
-use Rattle.std.proofs.Common.{◌≡◌, ◌+◌, Bool, true, false, cond, not, ◌||◌, [], ◌∷◌, Some, None, is_some, sym, ap, ◌∙◌}
-use Rattle.std.proofs.lemmas.Bool.{true≢false, and_parts, false_from_ne_true}
-use Rattle.std.specs.Prelude.{codes, nat_eq}
-use Rattle.std.specs.List.{list_any}
-use Rattle.std.specs.List.Sorted.{IsStrictlySortedBy}
+use Rattle.std.proofs.Common.{◌≡◌, ◌+◌, Bool, true, false, cond, not, ◌||◌, [], ◌∷◌, Some, None, is_some, sym, ap, ◌∙◌, codes, nat_eq}
+use Rattle.plain_values.proofs.Common.{true≢false, and_parts, false_from_ne_true, list_any, IsStrictlySortedBy, eq_by_cmp, bytes_cmp, absurd_false, same_bool}
 use Rattle.std.specs.FinMap as finmap
-use Rattle.std.specs.Ordering.{eq_by_cmp}
-use Rattle.plain_values.specs.Order.{bytes_cmp}
 use Rattle.plain_values.specs.SortedSet as set
-use Rattle.fd_laws.proofs.Common.{closure_is, name_total, name_exact, name_itself, one_is, from_rest}
-use Rattle.plain_values.proofs.Lists.{absurd_false}
-use Rattle.plain_values.proofs.Tests.{same_bool}
-use Rattle.fd_laws.proofs.Names.{in_rest}
-use Rattle.lens_specs.specs.Common.{Name, Within, one, share, Edge, edge, closure, TreeForm, is_tree, reduce_edge, with_right, kept_edge, tree_of}
-use Rattle.lens_specs.specs.TreeForm.{narrowed_by, is_free, stuck, put_first, checked}
+use Rattle.fd_laws.proofs.Common.{closure_is, name_total, name_exact, name_itself, one_is, from_rest, in_rest}
+use Rattle.lens_specs.specs.Common.{Name, Within, one, share, Edge, edge, closure, TreeForm, is_tree, reduce_edge, with_right, kept_edge, tree_of, narrowed_by, is_free, stuck, put_first, checked}
 
 abbrev pub a : Name
 a = codes "a"

@@ -1,31 +1,17 @@
 -- What becomes of a request: each of the twelve is of one of five families, and what is proved of the families holds of them all.
-use Rattle.std.proofs.Common.{◌≡◌, ◌+◌, ◌-◌, ℕ, length, List, Option, Some, None, Result, Ok, Err, refl}
-use Rattle.std.specs.Prelude.{slice_get}
+use Rattle.std.proofs.Common.{◌≡◌, ◌+◌, ◌-◌, ℕ, length, List, Option, Some, None, Result, Ok, Err, refl, slice_get, arith}
 use Rattle.std.specs.FinMap as finmap
 use Rattle.lens_specs.specs.Common.{Name, Rows, Tables, Lens, sort_of, put as put_rows, TableDelta, changes, differences}
-use Rattle.grammar_specs.specs.Meaning.{Definition}
-use Rattle.io_specs.specs.Lines.{Line}
+use Rattle.grammar_specs.specs.Common.{Definition}
+use Rattle.server_specs.specs.Common.{Line, catalogue, CatalogFault, judged, State, EditRefusal, Answer, defined, Request, define, read, find_at, put, edit, preview, describe, batch, undo, export, import, request, finding_told, rows_told, sort_told, answer_definition, with_defined, Sent, whole, edited, asked_view, tested, accept, settled, foretold, changed_by, edits_from, batch_settled, undone, first_nullable, sheet_told, answer, answer_request, AreStored, Valid, nothing_to_undo, unknown_name}
 use Rattle.grammar_laws.specs.Reading.{reading}
-use Rattle.catalog_specs.specs.Catalogue.{catalogue}
-use Rattle.catalog_specs.specs.Judging.{CatalogFault, judged}
-use Rattle.server_specs.specs.State.{State}
-use Rattle.server_specs.specs.EditRefusal.{EditRefusal}
-use Rattle.server_specs.specs.Answer.{Answer, defined}
-use Rattle.server_specs.specs.Request.{Request, define, read, find_at, put, edit, preview, describe, list, batch, undo, export, import, request}
-use Rattle.server_specs.specs.Questions.{finding_told, rows_told, sort_told}
-use Rattle.server_specs.specs.Defining.{answer_definition, with_defined}
-use Rattle.server_specs.specs.Changing.{Sent, whole, edited, asked_view, tested, accept, settled, foretold, changed_by}
-use Rattle.server_specs.specs.Batching.{edits_from, batch_settled}
-use Rattle.server_specs.specs.Undoing.{undone}
-use Rattle.server_specs.specs.Exporting.{first_nullable, sheet_told}
-use Rattle.server_specs.specs.Answering.{answer, answer_request}
-use Rattle.server_specs.specs.Validity.{AreStored, Valid}
+use Rattle.server_specs.specs.Request.{list}
 use Rattle.server_laws.specs.AnswerLaws.{IsQuestion}
 use Rattle.server_laws.specs.UndoLaws.{made, move_of}
 use Rattle.server_laws.proofs.Asked.{GivesTyped, asked_typed, read_typed}
 use Rattle.server_laws.proofs.Edited.{edits_stored}
 use Rattle.server_laws.proofs.Led.{IsChangeTo, put_change, tables_change}
-use Rattle.server_laws.proofs.Refusals.{AllPresent, AllRefuse, IsPresent, IsTold, Refuses, asked_present, edit_refuses, edits_present, fault_refuses, of_import, read_present, request_err, told_about, told_column, told_foretold, told_refuses, told_sheet, undo_refuses, unknown_refuses}
+use Rattle.server_laws.proofs.Refusals.{AllPresent, AllRefuse, IsPresent, IsTold, Refuses, asked_present, edit_refuses, edits_present, fault_refuses, of_import, read_present, request_err, told_about, told_column, told_foretold, told_refuses, told_sheet, refuses}
 use Rattle.server_laws.proofs.Stored.{IsHere, lens_here}
 
 -- The answer to a request and the state after it: a question is answered, a request is refused, a definition is taken, the tables
@@ -42,7 +28,7 @@ of_definition s text (Err fault) j = is_refused (fault_refuses s fault)
 of_definition s text (Ok d) j = is_defined text d j
 
 of_undo : (s : State) (o : Option (List TableDelta)) → slice_get s.past (length s.past - 1) ≡ o → Outcome s (Ok undo) (undone o s)
-of_undo s None is = is_refused (undo_refuses s)
+of_undo s None is = is_refused (refuses s nothing_to_undo tt tt (λ f. f))
 of_undo s (Some cs) is = is_undone cs is
 
 -- ---- changes
@@ -53,7 +39,7 @@ module _ (s : State) (r : Result Request Answer) (makes : move_of r ≡ made) wh
   of_settled L here (Ok N) present typed = is_changed (changes L N s.tables) (put_rows L N s.tables) makes (λ v. put_change s L N v (here v) (typed v N refl))
 
   of_changed : (sent : Sent) (on : Option ℕ) (name : Name) (o : Option Lens) → finmap.get (catalogue s.texts) name ≡ o → Outcome s r (changed_by sent on name o s)
-  of_changed sent on name None is = is_refused (unknown_refuses s name)
+  of_changed sent on name None is = is_refused (refuses s (unknown_name name) tt tt (λ f. f))
   of_changed sent on name (Some L) is =
       of_settled L (λ v. lens_here s v name L is) (asked_view s L sent on) (asked_present s L sent on) (λ v. asked_typed s L (lens_here s v name L is) sent on)
 
@@ -92,8 +78,5 @@ outcome s l = of_request s (request l) (request_err s l)
 
 -- a question changes nothing that can be undone
 pub questions_make_nothing : (r : Result Request Answer) → IsQuestion r → move_of r ≡ made → ⊥
-questions_make_nothing (Ok (put name rows on)) q m = q
-questions_make_nothing (Ok (edit name remove add on)) q m = q
-questions_make_nothing (Ok (batch edits on)) q m = q
-questions_make_nothing (Ok (import name csv on)) q m = q
-questions_make_nothing r q m = cc
+questions_make_nothing (Ok list) q m = cc
+questions_make_nothing r q m = grind arith

@@ -1,28 +1,13 @@
 -- The laws of puts over valid states.
-use Rattle.std.proofs.Common.{◌≡◌, Bool, true, false, cond, List, [], ◌∷◌, Option, Some, None, Result, Ok, Err, ◌⊎◌, inl, inr, refl, sym, ap, subst, ◌∙◌}
-use Rattle.std.specs.Prelude.{◌↔◌}
-use Rattle.std.proofs.lemmas.Bool.{cases_Bool, or_cases, true≢false}
+use Rattle.std.proofs.Common.{◌≡◌, Bool, true, false, cond, List, [], ◌∷◌, Option, Some, None, Result, Ok, Err, ◌⊎◌, inl, inr, refl, sym, ap, subst, ◌∙◌, ◌↔◌}
+use Rattle.plain_values.proofs.Common.{cases_Bool, or_cases, true≢false, eq_by_cmp, row_cmp, Row, bytes_cmp, in_cons}
 use Rattle.std.specs.FinMap as finmap
-use Rattle.std.specs.Ordering.{eq_by_cmp}
-use Rattle.plain_values.specs.Row.{row_cmp, Row}
-use Rattle.lens_laws.proofs.Sorts.{off_none, none_off}
-use Rattle.plain_values.specs.Order.{bytes_cmp}
+use Rattle.lens_laws.proofs.Common.{off_none, none_off, clash_is, get_sort, get_after, put_back, put_leaves, IsOff, AreDiffs, AreOf}
 use Rattle.plain_values.specs.SortedSet as set
-use Rattle.lens_laws.proofs.Least.{clash_is, off_is}
-use Rattle.lens_laws.proofs.Lenses.{get_sort, get_after, put_back, put_leaves}
-use Rattle.plain_values.proofs.Lists.{in_cons}
-use Rattle.fd_laws.proofs.Names.{name_total, name_exact, name_itself, tied_name, one_is}
-use Rattle.lens_laws.specs.Checks.{IsOff}
-use Rattle.lens_laws.specs.Edits.{AreDiffs}
-use Rattle.lens_laws.specs.Lenses.{AreOf}
-use Rattle.lens_specs.specs.Common.{Name, is_among, Rows, Predicate, holds, Edge, Sort, violating_row, Clash, violating_pair, IsOf, Tables, Lens, base, select, drop, rename, sort_of, tables_of, table, rows_or_none, get, put, TableDelta, diff, is_empty, differences, changes}
-use Rattle.lens_specs.specs.Lens.{join}
-use Rattle.catalog_specs.specs.Catalogue.{catalogue}
-use Rattle.server_specs.specs.State.{State}
-use Rattle.server_specs.specs.EditRefusal.{EditRefusal}
-use Rattle.server_specs.specs.Answer.{Answer, changed, clash, off_predicate}
-use Rattle.server_specs.specs.Changing.{unless_clash, unless_off, accept, settled}
-use Rattle.server_specs.specs.Validity.{Valid}
+use Rattle.lens_laws.proofs.Least.{off_is}
+use Rattle.fd_laws.proofs.Common.{name_total, name_exact, name_itself, tied_name, one_is}
+use Rattle.lens_specs.specs.Common.{Name, is_among, Rows, Predicate, holds, Edge, Sort, violating_row, Clash, violating_pair, IsOf, Tables, Lens, base, select, drop, rename, sort_of, tables_of, table, rows_or_none, get, put, TableDelta, diff, is_empty, differences, changes, join}
+use Rattle.server_specs.specs.Common.{catalogue, State, EditRefusal, Answer, changed, clash, off_predicate, unless_clash, unless_off, accept, settled, Valid}
 use Rattle.server_laws.proofs.Asked.{passes_sort}
 use Rattle.server_laws.proofs.Clashes.{clash_of_first, least_is_one}
 use Rattle.server_laws.proofs.Differences.{empty_same, none_differ}
@@ -73,7 +58,7 @@ unchanged_put L N db a b e = finmap.same_map name_total name_exact (put L N db) 
 
 -- ---- what is accepted
 
-accepts : (db : Tables) (ds : List TableDelta) (s : State) → IsAccepted (accept db ds s).0
+pub accepts : (db : Tables) (ds : List TableDelta) (s : State) → IsAccepted (accept db ds s).0
 accepts db [] s = tt
 accepts db (d ∷ ds) s = tt
 
@@ -138,9 +123,6 @@ refused_by L N s row = (
 
 -- ---- what is refused for a clash
 
-parts_same : (e k : Edge) (r p s q : Row) → clash e r s ≡ clash k p q → (e ≡ k) × (r ≡ p) × (s ≡ q)
-parts_same e k r p s q h = (cc, cc, cc)
-
 -- no row is off, and the first clash has this edge and these rows
 record IsClashing (o : Option Row) (c : Option Clash) (edge : Edge) (first second : Row) : Type 0 where
   not_off : o ≡ None
@@ -154,8 +136,8 @@ clashing : (o : Option Row) (c : Option Clash) (L : Lens) (N : Rows) (s : State)
     → IsClashing o c edge first second
 clashing None None L N s edge first second e = absurd (subst IsAccepted (ap (λ r. r.0) e) (accepts (put L N s.tables) (changes L N s.tables) s))
 clashing None (Some c) L N s edge first second e =
-    let w = parts_same c.edge edge c.first first c.second second (ap (λ r. r.0) e) in
-    record { not_off = refl; found = c; is = refl; edge_is = w.0; first_is = w.1; second_is = w.2 }
+    let same : clash c.edge c.first c.second ≡ clash edge first second = ap (λ r. r.0) e in
+    record { not_off = refl; found = c; is = refl; edge_is = cc; first_is = cc; second_is = cc }
 clashing (Some r) c L N s edge first second e = let f : off_predicate r ≡ clash edge first second = ap (λ r. r.0) e in cc
 
 clashes_from : (L : Lens) (N : Rows) (s : State) (edge : Edge) (first second : Row) → put_set N L s ≡ (clash edge first second, s) → IsFirstClashOf (sort_of L) N edge first second

@@ -1,35 +1,18 @@
 -- What undo brings back, over a session.
-use Rattle.std.proofs.Common.{◌≡◌, ◌∙◌, ◌+◌, ◌-◌, ℕ, zero, suc, get_or, Bool, true, false, cond, List, [], ◌∷◌, ◌++◌, length, take, drop, reverse, Option, Some, None, Result, Ok, is_some, ap, sym, subst, refl, inl, inr, arith}
-use Rattle.std.specs.Prelude.{◌↔◌, nat_eq, slice_get}
-use Rattle.std.proofs.lemmas.Bool.{ne_eqb, true≢false, false_from_ne_true}
-use Rattle.std.proofs.lemmas.Bool.Decides.{eqb_tells}
-use Rattle.std.proofs.lemmas.List.{drop-append-le, length-append, reverse-append, take-append-drop}
-use Rattle.std.proofs.lemmas.Option.{slice_get-get_or}
+use Rattle.std.proofs.Common.{◌≡◌, ◌∙◌, ◌+◌, ◌-◌, ℕ, zero, suc, get_or, Bool, true, false, cond, List, [], ◌∷◌, ◌++◌, length, take, drop, reverse, Option, Some, None, Result, Ok, is_some, ap, sym, subst, refl, arith, ◌↔◌, nat_eq, slice_get}
+use Rattle.plain_values.proofs.Common.{ne_eqb, true≢false, false_from_ne_true, drop-append-le, length-append, reverse-append, take-append-drop, slice_get-get_or, eq_by_cmp, bytes_cmp, eq-eqb}
 use Rattle.std.specs.FinMap as finmap
-use Rattle.std.specs.Ordering.{eq_by_cmp}
-use Rattle.plain_values.specs.Order.{bytes_cmp}
 use Rattle.plain_values.specs.SortedSet as set
-use Rattle.fd_laws.proofs.Names.{name_total, tied_name}
+use Rattle.fd_laws.proofs.Common.{name_total, tied_name}
 use Rattle.lens_specs.specs.Common.{TableDelta, Tables, Name, Relation, LeadTo, inverted, with_deltas}
-use Rattle.grammar_specs.specs.Meaning.{Definition, table, view}
+use Rattle.grammar_specs.specs.Common.{Definition, table, view}
 use Rattle.grammar_laws.specs.Reading.{reading}
-use Rattle.io_specs.specs.Lines.{Line}
-use Rattle.catalog_specs.specs.Catalogue.{Catalogue, catalogue}
-use Rattle.catalog_specs.specs.Judging.{judged}
-use Rattle.server_specs.specs.State.{State, remember}
-use Rattle.server_specs.specs.Answer.{Answer, told, changed, nothing_to_undo}
-use Rattle.server_specs.specs.Request.{Request, undo, request}
-use Rattle.server_specs.specs.Defining.{with_defined}
-use Rattle.server_specs.specs.Changing.{accept}
-use Rattle.server_specs.specs.Undoing.{undone}
-use Rattle.server_specs.specs.Answering.{answer, answer_request}
-use Rattle.server_specs.specs.Session.{Replies, answered, not_stored, found_memory, out_of_memory, Exchange, Chain, Session, last_state, last_count}
-use Rattle.server_specs.specs.Validity.{AreStored, CanUndo, Valid}
+use Rattle.server_specs.specs.Common.{Line, Catalogue, catalogue, judged, State, remember, Answer, told, changed, nothing_to_undo, Request, undo, request, with_defined, accept, undone, answer, answer_request, Replies, answered, not_stored, found_memory, out_of_memory, Exchange, Chain, last_state, last_count, AreStored, CanUndo, Valid}
 use Rattle.server_laws.specs.Answers.{IsChange}
-use Rattle.server_laws.specs.UndoLaws.{AreIn, Move, stays, made, taken_back, befores_after, move, move_of, move_to, moved}
+use Rattle.server_laws.specs.UndoLaws.{AreIn, Move, stays, made, taken_back, befores_after, move, move_of, move_to, moved, UndoRestores}
 use Rattle.server_laws.proofs.Outcomes.{Outcome, is_told, is_refused, is_defined, is_changed, is_undone, outcome, questions_make_nothing}
 use Rattle.server_laws.proofs.Led.{IsChangeTo}
-use Rattle.lens_laws.proofs.Moves.{all_there}
+use Rattle.lens_laws.proofs.Common.{all_there}
 use Rattle.server_laws.proofs.Remembered.{reverse_last, with_new}
 use Rattle.server_laws.proofs.Taken.{judged_ok}
 use Rattle.server_laws.proofs.Valid.{no_table, valid_chain, valid_step}
@@ -82,20 +65,14 @@ module _ (known : Catalogue) (t : Name) (r : Relation) (absent : (db : Tables) �
 abbrev Goes : State → State → Move → List Tables → Type 0
 Goes s t m befores = Recalls t.tables (reverse t.past) (moved (move_to s t m) s.tables befores)
 
-same_version : (v : ℕ) → nat_eq v v ≡ true
-same_version v = elim (eqb_tells v v) [ inl h ↦ h.0 | inr h ↦ absurd (h.1 refl) ]
-
-later_version : (v : ℕ) → nat_eq v (v + 1) ≡ false
-later_version v = ne_eqb v (v + 1) (λ e. omega arith)
-
 -- where the version is the same, nothing becomes of them
 still_recalls : (s : State) (m : Move) (befores : List Tables) → Recalls s.tables (reverse s.past) befores → Goes s s m befores
-still_recalls s m befores h = subst (λ b. Recalls s.tables (reverse s.past) (moved (cond b stays m) s.tables befores)) (sym (same_version s.version)) h
+still_recalls s m befores h = subst (λ b. Recalls s.tables (reverse s.past) (moved (cond b stays m) s.tables befores)) (sym (eq-eqb s.version s.version refl)) h
 
 -- where it is one more, what the request does
 raised : (s t : State) (m : Move) (befores : List Tables) → t.version ≡ s.version + 1 → Recalls t.tables (reverse t.past) (moved m s.tables befores) → Goes s t m befores
 raised s t m befores more h =
-    subst (λ b. Recalls t.tables (reverse t.past) (moved (cond b stays m) s.tables befores)) (sym (ap (nat_eq s.version) more ∙ later_version s.version)) h
+    subst (λ b. Recalls t.tables (reverse t.past) (moved (cond b stays m) s.tables befores)) (sym (ap (nat_eq s.version) more ∙ ne_eqb s.version (s.version + 1) (λ e. omega arith))) h
 
 accept_recalls : (s : State) (ds : List TableDelta) (db : Tables) (befores : List Tables) → IsChangeTo s ds db → Recalls s.tables (reverse s.past) befores → Goes s (accept db ds s).1 made befores
 accept_recalls s [] db befores c h = still_recalls s made befores h
@@ -148,11 +125,11 @@ chain_recalls s count (e ∷ es) v c befores h =
     (step_recalls s count e.line e.reply e.state e.count v c.0.replied befores h)
 
 -- the part of a chain that comes after some exchanges, and the part before
-rest_of : (s : State) (count : ℕ) (before rest : List Exchange) → Chain s count (before ++ rest) → Chain (last_state s before) (last_count count before) rest
+pub rest_of : (s : State) (count : ℕ) (before rest : List Exchange) → Chain s count (before ++ rest) → Chain (last_state s before) (last_count count before) rest
 rest_of s count [] rest c = c
 rest_of s count (e ∷ es) rest c = rest_of e.state e.count es rest c.1
 
-front_of : (s : State) (count : ℕ) (before rest : List Exchange) → Chain s count (before ++ rest) → Chain s count before
+pub front_of : (s : State) (count : ℕ) (before rest : List Exchange) → Chain s count (before ++ rest) → Chain s count before
 front_of s count [] rest c = tt
 front_of s count (e ∷ es) rest c = (c.0, front_of e.state e.count es rest c.1)
 
@@ -175,7 +152,7 @@ Restores s t befores = (db : Tables) × (older : List Tables) × (befores ≡ db
 undone_restores : (s : State) → Valid s → (o : Option (List TableDelta)) → slice_get s.past (length s.past - 1) ≡ o → (befores : List Tables) → Recalls s.tables (reverse s.past) befores
     → nat_eq s.version (undone o s).1.version ≡ false → Restores s (undone o s).1 befores
 unfolding Restores
-undone_restores s v None is befores h later = absurd (true≢false (sym (same_version s.version) ∙ later))
+undone_restores s v None is befores h later = absurd (true≢false (sym (eq-eqb s.version s.version refl) ∙ later))
 undone_restores s v (Some cs) is befores h later = by_list befores (subst (λ p. Recalls s.tables p befores) (reverse_last s.past cs is) h)
   where
     by_list : (bs : List Tables) → Recalls s.tables (cs ∷ reverse (take (length s.past - 1) s.past)) bs
@@ -196,7 +173,7 @@ step_restores : (s : State) (count : ℕ) (l : Line) (reply : List ℕ) (t : Sta
 step_restores s count l reply t count' v r befores h taken =
     let w = moved_on s t (move_of (request l)) taken in
     let asked = is_undo (request l) w.1 in
-    let stuck : t ≡ s → Restores s t befores = λ same. absurd (true≢false (sym (same_version s.version) ∙ ap (λ u. nat_eq s.version u.version) (sym same) ∙ w.0)) in
+    let stuck : t ≡ s → Restores s t befores = λ same. absurd (true≢false (sym (eq-eqb s.version s.version refl) ∙ ap (λ u. nat_eq s.version u.version) (sym same) ∙ w.0)) in
     elim r [
       | found_memory (answered told is) ↦
           let here : t ≡ (undone (slice_get s.past (length s.past - 1)) s).1 = is ∙ ap (λ a. a.1) (undo_is s l asked) in
@@ -206,10 +183,7 @@ step_restores s count l reply t count' v r befores h taken =
       | found_memory (not_stored told is moved grew) ↦ stuck is
     ]
 
-pub undo_restores : (s : State) (count : ℕ) (lines : List Line) (replies : List (List ℕ)) (last : State) (count' : ℕ) → Valid s → s.past ≡ []
-    → (session : Session s count lines replies last count') → (before after : List Exchange) (e : Exchange)
-    → session.exchanges ≡ before ++ e ∷ after → move (last_state s before) e ≡ taken_back
-    → (db : Tables) × (older : List Tables) × (befores_after s before [] ≡ db ∷ older) × AreIn db e.state.tables
+pub undo_restores : UndoRestores
 unfolding Restores
 undo_restores s count lines replies last count' v none session before after e parts taken =
     let chain = subst (Chain s count) parts session.chain in

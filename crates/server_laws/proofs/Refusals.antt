@@ -1,30 +1,16 @@
 -- Answers that refuse, and answers that only tell.
-use Rattle.std.proofs.Common.{◌≡◌, ℕ, suc, Bool, true, false, List, [], ◌∷◌, Option, Some, None, Result, Ok, Err, refl, subst}
-use Rattle.std.specs.Prelude.{IfSome, codes}
+use Rattle.std.proofs.Common.{◌≡◌, ℕ, suc, Bool, true, false, List, [], ◌∷◌, Option, Some, None, Result, Ok, Err, refl, subst, IfSome, codes}
 use Rattle.std.specs.FinMap as finmap
-use Rattle.serde_json.specs.Data.{Data, null, boolean, number, string, array, object, Members}
-use Rattle.plain_values.specs.Row.{Row}
+use Rattle.serde_json.specs.Data.{Data, object, Members}
+use Rattle.plain_values.proofs.Common.{Row}
 use Rattle.plain_values.specs.declared.value.Kind.{Kind}
 use Rattle.plain_values.specs.declared.value.Value.{Value}
-use Rattle.lens_specs.specs.Common.{Name, Rows, violating_row, Clash, violating_pair, Tables, Lens, sort_of, get, Refusal, too_large}
+use Rattle.lens_specs.specs.Common.{Name, Rows, violating_row, Clash, violating_pair, Tables, Lens, sort_of, get}
 use Rattle.io_specs.specs.Lines as lines
-use Rattle.io_specs.specs.Lines.{Line, line}
-use Rattle.grammar_specs.specs.Faults as faults
-use Rattle.grammar_specs.specs.Faults.{syntax_at}
-use Rattle.catalog_specs.specs.Catalogue.{catalogue}
-use Rattle.catalog_specs.specs.Judging as judging
-use Rattle.catalog_specs.specs.Judging.{CatalogFault, language, rule, judged}
-use Rattle.server_specs.specs.State.{State}
+use Rattle.server_specs.specs.Common.{Line, line, catalogue, CatalogFault, language, State, EditRefusal, Listed, in_rows, in_remove, in_add, Answer, told, in_edit, nullable_column, bad_record, long_line, not_json, bad_request, syntax, unknown_name, BatchEdit, Asked, json_of, asked_in, unless_wrong, request_from, request, BadRow, rows_in, value_in, about, find_told, found_told, fault_answer, Sent, whole, edited, as_set, set_in, edit_of, sent_view, is_stale, changed_at, unless_stale, unless_off, unless_clash, of_sort, tested, asked_view, settled, foretold, at_tables, put_in, edit_tables, then_edits, edits_from, first_nullable, sheet_told, read_settled, import_settled, imported_by, defined, changed}
+use Rattle.grammar_specs.specs.Common.{syntax_at}
 use Rattle.server_specs.specs.EditRefusal as refusals
-use Rattle.server_specs.specs.EditRefusal.{EditRefusal, Listed, in_rows, in_remove, in_add}
-use Rattle.server_specs.specs.Answer.{Answer, told, in_edit, nothing_to_undo, nullable_column, bad_record, long_line, not_json, bad_request, syntax, name_taken, unknown_name, refused}
-use Rattle.server_specs.specs.Request.{Request, BatchEdit, Asked, json_of, asked_in, unless_wrong, request_in, request_of, request_from, request}
-use Rattle.server_specs.specs.Sending.{BadRow, rows_in, value_in}
-use Rattle.server_specs.specs.Questions.{about, find_told, found_told}
-use Rattle.server_specs.specs.Defining.{limit_of, fault_answer}
-use Rattle.server_specs.specs.Changing.{Sent, whole, edited, as_set, set_in, edit_of, sent_view, is_stale, changed_at, unless_stale, unless_off, unless_clash, of_sort, tested, asked_view, settled, foretold}
-use Rattle.server_specs.specs.Batching.{at_tables, put_in, edit_tables, then_edits, edits_from}
-use Rattle.server_specs.specs.Exporting.{first_nullable, sheet_told, read_settled, import_settled, imported_by}
+use Rattle.server_specs.specs.Request.{request_in, request_of}
 use Rattle.server_laws.specs.Answers.{IsRefusal, IsFailure, IsAccepted, IsChange, told_version, version_of_refusal}
 use Rattle.server_laws.specs.PutLaws.{AllFit}
 use Rattle.csv_specs.specs.Sheets.{unsheet}
@@ -46,29 +32,11 @@ pub record Refuses (s : State) (a : Answer) : Type 0 where
   pub accepted : IsAccepted a → ⊥
   pub change : IsChange a → ⊥
 
-pub unknown_refuses : (s : State) (name : Name) → Refuses s (unknown_name name)
-unknown_refuses s name = record { told = record { failure = λ h. h; version = tt }; refusal = tt; accepted = λ h. h; change = λ h. h }
-
-taken_refuses : (s : State) (name : Name) → Refuses s (name_taken name)
-taken_refuses s name = record { told = record { failure = λ h. h; version = tt }; refusal = tt; accepted = λ h. h; change = λ h. h }
-
-rule_refuses : (s : State) (r : Refusal) → Refuses s (refused r)
-rule_refuses s r = record { told = record { failure = λ h. h; version = tt }; refusal = tt; accepted = λ h. h; change = λ h. h }
-
-syntax_refuses : (s : State) (at : ℕ) → Refuses s (syntax at)
-syntax_refuses s at = record { told = record { failure = λ h. h; version = tt }; refusal = tt; accepted = λ h. h; change = λ h. h }
-
-long_refuses : (s : State) → Refuses s long_line
-long_refuses s = record { told = record { failure = λ h. h; version = tt }; refusal = tt; accepted = λ h. h; change = λ h. h }
-
-json_refuses : (s : State) → Refuses s not_json
-json_refuses s = record { told = record { failure = λ h. h; version = tt }; refusal = tt; accepted = λ h. h; change = λ h. h }
-
-request_refuses : (s : State) (name : List ℕ) → Refuses s (bad_request name)
-request_refuses s name = record { told = record { failure = λ h. h; version = tt }; refusal = tt; accepted = λ h. h; change = λ h. h }
-
-pub undo_refuses : (s : State) → Refuses s nothing_to_undo
-undo_refuses s = record { told = record { failure = λ h. h; version = tt }; refusal = tt; accepted = λ h. h; change = λ h. h }
+-- a refusal that is no failure, and tells no other version
+pub refuses : (s : State) (a : Answer) → IsRefusal a → IfSome (told_version a) (λ version. version ≡ s.version) → (IsFailure a → ⊥) → Refuses s a
+refuses s (defined version) h told failure = absurd h
+refuses s (changed changes version) h told failure = absurd h
+refuses s a h told failure = record { told = record { failure = failure; version = told }; refusal = h; accepted = λ k. k; change = λ k. k }
 
 -- the one refusal is the other
 same_refuses : {A : Type 0} (s : State) (a b : Answer) → Refuses s a → ◌≡◌ {A = Result A Answer} (Err a) (Err b) → Refuses s b
@@ -133,15 +101,12 @@ asked_present s L sent on why e = tested_present s L on (sent_view sent L s) (se
 
 -- so the answer to a put, an edit or a preview refuses
 pub told_refuses : (s : State) (why : EditRefusal) → IsPresent s why → Refuses s (told why)
-told_refuses s (refusals.unknown_name name) h = unknown_refuses s name
-told_refuses s (refusals.bad_row which index name) h = record { told = record { failure = λ h. h; version = tt }; refusal = tt; accepted = λ h. h; change = λ h. h }
-told_refuses s (refusals.stale at version) h = record { told = record { failure = λ h. h; version = h }; refusal = tt; accepted = λ h. h; change = λ h. h }
-told_refuses s (refusals.off_predicate row) h = record { told = record { failure = λ h. h; version = tt }; refusal = tt; accepted = λ h. h; change = λ h. h }
-told_refuses s (refusals.clash edge first second) h = record { told = record { failure = λ h. h; version = tt }; refusal = tt; accepted = λ h. h; change = λ h. h }
+told_refuses s (refusals.unknown_name name) h = refuses s (unknown_name name) tt tt (λ f. f)
+told_refuses s why h = refuses s (told why) tt h (λ f. f)
 
 -- and so does that to a batch
 pub edit_refuses : (s : State) (i : ℕ) (why : EditRefusal) → IsPresent s why → Refuses s (in_edit i why)
-edit_refuses s i why h = record { told = record { failure = λ h. h; version = h }; refusal = tt; accepted = λ h. h; change = λ h. h }
+edit_refuses s i why h = refuses s (in_edit i why) tt h (λ f. f)
 
 -- a change that is refused is refused so
 pub asked_refuses : (s : State) (L : Lens) (sent : Sent) (on : Option ℕ) (why : EditRefusal) → asked_view s L sent on ≡ Err why → Refuses s (told why)
@@ -177,19 +142,19 @@ edits_present s i on (b ∷ edits) db found e =
 -- ---- imports
 
 -- what holds where an import is refused, and where the rows that it reads are put, holds of what it is answered
-module _ (P : Answer × State → Type 0) (s : State) (on : Option ℕ) (refuses : (a : Answer) → Refuses s a → P (a, s)) where
+module _ (P : Answer × State → Type 0) (s : State) (on : Option ℕ) (refused_so : (a : Answer) → Refuses s a → P (a, s)) where
   of_read : (L : Lens) (r : Result Rows ℕ) → ((M : Rows) → r ≡ Ok M → P (settled (tested s L on (Ok M)) L s)) → P (read_settled r on L s)
-  of_read L (Err place) puts = refuses (bad_record place) (record { told = record { failure = λ h. h; version = tt }; refusal = tt; accepted = λ h. h; change = λ h. h })
+  of_read L (Err place) puts = refused_so (bad_record place) (refuses s (bad_record place) tt tt (λ f. f))
   of_read L (Ok M) puts = puts M refl
 
   of_plain : (L : Lens) (csv : List ℕ) (o : Option Name) → ((M : Rows) → unsheet (sort_of L).columns csv ≡ Ok M → P (settled (tested s L on (Ok M)) L s)) → P (import_settled o csv on L s)
-  of_plain L csv (Some column) puts = refuses (nullable_column column) (record { told = record { failure = λ h. h; version = tt }; refusal = tt; accepted = λ h. h; change = λ h. h })
+  of_plain L csv (Some column) puts = refused_so (nullable_column column) (refuses s (nullable_column column) tt tt (λ f. f))
   of_plain L csv None puts = of_read L (unsheet (sort_of L).columns csv) puts
 
   of_named : (csv : List ℕ) (name : Name) (o : Option Lens) → finmap.get (catalogue s.texts) name ≡ o
       → ((L : Lens) → finmap.get (catalogue s.texts) name ≡ Some L → (M : Rows) → AllFit (sort_of L).columns M → P (settled (tested s L on (Ok M)) L s))
       → P (imported_by csv on name o s)
-  of_named csv name None is puts = refuses (unknown_name name) (unknown_refuses s name)
+  of_named csv name None is puts = refused_so (unknown_name name) (refuses s (unknown_name name) tt tt (λ f. f))
   of_named csv name (Some L) is puts = of_plain L csv (first_nullable (sort_of L).columns) (λ M e. puts L is M (unsheet_fits (sort_of L).columns csv M e))
 
   pub of_import : (csv : List ℕ) (name : Name)
@@ -204,7 +169,7 @@ told_foretold s L (Err why) h = (told_refuses s why (h why refl)).told
 told_foretold s L (Ok N) h = record { failure = λ h. h; version = refl }
 
 pub told_about : (s : State) (tell : Lens → Answer) (name : Name) (o : Option Lens) → ((L : Lens) → IsTold s (tell L)) → IsTold s (about tell name o)
-told_about s tell name None h = (unknown_refuses s name).told
+told_about s tell name None h = (refuses s (unknown_name name) tt tt (λ f. f)).told
 told_about s tell name (Some L) h = h L
 
 told_found : (s : State) (L : Lens) (column : Name) (v : Option Value) → IsTold s (found_told s L column v)
@@ -223,39 +188,29 @@ told_sheet s L (Some column) = record { failure = λ h. h; version = tt }
 
 -- a definition is refused for its fault
 pub fault_refuses : (s : State) (fault : CatalogFault) → Refuses s (fault_answer fault)
-fault_refuses s (language (syntax_at at)) = syntax_refuses s at
-fault_refuses s (language (faults.too_large what)) = rule_refuses s (too_large (limit_of what))
-fault_refuses s (judging.name_taken name) = taken_refuses s name
-fault_refuses s (judging.unknown_name name) = unknown_refuses s name
-fault_refuses s (rule first) = rule_refuses s first
+fault_refuses s (language (syntax_at at)) = refuses s (syntax at) tt tt (λ f. f)
+fault_refuses s fault = refuses s (fault_answer fault) tt tt (λ f. f)
 
 -- ---- requests
 
 unless_wrong_err : (s : State) (o : Option (List ℕ)) (asked : Asked) (ms : Members) → AllRefuse s (unless_wrong o asked ms)
 unless_wrong_err s None asked ms a e = cc
-unless_wrong_err s (Some name) asked ms a e = same_refuses s (bad_request name) a (request_refuses s name) e
+unless_wrong_err s (Some name) asked ms a e = same_refuses s (bad_request name) a (refuses s (bad_request name) tt tt (λ f. f)) e
 
 request_in_err : (s : State) (o : Option Asked) (ms : Members) → AllRefuse s (request_in o ms)
-request_in_err s None ms a e = same_refuses s (bad_request (codes "do")) a (request_refuses s (codes "do")) e
+request_in_err s None ms a e = same_refuses s (bad_request (codes "do")) a (refuses s (bad_request (codes "do")) tt tt (λ f. f)) e
 request_in_err s (Some asked) ms a e = unless_wrong_err s _ asked ms a e
 
-no_object : (s : State) → AllRefuse {A = Request} s (Err (bad_request (codes "do")))
-no_object s a e = same_refuses s (bad_request (codes "do")) a (request_refuses s (codes "do")) e
-
 request_of_err : (s : State) (d : Data) → AllRefuse s (request_of d)
-request_of_err s null a e = no_object s a e
-request_of_err s (boolean b) a e = no_object s a e
-request_of_err s (number n) a e = no_object s a e
-request_of_err s (string bytes) a e = no_object s a e
-request_of_err s (array ds) a e = no_object s a e
 request_of_err s (object ms) a e = request_in_err s (asked_in ms) ms a e
+request_of_err s d a e = same_refuses s (bad_request (codes "do")) a (refuses s (bad_request (codes "do")) tt tt (λ f. f)) e
 
 request_from_err : (s : State) (o : Option Data) → AllRefuse s (request_from o)
-request_from_err s None a e = same_refuses s not_json a (json_refuses s) e
+request_from_err s None a e = same_refuses s not_json a (refuses s not_json tt tt (λ f. f)) e
 request_from_err s (Some d) a e = request_of_err s d a e
 
 -- a line that is no request is refused
 pub request_err : (s : State) (l : Line) → AllRefuse s (request l)
 unfolding request
 request_err s (line bytes) a e = request_from_err s (json_of bytes) a e
-request_err s lines.too_long a e = same_refuses s long_line a (long_refuses s) e
+request_err s lines.too_long a e = same_refuses s long_line a (refuses s long_line tt tt (λ f. f)) e

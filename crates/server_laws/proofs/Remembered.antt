@@ -1,20 +1,12 @@
 -- Changes that can be undone: with one more, with one less, and after a definition.
-use Rattle.std.proofs.Common.{◌≡◌, ◌∙◌, ◌≤◌, ◌+◌, ◌-◌, ℕ, zero, suc, Bool, true, false, cond, List, [], ◌∷◌, ◌++◌, length, take, drop, get_or, reverse, Option, Some, is_some, ap, sym, subst, refl, arith}
-use Rattle.std.specs.Prelude.{slice_get, unwrap_or}
-use Rattle.std.proofs.lemmas.Bool.{true≢false, false_from_ne_true}
-use Rattle.std.proofs.lemmas.List.{length-drop, reverse-append, take-append-drop, take_more}
-use Rattle.std.proofs.lemmas.Option.{slice_get-get_or, slice_get_within}
+use Rattle.std.proofs.Common.{◌≡◌, ◌∙◌, ◌≤◌, ◌+◌, ◌-◌, ℕ, zero, suc, Bool, true, false, cond, List, [], ◌∷◌, ◌++◌, length, take, drop, get_or, reverse, Option, Some, is_some, ap, sym, subst, refl, arith, slice_get, unwrap_or}
+use Rattle.plain_values.proofs.Common.{true≢false, false_from_ne_true, length-drop, reverse-append, take-append-drop, take_more, slice_get-get_or, AllByRecursion, eq_by_cmp, bytes_cmp, take_all}
+use Rattle.std.proofs.lemmas.Option.{slice_get_within}
 use Rattle.std.specs.FinMap as finmap
-use Rattle.std.specs.List.{AllByRecursion}
-use Rattle.std.specs.Ordering.{eq_by_cmp}
-use Rattle.plain_values.specs.Order.{bytes_cmp}
-use Rattle.fd_laws.proofs.Names.{name_exact, name_total, tied_name}
-use Rattle.lens_specs.specs.Common.{AppliesTo, TableDelta, Tables, Name, Relation, AllApply, LeadTo, after, inverted, no_relation, with_deltas}
-use Rattle.catalog_specs.specs.Catalogue.{Catalogue}
-use Rattle.server_specs.specs.State.{remember}
-use Rattle.lens_specs.specs.TableDeltas.{relation_in}
-use Rattle.server_specs.specs.Validity.{AreStored, CanUndo, IsDifference}
-use Rattle.lens_laws.proofs.Moves.{AllThere, all_there, still_there}
+use Rattle.fd_laws.proofs.Common.{name_exact, name_total, tied_name}
+use Rattle.lens_specs.specs.Common.{AppliesTo, TableDelta, Tables, Name, Relation, AllApply, LeadTo, after, inverted, no_relation, with_deltas, relation_in}
+use Rattle.server_specs.specs.Common.{Catalogue, remember, AreStored, CanUndo, IsDifference}
+use Rattle.lens_laws.proofs.Common.{AllThere, all_there, still_there}
 
 -- ---- lists
 
@@ -33,12 +25,6 @@ all_taken P (suc n) (x ∷ xs) h = (h.0, all_taken P n xs h.1)
 all_pushed : {A : Type 0} (P : A → Type 0) (xs : List A) (y : A) → AllByRecursion P xs → P y → AllByRecursion P (xs ++ y ∷ [])
 all_pushed P [] y h p = (p, tt)
 all_pushed P (x ∷ xs) y h p = (h.0, all_pushed P xs y h.1 p)
-
-take_all : {A : Type 0} (n : ℕ) (xs : List A) → n ≡ length xs → take n xs ≡ xs
-take_all zero [] e = refl
-take_all zero (x ∷ xs) e = absurd (omega arith)
-take_all (suc n) [] e = refl
-take_all (suc n) (x ∷ xs) e = ap (λ l. x ∷ l) (take_all n xs (omega arith))
 
 -- a list is what is before its last, and its last
 split_last : {A : Type 0} (xs : List A) (x : A) → slice_get xs (length xs - 1) ≡ Some x → xs ≡ take (length xs - 1) xs ++ x ∷ []

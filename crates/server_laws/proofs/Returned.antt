@@ -1,10 +1,8 @@
 -- Over a session, an import of what an export gave changes nothing.
 use Rattle.std.proofs.Common.{◌∙◌, Some, Ok, ap, sym, subst}
-use Rattle.lens_specs.specs.Lens.{get, sort_of}
+use Rattle.lens_specs.specs.Common.{get, sort_of}
 use Rattle.csv_specs.specs.Sheets.{sheet}
-use Rattle.server_specs.specs.Request.{import}
-use Rattle.server_specs.specs.Changing.{is_stale}
-use Rattle.server_specs.specs.Session.{Chain, last_state}
+use Rattle.server_specs.specs.Common.{import, is_stale, Chain, last_state}
 use Rattle.server_laws.proofs.Exports.{exports_sheets, imports_of_exports}
 use Rattle.server_laws.proofs.NoLost.{chain_keeps, chain_valid, two_exported, view_since}
 use Rattle.server_laws.specs.SheetLaws.{ExportsComeBack}

@@ -1,15 +1,8 @@
 -- Sessions are complete, and faults are counted.
-use Rattle.std.proofs.Common.{◌≡◌, ◌≤◌, ◌<◌, ◌+◌, ◌-◌, ◌^◌, ℕ, Bool, true, false, cond, List, [], ◌∷◌, map, refl, sym, ap, subst, inl, inr, ◌∙◌, arith}
-use Rattle.std.specs.Prelude.{◌≢◌, min, count_by}
-use Rattle.std.specs.List.{AllByRecursion}
-use Rattle.std.proofs.lemmas.List.Sums.{sum_by-cons}
-use Rattle.io_specs.specs.Faults.{Rose}
-use Rattle.io_specs.specs.Lines.{Line}
-use Rattle.server_specs.specs.State.{State}
-use Rattle.server_specs.specs.Answer.{memory, store_fault, text}
-use Rattle.server_specs.specs.Answering.{answer}
-use Rattle.server_specs.specs.Session.{answered, not_stored, found_memory, out_of_memory, Replies, Step, Exchange, Chain, last_state, last_count, Session}
-use Rattle.server_laws.specs.SessionLaws.{AllLeave, answers, state_after, AreAnswered, is_fault}
+use Rattle.std.proofs.Common.{◌≡◌, ◌≤◌, ◌<◌, ◌+◌, ◌-◌, ◌^◌, ℕ, Bool, true, false, cond, List, [], ◌∷◌, map, refl, sym, ap, subst, inl, inr, ◌∙◌, arith, ◌≢◌, min, count_by}
+use Rattle.plain_values.proofs.Common.{AllByRecursion, sum_by-cons}
+use Rattle.server_specs.specs.Common.{Rose, Line, State, memory, store_fault, text, answer, answered, not_stored, found_memory, out_of_memory, Replies, Step, Exchange, Chain, last_state, last_count}
+use Rattle.server_laws.specs.SessionLaws.{AllLeave, answers, state_after, AreAnswered, is_fault, RepliesAreAnswers, SessionsAreComplete, FaultsAreCounted, CountsStay}
 use Rattle.server_laws.proofs.AnswerFacts.{said}
 use Rattle.server_laws.proofs.Texts.{no_fault_read, no_fault_in_memory, fault_read, not_memory, not_fault}
 
@@ -48,8 +41,7 @@ chain_answered s count [] c quiet = refl
 chain_answered s count (e ∷ es) c quiet =
     answered_on s count e es (last_state e.state es) c.0.replied (quiet_first s count e es c quiet) (chain_answered e.state e.count es c.1 (quiet_after s count e es c quiet))
 
-pub replies_are_answers : (s : State) (count : ℕ) (lines : List Line) (replies : List (List ℕ)) (last : State) (count' : ℕ)
-    → Session s count lines replies last count' → (Rose count count' → ⊥) → AreAnswered s lines replies last
+pub replies_are_answers : RepliesAreAnswers
 replies_are_answers s count lines replies last count' session quiet =
     subst (AreAnswered s lines replies) session.last_is
     (subst (λ rs. AreAnswered s lines rs (last_state s session.exchanges)) session.replies_are
@@ -71,9 +63,7 @@ all_answered s (l ∷ lines) (reply ∷ replies) last found a = elim a [
   | inr h ↦ absurd (found.0 h.1)
 ]
 
-pub complete : (s : State) (count : ℕ) (lines : List Line) (replies : List (List ℕ)) (last : State) (count' : ℕ)
-    → Session s count lines replies last count' → (Rose count count' → ⊥) → AllByRecursion (λ reply. reply ≢ text memory) replies
-    → (replies ≡ map text (answers s lines)) × (last ≡ state_after s lines)
+pub complete : SessionsAreComplete
 complete s count lines replies last count' session quiet found = all_answered s lines replies last found (replies_are_answers s count lines replies last count' session quiet)
 
 -- ---- faults are counted
@@ -102,8 +92,7 @@ chain_counted s count (e ∷ es) c below =
     let more = sum_by-cons (λ r. cond (is_fault r) 1 0) e.reply (replies_of es) in
     omega (arith, more, rest, first)
 
-pub faults_counted : (s : State) (count : ℕ) (lines : List Line) (replies : List (List ℕ)) (last : State) (count' : ℕ)
-    → Session s count lines replies last count' → count' < 2 ^ 64 - 1 → count + count_by is_fault replies ≤ count'
+pub faults_counted : FaultsAreCounted
 faults_counted s count lines replies last count' session below =
     subst (λ n. count + count_by is_fault replies ≤ n) session.count_is
     (subst (λ rs. count + count_by is_fault rs ≤ last_count count session.exchanges) session.replies_are
@@ -118,6 +107,5 @@ chain_stays : (s : State) (count : ℕ) (es : List Exchange) → Chain s count e
 chain_stays s count [] c h = refl
 chain_stays s count (e ∷ es) c h = chain_stays e.state e.count es c.1 h.1 ∙ c.0.still h.0
 
-pub counts_stay : (s : State) (count : ℕ) (lines : List Line) (replies : List (List ℕ)) (last : State) (count' : ℕ)
-    → (session : Session s count lines replies last count') → AllLeave s session.exchanges → count' ≡ count
+pub counts_stay : CountsStay
 counts_stay s count lines replies last count' session h = sym session.count_is ∙ chain_stays s count session.exchanges session.chain h

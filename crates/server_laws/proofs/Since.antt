@@ -2,11 +2,7 @@
 use Rattle.std.proofs.Common.{◌≡◌, ◌+◌, ◌<◌, ◌≤◌, ◌⊎◌, ℕ, List, [], ◌∷◌, Some, inl, inr, refl, sym, subst, ◌∙◌, arith}
 use Rattle.std.specs.FinMap as finmap
 use Rattle.lens_specs.specs.Common.{Name, Lens}
-use Rattle.io_specs.specs.Lines.{Line}
-use Rattle.server_specs.specs.State.{State}
-use Rattle.server_specs.specs.Answering.{answer}
-use Rattle.server_specs.specs.Session.{Replies, answered, not_stored, found_memory, out_of_memory, Exchange, Chain, last_state}
-use Rattle.server_specs.specs.Validity.{Valid}
+use Rattle.server_specs.specs.Common.{Line, State, answer, Replies, answered, not_stored, found_memory, out_of_memory, Exchange, Chain, last_state, Valid}
 use Rattle.server_laws.proofs.AnswerFacts.{said}
 use Rattle.server_laws.proofs.Definitions.{Has, lenses_stay}
 use Rattle.server_laws.proofs.Last.{last_answer}

@@ -1,17 +1,12 @@
 -- The last change of a lens, and which changes are stale.
-use Rattle.std.proofs.Common.{◌≡◌, ◌≤◌, true, false, ℕ, List, [], ◌∷◌, Option, Some, None, inl, inr, sym, ap, refl, ◌∙◌, arith}
-use Rattle.std.specs.Prelude.{nat_lt, max, unwrap_or, IfSome}
-use Rattle.std.proofs.lemmas.Bool.{or_cases, or_from, or_parts, true≢false, ltb-false, le-ltb}
+use Rattle.std.proofs.Common.{◌≡◌, ◌≤◌, true, false, ℕ, List, [], ◌∷◌, Option, Some, None, inl, inr, sym, ap, refl, ◌∙◌, arith, nat_lt, max, unwrap_or, IfSome}
+use Rattle.plain_values.proofs.Common.{or_cases, or_from, or_parts, true≢false, ltb-false, eq_by_cmp, bytes_cmp, in_head, in_tail}
+use Rattle.std.proofs.lemmas.Bool.{le-ltb}
 use Rattle.std.specs.FinMap as finmap
-use Rattle.std.specs.Ordering.{eq_by_cmp}
-use Rattle.plain_values.specs.Order.{bytes_cmp}
 use Rattle.plain_values.specs.SortedSet as set
-use Rattle.plain_values.proofs.Lists.{in_head, in_tail}
-use Rattle.fd_laws.proofs.Names.{name_itself, tied_name}
+use Rattle.fd_laws.proofs.Common.{name_itself, tied_name}
 use Rattle.lens_specs.specs.Common.{Name, is_among, Lens, tables_of}
-use Rattle.server_specs.specs.State.{State}
-use Rattle.server_specs.specs.Changing.{last_change, latest, changed_at, is_stale}
-use Rattle.server_specs.specs.Validity.{Valid}
+use Rattle.server_specs.specs.Common.{State, last_change, latest, changed_at, is_stale, Valid}
 
 latest_at_least : (last : finmap.FinMap bytes_cmp ℕ) (q : Name) (ts : List Name) → is_among q ts ≡ true → last_change last q ≤ latest last ts
 latest_at_least last q [] i = absurd (true≢false (sym i))

@@ -1,23 +1,15 @@
 -- The tables of a valid state: those of the catalogue, each of its sort.
-use Rattle.std.proofs.Common.{◌≡◌, Bool, true, false, Option, Some, None, is_some, refl, sym, ap, subst, ◌∙◌, inl, inr}
-use Rattle.std.specs.Prelude.{nat_eq}
-use Rattle.std.proofs.lemmas.Bool.{cases_Bool, or_cases, true≢false}
-use Rattle.std.specs.Cmp.Lexicographic.{pointwise, texts_ties}
-use Rattle.std.specs.FinMap as finmap
-use Rattle.plain_values.specs.SortedSet as set
-use Rattle.lens_laws.proofs.Lenses.{put_leaves}
-use Rattle.fd_laws.proofs.Names.{name_total, name_itself, one_is}
-use Rattle.lens_laws.proofs.Rules.{sort_is_typed}
-use Rattle.lens_laws.specs.Lenses.{AreOf}
-use Rattle.lens_specs.specs.Common.{Name, Fits, Relation, Rows, Sort, IsOfSort, Tables, Lens, base, select, drop, rename, sort_of, tables_of, put}
-use Rattle.lens_specs.specs.Lens.{join}
-use Rattle.catalog_specs.specs.Catalogue.{Catalogue, catalogue, is_table_of}
-use Rattle.catalog_specs.specs.Judging.{first_refused}
-use Rattle.server_specs.specs.State.{State}
-use Rattle.server_specs.specs.Validity.{IsRelationOf, IsStoredAs, IsStored, Valid}
 pub use Rattle.server_specs.specs.Validity.{AreStored}
 pub use Rattle.server_laws.specs.Known.{IsHere}
-use Rattle.server_laws.proofs.Kept.{AreThere, put_keeps}
+use Rattle.std.proofs.Common.{◌≡◌, Bool, true, false, Option, Some, None, is_some, refl, sym, ap, subst, ◌∙◌, inl, inr, nat_eq}
+use Rattle.plain_values.proofs.Common.{cases_Bool, or_cases, true≢false, pointwise, texts_ties, none_is}
+use Rattle.std.specs.FinMap as finmap
+use Rattle.plain_values.specs.SortedSet as set
+use Rattle.lens_laws.proofs.Common.{put_leaves, sort_is_typed, AreOf}
+use Rattle.fd_laws.proofs.Common.{name_total, name_itself, one_is}
+use Rattle.lens_specs.specs.Common.{Name, Fits, Relation, Rows, Sort, IsOfSort, Tables, Lens, base, select, drop, rename, sort_of, tables_of, put, join}
+use Rattle.server_specs.specs.Common.{Catalogue, catalogue, is_table_of, first_refused, State, IsRelationOf, IsStoredAs, IsStored, Valid}
+use Rattle.server_laws.proofs.Kept.{AreThere}
 use Rattle.server_laws.proofs.Leading.{IsAlike}
 use Rattle.server_laws.proofs.Taken.{BasesAre, all_known}
 
@@ -76,13 +68,6 @@ are_there (join kind A B) db a t i = elim (or_cases _ _ (sym (set.contains-union
   | inr j ↦ are_there B db a.1 t j
 ]
 
--- a put makes no table, and takes none away
-pub put_names : (L : Lens) (N : Rows) (db : Tables) → AreThere L db → (q : Name) → is_some (finmap.get (put L N db) q) ≡ is_some (finmap.get db q)
-put_names L N db h q = elim (cases_Bool (set.contains (tables_of L) q)) [
-  | inl i ↦ put_keeps L N db q (h q i) ∙ sym (h q i)
-  | inr o ↦ ap is_some (put_leaves L N db q o)
-]
-
 -- ---- tables of one catalogue
 
 alike_as : (b : Bool) (L : Lens) (t : Name) (old new : Tables) (p q : Option Relation) → finmap.get old t ≡ p → finmap.get new t ≡ q → IsStoredAs b L p → IsStoredAs b L q → is_some p ≡ true → IsAlike old new t
@@ -111,12 +96,8 @@ stored_alike known old new h k t there = alike_at t (finmap.get known t) old new
 pub stored_absent : (known : Catalogue) (old new : Tables) → AreStored known old → AreStored known new → (t : Name) → is_some (finmap.get old t) ≡ false → finmap.get new t ≡ finmap.get old t
 stored_absent known old new h k t absent = elim (cases_Bool (is_some (finmap.get new t))) [
   | inl there ↦ let a = stored_alike known new old k h t there in absurd (true≢false (sym (ap is_some a.is) ∙ absent))
-  | inr gone ↦ absent_is (finmap.get new t) gone ∙ sym (absent_is (finmap.get old t) absent)
+  | inr gone ↦ none_is (finmap.get new t) gone ∙ sym (none_is (finmap.get old t) absent)
 ]
-  where
-    absent_is : (o : Option Relation) → is_some o ≡ false → o ≡ None
-    absent_is None e = refl
-    absent_is (Some r) e = absurd (true≢false e)
 
 -- ---- a lens of a valid state
 

@@ -1,24 +1,16 @@
 -- What is known of the lenses that taken definitions make.
-use Rattle.std.proofs.Common.{◌≡◌, ℕ, suc, false, cond, List, [], ◌∷◌, ◌++◌, Some, None, option_map, Result, Ok, Err, is_some, refl, sym, ap, subst, ◌∙◌, inl, inr}
-use Rattle.std.specs.Prelude.{is_err}
-use Rattle.std.proofs.lemmas.Bool.{cases_Bool, true≢false, false_from_ne_true}
-use Rattle.std.specs.Cmp.Lexicographic.{texts_ties}
+use Rattle.std.proofs.Common.{◌≡◌, ℕ, suc, false, cond, List, [], ◌∷◌, ◌++◌, Some, None, option_map, Result, Ok, Err, is_some, refl, sym, ap, subst, ◌∙◌, inl, inr, is_err}
+use Rattle.plain_values.proofs.Common.{cases_Bool, true≢false, false_from_ne_true, texts_ties, eq_by_cmp, bytes_cmp, place_none}
 use Rattle.std.specs.FinMap as finmap
-use Rattle.std.specs.Ordering.{eq_by_cmp}
-use Rattle.plain_values.specs.Order.{bytes_cmp}
-use Rattle.plain_values.proofs.Tests.{place_none}
-use Rattle.fd_laws.proofs.Names.{name_total, name_itself, tied_name}
-use Rattle.lens_laws.proofs.Rules.{sort_is_typed, table_sort_is_sound}
-use Rattle.lens_laws.specs.Passes.{IsSound}
+use Rattle.fd_laws.proofs.Common.{name_total, name_itself, tied_name}
+use Rattle.lens_laws.proofs.Common.{sort_is_typed, table_sort_is_sound, IsSound}
 use Rattle.lens_laws.specs.Rules.{BasesAreSound}
-use Rattle.lens_specs.specs.Common.{Name, Edge, Sort, Columns, Predicate, Lens, base, select, drop, rename, sort, table_sort}
-use Rattle.lens_specs.specs.Lens.{join}
-use Rattle.grammar_specs.specs.Meaning.{Definition, table, view, Expr, named}
+use Rattle.lens_specs.specs.Common.{Name, Edge, Sort, Columns, Predicate, Lens, base, select, drop, rename, sort, table_sort, join}
+use Rattle.grammar_specs.specs.Common.{Definition, table, view, Expr, named, Fault}
 use Rattle.grammar_specs.specs.Meaning as language
-use Rattle.grammar_specs.specs.Faults.{Fault}
 use Rattle.grammar_laws.specs.Reading.{reading}
-use Rattle.catalog_specs.specs.Catalogue.{Catalogue, catalogue, catalogue_onto, with_definition, with_lens, table_lens, is_table_of}
-use Rattle.catalog_specs.specs.Judging.{name_taken, is_taken, where_sorted, lens_in, where_lensed, judged, refused_from, first_refused}
+use Rattle.server_specs.specs.Common.{Catalogue, catalogue, catalogue_onto, with_definition, with_lens, table_lens, is_table_of, is_taken, where_sorted, lens_in, where_lensed, judged, refused_from, first_refused}
+use Rattle.catalog_specs.specs.Judging.{name_taken}
 use Rattle.catalog_specs.proofs.Judged.{sorted_ok, lensed_ok, passed, named_ok, over_ok, both_ok}
 pub use Rattle.catalog_specs.proofs.Judged.{lens_is, table_sort_is}
 pub use Rattle.server_laws.specs.Known.{BasesAre, IsKnown}

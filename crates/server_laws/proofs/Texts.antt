@@ -1,14 +1,11 @@
 -- No answer that the definitions give reads as a failure.
-use Rattle.std.proofs.Common.{◌≡◌, ℕ, Bool, true, false, List, refl, ap, sym, ◌∙◌}
-use Rattle.std.specs.Prelude.{◌≢◌, nat_eq}
-use Rattle.std.specs.Cmp.Lexicographic.{pointwise}
-use Rattle.std.specs.Fmt.{digits}
+use Rattle.std.proofs.Common.{◌≡◌, ℕ, Bool, true, false, List, refl, ap, sym, ◌∙◌, ◌≢◌, nat_eq}
+use Rattle.plain_values.proofs.Common.{pointwise, digits}
 use Rattle.serde_json.proofs.OnLiterals.{serde_json_on_literals}
 use Rattle.lens_specs.specs.Refusal as refusal
-use Rattle.lens_specs.specs.Refusal.{Refusal}
+use Rattle.lens_specs.specs.Common.{Refusal}
 use Rattle.server_specs.specs.EditRefusal as refusals
-use Rattle.server_specs.specs.EditRefusal.{EditRefusal}
-use Rattle.server_specs.specs.Answer.{Answer, defined, shown, changed, described, listed, memory, long_line, not_json, bad_request, syntax, name_taken, unknown_name, refused, bad_row, stale, off_predicate, clash, in_edit, nothing_to_undo, exported, nullable_column, bad_record, store_fault, text}
+use Rattle.server_specs.specs.Common.{EditRefusal, Answer, memory, refused, in_edit, store_fault, text}
 use Rattle.server_laws.specs.Answers.{IsFailure}
 
 -- whether the two answers read alike
@@ -23,52 +20,20 @@ record ReadsOtherwise (a : Answer) : Type 0 where
 refused_otherwise : (r : Refusal) → ReadsOtherwise (refused r)
 unfolding text serde_json_on_literals digits
 refused_otherwise (refusal.unknown_column name) = record { memory = refl; fault = refl }
-refused_otherwise (refusal.kind_clash name) = record { memory = refl; fault = refl }
-refused_otherwise (refusal.not_tree a b) = record { memory = refl; fault = refl }
-refused_otherwise (refusal.predicate_kind name) = record { memory = refl; fault = refl }
-refused_otherwise (refusal.source_mentions_output name) = record { memory = refl; fault = refl }
-refused_otherwise (refusal.no_such_dependency name) = record { memory = refl; fault = refl }
-refused_otherwise (refusal.mixed_conjunct index) = record { memory = refl; fault = refl }
-refused_otherwise refusal.default_refused = record { memory = refl; fault = refl }
-refused_otherwise (refusal.not_determined name) = record { memory = refl; fault = refl }
-refused_otherwise (refusal.side_mentions_output side name) = record { memory = refl; fault = refl }
-refused_otherwise (refusal.table_twice name) = record { memory = refl; fault = refl }
-refused_otherwise (refusal.too_large what) = record { memory = refl; fault = refl }
-refused_otherwise (refusal.column_taken name) = record { memory = refl; fault = refl }
+refused_otherwise r = record { memory = refl; fault = refl }
 
 edit_otherwise : (i : ℕ) (why : EditRefusal) → ReadsOtherwise (in_edit i why)
 unfolding text serde_json_on_literals digits
 edit_otherwise i (refusals.unknown_name name) = record { memory = refl; fault = refl }
-edit_otherwise i (refusals.bad_row which index name) = record { memory = refl; fault = refl }
-edit_otherwise i (refusals.stale changed_at version) = record { memory = refl; fault = refl }
-edit_otherwise i (refusals.off_predicate row) = record { memory = refl; fault = refl }
-edit_otherwise i (refusals.clash edge first second) = record { memory = refl; fault = refl }
+edit_otherwise i why = record { memory = refl; fault = refl }
 
 otherwise : (a : Answer) → (IsFailure a → ⊥) → ReadsOtherwise a
 unfolding text serde_json_on_literals digits
-otherwise (defined version) h = record { memory = refl; fault = refl }
-otherwise (shown rows version) h = record { memory = refl; fault = refl }
-otherwise (changed changes version) h = record { memory = refl; fault = refl }
-otherwise (described columns edges conjuncts tables version) h = record { memory = refl; fault = refl }
-otherwise (listed texts version) h = record { memory = refl; fault = refl }
 otherwise memory h = absurd (h tt)
-otherwise long_line h = record { memory = refl; fault = refl }
-otherwise not_json h = record { memory = refl; fault = refl }
-otherwise (bad_request name) h = record { memory = refl; fault = refl }
-otherwise (syntax at) h = record { memory = refl; fault = refl }
-otherwise (name_taken name) h = record { memory = refl; fault = refl }
-otherwise (unknown_name name) h = record { memory = refl; fault = refl }
-otherwise (refused r) h = refused_otherwise r
-otherwise (bad_row which index name) h = record { memory = refl; fault = refl }
-otherwise (stale changed_at version) h = record { memory = refl; fault = refl }
-otherwise (off_predicate row) h = record { memory = refl; fault = refl }
-otherwise (clash edge first second) h = record { memory = refl; fault = refl }
-otherwise (in_edit i why) h = edit_otherwise i why
-otherwise nothing_to_undo h = record { memory = refl; fault = refl }
-otherwise (exported csv version) h = record { memory = refl; fault = refl }
-otherwise (nullable_column name) h = record { memory = refl; fault = refl }
-otherwise (bad_record place) h = record { memory = refl; fault = refl }
 otherwise store_fault h = absurd (h tt)
+otherwise (refused r) h = refused_otherwise r
+otherwise (in_edit i why) h = edit_otherwise i why
+otherwise a h = record { memory = refl; fault = refl }
 
 memory_reads : reads_as memory memory ≡ true
 unfolding text serde_json_on_literals digits

@@ -1,42 +1,21 @@
 -- Every state that the server reaches is valid.
-use Rattle.std.proofs.Common.{◌≡◌, ◌≤◌, ◌+◌, ◌-◌, ℕ, length, reverse, take, Bool, true, false, cond, List, [], ◌∷◌, ◌++◌, Option, Some, None, Result, Ok, Err, is_some, refl, sym, ap, subst, ◌∙◌, arith}
-use Rattle.std.specs.Prelude.{IfSome, ◌≢◌, slice_get}
-use Rattle.std.proofs.lemmas.List.{length-take}
-use Rattle.std.proofs.lemmas.Bool.{true≢false}
+use Rattle.std.proofs.Common.{◌≡◌, ◌≤◌, ◌+◌, ◌-◌, ℕ, length, reverse, take, Bool, true, false, cond, List, [], ◌∷◌, ◌++◌, Option, Some, None, Result, Ok, is_some, refl, sym, ap, subst, ◌∙◌, arith, IfSome, ◌≢◌, slice_get}
+use Rattle.plain_values.proofs.Common.{length-take, true≢false, AllByRecursion, eq_by_cmp, bytes_cmp, row_cmp, absurd_false}
 use Rattle.std.specs.FinMap as finmap
-use Rattle.std.specs.List.{AllByRecursion}
-use Rattle.std.specs.Ordering.{eq_by_cmp}
-use Rattle.plain_values.specs.Order.{bytes_cmp}
-use Rattle.plain_values.specs.Row.{row_cmp, Row}
 use Rattle.plain_values.specs.SortedSet as set
-use Rattle.plain_values.proofs.Lists.{absurd_false}
-use Rattle.fd_laws.proofs.Names.{name_total, tied_name}
-use Rattle.lens_laws.proofs.Sorts.{none_off, none_clash}
-use Rattle.lens_specs.specs.Common.{Name, Columns, Fits, Relation, Rows, has, Predicate, Edge, MeetsTree, Sort, IsOf, Tables, Lens, sort_of, put, TableDelta, changes, LeadTo, inverted, with_deltas}
-use Rattle.grammar_specs.specs.Meaning.{Definition, table, view}
-use Rattle.io_specs.specs.Lines.{Line}
+use Rattle.fd_laws.proofs.Common.{name_total, tied_name}
+use Rattle.lens_laws.proofs.Common.{none_off, none_clash, AllThere, all_there}
+use Rattle.lens_specs.specs.Common.{Name, Columns, Relation, Predicate, Edge, MeetsTree, Sort, IsOf, Tables, Lens, TableDelta, LeadTo, inverted, with_deltas}
+use Rattle.grammar_specs.specs.Common.{Definition, table, view}
+use Rattle.server_specs.specs.Common.{Line, Catalogue, catalogue, with_definition, lens_of, with_lens, sort_with, table_lens, is_table_of, judged, is_taken, State, fresh, remember, Answer, Request, with_defined, accept, with_last, answer, Replies, answered, not_stored, found_memory, out_of_memory, Exchange, Chain, last_state, AreStored, CanUndo, IsDifference, IsStoredAs, IsStored, Valid, undone}
 use Rattle.grammar_laws.specs.Reading.{reading}
-use Rattle.catalog_specs.specs.Catalogue.{Catalogue, catalogue, with_definition, lens_of, with_lens, sort_with, table_lens, is_table_of}
-use Rattle.catalog_specs.specs.Judging.{judged, is_taken}
 use Rattle.catalog_specs.proofs.Catalogues.{catalogue-push}
-use Rattle.server_specs.specs.State.{State, fresh, remember}
-use Rattle.server_specs.specs.EditRefusal.{EditRefusal}
-use Rattle.server_specs.specs.Answer.{Answer}
-use Rattle.server_specs.specs.Request.{Request}
-use Rattle.server_specs.specs.Defining.{with_defined}
-use Rattle.server_specs.specs.Changing.{of_sort, accept, with_last, settled}
-use Rattle.server_specs.specs.Answering.{answer}
-use Rattle.server_specs.specs.Session.{Replies, answered, not_stored, found_memory, out_of_memory, Exchange, Chain, last_state, Session}
-use Rattle.server_specs.specs.Validity.{AreStored, CanUndo, IsDifference, IsStoredAs, IsStored, Valid}
-use Rattle.server_specs.specs.Undoing.{undone}
 use Rattle.server_laws.proofs.Outcomes.{Outcome, is_told, is_refused, is_defined, is_changed, is_undone, outcome}
-use Rattle.server_laws.proofs.Asked.{GivesTyped, sort_typed}
-use Rattle.server_laws.proofs.Led.{IsChangeTo, led_names, put_change}
-use Rattle.lens_laws.proofs.Moves.{AllThere, all_there}
+use Rattle.server_laws.proofs.Led.{IsChangeTo, led_names}
 use Rattle.server_laws.proofs.Remembered.{all_taken, can_undo_more, can_undo_still, can_undo_with, differences_remembered, few_remembered, reverse_last}
-use Rattle.server_laws.proofs.Stored.{as_stored, IsHere}
+use Rattle.server_laws.proofs.Stored.{as_stored}
 use Rattle.server_laws.proofs.Taken.{IsTaken, judged_ok, not_own, lens_is, lens_is_known, all_known, first_refused-push}
-use Rattle.server_laws.specs.PutLaws.{put_set}
+use Rattle.server_laws.specs.StateLaws.{SessionsStayValid}
 
 pub fresh_is_valid : Valid fresh
 fresh_is_valid = record {
@@ -115,13 +94,6 @@ valid_accept s (d ∷ ds) db v h =
     let some : (d ∷ ds) ≢ [] = λ e. cc in
     valid_led s (d ∷ ds) db (remember (d ∷ ds) s.past) v h.stored h.leads (few_remembered (d ∷ ds) s.past) (differences_remembered (d ∷ ds) s.past v.differences (some, h.deltas))
     (can_undo_more (catalogue s.texts) s.tables db (d ∷ ds) s.past v.tables h.back v.past)
-
-valid_settled : (s : State) (L : Lens) → Valid s → IsHere s L → (r : Result Rows EditRefusal) → GivesTyped L r → Valid (settled r L s).1
-valid_settled s L v here (Err why) typed = v
-valid_settled s L v here (Ok N) typed = valid_accept s (changes L N s.tables) (put L N s.tables) v (put_change s L N v here (typed N refl))
-
-pub valid_put_set : (s : State) (L : Lens) (N : Rows) → Valid s → IsHere s L → ((r : Row) → has N r ≡ true → Fits (sort_of L).columns r) → Valid (put_set N L s).1
-valid_put_set s L N v here fits = valid_settled s L v here (of_sort (sort_of L) N) (sort_typed L N fits)
 
 -- ---- undone changes
 
@@ -267,7 +239,6 @@ valid_chain s count (e ∷ es) v c =
     let w = valid_chain e.state e.count es here c.1 in
     ((here, w.0), w.1)
 
-pub valid_session : (s : State) (count : ℕ) (lines : List Line) (replies : List (List ℕ)) (last : State) (count' : ℕ) → Valid s
-    → (session : Session s count lines replies last count') → AllByRecursion (λ e. Valid e.state) session.exchanges × Valid last
+pub valid_session : SessionsStayValid
 valid_session s count lines replies last count' v session =
     let w = valid_chain s count session.exchanges v session.chain in (w.0, subst Valid session.last_is w.1)

@@ -1,28 +1,19 @@
 -- Which views are taken, by the sort of the whole lens.
-use Rattle.std.proofs.Common.{◌≡◌, ◌<◌, ◌≤◌, ◌+◌, ℕ, Bool, true, false, cond, List, Option, Some, None, Result, Ok, Err, refl, sym, ap, ◌∙◌, ◌⊎◌, inl, inr}
-use Rattle.std.specs.Prelude.{◌↔◌, nat_le}
-use Rattle.std.proofs.lemmas.Bool.{lt-leb, le-leb}
+use Rattle.std.proofs.Common.{◌≡◌, ℕ, Bool, true, false, cond, List, Option, Some, None, Result, Ok, Err, refl, sym, ap, ◌∙◌, ◌⊎◌, inl, inr, nat_le}
+use Rattle.plain_values.proofs.Common.{lt-leb, le-leb, map_none}
 use Rattle.std.specs.FinMap as finmap
 use Rattle.grammar_laws.proofs.Options.{map_some}
 use Rattle.plain_values.specs.declared.value.Value.{Value}
-use Rattle.lens_specs.specs.Common.{Name, Names, Predicate, Sort, Lens, select, drop, rename, select_sort, drop_sort, rename_sort, join_sort, sort_of, tables_of, nodes_of, Refusal, too_large, views_limit, unless_refused, select_fault, drop_fault, rename_fault, join_fault, sort}
+use Rattle.lens_specs.specs.Common.{Name, Names, Predicate, Sort, Lens, select, drop, rename, select_sort, drop_sort, rename_sort, join_sort, sort_of, tables_of, nodes_of, Refusal, too_large, views_limit, unless_refused, select_fault, drop_fault, rename_fault, join_fault, sort, join, and_then, shared_table}
 use Rattle.plain_values.specs.declared.join_kind.JoinKind.{JoinKind}
-use Rattle.plain_values.proofs.Tests.{map_none}
-use Rattle.lens_specs.specs.Lens.{join}
-use Rattle.lens_specs.specs.Typing.{and_then, shared_table}
 use Rattle.grammar_specs.specs.Meaning as meaning
-use Rattle.grammar_specs.specs.Meaning.{view, Expr, named}
-use Rattle.io_specs.specs.Lines.{Line}
-use Rattle.catalog_specs.specs.Catalogue.{Catalogue, catalogue, lens_of, join_of}
+use Rattle.grammar_specs.specs.Common.{view, Expr, named}
+use Rattle.server_specs.specs.Common.{Line, Catalogue, catalogue, lens_of, CatalogFault, rule, view_count, unless_full, lens_named, where_typed, over, lens_in, where_lensed, judged, State}
+use Rattle.catalog_specs.specs.Catalogue.{join_of}
 use Rattle.catalog_specs.specs.Judging as judging
-use Rattle.catalog_specs.specs.Judging.{CatalogFault, rule, view_count, unless_full, lens_named, where_typed, over, over_both, lens_in, where_lensed, judged}
-use Rattle.server_specs.specs.State.{State}
-use Rattle.server_specs.specs.Answer.{defined, unknown_name, refused}
-use Rattle.server_specs.specs.Defining.{with_defined}
-use Rattle.server_specs.specs.Answering.{answer}
-use Rattle.server_specs.specs.Validity.{Valid}
+use Rattle.catalog_specs.specs.Judging.{over_both}
 use Rattle.server_laws.specs.DefineLaws.{judgement}
-use Rattle.server_laws.specs.ViewLaws.{DefinesView, HasName, IsLeftSide}
+use Rattle.server_laws.specs.ViewLaws.{DefinesView, HasName, IsLeftSide, TakenWhereSorted, UnknownIsTold, RulesAreTold, FullIsTold, TypedIsTaken}
 use Rattle.server_laws.proofs.Definitions.{taken_is_added, refused_stays}
 use Rattle.server_laws.proofs.Taken.{AllKnown, all_known, lens_is, lens_is_known}
 
@@ -83,8 +74,7 @@ whole known all (meaning.join kind left right) L e =
     ap (λ l. over_both kind l (lens_in known right)) (whole known all left w.0 w.2) ∙ ap (over_both kind (where_typed w.0 (sort w.0))) (whole known all right w.1 w.3)
     ∙ both_from kind w.0 w.1 (sort w.0) refl ∙ ap (λ M. where_typed M (sort M)) w.4
 
-pub taken_where_sorted : (s : State) → Valid s → (expr : Expr) (L : Lens)
-    → (lens_in (catalogue s.texts) expr ≡ Ok L) ↔ ((lens_of expr (catalogue s.texts) ≡ Some L) × (sort L ≡ Ok (sort_of L)))
+pub taken_where_sorted : TakenWhereSorted
 taken_where_sorted s v expr L =
     let known = catalogue s.texts in
     let all = all_known s.texts v.definitions in (
@@ -148,9 +138,7 @@ free_judged s l text name expr h r e =
     ∙ ap (λ b. cond b (Err (judging.name_taken name)) (where_lensed (lens_in known expr) known (view name expr))) h.free
     ∙ ap (λ o. where_lensed o known (view name expr)) e
 
-pub unknown_told : (s : State) (l : Line) (text : List ℕ) (name : Name) (expr : Expr) → DefinesView s l text name expr → lens_of expr (catalogue s.texts) ≡ None
-    → ((from : Name) × HasName expr from × (finmap.get (catalogue s.texts) from ≡ None) × (answer s l ≡ (unknown_name from, s)))
-    ⊎ ((part : Expr) × IsLeftSide part expr × (lens : Lens) × (lens_of part (catalogue s.texts) ≡ Some lens) × (first : Refusal) × (sort lens ≡ Err first) × (answer s l ≡ (refused first, s)))
+pub unknown_told : UnknownIsTold
 unknown_told s l text name expr h e = elim (missing (catalogue s.texts) (all_known s.texts h.valid.definitions) expr e) [
   | inl w ↦ inl (w.0, w.1, w.2, refused_stays s l text (judging.unknown_name w.0) h.asked (free_judged s l text name expr h (Err (judging.unknown_name w.0)) w.3))
   | inr w ↦ inr (w.0, w.1, w.2, w.3, w.4, w.5, refused_stays s l text (rule w.4) h.asked (free_judged s l text name expr h (Err (rule w.4)) w.6))
@@ -161,8 +149,7 @@ lens_is_typed : (s : State) (l : Line) (text : List ℕ) (name : Name) (expr : E
     → (L : Lens) → lens_of expr (catalogue s.texts) ≡ Some L → (r : Result Sort Refusal) → sort L ≡ r → lens_in (catalogue s.texts) expr ≡ where_typed L r
 lens_is_typed s l text name expr h L e r is = whole (catalogue s.texts) (all_known s.texts h.valid.definitions) expr L e ∙ ap (where_typed L) is
 
-pub rules_told : (s : State) (l : Line) (text : List ℕ) (name : Name) (expr : Expr) → DefinesView s l text name expr
-    → (L : Lens) → lens_of expr (catalogue s.texts) ≡ Some L → (first : Refusal) → sort L ≡ Err first → answer s l ≡ (refused first, s)
+pub rules_told : RulesAreTold
 rules_told s l text name expr h L e first is =
     refused_stays s l text (rule first) h.asked (free_judged s l text name expr h (Err (rule first)) (lens_is_typed s l text name expr h L e (Err first) is))
 
@@ -173,14 +160,10 @@ typed_judged : (s : State) (l : Line) (text : List ℕ) (name : Name) (expr : Ex
 typed_judged s l text name expr h L e is b full =
     free_judged s l text name expr h (Ok L) (lens_is_typed s l text name expr h L e (Ok (sort_of L)) is) ∙ ap (λ f. unless_full f views_limit (view name expr)) full
 
-pub full_told : (s : State) (l : Line) (text : List ℕ) (name : Name) (expr : Expr) → DefinesView s l text name expr
-    → (L : Lens) → lens_of expr (catalogue s.texts) ≡ Some L → sort L ≡ Ok (sort_of L) → 256 ≤ view_count (catalogue s.texts)
-    → answer s l ≡ (refused (too_large views_limit), s)
+pub full_told : FullIsTold
 full_told s l text name expr h L e is full =
     refused_stays s l text (rule (too_large views_limit)) h.asked (typed_judged s l text name expr h L e is true (le-leb 256 (view_count (catalogue s.texts)) full))
 
-pub typed_taken : (s : State) (l : Line) (text : List ℕ) (name : Name) (expr : Expr) → DefinesView s l text name expr
-    → (L : Lens) → lens_of expr (catalogue s.texts) ≡ Some L → sort L ≡ Ok (sort_of L) → view_count (catalogue s.texts) < 256
-    → answer s l ≡ (defined (s.version + 1), with_defined text (view name expr) s)
+pub typed_taken : TypedIsTaken
 typed_taken s l text name expr h L e is few =
     taken_is_added s l text (view name expr) h.asked (typed_judged s l text name expr h L e is false (lt-leb 256 (view_count (catalogue s.texts)) few))

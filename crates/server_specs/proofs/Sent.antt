@@ -1,23 +1,14 @@
 -- Rows that are sent fit the columns.
-use Rattle.std.proofs.Common.{◌≡◌, Bool, true, false, cond, List, [], ◌∷◌, Option, Some, None, refl, sym, ap, subst, ◌∙◌}
-use Rattle.std.specs.Prelude.{ℕ, ◌||◌, Result, Ok, Err}
+use Rattle.std.proofs.Common.{◌≡◌, Bool, true, false, cond, List, [], ◌∷◌, Option, Some, None, refl, sym, ap, subst, ◌∙◌, ℕ, ◌||◌, Result, Ok, Err}
 use Rattle.std.specs.FinMap as finmap
-use Rattle.std.specs.List.{list_any}
-use Rattle.std.specs.Ordering.{eq_by_cmp}
-use Rattle.std.specs.Cmp.Lexicographic.{nat_list_cmp_total}
+use Rattle.plain_values.proofs.Common.{list_any, eq_by_cmp, nat_list_cmp_total, bytes_cmp, row_cmp, Row, row_cmp_total, row_cmp-IsAntisymmetric, fits, fits_same, fits_cond, is_tie}
 use Rattle.grammar_laws.proofs.Options.{bind_some}
 use Rattle.serde_json.specs.Data.{Data, null, boolean, number, string, array, object, Items, no_items, item, Members}
 use Rattle.serde_json.specs.Find as find
-use Rattle.plain_values.specs.Order.{bytes_cmp}
-use Rattle.plain_values.specs.Row.{row_cmp, Row}
-use Rattle.plain_values.specs.RowOrder.{row_cmp_total, row_cmp-IsAntisymmetric}
 use Rattle.plain_values.specs.SortedSet as set
-use Rattle.plain_values.specs.Value.{fits}
 use Rattle.plain_values.specs.declared.value.Kind.{Kind}
 use Rattle.plain_values.specs.declared.value.Value.{Value}
 use Rattle.lens_specs.specs.Common.{Name, Columns, Fits, fits_at, has}
-use Rattle.plain_values.proofs.FitsLemmas.{fits_same, fits_cond}
-use Rattle.plain_values.proofs.Tests.{is_tie}
 use Rattle.server_specs.specs.Request.{first_other}
 use Rattle.server_specs.specs.Sending.{BadRow, value_of, fitting, value_in, value_at, with_pair, pairs_in, is_column_of, row_from, row_of_members, row_in, with_row, rows_in}
 

@@ -1,7 +1,6 @@
 -- Single steps of a session.
-use Rattle.std.proofs.Common.{◌≡◌, ◌<◌, ◌≤◌, ℕ, List, length, Bool, true, false, refl, arith}
-use Rattle.std.specs.Prelude.{nat_le, if◌then◌else◌}
-use Rattle.std.proofs.lemmas.Bool.{lt-leb, le-leb}
+use Rattle.std.proofs.Common.{◌≡◌, ◌<◌, ◌≤◌, ℕ, List, length, Bool, true, false, refl, arith, nat_le, if◌then◌else◌}
+use Rattle.plain_values.proofs.Common.{lt-leb, le-leb}
 use Rattle.server_specs.specs.State.{State}
 use Rattle.server_specs.specs.Answer as spec
 use Rattle.server_specs.specs.Answer.{memory, text}

@@ -1,12 +1,8 @@
 -- What opening a store asks of the keeper, and what the status tells of it.
-use Rattle.std.proofs.Common.{◌≡◌, ◌≢◌, ◌∙◌, ℕ, Bool, List, [], ◌∷◌, ◌++◌, ap, subst, sym, refl, inl, inr, arith}
-use Rattle.std.specs.Prelude.{◌↔◌, ◌⊎◌, Option, None, Some, IfSome, Result, Ok, Err}
-use Rattle.io_specs.specs.Calls.{Adds}
+use Rattle.std.proofs.Common.{◌≡◌, ◌≢◌, ◌∙◌, ℕ, Bool, List, [], ◌∷◌, ◌++◌, ap, subst, sym, refl, inl, inr, arith, ◌↔◌, ◌⊎◌, Option, None, Some, IfSome, Result, Ok, Err}
+use Rattle.server_specs.specs.Common.{Adds, Line, Session, State, kept}
 use Rattle.io_specs.proofs.Calls.{Adds-none, Adds-then, Adds-weaker}
-use Rattle.io_specs.specs.Lines.{Line}
-use Rattle.lens_specs.specs.Keeping.{Follows, Kept, IfObserved}
-use Rattle.server_specs.specs.Session.{Session}
-use Rattle.server_specs.specs.State.{State, kept}
+use Rattle.lens_specs.specs.Common.{Follows, Kept, IfObserved}
 use Rattle.opening_specs.specs.Opening.{Damage, opened}
 use Rattle.opening_laws.specs.OpenLaws.{at_start}
 use Rattle.opening_laws.proofs.Opened.{opens_again}

@@ -1,9 +1,7 @@
 -- What follows from the opening of a store.
-use Rattle.std.proofs.Common.{◌≡◌, ◌≢◌, ◌≤◌, ℕ, Bool, true, false, List, length, Option, Some, None, is_some, Result, Ok, Err, refl, sym, ap, subst, ◌∙◌}
-use Rattle.std.specs.Prelude.{◌↔◌, IfOk}
-use Rattle.io_specs.specs.Calls.{Adds}
-use Rattle.lens_specs.specs.Keeping.{Kept, Follows, Stays, IfObserved}
-use Rattle.server_specs.specs.State.{State, kept}
+use Rattle.std.proofs.Common.{◌≡◌, ◌≢◌, ◌≤◌, ℕ, Bool, true, false, List, length, Option, Some, None, is_some, Result, Ok, Err, refl, sym, ap, subst, ◌∙◌, ◌↔◌, IfOk}
+use Rattle.server_specs.specs.Common.{Adds, State, kept}
+use Rattle.lens_specs.specs.Common.{Kept, Follows, Stays, IfObserved}
 use Rattle.opening_specs.specs.Opening.{Damage, IsOpened, damage_text}
 use Rattle.opening_laws.proofs.Opened.{opened_is_kept, opened_at_start}
 use Rattle.std.specs.Io.KnownBytes.{Appends}
@@ -27,13 +25,6 @@ use Rattle.serving.specs.Opening.{OpensTo, IsDamage, IsOpening}
 pub stays_same : (contents : Option Kept) → Stays contents contents
 stays_same None = tt
 stays_same (Some now) = refl
-
-pub stays_on : (a b c : Option Kept) → Stays a b → Stays b c → Stays a c
-stays_on None None c p q = q
-stays_on None (Some m) c p q = absurd p
-stays_on (Some old) None c p q = absurd p
-stays_on (Some old) (Some m) None p q = absurd q
-stays_on (Some old) (Some m) (Some now) p q = q ∙ p
 
 told_before : (a b : Option Kept) (k : Kept) → Stays a b → IfObserved b k → IfObserved a k
 told_before None None k p t = tt

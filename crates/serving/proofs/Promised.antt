@@ -1,8 +1,6 @@
 -- What a run promises, from what its parts do.
-use Rattle.std.proofs.Common.{◌≡◌, ◌≢◌, ◌≤◌, ◌<◌, ◌∙◌, ◌⊎◌, ℕ, Bool, List, length, refl, sym, subst, arith, inl, inr}
-use Rattle.std.specs.Prelude.{◌↔◌, Option, None, Some, IfSome}
-use Rattle.io_specs.specs.Calls.{Adds}
-use Rattle.io_specs.specs.Faults.{Rose}
+use Rattle.std.proofs.Common.{◌≡◌, ◌≢◌, ◌≤◌, ◌<◌, ◌∙◌, ◌⊎◌, ℕ, Bool, List, length, refl, sym, subst, arith, inl, inr, ◌↔◌, Option, None, Some, IfSome}
+use Rattle.server_specs.specs.Common.{Adds, Rose}
 use Rattle.lens_io.specs.Bytes.{GivesUnlessFailed}
 use Rattle.lens_io.specs.Calls.{OffersRest}
 use Rattle.arguments.specs.Settings.{Settings}
@@ -12,7 +10,7 @@ use Rattle.serving.specs.Promises.{NoneFailed, Promises, RefusesBy, RehearsesBy,
 use Rattle.serving.specs.Running.{FailsBy, IsAtEntry, IsDamaged, IsServed, LacksMemoryBy, before, opening_fault, place_after, usage}
 use Rattle.serving.proofs.Calls.{lacks_unasked, some_all, unasked_tells}
 use Rattle.serving.proofs.Opened.{stays_same}
-use Rattle.serving.proofs.Served.{spent_input}
+use Rattle.serving.proofs.Finished.{spent_input}
 
 some_none : {A : Type 0} (o : Option A) (P : A → Type 0) → o ≡ None → IfSome o P
 some_none None P e = tt

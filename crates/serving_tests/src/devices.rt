@@ -1,8 +1,7 @@
 //! Runs over sources, sinks and keepers whose calls are short, or fail.
 use crate::runs::{PLAIN, Setting, expect, given, is_given, keeper};
-use crate::scripts::{BASE, PUT_STOCK, REFUSED_PUT, follow, side};
-use io_specs::LONGEST_LINE;
-use lens_io::{LineCutter, MemorySink, MemorySource, ROOM, give_all};
+use crate::scripts::{BASE, PUT_STOCK, side};
+use lens_io::{MemorySink, ROOM};
 use std::alloc::Global;
 use std::test::Fail;
 use table_keeper::{Asked, Kept, SureKeeper};
@@ -63,30 +62,18 @@ const RUNS: [(&str, &str, [u64; 3], u8, &str); 23] = [
     ("--rehearse 10", TWO, [0, 0, 0], 0, REHEARSED),
 ];
 
-// Fails where the run does not end so.
-fn ends_so(
-    alloc: Global,
-    words: &str,
-    input: &str,
-    [from, to, refused]: [u64; 3],
-    status: u8,
-    output: &str,
-) -> Result<(), Fail> {
-    let setting = Setting {
-        words,
-        pieces: [ROOM, ROOM],
-        failing: [from, to],
-    };
-    let mut keeper = keeper(alloc, refused)?;
-    let input = Vec::from_slice(alloc, input.as_bytes())?;
-    let sink = given(alloc, setting, input, &mut keeper, status)?;
-    is_given(sink.bytes(), output.as_bytes())
-}
-
 #[test]
 fn runs_end(rt: HostRuntime) -> Result<(), Fail> {
-    for (words, input, failing, status, output) in RUNS {
-        ends_so(rt.alloc(), words, input, failing, status, output)?;
+    for (words, input, [from, to, refused], status, output) in RUNS {
+        let setting = Setting {
+            words,
+            pieces: [ROOM, ROOM],
+            failing: [from, to],
+        };
+        let mut keeper = keeper(rt.alloc(), refused)?;
+        let input = Vec::from_slice(rt.alloc(), input.as_bytes())?;
+        let sink = given(rt.alloc(), setting, input, &mut keeper, status)?;
+        is_given(sink.bytes(), output.as_bytes())?;
     }
     Ok(())
 }
@@ -112,98 +99,22 @@ const PIECES: [([usize; 2], [u64; 2], u8, usize); 15] = [
     ([4096, 8], [0, 10], 5, 72),
 ];
 
-// Fails where a run of the script does not end with this status, or gives more or less of the replies.
-fn gives_front(
-    alloc: Global,
-    pieces: [usize; 2],
-    failing: [u64; 2],
-    status: u8,
-    count: usize,
-) -> Result<(), Fail> {
-    let setting = Setting {
-        words: "",
-        pieces,
-        failing,
-    };
-    let mut keeper = SureKeeper::holding(Kept::nothing(alloc));
-    let requests = side(alloc, &[BASE, PUT_STOCK], 0)?;
-    let sink = given(alloc, setting, requests, &mut keeper, status)?;
-    let replies = side(alloc, &[BASE, PUT_STOCK], 1)?;
-    let front = replies.get(..count).unwrap_or(replies.as_slice());
-    expect(sink.bytes() == front, "the front of the replies")
-}
-
 #[test]
 fn devices_fail(rt: HostRuntime) -> Result<(), Fail> {
+    let replies = side(rt.alloc(), &[BASE, PUT_STOCK], 1)?;
     for (pieces, failing, status, count) in PIECES {
-        gives_front(rt.alloc(), pieces, failing, status, count)?;
+        let setting = Setting {
+            words: "",
+            pieces,
+            failing,
+        };
+        let mut keeper = SureKeeper::holding(Kept::nothing(rt.alloc()));
+        let requests = side(rt.alloc(), &[BASE, PUT_STOCK], 0)?;
+        let sink = given(rt.alloc(), setting, requests, &mut keeper, status)?;
+        let front = replies.get(..count).unwrap_or(replies.as_slice());
+        expect(sink.bytes() == front, "the front of the replies")?;
     }
     Ok(())
-}
-
-// Adds a request for the definitions that is so long, and its newline.
-fn add_blanks(alloc: Global, bytes: &mut Vec<u8>, length: usize) -> Result<(), Fail> {
-    let mut line = Vec::from_slice(alloc, b"{\"do\":\"list\"}")?;
-    line.resize(length, b' ')?;
-    line.push(b'\n')?;
-    bytes.extend_from_slice(line.as_slice())?;
-    Ok(())
-}
-
-// Lines that are no UTF-8: a byte that begins no character, a slash in two bytes, half of a surrogate
-// pair, one past the last character, and a character cut short.
-const NO_UTF8: &[u8] =
-    b"\n{\"do\":\"list\"}\r\n\"\x80\"\n\"\xc0\xaf\"\n\"\xed\xa0\x80\"\n\"\xf4\x90\x80\x80\"\n[\"\xe2\x82\"]\n";
-
-// Requests of which one is too long, and lines that are no JSON.
-fn long_lines(alloc: Global) -> Result<Vec<u8>, Fail> {
-    let mut bytes = Vec::from_slice(alloc, NO_UTF8)?;
-    bytes.resize(200_000, b'[')?;
-    bytes.push(b'\n')?;
-    for length in [LONGEST_LINE, LONGEST_LINE + 1, 20] {
-        add_blanks(alloc, &mut bytes, length)?;
-    }
-    Ok(bytes)
-}
-
-const LONG_LINES_TOLD: &str = r#"{"error":11,"ok":false}
-{"definitions":[],"ok":true,"version":0}
-{"error":11,"ok":false}
-{"error":11,"ok":false}
-{"error":11,"ok":false}
-{"error":11,"ok":false}
-{"error":11,"ok":false}
-{"error":11,"ok":false}
-{"definitions":[],"ok":true,"version":0}
-{"error":10,"ok":false}
-{"definitions":[],"ok":true,"version":0}
-"#;
-
-#[test]
-fn longest_lines(rt: HostRuntime) -> Result<(), Fail> {
-    let alloc = rt.alloc();
-    let setting = Setting {
-        pieces: [ROOM, ROOM],
-        ..PLAIN
-    };
-    let mut keeper = SureKeeper::holding(Kept::nothing(alloc));
-    let sink = given(alloc, setting, long_lines(alloc)?, &mut keeper, 0)?;
-    is_given(sink.bytes(), LONG_LINES_TOLD.as_bytes())
-}
-
-// What a later run finds then.
-const FOUND_LATER: &str = r#"{"do":"list"}
-{"definitions":["table tracks (track text, date int, rating int, album text) with track -> date rating","table albums (album text, quantity int) with album -> quantity","view stock = select from (drop date determined by (track, 2018) from (join_dl tracks with albums)) where quantity > 2"],"ok":true,"version":0}
-{"do":"read","view":"tracks"}
-{"ok":true,"rows":[{"album":"Galore","date":1989,"rating":3,"track":"Lullaby"},{"album":"Galore","date":1989,"rating":5,"track":"Lovesong"},{"album":"Paris","date":1989,"rating":5,"track":"Lovesong"},{"album":"Show","date":1989,"rating":3,"track":"Lullaby"},{"album":"Wish","date":1992,"rating":4,"track":"Trust"}],"version":0}
-{"do":"read","view":"albums"}
-{"ok":true,"rows":[{"album":"Disintegration","quantity":6},{"album":"Galore","quantity":1},{"album":"Paris","quantity":4},{"album":"Show","quantity":3},{"album":"Wish","quantity":5}],"version":0}"#;
-
-#[test]
-fn refused_changes_are_not_kept(rt: HostRuntime) -> Result<(), Fail> {
-    let mut keeper = keeper(rt.alloc(), 7)?;
-    follow(rt.alloc(), &mut keeper, &[BASE, REFUSED_PUT])?;
-    follow(rt.alloc(), &mut keeper, &[FOUND_LATER])
 }
 
 // The requests for all that is kept.
@@ -289,39 +200,4 @@ fn the_keeper_is_asked_at_changes_alone(rt: HostRuntime) -> Result<(), Fail> {
     asks_for(alloc, "", &loaded)?;
     let attached = [Attach, Load, Commit, Commit, Commit, Commit, Commit, Commit];
     asks_for(alloc, "--store x", &attached)
-}
-
-// Fails where a sink with room for four bytes, two a call, was not handed all that was left of five,
-// call after call, or does not tell so.
-fn sink_tells(alloc: Global) -> Result<(), Fail> {
-    let mut sink = MemorySink::new(alloc, 4, 2, Vec::new(alloc))?;
-    let all = give_all(&mut sink, b"abcde");
-    expect(all.is_err(), "the room")?;
-    let offers = sink.offered().ok_or("no offers")?;
-    expect(offers.len() == 3, "how many offers")?;
-    for (offer, (size, took)) in offers.iter().zip([(5, 2), (3, 2), (1, 0)]) {
-        expect(offer.size == size && offer.took == took, "an offer")?;
-    }
-    Ok(())
-}
-
-// Fails where a source was not asked once for a line that its first call gives, or does not tell so.
-fn source_tells(alloc: Global) -> Result<(), Fail> {
-    let bytes = Vec::from_slice(alloc, b"a\nb")?;
-    let mut source = MemorySource::new(bytes, 2, Vec::new(alloc));
-    let mut cutter = LineCutter::new(alloc, 100)?;
-    let _line = cutter.next(&mut source);
-    let takes = source.asked().ok_or("no takes")?;
-    expect(takes.len() == 1, "how many takes")?;
-    let take = takes.first().ok_or("no take")?;
-    expect(
-        take.room == 101 && take.came.as_slice() == b"a\n".as_slice(),
-        "a take",
-    )
-}
-
-#[test]
-fn devices_tell_their_calls(rt: HostRuntime) -> Result<(), Fail> {
-    sink_tells(rt.alloc())?;
-    source_tells(rt.alloc())
 }

@@ -4,14 +4,14 @@
 #[cfg(test)]
 mod devices;
 #[cfg(test)]
+mod keepers;
+#[cfg(test)]
 mod looks;
 #[cfg(test)]
 mod parts;
 #[cfg(test)]
-mod previews;
+mod refused_changes;
 #[cfg(test)]
 mod runs;
 #[cfg(test)]
 mod scripts;
-#[cfg(test)]
-mod stores;

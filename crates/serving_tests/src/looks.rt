@@ -15,8 +15,8 @@ use std::test::Fail;
 use step_counter::Steps;
 use table_keeper::{Keeper, Kept, SureKeeper};
 
-/// The edit that adds so many albums, none of which a track is on.
-pub(crate) fn albums_line(alloc: Global, count: u64) -> Result<String, Fail> {
+// The edit that adds so many albums, none of which a track is on.
+fn albums_line(alloc: Global, count: u64) -> Result<String, Fail> {
     let front = r#"{"do":"edit","view":"albums","remove":[],"add":["#;
     let mut line = String::from_str(alloc, front)?;
     for i in 0..count {

@@ -1,6 +1,6 @@
 //! A sink, a cutter of lines and a keeper by themselves.
 use crate::runs::{expect, failing};
-use lens_io::{Cut, LineCutter, MemorySink, MemorySource, Sink};
+use lens_io::{Cut, LineCutter, MemorySink, MemorySource, Sink, give_all};
 use lens_values::Text;
 use std::alloc::Global;
 use std::test::Fail;
@@ -8,19 +8,18 @@ use table_keeper::{Asked, Call, Change, KeepFault, Keeper, Kept, MemoryKeeper};
 
 #[test]
 fn a_sink_takes_what_it_has_room_for(rt: HostRuntime) -> Result<(), Fail> {
-    let alloc = rt.alloc();
-    let mut sink = MemorySink::new(alloc, 3, 2, Vec::new(alloc))?;
-    let first = sink.give(b"abc").ok();
-    let second = sink.give(b"c").ok();
-    let third = sink.give(b"d").ok();
+    let mut sink = MemorySink::new(rt.alloc(), 3, 2, Vec::new(rt.alloc()))?;
+    let all = give_all(&mut sink, b"abcde");
     expect(
-        [first, second, third] == [Some(2), Some(1), None],
-        "the counts",
-    )?;
-    expect(
-        sink.bytes() == b"abc".as_slice() && sink.faults() == 1,
+        all.is_err() && sink.bytes() == b"abc".as_slice() && sink.faults() == 1,
         "the bytes",
-    )
+    )?;
+    let offers = sink.offered().ok_or("no offers")?;
+    expect(offers.len() == 3, "how many offers")?;
+    for (offer, (size, took)) in offers.iter().zip([(5, 2), (3, 1), (2, 0)]) {
+        expect(offer.size == size && offer.took == took, "an offer")?;
+    }
+    Ok(())
 }
 
 // Whether the cutter gives this line next, or, where there is none, the end.
@@ -37,12 +36,19 @@ fn gives(cutter: &mut LineCutter, source: &mut MemorySource, line: Option<&str>)
 
 #[test]
 fn lines_are_cut(rt: HostRuntime) -> Result<(), Fail> {
-    let alloc = rt.alloc();
-    let mut cutter = LineCutter::new(alloc, 100)?;
-    let bytes = Vec::from_slice(alloc, b"x\ny")?;
-    let mut source = MemorySource::new(bytes, 1, Vec::new(alloc));
-    for line in [Some("x"), Some("y"), None] {
-        expect(gives(&mut cutter, &mut source, line), "the lines")?;
+    let mut cutter = LineCutter::new(rt.alloc(), 100)?;
+    let bytes = Vec::from_slice(rt.alloc(), b"a\nb")?;
+    let mut source = MemorySource::new(bytes, 2, Vec::new(rt.alloc()));
+    expect(gives(&mut cutter, &mut source, Some("a")), "the first line")?;
+    let [take] = source.asked().ok_or("no takes")? else {
+        return Err(Fail::from("how many takes"));
+    };
+    expect(
+        take.room == 101 && take.came.as_slice() == b"a\n".as_slice(),
+        "a take",
+    )?;
+    for line in [Some("b"), None] {
+        expect(gives(&mut cutter, &mut source, line), "the other lines")?;
     }
     expect(cutter.done(), "the end")
 }

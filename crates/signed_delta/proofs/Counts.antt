@@ -1,13 +1,10 @@
 -- How many rows sets have, and how many looks are taken.
-use Rattle.std.proofs.Common.{◌≡◌, ℕ, ◌+◌, ◌*◌, ◌<◌, ◌≤◌, length, map, List, [], ◌∷◌, ◌++◌, sym, ◌∙◌, subst, Bool, true, false, cond, arith, length-append}
-use Rattle.std.specs.Prelude.{filter}
+use Rattle.std.proofs.Common.{◌≡◌, ℕ, ◌+◌, ◌*◌, ◌<◌, ◌≤◌, length, map, List, [], ◌∷◌, ◌++◌, sym, ◌∙◌, subst, Bool, true, false, cond, arith, length-append, filter}
 use Rattle.std.specs.FinMap as finmap
-use Rattle.std.proofs.Math.Nat.{mul-le-mul_left}
-use Rattle.std.proofs.lemmas.List.{length-map}
-use Rattle.plain_values.specs.Row.{row_cmp, Row}
+use Rattle.plain_values.proofs.Common.{mul-le-mul_left, length-map, row_cmp, Row}
 use Rattle.plain_values.specs.SortedSet as set
 use Rattle.lens_specs.specs.Common.{Names, Rows, image, minus, project, those, union, cut}
-use Rattle.fd_laws.proofs.Rows.{row_exact, row_total}
+use Rattle.fd_laws.proofs.Common.{row_exact, row_total}
 
 -- one question more, and so many for each of some rows
 pub one_more : (n i len old a b : ℕ) → i < len → a ≤ old + n * i → b ≤ a + n → b ≤ old + n * len

@@ -1,10 +1,8 @@
 -- How few rows are found by the edges of a tree.
 use Rattle.std.proofs.Common.{ℕ, List, [], ◌∷◌, subst, sym, inl, inr, arith}
-use Rattle.std.specs.List.{Contains}
+use Rattle.plain_values.proofs.Common.{Contains}
 use Rattle.lens_specs.specs.Common.{Edge, AllEdges, Names, Rows}
-use Rattle.lens_laws.specs.Asked.{left_sides}
-use Rattle.lens_laws.specs.Work.{GivesAtMost}
-use Rattle.lens_laws.proofs.Asked.{contains_cases}
+use Rattle.lens_laws.proofs.Common.{left_sides, GivesAtMost, contains_cases}
 
 -- each left side of an edge is one of the sets
 asked_of : (K : List Names) (T : List Edge) (C : Names) → AllEdges (λ e. Contains K e.left) T → Contains (left_sides T) C → Contains K C

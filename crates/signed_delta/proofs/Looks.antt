@@ -1,22 +1,12 @@
 -- Rows that a relation was asked about, and rows that it was asked for.
-use Rattle.std.proofs.Common.{◌≡◌, ℕ, ◌<◌, ◌≤◌, length, get_or, take, List, [], ◌∷◌, is_some, refl, sym, ap, ◌∙◌, subst, true, arith, inl, inr}
-use Rattle.std.specs.Prelude.{Bool, not, filter, flat_map}
-use Rattle.std.specs.List.{list_any}
-use Rattle.std.specs.List.Sorted.{IsStrictlySortedBy}
-use Rattle.std.specs.Ordering.{eq_by_cmp}
-use Rattle.std.proofs.lemmas.Bool.{true≢false, or_left, or_right}
-use Rattle.std.proofs.lemmas.List.{take_all}
-use Rattle.std.proofs.lemmas.List.Folds.{list_any_at}
-use Rattle.std.proofs.lemmas.List.Kept.{IsStrictlySortedBy-filter}
-use Rattle.plain_values.specs.Row.{row_cmp, Row}
-use Rattle.plain_values.specs.Part.{restrict}
+use Rattle.std.proofs.Common.{◌≡◌, ℕ, ◌<◌, ◌≤◌, length, get_or, take, List, [], ◌∷◌, is_some, refl, sym, ap, ◌∙◌, subst, true, arith, inl, inr, Bool, not, filter, flat_map}
+use Rattle.plain_values.proofs.Common.{list_any, IsStrictlySortedBy, eq_by_cmp, true≢false, or_left, or_right, take_all, list_any_at, IsStrictlySortedBy-filter, row_cmp, Row, restrict, from_flat_map, in_flat_map}
 use Rattle.plain_values.specs.SortedSet as set
 use Rattle.lens_specs.specs.Common.{Names, Rows, has, minus, project, those, agree, at, cut, Delta, diff, new_view}
-use Rattle.lens_laws.specs.KeyedDeltas.{find_by, found_each, of_touched}
-use Rattle.lens_laws.proofs.Deltas.{in_found_each, of_touched_is}
-use Rattle.plain_values.proofs.Lists.{from_flat_map, in_flat_map}
-use Rattle.fd_laws.proofs.Common.{from_project, from_those, from_union, in_project, in_those, same_rel, sets, agree_back, agree_on, agree-cut, row_exact, row_itself, row_total, tied_row}
-use Rattle.fd_laws.proofs.Rows.{agree_alike, at-cut_in}
+use Rattle.lens_laws.proofs.Common.{find_by, found_each, in_found_each}
+use Rattle.lens_laws.specs.KeyedDeltas.{of_touched}
+use Rattle.lens_laws.proofs.Deltas.{of_touched_is}
+use Rattle.fd_laws.proofs.Common.{from_project, from_those, from_union, in_project, in_those, same_rel, sets, agree_back, agree_on, agree-cut, row_exact, row_itself, row_total, tied_row, agree_alike, at-cut_in}
 use Rattle.signed_delta.specs.Disjoint.{AreApart}
 use Rattle.signed_delta.specs.Keys.{HasColumns}
 use Rattle.signed_delta.proofs.Differences.{items_rise}

@@ -1,8 +1,6 @@
 -- Values that come back.
-use Rattle.std.proofs.Common.{◌≡◌, true, false, Some, None, sym, ap, subst, refl}
-use Rattle.std.specs.Prelude.{if◌then◌else◌}
-use Rattle.std.proofs.lemmas.Bool.{true≢false}
-use Rattle.plain_values.specs.Value.{fits}
+use Rattle.std.proofs.Common.{◌≡◌, true, false, Some, None, sym, ap, subst, refl, if◌then◌else◌}
+use Rattle.plain_values.proofs.Common.{true≢false, fits}
 use Rattle.plain_values.specs.declared.value.Kind.{Kind}
 use Rattle.plain_values.specs.declared.value.Kind.TheVariants as kind
 use Rattle.plain_values.specs.declared.value.Value.{Value}

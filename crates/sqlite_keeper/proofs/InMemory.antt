@@ -1,11 +1,9 @@
 -- What a keeper in memory keeps, call after call.
 use Rattle.std.proofs.Common.{◌≡◌, ◌∙◌, List, [], ◌∷◌, Option, None, Some, ap, sym}
 use Rattle.std.specs.FinMap as finmap
-use Rattle.std.proofs.lemmas.List.{nil_from_length}
-use Rattle.plain_values.specs.Order.{bytes_cmp}
-use Rattle.lens_specs.specs.Common.{Name, Relation, Change, Follows, Kept, IfObserved, changed}
-use Rattle.lens_specs.specs.Keeping.{nothing}
-use Rattle.server_specs.specs.State.{State, fresh, kept, rows_of_each}
+use Rattle.plain_values.proofs.Common.{nil_from_length, bytes_cmp}
+use Rattle.lens_specs.specs.Common.{Name, Relation, Change, Follows, Kept, IfObserved, changed, nothing}
+use Rattle.server_specs.specs.Common.{State, fresh, kept, rows_of_each}
 use Rattle.memory_store.specs.InMemory.{after}
 use Rattle.sqlite_keeper.specs.Turns.{KeepsInMemory, LeadFrom, TakesAll, Turn, changes_in, gave, gave_nothing, made, refused}
 use Rattle.sqlite_keeper.specs.Unattached.{held}

@@ -1,7 +1,6 @@
 -- Columns that become known.
-use Rattle.std.proofs.Common.{◌≡◌, ◌∙◌, ℕ, List, [], ◌∷◌, ◌++◌, Bool, true, false, Result, Ok, Err, ap, sym, subst, refl, append_assoc, append-nil}
-use Rattle.std.specs.Prelude.{OnErr, OnOk, is_some, if◌then◌else◌}
-use Rattle.plain_values.specs.Columns.{Columns}
+use Rattle.std.proofs.Common.{◌≡◌, ◌∙◌, ℕ, List, [], ◌∷◌, ◌++◌, Bool, true, false, Result, Ok, Err, ap, sym, subst, refl, append_assoc, append-nil, OnErr, OnOk, is_some, if◌then◌else◌}
+use Rattle.plain_values.proofs.Common.{Columns}
 use Rattle.view_lang.specs.declared.definition.Definition.{Definition}
 use Rattle.view_lang.specs.declared.definition.Definition.TheVariants.{Table, View}
 use Rattle.sqlite_keeper.specs.Knowing.{ByTable, Extends, columns_at, with_defined}

@@ -1,12 +1,6 @@
 -- Names as a set has them, and as columns and rows do.
 use Rattle.std.proofs.Common.{◌≡◌, ◌∙◌, ℕ, List, ap, sym}
-use Rattle.std.specs.Cmp.Lexicographic.{nat_list_cmp_total}
-use Rattle.std.specs.FinMap.{entries, keys}
-use Rattle.plain_values.specs.Columns.{Columns, names}
-use Rattle.plain_values.specs.Names.{Names}
-use Rattle.plain_values.specs.Order.{bytes_cmp}
-use Rattle.plain_values.specs.SortedMap.{keys_of, keys_rise}
-use Rattle.plain_values.specs.SortedSet.{items, items-from_list}
+use Rattle.plain_values.proofs.Common.{nat_list_cmp_total, entries, keys, Columns, names, Names, bytes_cmp, keys_of, keys_rise, items, items-from_list}
 use Rattle.plain_values.specs.declared.value.Kind.{Kind}
 
 -- the set of the columns' names has those of their pairs, in the same order

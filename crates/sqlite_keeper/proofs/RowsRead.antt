@@ -1,6 +1,5 @@
 -- The cells of a row, read column by column.
-use Rattle.std.proofs.Common.{List, ◌++◌, Option}
-use Rattle.std.specs.Prelude.{option_map}
+use Rattle.std.proofs.Common.{List, ◌++◌, Option, option_map}
 use Rattle.plain_values.specs.declared.value.Value.{Value}
 
 -- values, and then the others, if all can be read

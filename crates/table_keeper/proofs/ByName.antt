@@ -1,17 +1,9 @@
 -- The rows of tables by name: the place of a table, and what putting one there does.
-use Rattle.std.proofs.Common.{◌≡◌, ℕ, ◌<◌, zero, suc, arith, List, [], ◌∷◌, length, get_or, set, Bool, true, false, cond, Option, Some, refl, sym, ap, ◌∙◌, subst}
-use Rattle.std.specs.Prelude.{◌||◌, map, is_some}
+use Rattle.std.proofs.Common.{◌≡◌, ℕ, ◌<◌, zero, suc, arith, List, [], ◌∷◌, length, get_or, set, Bool, true, false, cond, Option, Some, refl, sym, ap, ◌∙◌, subst, ◌||◌, map, is_some}
 use Rattle.std.specs.FinMap as finmap
-use Rattle.std.specs.List.{AllByRecursion, HoldsAt, insert}
-use Rattle.std.specs.List.Sorted.{IsStrictlySortedBy}
-use Rattle.std.specs.Cmp.{IsTotalOrder, tied_itself}
-use Rattle.std.specs.Cmp.Lexicographic.{nat_list_cmp_total}
-use Rattle.std.specs.Ordering.{eq_by_cmp, is_eq}
-use Rattle.std.specs.declared.cmp.Ordering.TheVariants.{Less}
-use Rattle.plain_values.specs.Order.{bytes_cmp}
-use Rattle.plain_values.proofs.Maps.{exact}
-use Rattle.plain_values.proofs.Tests.{is_tie, first_fails, second_fails}
-use Rattle.lens_specs.specs.Relation.{Name, Rows}
+use Rattle.plain_values.proofs.Common.{AllByRecursion, HoldsAt, insert, IsStrictlySortedBy, IsTotalOrder, tied_itself, nat_list_cmp_total, eq_by_cmp, is_eq, Less, bytes_cmp, exact, is_tie, first_fails, second_fails}
+use Rattle.lens_specs.specs.Common.{Rows}
+use Rattle.lens_specs.specs.Relation.{Name}
 use Rattle.row_sets.proofs.Walks.{apart}
 use Rattle.table_keeper.specs.Changes.{names_of, rows_of}
 use Rattle.table_keeper.specs.Places.{Rise, is_named, rows_in}

@@ -1,13 +1,9 @@
 -- Differences made to tables one after the other, and all at once.
-use Rattle.std.proofs.Common.{◌≡◌, List, [], ◌∷◌, ◌++◌, false, cond, Some, refl, sym, ap, ◌∙◌}
-use Rattle.std.specs.Prelude.{◌||◌, map, nat_eq}
+use Rattle.std.proofs.Common.{◌≡◌, List, [], ◌∷◌, ◌++◌, false, cond, Some, refl, sym, ap, ◌∙◌, ◌||◌, map, nat_eq}
 use Rattle.std.specs.FinMap as finmap
-use Rattle.std.specs.List.{AllByRecursion, list_any}
-use Rattle.std.specs.Cmp.Lexicographic.{pointwise, texts_ties}
-use Rattle.plain_values.specs.Order.{bytes_cmp}
-use Rattle.plain_values.proofs.Tests.{first_fails, second_fails}
-use Rattle.lens_specs.specs.Common.{Name, Rows, TableDelta, new_view, rows_at}
-use Rattle.lens_specs.specs.Keeping.{or_empty, AllApply, with_deltas}
+use Rattle.plain_values.proofs.Common.{AllByRecursion, list_any, pointwise, texts_ties, bytes_cmp, first_fails, second_fails}
+use Rattle.lens_specs.specs.Common.{Name, Rows, TableDelta, new_view, rows_at, or_empty}
+use Rattle.lens_specs.specs.Keeping.{AllApply, with_deltas}
 use Rattle.signed_delta.specs.declared.delta.TableDelta as code
 use Rattle.signed_delta.specs.Tables.{table_delta}
 use Rattle.table_keeper.specs.Places.{IsThere, entry_after, with_entries}

@@ -1,11 +1,6 @@
 -- What a search by name finds in tables in rising order of names.
-use Rattle.std.proofs.Common.{◌≡◌, ℕ, ◌<◌, ◌≤◌, zero, suc, arith, List, [], ◌∷◌, length, get_or, refl, sym, ap, subst, Result, Ok, Err}
-use Rattle.std.specs.Prelude.{is_ok}
-use Rattle.std.specs.List.{insert}
-use Rattle.std.specs.List.Sorted.{IsStrictlySortedBy, IsSearchInRange, IsBinarySearchResult, IsNonDecreasingBy}
-use Rattle.std.specs.Ordering.{ordering_index}
-use Rattle.std.specs.declared.cmp.Ordering.TheVariants.{Less, Equal, Greater}
-use Rattle.plain_values.specs.Order.{bytes_cmp}
+use Rattle.std.proofs.Common.{◌≡◌, ℕ, ◌<◌, ◌≤◌, zero, suc, arith, List, [], ◌∷◌, length, get_or, refl, sym, ap, subst, Result, Ok, Err, is_ok}
+use Rattle.plain_values.proofs.Common.{insert, IsStrictlySortedBy, IsSearchInRange, IsBinarySearchResult, IsNonDecreasingBy, ordering_index, Less, Equal, Greater, bytes_cmp}
 use Rattle.lens_specs.specs.Relation.{Name}
 use Rattle.row_sets.proofs.Places.{searched, put_rises}
 use Rattle.table_keeper.specs.Changes.{names_of}

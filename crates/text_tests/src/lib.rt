@@ -1,15 +1,11 @@
-//! Tests of definitions, catalogues, CSV, arguments, requests and answers, with answers from outside.
+//! Tests of definitions, catalogues, arguments and replies, with values from outside.
 #![tactic(auto)]
 
 #[cfg(test)]
-mod catalogs;
-#[cfg(test)]
-mod csv;
-#[cfg(test)]
 mod definitions;
 #[cfg(test)]
-mod lines;
+mod rejections;
 #[cfg(test)]
-mod samples;
+mod replies;
 #[cfg(test)]
-mod words;
+mod settings;

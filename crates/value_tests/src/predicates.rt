@@ -1,115 +1,132 @@
-//! Predicates on rows.
-use crate::formulas::{formulas, is_pred, pred};
-use crate::samples::{are_names, cut, in_three, name, row};
-use lens_pred::{NotNormal, Pred, SplitFault};
+//! Formulas that no definition says: with null as a value, with a column that the row lacks or a
+//! value of another type, and out of normal form.
+use crate::samples::{check, columns, name, row, value};
+use lens_pred::{Formula, Formulas, NotNormal, Op, Pred, PredFault, Values};
+use lens_values::Name;
 use std::alloc::Global;
 use std::process::Abort;
 
 const ROW: &str = "a=2 b=3 n=null";
 
-// Predicates that hold on the row, and others that fail; no comparison with null holds. Then
-// conjuncts of which the second is out of normal form; predicates with the names that they mention;
-// one that is split on a column into those that mention it and the others, and one that cannot be.
-const CASES: &str = "\
-holds | true
-holds | a = 2
-holds | a <= 2
-holds | a > 1
-holds | a < .b
-holds | a in 1 2
-holds | c = 2, not
-holds | a = 1, b = 3, or
-holds | a = 2, b = 3, and, not, not
-holds | a = 2, b = 3, and, b = 2, or
-holds | a in null 2
-holds | n is null
-holds | n = 2, not
-holds | a is null, not
-fails | false
-fails | a != 2
-fails | a < 2
-fails | a >= 3
-fails | c != 2
-fails | a = x
-fails | a < .c
-fails | b in 1 2
-fails | a = 2, b = 2
-fails | a > null
-fails | a is null
-fails | c is null
-fails | n = null
-fails | n != 2
-fails | n < 2
-fails | n <= .n
-fails | a != .n
-fails | n in null 2
-odd | true, a in
-odd | true, true, false, and
-odd | true, true, false, and, true, and, not
-mentions | a > 1, b = 2 | a b
-mentions | a in 1 2, a = .b, and, not, n is null, or | a b n
-split | a > 1, b = 2 | a > 1 | b = 2
-mixed | b = 2, a < .b";
+// Comparisons that fail on the row, so that their negations hold.
+const FAIL: &str = "\
+c = 2
+c != 2
+a = x
+a < .c
+a > null
+c is null
+n = null
+n in null 2";
 
 #[test]
-fn predicates_hold_mention_and_are_split(rt: HostRuntime) {
-    for line in CASES.lines() {
-        is_so(&rt, rt.alloc(), line);
+fn comparisons_hold_or_fail(rt: HostRuntime) {
+    let alloc = rt.alloc();
+    assert!(rt; holds(&rt, alloc, comparison(&rt, alloc, "a in null 2")));
+    for line in FAIL.lines() {
+        let formula = comparison(&rt, alloc, line);
+        check(&rt, !holds(&rt, alloc, formula), line);
+        let formula = Formula::Not(Box::new(alloc, comparison(&rt, alloc, line)).expect(&rt, line));
+        check(&rt, holds(&rt, alloc, formula), line);
     }
 }
 
-// Checks the case.
-fn is_so(rt: &impl Abort, alloc: Global, line: &str) {
-    let (word, text) = cut(rt, line);
-    match word {
-        "mentions" => mentions(rt, alloc, text),
-        "split" => splits(rt, alloc, text),
-        _ => assert!(rt; is_met(rt, alloc, word, text), "{line}"),
+#[test]
+fn comparisons_with_null_fit_columns(rt: HostRuntime) {
+    let alloc = rt.alloc();
+    assert!(rt; fault(&rt, alloc, "rating in 1 null").is_none());
+    assert!(rt; fault(&rt, alloc, "title = null").is_none());
+    let name = name(&rt, "rating");
+    assert!(rt; fault(&rt, alloc, "rating in null x") == Some(PredFault::PredKind { name }));
+}
+
+#[test]
+fn conjuncts_are_in_normal_form(rt: HostRuntime) {
+    let alloc = rt.alloc();
+    let both = and(&rt, alloc, Formula::True, Formula::False);
+    let nested = and(
+        &rt,
+        alloc,
+        and(&rt, alloc, Formula::True, Formula::False),
+        Formula::True,
+    );
+    let nested = Formula::Not(Box::new(alloc, nested).expect(&rt, "memory"));
+    for formula in [comparison(&rt, alloc, "a in"), both, nested] {
+        let list = vec![in alloc; Formula::True, formula].expect(&rt, "memory");
+        assert!(rt; Pred::new(list).err() == Some(NotNormal { index: 1 }));
     }
 }
 
-// Whether what the word says of the predicate is so.
-fn is_met(rt: &impl Abort, alloc: Global, word: &str, text: &str) -> bool {
-    match word {
-        "holds" => holds(rt, alloc, text),
-        "fails" => !holds(rt, alloc, text),
-        "odd" => is_odd(rt, alloc, text),
-        "mixed" => is_mixed(rt, alloc, text),
-        _ => false,
+// The predicate of one conjunct.
+fn pred(rt: &impl Abort, alloc: Global, formula: Formula) -> Pred {
+    Pred::new(vec![in alloc; formula].expect(rt, "memory")).expect(rt, "a conjunct")
+}
+
+// Whether the formula holds on the row.
+fn holds(rt: &impl Abort, alloc: Global, formula: Formula) -> bool {
+    pred(rt, alloc, formula).holds(&row(rt, alloc, ROW))
+}
+
+// Why the comparison does not fit the columns.
+fn fault(rt: &impl Abort, alloc: Global, text: &str) -> Option<PredFault> {
+    let columns = columns(rt, alloc, "genre:text? rating:int? title:text");
+    let pred = pred(rt, alloc, comparison(rt, alloc, text));
+    pred.check(&columns).err()
+}
+
+// Both formulas hold.
+fn and(rt: &impl Abort, alloc: Global, one: Formula, other: Formula) -> Formula {
+    Formula::And(Formulas::new(vec![in alloc; one, other].expect(rt, "memory")))
+}
+
+// A column against a value, as `a > 1`, against another column, as `a > .b`, or against a list of
+// values, as `a in 1 2`; or that it is null, as `a is null`.
+fn comparison(rt: &impl Abort, alloc: Global, text: &str) -> Formula {
+    let (col, rest) = text.split_once(' ').expect(rt, text);
+    let (sign, right) = rest.split_once(' ').unwrap_or((rest, ""));
+    let col = name(rt, col);
+    match sign {
+        "in" => Formula::OneOf {
+            col,
+            values: values(rt, alloc, right),
+        },
+        "is" => Formula::IsNull { col },
+        _ => compared(rt, alloc, col, op(rt, sign), right),
     }
 }
 
-// Whether the predicate holds on the row.
-fn holds(rt: &impl Abort, alloc: Global, text: &str) -> bool {
-    pred(rt, alloc, text).holds(&row(rt, alloc, ROW))
+// The column against a value or another column.
+fn compared(rt: &impl Abort, alloc: Global, col: Name, op: Op, right: &str) -> Formula {
+    match right.strip_prefix('.') {
+        Some(other) => Formula::CompareCols {
+            col,
+            op,
+            other: name(rt, other),
+        },
+        None => Formula::Compare {
+            col,
+            op,
+            value: value(rt, alloc, right),
+        },
+    }
 }
 
-// Whether the second conjunct is out of normal form.
-fn is_odd(rt: &impl Abort, alloc: Global, text: &str) -> bool {
-    let fault = Pred::new(formulas(rt, alloc, text)).err();
-    fault == Some(NotNormal { index: 1 })
+// The comparison that the sign says.
+fn op(rt: &impl Abort, sign: &str) -> Op {
+    match sign {
+        "=" => Op::Eq,
+        "!=" => Op::Ne,
+        "<" => Op::Lt,
+        ">" => Op::Gt,
+        _ => panic!(rt; "no sign"),
+    }
 }
 
-// Whether the second conjunct keeps the predicate from being split on a.
-fn is_mixed(rt: &impl Abort, alloc: Global, text: &str) -> bool {
-    let fault = pred(rt, alloc, text).split_on(alloc, &name(rt, "a")).err();
-    fault == Some(SplitFault::Mixed { index: 1 })
-}
-
-// Checks the names that the predicate mentions, and its copy.
-fn mentions(rt: &impl Abort, alloc: Global, line: &str) {
-    let (text, names) = cut(rt, line);
-    let pred = pred(rt, alloc, text);
-    are_names(rt, alloc, pred.mentions(alloc).ok(), names);
-    is_pred(rt, alloc, pred.copy(alloc).ok(), text);
-}
-
-// Checks what mentions a and what does not, and that both joined are the whole.
-fn splits(rt: &impl Abort, alloc: Global, line: &str) {
-    let [text, with, without] = in_three(rt, line);
-    let split = pred(rt, alloc, text).split_on(alloc, &name(rt, "a"));
-    let (some, others) = split.expect(rt, text);
-    is_pred(rt, alloc, some.join(alloc, &others).ok(), text);
-    is_pred(rt, alloc, Some(some), with);
-    is_pred(rt, alloc, Some(others), without);
+// The values that the text lists.
+fn values(rt: &impl Abort, alloc: Global, text: &str) -> Values {
+    let mut list = Vec::new(alloc);
+    for word in text.split_whitespace() {
+        list.push(value(rt, alloc, word)).expect(rt, "memory");
+    }
+    Values::new(list)
 }

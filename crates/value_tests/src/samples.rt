@@ -3,30 +3,23 @@
 ghost use Rattle.std.specs.Prelude.{◌≡◌};
 
 use fd_closure::Dep;
-use fd_tree::{Edge, Tree};
+use fd_tree::Tree;
 use lens_values::{Columns, Kind, Name, Names, Row, Text, Value};
 use row_sets::{Relation, RowSet};
 use std::alloc::Global;
 use std::process::Abort;
 
-/// What stands before the first bar of the text, and after it.
-pub(crate) fn cut<'a>(rt: &impl Abort, text: &'a str) -> (&'a str, &'a str) {
+/// Ends the test with the case if something does not hold of it.
+pub(crate) fn check(rt: &impl Abort, holds: bool, case: &str) {
+    assert!(rt; holds, "{case}");
+}
+
+/// What stands between the three bars of the text.
+pub(crate) fn fields<'a>(rt: &impl Abort, text: &'a str) -> [&'a str; 4] {
     let (first, rest) = text.split_once('|').expect(rt, text);
-    (first.trim(), rest.trim())
-}
-
-/// What stands before, between and after the first two bars of the text.
-pub(crate) fn in_three<'a>(rt: &impl Abort, text: &'a str) -> [&'a str; 3] {
-    let (first, rest) = cut(rt, text);
-    let (second, third) = cut(rt, rest);
-    [first, second, third]
-}
-
-/// What stands before, between and after the first three bars of the text.
-pub(crate) fn in_four<'a>(rt: &impl Abort, text: &'a str) -> [&'a str; 4] {
-    let (first, rest) = cut(rt, text);
-    let [second, third, fourth] = in_three(rt, rest);
-    [first, second, third, fourth]
+    let (second, rest) = rest.split_once('|').expect(rt, text);
+    let (third, fourth) = rest.split_once('|').expect(rt, text);
+    [first.trim(), second.trim(), third.trim(), fourth.trim()]
 }
 
 /// The name that the word is.
@@ -51,14 +44,15 @@ pub(crate) fn names(rt: &impl Abort, alloc: Global, text: &str) -> Names {
 /// Checks that these are the names of the text, in its order.
 pub(crate) fn are_names(rt: &impl Abort, alloc: Global, found: Option<Names>, text: &str) {
     let found = found.expect(rt, text);
-    assert!(rt;
+    check(
+        rt,
         found.as_slice() == listed(rt, alloc, text).as_slice(),
-        "{text}"
+        text,
     );
 }
 
-/// The kind that the word names, as `int`, or `int?` of a column that may be null.
-pub(crate) fn kind(rt: &impl Abort, word: &str) -> Kind {
+// The kind that the word names, as `int`, or `int?` of a column that may be null.
+fn kind(rt: &impl Abort, word: &str) -> Kind {
     match word {
         "int" => Kind::Int,
         "text" => Kind::Text,
@@ -89,10 +83,7 @@ pub(crate) fn columns(rt: &impl Abort, alloc: Global, text: &str) -> Columns {
 /// Checks that these are the columns of the text, in its order.
 pub(crate) fn are_columns(rt: &impl Abort, alloc: Global, found: Option<Columns>, text: &str) {
     let found = found.expect(rt, text);
-    assert!(rt;
-        found.pairs() == pairs(rt, alloc, text).as_slice(),
-        "{text}"
-    );
+    check(rt, found.pairs() == pairs(rt, alloc, text).as_slice(), text);
 }
 
 /// Null, a number, a truth value, or else a text.
@@ -123,7 +114,7 @@ pub(crate) fn row(rt: &impl Abort, alloc: Global, text: &str) -> Row {
 /// Checks that this is the row of the text.
 pub(crate) fn is_row(rt: &impl Abort, alloc: Global, found: Option<Row>, text: &str) {
     let found = found.expect(rt, text);
-    assert!(rt; found == row(rt, alloc, text), "{text}");
+    check(rt, found == row(rt, alloc, text), text);
 }
 
 /// The rows in the order of the text, as `a=2 b=y; a=1 b=x`.
@@ -143,9 +134,10 @@ pub(crate) fn rows(rt: &impl Abort, alloc: Global, text: &str) -> RowSet {
 /// Checks that these are the rows of the text, in its order.
 pub(crate) fn are_rows(rt: &impl Abort, alloc: Global, found: Option<RowSet>, text: &str) {
     let found = found.expect(rt, text);
-    assert!(rt;
+    check(
+        rt,
         found.rows() == row_list(rt, alloc, text).as_slice(),
-        "{text}"
+        text,
     );
 }
 
@@ -192,18 +184,4 @@ pub(crate) fn deps(rt: &impl Abort, alloc: Global, text: &str) -> Vec<Dep> {
 /// The tree form of the dependencies that the text lists.
 pub(crate) fn tree(rt: &impl Abort, alloc: Global, text: &str) -> Tree {
     Tree::of(alloc, &deps(rt, alloc, text)).expect(rt, text)
-}
-
-// Whether the edge has the sides of the dependency.
-fn is_edge(edge: &Edge, dep: &Dep) -> bool {
-    edge.left.as_slice() == dep.left().as_slice() && edge.right.as_slice() == dep.right().as_slice()
-}
-
-/// Checks that the edges of the tree are those that the text lists, in its order.
-pub(crate) fn are_edges(rt: &impl Abort, alloc: Global, found: Option<Tree>, text: &str) {
-    let found = found.expect(rt, text);
-    let expected = deps(rt, alloc, text);
-    let mut pairs = found.edges().iter().zip(&expected);
-    assert!(rt; found.edges().len() == expected.len(), "{text}");
-    assert!(rt; pairs.all(|(edge, dep)| is_edge(edge, dep)), "{text}");
 }

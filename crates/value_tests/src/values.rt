@@ -1,197 +1,122 @@
-//! Texts, values, names, columns and rows.
-use crate::samples::{
-    are_columns, are_names, columns, cut, in_four, is_row, kind, name, names, row, value,
-};
-use lens_values::{
-    Columns, ColumnsFault, Kind, Name, Names, Row, RowFault, Text, TextFault, Value,
-};
+//! Values, names, columns and rows.
+use crate::samples::{are_columns, are_names, check, columns, is_row, name, names, row, value};
+use lens_values::{Columns, ColumnsFault, Kind, Row, RowFault, Value};
 use std::alloc::Global;
 use std::process::Abort;
 
-// Values and their kinds, nullable kinds and their bases, rows and columns that they fit or do not
-// fit. Then operations on names, columns and rows: what they are given, and what they give.
-const CASES: &str = "\
-kind | 7 | int
-kind | x | text
-kind | true | bool
-kind | null | none
-base | int? | int
-base | text? | text
-base | bool? | bool
-fits | a=7 b=x c=true | a:int b:text c:bool
-fits | a=7 b=x c=true | a:int? b:text? c:bool?
-fits | a=null b=null c=null | a:int? b:text? c:bool?
-unfit | a=null | a:int
-unfit | a=null | a:text
-unfit | a=null | a:bool
-unfit | a=x | a:int?
-unfit | a=7 | a:bool?
-unfit | a=true | a:text?
-unfit | a=null | b:int?
-unfit | a=null | a:int? b:int?
-names | copy | b a b | | a b
-names | union | b a b | c b | a b c
-names | minus | a b | c b | a
-names | meet | a b | c b | b
-columns | copy | b:int a:text | | a:text b:int
-columns | union | a:text b:int | b:int c:bool? | a:text b:int c:bool?
-columns | minus | a:text b:int | b:int | a:text
-columns | meet | a:text b:int | b:int | b:int
-rows | copy | b=1 a=x c=null | | a=x b=1 c=null
-rows | project | a=1 b=2 | a=9 | a=1
-rows | paste | a=1 b=2 | b=3 c=4 | a=1 b=3 c=4";
+// Rows, columns, and whether the rows fit them.
+const FITS: &str = "\
+a=7 b=x c=true | a:int b:text c:bool | yes
+a=7 b=x c=true | a:int? b:text? c:bool? | yes
+a=null b=null c=null | a:int? b:text? c:bool? | yes
+a=null | a:int | no
+a=null | a:text | no
+a=null | a:bool | no
+a=x | a:int? | no
+a=7 | a:bool? | no
+a=true | a:text? | no
+a=null | b:int? | no
+a=null | a:int? b:int? | no";
 
 #[test]
-fn values_names_columns_and_rows(rt: HostRuntime) {
-    for line in CASES.lines() {
-        is_so(&rt, rt.alloc(), line);
+fn rows_fit_columns(rt: HostRuntime) {
+    for line in FITS.lines() {
+        check(&rt, is_so(&rt, rt.alloc(), line), line);
     }
 }
 
-// Checks the case.
-fn is_so(rt: &impl Abort, alloc: Global, line: &str) {
-    let (word, rest) = cut(rt, line);
-    match word {
-        "names" => makes_names(rt, alloc, in_four(rt, rest)),
-        "columns" => makes_columns(rt, alloc, in_four(rt, rest)),
-        "rows" => makes_row(rt, alloc, in_four(rt, rest)),
-        _ => {
-            let (one, other) = cut(rt, rest);
-            assert!(rt; goes_with(rt, alloc, word, one, other), "{line}");
-        }
-    }
+// Whether it is as the line says that the row fits the columns.
+fn is_so(rt: &impl Abort, alloc: Global, line: &str) -> bool {
+    let (cells, rest) = line.split_once('|').expect(rt, line);
+    let (of, is_fit) = rest.split_once('|').expect(rt, line);
+    row(rt, alloc, cells).fits(&columns(rt, alloc, of)) == (is_fit == " yes")
 }
 
-// Whether the two texts go with one another as the word says.
-fn goes_with(rt: &impl Abort, alloc: Global, word: &str, one: &str, other: &str) -> bool {
-    match word {
-        "kind" => is_of_kind(rt, alloc, one, other),
-        "base" => has_base(kind(rt, one), kind(rt, other)),
-        "fits" => fits(rt, alloc, one, other),
-        "unfit" => !fits(rt, alloc, one, other),
-        _ => false,
-    }
+#[test]
+fn values_and_columns_have_kinds(rt: HostRuntime) {
+    let alloc = rt.alloc();
+    check(&rt, is_of_kind(&rt, alloc, "7", Kind::Int), "int");
+    check(&rt, is_of_kind(&rt, alloc, "x", Kind::Text), "text");
+    check(&rt, is_of_kind(&rt, alloc, "true", Kind::Flag), "bool");
+    check(
+        &rt,
+        Value::Null.is_null() && Value::Null.kind().is_none(),
+        "null",
+    );
+    check(&rt, has_base(Kind::IntOrNull, Kind::Int), "int null");
+    check(&rt, has_base(Kind::TextOrNull, Kind::Text), "text null");
+    check(&rt, has_base(Kind::FlagOrNull, Kind::Flag), "bool null");
 }
 
-// Whether the value, and so its copy, is of the kind.
-fn is_of_kind(rt: &impl Abort, alloc: Global, word: &str, of: &str) -> bool {
+// Whether a copy of the value is of the kind.
+fn is_of_kind(rt: &impl Abort, alloc: Global, word: &str, of: Kind) -> bool {
     let value = value(rt, alloc, word);
-    let copy = value.copy(alloc).expect(rt, "memory");
-    let is_right = match copy.kind() {
-        Some(found) => !copy.is_null() && found.same(kind(rt, of)),
-        None => copy.is_null() && of == "none",
-    };
-    is_right && copy == value
+    let copy = value.copy(alloc).expect(rt, word);
+    match copy.kind() {
+        Some(found) => found.same(of) && copy == value && !copy.is_null(),
+        None => false,
+    }
 }
 
-// Whether the nullable kind has the base.
+// Whether the first kind is the second with null.
 fn has_base(kind: Kind, base: Kind) -> bool {
-    let parted = kind.base().same(base) && base.base().same(base) && !kind.same(base);
-    parted && kind.is_nullable() && !base.is_nullable()
+    let is_parted = kind.base().same(base) && base.base().same(base) && !kind.same(base);
+    is_parted && kind.is_nullable() && !base.is_nullable()
 }
 
-// Whether the row fits the columns.
-fn fits(rt: &impl Abort, alloc: Global, values: &str, cols: &str) -> bool {
-    row(rt, alloc, values).fits(&columns(rt, alloc, cols))
+#[test]
+fn names_are_sets(rt: HostRuntime) {
+    let alloc = rt.alloc();
+    let one = names(&rt, alloc, "b a b");
+    let other = names(&rt, alloc, "c b");
+    are_names(&rt, alloc, one.copy(alloc).ok(), "a b");
+    are_names(&rt, alloc, one.union(alloc, &other).ok(), "a b c");
+    are_names(&rt, alloc, one.minus(alloc, &other).ok(), "a");
+    are_names(&rt, alloc, one.meet(alloc, &other).ok(), "b");
 }
 
-// Checks what the operation makes of the first two texts.
-fn makes_names(rt: &impl Abort, alloc: Global, [op, first, second, made]: [&str; 4]) {
-    let first = names(rt, alloc, first);
-    let second = names(rt, alloc, second);
-    are_names(rt, alloc, of_names(alloc, op, &first, &second), made);
+#[test]
+fn columns_are_sets(rt: HostRuntime) {
+    let alloc = rt.alloc();
+    let one = columns(&rt, alloc, "b:int a:text");
+    let other = columns(&rt, alloc, "b:int c:bool?");
+    are_columns(&rt, alloc, one.copy(alloc).ok(), "a:text b:int");
+    are_columns(
+        &rt,
+        alloc,
+        one.union(alloc, &other).ok(),
+        "a:text b:int c:bool?",
+    );
+    let names = names(&rt, alloc, "b c");
+    are_columns(&rt, alloc, one.minus(alloc, &names).ok(), "a:text");
+    are_columns(&rt, alloc, one.meet(alloc, &names).ok(), "b:int");
 }
 
-fn of_names(alloc: Global, op: &str, first: &Names, second: &Names) -> Option<Names> {
-    match op {
-        "copy" => first.copy(alloc).ok(),
-        "union" => first.union(alloc, second).ok(),
-        "minus" => first.minus(alloc, second).ok(),
-        "meet" => first.meet(alloc, second).ok(),
-        _ => None,
-    }
-}
-
-fn makes_columns(rt: &impl Abort, alloc: Global, [op, first, second, made]: [&str; 4]) {
-    let first = columns(rt, alloc, first);
-    let second = columns(rt, alloc, second);
-    are_columns(rt, alloc, of_columns(rt, alloc, op, &first, &second), made);
-}
-
-fn of_columns(
-    rt: &impl Abort,
-    alloc: Global,
-    op: &str,
-    first: &Columns,
-    second: &Columns,
-) -> Option<Columns> {
-    let names = second.names(alloc).expect(rt, "memory");
-    match op {
-        "copy" => first.copy(alloc).ok(),
-        "union" => first.union(alloc, second).ok(),
-        "minus" => first.minus(alloc, &names).ok(),
-        "meet" => first.meet(alloc, &names).ok(),
-        _ => None,
-    }
-}
-
-fn makes_row(rt: &impl Abort, alloc: Global, [op, first, second, made]: [&str; 4]) {
-    let first = row(rt, alloc, first);
-    let second = row(rt, alloc, second);
-    is_row(rt, alloc, of_rows(alloc, op, &first, &second), made);
-}
-
-fn of_rows(alloc: Global, op: &str, first: &Row, second: &Row) -> Option<Row> {
-    match op {
-        "copy" => first.copy(alloc).ok(),
-        "project" => first.project(alloc, second.names()).ok(),
-        "paste" => first.paste(alloc, second).ok(),
-        _ => None,
-    }
-}
-
-// Why there are no columns with the name twice.
-fn columns_twice(rt: &impl Abort, alloc: Global, name: Name) -> Option<ColumnsFault> {
-    let pairs = vec![in alloc; (name, Kind::Int), (name, Kind::Int)].expect(rt, "memory");
-    Columns::new(alloc, pairs).err()
-}
-
-// Why a row has not two values at one column.
-fn values_twice(rt: &impl Abort, alloc: Global, name: Name) -> Option<RowFault> {
-    let pairs = vec![in alloc; (name, Value::Int(1)), (name, Value::Int(2))].expect(rt, "memory");
-    Row::new(alloc, pairs).err()
-}
-
-// Why columns of these kinds have no union.
-fn no_union(rt: &impl Abort, alloc: Global, first: &str, second: &str) -> Option<ColumnsFault> {
-    let first = columns(rt, alloc, first);
-    first.union(alloc, &columns(rt, alloc, second)).err()
+#[test]
+fn rows_are_parted_and_pasted(rt: HostRuntime) {
+    let alloc = rt.alloc();
+    let one = row(&rt, alloc, "b=1 a=x c=null");
+    is_row(&rt, alloc, one.copy(alloc).ok(), "a=x b=1 c=null");
+    let one = row(&rt, alloc, "a=1 b=2");
+    is_row(
+        &rt,
+        alloc,
+        one.project(alloc, &names(&rt, alloc, "a")).ok(),
+        "a=1",
+    );
+    let pasted = one.paste(alloc, &row(&rt, alloc, "b=3 c=4"));
+    is_row(&rt, alloc, pasted.ok(), "a=1 b=3 c=4");
 }
 
 #[test]
 fn columns_and_rows_have_a_name_once(rt: HostRuntime) {
     let alloc = rt.alloc();
     let name = name(&rt, "a");
-    let clash = no_union(&rt, alloc, "a:int", "a:int?");
-    assert!(rt; clash == Some(ColumnsFault::KindClash { name }));
-    assert!(rt; columns_twice(&rt, alloc, name) == Some(ColumnsFault::Twice { name }));
-    assert!(rt; values_twice(&rt, alloc, name) == Some(RowFault::Twice { name }));
-}
-
-// Checks that the bytes are a text, and so is its copy.
-fn is_text(rt: &impl Abort, alloc: Global, bytes: &str) {
-    let made = Text::new(alloc, bytes).expect(rt, bytes);
-    assert!(rt;
-        made.copy(alloc).expect(rt, "memory").as_str() == bytes,
-        "{bytes}"
-    );
-}
-
-#[test]
-fn texts_have_4096_bytes_at_most_and_no_nul(rt: HostRuntime) {
-    let alloc = rt.alloc();
-    is_text(&rt, alloc, &"a".repeat(alloc, 4096).expect(&rt, "memory"));
-    let more = "a".repeat(alloc, 4097).expect(&rt, "memory");
-    assert!(rt; Text::new(alloc, &more).err() == Some(TextFault::TooLong));
-    assert!(rt; Text::new(alloc, "a\0b").err() == Some(TextFault::HasNul));
+    let pairs = vec![in alloc; (name, Kind::Int), (name, Kind::Int)].expect(&rt, "memory");
+    assert!(rt; Columns::new(alloc, pairs).err() == Some(ColumnsFault::Twice { name }));
+    let pairs = vec![in alloc; (name, Value::Int(1)), (name, Value::Int(2))];
+    let row = Row::new(alloc, pairs.expect(&rt, "memory"));
+    assert!(rt; row.err() == Some(RowFault::Twice { name }));
+    let both = columns(&rt, alloc, "a:int").union(alloc, &columns(&rt, alloc, "a:int?"));
+    assert!(rt; both.err() == Some(ColumnsFault::KindClash { name }));
 }

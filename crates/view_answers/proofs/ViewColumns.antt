@@ -1,18 +1,13 @@
 -- The columns of a view: there is one, and none may be null where none is the least that may.
-use Rattle.std.proofs.Common.{◌≡◌, ◌∙◌, ◌&&◌, true, [], ◌∷◌, length, None, ap}
-use Rattle.std.specs.Prelude.{◌≢◌, find, not}
-use Rattle.std.specs.List.{list_all}
+use Rattle.std.proofs.Common.{◌≡◌, ◌∙◌, ◌&&◌, true, [], ◌∷◌, length, None, ap, ◌≢◌, find, not}
+use Rattle.plain_values.proofs.Common.{list_all, bytes_cmp, is_nullable, none_found, map_none}
 use Rattle.std.specs.FinMap as finmap
-use Rattle.plain_values.specs.Order.{bytes_cmp}
 use Rattle.plain_values.specs.SortedSet as set
-use Rattle.plain_values.specs.Value.{is_nullable}
-use Rattle.plain_values.proofs.Lists.{none_found}
-use Rattle.plain_values.proofs.Tests.{map_none}
-use Rattle.fd_laws.proofs.Names.{name_total}
-use Rattle.lens_laws.proofs.Asked.{keyed}
+use Rattle.fd_laws.proofs.Common.{name_total}
+use Rattle.lens_laws.proofs.Common.{keyed}
 use Rattle.lens_specs.specs.Common.{Columns, names, sort_of}
 use Rattle.lens_probe.specs.Viewed.{IsViewed, Viewed}
-use Rattle.server_specs.specs.Exporting.{first_nullable}
+use Rattle.server_specs.specs.Common.{first_nullable}
 
 no_names : (U : Columns) → finmap.keys U ≡ [] → length (set.items (names U)) ≡ 0
 unfolding names

@@ -1,12 +1,7 @@
 -- How many of the names pass a test, with one name more.
-use Rattle.std.proofs.Common.{◌≡◌, ◌∙◌, ℕ, suc, Bool, true, false, List, [], ◌∷◌, ap, sym, refl, cond}
-use Rattle.std.specs.Prelude.{Some, None, if◌then◌else◌}
-use Rattle.std.specs.Ordering.{is_eq}
-use Rattle.std.specs.declared.cmp.Ordering.{Ordering}
-use Rattle.std.specs.declared.cmp.Ordering.TheVariants.{Less, Equal, Greater}
-use Rattle.std.specs.Cmp.Lexicographic.{nat_list_cmp_total}
+use Rattle.std.proofs.Common.{◌≡◌, ◌∙◌, ℕ, suc, Bool, true, false, List, [], ◌∷◌, ap, sym, refl, cond, Some, None, if◌then◌else◌}
+use Rattle.plain_values.proofs.Common.{is_eq, Ordering, Less, Equal, Greater, nat_list_cmp_total, bytes_cmp}
 use Rattle.std.specs.FinMap as finmap
-use Rattle.plain_values.specs.Order.{bytes_cmp}
 use Rattle.lens_specs.specs.Common.{Name, Lens}
 use Rattle.catalog_specs.specs.Judging.{count_named}
 use Rattle.catalog_specs.specs.Catalogue.{Catalogue}

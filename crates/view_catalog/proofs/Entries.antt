@@ -1,11 +1,8 @@
 -- The kept lens of a name, with one name more.
-use Rattle.std.proofs.Common.{◌≡◌, ◌∙◌, List, Some, cond, ap, sym}
-use Rattle.std.specs.Prelude.{nat_eq}
-use Rattle.std.specs.Cmp.Lexicographic.{pointwise, texts_ties, nat_list_eq_equiv}
+use Rattle.std.proofs.Common.{◌≡◌, ◌∙◌, List, Some, cond, ap, sym, nat_eq}
+use Rattle.plain_values.proofs.Common.{pointwise, texts_ties, nat_list_eq_equiv, eq_by_cmp, bytes_cmp}
 use Rattle.std.specs.FinMap as finmap
-use Rattle.std.specs.Ordering.{eq_by_cmp}
-use Rattle.plain_values.specs.Order.{bytes_cmp}
-use Rattle.fd_laws.proofs.Names.{name_total, name_itself}
+use Rattle.fd_laws.proofs.Common.{name_total, name_itself}
 use Rattle.lens_specs.specs.Common.{Name, Lens}
 use Rattle.catalog_specs.specs.Catalogue.{Catalogue}
 use Rattle.view_catalog.specs.Contents.{kept_lens}

@@ -1,14 +1,9 @@
 -- The catalogue with one definition more.
-use Rattle.std.proofs.Common.{Bor, ◌≡◌, ◌∙◌, ◌+◌, ◌-◌, ◌≤◌, ℕ, suc, Bool, true, false, List, [], ◌∷◌, ◌++◌, length, ap, sym, refl, cond, arith}
-use Rattle.std.specs.Prelude.{nat_eq, not, Option, Some, None, option_map, option_copied, is_some, is_err, IsOk, IfOk, OnOk, Result, Ok, Err, if◌then◌else◌}
-use Rattle.std.proofs.lemmas.Bool.{true≢false}
-use Rattle.std.specs.Cmp.Lexicographic.{pointwise}
+use Rattle.std.proofs.Common.{◌≡◌, ◌∙◌, ◌+◌, ◌-◌, ◌≤◌, ℕ, suc, Bool, true, false, List, [], ◌∷◌, ◌++◌, length, ap, sym, refl, cond, arith, nat_eq, not, Option, Some, None, option_map, is_some, is_err, IsOk, IfOk, OnOk, Result, Ok, Err, if◌then◌else◌}
+use Rattle.plain_values.proofs.Common.{true≢false, pointwise, nil_from_length, bytes_cmp, place_none, none_is}
 use Rattle.std.specs.FinMap as finmap
-use Rattle.std.proofs.lemmas.List.{nil_from_length}
-use Rattle.plain_values.specs.Order.{bytes_cmp}
-use Rattle.plain_values.proofs.Tests.{place_none, none_is}
 use Rattle.lens_specs.specs.Common.{Lens, Name}
-use Rattle.grammar_specs.specs.Meaning.{Definition}
+use Rattle.grammar_specs.specs.Common.{Definition}
 use Rattle.grammar_laws.specs.Reading.{reading}
 use Rattle.catalog_specs.specs.Catalogue.{Catalogue, catalogue, catalogue_onto, is_table_of, with_definition}
 use Rattle.catalog_specs.specs.Judging.{count_named, is_taken, judged, refused_from, table_count, view_count}
@@ -120,10 +115,6 @@ nothing_defined = record {
 }
 
 -- ---- what is found
-
-pub is_some-copied : {A : Type 0} (o : Option (Bor A)) → is_some (option_copied o) ≡ is_some o
-is_some-copied None = refl
-is_some-copied (Some x) = refl
 
 -- a new name makes one entry more
 pub inserted : {E : Type 0} (result : Result (Option Lens) E) (n m : ℕ) (found : Option Lens) → IsOk result → IfOk result (λ old. old ≡ found)

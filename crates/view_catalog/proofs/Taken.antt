@@ -2,8 +2,7 @@
 use Rattle.std.proofs.Common.{◌≡◌, false, subst, Result, Ok, Err, refl, ap, ◌∙◌}
 use Rattle.std.specs.FinMap as finmap
 use Rattle.lens_specs.specs.Common.{Lens, table_sort}
-use Rattle.grammar_specs.specs.Meaning.{Definition, table, view}
-use Rattle.grammar_specs.specs.Faults.{Fault}
+use Rattle.grammar_specs.specs.Common.{Definition, table, view, Fault}
 use Rattle.catalog_specs.specs.Catalogue.{Catalogue, with_definition, with_lens, table_lens}
 use Rattle.catalog_specs.specs.Judging.{name_taken, is_taken, where_sorted, lens_in, where_lensed, judged}
 use Rattle.catalog_specs.proofs.Judged.{passed, sorted_ok, lensed_ok, lens_is}

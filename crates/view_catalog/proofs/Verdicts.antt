@@ -1,10 +1,9 @@
 -- What a definition that is taken makes.
-use Rattle.std.proofs.Common.{◌≡◌, ◌∙◌, ◌<◌, false, List, ap, sym, refl}
-use Rattle.std.specs.Prelude.{Result, Ok, Err, if◌then◌else◌}
+use Rattle.std.proofs.Common.{◌≡◌, ◌∙◌, ◌<◌, false, List, ap, sym, refl, Result, Ok, Err, if◌then◌else◌}
 use Rattle.std.specs.FinMap as finmap
-use Rattle.std.proofs.lemmas.Bool.{lt-leb}
+use Rattle.plain_values.proofs.Common.{lt-leb}
 use Rattle.lens_specs.specs.Common.{Columns, Edge, Lens, base, Name, Predicate, tables_limit, views_limit, Sort, table_sort}
-use Rattle.grammar_specs.specs.Meaning.{Definition, table, view, Expr}
+use Rattle.grammar_specs.specs.Common.{Definition, table, view, Expr}
 use Rattle.catalog_specs.specs.Catalogue.{Catalogue, with_lens}
 use Rattle.catalog_specs.specs.Judging as judging
 use Rattle.catalog_specs.specs.Judging.{is_taken, judged_table, judged_view, lens_in, table_count, unless_full, view_count, where_lensed, where_sorted}

@@ -1,12 +1,10 @@
 -- How many rows are looked at by key, at each step of a change.
-use Rattle.std.specs.Prelude.{Result, Ok, Err}
+use Rattle.std.proofs.Common.{Result, Ok, Err, ◌≡◌, ℕ, ◌+◌, ◌*◌, ◌≤◌, ap, arith}
 use Rattle.serde_json.specs.Data.{Items}
 use Rattle.lens_specs.specs.Common.{Rows, Delta, diff, Lens, Tables, get, sort_of}
-use Rattle.server_specs.specs.Changing.{set_in}
-use Rattle.server_specs.specs.EditRefusal.{EditRefusal, Listed, in_rows}
-use Rattle.std.proofs.Common.{◌≡◌, ℕ, ◌+◌, ◌*◌, ◌≤◌, ap, arith}
-use Rattle.std.proofs.lemmas.Nat.{mul-le}
-use Rattle.lens_laws.specs.Work.{count_of, rows_of, size, work}
+use Rattle.server_specs.specs.Common.{set_in, EditRefusal, Listed, in_rows}
+use Rattle.plain_values.proofs.Common.{mul-le}
+use Rattle.lens_laws.proofs.Common.{count_of, rows_of, size, work}
 use Rattle.lens_laws.proofs.Work.{keyed_work, work_grows}
 use Rattle.view_changes.specs.Sizes.{changed_by, sent_of}
 

@@ -1,14 +1,11 @@
 -- A change through its tests: of its version, and of the sort of its view.
-use Rattle.std.proofs.Common.{◌≡◌, ◌∙◌, ℕ, false, Option, Result, Ok, Err, ap, subst, sym}
-use Rattle.std.specs.Prelude.{Vec}
-use Rattle.std.specs.declared.alloc.Global.{Global}
-use Rattle.lens_laws.proofs.Deltas.{diff_applies, diff_leads}
-use Rattle.lens_laws.specs.Finds.{AllFit}
+use Rattle.std.proofs.Common.{◌≡◌, ◌∙◌, ℕ, false, Option, Result, Ok, Err, ap, subst, sym, Vec}
+use Rattle.plain_values.proofs.Common.{Global}
+use Rattle.lens_laws.proofs.Common.{diff_applies, diff_leads, AllFit}
 use Rattle.lens_specs.specs.Common.{AppliesTo, Delta, diff, new_view, Lens, Tables, get, sort_of, view, Rows, IsOf, Sort, violating_pair}
-use Rattle.fd_laws.proofs.Relations.{from_minus}
+use Rattle.fd_laws.proofs.Common.{from_minus}
 use Rattle.lens_chain.specs.Edits.{edited}
-use Rattle.server_specs.specs.Changing.{changed_at, is_stale, of_sort, tested, unless_clash, unless_off, unless_stale}
-use Rattle.server_specs.specs.State.{State}
+use Rattle.server_specs.specs.Common.{changed_at, is_stale, of_sort, tested, unless_clash, unless_off, unless_stale, State}
 use Rattle.signed_delta.specs.declared.delta.TableDelta.{TableDelta}
 use Rattle.view_changes.specs.Puts.{IsFresh, IsPut, IsTested}
 use Rattle.view_changes.specs.declared.refusal.Refusal.{Refusal}
@@ -36,11 +33,11 @@ fresh_put s L db on M N r fresh to h =
 
 -- one that is stale is refused for it
 pub stale_put : (s : State) (L : Lens) (db : Tables) (on : Option ℕ) (N : Rows) (why : Refusal) → IsFresh s L on (Err why) → IsPut L db (Err why) (tested s L on (Ok N))
-stale_put s L db on N (refusal.Told why) h =
+stale_put s L db on N (refusal.Rejected why) h =
     ap (λ b. unless_stale b (changed_at s L) s.version (of_sort (sort_of L) N)) h.0 ∙ ap Err (sym h.1)
 stale_put s L db on N refusal.NoMemory h = tt
 
 -- what the tests of the sort refuse is refused
 pub tested_put : (L : Lens) (db : Tables) (N : Rows) (why : Refusal) → IsTested L N (Err why) → IsPut L db (Err why) (of_sort (sort_of L) N)
-tested_put L db N (refusal.Told why) h = h
+tested_put L db N (refusal.Rejected why) h = h
 tested_put L db N refusal.NoMemory h = tt

@@ -1,14 +1,12 @@
 -- Clashes as they are found.
-use Rattle.std.proofs.Common.{◌≡◌, ◌∙◌, ◌<◌, List, [], ◌∷◌, ◌++◌, length, slice_index_or, ap, sym, subst, refl, arith}
-use Rattle.std.specs.Prelude.{Option, Some, None, Err}
-use Rattle.lens_laws.proofs.Least.{clash_is}
+use Rattle.std.proofs.Common.{◌≡◌, ◌∙◌, ◌<◌, List, [], ◌∷◌, ◌++◌, length, slice_index_or, ap, sym, subst, refl, arith, Option, Some, None, Err}
+use Rattle.lens_laws.proofs.Common.{clash_is}
 use Rattle.lens_specs.specs.Common.{Edge, Rows, violating_pair}
 use Rattle.lens_specs.specs.Sort as spec
 use Rattle.fd_tree.specs.ClashView.{shown_clash}
 use Rattle.fd_tree.specs.declared.clash.Clash.{Clash}
-use Rattle.server_specs.specs.Changing.{unless_clash}
+use Rattle.server_specs.specs.Common.{unless_clash, EditRefusal}
 use Rattle.server_specs.specs.EditRefusal as refusals
-use Rattle.server_specs.specs.EditRefusal.{EditRefusal}
 
 -- the edge after those before it
 behind : (before : List Edge) (e : Edge) (after : List Edge) (d : Edge) → (length before < length (before ++ e ∷ after)) × (slice_index_or (before ++ e ∷ after) (length before) d ≡ e)

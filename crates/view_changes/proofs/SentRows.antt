@@ -2,20 +2,17 @@
 use Rattle.std.proofs.Common.{◌≡◌, ℕ, List, Result, Ok, Err, ap, inl, inr, refl, subst}
 use Rattle.serde_json.specs.Data.{Items}
 use Rattle.plain_values.specs.SortedSet as set
-use Rattle.plain_values.specs.Row.{Row}
-use Rattle.fd_laws.proofs.Relations.{from_minus, from_union}
-use Rattle.lens_laws.proofs.Lenses.{get_sort}
-use Rattle.lens_laws.specs.Finds.{AllFit}
-use Rattle.lens_laws.specs.Lenses.{AreOf, IsTyped}
+use Rattle.plain_values.proofs.Common.{Row}
+use Rattle.fd_laws.proofs.Common.{from_minus, from_union}
+use Rattle.lens_laws.proofs.Common.{get_sort, AllFit, AreOf, IsTyped}
 use Rattle.lens_specs.specs.Common.{Columns, new_view, Lens, Tables, get, sort_of, Rows, minus}
 use Rattle.request_text.specs.RowFaults.{bad_row as bad_of, set_of}
 use Rattle.request_text.specs.Told.{RefusesBy}
 use Rattle.request_reading.specs.declared.rows.RowsFault.{RowsFault}
 use Rattle.request_reading.specs.declared.rows.RowsFault.TheVariants as rows_fault
 use Rattle.server_specs.proofs.Sent.{sent_fit}
-use Rattle.server_specs.specs.Changing.{as_set}
-use Rattle.server_specs.specs.EditRefusal.{Listed, bad_row}
-use Rattle.server_specs.specs.Sending.{BadRow, rows_in}
+use Rattle.server_specs.specs.Common.{as_set, Listed, BadRow, rows_in}
+use Rattle.server_specs.specs.EditRefusal.{bad_row}
 
 -- ---- lists of rows
 

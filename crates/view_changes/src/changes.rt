@@ -112,7 +112,7 @@ fn set_in(
 {
     match rows_of(alloc, opened.sort().cols(), rows) {
         Ok(rows) => Ok(rows),
-        Err(RowsFault::BadRow { index, col }) => Err(Refusal::Told {
+        Err(RowsFault::BadRow { index, col }) => Err(Refusal::Rejected {
             refusal: EditRefusal::BadRow { list, index, col },
         }),
         Err(RowsFault::NoMemory) => Err(Refusal::NoMemory),
@@ -129,7 +129,7 @@ fn not_stale(alloc: Global, opened: &Opened<'_>, on: Option<u64>) -> Result<(), 
     let changed_at = opened.changed_at(alloc)?;
     let version = opened.version;
     if is_outside(on, changed_at, version) {
-        return Err(Refusal::Told {
+        return Err(Refusal::Rejected {
             refusal: EditRefusal::Stale {
                 changed_at,
                 version,
@@ -204,10 +204,10 @@ fn checked<M: Ledger>(
     let edges = sort.tree().edges();
     match check_edit(alloc, sort, view, delta, looked) {
         Ok(()) => Ok(()),
-        Err(EditFault::OffPredicate { row }) => Err(Refusal::Told {
+        Err(EditFault::OffPredicate { row }) => Err(Refusal::Rejected {
             refusal: EditRefusal::OffPredicate { row },
         }),
-        Err(EditFault::Clash { clash }) => Err(Refusal::Told {
+        Err(EditFault::Clash { clash }) => Err(Refusal::Rejected {
             refusal: clash_refusal(alloc, edges, clash)?,
         }),
         Err(EditFault::NoMemory) => Err(Refusal::NoMemory),

@@ -1,4 +1,4 @@
-//! Why a view is not changed.
+//! Why the server does not change a view.
 ghost use Rattle.std.specs.Prelude.{◌≡◌, IfOk};
 ghost use Rattle.request_text.specs.Answers.{answer_view};
 ghost use Rattle.view_changes.specs.Puts.{TellsRefusal};
@@ -10,8 +10,8 @@ use request_text::{Answer, EditRefusal};
 /// Why there is no change to make.
 #[derive(Debug, Drop)]
 pub enum Refusal {
-    /// The change is refused.
-    Told {
+    /// The server rejects the change.
+    Rejected {
         /// Why.
         refusal: EditRefusal,
     },
@@ -20,12 +20,12 @@ pub enum Refusal {
 }
 
 impl Refusal {
-    /// The answer that tells it. `NoMemory` where memory ran out.
+    /// The answer that names it. `NoMemory`: memory ran out.
     pub fn into_answer(self) -> Result<Answer, NoMemory>
         ensures { IfOk result (λ answer. TellsRefusal (answer_view answer) self) }
     {
         match self {
-            Refusal::Told { refusal } => Ok(refusal.into_answer()),
+            Refusal::Rejected { refusal } => Ok(refusal.into_answer()),
             Refusal::NoMemory => Err(NoMemory),
         }
     }

@@ -1,20 +1,10 @@
 -- What std's `parse` makes of a field.
-use Rattle.std.proofs.Common.{◌≡◌, ◌≢◌, ℕ, ◌<◌, ◌≤◌, ◌^◌, suc, zero, Bool, true, false, cond, get_or, subst, List, [], ◌∷◌, length, refl, sym, ap, ◌∙◌, arith, rules, pos, neg_ℤ, ℤ, inl, inr, lt-ltb, ltb-true, le-leb, leb-true}
-use Rattle.std.specs.Prelude.{◌&&◌, ◌==◌, not, nat_le, nat_lt, Some, None, Result, Ok, Err, IsUtf8}
-use Rattle.std.specs.List.{list_all, list_any}
-use Rattle.std.specs.Result.{OkIff, result_ok}
-use Rattle.std.specs.Str.{IsAscii, is_utf8}
-use Rattle.std.specs.Str.Parse.{ParsesSigned}
-use Rattle.std.proofs.lemmas.Str.{IsUtf8-from_ascii, IsUtf8-from_is_utf8, is_utf8-from_IsUtf8}
-use Rattle.std.proofs.lemmas.Str.Parse.{IsNumeralModel, numerals_by_fold, parse_signed_plain, parse_signed_minus}
-use Rattle.std.proofs.lemmas.Bool.{cases_Bool, eqb-true, cond-true}
-use Rattle.std.proofs.lemmas.Bool.Decides.{nat_tests}
+use Rattle.std.proofs.Common.{◌≡◌, ◌≢◌, ℕ, ◌<◌, ◌≤◌, ◌^◌, suc, zero, Bool, true, false, cond, get_or, subst, List, [], ◌∷◌, length, refl, sym, ap, ◌∙◌, arith, rules, pos, neg_ℤ, ℤ, inl, inr, lt-ltb, ltb-true, le-leb, leb-true, ◌&&◌, ◌==◌, not, nat_le, nat_lt, Some, None, Result, Ok, Err, IsUtf8}
+use Rattle.plain_values.proofs.Common.{list_all, list_any, OkIff, result_ok, IsAscii, is_utf8, ParsesSigned, IsUtf8-from_ascii, IsUtf8-from_is_utf8, is_utf8-from_IsUtf8, IsNumeralModel, numerals_by_fold, parse_signed_plain, parse_signed_minus, cases_Bool, eqb-true, cond-true, nat_tests, is_text, first_holds, second_holds}
 use mir.Syntax.{w64}
-use Rattle.grammar_specs.specs.Tokens.{is_digit, digits_value, minus}
-use Rattle.plain_values.specs.Bytes.{is_text}
+use Rattle.grammar_specs.specs.Common.{is_digit, digits_value, minus}
 use Rattle.plain_values.specs.Text.{text_of}
 use Rattle.plain_values.specs.declared.text.TextFault.TheVariants as fault
-use Rattle.plain_values.proofs.Tests.{first_holds, second_holds}
 use Rattle.csv_specs.specs.Fields.{are_digits, number_below_zero, number_in, number_of_digits, text_in}
 
 own : IsNumeralModel (λ ds. list_all is_digit ds ≡ true) (digits_value 0)

@@ -1,18 +1,10 @@
 -- Fields found by their place.
-use Rattle.std.proofs.Common.{◌≡◌, ◌<◌, ◌≤◌, ◌+◌, ℕ, suc, zero, true, false, List, [], ◌∷◌, ◌++◌, length, map, refl, sym, ap, subst, ◌∙◌, arith, take, drop, get_or}
-use Rattle.std.specs.Prelude.{◌&&◌, ◌||◌, ◌==◌, Option, Some, None, option_map}
-use Rattle.std.specs.List.{list_all, list_any}
-use Rattle.std.specs.Option.{option_and_then}
+use Rattle.std.proofs.Common.{◌≡◌, ◌<◌, ◌≤◌, ◌+◌, ℕ, suc, zero, true, false, List, [], ◌∷◌, ◌++◌, length, map, refl, sym, ap, subst, ◌∙◌, arith, take, drop, get_or, ◌&&◌, ◌||◌, ◌==◌, Option, Some, None, option_map}
+use Rattle.plain_values.proofs.Common.{list_all, list_any, option_and_then, and_from, nat_tests, length-map, map-append, take-append-drop, take_all, take_more, drop_more, list_all-append, and-false, first_fails, second_fails}
 use Rattle.std.specs.FinMap as finmap
-use Rattle.std.proofs.lemmas.Bool.{and_from}
-use Rattle.std.proofs.lemmas.Bool.Decides.{nat_tests}
-use Rattle.std.proofs.lemmas.List.{length-map, map-append, take-append-drop, take_all, take_more, drop_more}
-use Rattle.std.proofs.lemmas.List.Folds.{list_all-append}
-use Rattle.std.proofs.Math.Bool.{and-false}
 use Rattle.csv.specs.Records.{field_at}
 use Rattle.plain_values.specs.declared.value.Kind.{Kind}
 use Rattle.plain_values.specs.declared.value.Value.{Value}
-use Rattle.plain_values.proofs.Tests.{first_fails, second_fails}
 use Rattle.lens_specs.specs.Common.{Columns, Name}
 use Rattle.csv_specs.specs.Fields.{is_same, value_in}
 use Rattle.csv_specs.specs.Sheets.{Record, all_there, field_under, is_header, value_under}
@@ -111,10 +103,6 @@ module _ (places : List (ℕ × Kind)) (i : ℕ) (d : ℕ × Kind) (fields : Rec
       ∙ ap all_there (map-append (value_at fields) (take i places) (get_or places i d ∷ drop (i + 1) places)
       ∙ ap (λ (o : Option Value). map (value_at fields) (take i places) ++ (o ∷ map (value_at fields) (drop (i + 1) places))) (sym here))
       ∙ all_none (map (value_at fields) (take i places)) (map (value_at fields) (drop (i + 1) places)))
-
--- as many values as places
-pub values_long : (places : List (ℕ × Kind)) (fields : Record) (values : List Value) → values_at places fields ≡ Some values → length values ≡ length places
-values_long places fields values e = all_long (map (value_at fields) places) values e ∙ length-map places (value_at fields)
 
 -- ---- the places of the columns
 

@@ -1,6 +1,6 @@
 -- What a read of a record does to what was read.
 use Rattle.std.proofs.Common.{◌≡◌, ◌∙◌, ℕ, List, ◌++◌, Bool, true, false, Some, inl}
-use Rattle.std.specs.Borrow.{Bor}
+use Rattle.plain_values.proofs.Common.{Bor}
 use Rattle.csv.specs.Reading.{ReadRecord, default_config, reader_state, strip_bom, took_first}
 use Rattle.csv.specs.declared.parser.State.TheVariants as st
 use Rattle.csv.specs.declared.reader.Reader.{Reader}

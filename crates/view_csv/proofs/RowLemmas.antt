@@ -1,16 +1,9 @@
 -- The rows of records, one more at a time.
-use Rattle.std.proofs.Common.{◌≡◌, ◌+◌, ◌∙◌, ℕ, suc, true, false, cond, List, [], ◌∷◌, ◌++◌, length, refl, sym, ap, arith}
-use Rattle.std.specs.Prelude.{◌==◌, Option, Some, None, option_map, Result, Ok, Err}
-use Rattle.std.specs.List.{zip}
+use Rattle.std.proofs.Common.{◌≡◌, ◌+◌, ◌∙◌, ℕ, suc, true, false, cond, List, [], ◌∷◌, ◌++◌, length, refl, sym, ap, arith, ◌==◌, Option, Some, None, option_map, Result, Ok, Err}
+use Rattle.plain_values.proofs.Common.{zip, nat_list_cmp_total, nat_tests, bytes_cmp, keys_rise, Row, Columns, names, Bor}
 use Rattle.std.specs.FinMap as finmap
-use Rattle.std.specs.Cmp.Lexicographic.{nat_list_cmp_total}
-use Rattle.std.proofs.lemmas.Bool.Decides.{nat_tests}
-use Rattle.plain_values.specs.Order.{bytes_cmp}
-use Rattle.plain_values.specs.SortedMap.{keys_rise}
 use Rattle.plain_values.specs.SortedSet as set
-use Rattle.plain_values.specs.Row.{Row}
 use Rattle.plain_values.specs.declared.value.Kind.{Kind}
-use Rattle.plain_values.specs.Columns.{Columns, names}
 use Rattle.csv_specs.specs.Sheets.{Record, as_set, is_header, row_in, row_of, rows_from, rows_of_records, unsheet, values_in, with_row}
 use Rattle.view_csv.specs.Places.{ArePlaces, values_at}
 use Rattle.view_csv.specs.Records.{HasRead, records_in}
@@ -18,7 +11,6 @@ use Rattle.view_csv.specs.Told.{told}
 use Rattle.view_csv.specs.declared.fault.CsvFault.{CsvFault}
 use Rattle.view_csv.specs.declared.fault.CsvFault.TheVariants.{BadRecord}
 use Rattle.view_csv.proofs.RecordLemmas.{others_follow}
-use Rattle.std.specs.Borrow.{Bor}
 use Rattle.csv.specs.declared.reader.Reader.{Reader}
 
 -- the names of the columns, as a set, are their keys

@@ -1,21 +1,10 @@
 -- The text of rows, one more at a time.
-use Rattle.std.proofs.Common.{◌≡◌, ◌<◌, ◌≤◌, ◌+◌, ◌∙◌, ℕ, Bool, true, List, [], ◌∷◌, ◌++◌, length, map, get_or, take, refl, sym, ap, inl, inr}
-use Rattle.std.specs.Prelude.{◌&&◌, ◌||◌, IsUtf8, Result, Ok, Err, IfOk}
+use Rattle.std.proofs.Common.{◌≡◌, ◌<◌, ◌≤◌, ◌+◌, ◌∙◌, ℕ, Bool, true, List, [], ◌∷◌, ◌++◌, length, map, get_or, take, refl, sym, ap, inl, inr, ◌&&◌, ◌||◌, IsUtf8, Result, Ok, Err, IfOk}
 use Rattle.std.specs.FinMap as finmap
-use Rattle.std.specs.List.{list_all, list_any}
-use Rattle.std.specs.Ordering.{eq_by_cmp}
-use Rattle.std.specs.Str.{is_utf8}
-use Rattle.std.proofs.lemmas.Bool.{and_from, and_parts, cases_Bool}
+use Rattle.plain_values.proofs.Common.{list_all, list_any, eq_by_cmp, is_utf8, and_from, and_parts, cases_Bool, append-nil, map-append, take_all, take_more, list_all-append, is_utf8-from_IsUtf8, is_text, row_cmp, Row, row_cmp-IsAntisymmetric, is_tie}
 use Rattle.std.proofs.lemmas.Grind.{flat_map-append}
-use Rattle.std.proofs.lemmas.List.{append-nil, map-append, take_all, take_more}
-use Rattle.std.proofs.lemmas.List.Folds.{list_all-append}
-use Rattle.std.proofs.lemmas.Str.{is_utf8-from_IsUtf8}
 use Rattle.csv.specs.Writing.{default_writer, row_text}
-use Rattle.plain_values.specs.Bytes.{is_text}
-use Rattle.plain_values.specs.Row.{row_cmp, Row}
-use Rattle.plain_values.specs.RowOrder.{row_cmp-IsAntisymmetric}
 use Rattle.plain_values.specs.SortedSet as set
-use Rattle.plain_values.proofs.Tests.{is_tie}
 use Rattle.lens_specs.specs.Common.{Columns, Rows, has}
 use Rattle.csv_specs.specs.SheetLaws.{is_right}
 use Rattle.csv_specs.specs.Sheets.{Record, record_of, sheet, text_of, unsheet}

@@ -1,8 +1,7 @@
 -- What is read is the answer of the text.
-use Rattle.std.proofs.Common.{ℕ, ◌<◌, ◌^◌, List, length, subst}
-use Rattle.std.specs.Prelude.{Result, Ok, Err}
+use Rattle.std.proofs.Common.{ℕ, ◌<◌, ◌^◌, List, length, subst, Result, Ok, Err}
 use Rattle.grammar_specs.specs.Meaning as meaning
-use Rattle.grammar_specs.specs.Faults.{Fault, Answers}
+use Rattle.grammar_specs.specs.Common.{Fault, Answers}
 use Rattle.grammar_laws.specs.Reading.{reading}
 use Rattle.grammar_laws.proofs.Reading.{reading_answers}
 use Rattle.view_lang.specs.declared.definition.Definition as code

@@ -1,11 +1,7 @@
 -- Cutting a text into tokens from an offset on.
-use Rattle.std.proofs.Common.{◌≡◌, ℕ, zero, suc, ◌+◌, ◌-◌, ◌<◌, ◌≤◌, true, false, cond, List, [], ◌∷◌, ◌++◌, length, take, drop, refl, sym, ap, ◌∙◌, arith, length-drop, append_assoc, append-nil}
-use Rattle.std.specs.Prelude.{Option, Some, None}
-use Rattle.std.specs.List.{prefix_len}
-use Rattle.std.proofs.lemmas.List.{drop_all}
-use Rattle.std.proofs.lemmas.List.Sums.{prefix_len-le-length}
-use Rattle.grammar_specs.specs.Tokens.{Token, is_blank}
-use Rattle.grammar_specs.specs.Texts.{Placed}
+use Rattle.std.proofs.Common.{◌≡◌, ℕ, zero, suc, ◌+◌, ◌-◌, ◌<◌, ◌≤◌, true, false, cond, List, [], ◌∷◌, ◌++◌, length, take, drop, refl, sym, ap, ◌∙◌, arith, length-drop, append_assoc, append-nil, Option, Some, None}
+use Rattle.plain_values.proofs.Common.{prefix_len, drop_all, prefix_len-le-length}
+use Rattle.grammar_specs.specs.Common.{Token, is_blank, Placed}
 use Rattle.grammar_laws.specs.Front.{drop_while, token_at, token_in_front}
 use Rattle.grammar_laws.proofs.FrontLists.{drop_while_is}
 use Rattle.grammar_laws.specs.Reading.{Cut, with_first, cut_within, cut}

@@ -1,18 +1,11 @@
 -- Columns with distinct names.
-use Rattle.std.proofs.Common.{◌≡◌, ℕ, suc, ◌+◌, ◌≤◌, Bool, true, false, cond, List, [], ◌∷◌, ◌++◌, refl, sym, ap, subst, ◌∙◌, arith}
-use Rattle.std.specs.Prelude.{◌||◌, nat_eq, count_by}
-use Rattle.std.specs.Cmp.Lexicographic.{pointwise, texts_ties}
-use Rattle.std.specs.Ordering.{eq_by_cmp}
-use Rattle.std.proofs.lemmas.Bool.{true≢false}
-use Rattle.std.proofs.lemmas.List.{map_push}
-use Rattle.std.proofs.lemmas.List.Folds.{list_any-append}
-use Rattle.std.proofs.lemmas.List.Sums.{sum_by-cons, sum_by_push}
-use Rattle.plain_values.specs.Order.{bytes_cmp}
-use Rattle.plain_values.specs.SortedMap.{keys_of}
+use Rattle.std.proofs.Common.{◌≡◌, ℕ, suc, ◌+◌, ◌≤◌, Bool, true, false, cond, List, [], ◌∷◌, ◌++◌, refl, sym, ap, subst, ◌∙◌, arith, ◌||◌, nat_eq, count_by}
+use Rattle.plain_values.proofs.Common.{pointwise, texts_ties, eq_by_cmp, true≢false, map_push, list_any-append, sum_by-cons, bytes_cmp, keys_of}
+use Rattle.std.proofs.lemmas.List.Sums.{sum_by_push}
 use Rattle.plain_values.specs.declared.value.Kind.{Kind}
 use Rattle.lens_values.specs.Repeats.{count_of}
-use Rattle.lens_specs.specs.Names.{Name}
-use Rattle.grammar_specs.specs.Written.{is_column_of}
+use Rattle.lens_specs.specs.Common.{Name}
+use Rattle.grammar_specs.specs.Common.{is_column_of}
 use Rattle.grammar_laws.proofs.Words.{same_word, word_itself}
 use Rattle.view_lang.specs.DefBounds.{HasNoRepeat}
 

@@ -1,16 +1,10 @@
 -- The front of a list that passes a test, and the word in front of a text.
-use Rattle.std.proofs.Common.{◌≡◌, ℕ, ◌+◌, ◌-◌, ◌<◌, ◌≤◌, zero, suc, Bool, true, false, cond, List, [], ◌∷◌, length, take, drop, IsTrue, refl, sym, ap, subst, ◌∙◌, arith}
-use Rattle.std.specs.Prelude.{◌&&◌, ◌||◌, ◌==◌, Option, Some, None, option_map, take_while}
-use Rattle.std.specs.List.{list_all, prefix_len}
-use Rattle.std.proofs.lemmas.List.{take_all, length-drop}
-use Rattle.std.proofs.lemmas.List.Sums.{prefix_len-le-length}
-use Rattle.std.specs.Str.{IsAscii, IsUtf8}
-use Rattle.std.proofs.lemmas.Str.{IsUtf8-from_ascii}
+use Rattle.std.proofs.Common.{◌≡◌, ℕ, ◌+◌, ◌-◌, ◌<◌, ◌≤◌, zero, suc, Bool, true, false, cond, List, [], ◌∷◌, length, take, drop, IsTrue, refl, sym, ap, subst, ◌∙◌, arith, ◌||◌, ◌==◌, Option, Some, None, option_map, Result, Ok, Err, take_while}
+use Rattle.plain_values.proofs.Common.{result_ok, list_all, prefix_len, take_all, length-drop, prefix_len-le-length, IsAscii, IsUtf8, IsUtf8-from_ascii, is_name, is_name_byte, is_lower, nat_tests, first_holds, second_holds}
+use Rattle.plain_values.specs.declared.name.BadName.{BadName}
+use Rattle.plain_values.specs.Name.{bad_name, name_of}
 use Rattle.plain_values.proofs.NameLemmas.{name_utf8}
-use Rattle.plain_values.specs.Bytes.{is_name, is_name_byte, is_lower}
-use Rattle.std.proofs.lemmas.Bool.Decides.{nat_tests}
-use Rattle.plain_values.proofs.Tests.{first_holds, second_holds}
-use Rattle.grammar_specs.specs.Tokens.{word, is_digit}
+use Rattle.grammar_specs.specs.Common.{word, is_digit}
 use Rattle.grammar_laws.specs.Front.{drop_while, word_of, word_at, plain_in_front, positive_of, negative_of, dash_of}
 use Rattle.grammar_laws.proofs.FrontLists.{one_more, drop_while_is, front_passes, take_front, drop_front, lower_passes, word_is, not_digit}
 use Rattle.view_lang.specs.declared.parsing.token.Token as code
@@ -83,6 +77,12 @@ no_word bytes h =
       | true ↦ λ e. absurd (h (name_utf8 bytes e))
       | false ↦ λ e. refl
     ] refl
+
+-- the name of these bytes is their word
+pub name_found : (bytes : List ℕ) (r : Result (List ℕ) BadName) → r ≡ name_of bytes → option_map word (result_ok r) ≡ word_at bytes
+name_found bytes r e =
+    ap (λ q. option_map word (result_ok q)) e
+    ∙ elim (is_name bytes) as (λ v. option_map word (result_ok (cond v (Ok bytes) (Err bad_name))) ≡ cond v (Some (word bytes)) None) [ true ↦ refl | false ↦ refl ]
 
 -- a slice from an index is what is left there
 pub rest_is : (k : ℕ) (xs : List ℕ) → take (length xs - k) (drop k xs) ≡ drop k xs

@@ -1,17 +1,11 @@
 -- The dependency of two sides.
-use Rattle.std.proofs.Common.{◌≡◌, ℕ, Bool, true, false, cond, List, [], ◌∷◌, length, refl, sym, ap, ◌∙◌, arith}
-use Rattle.std.specs.Prelude.{◌||◌, nat_eq, not, Result, Ok, Err}
-use Rattle.std.specs.List.{list_any}
-use Rattle.std.specs.Ordering.{eq_by_cmp, is_eq}
-use Rattle.std.proofs.lemmas.Bool.Decides.{nat_tests}
-use Rattle.std.specs.Cmp.{tied_itself}
-use Rattle.std.specs.Cmp.Lexicographic.{nat_list_cmp_total}
-use Rattle.plain_values.specs.Order.{bytes_cmp}
+use Rattle.std.proofs.Common.{◌≡◌, ℕ, Bool, true, false, cond, List, [], ◌∷◌, length, refl, sym, ap, ◌∙◌, arith, ◌||◌, nat_eq, not, Result, Ok, Err}
+use Rattle.plain_values.proofs.Common.{list_any, eq_by_cmp, is_eq, nat_tests, tied_itself, nat_list_cmp_total, bytes_cmp}
 use Rattle.plain_values.specs.SortedSet as set
 use Rattle.lens_specs.specs.Common.{Name, Names, Edge, edge}
 use Rattle.fd_closure.specs.declared.dep.EmptySide.{EmptySide}
 use Rattle.fd_closure.specs.Sides.{dep_of, empty_side}
-use Rattle.grammar_specs.specs.Written.{is_some_list}
+use Rattle.grammar_specs.specs.Common.{is_some_list}
 
 abbrev names_set : List (List ℕ) → Names
 names_set names = set.from_list names

@@ -1,13 +1,8 @@
 -- The tokens of several members, one after another.
-use Rattle.std.proofs.Common.{◌≡◌, ◌∙◌, ◌<◌, ◌≤◌, ◌+◌, ℕ, eqb, false, List, [], ◌∷◌, ◌++◌, map, take, length, length-take, get_or, refl, ap, sym, append_assoc, append-nil, arith}
-use Rattle.std.specs.Prelude.{codes, flat_map}
-use Rattle.std.proofs.lemmas.Bool.{true≢false}
-use Rattle.std.proofs.lemmas.List.{take_more, map_push}
-use Rattle.std.proofs.lemmas.List.Concat.{flat_map-append}
+use Rattle.std.proofs.Common.{◌≡◌, ◌∙◌, ◌<◌, ◌≤◌, ◌+◌, ℕ, eqb, false, List, [], ◌∷◌, ◌++◌, map, take, length, length-take, get_or, refl, ap, sym, append_assoc, append-nil, arith, codes, flat_map}
+use Rattle.plain_values.proofs.Common.{true≢false, take_more, map_push, flat_map-append}
 use Rattle.lens_specs.specs.Common.{Edge, Formula, Predicate}
-use Rattle.grammar_specs.specs.Tokens.{Token, word, comma}
-use Rattle.grammar_specs.specs.Written.{All, only, joined, Pred, alone, either, part_tokens, all_tokens, pred_tokens, dep_tokens, deps_tokens}
-use Rattle.grammar_specs.specs.Printing.{part_of, all_parts, more_parts, all_of_formula, any_alls, more_alls, joined_parts, predicate_written, dep_written}
+use Rattle.grammar_specs.specs.Common.{Token, word, comma, All, only, joined, Pred, alone, either, part_tokens, all_tokens, pred_tokens, dep_tokens, deps_tokens, part_of, all_parts, more_parts, all_of_formula, any_alls, more_alls, joined_parts, predicate_written, dep_written}
 use Rattle.lens_pred.specs.View.{formula_view, list_view, predicate_view}
 use Rattle.lens_pred.specs.declared.formula.Formula.{Formula as Declared}
 use Rattle.view_lang.specs.PrintAdds.{before_item}

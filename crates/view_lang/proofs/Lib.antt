@@ -10,7 +10,6 @@ pub mod DistinctColumns
 pub mod Normals
 pub mod NormalMeaning
 pub mod Small
-pub mod Answered
 pub mod AnswerOf
 pub mod Joined
 pub mod Operands

@@ -1,8 +1,8 @@
 -- The members of a formula, where it is joined or stands alone.
 use Rattle.std.proofs.Common.{◌≡◌, ℕ, suc, ◌+◌, ◌-◌, ◌<◌, arith, false, List, [], ◌∷◌, ◌++◌, refl, sym, ap, ◌∙◌}
-use Rattle.std.proofs.lemmas.List.{map-append}
-use Rattle.lens_specs.specs.Predicate.{Formula, truth, falsity, compare, compare_columns, one_of, null_at, negation, all_of, any_of, Formulas}
-use Rattle.grammar_specs.specs.Meaning.{conjuncts, disjuncts, list_of}
+use Rattle.plain_values.proofs.Common.{map-append}
+use Rattle.lens_specs.specs.Common.{Formula, truth, falsity, compare, compare_columns, one_of, null_at, negation, all_of, any_of, Formulas}
+use Rattle.grammar_specs.specs.Common.{conjuncts, disjuncts, list_of}
 use Rattle.lens_pred.specs.NormalForm.{is_all_of, is_any_of}
 use Rattle.lens_pred.specs.View.{formula_view, list_view, predicate_view}
 use Rattle.lens_pred.specs.declared.formula.Formula as code

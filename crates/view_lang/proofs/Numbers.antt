@@ -1,14 +1,8 @@
 -- What std's `parse` makes of an integer of the language.
-use Rattle.std.proofs.Common.{◌≡◌, ℕ, ◌<◌, ◌≤◌, ◌^◌, suc, zero, true, false, cond, List, [], ◌∷◌, length, IsTrue, refl, ap, ◌∙◌, arith, rules, pos, neg_ℤ, ℤ, lt-ltb, ltb-true, le-leb, leb-true}
-use Rattle.std.specs.Prelude.{◌≢◌, ◌&&◌, ◌||◌, ◌==◌, nat_le, nat_lt, Option, Some, None, Result, Ok, Err, option_map}
-use Rattle.std.specs.List.{list_all}
-use Rattle.std.specs.Result.{OkIff, result_ok}
-use Rattle.std.specs.Str.Parse.{ParsesSigned}
-use Rattle.std.proofs.lemmas.Str.Parse.{IsNumeralModel, numerals_by_fold, parse_signed_plain, parse_signed_minus}
-use Rattle.std.proofs.lemmas.Bool.Decides.{nat_tests}
-use Rattle.plain_values.proofs.Tests.{first_holds, second_holds}
+use Rattle.std.proofs.Common.{◌≡◌, ℕ, ◌<◌, ◌≤◌, ◌^◌, suc, zero, true, false, cond, List, [], ◌∷◌, length, IsTrue, refl, ap, ◌∙◌, arith, rules, pos, neg_ℤ, ℤ, lt-ltb, ltb-true, le-leb, leb-true, ◌≢◌, ◌&&◌, ◌||◌, ◌==◌, nat_le, nat_lt, Option, Some, None, Result, Ok, Err, option_map}
+use Rattle.plain_values.proofs.Common.{list_all, OkIff, result_ok, ParsesSigned, IsNumeralModel, numerals_by_fold, parse_signed_plain, parse_signed_minus, nat_tests, first_holds, second_holds}
 use mir.Syntax.{w64}
-use Rattle.grammar_specs.specs.Tokens.{Token, integer, is_digit, digits_value, minus}
+use Rattle.grammar_specs.specs.Common.{Token, integer, is_digit, digits_value, minus}
 use Rattle.grammar_laws.specs.Front.{positive_of, negative_of}
 use Rattle.view_lang.specs.TokenViews.{integer_at, is_integer_text}
 use Rattle.view_lang.proofs.Fronts.{only_minus}

@@ -1,10 +1,8 @@
 -- The operands that stand in parentheses.
 use Rattle.std.proofs.Common.{◌≡◌, ◌∷◌, ◌++◌, [], refl, sym, subst, rules}
-use Rattle.lens_specs.specs.Names.{Name}
+use Rattle.lens_specs.specs.Common.{Name}
 use Rattle.grammar_specs.specs.Meaning as meaning
-use Rattle.grammar_specs.specs.Tokens.{open_paren, close_paren}
-use Rattle.grammar_specs.specs.Printing.{operand_of, expr_written}
-use Rattle.grammar_specs.specs.Written.{operand_tokens, expr_tokens}
+use Rattle.grammar_specs.specs.Common.{open_paren, close_paren, operand_of, expr_written, operand_tokens, expr_tokens}
 use Rattle.view_lang.specs.ExprViews.{expr_view}
 use Rattle.view_lang.specs.declared.expr.Expr.{Expr, Named, Select', Drop', Rename', Join', the_lemmas}
 use Rattle.view_lang.specs.declared.expr.Expr.TheVariants.{outs-Select', outs-Drop', outs-Rename', outs-Join'}

@@ -1,10 +1,7 @@
 -- The answer of a text, from what its definition gives.
-use Rattle.std.proofs.Common.{◌≡◌, ℕ, List, length, refl, sym, ap, subst, ◌∙◌}
-use Rattle.std.specs.Prelude.{Option, Some, None, unwrap_or, Result, Ok, Err}
-use Rattle.grammar_specs.specs.Texts.{Placed}
-use Rattle.grammar_specs.specs.Written.{Written}
+use Rattle.std.proofs.Common.{◌≡◌, ℕ, List, length, refl, sym, ap, subst, ◌∙◌, Option, Some, None, unwrap_or, Result, Ok, Err}
+use Rattle.grammar_specs.specs.Common.{Placed, Written, Fault, syntax_at, too_large, nested}
 use Rattle.grammar_specs.specs.Meaning as meaning
-use Rattle.grammar_specs.specs.Faults.{Fault, syntax_at, too_large, nested}
 use Rattle.grammar_laws.specs.Steps.{Outcome, read, stopped, too_deep}
 use Rattle.grammar_laws.specs.DefRules.{alone}
 use Rattle.grammar_laws.specs.Reading.{Cut, cut, limited, answer, next_offset, reading_within}

@@ -1,8 +1,6 @@
 -- The text of a printer, one part after another.
-use Rattle.std.proofs.Common.{◌≡◌, ◌∙◌, Bool, true, false, List, [], ◌∷◌, ◌++◌, refl, ap, sym, subst, cond, append_assoc, append-nil}
-use Rattle.std.specs.Prelude.{string_bytes}
-use Rattle.grammar_specs.specs.Tokens.{Token}
-use Rattle.grammar_specs.specs.Printing.{token_bytes, opens, closes, gap, spaced}
+use Rattle.std.proofs.Common.{◌≡◌, ◌∙◌, Bool, true, false, List, [], ◌∷◌, ◌++◌, refl, ap, sym, subst, cond, append_assoc, append-nil, string_bytes}
+use Rattle.grammar_specs.specs.Common.{Token, token_bytes, opens, closes, gap, spaced}
 use Rattle.view_lang.specs.declared.printing.printer.Printer.{Printer}
 use Rattle.view_lang.specs.PrintAdds.{blank, before, bytes_after, glued_after, Adds}
 
@@ -31,7 +29,7 @@ follow {a = a} {b = b} {xs = xs} {ys = ys} first second = record {
   next = second.next ∙ ap (λ glued. glued_after glued ys) first.next ∙ sym (glued-append a.glued xs ys);
 }
 
--- the same tokens
+-- what adds the tokens of one list adds those of an equal list
 pub adds_same : {a b : Printer} {xs : List Token} (ys : List Token) → xs ≡ ys → Adds a b xs → Adds a b ys
 adds_same {a = a} {b = b} ys e adds = subst (Adds a b) e adds
 

@@ -1,8 +1,7 @@
 -- The text that begins with a quote, in front of what is left.
-use Rattle.std.proofs.Common.{◌≡◌, ℕ, suc, ◌+◌, ◌-◌, ◌<◌, ◌≤◌, List, ◌∷◌, ◌++◌, length, drop, get_or, sym, ap, subst, ◌∙◌, arith, length-append, length-drop, MatchOption}
-use Rattle.std.specs.Prelude.{Option, Some, None}
-use Rattle.std.proofs.Math.Seq.{drop-cons}
-use Rattle.grammar_specs.specs.Tokens.{Token}
+use Rattle.std.proofs.Common.{◌≡◌, ℕ, suc, ◌+◌, ◌-◌, ◌<◌, ◌≤◌, List, ◌∷◌, ◌++◌, length, drop, get_or, sym, ap, subst, ◌∙◌, arith, length-append, length-drop, MatchOption, Option, Some, None}
+use Rattle.plain_values.proofs.Common.{drop-cons}
+use Rattle.grammar_specs.specs.Common.{Token}
 use Rattle.grammar_laws.specs.Front.{text_at, token_in_front}
 use Rattle.grammar_laws.proofs.FrontTokens.{spelled_some, drop_front}
 use Rattle.grammar_laws.proofs.Longest.{Stands, token_stands}

@@ -1,8 +1,8 @@
 -- A text with its quotes doubled, character by character.
 use Rattle.std.proofs.Common.{◌≡◌, ◌≢◌, ◌∙◌, ◌<◌, ℕ, suc, List, [], ◌∷◌, ◌++◌, cond, length, get_or, refl, ap, sym, append_assoc, append-nil, arith}
-use Rattle.std.proofs.lemmas.Bool.{ne_eqb}
+use Rattle.plain_values.proofs.Common.{ne_eqb}
 use Rattle.std.proofs.lemmas.Str.{inside_one}
-use Rattle.grammar_specs.specs.Tokens.{quotes_doubled}
+use Rattle.grammar_specs.specs.Common.{quotes_doubled}
 use lib.Utf8.{encode}
 
 -- bytes with no quote among them stay

@@ -1,17 +1,12 @@
 -- One turn of each loop of the rules.
-use Rattle.std.proofs.Common.{◌≡◌, ℕ, ◌<◌, Bool, List, [], ◌∷◌, ◌++◌, length, refl, sym, ap, subst, ◌∙◌, arith, false, true, cond}
-use Rattle.std.specs.Prelude.{codes, Option, Some, None, IsSome, option_map, option_and_then, Result, Ok, Err, IsErrAnd}
-use Rattle.std.specs.Bool.{then_some}
+use Rattle.std.proofs.Common.{◌≡◌, ℕ, ◌<◌, Bool, List, [], ◌∷◌, ◌++◌, length, refl, sym, ap, subst, ◌∙◌, arith, false, true, cond, codes, Option, Some, None, IsSome, option_map, option_and_then, Result, Ok, Err, IsErrAnd}
+use Rattle.plain_values.proofs.Common.{then_some, same_Some}
 use Rattle.plain_values.specs.declared.value.Value.{Value}
-use Rattle.grammar_specs.specs.Tokens.{Token}
-use Rattle.grammar_specs.specs.Texts.{Placed}
-use Rattle.grammar_specs.specs.Written.{All, joined, Pred, either}
+use Rattle.grammar_specs.specs.Common.{Token, Placed, All, joined, Pred, either, Dep, is_column_of}
 use Rattle.grammar_laws.specs.Tests.{is_keyword, is_comma, literal_in}
-use Rattle.grammar_laws.specs.Steps.{Outcome, read, stopped, too_deep, next, behind, taken, picked, and_then, choose, need, passing}
+use Rattle.grammar_laws.specs.Steps.{Outcome, read, stopped, too_deep, next, behind, taken, and_then, choose, need, passing}
 use Rattle.grammar_laws.specs.PredRules.{more_values, more_parts, all_of, more_alls, part}
 use Rattle.lens_specs.specs.Common.{Name}
-use Rattle.grammar_specs.specs.Written.{Dep, is_column_of}
-use Rattle.std.proofs.lemmas.Option.{same_Some}
 use Rattle.view_lang.specs.declared.parsing.reader.Halt.{Halt}
 use Rattle.view_lang.specs.declared.parsing.reader.Halt.TheVariants.{Stopped, TooDeep, NoMemory}
 use Rattle.grammar_laws.specs.Tests.{free_in}
@@ -84,7 +79,7 @@ then_err Is Js too_deep k Stopped left h = h
 then_err Is Js too_deep k TooDeep left h = h
 then_err Is Js too_deep k NoMemory left h = tt
 
--- the same for an answer that is that fault
+-- where the first rule does not read, both end with the fault that the answer has
 pub stops : {A B C D : Type 0} (Is : A → B → Type 0) (Js : C → D → Type 0) (o : Outcome A) (k : A → Placed → Outcome C) (why : Halt) (left : Placed) (r : Result D Halt)
     → Gives Is o (Err why) left → IsErrAnd r (λ e. e ≡ why) → Gives Js (and_then o k) r left
 stops Is Js o k why left (Ok d) h is = absurd is
@@ -119,10 +114,3 @@ more_follow a (p ∷ ps) t e = refl
 pub none_follow : {A : Type 0} (a : A) (ps : Placed) → None ≡ next ps → at_last a ps ≡ read a ps
 none_follow a [] e = refl
 none_follow a (p ∷ ps) e = cc
-
--- a token that was taken, or not
-pub picked_some : {A B : Type 0} (f : Token → Option A) (k : A → Placed → Outcome B) (e : Placed → Outcome B) (ps : Placed) (a : A) (rest : Placed) → Some (a, rest) ≡ taken f ps → choose f k e ps ≡ k a rest
-picked_some f k e ps a rest h = ap (λ o. picked o k e ps) (sym h)
-
-pub picked_none : {A B : Type 0} (f : Token → Option A) (k : A → Placed → Outcome B) (e : Placed → Outcome B) (ps : Placed) → None ≡ taken f ps → choose f k e ps ≡ e ps
-picked_none f k e ps h = ap (λ o. picked o k e ps) (sym h)

@@ -6,7 +6,7 @@ use Rattle.grammar_specs.specs.Tokens.{Token}
 use Rattle.grammar_specs.specs.Texts.{Placed}
 use Rattle.grammar_laws.specs.Steps.{Outcome, read, stopped, too_deep, taken}
 use Rattle.view_lang.specs.declared.parsing.reader.Reader as code
-use Rattle.view_lang.specs.declared.parsing.reader.Placed as code_placed
+use Rattle.view_lang.specs.declared.parsing.token.Token as code_token
 use Rattle.view_lang.specs.declared.parsing.reader.Halt.{Halt}
 use Rattle.view_lang.specs.declared.parsing.reader.Halt.TheVariants.{Stopped, TooDeep, NoMemory}
 use Rattle.view_lang.specs.TokenViews.{token_view}
@@ -25,8 +25,8 @@ use Rattle.view_lang.specs.DefViews.{definition_view}
 use Rattle.grammar_laws.specs.DefRules as rules
 
 -- the tokens with their offsets
-abbrev pub placed_view : List code_placed.Placed → Placed
-placed_view ps = map (λ p. (p.at, token_view p.token)) ps
+abbrev pub placed_view : List (ℕ × code_token.Token) → Placed
+placed_view ps = map (λ p. (p.0, token_view p.1)) ps
 
 -- the tokens that are still to be read
 abbrev pub reader_view : code.Reader → Placed
@@ -38,7 +38,7 @@ Takes f old new found =
     (option_map (λ a. (a, reader_view new)) found ≡ taken f (reader_view old)) × (found ≡ None → new ≡ old)
     × (IsSome found → length (reader_view new) < length (reader_view old))
 
--- the same, or the rule stops there
+-- What was taken is what the test finds in the next token; or the rule stops before this token.
 abbrev pub Needs : {A : Type 0} → (Token → Option A) → code.Reader → code.Reader → Result A Halt → Type 0
 Needs f old new result = Takes f old new (result_ok result) × IfErr result (λ why. why ≡ Stopped)
 

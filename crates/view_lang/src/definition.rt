@@ -30,14 +30,12 @@ impl Model for Deps {
 }
 
 impl Deps {
-    /// These dependencies.
     pub fn new(list: Vec<Dep>) -> Deps
         ensures { result ≡ list.items }
     {
         Deps { list }
     }
 
-    /// The dependencies in their order.
     pub fn as_slice(&self) -> &[Dep]
         ensures { result.now ≡ self.now }
     {
@@ -48,22 +46,16 @@ impl Deps {
 /// What a text defines.
 #[derive(Debug, Drop)]
 pub enum Definition {
-    /// A table.
+    /// A table. Its dependencies are in the order of the text.
     Table {
-        /// The name of the table.
         name: Name,
-        /// Its columns.
         cols: Columns,
-        /// Its dependencies, in the order of the text.
         deps: Deps,
-        /// Its predicate.
         pred: Pred,
     },
-    /// A view.
+    /// A view, which shows the rows of an expression.
     View {
-        /// The name of the view.
         name: Name,
-        /// The expression of its rows.
         expr: Expr,
     },
 }
@@ -77,13 +69,11 @@ pub enum LangFault {
         /// Where the first wrong token begins, or the length of the text where it ends too early.
         at: usize,
     },
-    /// Something is too large.
+    /// This is too large.
     #[error("{}", .what.sentence())]
     TooLarge {
-        /// What it is.
         what: Limit,
     },
-    /// Memory ran out.
     #[error("memory ran out")]
     NoMemory,
 }

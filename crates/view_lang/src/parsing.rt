@@ -2,7 +2,7 @@
 ghost use Rattle.std.specs.Prelude.{◌≡◌, ◌<◌, ◌≤◌, ◌+◌, ◌^◌, length, drop, IfOk};
 ghost use Rattle.std.specs.List.{prefix_len};
 ghost use Rattle.grammar_specs.specs.Tokens as language;
-ghost use Rattle.grammar_laws.specs.Reading.{reading, reading_within, cut as cut_of};
+ghost use Rattle.grammar_laws.specs.Reading.{reading, cut as cut_of};
 ghost use Rattle.view_lang.specs.Outcomes.{placed_view};
 ghost use Rattle.view_lang.specs.Reads.{IsAnswerOf, Reads};
 
@@ -19,7 +19,8 @@ mod token;
 use crate::definition::{Definition, LangFault};
 use crate::parsing::lexer::{blank_len, token_at};
 use crate::parsing::limits::limited;
-use crate::parsing::reader::{Halt, Placed, Reader};
+use crate::parsing::reader::{Halt, Reader};
+use crate::parsing::token::Token;
 use lens_values::{NoMemory, Text};
 use std::alloc::Global;
 use std::collections::VecDeque;
@@ -27,14 +28,6 @@ use view_limits::Limit;
 
 /// The most parentheses and "not"s that may be open at once.
 const MAX_NESTING: usize = 32;
-
-/// The tokens of a text up to its end, or up to something that is no token.
-#[derive(Drop)]
-struct Cut {
-    tokens: VecDeque<Placed>,
-    /// The offset of what is no token.
-    wrong: Option<usize>,
-}
 
 /// Skips whitespace from this offset on.
 fn behind_blanks(text: &str, at: usize) -> usize
@@ -44,32 +37,31 @@ fn behind_blanks(text: &str, at: usize) -> usize
     at + blank_len(&text.as_bytes()[at..])
 }
 
-/// Cuts a text into tokens.
-fn tokens_of(alloc: Global, text: &str) -> Result<Cut, NoMemory>
-    ensures { IfOk result (λ cut. (placed_view cut.tokens.items, cut.wrong) ≡ cut_of text.now) }
+/// Cuts a text into tokens with their offsets, up to its end or to the offset of what is no token.
+fn tokens_of(
+    alloc: Global,
+    text: &str,
+) -> Result<(VecDeque<(usize, Token)>, Option<usize>), NoMemory>
+    ensures { IfOk result (λ cut. (placed_view cut.0.items, cut.1) ≡ cut_of text.now) }
 {
     let mut tokens = VecDeque::new(alloc);
     let mut at = behind_blanks(text, 0);
     while at < text.len() {
         let Some((token, len)) = token_at(alloc, text, at)? else {
-            let wrong = Some(at);
-            return Ok(Cut { tokens, wrong });
+            return Ok((tokens, Some(at)));
         };
-        tokens.push_back(Placed { at, token })?;
+        tokens.push_back((at, token))?;
         at = behind_blanks(text, at + len);
     }
-    let wrong = None;
-    Ok(Cut { tokens, wrong })
+    Ok((tokens, None))
 }
 
-/// Reads a definition from a string, within which so many parentheses and "not"s may be opened.
-fn read(alloc: Global, text: &str, left: usize) -> Result<Definition, LangFault>
-    requires { left ≤ 32 }
-    ensures reads { Reads result (reading_within left text.now) }
+fn read(alloc: Global, text: &str) -> Result<Definition, LangFault>
+    ensures { Reads result (reading text.now) }
 {
-    let Cut { tokens, wrong } = tokens_of(alloc, text)?;
+    let (tokens, wrong) = tokens_of(alloc, text)?;
     let mut reader = Reader { tokens };
-    match reader.definition_alone(alloc, left) {
+    match reader.definition_alone(alloc, MAX_NESTING) {
         Ok(definition) => match wrong {
             Some(at) => Err(LangFault::Syntax { at }),
             None => limited(definition),
@@ -78,10 +70,9 @@ fn read(alloc: Global, text: &str, left: usize) -> Result<Definition, LangFault>
             let at = reader.offset_or(wrong.unwrap_or(text.len()));
             Err(LangFault::Syntax { at })
         }
-        Err(Halt::TooDeep) => {
-            let what = Limit::Nesting;
-            Err(LangFault::TooLarge { what })
-        }
+        Err(Halt::TooDeep) => Err(LangFault::TooLarge {
+            what: Limit::Nesting,
+        }),
         Err(Halt::NoMemory) => Err(LangFault::NoMemory),
     }
 }
@@ -91,11 +82,11 @@ fn read(alloc: Global, text: &str, left: usize) -> Result<Definition, LangFault>
 /// `Predicate`; or `NoMemory`.
 pub fn parse(alloc: Global, text: &Text) -> Result<Definition, LangFault>
     ensures reads { Reads result (reading text.now) }
-    // The same in the words of the grammar.
+    // What the grammar has for the text.
     ensures answers { IsAnswerOf text.now result }
 
     // A text that is in memory has fewer bytes than there are addresses.
     ensures short { length text.now < 2 ^ 64 }
 {
-    read(alloc, text.as_str(), MAX_NESTING)
+    read(alloc, text.as_str())
 }

@@ -179,7 +179,6 @@ fn print_operand(out: &mut Printer, expr: &Expr) -> Result<(), NoMemory>
     }
 }
 
-// Names one after another.
 fn print_names(out: &mut Printer, names: &[Name]) -> Result<(), NoMemory>
     ensures { OnOk result (Adds out.old out.new (map word names.now)) }
 {

@@ -7,7 +7,6 @@ ghost use Rattle.lens_pred.specs.Op.{op_view};
 use lens_pred::Op;
 use lens_values::{JoinKind, Kind};
 
-/// The word of a truth value.
 pub fn flag_word(flag: bool) -> &'static str
     ensures { result.now ≡ (if flag then codes "true" else codes "false") }
 {
@@ -25,7 +24,6 @@ pub fn kind_word(kind: Kind) -> &'static str
     }
 }
 
-/// The word of a join.
 pub fn join_word(kind: JoinKind) -> &'static str
     ensures { result.now ≡ written.join_word kind }
 {
@@ -36,7 +34,6 @@ pub fn join_word(kind: JoinKind) -> &'static str
     }
 }
 
-/// The sign of an operator.
 pub fn operator_sign(op: Op) -> &'static str
     ensures { result.now ≡ op_bytes (op_view op) }
 {

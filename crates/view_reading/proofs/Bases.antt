@@ -1,6 +1,5 @@
 -- The table of a lens that is a table.
-use Rattle.std.proofs.Common.{◌≡◌, ◌∙◌, ap, refl}
-use Rattle.std.specs.Prelude.{None, Option, Some, unwrap_or}
+use Rattle.std.proofs.Common.{◌≡◌, ◌∙◌, ap, refl, None, Option, Some, unwrap_or}
 use Rattle.std.specs.FinMap as finmap
 use Rattle.lens_specs.specs.Common.{Lens, Tables, base, get, rows_or_none, Name, Relation, Sort}
 use Rattle.base_index.specs.Held.{no_relation, relation_in}

@@ -1,34 +1,18 @@
 -- A row whose pairs are all among those of another is the other's part in its columns.
-use Rattle.std.proofs.Common.{◌≡◌, ◌∙◌, ◌&&◌, ◌∷◌, ◌+◌, ◌<◌, ◌⊎◌, Bool, List, [], Some, T, ap, arith, cond, get_or, length, take, ℕ, inl, inr, refl, subst, sym, true, false}
-use Rattle.std.specs.Prelude.{None, Option, is_some, nat_eq}
-use Rattle.std.specs.List.{Contains}
-use Rattle.std.specs.Ordering.{eq_by_cmp, is_eq, is_lt}
-use Rattle.std.specs.Cmp.{eq_by_cmp_equiv}
-use Rattle.std.specs.Cmp.Lexicographic.{pointwise, same_text}
-use Rattle.std.specs.declared.cmp.Ordering.{Ordering}
-use Rattle.std.specs.declared.cmp.Ordering.TheVariants.{Less, Equal, Greater}
+use Rattle.std.proofs.Common.{◌≡◌, ◌∙◌, ◌&&◌, ◌∷◌, ◌+◌, ◌<◌, ◌⊎◌, Bool, List, [], Some, T, ap, arith, cond, get_or, length, take, ℕ, inl, inr, refl, subst, sym, true, false, None, Option, is_some, nat_eq}
+use Rattle.plain_values.proofs.Common.{Contains, eq_by_cmp, is_eq, is_lt, eq_by_cmp_equiv, pointwise, same_text, Ordering, Less, Equal, Greater, true≢false, take_more, Contains-append_cases, Contains-append_left, Contains-append_right, Contains-get_or, list_any-from_Contains, bytes_cmp, restrict, value_cmp, value_cmp-IsAntisymmetric, Row, same_is}
 use Rattle.std.specs.FinMap as map
 use Rattle.std.specs.FinMap.{find}
 use Rattle.std.specs.FinMap.Entries.{below_all, is_sorted}
-use Rattle.std.proofs.lemmas.Bool.{true≢false}
-use Rattle.std.proofs.lemmas.List.{take_more}
-use Rattle.std.proofs.lemmas.List.Elements.{Contains-append_cases, Contains-append_left, Contains-append_right, Contains-get_or, Contains-push, Contains-push_cases}
-use Rattle.std.proofs.lemmas.Map.Views.{list_any-from_Contains}
-use Rattle.plain_values.specs.Order.{bytes_cmp}
+use Rattle.std.proofs.lemmas.List.Elements.{Contains-push, Contains-push_cases}
 use Rattle.plain_values.specs.Names.{same_names}
-use Rattle.plain_values.specs.Part.{restrict}
 use Rattle.plain_values.specs.SortedSet as set
-use Rattle.plain_values.specs.Value.{value_cmp}
-use Rattle.plain_values.specs.ValueOrder.{value_cmp-IsAntisymmetric}
-use Rattle.plain_values.specs.Row.{Row}
 use Rattle.plain_values.specs.declared.value.Value.{Value}
 use Rattle.lens_values.proofs.Cells.{own_names}
-use Rattle.plain_values.proofs.NamesLemmas.{same_is}
 use Rattle.lens_specs.specs.Common.{Columns, names, Name, Names, Rows, at, cut}
 use Rattle.fd_laws.proofs.Common.{name_itself, tied_name, at-cut, row_total, same_row}
 use Rattle.fd_laws.proofs.Rows.{no_value}
-use Rattle.lens_laws.specs.Finds.{AllFit, IsOver}
-use Rattle.lens_laws.proofs.NodeFinds.{fits_is_over}
+use Rattle.lens_laws.proofs.Common.{AllFit, IsOver, fits_is_over}
 use Rattle.view_reading.specs.KnownRows.{AreAmong, AreOver}
 
 -- the rows of a set that all fit have its columns

@@ -1,24 +1,13 @@
 -- Lists whose rows, taken as a set, are those that a lens shows.
-use Rattle.std.proofs.Common.{◌≡◌, ◌∙◌, ◌∷◌, Bool, List, [], ap, cond, filter, map, refl, subst, sym, true}
-use Rattle.std.specs.Prelude.{◌&&◌, ◌||◌, None}
-use Rattle.std.specs.List.{list_any}
-use Rattle.std.specs.Ordering.{eq_by_cmp}
-use Rattle.plain_values.specs.Part.{restrict}
-use Rattle.plain_values.specs.Row.{row_cmp, Row}
+use Rattle.std.proofs.Common.{◌≡◌, ◌∙◌, ◌∷◌, Bool, List, [], ap, cond, filter, map, refl, subst, sym, true, ◌&&◌, ◌||◌, None}
+use Rattle.plain_values.proofs.Common.{list_any, eq_by_cmp, restrict, row_cmp, Row, from_map, in_map}
 use Rattle.plain_values.specs.SortedSet as set
 use Rattle.plain_values.specs.declared.value.Value.{Value}
 use Rattle.plain_values.specs.declared.join_kind.JoinKind.{JoinKind}
-use Rattle.lens_specs.specs.Common.{Lens, Tables, drop, get, select, sort_of, view_names, Name, Names, one, drop_get, join_get, select_get, Predicate, holds, mentioned, Rows, has, project, those, cut}
-use Rattle.lens_specs.specs.Lens.{join}
-use Rattle.fd_laws.proofs.Common.{names-without, from_rest, from_project, from_those, in_project, in_those, same_rel, agree-cut, row_exact, row_itself, row_total, tied_row}
-use Rattle.plain_values.proofs.Lists.{from_map, in_map}
-use Rattle.fd_laws.proofs.Names.{subset_is}
-use Rattle.lens_laws.specs.Finds.{IsOver}
-use Rattle.lens_laws.specs.Lenses.{AreOf, IsTyped}
-use Rattle.lens_laws.specs.Passes.{PredWithin}
-use Rattle.lens_laws.proofs.Lenses.{get_sort}
-use Rattle.lens_laws.proofs.NodeFinds.{fits_is_over}
-use Rattle.lens_laws.proofs.Predicates.{mentioned_is, sees_from}
+use Rattle.lens_specs.specs.Common.{Lens, Tables, drop, get, select, sort_of, view_names, Name, Names, one, drop_get, join_get, select_get, Predicate, holds, mentioned, Rows, has, project, those, cut, join}
+use Rattle.fd_laws.proofs.Common.{names-without, from_rest, from_project, from_those, in_project, in_those, same_rel, agree-cut, row_exact, row_itself, row_total, tied_row, subset_is}
+use Rattle.lens_laws.proofs.Common.{IsOver, AreOf, IsTyped, PredWithin, get_sort, fits_is_over, mentioned_is}
+use Rattle.lens_laws.proofs.Predicates.{sees_from}
 use Rattle.row_sets.specs.Joins.{pairs_on}
 use Rattle.row_sets.proofs.Natural.{natural_is}
 use Rattle.view_reading.specs.Reading.{rows_for}

@@ -1,16 +1,11 @@
 -- The rows that a lens shows have its columns.
 use Rattle.std.proofs.Common.{◌≡◌, ◌∙◌, ap, subst, sym, true}
 use Rattle.std.specs.FinMap as map
-use Rattle.plain_values.specs.Order.{bytes_cmp}
-use Rattle.plain_values.specs.Row.{Row}
-use Rattle.plain_values.specs.SortedMap.{keys_rise}
+use Rattle.plain_values.proofs.Common.{bytes_cmp, Row, keys_rise}
 use Rattle.plain_values.specs.SortedSet as set
 use Rattle.lens_specs.specs.Common.{Lens, Tables, get, sort_of, view_names, Names, Predicate, holds, mentioned, Rows, has}
 use Rattle.fd_laws.proofs.Common.{name_exact, name_total}
-use Rattle.lens_laws.specs.Finds.{IsOver}
-use Rattle.lens_laws.specs.Lenses.{AreOf, IsTyped}
-use Rattle.lens_laws.proofs.Lenses.{get_sort}
-use Rattle.lens_laws.proofs.NodeFinds.{fits_is_over}
+use Rattle.lens_laws.proofs.Common.{IsOver, AreOf, IsTyped, get_sort, fits_is_over}
 use Rattle.view_reading.specs.Pasting.{AreNamed, HasNames}
 use Rattle.view_reading.specs.Reading.{rows_for}
 use Rattle.view_reading.proofs.Sides.{was_there}

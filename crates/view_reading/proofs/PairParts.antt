@@ -1,26 +1,9 @@
 -- Parts of pairs of rows that are made by places.
-use Rattle.std.proofs.Common.{◌≡◌, ◌∙◌, ◌∷◌, ◌++◌, ◌<◌, Bool, List, [], ap, cond, get_or, length, map as map_list, refl, subst, sym, take, true, false}
-use Rattle.std.specs.Prelude.{◌==◌, ◌||◌, ◌&&◌, ℕ, ◌+◌, None, Option, Some, flat_map, is_some, option_map}
-use Rattle.std.specs.Cmp.{IsTotalOrder, eq_by_cmp_equiv, on_total, then_total, tied_itself}
-use Rattle.std.specs.FinMap.{IsAntisymmetric}
-use Rattle.std.specs.List.{AllByRecursion, Contains, cons_option, filter_map, list_all, list_any, position_from, slice_get}
+use Rattle.std.proofs.Common.{◌≡◌, ◌∙◌, ◌∷◌, ◌++◌, ◌<◌, Bool, List, [], ap, cond, get_or, length, map as map_list, refl, subst, sym, take, true, false, ◌==◌, ◌||◌, ◌&&◌, ℕ, ◌+◌, None, Option, Some, flat_map, is_some, option_map}
+use Rattle.plain_values.proofs.Common.{IsTotalOrder, eq_by_cmp_equiv, on_total, then_total, tied_itself, IsAntisymmetric, AllByRecursion, Contains, cons_option, filter_map, list_all, list_any, position_from, slice_get, eq_by_cmp, is_eq, eqb-true, position_from-zero, get_or_default, Contains-get_or, list_any-from_Contains, Names, bytes_cmp, override, restrict, Row, agree, row_cmp, values_of, same_value, from_map, is_tie, then_equal}
 use Rattle.std.specs.FinMap as map
-use Rattle.std.specs.Ordering.{eq_by_cmp, is_eq}
-use Rattle.std.proofs.lemmas.Bool.{eqb-true}
-use Rattle.std.proofs.lemmas.Iterator.Adapters.{position_from-zero}
-use Rattle.std.proofs.lemmas.List.{get_or_default}
-use Rattle.std.proofs.lemmas.List.Elements.{Contains-get_or}
-use Rattle.std.proofs.lemmas.Map.Views.{list_any-from_Contains}
-use Rattle.plain_values.specs.Names.{Names}
-use Rattle.plain_values.specs.Order.{bytes_cmp}
-use Rattle.plain_values.specs.Part.{override, restrict}
-use Rattle.plain_values.specs.Row.{Row, agree, row_cmp}
-use Rattle.plain_values.specs.SortedMap.{values_of}
 use Rattle.plain_values.specs.SortedSet as set
-use Rattle.plain_values.specs.Value.{same_value}
 use Rattle.plain_values.specs.declared.value.Value.{Value}
-use Rattle.plain_values.proofs.Lists.{from_map}
-use Rattle.plain_values.proofs.Tests.{is_tie, then_equal}
 use Rattle.lens_values.specs.Paired.{paired}
 use Rattle.lens_values.proofs.Cells.{get-override, no_value, one_more, own_names, value_at as value_at_place, whole_part}
 use Rattle.lens_specs.specs.Common.{Rows}

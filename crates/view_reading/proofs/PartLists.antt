@@ -1,18 +1,9 @@
 -- Rows at marked places, and the difference that they and others make.
 use Rattle.std.proofs.Common.{◌≡◌, ◌∙◌, ◌∷◌, ◌++◌, ◌+◌, ◌<◌, ◌&&◌, ◌||◌, ℕ, zero, suc, Bool, List, [], add-one, ap, arith, cond, filter, get_or, length, map, not, refl, subst, sym, take, true, false}
 use Rattle.std.proofs.Math.ListN as list
-use Rattle.std.proofs.lemmas.Bool.{or_from, true≢false}
-use Rattle.std.proofs.lemmas.List.Folds.{list_any-append}
-use Rattle.std.specs.List.{AllByRecursion}
-use Rattle.std.specs.List.Sorted.{IsStrictlySortedBy}
-use Rattle.std.specs.Ordering.{eq_by_cmp, is_eq}
-use Rattle.std.specs.declared.cmp.Ordering.{Ordering}
-use Rattle.std.specs.declared.cmp.Ordering.TheVariants.{Less}
-use Rattle.std.proofs.Math.Bool.{or_comm}
-use Rattle.plain_values.specs.Row.{row_cmp, Row}
+use Rattle.plain_values.proofs.Common.{or_from, true≢false, list_any-append, AllByRecursion, IsStrictlySortedBy, eq_by_cmp, is_eq, Ordering, Less, or_comm, row_cmp, Row, first_fails, second_fails}
 use Rattle.plain_values.specs.SortedSet as set
-use Rattle.plain_values.proofs.Tests.{first_fails, second_fails}
-use Rattle.lens_specs.specs.Relation.{Rows, has, minus}
+use Rattle.lens_specs.specs.Common.{Rows, has, minus}
 use Rattle.fd_laws.proofs.Common.{row_exact, row_itself, row_total, tied_row}
 use Rattle.fd_laws.proofs.Relations.{has-minus}
 use Rattle.row_sets.specs.Members.{is_in}

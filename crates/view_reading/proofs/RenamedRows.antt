@@ -1,17 +1,11 @@
 -- The rows of a rename, in a list.
 use Rattle.std.proofs.Common.{◌≡◌, ◌∙◌, List, ap, map, subst, sym, true, false}
-use Rattle.std.specs.List.{Contains, list_any}
-use Rattle.std.specs.Ordering.{eq_by_cmp}
-use Rattle.plain_values.specs.Row.{row_cmp, Row}
+use Rattle.plain_values.proofs.Common.{Contains, list_any, eq_by_cmp, row_cmp, Row, from_map, in_map}
 use Rattle.plain_values.specs.SortedSet as set
-use Rattle.plain_values.proofs.Lists.{from_map, in_map}
 use Rattle.lens_specs.specs.Common.{Lens, Tables, get, rename, sort_of, view_names, Name, Names, rename_get, Rows, has, image, renamed_row}
-use Rattle.fd_laws.proofs.Common.{from_image, same_rel, row_itself, row_total, tied_row}
-use Rattle.fd_laws.proofs.Relations.{in_image}
-use Rattle.lens_laws.specs.Finds.{IsOver}
-use Rattle.lens_laws.specs.Lenses.{AreOf, IsTyped}
-use Rattle.lens_laws.proofs.Lenses.{get_sort}
-use Rattle.lens_laws.proofs.NodeFinds.{fits_is_over, contained}
+use Rattle.fd_laws.proofs.Common.{from_image, same_rel, row_itself, row_total, tied_row, in_image}
+use Rattle.lens_laws.proofs.Common.{IsOver, AreOf, IsTyped, get_sort, fits_is_over}
+use Rattle.lens_laws.proofs.NodeFinds.{contained}
 use Rattle.view_reading.proofs.Listed.{from_list, in_list}
 
 module _ (A B : Name) (S : Lens) (typed : IsTyped (rename A B S)) where

@@ -1,14 +1,9 @@
 -- A test that is made on the rows of the sides of a join, before they are joined.
-use Rattle.std.proofs.Common.{◌≡◌, ◌∙◌, Bool, ap, cond, inl, inr, refl, subst, sym, true, false}
-use Rattle.std.specs.Prelude.{◌||◌}
-use Rattle.std.proofs.lemmas.Bool.{and_from, cases_Bool, false≢true, or_cases}
+use Rattle.std.proofs.Common.{◌≡◌, ◌∙◌, Bool, ap, cond, inl, inr, refl, subst, sym, true, false, ◌||◌}
+use Rattle.plain_values.proofs.Common.{and_from, cases_Bool, false≢true, or_cases, Row}
 use Rattle.plain_values.specs.SortedSet as set
-use Rattle.plain_values.specs.Row.{Row}
-use Rattle.lens_specs.specs.Common.{Names, Rows, has, those, agree, paste}
-use Rattle.lens_specs.specs.Relation.{natural}
-use Rattle.fd_laws.proofs.Common.{name_total, from_those, in_join, in_those, same_rel, agree_at, agree_back, agree_from}
-use Rattle.fd_laws.proofs.Relations.{from_join}
-use Rattle.fd_laws.proofs.Rows.{agree-paste, at-paste_in, at-paste_out}
+use Rattle.lens_specs.specs.Common.{Names, Rows, has, those, agree, paste, natural}
+use Rattle.fd_laws.proofs.Common.{name_total, from_those, in_join, in_those, same_rel, agree_at, agree_back, agree_from, from_join, agree-paste, at-paste_in, at-paste_out}
 use Rattle.lens_laws.specs.Shapes.{Sees}
 
 -- a pair has what its left row has, since both rows have the same in the shared columns

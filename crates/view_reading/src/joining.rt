@@ -1,20 +1,17 @@
 //! Parts of the pairs of rows of both sides of a join.
-ghost use Rattle.std.specs.Prelude.{◌≡◌, ◌++◌, ◌≤◌, IfOk, IfSome, OnOk, false, filter, flat_map, length, map, true};
-ghost use Rattle.std.specs.List.{filter_map, list_any};
-ghost use Rattle.std.specs.List.Sorted.{IsPartitionPoint, IsPartitionedBy, IsStrictlySortedBy};
-ghost use Rattle.std.specs.Ordering.{eq_by_cmp, is_eq, is_le, is_lt};
-ghost use Rattle.plain_values.specs.Part.{restrict};
-ghost use Rattle.plain_values.specs.Row.{row_cmp};
+ghost use Rattle.std.specs.Prelude.{◌≡◌, ◌++◌, IfOk, IfSome, OnOk, map};
+ghost use Rattle.std.specs.List.{filter_map};
+ghost use Rattle.std.specs.List.Sorted.{IsStrictlySortedBy};
 ghost use Rattle.plain_values.specs.SortedSet as set;
 ghost use Rattle.lens_specs.specs.Names.{Names as NameSet};
 ghost use Rattle.lens_specs.specs.Relation.{project};
 ghost use Rattle.lens_specs.specs.Rows.{agree};
-ghost use Rattle.row_sets.specs.Joins.{entry_cmp, pairs_on, with_key};
+ghost use Rattle.row_sets.specs.Joins.{entry_cmp, pairs_on};
 ghost use Rattle.view_reading.specs.Pasting.{AreNamed, HasNames, IsIndex, near_in, own_place, part_at, parts_by};
 
 use crate::pasting::{Place, own_places, part_at, places_in, same_at};
-use lens_values::{Names, NoMemory, Row, into_sorted};
-use row_sets::RowSet;
+use lens_values::{Names, NoMemory, Row};
+use row_sets::{Group, RowSet, indexed, with_part};
 use std::alloc::Global;
 
 /// One side of a join: its rows, which all have these columns.
@@ -49,13 +46,6 @@ pub(crate) fn joined_parts(
     )
 }
 
-// Entries of an index that stand together, and the place behind them.
-#[derive(Clone, Copy)]
-struct Group<'a> {
-    entries: &'a [(Row, Row)],
-    end: usize,
-}
-
 // The rows of the right side, each after its part in the columns of both, in rising order.
 #[derive(Drop)]
 struct Index {
@@ -72,7 +62,7 @@ impl Index {
         ensures places { IfOk result (λ index. index.places.items ≡ places.items) }
         ensures entries { IfOk result (λ index. IsIndex cols rows.now index.entries.items) }
     {
-        let entries = into_sorted(entries(alloc, rows, &cols)?);
+        let entries = indexed(alloc, rows, &cols)?;
         Ok(Index {
             entries,
             cols,
@@ -148,18 +138,6 @@ impl Index {
     }
 }
 
-// Each row after its part in the columns, in the order of the rows.
-fn entries(alloc: Global, rows: &[Row], cols: &Names) -> Result<Vec<(Row, Row)>, NoMemory>
-    ensures { IfOk result (λ list. list.items ≡ map (with_key cols.now) rows.now) }
-{
-    let mut list = Vec::with_capacity(alloc, rows.len())?;
-    for row in rows {
-        let key = row.project(alloc, cols)?;
-        list.push((key, row.copy(alloc)?))?;
-    }
-    Ok(list)
-}
-
 // Adds the kept part of the left row pasted with the right row of each entry.
 fn add_parts(
     alloc: Global,
@@ -177,52 +155,4 @@ fn add_parts(
         parts.push(part)?;
     }
     Ok(())
-}
-
-// The entries with this part, which are neighbours and perhaps begin at the guess.
-fn with_part<'a>(entries: &'a [(Row, Row)], part: &Row, guess: usize) -> Group<'a>
-    requires { IsStrictlySortedBy entry_cmp entries.now }
-    ensures { result.entries.now ≡ filter (λ e. is_eq (row_cmp e.0 part.now)) entries.now }
-{
-    let start = start_of(entries, part, guess);
-    let rest = &entries[start..];
-    let count = not_above(rest, part);
-    Group {
-        entries: &rest[..count],
-        end: start + count,
-    }
-}
-
-// The place of the first entry whose part is not below this one. It is mostly the guess, since rows
-// of the left side often come in the order of their parts.
-fn start_of(entries: &[(Row, Row)], part: &Row, guess: usize) -> usize
-    requires { IsPartitionedBy (λ e. is_lt (row_cmp e.0 part.now)) entries.now }
-    ensures bound { result ≤ length entries.now }
-    ensures partitioned { IsPartitionPoint (λ e. is_lt (row_cmp e.0 part.now) ≡ true)
-        (λ e. is_lt (row_cmp e.0 part.now) ≡ false) entries.now result }
-{
-    if 0 < guess
-        && guess < entries.len()
-        && entries[guess - 1].0 < *part
-        && entries[guess].0 >= *part
-    {
-        return guess;
-    }
-    entries.partition_point(|entry| entry.0.cmp(part).is_lt())
-}
-
-// How many entries at the front have a part that is not above this one. Behind the first with this
-// part these are all that have it, and mostly few.
-fn not_above(entries: &[(Row, Row)], part: &Row) -> usize
-    requires { IsPartitionedBy (λ e. is_le (row_cmp e.0 part.now)) entries.now }
-    ensures bound { result ≤ length entries.now }
-    ensures partitioned { IsPartitionPoint (λ e. is_le (row_cmp e.0 part.now) ≡ true)
-        (λ e. is_le (row_cmp e.0 part.now) ≡ false) entries.now result }
-{
-    for place in 0..entries.len() {
-        if entries[place].0 > *part {
-            return place;
-        }
-    }
-    entries.len()
 }

@@ -49,8 +49,8 @@ impl Cursor {
         self.search(row, known)
     }
 
-    // The same, from the cursor's place on in strides that double, but never past the middle of the
-    // places where the part may still be.
+    // Searches for the row's part from the cursor's place on, in strides that double, but never past
+    // the middle of the places where the part may still be.
     fn search(&mut self, row: &Row, known: &[Row]) -> Option<usize>
         ensures { (C : NameSet) → AreOver C known.now → MatchOption result (Unit {0})
             (λ place. (place < length known.now)

@@ -54,7 +54,8 @@ pub(crate) fn unfiltered_rows<'a, L: Ledger>(
     }
 }
 
-// The same for a selection. It is tested before a column is dropped.
+// Rows whose parts in the columns that the selection shows, of those that pass the test, are the rows
+// that it shows. They are tested before a column is dropped.
 fn unfiltered_selection<'a, L: Ledger>(
     alloc: Global,
     pred: &'a Pred,
@@ -112,8 +113,8 @@ fn unfiltered_source<'a, L: Ledger>(
     }
 }
 
-// The same for a selection. Over a table its rows are not tested yet, so that they are gone over
-// once, where they are tested and cut.
+// Rows of which those that pass the test are the rows that the selection shows. The rows of a table
+// are not tested yet, so that they are gone over once, where they are tested and cut.
 fn unfiltered_in<'a, L: Ledger>(
     alloc: Global,
     pred: &'a Pred,

@@ -1,14 +1,11 @@
 -- Columns of a projection and of a join.
 use Rattle.std.proofs.Common.{◌≡◌, cond, None, sym, ap, ◌∙◌, inl, inr}
-use Rattle.std.proofs.lemmas.Bool.{cases_Bool}
+use Rattle.plain_values.proofs.Common.{cases_Bool}
 use Rattle.std.specs.FinMap as map
 use Rattle.plain_values.specs.SortedSet as set
-use Rattle.lens_specs.specs.Common.{Name, Names, one, Columns, both_columns, kinds_differ, names, without_column}
-use Rattle.lens_specs.specs.Columns.{columns_in}
-use Rattle.fd_laws.proofs.Common.{name_exact, name_total, one_is}
-use Rattle.fd_laws.proofs.Columns.{get-both_left, get-both_right, get-without_other, get-without_same, no_kind}
-use Rattle.lens_laws.proofs.Rules.{one_kind}
-use Rattle.fd_laws.proofs.Names.{rest_out, rest_same}
+use Rattle.lens_specs.specs.Common.{Name, Names, one, Columns, both_columns, kinds_differ, names, without_column, columns_in}
+use Rattle.fd_laws.proofs.Common.{name_exact, name_total, one_is, get-both_left, get-both_right, get-without_other, get-without_same, no_kind, rest_out, rest_same}
+use Rattle.lens_laws.proofs.Common.{one_kind}
 
 -- ---- columns cut down
 

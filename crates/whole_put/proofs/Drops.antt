@@ -1,24 +1,14 @@
 -- A projection and its put.
 use Rattle.std.proofs.Common.{◌≡◌, List, [], ◌∷◌, map, refl, sym, ap, ◌∙◌, Bool, true, false, cond, Option, Some, None, inl}
 use Rattle.std.specs.FinMap as finmap
-use Rattle.std.specs.Cmp.Lexicographic.{nat_list_cmp_total}
-use Rattle.std.specs.Ordering.{eq_by_cmp}
-use Rattle.std.proofs.lemmas.Bool.{true≢false, false_from_ne_true}
-use Rattle.plain_values.specs.Order.{bytes_cmp}
-use Rattle.plain_values.specs.Part.{override}
+use Rattle.plain_values.proofs.Common.{nat_list_cmp_total, eq_by_cmp, true≢false, false_from_ne_true, bytes_cmp, override, Row, absurd_false}
 use Rattle.plain_values.specs.SortedSet as set
-use Rattle.plain_values.specs.Row.{Row}
 use Rattle.plain_values.specs.declared.value.Value.{Value}
 use Rattle.lens_specs.specs.Common.{Columns, Fits, fits_at, names, without_column, Edge, Meets, edge, Name, Names, one, drop_get, drop_put, Relation, Rows, has, image, project, along, revise, revise_row, at, with_at}
 use Rattle.lens_specs.specs.Relation.{project_relation}
-use Rattle.lens_laws.specs.Shapes.{CanDrop, IsIn, Shape, drop_shape}
-use Rattle.fd_laws.specs.Trees.{IsTree}
+use Rattle.lens_laws.proofs.Common.{CanDrop, IsIn, Shape, drop_shape}
+use Rattle.fd_laws.proofs.Common.{IsTree, from_rest, one_is, one_itself, from_image, same_rel, agree_from, same_row, in_image, at-with_at, to_tree_without}
 use Rattle.lens_laws.proofs.Drop.{drop_lawful}
-use Rattle.fd_laws.proofs.Common.{from_rest, one_is, one_itself, from_image, same_rel, agree_from, same_row}
-use Rattle.plain_values.proofs.Lists.{absurd_false}
-use Rattle.fd_laws.proofs.Relations.{in_image}
-use Rattle.fd_laws.proofs.Rows.{at-with_at}
-use Rattle.fd_laws.proofs.Trees.{to_tree_without}
 use Rattle.row_sets.proofs.Natural.{first_of, get-both}
 use Rattle.whole_put.proofs.Cuts.{other_columns}
 

@@ -1,32 +1,19 @@
 -- What a join of two lenses shows, and a put to it.
-use Rattle.std.proofs.Common.{◌≡◌, ◌∙◌, Bool, true, false, not, cond, List, [], ◌∷◌, ap, refl, subst, sym, Option, Some, None, Ok, find}
-use Rattle.std.specs.Prelude.{is_some}
-use Rattle.std.proofs.lemmas.Bool.{true≢false}
+use Rattle.std.proofs.Common.{◌≡◌, ◌∙◌, Bool, true, false, not, cond, List, [], ◌∷◌, ap, refl, subst, sym, Option, Some, None, Ok, find, is_some}
+use Rattle.plain_values.proofs.Common.{true≢false, eq_by_cmp, bytes_cmp, in_head, in_tail}
 use Rattle.std.specs.FinMap as finmap
-use Rattle.std.specs.Ordering.{eq_by_cmp}
-use Rattle.plain_values.specs.Order.{bytes_cmp}
 use Rattle.plain_values.specs.SortedSet as set
 use Rattle.plain_values.specs.declared.join_kind.JoinKind.{JoinKind}
 use Rattle.plain_values.specs.declared.value.Kind.{Kind}
 use Rattle.plain_values.proofs.ValueLemmas.{kind_itself}
-use Rattle.lens_specs.specs.Common.{Columns, both_columns, kinds_differ, names, Edge, MeetsTree, Lens, Tables, get, put, sort_of, tables_of, view, view_names, Name, is_among, join_get, join_left_after, join_right_after, Relation, Rows, project, IsOf, IsOfSort, Sort}
-use Rattle.lens_specs.specs.Columns.{like_kinds}
-use Rattle.lens_specs.specs.Lens.{join}
+use Rattle.lens_specs.specs.Common.{Columns, both_columns, kinds_differ, names, Edge, MeetsTree, Lens, Tables, get, put, sort_of, tables_of, view, view_names, Name, is_among, join_get, join_left_after, join_right_after, Relation, Rows, project, IsOf, IsOfSort, Sort, like_kinds, join}
 use Rattle.lens_specs.specs.Typing as typing
-use Rattle.fd_laws.proofs.Common.{names-get, from_shared, name_itself, tied_name}
-use Rattle.plain_values.proofs.Lists.{in_head, in_tail}
-use Rattle.fd_laws.proofs.Names.{apart_back}
-use Rattle.lens_laws.specs.Lenses.{AreOf, IsTyped}
-use Rattle.lens_laws.specs.Shapes.{IsIn, join_shape, shape_of}
-use Rattle.lens_laws.proofs.Join.{part_left, part_right}
-use Rattle.lens_laws.proofs.Lenses.{are_same, put_leaves}
-use Rattle.lens_laws.proofs.NodeLaws.{both_can, join_law, sound}
-use Rattle.lens_laws.proofs.Passes.{join_sort_is}
-use Rattle.lens_laws.proofs.Sorts.{clash_none, to_in}
+use Rattle.fd_laws.proofs.Common.{names-get, from_shared, name_itself, tied_name, apart_back}
+use Rattle.lens_laws.proofs.Common.{AreOf, IsTyped, IsIn, join_shape, shape_of, part_left, are_same, put_leaves, both_can, join_law, sound, join_sort_is, clash_none, to_in, given_is}
+use Rattle.lens_laws.proofs.Join.{part_right}
 use Rattle.whole_put.specs.Joinable.{CanBePut}
 use Rattle.whole_put.specs.Sources.{AreShown}
 use Rattle.whole_put.specs.declared.sources.Sources.{Sources}
-use Rattle.lens_laws.proofs.Rules.{given_is}
 use Rattle.whole_put.proofs.Lenses.{over}
 use Rattle.whole_put.proofs.Shown.{shown_alike_after}
 

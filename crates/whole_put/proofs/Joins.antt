@@ -1,20 +1,13 @@
 -- A join and its put.
 use Rattle.std.proofs.Common.{◌≡◌, Bool, List, ◌++◌, true, not, refl, ap, ◌∙◌}
-use Rattle.std.proofs.lemmas.Bool.{not-true, not_from_false, false_from_ne_true}
-use Rattle.plain_values.specs.Row.{Row}
+use Rattle.plain_values.proofs.Common.{not-true, not_from_false, false_from_ne_true, Row, absurd_false}
 use Rattle.plain_values.specs.declared.join_kind.JoinKind.{JoinKind}
 use Rattle.plain_values.specs.declared.join_kind.JoinKind.TheVariants.{DeleteLeft, DeleteRight, DeleteBoth}
-use Rattle.lens_specs.specs.Common.{Fits, both_columns, names, Edge, Meets, MeetsTree, Names, join_get, join_left, join_over, join_right, join_put_left, join_put_left_kept, join_put_right, join_left_after, join_right_after, IsRelation, Relation, Rows, has, minus, project, those, merge, cut}
-use Rattle.lens_specs.specs.Nodes.{join_kept, join_free}
-use Rattle.fd_laws.specs.Trees.{IsTree}
-use Rattle.lens_laws.specs.Shapes.{CanJoin, IsIn, Shape, join_shape}
-use Rattle.fd_laws.proofs.Common.{closure_is, same_rel, in_project, in_minus, from_minus, in_those, from_those, agree_back, agree-cut, all_append}
-use Rattle.fd_laws.proofs.Closures.{implies_sound}
+use Rattle.lens_specs.specs.Common.{Fits, both_columns, names, Edge, Meets, MeetsTree, Names, join_get, join_left, join_over, join_right, join_put_left, join_put_left_kept, join_put_right, join_left_after, join_right_after, IsRelation, Relation, Rows, has, minus, project, those, merge, cut, join_kept, join_free}
+use Rattle.fd_laws.proofs.Common.{IsTree, closure_is, same_rel, in_project, in_minus, from_minus, in_those, from_those, agree_back, agree-cut, all_append, implies_sound, append_parts}
+use Rattle.lens_laws.proofs.Common.{CanJoin, IsIn, Shape, join_shape, one_kind}
 use Rattle.lens_laws.proofs.JoinKinds.{kind_lawful}
-use Rattle.plain_values.proofs.Lists.{absurd_false}
-use Rattle.fd_laws.proofs.TreeForms.{append_parts}
 use Rattle.whole_put.specs.Joinable.{CanBePut, shared_names}
-use Rattle.lens_laws.proofs.Rules.{one_kind}
 use Rattle.lens_laws.proofs.Join.{cut_meets}
 use Rattle.whole_put.specs.Lost.{kept_of, left_without, right_without, surplus_of}
 

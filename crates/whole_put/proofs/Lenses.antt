@@ -1,18 +1,12 @@
 -- What a lens shows and a put to it, by its root.
-use Rattle.std.proofs.Common.{◌≡◌, ◌∙◌, true, false, List, ap, refl, subst, sym, Some}
-use Rattle.std.specs.Prelude.{Ok}
+use Rattle.std.proofs.Common.{◌≡◌, ◌∙◌, true, false, List, ap, refl, subst, sym, Some, Ok}
 use Rattle.std.specs.FinMap as finmap
 use Rattle.plain_values.specs.SortedSet as set
 use Rattle.plain_values.specs.declared.value.Value.{Value}
 use Rattle.lens_specs.specs.Common.{fits_at, names, without_column, Edge, Meets, Lens, Tables, base, select, drop, rename, get, put, sort_of, view, rows_or_none, Name, Names, one, drop_get, drop_put, rename_get, rename_put, select_get, select_put, Predicate, holds, Relation, Rows, renamed_columns, agree, IsOf, IsOfSort, Sort}
 use Rattle.lens_specs.specs.Typing as typing
-use Rattle.fd_laws.proofs.Common.{one_is, agree_at, agree_from}
-use Rattle.fd_laws.proofs.Trees.{at_edge}
-use Rattle.lens_laws.specs.Lenses.{AreOf, IsTyped}
-use Rattle.lens_laws.proofs.Lenses.{get_after, put_back}
-use Rattle.lens_laws.proofs.NodeLaws.{drop_law, rename_node_law, select_law}
-use Rattle.lens_laws.proofs.Rules.{given_is}
-use Rattle.lens_laws.proofs.Sorts.{clash_none}
+use Rattle.fd_laws.proofs.Common.{one_is, agree_at, agree_from, at_edge}
+use Rattle.lens_laws.proofs.Common.{AreOf, IsTyped, get_after, put_back, drop_law, rename_node_law, select_law, given_is, clash_none}
 
 -- ---- what is shown
 

@@ -1,17 +1,12 @@
 -- A rename and its put.
 use Rattle.std.proofs.Common.{◌≡◌, true, false, [], refl, sym, ap, ◌∙◌, subst}
-use Rattle.std.proofs.lemmas.Bool.{false_from_ne_true}
+use Rattle.plain_values.proofs.Common.{false_from_ne_true, Row, absurd_false}
 use Rattle.plain_values.specs.SortedSet as set
-use Rattle.plain_values.specs.Row.{Row}
-use Rattle.plain_values.proofs.Lists.{absurd_false}
 use Rattle.fd_laws.proofs.Common.{name_itself, from_image}
 use Rattle.lens_specs.specs.Common.{Columns, Fits, names, Name, Names, rename_get, rename_put, IsRelation, Relation, Rows, has, image, renamed_row, renamed_columns}
-use Rattle.lens_laws.proofs.NodeFinds.{fits_is_over}
-use Rattle.lens_laws.proofs.Rename.{fits_renamed, has_rename, not_old, rename_lawful}
-use Rattle.lens_laws.proofs.RenameSorts.{names-renamed}
-use Rattle.lens_laws.specs.Finds.{IsOver}
-use Rattle.lens_laws.specs.Rename.{CanRename, rename_shape}
-use Rattle.lens_laws.specs.Shapes.{IsIn, Shape}
+use Rattle.lens_laws.proofs.Common.{fits_is_over, has_rename, not_old, names-renamed, IsOver, CanRename, IsIn, Shape}
+use Rattle.lens_laws.proofs.Rename.{fits_renamed, rename_lawful}
+use Rattle.lens_laws.specs.Rename.{rename_shape}
 
 -- rows that fit have a value in just the columns
 pub fits_over : (U : Columns) (C : Names) (r : Row) → C ≡ names U → Fits U r → IsOver C r

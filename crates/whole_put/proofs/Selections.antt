@@ -1,15 +1,10 @@
 -- A selection and its put, row by row.
-use Rattle.std.proofs.Common.{◌≡◌, ◌∙◌, ℕ, suc, Bool, true, false, List, [], ◌∷◌, length, map, arith, ap, sym, refl}
-use Rattle.std.specs.Prelude.{not, ◌==◌, ◌&&◌, ◌||◌}
-use Rattle.std.proofs.lemmas.Bool.Decides.{nat_tests}
-use Rattle.plain_values.specs.RowOrder.{row_cmp_total, row_cmp-IsAntisymmetric}
+use Rattle.std.proofs.Common.{◌≡◌, ◌∙◌, ℕ, suc, Bool, true, false, List, [], ◌∷◌, length, map, arith, ap, sym, refl, not, ◌==◌, ◌&&◌, ◌||◌}
+use Rattle.plain_values.proofs.Common.{nat_tests, row_cmp_total, row_cmp-IsAntisymmetric, Row}
 use Rattle.plain_values.specs.SortedSet as set
-use Rattle.plain_values.specs.Row.{Row}
-use Rattle.lens_specs.specs.Common.{Columns, Fits, Edge, MeetsTree, Rows, has, those, image, merge, revise, revise_row, select_get, select_put}
-use Rattle.lens_specs.specs.Nodes.{select_merged}
-use Rattle.fd_laws.specs.Trees.{IsTree}
-use Rattle.fd_laws.proofs.Relations.{has-those}
-use Rattle.lens_laws.specs.Shapes.{Shape}
+use Rattle.lens_specs.specs.Common.{Columns, Fits, Edge, MeetsTree, Rows, has, those, image, merge, revise, revise_row, select_get, select_put, select_merged}
+use Rattle.fd_laws.proofs.Common.{IsTree, has-those}
+use Rattle.lens_laws.proofs.Common.{Shape}
 use Rattle.lens_laws.proofs.Select.{select_lawful}
 
 -- ---- rows that pass a test

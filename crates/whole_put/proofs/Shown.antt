@@ -1,13 +1,11 @@
 -- What the sources of a lens show.
 use Rattle.std.proofs.Common.{◌≡◌, ◌∙◌, ap, subst, sym, true, Some}
 use Rattle.std.specs.FinMap as finmap
-use Rattle.std.proofs.lemmas.Bool.{or_left, or_right}
-use Rattle.std.proofs.lemmas.Option.{same_Some}
-use Rattle.fd_laws.proofs.Names.{name_total}
+use Rattle.plain_values.proofs.Common.{or_left, or_right, same_Some}
+use Rattle.fd_laws.proofs.Common.{name_total}
 use Rattle.plain_values.specs.SortedSet as set
-use Rattle.lens_specs.specs.Common.{Lens, Tables, base, select, drop, rename, tables_of, view, Name, Relation}
-use Rattle.lens_specs.specs.Lens.{join}
-use Rattle.lens_laws.proofs.Lenses.{get_same}
+use Rattle.lens_specs.specs.Common.{Lens, Tables, base, select, drop, rename, tables_of, view, Name, Relation, join}
+use Rattle.lens_laws.proofs.Common.{get_same}
 use Rattle.whole_put.specs.Sources.{AreShown, both_of, only_of}
 use Rattle.whole_put.specs.declared.sources.Sources.{Sources}
 use Rattle.whole_put.proofs.Lenses.{over}

@@ -1,13 +1,10 @@
 -- What is seen of entries, and of the map that has them.
-use Rattle.std.proofs.Common.{◌≡◌, ◌∙◌, Bool, true, false, List, [], ◌∷◌, ap, cond, refl, sym, Option, Some}
-use Rattle.std.specs.Prelude.{option_map}
-use Rattle.std.specs.BTreeMap.{is_at}
+use Rattle.std.proofs.Common.{◌≡◌, ◌∙◌, Bool, true, false, List, [], ◌∷◌, ap, cond, refl, sym, Option, Some, option_map}
+use Rattle.plain_values.proofs.Common.{is_at, lookup, bytes_cmp}
 use Rattle.std.specs.FinMap as finmap
 use Rattle.std.specs.List.{AllZip}
-use Rattle.std.specs.Map.{lookup}
-use Rattle.plain_values.specs.Order.{bytes_cmp}
-use Rattle.lens_specs.specs.Names.{Name}
-use Rattle.lens_laws.proofs.Entries.{looked_up, updated}
+use Rattle.lens_specs.specs.Common.{Name}
+use Rattle.lens_laws.proofs.Common.{looked_up, updated}
 use Rattle.whole_put.specs.Seen.{seen_entries}
 
 module _ {X Y : Type 0} (f : X → Y) where

@@ -1,6 +1,6 @@
 use Rattle.fd_laws.proofs.Implied.{implies_is}
 use Rattle.std.specs.FinMap as map
-use Rattle.lens_specs.specs.Columns.{names}
+use Rattle.lens_specs.specs.Common.{names}
 use Rattle.fd_laws.proofs.Closures.{closure_is, implies_sound, implies_complete, witness, witness_fits}
 use Rattle.fd_laws.proofs.closures_are_right.Goals as goal
 

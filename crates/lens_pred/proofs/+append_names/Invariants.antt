@@ -1,5 +1,5 @@
 use Rattle.std.proofs.Common.{◌≡◌, ◌++◌, drop}
-use Rattle.lens_specs.specs.Predicate.{names_of_all}
+use Rattle.lens_specs.specs.Common.{names_of_all}
 use Rattle.lens_pred.specs.View.{list_view, predicate_view}
 use Rattle.lens_pred.proofs.+append_names.Given as goal
 

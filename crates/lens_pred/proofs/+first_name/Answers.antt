@@ -1,6 +1,5 @@
-use Rattle.std.proofs.Common.{sym, ◌∙◌}
-use Rattle.std.specs.Prelude.{find}
-use Rattle.lens_specs.specs.Predicate.{names_in, names_of_all}
+use Rattle.std.proofs.Common.{sym, ◌∙◌, find}
+use Rattle.lens_specs.specs.Common.{names_in, names_of_all}
 use Rattle.lens_pred.specs.Sought.{passes}
 use Rattle.lens_pred.specs.View.{formula_view, list_view, predicate_view}
 use Rattle.lens_pred.proofs.Walks.{at_item}

@@ -1,6 +1,5 @@
-use Rattle.std.proofs.Common.{◌≡◌, drop}
-use Rattle.std.specs.Prelude.{find}
-use Rattle.lens_specs.specs.Predicate.{names_of_all}
+use Rattle.std.proofs.Common.{◌≡◌, drop, find}
+use Rattle.lens_specs.specs.Common.{names_of_all}
 use Rattle.lens_pred.specs.Sought.{passes}
 use Rattle.lens_pred.specs.View.{list_view, predicate_view}
 use Rattle.lens_pred.proofs.+first_name.Given as goal

@@ -1,6 +1,7 @@
 use Rattle.std.proofs.Common.{ap, sym, ◌∙◌}
-use Rattle.std.specs.List.{list_all}
-use Rattle.lens_specs.specs.Refusal.{is_like, unless, unlike}
+use Rattle.plain_values.proofs.Common.{list_all}
+use Rattle.lens_specs.specs.Common.{is_like, unlike}
+use Rattle.lens_specs.specs.Refusal.{unless}
 use Rattle.lens_pred.specs.View.{formula_view}
 use Rattle.lens_pred.proofs.Views.{view-OneOf}
 use Rattle.lens_pred.proofs.+first_unlike.Goals as goal

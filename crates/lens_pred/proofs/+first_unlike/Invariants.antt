@@ -1,5 +1,5 @@
 use Rattle.std.proofs.Common.{◌≡◌, drop}
-use Rattle.lens_specs.specs.Refusal.{unlike_all}
+use Rattle.lens_specs.specs.Common.{unlike_all}
 use Rattle.lens_pred.specs.View.{list_view, predicate_view}
 use Rattle.lens_pred.proofs.+first_unlike.Given as goal
 

@@ -1,5 +1,5 @@
 use Rattle.std.proofs.Common.{◌≡◌, drop}
-use Rattle.lens_specs.specs.Predicate.{all_hold, any_holds}
+use Rattle.lens_specs.specs.Common.{all_hold, any_holds}
 use Rattle.lens_pred.specs.View.{list_view, predicate_view}
 use Rattle.lens_pred.proofs.+holds.Given as goal
 

@@ -1,6 +1,6 @@
 use Rattle.std.proofs.Common.{arith}
 use Rattle.std.proofs.lemmas.List.{at_drop_all}
-use Rattle.lens_specs.specs.Predicate.{nodes_of_all}
+use Rattle.lens_specs.specs.Common.{nodes_of_all}
 use Rattle.lens_pred.specs.View.{list_view, predicate_view}
 use Rattle.lens_pred.proofs.+nodes.Goals as goal
 

@@ -1,5 +1,5 @@
 use Rattle.std.proofs.Common.{◌≡◌, ◌+◌, ◌-◌, ◌^◌, ◌≤◌, min, drop}
-use Rattle.lens_specs.specs.Predicate.{nodes_of_all}
+use Rattle.lens_specs.specs.Common.{nodes_of_all}
 use Rattle.lens_pred.specs.View.{list_view, predicate_view}
 use Rattle.lens_pred.proofs.+nodes.Given as goal
 

@@ -1,6 +1,5 @@
-use Rattle.std.proofs.Common.{◌≡◌, Bool, true, false, List, map, ap, sym, ◌∙◌, refl}
-use Rattle.std.specs.Prelude.{not, ◌&&◌}
-use Rattle.std.specs.List.{list_all}
+use Rattle.std.proofs.Common.{◌≡◌, Bool, true, false, List, map, ap, sym, ◌∙◌, refl, not, ◌&&◌}
+use Rattle.plain_values.proofs.Common.{list_all}
 use Rattle.std.proofs.lemmas.List.Folds.{list_all-map}
 use Rattle.lens_specs.specs.Predicate as spec
 use Rattle.lens_pred.specs.NormalForm.{is_normal, are_normal, has_two, none_is, is_all_of, is_any_of}

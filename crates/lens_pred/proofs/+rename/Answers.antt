@@ -1,5 +1,5 @@
 use Rattle.std.proofs.Common.{◌++◌, ap, sym, ◌∙◌}
-use Rattle.lens_specs.specs.Rename.{renamed_formulas, renamed_predicate}
+use Rattle.lens_specs.specs.Common.{renamed_formulas, renamed_predicate}
 use Rattle.lens_pred.specs.View.{list_view, predicate_view}
 use Rattle.lens_pred.proofs.Renamed.{renamed-list_view}
 use Rattle.lens_pred.proofs.+rename.Goals as goal

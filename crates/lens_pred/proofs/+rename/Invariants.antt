@@ -1,5 +1,5 @@
 use Rattle.std.proofs.Common.{◌≡◌, ◌++◌, drop}
-use Rattle.lens_specs.specs.Rename.{renamed_predicate}
+use Rattle.lens_specs.specs.Common.{renamed_predicate}
 use Rattle.lens_pred.specs.View.{predicate_view}
 use Rattle.lens_pred.proofs.+rename.Given as goal
 

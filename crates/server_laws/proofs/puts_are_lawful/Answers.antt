@@ -1,5 +1,5 @@
-use Rattle.lens_specs.specs.Lens.{sort_of}
-use Rattle.server_specs.specs.Changing.{of_sort}
+use Rattle.lens_specs.specs.Common.{sort_of}
+use Rattle.server_specs.specs.Common.{of_sort}
 use Rattle.server_specs.proofs.Sent.{sent_fit}
 use Rattle.server_laws.proofs.Puts.{accepted_or_refused, accepted_where, clashes_by, refused_by, put_then_read, changes_told, changes_differ, others_stay, read_then_put}
 use Rattle.server_laws.proofs.Stored.{lens_here}

@@ -1,4 +1,4 @@
-use Rattle.lens_laws.proofs.Lenses.{get_sort, get_after, put_back}
+use Rattle.lens_laws.proofs.Common.{get_sort, get_after, put_back}
 use Rattle.server_laws.proofs.Keys.{all_keyed}
 use Rattle.server_laws.proofs.Stored.{lens_here}
 use Rattle.server_laws.proofs.Valid.{fresh_is_valid, valid_answer, valid_session}

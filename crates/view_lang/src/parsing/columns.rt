@@ -32,7 +32,6 @@ impl Model for ReadColumns {
 }
 
 impl ReadColumns {
-    /// No column.
     pub fn new(alloc: Global) -> ReadColumns
         ensures { result ≡ [] }
     {
@@ -49,7 +48,6 @@ impl ReadColumns {
         self.names.contains(name)
     }
 
-    /// Adds a column.
     pub fn with(mut self, name: Name, kind: Kind) -> Result<ReadColumns, NoMemory>
         requires { is_column_of self name ≡ false }
         ensures { IfOk result (λ more. more ≡ self ++ (name, kind) ∷ []) }

@@ -1,5 +1,5 @@
 //! Definitions, a function for each rule of the grammar.
-ghost use Rattle.std.specs.Prelude.{◌≡◌, ◌≤◌, true, [], IfOk};
+ghost use Rattle.std.specs.Prelude.{◌≡◌, true, [], IfOk};
 ghost use Rattle.std.specs.FinMap as map_of;
 ghost use Rattle.grammar_specs.specs.Written.{is_some_list};
 ghost use Rattle.grammar_specs.specs.Meaning as meaning;
@@ -28,7 +28,7 @@ fn with_null(kind: Kind) -> Kind
     }
 }
 
-// The columns of a table, no two of which have one name.
+// The columns of a table.
 fn columns_of(alloc: Global, columns: ReadColumns) -> Result<Columns, NoMemory>
     ensures { IfOk result (λ cols. cols ≡ map_of.from_entries columns) }
 {
@@ -47,10 +47,7 @@ fn dep_of(alloc: Global, left: Vec<Name>, right: Vec<Name>) -> Result<Dep, NoMem
     ensures { IfOk result (λ dep. dep ≡ meaning.dep_meaning (left.items, right.items)) }
 {
     let left = Names::new(alloc, left)?;
-    match Dep::new(left, Names::new(alloc, right)?) {
-        Ok(dep) => Ok(dep),
-        Err(_) => unreachable!(),
-    }
+    Ok(Dep::new(left, Names::new(alloc, right)?).unwrap())
 }
 
 impl Reader {
@@ -79,7 +76,6 @@ impl Reader {
         Ok(columns_of(alloc, columns)?)
     }
 
-    /// Reads a dependency.
     fn dep(&mut self, alloc: Global) -> Result<Dep, Halt>
         ensures { Follows IsDep rules.dep self.old self.new result }
     {
@@ -107,7 +103,6 @@ impl Reader {
 
     /// Reads a predicate behind "where", if it is next.
     fn condition(&mut self, alloc: Global, left: usize) -> Result<Pred, Halt>
-        requires { left ≤ 32 }
         ensures { Follows IsCondition (rules.condition left) self.old self.new result }
     {
         if self.take_word("where") {
@@ -118,7 +113,6 @@ impl Reader {
 
     /// Reads a table behind its first word.
     fn table(&mut self, alloc: Global, left: usize) -> Result<Definition, Halt>
-        requires { left ≤ 32 }
         ensures { Follows IsDefinition (rules.table_rule left) self.old self.new result }
     {
         let name = self.need_name()?;
@@ -137,7 +131,6 @@ impl Reader {
 
     /// Reads a view behind its first word.
     fn view(&mut self, alloc: Global, left: usize) -> Result<Definition, Halt>
-        requires { left ≤ 32 }
         ensures { Follows IsDefinition (rules.view_rule left) self.old self.new result }
     {
         let name = self.need_name()?;
@@ -146,9 +139,7 @@ impl Reader {
         Ok(Definition::View { name, expr })
     }
 
-    /// Reads a definition.
     fn definition(&mut self, alloc: Global, left: usize) -> Result<Definition, Halt>
-        requires { left ≤ 32 }
         ensures { Follows IsDefinition (rules.definition left) self.old self.new result }
     {
         if self.take_word("table") {
@@ -161,7 +152,6 @@ impl Reader {
     /// Reads a definition that ends with the tokens, within which so many parentheses and "not"s
     /// may be opened.
     pub fn definition_alone(&mut self, alloc: Global, left: usize) -> Result<Definition, Halt>
-        requires { left ≤ 32 }
         ensures { Follows IsDefinition (rules.alone left) self.old self.new result }
     {
         let definition = self.definition(alloc, left)?;

@@ -1,5 +1,5 @@
 //! Expressions, a function for each rule of the grammar.
-ghost use Rattle.std.specs.Prelude.{◌≡◌, ◌≤◌, true, IfOk};
+ghost use Rattle.std.specs.Prelude.{◌≡◌, true, IfOk};
 ghost use Rattle.grammar_specs.specs.Written.{is_some_list};
 ghost use Rattle.grammar_laws.specs.ExprRules as rules;
 ghost use Rattle.view_lang.specs.Outcomes.{Follows, IsExpr, IsOperand, AreItems};
@@ -28,7 +28,6 @@ impl Reader {
     /// Reads a name, or an expression in parentheses.
     #[cycle(expr)]
     fn operand(&mut self, alloc: Global, left: usize) -> Result<Expr, Halt>
-        requires { left ≤ 32 }
         ensures { Follows IsOperand (rules.operand left) self.old self.new result }
     {
         if let Some(name) = self.take_name() {
@@ -46,7 +45,6 @@ impl Reader {
     /// Reads a selection behind its first word.
     #[cycle(expr)]
     fn select(&mut self, alloc: Global, left: usize) -> Result<Expr, Halt>
-        requires { left ≤ 32 }
         ensures { Follows IsExpr (rules.select_of left (rules.operand left)) self.old self.new result }
     {
         self.need_word("from")?;
@@ -59,43 +57,24 @@ impl Reader {
     /// Reads a drop behind its first word.
     #[cycle(expr)]
     fn dropped(&mut self, alloc: Global, left: usize) -> Result<Expr, Halt>
-        requires { left ≤ 32 }
         ensures { Follows IsExpr (rules.drop_of (rules.operand left)) self.old self.new result }
     {
         let col = self.need_name()?;
         self.need_word("determined")?;
         self.need_word("by")?;
         self.need(Sign::Open)?;
-        let by = self.names(alloc)?;
-        self.drop_from(alloc, col, by, left)
-    }
-
-    /// Reads a drop of this column, which these determine, behind their names.
-    #[cycle(expr)]
-    fn drop_from(
-        &mut self,
-        alloc: Global,
-        col: Name,
-        by: Vec<Name>,
-        left: usize,
-    ) -> Result<Expr, Halt>
-        requires { left ≤ 32 }
-        ensures { Follows IsExpr (rules.drop_from (rules.operand left) col by.items)
-            self.old self.new result }
-    {
+        let by = Names::new(alloc, self.names(alloc)?)?;
         self.need(Sign::Comma)?;
         let fill = self.take_fill().ok_or(Halt::Stopped)?;
         self.need(Sign::Close)?;
         self.need_word("from")?;
         let of = Box::new(alloc, self.operand(alloc, left)?)?;
-        let by = Names::new(alloc, by)?;
         Ok(Expr::Drop { col, by, fill, of })
     }
 
     /// Reads a rename behind its first word.
     #[cycle(expr)]
     fn rename(&mut self, alloc: Global, left: usize) -> Result<Expr, Halt>
-        requires { left ≤ 32 }
         ensures { Follows IsExpr (rules.rename_of (rules.operand left)) self.old self.new result }
     {
         let col = self.need_name()?;
@@ -109,7 +88,6 @@ impl Reader {
     /// Reads a join of this kind behind its first word.
     #[cycle(expr)]
     fn join(&mut self, alloc: Global, kind: JoinKind, left: usize) -> Result<Expr, Halt>
-        requires { left ≤ 32 }
         ensures { Follows IsExpr (rules.join_of (rules.operand left) kind) self.old self.new result }
     {
         let one = Box::new(alloc, self.operand(alloc, left)?)?;
@@ -125,7 +103,6 @@ impl Reader {
     /// Reads an expression, within which so many more parentheses and "not"s may be opened.
     #[cycle(expr)]
     pub fn expr(&mut self, alloc: Global, left: usize) -> Result<Expr, Halt>
-        requires { left ≤ 32 }
         ensures { Follows IsExpr (rules.expr left) self.old self.new result }
     {
         if let Some(name) = self.take_name() {

@@ -1,5 +1,5 @@
-//! Formulas joined by "and" and by "or", and the predicate of a formula.
-ghost use Rattle.std.specs.Prelude.{◌≡◌, ◌++◌, true, IfOk, OnOk};
+//! Formulas joined by "and" and by "or".
+ghost use Rattle.std.specs.Prelude.{◌≡◌, ◌++◌, true, OnOk};
 ghost use Rattle.grammar_specs.specs.Meaning as meaning;
 ghost use Rattle.lens_pred.specs.NormalForm.{is_all_of, is_any_of};
 ghost use Rattle.lens_pred.specs.View.{formula_view, predicate_view};
@@ -7,13 +7,6 @@ ghost use Rattle.lens_pred.specs.View.{formula_view, predicate_view};
 use lens_pred::{Formula, Formulas};
 use lens_values::NoMemory;
 use std::alloc::Global;
-
-/// The formula that is this truth value.
-pub fn constant(flag: bool) -> Formula
-    ensures { formula_view result ≡ meaning.constant flag }
-{
-    if flag { Formula::True } else { Formula::False }
-}
 
 fn is_and(formula: &Formula) -> bool
     ensures { result ≡ is_all_of (formula_view formula.now) }
@@ -79,10 +72,7 @@ pub fn conjunction(mut list: Vec<Formula>) -> Formula
     if list.len() > 1 {
         return Formula::And(Formulas::new(list));
     }
-    match list.pop() {
-        Some(formula) => formula,
-        None => Formula::True,
-    }
+    list.pop().unwrap_or(Formula::True)
 }
 
 /// The one formula, or the disjunction of several.
@@ -92,31 +82,5 @@ pub fn disjunction(mut list: Vec<Formula>) -> Formula
     if list.len() > 1 {
         return Formula::Or(Formulas::new(list));
     }
-    match list.pop() {
-        Some(formula) => formula,
-        None => Formula::False,
-    }
-}
-
-/// Adds the disjuncts of the conjunction of these at the end.
-pub fn push_alternative(
-    alloc: Global,
-    ors: &mut Vec<Formula>,
-    ands: Vec<Formula>,
-) -> Result<(), NoMemory>
-    ensures { OnOk result (predicate_view ors.new.items
-        ≡ predicate_view ors.old.items
-        ++ meaning.disjuncts (meaning.conjunction (predicate_view ands.items))) }
-{
-    push_disjuncts(alloc, ors, conjunction(ands))
-}
-
-/// The conjuncts of the formula.
-pub fn conjuncts_of(alloc: Global, formula: Formula) -> Result<Vec<Formula>, NoMemory>
-    ensures { IfOk result (λ list.
-        predicate_view list.items ≡ meaning.conjuncts (formula_view formula)) }
-{
-    let mut list = Vec::new(alloc);
-    push_conjuncts(alloc, &mut list, formula)?;
-    Ok(list)
+    list.pop().unwrap_or(Formula::False)
 }

@@ -4,7 +4,7 @@ ghost use Rattle.std.specs.Str.{IsUtf8};
 ghost use Rattle.std.specs.List.{prefix_len};
 ghost use Rattle.plain_values.specs.Bytes as bytes;
 ghost use Rattle.grammar_specs.specs.Tokens as language;
-ghost use Rattle.grammar_laws.specs.Front.{quoted_in, text_at, word_at, plain_in_front, token_in_front};
+ghost use Rattle.grammar_laws.specs.Front.{quoted_in, text_at, plain_in_front, token_in_front};
 ghost use Rattle.view_lang.specs.TokenViews.{token_view, front_of, IsFront, integer_at, is_integer_text, begins_word, begins_integer, begins_arrow, sign_in_front};
 
 use crate::parsing::token::Token;
@@ -65,29 +65,12 @@ fn text_of(bytes: &[u8]) -> Option<&str>
     str::from_utf8(bytes).ok()
 }
 
-/// The word that is these bytes, if they are a word.
-fn word_token(bytes: &[u8]) -> Option<Token>
-    ensures { option_map token_view result ≡ word_at bytes.now }
-{
-    let name = Name::new(text_of(bytes)?).ok()?;
-    Some(Token::Word(name))
-}
-
 /// The number that the text says, if it is in range.
 fn number_of(text: &str) -> Option<i64>
     requires { IsTrue (is_integer_text text.now) }
     ensures { option_map language.integer result ≡ integer_at text.now }
 {
     text.parse().ok()
-}
-
-/// The number that these bytes say, if it is in range.
-fn integer_token(bytes: &[u8]) -> Option<Token>
-    requires { IsTrue (is_integer_text bytes.now) }
-    ensures { option_map token_view result ≡ integer_at bytes.now }
-{
-    let number = number_of(text_of(bytes)?)?;
-    Some(Token::Integer(number))
 }
 
 /// The word in front of the text, and its length.
@@ -97,7 +80,8 @@ fn word(text: &[u8]) -> Option<(Token, usize)>
     ensures within { IsFront text.now result }
 {
     let len = word_len(text);
-    Some((word_token(&text[..len])?, len))
+    let name = Name::new(text_of(&text[..len])?).ok()?;
+    Some((Token::Word(name), len))
 }
 
 /// Whether the text begins with `->`.
@@ -115,7 +99,8 @@ fn integer(text: &[u8]) -> Option<(Token, usize)>
     ensures within { IsFront text.now result }
 {
     let len = 1 + digit_len(&text[1..]);
-    Some((integer_token(&text[..len])?, len))
+    let number = number_of(text_of(&text[..len])?)?;
+    Some((Token::Integer(number), len))
 }
 
 /// The operator or the punctuation in front of the text, and its length.

@@ -1,5 +1,5 @@
 //! Predicates, a function for each rule of the grammar.
-ghost use Rattle.std.specs.Prelude.{◌≡◌, ◌≤◌};
+ghost use Rattle.std.specs.Prelude.{◌≡◌};
 ghost use Rattle.lens_pred.specs.Op.{op_view};
 ghost use Rattle.lens_pred.specs.View.{formula_view, predicate_view};
 ghost use Rattle.grammar_specs.specs.Written as written;
@@ -9,9 +9,7 @@ ghost use Rattle.grammar_laws.specs.PredRules as rules;
 ghost use Rattle.view_lang.specs.DefBounds.{AreNormal};
 ghost use Rattle.view_lang.specs.Outcomes.{Follows, IsPart, IsAll, IsPred, IsPredicate, AreItems};
 
-use crate::parsing::joining::{
-    conjuncts_of, constant, disjunction, push_alternative, push_conjuncts,
-};
+use crate::parsing::joining::{conjunction, disjunction, push_conjuncts, push_disjuncts};
 use crate::parsing::reader::{Halt, Reader};
 use crate::parsing::token::Sign;
 use lens_pred::{Formula, Op, Pred, Values};
@@ -23,10 +21,7 @@ pub fn predicate_of(conjuncts: Vec<Formula>) -> Pred
     requires { AreNormal (predicate_view conjuncts.items) }
     ensures { result ≡ predicate_view conjuncts.items }
 {
-    match Pred::new(conjuncts) {
-        Ok(pred) => pred,
-        Err(_) => unreachable!(),
-    }
+    Pred::new(conjuncts).unwrap()
 }
 
 impl Reader {
@@ -89,7 +84,7 @@ impl Reader {
             return self.behind_name(alloc, col);
         }
         if let Some(flag) = self.take_flag() {
-            return Ok(constant(flag));
+            return Ok(if flag { Formula::True } else { Formula::False });
         }
         if self.take_word("not") {
             return self.negated(alloc, left);
@@ -151,19 +146,19 @@ impl Reader {
         ensures { Follows IsPred (rules.pred left) self.old self.new result }
     {
         let mut ors = Vec::new(alloc);
-        push_alternative(alloc, &mut ors, self.all(alloc, left)?)?;
+        push_disjuncts(alloc, &mut ors, conjunction(self.all(alloc, left)?))?;
         while self.take_word("or") {
-            push_alternative(alloc, &mut ors, self.all(alloc, left)?)?;
+            push_disjuncts(alloc, &mut ors, conjunction(self.all(alloc, left)?))?;
         }
         Ok(disjunction(ors))
     }
 
     /// Reads a predicate, within which so many more parentheses and "not"s may be opened.
     pub fn predicate(&mut self, alloc: Global, left: usize) -> Result<Pred, Halt>
-        requires { left ≤ 32 }
         ensures { Follows IsPredicate (rules.pred left) self.old self.new result }
     {
-        let formula = self.pred(alloc, left)?;
-        Ok(predicate_of(conjuncts_of(alloc, formula)?))
+        let mut conjuncts = Vec::new(alloc);
+        push_conjuncts(alloc, &mut conjuncts, self.pred(alloc, left)?)?;
+        Ok(predicate_of(conjuncts))
     }
 }

@@ -12,20 +12,11 @@ ghost use Rattle.view_lang.specs.TokenViews.{token_view, is_sign};
 ghost use Rattle.view_lang.specs.Outcomes.{reader_view, Takes, Needs};
 
 use crate::parsing::columns::ReadColumns;
-use crate::parsing::token::{Sign, Token};
+use crate::parsing::token::{Sign, Token, flag_named, join_kind_named, kind_named};
 use lens_pred::Op;
 use lens_values::{JoinKind, Kind, Name, NoMemory, Value};
 use std::alloc::AllocFailed;
 use std::collections::VecDeque;
-
-/// A token and the offset of its first byte.
-#[derive(Drop)]
-pub struct Placed {
-    /// The offset.
-    pub at: usize,
-    /// The token.
-    pub token: Token,
-}
 
 /// Why a rule does not read on.
 #[derive(Drop)]
@@ -57,8 +48,8 @@ impl<T: Drop> From<AllocFailed<T>> for Halt {
 /// The tokens that are still to be read.
 #[derive(Drop)]
 pub struct Reader {
-    /// The next one is the first.
-    pub tokens: VecDeque<Placed>,
+    /// Each token and the offset of its first byte. The next token is the first.
+    pub tokens: VecDeque<(usize, Token)>,
 }
 
 impl Reader {
@@ -66,10 +57,7 @@ impl Reader {
     pub fn next(&self) -> Option<&Token>
         ensures { option_map (λ t. token_view t.now) result ≡ next (reader_view self.now) }
     {
-        match self.tokens.front() {
-            Some(placed) => Some(&placed.token),
-            None => None,
-        }
+        self.tokens.front().map(|placed| &placed.1)
     }
 
     /// Moves past the next token.
@@ -130,7 +118,10 @@ impl Reader {
     pub fn take_flag(&mut self) -> Option<bool>
         ensures { Takes tests.flag_in self.old self.new result }
     {
-        let flag = self.next()?.flag()?;
+        let Token::Word(word) = self.next()? else {
+            return None;
+        };
+        let flag = flag_named(word.as_str())?;
         self.skip();
         Some(flag)
     }
@@ -139,7 +130,9 @@ impl Reader {
     pub fn take_op(&mut self) -> Option<Op>
         ensures { Takes tests.op_in self.old self.new (option_map op_view result) }
     {
-        let op = self.next()?.op()?;
+        let Token::Operator(op) = *self.next()? else {
+            return None;
+        };
         self.skip();
         Some(op)
     }
@@ -148,7 +141,10 @@ impl Reader {
     pub fn take_kind(&mut self) -> Option<Kind>
         ensures { Takes tests.kind_in self.old self.new result }
     {
-        let kind = self.next()?.kind()?;
+        let Token::Word(word) = self.next()? else {
+            return None;
+        };
+        let kind = kind_named(word.as_str())?;
         self.skip();
         Some(kind)
     }
@@ -157,7 +153,10 @@ impl Reader {
     pub fn take_join_kind(&mut self) -> Option<JoinKind>
         ensures { Takes tests.join_kind_in self.old self.new result }
     {
-        let kind = self.next()?.join_kind()?;
+        let Token::Word(word) = self.next()? else {
+            return None;
+        };
+        let kind = join_kind_named(word.as_str())?;
         self.skip();
         Some(kind)
     }
@@ -169,7 +168,7 @@ impl Reader {
         if !self.next()?.is_literal() {
             return None;
         }
-        self.tokens.pop_front()?.token.into_literal()
+        self.tokens.pop_front()?.1.into_literal()
     }
 
     /// Reads a literal or null, if one is next.
@@ -214,6 +213,6 @@ impl Reader {
     pub fn offset_or(&self, end: usize) -> usize
         ensures { result ≡ next_offset (reader_view self.now) end }
     {
-        self.tokens.front().map_or(end, |placed| placed.at)
+        self.tokens.front().map_or(end, |placed| placed.0)
     }
 }

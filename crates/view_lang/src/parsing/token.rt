@@ -1,7 +1,6 @@
 //! One token of the language.
-ghost use Rattle.std.specs.Prelude.{◌≡◌, is_some, option_map};
+ghost use Rattle.std.specs.Prelude.{◌≡◌, is_some};
 ghost use Rattle.grammar_specs.specs.Tokens as language;
-ghost use Rattle.lens_pred.specs.Op.{op_view};
 ghost use Rattle.grammar_laws.specs.Tests as tests;
 
 use crate::words::{flag_word, join_word, kind_word};
@@ -17,11 +16,8 @@ pub enum Token {
     Integer(i64),
     /// A text, without its quotes.
     Text(Text),
-    /// `(`
     OpenParen,
-    /// `)`
     CloseParen,
-    /// `,`
     Comma,
     /// `->`
     Arrow,
@@ -32,15 +28,10 @@ pub enum Token {
 /// Punctuation, and the `=` before an expression.
 #[derive(Clone, Copy)]
 pub enum Sign {
-    /// `(`
     Open,
-    /// `)`
     Close,
-    /// `,`
     Comma,
-    /// `->`
     Arrow,
-    /// `=`
     Equals,
 }
 
@@ -68,7 +59,7 @@ fn is_free(word: &Name) -> bool
     !is_reserved(word.as_str())
 }
 
-fn flag_named(word: &str) -> Option<bool>
+pub fn flag_named(word: &str) -> Option<bool>
     ensures { result ≡ tests.flag_named word.now }
 {
     [true, false]
@@ -76,7 +67,7 @@ fn flag_named(word: &str) -> Option<bool>
         .find(|flag| flag_word(*flag) == word)
 }
 
-fn kind_named(word: &str) -> Option<Kind>
+pub fn kind_named(word: &str) -> Option<Kind>
     ensures { result ≡ tests.kind_named word.now }
 {
     [Kind::Int, Kind::Text, Kind::Flag]
@@ -84,7 +75,7 @@ fn kind_named(word: &str) -> Option<Kind>
         .find(|kind| kind_word(*kind) == word)
 }
 
-fn join_kind_named(word: &str) -> Option<JoinKind>
+pub fn join_kind_named(word: &str) -> Option<JoinKind>
     ensures { result ≡ tests.join_kind_named word.now }
 {
     [
@@ -128,46 +119,6 @@ impl Token {
     {
         match self {
             Token::Word(name) if is_free(name) => Some(*name),
-            _ => None,
-        }
-    }
-
-    /// The operator, if the token is one.
-    pub fn op(&self) -> Option<Op>
-        ensures { option_map op_view result ≡ tests.op_in (token_view self.now) }
-    {
-        match self {
-            Token::Operator(op) => Some(*op),
-            _ => None,
-        }
-    }
-
-    /// The truth value, if the token is one.
-    pub fn flag(&self) -> Option<bool>
-        ensures { result ≡ tests.flag_in (token_view self.now) }
-    {
-        match self {
-            Token::Word(name) => flag_named(name.as_str()),
-            _ => None,
-        }
-    }
-
-    /// The kind, if the token is one.
-    pub fn kind(&self) -> Option<Kind>
-        ensures { result ≡ tests.kind_in (token_view self.now) }
-    {
-        match self {
-            Token::Word(name) => kind_named(name.as_str()),
-            _ => None,
-        }
-    }
-
-    /// The kind of joins that the token begins, if it begins one.
-    pub fn join_kind(&self) -> Option<JoinKind>
-        ensures { result ≡ tests.join_kind_in (token_view self.now) }
-    {
-        match self {
-            Token::Word(name) => join_kind_named(name.as_str()),
             _ => None,
         }
     }

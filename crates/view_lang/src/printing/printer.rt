@@ -1,7 +1,7 @@
 //! Tokens written one after another, with spaces between them.
 ghost use Rattle.std.specs.Prelude.{◌≡◌, [], ◌∷◌, ◌++◌, OnOk, IsTrue, false, string_bytes};
 ghost use Rattle.grammar_specs.specs.Tokens as token;
-ghost use Rattle.grammar_specs.specs.Tokens.{quotes_doubled};
+ghost use Rattle.grammar_specs.specs.Printing.{token_bytes};
 ghost use Rattle.grammar_specs.specs.Written.{literal};
 ghost use Rattle.lens_pred.specs.Op.{op_view};
 ghost use Rattle.view_lang.specs.PrintAdds.{blank, before_item, Puts, Adds};
@@ -30,14 +30,12 @@ impl Printer {
         Printer { text, glued: true }
     }
 
-    /// A word.
     pub(crate) fn word(&mut self, word: &str) -> Result<(), NoMemory>
         ensures { OnOk result (Adds self.old self.new (token.word word.now ∷ [])) }
     {
         self.put(word)
     }
 
-    /// A name.
     pub(crate) fn name(&mut self, name: &Name) -> Result<(), NoMemory>
         ensures { OnOk result (Adds self.old self.new (token.word name.now ∷ [])) }
     {
@@ -48,17 +46,15 @@ impl Printer {
     pub(crate) fn literal(&mut self, value: &Value) -> Result<(), NoMemory>
         ensures { OnOk result (Adds self.old self.new (literal value.now ∷ [])) }
     {
+        self.space()?;
         match value {
-            Value::Null => self.word("null"),
-            Value::Int(number) => {
-                self.space()?;
-                write!(self.text, "{number}")?;
-                self.glued = false;
-                Ok(())
-            }
-            Value::Text(text) => self.quoted(text.as_str()),
-            Value::Flag(flag) => self.word(flag_word(*flag)),
+            Value::Null => self.text.push_str("null")?,
+            Value::Int(number) => write!(self.text, "{number}")?,
+            Value::Text(text) => push_quoted(&mut self.text, text.as_str())?,
+            Value::Flag(flag) => self.text.push_str(flag_word(*flag))?,
         }
+        self.glued = false;
+        Ok(())
     }
 
     /// The operator of a comparison.
@@ -68,14 +64,12 @@ impl Printer {
         self.put(operator_sign(op))
     }
 
-    /// `->`
     pub(crate) fn arrow(&mut self) -> Result<(), NoMemory>
         ensures { OnOk result (Adds self.old self.new (token.arrow ∷ [])) }
     {
         self.put("->")
     }
 
-    /// `(`
     pub(crate) fn open(&mut self) -> Result<(), NoMemory>
         ensures { OnOk result (Adds self.old self.new (token.open_paren ∷ [])) }
     {
@@ -84,14 +78,12 @@ impl Printer {
         Ok(())
     }
 
-    /// `)`
     pub(crate) fn close(&mut self) -> Result<(), NoMemory>
         ensures { OnOk result (Adds self.old self.new (token.close_paren ∷ [])) }
     {
         self.glue(")")
     }
 
-    /// `,`
     pub(crate) fn comma(&mut self) -> Result<(), NoMemory>
         ensures { OnOk result (Adds self.old self.new (token.comma ∷ [])) }
     {
@@ -110,18 +102,6 @@ impl Printer {
         ensures { OnOk result (Adds self.old self.new (before_item index (token.word word.now))) }
     {
         if index == 0 { Ok(()) } else { self.word(word) }
-    }
-
-    // A text between quotes, with each quote in it written twice.
-    fn quoted(&mut self, value: &str) -> Result<(), NoMemory>
-        ensures { OnOk result (Adds self.old self.new (token.text value.now ∷ [])) }
-    {
-        self.space()?;
-        self.text.push('\'')?;
-        push_doubled(&mut self.text, value)?;
-        self.text.push('\'')?;
-        self.glued = false;
-        Ok(())
     }
 
     // A space, unless the next token is glued to the last.
@@ -153,16 +133,17 @@ impl Printer {
     }
 }
 
-// Adds the bytes of the value, with each quote written twice.
-fn push_doubled(text: &mut String, value: &str) -> Result<(), NoMemory>
+// Adds the value between quotes, with each quote in it written twice.
+fn push_quoted(text: &mut String, value: &str) -> Result<(), NoMemory>
     ensures { OnOk result (string_bytes text.new
-        ≡ string_bytes text.old ++ quotes_doubled value.now) }
+        ≡ string_bytes text.old ++ token_bytes (token.text value.now)) }
 {
+    text.push('\'')?;
     for c in value.chars() {
         if c == '\'' {
             text.push(c)?;
         }
         text.push(c)?;
     }
-    Ok(())
+    Ok(text.push('\'')?)
 }

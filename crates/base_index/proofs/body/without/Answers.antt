@@ -1,8 +1,7 @@
 use Rattle.std.proofs.Common.{◌≡◌, [], ap, sym, ◌∙◌, rules}
-use Rattle.std.proofs.lemmas.List.{nil_from_length}
+use Rattle.plain_values.proofs.Common.{nil_from_length}
 use Rattle.plain_values.specs.SortedSet as set
-use Rattle.key_index.specs.Lists.{rows_of}
-use Rattle.key_index.proofs.Lists.{none_less}
+use Rattle.key_index.proofs.Common.{rows_of, none_less}
 use Rattle.base_index.proofs.body.without.Goals as goal
 
 pub returns-then-is_empty : goal.returns-then-is_empty

@@ -1,8 +1,7 @@
 use Rattle.std.proofs.Common.{◌≡◌, ◌+◌, ◌≤◌, ◌++◌, ◌∷◌, [], drop, length, ap, sym, ◌∙◌, arith, rules}
-use Rattle.std.proofs.lemmas.List.{take_all}
-use Rattle.std.proofs.lemmas.Bool.{false≢true}
+use Rattle.plain_values.proofs.Common.{take_all, false≢true}
 use Rattle.plain_values.specs.SortedSet as set
-use Rattle.key_index.specs.Lists.{rows_of}
+use Rattle.key_index.proofs.Common.{rows_of}
 use Rattle.key_index.proofs.Fronts.{all_gone, one_less_behind, same_front}
 use Rattle.base_index.proofs.listing.show_behind.Goals.{in-Some, in_default}
 use Rattle.base_index.proofs.listing.show_behind.Goals as goal

@@ -1,6 +1,6 @@
 use Rattle.std.proofs.Common.{◌≡◌, ◌+◌, drop, take, length}
 use Rattle.plain_values.specs.SortedSet as set
-use Rattle.key_index.specs.Lists.{rows_of}
+use Rattle.key_index.proofs.Common.{rows_of}
 use Rattle.base_index.proofs.listing.show_behind.Given as goal
 
 -- what is left behind the first still goes

@@ -1,6 +1,6 @@
 use Rattle.std.proofs.Common.{ap, sym, ◌∙◌}
 use Rattle.plain_values.specs.SortedSet as set
-use Rattle.key_index.proofs.Fronts.{no_row_less, one_more_less}
+use Rattle.key_index.proofs.Common.{no_row_less, one_more_less}
 use Rattle.base_index.proofs.settling.show_each.Goals as goal
 
 pub loop-row-init : goal.loop-row-init

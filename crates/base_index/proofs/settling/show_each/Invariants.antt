@@ -1,6 +1,6 @@
 use Rattle.std.proofs.Common.{◌≡◌, take}
 use Rattle.plain_values.specs.SortedSet as set
-use Rattle.key_index.specs.Lists.{set_of}
+use Rattle.key_index.proofs.Common.{set_of}
 use Rattle.base_index.proofs.settling.show_each.Given as goal
 
 abbrev pub invariant-loop-row : goal.invariant-loop-row

@@ -1,11 +1,9 @@
-use Rattle.std.proofs.Common.{◌≡◌, ◌+◌, ◌++◌, ◌∷◌, [], length, ap, sym, ◌∙◌, subst, arith, rules}
-use Rattle.std.specs.Prelude.{if◌then◌else◌}
-use Rattle.std.proofs.lemmas.Bool.{false≢true}
-use Rattle.std.proofs.lemmas.List.{nil_from_length}
+use Rattle.std.proofs.Common.{◌≡◌, ◌+◌, ◌++◌, ◌∷◌, [], length, ap, sym, ◌∙◌, subst, arith, rules, if◌then◌else◌}
+use Rattle.plain_values.proofs.Common.{false≢true, nil_from_length}
 use Rattle.plain_values.specs.SortedSet as set
-use Rattle.key_index.specs.Lists.{SameCols, AreKeyed, IsTableOf, rows_of}
+use Rattle.key_index.proofs.Common.{SameCols, AreKeyed, IsTableOf, rows_of, all_keep_keys, none_less, same_trans}
 use Rattle.key_index.proofs.Fronts.{hidden_less, none_both}
-use Rattle.key_index.proofs.Lists.{all_keep_keys, none_less, one_less, others_keyed, same_trans}
+use Rattle.key_index.proofs.Lists.{one_less, others_keyed}
 use Rattle.base_index.proofs.settling.take_hidden.Goals.{in-Some, in_default}
 use Rattle.base_index.proofs.settling.take_hidden.Goals as goal
 

@@ -1,6 +1,6 @@
 use Rattle.std.proofs.Common.{◌≡◌, ◌+◌, length}
 use Rattle.plain_values.specs.SortedSet as set
-use Rattle.key_index.specs.Lists.{AreKeyed, IsTableOf, SameCols, rows_of}
+use Rattle.key_index.proofs.Common.{AreKeyed, IsTableOf, SameCols, rows_of}
 use Rattle.base_index.proofs.settling.take_hidden.Given as goal
 
 -- the hidden ones of what is left still go

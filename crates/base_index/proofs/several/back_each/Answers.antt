@@ -1,5 +1,5 @@
 use Rattle.std.proofs.Common.{◌≡◌, ◌+◌, ◌<◌, ◌∷◌, set, get_or, drop, length, ap, ◌∙◌, subst, rules, true}
-use Rattle.std.proofs.lemmas.List.Edits.{map_over_more}
+use Rattle.plain_values.proofs.Common.{map_over_more}
 use Rattle.base_index.specs.Several.{AreHeld, taken_back}
 use Rattle.base_index.proofs.Holding.{back_is}
 use Rattle.base_index.proofs.Tabled.{left_at, still_at}

@@ -1,5 +1,5 @@
 use Rattle.std.proofs.Common.{◌≡◌, ◌+◌, ◌<◌, ◌∷◌, set, get_or, drop, length, ap, ◌∙◌, subst, rules, false}
-use Rattle.std.proofs.lemmas.List.Edits.{map_over_more}
+use Rattle.plain_values.proofs.Common.{map_over_more}
 use Rattle.base_index.specs.Several.{AreHeld, AreQuiet, holding}
 use Rattle.base_index.proofs.Holding.{none_held}
 use Rattle.base_index.proofs.Tabled.{left_at, still_at}

@@ -1,5 +1,5 @@
 use Rattle.std.proofs.Common.{◌≡◌, ◌+◌, ◌<◌, ◌∷◌, set, get_or, drop, length, ap, ◌∙◌, subst, rules}
-use Rattle.std.proofs.lemmas.List.Edits.{map_over_more}
+use Rattle.plain_values.proofs.Common.{map_over_more}
 use Rattle.base_index.specs.Several.{AreQuiet, kept}
 use Rattle.base_index.proofs.Tabled.{left_at, still_at}
 use Rattle.base_index.proofs.several.keep_each.Goals as goal

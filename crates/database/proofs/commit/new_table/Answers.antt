@@ -1,6 +1,6 @@
 use Rattle.std.proofs.Common.{◌≡◌, ◌∙◌, Some, ap, sym}
-use Rattle.lens_specs.specs.Lens.{sort_of}
-use Rattle.lens_laws.proofs.Rules.{given_is}
+use Rattle.lens_specs.specs.Common.{sort_of}
+use Rattle.lens_laws.proofs.Common.{given_is}
 use Rattle.database.specs.Staging.{table_of}
 use Rattle.database.proofs.commit.new_table.Goals as goal
 

@@ -1,5 +1,5 @@
 use Rattle.std.proofs.Common.{◌∙◌, ap, refl, subst}
-use Rattle.server_specs.specs.Answer.{text}
+use Rattle.server_specs.specs.Common.{text}
 use Rattle.database.specs.Plans.{Leads}
 use Rattle.database.specs.States.{state_of}
 use Rattle.database.proofs.SettledPlans.{outcome_given_up, outcome_unchanged, raised}

@@ -1,5 +1,4 @@
-use Rattle.std.proofs.Common.{◌≡◌, ◌∙◌, ◌+◌, ◌≤◌, subst, sym}
-use Rattle.std.specs.Prelude.{OnOk}
+use Rattle.std.proofs.Common.{◌≡◌, ◌∙◌, ◌+◌, ◌≤◌, subst, sym, OnOk}
 use Rattle.base_index.specs.Held.{defined, walked_for}
 use Rattle.database.specs.Staging.{needs_of}
 use Rattle.database.proofs.LensNeeds.{needs_are}

@@ -1,7 +1,6 @@
-use Rattle.std.proofs.Common.{◌∙◌, ap, refl, sym}
-use Rattle.std.specs.Prelude.{◌==◌, length, map}
+use Rattle.std.proofs.Common.{◌∙◌, ap, refl, sym, ◌==◌, length, map}
 use Rattle.reply_printing.specs.Answers.{answer_view}
-use Rattle.server_specs.specs.Answer.{changed}
+use Rattle.server_specs.specs.Common.{changed}
 use Rattle.signed_delta.specs.Tables.{table_delta}
 use Rattle.database.proofs.ChangePlans.{change_to, changes_planned, nothing_planned, told_none, told_some}
 use Rattle.database.proofs.plans.plan_changes.Goals as goal

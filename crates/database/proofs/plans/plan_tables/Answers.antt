@@ -1,6 +1,5 @@
-use Rattle.std.proofs.Common.{◌∙◌, ◌+◌, ap, refl}
-use Rattle.std.specs.Prelude.{map}
-use Rattle.server_specs.specs.Answer.{changed}
+use Rattle.std.proofs.Common.{◌∙◌, ◌+◌, ap, refl, map}
+use Rattle.server_specs.specs.Common.{changed}
 use Rattle.signed_delta.specs.Tables.{table_delta}
 use Rattle.database.proofs.plans.plan_tables.Goals as goal
 

@@ -1,7 +1,6 @@
-use Rattle.std.proofs.Common.{◌≡◌, ◌∙◌, ◌++◌, ◌∷◌, ◌<◌, [], ap, length, subst, sym}
-use Rattle.std.specs.Prelude.{◌^◌}
-use Rattle.std.specs.Option.{option_to_list}
-use Rattle.catalog_specs.specs.Catalogue.{catalogue}
+use Rattle.std.proofs.Common.{◌≡◌, ◌∙◌, ◌++◌, ◌∷◌, ◌<◌, [], ap, length, subst, sym, ◌^◌}
+use Rattle.plain_values.proofs.Common.{option_to_list}
+use Rattle.server_specs.specs.Common.{catalogue}
 use Rattle.base_index.specs.Held.{IsQuiet}
 use Rattle.view_catalog.specs.Admissions.{table_in}
 use Rattle.database.specs.Plans.{IsFree}

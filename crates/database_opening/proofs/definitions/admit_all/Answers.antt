@@ -1,7 +1,6 @@
 use Rattle.std.proofs.Common.{◌≡◌, ◌∙◌, ◌++◌, ◌∷◌, [], None, append_assoc, ap, length, refl, subst, sym}
-use Rattle.std.specs.Vec.Iter.{into_iter_items}
-use Rattle.catalog_specs.specs.Catalogue.{catalogue}
-use Rattle.catalog_specs.specs.Judging.{first_refused, judged}
+use Rattle.plain_values.proofs.Common.{into_iter_items}
+use Rattle.server_specs.specs.Common.{catalogue, first_refused, judged}
 use Rattle.grammar_laws.specs.Reading.{reading}
 use Rattle.view_catalog.specs.Faults.{IsRefused}
 use Rattle.database_opening.specs.Openings.{HasTables}

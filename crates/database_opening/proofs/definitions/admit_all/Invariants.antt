@@ -1,6 +1,6 @@
 use Rattle.std.proofs.Common.{◌≡◌, ◌++◌}
-use Rattle.std.specs.Vec.Iter.{into_iter_items}
-use Rattle.catalog_specs.specs.Catalogue.{catalogue}
+use Rattle.plain_values.proofs.Common.{into_iter_items}
+use Rattle.server_specs.specs.Common.{catalogue}
 use Rattle.database_opening.specs.Openings.{HasEmptyTables, HasTables}
 use Rattle.database_opening.proofs.definitions.admit_all.Given as goal
 

@@ -1,7 +1,6 @@
-use Rattle.std.proofs.Common.{◌≡◌, ◌∙◌, Ok, ap, sym}
-use Rattle.std.specs.Prelude.{option_map}
-use Rattle.std.proofs.lemmas.Result.{err_from_is_err_and}
-use Rattle.catalog_specs.specs.Catalogue.{catalogue}
+use Rattle.std.proofs.Common.{◌≡◌, ◌∙◌, Ok, ap, sym, option_map}
+use Rattle.plain_values.proofs.Common.{err_from_is_err_and}
+use Rattle.server_specs.specs.Common.{catalogue}
 use Rattle.opening_specs.specs.Opening as opening
 use Rattle.table_keeper.specs.Changes.{kept_view}
 use Rattle.table_keeper.specs.Places.{rows_in}

@@ -1,8 +1,7 @@
 use Rattle.std.proofs.Common.{◌∙◌, ap, sym}
-use Rattle.std.proofs.lemmas.Bool.{true≢false}
-use Rattle.plain_values.specs.Row.{row_cmp}
+use Rattle.plain_values.proofs.Common.{true≢false, row_cmp}
 use Rattle.plain_values.specs.SortedSet as set
-use Rattle.lens_specs.specs.Relation.{has}
+use Rattle.lens_specs.specs.Common.{has}
 use Rattle.database_opening.proofs.opening.fillings.Goals as goal
 
 pub new-delta-requires : goal.new-delta-requires

@@ -1,5 +1,5 @@
 use Rattle.std.proofs.Common.{◌≡◌, ◌++◌, map}
-use Rattle.std.specs.Vec.Iter.{into_iter_items}
+use Rattle.plain_values.proofs.Common.{into_iter_items}
 use Rattle.signed_delta.specs.Tables.{table_delta}
 use Rattle.database_opening.specs.Openings.{filling}
 use Rattle.database_opening.proofs.opening.fillings.Given as goal

@@ -1,6 +1,6 @@
 use Rattle.std.proofs.Common.{◌≡◌, ◌∙◌, ℕ, ap, sym}
-use Rattle.std.specs.Slice.Iter.{iter_rest}
-use Rattle.lens_laws.proofs.Entries.{with_all}
+use Rattle.plain_values.proofs.Common.{iter_rest}
+use Rattle.lens_laws.proofs.Common.{with_all}
 use Rattle.database_opening.proofs.Stored.{all_made, last_made, made_of}
 use Rattle.database_opening.proofs.opening.first_versions.Goals as goal
 

@@ -1,8 +1,8 @@
 use Rattle.std.proofs.Common.{◌≡◌}
-use Rattle.std.specs.Slice.Iter.{iter_rest}
+use Rattle.plain_values.proofs.Common.{iter_rest}
 use Rattle.opening_specs.specs.Opening.{mapped}
 use Rattle.table_keeper.specs.Places.{rows_in}
-use Rattle.lens_laws.proofs.Entries.{with_all}
+use Rattle.lens_laws.proofs.Common.{with_all}
 use Rattle.database_opening.proofs.Stored.{made_of}
 use Rattle.database_opening.proofs.opening.first_versions.Given as goal
 

@@ -1,7 +1,6 @@
-use Rattle.std.proofs.Common.{◌≡◌, ◌∙◌, ap, subst}
-use Rattle.std.specs.Prelude.{IfOk, option_map}
+use Rattle.std.proofs.Common.{◌≡◌, ◌∙◌, ap, subst, IfOk, option_map}
 use Rattle.plain_values.specs.SortedSet as set
-use Rattle.catalog_specs.specs.Catalogue.{catalogue}
+use Rattle.server_specs.specs.Common.{catalogue}
 use Rattle.opening_specs.specs.Opening.{damage_among}
 use Rattle.table_keeper.specs.Places.{rows_in}
 use Rattle.database_opening.specs.Openings.{damage_view}

@@ -1,5 +1,5 @@
 use Rattle.std.proofs.Common.{◌≡◌, drop}
-use Rattle.catalog_specs.specs.Catalogue.{catalogue}
+use Rattle.server_specs.specs.Common.{catalogue}
 use Rattle.opening_specs.specs.Opening.{damage_among}
 use Rattle.table_keeper.specs.Places.{rows_in}
 use Rattle.database_opening.proofs.tables.first_damage.Given as goal

@@ -1,5 +1,5 @@
 use Rattle.std.proofs.Common.{◌≡◌, ◌∙◌, ◌&&◌, ap, sym}
-use Rattle.lens_specs.specs.Predicate.{holds}
+use Rattle.lens_specs.specs.Common.{holds}
 use Rattle.opening_specs.specs.Opening.{is_fit}
 use Rattle.database_opening.proofs.Inspected.{fits_told}
 use Rattle.database_opening.proofs.tables.is_good.Goals as goal

@@ -1,7 +1,6 @@
 use Rattle.std.proofs.Common.{◌∙◌, Ok, Err, get_or, rules, sym}
-use Rattle.std.proofs.lemmas.List.Sorted.{answers_always}
+use Rattle.plain_values.proofs.Common.{answers_always, none_is}
 use Rattle.std.specs.FinMap as finmap
-use Rattle.plain_values.proofs.Tests.{none_is}
 use Rattle.table_keeper.specs.Changes.{names_of}
 use Rattle.table_keeper.specs.Places.{rows_in}
 use Rattle.table_keeper.proofs.ByName.{rows_found, there_is}

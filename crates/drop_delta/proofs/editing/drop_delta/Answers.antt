@@ -1,6 +1,6 @@
 use Rattle.std.proofs.Common.{◌≡◌, ◌∙◌}
-use Rattle.lens_specs.specs.Delta.{Delta, diff}
-use Rattle.lens_laws.specs.Work.{rows_of}
+use Rattle.lens_specs.specs.Common.{Delta, diff}
+use Rattle.lens_laws.proofs.Common.{rows_of}
 use Rattle.drop_delta.specs.Dropped.{edited_source, filled_in}
 use Rattle.drop_delta.proofs.DropLooks.{few_are, looks_are}
 use Rattle.drop_delta.proofs.Filling.{apart, carried, have, removed_fit}

@@ -4,7 +4,7 @@ use Rattle.signed_delta.proofs.Looks.{listed_at}
 use Rattle.signed_delta.proofs.Counts.{at_end}
 use Rattle.drop_delta.specs.Dropped.{filled_in}
 use Rattle.drop_delta.proofs.DropLooks.{first_pushed, made_few, made_fewer, one_filled, second_pushed}
-use Rattle.lens_laws.specs.Work.{count_of, rows_of}
+use Rattle.lens_laws.proofs.Common.{count_of, rows_of}
 use Rattle.drop_delta.proofs.Filling.{made_all, made_more, made_no_more}
 use Rattle.drop_delta.proofs.editing.filled_sides.Goals.{in-Some+in_ok-filled_row+in_ok-push, in_default, in-Some-get+in_ok-filled_row-2+in_ok-push-2, in_default-get}
 use Rattle.drop_delta.proofs.editing.filled_sides.Goals as goal

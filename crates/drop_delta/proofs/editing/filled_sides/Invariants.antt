@@ -1,5 +1,4 @@
-use Rattle.std.proofs.Common.{◌≡◌, ◌≤◌, ◌+◌, ◌*◌, ℕ, length, take}
-use Rattle.std.specs.Prelude.{map}
+use Rattle.std.proofs.Common.{◌≡◌, ◌≤◌, ◌+◌, ◌*◌, ℕ, length, take, map}
 use Rattle.plain_values.specs.SortedSet as set
 use Rattle.drop_delta.specs.Dropped.{BothFill, filled_in}
 use Rattle.drop_delta.proofs.editing.filled_sides.Given as goal

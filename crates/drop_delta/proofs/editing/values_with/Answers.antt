@@ -1,11 +1,9 @@
-use Rattle.std.proofs.Common.{◌≡◌, ◌∙◌, [], ◌∷◌, ◌++◌, Some, ap, cond, sym, append-nil}
-use Rattle.std.specs.Prelude.{option_copied}
+use Rattle.std.proofs.Common.{◌≡◌, ◌∙◌, [], ◌∷◌, ◌++◌, Some, ap, cond, sym, append-nil, option_copied}
 use Rattle.std.specs.FinMap as finmap
-use Rattle.std.specs.List.{cons_option}
-use Rattle.std.specs.Cmp.Lexicographic.{texts_ties}
+use Rattle.plain_values.proofs.Common.{cons_option, texts_ties}
 use Rattle.lens_values.proofs.Cells.{one_more}
-use Rattle.lens_specs.specs.Rows.{at, with_at}
-use Rattle.fd_laws.proofs.Rows.{at-with_at}
+use Rattle.lens_specs.specs.Common.{at, with_at}
+use Rattle.fd_laws.proofs.Common.{at-with_at}
 use Rattle.drop_delta.proofs.editing.values_with.Goals.{then-eq, else-eq, in-Some+in_ok-copy+in_ok-push, in_default}
 use Rattle.drop_delta.proofs.editing.values_with.Goals as goal
 

@@ -1,7 +1,7 @@
 use Rattle.std.proofs.Common.{◌≡◌, Some, take}
 use Rattle.std.specs.FinMap as finmap
-use Rattle.std.specs.List.{filter_map}
-use Rattle.lens_specs.specs.Rows.{with_at}
+use Rattle.plain_values.proofs.Common.{filter_map}
+use Rattle.lens_specs.specs.Common.{with_at}
 use Rattle.drop_delta.proofs.editing.values_with.Given as goal
 
 abbrev pub invariant-loop-name : goal.invariant-loop-name

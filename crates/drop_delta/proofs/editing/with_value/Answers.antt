@@ -1,12 +1,10 @@
-use Rattle.std.proofs.Common.{◌≡◌, ◌∙◌, Some, ap, arith, length, subst, sym}
-use Rattle.std.specs.Prelude.{IfOk}
+use Rattle.std.proofs.Common.{◌≡◌, ◌∙◌, Some, ap, arith, length, subst, sym, IfOk}
 use Rattle.std.specs.FinMap as finmap
-use Rattle.std.proofs.lemmas.Result.{IfOk-weaker}
+use Rattle.plain_values.proofs.Common.{IfOk-weaker, override}
 use Rattle.lens_values.specs.Paired.{paired}
-use Rattle.plain_values.specs.Part.{override}
 use Rattle.plain_values.specs.SortedSet as set
 use Rattle.lens_values.proofs.Cells.{all_made, own_names}
-use Rattle.lens_specs.specs.Rows.{with_at}
+use Rattle.lens_specs.specs.Common.{with_at}
 use Rattle.drop_delta.proofs.Written.{over_is, written_knows}
 use Rattle.drop_delta.proofs.editing.with_value.Goals as goal
 

@@ -1,7 +1,7 @@
 use Rattle.std.proofs.Common.{◌≡◌, ◌∙◌, drop, map, sym, subst}
-use Rattle.std.proofs.lemmas.List.{drop_all}
+use Rattle.plain_values.proofs.Common.{drop_all}
 use Rattle.signed_delta.specs.Tables.{table_delta}
-use Rattle.lens_specs.specs.TableDeltas.{AreDeltas, composed}
+use Rattle.lens_specs.specs.Common.{AreDeltas, composed}
 use Rattle.edit_batches.proofs.Moves.{composed_are, no_more}
 use Rattle.edit_batches.proofs.composing.compose.Goals as goal
 

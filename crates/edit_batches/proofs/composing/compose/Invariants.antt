@@ -1,6 +1,6 @@
 use Rattle.std.proofs.Common.{◌≡◌, ◌++◌, map, drop}
 use Rattle.signed_delta.specs.Tables.{table_delta}
-use Rattle.lens_specs.specs.TableDeltas.{composed, composed_at}
+use Rattle.lens_specs.specs.Common.{composed, composed_at}
 use Rattle.edit_batches.proofs.composing.compose.Given as goal
 
 -- with the tables that are left, it is what both do

@@ -1,5 +1,5 @@
 use Rattle.std.proofs.Common.{ap, sym, ◌∙◌}
-use Rattle.lens_specs.specs.Relation.{has}
+use Rattle.lens_specs.specs.Common.{has}
 use Rattle.edit_batches.proofs.Moves.{pair_apart}
 use Rattle.plain_values.specs.SortedSet as set
 use Rattle.edit_batches.proofs.composing.compose_meeting.Goals as goal

@@ -1,5 +1,5 @@
 use Rattle.std.proofs.Common.{ap, sym, subst, ◌∙◌}
-use Rattle.lens_specs.specs.Relation.{has}
+use Rattle.lens_specs.specs.Common.{has}
 use Rattle.plain_values.specs.SortedSet as set
 use Rattle.signed_delta.specs.Disjoint.{AreApart}
 use Rattle.edit_batches.proofs.Unions.{both_kept, kept_apart}

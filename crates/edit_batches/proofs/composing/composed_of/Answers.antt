@@ -1,7 +1,5 @@
-use Rattle.std.proofs.Common.{◌≡◌, ap, sym, subst, ◌∙◌, arith}
-use Rattle.std.specs.Prelude.{IfOk}
-use Rattle.lens_specs.specs.Relation.{has}
-use Rattle.lens_specs.specs.TableDeltas.{compose_delta}
+use Rattle.std.proofs.Common.{◌≡◌, ap, sym, subst, ◌∙◌, arith, IfOk}
+use Rattle.lens_specs.specs.Common.{has, compose_delta}
 use Rattle.edit_batches.specs.Chains.{no_change}
 use Rattle.edit_batches.proofs.RowSets.{contained}
 use Rattle.edit_batches.proofs.Unions.{nothing_then, then_nothing}

@@ -1,5 +1,5 @@
 use Rattle.std.proofs.Common.{◌≡◌, map, drop}
-use Rattle.lens_laws.specs.Edits.{delta_for}
+use Rattle.lens_laws.proofs.Common.{delta_for}
 use Rattle.signed_delta.specs.Tables.{table_delta}
 use Rattle.edit_batches.proofs.composing.delta_of.Given as goal
 

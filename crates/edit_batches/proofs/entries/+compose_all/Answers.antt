@@ -1,7 +1,7 @@
 use Rattle.std.proofs.Common.{◌∙◌, [], ◌++◌, map, sym, subst, take-append-drop}
 use Rattle.signed_delta.specs.Tables.{table_delta}
 use Rattle.edit_batches.specs.Histories.{deltas_of}
-use Rattle.lens_specs.specs.TableDeltas.{LeadTo, composed}
+use Rattle.lens_specs.specs.Common.{LeadTo, composed}
 use Rattle.edit_batches.specs.Chains.{Chain}
 use Rattle.edit_batches.proofs.Chains.{halves_lead, if_ok, one_leads, one_of, two_lead, two_of}
 use Rattle.edit_batches.proofs.entries.+compose_all.Goals as goal

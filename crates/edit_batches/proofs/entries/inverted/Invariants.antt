@@ -1,6 +1,6 @@
 use Rattle.std.proofs.Common.{◌≡◌, map, take}
 use Rattle.signed_delta.specs.Tables.{table_delta}
-use Rattle.lens_specs.specs.TableDeltas.{inverted}
+use Rattle.lens_specs.specs.Common.{inverted}
 use Rattle.edit_batches.proofs.entries.inverted.Given as goal
 
 abbrev pub invariant-loop-change : goal.invariant-loop-change

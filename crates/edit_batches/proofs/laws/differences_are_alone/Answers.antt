@@ -1,4 +1,4 @@
-use Rattle.lens_laws.proofs.Alone.{are_differences}
+use Rattle.lens_laws.proofs.Common.{are_differences}
 use Rattle.edit_batches.proofs.laws.differences_are_alone.Goals as goal
 
 pub returns : goal.returns

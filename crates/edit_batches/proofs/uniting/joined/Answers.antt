@@ -1,8 +1,6 @@
 use Rattle.std.proofs.Common.{◌++◌, ap, sym, ◌∙◌, subst}
-use Rattle.std.specs.List.Sorted.{IsStrictlySortedBy}
-use Rattle.plain_values.specs.Row.{row_cmp}
+use Rattle.plain_values.proofs.Common.{IsStrictlySortedBy, row_cmp, keys_rise}
 use Rattle.plain_values.specs.SortedSet as set
-use Rattle.plain_values.specs.SortedMap.{keys_rise}
 use Rattle.edit_batches.proofs.uniting.joined.Goals as goal
 
 pub rise_on-requires-clause-ones : goal.rise_on-requires-clause-ones

@@ -1,10 +1,6 @@
 use Rattle.std.proofs.Common.{◌≡◌, ◌+◌, ◌++◌, ◌∙◌, ap, sym, subst, take, drop, take-append-drop, arith}
-use Rattle.std.specs.declared.cmp.Ordering.TheVariants.{Less, Greater}
-use Rattle.std.specs.List.Sorted.{IsStrictlySortedBy}
+use Rattle.plain_values.proofs.Common.{Less, Greater, IsStrictlySortedBy, row_cmp, row_cmp_total, keys_rise}
 use Rattle.signed_delta.proofs.Differences.{turned_apart}
-use Rattle.plain_values.specs.Row.{row_cmp}
-use Rattle.plain_values.specs.RowOrder.{row_cmp_total}
-use Rattle.plain_values.specs.SortedMap.{keys_rise}
 use Rattle.row_sets.proofs.Walks.{keep_greater, keep_less, rest_ends, rest_ends_right, rest_of}
 use Rattle.edit_batches.proofs.Unions.{behind_apart, one_kept, rest_apart}
 use Rattle.edit_batches.proofs.uniting.meet.Goals as goal

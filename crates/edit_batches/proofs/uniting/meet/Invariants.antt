@@ -1,5 +1,5 @@
 use Rattle.std.proofs.Common.{length, take, drop, ◌-◌, ◌+◌, ◌≡◌, ◌++◌, ◌≤◌}
-use Rattle.plain_values.specs.Row.{row_cmp}
+use Rattle.plain_values.proofs.Common.{row_cmp}
 use Rattle.row_sets.proofs.Walks.{rest_of}
 use Rattle.edit_batches.proofs.uniting.meet.Given as goal
 

@@ -1,7 +1,6 @@
 use Rattle.std.proofs.Common.{◌≡◌, take, true}
-use Rattle.std.specs.List.{list_all}
-use Rattle.plain_values.specs.Part.{restrict}
-use Rattle.lens_specs.specs.Relation.{has}
+use Rattle.plain_values.proofs.Common.{list_all, restrict}
+use Rattle.lens_specs.specs.Common.{has}
 use Rattle.edit_check.proofs.checking.all_parts_in.Given as goal
 
 abbrev pub invariant-loop-row : goal.invariant-loop-row

@@ -1,7 +1,5 @@
-use Rattle.std.proofs.Common.{◌≡◌, ◌∙◌, ap, subst}
-use Rattle.std.specs.List.{list_all}
-use Rattle.std.specs.Prelude.{IfOk}
-use Rattle.plain_values.specs.Part.{restrict}
+use Rattle.std.proofs.Common.{◌≡◌, ◌∙◌, ap, subst, IfOk}
+use Rattle.plain_values.proofs.Common.{list_all, restrict}
 use Rattle.plain_values.specs.SortedSet as set
 use Rattle.lens_specs.specs.Common.{Edge, has, project}
 use Rattle.edit_check.proofs.checking.all_replace_alike.Goals as goal

@@ -1,8 +1,7 @@
 use Rattle.std.proofs.Common.{◌≡◌, ◌∙◌, ◌&&◌, ap, sym, true}
-use Rattle.std.specs.List.{list_any}
-use Rattle.std.proofs.lemmas.Result.{IfOk-weaker}
+use Rattle.plain_values.proofs.Common.{list_any, IfOk-weaker}
 use Rattle.plain_values.specs.SortedSet as set
-use Rattle.lens_specs.specs.Rows.{agree}
+use Rattle.lens_specs.specs.Common.{agree}
 use Rattle.edit_check.proofs.CheckedEdits.{each_replaced, one_replaced}
 use Rattle.edit_check.proofs.checking.all_replaced.Goals as goal
 

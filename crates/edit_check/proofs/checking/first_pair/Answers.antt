@@ -1,5 +1,5 @@
 use Rattle.std.proofs.Common.{◌∙◌, ap, sym}
-use Rattle.lens_specs.specs.Sort.{violating_pair}
+use Rattle.lens_specs.specs.Common.{violating_pair}
 use Rattle.fd_tree.specs.ClashView.{shown_clash}
 use Rattle.edit_check.proofs.CheckedEdits.{found_none, found_pair}
 use Rattle.edit_check.proofs.checking.first_pair.Goals as goal

@@ -1,5 +1,4 @@
-use Rattle.std.proofs.Common.{◌∙◌, ap}
-use Rattle.std.specs.Prelude.{find, not}
+use Rattle.std.proofs.Common.{◌∙◌, ap, find, not}
 use Rattle.lens_specs.specs.Common.{holds, violating_row}
 use Rattle.edit_check.proofs.checking.least_refused.Goals as goal
 

@@ -1,6 +1,5 @@
-use Rattle.std.proofs.Common.{◌≡◌, ◌∙◌, ◌||◌, ap, subst, sym, true}
-use Rattle.std.specs.List.{list_all}
-use Rattle.std.specs.Prelude.{IfOk}
+use Rattle.std.proofs.Common.{◌≡◌, ◌∙◌, ◌||◌, ap, subst, sym, true, IfOk}
+use Rattle.plain_values.proofs.Common.{list_all}
 use Rattle.plain_values.specs.SortedSet as set
 use Rattle.lens_specs.specs.Common.{has, agree, first_pair}
 use Rattle.edit_check.proofs.CheckedEdits.{found_by_each, found_by_only, near_is, no_pair_near, no_pair_replaced}

@@ -1,6 +1,7 @@
 use Rattle.std.proofs.Common.{◌≡◌, ◌≤◌, ◌+◌, ◌*◌, ℕ, drop, length}
 use Rattle.plain_values.specs.SortedSet as set
-use Rattle.lens_laws.specs.Checks.{edit_clash, edit_clash_from}
+use Rattle.lens_laws.proofs.Common.{edit_clash}
+use Rattle.lens_laws.specs.Checks.{edit_clash_from}
 use Rattle.edit_check.proofs.checking.violating_pair_of_edit.Given as goal
 
 abbrev pub invariant-loop-place : goal.invariant-loop-place

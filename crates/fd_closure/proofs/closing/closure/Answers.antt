@@ -1,14 +1,11 @@
-use Rattle.std.proofs.Common.{◌≡◌, ℕ, ◌+◌, ◌<◌, ◌∙◌, sym, ap, subst, length, get_or, take, arith}
-use Rattle.std.specs.Prelude.{◌||◌, IfOk, filter}
-use Rattle.std.specs.List.{count_by}
-use Rattle.std.specs.Ordering.{is_eq}
+use Rattle.std.proofs.Common.{◌≡◌, ℕ, ◌+◌, ◌<◌, ◌∙◌, sym, ap, subst, length, get_or, take, arith, ◌||◌, IfOk, filter}
+use Rattle.plain_values.proofs.Common.{count_by, is_eq, take_all, bytes_cmp}
 use Rattle.std.specs.Vec.{with_items}
-use Rattle.std.proofs.lemmas.List.{take_all, with_items_is}
-use Rattle.plain_values.specs.Order.{bytes_cmp}
+use Rattle.std.proofs.lemmas.List.{with_items_is}
 use Rattle.plain_values.specs.SortedSet as set
-use Rattle.fd_laws.proofs.Closures.{closure_is}
+use Rattle.fd_laws.proofs.Common.{closure_is}
 use Rattle.lens_specs.specs.Dependencies as spec
-use Rattle.lens_specs.specs.Names.{Name, is_among}
+use Rattle.lens_specs.specs.Common.{Name, is_among}
 use Rattle.fd_closure.specs.Entries.{PlacesBelow}
 use Rattle.fd_closure.specs.Lacks.{uses}
 use Rattle.fd_closure.proofs.Closed.{among_front, counts_after, counts_before, finished, front_same, lacks_some, place_in, right_within, unseen_more}

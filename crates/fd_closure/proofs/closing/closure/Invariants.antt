@@ -1,5 +1,5 @@
 use Rattle.std.proofs.Common.{◌≡◌, ℕ, ◌<◌, ◌≤◌, get_or, length, take}
-use Rattle.std.specs.List.{count_by}
+use Rattle.plain_values.proofs.Common.{count_by}
 use Rattle.lens_specs.specs.Dependencies as spec
 use Rattle.fd_closure.specs.Arrival.{AllIn, HaveAll, IsKept}
 use Rattle.fd_closure.specs.Lacks.{ReadyAmong}

@@ -1,5 +1,5 @@
 use Rattle.std.proofs.Common.{◌≡◌, ℕ, ◌+◌, ◌<◌, get_or, length, take}
-use Rattle.lens_specs.specs.Names.{Names}
+use Rattle.lens_specs.specs.Common.{Names}
 use Rattle.fd_closure.specs.Arrival.{AllIn, IsKept}
 use Rattle.fd_closure.specs.Lacks.{ReadyAmong, ReadyWithin, uses}
 use Rattle.fd_closure.proofs.closing.count_down.Given as goal

@@ -1,5 +1,5 @@
 use Rattle.std.proofs.Common.{◌≡◌, ◌<◌, ◌+◌, ◌∙◌, sym, ap, subst, length, get_or, set, take, nat_eq, arith, length-set}
-use Rattle.std.proofs.lemmas.List.{get_or_read, length-take-le}
+use Rattle.plain_values.proofs.Common.{get_or_read, length-take-le}
 use Rattle.std.proofs.lemmas.List.Sums.{count_by-le-length}
 use Rattle.fd_closure.specs.Lacks.{uses}
 use Rattle.fd_closure.proofs.Counting.{counted_more}

@@ -1,9 +1,7 @@
-use Rattle.std.proofs.Common.{◌≡◌, ◌∙◌, ◌-◌, sym, ap, get_or, set, nat_eq, true}
-use Rattle.std.specs.Prelude.{◌||◌, ◌&&◌}
-use Rattle.std.proofs.lemmas.Bool.{eq-eqb}
-use Rattle.std.proofs.lemmas.List.{get_or_default}
+use Rattle.std.proofs.Common.{◌≡◌, ◌∙◌, ◌-◌, sym, ap, get_or, set, nat_eq, true, ◌||◌, ◌&&◌}
+use Rattle.plain_values.proofs.Common.{eq-eqb, get_or_default}
 use Rattle.plain_values.specs.SortedSet as names
-use Rattle.lens_specs.specs.Names.{is_among}
+use Rattle.lens_specs.specs.Common.{is_among}
 use Rattle.fd_closure.proofs.closing.lessen.Goals as goal
 
 pub returns-in_ok-add_all-clause-members : goal.returns-in_ok-add_all-clause-members

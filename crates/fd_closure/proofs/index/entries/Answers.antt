@@ -1,7 +1,7 @@
 use Rattle.std.proofs.Common.{◌≡◌, ◌+◌, ◌++◌, ◌∙◌, sym, ap, subst, length, get_or, map, take, below_more, arith}
-use Rattle.std.proofs.lemmas.List.{get_or_default, length-take-le, take_more}
+use Rattle.plain_values.proofs.Common.{get_or_default, length-take-le, take_more}
 use Rattle.plain_values.specs.SortedSet as set
-use Rattle.lens_specs.specs.Dependencies.{Edge}
+use Rattle.lens_specs.specs.Common.{Edge}
 use Rattle.fd_closure.specs.Entries.{entries_from}
 use Rattle.fd_closure.specs.Sides.{IsFull}
 use Rattle.fd_closure.proofs.Indexes.{entries_push}

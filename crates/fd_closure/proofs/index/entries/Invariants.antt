@@ -1,5 +1,5 @@
 use Rattle.std.proofs.Common.{◌≡◌, ℕ, ◌<◌, get_or, take}
-use Rattle.lens_specs.specs.Dependencies.{Edge}
+use Rattle.lens_specs.specs.Common.{Edge}
 use Rattle.fd_closure.specs.Entries.{entries_from}
 use Rattle.fd_closure.specs.Sides.{IsFull}
 use Rattle.fd_closure.proofs.index.entries.Given as goal

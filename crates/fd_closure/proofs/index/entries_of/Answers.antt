@@ -1,10 +1,6 @@
 use Rattle.std.proofs.Common.{◌≡◌, ◌≤◌, ◌-◌, sym, ap, subst, ◌∙◌, rules, of_calls, length, take, drop, true, false}
-use Rattle.std.specs.List.Sorted.{IsPartitionPoint}
-use Rattle.std.specs.Ordering.{is_le, is_lt}
-use Rattle.std.proofs.lemmas.Fn.{always_returns_same}
-use Rattle.std.proofs.lemmas.List.{take_rest}
-use Rattle.plain_values.specs.Order.{bytes_cmp}
-use Rattle.fd_laws.proofs.Names.{name_total}
+use Rattle.plain_values.proofs.Common.{IsPartitionPoint, is_le, is_lt, always_returns_same, take_rest, bytes_cmp}
+use Rattle.fd_laws.proofs.Common.{name_total}
 use Rattle.lens_values.proofs.Groups.{Ascend, group_is, lower_first, no_higher_first, rest_ascends}
 use Rattle.fd_closure.proofs.Indexes.{names_ascend}
 use Rattle.fd_closure.proofs.index.entries_of.Goals as goal

@@ -1,6 +1,5 @@
 use Rattle.std.proofs.Common.{ap, ◌∙◌}
-use Rattle.std.specs.List.{list_any}
-use Rattle.std.specs.Ordering.{eq_by_cmp}
+use Rattle.plain_values.proofs.Common.{list_any, eq_by_cmp}
 use Rattle.fd_closure.specs.Entries.{entry_cmp}
 use Rattle.fd_closure.proofs.index.indexed.Goals as goal
 

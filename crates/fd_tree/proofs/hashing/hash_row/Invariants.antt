@@ -1,7 +1,7 @@
 use Rattle.std.proofs.Common.{◌≡◌, take}
-use Rattle.std.specs.List.{fold}
+use Rattle.plain_values.proofs.Common.{fold}
 use Rattle.plain_values.specs.SortedSet as set
-use Rattle.lens_specs.specs.Rows.{at}
+use Rattle.lens_specs.specs.Common.{at}
 use Rattle.fd_tree.specs.RowHash.{hash_at}
 use Rattle.fd_tree.proofs.hashing.hash_row.Given as goal
 

@@ -1,7 +1,6 @@
-use Rattle.std.proofs.Common.{◌≡◌, ◌∙◌, ◌+◌, ◌-◌, ◌<◌, sym, length, arith, length-set}
-use Rattle.std.proofs.Common.{subst}
-use Rattle.std.specs.Ordering.{nat_cmp}
-use Rattle.lens_specs.specs.Rows.{agree}
+use Rattle.std.proofs.Common.{◌≡◌, ◌∙◌, ◌+◌, ◌-◌, ◌<◌, sym, length, arith, length-set, subst}
+use Rattle.plain_values.proofs.Common.{nat_cmp}
+use Rattle.lens_specs.specs.Common.{agree}
 use Rattle.fd_tree.specs.RowHash.{hash_row}
 use Rattle.fd_tree.specs.ClashPlaces.{IsAlike, later_places}
 use Rattle.fd_tree.proofs.Places.{holds_more, held_below, holds_none, hash_next, length-later_places, same_entries, same_from-set, same_past}

@@ -1,7 +1,6 @@
 use Rattle.std.proofs.Common.{◌≡◌, ◌∙◌, ◌+◌, ◌-◌, ◌<◌, sym, length, arith, length-set}
-use Rattle.plain_values.specs.Part.{restrict}
-use Rattle.plain_values.specs.Row.{row_cmp}
-use Rattle.lens_specs.specs.Rows.{agree}
+use Rattle.plain_values.proofs.Common.{restrict, row_cmp}
+use Rattle.lens_specs.specs.Common.{agree}
 use Rattle.fd_tree.specs.ClashPlaces.{later_places}
 use Rattle.fd_tree.proofs.Places.{holds_more, holds_none, part_next, length-later_places, same_entries, same_from-set, same_past}
 use Rattle.fd_tree.proofs.next_in_group.next_by_part.Goals as goal

@@ -1,10 +1,7 @@
 use Rattle.std.proofs.Common.{◌≡◌, length, drop}
 use Rattle.std.specs.BTreeMap.{get}
-use Rattle.std.specs.List.{position_from}
-use Rattle.std.specs.Ordering.{is_eq}
-use Rattle.plain_values.specs.Part.{restrict}
-use Rattle.plain_values.specs.Row.{row_cmp, Row}
-use Rattle.lens_specs.specs.Rows.{agree}
+use Rattle.plain_values.proofs.Common.{position_from, is_eq, restrict, row_cmp, Row}
+use Rattle.lens_specs.specs.Common.{agree}
 use Rattle.fd_tree.specs.ClashPlaces.{SameFrom, later_places}
 use Rattle.fd_tree.proofs.next_in_group.next_by_part.Given as goal
 

@@ -1,5 +1,5 @@
 use Rattle.std.proofs.Common.{◌≡◌, take}
-use Rattle.lens_specs.specs.Rename.{renamed_tree}
+use Rattle.lens_specs.specs.Common.{renamed_tree}
 use Rattle.fd_tree.proofs.tree.edges_renamed.Given as goal
 
 abbrev pub invariant-loop-edge : goal.invariant-loop-edge

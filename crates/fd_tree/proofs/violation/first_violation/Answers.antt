@@ -1,5 +1,5 @@
 use Rattle.std.proofs.Common.{◌≡◌, ◌∙◌, ◌+◌, ◌-◌, ◌<◌, sym, ap, length, arith, length-set}
-use Rattle.std.proofs.lemmas.List.{drop_all}
+use Rattle.plain_values.proofs.Common.{drop_all}
 use Rattle.lens_specs.specs.Common.{agree, clashes, first_pair}
 use Rattle.fd_tree.specs.ClashPlaces.{entry, later_places}
 use Rattle.fd_tree.proofs.Places.{entry-set_before, length-later_places, pair_at, pair_behind, same_from-set, same_past}

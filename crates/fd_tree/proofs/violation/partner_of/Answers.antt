@@ -1,7 +1,7 @@
 use Rattle.std.proofs.Common.{◌<◌, ◌∙◌, sym, ap, length, get_or, arith, rules}
 use Rattle.std.specs.FinMap as map
-use Rattle.std.proofs.lemmas.List.{get_or_default}
-use Rattle.lens_specs.specs.Rows.{agree}
+use Rattle.plain_values.proofs.Common.{get_or_default}
+use Rattle.lens_specs.specs.Common.{agree}
 use Rattle.fd_tree.proofs.Places.{next_agrees, next_clashes, next_finds, none_after}
 use Rattle.fd_tree.proofs.violation.partner_of.Goals as goal
 use Rattle.fd_tree.proofs.violation.partner_of.Goals.{After-index-rows-place}

@@ -1,5 +1,5 @@
 use Rattle.std.proofs.Common.{◌∙◌, subst, sym}
-use Rattle.lens_specs.specs.Columns.{Fits}
+use Rattle.lens_specs.specs.Common.{Fits}
 use Rattle.lens_probe.specs.Viewed.{shown}
 use Rattle.find_rows.proofs.Keys.{with_fit}
 use Rattle.find_rows.proofs.finding.find_rows.Goals as goal

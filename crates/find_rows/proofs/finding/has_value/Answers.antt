@@ -1,6 +1,5 @@
 use Rattle.std.proofs.Common.{◌∙◌, ap, Some}
-use Rattle.plain_values.specs.Value.{same_value}
-use Rattle.plain_values.proofs.ValueLemmas.{eq-value_cmp}
+use Rattle.plain_values.proofs.Common.{same_value, eq-value_cmp}
 use Rattle.find_rows.proofs.finding.has_value.Goals as goal
 
 pub returns-in-Some : goal.returns-in-Some

@@ -1,6 +1,5 @@
-use Rattle.std.proofs.Common.{◌≡◌, Some}
-use Rattle.std.specs.Prelude.{filter}
-use Rattle.lens_specs.specs.Rows.{at, same_value}
+use Rattle.std.proofs.Common.{◌≡◌, Some, filter}
+use Rattle.lens_specs.specs.Common.{at, same_value}
 use Rattle.find_rows.proofs.finding.kept.Given as goal
 
 abbrev pub invariant-loop-row : goal.invariant-loop-row

@@ -1,7 +1,6 @@
 use Rattle.std.proofs.Common.{◌≡◌, ◌∙◌, IfOk, ap, arith, subst, sym}
-use Rattle.lens_specs.specs.Lens.{get}
-use Rattle.lens_laws.specs.KeyedDeltas.{find_by}
-use Rattle.lens_laws.specs.Work.{size}
+use Rattle.lens_specs.specs.Common.{get}
+use Rattle.lens_laws.proofs.Common.{find_by, size}
 use Rattle.signed_delta.specs.Keys.{HasColumns}
 use Rattle.find_rows.proofs.Keys.{found_with, key_has}
 use Rattle.find_rows.proofs.finding.rows_found.Goals as goal

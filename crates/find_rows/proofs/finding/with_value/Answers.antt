@@ -1,11 +1,8 @@
-use Rattle.std.proofs.Common.{◌∙◌, Some, ap, subst, sym}
-use Rattle.std.specs.Prelude.{filter}
-use Rattle.std.specs.List.Sorted.{IsStrictlySortedBy}
-use Rattle.std.proofs.lemmas.List.Kept.{IsStrictlySortedBy-filter}
-use Rattle.plain_values.specs.Row.{row_cmp, Row}
+use Rattle.std.proofs.Common.{◌∙◌, Some, ap, subst, sym, filter}
+use Rattle.plain_values.proofs.Common.{IsStrictlySortedBy, IsStrictlySortedBy-filter, row_cmp, Row}
 use Rattle.plain_values.specs.SortedSet as set
-use Rattle.lens_specs.specs.Rows.{at, same_value}
-use Rattle.fd_laws.proofs.Rows.{row_exact, row_total}
+use Rattle.lens_specs.specs.Common.{at, same_value}
+use Rattle.fd_laws.proofs.Common.{row_exact, row_total}
 use Rattle.signed_delta.proofs.Differences.{items_rise}
 use Rattle.find_rows.proofs.finding.with_value.Goals as goal
 

@@ -1,8 +1,8 @@
 use Rattle.std.proofs.Common.{◌≡◌, ◌≢◌, ◌∙◌, ◌+◌, ◌*◌, ◌≤◌, ap, arith, length, refl, subst, sym, true}
-use Rattle.std.specs.List.{Contains}
+use Rattle.plain_values.proofs.Common.{Contains}
 use Rattle.plain_values.specs.SortedSet as set
 use Rattle.lens_specs.specs.Common.{names, Delta, diff, join_over, Rows, has, minus, project}
-use Rattle.lens_laws.specs.Work.{node_work, rows_down, rows_of}
+use Rattle.lens_laws.proofs.Common.{node_work, rows_down, rows_of}
 use Rattle.signed_delta.proofs.Gives.{gives_by_edges}
 use Rattle.join_delta.specs.Joined.{AtSizes, edited, left_after, right_after, shared_names}
 use Rattle.join_delta.proofs.CarriedJoin.{diff_apart, join_edit, merged_left, merged_right}

@@ -1,7 +1,7 @@
 use Rattle.std.proofs.Common.{◌≡◌, ◌∙◌, ap, length, sym}
-use Rattle.std.proofs.lemmas.Bool.{eqb-true}
+use Rattle.plain_values.proofs.Common.{eqb-true}
 use Rattle.plain_values.specs.SortedSet as set
-use Rattle.lens_specs.specs.Relation.{Rows, minus, union}
+use Rattle.lens_specs.specs.Common.{Rows, minus, union}
 use Rattle.join_delta.proofs.CarriedJoin.{fewer, fewer_apart, not_fewer}
 use Rattle.join_delta.proofs.merging.without.Goals as goal
 

@@ -1,5 +1,5 @@
 use Rattle.std.proofs.Common.{not, ap, arith, length, ◌+◌, ◌∙◌}
-use Rattle.std.proofs.lemmas.Grind.{common_steps}
+use Rattle.plain_values.proofs.Common.{common_steps}
 use Rattle.plain_values.specs.SortedSet as set
 use Rattle.signed_delta.proofs.Counts.{at_end, next, one_more}
 use Rattle.signed_delta.proofs.Looks.{listed_at, passed_are, passed_rise}

@@ -1,5 +1,4 @@
-use Rattle.std.proofs.Common.{◌≡◌, ◌≤◌, ◌+◌, ◌*◌, ℕ, not, take}
-use Rattle.std.specs.Prelude.{filter}
+use Rattle.std.proofs.Common.{◌≡◌, ◌≤◌, ◌+◌, ◌*◌, ℕ, not, take, filter}
 use Rattle.plain_values.specs.SortedSet as set
 use Rattle.join_delta.specs.Pairs.{shows}
 use Rattle.join_delta.proofs.over.lacking.Given as goal

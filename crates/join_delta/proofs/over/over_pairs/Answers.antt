@@ -1,10 +1,8 @@
 use Rattle.std.proofs.Common.{◌≡◌, ◌∙◌, ◌≤◌, IfOk, ap, arith, length, not, refl, subst, sym}
-use Rattle.std.proofs.lemmas.Bool.{eqb-true}
-use Rattle.std.proofs.lemmas.Result.{IfOk-weaker}
+use Rattle.plain_values.proofs.Common.{eqb-true, IfOk-weaker, Row}
 use Rattle.plain_values.specs.SortedSet as set
-use Rattle.plain_values.specs.Row.{Row}
 use Rattle.lens_specs.specs.Common.{names, new_view, Rows, those}
-use Rattle.lens_laws.proofs.Counts.{count-none}
+use Rattle.lens_laws.proofs.Common.{count-none}
 use Rattle.signed_delta.proofs.Counts.{those_len}
 use Rattle.join_delta.specs.Joined.{AreKeyed, edited}
 use Rattle.join_delta.specs.Pairs.{shows}

@@ -1,8 +1,8 @@
 use Rattle.std.proofs.Common.{◌≡◌, ◌∙◌, ◌+◌, ◌*◌, ◌≤◌, ℕ, IfOk, ap, arith, length, subst, sym}
-use Rattle.std.proofs.lemmas.Nat.{mul-le}
+use Rattle.plain_values.proofs.Common.{mul-le}
 use Rattle.plain_values.specs.SortedSet as set
-use Rattle.lens_specs.specs.Relation.{Rows, has, minus, project, those}
-use Rattle.fd_laws.proofs.Relations.{from_minus}
+use Rattle.lens_specs.specs.Common.{Rows, has, minus, project, those}
+use Rattle.fd_laws.proofs.Common.{from_minus}
 use Rattle.signed_delta.proofs.Counts.{minus_len, project_len}
 use Rattle.join_delta.specs.Deleted.{free_of}
 use Rattle.join_delta.specs.Shown.{is_shown}

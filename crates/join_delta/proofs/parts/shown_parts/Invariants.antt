@@ -1,5 +1,4 @@
-use Rattle.std.proofs.Common.{◌≡◌, ◌≤◌, ◌+◌, ◌*◌, ℕ, take}
-use Rattle.std.specs.Prelude.{filter}
+use Rattle.std.proofs.Common.{◌≡◌, ◌≤◌, ◌+◌, ◌*◌, ℕ, take, filter}
 use Rattle.plain_values.specs.SortedSet as set
 use Rattle.join_delta.specs.Shown.{is_shown}
 use Rattle.join_delta.proofs.parts.shown_parts.Given as goal

@@ -1,7 +1,6 @@
 use Rattle.std.proofs.Common.{not, ◌∙◌}
-use Rattle.plain_values.specs.Part.{restrict}
-use Rattle.plain_values.specs.Row.{Row}
-use Rattle.lens_specs.specs.Relation.{has}
+use Rattle.plain_values.proofs.Common.{restrict, Row}
+use Rattle.lens_specs.specs.Common.{has}
 use Rattle.signed_delta.proofs.Looks.{passed_are, passed_rise}
 use Rattle.join_delta.proofs.parts.with_other_parts.Goals as goal
 

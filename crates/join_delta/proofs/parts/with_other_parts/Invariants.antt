@@ -1,8 +1,7 @@
-use Rattle.std.proofs.Common.{◌≡◌, not, take}
-use Rattle.std.specs.Prelude.{filter}
-use Rattle.plain_values.specs.Part.{restrict}
+use Rattle.std.proofs.Common.{◌≡◌, not, take, filter}
+use Rattle.plain_values.proofs.Common.{restrict}
 use Rattle.plain_values.specs.SortedSet as set
-use Rattle.lens_specs.specs.Relation.{has}
+use Rattle.lens_specs.specs.Common.{has}
 use Rattle.join_delta.proofs.parts.with_other_parts.Given as goal
 
 abbrev pub invariant-loop-row : goal.invariant-loop-row

@@ -1,16 +1,12 @@
 use Rattle.std.proofs.Common.{◌≡◌, ◌∙◌, ℕ, ◌+◌, ◌*◌, ◌≤◌, ap, arith, inl, inr, length, subst, sym, true}
-use Rattle.std.specs.List.{Contains}
+use Rattle.plain_values.proofs.Common.{Contains, Row, parts_same}
 use Rattle.plain_values.specs.SortedSet as set
-use Rattle.plain_values.specs.Row.{Row}
-use Rattle.plain_values.proofs.Agreement.{parts_same}
 use Rattle.lens_specs.specs.Common.{Fits, names, Delta, new_view, has, minus, project, agree, cut}
-use Rattle.lens_laws.specs.KeyedDeltas.{join_delta_right, merge_delta, suspects}
-use Rattle.lens_laws.specs.Work.{count_of, rows_of}
+use Rattle.lens_laws.proofs.Common.{join_delta_right, merge_delta, suspects, count_of, rows_of, from_natural}
 use Rattle.signed_delta.proofs.Counts.{minus_len, union_len}
 use Rattle.signed_delta.proofs.Gives.{gives_by_edges}
 use Rattle.join_delta.specs.Joined.{AreKeyed, shared_names}
-use Rattle.fd_laws.proofs.Relations.{from_minus, from_project, from_union}
-use Rattle.lens_laws.proofs.Join.{from_natural}
+use Rattle.fd_laws.proofs.Common.{from_minus, from_project, from_union}
 use Rattle.join_delta.proofs.CarriedJoin.{apart, join_edit, left_merges, left_parts_fit, lefts_within, merge_fits, merged_left, merged_right, right_is, right_keyed, right_parts_fit, surplus_is, surplus_made, suspects_fit}
 use Rattle.join_delta.proofs.JoinLooks.{after_left, after_right, after_suspects, after_tests, left_looks, new_few, new_right, part_few, revised_few, right_looks, suspect_looks, suspects_few, test_looks, tested_few}
 use Rattle.join_delta.proofs.NearPairs.{shared_right}

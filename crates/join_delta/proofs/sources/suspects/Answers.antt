@@ -1,8 +1,8 @@
 use Rattle.std.proofs.Common.{◌≡◌, ◌∙◌, ◌*◌, IfOk, ap, arith, length, subst, sym}
-use Rattle.std.proofs.lemmas.Bool.{eqb-true}
+use Rattle.plain_values.proofs.Common.{eqb-true}
 use Rattle.plain_values.specs.SortedSet as set
-use Rattle.lens_specs.specs.Relation.{project, union}
-use Rattle.lens_laws.specs.KeyedDeltas.{found_each, suspects}
+use Rattle.lens_specs.specs.Common.{project, union}
+use Rattle.lens_laws.proofs.Common.{found_each, suspects}
 use Rattle.join_delta.proofs.NoRows.{union_found}
 use Rattle.join_delta.proofs.sources.suspects.Goals as goal
 

@@ -1,10 +1,6 @@
 use Rattle.std.proofs.Common.{◌≡◌, ap, sym, ◌∙◌, subst}
-use Rattle.std.specs.List.Sorted.{IsStrictlySortedBy}
-use Rattle.std.specs.Cmp.{tied_itself}
-use Rattle.std.specs.Cmp.Lexicographic.{nat_list_cmp_total, same_text}
+use Rattle.plain_values.proofs.Common.{IsStrictlySortedBy, tied_itself, nat_list_cmp_total, same_text, bytes_cmp, keys_rise}
 use Rattle.std.specs.FinMap as finmap
-use Rattle.plain_values.specs.Order.{bytes_cmp}
-use Rattle.plain_values.specs.SortedMap.{keys_rise}
 use Rattle.lens_values.proofs.Cells.{copied, value_at}
 use Rattle.lens_values.proofs.Places.{tied_place}
 use Rattle.key_index.proofs.Lists.{inside}

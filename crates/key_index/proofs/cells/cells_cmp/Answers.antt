@@ -1,10 +1,7 @@
-use Rattle.std.proofs.Common.{◌≡◌, ap, sym, ◌∙◌, arith, length, drop, min}
-use Rattle.std.specs.Prelude.{map}
+use Rattle.std.proofs.Common.{◌≡◌, ap, sym, ◌∙◌, arith, length, drop, min, map}
 use Rattle.std.specs.FinMap as finmap
-use Rattle.std.specs.Option.{option_cmp}
-use Rattle.std.specs.Ordering.{nat_cmp}
-use Rattle.std.proofs.lemmas.List.{drop-map, length-map}
-use Rattle.plain_values.specs.Value.{value_cmp}
+use Rattle.plain_values.proofs.Common.{option_cmp, nat_cmp, length-map, value_cmp}
+use Rattle.std.proofs.lemmas.List.{drop-map}
 use Rattle.lens_values.proofs.Comparing.{cmp_ends}
 use Rattle.key_index.specs.Key.{cells_cmp}
 use Rattle.key_index.proofs.cells.cells_cmp.Goals as goal

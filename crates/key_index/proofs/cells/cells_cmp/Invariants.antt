@@ -1,5 +1,4 @@
-use Rattle.std.proofs.Common.{◌≡◌, drop}
-use Rattle.std.specs.Prelude.{map}
+use Rattle.std.proofs.Common.{◌≡◌, drop, map}
 use Rattle.std.specs.FinMap as finmap
 use Rattle.key_index.specs.Key.{cells_cmp}
 use Rattle.key_index.proofs.cells.cells_cmp.Given as goal

@@ -1,5 +1,4 @@
-use Rattle.std.proofs.Common.{◌≡◌, fold, take}
-use Rattle.std.specs.Prelude.{map}
+use Rattle.std.proofs.Common.{◌≡◌, fold, take, map}
 use Rattle.std.specs.FinMap as finmap
 use Rattle.key_index.specs.Key.{hash_cell}
 use Rattle.key_index.proofs.cells.hash_cells.Given as goal

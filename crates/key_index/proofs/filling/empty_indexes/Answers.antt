@@ -1,5 +1,4 @@
-use Rattle.std.proofs.Common.{sym, ◌∙◌, arith}
-use Rattle.std.specs.Prelude.{slice_index_or}
+use Rattle.std.proofs.Common.{sym, ◌∙◌, arith, slice_index_or}
 use Rattle.key_index.specs.Index.{has_key}
 use Rattle.key_index.proofs.Whole.{none_pass}
 use Rattle.key_index.proofs.filling.empty_indexes.Goals as goal

@@ -1,5 +1,4 @@
-use Rattle.std.proofs.Common.{◌≡◌, ◌<◌, ℕ, length}
-use Rattle.std.specs.Prelude.{slice_index_or}
+use Rattle.std.proofs.Common.{◌≡◌, ◌<◌, ℕ, length, slice_index_or}
 use Rattle.plain_values.specs.SortedSet as set
 use Rattle.key_index.specs.Key.{Cells}
 use Rattle.key_index.specs.Index.{group_at}

@@ -1,6 +1,5 @@
 use Rattle.std.proofs.Common.{ap, sym, ◌∙◌, subst, ◌++◌, ◌∷◌, []}
-use Rattle.std.specs.List.Sorted.{IsStrictlySortedBy}
-use Rattle.plain_values.specs.Row.{row_cmp}
+use Rattle.plain_values.proofs.Common.{IsStrictlySortedBy, row_cmp}
 use Rattle.key_index.proofs.Members.{two_rise}
 use Rattle.key_index.proofs.group.rising_set.Goals as goal
 

@@ -1,5 +1,5 @@
 use Rattle.std.proofs.Common.{ap, sym, ◌∙◌}
-use Rattle.std.specs.Ordering.{is_eq}
+use Rattle.plain_values.proofs.Common.{is_eq}
 use Rattle.key_index.proofs.Groups.{if_ok}
 use Rattle.key_index.proofs.Members.{one_again, swapped, turned_over}
 use Rattle.key_index.proofs.group.set_of_two.Goals as goal

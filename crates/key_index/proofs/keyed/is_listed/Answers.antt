@@ -1,7 +1,5 @@
-use Rattle.std.proofs.Common.{ap, sym, ◌∙◌, ◌+◌, drop}
-use Rattle.std.specs.Prelude.{◌||◌}
-use Rattle.std.proofs.lemmas.List.{drop_all}
-use Rattle.plain_values.specs.Row.{row_cmp}
+use Rattle.std.proofs.Common.{ap, sym, ◌∙◌, ◌+◌, drop, ◌||◌}
+use Rattle.plain_values.proofs.Common.{drop_all, row_cmp}
 use Rattle.plain_values.specs.SortedSet as set
 use Rattle.key_index.specs.Lists.{rows_of}
 use Rattle.key_index.proofs.Views.{listed_at}

@@ -1,5 +1,4 @@
-use Rattle.std.proofs.Common.{◌≡◌, take}
-use Rattle.std.specs.Prelude.{map}
+use Rattle.std.proofs.Common.{◌≡◌, take, map}
 use Rattle.key_index.proofs.keyed.listed.Given as goal
 
 abbrev pub invariant-loop-keyed : goal.invariant-loop-keyed

@@ -1,5 +1,4 @@
-use Rattle.std.proofs.Common.{◌≡◌, ◌<◌, ap, ◌∙◌, subst, arith, [], length, rules}
-use Rattle.std.specs.Prelude.{slice_index_or}
+use Rattle.std.proofs.Common.{◌≡◌, ◌<◌, ap, ◌∙◌, subst, arith, [], length, rules, slice_index_or}
 use Rattle.key_index.specs.declared.index.Index.{Index}
 use Rattle.key_index.specs.Key.{Cells}
 use Rattle.key_index.proofs.Lists.{inside}

@@ -1,5 +1,4 @@
-use Rattle.std.proofs.Common.{◌≡◌, ◌<◌, ◌≤◌, ℕ, length}
-use Rattle.std.specs.Prelude.{slice_index_or}
+use Rattle.std.proofs.Common.{◌≡◌, ◌<◌, ◌≤◌, ℕ, length, slice_index_or}
 use Rattle.key_index.specs.Index.{IsPut}
 use Rattle.key_index.specs.declared.index.Index.{Index}
 use Rattle.key_index.specs.Key.{Cells}

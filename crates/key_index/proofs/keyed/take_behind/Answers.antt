@@ -1,6 +1,5 @@
 use Rattle.std.proofs.Common.{◌≡◌, ◌+◌, ◌≤◌, ◌++◌, ◌∷◌, [], drop, length, ap, sym, ◌∙◌, subst, arith, rules, inl}
-use Rattle.std.proofs.lemmas.List.{take_all}
-use Rattle.std.proofs.lemmas.Bool.{false≢true}
+use Rattle.plain_values.proofs.Common.{take_all, false≢true}
 use Rattle.plain_values.specs.SortedSet as set
 use Rattle.key_index.specs.Lists.{rows_of}
 use Rattle.key_index.specs.Lists.{SameCols, AreKeyed, IsTableOf}

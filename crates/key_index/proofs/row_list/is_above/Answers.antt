@@ -1,11 +1,5 @@
-use Rattle.std.proofs.Common.{◌≡◌, ◌++◌, ◌∷◌, [], List, length, ap, sym, ◌∙◌, subst, arith, refl, true, zero, suc}
-use Rattle.std.specs.Prelude.{Some, None, Option}
-use Rattle.std.specs.List.{slice_get}
-use Rattle.std.specs.List.Sorted.{IsStrictlySortedBy}
-use Rattle.std.specs.Ordering.{is_lt}
-use Rattle.std.specs.declared.cmp.Ordering.{Ordering}
-use Rattle.std.specs.declared.cmp.Ordering.TheVariants.{Less, Equal, Greater}
-use Rattle.plain_values.specs.Row.{row_cmp, Row}
+use Rattle.std.proofs.Common.{◌≡◌, ◌++◌, ◌∷◌, [], List, length, ap, sym, ◌∙◌, subst, arith, refl, true, zero, suc, Some, None, Option}
+use Rattle.plain_values.proofs.Common.{slice_get, IsStrictlySortedBy, is_lt, Ordering, Less, Equal, Greater, row_cmp, Row}
 use Rattle.key_index.proofs.Members.{one_rises}
 use Rattle.key_index.proofs.Rising.{last_of, more_rises, none_last}
 use Rattle.key_index.proofs.row_list.is_above.Goals as goal

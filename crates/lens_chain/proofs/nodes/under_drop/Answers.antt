@@ -1,8 +1,8 @@
 use Rattle.std.proofs.Common.{◌≡◌, ◌≤◌, ℕ}
-use Rattle.std.proofs.lemmas.Result.{IfOk-weaker}
+use Rattle.plain_values.proofs.Common.{IfOk-weaker}
 use Rattle.lens_specs.specs.Common.{diff, new_view, get, view_names, drop_get, drop_put}
 use Rattle.lens_laws.specs.KeyedDeltas as keyed
-use Rattle.lens_laws.specs.Work.{rows_down, rows_of, size}
+use Rattle.lens_laws.proofs.Common.{rows_down, rows_of, size}
 use Rattle.lens_probe.specs.Viewed.{FindsAtMost, IsWithin}
 use Rattle.lens_chain.specs.Edits.{IsEdit, over}
 use Rattle.lens_chain.proofs.EditLooks.{within_size}

@@ -1,15 +1,11 @@
 use Rattle.std.proofs.Common.{◌≡◌, ◌∙◌, ◌+◌, ◌≤◌, ℕ, List, subst, sym}
-use Rattle.std.proofs.lemmas.Result.{IfOk-weaker}
-use Rattle.std.specs.List.{Contains}
+use Rattle.plain_values.proofs.Common.{IfOk-weaker, Contains}
 use Rattle.plain_values.specs.SortedSet as set
 use Rattle.plain_values.specs.declared.join_kind.JoinKind.{JoinKind}
-use Rattle.lens_specs.specs.Common.{Applies, Delta, diff, new_view, AllEdges, Edge, MeetsTree, closure, get, sort_of, view_names, Within, join_get, join_left_after, join_right_after}
-use Rattle.lens_specs.specs.Lens.{join}
-use Rattle.fd_laws.specs.Trees.{EdgesWithin}
-use Rattle.lens_laws.specs.JoinKinds.{left_delta, right_delta}
-use Rattle.lens_laws.specs.Lenses.{AreOf}
+use Rattle.lens_specs.specs.Common.{Applies, Delta, diff, new_view, AllEdges, Edge, MeetsTree, closure, get, sort_of, view_names, Within, join_get, join_left_after, join_right_after, join}
+use Rattle.fd_laws.proofs.Common.{EdgesWithin}
+use Rattle.lens_laws.proofs.Common.{left_delta, right_delta, AreOf, node_work, rows_down, rows_of, size}
 use Rattle.lens_laws.proofs.Asked.{shared_keyed}
-use Rattle.lens_laws.specs.Work.{node_work, rows_down, rows_of, size}
 use Rattle.lens_probe.specs.Viewed.{FindsAtMost, IsWithin, Viewed, asked_by, shown}
 use Rattle.join_delta.specs.Joined.{AreJoined, IsJoinChange}
 use Rattle.lens_chain.specs.Edits.{IsEdit, edited, over}

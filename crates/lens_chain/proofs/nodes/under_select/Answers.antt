@@ -1,9 +1,8 @@
 use Rattle.std.proofs.Common.{◌≡◌, ◌∙◌, ◌≤◌, ℕ, ap, length, subst, sym}
-use Rattle.std.proofs.lemmas.Result.{IfOk-weaker}
-use Rattle.std.specs.List.{Contains}
+use Rattle.plain_values.proofs.Common.{IfOk-weaker, Contains}
 use Rattle.lens_specs.specs.Common.{diff, new_view, AllEdges, MeetsTree, get, sort_of, view_names, Within, select_get, select_put, holds}
 use Rattle.lens_laws.specs.KeyedDeltas as keyed
-use Rattle.lens_laws.specs.Work.{rows_down, rows_of, size}
+use Rattle.lens_laws.proofs.Common.{rows_down, rows_of, size}
 use Rattle.lens_probe.specs.Viewed.{FindsAtMost, IsWithin, asked_by}
 use Rattle.select_delta.specs.Selected.{AreSelected}
 use Rattle.lens_chain.specs.Edits.{IsEdit, over}

@@ -1,9 +1,8 @@
-use Rattle.std.proofs.Common.{◌≡◌, ◌∙◌, ap, subst, sym}
-use Rattle.std.specs.Prelude.{OnOk}
-use Rattle.lens_specs.specs.Lens.{base, select, drop, rename, join}
+use Rattle.std.proofs.Common.{◌≡◌, ◌∙◌, ap, subst, sym, OnOk}
+use Rattle.lens_specs.specs.Common.{base, select, drop, rename, join}
 use Rattle.lens_probe.specs.Viewed.{Viewed, both_sides, only_source}
 use Rattle.lens_chain.specs.Edits.{over}
-use Rattle.lens_laws.specs.Work.{rows_of}
+use Rattle.lens_laws.proofs.Common.{rows_of}
 use Rattle.lens_chain.proofs.Chain.{drop_chain, drop_is, in_table, join_chain, join_is, rename_chain, rename_is, select_chain, select_is}
 use Rattle.lens_chain.proofs.EditLooks.{dropped_alone, dropped_finds, dropped_looks, joined_alone, joined_finds, joined_half, joined_looks, renamed_finds, renamed_looks, selected_alone, selected_finds, selected_looks}
 use Rattle.lens_chain.proofs.putting.+carry_down.Goals as goal

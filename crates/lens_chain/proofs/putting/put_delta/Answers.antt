@@ -1,8 +1,8 @@
 use Rattle.std.proofs.Common.{◌≡◌, ◌∙◌, ap, map}
-use Rattle.std.proofs.lemmas.Result.{IfOk-weaker}
+use Rattle.plain_values.proofs.Common.{IfOk-weaker}
 use Rattle.std.specs.FinMap as finmap
-use Rattle.lens_specs.specs.Delta.{changes}
-use Rattle.lens_laws.specs.Edits.{table_deltas}
+use Rattle.lens_specs.specs.Common.{changes}
+use Rattle.lens_laws.proofs.Common.{table_deltas}
 use Rattle.signed_delta.specs.Tables.{table_delta}
 use Rattle.lens_chain.specs.Changed.{in_order, with_changes}
 use Rattle.lens_chain.specs.Edits.{edited, over}

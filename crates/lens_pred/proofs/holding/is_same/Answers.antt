@@ -1,5 +1,5 @@
 use Rattle.std.proofs.Common.{◌∙◌}
-use Rattle.plain_values.proofs.ValueLemmas.{eq-value_cmp}
+use Rattle.plain_values.proofs.Common.{eq-value_cmp}
 use Rattle.lens_pred.proofs.holding.is_same.Goals as goal
 
 pub returns : goal.returns

@@ -1,5 +1,5 @@
 use Rattle.std.proofs.Common.{◌≡◌, ◌++◌, drop}
-use Rattle.lens_specs.specs.Predicate.{with_name, without_name}
+use Rattle.lens_specs.specs.Common.{with_name, without_name}
 use Rattle.lens_pred.specs.View.{predicate_view}
 use Rattle.lens_pred.proofs.splitting.parted.Given as goal
 

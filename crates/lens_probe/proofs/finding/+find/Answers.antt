@@ -1,14 +1,11 @@
-use Rattle.std.proofs.Common.{◌≡◌, ◌∙◌, ◌+◌, ◌≤◌, ap, arith, length, refl, subst, sym}
-use Rattle.std.specs.Prelude.{IfOk, IfSome}
-use Rattle.std.proofs.lemmas.Result.{IfOk-weaker}
+use Rattle.std.proofs.Common.{◌≡◌, ◌∙◌, ◌+◌, ◌≤◌, ap, arith, length, refl, subst, sym, IfOk, IfSome}
+use Rattle.plain_values.proofs.Common.{IfOk-weaker}
 use Rattle.plain_values.specs.SortedSet as set
 use Rattle.lens_specs.specs.Common.{Within, share, get, nodes_of, rename, view_names, project}
-use Rattle.lens_laws.specs.KeyedDeltas.{find_by}
-use Rattle.lens_laws.specs.Lenses.{IsTyped}
-use Rattle.lens_laws.specs.Work.{size}
+use Rattle.lens_laws.proofs.Common.{find_by, IsTyped, size}
 use Rattle.signed_delta.proofs.Counts.{at_end, next, one_more}
 use Rattle.signed_delta.proofs.Looks.{find_by-restrict}
-use Rattle.lens_probe.specs.NearRows.{AreKnown, of_join}
+use Rattle.lens_probe.specs.NearRows.{AreOfJoin}
 use Rattle.lens_probe.specs.Looking.{ArePartners, FindsWithin, MayFind, pairs_of}
 use Rattle.lens_probe.proofs.KeyColumns.{has_shared, part_is_key}
 use Rattle.lens_probe.proofs.Found.{drop_finds, found_by_whole, left_asked, left_finds, left_matches, next_pairs, partners_again, right_asked, right_finds, right_matches, rows_over, select_finds, shared_in, shown_to, found_whole, source_of_drop, source_of_select, table_finds, whole_part}
@@ -20,7 +17,7 @@ use Rattle.lens_probe.proofs.finding.+find.Goals as goal
 pub find_in-find_in-requires : goal.find_in-find_in-requires
 find_in-find_in-requires g t c κs within =
     let is = c.in-Select.ensures.is in
-    (omega (arith, c.decreases, ap nodes_of is), (within, (subst (λ M. AreKnown (of_join M c.args.query.now.tables.now.present.relations) c.args.near.now) (sym is) c.requires.near, (source_of_select c.args.lens.now c.in-Select.of.now c.in-Select.pred.now c.args.query.now.tables.now.present c.args.query.now.cols.now is c.node.ensures.typed c.requires.asked, c.requires.key))))
+    (omega (arith, c.decreases, ap nodes_of is), (within, (subst (λ M. AreOfJoin M c.args.query.now.tables.now.present c.args.near.now) (sym is) c.requires.near, (source_of_select c.args.lens.now c.in-Select.of.now c.in-Select.pred.now c.args.query.now.tables.now.present c.args.query.now.cols.now is c.node.ensures.typed c.requires.asked, c.requires.key))))
 
 pub find_in-find_parts-requires : goal.find_in-find_parts-requires
 find_in-find_parts-requires g t c κs within =
@@ -32,7 +29,7 @@ find_in-find_parts-requires g t c κs within =
       (
         within,
         (
-          subst (λ M. AreKnown (of_join M c.args.query.now.tables.now.present.relations) c.args.near.now) (sym is) c.requires.near,
+          subst (λ M. AreOfJoin M c.args.query.now.tables.now.present c.args.near.now) (sym is) c.requires.near,
           (
             subst (Within C) (sym c.names_of.ensures) (shown_to L st C c.node.ensures.typed c.requires.asked),
             (source_of_drop L c.in-Drop.of.now c.in-Drop.col.now c.in-Drop.by.now c.in-Drop.fill.now st C is c.node.ensures.typed c.requires.asked, c.requires.key),
@@ -127,7 +124,7 @@ find_in-find_renamed-requires g t c κs within =
       (
         within,
         (
-          subst (λ M. AreKnown (of_join M c.args.query.now.tables.now.present.relations) c.args.near.now) (sym is) c.requires.near,
+          subst (λ M. AreOfJoin M c.args.query.now.tables.now.present c.args.near.now) (sym is) c.requires.near,
           (
             subst IsTyped (sym is) c.node.ensures.typed,
             (subst (λ L. MayFind L c.args.query.now.tables.now.present c.args.query.now.cols.now) (sym is) c.requires.asked, c.requires.key),

@@ -1,7 +1,6 @@
-use Rattle.std.proofs.Common.{◌≡◌, ◌≤◌, ◌+◌, ◌*◌, ℕ, take}
-use Rattle.std.specs.Prelude.{IfSome}
-use Rattle.lens_specs.specs.Lens.{get, nodes_of}
-use Rattle.lens_laws.specs.Work.{size}
+use Rattle.std.proofs.Common.{◌≡◌, ◌≤◌, ◌+◌, ◌*◌, ℕ, take, IfSome}
+use Rattle.lens_specs.specs.Common.{get, nodes_of}
+use Rattle.lens_laws.proofs.Common.{size}
 use Rattle.lens_probe.specs.Looking.{ArePartners, FindsWithin, pairs_of}
 use Rattle.lens_probe.proofs.finding.+find.Given as goal
 

@@ -1,7 +1,6 @@
-use Rattle.std.proofs.Common.{◌≡◌, ◌∙◌, ◌+◌, ◌≤◌, ap, arith, refl, subst, sym}
-use Rattle.std.specs.Prelude.{IfOk}
+use Rattle.std.proofs.Common.{◌≡◌, ◌∙◌, ◌+◌, ◌≤◌, ap, arith, refl, subst, sym, IfOk}
 use Rattle.lens_specs.specs.Common.{get, nodes_of, view_names, has}
-use Rattle.lens_probe.specs.NearRows.{AreKnown, of_join}
+use Rattle.lens_probe.specs.NearRows.{AreOfJoin}
 use Rattle.lens_probe.proofs.Contained.{drop_has, drop_over, join_has, join_lacks, left_of_join, left_part_fits, refused_has, right_of_join, right_part_fits, select_fits, selected_has, source_of_drop, source_of_select, table_has}
 use Rattle.lens_probe.proofs.RenamedViews.{fits_in, has_in_rename, lacks_in, looks_in, size_in, source_looks}
 use Rattle.lens_probe.proofs.Sizes.{both_sides, dropped_size, left_alone, look_left, look_right, look_under_dropped, look_under_selected, selected_size, table_look}
@@ -21,7 +20,7 @@ has_in-requires g t c κs within =
       (
         within,
         (
-          subst (λ M. AreKnown (of_join M c.args.tables.now.present.relations) c.args.near.now) (sym is) c.requires.near,
+          subst (λ M. AreOfJoin M c.args.tables.now.present c.args.near.now) (sym is) c.requires.near,
           (
             source_of_select c.args.lens.now c.in-Select.of.now c.in-Select.pred.now c.args.tables.now.present is c.node.ensures.typed c.requires.may,
             select_fits c.args.lens.now c.in-Select.of.now c.in-Select.pred.now c.args.row.now is c.requires.fits,
@@ -46,7 +45,7 @@ returns-else-not-holds-clause-there g t c =
 pub find_in-requires-clause-near : goal.find_in-requires-clause-near
 find_in-requires-clause-near g t c =
     let is = c.in-Drop.ensures.is in
-    subst (λ M. AreKnown (of_join M c.args.tables.now.present.relations) c.args.near.now) (sym is) c.requires.near
+    subst (λ M. AreOfJoin M c.args.tables.now.present c.args.near.now) (sym is) c.requires.near
 
 pub find_in-requires-clause-asked : goal.find_in-requires-clause-asked
 find_in-requires-clause-asked g t c =
@@ -83,7 +82,7 @@ has_in-requires-in-Rename g t c κs within =
       (
         within,
         (
-          subst (λ M. AreKnown (of_join M c.args.tables.now.present.relations) c.args.near.now) (sym is) c.requires.near,
+          subst (λ M. AreOfJoin M c.args.tables.now.present c.args.near.now) (sym is) c.requires.near,
           (
             source_looks c.args.lens.now S A B is c.node.ensures.typed st c.requires.may,
             fits_in c.args.lens.now S A B is c.node.ensures.typed st c.args.row.now c.in_ok-old_row-in-Rename.old_row c.requires.may c.requires.fits c.in_ok-old_row-in-Rename.ensures,

@@ -1,4 +1,4 @@
-use Rattle.lens_specs.specs.Lens.{nodes_of}
+use Rattle.lens_specs.specs.Common.{nodes_of}
 use Rattle.lens_probe.proofs.having.+has_in.Given as goal
 
 abbrev pub decreases-has_in : goal.decreases-has_in

@@ -1,4 +1,4 @@
-use Rattle.lens_specs.specs.Lens.{nodes_of}
+use Rattle.lens_specs.specs.Common.{nodes_of}
 use Rattle.lens_probe.proofs.near.+near_part.Given as goal
 
 abbrev pub decreases-near_part : goal.decreases-near_part

@@ -1,6 +1,6 @@
 use Rattle.std.proofs.Common.{◌+◌, ◌≤◌, ap, arith, subst, sym}
-use Rattle.lens_specs.specs.Lens.{nodes_of}
-use Rattle.lens_probe.specs.NearRows.{AreKnown, of_join}
+use Rattle.lens_specs.specs.Common.{nodes_of}
+use Rattle.lens_probe.specs.NearRows.{AreOfJoin}
 use Rattle.lens_probe.proofs.Contained.{drop_over, select_fits, source_of_drop, source_of_select}
 use Rattle.lens_probe.proofs.RenamedViews.{fits_in, lacks_in, looks_in, size_in, source_looks}
 use Rattle.lens_probe.proofs.Sizes.{dropped_size, look_under_dropped, look_under_selected, selected_size}
@@ -18,7 +18,7 @@ near_row-requires g t c κs within =
           source_of_select c.args.lens.now c.in-Select.of.now c.in-Select.pred.now c.args.tables.now.present is c.node.ensures.typed c.requires.may,
           (
             select_fits c.args.lens.now c.in-Select.of.now c.in-Select.pred.now c.args.row.now is c.requires.fits,
-            subst (λ M. AreKnown (of_join M c.args.tables.now.present.relations) c.args.known.items) (sym is) c.requires.known,
+            subst (λ M. AreOfJoin M c.args.tables.now.present c.args.known.items) (sym is) c.requires.known,
           ),
         ),
       ),
@@ -51,7 +51,7 @@ near_row-requires-in-Rename g t c κs within =
           source_looks c.args.lens.now S A B is c.node.ensures.typed st c.requires.may,
           (
             fits_in c.args.lens.now S A B is c.node.ensures.typed st c.args.row.now c.in_ok-old_row-in-Rename.old_row c.requires.may c.requires.fits c.in_ok-old_row-in-Rename.ensures,
-            subst (λ M. AreKnown (of_join M c.args.tables.now.present.relations) c.args.known.items) (sym is) c.requires.known,
+            subst (λ M. AreOfJoin M c.args.tables.now.present c.args.known.items) (sym is) c.requires.known,
           ),
         ),
       ),
@@ -81,7 +81,7 @@ near_part-requires-clause-key g t c =
 pub near_part-requires-clause-known : goal.near_part-requires-clause-known
 near_part-requires-clause-known g t c =
     let is = c.in-Drop.ensures.is in
-    subst (λ M. AreKnown (of_join M c.args.tables.now.present.relations) c.args.known.items) (sym is) c.requires.known
+    subst (λ M. AreOfJoin M c.args.tables.now.present c.args.known.items) (sym is) c.requires.known
 
 pub returns-in-Drop-clause-looks : goal.returns-in-Drop-clause-looks
 returns-in-Drop-clause-looks g t c = λ w few.

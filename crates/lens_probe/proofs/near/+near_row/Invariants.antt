@@ -1,4 +1,4 @@
-use Rattle.lens_specs.specs.Lens.{nodes_of}
+use Rattle.lens_specs.specs.Common.{nodes_of}
 use Rattle.lens_probe.proofs.near.+near_row.Given as goal
 
 abbrev pub decreases-near_row : goal.decreases-near_row

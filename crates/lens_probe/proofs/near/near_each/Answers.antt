@@ -1,6 +1,6 @@
 use Rattle.std.proofs.Common.{ap, arith, length}
 use Rattle.plain_values.specs.SortedSet as set
-use Rattle.lens_laws.specs.Work.{size}
+use Rattle.lens_laws.proofs.Common.{size}
 use Rattle.signed_delta.proofs.Counts.{at_end, next, one_more}
 use Rattle.signed_delta.proofs.Looks.{listed_at}
 use Rattle.lens_probe.proofs.near.near_each.Goals as goal

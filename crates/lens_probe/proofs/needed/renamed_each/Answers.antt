@@ -1,6 +1,6 @@
 use Rattle.std.proofs.Common.{◌∙◌, ◌++◌, ◌∷◌, [], ap, sym}
-use Rattle.std.proofs.lemmas.List.{map_more}
-use Rattle.lens_specs.specs.Rename.{renamed_names}
+use Rattle.plain_values.proofs.Common.{map_more}
+use Rattle.lens_specs.specs.Common.{renamed_names}
 use Rattle.lens_probe.proofs.RenamedViews.{names_are}
 use Rattle.lens_probe.proofs.needed.renamed_each.Goals as goal
 

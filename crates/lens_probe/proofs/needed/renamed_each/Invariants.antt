@@ -1,5 +1,5 @@
 use Rattle.std.proofs.Common.{◌≡◌, map, take}
-use Rattle.lens_specs.specs.Rename.{renamed_names}
+use Rattle.lens_specs.specs.Common.{renamed_names}
 use Rattle.lens_probe.proofs.needed.renamed_each.Given as goal
 
 abbrev pub invariant-loop-set : goal.invariant-loop-set

@@ -1,8 +1,7 @@
 use Rattle.std.proofs.Common.{◌∙◌, ◌++◌, ap}
-use Rattle.std.proofs.lemmas.List.{take_all}
-use Rattle.lens_specs.specs.Sort.{Sort}
-use Rattle.lens_laws.specs.Asked.{left_sides}
-use Rattle.lens_laws.proofs.Rules.{given_is}
+use Rattle.plain_values.proofs.Common.{take_all}
+use Rattle.lens_specs.specs.Common.{Sort}
+use Rattle.lens_laws.proofs.Common.{left_sides, given_is}
 use Rattle.lens_probe.proofs.needed.with_left_sides.Goals as goal
 
 pub returns : goal.returns

@@ -1,5 +1,5 @@
 use Rattle.std.proofs.Common.{◌≡◌, ◌++◌, take}
-use Rattle.lens_laws.specs.Asked.{left_sides}
+use Rattle.lens_laws.proofs.Common.{left_sides}
 use Rattle.lens_probe.proofs.needed.with_left_sides.Given as goal
 
 abbrev pub invariant-loop-edge : goal.invariant-loop-edge

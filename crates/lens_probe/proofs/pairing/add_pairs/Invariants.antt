@@ -1,5 +1,5 @@
 use Rattle.std.proofs.Common.{◌≡◌, ◌++◌, filter, map, take}
-use Rattle.lens_specs.specs.Rows.{agree}
+use Rattle.lens_specs.specs.Common.{agree}
 use Rattle.lens_probe.specs.Looking.{both_of}
 use Rattle.lens_probe.proofs.pairing.add_pairs.Given as goal
 

@@ -1,5 +1,5 @@
 use Rattle.std.proofs.Common.{◌∙◌, ap, filter, sym, take}
-use Rattle.lens_specs.specs.Predicate.{holds}
+use Rattle.lens_specs.specs.Common.{holds}
 use Rattle.signed_delta.proofs.Looks.{passed_are, passed_rise}
 use Rattle.lens_probe.proofs.Found.{all_pass}
 use Rattle.lens_probe.proofs.selecting.selected.Goals as goal

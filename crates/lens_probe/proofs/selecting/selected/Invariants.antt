@@ -1,5 +1,5 @@
 use Rattle.std.proofs.Common.{◌≡◌, filter, take}
-use Rattle.lens_specs.specs.Predicate.{holds}
+use Rattle.lens_specs.specs.Common.{holds}
 use Rattle.lens_probe.proofs.selecting.selected.Given as goal
 
 abbrev pub invariant-loop-row : goal.invariant-loop-row

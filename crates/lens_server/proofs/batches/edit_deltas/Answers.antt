@@ -1,16 +1,14 @@
-use Rattle.std.proofs.Common.{◌+◌, ◌*◌, ◌≤◌, sym}
+use Rattle.std.proofs.Common.{sym, refl}
 use Rattle.std.specs.FinMap as finmap
-use Rattle.catalog_specs.specs.Catalogue.{catalogue}
-use Rattle.lens_laws.specs.Work.{fan}
+use Rattle.server_specs.specs.Common.{catalogue, asked_view}
+use Rattle.lens_laws.proofs.Common.{fan}
 use Rattle.request_text.specs.Edits.{edit_view}
 use Rattle.server_specs.specs.Changing as changing
-use Rattle.server_specs.specs.Changing.{asked_view}
 use Rattle.lens_server.specs.Counting.{edit_looks}
-use Rattle.lens_server.specs.Databases.{lens_of, state_of}
+use Rattle.lens_server.specs.Databases.{lens_of}
 use Rattle.lens_server.proofs.BatchSteps.{edit_gives, edit_opens, edit_unknown}
 use Rattle.lens_server.proofs.LooksByName.{at_lens}
 use Rattle.lens_server.proofs.NamedViews.{seen_put}
-use Rattle.std.proofs.Common.{refl}
 use Rattle.lens_server.proofs.batches.edit_deltas.Goals as goal
 
 pub open_view-requires : goal.open_view-requires

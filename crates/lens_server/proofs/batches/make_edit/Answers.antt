@@ -1,8 +1,7 @@
 use Rattle.std.proofs.Common.{◌≡◌, ◌∙◌, Ok, ap, map, subst, sym}
-use Rattle.lens_specs.specs.TableDeltas.{LeadTo}
+use Rattle.lens_specs.specs.Common.{LeadTo}
 use Rattle.base_index.specs.Held.{AllApply, with_deltas}
-use Rattle.catalog_specs.specs.Catalogue.{catalogue}
-use Rattle.server_specs.specs.Validity.{AreStored}
+use Rattle.server_specs.specs.Common.{catalogue, AreStored}
 use Rattle.signed_delta.specs.Tables.{table_delta}
 use Rattle.lens_server.proofs.BatchSteps.{holding_itself, still_holding}
 use Rattle.lens_server.proofs.batches.make_edit.Goals as goal

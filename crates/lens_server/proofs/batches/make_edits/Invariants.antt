@@ -1,9 +1,9 @@
 use Rattle.std.proofs.Common.{◌≡◌, ◌+◌, ◌≤◌, length, map}
-use Rattle.std.specs.Vec.Iter.{into_iter_items}
+use Rattle.plain_values.proofs.Common.{into_iter_items}
 use Rattle.edit_batches.specs.Chains.{Chain}
 use Rattle.edit_batches.specs.Histories.{deltas_of}
 use Rattle.request_text.specs.Edits.{edit_view}
-use Rattle.server_specs.specs.Batching.{edits_from}
+use Rattle.server_specs.specs.Common.{edits_from}
 use Rattle.lens_server.specs.Batches.{IsHolding}
 use Rattle.lens_server.specs.Counting.{batch_looks}
 use Rattle.database.specs.States.{state_of}

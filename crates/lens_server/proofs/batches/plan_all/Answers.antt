@@ -1,5 +1,4 @@
-use Rattle.std.proofs.Common.{sym, subst}
-use Rattle.std.specs.Prelude.{IfOk, map}
+use Rattle.std.proofs.Common.{sym, subst, IfOk, map}
 use Rattle.server_laws.proofs.Batches.{batch_by}
 use Rattle.signed_delta.specs.Tables.{table_delta}
 use Rattle.lens_server.specs.Databases.{IsPlan, state_of}

@@ -1,8 +1,7 @@
-use Rattle.std.proofs.Common.{◌≡◌, ◌∙◌, Ok, ap, subst, sym}
-use Rattle.std.proofs.lemmas.Result.{IfOk-weaker}
+use Rattle.std.proofs.Common.{◌≡◌, ◌∙◌, ap, subst, sym}
+use Rattle.plain_values.proofs.Common.{IfOk-weaker}
 use Rattle.request_text.specs.Answers.{answer_view}
-use Rattle.server_specs.specs.Answer.{changed}
-use Rattle.server_specs.specs.Changing.{foretold}
+use Rattle.server_specs.specs.Common.{changed, foretold}
 use Rattle.view_changes.specs.Puts.{IsPut, TellsRefusal}
 use Rattle.lens_server.proofs.NamedViews.{refused_so}
 use Rattle.lens_server.proofs.changes.foretold.Goals as goal

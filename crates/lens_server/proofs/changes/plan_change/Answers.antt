@@ -1,9 +1,8 @@
-use Rattle.std.proofs.Common.{◌≡◌, ◌∙◌, Ok, ap, subst, sym}
-use Rattle.std.specs.Prelude.{IfOk, map}
-use Rattle.lens_specs.specs.Common.{changes, put}
+use Rattle.std.proofs.Common.{◌∙◌, ap, subst, sym, IfOk, map}
+use Rattle.lens_specs.specs.Common.{put}
 use Rattle.request_text.specs.Answers.{answer_view}
 use Rattle.server_laws.proofs.Led.{put_change}
-use Rattle.server_specs.specs.Changing.{accept, settled}
+use Rattle.server_specs.specs.Common.{accept, settled}
 use Rattle.signed_delta.specs.Tables.{table_delta}
 use Rattle.view_changes.specs.Puts.{IsPut}
 use Rattle.lens_server.specs.Databases.{CanAccept, IsPlan, state_of}

@@ -1,5 +1,4 @@
-use Rattle.std.proofs.Common.{◌<◌, length, subst, sym}
-use Rattle.std.specs.Prelude.{◌^◌}
+use Rattle.std.proofs.Common.{◌<◌, length, subst, sym, ◌^◌}
 use Rattle.lens_server.proofs.definitions.plan_definition.Goals as goal
 
 pub plan_prepared-requires-clause-short : goal.plan_prepared-requires-clause-short

@@ -1,7 +1,5 @@
 use Rattle.std.proofs.Common.{◌∙◌, refl, subst, sym}
-use Rattle.io_specs.specs.Lines.{line}
-use Rattle.server_specs.specs.Answering.{answer_request}
-use Rattle.server_specs.specs.Request.{request}
+use Rattle.server_specs.specs.Common.{line, answer_request, request}
 use Rattle.database.specs.Outcomes.{Outcome}
 use Rattle.database.specs.States.{state_of}
 use Rattle.database.proofs.Keyed.{same_state}

@@ -1,5 +1,4 @@
-use Rattle.std.proofs.Common.{sym}
-use Rattle.std.specs.Prelude.{map}
+use Rattle.std.proofs.Common.{sym, map}
 use Rattle.edit_batches.specs.Histories.{deltas_of}
 use Rattle.signed_delta.specs.Tables.{table_delta}
 use Rattle.database.proofs.ChangePlans.{undo_planned}

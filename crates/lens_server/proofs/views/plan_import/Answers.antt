@@ -1,9 +1,8 @@
-use Rattle.std.proofs.Common.{◌≡◌, ◌∙◌, ◌+◌, ◌*◌, ◌≤◌, Ok, ap, refl, subst, sym}
-use Rattle.std.specs.Prelude.{IfOk}
+use Rattle.std.proofs.Common.{◌+◌, ◌*◌, ◌≤◌, Ok, ap, refl, subst, sym, IfOk}
 use Rattle.base_index.specs.Held.{Held}
-use Rattle.lens_laws.specs.Work.{fan, work}
+use Rattle.lens_laws.proofs.Common.{fan, work}
 use Rattle.request_text.specs.Answers.{answer_view}
-use Rattle.server_specs.specs.Changing.{tested}
+use Rattle.server_specs.specs.Common.{tested}
 use Rattle.lens_server.specs.Counting.{differs_by}
 use Rattle.lens_server.specs.Databases.{IsPlan, lens_of, state_of}
 use Rattle.lens_server.proofs.WalkedRows.{read_few}

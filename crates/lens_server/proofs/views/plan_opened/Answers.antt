@@ -1,12 +1,9 @@
-use Rattle.std.proofs.Common.{◌≡◌, ◌∙◌, ◌+◌, ◌≤◌, Ok, ap, arith, refl, subst, sym}
-use Rattle.std.specs.Prelude.{IfOk}
+use Rattle.std.proofs.Common.{◌∙◌, Ok, ap, arith, refl, subst, sym, IfOk}
 use Rattle.server_laws.proofs.Changes.{texts_settled}
 use Rattle.base_index.specs.Held.{Held}
 use Rattle.lens_specs.specs.Common.{sort_of, one}
 use Rattle.request_text.specs.Answers.{answer_view}
-use Rattle.server_specs.specs.Changing.{asked_view, edited, settled, whole}
-use Rattle.server_specs.specs.Exporting.{first_nullable, sheet_told}
-use Rattle.server_specs.specs.Questions.{finding_told}
+use Rattle.server_specs.specs.Common.{asked_view, edited, settled, whole, first_nullable, sheet_told, finding_told}
 use Rattle.lens_server.specs.Counting.{Walks, row_count}
 use Rattle.lens_server.specs.Databases.{IsPlan, lens_of, state_of}
 use Rattle.lens_server.specs.ViewRequests.{IsToldBack, told_of, walks_of}

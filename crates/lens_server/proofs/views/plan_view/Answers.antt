@@ -1,8 +1,7 @@
-use Rattle.std.proofs.Common.{◌≡◌, ◌∙◌, ◌+◌, ◌≤◌, Ok, arith, ap, subst, sym}
-use Rattle.std.proofs.lemmas.Result.{IfOk-weaker}
-use Rattle.std.specs.Prelude.{IfOk}
+use Rattle.std.proofs.Common.{◌+◌, ◌≤◌, arith, ap, subst, sym, IfOk}
+use Rattle.plain_values.proofs.Common.{IfOk-weaker}
 use Rattle.request_text.specs.Answers.{answer_view}
-use Rattle.server_specs.specs.Answer.{unknown_name}
+use Rattle.server_specs.specs.Common.{unknown_name}
 use Rattle.database.proofs.Keyed.{can_open}
 use Rattle.lens_server.specs.Counting.{Walks}
 use Rattle.lens_server.specs.Databases.{IsPlan, lens_of, state_of}

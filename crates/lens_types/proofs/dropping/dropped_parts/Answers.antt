@@ -1,6 +1,5 @@
-use Rattle.std.proofs.Common.{◌≡◌, ◌∙◌, ap, sym}
-use Rattle.std.specs.Prelude.{Ok}
-use Rattle.std.proofs.lemmas.Result.{err_from_is_err_and}
+use Rattle.std.proofs.Common.{◌≡◌, ◌∙◌, ap, sym, Ok}
+use Rattle.plain_values.proofs.Common.{err_from_is_err_and}
 use Rattle.lens_specs.specs.Common.{without_column, one, tree_without}
 use Rattle.lens_types.specs.Drops.{column_fault, unfilled}
 use Rattle.lens_types.proofs.Projections.{column_refused, no_fault, rest_refused, size_refused, projection_taken}

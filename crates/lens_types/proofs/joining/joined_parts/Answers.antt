@@ -1,5 +1,4 @@
-use Rattle.std.proofs.Common.{◌≡◌, ◌∙◌, ◌++◌, ap, sym}
-use Rattle.std.specs.Prelude.{None, Ok, option_map}
+use Rattle.std.proofs.Common.{◌≡◌, ◌∙◌, ◌++◌, ap, sym, None, Ok, option_map}
 use Rattle.lens_specs.specs.Common.{too_much, tree_of}
 use Rattle.fd_tree.specs.Form.{form_of}
 use Rattle.lens_types.specs.Faults.{fault_view}

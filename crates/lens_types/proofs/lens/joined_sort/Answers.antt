@@ -1,7 +1,6 @@
 use Rattle.std.proofs.Common.{◌∙◌, ap, subst, sym}
 use Rattle.plain_values.specs.declared.join_kind.JoinKind.{JoinKind}
-use Rattle.lens_specs.specs.Common.{Sort, sort}
-use Rattle.lens_specs.specs.Lens.{join}
+use Rattle.lens_specs.specs.Common.{Sort, sort, join}
 use Rattle.lens_types.specs.Faults.{Decides}
 use Rattle.lens_types.specs.Kept.{IsKept}
 use Rattle.lens_types.specs.Sorts.{natural_join}

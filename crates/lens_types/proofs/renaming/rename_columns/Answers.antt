@@ -1,7 +1,7 @@
 use Rattle.std.proofs.Common.{◌∙◌, ap, map}
 use Rattle.std.specs.FinMap as finmap
-use Rattle.plain_values.specs.Order.{bytes_cmp}
-use Rattle.lens_specs.specs.Rename.{renamed}
+use Rattle.plain_values.proofs.Common.{bytes_cmp}
+use Rattle.lens_specs.specs.Common.{renamed}
 use Rattle.lens_types.proofs.Renamings.{columns_renamed}
 use Rattle.lens_types.proofs.renaming.rename_columns.Goals as goal
 

@@ -1,6 +1,5 @@
-use Rattle.std.proofs.Common.{◌∙◌, ap, sym}
-use Rattle.std.specs.Prelude.{option_map}
-use Rattle.lens_specs.specs.Refusal.{is_column, column_taken, too_much, when}
+use Rattle.std.proofs.Common.{◌∙◌, ap, sym, option_map}
+use Rattle.lens_specs.specs.Common.{is_column, column_taken, too_much, when}
 use Rattle.lens_types.specs.Faults.{fault_view}
 use Rattle.lens_types.specs.Sorts.{sort_from}
 use Rattle.lens_types.proofs.Renamings.{too_much_refused, last_test}

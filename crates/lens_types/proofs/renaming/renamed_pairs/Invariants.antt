@@ -1,5 +1,5 @@
 use Rattle.std.proofs.Common.{◌≡◌, map, take}
-use Rattle.lens_specs.specs.Rename.{renamed}
+use Rattle.lens_specs.specs.Common.{renamed}
 use Rattle.lens_types.proofs.renaming.renamed_pairs.Given as goal
 
 abbrev pub invariant-loop-pair : goal.invariant-loop-pair

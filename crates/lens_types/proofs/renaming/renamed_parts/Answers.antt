@@ -1,6 +1,5 @@
-use Rattle.std.proofs.Common.{◌≡◌, ◌∙◌, ap, sym, subst}
-use Rattle.std.specs.Prelude.{None, option_map}
-use Rattle.fd_laws.proofs.Columns.{no_kind}
+use Rattle.std.proofs.Common.{◌≡◌, ◌∙◌, ap, sym, subst, None, option_map}
+use Rattle.fd_laws.proofs.Common.{no_kind}
 use Rattle.plain_values.specs.SortedSet as set
 use Rattle.lens_specs.specs.Common.{names, AllEdges, renamed_columns, renamed_predicate, renamed_tree, rename_fault}
 use Rattle.lens_types.specs.Faults.{fault_view}

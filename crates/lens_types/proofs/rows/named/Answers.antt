@@ -1,5 +1,4 @@
-use Rattle.std.proofs.Common.{◌≡◌, subst}
-use Rattle.std.specs.Prelude.{IfOk}
+use Rattle.std.proofs.Common.{◌≡◌, subst, IfOk}
 use Rattle.lens_types.proofs.RenamedRows.{as_many_values, row_made}
 use Rattle.lens_types.proofs.rows.named.Goals as goal
 

@@ -1,8 +1,6 @@
-use Rattle.std.proofs.Common.{◌∙◌, ap, sym, [], ◌∷◌, ◌++◌, append-nil}
-use Rattle.std.specs.Prelude.{option_copied}
-use Rattle.std.specs.FinMap.{get}
-use Rattle.std.specs.List.{cons_option}
-use Rattle.lens_specs.specs.Rename.{renamed}
+use Rattle.std.proofs.Common.{◌∙◌, ap, sym, [], ◌∷◌, ◌++◌, append-nil, option_copied}
+use Rattle.plain_values.proofs.Common.{get, cons_option}
+use Rattle.lens_specs.specs.Common.{renamed}
 use Rattle.lens_values.proofs.Cells.{one_more}
 use Rattle.lens_types.proofs.rows.old_values.Goals as goal
 use Rattle.lens_types.proofs.rows.old_values.Goals.{in-Some+in_ok-copy+in_ok-push, in_default}

@@ -1,5 +1,5 @@
 use Rattle.std.proofs.Common.{◌≡◌, take}
-use Rattle.std.specs.List.{filter_map}
+use Rattle.plain_values.proofs.Common.{filter_map}
 use Rattle.lens_specs.specs.Common.{renamed, at}
 use Rattle.lens_types.proofs.rows.old_values.Given as goal
 

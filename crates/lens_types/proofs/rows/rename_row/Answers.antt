@@ -1,6 +1,6 @@
 use Rattle.std.proofs.Common.{sym, ◌∙◌}
 use Rattle.lens_values.proofs.Cells.{own_names}
-use Rattle.lens_specs.specs.Rename.{renamed_names}
+use Rattle.lens_specs.specs.Common.{renamed_names}
 use Rattle.lens_types.proofs.RenamedRows.{new_names}
 use Rattle.lens_types.proofs.rows.rename_row.Goals as goal
 

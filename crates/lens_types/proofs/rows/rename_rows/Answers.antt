@@ -1,5 +1,5 @@
 use Rattle.std.proofs.Common.{sym, ◌∙◌}
-use Rattle.lens_specs.specs.Rename.{renamed_names}
+use Rattle.lens_specs.specs.Common.{renamed_names}
 use Rattle.lens_types.proofs.RenamedRows.{new_names}
 use Rattle.lens_types.proofs.rows.rename_rows.Goals as goal
 

@@ -1,6 +1,5 @@
-use Rattle.std.proofs.Common.{◌≡◌, ◌∙◌, ◌++◌, ap, sym}
-use Rattle.std.specs.Prelude.{None, Ok}
-use Rattle.lens_specs.specs.Refusal.{unsteady, too_much}
+use Rattle.std.proofs.Common.{◌≡◌, ◌∙◌, ◌++◌, ap, sym, None, Ok}
+use Rattle.lens_specs.specs.Common.{unsteady, too_much}
 use Rattle.lens_pred.specs.Checked.{checked}
 use Rattle.lens_types.specs.Sorts.{sort_from}
 use Rattle.lens_types.proofs.Selections.{size_refused, selection_taken}

@@ -1,7 +1,6 @@
-use Rattle.std.proofs.Common.{◌∙◌, sym, ap, length, arith}
-use Rattle.std.specs.Prelude.{Some}
+use Rattle.std.proofs.Common.{◌∙◌, sym, ap, length, arith, Some}
 use Rattle.std.specs.FinMap as finmap
-use Rattle.lens_specs.specs.Refusal.{too_large}
+use Rattle.lens_specs.specs.Common.{too_large}
 use Rattle.view_limits.specs.Views.{limit_view}
 use Rattle.lens_types.specs.Sorts.{sort_from}
 use Rattle.lens_types.proofs.SizeLimits.{many_columns, many_lenses, many_formulas, few_of_all}

@@ -1,6 +1,5 @@
-use Rattle.std.proofs.Common.{◌∙◌, ap, sym, refl}
-use Rattle.std.specs.Prelude.{option_map}
-use Rattle.std.proofs.lemmas.Result.{err_from_is_err_and}
+use Rattle.std.proofs.Common.{◌∙◌, ap, sym, refl, option_map}
+use Rattle.plain_values.proofs.Common.{err_from_is_err_and}
 use Rattle.lens_specs.specs.Common.{or_else, unknown_column, unknown_in}
 use Rattle.lens_types.specs.Unknown.{unknown_said}
 use Rattle.lens_types.proofs.Tables.{known_said, all_known, sort_unknown, tree_refused, pred_refused, size_refused, sort_taken}

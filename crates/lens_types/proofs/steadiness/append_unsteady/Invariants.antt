@@ -1,5 +1,5 @@
 use Rattle.std.proofs.Common.{◌≡◌, ◌++◌, drop}
-use Rattle.lens_specs.specs.Predicate.{names_of}
+use Rattle.lens_specs.specs.Common.{names_of}
 use Rattle.lens_pred.specs.View.{predicate_view}
 use Rattle.lens_types.proofs.SteadyConjuncts.{others}
 use Rattle.lens_types.proofs.steadiness.append_unsteady.Given as goal

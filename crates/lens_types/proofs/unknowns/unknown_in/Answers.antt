@@ -1,6 +1,5 @@
-use Rattle.std.proofs.Common.{◌∙◌, ap, sym}
-use Rattle.std.specs.Prelude.{option_map}
-use Rattle.lens_specs.specs.Refusal.{unknown_column}
+use Rattle.std.proofs.Common.{◌∙◌, ap, sym, option_map}
+use Rattle.lens_specs.specs.Common.{unknown_column}
 use Rattle.lens_types.proofs.UnknownColumns.{unknown_here, unknown_later}
 use Rattle.lens_types.proofs.unknowns.unknown_in.Goals as goal
 

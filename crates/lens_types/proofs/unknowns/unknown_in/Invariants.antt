@@ -1,5 +1,5 @@
 use Rattle.std.proofs.Common.{◌≡◌, drop}
-use Rattle.lens_specs.specs.Typing.{unknown_in}
+use Rattle.lens_specs.specs.Common.{unknown_in}
 use Rattle.lens_types.proofs.unknowns.unknown_in.Given as goal
 
 -- the answer is the one for what is left

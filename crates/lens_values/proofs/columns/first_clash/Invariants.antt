@@ -1,7 +1,6 @@
-use Rattle.std.proofs.Common.{◌≡◌, drop}
-use Rattle.std.specs.Prelude.{find}
+use Rattle.std.proofs.Common.{◌≡◌, drop, find}
 use Rattle.std.specs.FinMap as map
-use Rattle.plain_values.specs.Columns.{is_other_kind}
+use Rattle.plain_values.proofs.Common.{is_other_kind}
 use Rattle.lens_values.proofs.columns.first_clash.Given as goal
 
 -- the answer is the one for what is left

@@ -1,6 +1,5 @@
 use Rattle.std.proofs.Common.{rules, sym}
-use Rattle.std.specs.Cmp.Lexicographic.{nat_list_cmp_total}
-use Rattle.std.proofs.lemmas.List.Sorted.{answers_always}
+use Rattle.plain_values.proofs.Common.{nat_list_cmp_total, answers_always}
 use Rattle.lens_values.proofs.Places.{searched_value, searched_nothing}
 use Rattle.lens_values.proofs.columns.kind_in.Goals as goal
 

@@ -1,5 +1,5 @@
 use Rattle.std.proofs.Common.{◌≡◌, take}
-use Rattle.plain_values.specs.SortedMap.{keys_of}
+use Rattle.plain_values.proofs.Common.{keys_of}
 use Rattle.lens_values.proofs.columns.names_in.Given as goal
 
 abbrev pub invariant-loop-pair : goal.invariant-loop-pair

@@ -1,6 +1,5 @@
 use Rattle.std.proofs.Common.{rules, ◌∙◌}
-use Rattle.std.specs.Cmp.Lexicographic.{nat_list_cmp_total}
-use Rattle.std.proofs.lemmas.List.Sorted.{answers_always}
+use Rattle.plain_values.proofs.Common.{nat_list_cmp_total, answers_always}
 use Rattle.lens_values.proofs.Places.{searched_place}
 use Rattle.lens_values.proofs.columns.place_in.Goals as goal
 

@@ -1,6 +1,6 @@
-use Rattle.std.proofs.Common.{◌≡◌, ◌+◌, ◌++◌, ◌∷◌, [], ◌∙◌, sym, ap, drop, arith, false}
-use Rattle.std.proofs.lemmas.List.{get_or_default, take_rest}
-use Rattle.lens_values.proofs.Walks.{kept, missing_ends, missing_ends_right, missing_less, missing_equal, kept_past}
+use Rattle.std.proofs.Common.{◌≡◌, drop, arith, false}
+use Rattle.plain_values.proofs.Common.{Less, Equal, Greater}
+use Rattle.lens_values.proofs.Walks.{kept, missing_all, missing_ends, missing_ends_right, missing_pushed, missing_equal, kept_past, pushed, ranked}
 use Rattle.lens_values.proofs.merging.difference.Goals as goal
 use Rattle.lens_values.proofs.merging.difference.Goals.{then-loop-i-test+else-j-keys, else-loop-i-test}
 
@@ -8,14 +8,9 @@ pub loop-i-preserved-in-Less : goal.loop-i-preserved-in-Less
 loop-i-preserved-in-Less g c = record {
   list_in_range = omega (arith, c.loop-i-test.true);
   keys_in_range = c.loop-i.invariant.keys_in_range;
-  so_far =
-      let i = c.loop-i.i in
-      let pushed : c.push.new.self.items ≡ c.loop-i.rest.items ++ c.index-list-i.result ∷ [] =
-      c.in_ok-push-in-Less.ensures.items
-      ∙ ap (λ x. c.loop-i.rest.items ++ x ∷ []) (c.in_ok-try_clone-in-Less.ensures ∙ c.index-list-i-in-Less.is ∙ get_or_default c.args.list.now i _ _ c.loop-i-test.true ∙ sym c.index-list-i.is) in
-      ap (λ l. l ++ kept g.met.K.Ord.total g.T.Keyed.key false (drop (i + 1) c.args.list.now) (drop c.loop-i.j c.args.keys.now)) pushed
-      ∙ missing_less g.met.K.Ord.total g.T.Keyed.key c.args.list.now c.loop-i.rest.items c.args.keys.now i c.loop-i.j c.index-list-i.result c.index-keys-j.result c.loop-i-test.true c.if-j-keys.true c.index-list-i.is c.index-keys-j.is
-      _ c.requires.keys (ap (λ k. g.K.Ord.cmp k c.index-keys-j.result) (sym c.key.ensures) ∙ sym c.cmp.ensures ∙ c.in-Less.is) c.loop-i.invariant.so_far;
+  so_far = missing_pushed g.met.K.Ord.total g.T.Keyed.key c.args.list.now c.loop-i.rest.items c.args.keys.now c.loop-i.i c.loop-i.j c.index-list-i.result c.index-keys-j.result c.loop-i-test.true c.if-j-keys.true c.index-list-i.is c.index-keys-j.is c.push.new.self.items _
+      (pushed g.met.K.Ord.total g.T.Keyed.key c.args.list.now c.loop-i.rest.items c.args.keys.now c.loop-i.i c.loop-i.j c.index-list-i.result c.index-keys-j.result c.loop-i-test.true c.if-j-keys.true c.index-list-i.is c.index-keys-j.is c.push.new.self.items _ _ c.in_ok-push-in-Less.ensures.items c.in_ok-try_clone-in-Less.ensures c.index-list-i-in-Less.is)
+      c.requires.keys (ranked g.met.K.Ord.total g.T.Keyed.key c.args.list.now c.loop-i.rest.items c.args.keys.now c.loop-i.i c.loop-i.j c.index-list-i.result c.index-keys-j.result c.loop-i-test.true c.if-j-keys.true c.index-list-i.is c.index-keys-j.is _ _ Less c.key.ensures c.cmp.ensures c.in-Less.is) c.loop-i.invariant.so_far;
 }
 
 pub loop-i-preserved-in-Greater : goal.loop-i-preserved-in-Greater
@@ -23,7 +18,7 @@ loop-i-preserved-in-Greater g c = record {
   list_in_range = c.loop-i.invariant.list_in_range;
   keys_in_range = omega (arith, c.if-j-keys.true);
   so_far = kept_past g.met.K.Ord.total g.T.Keyed.key c.args.list.now c.loop-i.rest.items c.args.keys.now c.loop-i.i c.loop-i.j c.index-list-i.result c.index-keys-j.result c.loop-i-test.true c.if-j-keys.true c.index-list-i.is c.index-keys-j.is
-      false _ c.requires.list (ap (λ k. g.K.Ord.cmp k c.index-keys-j.result) (sym c.key.ensures) ∙ sym c.cmp.ensures ∙ c.in-Greater.is) c.loop-i.invariant.so_far;
+      false _ c.requires.list (ranked g.met.K.Ord.total g.T.Keyed.key c.args.list.now c.loop-i.rest.items c.args.keys.now c.loop-i.i c.loop-i.j c.index-list-i.result c.index-keys-j.result c.loop-i-test.true c.if-j-keys.true c.index-list-i.is c.index-keys-j.is _ _ Greater c.key.ensures c.cmp.ensures c.in-Greater.is) c.loop-i.invariant.so_far;
 }
 
 pub loop-i-preserved : goal.loop-i-preserved
@@ -31,7 +26,7 @@ loop-i-preserved g c = record {
   list_in_range = omega (arith, c.loop-i-test.true);
   keys_in_range = omega (arith, c.if-j-keys.true);
   so_far = missing_equal g.met.K.Ord.total g.T.Keyed.key c.args.list.now c.loop-i.rest.items c.args.keys.now c.loop-i.i c.loop-i.j c.index-list-i.result c.index-keys-j.result c.loop-i-test.true c.if-j-keys.true c.index-list-i.is c.index-keys-j.is
-      _ c.requires.list (ap (λ k. g.K.Ord.cmp k c.index-keys-j.result) (sym c.key.ensures) ∙ sym c.cmp.ensures ∙ c.in-Equal.is) c.loop-i.invariant.so_far;
+      _ c.requires.list (ranked g.met.K.Ord.total g.T.Keyed.key c.args.list.now c.loop-i.rest.items c.args.keys.now c.loop-i.i c.loop-i.j c.index-list-i.result c.index-keys-j.result c.loop-i-test.true c.if-j-keys.true c.index-list-i.is c.index-keys-j.is _ _ Equal c.key.ensures c.cmp.ensures c.in-Equal.is) c.loop-i.invariant.so_far;
 }
 
 pub returns : goal.returns
@@ -43,4 +38,4 @@ returns g c =
       | then-loop-i-test+else-j-keys w ↦ missing_ends_right g.met.K.Ord.total g.T.Keyed.key list keys c.loop-i.i c.loop-i.j w.if-j-keys.false
       | else-loop-i-test w ↦ missing_ends g.met.K.Ord.total g.T.Keyed.key list keys c.loop-i.i c.loop-i.j w.loop-i-test.false
     ] in
-    c.in_ok-append.ensures ∙ ap (λ l. c.loop-i.rest.items ++ l) (take_rest list c.loop-i.i ∙ sym ends) ∙ c.loop-i.invariant.so_far
+    missing_all g.met.K.Ord.total g.T.Keyed.key list keys c.loop-i.i c.loop-i.j c.loop-i.rest.items _ (kept g.met.K.Ord.total g.T.Keyed.key false list keys) ends c.in_ok-append.ensures c.loop-i.invariant.so_far

@@ -1,6 +1,6 @@
-use Rattle.std.proofs.Common.{◌≡◌, ◌+◌, ◌++◌, ◌∷◌, [], ◌∙◌, sym, ap, drop, arith, true, append-nil}
-use Rattle.std.proofs.lemmas.List.{get_or_default}
-use Rattle.lens_values.proofs.Walks.{kept, common_ends, common_ends_right, common_less, common_equal, kept_past}
+use Rattle.std.proofs.Common.{◌≡◌, [], drop, arith, true}
+use Rattle.plain_values.proofs.Common.{Less, Equal, Greater}
+use Rattle.lens_values.proofs.Walks.{kept, common_all, common_ends, common_ends_right, common_less, common_pushed, kept_past, pushed, ranked}
 use Rattle.lens_values.proofs.merging.intersection.Goals as goal
 use Rattle.lens_values.proofs.merging.intersection.Goals.{then-loop-i-test+else-j-keys, else-loop-i-test}
 
@@ -9,7 +9,7 @@ loop-i-preserved-in-Less g c = record {
   list_in_range = omega (arith, c.loop-i-test.true);
   keys_in_range = c.loop-i.invariant.keys_in_range;
   so_far = common_less g.met.K.Ord.total g.T.Keyed.key c.args.list.now c.loop-i.kept.items c.args.keys.now c.loop-i.i c.loop-i.j c.index-list-i.result c.index-keys-j.result c.loop-i-test.true c.if-j-keys.true c.index-list-i.is c.index-keys-j.is
-      _ c.requires.keys (ap (λ k. g.K.Ord.cmp k c.index-keys-j.result) (sym c.key.ensures) ∙ sym c.cmp.ensures ∙ c.in-Less.is) c.loop-i.invariant.so_far;
+      _ c.requires.keys (ranked g.met.K.Ord.total g.T.Keyed.key c.args.list.now c.loop-i.kept.items c.args.keys.now c.loop-i.i c.loop-i.j c.index-list-i.result c.index-keys-j.result c.loop-i-test.true c.if-j-keys.true c.index-list-i.is c.index-keys-j.is _ _ Less c.key.ensures c.cmp.ensures c.in-Less.is) c.loop-i.invariant.so_far;
 }
 
 pub loop-i-preserved-in-Greater : goal.loop-i-preserved-in-Greater
@@ -17,21 +17,16 @@ loop-i-preserved-in-Greater g c = record {
   list_in_range = c.loop-i.invariant.list_in_range;
   keys_in_range = omega (arith, c.if-j-keys.true);
   so_far = kept_past g.met.K.Ord.total g.T.Keyed.key c.args.list.now c.loop-i.kept.items c.args.keys.now c.loop-i.i c.loop-i.j c.index-list-i.result c.index-keys-j.result c.loop-i-test.true c.if-j-keys.true c.index-list-i.is c.index-keys-j.is
-      true _ c.requires.list (ap (λ k. g.K.Ord.cmp k c.index-keys-j.result) (sym c.key.ensures) ∙ sym c.cmp.ensures ∙ c.in-Greater.is) c.loop-i.invariant.so_far;
+      true _ c.requires.list (ranked g.met.K.Ord.total g.T.Keyed.key c.args.list.now c.loop-i.kept.items c.args.keys.now c.loop-i.i c.loop-i.j c.index-list-i.result c.index-keys-j.result c.loop-i-test.true c.if-j-keys.true c.index-list-i.is c.index-keys-j.is _ _ Greater c.key.ensures c.cmp.ensures c.in-Greater.is) c.loop-i.invariant.so_far;
 }
 
 pub loop-i-preserved : goal.loop-i-preserved
 loop-i-preserved g c = record {
   list_in_range = omega (arith, c.loop-i-test.true);
   keys_in_range = omega (arith, c.if-j-keys.true);
-  so_far =
-      let i = c.loop-i.i in
-      let pushed : c.push.new.self.items ≡ c.loop-i.kept.items ++ c.index-list-i.result ∷ [] =
-      c.in_ok-push-in-Equal.ensures.items
-      ∙ ap (λ x. c.loop-i.kept.items ++ x ∷ []) (c.in_ok-try_clone-in-Equal.ensures ∙ c.index-list-i-in-Equal.is ∙ get_or_default c.args.list.now i _ _ c.loop-i-test.true ∙ sym c.index-list-i.is) in
-      ap (λ l. l ++ kept g.met.K.Ord.total g.T.Keyed.key true (drop (i + 1) c.args.list.now) (drop (c.loop-i.j + 1) c.args.keys.now)) pushed
-      ∙ common_equal g.met.K.Ord.total g.T.Keyed.key c.args.list.now c.loop-i.kept.items c.args.keys.now i c.loop-i.j c.index-list-i.result c.index-keys-j.result c.loop-i-test.true c.if-j-keys.true c.index-list-i.is c.index-keys-j.is
-      _ c.requires.list (ap (λ k. g.K.Ord.cmp k c.index-keys-j.result) (sym c.key.ensures) ∙ sym c.cmp.ensures ∙ c.in-Equal.is) c.loop-i.invariant.so_far;
+  so_far = common_pushed g.met.K.Ord.total g.T.Keyed.key c.args.list.now c.loop-i.kept.items c.args.keys.now c.loop-i.i c.loop-i.j c.index-list-i.result c.index-keys-j.result c.loop-i-test.true c.if-j-keys.true c.index-list-i.is c.index-keys-j.is c.push.new.self.items _
+      (pushed g.met.K.Ord.total g.T.Keyed.key c.args.list.now c.loop-i.kept.items c.args.keys.now c.loop-i.i c.loop-i.j c.index-list-i.result c.index-keys-j.result c.loop-i-test.true c.if-j-keys.true c.index-list-i.is c.index-keys-j.is c.push.new.self.items _ _ c.in_ok-push-in-Equal.ensures.items c.in_ok-try_clone-in-Equal.ensures c.index-list-i-in-Equal.is)
+      c.requires.list (ranked g.met.K.Ord.total g.T.Keyed.key c.args.list.now c.loop-i.kept.items c.args.keys.now c.loop-i.i c.loop-i.j c.index-list-i.result c.index-keys-j.result c.loop-i-test.true c.if-j-keys.true c.index-list-i.is c.index-keys-j.is _ _ Equal c.key.ensures c.cmp.ensures c.in-Equal.is) c.loop-i.invariant.so_far;
 }
 
 pub returns : goal.returns
@@ -43,4 +38,4 @@ returns g c =
       | then-loop-i-test+else-j-keys w ↦ common_ends_right g.met.K.Ord.total g.T.Keyed.key list keys c.loop-i.i c.loop-i.j w.if-j-keys.false
       | else-loop-i-test w ↦ common_ends g.met.K.Ord.total g.T.Keyed.key list keys c.loop-i.i c.loop-i.j w.loop-i-test.false
     ] in
-    sym (append-nil c.loop-i.kept.items) ∙ ap (λ l. c.loop-i.kept.items ++ l) (sym ends) ∙ c.loop-i.invariant.so_far
+    common_all g.met.K.Ord.total g.T.Keyed.key list keys c.loop-i.i c.loop-i.j c.loop-i.kept.items (kept g.met.K.Ord.total g.T.Keyed.key true list keys) ends c.loop-i.invariant.so_far

@@ -1,7 +1,5 @@
 use Rattle.std.proofs.Common.{◌≡◌, ◌++◌, ◌∙◌, ◌-◌, sym, ap, subst, length, take, drop, append_assoc}
-use Rattle.std.specs.Ordering.{on}
-use Rattle.std.proofs.lemmas.List.{take_rest}
-use Rattle.plain_values.specs.Keys.{KeysRise, first_with}
+use Rattle.plain_values.proofs.Common.{on, take_rest, KeysRise, first_with}
 use Rattle.lens_values.proofs.Walks.{merge, merged_rises, first_with-merge, merge_ends, merge_ends_right}
 use Rattle.lens_values.proofs.merging.union.Goals as goal
 use Rattle.lens_values.proofs.merging.union.Goals.{then-loop-i-test+else-j-right, else-loop-i-test}

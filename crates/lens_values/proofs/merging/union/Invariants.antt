@@ -1,5 +1,5 @@
 use Rattle.std.proofs.Common.{length, drop, ◌-◌, ◌+◌, ◌≡◌, ◌++◌, ◌≤◌}
-use Rattle.std.specs.Ordering.{on}
+use Rattle.plain_values.proofs.Common.{on}
 use Rattle.lens_values.proofs.Walks.{merge}
 use Rattle.lens_values.proofs.merging.union.Given as goal
 

@@ -1,7 +1,5 @@
 use Rattle.std.proofs.Common.{◌≡◌, ◌<◌, ◌+◌, ◌∙◌, ap, sym, arith, drop, length, get_or}
-use Rattle.std.specs.Ordering.{eq_by_cmp}
-use Rattle.std.specs.Cmp.Lexicographic.{nat_list_cmp_total, texts_ties}
-use Rattle.plain_values.specs.Order.{bytes_cmp}
+use Rattle.plain_values.proofs.Common.{eq_by_cmp, nat_list_cmp_total, texts_ties, bytes_cmp}
 use Rattle.lens_values.proofs.Among.{meets_all, met, meets, misses, all_met, at_end}
 use Rattle.lens_values.proofs.names.are_among.Goals as goal
 use Rattle.lens_values.proofs.names.are_among.Goals.{then-eq, else-eq}

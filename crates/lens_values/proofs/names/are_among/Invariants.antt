@@ -1,5 +1,5 @@
 use Rattle.std.proofs.Common.{◌≡◌, ◌≤◌, length, drop}
-use Rattle.plain_values.specs.Order.{bytes_cmp}
+use Rattle.plain_values.proofs.Common.{bytes_cmp}
 use Rattle.lens_values.proofs.Among.{meets_all}
 use Rattle.lens_values.proofs.names.are_among.Given as goal
 

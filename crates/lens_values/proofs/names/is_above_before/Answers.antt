@@ -1,8 +1,5 @@
 use Rattle.std.proofs.Common.{◌<◌, ◌-◌, ap, sym, ◌∙◌, arith, length}
-use Rattle.std.proofs.lemmas.Bool.{ltb-true}
-use Rattle.std.proofs.lemmas.List.{get_or_default}
-use Rattle.plain_values.specs.Order.{bytes_cmp}
-use Rattle.plain_values.proofs.Tests.{is_less}
+use Rattle.plain_values.proofs.Common.{ltb-true, get_or_default, bytes_cmp, is_less}
 use Rattle.lens_values.proofs.names.is_above_before.Goals as goal
 
 pub returns-in-Some : goal.returns-in-Some

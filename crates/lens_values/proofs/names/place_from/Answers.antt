@@ -1,6 +1,5 @@
 use Rattle.std.proofs.Common.{ap, sym, ◌∙◌, arith}
-use Rattle.std.proofs.lemmas.List.{get_or_default}
-use Rattle.plain_values.specs.Order.{bytes_cmp}
+use Rattle.plain_values.proofs.Common.{get_or_default, bytes_cmp}
 use Rattle.lens_values.proofs.names.place_from.Goals as goal
 
 pub returns-in-Equal-clause-found : goal.returns-in-Equal-clause-found

@@ -1,9 +1,5 @@
-use Rattle.std.proofs.Common.{◌∙◌, ap, sym, subst, map-id}
-use Rattle.std.specs.List.Sorted.{IsStrictlySortedBy}
-use Rattle.std.specs.Prelude.{position}
-use Rattle.std.specs.Ordering.{eq_by_cmp}
-use Rattle.std.specs.Cmp.Lexicographic.{nat_list_cmp_total}
-use Rattle.plain_values.specs.Order.{bytes_cmp}
+use Rattle.std.proofs.Common.{◌∙◌, ap, sym, subst, map-id, position}
+use Rattle.plain_values.proofs.Common.{IsStrictlySortedBy, eq_by_cmp, nat_list_cmp_total, bytes_cmp}
 use Rattle.lens_values.proofs.Places.{searched_place}
 use Rattle.lens_values.proofs.names.place_in.Goals as goal
 

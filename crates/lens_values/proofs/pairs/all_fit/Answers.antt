@@ -1,7 +1,5 @@
 use Rattle.std.proofs.Common.{sym, arith, ◌∙◌, ◌≡◌, length}
-use Rattle.std.specs.List.{zip}
-use Rattle.std.proofs.lemmas.Slice.Zip.{length-zip}
-use Rattle.plain_values.specs.Row.{pair_fits}
+use Rattle.plain_values.proofs.Common.{zip, length-zip, pair_fits}
 use Rattle.plain_values.proofs.FitsLemmas.{pointwise_zip, pointwise_apart, eqb_other}
 use Rattle.lens_values.proofs.pairs.all_fit.Goals as goal
 

@@ -1,9 +1,5 @@
 use Rattle.std.proofs.Common.{◌∙◌, ap, sym, arith, ◌≡◌, ◌<◌, ◌+◌, length, drop, min, ℕ, List}
-use Rattle.std.specs.Cmp.Lexicographic.{slice_cmp}
-use Rattle.std.specs.List.{zip}
-use Rattle.std.specs.Ordering.{nat_cmp, ordering_then}
-use Rattle.std.proofs.lemmas.Slice.Zip.{length-zip, get_or-zip}
-use Rattle.plain_values.specs.Row.{pair_cmp}
+use Rattle.plain_values.proofs.Common.{slice_cmp, zip, nat_cmp, ordering_then, length-zip, get_or-zip, pair_cmp}
 use Rattle.plain_values.specs.declared.value.Value.{Value}
 use Rattle.lens_values.proofs.Comparing.{cmp_at, cmp_ends, then_other}
 use Rattle.lens_values.proofs.pairs.pairs_cmp.Goals as goal

@@ -1,7 +1,5 @@
 use Rattle.std.proofs.Common.{◌≡◌, drop}
-use Rattle.std.specs.Cmp.Lexicographic.{slice_cmp}
-use Rattle.std.specs.List.{zip}
-use Rattle.plain_values.specs.Row.{pair_cmp}
+use Rattle.plain_values.proofs.Common.{slice_cmp, zip, pair_cmp}
 use Rattle.lens_values.proofs.pairs.pairs_cmp.Given as goal
 
 -- the answer is the one for what is left

@@ -1,5 +1,5 @@
 use Rattle.std.proofs.Common.{◌≡◌, map, take}
-use Rattle.plain_values.specs.Name.{renamed}
+use Rattle.plain_values.proofs.Common.{renamed}
 use Rattle.lens_values.proofs.renaming.renamed_list.Given as goal
 
 abbrev pub invariant-loop-name : goal.invariant-loop-name

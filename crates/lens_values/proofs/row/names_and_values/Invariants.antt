@@ -1,6 +1,5 @@
 use Rattle.std.proofs.Common.{◌≡◌, ◌++◌}
-use Rattle.std.specs.Vec.Iter.{into_iter_items}
-use Rattle.plain_values.specs.SortedMap.{keys_of, values_of}
+use Rattle.plain_values.proofs.Common.{into_iter_items, keys_of, values_of}
 use Rattle.lens_values.proofs.row.names_and_values.Given as goal
 
 abbrev pub invariant-loop-name : goal.invariant-loop-name

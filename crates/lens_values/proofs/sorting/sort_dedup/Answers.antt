@@ -1,10 +1,5 @@
 use Rattle.std.proofs.Common.{sym, ap, ◌∙◌}
-use Rattle.std.specs.List.{list_any}
-use Rattle.std.specs.Ordering.{eq_by_cmp, is_eq}
-use Rattle.std.specs.Cmp.{alike_right, Equal-is}
-use Rattle.std.proofs.lemmas.List.Filters.{dedup_is}
-use Rattle.std.proofs.lemmas.List.Kept.{IsStrictlySortedBy-dedup}
-use Rattle.std.proofs.lemmas.List.Sorted.{list_any-IsPermutation}
+use Rattle.plain_values.proofs.Common.{list_any, eq_by_cmp, is_eq, alike_right, Equal-is, dedup_is, IsStrictlySortedBy-dedup, list_any-IsPermutation}
 use Rattle.lens_values.proofs.Dedup.{list_any-dedup}
 use Rattle.lens_values.proofs.sorting.sort_dedup.Goals as goal
 

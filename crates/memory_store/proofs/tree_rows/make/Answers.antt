@@ -1,5 +1,4 @@
-use Rattle.std.proofs.Common.{◌≡◌, ◌∙◌, Result, Ok, Err, ap}
-use Rattle.std.specs.Prelude.{OnOk}
+use Rattle.std.proofs.Common.{◌≡◌, ◌∙◌, Result, Ok, Err, ap, OnOk}
 use Rattle.plain_values.specs.SortedSet as set
 use Rattle.memory_store.specs.InMemory.{with_rows, without_rows}
 use Rattle.memory_store.proofs.TreeRows.{made_is}

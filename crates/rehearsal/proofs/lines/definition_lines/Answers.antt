@@ -1,5 +1,5 @@
 use Rattle.std.proofs.Common.{◌≡◌, ◌∙◌, ◌∷◌, [], ap, map, string_bytes, arith, rules}
-use Rattle.io_specs.specs.Lines.{marked}
+use Rattle.server_specs.specs.Common.{marked}
 use Rattle.rehearsal.specs.Rehearsal.{definition_lines}
 use Rattle.rehearsal.proofs.Texts.{line-made}
 use Rattle.rehearsal.proofs.lines.definition_lines.Goals as goal

@@ -1,5 +1,5 @@
 use Rattle.std.proofs.Common.{◌∷◌, [], ◌∙◌, ap, refl, string_bytes}
-use Rattle.io_specs.specs.Lines.{marked}
+use Rattle.server_specs.specs.Common.{marked}
 use Rattle.rehearsal.proofs.Loops.{Halted-next, Passes-next, Room-next}
 use Rattle.rehearsal.proofs.Points.{Passed-nil, on_err}
 use Rattle.rehearsal.proofs.rehearsing.ask_each.Goals as goal

@@ -1,5 +1,5 @@
 use Rattle.std.proofs.Common.{◌≡◌, map, take, string_bytes}
-use Rattle.io_specs.specs.Lines.{marked}
+use Rattle.server_specs.specs.Common.{marked}
 use Rattle.rehearsal.specs.Stages.{Passes, at}
 use Rattle.rehearsal.proofs.rehearsing.ask_each.Given as goal
 

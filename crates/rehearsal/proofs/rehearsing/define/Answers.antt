@@ -1,5 +1,5 @@
 use Rattle.std.proofs.Common.{◌≡◌, ◌∙◌, ap, arith, map, string_bytes}
-use Rattle.io_specs.specs.Lines.{marked}
+use Rattle.server_specs.specs.Common.{marked}
 use Rattle.rehearsal.specs.Rehearsal.{definition_lines}
 use Rattle.rehearsal.proofs.Loops.{length-made}
 use Rattle.rehearsal.proofs.Points.{Halted-first, Room-less, on_err}

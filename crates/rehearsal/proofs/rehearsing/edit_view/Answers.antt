@@ -1,5 +1,5 @@
 use Rattle.std.proofs.Common.{◌≡◌, ◌∙◌, [], refl, ap, arith, map, string_bytes}
-use Rattle.io_specs.specs.Lines.{marked}
+use Rattle.server_specs.specs.Common.{marked}
 use Rattle.rehearsal.specs.Rehearsal.{view_lines}
 use Rattle.rehearsal.proofs.Loops.{Halted-between, Halted-more, Passes-more, length-lines_of_view, length-made, length-view_lines}
 use Rattle.rehearsal.proofs.Points.{Passed-nil, Room-Passed, Room-less, on_err}

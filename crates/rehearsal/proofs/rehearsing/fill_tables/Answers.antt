@@ -1,5 +1,5 @@
 use Rattle.std.proofs.Common.{◌≡◌, ◌∙◌, [], refl, ◌*◌, ap, arith, map, string_bytes}
-use Rattle.io_specs.specs.Lines.{marked}
+use Rattle.server_specs.specs.Common.{marked}
 use Rattle.rehearsal.specs.Rehearsal.{table_lines}
 use Rattle.rehearsal.proofs.Loops.{Halted-between, Halted-more, Passes-more, length-made, length-table_lines}
 use Rattle.rehearsal.proofs.Points.{Passed-nil, Room-Passed, Room-less, on_err}

@@ -1,5 +1,4 @@
-use Rattle.std.proofs.Common.{◌≡◌}
-use Rattle.std.specs.Prelude.{flat_map}
+use Rattle.std.proofs.Common.{◌≡◌, flat_map}
 use Rattle.rehearsal.specs.Rehearsal.{below, table_lines}
 use Rattle.rehearsal.specs.Stages.{Passes, at}
 use Rattle.rehearsal.proofs.rehearsing.fill_tables.Given as goal

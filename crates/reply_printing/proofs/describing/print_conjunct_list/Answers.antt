@@ -1,9 +1,9 @@
 use Rattle.std.proofs.Common.{◌∙◌, ◌∷◌, ◌++◌, [], ap, sym, arith}
-use Rattle.std.proofs.lemmas.List.{take_all}
+use Rattle.plain_values.proofs.Common.{take_all}
 use Rattle.json.specs.Token.{begin_array, end_array}
 use Rattle.serde_json.specs.Data.{array}
 use Rattle.lens_pred.specs.View.{predicate_view}
-use Rattle.server_specs.specs.Answer.{conjuncts_data}
+use Rattle.server_specs.specs.Common.{conjuncts_data}
 use Rattle.reply_printing.specs.Printing.{data_tokens}
 use Rattle.json_text.proofs.Tokens.{follow}
 use Rattle.reply_printing.proofs.Tokens.{adds_same, conjunct_data, conjuncts_whole, each_more, each_none, each_tokens}

@@ -1,9 +1,9 @@
 use Rattle.std.proofs.Common.{◌∙◌, ◌∷◌, ◌++◌, [], take, ap, sym, arith}
-use Rattle.std.proofs.lemmas.List.{take_all}
+use Rattle.plain_values.proofs.Common.{take_all}
 use Rattle.std.specs.FinMap as finmap
 use Rattle.json.specs.Token.{begin_object, end_object, key}
 use Rattle.serde_json.specs.Data.{object}
-use Rattle.server_specs.specs.Answer.{columns_data}
+use Rattle.server_specs.specs.Common.{columns_data}
 use Rattle.reply_printing.specs.Printing.{data_tokens}
 use Rattle.json_text.proofs.Tokens.{follow}
 use Rattle.reply_printing.proofs.Tokens.{adds_same, columns_whole, kind_data, pairs_more, pairs_none, pairs_tokens, text_same}

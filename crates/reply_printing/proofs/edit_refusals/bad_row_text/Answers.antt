@@ -1,5 +1,5 @@
 use Rattle.std.proofs.Common.{◌≡◌, IfOk, subst, sym}
-use Rattle.server_specs.specs.Answer.{text}
+use Rattle.server_specs.specs.Common.{text}
 use Rattle.server_specs.specs.EditRefusal as refusals
 use Rattle.reply_printing.specs.Answers.{list_view}
 use Rattle.reply_printing.specs.Printing.{json_line}

@@ -1,11 +1,8 @@
 use Rattle.std.proofs.Common.{◌∙◌, ap, sym, length, take, rules}
 use Rattle.std.specs.FinMap as finmap
-use Rattle.std.proofs.lemmas.Slice.Zip.{zip_turn}
-use Rattle.std.proofs.lemmas.List.{length_push}
+use Rattle.plain_values.proofs.Common.{zip_turn, length_push, bytes_cmp, keys_rise}
 use Rattle.serde_json.specs.Data.{put}
-use Rattle.plain_values.specs.Order.{bytes_cmp}
-use Rattle.plain_values.specs.SortedMap.{keys_rise}
-use Rattle.server_specs.specs.Answer.{pairs_data}
+use Rattle.server_specs.specs.Common.{pairs_data}
 use Rattle.reply_printing.proofs.RowEntries.{entry_turn}
 use Rattle.reply_printing.proofs.RisingMembers.{put_more}
 use Rattle.reply_printing.proofs.json_values.members_json.Goals as goal

@@ -1,8 +1,8 @@
 use Rattle.std.proofs.Common.{◌∙◌, ◌∷◌, ◌++◌, [], ap, map, sym, arith}
-use Rattle.std.proofs.lemmas.List.{take_all}
+use Rattle.plain_values.proofs.Common.{take_all}
 use Rattle.json.specs.Token.{begin_array, end_array}
 use Rattle.serde_json.specs.Data.{array}
-use Rattle.server_specs.specs.Answer.{changes_data}
+use Rattle.server_specs.specs.Common.{changes_data}
 use Rattle.signed_delta.specs.Tables.{table_delta}
 use Rattle.reply_printing.specs.Printing.{data_tokens}
 use Rattle.json_text.proofs.Tokens.{follow}

@@ -1,6 +1,6 @@
 use Rattle.std.proofs.Common.{◌∷◌, ap}
 use Rattle.json_text.proofs.Tokens.{follow}
-use Rattle.server_specs.specs.Answer.{names_data}
+use Rattle.server_specs.specs.Common.{names_data}
 use Rattle.reply_printing.specs.Printing.{array, data_tokens, key}
 use Rattle.reply_printing.proofs.Tokens.{adds_same}
 use Rattle.reply_printing.proofs.printing.print_names.Goals as goal

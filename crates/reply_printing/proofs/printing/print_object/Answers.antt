@@ -1,9 +1,8 @@
 use Rattle.std.proofs.Common.{◌∙◌, ◌∷◌, ◌++◌, [], length, take, ap, sym, rules}
 use Rattle.std.specs.FinMap as finmap
-use Rattle.std.proofs.lemmas.Slice.Zip.{zip_end, zip_turn}
-use Rattle.std.proofs.lemmas.List.{length_push}
+use Rattle.plain_values.proofs.Common.{zip_end, zip_turn, length_push}
 use Rattle.json.specs.Token.{begin_object, end_object}
-use Rattle.server_specs.specs.Answer.{row_data, value_data}
+use Rattle.server_specs.specs.Common.{row_data, value_data}
 use Rattle.reply_printing.specs.Printing.{data_tokens}
 use Rattle.reply_printing.proofs.RowEntries.{entries_whole, entry_turn}
 use Rattle.json_text.proofs.Tokens.{follow}

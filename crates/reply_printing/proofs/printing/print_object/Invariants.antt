@@ -1,7 +1,7 @@
 use Rattle.std.proofs.Common.{◌∷◌, length, take}
 use Rattle.std.specs.FinMap as finmap
 use Rattle.json.specs.Token.{begin_object}
-use Rattle.server_specs.specs.Answer.{value_data}
+use Rattle.server_specs.specs.Common.{value_data}
 use Rattle.reply_printing.specs.Printing.{Adds}
 use Rattle.reply_printing.proofs.Tokens.{pairs_tokens}
 use Rattle.reply_printing.proofs.printing.print_object.Given as goal

@@ -1,6 +1,6 @@
 use Rattle.std.proofs.Common.{◌∷◌, take}
 use Rattle.json.specs.Token.{begin_array}
-use Rattle.server_specs.specs.Answer.{row_data}
+use Rattle.server_specs.specs.Common.{row_data}
 use Rattle.reply_printing.specs.Printing.{Adds}
 use Rattle.reply_printing.proofs.Tokens.{each_tokens}
 use Rattle.reply_printing.proofs.printing.print_rows.Given as goal

@@ -1,5 +1,5 @@
 use Rattle.std.proofs.Common.{ap, arith, sym}
-use Rattle.std.proofs.lemmas.List.{take_all}
+use Rattle.plain_values.proofs.Common.{take_all}
 use Rattle.reply_printing.specs.Refusals.{parts_tokens}
 use Rattle.reply_printing.proofs.RefusalTokens.{adds_none, parts_more}
 use Rattle.json_text.proofs.Tokens.{follow}

@@ -1,6 +1,6 @@
 use Rattle.std.proofs.Common.{refl}
-use Rattle.std.specs.Fmt.{digits}
-use Rattle.server_specs.specs.Answer.{text}
+use Rattle.plain_values.proofs.Common.{digits}
+use Rattle.server_specs.specs.Common.{text}
 use Rattle.serde_json.proofs.OnLiterals.{serde_json_on_literals}
 use Rattle.reply_printing.proofs.reply.nothing_to_undo_reply.Goals as goal
 

@@ -1,9 +1,7 @@
-use Rattle.std.proofs.Common.{◌≡◌, ◌∙◌, ◌++◌, ◌∷◌, [], ap, append_assoc, map, option_map, sym}
-use Rattle.std.proofs.lemmas.List.{map-append}
-use Rattle.std.specs.Prelude.{Some}
-use Rattle.std.specs.Vec.Iter.{into_iter_items}
+use Rattle.std.proofs.Common.{◌≡◌, ◌∙◌, ◌++◌, ◌∷◌, [], ap, append_assoc, map, option_map, sym, Some}
+use Rattle.plain_values.proofs.Common.{map-append, into_iter_items}
 use Rattle.borrowed_json.specs.Meaning.{items_data}
-use Rattle.server_specs.specs.Request.{each_edit}
+use Rattle.server_specs.specs.Common.{each_edit}
 use Rattle.request_reading.specs.Edits.{edit_view}
 use Rattle.request_reading.proofs.Batched.{edits_none, edits_push}
 use Rattle.request_reading.proofs.batches.edits_of.Goals as goal

@@ -1,8 +1,7 @@
-use Rattle.std.proofs.Common.{◌≡◌, ◌++◌, map}
-use Rattle.std.specs.Prelude.{Some}
-use Rattle.std.specs.Vec.Iter.{into_iter_items}
+use Rattle.std.proofs.Common.{◌≡◌, ◌++◌, map, Some}
+use Rattle.plain_values.proofs.Common.{into_iter_items}
 use Rattle.borrowed_json.specs.Meaning.{items_data}
-use Rattle.server_specs.specs.Request.{each_edit}
+use Rattle.server_specs.specs.Common.{each_edit}
 use Rattle.request_reading.specs.Edits.{edit_view}
 use Rattle.request_reading.proofs.batches.edits_of.Given as goal
 

@@ -1,7 +1,6 @@
-use Rattle.std.proofs.Common.{◌≡◌, ◌∙◌, sym, ap, subst, option_map}
-use Rattle.std.specs.Prelude.{Some}
+use Rattle.std.proofs.Common.{◌≡◌, ◌∙◌, sym, ap, subst, option_map, Some}
 use Rattle.borrowed_json.specs.Meaning.{value_data}
-use Rattle.server_specs.specs.Request.{request, request_from, json_of}
+use Rattle.server_specs.specs.Common.{request, request_from, json_of}
 use Rattle.request_reading.specs.Requests.{Reads}
 use Rattle.request_reading.proofs.request.read_request.Goals as goal
 

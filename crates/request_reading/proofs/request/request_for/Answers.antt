@@ -1,5 +1,5 @@
 use Rattle.std.proofs.Common.{◌≡◌, ◌∙◌, Ok, Err, ap, sym, subst, option_map}
-use Rattle.server_specs.specs.Answer.{bad_request}
+use Rattle.server_specs.specs.Common.{bad_request}
 use Rattle.server_specs.specs.Request as spec
 use Rattle.borrowed_json.specs.Meaning.{members_data}
 use Rattle.request_reading.specs.Requests.{Tells, request_view, said_in}

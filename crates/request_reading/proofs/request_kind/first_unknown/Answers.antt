@@ -1,5 +1,5 @@
 use Rattle.std.proofs.Common.{◌≡◌, ◌∙◌, ap, sym, cond, map, option_map, take, Some, true, false}
-use Rattle.server_specs.specs.Request.{first_other, least_of}
+use Rattle.server_specs.specs.Common.{first_other, least_of}
 use Rattle.borrowed_json.specs.Meaning.{members_data}
 use Rattle.request_reading.specs.RequestKinds.{is_among}
 use Rattle.request_reading.proofs.Others.{other_more}

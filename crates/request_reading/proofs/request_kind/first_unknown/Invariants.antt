@@ -1,5 +1,5 @@
 use Rattle.std.proofs.Common.{◌≡◌, map, option_map, take}
-use Rattle.server_specs.specs.Request.{first_other}
+use Rattle.server_specs.specs.Common.{first_other}
 use Rattle.borrowed_json.specs.Meaning.{members_data}
 use Rattle.request_reading.specs.RequestKinds.{is_among}
 use Rattle.request_reading.proofs.request_kind.first_unknown.Given as goal

@@ -1,7 +1,6 @@
 use Rattle.std.proofs.Common.{◌∙◌, rules}
-use Rattle.std.proofs.lemmas.Iterator.{YieldsList-from_slice}
-use Rattle.std.proofs.lemmas.Iterator.Search.{any_from_yields_List}
-use Rattle.server_specs.specs.Request.{is_key}
+use Rattle.plain_values.proofs.Common.{YieldsList-from_slice, any_from_yields_List}
+use Rattle.server_specs.specs.Common.{is_key}
 use Rattle.request_reading.proofs.Wanted.{among_borrowed}
 use Rattle.request_reading.proofs.request_kind.is_known.Goals as goal
 use borrow.Author.Tests.{tests}

@@ -1,5 +1,5 @@
 use Rattle.std.proofs.Common.{◌≡◌, ◌∙◌, sym, ap, arith, true, bytes_eq}
-use Rattle.std.proofs.lemmas.Slice.Eq.{bytes_eq-Decides}
+use Rattle.plain_values.proofs.Common.{bytes_eq-Decides}
 use Rattle.plain_values.specs.declared.value.Kind.{Kind}
 use Rattle.lens_specs.specs.Relation.{Name}
 use Rattle.request_reading.proofs.Beside.{beside_more}

@@ -1,5 +1,5 @@
 use Rattle.std.proofs.Common.{◌≡◌, take}
-use Rattle.plain_values.specs.SortedMap.{keys_of}
+use Rattle.plain_values.proofs.Common.{keys_of}
 use Rattle.request_reading.specs.SentRows.{names_sent}
 use Rattle.request_reading.proofs.rows.are_beside.Given as goal
 

@@ -1,6 +1,5 @@
 use Rattle.std.proofs.Common.{◌≡◌, ◌∙◌, ap, sym, cond, option_map, take, Some, Bool, true, false, refl}
-use Rattle.server_specs.specs.Request.{first_other, least_of}
-use Rattle.server_specs.specs.Sending.{is_column_of}
+use Rattle.server_specs.specs.Common.{first_other, least_of, is_column_of}
 use Rattle.borrowed_json.specs.Meaning.{members_data}
 use Rattle.request_reading.proofs.Columns.{column_told}
 use Rattle.request_reading.proofs.Others.{other_more}

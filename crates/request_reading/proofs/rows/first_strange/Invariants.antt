@@ -1,6 +1,5 @@
 use Rattle.std.proofs.Common.{◌≡◌, option_map, take}
-use Rattle.server_specs.specs.Request.{first_other}
-use Rattle.server_specs.specs.Sending.{is_column_of}
+use Rattle.server_specs.specs.Common.{first_other, is_column_of}
 use Rattle.borrowed_json.specs.Meaning.{members_data}
 use Rattle.request_reading.proofs.rows.first_strange.Given as goal
 

@@ -1,7 +1,5 @@
 use Rattle.std.proofs.Common.{sym, subst}
-use Rattle.std.specs.List.Sorted.{IsStrictlySortedBy}
-use Rattle.plain_values.specs.Order.{bytes_cmp}
-use Rattle.plain_values.specs.SortedMap.{keys_of, keys_rise}
+use Rattle.plain_values.proofs.Common.{IsStrictlySortedBy, bytes_cmp, keys_of, keys_rise}
 use Rattle.request_reading.proofs.rows.row_of_members.Goals as goal
 
 pub values_in-requires : goal.values_in-requires

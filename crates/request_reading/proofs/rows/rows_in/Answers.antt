@@ -1,5 +1,5 @@
 use Rattle.std.proofs.Common.{◌≡◌, ◌++◌, ◌∙◌, ◌∷◌, [], Ok, Err, ap, sym, length, append_assoc, rules}
-use Rattle.std.specs.Vec.Iter.{into_iter_items}
+use Rattle.plain_values.proofs.Common.{into_iter_items}
 use Rattle.borrowed_json.specs.Meaning.{value_data, items_data}
 use Rattle.server_specs.specs.Sending as spec
 use Rattle.request_reading.proofs.Faults.{told_at}

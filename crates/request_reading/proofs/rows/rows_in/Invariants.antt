@@ -1,6 +1,5 @@
-use Rattle.std.proofs.Common.{◌≡◌, ◌++◌}
-use Rattle.std.specs.Prelude.{Ok}
-use Rattle.std.specs.Vec.Iter.{into_iter_items}
+use Rattle.std.proofs.Common.{◌≡◌, ◌++◌, Ok}
+use Rattle.plain_values.proofs.Common.{into_iter_items}
 use Rattle.borrowed_json.specs.Meaning.{items_data}
 use Rattle.server_specs.specs.Sending as spec
 use Rattle.request_reading.proofs.rows.rows_in.Given as goal

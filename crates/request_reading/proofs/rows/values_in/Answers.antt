@@ -1,9 +1,7 @@
-use Rattle.std.proofs.Common.{◌≡◌, ◌∙◌, sym, ap, subst, take, rules}
+use Rattle.std.proofs.Common.{◌≡◌, ◌∙◌, sym, ap, subst, take, rules, Err}
 use Rattle.std.specs.Bool.{OnTrue}
-use Rattle.std.specs.Prelude.{Err}
-use Rattle.std.specs.List.{zip}
+use Rattle.plain_values.proofs.Common.{zip, keys_of}
 use Rattle.borrowed_json.specs.Meaning.{members_data}
-use Rattle.plain_values.specs.SortedMap.{keys_of}
 use Rattle.request_reading.specs.SentRows.{names_sent}
 use Rattle.request_reading.proofs.Beside.{last_here}
 use Rattle.request_reading.proofs.Sending.{pairs_wrong, values_more}

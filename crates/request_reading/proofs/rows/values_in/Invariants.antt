@@ -1,8 +1,6 @@
-use Rattle.std.proofs.Common.{◌≡◌, length, take}
-use Rattle.std.specs.Prelude.{Ok}
-use Rattle.std.specs.List.{zip}
+use Rattle.std.proofs.Common.{◌≡◌, length, take, Ok}
+use Rattle.plain_values.proofs.Common.{zip, keys_of}
 use Rattle.borrowed_json.specs.Meaning.{members_data}
-use Rattle.plain_values.specs.SortedMap.{keys_of}
 use Rattle.server_specs.specs.Sending as spec
 use Rattle.request_reading.proofs.rows.values_in.Given as goal
 

@@ -1,8 +1,5 @@
 use Rattle.std.proofs.Common.{◌-◌, ◌+◌, ◌≡◌, ◌<◌, ◌∙◌, ap, drop, length, arith}
-use Rattle.std.specs.List.{position_from}
-use Rattle.std.specs.Ordering.{is_eq}
-use Rattle.plain_values.specs.Part.{restrict}
-use Rattle.plain_values.specs.Row.{row_cmp}
+use Rattle.plain_values.proofs.Common.{position_from, is_eq, restrict, row_cmp}
 use Rattle.fd_tree.proofs.Places.{holds_more, holds_none}
 use Rattle.revision.proofs.first_by_key.first_by_key.Goals as goal
 

@@ -1,5 +1,4 @@
-use Rattle.plain_values.specs.Part.{restrict}
-use Rattle.plain_values.specs.Row.{row_cmp}
+use Rattle.plain_values.proofs.Common.{restrict, row_cmp}
 use Rattle.fd_tree.proofs.Places.{Holds}
 use Rattle.revision.proofs.first_by_key.first_by_key.Given as goal
 

@@ -1,5 +1,4 @@
-use Rattle.std.proofs.Common.{◌<◌, ◌∙◌, ap, sym, length, get_or, rules, arith}
-use Rattle.std.specs.Prelude.{Some}
+use Rattle.std.proofs.Common.{◌<◌, ◌∙◌, ap, sym, length, get_or, rules, arith, Some}
 use Rattle.plain_values.specs.SortedSet as set
 use Rattle.revision.proofs.Reached.{LeadsTo, not_there, there}
 use Rattle.revision.proofs.first_by_key.first_like.Goals as goal

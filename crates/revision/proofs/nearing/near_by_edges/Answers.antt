@@ -1,11 +1,9 @@
-use Rattle.std.proofs.Common.{◌≡◌, ◌*◌, ◌<◌, ◌≤◌, ◌∙◌, ℕ, [], ap, drop, get_or, length, sym, arith}
-use Rattle.std.specs.Prelude.{not}
-use Rattle.std.proofs.lemmas.List.{drop_all}
-use Rattle.std.proofs.Math.Nat.{mul-le-mul_left}
+use Rattle.std.proofs.Common.{◌≡◌, ◌*◌, ◌<◌, ◌≤◌, ◌∙◌, ℕ, [], ap, drop, get_or, length, sym, arith, not}
+use Rattle.plain_values.proofs.Common.{drop_all, mul-le-mul_left}
 use Rattle.plain_values.specs.SortedSet as set
 use Rattle.lens_specs.specs.Common.{names, Within, Edge, Rows, has}
-use Rattle.lens_laws.specs.KeyedDeltas.{found_each}
-use Rattle.fd_laws.proofs.Relations.{from_those}
+use Rattle.lens_laws.proofs.Common.{found_each}
+use Rattle.fd_laws.proofs.Common.{from_those}
 use Rattle.signed_delta.proofs.Counts.{all_rows, at_end, listed_len, more_rows, next, one_more, those_len, union_len}
 use Rattle.revision.specs.Near.{is_like_first, near_through, unlike}
 use Rattle.revision.proofs.ByEdges.{through_all, through_enough, through_more}

@@ -1,8 +1,6 @@
-use Rattle.std.proofs.Common.{◌≤◌, ◌+◌, ◌*◌, ◌∙◌, ◌∷◌, ◌++◌, [], ap, arith, length, length-append, subst, sym, take}
-use Rattle.std.specs.Prelude.{flat_map}
-use Rattle.std.proofs.lemmas.List.{flat_map_more, take_all, take_more}
+use Rattle.std.proofs.Common.{◌≤◌, ◌+◌, ◌*◌, ◌∙◌, ◌∷◌, ◌++◌, [], ap, arith, length, length-append, subst, sym, take, flat_map}
+use Rattle.plain_values.proofs.Common.{flat_map_more, take_all, take_more, Row}
 use Rattle.plain_values.specs.SortedSet as set
-use Rattle.plain_values.specs.Row.{Row}
 use Rattle.signed_delta.proofs.Counts.{all_rows, at_end, listed_len, next, one_more}
 use Rattle.signed_delta.proofs.Looks.{listed_at}
 use Rattle.revision.specs.Near.{near_from}

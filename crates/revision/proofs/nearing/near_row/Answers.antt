@@ -1,5 +1,5 @@
 use Rattle.std.proofs.Common.{◌≡◌, ◌+◌, ◌<◌, ◌≤◌, ◌∙◌, ap, drop, get_or, length, arith}
-use Rattle.std.proofs.lemmas.List.{drop_all}
+use Rattle.plain_values.proofs.Common.{drop_all}
 use Rattle.lens_specs.specs.Common.{names, Within}
 use Rattle.signed_delta.proofs.Counts.{all_rows, at_end, more_rows, next, one_more}
 use Rattle.revision.specs.Near.{near_from}

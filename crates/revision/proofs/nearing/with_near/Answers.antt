@@ -1,7 +1,7 @@
 use Rattle.std.proofs.Common.{◌≡◌, ◌∙◌, ◌++◌, ap, sym}
-use Rattle.std.specs.List.{list_any}
+use Rattle.plain_values.proofs.Common.{list_any}
 use Rattle.plain_values.specs.SortedSet as set
-use Rattle.lens_laws.specs.KeyedDeltas.{find_by}
+use Rattle.lens_laws.proofs.Common.{find_by}
 use Rattle.revision.specs.Near.{is_like}
 use Rattle.revision.proofs.Near.{as_they_were, with_found}
 use Rattle.revision.proofs.nearing.with_near.Goals as goal

@@ -1,5 +1,4 @@
-use Rattle.std.proofs.Common.{◌≡◌, take}
-use Rattle.std.specs.Prelude.{map}
+use Rattle.std.proofs.Common.{◌≡◌, take, map}
 use Rattle.lens_specs.specs.Revision as spec
 use Rattle.revision.proofs.revising.each_revised.Given as goal
 

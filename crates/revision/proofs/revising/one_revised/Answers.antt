@@ -1,5 +1,5 @@
 use Rattle.std.proofs.Common.{◌+◌, ◌∙◌, ap, drop, sym}
-use Rattle.std.proofs.lemmas.List.{drop_all}
+use Rattle.plain_values.proofs.Common.{drop_all}
 use Rattle.lens_specs.specs.Revision as spec
 use Rattle.revision.proofs.Runs.{no_more, one_more}
 use Rattle.revision.proofs.revising.one_revised.Goals as goal

@@ -1,6 +1,5 @@
-use Rattle.std.proofs.Common.{◌≡◌, take}
-use Rattle.std.specs.Prelude.{map}
-use Rattle.lens_specs.specs.Revision.{along}
+use Rattle.std.proofs.Common.{◌≡◌, take, map}
+use Rattle.lens_specs.specs.Common.{along}
 use Rattle.revision.proofs.steps.each_along.Given as goal
 
 abbrev pub invariant-loop-row : goal.invariant-loop-row

@@ -1,7 +1,7 @@
 use Rattle.std.proofs.Common.{◌≡◌, ◌≢◌, ◌+◌, ◌*◌, ◌≤◌, ◌∙◌, ℕ, List, [], ◌∷◌, ap, arith, length, refl, sym}
-use Rattle.std.proofs.lemmas.Bool.{eqb-false, eqb-true}
+use Rattle.plain_values.proofs.Common.{eqb-false, eqb-true}
 use Rattle.plain_values.specs.SortedSet as set
-use Rattle.lens_specs.specs.Dependencies.{Edge}
+use Rattle.lens_specs.specs.Common.{Edge}
 use Rattle.revision.specs.Near.{near_through}
 use Rattle.revision.proofs.ByEdges.{through_all, through_enough}
 use Rattle.revision.proofs.Near.{new_among}

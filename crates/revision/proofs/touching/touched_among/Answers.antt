@@ -1,6 +1,5 @@
-use Rattle.std.proofs.Common.{◌∙◌, ap, arith, length}
-use Rattle.std.specs.Prelude.{map}
-use Rattle.lens_specs.specs.Revision.{revise_row}
+use Rattle.std.proofs.Common.{◌∙◌, ap, arith, length, map}
+use Rattle.lens_specs.specs.Common.{revise_row}
 use Rattle.revision.proofs.Changed.{all_are}
 use Rattle.revision.proofs.touching.touched_among.Goals as goal
 

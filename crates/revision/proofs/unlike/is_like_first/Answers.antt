@@ -1,5 +1,4 @@
-use Rattle.std.proofs.Common.{◌∙◌, ap, sym}
-use Rattle.std.specs.Prelude.{option_copied}
+use Rattle.std.proofs.Common.{◌∙◌, ap, sym, option_copied}
 use Rattle.lens_specs.specs.Common.{first_row, agree}
 use Rattle.revision.specs.Near.{agrees_with}
 use Rattle.revision.proofs.unlike.is_like_first.Goals as goal

@@ -1,5 +1,4 @@
-use Rattle.std.proofs.Common.{◌∙◌}
-use Rattle.std.specs.Prelude.{not}
+use Rattle.std.proofs.Common.{◌∙◌, not}
 use Rattle.signed_delta.proofs.Looks.{passed_are, passed_rise}
 use Rattle.revision.specs.Near.{is_like_first}
 use Rattle.revision.proofs.unlike.unlike_rows.Goals as goal

@@ -1,5 +1,4 @@
-use Rattle.std.proofs.Common.{◌≡◌, take}
-use Rattle.std.specs.Prelude.{filter, not}
+use Rattle.std.proofs.Common.{◌≡◌, take, filter, not}
 use Rattle.plain_values.specs.SortedSet as set
 use Rattle.revision.specs.Near.{is_like_first}
 use Rattle.revision.proofs.unlike.unlike_rows.Given as goal

@@ -1,9 +1,6 @@
-use Rattle.std.proofs.Common.{◌≡◌, ap, subst, ◌∙◌, length, arith}
-use Rattle.std.specs.Prelude.{IfOk}
-use Rattle.std.specs.FinMap.{from_entries}
+use Rattle.std.proofs.Common.{◌≡◌, ap, subst, ◌∙◌, length, arith, IfOk}
+use Rattle.plain_values.proofs.Common.{from_entries, override, items}
 use Rattle.lens_values.specs.Paired.{paired}
-use Rattle.plain_values.specs.Part.{override}
-use Rattle.plain_values.specs.SortedSet.{items}
 use Rattle.lens_values.proofs.Cells.{whole_part}
 use Rattle.row_sets.proofs.joining.pasted_part.Goals as goal
 

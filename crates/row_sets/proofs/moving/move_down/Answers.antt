@@ -1,5 +1,5 @@
 use Rattle.std.proofs.Common.{◌∙◌}
-use Rattle.std.proofs.lemmas.List.Sorted.{IsPermutation-trans}
+use Rattle.plain_values.proofs.Common.{IsPermutation-trans}
 use Rattle.row_sets.proofs.moving.move_down.Goals as goal
 
 pub loop-below-preserved : goal.loop-below-preserved

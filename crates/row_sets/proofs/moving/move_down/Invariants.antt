@@ -1,5 +1,4 @@
-use Rattle.std.proofs.Common.{◌≡◌, length}
-use Rattle.std.specs.Prelude.{IsPermutation}
+use Rattle.std.proofs.Common.{◌≡◌, length, IsPermutation}
 use Rattle.row_sets.proofs.moving.move_down.Given as goal
 
 abbrev pub invariant-loop-below : goal.invariant-loop-below

@@ -1,5 +1,5 @@
 use Rattle.std.proofs.Common.{◌∙◌}
-use Rattle.std.proofs.lemmas.List.Sorted.{IsPermutation-trans}
+use Rattle.plain_values.proofs.Common.{IsPermutation-trans}
 use Rattle.row_sets.proofs.moving.order_nearly.Goals as goal
 
 pub returns-then-not-move_down-clause-rows : goal.returns-then-not-move_down-clause-rows

@@ -1,6 +1,4 @@
-use Rattle.std.proofs.lemmas.Result.{IfOk-weaker}
-use Rattle.std.specs.Ordering.{eq_by_cmp}
-use Rattle.plain_values.specs.Row.{row_cmp}
+use Rattle.plain_values.proofs.Common.{IfOk-weaker, eq_by_cmp, row_cmp}
 use Rattle.row_sets.specs.Ranks.{row_of}
 use Rattle.row_sets.proofs.Ranks.{moved_behind}
 use Rattle.row_sets.proofs.ranking.by_rank.Goals as goal

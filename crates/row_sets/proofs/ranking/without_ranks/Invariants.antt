@@ -1,6 +1,5 @@
-use Rattle.std.proofs.Common.{◌≡◌, ◌++◌}
-use Rattle.std.specs.Prelude.{map}
-use Rattle.std.specs.Vec.Iter.{into_iter_items}
+use Rattle.std.proofs.Common.{◌≡◌, ◌++◌, map}
+use Rattle.plain_values.proofs.Common.{into_iter_items}
 use Rattle.row_sets.specs.Ranks.{row_of}
 use Rattle.row_sets.proofs.ranking.without_ranks.Given as goal
 

@@ -1,5 +1,5 @@
 use Rattle.std.proofs.Common.{◌≡◌, sym, ap, ◌∙◌, Ok, Result}
-use Rattle.plain_values.specs.Columns.{Columns}
+use Rattle.plain_values.proofs.Common.{Columns}
 use Rattle.lens_values.specs.Unions.{union_from}
 use Rattle.lens_values.specs.declared.columns.ColumnsFault.{ColumnsFault}
 use Rattle.row_sets.proofs.relation.united.Goals as goal

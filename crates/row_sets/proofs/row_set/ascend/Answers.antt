@@ -1,4 +1,4 @@
-use Rattle.plain_values.specs.RowOrder.{row_cmp_total}
+use Rattle.plain_values.proofs.Common.{row_cmp_total}
 use Rattle.row_sets.proofs.Rising.{ascend_is}
 use Rattle.row_sets.proofs.row_set.ascend.Goals as goal
 

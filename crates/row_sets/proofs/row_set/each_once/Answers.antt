@@ -1,11 +1,5 @@
 use Rattle.std.proofs.Common.{refl, ap, ◌∙◌}
-use Rattle.std.specs.List.{list_any}
-use Rattle.std.specs.Ordering.{eq_by_cmp, is_eq}
-use Rattle.std.specs.Cmp.{alike_right, Equal-is}
-use Rattle.std.proofs.lemmas.List.Filters.{dedup_is}
-use Rattle.std.proofs.lemmas.List.Kept.{IsStrictlySortedBy-dedup}
-use Rattle.plain_values.specs.Row.{row_cmp}
-use Rattle.plain_values.specs.RowOrder.{row_cmp_total}
+use Rattle.plain_values.proofs.Common.{list_any, eq_by_cmp, is_eq, alike_right, Equal-is, dedup_is, IsStrictlySortedBy-dedup, row_cmp, row_cmp_total}
 use Rattle.lens_values.proofs.Dedup.{list_any-dedup}
 use Rattle.row_sets.proofs.row_set.each_once.Goals as goal
 

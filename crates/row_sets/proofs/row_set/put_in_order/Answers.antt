@@ -1,7 +1,5 @@
 use Rattle.std.proofs.Common.{◌∙◌}
-use Rattle.std.proofs.lemmas.List.{take_at}
-use Rattle.std.proofs.lemmas.Result.{IfOk-weaker}
-use Rattle.plain_values.specs.RowOrder.{row_cmp_total}
+use Rattle.plain_values.proofs.Common.{take_at, IfOk-weaker, row_cmp_total}
 use Rattle.row_sets.proofs.Rising.{moved_alike}
 use Rattle.row_sets.proofs.row_set.put_in_order.Goals as goal
 

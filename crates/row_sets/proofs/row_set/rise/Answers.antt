@@ -1,8 +1,5 @@
 use Rattle.std.proofs.Common.{rules}
-use Rattle.std.specs.Ordering.{is_lt}
-use Rattle.std.proofs.lemmas.List.Sorted.{answers_always}
-use Rattle.plain_values.specs.Row.{row_cmp}
-use Rattle.plain_values.specs.RowOrder.{row_cmp_total}
+use Rattle.plain_values.proofs.Common.{is_lt, answers_always, row_cmp, row_cmp_total}
 use Rattle.row_sets.proofs.Rising.{rise_is}
 use Rattle.row_sets.proofs.row_set.rise.Goals as goal
 

@@ -1,7 +1,5 @@
 use Rattle.std.proofs.Common.{sym, ◌∙◌}
-use Rattle.std.specs.Ordering.{eq_by_cmp}
-use Rattle.std.proofs.lemmas.List.Sorted.{list_any-IsPermutation}
-use Rattle.plain_values.specs.Row.{row_cmp}
+use Rattle.plain_values.proofs.Common.{eq_by_cmp, list_any-IsPermutation, row_cmp}
 use Rattle.row_sets.proofs.row_set.sorted.Goals as goal
 
 pub returns-clause-members : goal.returns-clause-members

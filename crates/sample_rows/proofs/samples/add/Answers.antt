@@ -1,5 +1,6 @@
 use Rattle.std.proofs.Common.{rules, subst, sym}
-use Rattle.lens_specs.specs.Relation.{Fits, IsRelation}
+use Rattle.lens_specs.specs.Common.{IsRelation}
+use Rattle.lens_specs.specs.Relation.{Fits}
 use Rattle.row_sets.proofs.Fitting.{still_fits}
 use Rattle.sample_rows.proofs.samples.add.Goals as goal
 

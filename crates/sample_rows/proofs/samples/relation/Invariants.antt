@@ -1,5 +1,5 @@
 use Rattle.std.proofs.Common.{◌≡◌}
-use Rattle.lens_specs.specs.Relation.{IsRelation}
+use Rattle.lens_specs.specs.Common.{IsRelation}
 use Rattle.sample_rows.proofs.samples.relation.Given as goal
 
 abbrev pub invariant-loop-row : goal.invariant-loop-row

@@ -1,10 +1,8 @@
-use Rattle.std.proofs.Common.{◌≡◌, ◌≤◌, ◌∙◌, ap, arith, length, subst, sym}
-use Rattle.std.specs.Prelude.{map}
-use Rattle.std.proofs.lemmas.Bool.{eqb-true}
+use Rattle.std.proofs.Common.{◌≡◌, ◌≤◌, ◌∙◌, ap, arith, length, subst, sym, map}
+use Rattle.plain_values.proofs.Common.{eqb-true}
 use Rattle.plain_values.specs.SortedSet as set
 use Rattle.lens_specs.specs.Common.{Delta, Rows, has, union, holds}
-use Rattle.lens_laws.specs.KeyedDeltas.{select_delta}
-use Rattle.lens_laws.specs.Work.{rows_down, rows_of}
+use Rattle.lens_laws.proofs.Common.{select_delta, rows_down, rows_of}
 use Rattle.lens_laws.proofs.DeltaCounts.{select_delta_small}
 use Rattle.signed_delta.proofs.Gives.{gives_by_edges}
 use Rattle.revision.specs.Near.{HasChanged}

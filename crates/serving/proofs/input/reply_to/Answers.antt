@@ -1,5 +1,6 @@
 use Rattle.std.proofs.Common.{refl, arith}
-use Rattle.serving.proofs.Served.{other_back, other_commits, other_step, stored_same}
+use Rattle.serving.proofs.LongLines.{other_back, other_commits, other_step}
+use Rattle.serving.proofs.Served.{stored_same}
 use Rattle.serving.proofs.input.reply_to.Goals as goal
 
 pub returns-in_default : goal.returns-in_default

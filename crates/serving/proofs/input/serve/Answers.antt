@@ -1,13 +1,13 @@
 use Rattle.std.proofs.Common.{◌≤◌, ◌<◌, ◌+◌, ◌-◌, length, refl, arith, sym, ◌∙◌}
-use Rattle.io_specs.specs.Calls.{Adds}
-use Rattle.server_specs.specs.Request.{request}
-use Rattle.server_specs.specs.Session.{Step}
+use Rattle.server_specs.specs.Common.{Adds, request, Step}
 use Rattle.lens_server.specs.Committing.{CommitsFor}
 use Rattle.lens_server.specs.Counting.{most_walked}
 use Rattle.serving.specs.Exports.{IsReadBack}
 use Rattle.serving.specs.Running.{line_of}
 use Rattle.lens_io.proofs.Progress.{shorter}
-use Rattle.serving.proofs.Served.{Served-nil, Served-more, ends_of, finished, unwritten}
+use Rattle.serving.proofs.Continued.{Served-more, unwritten}
+use Rattle.serving.proofs.Finished.{ends_of, finished}
+use Rattle.serving.proofs.Served.{Served-nil}
 use Rattle.serving.proofs.input.serve.Goals as goal
 
 pub lines-init : goal.lines-init

@@ -1,7 +1,7 @@
 use Rattle.std.proofs.Common.{◌≡◌, ◌∙◌, Err, ap, arith, inl, inr, refl, rules}
 use Rattle.arguments.specs.Views.{settings_view}
 use Rattle.lens_server.specs.declared.startup.fault.StartFault.TheVariants as fault
-use Rattle.server_specs.specs.State.{kept}
+use Rattle.server_specs.specs.Common.{kept}
 use Rattle.serving.proofs.Calls.{fails_by, lacks_by, refused_exactly, refused_exactly_now, refused_tells, served_tells, undamaged, undamaged_now}
 use Rattle.serving.proofs.Opened.{at_damage, follows_from, refused, runs}
 use Rattle.serving.proofs.Promised.{promised_input, promised_nothing}

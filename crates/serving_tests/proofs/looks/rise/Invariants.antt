@@ -1,5 +1,5 @@
-use Rattle.lens_specs.specs.Keeping.{IfObserved}
-use Rattle.server_specs.specs.State.{kept}
+use Rattle.lens_specs.specs.Common.{IfObserved}
+use Rattle.server_specs.specs.Common.{kept}
 use Rattle.serving_tests.proofs.looks.rise.Given as goal
 
 abbrev pub invariant-loop-line : goal.invariant-loop-line

@@ -1,5 +1,4 @@
-use Rattle.std.proofs.Common.{◌≡◌, ◌≤◌, ◌+◌, ◌*◌, ℕ, take}
-use Rattle.std.specs.Prelude.{filter}
+use Rattle.std.proofs.Common.{◌≡◌, ◌≤◌, ◌+◌, ◌*◌, ℕ, take, filter}
 use Rattle.plain_values.specs.SortedSet as set
 use Rattle.signed_delta.specs.Chosen.{is_chosen}
 use Rattle.signed_delta.proofs.asking.chosen.Given as goal

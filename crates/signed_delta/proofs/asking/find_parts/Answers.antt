@@ -1,10 +1,8 @@
-use Rattle.std.proofs.Common.{◌∙◌, ◌∷◌, ◌++◌, [], ap, arith, length, length-append, sym, take}
-use Rattle.std.specs.Prelude.{flat_map}
-use Rattle.std.proofs.lemmas.List.{flat_map_more, take_all, take_more}
+use Rattle.std.proofs.Common.{◌∙◌, ◌∷◌, ◌++◌, [], ap, arith, length, length-append, sym, take, flat_map}
+use Rattle.plain_values.proofs.Common.{flat_map_more, take_all, take_more, Row}
 use Rattle.plain_values.specs.SortedSet as set
-use Rattle.plain_values.specs.Row.{Row}
-use Rattle.lens_specs.specs.Relation.{project}
-use Rattle.lens_laws.specs.KeyedDeltas.{find_by}
+use Rattle.lens_specs.specs.Common.{project}
+use Rattle.lens_laws.proofs.Common.{find_by}
 use Rattle.signed_delta.proofs.Counts.{all_rows, at_end, listed_len, next, one_more, project_len}
 use Rattle.signed_delta.proofs.Looks.{found_by_parts, listed_at, part_has_columns}
 use Rattle.signed_delta.proofs.asking.find_parts.Goals as goal

@@ -1,9 +1,9 @@
 use Rattle.std.proofs.Common.{◌≡◌, sym, ap, ◌∙◌, subst, length, arith}
 use Rattle.plain_values.specs.SortedSet as set
-use Rattle.lens_specs.specs.Relation.{has, minus, those}
-use Rattle.fd_laws.proofs.Relations.{from_minus}
+use Rattle.lens_specs.specs.Common.{has, minus, those}
+use Rattle.fd_laws.proofs.Common.{from_minus}
 use Rattle.signed_delta.specs.Disjoint.{AreApart}
-use Rattle.lens_laws.specs.Work.{count_of, rows_of}
+use Rattle.lens_laws.proofs.Common.{count_of, rows_of}
 use Rattle.signed_delta.proofs.Counts.{both_counted, minus_len, those_len}
 use Rattle.signed_delta.proofs.Looks.{answered_apart, answered_is}
 use Rattle.signed_delta.proofs.delta.of_touched.Goals as goal

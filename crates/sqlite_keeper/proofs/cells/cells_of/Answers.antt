@@ -1,6 +1,5 @@
 use Rattle.std.proofs.Common.{◌∙◌, ◌++◌, ap, sym, length, rules}
-use Rattle.std.proofs.lemmas.Slice.Zip.{zip_end, zip_turn}
-use Rattle.std.proofs.lemmas.List.{length_push}
+use Rattle.plain_values.proofs.Common.{zip_end, zip_turn, length_push}
 use Rattle.sqlite_keeper.specs.Cells.{cells_at}
 use Rattle.sqlite_keeper.proofs.CellsListed.{cells_more, cells_to, cells_whole}
 use Rattle.sqlite_keeper.proofs.cells.cells_of.Goals as goal

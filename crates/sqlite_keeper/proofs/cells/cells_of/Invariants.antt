@@ -1,5 +1,4 @@
-use Rattle.std.proofs.Common.{◌≡◌, length}
-use Rattle.std.specs.Prelude.{map}
+use Rattle.std.proofs.Common.{◌≡◌, length, map}
 use Rattle.sqlite_value.specs.Value.{owned}
 use Rattle.sqlite_keeper.proofs.CellsListed.{cells_to}
 use Rattle.sqlite_keeper.proofs.cells.cells_of.Given as goal

@@ -1,9 +1,6 @@
-use Rattle.std.proofs.Common.{◌≡◌, ◌∙◌, Ok, Err, cond, sym, ap, subst}
-use Rattle.std.specs.Prelude.{true, false}
+use Rattle.std.proofs.Common.{◌≡◌, ◌∙◌, Ok, Err, cond, sym, ap, subst, true, false}
 use Rattle.std.specs.FinMap as finmap
-use Rattle.std.specs.List.{insert}
-use Rattle.std.specs.List.Sorted.{IsStrictlySortedBy}
-use Rattle.plain_values.specs.Order.{bytes_cmp}
+use Rattle.plain_values.proofs.Common.{insert, IsStrictlySortedBy, bytes_cmp}
 use Rattle.table_keeper.specs.Changes.{names_of}
 use Rattle.table_keeper.specs.Places.{Rise, is_named, rows_in}
 use Rattle.table_keeper.proofs.ByName.{names_insert, rows_insert, there_is}

@@ -1,5 +1,4 @@
-use Rattle.std.proofs.Common.{◌∙◌, ap}
-use Rattle.std.specs.Prelude.{map}
+use Rattle.std.proofs.Common.{◌∙◌, ap, map}
 use Rattle.signed_delta.specs.Tables.{table_delta}
 use Rattle.table_keeper.specs.Places.{rows_in, with_entries}
 use Rattle.table_keeper.proofs.Deltas.{all_there, all_at_once, map_twice}

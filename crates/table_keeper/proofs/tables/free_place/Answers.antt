@@ -1,5 +1,4 @@
-use Rattle.std.proofs.Common.{◌≡◌, ◌∙◌, ap, true, false}
-use Rattle.std.specs.Prelude.{is_ok}
+use Rattle.std.proofs.Common.{◌≡◌, ◌∙◌, ap, true, false, is_ok}
 use Rattle.table_keeper.proofs.Places.{found_is, gap_rises}
 use Rattle.table_keeper.proofs.tables.free_place.Goals as goal
 

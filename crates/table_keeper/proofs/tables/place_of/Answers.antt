@@ -1,6 +1,5 @@
-use Rattle.std.proofs.Common.{◌≡◌, ◌∙◌, ap, true, false}
-use Rattle.std.specs.Prelude.{is_ok}
-use Rattle.plain_values.proofs.Maps.{exact}
+use Rattle.std.proofs.Common.{◌≡◌, ◌∙◌, ap, true, false, is_ok}
+use Rattle.plain_values.proofs.Common.{exact}
 use Rattle.table_keeper.proofs.Places.{found_is}
 use Rattle.table_keeper.proofs.tables.place_of.Goals as goal
 

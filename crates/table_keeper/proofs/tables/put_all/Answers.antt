@@ -1,6 +1,5 @@
-use Rattle.std.proofs.Common.{◌∙◌, sym, ap}
-use Rattle.std.proofs.lemmas.List.{map_push}
-use Rattle.std.specs.Prelude.{map}
+use Rattle.std.proofs.Common.{◌∙◌, sym, ap, map}
+use Rattle.plain_values.proofs.Common.{map_push}
 use Rattle.std.specs.FinMap as finmap
 use Rattle.table_keeper.specs.Places.{entry_of, rows_in, with_entries}
 use Rattle.table_keeper.proofs.Deltas.{with_entries-push}

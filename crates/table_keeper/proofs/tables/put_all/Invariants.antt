@@ -1,5 +1,4 @@
-use Rattle.std.proofs.Common.{◌≡◌}
-use Rattle.std.specs.Prelude.{map}
+use Rattle.std.proofs.Common.{◌≡◌, map}
 use Rattle.table_keeper.specs.Changes.{names_of}
 use Rattle.table_keeper.specs.Places.{entry_of, rows_in, with_entries}
 use Rattle.table_keeper.proofs.tables.put_all.Given as goal

@@ -1,5 +1,5 @@
 use Rattle.std.proofs.Common.{rules}
-use Rattle.std.proofs.lemmas.List.Sorted.{answers_always}
+use Rattle.plain_values.proofs.Common.{answers_always}
 use Rattle.table_keeper.proofs.Places.{by_name}
 use Rattle.table_keeper.proofs.tables.search.Goals as goal
 

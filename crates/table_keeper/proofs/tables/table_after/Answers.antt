@@ -1,6 +1,5 @@
 use Rattle.std.proofs.Common.{◌≡◌, ◌∙◌, get_or, sym, ap}
-use Rattle.lens_specs.specs.Common.{Rows, new_view, rows_at}
-use Rattle.lens_specs.specs.Keeping.{or_empty}
+use Rattle.lens_specs.specs.Common.{Rows, new_view, rows_at, or_empty}
 use Rattle.table_keeper.specs.Places.{rows_in}
 use Rattle.table_keeper.proofs.ByName.{rows_found, there_is}
 use Rattle.table_keeper.proofs.tables.table_after.Goals as goal

@@ -1,6 +1,5 @@
-use Rattle.std.proofs.Common.{◌≡◌, take}
-use Rattle.std.specs.Prelude.{map}
-use Rattle.std.specs.List.{AllByRecursion}
+use Rattle.std.proofs.Common.{◌≡◌, take, map}
+use Rattle.plain_values.proofs.Common.{AllByRecursion}
 use Rattle.signed_delta.specs.Tables.{table_delta}
 use Rattle.table_keeper.specs.Changes.{names_of}
 use Rattle.table_keeper.specs.Places.{FitsAt, entry_after, entry_of, rows_in}

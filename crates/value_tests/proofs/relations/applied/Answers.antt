@@ -1,6 +1,6 @@
 use Rattle.std.proofs.Common.{◌≡◌, sym, subst}
 use Rattle.std.proofs.lemmas.Result.{IfOk-at_ok}
-use Rattle.lens_specs.specs.Delta.{Delta, AppliesTo, diff}
+use Rattle.lens_specs.specs.Common.{Delta, AppliesTo, diff}
 use Rattle.signed_delta.proofs.Differences.{diff_applies_to}
 use Rattle.value_tests.proofs.relations.applied.Goals as goal
 

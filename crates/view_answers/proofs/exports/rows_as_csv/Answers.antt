@@ -1,8 +1,6 @@
-use Rattle.std.proofs.Common.{◌≡◌, ◌∙◌, true, ap, subst, sym}
-use Rattle.std.specs.Prelude.{◌≢◌, [], not}
-use Rattle.std.specs.List.{list_all}
+use Rattle.std.proofs.Common.{◌≡◌, ◌∙◌, true, ap, subst, sym, ◌≢◌, [], not}
+use Rattle.plain_values.proofs.Common.{list_all, is_nullable}
 use Rattle.std.specs.FinMap as finmap
-use Rattle.plain_values.specs.Value.{is_nullable}
 use Rattle.lens_specs.specs.Common.{Columns, sort_of, Relation}
 use Rattle.view_answers.proofs.ViewColumns.{all_plain, has_columns}
 use Rattle.view_answers.proofs.exports.rows_as_csv.Goals as goal

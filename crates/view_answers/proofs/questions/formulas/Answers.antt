@@ -1,6 +1,6 @@
 use Rattle.std.proofs.Common.{◌∙◌, ap}
 use Rattle.lens_pred.specs.View.{predicate_view}
-use Rattle.std.proofs.lemmas.List.{take_all}
+use Rattle.plain_values.proofs.Common.{take_all}
 use Rattle.view_answers.proofs.Formulas.{conjuncts_are}
 use Rattle.view_answers.proofs.questions.formulas.Goals as goal
 

@@ -1,7 +1,6 @@
-use Rattle.std.proofs.Common.{◌≡◌, ◌+◌, ◌≤◌, ℕ, Bool, true, false, arith, refl}
-use Rattle.std.specs.Prelude.{if◌then◌else◌}
+use Rattle.std.proofs.Common.{◌≡◌, ◌+◌, ◌≤◌, ℕ, Bool, true, false, arith, refl, if◌then◌else◌}
 use Rattle.lens_specs.specs.Common.{sort_of, one}
-use Rattle.lens_laws.specs.Work.{size}
+use Rattle.lens_laws.proofs.Common.{size}
 use Rattle.lens_probe.specs.Viewed.{is_left_side}
 use Rattle.view_answers.proofs.questions.found_answer.Goals as goal
 

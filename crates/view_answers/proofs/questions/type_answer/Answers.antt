@@ -1,6 +1,6 @@
 use Rattle.std.proofs.Common.{◌≡◌, ◌∙◌, ap}
-use Rattle.lens_specs.specs.Lens.{sort_of, tables_of}
-use Rattle.server_specs.specs.Answer.{described}
+use Rattle.lens_specs.specs.Common.{sort_of, tables_of}
+use Rattle.server_specs.specs.Common.{described}
 use Rattle.request_text.specs.Answers.{conjuncts_view}
 use Rattle.view_answers.proofs.questions.type_answer.Goals as goal
 

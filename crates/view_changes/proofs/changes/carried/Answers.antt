@@ -1,9 +1,9 @@
 use Rattle.std.proofs.Common.{◌∙◌, Err, ap, subst, sym}
-use Rattle.std.proofs.lemmas.Result.{err_from_is_err_and}
+use Rattle.plain_values.proofs.Common.{err_from_is_err_and}
 use Rattle.lens_chain.specs.Edits.{edited, over}
-use Rattle.lens_laws.specs.Work.{rows_of, work}
-use Rattle.lens_specs.specs.Lens.{sort_of}
-use Rattle.server_specs.specs.Changing.{of_sort}
+use Rattle.lens_laws.proofs.Common.{rows_of, work}
+use Rattle.lens_specs.specs.Common.{sort_of}
+use Rattle.server_specs.specs.Common.{of_sort}
 use Rattle.view_changes.specs.Puts.{IsPut}
 use Rattle.view_changes.proofs.ChangeLooks.{once_of_two, twice}
 use Rattle.view_changes.proofs.ChangeTests.{passes, tested_put}

@@ -1,9 +1,9 @@
 use Rattle.std.proofs.Common.{◌+◌, arith, subst}
 use Rattle.lens_chain.proofs.EditLooks.{within_size}
 use Rattle.lens_chain.specs.Edits.{over}
-use Rattle.lens_laws.specs.Work.{count_of, rows_of, size}
+use Rattle.lens_laws.proofs.Common.{count_of, rows_of, size}
 use Rattle.lens_specs.specs.Common.{new_view, get, sort_of}
-use Rattle.server_specs.specs.Changing.{of_sort}
+use Rattle.server_specs.specs.Common.{of_sort}
 use Rattle.view_changes.specs.Puts.{IsPut}
 use Rattle.view_changes.proofs.ChangeLooks.{carried_few}
 use Rattle.view_changes.proofs.SentRows.{new_fits}

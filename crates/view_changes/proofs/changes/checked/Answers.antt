@@ -1,16 +1,14 @@
 use Rattle.std.proofs.Common.{◌≡◌, ◌∙◌, Some, None, Err, ap, length, refl, subst, sym}
-use Rattle.std.specs.List.{Contains}
+use Rattle.plain_values.proofs.Common.{Contains}
 use Rattle.fd_tree.specs.ClashView.{shown_clash}
 use Rattle.lens_chain.proofs.Premises.{edges_asked}
 use Rattle.lens_chain.specs.Edits.{edited, over}
-use Rattle.lens_laws.proofs.Lenses.{get_sort}
+use Rattle.lens_laws.proofs.Common.{get_sort, given_is, size}
 use Rattle.edit_check.specs.Checked.{IsChecked}
 use Rattle.lens_probe.specs.Viewed.{asked_by, shown}
 use Rattle.lens_specs.specs.Common.{AllEdges, sort_of, Sort, IsOf, IsOfSort, violating_pair, violating_row}
-use Rattle.server_specs.specs.Changing.{unless_clash, unless_off}
+use Rattle.server_specs.specs.Common.{unless_clash, unless_off}
 use Rattle.server_specs.specs.EditRefusal as refusals
-use Rattle.lens_laws.proofs.Rules.{given_is}
-use Rattle.lens_laws.specs.Work.{size}
 use Rattle.lens_chain.proofs.EditLooks.{edges_few, within_size}
 use Rattle.view_changes.proofs.ChangeLooks.{check_within}
 use Rattle.view_changes.proofs.FoundClashes.{IsFoundClash, clash_asked, found_clash}

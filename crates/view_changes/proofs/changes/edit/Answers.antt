@@ -1,13 +1,12 @@
 use Rattle.std.proofs.Common.{◌≡◌, ◌∙◌, ◌+◌, ◌*◌, ◌≤◌, Ok, Err, ap, arith, subst, sym}
-use Rattle.std.proofs.lemmas.Result.{err_from_is_err_and}
+use Rattle.plain_values.proofs.Common.{err_from_is_err_and}
 use Rattle.lens_chain.proofs.EditLooks.{within_size}
-use Rattle.lens_laws.specs.Finds.{AllFit}
-use Rattle.lens_laws.specs.Work.{count_of, size, work}
+use Rattle.lens_laws.proofs.Common.{AllFit, count_of, size, work}
 use Rattle.lens_probe.specs.Viewed.{FindsAtMost, IsViewed, Viewed}
 use Rattle.lens_specs.specs.Common.{new_view, get, sort_of}
 use Rattle.opened_view.specs.Seen.{seen, tables_under}
 use Rattle.server_specs.specs.Answer.{in_add, in_remove}
-use Rattle.server_specs.specs.Changing.{asked_view, edit_of, edited, of_sort, sent_view, tested}
+use Rattle.server_specs.specs.Common.{asked_view, edit_of, edited, of_sort, sent_view, tested}
 use Rattle.view_changes.specs.Puts.{IsPut}
 use Rattle.view_changes.specs.Sizes.{sent_by}
 use Rattle.view_changes.proofs.ChangeLooks.{near_alone, near_first, sent_is}

@@ -1,7 +1,7 @@
 use Rattle.std.proofs.Common.{◌+◌, ◌*◌, ◌≤◌, subst, sym}
-use Rattle.lens_laws.specs.Work.{work}
+use Rattle.lens_laws.proofs.Common.{work}
 use Rattle.opened_view.specs.Seen.{seen, tables_under}
-use Rattle.server_specs.specs.Changing.{tested}
+use Rattle.server_specs.specs.Common.{tested}
 use Rattle.view_changes.specs.Puts.{IsPut}
 use Rattle.view_changes.proofs.ChangeLooks.{changed_is}
 use Rattle.view_changes.proofs.changes.put.Goals as goal

@@ -1,10 +1,9 @@
-use Rattle.std.proofs.Common.{◌∙◌, ◌+◌, ◌*◌, ◌≤◌, Err, ap, subst, sym}
-use Rattle.std.proofs.lemmas.Result.{err_from_is_err_and}
+use Rattle.std.proofs.Common.{◌∙◌, ◌+◌, ◌*◌, ◌≤◌, Err, ap, subst, sym, Ok}
+use Rattle.plain_values.proofs.Common.{err_from_is_err_and}
 use Rattle.lens_chain.specs.Edits.{edited}
-use Rattle.lens_laws.specs.Work.{rows_of, work}
+use Rattle.lens_laws.proofs.Common.{rows_of, work}
 use Rattle.opened_view.specs.Seen.{seen, tables_under}
-use Rattle.server_specs.specs.Changing.{tested}
-use Rattle.std.specs.Prelude.{Ok}
+use Rattle.server_specs.specs.Common.{tested}
 use Rattle.view_changes.specs.Puts.{IsPut}
 use Rattle.view_changes.proofs.ChangeTests.{diff_edits, fresh_put, stale_put}
 use Rattle.view_changes.proofs.changes.put_rows.Goals as goal

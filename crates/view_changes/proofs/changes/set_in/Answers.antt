@@ -1,8 +1,8 @@
 use Rattle.std.proofs.Common.{◌≡◌, ◌∙◌, ap, sym}
-use Rattle.lens_specs.specs.Lens.{sort_of}
+use Rattle.lens_specs.specs.Common.{sort_of}
 use Rattle.request_text.specs.Answers.{list_view}
 use Rattle.request_text.specs.RowFaults.{set_of}
-use Rattle.server_specs.specs.Sending.{rows_in}
+use Rattle.server_specs.specs.Common.{rows_in}
 use Rattle.view_changes.proofs.SentRows.{fault_told, set_asked, set_fits, set_refused}
 use Rattle.view_changes.proofs.changes.set_in.Goals as goal
 

@@ -1,6 +1,5 @@
-use Rattle.std.proofs.Common.{ap, sym, ◌∙◌}
-use Rattle.std.specs.Prelude.{option_map}
-use Rattle.std.specs.Result.{result_ok}
+use Rattle.std.proofs.Common.{ap, sym, ◌∙◌, option_map}
+use Rattle.plain_values.proofs.Common.{result_ok}
 use Rattle.plain_values.specs.declared.value.Value.TheVariants as value
 use Rattle.view_csv.proofs.Numbers.{no_text, text_is}
 use Rattle.view_csv.proofs.fields.text_value.Goals as goal

@@ -1,5 +1,5 @@
 use Rattle.std.proofs.Common.{◌≡◌, take, false}
-use Rattle.std.specs.List.{list_any}
+use Rattle.plain_values.proofs.Common.{list_any}
 use Rattle.csv.specs.Records.{fields_of}
 use Rattle.csv_specs.specs.Fields.{is_same}
 use Rattle.view_csv.proofs.places.place_of.Given as goal

@@ -1,5 +1,5 @@
 use Rattle.std.proofs.Common.{◌∷◌, [], ap, arith, length, map, sym, ◌∙◌}
-use Rattle.std.proofs.lemmas.List.{length-append}
+use Rattle.plain_values.proofs.Common.{length-append}
 use Rattle.view_csv.specs.Places.{value_at}
 use Rattle.csv.specs.Records.{fields_of}
 use Rattle.view_csv.proofs.PlaceLemmas.{all_places_at, column_found_at, header_right_at, name_found_at, not_header_at}

@@ -1,5 +1,5 @@
 use Rattle.std.proofs.Common.{◌≡◌, take, length, map, true}
-use Rattle.std.specs.List.{list_all, list_any}
+use Rattle.plain_values.proofs.Common.{list_all, list_any}
 use Rattle.csv.specs.Records.{fields_of}
 use Rattle.csv_specs.specs.Fields.{is_same}
 use Rattle.csv_specs.specs.Sheets.{Record, value_under}

@@ -1,5 +1,5 @@
 use Rattle.std.proofs.Common.{◌∙◌, ◌∷◌, [], Some, ap, length, sym, arith}
-use Rattle.std.proofs.lemmas.List.{length-append}
+use Rattle.plain_values.proofs.Common.{length-append}
 use Rattle.csv.specs.Records.{fields_of}
 use Rattle.plain_values.specs.declared.value.Kind.TheVariants as kind
 use Rattle.view_csv.proofs.PlaceLemmas.{values_more, values_none}

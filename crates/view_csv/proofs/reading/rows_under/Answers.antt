@@ -1,5 +1,5 @@
 use Rattle.std.proofs.Common.{◌∙◌, ◌∷◌, ◌++◌, [], Ok, ap, length, sym, arith}
-use Rattle.std.proofs.lemmas.List.{length-append}
+use Rattle.plain_values.proofs.Common.{length-append}
 use Rattle.plain_values.specs.SortedSet as set
 use Rattle.csv.specs.Records.{fields_of}
 use Rattle.csv_specs.specs.Sheets.{Record, rows_from}

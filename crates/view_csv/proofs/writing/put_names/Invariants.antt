@@ -1,7 +1,6 @@
 use Rattle.std.proofs.Common.{◌≡◌, [], map, take, true}
-use Rattle.std.specs.List.{list_all}
+use Rattle.plain_values.proofs.Common.{list_all, is_name}
 use Rattle.csv.specs.Records.{fields_of, partial_of}
-use Rattle.plain_values.specs.Bytes.{is_name}
 use Rattle.view_csv.proofs.writing.put_names.Given as goal
 
 abbrev pub invariant-loop-column : goal.invariant-loop-column

@@ -1,5 +1,5 @@
 use Rattle.std.proofs.Common.{◌≡◌, [], map, take, true}
-use Rattle.std.specs.List.{list_all}
+use Rattle.plain_values.proofs.Common.{list_all}
 use Rattle.csv.specs.Records.{fields_of, partial_of}
 use Rattle.csv_specs.specs.Fields.{field_of}
 use Rattle.csv_specs.specs.SheetLaws.{is_right}

@@ -1,5 +1,5 @@
 use Rattle.std.proofs.Common.{◌++◌, ◌∷◌, ◌∙◌, [], Some, ap, map, refl, subst, sym, take}
-use Rattle.std.proofs.lemmas.List.{append-nil}
+use Rattle.plain_values.proofs.Common.{append-nil}
 use Rattle.std.specs.FinMap as finmap
 use Rattle.std.specs.String.{string_bytes}
 use Rattle.csv.specs.Writing.{default_writer, row_text}

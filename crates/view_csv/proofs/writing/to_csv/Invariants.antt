@@ -1,7 +1,6 @@
 use Rattle.std.proofs.Common.{◌≡◌, true, ◌∷◌, Some, map, take}
 use Rattle.std.specs.FinMap as finmap
-use Rattle.std.specs.List.{list_all}
-use Rattle.plain_values.specs.Bytes.{is_name}
+use Rattle.plain_values.proofs.Common.{list_all, is_name}
 use Rattle.csv_specs.specs.SheetLaws.{is_right}
 use Rattle.csv_specs.specs.Sheets.{record_of, text_of}
 use Rattle.view_csv.specs.Texts.{HasWritten}

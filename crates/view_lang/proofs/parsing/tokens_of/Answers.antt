@@ -1,5 +1,5 @@
 use Rattle.std.proofs.Common.{drop, length, length-drop, arith, subst, ap, Some, refl, sym, ◌∙◌}
-use Rattle.std.proofs.lemmas.List.{map_push}
+use Rattle.plain_values.proofs.Common.{map_push}
 use Rattle.view_lang.specs.TokenViews.{token_view, front_of, IsFront}
 use Rattle.view_lang.specs.Outcomes.{placed_view}
 use Rattle.view_lang.proofs.Cuts.{IsCut, cut_none, cut_more, cut_wrong, cut_end}
@@ -38,7 +38,7 @@ loop-at-preserved c =
     let next = c.behind_blanks-at-in-loop-at.result in
     let before = placed_view c.loop-at.tokens.items in
     let front : IsFront (drop at text) (Some (c.in-Some.token, len)) = subst (IsFront (drop at text)) c.in-Some.is c.in_ok-token.ensures.front in
-    subst (IsCut text next) (sym (ap placed_view c.in_ok-push_back.ensures.items ∙ map_push (λ p. (p.at, token_view p.token)) c.loop-at.tokens.items _))
+    subst (IsCut text next) (sym (ap placed_view c.in_ok-push_back.ensures.items ∙ map_push (λ p. (p.0, token_view p.1)) c.loop-at.tokens.items _))
     (cut_more text at next before (token_view c.in-Some.token) len c.loop-at.invariant (ap (front_of (drop at text)) (sym c.in-Some.is) ∙ c.in_ok-token.ensures.value) front.0 front.1 c.behind_blanks-at-in-loop-at.ensures)
 
 pub returns : goal.returns

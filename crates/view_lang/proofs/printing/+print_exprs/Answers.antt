@@ -1,10 +1,7 @@
-use Rattle.std.proofs.Common.{◌≡◌, ◌∙◌, ◌∷◌, ◌++◌, map, ap, sym, rules}
-use Rattle.std.specs.Prelude.{codes}
-use Rattle.std.proofs.lemmas.Result.{on_ok_weaker}
+use Rattle.std.proofs.Common.{◌≡◌, ◌∙◌, ◌∷◌, ◌++◌, map, ap, sym, rules, codes}
+use Rattle.plain_values.proofs.Common.{on_ok_weaker}
 use Rattle.grammar_specs.specs.Meaning.{select, drop, rename, join}
-use Rattle.grammar_specs.specs.Tokens.{word, open_paren, close_paren, comma}
-use Rattle.grammar_specs.specs.Printing.{operand_of, expr_written, predicate_written}
-use Rattle.grammar_specs.specs.Written.{literal, operand_tokens, expr_tokens, pred_tokens}
+use Rattle.grammar_specs.specs.Common.{word, open_paren, close_paren, comma, operand_of, expr_written, predicate_written, literal, operand_tokens, expr_tokens, pred_tokens}
 use Rattle.view_lang.specs.ExprViews.{expr_view}
 use Rattle.view_lang.specs.declared.expr.Expr.{the_lemmas}
 use Rattle.view_lang.proofs.Operands.{enclosed_unless_named}

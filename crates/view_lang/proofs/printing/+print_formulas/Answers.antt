@@ -1,11 +1,7 @@
-use Rattle.std.proofs.Common.{◌≡◌, ◌∙◌, ◌∷◌, ◌++◌, [], ap, sym, rules}
-use Rattle.std.proofs.lemmas.List.{take_all}
-use Rattle.std.proofs.lemmas.Result.{on_ok_weaker}
-use Rattle.std.specs.Prelude.{codes}
-use Rattle.lens_specs.specs.Predicate.{negation}
-use Rattle.grammar_specs.specs.Tokens.{word, open_paren, close_paren}
-use Rattle.grammar_specs.specs.Printing.{part_of, all_parts, all_of_formula, any_alls}
-use Rattle.grammar_specs.specs.Written.{part_tokens, all_tokens, pred_tokens}
+use Rattle.std.proofs.Common.{◌≡◌, ◌∙◌, ◌∷◌, ◌++◌, [], ap, sym, rules, codes}
+use Rattle.plain_values.proofs.Common.{take_all, on_ok_weaker}
+use Rattle.lens_specs.specs.Common.{negation}
+use Rattle.grammar_specs.specs.Common.{word, open_paren, close_paren, part_of, all_parts, all_of_formula, any_alls, part_tokens, all_tokens, pred_tokens}
 use Rattle.lens_pred.specs.View.{formula_view}
 use Rattle.lens_pred.specs.declared.formula.Formula.{the_lemmas}
 use Rattle.lens_pred.proofs.Views.{view-OneOf, view-And, view-Or}

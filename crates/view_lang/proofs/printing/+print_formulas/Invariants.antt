@@ -1,8 +1,5 @@
-use Rattle.std.proofs.Common.{take, ◌+◌, ◌*◌}
-use Rattle.std.specs.Prelude.{codes}
-use Rattle.grammar_specs.specs.Printing.{part_of, all_of_formula}
-use Rattle.grammar_specs.specs.Tokens.{word}
-use Rattle.grammar_specs.specs.Written.{part_tokens, all_tokens}
+use Rattle.std.proofs.Common.{take, ◌+◌, ◌*◌, codes}
+use Rattle.grammar_specs.specs.Common.{part_of, all_of_formula, word, part_tokens, all_tokens}
 use Rattle.lens_pred.specs.View.{formula_view}
 use Rattle.view_lang.specs.PrintAdds.{Adds}
 use Rattle.view_lang.proofs.Joined.{between}

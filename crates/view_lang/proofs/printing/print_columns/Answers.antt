@@ -1,5 +1,4 @@
-use Rattle.grammar_specs.specs.Tokens.{comma}
-use Rattle.grammar_specs.specs.Written.{column_tokens}
+use Rattle.grammar_specs.specs.Common.{comma, column_tokens}
 use Rattle.view_lang.proofs.Printed.{adds_same, follow}
 use Rattle.view_lang.proofs.Joined.{between_more}
 use Rattle.view_lang.proofs.printing.print_columns.Goals as goal

@@ -1,6 +1,5 @@
 use Rattle.std.proofs.Common.{take}
-use Rattle.grammar_specs.specs.Tokens.{comma}
-use Rattle.grammar_specs.specs.Written.{column_tokens}
+use Rattle.grammar_specs.specs.Common.{comma, column_tokens}
 use Rattle.view_lang.specs.PrintAdds.{Adds}
 use Rattle.view_lang.proofs.Joined.{between}
 use Rattle.view_lang.proofs.printing.print_columns.Given as goal

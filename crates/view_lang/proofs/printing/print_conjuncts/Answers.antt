@@ -1,4 +1,4 @@
-use Rattle.std.proofs.lemmas.Result.{on_ok_weaker}
+use Rattle.plain_values.proofs.Common.{on_ok_weaker}
 use Rattle.view_lang.proofs.Printed.{adds_same}
 use Rattle.view_lang.proofs.Joined.{conjuncts_joined}
 use Rattle.view_lang.proofs.printing.print_conjuncts.Goals as goal

@@ -1,9 +1,6 @@
-use Rattle.std.proofs.Common.{◌∷◌, ◌++◌, ◌∙◌, ap, map, sym}
-use Rattle.std.specs.Prelude.{codes}
-use Rattle.std.proofs.lemmas.Result.{on_ok_weaker}
-use Rattle.grammar_specs.specs.Tokens.{word, open_paren, close_paren}
-use Rattle.grammar_specs.specs.Printing.{dep_written, condition_written, definition_written}
-use Rattle.grammar_specs.specs.Written.{columns_tokens, deps_tokens, where_tokens, written_tokens}
+use Rattle.std.proofs.Common.{◌∷◌, ◌++◌, ◌∙◌, ap, map, sym, codes}
+use Rattle.plain_values.proofs.Common.{on_ok_weaker}
+use Rattle.grammar_specs.specs.Common.{word, open_paren, close_paren, dep_written, condition_written, definition_written, columns_tokens, deps_tokens, where_tokens, written_tokens}
 use Rattle.view_lang.specs.DefViews.{definition_view}
 use Rattle.view_lang.proofs.Printed.{adds_same, follow}
 use Rattle.view_lang.proofs.printing.print_definition.Goals as goal

@@ -1,10 +1,7 @@
-use Rattle.std.proofs.Common.{◌∷◌, ◌++◌, ◌∙◌, ap, map, sym, take}
-use Rattle.std.specs.Prelude.{codes}
-use Rattle.std.proofs.lemmas.List.{take_all}
+use Rattle.std.proofs.Common.{◌∷◌, ◌++◌, ◌∙◌, ap, map, sym, take, codes}
+use Rattle.plain_values.proofs.Common.{take_all}
 use Rattle.plain_values.specs.SortedSet as set
-use Rattle.grammar_specs.specs.Tokens.{word, arrow, comma}
-use Rattle.grammar_specs.specs.Printing.{dep_written}
-use Rattle.grammar_specs.specs.Written.{dep_tokens}
+use Rattle.grammar_specs.specs.Common.{word, arrow, comma, dep_written, dep_tokens}
 use Rattle.view_lang.specs.PrintAdds.{before_item}
 use Rattle.view_lang.proofs.Printed.{adds_same, follow}
 use Rattle.view_lang.proofs.Joined.{between, between_more, deps_between}

@@ -1,8 +1,5 @@
-use Rattle.std.proofs.Common.{◌∷◌, take}
-use Rattle.std.specs.Prelude.{codes}
-use Rattle.grammar_specs.specs.Printing.{dep_written}
-use Rattle.grammar_specs.specs.Tokens.{word, comma}
-use Rattle.grammar_specs.specs.Written.{dep_tokens}
+use Rattle.std.proofs.Common.{◌∷◌, take, codes}
+use Rattle.grammar_specs.specs.Common.{dep_written, word, comma, dep_tokens}
 use Rattle.view_lang.specs.PrintAdds.{Adds}
 use Rattle.view_lang.proofs.Joined.{between}
 use Rattle.view_lang.proofs.printing.print_deps.Given as goal

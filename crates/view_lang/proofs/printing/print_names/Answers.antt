@@ -1,4 +1,4 @@
-use Rattle.grammar_specs.specs.Tokens.{word}
+use Rattle.grammar_specs.specs.Common.{word}
 use Rattle.view_lang.proofs.Printed.{adds_same, follow}
 use Rattle.view_lang.proofs.Joined.{map_taken}
 use Rattle.view_lang.proofs.printing.print_names.Goals as goal

@@ -1,5 +1,5 @@
 use Rattle.std.proofs.Common.{map, take}
-use Rattle.grammar_specs.specs.Tokens.{word}
+use Rattle.grammar_specs.specs.Common.{word}
 use Rattle.view_lang.specs.PrintAdds.{Adds}
 use Rattle.view_lang.proofs.printing.print_names.Given as goal
 

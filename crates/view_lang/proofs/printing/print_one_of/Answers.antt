@@ -1,10 +1,7 @@
-use Rattle.std.proofs.Common.{◌≡◌, ◌∙◌, List, [], ◌∷◌, ◌++◌, refl, ap}
-use Rattle.std.proofs.lemmas.List.{take_all}
-use Rattle.std.proofs.lemmas.Result.{on_ok_weaker}
-use Rattle.std.specs.Prelude.{codes}
+use Rattle.std.proofs.Common.{◌≡◌, ◌∙◌, List, [], ◌∷◌, ◌++◌, refl, ap, codes}
+use Rattle.plain_values.proofs.Common.{take_all, on_ok_weaker}
 use Rattle.plain_values.specs.declared.value.Value.{Value}
-use Rattle.grammar_specs.specs.Tokens.{word, open_paren, close_paren, comma}
-use Rattle.grammar_specs.specs.Written.{literal, literals}
+use Rattle.grammar_specs.specs.Common.{word, open_paren, close_paren, comma, literal, literals}
 use Rattle.view_lang.proofs.Printed.{adds_same, follow}
 use Rattle.view_lang.proofs.Joined.{between, between_more}
 use Rattle.view_lang.proofs.printing.print_one_of.Goals as goal

@@ -1,7 +1,5 @@
-use Rattle.std.proofs.Common.{◌∷◌, [], take}
-use Rattle.std.specs.Prelude.{codes}
-use Rattle.grammar_specs.specs.Tokens.{word, open_paren, comma}
-use Rattle.grammar_specs.specs.Written.{literal}
+use Rattle.std.proofs.Common.{◌∷◌, [], take, codes}
+use Rattle.grammar_specs.specs.Common.{word, open_paren, comma, literal}
 use Rattle.view_lang.specs.PrintAdds.{Adds}
 use Rattle.view_lang.proofs.Joined.{between}
 use Rattle.view_lang.proofs.printing.print_one_of.Given as goal

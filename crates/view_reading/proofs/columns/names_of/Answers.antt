@@ -1,6 +1,6 @@
 use Rattle.std.proofs.Common.{◌∙◌, ap}
 use Rattle.lens_specs.specs.Common.{names, Sort}
-use Rattle.lens_laws.proofs.Rules.{given_is}
+use Rattle.lens_laws.proofs.Common.{given_is}
 use Rattle.view_reading.proofs.columns.names_of.Goals as goal
 
 pub returns : goal.returns

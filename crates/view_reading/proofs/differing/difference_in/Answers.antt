@@ -1,8 +1,7 @@
 use Rattle.std.proofs.Common.{◌∙◌, ap, map, subst}
-use Rattle.std.proofs.lemmas.Result.{IfOk-weaker}
-use Rattle.plain_values.specs.Part.{restrict}
+use Rattle.plain_values.proofs.Common.{IfOk-weaker, restrict}
 use Rattle.plain_values.specs.SortedSet as set
-use Rattle.lens_specs.specs.Delta.{diff}
+use Rattle.lens_specs.specs.Common.{diff}
 use Rattle.view_reading.specs.KnownRows.{AreParts}
 use Rattle.view_reading.specs.Unfiltered.{passing}
 use Rattle.view_reading.proofs.PartLists.{parts_are}

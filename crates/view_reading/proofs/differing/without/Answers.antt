@@ -1,10 +1,8 @@
-use Rattle.std.proofs.Common.{◌∙◌, ap, rules}
-use Rattle.std.specs.Prelude.{filter, not}
-use Rattle.std.proofs.lemmas.Fn.{filter_same}
-use Rattle.std.proofs.lemmas.Result.{IfOk-weaker}
+use Rattle.std.proofs.Common.{◌∙◌, ap, rules, filter, not}
+use Rattle.plain_values.proofs.Common.{filter_same, IfOk-weaker}
 use Rattle.plain_values.specs.SortedSet as set
-use Rattle.lens_specs.specs.Relation.{has}
-use Rattle.fd_laws.proofs.Rows.{row_exact, row_total}
+use Rattle.lens_specs.specs.Common.{has}
+use Rattle.fd_laws.proofs.Common.{row_exact, row_total}
 use Rattle.signed_delta.proofs.Looks.{missing_are}
 use Rattle.view_reading.proofs.differing.without.Goals as goal
 

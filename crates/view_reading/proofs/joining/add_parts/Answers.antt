@@ -1,5 +1,6 @@
 use Rattle.std.proofs.Common.{◌∙◌, ◌++◌, ◌∷◌, [], ap, map, sym, take}
-use Rattle.std.proofs.lemmas.List.{append_assoc, map_more}
+use Rattle.plain_values.proofs.Common.{map_more}
+use Rattle.std.proofs.lemmas.List.{append_assoc}
 use Rattle.view_reading.specs.Pasting.{part_at}
 use Rattle.view_reading.proofs.joining.add_parts.Goals as goal
 

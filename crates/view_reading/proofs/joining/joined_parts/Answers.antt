@@ -1,6 +1,5 @@
 use Rattle.std.proofs.Common.{◌∙◌, ap, subst, sym}
-use Rattle.std.specs.List.{filter_map}
-use Rattle.std.proofs.lemmas.Result.{IfOk-weaker}
+use Rattle.plain_values.proofs.Common.{filter_map, IfOk-weaker}
 use Rattle.plain_values.specs.SortedSet as set
 use Rattle.lens_specs.specs.Common.{project}
 use Rattle.row_sets.specs.Joins.{pairs_on}

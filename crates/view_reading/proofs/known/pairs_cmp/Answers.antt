@@ -1,10 +1,8 @@
 use Rattle.std.proofs.Common.{◌≤◌, ◌<◌, ◌∙◌, arith, length, subst, sym, take}
-use Rattle.std.specs.List.{zip}
-use Rattle.std.proofs.lemmas.List.{take_all}
-use Rattle.std.proofs.lemmas.Slice.Zip.{length-zip, get_or-zip}
+use Rattle.plain_values.proofs.Common.{zip, take_all, length-zip, get_or-zip}
 use Rattle.plain_values.specs.ValueOrder.{derived_cmp}
 use Rattle.plain_values.specs.declared.value.Value.{Value}
-use Rattle.lens_specs.specs.Names.{Name}
+use Rattle.lens_specs.specs.Common.{Name}
 use Rattle.view_reading.specs.KnownRows.{AreAmong}
 use Rattle.view_reading.proofs.KnownParts.{one_more}
 use Rattle.view_reading.proofs.known.pairs_cmp.Goals as goal

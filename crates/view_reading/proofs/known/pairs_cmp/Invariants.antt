@@ -1,5 +1,5 @@
 use Rattle.std.proofs.Common.{◌-◌, ◌≤◌, length, take}
-use Rattle.std.specs.List.{zip}
+use Rattle.plain_values.proofs.Common.{zip}
 use Rattle.view_reading.specs.KnownRows.{AreAmong}
 use Rattle.view_reading.proofs.known.pairs_cmp.Given as goal
 

@@ -1,7 +1,5 @@
-use Rattle.std.proofs.Common.{◌∙◌, sym}
-use Rattle.std.specs.Prelude.{option_copied}
-use Rattle.plain_values.specs.Value.{same_value}
-use Rattle.plain_values.proofs.ValueLemmas.{eq-value_cmp}
+use Rattle.std.proofs.Common.{◌∙◌, sym, option_copied}
+use Rattle.plain_values.proofs.Common.{same_value, eq-value_cmp}
 use Rattle.view_reading.proofs.pasting.is_same.Goals as goal
 
 pub returns-in-Some-Some : goal.returns-in-Some-Some

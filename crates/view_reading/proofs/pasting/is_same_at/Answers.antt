@@ -1,5 +1,5 @@
 use Rattle.std.proofs.Common.{◌∙◌}
-use Rattle.plain_values.specs.Value.{same_value}
+use Rattle.plain_values.proofs.Common.{same_value}
 use Rattle.lens_values.proofs.Cells.{copied}
 use Rattle.view_reading.proofs.pasting.is_same_at.Goals as goal
 

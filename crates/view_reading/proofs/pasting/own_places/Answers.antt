@@ -1,5 +1,5 @@
 use Rattle.std.proofs.Common.{◌∙◌, ap, sym, [], ◌++◌, append-nil}
-use Rattle.std.specs.List.{cons_option}
+use Rattle.plain_values.proofs.Common.{cons_option}
 use Rattle.lens_values.proofs.Cells.{one_more}
 use Rattle.view_reading.specs.Pasting.{own_place}
 use Rattle.view_reading.proofs.pasting.own_places.Goals as goal

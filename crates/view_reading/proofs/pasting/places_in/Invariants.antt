@@ -1,5 +1,5 @@
 use Rattle.std.proofs.Common.{◌≡◌, take}
-use Rattle.std.specs.List.{filter_map}
+use Rattle.plain_values.proofs.Common.{filter_map}
 use Rattle.view_reading.specs.Pasting.{place_in}
 use Rattle.view_reading.proofs.pasting.places_in.Given as goal
 

@@ -1,6 +1,5 @@
-use Rattle.std.proofs.Common.{◌∙◌, ap, sym, [], ◌∷◌, ◌++◌, append-nil}
-use Rattle.std.specs.Prelude.{option_copied}
-use Rattle.std.specs.List.{cons_option}
+use Rattle.std.proofs.Common.{◌∙◌, ap, sym, [], ◌∷◌, ◌++◌, append-nil, option_copied}
+use Rattle.plain_values.proofs.Common.{cons_option}
 use Rattle.view_reading.specs.Pasting.{value_at}
 use Rattle.view_reading.proofs.PairParts.{one_found}
 use Rattle.view_reading.proofs.pasting.values_at.Goals as goal

@@ -1,12 +1,9 @@
-use Rattle.std.proofs.Common.{◌≡◌, ◌∙◌, ap, arith, map, subst, sym, true}
-use Rattle.std.specs.Prelude.{Contains, IfOk}
-use Rattle.std.proofs.lemmas.Result.{IfOk-weaker}
+use Rattle.std.proofs.Common.{◌≡◌, ◌∙◌, ap, arith, map, subst, sym, true, Contains, IfOk}
+use Rattle.plain_values.proofs.Common.{IfOk-weaker}
 use Rattle.plain_values.specs.SortedSet as set
-use Rattle.lens_specs.specs.Common.{base, drop, get, nodes_of, rename, select, view_names, holds, mentioned, project, those, renamed_row}
-use Rattle.lens_specs.specs.Lens.{join}
-use Rattle.fd_laws.proofs.Rows.{row_exact, row_total}
-use Rattle.lens_laws.specs.Lenses.{AreOf}
-use Rattle.lens_laws.specs.Passes.{PredWithin}
+use Rattle.lens_specs.specs.Common.{base, drop, get, nodes_of, rename, select, view_names, holds, mentioned, project, those, renamed_row, join}
+use Rattle.fd_laws.proofs.Common.{row_exact, row_total}
+use Rattle.lens_laws.proofs.Common.{AreOf, PredWithin}
 use Rattle.row_sets.specs.Joins.{pairs_on}
 use Rattle.view_reading.specs.Reading.{rows_for}
 use Rattle.view_reading.proofs.Bases.{rows_shown}

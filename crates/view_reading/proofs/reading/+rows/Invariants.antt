@@ -1,5 +1,5 @@
 use Rattle.std.proofs.Common.{◌+◌, ◌*◌}
-use Rattle.lens_specs.specs.Lens.{nodes_of}
+use Rattle.lens_specs.specs.Common.{nodes_of}
 use Rattle.view_reading.proofs.reading.+rows.Given as goal
 
 -- the nodes of the lens, and how far the call is from one for the rows of the lens itself

@@ -1,7 +1,5 @@
-use Rattle.std.proofs.Common.{◌≡◌, ◌++◌}
-use Rattle.std.specs.Prelude.{map}
-use Rattle.std.specs.Vec.Iter.{into_iter_items}
-use Rattle.plain_values.specs.Part.{restrict}
+use Rattle.std.proofs.Common.{◌≡◌, ◌++◌, map}
+use Rattle.plain_values.proofs.Common.{into_iter_items, restrict}
 use Rattle.view_reading.proofs.reading.parts.Given as goal
 
 abbrev pub invariant-loop-row : goal.invariant-loop-row

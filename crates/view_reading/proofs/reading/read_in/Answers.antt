@@ -1,7 +1,6 @@
 use Rattle.std.proofs.Common.{◌≡◌, ◌∙◌, ap, subst, sym}
 use Rattle.lens_specs.specs.Common.{Fits, sort_of, has, Sort}
-use Rattle.lens_laws.proofs.Lenses.{get_sort}
-use Rattle.lens_laws.proofs.Rules.{given_is}
+use Rattle.lens_laws.proofs.Common.{get_sort, given_is}
 use Rattle.view_reading.proofs.reading.read_in.Goals as goal
 
 pub with_rows-requires : goal.with_rows-requires

@@ -1,6 +1,6 @@
 use Rattle.std.proofs.Common.{rules}
-use Rattle.std.proofs.lemmas.Fn.{filter_same}
-use Rattle.lens_specs.specs.Predicate.{holds}
+use Rattle.plain_values.proofs.Common.{filter_same}
+use Rattle.lens_specs.specs.Common.{holds}
 use Rattle.view_reading.proofs.reading.selected.Goals as goal
 
 pub returns : goal.returns

@@ -1,6 +1,6 @@
 use Rattle.std.proofs.Common.{◌∙◌, ap}
 use Rattle.lens_specs.specs.Common.{names, Sort}
-use Rattle.lens_laws.proofs.Rules.{given_is}
+use Rattle.lens_laws.proofs.Common.{given_is}
 use Rattle.view_reading.proofs.reading.side.Goals as goal
 
 pub returns-clause-cols : goal.returns-clause-cols

@@ -1,8 +1,7 @@
 use Rattle.std.proofs.Common.{◌≡◌, ◌∙◌, ap, map}
-use Rattle.std.proofs.lemmas.Result.{IfOk-weaker}
-use Rattle.plain_values.specs.Part.{restrict}
+use Rattle.plain_values.proofs.Common.{IfOk-weaker, restrict}
 use Rattle.plain_values.specs.SortedSet as set
-use Rattle.lens_specs.specs.Lens.{drop, view_names}
+use Rattle.lens_specs.specs.Common.{drop, view_names}
 use Rattle.view_reading.specs.Unfiltered.{passing}
 use Rattle.view_reading.proofs.Listed.{all_pass, dropped_listed, whole_listed}
 use Rattle.view_reading.proofs.unfiltered.unfiltered_rows.Goals as goal

@@ -1,6 +1,6 @@
 use Rattle.std.proofs.Common.{◌≡◌}
-use Rattle.std.proofs.lemmas.Result.{IfOk-weaker}
-use Rattle.lens_specs.specs.Lens.{drop}
+use Rattle.plain_values.proofs.Common.{IfOk-weaker}
+use Rattle.lens_specs.specs.Common.{drop}
 use Rattle.view_reading.specs.Unfiltered.{passing}
 use Rattle.view_reading.proofs.Listed.{selected_before, shown_before, whole_selected}
 use Rattle.view_reading.proofs.unfiltered.unfiltered_selection.Goals as goal

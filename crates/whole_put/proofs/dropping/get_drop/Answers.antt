@@ -1,6 +1,5 @@
-use Rattle.std.proofs.Common.{◌≡◌, ◌∙◌, ap, subst}
-use Rattle.std.specs.Prelude.{IfOk}
-use Rattle.lens_specs.specs.Columns.{names}
+use Rattle.std.proofs.Common.{◌≡◌, ◌∙◌, ap, subst, IfOk}
+use Rattle.lens_specs.specs.Common.{names}
 use Rattle.whole_put.proofs.Drops.{dropped}
 use Rattle.whole_put.proofs.dropping.get_drop.Goals as goal
 

@@ -1,8 +1,6 @@
-use Rattle.std.proofs.Common.{◌≡◌, ◌∙◌, ap, subst, sym, true}
-use Rattle.std.specs.Prelude.{map}
-use Rattle.plain_values.specs.Part.{override}
+use Rattle.std.proofs.Common.{◌≡◌, ◌∙◌, ap, subst, sym, true, map}
+use Rattle.plain_values.proofs.Common.{override, Row}
 use Rattle.plain_values.specs.SortedSet as set
-use Rattle.plain_values.specs.Row.{Row}
 use Rattle.lens_specs.specs.Common.{names, without_column, edge, drop_get, drop_put, Fits, Relation, has, along}
 use Rattle.whole_put.proofs.Drops.{fits, get_put, made, put_get}
 use Rattle.whole_put.proofs.dropping.put_drop.Goals as goal

@@ -1,6 +1,5 @@
-use Rattle.std.proofs.Common.{◌≡◌, take}
-use Rattle.std.specs.Prelude.{map}
-use Rattle.plain_values.specs.Part.{override}
+use Rattle.std.proofs.Common.{◌≡◌, take, map}
+use Rattle.plain_values.proofs.Common.{override}
 use Rattle.whole_put.proofs.dropping.with_default.Given as goal
 
 abbrev pub invariant-loop-row : goal.invariant-loop-row

@@ -1,11 +1,8 @@
-use Rattle.std.proofs.Common.{◌≡◌, ◌∙◌, ℕ, ap, subst, sym}
-use Rattle.std.specs.Prelude.{IfOk}
-use Rattle.lens_specs.specs.Common.{base, select, drop, rename, view, names, Relation}
-use Rattle.lens_specs.specs.Lens.{join}
+use Rattle.std.proofs.Common.{◌≡◌, ◌∙◌, ℕ, ap, subst, sym, IfOk}
+use Rattle.lens_specs.specs.Common.{base, select, drop, rename, view, names, Relation, join}
 use Rattle.plain_values.specs.SortedSet as set
-use Rattle.lens_laws.specs.Lenses.{IsTyped}
+use Rattle.lens_laws.proofs.Common.{IsTyped, shown_is_of_sort}
 use Rattle.whole_put.proofs.JoinedLenses.{shown_alike, shown_joined}
-use Rattle.lens_laws.proofs.Lenses.{shown_is_of_sort}
 use Rattle.whole_put.proofs.Lenses.{shown_dropped, shown_renamed, shown_selected, shown_table}
 use Rattle.whole_put.proofs.getting.+get.Goals as goal
 use Rattle.whole_put.proofs.getting.+get.Goals.{After-drop-branch-in-Drop-2, After-drop-branch-in-Select, In_ok-get-in-Rename, In_ok-right_source-in-Join, After-get_join}

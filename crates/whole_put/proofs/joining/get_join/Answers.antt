@@ -1,4 +1,4 @@
-use Rattle.lens_specs.specs.Nodes.{join_get}
+use Rattle.lens_specs.specs.Common.{join_get}
 use Rattle.whole_put.proofs.joining.get_join.Goals as goal
 
 pub returns : goal.returns

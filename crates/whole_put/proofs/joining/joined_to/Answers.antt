@@ -1,11 +1,6 @@
 use Rattle.std.proofs.Common.{◌∙◌, ap, subst, sym, filter, Bool}
-use Rattle.std.specs.List.Sorted.{IsStrictlySortedBy}
-use Rattle.std.proofs.lemmas.List.Kept.{IsStrictlySortedBy-filter}
-use Rattle.fd_laws.proofs.Relations.{from_those}
-use Rattle.plain_values.specs.Part.{restrict}
-use Rattle.plain_values.specs.Row.{row_cmp, Row}
-use Rattle.plain_values.specs.RowOrder.{row_cmp_total, row_cmp-IsAntisymmetric}
-use Rattle.plain_values.specs.SortedMap.{keys_rise}
+use Rattle.plain_values.proofs.Common.{IsStrictlySortedBy, IsStrictlySortedBy-filter, restrict, row_cmp, Row, row_cmp_total, row_cmp-IsAntisymmetric, keys_rise}
+use Rattle.fd_laws.proofs.Common.{from_those}
 use Rattle.plain_values.specs.SortedSet as set
 use Rattle.lens_specs.specs.Common.{Fits, names, Relation, has, cut}
 use Rattle.whole_put.proofs.joining.joined_to.Goals as goal

@@ -1,7 +1,6 @@
 use Rattle.std.proofs.Common.{◌≡◌, ◌∙◌, ap, subst, sym, true}
-use Rattle.plain_values.specs.Row.{Row}
-use Rattle.lens_specs.specs.Common.{both_columns, kinds_differ, names, join_get, join_left_after, join_right_after, Columns, Fits, Relation, has, project}
-use Rattle.lens_specs.specs.Columns.{columns_in}
+use Rattle.plain_values.proofs.Common.{Row}
+use Rattle.lens_specs.specs.Common.{both_columns, kinds_differ, names, join_get, join_left_after, join_right_after, Columns, Fits, Relation, has, project, columns_in}
 use Rattle.whole_put.proofs.Cuts.{left_columns, right_columns}
 use Rattle.whole_put.proofs.Joins.{get_put_left, get_put_right, left_made, put_get, right_made}
 use Rattle.whole_put.proofs.joining.put_join.Goals as goal

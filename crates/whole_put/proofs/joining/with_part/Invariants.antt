@@ -1,6 +1,6 @@
 use Rattle.std.proofs.Common.{◌≡◌, take, filter}
-use Rattle.plain_values.specs.Part.{restrict}
-use Rattle.lens_specs.specs.Relation.{has}
+use Rattle.plain_values.proofs.Common.{restrict}
+use Rattle.lens_specs.specs.Common.{has}
 use Rattle.whole_put.proofs.joining.with_part.Given as goal
 
 abbrev pub invariant-loop-row : goal.invariant-loop-row

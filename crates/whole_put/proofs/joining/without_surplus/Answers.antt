@@ -1,6 +1,5 @@
 use Rattle.std.proofs.Common.{◌∙◌, ap}
-use Rattle.lens_specs.specs.Common.{names, Relation}
-use Rattle.lens_specs.specs.Columns.{columns_in}
+use Rattle.lens_specs.specs.Common.{names, Relation, columns_in}
 use Rattle.whole_put.specs.Lost.{kept_of, left_without, right_without}
 use Rattle.whole_put.proofs.Cuts.{left_columns, right_columns}
 use Rattle.whole_put.proofs.joining.without_surplus.Goals as goal

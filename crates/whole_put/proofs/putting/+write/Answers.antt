@@ -1,8 +1,6 @@
-use Rattle.std.proofs.Common.{◌≡◌, ◌∙◌, ℕ, subst, sym, rules}
-use Rattle.std.specs.Prelude.{OnOk}
-use Rattle.lens_specs.specs.Common.{base, select, drop, rename, put, sort_of, view, drop_put, select_put, holds}
-use Rattle.lens_specs.specs.Lens.{join}
-use Rattle.lens_laws.specs.Lenses.{AreOf, IsTyped}
+use Rattle.std.proofs.Common.{◌≡◌, ◌∙◌, ℕ, subst, sym, rules, OnOk}
+use Rattle.lens_specs.specs.Common.{base, select, drop, rename, put, sort_of, view, drop_put, select_put, holds, join}
+use Rattle.lens_laws.proofs.Common.{AreOf, IsTyped}
 use Rattle.whole_put.specs.Sources.{AreShown}
 use Rattle.whole_put.proofs.JoinedLenses.{left_after, put_joined, right_after, right_sources, right_tables}
 use Rattle.lens_laws.proofs.Lenses.{view_is_of_sort}

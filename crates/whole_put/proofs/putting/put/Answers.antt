@@ -1,5 +1,5 @@
 use Rattle.std.proofs.Common.{◌≡◌, ◌∙◌}
-use Rattle.lens_specs.specs.Lens.{put}
+use Rattle.lens_specs.specs.Common.{put}
 use Rattle.whole_put.proofs.Lenses.{of_their_sorts, read_again, unchanged}
 use Rattle.whole_put.proofs.putting.put.Goals as goal
 use Rattle.whole_put.proofs.putting.put.Goals.{In_ok-write}

@@ -1,6 +1,5 @@
-use Rattle.std.proofs.Common.{◌≡◌, ◌∙◌, ap, subst, sym}
-use Rattle.std.specs.Prelude.{IfOk}
-use Rattle.std.proofs.lemmas.Result.{IfOk-weaker}
+use Rattle.std.proofs.Common.{◌≡◌, ◌∙◌, ap, subst, sym, IfOk}
+use Rattle.plain_values.proofs.Common.{IfOk-weaker}
 use Rattle.lens_specs.specs.Common.{without_column, sort_of, drop_put, Relation, IsOfSort}
 use Rattle.whole_put.proofs.Lenses.{column_apart, column_fits, determined, dropped_is_of_sort, over, source_dropped}
 use Rattle.whole_put.proofs.putting.under_drop.Goals as goal

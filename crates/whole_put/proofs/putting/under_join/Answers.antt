@@ -1,6 +1,5 @@
-use Rattle.std.proofs.Common.{◌≡◌, ◌∙◌, ap, subst, sym}
-use Rattle.std.specs.Prelude.{IfOk}
-use Rattle.std.proofs.lemmas.Result.{IfOk-weaker}
+use Rattle.std.proofs.Common.{◌≡◌, ◌∙◌, ap, subst, sym, IfOk}
+use Rattle.plain_values.proofs.Common.{IfOk-weaker}
 use Rattle.lens_specs.specs.Common.{sort_of, names, join_left_after, join_right_after, Relation, IsOfSort}
 use Rattle.whole_put.proofs.JoinedLenses.{columns_of_both, kept_tree, left_after, left_is_of_sort, left_meets, left_source, put_can, right_after, right_is_of_sort, right_meets, right_source, view_left, view_right}
 use Rattle.whole_put.proofs.Lenses.{over}

@@ -1,6 +1,5 @@
-use Rattle.std.proofs.Common.{◌≡◌, ◌∙◌, ap, subst, sym}
-use Rattle.std.specs.Prelude.{IfOk}
-use Rattle.std.proofs.lemmas.Result.{IfOk-weaker}
+use Rattle.std.proofs.Common.{◌≡◌, ◌∙◌, ap, subst, sym, IfOk}
+use Rattle.plain_values.proofs.Common.{IfOk-weaker}
 use Rattle.plain_values.specs.SortedSet as set
 use Rattle.lens_specs.specs.Common.{names, sort_of, rename_put, Relation, renamed_columns, IsOfSort}
 use Rattle.whole_put.proofs.Lenses.{over, renamed_is_of_sort, source_renamed}

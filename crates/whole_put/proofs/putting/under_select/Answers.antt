@@ -1,6 +1,5 @@
-use Rattle.std.proofs.Common.{◌≡◌, ◌∙◌, ap, subst, sym}
-use Rattle.std.specs.Prelude.{IfOk}
-use Rattle.std.proofs.lemmas.Result.{IfOk-weaker}
+use Rattle.std.proofs.Common.{◌≡◌, ◌∙◌, ap, subst, sym, IfOk}
+use Rattle.plain_values.proofs.Common.{IfOk-weaker}
 use Rattle.lens_specs.specs.Common.{sort_of, select_put, holds, Relation, IsOfSort}
 use Rattle.whole_put.proofs.Lenses.{over, selected_is_of_sort, source_selected, under_selected}
 use Rattle.whole_put.proofs.putting.under_select.Goals as goal

@@ -1,5 +1,5 @@
 use Rattle.std.proofs.Common.{◌∙◌, ap, sym}
-use Rattle.fd_laws.proofs.Columns.{no_kind}
+use Rattle.fd_laws.proofs.Common.{no_kind}
 use Rattle.lens_specs.specs.Common.{names, rename_get, image, renamed_row, renamed_columns}
 use Rattle.plain_values.specs.SortedSet as set
 use Rattle.whole_put.proofs.Renames.{fits_over, shown_fits}

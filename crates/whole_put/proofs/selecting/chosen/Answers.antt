@@ -1,9 +1,5 @@
 use Rattle.std.proofs.Common.{◌∙◌, sym, ap, subst, filter}
-use Rattle.std.specs.List.Sorted.{IsStrictlySortedBy}
-use Rattle.std.proofs.lemmas.List.Kept.{IsStrictlySortedBy-filter}
-use Rattle.plain_values.specs.Row.{row_cmp}
-use Rattle.plain_values.specs.RowOrder.{row_cmp_total, row_cmp-IsAntisymmetric}
-use Rattle.plain_values.specs.SortedMap.{keys_rise}
+use Rattle.plain_values.proofs.Common.{IsStrictlySortedBy, IsStrictlySortedBy-filter, row_cmp, row_cmp_total, row_cmp-IsAntisymmetric, keys_rise}
 use Rattle.plain_values.specs.SortedSet as set
 use Rattle.whole_put.specs.Shows.{is_shown}
 use Rattle.whole_put.proofs.selecting.chosen.Goals as goal

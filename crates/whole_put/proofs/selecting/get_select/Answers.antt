@@ -1,4 +1,4 @@
-use Rattle.lens_specs.specs.Nodes.{select_get}
+use Rattle.lens_specs.specs.Common.{select_get}
 use Rattle.whole_put.proofs.selecting.get_select.Goals as goal
 
 pub returns : goal.returns

@@ -1,5 +1,5 @@
 use Rattle.std.proofs.Common.{◌≡◌, ◌∙◌, false, [], ap, sym}
-use Rattle.lens_specs.specs.Relation.{those}
+use Rattle.lens_specs.specs.Common.{those}
 use Rattle.lens_specs.specs.Revision as spec
 use Rattle.whole_put.specs.Shows.{is_shown}
 use Rattle.whole_put.proofs.Selections.{all_kept, no_edges, revise_none}

@@ -1,5 +1,5 @@
 use Rattle.std.proofs.Common.{◌∙◌, ap, subst, sym}
-use Rattle.fd_laws.proofs.Relations.{from_those}
+use Rattle.fd_laws.proofs.Common.{from_those}
 use Rattle.plain_values.specs.SortedSet as set
 use Rattle.lens_specs.specs.Common.{Fits, those}
 use Rattle.whole_put.specs.Shows.{is_shown}

@@ -1,9 +1,7 @@
-use Rattle.std.proofs.Common.{◌≡◌, ◌∙◌, false, ap, sym, subst}
-use Rattle.std.specs.Prelude.{IfOk, true}
-use Rattle.std.proofs.lemmas.Result.{IfOk-weaker}
-use Rattle.fd_laws.proofs.Relations.{from_those}
+use Rattle.std.proofs.Common.{◌≡◌, ◌∙◌, false, ap, sym, subst, IfOk, true}
+use Rattle.plain_values.proofs.Common.{IfOk-weaker, Row}
+use Rattle.fd_laws.proofs.Common.{from_those}
 use Rattle.plain_values.specs.SortedSet as set
-use Rattle.plain_values.specs.Row.{Row}
 use Rattle.lens_specs.specs.Common.{MeetsTree, select_get, holds, has, those}
 use Rattle.lens_specs.specs.Revision as spec
 use Rattle.whole_put.specs.Shows.{is_shown}

@@ -1,9 +1,7 @@
-use Rattle.std.proofs.Common.{◌≡◌, ◌∙◌, ap, subst, sym}
-use Rattle.std.specs.Prelude.{IfOk}
-use Rattle.lens_specs.specs.Common.{base, select, drop, rename, view, names, Relation}
-use Rattle.lens_specs.specs.Lens.{join}
+use Rattle.std.proofs.Common.{◌≡◌, ◌∙◌, ap, subst, sym, IfOk}
+use Rattle.lens_specs.specs.Common.{base, select, drop, rename, view, names, Relation, join}
 use Rattle.plain_values.specs.SortedSet as set
-use Rattle.lens_laws.specs.Lenses.{IsTyped}
+use Rattle.lens_laws.proofs.Common.{IsTyped}
 use Rattle.whole_put.specs.Sources.{AreShown}
 use Rattle.whole_put.proofs.JoinedLenses.{shown_alike, shown_joined}
 use Rattle.whole_put.proofs.Lenses.{shown_dropped, shown_renamed, shown_selected, shown_table}

@@ -1,5 +1,5 @@
 use Rattle.std.proofs.Common.{◌++◌, ◌∷◌, [], ap, sym, ◌∙◌, subst}
-use Rattle.key_index.specs.Lists.{IsTableOf}
+use Rattle.key_index.proofs.Common.{IsTableOf}
 use Rattle.base_index.specs.Parts.{IsWhole, parts_of, rows_held, rows_next, rows_seen}
 use Rattle.base_index.proofs.Bodies.{either_ways, kept_itself, on_both}
 use Rattle.base_index.proofs.Staging.{back_next, back_whole, not_there, reindexed, row_held, row_next, row_seen, row_whole}

@@ -1,11 +1,12 @@
 use Rattle.std.proofs.Common.{ap, sym, ◌∙◌, subst, arith}
 use Rattle.plain_values.specs.SortedSet as set
-use Rattle.lens_specs.specs.Relation.{Fits, has}
+use Rattle.lens_specs.specs.Common.{has}
+use Rattle.lens_specs.specs.Relation.{Fits}
 use Rattle.base_index.specs.Parts.{parts_of, rows_next}
-use Rattle.key_index.proofs.Adding.{in_list_at, none_more, one_more}
+use Rattle.key_index.proofs.Common.{in_list_at, contained}
+use Rattle.key_index.proofs.Adding.{none_more, one_more}
 use Rattle.base_index.proofs.Bodies.{kept_itself, kept_twice}
 use Rattle.key_index.proofs.Fronts.{not_before}
-use Rattle.key_index.proofs.RowSets.{contained}
 use Rattle.base_index.proofs.body.Body.add_each.Goals as goal
 
 pub loop-row-init : goal.loop-row-init

@@ -1,6 +1,6 @@
 use Rattle.std.proofs.Common.{◌≡◌, take}
 use Rattle.plain_values.specs.SortedSet as set
-use Rattle.key_index.specs.Lists.{set_of}
+use Rattle.key_index.proofs.Common.{set_of}
 use Rattle.base_index.specs.Parts.{IsWhole, Keeps, parts_of, rows_next}
 use Rattle.base_index.proofs.body.Body.add_each.Given as goal
 

@@ -1,9 +1,7 @@
 use Rattle.std.proofs.Common.{◌≡◌, ◌++◌, ap, sym, ◌∙◌, subst}
-use Rattle.key_index.specs.Lists.{AreKeyed, IsTableOf, SameCols, rows_of, set_of}
+use Rattle.key_index.proofs.Common.{AreKeyed, IsTableOf, SameCols, rows_of, set_of, same_itself, listed_whole}
 use Rattle.base_index.specs.Parts.{IsWhole, parts_of, rows_held, rows_next, rows_seen}
 use Rattle.base_index.proofs.Bodies.{kept_itself}
-use Rattle.key_index.proofs.Lists.{same_itself}
-use Rattle.key_index.proofs.Sets.{listed_whole}
 use Rattle.base_index.proofs.Staging.{first_held, first_next, first_seen, first_whole}
 use Rattle.base_index.proofs.body.Body.add_first.Goals as goal
 

@@ -1,9 +1,8 @@
 use Rattle.std.proofs.Common.{◌≤◌, ◌+◌, ap, ◌∙◌, subst}
-use Rattle.key_index.specs.Lists.{cols_of}
+use Rattle.key_index.proofs.Common.{cols_of, on_ok}
 use Rattle.base_index.specs.Need.{rows_walked}
 use Rattle.base_index.specs.Parts.{parts_of}
 use Rattle.base_index.proofs.Bodies.{calm_seen, more_whole}
-use Rattle.key_index.proofs.Groups.{on_ok}
 use Rattle.base_index.proofs.body.Body.add_indexes.Goals as goal
 
 pub returns-clause-whole : goal.returns-clause-whole

@@ -1,10 +1,8 @@
-use Rattle.std.proofs.Common.{◌≡◌, sym, ◌∙◌, subst, rules}
-use Rattle.std.specs.Prelude.{IfOk, length}
+use Rattle.std.proofs.Common.{◌≡◌, sym, ◌∙◌, subst, rules, IfOk, length}
 use Rattle.plain_values.specs.SortedSet as set
-use Rattle.key_index.specs.Lists.{rows_of}
+use Rattle.key_index.proofs.Common.{rows_of, slice_behind}
 use Rattle.base_index.specs.Parts.{parts_of, to_come, to_go}
 use Rattle.base_index.proofs.Bodies.{none_hidden}
-use Rattle.key_index.proofs.Fronts.{slice_behind}
 use Rattle.base_index.proofs.body.Body.all_rows.Goals as goal
 
 pub returns-then-count-eq0 : goal.returns-then-count-eq0

@@ -1,13 +1,11 @@
-use Rattle.std.proofs.Common.{◌≡◌, ap, sym, ◌∙◌, subst, rules, true, false}
-use Rattle.std.specs.Prelude.{IfOk}
+use Rattle.std.proofs.Common.{◌≡◌, ap, sym, ◌∙◌, subst, rules, true, false, IfOk}
 use Rattle.plain_values.specs.SortedSet as set
 use Rattle.key_index.specs.Index.{has_key}
 use Rattle.key_index.specs.Key.{hash_key, key_of}
-use Rattle.key_index.specs.Lists.{IsTableOf, cols_of, rows_of}
+use Rattle.key_index.proofs.Common.{IsTableOf, cols_of, rows_of, slice_behind}
 use Rattle.key_index.specs.Marks.{is_marked}
 use Rattle.base_index.specs.Need.{has_cols}
 use Rattle.base_index.specs.Parts.{parts_of, rows_seen, to_come, to_go}
-use Rattle.key_index.proofs.Fronts.{slice_behind}
 use Rattle.key_index.proofs.Keys.{agreeing_rows}
 use Rattle.key_index.proofs.Marked.{all_shown_there}
 use Rattle.key_index.proofs.Views.{filter_less}

@@ -1,5 +1,5 @@
 use Rattle.std.proofs.Common.{arith}
-use Rattle.key_index.proofs.RowSets.{contained}
+use Rattle.key_index.proofs.Common.{contained}
 use Rattle.base_index.proofs.body.Body.has.Goals as goal
 
 pub returns-then-is_there : goal.returns-then-is_there

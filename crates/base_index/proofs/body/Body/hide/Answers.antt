@@ -1,11 +1,10 @@
 use Rattle.std.proofs.Common.{◌≡◌, ◌++◌, ◌∷◌, [], ap, sym, ◌∙◌, subst, rules, true}
 use Rattle.plain_values.specs.SortedSet as set
-use Rattle.lens_specs.specs.Relation.{has}
-use Rattle.key_index.specs.Lists.{HasKeys}
+use Rattle.lens_specs.specs.Common.{has}
+use Rattle.key_index.proofs.Common.{HasKeys, same_itself}
 use Rattle.base_index.specs.Parts.{IsWhole, parts_of, rows_next, rows_seen}
 use Rattle.base_index.proofs.Bodies.{kept_itself}
 use Rattle.base_index.proofs.Staging.{going_next, going_seen, going_whole, marked_more}
-use Rattle.key_index.proofs.Lists.{same_itself}
 use Rattle.base_index.proofs.body.Body.hide.Goals as goal
 
 pub returns-clause-whole : goal.returns-clause-whole

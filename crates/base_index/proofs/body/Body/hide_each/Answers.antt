@@ -1,10 +1,9 @@
 use Rattle.std.proofs.Common.{ap, sym, ◌∙◌}
 use Rattle.plain_values.specs.SortedSet as set
-use Rattle.lens_specs.specs.Relation.{has}
+use Rattle.lens_specs.specs.Common.{has}
 use Rattle.base_index.specs.Parts.{parts_of, rows_next}
-use Rattle.key_index.proofs.Adding.{in_list_at}
+use Rattle.key_index.proofs.Common.{in_list_at, no_row_less, one_more_less}
 use Rattle.base_index.proofs.Bodies.{kept_itself, kept_twice}
-use Rattle.key_index.proofs.Fronts.{no_row_less, one_more_less}
 use Rattle.base_index.proofs.body.Body.hide_each.Goals as goal
 
 pub loop-row-init : goal.loop-row-init

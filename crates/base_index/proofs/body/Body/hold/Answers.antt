@@ -1,5 +1,4 @@
-use Rattle.std.proofs.Common.{ap, ◌∙◌}
-use Rattle.std.specs.Prelude.{Some}
+use Rattle.std.proofs.Common.{ap, ◌∙◌, Some}
 use Rattle.base_index.specs.Parts.{parts_of}
 use Rattle.base_index.proofs.Settled.{holding_held}
 use Rattle.base_index.proofs.Settled.{holding_whole}

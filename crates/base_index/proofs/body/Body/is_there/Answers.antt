@@ -1,8 +1,6 @@
 use Rattle.std.proofs.Common.{ap, ◌∙◌, arith}
 use Rattle.plain_values.specs.SortedSet as set
-use Rattle.key_index.specs.Lists.{rows_of}
-use Rattle.key_index.proofs.Fronts.{slice_behind}
-use Rattle.key_index.proofs.RowSets.{contained}
+use Rattle.key_index.proofs.Common.{rows_of, slice_behind, contained}
 use Rattle.base_index.proofs.body.Body.is_there.Goals as goal
 
 pub returns-then-has : goal.returns-then-has

@@ -2,7 +2,7 @@ use Rattle.std.proofs.Common.{ap, sym, ◌∙◌, subst}
 use Rattle.base_index.specs.Parts.{IsWhole, parts_of, rows_next, rows_seen}
 use Rattle.base_index.proofs.Bodies.{calm_next}
 use Rattle.base_index.proofs.Settled.{keeping, keeping_calm, keeping_seen, keeping_whole}
-use Rattle.key_index.proofs.Lists.{same_trans}
+use Rattle.key_index.proofs.Common.{same_trans}
 use Rattle.base_index.proofs.body.Body.keep.Goals as goal
 
 pub returns-clause-whole : goal.returns-clause-whole

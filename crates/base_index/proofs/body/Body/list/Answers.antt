@@ -2,7 +2,7 @@ use Rattle.std.proofs.Common.{ap, sym, ◌∙◌, subst}
 use Rattle.lens_specs.specs.Common.{Applies, new_view, Fits}
 use Rattle.base_index.specs.Parts.{IsWhole, Keeps, parts_of, rows_next, rows_seen}
 use Rattle.base_index.proofs.Bodies.{kept_itself}
-use Rattle.key_index.proofs.Groups.{on_ok}
+use Rattle.key_index.proofs.Common.{on_ok}
 use Rattle.base_index.proofs.body.Body.list.Goals as goal
 
 pub list_rows-requires-clause-whole : goal.list_rows-requires-clause-whole

@@ -1,15 +1,12 @@
 use Rattle.std.proofs.Common.{◌≡◌, ap, sym, ◌∙◌, subst, arith}
-use Rattle.std.specs.List.Sorted.{IsStrictlySortedBy}
-use Rattle.plain_values.specs.Row.{row_cmp}
+use Rattle.plain_values.proofs.Common.{IsStrictlySortedBy, row_cmp}
 use Rattle.plain_values.specs.SortedSet as set
-use Rattle.lens_specs.specs.Relation.{Fits, has}
+use Rattle.lens_specs.specs.Common.{has}
+use Rattle.lens_specs.specs.Relation.{Fits}
 use Rattle.signed_delta.proofs.Differences.{items_rise}
-use Rattle.key_index.specs.Lists.{set_of}
+use Rattle.key_index.proofs.Common.{set_of, on_ok, contained, listed_whole}
 use Rattle.base_index.specs.Parts.{parts_of, rows_seen}
 use Rattle.base_index.proofs.Bodies.{changed_next, kept_twice}
-use Rattle.key_index.proofs.Groups.{on_ok}
-use Rattle.key_index.proofs.RowSets.{contained}
-use Rattle.key_index.proofs.Sets.{listed_whole}
 use Rattle.base_index.proofs.body.Body.list_rows.Goals as goal
 
 pub hide_each-requires-clause-seen : goal.hide_each-requires-clause-seen

@@ -1,6 +1,6 @@
 use Rattle.std.proofs.Common.{◌≡◌, length, ap, sym, ◌∙◌, subst, rules}
 use Rattle.plain_values.specs.SortedSet as set
-use Rattle.key_index.specs.Lists.{set_of}
+use Rattle.key_index.proofs.Common.{set_of}
 use Rattle.base_index.specs.Parts.{IsWhole, parts_of, rows_next, rows_seen}
 use Rattle.base_index.proofs.Bodies.{calm_next}
 use Rattle.base_index.proofs.Settled.{marked, marked_calm, marked_seen, marked_whole}

@@ -1,9 +1,8 @@
 use Rattle.std.proofs.Common.{ap, arith}
-use Rattle.std.proofs.lemmas.Bool.{false≢true}
-use Rattle.lens_specs.specs.Relation.{has}
-use Rattle.key_index.proofs.Fronts.{none_behind, none_back_of}
-use Rattle.key_index.proofs.RowSets.{contained, same_rows}
-use Rattle.key_index.proofs.Whole.{no_indexes, none_keyed}
+use Rattle.plain_values.proofs.Common.{false≢true}
+use Rattle.lens_specs.specs.Common.{has}
+use Rattle.key_index.proofs.Common.{none_behind, none_back_of, contained, same_rows, none_keyed}
+use Rattle.key_index.proofs.Whole.{no_indexes}
 use Rattle.base_index.proofs.body.Body.new.Goals as goal
 
 pub returns-clause-body : goal.returns-clause-body

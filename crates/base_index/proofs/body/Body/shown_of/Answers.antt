@@ -1,7 +1,6 @@
-use Rattle.std.proofs.Common.{◌∙◌}
-use Rattle.std.specs.Prelude.{not}
+use Rattle.std.proofs.Common.{◌∙◌, not}
 use Rattle.plain_values.specs.SortedSet as set
-use Rattle.lens_specs.specs.Relation.{has}
+use Rattle.lens_specs.specs.Common.{has}
 use Rattle.signed_delta.proofs.Looks.{missing_are, passed_are, passed_rise}
 use Rattle.base_index.specs.Parts.{parts_of, to_go}
 use Rattle.base_index.proofs.body.Body.shown_of.Goals as goal

@@ -1,7 +1,6 @@
-use Rattle.std.proofs.Common.{◌≡◌, take}
-use Rattle.std.specs.Prelude.{filter, not}
+use Rattle.std.proofs.Common.{◌≡◌, take, filter, not}
 use Rattle.plain_values.specs.SortedSet as set
-use Rattle.lens_specs.specs.Relation.{has}
+use Rattle.lens_specs.specs.Common.{has}
 use Rattle.base_index.specs.Parts.{parts_of, to_go}
 use Rattle.base_index.proofs.body.Body.shown_of.Given as goal
 

@@ -1,11 +1,10 @@
-use Rattle.std.proofs.Common.{ap, sym, ◌∙◌, take, arith}
-use Rattle.std.specs.Prelude.{None}
-use Rattle.std.proofs.lemmas.Bool.{false≢true}
-use Rattle.lens_specs.specs.Relation.{Rows}
+use Rattle.std.proofs.Common.{ap, sym, ◌∙◌, take, arith, None}
+use Rattle.plain_values.proofs.Common.{false≢true}
+use Rattle.lens_specs.specs.Common.{Rows}
 use Rattle.base_index.specs.Parts.{parts_of}
 use Rattle.base_index.specs.Stored.{Stored}
 use Rattle.base_index.proofs.Bodies.{held_rows, not_held}
-use Rattle.key_index.proofs.Views.{same_cols}
+use Rattle.key_index.proofs.Common.{same_cols}
 use Rattle.base_index.proofs.table.Table.back.Goals as goal
 
 pub back-requires : goal.back-requires

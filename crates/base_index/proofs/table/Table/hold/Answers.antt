@@ -1,10 +1,9 @@
-use Rattle.std.proofs.Common.{ap, sym, ◌∙◌, take, length, arith}
-use Rattle.std.specs.Prelude.{Some}
+use Rattle.std.proofs.Common.{ap, sym, ◌∙◌, take, length, arith, Some}
 use Rattle.plain_values.specs.SortedSet as set
 use Rattle.base_index.specs.Parts.{parts_of}
 use Rattle.base_index.specs.Stored.{Stored}
 use Rattle.base_index.proofs.Bodies.{all_shown, free_is}
-use Rattle.key_index.proofs.Views.{same_cols}
+use Rattle.key_index.proofs.Common.{same_cols}
 use Rattle.base_index.proofs.table.Table.hold.Goals as goal
 
 pub hold-requires-clause-whole : goal.hold-requires-clause-whole

@@ -1,11 +1,10 @@
-use Rattle.std.proofs.Common.{ap, sym, ◌∙◌, take, length, arith}
-use Rattle.std.specs.Prelude.{None}
-use Rattle.std.proofs.lemmas.Bool.{false≢true}
+use Rattle.std.proofs.Common.{ap, sym, ◌∙◌, take, length, arith, None}
+use Rattle.plain_values.proofs.Common.{false≢true}
 use Rattle.plain_values.specs.SortedSet as set
 use Rattle.base_index.specs.Parts.{parts_of}
 use Rattle.base_index.specs.Stored.{Stored}
 use Rattle.base_index.proofs.Bodies.{not_held}
-use Rattle.key_index.proofs.Views.{same_cols}
+use Rattle.key_index.proofs.Common.{same_cols}
 use Rattle.base_index.proofs.table.Table.keep.Goals as goal
 
 pub keep-requires : goal.keep-requires

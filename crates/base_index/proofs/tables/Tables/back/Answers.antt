@@ -1,7 +1,5 @@
-use Rattle.std.proofs.Common.{◌≡◌, length, map, take, ap, sym, ◌∙◌, subst, refl, arith, true, false}
-use Rattle.std.proofs.lemmas.List.{length-map, take_all}
-use Rattle.std.specs.Prelude.{Option, Some, None, IsSome, is_some}
-use Rattle.std.proofs.lemmas.Bool.{false≢true}
+use Rattle.std.proofs.Common.{◌≡◌, length, map, take, ap, sym, ◌∙◌, subst, refl, arith, true, false, Option, Some, None, IsSome, is_some}
+use Rattle.plain_values.proofs.Common.{length-map, take_all, false≢true}
 use Rattle.base_index.specs.HeldFields.{held_in, next_in, present_in}
 use Rattle.base_index.specs.Several.{AreApart, AreHeld, names_of, taken_back}
 use Rattle.base_index.proofs.Fields.{front_count, unstaged_apart}

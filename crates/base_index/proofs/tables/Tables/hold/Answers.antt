@@ -1,6 +1,5 @@
-use Rattle.std.proofs.Common.{◌≡◌, length, map, take, ap, sym, ◌∙◌, subst, arith, true, false}
-use Rattle.std.proofs.lemmas.List.{length-map, take_all}
-use Rattle.std.specs.Prelude.{Some}
+use Rattle.std.proofs.Common.{◌≡◌, length, map, take, ap, sym, ◌∙◌, subst, arith, true, false, Some}
+use Rattle.plain_values.proofs.Common.{length-map, take_all}
 use Rattle.base_index.specs.Held.{Held}
 use Rattle.base_index.specs.HeldFields.{held_in, next_in, present_in}
 use Rattle.base_index.specs.Several.{AreApart, AreHeld, AreIndexed, AreQuiet, holding, names_of}

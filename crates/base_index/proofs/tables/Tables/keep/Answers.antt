@@ -1,7 +1,5 @@
-use Rattle.std.proofs.Common.{◌≡◌, length, take, ap, sym, ◌∙◌, subst, arith, false}
-use Rattle.std.proofs.lemmas.List.{length-map, take_all}
-use Rattle.std.specs.Prelude.{None}
-use Rattle.std.proofs.lemmas.Bool.{false≢true}
+use Rattle.std.proofs.Common.{◌≡◌, length, take, ap, sym, ◌∙◌, subst, arith, false, None}
+use Rattle.plain_values.proofs.Common.{length-map, take_all, false≢true}
 use Rattle.base_index.specs.Held.{Held}
 use Rattle.base_index.specs.HeldFields.{next_in, present_in}
 use Rattle.base_index.specs.Several.{AreApart, AreHeld, AreQuiet, kept, names_of}

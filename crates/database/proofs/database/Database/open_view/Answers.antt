@@ -1,6 +1,6 @@
 use Rattle.std.proofs.Common.{ap, subst, sym}
 use Rattle.lens_laws.proofs.Work.{fan_bounds}
-use Rattle.lens_laws.specs.Work.{fan}
+use Rattle.lens_laws.proofs.Common.{fan}
 use Rattle.lens_probe.specs.Viewed.{FindsAtMost, Viewed}
 use Rattle.database.proofs.Keyed.{open_lens}
 use Rattle.database.specs.Keyed.{IsOpen}

@@ -1,5 +1,5 @@
 use Rattle.std.proofs.Common.{◌++◌, ◌∷◌, [], None, cond, length, map, nat_lt, slice_get, ap, ◌∙◌}
-use Rattle.std.specs.Option.{option_map}
+use Rattle.plain_values.proofs.Common.{option_map}
 use Rattle.circular_buffer.specs.Buffer.{keep_last}
 use Rattle.edit_batches.specs.Histories.{deltas_of}
 use Rattle.edit_batches.proofs.Lists.{first_mapped, last_mapped}

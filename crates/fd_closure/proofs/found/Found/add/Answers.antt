@@ -1,6 +1,6 @@
 use Rattle.std.proofs.Common.{◌≡◌, ◌∙◌, sym, ap, subst, false}
-use Rattle.std.proofs.lemmas.Bool.{not-true}
-use Rattle.lens_specs.specs.Names.{is_among}
+use Rattle.plain_values.proofs.Common.{not-true}
+use Rattle.lens_specs.specs.Common.{is_among}
 use Rattle.fd_closure.specs.Arrival.{IsOnce}
 use Rattle.fd_closure.proofs.Arrivals.{tree_push, once_push}
 use Rattle.fd_closure.proofs.found.Found.add.Goals as goal

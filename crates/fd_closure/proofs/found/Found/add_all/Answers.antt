@@ -1,5 +1,5 @@
 use Rattle.std.proofs.Common.{◌∙◌, ap, length, take}
-use Rattle.lens_specs.specs.Names.{is_among}
+use Rattle.lens_specs.specs.Common.{is_among}
 use Rattle.fd_closure.proofs.Arrivals.{front_with, members_more}
 use Rattle.fd_closure.proofs.found.Found.add_all.Goals as goal
 

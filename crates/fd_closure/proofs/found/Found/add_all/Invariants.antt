@@ -1,6 +1,5 @@
-use Rattle.std.proofs.Common.{◌≡◌, length, take}
-use Rattle.std.specs.Prelude.{◌||◌}
-use Rattle.lens_specs.specs.Names.{Name, is_among}
+use Rattle.std.proofs.Common.{◌≡◌, length, take, ◌||◌}
+use Rattle.lens_specs.specs.Common.{Name, is_among}
 use Rattle.fd_closure.specs.Arrival.{IsKept}
 use Rattle.fd_closure.proofs.found.Found.add_all.Given as goal
 

@@ -1,6 +1,5 @@
 use Rattle.std.proofs.Common.{◌∙◌, ap}
-use Rattle.lens_specs.specs.Common.{edge, renamed_names}
-use Rattle.lens_specs.specs.Rename.{renamed_edge}
+use Rattle.lens_specs.specs.Common.{edge, renamed_names, renamed_edge}
 use Rattle.fd_tree.proofs.edge.Edge.rename.Goals as goal
 
 pub returns : goal.returns

@@ -1,5 +1,4 @@
-use Rattle.std.proofs.Common.{◌≡◌, ◌∙◌, ap, sym, subst}
-use Rattle.std.specs.Prelude.{IfOk}
+use Rattle.std.proofs.Common.{◌≡◌, ◌∙◌, ap, sym, subst, IfOk}
 use Rattle.lens_specs.specs.Common.{AllEdges, closure, Names, with_right}
 use Rattle.fd_tree.specs.Sides.{HasLeft}
 use Rattle.fd_tree.proofs.Closing.{closure_full}

@@ -1,6 +1,6 @@
 use Rattle.std.proofs.Common.{◌≡◌, ◌∙◌, ap, sym, subst}
 use Rattle.lens_specs.specs.Common.{AllEdges, renamed_tree, outputs}
-use Rattle.fd_laws.specs.Trees.{IsTree}
+use Rattle.fd_laws.proofs.Common.{IsTree}
 use Rattle.fd_tree.specs.Sides.{HasLeft}
 use Rattle.fd_tree.proofs.Renamed.{Lacks, tree_renamed, lefts_renamed}
 use Rattle.fd_tree.proofs.tree.Tree.rename.Goals as goal

@@ -1,7 +1,6 @@
-use Rattle.std.proofs.Common.{[], ap, ◌∙◌}
-use Rattle.std.specs.Prelude.{is_some}
+use Rattle.std.proofs.Common.{[], ap, ◌∙◌, is_some}
 use Rattle.std.specs.FinMap as finmap
-use Rattle.plain_values.specs.Order.{bytes_cmp}
+use Rattle.plain_values.proofs.Common.{bytes_cmp}
 use Rattle.base_index.proofs.Known.{there_new}
 use Rattle.index_tests.proofs.Holding.{there_never}
 use Rattle.index_tests.proofs.trial.Trial.new.Goals as goal

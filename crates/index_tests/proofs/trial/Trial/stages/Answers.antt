@@ -1,7 +1,6 @@
-use Rattle.std.proofs.Common.{[], ◌∷◌, ap, sym, ◌∙◌, subst, refl}
-use Rattle.std.specs.Prelude.{is_some}
+use Rattle.std.proofs.Common.{[], ◌∷◌, ap, sym, ◌∙◌, subst, refl, is_some}
 use Rattle.std.specs.FinMap as finmap
-use Rattle.lens_specs.specs.Delta.{AppliesTo}
+use Rattle.lens_specs.specs.Common.{AppliesTo}
 use Rattle.signed_delta.proofs.Differences.{diff_applies_to}
 use Rattle.base_index.specs.Held.{relation_in}
 use Rattle.base_index.proofs.Known.{there_after}

@@ -1,5 +1,5 @@
 use Rattle.std.proofs.Common.{[], ◌∷◌, true, false, refl, subst, sym}
-use Rattle.std.proofs.lemmas.Result.{on_ok_weaker}
+use Rattle.plain_values.proofs.Common.{on_ok_weaker}
 use Rattle.json.specs.Token.{boolean}
 use Rattle.json_text.specs.Written.{Adds}
 use Rattle.json_text.proofs.Tokens.{token_begun}

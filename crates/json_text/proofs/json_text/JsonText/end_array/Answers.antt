@@ -1,5 +1,5 @@
 use Rattle.std.proofs.Common.{refl}
-use Rattle.std.proofs.lemmas.Result.{on_ok_weaker}
+use Rattle.plain_values.proofs.Common.{on_ok_weaker}
 use Rattle.json.specs.Token as token
 use Rattle.json_text.proofs.Tokens.{token_ended}
 use Rattle.json_text.proofs.json_text.JsonText.end_array.Goals as goal

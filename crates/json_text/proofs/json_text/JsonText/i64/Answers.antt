@@ -1,6 +1,5 @@
 use Rattle.std.proofs.Common.{◌≡◌, ◌++◌, true, refl, rules, subst}
-use Rattle.std.specs.Fmt.{signed_decimal}
-use Rattle.std.proofs.lemmas.Result.{on_ok_weaker}
+use Rattle.plain_values.proofs.Common.{signed_decimal, on_ok_weaker}
 use Rattle.json.specs.Token.{number}
 use Rattle.json_text.specs.Written.{AddsBytes, comma}
 use Rattle.json_text.proofs.Tokens.{token_begun}

@@ -1,5 +1,5 @@
 use Rattle.std.proofs.Common.{◌≡◌, ◌∙◌, [], ◌∷◌, ◌++◌, ap, arith, rules, append-nil}
-use Rattle.std.proofs.lemmas.Grind.{common_steps}
+use Rattle.plain_values.proofs.Common.{common_steps}
 use Rattle.json.specs.Print.{print, quoted}
 use Rattle.json.specs.Token.{string}
 use Rattle.json_text.proofs.Tokens.{print_string}

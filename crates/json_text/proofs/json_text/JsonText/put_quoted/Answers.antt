@@ -1,5 +1,5 @@
 use Rattle.std.proofs.Common.{◌∙◌, ap, sym}
-use Rattle.std.specs.List.{list_all}
+use Rattle.plain_values.proofs.Common.{list_all}
 use Rattle.json.specs.Run.{is_plain}
 use Rattle.json_text.proofs.Escapes.{escape_plain}
 use Rattle.json_text.proofs.json_text.JsonText.put_quoted.Goals as goal

@@ -1,6 +1,5 @@
-use Rattle.std.proofs.Common.{◌++◌, true, refl, subst}
-use Rattle.std.specs.Prelude.{decimal}
-use Rattle.std.proofs.lemmas.Result.{on_ok_weaker}
+use Rattle.std.proofs.Common.{◌++◌, true, refl, subst, decimal}
+use Rattle.plain_values.proofs.Common.{on_ok_weaker}
 use Rattle.json.specs.Token.{number}
 use Rattle.json_text.specs.Written.{AddsBytes, comma}
 use Rattle.json_text.proofs.Tokens.{token_begun}

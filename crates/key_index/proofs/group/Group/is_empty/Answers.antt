@@ -1,5 +1,4 @@
-use Rattle.std.proofs.Common.{ap, sym, ◌∙◌, length, ⊎_elim}
-use Rattle.std.specs.Prelude.{◌==◌}
+use Rattle.std.proofs.Common.{ap, sym, ◌∙◌, length, ⊎_elim, ◌==◌}
 use Rattle.plain_values.specs.SortedSet as set
 use Rattle.key_index.specs.Group.{rows_in, singleton}
 use Rattle.key_index.proofs.Members.{none_empty, not_empty}

@@ -1,5 +1,4 @@
-use Rattle.std.proofs.Common.{ap, sym, ◌∙◌, rules}
-use Rattle.std.specs.Prelude.{unwrap_or}
+use Rattle.std.proofs.Common.{ap, sym, ◌∙◌, rules, unwrap_or}
 use Rattle.plain_values.specs.SortedSet as set
 use Rattle.key_index.proofs.Members.{is_zero}
 use Rattle.key_index.proofs.Groups.{rows_at, through, nothing_taken, taken_empty}

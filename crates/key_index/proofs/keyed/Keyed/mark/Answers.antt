@@ -1,5 +1,4 @@
-use Rattle.std.proofs.Common.{◌≡◌, ◌<◌, ap, sym, ◌∙◌, length, arith, true}
-use Rattle.std.specs.Prelude.{slice_index_or}
+use Rattle.std.proofs.Common.{◌≡◌, ◌<◌, ap, sym, ◌∙◌, length, arith, true, slice_index_or}
 use Rattle.key_index.specs.Key.{hash_key}
 use Rattle.key_index.specs.Marks.{is_marked}
 use Rattle.key_index.proofs.Lists.{inside}

@@ -1,5 +1,4 @@
-use Rattle.std.proofs.Common.{◌≡◌, ◌<◌, ℕ, true}
-use Rattle.std.specs.Prelude.{slice_index_or}
+use Rattle.std.proofs.Common.{◌≡◌, ◌<◌, ℕ, true, slice_index_or}
 use Rattle.key_index.specs.Key.{Cells, hash_key}
 use Rattle.key_index.specs.Marks.{StayMarked, is_marked}
 use Rattle.key_index.proofs.keyed.Keyed.mark.Given as goal

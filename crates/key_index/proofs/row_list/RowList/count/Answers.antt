@@ -1,5 +1,5 @@
 use Rattle.std.proofs.Common.{ap, sym, ◌∙◌, length, rules, ◌≡◌}
-use Rattle.plain_values.specs.RowOrder.{row_cmp_total}
+use Rattle.plain_values.proofs.Common.{row_cmp_total}
 use Rattle.plain_values.specs.SortedSet as set
 use Rattle.key_index.proofs.row_list.RowList.count.Goals as goal
 

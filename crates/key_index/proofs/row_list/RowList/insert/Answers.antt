@@ -1,9 +1,5 @@
-use Rattle.std.proofs.Common.{◌≡◌, ◌++◌, ◌∷◌, [], ap, sym, ◌∙◌, subst}
-use Rattle.std.specs.Prelude.{is_ok, is_err, Ok, Err, Result, true, false, not}
-use Rattle.std.specs.List.{insert}
-use Rattle.std.specs.List.Sorted.{IsStrictlySortedBy}
-use Rattle.plain_values.specs.Row.{row_cmp}
-use Rattle.plain_values.specs.RowOrder.{row_cmp_total, row_cmp-IsAntisymmetric}
+use Rattle.std.proofs.Common.{◌≡◌, ◌++◌, ◌∷◌, [], ap, sym, ◌∙◌, subst, is_ok, is_err, Ok, Err, Result, true, false, not}
+use Rattle.plain_values.proofs.Common.{insert, IsStrictlySortedBy, row_cmp, row_cmp_total, row_cmp-IsAntisymmetric}
 use Rattle.plain_values.specs.SortedSet as set
 use Rattle.row_sets.specs.Members.{is_in}
 use Rattle.row_sets.proofs.Places.{searched, put_rises, put_at}

@@ -1,7 +1,6 @@
 use Rattle.std.proofs.Common.{ap, ◌∙◌}
-use Rattle.plain_values.specs.RowOrder.{row_cmp_total, row_cmp-IsAntisymmetric}
+use Rattle.plain_values.proofs.Common.{row_cmp_total, row_cmp-IsAntisymmetric, items_rise}
 use Rattle.plain_values.specs.SortedSet as set
-use Rattle.plain_values.proofs.Sets.{items_rise}
 use Rattle.key_index.proofs.row_list.RowList.of.Goals as goal
 
 pub invariant_of-result : goal.invariant_of-result

@@ -1,9 +1,5 @@
-use Rattle.std.proofs.Common.{◌≡◌, ap, sym, ◌∙◌, subst}
-use Rattle.std.specs.Prelude.{is_ok}
-use Rattle.std.specs.List.{remove}
-use Rattle.std.specs.List.Sorted.{IsStrictlySortedBy}
-use Rattle.plain_values.specs.Row.{row_cmp}
-use Rattle.plain_values.specs.RowOrder.{row_cmp_total}
+use Rattle.std.proofs.Common.{◌≡◌, ap, sym, ◌∙◌, subst, is_ok}
+use Rattle.plain_values.proofs.Common.{remove, IsStrictlySortedBy, row_cmp, row_cmp_total}
 use Rattle.plain_values.specs.SortedSet as set
 use Rattle.row_sets.specs.Members.{is_in}
 use Rattle.row_sets.proofs.Places.{searched}

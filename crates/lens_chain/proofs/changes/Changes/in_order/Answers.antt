@@ -1,7 +1,6 @@
 use Rattle.std.proofs.Common.{◌∙◌, ap, sym, map, ◌++◌}
-use Rattle.plain_values.specs.Order.{bytes_cmp}
-use Rattle.plain_values.specs.SortedMap.{entries-from_entries}
-use Rattle.fd_laws.proofs.Names.{name_total}
+use Rattle.plain_values.proofs.Common.{bytes_cmp, entries-from_entries}
+use Rattle.fd_laws.proofs.Common.{name_total}
 use Rattle.signed_delta.specs.Tables.{table_delta}
 use Rattle.lens_chain.specs.Changed.{in_order, of_entry}
 use Rattle.lens_chain.proofs.changes.Changes.in_order.Goals as goal

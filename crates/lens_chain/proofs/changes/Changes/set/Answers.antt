@@ -1,6 +1,6 @@
 use Rattle.std.proofs.Common.{◌∙◌, ap}
 use Rattle.std.specs.FinMap as finmap
-use Rattle.lens_laws.proofs.Entries.{updated}
+use Rattle.lens_laws.proofs.Common.{updated}
 use Rattle.lens_chain.proofs.changes.Changes.set.Goals as goal
 
 pub returns : goal.returns

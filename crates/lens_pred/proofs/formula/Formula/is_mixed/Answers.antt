@@ -1,9 +1,6 @@
-use Rattle.std.proofs.Common.{ap, sym, ◌∙◌}
-use Rattle.std.specs.Prelude.{is_some, not, ◌&&◌}
-use Rattle.std.specs.List.{list_any}
-use Rattle.std.specs.Ordering.{eq_by_cmp}
-use Rattle.plain_values.specs.Order.{bytes_cmp}
-use Rattle.lens_specs.specs.Predicate.{names_in}
+use Rattle.std.proofs.Common.{ap, sym, ◌∙◌, is_some, not, ◌&&◌}
+use Rattle.plain_values.proofs.Common.{list_any, eq_by_cmp, bytes_cmp}
+use Rattle.lens_specs.specs.Common.{names_in}
 use Rattle.lens_pred.specs.View.{formula_view}
 use Rattle.lens_pred.proofs.Conjuncts.{is_some-find}
 use Rattle.lens_pred.proofs.formula.Formula.is_mixed.Goals as goal

@@ -1,7 +1,6 @@
-use Rattle.std.proofs.Common.{ap, ◌∙◌}
-use Rattle.std.specs.Prelude.{is_some}
+use Rattle.std.proofs.Common.{ap, ◌∙◌, is_some}
 use Rattle.plain_values.specs.SortedSet as set
-use Rattle.lens_specs.specs.Predicate.{names_in}
+use Rattle.lens_specs.specs.Common.{names_in}
 use Rattle.lens_pred.specs.View.{formula_view}
 use Rattle.lens_pred.proofs.Conjuncts.{is_some-find}
 use Rattle.lens_pred.proofs.formula.Formula.mentions_one_of.Goals as goal

@@ -1,6 +1,5 @@
-use Rattle.std.proofs.Common.{sym, ap, ◌∙◌}
-use Rattle.std.specs.Prelude.{not}
-use Rattle.std.specs.Cmp.Lexicographic.{texts_ties}
+use Rattle.std.proofs.Common.{sym, ap, ◌∙◌, not}
+use Rattle.plain_values.proofs.Common.{texts_ties}
 use Rattle.lens_pred.specs.Sought.{passes}
 use Rattle.lens_pred.proofs.naming.Sought.passes.Goals as goal
 

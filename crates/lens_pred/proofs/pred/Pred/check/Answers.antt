@@ -1,5 +1,5 @@
 use Rattle.std.proofs.Common.{◌≡◌, Some, None, ap, sym, ◌∙◌}
-use Rattle.lens_specs.specs.Refusal.{unknown_name, unlike_all, unlike_kinds}
+use Rattle.lens_specs.specs.Common.{unknown_name, unlike_all, unlike_kinds}
 use Rattle.lens_pred.specs.Checked.{fault_first}
 use Rattle.lens_pred.specs.View.{list_view}
 use Rattle.lens_pred.proofs.Conjuncts.{unlike-list_view}

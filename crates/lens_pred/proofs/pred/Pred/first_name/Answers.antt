@@ -1,6 +1,5 @@
-use Rattle.std.proofs.Common.{ap, ◌∙◌}
-use Rattle.std.specs.Prelude.{find}
-use Rattle.lens_specs.specs.Predicate.{names_of_all}
+use Rattle.std.proofs.Common.{ap, ◌∙◌, find}
+use Rattle.lens_specs.specs.Common.{names_of_all}
 use Rattle.lens_pred.specs.Sought.{passes}
 use Rattle.lens_pred.specs.View.{list_view}
 use Rattle.lens_pred.proofs.Conjuncts.{names-list_view}

@@ -1,5 +1,5 @@
 use Rattle.std.proofs.Common.{ap, ◌∙◌}
-use Rattle.lens_specs.specs.Predicate.{all_hold}
+use Rattle.lens_specs.specs.Common.{all_hold}
 use Rattle.lens_pred.specs.View.{list_view}
 use Rattle.lens_pred.proofs.Conjuncts.{holds-list_view}
 use Rattle.lens_pred.proofs.pred.Pred.holds.Goals as goal

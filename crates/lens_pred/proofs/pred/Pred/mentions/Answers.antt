@@ -1,7 +1,7 @@
 use Rattle.std.proofs.Common.{◌≡◌, ◌++◌, ap, ◌∙◌}
-use Rattle.std.proofs.lemmas.Result.{IfOk-weaker}
+use Rattle.plain_values.proofs.Common.{IfOk-weaker}
 use Rattle.plain_values.specs.SortedSet as set
-use Rattle.lens_specs.specs.Predicate.{mentioned, names_of, names_of_all}
+use Rattle.lens_specs.specs.Common.{mentioned, names_of, names_of_all}
 use Rattle.lens_pred.specs.View.{list_view, predicate_view}
 use Rattle.lens_pred.proofs.Conjuncts.{names-list_view}
 use Rattle.lens_pred.proofs.pred.Pred.mentions.Goals as goal

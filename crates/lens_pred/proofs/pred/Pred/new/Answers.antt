@@ -1,5 +1,4 @@
-use Rattle.std.proofs.Common.{◌≡◌, None, ap, sym, ◌∙◌}
-use Rattle.std.specs.Prelude.{not, position}
+use Rattle.std.proofs.Common.{◌≡◌, None, ap, sym, ◌∙◌, not, position}
 use Rattle.lens_pred.specs.NormalForm.{first_not_normal, is_conjunct}
 use Rattle.lens_pred.specs.View.{formula_view, predicate_view}
 use Rattle.lens_pred.proofs.Conjuncts.{all_in, position-map}

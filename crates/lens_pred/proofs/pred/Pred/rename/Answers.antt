@@ -1,7 +1,6 @@
-use Rattle.std.proofs.Common.{◌≡◌, ◌++◌, ap, sym, subst, ◌∙◌}
-use Rattle.std.specs.Prelude.{IsTrue}
-use Rattle.std.specs.List.{list_all}
-use Rattle.lens_specs.specs.Rename.{renamed_predicate}
+use Rattle.std.proofs.Common.{◌≡◌, ◌++◌, ap, sym, subst, ◌∙◌, IsTrue}
+use Rattle.plain_values.proofs.Common.{list_all}
+use Rattle.lens_specs.specs.Common.{renamed_predicate}
 use Rattle.lens_pred.specs.NormalForm.{is_conjunct}
 use Rattle.lens_pred.specs.View.{predicate_view}
 use Rattle.lens_pred.proofs.Renamed.{conjuncts_renamed}

@@ -1,9 +1,6 @@
-use Rattle.std.proofs.Common.{◌≡◌, Some, None, Ok, ap, sym, subst, true, ◌∙◌}
-use Rattle.std.specs.Prelude.{not, position}
-use Rattle.std.specs.List.{list_all}
-use Rattle.lens_specs.specs.Common.{without_name, formula_mentions, first_mixed}
-use Rattle.lens_specs.specs.Predicate.{with_name}
-use Rattle.lens_specs.specs.Refusal.{is_mixed}
+use Rattle.std.proofs.Common.{◌≡◌, Some, None, Ok, ap, sym, subst, true, ◌∙◌, not, position}
+use Rattle.plain_values.proofs.Common.{list_all}
+use Rattle.lens_specs.specs.Common.{without_name, formula_mentions, first_mixed, with_name, is_mixed}
 use Rattle.lens_pred.specs.NormalForm.{is_conjunct}
 use Rattle.lens_pred.specs.Split.{split_from}
 use Rattle.lens_pred.specs.View.{formula_view}

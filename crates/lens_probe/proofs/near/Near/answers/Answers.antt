@@ -1,5 +1,5 @@
 use Rattle.std.proofs.Common.{◌∙◌, sym}
-use Rattle.plain_values.proofs.NamesLemmas.{same_is}
+use Rattle.plain_values.proofs.Common.{same_is}
 use Rattle.lens_probe.proofs.NearRows.{known_by}
 use Rattle.lens_probe.proofs.near.Near.answers.Goals as goal
 

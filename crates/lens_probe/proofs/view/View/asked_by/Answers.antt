@@ -1,7 +1,7 @@
 use Rattle.std.proofs.Common.{◌≡◌, ◌∙◌, ap, sym}
-use Rattle.std.proofs.lemmas.List.Elements.{Contains-append_right}
+use Rattle.plain_values.proofs.Common.{Contains-append_right}
 use Rattle.lens_specs.specs.Common.{sort_of, Sort}
-use Rattle.lens_laws.specs.Asked.{left_sides}
+use Rattle.lens_laws.proofs.Common.{left_sides}
 use Rattle.lens_probe.specs.Viewed.{Viewed, is_left_side}
 use Rattle.lens_probe.proofs.Sizes.{left_side_full, left_side_in}
 use Rattle.lens_probe.proofs.view.View.asked_by.Goals.{After-is_left_side}

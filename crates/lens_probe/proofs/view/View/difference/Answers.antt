@@ -1,6 +1,6 @@
 use Rattle.std.proofs.Common.{refl, subst, sym}
 use Rattle.plain_values.specs.SortedSet as set
-use Rattle.lens_specs.specs.Lens.{sort_of, view_names}
+use Rattle.lens_specs.specs.Common.{sort_of, view_names}
 use Rattle.view_reading.specs.KnownRows.{AreOver}
 use Rattle.view_reading.proofs.KnownParts.{all_over}
 use Rattle.lens_probe.proofs.view.View.difference.Goals as goal

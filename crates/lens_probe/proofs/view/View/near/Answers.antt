@@ -1,6 +1,6 @@
 use Rattle.std.proofs.Common.{arith, length, subst, sym}
 use Rattle.plain_values.specs.SortedSet as set
-use Rattle.lens_laws.specs.Work.{size}
+use Rattle.lens_laws.proofs.Common.{size}
 use Rattle.lens_probe.specs.Viewed.{IsWithin, Viewed, viewed}
 use Rattle.lens_probe.proofs.NearRows.{near_looks}
 use Rattle.lens_probe.proofs.view.View.near.Goals as goal

@@ -1,4 +1,4 @@
-use Rattle.lens_laws.proofs.Rules.{given_is}
+use Rattle.lens_laws.proofs.Common.{given_is}
 use Rattle.lens_probe.proofs.view.View.new.Goals as goal
 
 pub invariant_of-result : goal.invariant_of-result

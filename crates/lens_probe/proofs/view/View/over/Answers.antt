@@ -1,5 +1,5 @@
 use Rattle.std.proofs.Common.{◌∙◌, ap, subst}
-use Rattle.lens_specs.specs.Lens.{get}
+use Rattle.lens_specs.specs.Common.{get}
 use Rattle.lens_probe.specs.NearRows.{AreKnown}
 use Rattle.lens_probe.proofs.NearRows.{join_of_source}
 use Rattle.lens_probe.proofs.Viewing.{source_asks}

@@ -1,5 +1,5 @@
 use Rattle.std.proofs.Common.{rules, subst}
-use Rattle.lens_laws.proofs.Lenses.{shown_is_of_sort}
+use Rattle.lens_laws.proofs.Common.{shown_is_of_sort}
 use Rattle.lens_probe.specs.Viewed.{IsViewed}
 use Rattle.lens_probe.proofs.view.View.read.Goals as goal
 

@@ -1,6 +1,6 @@
 use Rattle.std.proofs.Common.{◌≡◌, ◌∙◌, ap, subst}
 use Rattle.lens_specs.specs.Common.{sort_of, Sort}
-use Rattle.lens_laws.proofs.Lenses.{get_sort}
+use Rattle.lens_laws.proofs.Common.{get_sort}
 use Rattle.lens_probe.specs.Viewed.{IsViewed, Viewed}
 use Rattle.lens_probe.proofs.Sizes.{some_within, viewed_gives}
 use Rattle.lens_probe.proofs.view.ViewLook.columns.Goals as goal

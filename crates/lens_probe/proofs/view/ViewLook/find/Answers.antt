@@ -1,6 +1,6 @@
 use Rattle.std.proofs.Common.{◌≡◌, IfOk, arith, subst, sym}
-use Rattle.std.specs.List.{Contains}
-use Rattle.lens_laws.specs.KeyedDeltas.{find_by}
+use Rattle.plain_values.proofs.Common.{Contains}
+use Rattle.lens_laws.proofs.Common.{find_by}
 use Rattle.lens_probe.specs.Viewed.{IsWithin, Viewed, asked_by, shown, viewed}
 use Rattle.lens_probe.proofs.Sizes.{found_few, viewed_finds, viewed_gives}
 use Rattle.lens_probe.proofs.view.ViewLook.find.Goals as goal

@@ -1,4 +1,4 @@
-use Rattle.std.proofs.lemmas.Result.{err_from_is_err_and}
+use Rattle.plain_values.proofs.Common.{err_from_is_err_and}
 use Rattle.io_specs.proofs.Calls.{Adds-weaker}
 use Rattle.opening_laws.proofs.Opened.{opened_is_valid}
 use Rattle.table_keeper.specs.Changes.{kept_view}

@@ -1,5 +1,5 @@
 use Rattle.std.proofs.Common.{subst}
-use Rattle.lens_laws.specs.Lenses.{IsTyped}
+use Rattle.lens_laws.proofs.Common.{IsTyped}
 use Rattle.lens_types.proofs.KeptLenses.{kept_is_typed}
 use Rattle.lens_types.proofs.lens.TypedLens.sort.Goals as goal
 

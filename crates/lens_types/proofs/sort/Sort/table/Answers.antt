@@ -1,4 +1,4 @@
-use Rattle.lens_laws.proofs.Rules.{table_sort_is_sound}
+use Rattle.lens_laws.proofs.Common.{table_sort_is_sound}
 use Rattle.lens_types.specs.Sorts.{sort_from}
 use Rattle.lens_types.proofs.SmallSorts.{table_small}
 use Rattle.lens_types.proofs.sort.Sort.table.Goals as goal

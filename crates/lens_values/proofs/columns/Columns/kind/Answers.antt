@@ -1,7 +1,6 @@
 use Rattle.std.proofs.Common.{sym, ap, ◌∙◌}
 use Rattle.std.specs.FinMap.{find, get-entries}
-use Rattle.plain_values.specs.Order.{bytes_cmp}
-use Rattle.plain_values.proofs.Maps.{entries_rise}
+use Rattle.plain_values.proofs.Common.{bytes_cmp, entries_rise}
 use Rattle.lens_values.proofs.columns.Columns.kind.Goals as goal
 
 pub kind_in-requires : goal.kind_in-requires

@@ -1,11 +1,6 @@
-use Rattle.std.proofs.Common.{◌≡◌, subst}
-use Rattle.std.specs.Prelude.{IfOk}
-use Rattle.std.specs.Prelude.{not}
-use Rattle.std.specs.Cmp.Lexicographic.{nat_list_cmp_total}
-use Rattle.plain_values.specs.Keys.{is_among}
-use Rattle.plain_values.specs.Order.{bytes_cmp}
-use Rattle.plain_values.proofs.Maps.{exact, entries_rise, part_rises, outside_made}
-use Rattle.plain_values.proofs.Sets.{items_rise}
+use Rattle.std.proofs.Common.{◌≡◌, subst, IfOk, not}
+use Rattle.plain_values.proofs.Common.{nat_list_cmp_total, is_among, bytes_cmp, exact, entries_rise, part_rises, items_rise}
+use Rattle.plain_values.proofs.Maps.{outside_made}
 use Rattle.lens_values.proofs.columns.Columns.minus.Goals as goal
 
 pub difference-requires-clause-list : goal.difference-requires-clause-list

@@ -1,10 +1,5 @@
 use Rattle.std.proofs.Common.{sym, ap, ◌∙◌}
-use Rattle.std.specs.Cmp.Lexicographic.{nat_list_cmp_total}
-use Rattle.std.specs.FinMap.{keys}
-use Rattle.plain_values.specs.Columns.{names}
-use Rattle.plain_values.specs.Order.{bytes_cmp}
-use Rattle.plain_values.specs.SortedMap.{keys_of, entries-from_entries}
-use Rattle.plain_values.specs.SortedSet.{from_list}
+use Rattle.plain_values.proofs.Common.{nat_list_cmp_total, keys, names, bytes_cmp, keys_of, entries-from_entries, from_list}
 use Rattle.lens_values.proofs.columns.Columns.name_set.Goals as goal
 
 pub returns : goal.returns

@@ -1,4 +1,4 @@
-use Rattle.plain_values.proofs.Maps.{entries_rise}
+use Rattle.plain_values.proofs.Common.{entries_rise}
 use Rattle.lens_values.proofs.columns.Columns.place_of.Goals as goal
 
 pub place_in-requires : goal.place_in-requires

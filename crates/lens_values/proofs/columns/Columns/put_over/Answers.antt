@@ -1,6 +1,6 @@
-use Rattle.std.proofs.Common.{◌≡◌, subst}
-use Rattle.std.specs.Prelude.{IfOk}
-use Rattle.plain_values.proofs.Maps.{entries_rise, both_made}
+use Rattle.std.proofs.Common.{◌≡◌, subst, IfOk}
+use Rattle.plain_values.proofs.Common.{entries_rise}
+use Rattle.plain_values.proofs.Maps.{both_made}
 use Rattle.lens_values.proofs.columns.Columns.put_over.Goals as goal
 
 pub union-requires-clause-left : goal.union-requires-clause-left

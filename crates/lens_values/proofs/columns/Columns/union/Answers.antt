@@ -1,7 +1,5 @@
-use Rattle.std.proofs.Common.{sym, ap, ◌∙◌}
-use Rattle.std.specs.Prelude.{find, option_map, Ok}
-use Rattle.std.specs.FinMap.{get}
-use Rattle.plain_values.specs.Columns.{is_other_kind}
+use Rattle.std.proofs.Common.{sym, ap, ◌∙◌, find, option_map, Ok}
+use Rattle.plain_values.proofs.Common.{get, is_other_kind}
 use Rattle.lens_values.specs.Unions.{union_from}
 use Rattle.plain_values.proofs.ColumnsLemmas.{clash_is}
 use Rattle.lens_values.proofs.columns.Columns.union.Goals as goal

@@ -1,8 +1,6 @@
-use Rattle.std.proofs.Common.{sym, ap, ◌∙◌, subst}
-use Rattle.std.specs.Prelude.{◌↔◌, IsTrue}
-use Rattle.std.specs.List.{list_all}
-use Rattle.std.specs.FinMap.{get}
-use Rattle.plain_values.specs.Columns.{ColumnsWithin, is_kind}
+use Rattle.std.proofs.Common.{sym, ap, ◌∙◌, subst, ◌↔◌, IsTrue}
+use Rattle.plain_values.proofs.Common.{list_all, get, ColumnsWithin}
+use Rattle.plain_values.specs.Columns.{is_kind}
 use Rattle.plain_values.proofs.ColumnsLemmas.{within_is}
 use Rattle.lens_values.proofs.columns.Columns.within.Goals as goal
 

@@ -1,6 +1,5 @@
 use Rattle.std.proofs.Common.{sym, ap, ◌∙◌}
-use Rattle.std.specs.Cmp.Lexicographic.{nat_list_cmp_total}
-use Rattle.plain_values.specs.SortedSet.{items, items-from_list}
+use Rattle.plain_values.proofs.Common.{nat_list_cmp_total, items, items-from_list}
 use Rattle.lens_values.proofs.names.Names.as_slice.Goals as goal
 
 pub returns : goal.returns

@@ -1,11 +1,6 @@
 use Rattle.std.proofs.Common.{sym, ap, ◌∙◌}
-use Rattle.std.specs.Cmp.Lexicographic.{nat_list_cmp_total}
-use Rattle.plain_values.specs.Keys.{is_among}
-use Rattle.plain_values.specs.Order.{bytes_cmp}
-use Rattle.plain_values.specs.SortedSet.{contains-items}
-use Rattle.plain_values.proofs.Maps.{exact}
+use Rattle.plain_values.proofs.Common.{nat_list_cmp_total, is_among, bytes_cmp, contains-items, exact, items_rise}
 use Rattle.lens_values.proofs.Places.{searched}
-use Rattle.plain_values.proofs.Sets.{items_rise}
 use Rattle.lens_values.proofs.names.Names.has.Goals as goal
 
 pub returns : goal.returns

@@ -1,8 +1,6 @@
-use Rattle.std.proofs.Common.{◌≡◌, subst}
-use Rattle.std.specs.Prelude.{IfOk}
-use Rattle.std.specs.Cmp.Lexicographic.{nat_list_cmp_total}
-use Rattle.plain_values.proofs.Maps.{exact}
-use Rattle.plain_values.proofs.Sets.{items_rise, own_keys_rise, filter_rises, intersection_made}
+use Rattle.std.proofs.Common.{◌≡◌, subst, IfOk}
+use Rattle.plain_values.proofs.Common.{nat_list_cmp_total, exact, items_rise, own_keys_rise, filter_rises}
+use Rattle.plain_values.proofs.Sets.{intersection_made}
 use Rattle.lens_values.proofs.names.Names.meet.Goals as goal
 
 pub intersection-requires-clause-list : goal.intersection-requires-clause-list

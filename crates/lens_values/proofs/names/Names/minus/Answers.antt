@@ -1,8 +1,5 @@
-use Rattle.std.proofs.Common.{◌≡◌, subst}
-use Rattle.std.specs.Prelude.{IfOk}
-use Rattle.std.specs.Cmp.Lexicographic.{nat_list_cmp_total}
-use Rattle.plain_values.proofs.Maps.{exact}
-use Rattle.plain_values.proofs.Sets.{items_rise, own_keys_rise, filter_rises, difference_made}
+use Rattle.std.proofs.Common.{◌≡◌, subst, IfOk}
+use Rattle.plain_values.proofs.Common.{nat_list_cmp_total, exact, items_rise, own_keys_rise, filter_rises, difference_made}
 use Rattle.lens_values.proofs.names.Names.minus.Goals as goal
 
 pub difference-requires-clause-list : goal.difference-requires-clause-list

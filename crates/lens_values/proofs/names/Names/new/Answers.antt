@@ -1,7 +1,5 @@
 use Rattle.std.proofs.Common.{sym, ap, ◌∙◌}
-use Rattle.std.specs.Cmp.Lexicographic.{nat_list_cmp_total}
-use Rattle.plain_values.specs.SortedSet.{from_list, same_set, contains-from_list}
-use Rattle.plain_values.proofs.Maps.{exact}
+use Rattle.plain_values.proofs.Common.{nat_list_cmp_total, from_list, same_set, contains-from_list, exact}
 use Rattle.lens_values.proofs.names.Names.new.Goals as goal
 
 pub returns : goal.returns

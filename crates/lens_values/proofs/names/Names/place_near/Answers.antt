@@ -1,11 +1,6 @@
-use Rattle.std.proofs.Common.{ap, ◌∙◌}
-use Rattle.std.specs.Prelude.{position}
-use Rattle.std.specs.Ordering.{eq_by_cmp}
-use Rattle.std.specs.Cmp.Lexicographic.{nat_list_cmp_total}
-use Rattle.plain_values.specs.Order.{bytes_cmp}
-use Rattle.plain_values.proofs.Maps.{exact}
+use Rattle.std.proofs.Common.{ap, ◌∙◌, position}
+use Rattle.plain_values.proofs.Common.{eq_by_cmp, nat_list_cmp_total, bytes_cmp, exact, items_rise}
 use Rattle.lens_values.proofs.Places.{tied_place, between}
-use Rattle.plain_values.proofs.Sets.{items_rise}
 use Rattle.lens_values.proofs.names.Names.place_near.Goals as goal
 
 pub returns-in-Ok : goal.returns-in-Ok

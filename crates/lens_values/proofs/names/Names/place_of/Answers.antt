@@ -1,6 +1,4 @@
-use Rattle.std.specs.Cmp.Lexicographic.{nat_list_cmp_total}
-use Rattle.plain_values.proofs.Maps.{exact}
-use Rattle.plain_values.proofs.Sets.{items_rise}
+use Rattle.plain_values.proofs.Common.{nat_list_cmp_total, exact, items_rise}
 use Rattle.lens_values.proofs.names.Names.place_of.Goals as goal
 
 pub place_in-requires : goal.place_in-requires

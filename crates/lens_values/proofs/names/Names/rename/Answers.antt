@@ -1,5 +1,4 @@
-use Rattle.std.proofs.Common.{◌≡◌, sym, ◌∙◌, subst}
-use Rattle.std.specs.Prelude.{IfOk}
+use Rattle.std.proofs.Common.{◌≡◌, sym, ◌∙◌, subst, IfOk}
 use Rattle.lens_values.proofs.Renamed.{without_it}
 use Rattle.lens_values.proofs.names.Names.rename.Goals as goal
 

@@ -1,10 +1,5 @@
-use Rattle.std.proofs.Common.{◌≡◌, subst, map-id}
-use Rattle.std.specs.Prelude.{IfOk}
-use Rattle.std.specs.List.Sorted.{IsStrictlySortedBy}
-use Rattle.plain_values.specs.Order.{bytes_cmp}
-use Rattle.std.specs.Cmp.Lexicographic.{nat_list_cmp_total}
-use Rattle.plain_values.proofs.Maps.{exact}
-use Rattle.plain_values.proofs.Sets.{own_keys_rise, union_made}
+use Rattle.std.proofs.Common.{◌≡◌, subst, map-id, IfOk}
+use Rattle.plain_values.proofs.Common.{IsStrictlySortedBy, bytes_cmp, nat_list_cmp_total, exact, own_keys_rise, union_made}
 use Rattle.lens_values.proofs.names.Names.union.Goals as goal
 
 pub union-requires-clause-left : goal.union-requires-clause-left

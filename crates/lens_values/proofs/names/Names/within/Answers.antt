@@ -1,11 +1,6 @@
 use Rattle.std.proofs.Common.{sym, ◌∙◌}
-use Rattle.std.specs.List.{list_all}
-use Rattle.std.specs.Cmp.Lexicographic.{nat_list_cmp_total}
-use Rattle.plain_values.specs.Keys.{is_among}
-use Rattle.plain_values.specs.Order.{bytes_cmp}
-use Rattle.plain_values.specs.SortedSet.{is_subset, items, contains-items}
-use Rattle.plain_values.proofs.Maps.{exact}
-use Rattle.plain_values.proofs.Sets.{items_rise}
+use Rattle.plain_values.proofs.Common.{list_all, nat_list_cmp_total, is_among, bytes_cmp, items, contains-items, exact, items_rise}
+use Rattle.plain_values.specs.SortedSet.{is_subset}
 use Rattle.lens_values.proofs.names.Names.within.Goals as goal
 
 pub are_among-requires-clause-names : goal.are_among-requires-clause-names

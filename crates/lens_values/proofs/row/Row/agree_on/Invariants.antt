@@ -1,7 +1,6 @@
 use Rattle.std.proofs.Common.{◌≡◌, drop}
 use Rattle.std.specs.FinMap as map
-use Rattle.std.specs.List.{list_all}
-use Rattle.plain_values.specs.Value.{same_value}
+use Rattle.plain_values.proofs.Common.{list_all, same_value}
 use Rattle.lens_values.proofs.row.Row.agree_on.Given as goal
 
 -- whether they agree in all columns is whether they agree in those that are left

@@ -1,6 +1,5 @@
 use Rattle.std.proofs.Common.{◌∙◌}
-use Rattle.plain_values.specs.Value.{same_value}
-use Rattle.plain_values.proofs.ValueLemmas.{eq-value_cmp}
+use Rattle.plain_values.proofs.Common.{same_value, eq-value_cmp}
 use Rattle.lens_values.proofs.row.Row.agrees_at.Goals as goal
 
 pub returns-in-Some-Some : goal.returns-in-Some-Some

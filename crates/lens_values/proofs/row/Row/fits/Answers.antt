@@ -1,8 +1,6 @@
-use Rattle.std.proofs.Common.{sym, subst, ◌∙◌}
-use Rattle.std.specs.Prelude.{◌↔◌, IsTrue}
-use Rattle.plain_values.specs.Columns.{Fits}
+use Rattle.std.proofs.Common.{sym, subst, ◌∙◌, ◌↔◌, IsTrue}
+use Rattle.plain_values.proofs.Common.{Fits, fits_along}
 use Rattle.lens_values.proofs.Cells.{as_many, pairs_are}
-use Rattle.plain_values.proofs.FitsLemmas.{fits_along}
 use Rattle.lens_values.proofs.row.Row.fits.Goals as goal
 
 pub all_fit-requires : goal.all_fit-requires

@@ -1,11 +1,5 @@
-use Rattle.std.proofs.Common.{◌≡◌, sym, ap, subst, ◌∙◌, length}
-use Rattle.std.specs.Prelude.{IfOk}
-use Rattle.std.specs.FinMap.{from_entries}
-use Rattle.std.specs.List.{zip}
-use Rattle.std.specs.List.Sorted.{IsStrictlySortedBy}
-use Rattle.std.specs.Cmp.Lexicographic.{nat_list_cmp_total}
-use Rattle.plain_values.specs.Order.{bytes_cmp}
-use Rattle.plain_values.specs.SortedSet.{items, items-from_list}
+use Rattle.std.proofs.Common.{◌≡◌, sym, ap, subst, ◌∙◌, length, IfOk}
+use Rattle.plain_values.proofs.Common.{from_entries, zip, IsStrictlySortedBy, nat_list_cmp_total, bytes_cmp, items, items-from_list}
 use Rattle.lens_values.proofs.Cells.{lengths, zipped}
 use Rattle.lens_values.proofs.row.Row.from_rising.Goals as goal
 

@@ -1,6 +1,5 @@
-use Rattle.std.proofs.Common.{◌≡◌, sym, subst, ◌∙◌}
-use Rattle.std.specs.Prelude.{IfOk}
-use Rattle.plain_values.specs.Part.{override}
+use Rattle.std.proofs.Common.{◌≡◌, sym, subst, ◌∙◌, IfOk}
+use Rattle.plain_values.proofs.Common.{override}
 use Rattle.lens_values.proofs.Cells.{Knows, own_names, all_many, all_made, union_knows, below_knows}
 use Rattle.lens_values.proofs.row.Row.paste.Goals as goal
 use Rattle.lens_values.proofs.row.Row.paste.Goals.{then-within+in_ok-all, else-within+in_ok-all-2}

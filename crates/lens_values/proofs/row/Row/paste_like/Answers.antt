@@ -1,8 +1,6 @@
-use Rattle.std.proofs.Common.{◌≡◌, sym, ap, subst, ◌∙◌, arith}
-use Rattle.std.specs.Prelude.{IfOk}
-use Rattle.std.specs.FinMap.{from_entries}
+use Rattle.std.proofs.Common.{◌≡◌, sym, ap, subst, ◌∙◌, arith, IfOk}
+use Rattle.plain_values.proofs.Common.{from_entries, override}
 use Rattle.lens_values.specs.Paired.{paired}
-use Rattle.plain_values.specs.Part.{override}
 use Rattle.lens_values.proofs.Cells.{all_made, full_knows, own_names}
 use Rattle.lens_values.proofs.row.Row.paste_like.Goals as goal
 

@@ -1,8 +1,6 @@
-use Rattle.std.proofs.Common.{◌≡◌, sym, ap, subst, ◌∙◌, length, arith}
-use Rattle.std.specs.Prelude.{IfOk}
-use Rattle.std.specs.FinMap.{from_entries}
+use Rattle.std.proofs.Common.{◌≡◌, sym, ap, subst, ◌∙◌, length, arith, IfOk}
+use Rattle.plain_values.proofs.Common.{from_entries, items}
 use Rattle.lens_values.specs.Paired.{AreAsMany, paired}
-use Rattle.plain_values.specs.SortedSet.{items}
 use Rattle.lens_values.proofs.Cells.{own_names, some_many, some_part, whole_part}
 use Rattle.lens_values.proofs.row.Row.project.Goals as goal
 

@@ -1,10 +1,5 @@
-use Rattle.std.proofs.Common.{◌≡◌, ◌∷◌, [], ◌∙◌, ap, length, rules, subst, sym}
-use Rattle.std.specs.Prelude.{IfOk}
-use Rattle.std.specs.Cmp.Lexicographic.{nat_list_cmp_total}
-use Rattle.std.specs.FinMap.{from_entries}
-use Rattle.std.specs.List.{zip}
-use Rattle.std.specs.List.Sorted.{IsStrictlySortedBy}
-use Rattle.plain_values.specs.SortedSet.{items, items-from_list}
+use Rattle.std.proofs.Common.{◌≡◌, ◌∷◌, [], ◌∙◌, ap, length, rules, subst, sym, IfOk}
+use Rattle.plain_values.proofs.Common.{nat_list_cmp_total, from_entries, zip, IsStrictlySortedBy, items, items-from_list}
 use Rattle.lens_values.proofs.row.Row.single.Goals as goal
 
 pub from_values-requires : goal.from_values-requires

@@ -1,6 +1,5 @@
 use Rattle.std.proofs.Common.{◌≡◌, take}
-use Rattle.std.specs.FinMap.{get}
-use Rattle.std.specs.List.{filter_map}
+use Rattle.plain_values.proofs.Common.{get, filter_map}
 use Rattle.lens_values.proofs.row.Row.values_at.Given as goal
 
 abbrev pub invariant-loop-name : goal.invariant-loop-name

@@ -1,8 +1,5 @@
-use Rattle.std.proofs.Common.{◌≡◌, ◌∙◌, ap, sym, [], ◌∷◌, ◌++◌, cond, append-nil}
-use Rattle.std.specs.Prelude.{option_copied, is_some}
-use Rattle.std.specs.FinMap.{get}
-use Rattle.std.specs.List.{cons_option}
-use Rattle.plain_values.specs.Part.{override}
+use Rattle.std.proofs.Common.{◌≡◌, ◌∙◌, ap, sym, [], ◌∷◌, ◌++◌, cond, append-nil, option_copied, is_some}
+use Rattle.plain_values.proofs.Common.{get, cons_option, override}
 use Rattle.lens_values.proofs.Cells.{get-override, one_more}
 use Rattle.lens_values.proofs.row.Row.values_with.Goals as goal
 use Rattle.lens_values.proofs.row.Row.values_with.Goals.{in-Some, in-None, in-Some-value+in_ok-copy+in_ok-push, in_default}

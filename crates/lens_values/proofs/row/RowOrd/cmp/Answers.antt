@@ -1,6 +1,5 @@
 use Rattle.std.proofs.Common.{◌∙◌}
-use Rattle.std.specs.Cmp.Lexicographic.{slice_cmp}
-use Rattle.plain_values.specs.Row.{pair_cmp}
+use Rattle.plain_values.proofs.Common.{slice_cmp, pair_cmp}
 use Rattle.lens_values.proofs.Cells.{as_many, pairs_are}
 use Rattle.lens_values.proofs.row.RowOrd.cmp.Goals as goal
 

@@ -1,5 +1,4 @@
-use Rattle.std.proofs.Common.{◌≡◌, drop}
-use Rattle.std.specs.Prelude.{map}
+use Rattle.std.proofs.Common.{◌≡◌, drop, map}
 use Rattle.table_keeper.specs.Changes.{change_view}
 use Rattle.memory_store.specs.InMemory.{after}
 use Rattle.memory_store.proofs.contents.Contents.make_all.Given as goal

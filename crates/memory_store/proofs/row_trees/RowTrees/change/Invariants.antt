@@ -1,5 +1,4 @@
-use Rattle.std.proofs.Common.{◌≡◌, drop}
-use Rattle.std.specs.Prelude.{map}
+use Rattle.std.proofs.Common.{◌≡◌, drop, map}
 use Rattle.memory_store.specs.InMemory.{table_delta, with_deltas}
 use Rattle.memory_store.proofs.row_trees.RowTrees.change.Given as goal
 

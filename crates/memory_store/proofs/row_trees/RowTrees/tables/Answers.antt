@@ -1,10 +1,8 @@
 use Rattle.std.proofs.Common.{◌≡◌, ◌∙◌, ap, map, rules, subst, sym}
 use Rattle.std.specs.FinMap as finmap
-use Rattle.std.specs.List.Sorted.{IsStrictlySortedBy}
-use Rattle.std.specs.Map.Iter.{deref_pair}
-use Rattle.std.proofs.lemmas.Map.Iter.{iter_end}
-use Rattle.plain_values.specs.Order.{bytes_cmp}
-use Rattle.lens_specs.specs.Relation.{Name, Rows}
+use Rattle.plain_values.proofs.Common.{IsStrictlySortedBy, deref_pair, iter_end, bytes_cmp}
+use Rattle.lens_specs.specs.Common.{Rows}
+use Rattle.lens_specs.specs.Relation.{Name}
 use Rattle.memory_store.proofs.ByTable.{names_are}
 use Rattle.memory_store.proofs.row_trees.RowTrees.tables.Goals as goal
 

@@ -1,6 +1,5 @@
-use Rattle.std.proofs.Common.{◌≡◌}
-use Rattle.std.specs.Prelude.{map}
-use Rattle.std.specs.Map.Iter.{deref_pair}
+use Rattle.std.proofs.Common.{◌≡◌, map}
+use Rattle.plain_values.proofs.Common.{deref_pair}
 use Rattle.table_keeper.specs.Changes.{rows_of}
 use Rattle.memory_store.proofs.row_trees.RowTrees.tables.Given as goal
 

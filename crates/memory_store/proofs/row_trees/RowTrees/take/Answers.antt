@@ -1,6 +1,6 @@
 use Rattle.std.proofs.Common.{◌≡◌, ◌∙◌, ap, sym}
 use Rattle.std.specs.FinMap as finmap
-use Rattle.lens_specs.specs.Keeping.{or_empty}
+use Rattle.lens_specs.specs.Common.{or_empty}
 use Rattle.memory_store.proofs.ByTable.{looked_up, once_taken}
 use Rattle.memory_store.proofs.row_trees.RowTrees.take.Goals as goal
 use Rattle.memory_store.proofs.row_trees.RowTrees.take.Goals.{in-Some, in-None}

@@ -1,6 +1,5 @@
-use Rattle.std.proofs.Common.{◌∙◌, ap}
-use Rattle.std.specs.Prelude.{map}
-use Rattle.lens_specs.specs.Keeping.{changed}
+use Rattle.std.proofs.Common.{◌∙◌, ap, map}
+use Rattle.lens_specs.specs.Common.{changed}
 use Rattle.table_keeper.specs.Changes.{change_view, kept_view}
 use Rattle.memory_store.specs.InMemory.{after}
 use Rattle.memory_store.proofs.After.{one_more}

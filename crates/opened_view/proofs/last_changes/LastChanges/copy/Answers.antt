@@ -1,6 +1,6 @@
 use Rattle.std.proofs.Common.{◌∙◌, ℕ, ap, sym}
-use Rattle.lens_specs.specs.Names.{Name}
-use Rattle.lens_laws.proofs.Entries.{with_all, with_all_in_none, with_last}
+use Rattle.lens_specs.specs.Common.{Name}
+use Rattle.lens_laws.proofs.Common.{with_all, with_all_in_none, with_last}
 use Rattle.opened_view.proofs.last_changes.LastChanges.copy.Goals as goal
 
 pub loop-table-init : goal.loop-table-init

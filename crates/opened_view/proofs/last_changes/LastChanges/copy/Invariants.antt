@@ -1,5 +1,5 @@
 use Rattle.std.proofs.Common.{◌≡◌}
-use Rattle.lens_laws.proofs.Entries.{with_all}
+use Rattle.lens_laws.proofs.Common.{with_all}
 use Rattle.opened_view.proofs.last_changes.LastChanges.copy.Given as goal
 
 abbrev pub invariant-loop-table : goal.invariant-loop-table

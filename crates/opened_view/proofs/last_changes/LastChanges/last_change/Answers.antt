@@ -1,7 +1,6 @@
-use Rattle.std.proofs.Common.{◌∙◌, ap}
+use Rattle.std.proofs.Common.{◌∙◌, ap, unwrap_or}
 use Rattle.std.specs.FinMap as finmap
-use Rattle.std.specs.Prelude.{unwrap_or}
-use Rattle.lens_laws.proofs.Entries.{looked_up}
+use Rattle.lens_laws.proofs.Common.{looked_up}
 use Rattle.opened_view.proofs.last_changes.LastChanges.last_change.Goals as goal
 
 pub returns : goal.returns

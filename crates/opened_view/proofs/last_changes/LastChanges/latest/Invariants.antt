@@ -1,6 +1,5 @@
-use Rattle.std.proofs.Common.{◌≡◌, drop}
-use Rattle.std.specs.Prelude.{max}
-use Rattle.server_specs.specs.Changing.{latest}
+use Rattle.std.proofs.Common.{◌≡◌, drop, max}
+use Rattle.server_specs.specs.Common.{latest}
 use Rattle.opened_view.proofs.last_changes.LastChanges.latest.Given as goal
 
 -- the greater of what was found and what the tables that are left have is the greatest of all

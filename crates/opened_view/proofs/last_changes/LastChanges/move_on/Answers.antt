@@ -1,6 +1,6 @@
 use Rattle.std.proofs.Common.{◌∙◌, ◌+◌, ap, drop, map, subst, sym}
 use Rattle.base_index.proofs.Tabled.{left_at}
-use Rattle.server_specs.specs.Changing.{with_last}
+use Rattle.server_specs.specs.Common.{with_last}
 use Rattle.signed_delta.specs.Tables.{table_delta}
 use Rattle.opened_view.specs.Moving.{AreThere}
 use Rattle.opened_view.proofs.Moved.{still_there}

@@ -1,5 +1,5 @@
 use Rattle.std.proofs.Common.{◌≡◌, drop, map}
-use Rattle.server_specs.specs.Changing.{with_last}
+use Rattle.server_specs.specs.Common.{with_last}
 use Rattle.signed_delta.specs.Tables.{table_delta}
 use Rattle.opened_view.specs.Moving.{AreThere}
 use Rattle.opened_view.proofs.last_changes.LastChanges.move_on.Given as goal

@@ -1,9 +1,8 @@
 use Rattle.std.proofs.Common.{◌∙◌, ap, is_some, rules, sym}
-use Rattle.std.proofs.lemmas.Bool.{false≢true}
+use Rattle.plain_values.proofs.Common.{false≢true, bytes_cmp}
 use Rattle.std.specs.FinMap as finmap
 use Rattle.std.specs.Option.{option_copied_mut}
-use Rattle.plain_values.specs.Order.{bytes_cmp}
-use Rattle.lens_laws.proofs.Entries.{looked_up, updated}
+use Rattle.lens_laws.proofs.Common.{looked_up, updated}
 use Rattle.opened_view.proofs.last_changes.LastChanges.move_one.Goals.{in-Some, in_default}
 use Rattle.opened_view.proofs.last_changes.LastChanges.move_one.Goals as goal
 

@@ -1,6 +1,6 @@
 use Rattle.std.proofs.Common.{◌∙◌, ap}
 use Rattle.std.specs.FinMap as finmap
-use Rattle.lens_laws.proofs.Entries.{updated}
+use Rattle.lens_laws.proofs.Common.{updated}
 use Rattle.opened_view.proofs.last_changes.LastChanges.set.Goals as goal
 
 pub returns-clause-ok : goal.returns-clause-ok

@@ -1,6 +1,6 @@
 use Rattle.std.proofs.Common.{◌∙◌, ap}
-use Rattle.lens_laws.proofs.Rules.{given_is}
-use Rattle.lens_specs.specs.Lens.{sort_of}
+use Rattle.lens_laws.proofs.Common.{given_is}
+use Rattle.lens_specs.specs.Common.{sort_of}
 use Rattle.opened_view.proofs.opened.Opened.sort.Goals as goal
 
 pub returns-clause-sort : goal.returns-clause-sort

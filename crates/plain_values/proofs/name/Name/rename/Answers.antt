@@ -1,5 +1,4 @@
-use Rattle.std.proofs.Common.{ap, sym, ◌∙◌}
-use Rattle.std.specs.Prelude.{if◌then◌else◌}
+use Rattle.std.proofs.Common.{ap, sym, ◌∙◌, if◌then◌else◌}
 use Rattle.std.specs.Cmp.Lexicographic.{texts_ties}
 use Rattle.plain_values.proofs.name.Name.rename.Goals as goal
 

@@ -1,5 +1,4 @@
-use Rattle.std.proofs.Common.{◌≤◌, ◌<◌, ℕ, arith, length, get_or, sym, subst}
-use Rattle.std.specs.Prelude.{IsTrue}
+use Rattle.std.proofs.Common.{◌≤◌, ◌<◌, ℕ, arith, length, get_or, sym, subst, IsTrue}
 use Rattle.std.proofs.Math.Facts.{Fits-lt-pow}
 use Rattle.plain_values.specs.Bytes.{is_text}
 use Rattle.plain_values.proofs.ShortLemmas.{keeps_short}

@@ -1,9 +1,9 @@
 use Rattle.std.proofs.Common.{◌≡◌, ◌∙◌, sym, ap, subst, refl, true}
 use Rattle.plain_values.specs.Columns.{kinds_differ}
-use Rattle.plain_values.specs.Part.{override}
+use Rattle.plain_values.proofs.Common.{override}
 use Rattle.plain_values.specs.SortedSet as set
-use Rattle.lens_specs.specs.Common.{both_columns, names, Names, Columns, Fits, Rows}
-use Rattle.lens_specs.specs.Relation.{join_relations, natural}
+use Rattle.lens_specs.specs.Common.{both_columns, names, Names, Columns, Fits, Rows, natural}
+use Rattle.lens_specs.specs.Relation.{join_relations}
 use Rattle.row_sets.specs.Joins.{pairs_on}
 use Rattle.row_sets.proofs.Natural.{joined_fit, natural_is}
 use Rattle.row_sets.proofs.relation.Relation.join.Goals as goal

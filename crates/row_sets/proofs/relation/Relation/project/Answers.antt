@@ -1,7 +1,6 @@
 use Rattle.std.proofs.Common.{◌≡◌, ◌∙◌, sym, ap, subst, true}
 use Rattle.plain_values.specs.SortedSet as set
-use Rattle.lens_specs.specs.Common.{Columns, Fits, Relation, project}
-use Rattle.lens_specs.specs.Columns.{columns_in}
+use Rattle.lens_specs.specs.Common.{Columns, Fits, Relation, project, columns_in}
 use Rattle.row_sets.proofs.Parts.{projected_fit}
 use Rattle.row_sets.proofs.relation.Relation.project.Goals as goal
 

@@ -1,6 +1,5 @@
 use Rattle.std.proofs.Common.{sym, ap, ◌∙◌}
-use Rattle.plain_values.specs.RowOrder.{row_cmp_total}
-use Rattle.plain_values.specs.SortedSet.{items, items-from_list}
+use Rattle.plain_values.proofs.Common.{row_cmp_total, items, items-from_list}
 use Rattle.row_sets.proofs.row_set.RowSet.into_rows.Goals as goal
 
 pub returns : goal.returns

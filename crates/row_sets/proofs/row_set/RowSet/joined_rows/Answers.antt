@@ -1,10 +1,5 @@
-use Rattle.std.proofs.Common.{map, ap, ◌∙◌}
-use Rattle.std.specs.Prelude.{filter, flat_map}
-use Rattle.std.specs.Ordering.{eq_by_cmp, is_eq}
-use Rattle.std.specs.List.{list_any}
-use Rattle.std.proofs.lemmas.Result.{IfOk-weaker}
-use Rattle.plain_values.specs.Part.{override, restrict}
-use Rattle.plain_values.specs.Row.{row_cmp}
+use Rattle.std.proofs.Common.{map, ap, ◌∙◌, filter, flat_map}
+use Rattle.plain_values.proofs.Common.{eq_by_cmp, is_eq, list_any, IfOk-weaker, override, restrict, row_cmp}
 use Rattle.plain_values.specs.SortedSet as set
 use Rattle.row_sets.specs.Joins.{entry_cmp, with_key}
 use Rattle.row_sets.proofs.Pairs.{paired_is}

@@ -1,5 +1,4 @@
-use Rattle.plain_values.specs.RowOrder.{row_cmp_total, row_cmp-IsAntisymmetric}
-use Rattle.plain_values.proofs.Sets.{items_rise, own_keys_rise, filter_rises, difference_made}
+use Rattle.plain_values.proofs.Common.{row_cmp_total, row_cmp-IsAntisymmetric, items_rise, own_keys_rise, filter_rises, difference_made}
 use Rattle.row_sets.proofs.row_set.RowSet.minus.Goals as goal
 
 pub difference-requires-clause-list : goal.difference-requires-clause-list

@@ -1,5 +1,4 @@
-use Rattle.plain_values.specs.RowOrder.{row_cmp_total, row_cmp-IsAntisymmetric}
-use Rattle.plain_values.proofs.Sets.{own_keys_rise, union_made}
+use Rattle.plain_values.proofs.Common.{row_cmp_total, row_cmp-IsAntisymmetric, own_keys_rise, union_made}
 use Rattle.row_sets.proofs.row_set.RowSet.union.Goals as goal
 
 pub union-requires-clause-left : goal.union-requires-clause-left

@@ -1,8 +1,5 @@
 use Rattle.std.proofs.Common.{ap, sym, ◌∙◌}
-use Rattle.std.specs.List.{list_any}
-use Rattle.std.specs.Ordering.{eq_by_cmp}
-use Rattle.plain_values.specs.Row.{row_cmp}
-use Rattle.plain_values.specs.RowOrder.{row_cmp_total, row_cmp-IsAntisymmetric}
+use Rattle.plain_values.proofs.Common.{list_any, eq_by_cmp, row_cmp, row_cmp_total, row_cmp-IsAntisymmetric}
 use Rattle.plain_values.specs.SortedSet as set
 use Rattle.row_sets.proofs.row_tree.RowTree.of.Goals as goal
 

@@ -1,5 +1,4 @@
-use Rattle.std.proofs.Common.{◌≡◌, drop}
-use Rattle.std.specs.Prelude.{map}
+use Rattle.std.proofs.Common.{◌≡◌, drop, map}
 use Rattle.sqlite_keeper.specs.Knowing.{columns_at}
 use Rattle.sqlite_keeper.proofs.known.KnownColumns.of.Given as goal
 

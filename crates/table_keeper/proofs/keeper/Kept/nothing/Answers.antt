@@ -1,5 +1,5 @@
 use Rattle.std.proofs.Common.{sym, subst}
-use Rattle.std.specs.List.Sorted.{IsStrictlySortedBy}
+use Rattle.plain_values.proofs.Common.{IsStrictlySortedBy}
 use Rattle.table_keeper.specs.Places.{Rise}
 use Rattle.table_keeper.proofs.keeper.Kept.nothing.Goals as goal
 

@@ -1,5 +1,5 @@
 use Rattle.std.proofs.Common.{sym, subst}
-use Rattle.lens_specs.specs.Keeping.{CanChange}
+use Rattle.lens_specs.specs.Common.{CanChange}
 use Rattle.table_keeper.specs.Changes.{change_view}
 use Rattle.table_keeper.specs.Holding.{Holding}
 use Rattle.table_keeper.proofs.memory.MemoryKeeper.make.Goals as goal

@@ -1,5 +1,5 @@
 use Rattle.std.proofs.Common.{◌∙◌, ap, arith, Err}
-use Rattle.plain_values.specs.SortedMap.{keys_of}
+use Rattle.plain_values.proofs.Common.{keys_of}
 use Rattle.lens_values.specs.Repeats.{count_of}
 use Rattle.view_lang.proofs.parsing.definitions.columns_of.Goals as goal
 

@@ -1,7 +1,7 @@
 use Rattle.std.proofs.Common.{ap, sym, ◌∙◌}
 use Rattle.lens_pred.specs.View.{formula_view, formulas_view, predicate_view}
 use Rattle.lens_pred.proofs.Views.{view-And, view-Or}
-use Rattle.grammar_specs.specs.Meaning.{conjuncts, disjuncts}
+use Rattle.grammar_specs.specs.Common.{conjuncts, disjuncts}
 use Rattle.view_lang.proofs.Members.{listed}
 use Rattle.view_lang.proofs.parsing.joining.members_of.Goals as goal
 

@@ -1,6 +1,5 @@
-use Rattle.std.proofs.Common.{◌∙◌, ap}
-use Rattle.std.specs.Prelude.{option_map}
-use Rattle.grammar_specs.specs.Tokens.{integer}
+use Rattle.std.proofs.Common.{◌∙◌, ap, option_map}
+use Rattle.grammar_specs.specs.Common.{integer}
 use Rattle.view_lang.proofs.Numbers.{parsed_integer}
 use Rattle.view_lang.proofs.parsing.lexer.number_of.Goals as goal
 

@@ -1,5 +1,5 @@
 use Rattle.std.proofs.Common.{arith}
-use Rattle.std.proofs.lemmas.Str.{IsCharBoundary-after_ascii}
+use Rattle.plain_values.proofs.Common.{IsCharBoundary-after_ascii}
 use Rattle.view_lang.specs.TokenViews.{token_view}
 use Rattle.view_lang.proofs.QuoteFronts.{QuoteFront, found_text}
 use Rattle.view_lang.proofs.parsing.lexer.text_at.Goals as goal

@@ -1,6 +1,6 @@
 use Rattle.std.proofs.Common.{◌≡◌, ◌∙◌, ◌<◌, arith, length}
 use Rattle.std.proofs.Math.ListN.{length-set}
-use Rattle.plain_values.specs.Part.{restrict}
+use Rattle.plain_values.proofs.Common.{restrict}
 use Rattle.view_reading.proofs.PartLists.{part_too}
 use Rattle.view_reading.proofs.differing.Parts.add.Goals as goal
 

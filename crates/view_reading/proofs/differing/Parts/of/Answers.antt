@@ -1,11 +1,7 @@
-use Rattle.std.proofs.Common.{◌≡◌, ◌∙◌, ◌++◌, ◌||◌, Bool, [], ap, arith, false, filter, length, map, sym}
-use Rattle.std.specs.Prelude.{option_map}
+use Rattle.std.proofs.Common.{◌≡◌, ◌∙◌, ◌++◌, ◌||◌, Bool, [], ap, arith, false, filter, length, map, sym, option_map}
 use Rattle.std.proofs.Math.ListN.{replicate}
-use Rattle.std.proofs.lemmas.Grind.{common_steps}
+use Rattle.plain_values.proofs.Common.{common_steps, eq_by_cmp, restrict, row_cmp, Row}
 use Rattle.std.proofs.lemmas.List.{length-replicate}
-use Rattle.std.specs.Ordering.{eq_by_cmp}
-use Rattle.plain_values.specs.Part.{restrict}
-use Rattle.plain_values.specs.Row.{row_cmp, Row}
 use Rattle.row_sets.specs.Members.{is_in}
 use Rattle.view_reading.specs.KnownRows.{marked}
 use Rattle.view_reading.specs.Unfiltered.{passes}

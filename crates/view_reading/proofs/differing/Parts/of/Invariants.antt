@@ -1,7 +1,5 @@
-use Rattle.std.proofs.Common.{◌≡◌, ◌++◌, filter, map}
-use Rattle.std.specs.Prelude.{option_map}
-use Rattle.std.specs.Vec.Iter.{into_iter_items}
-use Rattle.plain_values.specs.Part.{restrict}
+use Rattle.std.proofs.Common.{◌≡◌, ◌++◌, filter, map, option_map}
+use Rattle.plain_values.proofs.Common.{into_iter_items, restrict}
 use Rattle.view_reading.specs.KnownRows.{AreParts}
 use Rattle.view_reading.specs.Unfiltered.{passes}
 use Rattle.view_reading.proofs.differing.Parts.of.Given as goal

@@ -1,6 +1,5 @@
 use Rattle.std.proofs.Common.{◌∙◌}
-use Rattle.std.specs.List.{list_all, slice_get}
-use Rattle.plain_values.specs.Value.{same_value}
+use Rattle.plain_values.proofs.Common.{list_all, slice_get, same_value}
 use Rattle.view_reading.proofs.PairParts.{same_at_is}
 use Rattle.view_reading.proofs.joining.Index.are_alike.Goals as goal
 

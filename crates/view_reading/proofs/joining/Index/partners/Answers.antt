@@ -1,8 +1,5 @@
-use Rattle.std.proofs.Common.{◌≡◌, ap, subst, sym, ◌∙◌}
-use Rattle.std.specs.Prelude.{IfSome, filter}
-use Rattle.std.specs.Ordering.{is_eq}
-use Rattle.plain_values.specs.Row.{row_cmp}
-use Rattle.plain_values.proofs.Agreement.{parts_same}
+use Rattle.std.proofs.Common.{◌≡◌, ap, subst, sym, ◌∙◌, IfSome, filter}
+use Rattle.plain_values.proofs.Common.{is_eq, row_cmp, parts_same}
 use Rattle.view_reading.specs.Pasting.{HasNames, near_in}
 use Rattle.view_reading.proofs.joining.Index.partners.Goals as goal
 

@@ -1,7 +1,5 @@
-use Rattle.std.proofs.Common.{◌≡◌, ◌++◌, ◌∷◌, [], List, ap, map, sym, take, ◌∙◌}
-use Rattle.std.specs.Prelude.{flat_map}
-use Rattle.std.proofs.lemmas.List.{flat_map_more, take_more}
-use Rattle.plain_values.specs.Row.{Row}
+use Rattle.std.proofs.Common.{◌≡◌, ◌++◌, ◌∷◌, [], List, ap, map, sym, take, ◌∙◌, flat_map}
+use Rattle.plain_values.proofs.Common.{flat_map_more, take_more, Row}
 use Rattle.view_reading.specs.Pasting.{HasNames, near_in, part_at}
 use Rattle.view_reading.proofs.PairParts.{named_at}
 use Rattle.view_reading.proofs.joining.Index.parts.Goals as goal

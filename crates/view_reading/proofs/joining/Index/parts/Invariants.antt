@@ -1,5 +1,4 @@
-use Rattle.std.proofs.Common.{◌≡◌, take}
-use Rattle.std.specs.Prelude.{IfSome}
+use Rattle.std.proofs.Common.{◌≡◌, take, IfSome}
 use Rattle.view_reading.specs.Pasting.{HasNames, near_in, parts_by}
 use Rattle.view_reading.proofs.joining.Index.parts.Given as goal
 

@@ -1,6 +1,5 @@
-use Rattle.std.proofs.Common.{◌∙◌, ap}
+use Rattle.std.proofs.Common.{◌∙◌, ap, Some, option_map}
 use Rattle.std.specs.FinMap as finmap
-use Rattle.std.specs.Prelude.{Some, option_map}
 use Rattle.whole_put.proofs.Tables.{seen_at}
 use Rattle.whole_put.proofs.db.Db.table.Goals as goal
 

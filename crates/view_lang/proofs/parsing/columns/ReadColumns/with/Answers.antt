@@ -1,5 +1,5 @@
 use Rattle.std.proofs.Common.{◌∙◌, ap, subst, sym}
-use Rattle.grammar_specs.specs.Written.{is_column_of}
+use Rattle.grammar_specs.specs.Common.{is_column_of}
 use Rattle.view_lang.specs.DefBounds.{HasNoRepeat}
 use Rattle.view_lang.proofs.DistinctColumns.{column_more, still_distinct}
 use Rattle.view_lang.proofs.parsing.columns.ReadColumns.with.Goals as goal

@@ -1,32 +1,69 @@
-use Rattle.std.proofs.Common.{◌≡◌, suc, ◌-◌, length, refl, ap, ◌∙◌, rules, arith}
+use Rattle.std.proofs.Common.{◌≡◌, suc, ◌-◌, length, refl, ap, ◌∙◌, rules, arith, Option, Some, None, Err}
+use Rattle.std.specs.Option.{ok_or}
+use Rattle.plain_values.proofs.Common.{from_list}
 use Rattle.grammar_specs.specs.Meaning as meaning
 use Rattle.grammar_laws.specs.ExprRules as expr
 use Rattle.view_lang.specs.declared.expr.Expr.{Select, Drop, Rename, Join, the_lemmas}
+use Rattle.view_lang.specs.declared.parsing.reader.Halt.{Halt}
+use Rattle.view_lang.specs.declared.parsing.reader.Halt.TheVariants.{Stopped}
 use Rattle.view_lang.specs.ExprViews.{expr_view}
 use Rattle.view_lang.specs.Outcomes.{reader_view, AreItems, IsPredicate, IsExpr, IsOperand}
 use Rattle.view_lang.proofs.Turns.{given_ok, stops, unread, fewer}
 use Rattle.view_lang.proofs.parsing.reader.Reader.+expr.Goals as goal
 
-pub dropped-returns : goal.dropped-returns
-dropped-returns t c =
-    let by = given_ok AreItems _ c.in_ok-by.by _ c.in_ok-by.ensures.value.0 in (
-      rw (← c.in_ok-col.ensures.0.0, ← c.in_ok-need_word.ensures.0.0, ← c.in_ok-need_word-2.ensures.0.0, ← c.in_ok-need.ensures.0.0, by.1) (rw by.2 at c.drop_from.ensures.0),
-      omega (arith, c.in_ok-col.ensures.0.2 refl, c.in_ok-need_word.ensures.0.2 refl, c.in_ok-need_word-2.ensures.0.2 refl, c.in_ok-need.ensures.0.2 refl, c.names.ensures.value.1, c.drop_from.ensures.1),
+-- the rule halts so where nothing was taken
+halted : {A : Type 0} (o : Option A) (why : Halt) → o ≡ None → Err why ≡ ok_or o Stopped → why ≡ Stopped
+halted None why none e = cc
+halted (Some a) why none e = cc
+
+pub dropped-returns-in_err-need-2 : goal.dropped-returns-in_err-need-2
+dropped-returns-in_err-need-2 t c =
+    let by = given_ok AreItems _ c.in_ok-names.field-0 _ c.in_ok-names.ensures.value.0 in
+    let same = ap reader_view (c.in_err-need-2.ensures.0.1 refl) in (
+      rw (← c.in_ok-col.ensures.0.0, ← c.in_ok-need_word.ensures.0.0, ← c.in_ok-need_word-2.ensures.0.0, ← c.in_ok-need.ensures.0.0, by.1, ← c.in_err-need-2.ensures.0.0) (unread IsExpr _ _ _ _ same c.in_err-need-2.ensures.1 c.from_residual-in_err-need-2.ensures.1),
+      omega (arith, ap length same, c.in_ok-col.ensures.0.2 refl, c.in_ok-need_word.ensures.0.2 refl, c.in_ok-need_word-2.ensures.0.2 refl, c.in_ok-need.ensures.0.2 refl, c.names.ensures.value.1),
     )
 
-pub drop_from-returns-in_err-operand : goal.drop_from-returns-in_err-operand
-drop_from-returns-in_err-operand t c = (
-  rw (← c.in_ok-need.ensures.0.0, ← c.take_fill.ensures.0, c.in_ok-fill.ensures.ok_part, ← c.in_ok-need-2.ensures.0.0, ← c.in_ok-need_word.ensures.0.0) (stops IsOperand IsExpr _ _ _ _ _ c.in_err-operand.ensures.0 c.from_residual-in_err-operand.ensures.1),
-  omega (arith, c.in_ok-need.ensures.0.2 refl, fewer _ _ _ _ c.in_ok-fill.ensures.ok_part c.take_fill.ensures.2, c.in_ok-need-2.ensures.0.2 refl, c.in_ok-need_word.ensures.0.2 refl, c.operand.ensures.1),
-)
+pub dropped-returns-in_err-fill : goal.dropped-returns-in_err-fill
+dropped-returns-in_err-fill t c =
+    let by = given_ok AreItems _ c.in_ok-names.field-0 _ c.in_ok-names.ensures.value.0 in
+    let none = c.in_err-fill.ensures.ok_part in
+    let same = ap reader_view (c.take_fill.ensures.1 none) in (
+      rw (← c.in_ok-col.ensures.0.0, ← c.in_ok-need_word.ensures.0.0, ← c.in_ok-need_word-2.ensures.0.0, ← c.in_ok-need.ensures.0.0, by.1, ← c.in_ok-need-2.ensures.0.0, ← c.take_fill.ensures.0, none) (unread IsExpr _ _ _ _ same (halted _ _ none c.in_err-fill.ensures.value) c.from_residual-in_err-fill.ensures.1),
+      omega (arith, ap length same, c.in_ok-col.ensures.0.2 refl, c.in_ok-need_word.ensures.0.2 refl, c.in_ok-need_word-2.ensures.0.2 refl, c.in_ok-need.ensures.0.2 refl, c.names.ensures.value.1, c.in_ok-need-2.ensures.0.2 refl),
+    )
 
-pub drop_from-returns : goal.drop_from-returns
-drop_from-returns t c =
+pub dropped-returns-in_err-need-3 : goal.dropped-returns-in_err-need-3
+dropped-returns-in_err-need-3 t c =
+    let by = given_ok AreItems _ c.in_ok-names.field-0 _ c.in_ok-names.ensures.value.0 in
+    let same = ap reader_view (c.in_err-need-3.ensures.0.1 refl) in (
+      rw (← c.in_ok-col.ensures.0.0, ← c.in_ok-need_word.ensures.0.0, ← c.in_ok-need_word-2.ensures.0.0, ← c.in_ok-need.ensures.0.0, by.1, ← c.in_ok-need-2.ensures.0.0, ← c.take_fill.ensures.0, c.in_ok-fill.ensures.ok_part, ← c.in_err-need-3.ensures.0.0) (unread IsExpr _ _ _ _ same c.in_err-need-3.ensures.1 c.from_residual-in_err-need-3.ensures.1),
+      omega (arith, ap length same, c.in_ok-col.ensures.0.2 refl, c.in_ok-need_word.ensures.0.2 refl, c.in_ok-need_word-2.ensures.0.2 refl, c.in_ok-need.ensures.0.2 refl, c.names.ensures.value.1, c.in_ok-need-2.ensures.0.2 refl, fewer _ _ _ _ c.in_ok-fill.ensures.ok_part c.take_fill.ensures.2),
+    )
+
+pub dropped-returns-in_err-need_word-3 : goal.dropped-returns-in_err-need_word-3
+dropped-returns-in_err-need_word-3 t c =
+    let by = given_ok AreItems _ c.in_ok-names.field-0 _ c.in_ok-names.ensures.value.0 in
+    let same = ap reader_view (c.in_err-need_word-3.ensures.0.1 refl) in (
+      rw (← c.in_ok-col.ensures.0.0, ← c.in_ok-need_word.ensures.0.0, ← c.in_ok-need_word-2.ensures.0.0, ← c.in_ok-need.ensures.0.0, by.1, ← c.in_ok-need-2.ensures.0.0, ← c.take_fill.ensures.0, c.in_ok-fill.ensures.ok_part, ← c.in_ok-need-3.ensures.0.0, ← c.in_err-need_word-3.ensures.0.0) (unread IsExpr _ _ _ _ same c.in_err-need_word-3.ensures.1 c.from_residual-in_err-need_word-3.ensures.1),
+      omega (arith, ap length same, c.in_ok-col.ensures.0.2 refl, c.in_ok-need_word.ensures.0.2 refl, c.in_ok-need_word-2.ensures.0.2 refl, c.in_ok-need.ensures.0.2 refl, c.names.ensures.value.1, c.in_ok-need-2.ensures.0.2 refl, fewer _ _ _ _ c.in_ok-fill.ensures.ok_part c.take_fill.ensures.2, c.in_ok-need-3.ensures.0.2 refl),
+    )
+
+pub dropped-returns-in_err-operand : goal.dropped-returns-in_err-operand
+dropped-returns-in_err-operand t c =
+    let by = given_ok AreItems _ c.in_ok-names.field-0 _ c.in_ok-names.ensures.value.0 in (
+      rw (← c.in_ok-col.ensures.0.0, ← c.in_ok-need_word.ensures.0.0, ← c.in_ok-need_word-2.ensures.0.0, ← c.in_ok-need.ensures.0.0, by.1, ← c.in_ok-need-2.ensures.0.0, ← c.take_fill.ensures.0, c.in_ok-fill.ensures.ok_part, ← c.in_ok-need-3.ensures.0.0, ← c.in_ok-need_word-3.ensures.0.0) (stops IsOperand IsExpr _ _ _ _ _ c.in_err-operand.ensures.0 c.from_residual-in_err-operand.ensures.1),
+      omega (arith, c.in_ok-col.ensures.0.2 refl, c.in_ok-need_word.ensures.0.2 refl, c.in_ok-need_word-2.ensures.0.2 refl, c.in_ok-need.ensures.0.2 refl, c.names.ensures.value.1, c.in_ok-need-2.ensures.0.2 refl, fewer _ _ _ _ c.in_ok-fill.ensures.ok_part c.take_fill.ensures.2, c.in_ok-need-3.ensures.0.2 refl, c.in_ok-need_word-3.ensures.0.2 refl, c.operand.ensures.1),
+    )
+
+pub dropped-returns : goal.dropped-returns
+dropped-returns t c =
+    let by = given_ok AreItems _ c.in_ok-names.field-0 _ c.in_ok-names.ensures.value.0 in
     let one = given_ok IsOperand _ c.in_ok-operand.field-0 _ c.in_ok-operand.ensures.0 in
-    let seen : expr_view (Drop c.args.col c.in_ok-by.by c.in_ok-fill.fill c.in_ok-of.of) ≡ meaning.drop c.args.col c.in_ok-by.by c.in_ok-fill.fill (expr_view c.in_ok-of.of.value) = search (rules, the_lemmas) in
+    let seen : expr_view (Drop c.in_ok-col.col c.in_ok-by.by c.in_ok-fill.fill c.in_ok-of.of) ≡ meaning.drop c.in_ok-col.col c.in_ok-by.by c.in_ok-fill.fill (expr_view c.in_ok-of.of.value) = search (rules, the_lemmas) in
     let inside = ap expr_view c.in_ok-of.ensures.ok ∙ one.2 in (
-      rw (← c.in_ok-need.ensures.0.0, ← c.take_fill.ensures.0, c.in_ok-fill.ensures.ok_part, ← c.in_ok-need-2.ensures.0.0, ← c.in_ok-need_word.ensures.0.0, one.1) (seen ∙ (λ i. meaning.drop c.args.col (c.in_ok-by.ensures i) c.in_ok-fill.fill (inside i)), refl),
-      omega (arith, c.in_ok-need.ensures.0.2 refl, fewer _ _ _ _ c.in_ok-fill.ensures.ok_part c.take_fill.ensures.2, c.in_ok-need-2.ensures.0.2 refl, c.in_ok-need_word.ensures.0.2 refl, c.operand.ensures.1),
+      rw (← c.in_ok-col.ensures.0.0, ← c.in_ok-need_word.ensures.0.0, ← c.in_ok-need_word-2.ensures.0.0, ← c.in_ok-need.ensures.0.0, by.1, ← c.in_ok-need-2.ensures.0.0, ← c.take_fill.ensures.0, c.in_ok-fill.ensures.ok_part, ← c.in_ok-need-3.ensures.0.0, ← c.in_ok-need_word-3.ensures.0.0, one.1) (seen ∙ (λ i. meaning.drop c.in_ok-col.col ((c.in_ok-by.ensures ∙ ap from_list by.2) i) c.in_ok-fill.fill (inside i)), refl),
+      omega (arith, c.in_ok-col.ensures.0.2 refl, c.in_ok-need_word.ensures.0.2 refl, c.in_ok-need_word-2.ensures.0.2 refl, c.in_ok-need.ensures.0.2 refl, c.names.ensures.value.1, c.in_ok-need-2.ensures.0.2 refl, fewer _ _ _ _ c.in_ok-fill.ensures.ok_part c.take_fill.ensures.2, c.in_ok-need-3.ensures.0.2 refl, c.in_ok-need_word-3.ensures.0.2 refl, c.operand.ensures.1),
     )
 
 pub join-returns-in_err-operand : goal.join-returns-in_err-operand

@@ -7,9 +7,6 @@ decreases-operand l = 4 * l.left
 abbrev pub decreases-select : goal.decreases-select
 decreases-select l = 4 * l.left + 1
 
-abbrev pub decreases-drop_from : goal.decreases-drop_from
-decreases-drop_from l = 4 * l.left + 1
-
 abbrev pub decreases-rename : goal.decreases-rename
 decreases-rename l = 4 * l.left + 1
 
@@ -17,7 +14,7 @@ abbrev pub decreases-join : goal.decreases-join
 decreases-join l = 4 * l.left + 1
 
 abbrev pub decreases-dropped : goal.decreases-dropped
-decreases-dropped l = 4 * l.left + 2
+decreases-dropped l = 4 * l.left + 1
 
 abbrev pub decreases-expr : goal.decreases-expr
-decreases-expr l = 4 * l.left + 3
+decreases-expr l = 4 * l.left + 2

@@ -1,9 +1,8 @@
 use Rattle.std.proofs.Common.{◌≡◌, suc, ◌-◌, ◌++◌, length, refl, ap, ◌∙◌, rules, arith}
-use Rattle.lens_specs.specs.Predicate.{negation}
+use Rattle.lens_specs.specs.Common.{negation}
 use Rattle.lens_pred.specs.View.{formula_view, predicate_view}
 use Rattle.lens_pred.specs.declared.formula.Formula.{Not, the_lemmas}
-use Rattle.grammar_specs.specs.Written.{only, joined, alone, either}
-use Rattle.grammar_specs.specs.Meaning.{conjuncts, disjuncts, conjunction}
+use Rattle.grammar_specs.specs.Common.{only, joined, alone, either, conjuncts, disjuncts, conjunction}
 use Rattle.grammar_laws.specs.Steps.{read, and_then}
 use Rattle.grammar_laws.specs.PredRules as pred
 use Rattle.view_lang.specs.Outcomes.{reader_view, IsPart, IsAll, IsPred}
@@ -42,7 +41,7 @@ pub pred-loop-alloc-init : goal.pred-loop-alloc-init
 pred-loop-alloc-init t c =
     let one = given_ok IsAll _ c.in_ok-all.field-0 _ c.in_ok-all.ensures.0 in (
       alone one.0,
-      c.in_ok-push_alternative.ensures ∙ (λ i. predicate_view (c.new-ors.ensures.items i) ++ disjuncts (conjunction (one.2 i))),
+      c.in_ok-push_disjuncts.ensures ∙ (λ i. predicate_view (c.new-ors.ensures.items i) ++ disjuncts ((c.conjunction.ensures ∙ ap conjunction one.2) i)),
       ap (λ o. and_then o (λ a. pred.more_alls (pred.part c.args.left) (alone a))) one.1,
       c.in_ok-all.ensures.1,
     )
@@ -60,7 +59,7 @@ pred-loop-alloc-preserved t c =
     let done = c.loop-alloc.invariant in
     let one = given_ok IsAll _ c.in_ok-all-2.field-0 _ c.in_ok-all-2.ensures.0 in (
       either done.0 one.0,
-      c.in_ok-push_alternative-2.ensures ∙ (λ i. done.1 i ++ disjuncts (conjunction (one.2 i))),
+      c.in_ok-push_disjuncts-2.ensures ∙ (λ i. done.1 i ++ disjuncts ((c.conjunction-in-loop-alloc.ensures ∙ ap conjunction one.2) i)),
       rw (done.2, alls_turn c.args.left done.0 (reader_view c.loop-alloc.self), ← c.take_word.ensures.0, c.loop-alloc-test.true)
           (ap (λ o. and_then (and_then o (λ a. read (either done.0 a))) (pred.more_alls (pred.part c.args.left))) one.1),
       omega (arith, done.3, fewer_passed _ _ _ c.loop-alloc-test.true c.take_word.ensures.2, c.all-in-loop-alloc.ensures.1),

@@ -1,7 +1,6 @@
 use Rattle.std.proofs.Common.{◌≡◌, ◌≤◌, ◌+◌, ◌*◌, length}
 use Rattle.lens_pred.specs.View.{predicate_view}
-use Rattle.grammar_specs.specs.Written.{All, Pred}
-use Rattle.grammar_specs.specs.Meaning.{all_conjuncts, pred_disjuncts}
+use Rattle.grammar_specs.specs.Common.{All, Pred, all_conjuncts, pred_disjuncts}
 use Rattle.grammar_laws.specs.PredRules as pred
 use Rattle.view_lang.specs.Outcomes.{reader_view}
 use Rattle.view_lang.proofs.parsing.reader.Reader.+pred.Given as goal

@@ -1,8 +1,6 @@
-use Rattle.std.proofs.Common.{arith}
-use Rattle.std.specs.Prelude.{Some, Result, Ok, Err}
-use Rattle.grammar_specs.specs.Texts.{Placed}
-use Rattle.grammar_specs.specs.Written.{Pred}
-use Rattle.lens_specs.specs.Predicate.{Predicate}
+use Rattle.std.proofs.Common.{arith, Some, Result, Ok, Err}
+use Rattle.grammar_specs.specs.Common.{Placed, Pred}
+use Rattle.lens_specs.specs.Common.{Predicate}
 use Rattle.grammar_laws.specs.Steps.{Outcome, read, stopped, too_deep, and_then}
 use Rattle.view_lang.specs.declared.parsing.reader.Halt.{Halt}
 use Rattle.view_lang.specs.declared.parsing.reader.Halt.TheVariants.{Stopped, TooDeep, NoMemory}

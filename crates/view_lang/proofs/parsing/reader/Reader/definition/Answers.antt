@@ -1,5 +1,5 @@
 use Rattle.std.proofs.Common.{Bool, length, refl, ap, arith}
-use Rattle.std.specs.Bool.{then_some}
+use Rattle.plain_values.proofs.Common.{then_some}
 use Rattle.view_lang.specs.Outcomes.{reader_view}
 use Rattle.view_lang.proofs.Turns.{fewer_passed}
 use Rattle.view_lang.proofs.parsing.reader.Reader.definition.Goals as goal

@@ -1,5 +1,5 @@
 use Rattle.std.proofs.Common.{◌∙◌, refl, arith}
-use Rattle.grammar_specs.specs.Meaning.{dep_meaning}
+use Rattle.grammar_specs.specs.Common.{dep_meaning}
 use Rattle.view_lang.specs.Outcomes.{AreItems, IsDep}
 use Rattle.view_lang.proofs.Turns.{given_ok, stops}
 use Rattle.view_lang.proofs.parsing.reader.Reader.dep.Goals as goal

@@ -1,7 +1,6 @@
 use Rattle.std.proofs.Common.{◌++◌, [], ◌∷◌, ap, sym, ◌∙◌, arith}
-use Rattle.std.proofs.lemmas.List.{map_push}
-use Rattle.grammar_specs.specs.Meaning.{dep_meaning}
-use Rattle.grammar_specs.specs.Written.{Dep}
+use Rattle.plain_values.proofs.Common.{map_push}
+use Rattle.grammar_specs.specs.Common.{dep_meaning, Dep}
 use Rattle.grammar_laws.specs.Steps.{Outcome, read, and_then}
 use Rattle.grammar_laws.specs.DefRules.{more_deps}
 use Rattle.view_lang.specs.Outcomes.{reader_view, IsDep, AreDeps}

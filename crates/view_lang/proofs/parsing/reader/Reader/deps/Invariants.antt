@@ -1,6 +1,5 @@
 use Rattle.std.proofs.Common.{◌≡◌, ◌≤◌, List, length, map}
-use Rattle.grammar_specs.specs.Written.{Dep}
-use Rattle.grammar_specs.specs.Meaning.{dep_meaning}
+use Rattle.grammar_specs.specs.Common.{Dep, dep_meaning}
 use Rattle.grammar_laws.specs.DefRules as rules
 use Rattle.view_lang.specs.Outcomes.{reader_view}
 use Rattle.view_lang.proofs.parsing.reader.Reader.deps.Given as goal

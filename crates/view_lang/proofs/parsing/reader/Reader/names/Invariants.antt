@@ -1,5 +1,5 @@
 use Rattle.std.proofs.Common.{◌≡◌, ◌≤◌, length, true}
-use Rattle.grammar_specs.specs.Written.{is_some_list}
+use Rattle.grammar_specs.specs.Common.{is_some_list}
 use Rattle.grammar_laws.specs.ExprRules as rules
 use Rattle.view_lang.specs.Outcomes.{reader_view}
 use Rattle.view_lang.proofs.parsing.reader.Reader.names.Given as goal

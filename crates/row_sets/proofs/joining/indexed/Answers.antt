@@ -1,8 +1,0 @@
-use Rattle.std.proofs.Common.{ap, ◌∙◌}
-use Rattle.std.specs.List.{list_any}
-use Rattle.std.specs.Ordering.{eq_by_cmp}
-use Rattle.row_sets.specs.Joins.{entry_cmp}
-use Rattle.row_sets.proofs.joining.indexed.Goals as goal
-
-pub returns-clause-members : goal.returns-clause-members
-returns-clause-members c = λ e. c.into_sorted.ensures.members e ∙ ap (list_any (eq_by_cmp entry_cmp e)) c.in_ok-entries.ensures
