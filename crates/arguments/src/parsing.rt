@@ -1,13 +1,15 @@
 //! The options as the command line writes them: `ranges` judges their texts.
-ghost use Rattle.std.specs.Prelude.{◌≡◌, ◌↔◌, Some, None, Err, IfOk, map, string_bytes};
+ghost use Rattle.std.specs.Prelude.{◌≡◌, ◌↔◌, Some, None, Err, IfOk, false, map, string_bytes};
+ghost use Rattle.clap.specs.Simple.{app_of};
+ghost use Rattle.clap.specs.Walk.{rule_of};
 ghost use Rattle.clap.specs.declared.error.kind.ErrorKind.TheVariants.{OutOfMemory};
-ghost use Rattle.arguments.specs.Options.{entries};
+ghost use Rattle.arguments.specs.Options.{command, entries, option};
 ghost use Rattle.arguments.specs.Views.{options_view};
 
 use crate::settings::ArgumentsFault;
 use clap::error::ErrorKind;
 use clap::{Arg, Command};
-use std::alloc::Global;
+use std::alloc::{AllocError, Global};
 
 /// The text of each option that the command line gives.
 #[derive(Drop)]
@@ -24,16 +26,7 @@ pub fn parse<'a>(alloc: Global, words: &'a [String]) -> Result<Options<'a>, Argu
     ensures refused { result ≡ Err ArgumentsFault.Refused
         → entries (map string_bytes words.now) ≡ None }
 {
-    let store = Arg::new(alloc, "store").long("store");
-    let max_input = Arg::new(alloc, "max-input").long("max-input");
-    let rehearse = Arg::new(alloc, "rehearse").long("rehearse");
-    let Ok(command) = Command::new(alloc, "view_program").arg(store) else {
-        return Err(ArgumentsFault::NoMemory);
-    };
-    let Ok(command) = command.arg(max_input) else {
-        return Err(ArgumentsFault::NoMemory);
-    };
-    let Ok(command) = command.arg(rehearse) else {
+    let Ok(command) = command(alloc) else {
         return Err(ArgumentsFault::NoMemory);
     };
     match command.try_get_matches_from(words) {
@@ -44,6 +37,22 @@ pub fn parse<'a>(alloc: Global, words: &'a [String]) -> Result<Options<'a>, Argu
         }),
         Err(error) => Err(fault_of(error.kind())),
     }
+}
+
+// The command, with its three options.
+fn command<'a>(alloc: Global) -> Result<Command<'a>, AllocError>
+    ensures { IfOk result (λ made. app_of made ≡ command) }
+{
+    let command = Command::new(alloc, "view_program").arg(option(alloc, "store"))?;
+    let command = command.arg(option(alloc, "max-input"))?;
+    command.arg(option(alloc, "rehearse"))
+}
+
+fn option<'a>(alloc: Global, name: &'a str) -> Arg<'a>
+    ensures rule { rule_of result ≡ option name.entry.now }
+    ensures local { result.global ≡ false }
+{
+    Arg::new(alloc, name).long(name)
 }
 
 fn fault_of(kind: ErrorKind) -> ArgumentsFault

@@ -3,7 +3,7 @@ ghost use Rattle.std.specs.Prelude.{◌≤◌, ◌^◌};
 ghost use Rattle.std.specs.Option.{ForSome};
 
 /// The settings of a run.
-#[derive(Debug, Drop)]
+#[derive(Drop)]
 pub struct Settings<'a> {
     /// The place where the tables are kept, if one is given.
     pub store: Option<&'a str>,
@@ -17,7 +17,7 @@ pub struct Settings<'a> {
 }
 
 /// Why arguments give no settings.
-#[derive(Clone, Copy, Debug, PartialEq, Eq)]
+#[derive(Clone, Copy, PartialEq, Eq)]
 pub enum ArgumentsFault {
     /// The arguments are rejected.
     Refused,

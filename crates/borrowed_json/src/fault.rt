@@ -7,7 +7,7 @@ use no_memory::NoMemory;
 use std::alloc::{AllocError, AllocFailed};
 
 /// Why a text cannot be read.
-#[derive(Debug, Drop)]
+#[derive(Drop)]
 pub(crate) enum Fault {
     /// It is no JSON of the wanted form.
     NotJson,

@@ -49,7 +49,14 @@ pub fn settle<K: Keeper, L: Ledger>(
     ensures walks_on { walked.old ≤ walked.new }
 {
     let Plan { answer, staged } = plan;
-    let reply = reply_text(alloc, &answer)?;
+    let printed = reply_text(alloc, &answer);
+    // To prove a call of `drop` takes one step. A drop at the end of a scope takes a step for each
+    // part of the value.
+    drop(answer);
+    let Ok(reply) = printed else {
+        drop(staged);
+        return Err(NoMemory);
+    };
     match staged {
         Some(staged) => commit(alloc, database, keeper, staged, reply, walked),
         None => Ok(reply),
@@ -88,6 +95,7 @@ fn commit<K: Keeper, L: Ledger>(
         }
         Err(fault) => {
             database.tables.unstage();
+            drop((change, definition, last));
             not_kept(fault)
         }
     }

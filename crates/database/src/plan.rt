@@ -10,7 +10,7 @@ use table_keeper::Change;
 use view_catalog::Prepared;
 
 /// What a change does to the changes that can be undone.
-#[derive(Clone, Copy, Debug)]
+#[derive(Clone, Copy)]
 pub enum PastStep {
     /// Nothing: it is a definition.
     Stays,

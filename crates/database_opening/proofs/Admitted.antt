@@ -1,5 +1,5 @@
 -- Definitions that are taken one after another.
-use Rattle.std.proofs.Common.{◌≡◌, ◌∙◌, ◌++◌, ◌||◌, ◌+◌, ◌<◌, ◌≤◌, ℕ, arith, suc, is_some, Bool, true, false, cond, List, [], ◌∷◌, length, Option, Some, None, Result, Ok, Err, ap, sym, subst, refl, inl, inr, ◌^◌, sum_by, IsOk, if◌then◌else◌, is_err, option_map}
+use Rattle.std.proofs.Common.{◌≡◌, ◌∙◌, ◌++◌, ◌||◌, ◌+◌, ◌<◌, ◌≤◌, ℕ, arith, suc, is_some, Bool, true, false, cond, List, [], ◌∷◌, length, Option, Some, None, Result, Ok, Err, ap, sym, subst, refl, inl, inr, ◌^◌, sum_by, IsOk, OnOk, if◌then◌else◌, is_err, option_map}
 use Rattle.plain_values.proofs.Common.{option_to_list, cases_Bool, or_parts, true≢false, list_any-append, eq_by_cmp, Less, Equal, Greater, sum_by-cons, bytes_cmp, place_none}
 use Rattle.std.specs.FinMap as finmap
 use Rattle.fd_laws.proofs.Common.{name_itself, name_total, tied_name}
@@ -33,6 +33,11 @@ use Rattle.database_opening.specs.declared.fault.OpenFault.TheVariants as fault
 no_err : {A E : Type 0} (r : Result A E) → IsOk r → is_err r ≡ false
 no_err (Ok a) h = refl
 no_err (Err e) h = absurd (true≢false (sym h))
+
+-- what is ensured where there is no error
+pub on_ok : {A E P : Type 0} (r : Result A E) → is_err r ≡ false → OnOk r P → P
+on_ok (Ok a) none p = p
+on_ok (Err e) none p = absurd (true≢false none)
 
 -- one text more, which is taken
 taken_more : (known : Catalogue) (texts : List (List ℕ)) (text : List ℕ) → refused_from known texts ≡ None

@@ -74,8 +74,11 @@ fn admit<L: Ledger>(
 {
     let prepared = admitted.catalog.prepare(alloc, text)?;
     let table = prepared.table();
-    stage_definition(alloc, &mut admitted.tables, &table, prepared.lens(), walked)?;
-    append(&mut admitted.names, table)?;
+    let staged = stage_definition(alloc, &mut admitted.tables, &table, prepared.lens(), walked);
+    if staged.is_err() || append(&mut admitted.names, table).is_err() {
+        drop(prepared);
+        return Err(CatalogFault::NoMemory);
+    }
     admitted.catalog.admit(prepared);
     admitted.tables.settle();
     Ok(())

@@ -16,7 +16,7 @@ use lens_types::{Lens, Sort};
 use lens_values::{Name, Names, NoMemory, Row};
 use row_sets::RowSet;
 use std::alloc::Global;
-use table_keeper::KeptTable;
+use table_keeper::{KeptTable, search};
 use view_catalog::Catalog;
 
 /// The first damage of the tables, by rising name. The definitions make tables of no other names
@@ -105,7 +105,7 @@ fn kept_rows<'a>(tables: &'a [KeptTable], name: &Name) -> Option<&'a RowSet>
     requires { Rise tables.now }
     ensures { option_copied result ≡ finmap.get (rows_in tables.now) name.now }
 {
-    match tables.binary_search_by_key(name, |kept| kept.table) {
+    match search(tables, name) {
         Ok(place) => Some(&tables[place].rows),
         Err(_) => None,
     }

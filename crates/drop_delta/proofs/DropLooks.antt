@@ -1,10 +1,10 @@
 -- How many rows an edit without a column becomes, and how many looks it takes.
-use Rattle.std.proofs.Common.{◌≡◌, ℕ, ◌+◌, ◌*◌, ◌<◌, ◌≤◌, ◌++◌, ◌∷◌, [], List, ap, length, map, take, arith, length-append}
+use Rattle.std.proofs.Common.{◌≡◌, ℕ, ◌+◌, ◌*◌, ◌<◌, ◌≤◌, List, ap, length, map, take, arith}
 use Rattle.plain_values.proofs.Common.{length-map, length-take, mul-le, Row}
 use Rattle.plain_values.specs.SortedSet as set
 use Rattle.lens_specs.specs.Common.{Delta, Rows, image}
 use Rattle.lens_laws.proofs.Common.{count_of, node_work, rows_down, rows_of}
-use Rattle.signed_delta.proofs.Counts.{listed_len}
+use Rattle.signed_delta.proofs.Counts.{at_end, listed_len}
 
 -- ---- one node
 
@@ -36,40 +36,21 @@ few_are d x f remove add n is removes adds some =
 
 -- ---- the two lists, row by row
 
-pub made_few : (f : Row → Row) (M : Rows) (made : List Row) (i : ℕ) → made ≡ map f (take i (set.items M)) → length made ≤ count_of M
-made_few f M made i is =
-    let s = ap length is in
-    let e = length-map (take i (set.items M)) f in
-    let t = length-take i (set.items M) in
-    omega arith
+-- a row that is there is looked for
+pub one_look : (n before after i : ℕ) (rows : List Row) → i < length rows → after ≤ before + n → after + n * length (take i rows) ≤ before + n * length (take (i + 1) rows)
+one_look n before after i rows below h =
+    let t = length-take i rows in
+    let u = length-take (i + 1) rows in
+    let s : length (take (i + 1) rows) ≡ length (take i rows) + 1 = omega arith in
+    let e : n * length (take (i + 1) rows) ≡ n * (length (take i rows) + 1) = ap (λ x. n * x) s in
+    omega (arith, h, e)
 
-pub made_fewer : (f : Row → Row) (M : Rows) (rows made : List Row) (i : ℕ) → rows ≡ set.items M → i < length rows → made ≡ map f (take i (set.items M)) → length made + 1 ≤ count_of M
-made_fewer f M rows made i listed below is =
-    let l = ap length listed in
-    let s = ap length is in
-    let e = length-map (take i (set.items M)) f in
-    let t = length-take i (set.items M) in
-    omega arith
-
--- one row more is filled in
-pub one_filled : (n r a old before after : ℕ) → before ≤ old + n * (r + a) → after ≤ before + n → after ≤ old + n * (r + a + 1)
-one_filled n r a old before after h k = omega (arith, h, k)
-
--- one row more of the first list, or of the second
-pub first_pushed : (n a old before after : ℕ) (made more : List Row) (row : Row) → more ≡ made ++ row ∷ [] → before ≤ old + n * (length made + a) → after ≤ before + n → after ≤ old + n * (length more + a)
-first_pushed n a old before after made more row is h k =
-    let l = ap length is in
-    let e = length-append made (row ∷ []) in
-    let s : length more + a ≡ length made + a + 1 = omega arith in
-    let m = one_filled n (length made) a old before after h k in
-    let q : n * (length more + a) ≡ n * (length made + a + 1) = ap (λ x. n * x) s in
-    omega arith
-
-pub second_pushed : (n r old before after : ℕ) (made more : List Row) (row : Row) → more ≡ made ++ row ∷ [] → before ≤ old + n * (r + length made) → after ≤ before + n → after ≤ old + n * (r + length more)
-second_pushed n r old before after made more row is h k =
-    let l = ap length is in
-    let e = length-append made (row ∷ []) in
-    let s : r + length more ≡ r + length made + 1 = omega arith in
-    let m = one_filled n r (length made) old before after h k in
-    let q : n * (r + length more) ≡ n * (r + length made + 1) = ap (λ x. n * x) s in
-    omega arith
+-- the looks for the first rows of both lists are among those for all
+pub few_looks : (n i j : ℕ) (d : Delta) (removed added : List Row) (before after : ℕ) → removed ≡ set.items d.remove → added ≡ set.items d.add
+    → after ≤ before + n * (length (take i removed) + length (take j added)) → after ≤ before + n * rows_of d
+few_looks n i j d removed added before after all_removed all_added h =
+    let r = ap length all_removed in
+    let a = ap length all_added in
+    let t = length-take i removed in
+    let u = length-take j added in
+    at_end n (length (take i removed) + length (take j added)) (rows_of d) before after (omega arith) h

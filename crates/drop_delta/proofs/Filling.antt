@@ -1,13 +1,13 @@
 -- Rows that are filled in, and the edit that they make.
-use Rattle.std.proofs.Common.{◌≡◌, ℕ, length, List, [], ◌∷◌, is_some, map, refl, sym, ap, ◌∙◌, subst, Bool, true, false, cond, Option, Some, None, inl, inr, ◌<◌, ◌≤◌, ◌+◌, ◌++◌, get_or, take, arith, filter, slice_get, unwrap_or}
-use Rattle.plain_values.proofs.Common.{find, nat_list_cmp_total, eq_by_cmp, cases_Bool, true≢false, map_more, take_all, bytes_cmp, override, restrict, Row}
+use Rattle.std.proofs.Common.{◌≡◌, ℕ, length, List, [], ◌∷◌, is_some, map, refl, sym, ap, ◌∙◌, subst, Bool, true, false, cond, Option, Some, None, inl, inr, ◌<◌, ◌≤◌, ◌+◌, ◌++◌, get_or, take, filter, slice_get, unwrap_or}
+use Rattle.plain_values.proofs.Common.{find, eq_by_cmp, cases_Bool, true≢false, map_more, take_all, bytes_cmp, Row}
 use Rattle.std.specs.FinMap as finmap
 use Rattle.plain_values.specs.SortedSet as set
 use Rattle.plain_values.specs.declared.value.Kind.{Kind}
 use Rattle.plain_values.specs.declared.value.Value.{Value}
-use Rattle.lens_specs.specs.Common.{Columns, Fits, fits_at, names, without_column, Applies, Delta, diff, Edge, Meets, edge, Name, Names, Within, one, drop_get, drop_put, Rows, first_row, has, image, along, revise, revise_row, agree, at, cut, with_at, moved}
+use Rattle.lens_specs.specs.Common.{Columns, Fits, fits_at, names, without_column, Applies, Delta, diff, Meets, edge, Name, Names, Within, one, drop_get, drop_put, Rows, first_row, has, image, along, revise, revise_row, agree, at, cut, with_at, moved}
 use Rattle.lens_laws.proofs.Common.{drop_delta, find_by, CanDrop, IsIn, Shape, drop_shape, from_new_view, drop_delta_is}
-use Rattle.fd_laws.proofs.Common.{IsTree, fits_names, names-get, names-without, from_rest, name_itself, one_is, one_itself, from_image, from_project, same_rel, agree_back, agree_from, same_row, fits_cut, fits_none, get-without_other, no_kind, in_rest, first_some, in_image, agree_alike, at-paste_in, at-paste_out, at-with_at, at-with_other, to_tree_without}
+use Rattle.fd_laws.proofs.Common.{IsTree, fits_names, names-get, names-without, from_rest, name_itself, one_is, one_itself, from_image, from_project, same_rel, agree_back, agree_from, same_row, fits_cut, get-without_other, no_kind, in_rest, first_some, in_image, agree_alike, at-paste_in, at-paste_out, at-with_at, at-with_other, to_tree_without}
 use Rattle.signed_delta.specs.Disjoint.{AreApart}
 use Rattle.signed_delta.proofs.Differences.{sides_apart}
 use Rattle.revision.proofs.Changed.{items_those}
@@ -78,23 +78,15 @@ module _ (A : Name) (X : Names) (a : Value) (M : Rows) (x_out : (c : Name) → s
       ap (has _) (w.2 ∙ ap (λ m. along e m M) v.2 ∙ sym (filled_along v.0)) ∙ in_image (filled_in A X a M) N v.0 v.1)
 
 -- what is made of each row, one row further
-pub made_more : (f : Row → Row) (M : Rows) (rows made after : List Row) (i : ℕ) (row : Row) → rows ≡ set.items M → i < length rows → row ≡ get_or rows i row
-    → made ≡ map f (take i (set.items M)) → after ≡ made ++ f row ∷ [] → after ≡ map f (take (i + 1) (set.items M))
-made_more f M rows made after i row is below here so_far pushed =
-    pushed ∙ ap (λ list. list ++ f row ∷ []) (so_far ∙ ap (λ list. map f (take i list)) (sym is))
-    ∙ ap (λ r. map f (take i rows) ++ f r ∷ []) here ∙ sym (map_more f rows i row below) ∙ ap (λ list. map f (take (i + 1) list)) is
-
--- past the end of the list there is no row to make anything of
-pub made_no_more : (f : Row → Row) (M : Rows) (rows made : List Row) (i : ℕ) → rows ≡ set.items M → length rows ≤ i
-    → made ≡ map f (take i (set.items M)) → made ≡ map f (take (i + 1) (set.items M))
-made_no_more f M rows made i is past so_far =
-    let n : length (set.items M) ≤ i = omega (arith, past, ap length is) in
-    so_far ∙ ap (map f) (take_all i (set.items M) n ∙ sym (take_all (i + 1) (set.items M) (omega (arith, n))))
+pub made_more : (f : Row → Row) (rows made after : List Row) (i : ℕ) (row : Row) → i < length rows → row ≡ get_or rows i row
+    → made ≡ map f (take i rows) → after ≡ made ++ f row ∷ [] → after ≡ map f (take (i + 1) rows)
+made_more f rows made after i row below here so_far pushed =
+    pushed ∙ ap (λ list. list ++ f row ∷ []) so_far ∙ ap (λ r. map f (take i rows) ++ f r ∷ []) here ∙ sym (map_more f rows i row below)
 
 -- what is made of each row, up to the end of the list
-pub made_all : (f : Row → Row) (M : Rows) (rows list : List Row) (i : ℕ) → rows ≡ set.items M → length rows ≤ i → list ≡ map f (take i (set.items M)) → set.from_list list ≡ image f M
+pub made_all : (f : Row → Row) (M : Rows) (rows list : List Row) (i : ℕ) → rows ≡ set.items M → length rows ≤ i → list ≡ map f (take i rows) → set.from_list list ≡ image f M
 unfolding image
-made_all f M rows list i is past made = ap set.from_list (made ∙ ap (map f) (take_all i (set.items M) (omega (arith, past, ap length is))))
+made_all f M rows list i is past made = ap set.from_list (made ∙ ap (map f) (take_all i rows past ∙ is))
 
 -- ---- the law, where X decides A
 

@@ -1,5 +1,5 @@
 //! Carries an edit of a relation without one of its columns down to the relation.
-ghost use Rattle.std.specs.Prelude.{◌≡◌, ◌≢◌, ◌≤◌, ◌+◌, ◌*◌, ℕ, true, false, length, slice_get, Contains, IfOk, IfSome, Some};
+ghost use Rattle.std.specs.Prelude.{◌≡◌, ◌≢◌, ◌≤◌, ◌+◌, ◌*◌, ℕ, true, false, length, map, slice_get, take, Contains, IfOk, IfSome, OnOk, Some};
 ghost use Rattle.std.specs.FinMap as finmap;
 ghost use Rattle.std.specs.List.{filter_map};
 ghost use Rattle.plain_values.specs.SortedSet as set;
@@ -67,7 +67,7 @@ pub fn drop_delta<S: Look, L: Ledger>(
 }
 
 // A column that is dropped.
-#[derive(Debug, Drop)]
+#[derive(Drop)]
 struct Dropped<'a> {
     col: &'a Name,
     // The columns that determine it.
@@ -79,7 +79,7 @@ struct Dropped<'a> {
 }
 
 // The two sides of an edit, with each row filled in.
-#[derive(Debug, Drop)]
+#[derive(Drop)]
 struct FilledSides {
     remove: RowSet,
     add: RowSet,
@@ -119,21 +119,68 @@ fn filled_sides<S: Look, L: Ledger>(
         earlier: None,
     };
     for place in 0..removed.len().max(added.len()) {
-        if let Some(row) = removed.get(place) {
-            remove.push(filled_row(alloc, source, dropped, row, &mut fillings, looked)?)?;
-        }
-        if let Some(row) = added.get(place) {
-            add.push(filled_row(alloc, source, dropped, row, &mut fillings, looked)?)?;
-        }
+        append_filled(
+            alloc,
+            source,
+            dropped,
+            removed,
+            place,
+            &mut fillings,
+            &mut remove,
+            looked,
+        )?;
+        append_filled(
+            alloc,
+            source,
+            dropped,
+            added,
+            place,
+            &mut fillings,
+            &mut add,
+            looked,
+        )?;
     }
     let remove = RowSet::new(alloc, remove)?;
     let add = RowSet::new(alloc, add)?;
     Ok(FilledSides { remove, add })
 }
 
+// Adds the row at the place at the end, with the column filled in. There may be none.
+fn append_filled<S: Look, L: Ledger>(
+    alloc: Global,
+    source: &S,
+    dropped: &Dropped<'_>,
+    rows: &[Row],
+    place: usize,
+    fillings: &mut Fillings,
+    filled: &mut Vec<Row>,
+    looked: &mut Steps<L>,
+) -> Result<(), NoMemory>
+    requires some { length (set.items dropped.now.by.now) ≢ 0 }
+    requires asked { Contains (S.asked source.now) dropped.now.by.now }
+    requires have { (row : _) → Contains rows.now row → HasColumns dropped.now.by.now row }
+    requires fillings { let k = dropped.now in let M = (S.relation source.now).rows in
+        BothFill k.col.now k.by.now k.fill.now M fillings.old }
+    ensures rows { let k = dropped.now in let M = (S.relation source.now).rows in
+        let f = filled_in k.col.now k.by.now k.fill.now M in
+        OnOk result (filled.old.items ≡ map f (take place rows.now)
+        → filled.new.items ≡ map f (take (place + 1) rows.now)) }
+    ensures fillings { let k = dropped.now in let M = (S.relation source.now).rows in
+        BothFill k.col.now k.by.now k.fill.now M fillings.new }
+    ensures looks { (n : ℕ) → S.within source.now n
+        → looked.new + n * length (take place rows.now)
+        ≤ looked.old + n * length (take (place + 1) rows.now) }
+{
+    let Some(row) = rows.get(place) else {
+        return Ok(());
+    };
+    filled.push(filled_row(alloc, source, dropped, row, fillings, looked)?)?;
+    Ok(())
+}
+
 // The value that fills in this row, and each row that agrees with it on the columns that determine
 // the dropped one.
-#[derive(Debug, Drop)]
+#[derive(Drop)]
 struct Filling {
     key: Row,
     value: Value,
@@ -141,7 +188,7 @@ struct Filling {
 
 // What filled in the last rows, for up to two keys: where rows are moved from one key to another,
 // the removed rows have the one, and the added rows that come between them the other.
-#[derive(Debug, Drop)]
+#[derive(Drop)]
 struct Fillings {
     last: Option<Filling>,
     earlier: Option<Filling>,

@@ -11,7 +11,7 @@ use std::marker::Model;
 pub struct EmptySide;
 
 /// The columns of the left side decide those of the right side. Neither side is empty.
-#[derive(Debug, Drop)]
+#[derive(Drop)]
 pub struct Dep {
     left: Names,
     right: Names,

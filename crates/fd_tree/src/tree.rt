@@ -31,7 +31,7 @@ use std::alloc::Global;
 use std::marker::Model;
 
 /// An ordered list of edges in tree form. A contract sees the edges.
-#[derive(Debug, Drop)]
+#[derive(Drop)]
 pub struct Tree {
     edges: Vec<Edge>,
     outputs: Names,

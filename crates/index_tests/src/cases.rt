@@ -1,12 +1,11 @@
 //! What is seen of a change, of an index, of tables that are held, and of keys that collide.
 ghost use Rattle.std.specs.Prelude.{◌≡◌};
 
-use crate::trial::Trial;
-use sample_rows::expect;
+use crate::trial::{Trial, sure};
 use std::alloc::Global;
 use std::marker::Brand;
+use std::process::Abort;
 use std::sync::ledger::{Blank, Ledger};
-use std::test::Fail;
 use step_counter::Steps;
 
 const TRACKS: &str = "album:text title:text year:int?";
@@ -90,53 +89,58 @@ const FIRST_STEPS: &str = "
     finds k:int | k=1 | k=1
     shows k=1";
 
-// Takes the steps in turn, in a new table. It fails, with the step, if the table is not as the step
-// says.
+// Takes the steps in turn, in a new table. It stops the test, with the step, if the table is not as
+// the step says.
 fn follow<L: Ledger>(
+    rt: &impl Abort,
     alloc: Global,
     table: &str,
     columns: &str,
     lines: &str,
     steps: &mut Steps<L>,
-) -> Result<(), Fail> {
-    let mut trial = Trial::new(alloc, table, columns, steps)?;
+) {
+    let mut trial = sure(rt, Trial::new(alloc, table, columns, steps), table);
     for step in lines.lines() {
-        expect(is_so(&mut trial, step.trim(), steps)?, step)?;
+        let holds = is_so(rt, &mut trial, step.trim(), steps);
+        assert!(rt; holds, "{step}");
     }
-    Ok(())
 }
 
-fn all<L: Ledger>(alloc: Global, blank: Blank) -> Result<(), Fail>
+fn all<R: Abort, L: Ledger>(rt: &R, alloc: Global, blank: Blank)
     requires name { blank.name ≡ L.name }
     requires parts { blank.parts ≡ L.parts }
     requires one { blank.parts ≡ 1 }
 {
     let mut steps = Steps::<L>::new(blank);
-    follow(alloc, "n", "k:int", FIRST_STEPS, &mut steps)?;
-    follow(alloc, "tracks", TRACKS, STEPS, &mut steps)
+    follow(rt, alloc, "n", "k:int", FIRST_STEPS, &mut steps);
+    follow(rt, alloc, "tracks", TRACKS, STEPS, &mut steps);
+}
+
+fn all_counted<R: Abort>(rt: &R, alloc: Global) {
+    all::<R, Brand>(rt, alloc, Blank::new(1));
 }
 
 #[test]
-fn tables_are_changed_held_and_asked(rt: HostRuntime) -> Result<(), Fail> {
-    all::<Brand>(rt.alloc(), Blank::new(1))
+fn tables_are_changed_held_and_asked(rt: HostRuntime) {
+    all_counted(&rt, rt.alloc());
 }
 
 // Takes the step, and returns whether the table allows the change, or is as the step says.
-fn is_so<L: Ledger>(trial: &mut Trial, step: &str, steps: &mut Steps<L>) -> Result<bool, Fail> {
+fn is_so<L: Ledger>(rt: &impl Abort, trial: &mut Trial, step: &str, steps: &mut Steps<L>) -> bool {
     let (word, rest) = step.split_once(' ').unwrap_or((step, ""));
     match word {
-        "" => Ok(true),
-        "index" => trial.stages_index(rest, steps),
-        "unindexed" => Ok(!trial.may_be_asked(rest)?),
+        "" => true,
+        "index" => trial.stages_index(rt, rest, steps),
+        "unindexed" => !trial.may_be_asked(rt, rest),
         "stage" => {
-            trial.stages(rest, steps)?;
-            Ok(true)
+            sure(rt, trial.stages(rest, steps), rest);
+            true
         }
-        "shows" => trial.shows(rest, steps),
-        "has" => trial.has(rest, steps),
-        "lacks" => Ok(!trial.has(rest, steps)?),
-        "finds" => trial.finds(rest, steps),
-        _ => Ok(is_done(trial, word)),
+        "shows" => trial.shows(rt, rest, steps),
+        "has" => trial.has(rt, rest, steps),
+        "lacks" => !trial.has(rt, rest, steps),
+        "finds" => trial.finds(rt, rest, steps),
+        _ => is_done(trial, word),
     }
 }
 

@@ -4,11 +4,12 @@ ghost use Rattle.base_index.specs.Held.{IsThere, relation_in};
 
 use base_index::{Need, Tables};
 use lens_values::Name;
-use row_sets::Relation;
+use row_sets::{Relation, RowSet};
 use sample_rows::{are_rows, columns, relation, row};
 use signed_delta::{TableDelta, diff};
 use std::alloc::Global;
 use std::marker::Model;
+use std::process::Abort;
 use std::sync::ledger::Ledger;
 use std::test::Fail;
 use step_counter::Steps;
@@ -60,16 +61,18 @@ impl Trial {
     /// Stages nothing but an index by the columns, unless the table is held.
     pub(crate) fn stages_index<L: Ledger>(
         &mut self,
+        rt: &impl Abort,
         listed: &str,
         steps: &mut Steps<L>,
-    ) -> Result<bool, Fail> {
+    ) -> bool {
         if self.held {
-            return Ok(false);
+            return false;
         }
-        let needs = [need(self.alloc, self.name, listed)?];
+        let needs = [need(rt, self.alloc, self.name, listed)];
         self.tables.unstage();
-        self.tables.stage_definition(None, &needs, steps)?;
-        Ok(true)
+        let staged = self.tables.stage_definition(None, &needs, steps);
+        staged.expect(rt, "memory");
+        true
     }
 
     /// Stages nothing but the change that makes these all rows of the table.
@@ -132,51 +135,84 @@ impl Trial {
     }
 
     /// Whether a scan finds just these rows, in a step a row, and they are counted.
-    pub(crate) fn shows<L: Ledger>(&self, rows: &str, steps: &mut Steps<L>) -> Result<bool, Fail> {
+    pub(crate) fn shows<L: Ledger>(
+        &self,
+        rt: &impl Abort,
+        rows: &str,
+        steps: &mut Steps<L>,
+    ) -> bool {
         let before = steps.number();
-        let walked = self.tables.walk(&self.name, steps)?;
+        let walked = self.tables.walk(&self.name, steps).expect(rt, "memory");
         let taken = steps.number().saturating_sub(before);
         let count = walked.rows().len();
         let counted = self.tables.count(&self.name) == count && taken == count as u64;
-        Ok(counted && are_rows(self.alloc, &walked, rows)?)
+        counted && sure(rt, are_rows(self.alloc, &walked, rows), rows)
     }
 
     /// Whether the table has the row.
-    pub(crate) fn has<L: Ledger>(&self, text: &str, steps: &mut Steps<L>) -> Result<bool, Fail> {
-        let row = row(self.alloc, text)?;
-        Ok(self.tables.has(&self.name, &row, steps))
+    pub(crate) fn has<L: Ledger>(&self, rt: &impl Abort, text: &str, steps: &mut Steps<L>) -> bool {
+        let row = sure(rt, row(self.alloc, text), text);
+        self.tables.has(&self.name, &row, steps)
     }
 
     /// Whether the table may be asked by the columns.
-    pub(crate) fn may_be_asked(&self, listed: &str) -> Result<bool, Fail> {
-        let need = need(self.alloc, self.name, listed)?;
-        Ok(self.tables.has_index(&need))
+    pub(crate) fn may_be_asked(&self, rt: &impl Abort, listed: &str) -> bool {
+        let need = need(rt, self.alloc, self.name, listed);
+        self.tables.has_index(&need)
     }
 
     /// Whether just the rows are found by the key, as `a:int | a=1 | a=1 b=1; a=1 b=2`. The key may
     /// have more columns than the index.
-    pub(crate) fn finds<L: Ledger>(&self, text: &str, steps: &mut Steps<L>) -> Result<bool, Fail> {
-        let (listed, rest) = text.split_once('|').ok_or("no key")?;
-        let (key, rows) = rest.split_once('|').ok_or("no rows")?;
-        let key = row(self.alloc, key)?;
-        let need = need(self.alloc, self.name, listed)?;
-        if !self.tables.has_index(&need) {
-            return Err(Fail::from("no index has these columns"));
-        }
-        let found = self.tables.find(&self.name, &need.cols, &key, steps)?;
-        are_rows(self.alloc, &found, rows)
+    pub(crate) fn finds<L: Ledger>(
+        &self,
+        rt: &impl Abort,
+        text: &str,
+        steps: &mut Steps<L>,
+    ) -> bool {
+        let (listed, rest) = text.split_once('|').expect(rt, text);
+        let (key, rows) = rest.split_once('|').expect(rt, text);
+        let found = self.found(rt, listed, key, steps);
+        sure(rt, are_rows(self.alloc, &found, rows), rows)
+    }
+
+    // The rows that are found by the columns and the key.
+    fn found<L: Ledger>(
+        &self,
+        rt: &impl Abort,
+        listed: &str,
+        key: &str,
+        steps: &mut Steps<L>,
+    ) -> RowSet {
+        let key = sure(rt, row(self.alloc, key), key);
+        let need = need(rt, self.alloc, self.name, listed);
+        assert!(rt;
+            self.tables.has_index(&need),
+            "no index has the columns {listed}"
+        );
+        let found = self.tables.find(&self.name, &need.cols, &key, steps);
+        found.expect(rt, "memory")
+    }
+}
+
+/// What was made of the text. It stops the test, with the text, if nothing was.
+pub(crate) fn sure<T>(rt: &impl Abort, made: Result<T, Fail>, text: &str) -> T
+    ensures { made ≡ Ok result }
+{
+    match made {
+        Ok(value) => value,
+        Err(_fail) => panic!(rt; "{text}"),
     }
 }
 
 // The need to ask the table by the columns.
-fn need(alloc: Global, table: Name, listed: &str) -> Result<Need, Fail>
-    ensures { IfOk result (λ need. need.table ≡ table) }
+fn need(rt: &impl Abort, alloc: Global, table: Name, listed: &str) -> Need
+    ensures { result.table ≡ table }
 {
-    let columns = columns(alloc, listed)?;
-    Ok(Need {
+    let columns = sure(rt, columns(alloc, listed), listed);
+    Need {
         table,
-        cols: columns.names(alloc)?,
-    })
+        cols: columns.names(alloc).expect(rt, listed),
+    }
 }
 
 // The columns and the rows of the table.

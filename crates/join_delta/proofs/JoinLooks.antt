@@ -145,18 +145,15 @@ module _ (a b : ℕ) (some_a : 1 ≤ a) (some_b : 1 ≤ b) where
   in_all : (d old now : ℕ) → now ≤ old + 195 * (d * (a * b)) + 387 * (d * (a * b) * (a * b)) → now ≤ old + 582 * (d * (a * b) * (a * b))
   in_all d old now h = let p = square d in omega arith
 
-  pub after_right : (d old l1 : ℕ) → l1 ≤ old + 65 * (d * (a * b)) → l1 ≤ old + 582 * (d * (a * b) * (a * b))
-  after_right d old l1 h = in_all d old l1 (omega arith)
+  pub after_merges : (d old l1 : ℕ) → l1 ≤ old + 130 * (d * (a * b)) → l1 ≤ old + 582 * (d * (a * b) * (a * b))
+  after_merges d old l1 h = in_all d old l1 (omega arith)
 
-  pub after_left : (d old l1 l2 : ℕ) → l1 ≤ old + 65 * (d * (a * b)) → l2 ≤ l1 + 65 * (d * (a * b)) → l2 ≤ old + 582 * (d * (a * b) * (a * b))
-  after_left d old l1 l2 h i = in_all d old l2 (omega arith)
+  pub after_suspects : (d old l1 l2 : ℕ) → l1 ≤ old + 130 * (d * (a * b)) → l2 ≤ l1 + 65 * (d * (a * b)) → l2 ≤ old + 582 * (d * (a * b) * (a * b))
+  after_suspects d old l1 l2 h i = in_all d old l2 (omega arith)
 
-  pub after_suspects : (d old l1 l2 l3 : ℕ) → l1 ≤ old + 65 * (d * (a * b)) → l2 ≤ l1 + 65 * (d * (a * b)) → l3 ≤ l2 + 65 * (d * (a * b)) → l3 ≤ old + 582 * (d * (a * b) * (a * b))
-  after_suspects d old l1 l2 l3 h i j = in_all d old l3 (omega arith)
-
-  pub after_tests : (d old l1 l2 l3 l4 : ℕ) → l1 ≤ old + 65 * (d * (a * b)) → l2 ≤ l1 + 65 * (d * (a * b)) → l3 ≤ l2 + 65 * (d * (a * b)) → l4 ≤ l3 + 387 * (d * (a * b) * (a * b))
-      → l4 ≤ old + 582 * (d * (a * b) * (a * b))
-  after_tests d old l1 l2 l3 l4 h i j k = in_all d old l4 (omega arith)
+  pub after_tests : (d old l1 l2 l3 : ℕ) → l1 ≤ old + 130 * (d * (a * b)) → l2 ≤ l1 + 65 * (d * (a * b)) → l3 ≤ l2 + 387 * (d * (a * b) * (a * b))
+      → l3 ≤ old + 582 * (d * (a * b) * (a * b))
+  after_tests d old l1 l2 l3 h i j = in_all d old l3 (omega arith)
 
 -- within the work of the node
 pub in_work : (a b d k old now : ℕ) → k ≤ 32768 → now ≤ old + k * (d * (a * b) * (a * b)) → now ≤ old + node_work d (2 * a * b)

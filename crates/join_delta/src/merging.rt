@@ -18,7 +18,7 @@ use std::sync::ledger::Ledger;
 use step_counter::Steps;
 
 /// Rows that go, and rows that come.
-#[derive(Debug, Drop)]
+#[derive(Drop)]
 pub struct Change {
     /// The rows that go.
     pub remove: RowSet,

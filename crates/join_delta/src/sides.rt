@@ -6,7 +6,7 @@ use lens_values::{Columns, Names, NoMemory};
 use std::alloc::Global;
 
 /// The names of the columns of each source, and those that they share.
-#[derive(Debug, Drop)]
+#[derive(Drop)]
 pub struct Sides {
     /// The names of the left source's columns.
     pub left: Names,

@@ -1,12 +1,13 @@
 //! Both sources of a join, merged with an edit of it.
 ghost use Rattle.std.specs.Prelude.{◌≡◌, ◌≢◌, ◌≤◌, ◌+◌, ◌*◌, ℕ, true, [], ◌∷◌, length, Contains, IfOk, IfSome, OnOk, is_some};
 ghost use Rattle.plain_values.specs.SortedSet as set;
-ghost use Rattle.lens_specs.specs.Relation.{minus, union};
+ghost use Rattle.lens_specs.specs.Relation.{IsRelation, minus, union};
 ghost use Rattle.lens_specs.specs.Rows.{at};
 ghost use Rattle.lens_laws.specs.KeyedDeltas.{suspects as suspects_of};
 ghost use Rattle.lens_laws.specs.Work.{rows_of};
 ghost use Rattle.join_delta.specs.Joined.{AreExchanged, CanEdit, IsSource};
-ghost use Rattle.join_delta.specs.Surplus.{IsMerged};
+ghost use Rattle.join_delta.specs.Pairs.{AreSides};
+ghost use Rattle.join_delta.specs.Surplus.{AreMerges, IsMerged};
 
 use crate::merging::{Change, merge_change, merge_known};
 use crate::over::over_pairs;
@@ -20,7 +21,7 @@ use std::sync::ledger::Ledger;
 use step_counter::Steps;
 
 /// What an edit of a join makes of its sources before rows are deleted.
-#[derive(Debug, Drop)]
+#[derive(Drop)]
 pub struct Merged {
     /// The names of the sources' columns.
     pub sides: Sides,
@@ -65,31 +66,72 @@ pub fn merge_sources<A: Look, B: Look, L: Ledger>(
         → length (set.items merged.over) ≤ 129 * (rows_of delta.now * (a * b))) }
 {
     let sides = sides_of(alloc, left.look.columns(), right.look.columns())?;
-    let right_rows = delta.add().project(alloc, &sides.right)?;
-    let stay = exchanges(delta, &sides.right);
-    let change = merge_known(alloc, right, &right_rows, stay, looked)?;
-    let left_rows = delta.add().project(alloc, &sides.left)?;
-    let merged = merge_change(alloc, left, &left_rows, looked)?;
-    let right_change = Delta::new(change.remove, change.add);
-    let suspects = suspects(alloc, &sides, left.look, &right_change, delta, looked)?;
-    let tested = tested(alloc, &suspects, &merged, &left_rows)?;
+    let merges = merge_parts(alloc, &sides, left, right, delta, looked)?;
+    let suspects = suspects(alloc, &sides, left.look, &merges.right, delta, looked)?;
+    let tested = tested(alloc, &suspects, &merges.left, &merges.left_rows)?;
     let over = over_pairs(
         alloc,
         &tested,
         &sides,
         left.look,
         right.look,
-        &right_change,
+        &merges.right,
         delta,
         looked,
     )?;
-    let left_change = Delta::new(merged.remove, merged.add);
+    let left_change = Delta::new(merges.left.remove, merges.left.add);
     Ok(Merged {
         sides,
         left: left_change,
-        right: right_change,
-        parts: right_rows,
+        right: merges.right,
+        parts: merges.right_rows,
         over,
+    })
+}
+
+// What merging changes in each source, and the parts of the added rows that it is merged with.
+#[derive(Drop)]
+struct Merges {
+    left: Change,
+    right: Delta,
+    left_rows: RowSet,
+    right_rows: RowSet,
+}
+
+// Merges each source with its part of the added rows.
+fn merge_parts<A: Look, B: Look, L: Ledger>(
+    alloc: Global,
+    sides: &Sides,
+    left: &Source<'_, A>,
+    right: &Source<'_, B>,
+    delta: &Delta,
+    looked: &mut Steps<L>,
+) -> Result<Merges, NoMemory>
+    requires can { let a = left.now.look.now in let b = right.now.look.now in
+        CanEdit (A.asked a) (B.asked b) (A.relation a) (B.relation b)
+        left.now.tree.now right.now.tree.now delta.now }
+    requires sides { let U = (A.relation left.now.look.now).columns in
+        AreSides U (B.relation right.now.look.now).columns sides.now }
+    requires left { IsRelation (A.relation left.now.look.now) }
+    requires right { IsRelation (B.relation right.now.look.now) }
+    ensures merges { let R = A.relation left.now.look.now in
+        IfOk result (AreMerges R (B.relation right.now.look.now)
+        left.now.tree.now right.now.tree.now delta.now) }
+    ensures looks { (a b : ℕ) → A.within left.now.look.now a → B.within right.now.look.now b
+        → 1 ≤ a → 1 ≤ b → length left.now.tree.now ≤ 64 → length right.now.tree.now ≤ 64
+        → looked.new ≤ looked.old + 130 * (rows_of delta.now * (a * b)) }
+{
+    let right_rows = delta.add().project(alloc, &sides.right)?;
+    let stay = exchanges(delta, &sides.right);
+    let change = merge_known(alloc, right, &right_rows, stay, looked)?;
+    let left_rows = delta.add().project(alloc, &sides.left)?;
+    let merged = merge_change(alloc, left, &left_rows, looked)?;
+    let right_change = Delta::new(change.remove, change.add);
+    Ok(Merges {
+        left: merged,
+        right: right_change,
+        left_rows,
+        right_rows,
     })
 }
 

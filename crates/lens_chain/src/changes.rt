@@ -11,7 +11,7 @@ use std::collections::BTreeMap;
 use std::marker::Model;
 
 /// A difference for each of some tables. A contract sees them by name.
-#[derive(Debug, Drop)]
+#[derive(Drop)]
 pub struct Changes {
     deltas: BTreeMap<Name, Delta>,
 }

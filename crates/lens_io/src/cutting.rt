@@ -18,7 +18,7 @@ use std::alloc::Global;
 use std::marker::Model;
 
 /// The answer to `LineCutter::next`. Only `Line` and `TooLong` are followed by another answer.
-#[derive(Clone, Copy, Debug, PartialEq, Eq)]
+#[derive(Clone, Copy, PartialEq, Eq)]
 pub enum Cut {
     /// A line, which `LineCutter::line` reads.
     Line,
@@ -37,7 +37,7 @@ pub const ROOM: usize = 65_536;
 
 /// Cuts the bytes of a source into lines. A last line without a newline counts where it is not
 /// empty.
-#[derive(Debug, Drop)]
+#[derive(Drop)]
 pub struct LineCutter {
     bytes: Vec<u8>,
     found: Found,

@@ -11,7 +11,7 @@ use std::alloc::Global;
 use std::marker::Model;
 
 /// A source of bytes in memory. Each call gives as many as there is room for, and none fails.
-#[derive(Debug, Drop)]
+#[derive(Drop)]
 pub struct SureSource {
     bytes: Vec<u8>,
     at: usize,
@@ -60,7 +60,7 @@ impl Source for SureSource {
 
 /// The calls of a device in memory: the numbers of those that fail, and how many there were and
 /// have failed.
-#[derive(Debug, Drop)]
+#[derive(Drop)]
 struct Calls {
     failing: Vec<u64>,
     count: u64,
@@ -99,7 +99,7 @@ impl Calls {
 
 /// A source of bytes in memory that gives them in pieces, and fails at some calls. It keeps its
 /// calls as long as there is memory for their list.
-#[derive(Debug, Drop)]
+#[derive(Drop)]
 pub struct MemorySource {
     source: SureSource,
     piece: usize,
@@ -218,7 +218,7 @@ impl Source for MemorySource {
 
 /// A sink in memory that takes bytes in pieces, and fails at some calls. It keeps its calls as long
 /// as there is memory for their list.
-#[derive(Debug, Drop)]
+#[derive(Drop)]
 pub struct MemorySink {
     bytes: Vec<u8>,
     room: usize,

@@ -6,7 +6,7 @@ ghost use Rattle.lens_io.specs.Bytes.{AppendsFront};
 ghost use Rattle.lens_io.specs.Calls.{Adds, AddsGive, AddsTake, Call, Offer, OffersAll, OffersRest, ReadConsumes, ReadsAtMost, Rose, WriteAppends};
 
 /// A source or a sink failed, and has counted it.
-#[derive(Clone, Copy, Debug, PartialEq, Eq)]
+#[derive(Clone, Copy, PartialEq, Eq)]
 pub struct Failed;
 
 /// A source of bytes.

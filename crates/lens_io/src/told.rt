@@ -5,7 +5,7 @@ ghost use Rattle.lens_io.specs.Calls.{AddsCall, AddsOffer, call_of, calls_kept, 
 use no_memory::NoMemory;
 
 /// One call of a source: the room that it was given, and the bytes that came.
-#[derive(Debug, Drop)]
+#[derive(Drop)]
 pub struct Take {
     /// How many bytes there was room for.
     pub room: usize,
@@ -14,7 +14,7 @@ pub struct Take {
 }
 
 /// One call of a sink.
-#[derive(Clone, Copy, Debug, PartialEq, Eq)]
+#[derive(Clone, Copy, PartialEq, Eq)]
 pub struct Offer {
     /// How many bytes it was handed.
     pub size: usize,

@@ -11,7 +11,7 @@ use crate::pred::Pred;
 use lens_values::{Columns, Kind, Name, Value};
 
 /// Why a predicate does not fit the columns.
-#[derive(Clone, Copy, Debug, PartialEq, Eq)]
+#[derive(Clone, Copy, PartialEq, Eq)]
 pub enum PredFault {
     /// The first name in text order that is no column.
     UnknownColumn { name: Name },

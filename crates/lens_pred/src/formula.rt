@@ -8,7 +8,7 @@ use lens_values::{Name, Value};
 use std::marker::Model;
 
 /// Values, in order. A contract sees their list.
-#[derive(Debug, Drop)]
+#[derive(Drop)]
 pub struct Values {
     list: Vec<Value>,
 }
@@ -24,7 +24,7 @@ impl Model for Values {
 
 /// A condition on a row. A contract sees it through `formula_view`.
 #[cycle(formula)]
-#[derive(Debug, Drop)]
+#[derive(Drop)]
 pub enum Formula {
     /// Holds of each row.
     True,
@@ -48,7 +48,7 @@ pub enum Formula {
 
 /// Conditions, in order. A contract sees them through `formulas_view`.
 #[cycle(formula)]
-#[derive(Debug, Drop)]
+#[derive(Drop)]
 pub struct Formulas {
     list: Vec<Formula>,
 }

@@ -105,10 +105,10 @@ impl Formula {
         match self {
             Formula::True | Formula::False => Ok(()),
             Formula::Compare { col, .. } | Formula::OneOf { col, .. } | Formula::IsNull { col } =>
-                Ok(list.push(*col)?),
+                push(list, col),
             Formula::CompareCols { col, other, .. } => {
-                list.push(*col)?;
-                Ok(list.push(*other)?)
+                push(list, col)?;
+                push(list, other)
             }
             Formula::Not(inner) => inner.append_names(list),
             Formula::And(members) | Formula::Or(members) => {
@@ -116,6 +116,13 @@ impl Formula {
             }
         }
     }
+}
+
+// Adds the name at the end.
+fn push(list: &mut Vec<Name>, name: &Name) -> Result<(), NoMemory>
+    ensures { OnOk result (list.new.items ≡ list.old.items ++ name.now ∷ []) }
+{
+    Ok(list.push(*name)?)
 }
 
 // The first name in the formulas that is sought.

@@ -6,7 +6,7 @@ ghost use Rattle.lens_pred.specs.Op.{op_view};
 use std::cmp::Ordering;
 
 /// How two values are compared.
-#[derive(Clone, Copy, Debug, PartialEq, Eq)]
+#[derive(Clone, Copy, PartialEq, Eq)]
 pub enum Op {
     Eq,
     Ne,

@@ -14,7 +14,7 @@ use std::alloc::Global;
 use std::marker::Model;
 
 /// Conditions that all have to hold, each in normal form and none of them an `And`.
-#[derive(Debug, Drop)]
+#[derive(Drop)]
 pub struct Pred {
     conjuncts: Vec<Formula>,
 }

@@ -3,6 +3,7 @@ ghost use Rattle.std.specs.Prelude.{◌≡◌, ◌++◌, IfOk, OnOk};
 ghost use Rattle.lens_specs.specs.Rename.{renamed_formula, renamed_formulas, renamed_predicate};
 ghost use Rattle.lens_pred.specs.View.{formula_view, formulas_view, predicate_view};
 
+use crate::copying::{compare, negation, one_of};
 use crate::formula::{Formula, Formulas};
 use crate::pred::Pred;
 use lens_values::{Name, NoMemory};
@@ -18,26 +19,19 @@ impl Formula {
         match self {
             Formula::True => Ok(Formula::True),
             Formula::False => Ok(Formula::False),
-            Formula::Compare { col, op, value } => Ok(Formula::Compare {
-                col: col.rename(from, to),
-                op: *op,
-                value: value.copy(alloc)?,
-            }),
+            Formula::Compare { col, op, value } => {
+                compare(alloc, col.rename(from, to), *op, value)
+            }
             Formula::CompareCols { col, op, other } => Ok(Formula::CompareCols {
                 col: col.rename(from, to),
                 op: *op,
                 other: other.rename(from, to),
             }),
-            Formula::OneOf { col, values } => Ok(Formula::OneOf {
-                col: col.rename(from, to),
-                values: values.copy(alloc)?,
-            }),
+            Formula::OneOf { col, values } => one_of(alloc, col.rename(from, to), values),
             Formula::IsNull { col } => Ok(Formula::IsNull {
                 col: col.rename(from, to),
             }),
-            Formula::Not(inner) => {
-                Ok(Formula::Not(Box::new(alloc, inner.rename(alloc, from, to)?)?))
-            }
+            Formula::Not(inner) => negation(alloc, inner.rename(alloc, from, to)?),
             Formula::And(members) => Ok(Formula::And(members.rename(alloc, from, to)?)),
             Formula::Or(members) => Ok(Formula::Or(members.rename(alloc, from, to)?)),
         }

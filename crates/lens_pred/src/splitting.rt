@@ -12,7 +12,7 @@ use lens_values::{Name, NoMemory};
 use std::alloc::Global;
 
 /// Why a predicate cannot be split.
-#[derive(Clone, Copy, Debug, PartialEq, Eq)]
+#[derive(Clone, Copy, PartialEq, Eq)]
 pub enum SplitFault {
     /// The conjunct at this place, from 0, is the first that mentions the column and another.
     Mixed { index: usize },

@@ -1,6 +1,6 @@
 -- Requests that name a view, from what is told of its lens.
-use Rattle.std.proofs.Common.{◌≡◌, ◌∙◌, ◌+◌, ◌≤◌, ℕ, Bool, true, false, List, [], Option, Some, None, Result, Ok, Err, ap, refl, subst, sym, arith, IsErr, Vec, if◌then◌else◌}
-use Rattle.plain_values.proofs.Common.{true≢false, Global}
+use Rattle.std.proofs.Common.{◌≡◌, ◌∙◌, ◌+◌, ◌≤◌, ℕ, Bool, true, false, List, [], Option, Some, None, Result, Ok, Err, ap, refl, subst, sym, arith, IfOk, Vec, if◌then◌else◌}
+use Rattle.plain_values.proofs.Common.{IfOk-at_ok, IfOk-weaker, Global}
 use Rattle.no_memory.specs.declared.NoMemory.{NoMemory}
 use Rattle.signed_delta.specs.declared.delta.TableDelta.{TableDelta}
 use Rattle.std.specs.FinMap as finmap
@@ -23,12 +23,13 @@ use Rattle.database.specs.States.{state_of}
 use Rattle.database.specs.declared.database.Database.{Database}
 use Rattle.database.specs.declared.plan.Plan.{Plan}
 use Rattle.database.specs.declared.plan.Staged.{Staged}
-use Rattle.lens_server.specs.Counting.{Walks, edit_looks, find_looks, import_looks, is_asked_by, most_looked, most_walked, of_lens, put_looks, row_count}
+use Rattle.lens_server.specs.Counting.{RisesBy, Walks, edit_looks, find_looks, import_looks, is_asked_by, most_looked, most_walked, of_lens, put_looks, row_count}
 use Rattle.lens_server.specs.Exports.{ExportReadsBack, NamedReadsBack}
 use Rattle.view_changes.specs.Sheets.{IsSheetOf}
 use Rattle.view_changes.specs.declared.sheets.SheetFault.{SheetFault}
 use Rattle.view_changes.specs.declared.sheets.SheetFault.TheVariants as sheet
 use Rattle.lens_server.specs.SheetFaults.{TellsSheet}
+use Rattle.lens_server.specs.Planning.{Plans, PlansFor, PlansView}
 use Rattle.lens_server.specs.ViewRequests.{IsToldBack, looks_of, request_of, told_of, walks_of}
 use Rattle.lens_server.specs.declared.views.ViewRequest.{ViewRequest}
 use Rattle.lens_server.specs.declared.views.ViewRequest.TheVariants as asked
@@ -46,7 +47,7 @@ seen_is opened database h = (λ i. record { texts = []; tables = (h.tables i).pr
 -- ---- the lens of a name
 
 -- where the name has this lens, the request is answered by it
-pub told_known : (q : ViewRequest) (name : Name) (L : Lens) (s : State) → Some L ≡ finmap.get (catalogue s.texts) name → answer_request (Ok (request_of name q)) s ≡ told_of q L s
+told_known : (q : ViewRequest) (name : Name) (L : Lens) (s : State) → Some L ≡ finmap.get (catalogue s.texts) name → answer_request (Ok (request_of name q)) s ≡ told_of q L s
 told_known asked.Read name L s is = ap (λ o. unchanged (about (rows_told s) name o) s) (sym is)
 told_known (asked.Find column value) name L s is = ap (λ o. unchanged (about (finding_told s column value) name o) s) (sym is)
 told_known (asked.Put rows on) name L s is = ap (λ o. changed_by (whole rows) on name o s) (sym is)
@@ -57,7 +58,7 @@ told_known asked.Export name L s is = ap (λ o. unchanged (about (λ M. sheet_to
 told_known (asked.Import csv on) name L s is = ap (λ o. imported_by csv on name o s) (sym is)
 
 -- where it has none, that is told
-pub told_unknown : (q : ViewRequest) (name : Name) (s : State) → None ≡ finmap.get (catalogue s.texts) name → answer_request (Ok (request_of name q)) s ≡ unchanged (unknown_name name) s
+told_unknown : (q : ViewRequest) (name : Name) (s : State) → None ≡ finmap.get (catalogue s.texts) name → answer_request (Ok (request_of name q)) s ≡ unchanged (unknown_name name) s
 told_unknown asked.Read name s is = ap (λ o. unchanged (about (rows_told s) name o) s) (sym is)
 told_unknown (asked.Find column value) name s is = ap (λ o. unchanged (about (finding_told s column value) name o) s) (sym is)
 told_unknown (asked.Put rows on) name s is = ap (λ o. changed_by (whole rows) on name o s) (sym is)
@@ -68,47 +69,27 @@ told_unknown asked.Export name s is = ap (λ o. unchanged (about (λ M. sheet_to
 told_unknown (asked.Import csv on) name s is = ap (λ o. imported_by csv on name o s) (sym is)
 
 -- it may walk what its lens may
-pub walks_known : (q : ViewRequest) (name : Name) (L : Lens) (s : State) → Some L ≡ finmap.get (catalogue s.texts) name → most_walked (Ok (request_of name q)) s ≡ walks_of q L s.tables
-walks_known asked.Read name L s is = refl
+walks_known : (q : ViewRequest) (name : Name) (L : Lens) (s : State) → Some L ≡ finmap.get (catalogue s.texts) name → most_walked (Ok (request_of name q)) s ≡ walks_of q L s.tables
 walks_known (asked.Find column value) name L s is = ap (λ o. if is_asked_by column o then 0 else row_count s.tables) (sym is)
-walks_known (asked.Put rows on) name L s is = refl
-walks_known (asked.Edit remove add on) name L s is = refl
-walks_known (asked.Preview remove add on) name L s is = refl
-walks_known asked.Describe name L s is = refl
-walks_known asked.Export name L s is = refl
-walks_known (asked.Import csv on) name L s is = refl
+walks_known q name L s is = refl
 
 -- and look at what its lens may
-pub looks_known : (q : ViewRequest) (name : Name) (L : Lens) (s : State) → Some L ≡ finmap.get (catalogue s.texts) name → most_looked (Ok (request_of name q)) s ≡ looks_of q L s.tables
-looks_known asked.Read name L s is = refl
+looks_known : (q : ViewRequest) (name : Name) (L : Lens) (s : State) → Some L ≡ finmap.get (catalogue s.texts) name → most_looked (Ok (request_of name q)) s ≡ looks_of q L s.tables
 looks_known (asked.Find column value) name L s is = ap (of_lens (find_looks s.tables column)) (sym is)
 looks_known (asked.Put rows on) name L s is = ap (of_lens (put_looks s.tables rows)) (sym is)
 looks_known (asked.Edit remove add on) name L s is = ap (of_lens (edit_looks s.tables remove add)) (sym is)
 looks_known (asked.Preview remove add on) name L s is = ap (of_lens (edit_looks s.tables remove add)) (sym is)
-looks_known asked.Describe name L s is = refl
-looks_known asked.Export name L s is = refl
 looks_known (asked.Import csv on) name L s is = ap (of_lens (import_looks s.tables csv)) (sym is)
+looks_known q name L s is = refl
 
 -- what it exports reads back
-pub back_known : (q : ViewRequest) (name : Name) (L : Lens) (s : State) → Some L ≡ finmap.get (catalogue s.texts) name → IsToldBack q L s.tables → ExportReadsBack (Ok (request_of name q)) s
-back_known asked.Read name L s is h = h
-back_known (asked.Find column value) name L s is h = h
-back_known (asked.Put rows on) name L s is h = h
-back_known (asked.Edit remove add on) name L s is h = h
-back_known (asked.Preview remove add on) name L s is h = h
-back_known asked.Describe name L s is h = h
+back_known : (q : ViewRequest) (name : Name) (L : Lens) (s : State) → Some L ≡ finmap.get (catalogue s.texts) name → IsToldBack q L s.tables → ExportReadsBack (Ok (request_of name q)) s
 back_known asked.Export name L s is h = subst (λ o. NamedReadsBack o s.tables) is h
-back_known (asked.Import csv on) name L s is h = h
+back_known q name L s is h = h
 
-pub back_unknown : (q : ViewRequest) (name : Name) (s : State) → None ≡ finmap.get (catalogue s.texts) name → ExportReadsBack (Ok (request_of name q)) s
-back_unknown asked.Read name s is = tt
-back_unknown (asked.Find column value) name s is = tt
-back_unknown (asked.Put rows on) name s is = tt
-back_unknown (asked.Edit remove add on) name s is = tt
-back_unknown (asked.Preview remove add on) name s is = tt
-back_unknown asked.Describe name s is = tt
+back_unknown : (q : ViewRequest) (name : Name) (s : State) → None ≡ finmap.get (catalogue s.texts) name → ExportReadsBack (Ok (request_of name q)) s
 back_unknown asked.Export name s is = subst (λ o. NamedReadsBack o s.tables) is tt
-back_unknown (asked.Import csv on) name s is = tt
+back_unknown q name s is = tt
 
 -- ---- plans
 
@@ -117,13 +98,63 @@ pub unchanged_plan : (database : Database) (plan : Plan) (answer : Answer) → a
 unchanged_plan database plan answer is none = record { answer = is; leads = subst (λ o. Leads o (state_of database) database) (sym none) refl }
 
 -- and walks no more when it is settled
-pub unchanged_walks : (database : Database) (o : Option Staged) (old new most : ℕ) → o ≡ None → new ≤ old + most → new + steps_of o database ≤ old + most
+unchanged_walks : (database : Database) (o : Option Staged) (old new most : ℕ) → o ≡ None → new ≤ old + most → new + steps_of o database ≤ old + most
 unchanged_walks database o old new most none h = subst (λ p. new + steps_of p database ≤ old + most) (sym none) (omega (arith, h))
 
--- where memory ran out
-pub failed_walks : (database : Database) (r : Result Plan NoMemory) (old new most : ℕ) → IsErr r → new ≤ old + most → Walks r database old new most
-failed_walks database (Ok plan) old new most is h = absurd (true≢false (sym is))
-failed_walks database (Err e) old new most is h = h
+answer_walks : (r : Result Plan NoMemory) (database : Database) (old new most : ℕ) → IfOk r (λ plan. plan.staged ≡ None) → new ≤ old + most → Walks r database old new most
+answer_walks (Ok plan) database old new most none h = unchanged_walks database plan.staged old new most none h
+answer_walks (Err e) database old new most none h = h
+
+-- what holds of an answer holds of the plan to give it alone
+module _ {X : Type 0} (f : Plan → X) (a : Result X NoMemory) (r : Result Plan NoMemory) (is : IfOk r (λ plan. a ≡ Ok (f plan))) (none : IfOk r (λ plan. plan.staged ≡ None)) where
+  pub answer_fits : (Q : X → Type 0) (P : Plan → Type 0) → IfOk a Q → ((plan : Plan) → plan.staged ≡ None → Q (f plan) → P plan) → IfOk r P
+  answer_fits Q P told fits =
+      elim r as (λ r. IfOk r (λ plan. a ≡ Ok (f plan)) → IfOk r (λ plan. plan.staged ≡ None) → IfOk r P) [
+        | Ok plan ↦ λ is none. fits plan none (IfOk-at_ok Q is told)
+        | Err e ↦ λ _ _. tt
+      ] is none
+
+  -- it is the one that is expected
+  pub answer_told : (view : X → Answer) (expected : Answer) (database : Database) → ((plan : Plan) → view (f plan) ≡ answer_view plan.answer) → IfOk a (λ x. view x ≡ expected)
+      → IfOk r (λ plan. IsPlan plan (unchanged expected (state_of database)) database)
+  answer_told view expected database same told =
+      answer_fits (λ x. view x ≡ expected) (λ plan. IsPlan plan (unchanged expected (state_of database)) database) told (λ plan n e. unchanged_plan database plan expected (sym (same plan) ∙ e) n)
+
+-- the plan to give an answer alone
+pub answer_planned : (expected : Answer) {back : Type 0} {walks looks : ℕ} {database : Database} {r : Result Plan NoMemory} {walked walked' looked looked' : ℕ}
+    → IfOk r (λ plan. IsPlan plan (unchanged expected (state_of database)) database) → IfOk r (λ plan. plan.staged ≡ None) → IfOk r (λ _. back) → RisesBy walks walked walked' → looked' ≤ looked + looks
+    → Plans (unchanged expected (state_of database)) back walks looks database r walked walked' looked looked'
+answer_planned expected {walks = walks} {database = database} {r = r} {walked = walked} {walked' = walked'} plan none back walk look =
+    record { plan = plan; reads_back = back; walk = answer_walks r database walked walked' walks none walk.1; look = look; walks_on = walk.0 }
+
+-- nothing that reads back is owed
+pub none_back : (r : Result Plan NoMemory) → IfOk r (λ _. Unit {0})
+none_back (Ok plan) = tt
+none_back (Err e) = tt
+
+-- where the name has this lens, the plan for the lens is the one for the request
+pub known_planned : (q : ViewRequest) (name : Name) (L : Lens) (database : Database) (r : Result Plan NoMemory) (walked walked' looked looked' : ℕ) → Some L ≡ finmap.get (catalogue database.catalog.texts) name
+    → PlansView q L database r walked walked' looked looked' → PlansFor (Ok (request_of name q)) (state_of database) database r walked walked' looked looked'
+known_planned q name L database r walked walked' looked looked' is h =
+    let s = state_of database in record {
+      plan = subst (λ x. IfOk r (λ plan. IsPlan plan x database)) (sym (told_known q name L s is)) h.plan;
+      reads_back = IfOk-weaker r (λ _. IsToldBack q L s.tables) (λ _. ExportReadsBack (Ok (request_of name q)) s) (λ _ back. back_known q name L s is back) h.reads_back;
+      walk = subst (Walks r database walked walked') (sym (walks_known q name L s is)) h.walk;
+      look = subst (λ n. looked' ≤ looked + n) (sym (looks_known q name L s is)) h.look;
+      walks_on = h.walks_on;
+    }
+
+-- where it has none, the plan is to tell that
+pub unknown_planned : (q : ViewRequest) (name : Name) (database : Database) (plan : Plan) (walked looked : ℕ) → None ≡ finmap.get (catalogue database.catalog.texts) name
+    → answer_view plan.answer ≡ unknown_name name → plan.staged ≡ None → PlansFor (Ok (request_of name q)) (state_of database) database (Ok plan) walked walked looked looked
+unknown_planned q name database plan walked looked is answer none =
+    let s = state_of database in record {
+      plan = subst (λ x. IsPlan plan x database) (sym (told_unknown q name s is)) (unchanged_plan database plan (unknown_name name) answer none);
+      reads_back = back_unknown q name s is;
+      walk = unchanged_walks database plan.staged walked walked (most_walked (Ok (request_of name q)) s) none (omega arith);
+      look = omega arith;
+      walks_on = omega arith;
+    }
 
 -- a find walks nothing by the left side of a dependency
 pub found_few : (b : Bool) (n old new : ℕ) → new ≤ old + n → (b ≡ true → new ≡ old) → new ≤ old + (if b then 0 else n)
@@ -166,8 +197,8 @@ sheet_seen (Some name) L s = refl
 
 module _ (opened : Opened) (database : Database) (h : IsOpened opened database) where
   -- an answer that goes by what is seen is that of the state
-  pub seen_answer : (f : State → Answer) (answer : Answer) → answer ≡ f (seen opened) → f (bare (state_of database)) ≡ f (state_of database) → answer ≡ f (state_of database)
-  seen_answer f answer is same = is ∙ ap f (seen_is opened database h) ∙ same
+  pub seen_told : {X : Type 0} (view : X → Answer) (f : State → Answer) (r : Result X NoMemory) → f (bare (state_of database)) ≡ f (state_of database) → IfOk r (λ a. view a ≡ f (seen opened)) → IfOk r (λ a. view a ≡ f (state_of database))
+  seen_told view f r same told = IfOk-weaker r (λ a. view a ≡ f (seen opened)) (λ a. view a ≡ f (state_of database)) (λ a is. is ∙ ap f (seen_is opened database h) ∙ same) told
 
   -- and so is a change
   pub seen_put : (change : Result (Vec TableDelta Global) Refusal) (expected : State → Result Rows EditRefusal) → expected (bare (state_of database)) ≡ expected (state_of database)

@@ -6,6 +6,7 @@ pub mod StartFaults
 pub mod Starting
 pub mod Batches
 pub mod Exports
+pub mod Planning
 pub mod Databases
 pub mod Sessions
 pub mod SheetFaults

@@ -21,7 +21,7 @@ use step_counter::Steps;
 use view_changes::Refusal;
 
 /// Why the edits of a batch were not made.
-#[derive(Debug, Drop)]
+#[derive(Drop)]
 pub enum BatchFault {
     /// The edit at this place is refused.
     Refused {

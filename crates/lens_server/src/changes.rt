@@ -10,6 +10,7 @@ ghost use Rattle.server_laws.specs.Known.{IsHere};
 ghost use Rattle.view_changes.specs.Puts.{IsPut};
 ghost use Rattle.lens_server.specs.Databases.{CanAnswer, IsPlan, state_of};
 
+use crate::answers::plan_answer;
 use database::{Database, Plan, plan_changes};
 use lens_values::NoMemory;
 use request_text::{Answer, Changes};
@@ -30,7 +31,7 @@ pub fn plan_change(
 {
     match change {
         Ok(deltas) => plan_changes(alloc, database, deltas),
-        Err(refusal) => Ok(Plan::unchanged(refusal.into_answer()?)),
+        Err(refusal) => plan_answer(refusal.into_answer()),
     }
 }
 

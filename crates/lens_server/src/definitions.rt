@@ -4,7 +4,7 @@ ghost use Rattle.request_text.specs.Answers.{answer_view};
 ghost use Rattle.server_specs.specs.Defining.{define_answer};
 ghost use Rattle.server_specs.specs.Questions.{list_answer};
 ghost use Rattle.server_specs.specs.Validity.{Valid};
-ghost use Rattle.view_catalog.specs.Admissions.{IsAdmissible};
+ghost use Rattle.view_catalog.specs.Admissions.{IsAdmissible, table_in};
 ghost use Rattle.database.specs.Defining.{last_with};
 ghost use Rattle.lens_server.specs.Databases.{IsPlan, IsSame, state_of};
 
@@ -41,9 +41,8 @@ fn plan_prepared(alloc: Global, database: &Database, prepared: Prepared) -> Resu
         IsPlan plan (define_answer prepared.text (state_of database.now)) database.now) }
 {
     let version = database.version + 1;
+    let (last, text) = copies(alloc, database, &prepared, version)?;
     let table = prepared.table();
-    let last = last_with(alloc, &database.last, &table, version)?;
-    let text = prepared.text().copy(alloc)?;
     Ok(Plan {
         answer: Answer::Defined { version },
         staged: Some(Staged {
@@ -56,6 +55,21 @@ fn plan_prepared(alloc: Global, database: &Database, prepared: Prepared) -> Resu
             past: PastStep::Stays,
         }),
     })
+}
+
+/// The last changes once the version made the definition, and the text for the keeper.
+fn copies(
+    alloc: Global,
+    database: &Database,
+    prepared: &Prepared,
+    version: u64,
+) -> Result<(LastChanges, Text), NoMemory>
+    ensures { let p = prepared.now in IfOk result (λ copies. copies
+        ≡ (last_with (table_in p.name p.lens) version database.now.last, p.text)) }
+{
+    let last = last_with(alloc, &database.last, &prepared.table(), version)?;
+    let text = prepared.text().copy(alloc)?;
+    Ok((last, text))
 }
 
 /// The last changes once the version made the table, if there is one.

@@ -4,11 +4,13 @@ ghost use Rattle.io_specs.specs.Lines.{line as short};
 ghost use Rattle.request_text.specs.Requests.{request_view};
 ghost use Rattle.server_specs.specs.Answering.{answer_request};
 ghost use Rattle.server_specs.specs.Request.{request};
-ghost use Rattle.lens_server.specs.Counting.{Walks, most_looked, most_walked};
-ghost use Rattle.lens_server.specs.Databases.{CanAnswer, IsKeyed, IsPlan, IsSame, state_of};
+ghost use Rattle.lens_server.specs.Counting.{most_looked, most_walked};
+ghost use Rattle.lens_server.specs.Databases.{CanAnswer, IsKeyed, IsSame, state_of};
 ghost use Rattle.lens_server.specs.Exports.{ExportReadsBack};
+ghost use Rattle.lens_server.specs.Planning.{PlansFor};
 ghost use Rattle.database.specs.Outcomes.{IsReady, Outcome};
 
+use crate::answers::plan_answer;
 use crate::batches::plan_batch;
 use crate::definitions::{list_answer, plan_definition};
 use crate::undo::plan_undo;
@@ -77,15 +79,8 @@ fn plan_line<L: Ledger, M: Ledger>(
 ) -> Result<Plan, NoMemory>
     requires { CanAnswer database.old }
     ensures same { IsSame database.old database.new }
-    ensures plan { IfOk result (λ plan. IsPlan plan
-        (answer_request (request (short line.now)) (state_of database.old)) database.new) }
-    ensures back { IfOk result (λ _.
-        ExportReadsBack (request (short line.now)) (state_of database.old)) }
-    ensures walked { Walks result database.new walked.old walked.new
-        (most_walked (request (short line.now)) (state_of database.old)) }
-    ensures looked { looked.new
-        ≤ looked.old + most_looked (request (short line.now)) (state_of database.old) }
-    ensures walks_on { walked.old ≤ walked.new }
+    ensures plans { PlansFor (request (short line.now)) (state_of database.old) database.new result
+        walked.old walked.new looked.old looked.new }
 {
     match read_request(alloc, line, scratch) {
         Ok(request) => plan_request(alloc, database, request, walked, looked),
@@ -107,19 +102,12 @@ fn plan_request<L: Ledger, M: Ledger>(
 ) -> Result<Plan, NoMemory>
     requires { CanAnswer database.old }
     ensures same { IsSame database.old database.new }
-    ensures plan { IfOk result (λ plan. IsPlan plan
-        (answer_request (Ok (request_view request.entry)) (state_of database.old)) database.new) }
-    ensures back { IfOk result (λ _.
-        ExportReadsBack (Ok (request_view request.entry)) (state_of database.old)) }
-    ensures walked { Walks result database.new walked.old walked.new
-        (most_walked (Ok (request_view request.entry)) (state_of database.old)) }
-    ensures looked { looked.new
-        ≤ looked.old + most_looked (Ok (request_view request.entry)) (state_of database.old) }
-    ensures walks_on { walked.old ≤ walked.new }
+    ensures plans { PlansFor (Ok (request_view request.entry)) (state_of database.old) database.new
+        result walked.old walked.new looked.old looked.new }
 {
     match request {
         Request::Define { text } => plan_definition(alloc, database, text),
-        Request::List => Ok(Plan::unchanged(list_answer(alloc, database)?)),
+        Request::List => plan_answer(list_answer(alloc, database)),
         Request::Batch { edits, on } => plan_batch(alloc, database, edits, on, looked),
         Request::Undo => plan_undo(alloc, database),
         Request::Read { view } => {

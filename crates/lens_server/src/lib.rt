@@ -1,6 +1,7 @@
 //! The server: requests are answered one line at a time.
 #![tactic(auto)]
 
+mod answers;
 mod batches;
 mod changes;
 mod definitions;

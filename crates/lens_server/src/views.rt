@@ -1,13 +1,13 @@
 //! Requests that name a view: `plan_view` opens it once, for all that the request asks of it.
 ghost use Rattle.std.specs.Prelude.{◌+◌, ◌≤◌, IfOk, Ok};
 ghost use Rattle.lens_specs.specs.Lens.{sort_of};
-ghost use Rattle.server_specs.specs.Answering.{answer_request};
 ghost use Rattle.server_specs.specs.Exporting.{first_nullable, import_settled};
-ghost use Rattle.lens_server.specs.Counting.{RisesBy, Walks, import_looks, most_looked, most_walked, row_count};
+ghost use Rattle.lens_server.specs.Counting.{RisesBy, import_looks, row_count};
 ghost use Rattle.lens_server.specs.Databases.{CanAnswer, IsOpened, IsPlan, lens_of, state_of};
-ghost use Rattle.lens_server.specs.Exports.{ExportReadsBack};
-ghost use Rattle.lens_server.specs.ViewRequests.{IsToldBack, looks_of, request_of, told_of, walks_of};
+ghost use Rattle.lens_server.specs.Planning.{PlansFor, PlansView};
+ghost use Rattle.lens_server.specs.ViewRequests.{request_of};
 
+use crate::answers::plan_answer;
 use crate::changes::{foretold, plan_change};
 use crate::refusals::sheet_refusal;
 use database::{Database, Plan};
@@ -21,7 +21,7 @@ use view_answers::{export_answer, find_answer, read_answer, type_answer};
 use view_changes::{edit, put, put_rows, sheet_rows};
 
 /// What a request asks of a view.
-#[derive(Debug, Drop)]
+#[derive(Drop)]
 pub enum ViewRequest<'a> {
     /// Its rows.
     Read,
@@ -68,16 +68,8 @@ pub fn plan_view<L: Ledger, M: Ledger>(
     looked: &mut Steps<M>,
 ) -> Result<Plan, NoMemory>
     requires { CanAnswer database.now }
-    ensures plan { IfOk result (λ plan. IsPlan plan
-        (answer_request (Ok (request_of name.now asked.entry)) (state_of database.now))
-        database.now) }
-    ensures back { IfOk result (λ _.
-        ExportReadsBack (Ok (request_of name.now asked.entry)) (state_of database.now)) }
-    ensures walked { Walks result database.now walked.old walked.new
-        (most_walked (Ok (request_of name.now asked.entry)) (state_of database.now)) }
-    ensures looked { looked.new ≤ looked.old
-        + most_looked (Ok (request_of name.now asked.entry)) (state_of database.now) }
-    ensures walks_on { walked.old ≤ walked.new }
+    ensures { PlansFor (Ok (request_of name.now asked.entry)) (state_of database.now) database.now
+        result walked.old walked.new looked.old looked.new }
 {
     match database.open_view(name) {
         Some(opened) => plan_opened(alloc, database, &opened, asked, walked, looked),
@@ -96,22 +88,13 @@ fn plan_opened<L: Ledger, M: Ledger>(
 ) -> Result<Plan, NoMemory>
     requires can { CanAnswer database.now }
     requires opened { IsOpened opened.now database.now }
-    ensures plan { IfOk result (λ plan. IsPlan plan
-        (told_of asked.entry (lens_of opened.now) (state_of database.now)) database.now) }
-    ensures back { let s = state_of database.now in IfOk result (λ _.
-        IsToldBack asked.entry (lens_of opened.now) s.tables) }
-    ensures walked { let s = state_of database.now in
-        Walks result database.now walked.old walked.new
-        (walks_of asked.entry (lens_of opened.now) s.tables) }
-    ensures looked { let s = state_of database.now in
-        looked.new ≤ looked.old + looks_of asked.entry (lens_of opened.now) s.tables }
-    ensures walks_on { walked.old ≤ walked.new }
+    ensures { PlansView asked.entry (lens_of opened.now) database.now
+        result walked.old walked.new looked.old looked.new }
 {
     match asked {
-        ViewRequest::Read => Ok(Plan::unchanged(read_answer(alloc, opened, walked)?)),
+        ViewRequest::Read => plan_answer(read_answer(alloc, opened, walked)),
         ViewRequest::Find { column, value } => {
-            let found = find_answer(alloc, opened, &column, &value, walked, looked)?;
-            Ok(Plan::unchanged(found))
+            plan_answer(find_answer(alloc, opened, &column, &value, walked, looked))
         }
         ViewRequest::Put { rows, on } => {
             let change = put(alloc, opened, rows, on, walked, looked);
@@ -123,10 +106,10 @@ fn plan_opened<L: Ledger, M: Ledger>(
         }
         ViewRequest::Preview { remove, add, on } => {
             let change = edit(alloc, opened, remove, add, on, looked);
-            Ok(Plan::unchanged(foretold(opened.version, change)?))
+            plan_answer(foretold(opened.version, change))
         }
-        ViewRequest::Describe => Ok(Plan::unchanged(type_answer(alloc, opened)?)),
-        ViewRequest::Export => Ok(Plan::unchanged(export_answer(alloc, opened, walked)?)),
+        ViewRequest::Describe => plan_answer(type_answer(alloc, opened)),
+        ViewRequest::Export => plan_answer(export_answer(alloc, opened, walked)),
         ViewRequest::Import { csv, on } => {
             plan_import(alloc, database, opened, &csv, on, walked, looked)
         }
@@ -159,6 +142,6 @@ fn plan_import<L: Ledger, M: Ledger>(
             let change = put_rows(alloc, opened, &rows, on, walked, looked);
             plan_change(alloc, database, change)
         }
-        Err(fault) => Ok(Plan::unchanged(sheet_refusal(fault)?)),
+        Err(fault) => plan_answer(sheet_refusal(fault)),
     }
 }

@@ -97,7 +97,7 @@ pub enum TypeFault {
 }
 
 /// Why a call gives no sort.
-#[derive(Debug, Drop)]
+#[derive(Drop)]
 pub enum Refused<T> {
     /// The rules give none.
     Rule {

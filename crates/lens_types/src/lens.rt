@@ -20,7 +20,7 @@ use std::marker::Model;
 
 /// The root of a lens, with its sort.
 #[cycle(lens)]
-#[derive(Debug, Drop)]
+#[derive(Drop)]
 pub enum Lens {
     /// A table.
     Base {
@@ -77,7 +77,7 @@ pub enum Lens {
 
 /// A lens with the sort that the typing rules give it. A contract sees the lens of the definition.
 #[cycle(lens)]
-#[derive(Debug, Drop)]
+#[derive(Drop)]
 pub struct TypedLens {
     lens: Lens,
     nodes: usize,
@@ -130,13 +130,7 @@ impl TypedLens {
         ensures given { sort_given self.now ≡ Ok result.now }
         ensures typed { IsTyped self.now }
     {
-        match &self.lens {
-            Lens::Base { sort, .. }
-            | Lens::Select { sort, .. }
-            | Lens::Drop { sort, .. }
-            | Lens::Rename { sort, .. }
-            | Lens::Join { sort, .. } => sort,
-        }
+        self.lens.sort()
     }
 
     /// The number of nodes.
@@ -239,10 +233,7 @@ impl TypedLens {
             Ok(sort) => sort,
             Err(why) => return Err(why.with((self, right))),
         };
-        let Ok(left) = boxed(alloc, self) else {
-            return Err(Refused::NoMemory);
-        };
-        let Ok(right) = boxed(alloc, right) else {
+        let Ok((left, right)) = both_boxed(alloc, self, right) else {
             return Err(Refused::NoMemory);
         };
         let lens = Lens::Join {
@@ -266,7 +257,6 @@ impl TypedLens {
     }
 
     /// An equal lens.
-    #[cycle(copy)]
     pub fn copy(&self, alloc: Global) -> Result<TypedLens, NoMemory>
         ensures { IfOk result (λ copy. copy ≡ self.now) }
     {
@@ -275,9 +265,32 @@ impl TypedLens {
             nodes: self.nodes,
         })
     }
+
+    // An equal lens, in a box.
+    #[cycle(copy)]
+    fn copy_boxed(&self, alloc: Global) -> Result<Box<TypedLens>, NoMemory>
+        ensures { IfOk result (λ copy. copy.value ≡ self.now) }
+    {
+        let lens = self.lens.copy(alloc)?;
+        let nodes = self.nodes;
+        Ok(Box::new(alloc, TypedLens { lens, nodes })?)
+    }
 }
 
 impl Lens {
+    // The sort of the root.
+    fn sort(&self) -> &Sort
+        ensures { result.now ≡ kept_sort self.now }
+    {
+        match self {
+            Lens::Base { sort, .. }
+            | Lens::Select { sort, .. }
+            | Lens::Drop { sort, .. }
+            | Lens::Rename { sort, .. }
+            | Lens::Join { sort, .. } => sort,
+        }
+    }
+
     // An equal root.
     #[cycle(copy)]
     fn copy(&self, alloc: Global) -> Result<Lens, NoMemory>
@@ -291,7 +304,7 @@ impl Lens {
             }),
             Lens::Select { pred, of, sort } => Ok(Lens::Select {
                 pred: pred.copy(alloc)?,
-                of: Box::new(alloc, of.copy(alloc)?)?,
+                of: of.copy_boxed(alloc)?,
                 sort: sort.copy(alloc)?,
             }),
             Lens::Drop {
@@ -304,13 +317,13 @@ impl Lens {
                 col: *col,
                 by: by.copy(alloc)?,
                 fill: fill.copy(alloc)?,
-                of: Box::new(alloc, of.copy(alloc)?)?,
+                of: of.copy_boxed(alloc)?,
                 sort: sort.copy(alloc)?,
             }),
             Lens::Rename { col, to, of, sort } => Ok(Lens::Rename {
                 col: *col,
                 to: *to,
-                of: Box::new(alloc, of.copy(alloc)?)?,
+                of: of.copy_boxed(alloc)?,
                 sort: sort.copy(alloc)?,
             }),
             Lens::Join {
@@ -320,8 +333,8 @@ impl Lens {
                 sort,
             } => Ok(Lens::Join {
                 kind: *kind,
-                left: Box::new(alloc, left.copy(alloc)?)?,
-                right: Box::new(alloc, right.copy(alloc)?)?,
+                left: left.copy_boxed(alloc)?,
+                right: right.copy_boxed(alloc)?,
                 sort: sort.copy(alloc)?,
             }),
         }
@@ -356,6 +369,20 @@ fn shared_table(
     let tables = left.tables(alloc)?;
     let others = right.tables(alloc)?;
     Ok(first_among(tables.as_slice(), &others).copied())
+}
+
+// Each of the lenses in a box.
+fn both_boxed(
+    alloc: Global,
+    left: TypedLens,
+    right: TypedLens,
+) -> Result<(Box<TypedLens>, Box<TypedLens>), NoMemory>
+    ensures left { IfOk result (λ both. both.0.value ≡ left) }
+    ensures right { IfOk result (λ both. both.1.value ≡ right) }
+{
+    let left = boxed(alloc, left)?;
+    let right = boxed(alloc, right)?;
+    Ok((left, right))
 }
 
 // The lens in a box.

@@ -9,7 +9,7 @@ use lens_pred::Pred;
 use lens_values::{JoinKind, Name, Names, Value};
 
 /// The root of a lens, over the lenses under it.
-#[derive(Clone, Copy, Debug)]
+#[derive(Clone, Copy)]
 pub enum Node<'a> {
     /// A table.
     Base {

@@ -24,7 +24,7 @@ use std::marker::Model;
 
 /// At most 64 columns, a predicate that holds on each row, and a tree of dependencies that the rows
 /// meet. The predicate and the tree name these columns alone.
-#[derive(Debug, Drop)]
+#[derive(Drop)]
 pub struct Sort {
     cols: Columns,
     pred: Pred,

@@ -90,6 +90,32 @@ module _ {K : Type 0} (R : K → K → Ordering) (xs ys : List K) (i j : ℕ) wh
       let e = drop_past ys j l in
       (λ k. merge R (drop i xs) (e k)) ∙ merge-nil R (drop i xs) ∙ sym (append-nil (drop i xs)) ∙ ap (λ l. drop i xs ++ l) (sym e)
 
+  -- then what was merged is all, with the rest of both
+  pub merged_all : (all first new whole : List K) → merge R (drop i xs) (drop j ys) ≡ drop i xs ++ drop j ys → first ≡ all ++ take (length xs - i) (drop i xs) → new ≡ first ++ take (length ys - j) (drop j ys)
+      → all ++ merge R (drop i xs) (drop j ys) ≡ whole → new ≡ whole
+  merged_all all first new whole ends one other h =
+      other ∙ (λ k. (one ∙ ap (λ l. all ++ l) (take_rest xs i)) k ++ take_rest ys j k) ∙ append_assoc all (drop i xs) (drop j ys) ∙ ap (λ l. all ++ l) (sym ends) ∙ h
+
+-- one turn of a merge that stands at x and at y, after `all`: it adds z, the first of what is still to come
+module _ {K : Type 0} (R : K → K → Ordering) (xs ys all : List K) (i j : ℕ) (x y : K) (u : i < length xs) (v : j < length ys) (a : x ≡ get_or xs i x) (c : y ≡ get_or ys j y) where
+  abbrev to_come : Ordering → List K
+  to_come r = match_ordering r (x ∷ merge R (drop (i + 1) xs) (drop j ys)) (x ∷ merge R (drop (i + 1) xs) (drop (j + 1) ys)) (y ∷ merge R (drop i xs) (drop (j + 1) ys))
+
+  turned : to_come (R x y) ≡ merge R (drop i xs) (drop j ys)
+  turned =
+      (λ k. match_ordering (R x y) (x ∷ merge R (drop (i + 1) xs) (at_place ys j y v c k)) (x ∷ merge R (drop (i + 1) xs) (drop (j + 1) ys)) (y ∷ merge R (at_place xs i x u a k) (drop (j + 1) ys)))
+      ∙ (λ k. merge R (sym (at_place xs i x u a) k) (sym (at_place ys j y v c) k))
+
+  pub turn : (r : Ordering) (w z : K) (next new whole : List K) → R x y ≡ r → to_come r ≡ w ∷ next → z ≡ w → new ≡ all ++ z ∷ [] → all ++ merge R (drop i xs) (drop j ys) ≡ whole → new ++ next ≡ whole
+  turn r w z next new whole is first same added h =
+      (λ k. (added ∙ ap (λ l. all ++ l ∷ []) same) k ++ next) ∙ append_assoc all (w ∷ []) next ∙ ap (λ l. all ++ l) (sym first ∙ ap to_come (sym is) ∙ turned) ∙ h
+
+  pub from_left : (z : K) → z ≡ get_or xs i z → z ≡ x
+  from_left z is = is ∙ get_or_default xs i z x u ∙ sym a
+
+  pub from_right : (z : K) → z ≡ get_or ys j z → z ≡ y
+  from_right z is = is ∙ get_or_default ys j z y v ∙ sym c
+
 module _ {K : Type 0} {R : K → K → Ordering} (o : IsTotalOrder R) where
   pub under : (x y : K) → R x y ≡ Greater → R y x ≡ Less
   under x y h = o.antisymm y x ∙ ap ordering_reverse h
@@ -251,8 +277,8 @@ module _ {K X : Type 0} {R : K → K → Ordering} (o : IsTotalOrder R) (key : X
     keys_rise t = subst (IsStrictlySortedBy R) (at_place ks j k v c) (drop_rises o ks j t)
 
     -- a copy of the member was added
-    pub pushed : (new : List X) (other copy : X) → new ≡ all ++ copy ∷ [] → copy ≡ other → other ≡ get_or xs i other → new ≡ all ++ x ∷ []
-    pushed new other copy added same at = added ∙ ap (λ y. all ++ y ∷ []) (same ∙ at ∙ get_or_default xs i other x u ∙ sym a)
+    pub pushed : (new : List X) (other : X) → new ≡ all ++ other ∷ [] → other ≡ get_or xs i other → new ≡ all ++ x ∷ []
+    pushed new other added at = added ∙ ap (λ y. all ++ y ∷ []) (at ∙ get_or_default xs i other x u ∙ sym a)
 
     -- how the member's key, as it was read, stands to the other
     pub ranked : (own : K) (found rank : Ordering) → own ≡ key x → found ≡ R own k → found ≡ rank → R (key x) k ≡ rank

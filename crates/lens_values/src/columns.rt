@@ -23,13 +23,13 @@ use std::marker::Model;
 use std::rc::Rc;
 
 /// The kind of each column, kept as pairs in rising order of names. Copies share them.
-#[derive(Debug, Drop)]
+#[derive(Drop)]
 pub struct Columns {
     listed: Rc<Listed>,
 }
 
 // The pairs, and their names as a set, which rows of these columns share.
-#[derive(Debug, Drop)]
+#[derive(Drop)]
 struct Listed {
     names: Names,
     pairs: Vec<(Name, Kind)>,

@@ -1,5 +1,5 @@
 //! Merges of strictly rising lists, each by one walk along the two.
-ghost use Rattle.std.specs.Prelude.{◌≡◌, ◌++◌, IfOk, filter, not};
+ghost use Rattle.std.specs.Prelude.{◌≡◌, ◌++◌, [], ◌∷◌, IfOk, OnOk, filter, not};
 ghost use Rattle.std.specs.List.Sorted.{IsStrictlySortedBy};
 ghost use Rattle.plain_values.specs.Keys.{KeysRise, first_with, is_among};
 
@@ -54,15 +54,15 @@ pub fn union<K: Ord, T: Keyed<K> + TryClone + Drop>(
     while i < left.len() && j < right.len() {
         match left[i].key().cmp(right[j].key()) {
             Ordering::Less => {
-                all.push(left[i].try_clone(alloc)?)?;
+                add_copy(&mut all, alloc, &left[i])?;
                 i += 1;
             }
             Ordering::Greater => {
-                all.push(right[j].try_clone(alloc)?)?;
+                add_copy(&mut all, alloc, &right[j])?;
                 j += 1;
             }
             Ordering::Equal => {
-                all.push(left[i].try_clone(alloc)?)?;
+                add_copy(&mut all, alloc, &left[i])?;
                 i += 1;
                 j += 1;
             }
@@ -90,7 +90,7 @@ pub fn difference<K: Ord, T: Keyed<K> + TryClone + Drop>(
     while i < list.len() && j < keys.len() {
         match list[i].key().cmp(&keys[j]) {
             Ordering::Less => {
-                rest.push(list[i].try_clone(alloc)?)?;
+                add_copy(&mut rest, alloc, &list[i])?;
                 i += 1;
             }
             Ordering::Greater => j += 1,
@@ -123,11 +123,23 @@ pub fn intersection<K: Ord, T: Keyed<K> + TryClone + Drop>(
             Ordering::Less => i += 1,
             Ordering::Greater => j += 1,
             Ordering::Equal => {
-                kept.push(list[i].try_clone(alloc)?)?;
+                add_copy(&mut kept, alloc, &list[i])?;
                 i += 1;
                 j += 1;
             }
         }
     }
     Ok(kept)
+}
+
+/// Adds a copy of the member to the list.
+pub(crate) fn add_copy<T: TryClone + Drop>(
+    list: &mut Vec<T>,
+    alloc: Global,
+    member: &T,
+) -> Result<(), NoMemory>
+    ensures { OnOk result (list.new.items ≡ list.old.items ++ member.now ∷ []) }
+{
+    list.push(member.try_clone(alloc)?)?;
+    Ok(())
 }

@@ -18,7 +18,7 @@ ghost use Rattle.plain_values.specs.Value.{same_value};
 ghost use Rattle.lens_values.specs.declared.row.RowFault.TheVariants.{NoMemory};
 
 use crate::columns::Columns;
-use crate::merging::Keyed;
+use crate::merging::{Keyed, add_copy};
 use crate::names::Names;
 use crate::pairs::{all_fit, pairs_cmp};
 use crate::sorting::{first_repeated, sorted_by_name};
@@ -258,7 +258,7 @@ impl Row {
         let mut near = 0;
         for name in names.as_slice() {
             if let Some(value) = self.value_near(name, &mut near) {
-                found.push(value.copy(alloc)?)?;
+                add_copy(&mut found, alloc, value)?;
             }
         }
         Ok(found)
@@ -283,7 +283,7 @@ impl Row {
                 None => self.value_near(name, &mut near),
             };
             if let Some(value) = value {
-                found.push(value.copy(alloc)?)?;
+                add_copy(&mut found, alloc, value)?;
             }
         }
         Ok(found)

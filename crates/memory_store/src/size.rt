@@ -8,7 +8,7 @@ const LEAST: usize = 1024;
 
 /// How many rows are kept, and how many changes and rows are in the list of changes. It says when the
 /// list is folded, and nothing else.
-#[derive(Clone, Copy, Debug)]
+#[derive(Clone, Copy)]
 pub struct Size {
     rows: usize,
     listed: usize,

@@ -14,7 +14,7 @@ use std::collections::BTreeMap;
 use std::marker::Model;
 
 /// A version for each table. A contract sees the map of the definition.
-#[derive(Debug, Drop)]
+#[derive(Drop)]
 pub struct LastChanges {
     versions: BTreeMap<Name, u64>,
 }

@@ -1,7 +1,7 @@
 //! On which side a join deletes.
 
 /// On which side a put of a join deletes the rows that it must not join.
-#[derive(Clone, Copy, Debug, PartialEq, Eq)]
+#[derive(Clone, Copy, PartialEq, Eq)]
 pub enum JoinKind {
     /// On the left one.
     DeleteLeft,

@@ -9,7 +9,7 @@ use no_memory::NoMemory;
 use std::alloc::Global;
 
 /// What a column holds: numbers, texts or truth values, and in the last three null too.
-#[derive(Clone, Copy, Debug, PartialEq, Eq, PartialOrd, Ord)]
+#[derive(Clone, Copy, PartialEq, Eq, PartialOrd, Ord)]
 pub enum Kind {
     Int,
     Text,

@@ -98,8 +98,8 @@ fn stock_line(alloc: Global, i: u64) -> Result<String, NoMemory>
     ensures { IfOk result (λ line. marked (string_bytes line) ≡ stock_line i) }
 {
     let old = stock_row(alloc, i, rating_of(i), numbered(alloc, "t", i)?)?;
-    let new = stock_row(alloc, i, 3, numbered(alloc, "n", i)?)?;
     let remove = vec![in alloc; old]?;
+    let new = stock_row(alloc, i, 3, numbered(alloc, "n", i)?)?;
     let add = vec![in alloc; new]?;
     let request = edit_request(alloc, "stock", remove, add)?;
     json_text(alloc, &request)

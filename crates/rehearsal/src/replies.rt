@@ -12,7 +12,7 @@ use serde_json::Value as Json;
 use std::alloc::Global;
 
 /// Whether a reply accepts its line, and how many rows it shows.
-#[derive(Clone, Copy, Debug)]
+#[derive(Clone, Copy)]
 pub(crate) struct Reported {
     pub accepts: bool,
     pub rows: usize,

@@ -31,28 +31,26 @@ pub(crate) fn edit_request(
     ensures { IfOk result (λ request. view request
         ≡ edit_request name.now (items_view remove.items) (items_view add.items)) }
 {
-    Ok(json!(in alloc; {"add": add, "do": "edit", "remove": remove, "view": name})?)
+    // The lists go in first: where memory runs out after that, only the request is left to free.
+    Ok(json!(in alloc; {"add": add, "remove": remove, "do": "edit", "view": name})?)
 }
 
 /// A row of albums.
 pub(crate) fn album_row(alloc: Global, i: u64) -> Result<Json, NoMemory>
     ensures { IfOk result (λ row. view row ≡ album_row i) }
 {
-    let album = numbered(alloc, "a", i)?;
-    Ok(json!(in alloc; {"album": album, "quantity": quantity_of(i)})?)
+    Ok(json!(in alloc; {"album": numbered(alloc, "a", i)?, "quantity": quantity_of(i)})?)
 }
 
 /// A row of tracks: the track of `i`, on the album of `on`.
 pub(crate) fn track_row(alloc: Global, i: u64, on: u64) -> Result<Json, NoMemory>
     ensures { IfOk result (λ row. view row ≡ track_row i on) }
 {
-    let album = numbered(alloc, "a", on)?;
-    let track = numbered(alloc, "t", i)?;
     Ok(json!(in alloc; {
-        "album": album,
+        "album": numbered(alloc, "a", on)?,
         "date": 1980 + i % 40,
         "rating": rating_of(i),
-        "track": track
+        "track": numbered(alloc, "t", i)?
     })?)
 }
 
@@ -60,12 +58,12 @@ pub(crate) fn track_row(alloc: Global, i: u64, on: u64) -> Result<Json, NoMemory
 pub(crate) fn stock_row(alloc: Global, i: u64, rating: u64, track: String) -> Result<Json, NoMemory>
     ensures { IfOk result (λ row. view row ≡ stock_row i rating (string_bytes track)) }
 {
-    let album = numbered(alloc, "a", i)?;
+    // The track goes in first: where memory runs out after that, only the row is left to free.
     Ok(json!(in alloc; {
-        "album": album,
+        "track": track,
+        "album": numbered(alloc, "a", i)?,
         "quantity": quantity_of(i),
-        "rating": rating,
-        "track": track
+        "rating": rating
     })?)
 }
 

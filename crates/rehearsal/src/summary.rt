@@ -1,5 +1,6 @@
 //! The summary of a rehearsal.
 ghost use Rattle.std.specs.Prelude.{◌≡◌, IfOk};
+ghost use Rattle.serde_json.specs.Data.{object};
 ghost use Rattle.serde_json.specs.View.{view};
 ghost use Rattle.rehearsal.specs.Summary.{rows_data, summary_data, summary_line};
 
@@ -33,7 +34,14 @@ fn summary_of(alloc: Global, tally: Tally, shown: Shown, version: u64) -> Result
     Ok(json!(in alloc; {
         "accepted": tally.accepted,
         "refused": tally.refused,
-        "rows": {"albums": shown.albums, "stock": shown.stock, "tracks": shown.tracks},
+        "rows": rows_of(alloc, shown)?,
         "version": version
     })?)
+}
+
+fn rows_of(alloc: Global, shown: Shown) -> Result<Json, NoMemory>
+    ensures { IfOk result (λ rows. view rows
+        ≡ object (rows_data shown.albums shown.tracks shown.stock)) }
+{
+    Ok(json!(in alloc; {"albums": shown.albums, "stock": shown.stock, "tracks": shown.tracks})?)
 }

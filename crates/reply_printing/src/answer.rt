@@ -23,7 +23,7 @@ use std::alloc::Global;
 use view_limits::{Limit, Side};
 
 /// One of the lists of rows in a request.
-#[derive(Clone, Copy, Debug)]
+#[derive(Clone, Copy)]
 pub enum RowList {
     /// The rows of a put.
     Rows,
@@ -34,7 +34,7 @@ pub enum RowList {
 }
 
 /// Why an edit of a view is refused.
-#[derive(Debug, Drop)]
+#[derive(Drop)]
 pub enum EditRefusal {
     /// No table and no view has the name.
     UnknownName {
@@ -66,7 +66,7 @@ pub enum EditRefusal {
 }
 
 /// The answer to a line.
-#[derive(Debug, Drop)]
+#[derive(Drop)]
 pub enum Answer {
     /// A definition was taken; the version after it.
     Defined {

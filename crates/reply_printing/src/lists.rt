@@ -14,7 +14,7 @@ use std::marker::Model;
 
 /// The differences of the tables that are changed. A contract sees them as the definitions speak of
 /// them.
-#[derive(Debug, Drop)]
+#[derive(Drop)]
 pub struct Changes {
     list: Vec<TableDelta>,
 }
@@ -44,7 +44,7 @@ impl Changes {
 }
 
 /// Edges, in order. A contract sees the list of their sides.
-#[derive(Debug, Drop)]
+#[derive(Drop)]
 pub struct Edges {
     list: Vec<Edge>,
 }
@@ -74,7 +74,7 @@ impl Edges {
 }
 
 /// Texts, in order. A contract sees the list of their bytes.
-#[derive(Debug, Drop)]
+#[derive(Drop)]
 pub struct Texts {
     list: Vec<Text>,
 }

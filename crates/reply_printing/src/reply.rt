@@ -6,12 +6,12 @@ ghost use Rattle.reply_printing.specs.ReplyBytes.{bytes_of};
 use std::marker::Model;
 
 /// A line with its newline. A contract sees its bytes.
-#[derive(Debug, Drop)]
+#[derive(Drop)]
 pub struct Reply {
     source: Source,
 }
 
-#[derive(Debug, Drop)]
+#[derive(Drop)]
 enum Source {
     Fixed(&'static [u8]),
     Made(Vec<u8>),

@@ -9,7 +9,7 @@ use lens_values::Name;
 use std::marker::Model;
 
 /// An edit of a batch. Its rows borrow the texts of its line.
-#[derive(Debug, Drop)]
+#[derive(Drop)]
 pub struct BatchEdit<'a> {
     /// The view.
     pub view: Name,
@@ -20,7 +20,7 @@ pub struct BatchEdit<'a> {
 }
 
 /// The edits of a batch, in order. A contract sees them as the definitions speak of them.
-#[derive(Debug, Drop)]
+#[derive(Drop)]
 pub struct BatchEdits<'a> {
     list: Vec<BatchEdit<'a>>,
 }

@@ -7,7 +7,7 @@ use lens_values::NoMemory;
 use std::alloc::{AllocError, AllocFailed, Global};
 
 /// Why members cannot be read: one of them is wrong, or memory ran out.
-#[derive(Debug, Drop)]
+#[derive(Drop)]
 pub(crate) enum MemberFault<'a> {
     Wrong { member: &'a str },
     NoMemory,

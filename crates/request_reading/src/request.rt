@@ -20,7 +20,7 @@ use line_texts::{CsvText, Member};
 use std::alloc::Global;
 
 /// One of the twelve requests. Its rows and its value borrow the texts of its line.
-#[derive(Debug, Drop)]
+#[derive(Drop)]
 pub enum Request<'a> {
     /// To make the table or the view that the text defines.
     Define {
@@ -82,7 +82,7 @@ pub enum Request<'a> {
 }
 
 /// Why a line is no request.
-#[derive(Debug, Drop)]
+#[derive(Drop)]
 pub enum RequestFault {
     /// The line is no JSON.
     NotJson,

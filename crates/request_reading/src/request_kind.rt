@@ -8,7 +8,7 @@ use crate::member_fault::least_of;
 use borrowed_json::Entry;
 
 /// The kind of a request.
-#[derive(Clone, Copy, Debug, Drop)]
+#[derive(Clone, Copy, Drop)]
 pub(crate) enum RequestKind {
     Define,
     Read,

@@ -23,7 +23,7 @@ use row_sets::RowSet;
 use std::alloc::{AllocError, AllocFailed, Global};
 
 /// Why the JSON is not a list of rows.
-#[derive(Debug, Drop)]
+#[derive(Drop)]
 pub enum RowsFault {
     /// The first element that is not a row of the columns.
     BadRow {

@@ -13,7 +13,7 @@ use std::marker::Model;
 
 /// The elements of a request's list, as they were sent. They borrow the texts of its line. A
 /// contract sees them as JSON items.
-#[derive(Debug, Drop)]
+#[derive(Drop)]
 pub struct JsonRows<'a> {
     list: Vec<Json<'a>>,
 }
@@ -51,7 +51,7 @@ impl<'a> JsonRows<'a> {
 
 /// A value of a request, as it was sent. It borrows the text of its line. A contract sees it as
 /// JSON.
-#[derive(Debug, Drop)]
+#[derive(Drop)]
 pub struct JsonValue<'a> {
     json: Json<'a>,
 }

@@ -17,7 +17,7 @@ use std::sync::ledger::Ledger;
 use step_counter::Steps;
 
 /// A row, and what it becomes.
-#[derive(Debug, Drop)]
+#[derive(Drop)]
 pub struct Touched {
     /// The row as it was.
     pub before: Row,
@@ -26,7 +26,7 @@ pub struct Touched {
 }
 
 /// Rows of a relation near new ones, and those of the new rows that it lacks.
-#[derive(Debug, Drop)]
+#[derive(Drop)]
 pub struct NearRows {
     /// Rows of the relation, among them each that revision by the new rows changes.
     pub rows: RowSet,

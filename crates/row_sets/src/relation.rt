@@ -11,7 +11,7 @@ use std::alloc::Global;
 use std::marker::Model;
 
 /// A set of rows that all fit the columns. A contract sees the columns and the rows.
-#[derive(Debug, Drop)]
+#[derive(Drop)]
 pub struct Relation {
     columns: Columns,
     rows: RowSet,

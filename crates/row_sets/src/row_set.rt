@@ -18,7 +18,7 @@ use std::alloc::Global;
 use std::marker::Model;
 
 /// A finite set of rows, kept as their rising list.
-#[derive(Debug, Drop)]
+#[derive(Drop)]
 pub struct RowSet {
     rows: Vec<Row>,
 }

@@ -12,11 +12,16 @@ pub fn expect(holds: bool, case: &str) -> Result<(), Fail> {
     if holds { Ok(()) } else { Err(Fail::from(case)) }
 }
 
+// The name that the word is.
+fn name(word: &str) -> Result<Name, Fail> {
+    Ok(Name::new(word)?)
+}
+
 /// The names that the text lists, as `a b`.
 pub fn names(alloc: Global, text: &str) -> Result<Names, Fail> {
     let mut list = Vec::new(alloc);
     for word in text.split_whitespace() {
-        list.push(Name::new(word)?)?;
+        list.push(name(word)?)?;
     }
     Ok(Names::new(alloc, list)?)
 }
@@ -34,8 +39,8 @@ fn kind(word: &str) -> Result<Kind, Fail> {
 
 // The name and the kind of a column, as `a:int`.
 fn column(word: &str) -> Result<(Name, Kind), Fail> {
-    let (name, of) = word.split_once(':').ok_or("no kind")?;
-    Ok((Name::new(name)?, kind(of)?))
+    let (column, of) = word.split_once(':').ok_or("no kind")?;
+    Ok((name(column)?, kind(of)?))
 }
 
 /// The columns that the text lists, as `a:int b:int? c:text d:text?`.
@@ -60,8 +65,8 @@ pub fn value(alloc: Global, word: &str) -> Result<Value, Fail> {
 
 // The name and the value of a column, as `a=1`.
 fn cell(alloc: Global, word: &str) -> Result<(Name, Value), Fail> {
-    let (name, of) = word.split_once('=').ok_or("no value")?;
-    Ok((Name::new(name)?, value(alloc, of)?))
+    let (column, of) = word.split_once('=').ok_or("no value")?;
+    Ok((name(column)?, value(alloc, of)?))
 }
 
 /// The row that the text lists, as `a=1 b=x`.

@@ -12,7 +12,7 @@ use Rattle.revision.specs.Near.{HasChanged}
 use Rattle.revision.specs.Touching.{all_touched, becomes}
 use Rattle.revision.specs.declared.touching.Touched.{Touched}
 use Rattle.revision.proofs.Changed.{afters_are, befores_are, touched_is}
-use Rattle.select_delta.specs.Selected.{AreSelected, edited, edited_source}
+use Rattle.select_delta.specs.Selected.{AreSelected, edited, edited_source, with_touched}
 
 -- the sides of a difference have no row in common
 pub apart : (M N remove add : Rows) → ◌≡◌ {A = Delta} (record { remove = remove; add = add }) (diff M N) → AreApart remove add
@@ -74,17 +74,12 @@ module _ (F : List Edge) (M : Rows) (P : Predicate) (d : Delta) (near hidden : R
   listed = all _ (hidden_enough F M d.add P near hidden enough is) ∙ ap (λ N. map (becomes F d.add) (set.items N)) (touched_hidden F M d.add P)
 
   -- with rows that change
-  module _ (gone afters new remove add : Rows) (left : gone ≡ set.from_list (map (λ t. t.before) changes)) (came : afters ≡ set.from_list (map (λ t. t.after) changes))
-      (refuses : new ≡ those (λ r. not (holds P r)) afters) (removes : remove ≡ union d.remove gone) (adds : add ≡ union d.add new) where
-    removed : remove ≡ union d.remove T
-    removed = removes ∙ ap (union d.remove) (left ∙ befores_are F T d.add changes listed)
-
-    added : add ≡ union d.add (those (λ r. not (holds P r)) (revise F T d.add))
-    added = adds ∙ ap (union d.add) (refuses ∙ ap (those (λ r. not (holds P r))) (came ∙ afters_are F T d.add changes listed))
-
-    pub carried : ◌≡◌ {A = Delta} (record { remove = remove; add = add }) (select_delta F (holds P) M d)
-    unfolding select_delta
-    carried = λ i. record { remove = removed i; add = added i }
+  pub carried : with_touched P changes d ≡ select_delta F (holds P) M d
+  unfolding select_delta
+  carried = λ i. record {
+    remove = union d.remove (befores_are F T d.add changes listed i);
+    add = union d.add (those (λ r. not (holds P r)) (afters_are F T d.add changes listed i));
+  }
 
   -- with none
   pub carried_alone : length changes ≡ 0 → d ≡ select_delta F (holds P) M d

@@ -8,12 +8,13 @@ ghost use Rattle.lens_specs.specs.Nodes.{select_get};
 ghost use Rattle.lens_specs.specs.Predicate.{holds};
 ghost use Rattle.lens_specs.specs.Relation.{those};
 ghost use Rattle.lens_laws.specs.Work.{node_work, rows_down, rows_of};
-ghost use Rattle.select_delta.specs.Selected.{AreSelected, edited, edited_source};
+ghost use Rattle.signed_delta.specs.Disjoint.{AreApart};
+ghost use Rattle.select_delta.specs.Selected.{AreSelected, edited, edited_source, with_touched};
 
 use fd_tree::Tree;
 use lens_pred::Pred;
 use lens_values::NoMemory;
-use revision::{afters, befores, near_rows, touched_among};
+use revision::{Touched, afters, befores, near_rows, touched_among};
 use row_sets::RowSet;
 use signed_delta::{Delta, Look};
 use std::alloc::Global;
@@ -57,6 +58,21 @@ pub fn select_delta<S: Look, L: Ledger>(
     if touched.is_empty() {
         return Ok(delta);
     }
+    with_touched(alloc, pred, touched, &delta)
+}
+
+// The edit, with these rows that the predicate hides: each is removed, and what it becomes is added
+// if the predicate still hides it.
+fn with_touched(
+    alloc: Global,
+    pred: &Pred,
+    touched: Vec<Touched>,
+    delta: &Delta,
+) -> Result<Delta, NoMemory>
+    requires { let change = with_touched pred.now touched.items delta.now in
+        AreApart change.remove change.add }
+    ensures { IfOk result (λ change. change ≡ with_touched pred.now touched.items delta.now) }
+{
     let gone = befores(alloc, &touched)?;
     let revised = afters(alloc, &touched)?;
     let new = refused(revised, pred);

@@ -1,7 +1,7 @@
 -- Lines that are too long: they are refused, export nothing and ask the keeper for nothing.
 use Rattle.std.proofs.Common.{◌≡◌, ◌⊎◌, ℕ, List, refl, arith, inl, Result, Ok, Err}
 use Rattle.std.specs.declared.option.Option.{Option}
-use Rattle.server_specs.specs.Common.{Adds, Line, too_long, State, Answer, long_line, memory, text, answer, Request, export, request, answered, found_memory}
+use Rattle.server_specs.specs.Common.{Adds, too_long, State, Answer, long_line, memory, text, answer, Request, export, request, answered, found_memory}
 use Rattle.io_specs.proofs.Calls.{Adds-none}
 use Rattle.lens_specs.specs.Common.{Lens, Name}
 use Rattle.server_specs.specs.Session as steps

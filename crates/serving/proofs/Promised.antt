@@ -1,5 +1,5 @@
 -- What a run promises, from what its parts do.
-use Rattle.std.proofs.Common.{◌≡◌, ◌≢◌, ◌≤◌, ◌<◌, ◌∙◌, ◌⊎◌, ℕ, Bool, List, length, refl, sym, subst, arith, inl, inr, ◌↔◌, Option, None, Some, IfSome}
+use Rattle.std.proofs.Common.{◌≡◌, ◌≢◌, ◌≤◌, ◌<◌, ◌∙◌, ◌⊎◌, ℕ, Bool, List, length, refl, sym, subst, arith, inl, inr, ◌↔◌, Option, None, Some, Result, Ok, Err, IfSome}
 use Rattle.server_specs.specs.Common.{Adds, Rose}
 use Rattle.lens_io.specs.Bytes.{GivesUnlessFailed}
 use Rattle.lens_io.specs.Calls.{OffersRest}
@@ -45,6 +45,23 @@ completed_told : (status most : ℕ) (left : Option (List ℕ)) → (status ≡ 
     → IfSome left (λ bytes. length bytes ≤ most → (status ≡ 0) ⊎ ((status ≡ 3) ⊎ (status ≡ 7)))
 completed_told status most None all long = tt
 completed_told status most (Some bytes) all long = λ short. unless_longer status most bytes all long short
+
+-- ---- statuses that exclude others
+
+pub not_unserved : (status : ℕ) → IsServed status → IsUnserved status → ⊥
+not_unserved status served unserved = omega (arith, served, unserved)
+
+-- a status of a run that did not begin, at which the store has its place
+pub unserved_seven : (status : ℕ) → IsUnserved status → IsServed status ⊎ (status ≡ 7) → status ≡ 7
+unserved_seven status unserved other = omega (arith, unserved, other)
+
+-- ---- what a start gave
+
+pub ok_is_no_err : {T E : Type 0} (r : Result T E) (x : T) (e : E) → r ≡ Ok x → r ≢ Err e
+ok_is_no_err r x e is same = cc
+
+pub same_err : {T E : Type 0} (r : Result T E) (a b : E) → r ≡ Err a → r ≡ Err b → a ≡ b
+same_err r a b is same = cc
 
 -- ---- no rehearsal
 
@@ -116,6 +133,13 @@ promised_input s stays status old new none serves damaged exactly exactly_now fa
 pub summarized : (status : ℕ) → (status ≡ 0) ⊎ (status ≡ 5) → IsServed status
 summarized status (inl zero) = inl zero
 summarized status (inr five) = inr (inr (inl five))
+
+pub no_input_asked : (status : ℕ) → (status ≡ 0) ⊎ (status ≡ 5) → (status ≢ 4) × (status ≢ 8)
+no_input_asked status ends = ((λ four. omega (arith, four, ends)), (λ eight. omega (arith, eight, ends)))
+
+-- memory ran out, and that is all
+pub memory_alone : (status : ℕ) → status ≡ 3 → (status ≢ 5) × (status ≢ 6) × (status ≢ 7) × ((status ≡ 6) ⊎ (status ≡ 7) → ⊥) × (IsServed status ⊎ (status ≡ 7) → ⊥)
+memory_alone status is = ((λ e. omega (arith, is, e)), (λ e. omega (arith, is, e)), (λ e. omega (arith, is, e)), (λ e. omega (arith, is, e)), (λ e. omega (arith, is, e)))
 
 pub promised_rehearsal : (s : Settings) (n : ℕ) (stays : Bool) (status : ℕ) (old new : Observed) → s.rehearse ≡ Some n
     → ((status ≡ 0) ⊎ (status ≡ 5) → RehearsesBy s n stays status old new)

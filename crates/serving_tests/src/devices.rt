@@ -1,10 +1,9 @@
 //! Runs over sources, sinks and keepers whose calls are short, or fail.
-use crate::runs::{PLAIN, Setting, expect, given, is_given, keeper};
+use crate::runs::{Setting, given, is_given, keeper};
 use crate::scripts::{BASE, PUT_STOCK, side};
-use lens_io::{MemorySink, ROOM};
+use lens_io::ROOM;
 use std::alloc::Global;
-use std::test::Fail;
-use table_keeper::{Asked, Kept, SureKeeper};
+use std::process::Abort;
 
 // The line that words which are refused are answered with.
 const USAGE: &str = "usage: view_program [--store PATH] [--max-input N] [--rehearse N]\n";
@@ -36,7 +35,11 @@ const REHEARSED: &str =
 
 // Words, the input, which calls of the source, the sink and the keeper fail, the status and the
 // output.
-const RUNS: [(&str, &str, [u64; 3], u8, &str); 23] = [
+type Run = (&'static str, &'static str, [u64; 3], u8, &'static str);
+
+// A run asks the keeper to choose the store, if the words name one, and to load it, and then only for
+// changes.
+const RUNS: [Run; 25] = [
     ("", "", [0, 0, 0], 0, ""),
     ("", "x", [0, 0, 0], 0, NOT_JSON),
     ("", "x\n\n", [0, 0, 0], 0, NO_JSON_TWICE),
@@ -55,6 +58,8 @@ const RUNS: [(&str, &str, [u64; 3], u8, &str); 23] = [
     ("", ONE, [0, 1, 0], 5, ""),
     ("", ONE, [0, 0, 1], 6, ""),
     ("--store x", TWO, [0, 0, 1], 6, ""),
+    ("--store x", TWO, [0, 0, 2], 6, ""),
+    ("--store x", TWO, [0, 0, 3], 0, TWO_TOLD),
     ("--rehearse 1", TWO, [0, 0, 1], 6, ""),
     ("--max-input 28", TWO, [0, 0, 0], 0, TWO_TOLD),
     ("--max-input 28", THREE, [0, 0, 0], 8, TWO_TOLD),
@@ -63,19 +68,24 @@ const RUNS: [(&str, &str, [u64; 3], u8, &str); 23] = [
 ];
 
 #[test]
-fn runs_end(rt: HostRuntime) -> Result<(), Fail> {
-    for (words, input, [from, to, refused], status, output) in RUNS {
-        let setting = Setting {
-            words,
-            pieces: [ROOM, ROOM],
-            failing: [from, to],
-        };
-        let mut keeper = keeper(rt.alloc(), refused)?;
-        let input = Vec::from_slice(rt.alloc(), input.as_bytes())?;
-        let sink = given(rt.alloc(), setting, input, &mut keeper, status)?;
-        is_given(sink.bytes(), output.as_bytes())?;
+fn runs_end(rt: HostRuntime) {
+    for run in &RUNS {
+        ends(&rt, rt.alloc(), run);
     }
-    Ok(())
+}
+
+// Checks the status of a run, and all that it gives.
+fn ends(rt: &impl Abort, alloc: Global, run: &Run) {
+    let (words, input, [from, to, refused], status, output) = *run;
+    let setting = Setting {
+        words,
+        pieces: [ROOM, ROOM],
+        failing: [from, to],
+    };
+    let mut keeper = keeper(rt, alloc, refused);
+    let input = input.to_string(alloc).expect(rt, "memory");
+    let sink = given(rt, alloc, setting, input, &mut keeper, status);
+    is_given(rt, sink.bytes(), output);
 }
 
 // How many bytes a call of the source gives and one of the sink takes, which of their calls fail, the
@@ -100,104 +110,24 @@ const PIECES: [([usize; 2], [u64; 2], u8, usize); 15] = [
 ];
 
 #[test]
-fn devices_fail(rt: HostRuntime) -> Result<(), Fail> {
-    let replies = side(rt.alloc(), &[BASE, PUT_STOCK], 1)?;
+fn devices_fail(rt: HostRuntime) {
     for (pieces, failing, status, count) in PIECES {
         let setting = Setting {
             words: "",
             pieces,
             failing,
         };
-        let mut keeper = SureKeeper::holding(Kept::nothing(rt.alloc()));
-        let requests = side(rt.alloc(), &[BASE, PUT_STOCK], 0)?;
-        let sink = given(rt.alloc(), setting, requests, &mut keeper, status)?;
-        let front = replies.get(..count).unwrap_or(replies.as_slice());
-        expect(sink.bytes() == front, "the front of the replies")?;
+        gives_front(&rt, rt.alloc(), setting, status, count);
     }
-    Ok(())
 }
 
-// The requests for all that is kept.
-const QUESTIONS: &str = r#"{"do":"list"}
-{"do":"read","view":"tracks"}
-{"do":"read","view":"albums"}
-{"do":"read","view":"stock"}
-"#;
-
-const STORE_FAULT: &str = r#"{"error":90,"ok":false}
-"#;
-
-// The first lines of a text.
-fn first_lines(alloc: Global, text: &[u8], count: usize) -> Result<Vec<u8>, Fail> {
-    let mut first = Vec::new(alloc);
-    for line in str::from_utf8(text)?.lines().take(count) {
-        first.extend_from_slice(line.as_bytes())?;
-        first.push(b'\n')?;
-    }
-    Ok(first)
-}
-
-// What a later run finds after a run over the first lines of the script, in which this call of the
-// keeper fails. The first run has to give the script's replies to so many lines, and then this one.
-fn found_later(
-    alloc: Global,
-    lines: usize,
-    call: u64,
-    replies: usize,
-    last: &str,
-) -> Result<MemorySink, Fail> {
-    let mut keeper = keeper(alloc, call)?;
-    let requests = side(alloc, &[BASE, PUT_STOCK], 0)?;
-    let sink = given(
-        alloc,
-        PLAIN,
-        first_lines(alloc, &requests, lines)?,
-        &mut keeper,
-        0,
-    )?;
-    let told = side(alloc, &[BASE, PUT_STOCK], 1)?;
-    let mut wanted = first_lines(alloc, &told, replies)?;
-    wanted.extend_from_slice(last.as_bytes())?;
-    is_given(sink.bytes(), &wanted)?;
-    let questions = Vec::from_slice(alloc, QUESTIONS.as_bytes())?;
-    given(alloc, PLAIN, questions, &mut keeper, 0)
-}
-
-// The first call of the keeper loads, and each line of the script is committed by the next one.
-#[test]
-fn failed_commits_are_not_kept(rt: HostRuntime) -> Result<(), Fail> {
-    let alloc = rt.alloc();
-    for before in 0..6u64 {
-        let lines = before as usize;
-        let failed = found_later(alloc, lines + 1, before + 2, lines, STORE_FAULT)?;
-        let without = found_later(alloc, lines, 0, lines, "")?;
-        is_given(failed.bytes(), without.bytes())?;
-    }
-    Ok(())
-}
-
-// Fails where a run with these words, over six lines that change something and two that ask, does not
-// ask the keeper for this.
-fn asks_for(alloc: Global, words: &str, wanted: &[Asked]) -> Result<(), Fail> {
-    let mut keeper = keeper(alloc, 0)?;
-    let mut requests = side(alloc, &[BASE, PUT_STOCK], 0)?;
-    requests.extend_from_slice(TWO.as_bytes())?;
-    given(alloc, Setting { words, ..PLAIN }, requests, &mut keeper, 0)?;
-    let calls = keeper.calls().ok_or("no calls")?;
-    expect(calls.len() == wanted.len(), "how many calls")?;
-    for (call, asked) in calls.iter().zip(wanted) {
-        expect(call.asked == *asked && call.fault.is_none(), "a call")?;
-    }
-    Ok(())
-}
-
-#[test]
-fn the_keeper_is_asked_at_changes_alone(rt: HostRuntime) -> Result<(), Fail> {
-    use Asked::{Attach, Commit, Load};
-
-    let alloc = rt.alloc();
-    let loaded = [Load, Commit, Commit, Commit, Commit, Commit, Commit];
-    asks_for(alloc, "", &loaded)?;
-    let attached = [Attach, Load, Commit, Commit, Commit, Commit, Commit, Commit];
-    asks_for(alloc, "--store x", &attached)
+// Checks a run over the scripts: its status, and how many bytes of the replies it gives.
+fn gives_front(rt: &impl Abort, alloc: Global, setting: Setting<'_>, status: u8, count: usize) {
+    let mut keeper = keeper(rt, alloc, 0);
+    let requests = side(rt, alloc, &[BASE, PUT_STOCK], 0);
+    let sink = given(rt, alloc, setting, requests, &mut keeper, status);
+    let replies = side(rt, alloc, &[BASE, PUT_STOCK], 1);
+    let all = replies.as_bytes();
+    let front = all.get(..count).unwrap_or(all);
+    assert!(rt; sink.bytes() == front, "status {status}, {count} bytes");
 }

@@ -1,7 +1,24 @@
 //! Changes that a keeper refuses once.
 use crate::runs::keeper;
 use crate::scripts::{BASE, PUT_STOCK, follow};
-use std::test::Fail;
+
+// A definition of a table, which the keeper refuses, and takes when it is sent again.
+const TABLE: &str = r#"{"do":"define","text":"table goods (name text, quantity int)"}
+{"error":90,"ok":false}
+{"do":"list"}
+{"definitions":[],"ok":true,"version":0}
+{"do":"define","text":"table goods (name text, quantity int)"}
+{"ok":true,"version":1}"#;
+
+// The same of a view.
+const VIEW: &str = r#"{"do":"define","text":"table goods (name text, quantity int)"}
+{"ok":true,"version":1}
+{"do":"define","text":"view big = select from goods where quantity > 2"}
+{"error":90,"ok":false}
+{"do":"list"}
+{"definitions":["table goods (name text, quantity int)"],"ok":true,"version":1}
+{"do":"define","text":"view big = select from goods where quantity > 2"}
+{"ok":true,"version":2}"#;
 
 // A put over tables of its own, which the keeper refuses, and takes when it is sent again.
 const PUT: &str = r#"{"do":"define","text":"table goods (name text, quantity int)"}
@@ -67,7 +84,9 @@ const IMPORT: &str = r#"{"do":"export","view":"stock"}
 {"changed":[{"add":[],"remove":[{"album":"Disintegration","quantity":6},{"album":"Galore","quantity":1},{"album":"Paris","quantity":4},{"album":"Wish","quantity":5}],"table":"albums"}],"ok":true,"version":6}"#;
 
 // Which call of the keeper fails, and the scripts.
-const REFUSED: [(u64, [&str; 3]); 6] = [
+const REFUSED: [(u64, [&str; 3]); 8] = [
+    (2, [TABLE, "", ""]),
+    (3, [VIEW, "", ""]),
     (4, [PUT, "", ""]),
     (7, [BASE, PUT_VIEW, PUT_STOCK]),
     (7, [BASE, EDIT, ""]),
@@ -85,12 +104,12 @@ const FOUND_LATER: &str = r#"{"do":"list"}
 {"ok":true,"rows":[{"album":"Disintegration","quantity":6},{"album":"Galore","quantity":1},{"album":"Paris","quantity":4},{"album":"Show","quantity":3},{"album":"Wish","quantity":5}],"version":0}"#;
 
 #[test]
-fn refused_changes_are_not_kept(rt: HostRuntime) -> Result<(), Fail> {
+fn refused_changes_are_not_kept(rt: HostRuntime) {
+    let alloc = rt.alloc();
     for (call, scripts) in REFUSED {
-        let mut keeper = keeper(rt.alloc(), call)?;
-        follow(rt.alloc(), &mut keeper, &scripts)?;
+        follow(&rt, alloc, &mut keeper(&rt, alloc, call), &scripts);
     }
-    let mut keeper = keeper(rt.alloc(), 7)?;
-    follow(rt.alloc(), &mut keeper, &[BASE, PUT_VIEW])?;
-    follow(rt.alloc(), &mut keeper, &[FOUND_LATER])
+    let mut keeper = keeper(&rt, alloc, 7);
+    follow(&rt, alloc, &mut keeper, &[BASE, PUT_VIEW]);
+    follow(&rt, alloc, &mut keeper, &[FOUND_LATER]);
 }

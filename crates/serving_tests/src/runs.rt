@@ -5,8 +5,8 @@ use lens_io::{MemorySink, MemorySource};
 use serving::run;
 use std::alloc::Global;
 use std::marker::Brand;
+use std::process::Abort;
 use std::sync::ledger::{Blank, Ledger};
-use std::test::Fail;
 use step_counter::Steps;
 use table_keeper::{Keeper, Kept, MemoryKeeper};
 
@@ -26,52 +26,42 @@ pub(crate) const PLAIN: Setting<'static> = Setting {
     failing: [0, 0],
 };
 
-/// Fails with these words if something does not hold.
-pub(crate) fn expect(holds: bool, words: &str) -> Result<(), Fail> {
-    if holds {
-        Ok(())
-    } else {
-        Err(Fail::from(words))
-    }
-}
-
 // The program's name and these words.
-fn words_of(alloc: Global, words: &str) -> Result<Vec<String>, Fail> {
+fn words_of(rt: &impl Abort, alloc: Global, words: &str) -> Vec<String> {
     let mut all = Vec::new(alloc);
-    all.push(String::from_str(alloc, "view_program")?)?;
+    let program = "view_program".to_string(alloc).expect(rt, "memory");
+    all.push(program).expect(rt, "memory");
     for word in words.split_whitespace() {
-        all.push(String::from_str(alloc, word)?)?;
+        let word = word.to_string(alloc).expect(rt, "memory");
+        all.push(word).expect(rt, "memory");
     }
-    Ok(all)
+    all
 }
 
 /// Numbers of the calls that fail: this one, or none at 0.
-pub(crate) fn failing(alloc: Global, number: u64) -> Result<Vec<u64>, Fail> {
-    let mut numbers = Vec::new(alloc);
-    if number > 0 {
-        numbers.push(number)?;
+pub(crate) fn failing(rt: &impl Abort, alloc: Global, number: u64) -> Vec<u64> {
+    if number == 0 {
+        return Vec::new(alloc);
     }
-    Ok(numbers)
+    vec![in alloc; number].expect(rt, "memory")
 }
 
 /// A keeper of nothing, of which this call fails.
-pub(crate) fn keeper(alloc: Global, call: u64) -> Result<MemoryKeeper, Fail> {
-    let failing = failing(alloc, call)?;
-    Ok(MemoryKeeper::holding(Kept::nothing(alloc), failing))
+pub(crate) fn keeper(rt: &impl Abort, alloc: Global, call: u64) -> MemoryKeeper {
+    MemoryKeeper::holding(Kept::nothing(alloc), failing(rt, alloc, call))
 }
 
 // The source of a run.
-fn source(alloc: Global, setting: Setting<'_>, input: Vec<u8>) -> Result<MemorySource, Fail> {
-    let failing = failing(alloc, setting.failing[0])?;
-    let piece = setting.pieces[0].max(1);
-    Ok(MemorySource::new(input, piece, failing))
+fn source(rt: &impl Abort, alloc: Global, setting: Setting<'_>, input: String) -> MemorySource {
+    let failing = failing(rt, alloc, setting.failing[0]);
+    MemorySource::new(input.into_bytes(), setting.pieces[0].max(1), failing)
 }
 
 // The sink of a run.
-fn sink(alloc: Global, setting: Setting<'_>) -> Result<MemorySink, Fail> {
-    let failing = failing(alloc, setting.failing[1])?;
-    let piece = setting.pieces[1].max(1);
-    Ok(MemorySink::new(alloc, 8_000_000, piece, failing)?)
+fn sink(rt: &impl Abort, alloc: Global, setting: Setting<'_>) -> MemorySink {
+    let failing = failing(rt, alloc, setting.failing[1]);
+    let sink = MemorySink::new(alloc, 8_000_000, setting.pieces[1].max(1), failing);
+    sink.expect(rt, "memory")
 }
 
 fn run_counted<K: Keeper, L: Ledger>(
@@ -93,36 +83,41 @@ fn run_counted<K: Keeper, L: Ledger>(
 // The status of a run.
 fn status_of<K: Keeper>(
     alloc: Global,
-    words: &str,
-    mut source: MemorySource,
+    words: &[String],
+    source: &mut MemorySource,
     sink: &mut MemorySink,
     keeper: &mut K,
-) -> Result<u8, Fail> {
-    let words = words_of(alloc, words)?;
-    let blank = Blank::new(1);
-    Ok(run_counted::<K, Brand>(alloc, &words, &mut source, sink, keeper, blank))
+) -> u8 {
+    run_counted::<K, Brand>(alloc, words, source, sink, keeper, Blank::new(1))
 }
 
 /// What a run over this input gives, which has to end with this status.
-pub(crate) fn given<K: Keeper>(
+pub(crate) fn given(
+    rt: &impl Abort,
     alloc: Global,
     setting: Setting<'_>,
-    input: Vec<u8>,
-    keeper: &mut K,
+    input: String,
+    keeper: &mut MemoryKeeper,
     status: u8,
-) -> Result<MemorySink, Fail> {
-    let source = source(alloc, setting, input)?;
-    let mut sink = sink(alloc, setting)?;
-    let ended = status_of(alloc, setting.words, source, &mut sink, keeper)?;
-    expect(ended == status, "the status")?;
-    Ok(sink)
+) -> MemorySink {
+    let words = words_of(rt, alloc, setting.words);
+    let mut source = source(rt, alloc, setting, input);
+    let mut sink = sink(rt, alloc, setting);
+    let ended = status_of(alloc, &words, &mut source, &mut sink, keeper);
+    assert_eq!(rt;
+        ended,
+        status,
+        "the status of a run with the words {}",
+        setting.words
+    );
+    sink
 }
 
-/// Fails, with the first line that is another one, where this was not given.
-pub(crate) fn is_given(given: &[u8], wanted: &[u8]) -> Result<(), Fail> {
-    let mut lines = str::from_utf8(wanted)?.lines();
-    for line in str::from_utf8(given)?.lines() {
-        expect(lines.next() == Some(line), line)?;
+/// Stops the test, with the first line that is another one, if this was not given.
+pub(crate) fn is_given(rt: &impl Abort, given: &[u8], wanted: &str) {
+    let mut lines = wanted.lines();
+    for line in str::from_utf8(given).expect(rt, wanted).lines() {
+        assert!(rt; lines.next() == Some(line), "{line}");
     }
-    expect(given.len() == wanted.len(), "a reply is not there")
+    assert!(rt; given.len() == wanted.len(), "not all lines of {wanted}");
 }

@@ -2,8 +2,8 @@
 //! `examples/sessions`.
 use crate::runs::{PLAIN, given, is_given};
 use std::alloc::Global;
-use std::test::Fail;
-use table_keeper::Keeper;
+use std::process::Abort;
+use table_keeper::MemoryKeeper;
 
 /// Tracks on albums, how many of each album there are, and a view over both.
 pub(crate) const BASE: &str =
@@ -25,26 +25,26 @@ pub(crate) const PUT_STOCK: &str =
 
 /// The requests of the scripts, every second line from the first on, or the replies, from the second
 /// on.
-pub(crate) fn side(alloc: Global, scripts: &[&str], from: usize) -> Result<Vec<u8>, Fail> {
-    let mut lines = Vec::new(alloc);
+pub(crate) fn side(rt: &impl Abort, alloc: Global, scripts: &[&str], from: usize) -> String {
+    let mut lines = String::new(alloc);
     for script in scripts {
-        for line in script.lines().skip(from).step_by(2) {
-            lines.extend_from_slice(line.as_bytes())?;
-            lines.push(b'\n')?;
-        }
+        add_side(rt, &mut lines, script, from);
     }
-    Ok(lines)
+    lines
 }
 
-/// Asks the requests of the scripts, one script after another, and fails at the first reply that
-/// is not as it stands there.
-pub(crate) fn follow<K: Keeper>(
-    alloc: Global,
-    keeper: &mut K,
-    scripts: &[&str],
-) -> Result<(), Fail> {
-    let requests = side(alloc, scripts, 0)?;
-    let sink = given(alloc, PLAIN, requests, keeper, 0)?;
-    let replies = side(alloc, scripts, 1)?;
-    is_given(sink.bytes(), &replies)
+// Adds these lines of one script.
+fn add_side(rt: &impl Abort, lines: &mut String, script: &str, from: usize) {
+    for line in script.lines().skip(from).step_by(2) {
+        lines.push_str(line).expect(rt, "memory");
+        lines.push('\n').expect(rt, "memory");
+    }
+}
+
+/// Sends the requests of the scripts, one script after another, and stops the test at the first
+/// reply that is not as it stands there.
+pub(crate) fn follow(rt: &impl Abort, alloc: Global, keeper: &mut MemoryKeeper, scripts: &[&str]) {
+    let requests = side(rt, alloc, scripts, 0);
+    let sink = given(rt, alloc, PLAIN, requests, keeper, 0);
+    is_given(rt, sink.bytes(), &side(rt, alloc, scripts, 1));
 }

@@ -18,7 +18,7 @@ use std::sync::ledger::Ledger;
 use step_counter::Steps;
 
 /// Rows to remove and rows to add, with no row in both. A contract sees the two sets.
-#[derive(Debug, Drop)]
+#[derive(Drop)]
 pub struct Delta {
     remove: RowSet,
     add: RowSet,
@@ -118,7 +118,7 @@ impl Delta {
 }
 
 /// The difference of one table.
-#[derive(Debug, Drop)]
+#[derive(Drop)]
 pub struct TableDelta {
     /// The table's name.
     pub table: Name,

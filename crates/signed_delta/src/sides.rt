@@ -9,7 +9,7 @@ use std::alloc::Global;
 use std::cmp::Ordering;
 
 /// The difference of two lists of rows.
-#[derive(Debug, Drop)]
+#[derive(Drop)]
 pub struct Sides {
     /// The rows of the old list that the new one lacks.
     pub remove: Vec<Row>,

@@ -31,15 +31,25 @@ pub fn change<S: Alter>(
         return Err(Refusal::Failed);
     }
     let mut transaction = conn.transaction();
-    match change {
-        Change::Define { text, table } => define(alloc, &mut transaction, text, *table)?,
-        Change::Rows { deltas } => change_tables(alloc, &mut transaction, known, deltas)?,
-    }
+    make(alloc, &mut transaction, known, change)?;
     transaction.commit()?;
     if has_many_rows(change) {
         copy_log(conn);
     }
     Ok(())
+}
+
+// Makes the change in the transaction.
+fn make<S: Alter>(
+    alloc: Global,
+    transaction: &mut Transaction<'_, S>,
+    known: &KnownColumns,
+    change: &Change,
+) -> Result<(), Refusal> {
+    match change {
+        Change::Define { text, table } => define(alloc, transaction, text, *table),
+        Change::Rows { deltas } => change_tables(alloc, transaction, known, deltas),
+    }
 }
 
 // Whether the change adds or removes many rows of some table.
@@ -97,10 +107,15 @@ fn create_table<S: Alter>(
     text: &Text,
     table: Name,
 ) -> Result<(), Refusal> {
-    let definition = parse(alloc, text)?;
-    let create = create_of(alloc, &definition, &table)?;
+    let create = create_by(alloc, text, &table)?;
     transaction.execute(create.as_str(), &[])?;
     Ok(())
+}
+
+// The text that makes the table of this name, which the definition in this text defines.
+fn create_by(alloc: Global, text: &Text, table: &Name) -> Result<String, Refusal> {
+    let definition = parse(alloc, text)?;
+    create_of(alloc, &definition, table)
 }
 
 // The text that makes the table of this name, as it is defined.

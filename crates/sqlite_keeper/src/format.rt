@@ -5,7 +5,7 @@ ghost use Rattle.sqlite.specs.State.{Executes, HasCleanDisk};
 ghost use Rattle.sqlite_keeper.specs.TableNames.{is_of_store};
 
 use crate::refusal::Refusal;
-use sqlite::{Alter, Connection};
+use sqlite::{Alter, Connection, Rows};
 use std::alloc::Global;
 
 const MAKE: &str = "BEGIN;
@@ -34,7 +34,7 @@ fn is_of_store(name: &str) -> bool
 
 // Tests that the store has definitions and one number, and takes a store of format 1 to format 2.
 fn take_format<S: Alter>(conn: &mut Connection<S>) -> Result<(), Refusal> {
-    let _definitions = conn.prepare("SELECT place, text FROM lens_defs")?;
+    let _ = conn.prepare("SELECT place, text FROM lens_defs")?;
     let numbers = conn.query_all("SELECT number FROM lens_format", &[])?;
     match numbers.as_slice() {
         [row] => take_number(conn, row.get::<i64>(0)?),
@@ -75,11 +75,21 @@ pub fn table_names<S: Alter>(
     let mut names = Vec::new(alloc);
     let mut rows = conn.query("SELECT name FROM sqlite_schema WHERE type = 'table'", &[])?;
     for _ in 0..u64::MAX {
-        rows.advance()?;
-        match rows.get() {
-            None => break,
-            Some(row) => names.push(row.get(0)?)?,
+        if !push_name(&mut rows, &mut names)? {
+            break;
         }
     }
     Ok(names)
+}
+
+// Adds the name in the next row, or tells that there is none.
+fn push_name<S: Alter>(rows: &mut Rows<'_, S>, names: &mut Vec<String>) -> Result<bool, Refusal> {
+    rows.advance()?;
+    match rows.get() {
+        None => Ok(false),
+        Some(row) => {
+            names.push(row.get(0)?)?;
+            Ok(true)
+        }
+    }
 }

@@ -60,7 +60,14 @@ impl KnownColumns {
             return Ok(());
         }
         let texts = definition_texts(alloc, conn)?;
-        for text in &texts {
+        self.add_texts(alloc, &texts)
+    }
+
+    // Adds the columns of the tables that the texts define.
+    fn add_texts(&mut self, alloc: Global, texts: &[Text]) -> Result<(), Refusal>
+        ensures { Extends (known_in self.old) (known_in self.new) }
+    {
+        for text in texts {
             self.add_text(alloc, text)?;
         }
         Ok(())

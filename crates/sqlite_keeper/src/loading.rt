@@ -9,7 +9,7 @@ use crate::refusal::Refusal;
 use crate::tables::rows_of;
 use lens_values::{Name, Text};
 use sqlite::types::ValueRef;
-use sqlite::{Alter, Connection};
+use sqlite::{Alter, Connection, Rows};
 use std::alloc::Global;
 use table_keeper::{Kept, KeptTable};
 use view_lang::{Definition, LangFault, parse};
@@ -19,15 +19,27 @@ pub fn load<S: Alter>(alloc: Global, conn: &mut Connection<S>) -> Result<Kept, R
     ensures { IfOk result (λ kept. Rise kept.tables.items) }
 {
     let definitions = definition_texts(alloc, conn)?;
-    let names = table_names(alloc, conn)?;
-    let mut tables = Vec::new(alloc);
-    for text in &definitions {
-        load_table(alloc, conn, &names, text, &mut tables)?;
-    }
+    let tables = tables_of(alloc, conn, &definitions)?;
     Ok(Kept {
         definitions,
         tables,
     })
+}
+
+// The tables that the texts define, if they are there.
+fn tables_of<S: Alter>(
+    alloc: Global,
+    conn: &mut Connection<S>,
+    definitions: &[Text],
+) -> Result<Vec<KeptTable>, Refusal>
+    ensures { IfOk result (λ tables. Rise tables.items) }
+{
+    let names = table_names(alloc, conn)?;
+    let mut tables = Vec::new(alloc);
+    for text in definitions {
+        load_table(alloc, conn, &names, text, &mut tables)?;
+    }
+    Ok(tables)
 }
 
 /// The texts of the definitions, in order of their places.
@@ -38,13 +50,27 @@ pub fn definition_texts<S: Alter>(
     let mut texts = Vec::new(alloc);
     let mut rows = conn.query("SELECT text FROM lens_defs ORDER BY place", &[])?;
     for _ in 0..u64::MAX {
-        rows.advance()?;
-        match rows.get() {
-            None => break,
-            Some(row) => texts.push(definition_text(alloc, row)?)?,
+        if !push_definition(alloc, &mut rows, &mut texts)? {
+            break;
         }
     }
     Ok(texts)
+}
+
+// Adds the text in the next row, or tells that there is none.
+fn push_definition<S: Alter>(
+    alloc: Global,
+    rows: &mut Rows<'_, S>,
+    texts: &mut Vec<Text>,
+) -> Result<bool, Refusal> {
+    rows.advance()?;
+    match rows.get() {
+        None => Ok(false),
+        Some(row) => {
+            texts.push(definition_text(alloc, row)?)?;
+            Ok(true)
+        }
+    }
 }
 
 fn definition_text(alloc: Global, row: &sqlite::Row) -> Result<Text, Refusal> {

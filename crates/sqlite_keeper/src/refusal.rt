@@ -12,7 +12,7 @@ use std::io;
 use view_lang::LangFault;
 
 /// Why a database is not read or changed.
-#[derive(Clone, Copy, Debug, PartialEq, Eq)]
+#[derive(Clone, Copy)]
 pub enum Refusal {
     /// The database refused, or holds what is no store of this format.
     Failed,

@@ -6,7 +6,7 @@ ghost use Rattle.table_keeper.specs.Asking.{calls_kept, fault_of};
 use crate::keeper::KeepFault;
 
 /// What a keeper is asked.
-#[derive(Clone, Copy, Debug, PartialEq, Eq)]
+#[derive(Clone, Copy, PartialEq, Eq)]
 pub enum Asked {
     /// To choose where the contents lie.
     Attach,
@@ -17,7 +17,7 @@ pub enum Asked {
 }
 
 /// One call of a keeper.
-#[derive(Debug, PartialEq, Eq, Drop)]
+#[derive(PartialEq, Eq, Drop)]
 pub struct Call {
     /// What it was asked.
     pub asked: Asked,

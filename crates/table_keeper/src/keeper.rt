@@ -38,7 +38,7 @@ impl From<NoMemory> for KeepFault {
 }
 
 /// One change. It is made whole or not at all.
-#[derive(Debug, Drop)]
+#[derive(Drop)]
 pub enum Change {
     /// A definition's text, and the name of the table that it makes, if any.
     Define { text: Text, table: Option<Name> },
@@ -47,7 +47,7 @@ pub enum Change {
 }
 
 /// The rows of one table.
-#[derive(Debug, Drop)]
+#[derive(Drop)]
 pub struct KeptTable {
     /// The table's name.
     pub table: Name,
@@ -66,7 +66,7 @@ impl TryClone for KeptTable {
 }
 
 /// All that is kept.
-#[derive(Debug, Drop)]
+#[derive(Drop)]
 pub struct Kept {
     /// The texts of the definitions, in order.
     pub definitions: Vec<Text>,

@@ -15,7 +15,7 @@ use std::alloc::Global;
 
 /// Keeps its contents in memory, and its calls as long as there is memory for their list. Its calls
 /// fail only where memory runs out, so it counts no faults.
-#[derive(Debug, Drop)]
+#[derive(Drop)]
 pub struct SureKeeper {
     store: Store,
     call_list: Option<Vec<Call>>,
@@ -100,7 +100,7 @@ impl Keeper for SureKeeper {
 
 /// Keeps its contents in memory, for tests, and its calls as long as there is memory for their list.
 /// Its calls to attach, load and commit are numbered from 1, and the listed ones fail.
-#[derive(Debug, Drop)]
+#[derive(Drop)]
 pub struct MemoryKeeper {
     store: Store,
     failing: Vec<u64>,

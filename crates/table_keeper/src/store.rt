@@ -12,7 +12,7 @@ use std::marker::Model;
 
 /// The definitions, the tables in rising order of names, and the place. A contract sees the
 /// contents and the place.
-#[derive(Debug, Drop)]
+#[derive(Drop)]
 pub struct Store {
     kept: Kept,
     place: Option<String>,

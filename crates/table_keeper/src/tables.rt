@@ -17,7 +17,7 @@ use signed_delta::TableDelta;
 use std::alloc::Global;
 
 /// A table, and its place in the list.
-#[derive(Debug, Drop)]
+#[derive(Drop)]
 pub struct Placed {
     /// Its place.
     pub place: usize,

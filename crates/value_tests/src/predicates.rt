@@ -24,11 +24,15 @@ fn comparisons_hold_or_fail(rt: HostRuntime) {
     let alloc = rt.alloc();
     assert!(rt; holds(&rt, alloc, comparison(&rt, alloc, "a in null 2")));
     for line in FAIL.lines() {
-        let formula = comparison(&rt, alloc, line);
-        check(&rt, !holds(&rt, alloc, formula), line);
-        let formula = Formula::Not(Box::new(alloc, comparison(&rt, alloc, line)).expect(&rt, line));
-        check(&rt, holds(&rt, alloc, formula), line);
+        fails(&rt, alloc, line);
     }
+}
+
+// Checks that the comparison fails on the row, and its negation holds.
+fn fails(rt: &impl Abort, alloc: Global, line: &str) {
+    check(rt, !holds(rt, alloc, comparison(rt, alloc, line)), line);
+    let negation = not(rt, alloc, comparison(rt, alloc, line));
+    check(rt, holds(rt, alloc, negation), line);
 }
 
 #[test]
@@ -43,18 +47,16 @@ fn comparisons_with_null_fit_columns(rt: HostRuntime) {
 #[test]
 fn conjuncts_are_in_normal_form(rt: HostRuntime) {
     let alloc = rt.alloc();
-    let both = and(&rt, alloc, Formula::True, Formula::False);
-    let nested = and(
-        &rt,
-        alloc,
-        and(&rt, alloc, Formula::True, Formula::False),
-        Formula::True,
-    );
-    let nested = Formula::Not(Box::new(alloc, nested).expect(&rt, "memory"));
-    for formula in [comparison(&rt, alloc, "a in"), both, nested] {
-        let list = vec![in alloc; Formula::True, formula].expect(&rt, "memory");
-        assert!(rt; Pred::new(list).err() == Some(NotNormal { index: 1 }));
-    }
+    is_not_normal(&rt, alloc, comparison(&rt, alloc, "a in"));
+    is_not_normal(&rt, alloc, both(&rt, alloc, Formula::False));
+    let nested = both(&rt, alloc, both(&rt, alloc, Formula::False));
+    is_not_normal(&rt, alloc, not(&rt, alloc, nested));
+}
+
+// Checks that the formula is no conjunct.
+fn is_not_normal(rt: &impl Abort, alloc: Global, formula: Formula) {
+    let list = vec![in alloc; Formula::True, formula].expect(rt, "memory");
+    assert!(rt; Pred::new(list).err() == Some(NotNormal { index: 1 }));
 }
 
 // The predicate of one conjunct.
@@ -74,9 +76,15 @@ fn fault(rt: &impl Abort, alloc: Global, text: &str) -> Option<PredFault> {
     pred.check(&columns).err()
 }
 
-// Both formulas hold.
-fn and(rt: &impl Abort, alloc: Global, one: Formula, other: Formula) -> Formula {
-    Formula::And(Formulas::new(vec![in alloc; one, other].expect(rt, "memory")))
+// The formula holds, and what always does.
+fn both(rt: &impl Abort, alloc: Global, formula: Formula) -> Formula {
+    let list = vec![in alloc; formula, Formula::True].expect(rt, "memory");
+    Formula::And(Formulas::new(list))
+}
+
+// The formula does not hold.
+fn not(rt: &impl Abort, alloc: Global, formula: Formula) -> Formula {
+    Formula::Not(Box::new(alloc, formula).expect(rt, "memory"))
 }
 
 // A column against a value, as `a > 1`, against another column, as `a > .b`, or against a list of

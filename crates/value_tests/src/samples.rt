@@ -27,28 +27,13 @@ pub(crate) fn name(rt: &impl Abort, word: &str) -> Name {
     Name::new(word).expect(rt, word)
 }
 
-// The names in the order of the text, as `b a b`.
-fn listed(rt: &impl Abort, alloc: Global, text: &str) -> Vec<Name> {
+/// The set of the names that the text lists.
+pub(crate) fn names(rt: &impl Abort, alloc: Global, text: &str) -> Names {
     let mut list = Vec::new(alloc);
     for word in text.split_whitespace() {
         list.push(name(rt, word)).expect(rt, "memory");
     }
-    list
-}
-
-/// The set of the names that the text lists.
-pub(crate) fn names(rt: &impl Abort, alloc: Global, text: &str) -> Names {
-    Names::new(alloc, listed(rt, alloc, text)).expect(rt, "memory")
-}
-
-/// Checks that these are the names of the text, in its order.
-pub(crate) fn are_names(rt: &impl Abort, alloc: Global, found: Option<Names>, text: &str) {
-    let found = found.expect(rt, text);
-    check(
-        rt,
-        found.as_slice() == listed(rt, alloc, text).as_slice(),
-        text,
-    );
+    Names::new(alloc, list).expect(rt, "memory")
 }
 
 // The kind that the word names, as `int`, or `int?` of a column that may be null.
@@ -78,12 +63,6 @@ fn pairs(rt: &impl Abort, alloc: Global, text: &str) -> Vec<(Name, Kind)> {
 /// The columns that the text lists.
 pub(crate) fn columns(rt: &impl Abort, alloc: Global, text: &str) -> Columns {
     Columns::new(alloc, pairs(rt, alloc, text)).expect(rt, text)
-}
-
-/// Checks that these are the columns of the text, in its order.
-pub(crate) fn are_columns(rt: &impl Abort, alloc: Global, found: Option<Columns>, text: &str) {
-    let found = found.expect(rt, text);
-    check(rt, found.pairs() == pairs(rt, alloc, text).as_slice(), text);
 }
 
 /// Null, a number, a truth value, or else a text.
@@ -131,16 +110,6 @@ pub(crate) fn rows(rt: &impl Abort, alloc: Global, text: &str) -> RowSet {
     RowSet::new(alloc, row_list(rt, alloc, text)).expect(rt, "memory")
 }
 
-/// Checks that these are the rows of the text, in its order.
-pub(crate) fn are_rows(rt: &impl Abort, alloc: Global, found: Option<RowSet>, text: &str) {
-    let found = found.expect(rt, text);
-    check(
-        rt,
-        found.rows() == row_list(rt, alloc, text).as_slice(),
-        text,
-    );
-}
-
 /// The relation over the columns that has the rows of the text.
 pub(crate) fn relation(rt: &impl Abort, alloc: Global, columns: &Columns, text: &str) -> Relation
     ensures { result.columns ≡ columns.now }
@@ -153,7 +122,7 @@ pub(crate) fn relation(rt: &impl Abort, alloc: Global, columns: &Columns, text: 
     made
 }
 
-/// Checks that the relation has these columns and rows.
+/// Checks that the relation has these columns and rows, in order.
 pub(crate) fn is_relation(
     rt: &impl Abort,
     alloc: Global,
@@ -162,8 +131,10 @@ pub(crate) fn is_relation(
     text: &str,
 ) {
     let found = found.expect(rt, text);
-    are_columns(rt, alloc, found.columns().copy(alloc).ok(), cols);
-    are_rows(rt, alloc, Some(found.into_rows()), text);
+    let columns = pairs(rt, alloc, cols);
+    check(rt, found.columns().pairs() == columns.as_slice(), cols);
+    let rows = row_list(rt, alloc, text);
+    check(rt, found.rows().rows() == rows.as_slice(), text);
 }
 
 /// The dependency, as `a b -> c`.

@@ -17,7 +17,7 @@ use std::marker::Model;
 
 /// The texts of the definitions in order, and the lens of each name. A contract sees the texts, and
 /// how many more definitions fit without more memory.
-#[derive(Debug, Drop)]
+#[derive(Drop)]
 pub struct Catalog {
     texts: Vec<Text>,
     lenses: IndexMap<Key, TypedLens>,
@@ -128,7 +128,7 @@ impl Catalog {
     {
         let tables = self.tables_with(&prepared);
         let name = prepared.name;
-        let _old = self.lenses.insert(Key { name }, prepared.lens).unwrap();
+        drop(self.lenses.insert(Key { name }, prepared.lens).unwrap());
         self.texts.push_reserved(prepared.text);
         self.views = self.lenses.len() - tables;
     }

@@ -101,10 +101,12 @@ fn judge_view(
         (catalogue catalog.now.texts) }
 {
     if catalog.has(&name) {
+        drop(expr);
         return Err(CatalogFault::NameTaken { name });
     }
     let lens = lens_in(alloc, catalog, expr)?;
     if catalog.views() >= MAX_VIEWS {
+        drop(lens);
         return Err(over_limit(Limit::Views));
     }
     Ok(Named { name, lens })

@@ -4,7 +4,7 @@ use lens_values::Name;
 use std::hash::{Hash, Hasher};
 
 /// The name of a table or of a view.
-#[derive(Clone, Copy, Debug, PartialEq, Eq)]
+#[derive(Clone, Copy, PartialEq, Eq)]
 pub struct Key {
     /// The name.
     pub name: Name,

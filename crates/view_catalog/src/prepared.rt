@@ -7,7 +7,7 @@ use lens_types::{Node, TypedLens};
 use lens_values::{Name, Text};
 
 /// A definition that was judged, with the lens that it makes.
-#[derive(Debug, Drop)]
+#[derive(Drop)]
 pub struct Prepared {
     pub(crate) text: Text,
     pub(crate) name: Name,

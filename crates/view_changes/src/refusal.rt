@@ -8,7 +8,7 @@ use lens_values::NoMemory;
 use request_text::{Answer, EditRefusal};
 
 /// Why there is no change to make.
-#[derive(Debug, Drop)]
+#[derive(Drop)]
 pub enum Refusal {
     /// The server rejects the change.
     Rejected {

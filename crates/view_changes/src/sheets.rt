@@ -11,7 +11,7 @@ use std::alloc::Global;
 use view_csv::{CsvFault, from_csv};
 
 /// Why a text gives no rows of a view.
-#[derive(Debug, Drop)]
+#[derive(Drop)]
 pub enum SheetFault {
     /// The least column of the view that may be null. CSV has no null.
     NullableColumn { col: Name },

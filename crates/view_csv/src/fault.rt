@@ -6,7 +6,7 @@ use no_memory::NoMemory;
 use std::alloc::AllocFailed;
 
 /// Why a text as CSV gives no rows.
-#[derive(Debug, PartialEq, Eq, Drop)]
+#[derive(PartialEq, Eq, Drop)]
 pub enum CsvFault {
     /// The record at this place, from 0, is the first wrong one.
     BadRecord { place: usize },

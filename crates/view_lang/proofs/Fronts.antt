@@ -40,6 +40,13 @@ word_front text h n e t found =
     ∙ ap (λ k. option_map (λ t. (t, drop k text)) (word_at (take k text))) e
     ∙ sym (word_in_front text h)
 
+-- it is some of the text
+pub word_within : (text : List ℕ) → IsTrue (begins_word text) → (n : ℕ) → n ≡ prefix_len is_name_byte text → (0 < n) × (n ≤ length text)
+word_within [] h n e = cc
+word_within (b ∷ rest) h n e =
+    let some : prefix_len is_name_byte (b ∷ rest) ≡ 1 + prefix_len is_name_byte rest = rw (lower_passes b h) refl in
+    (omega (arith, e, some), omega (arith, e, prefix_len-le-length is_name_byte (b ∷ rest)))
+
 -- behind a minus sign, where no arrow begins
 dash_is : (rest : List ℕ) → begins_arrow (45 ∷ rest) ≡ false → dash_of rest ≡ option_map (λ t. (t, drop_while is_digit rest)) (negative_of (take_while is_digit rest))
 dash_is [] e = refl

@@ -1,9 +1,8 @@
 -- The dependency of two sides.
-use Rattle.std.proofs.Common.{◌≡◌, ℕ, Bool, true, false, cond, List, [], ◌∷◌, length, refl, sym, ap, ◌∙◌, arith, ◌||◌, nat_eq, not, Result, Ok, Err}
+use Rattle.std.proofs.Common.{◌≡◌, ℕ, Bool, true, false, cond, List, [], ◌∷◌, length, refl, sym, ap, ◌∙◌, arith, ◌||◌, nat_eq, not, Ok, Err}
 use Rattle.plain_values.proofs.Common.{list_any, eq_by_cmp, is_eq, nat_tests, tied_itself, nat_list_cmp_total, bytes_cmp}
 use Rattle.plain_values.specs.SortedSet as set
-use Rattle.lens_specs.specs.Common.{Name, Names, Edge, edge}
-use Rattle.fd_closure.specs.declared.dep.EmptySide.{EmptySide}
+use Rattle.lens_specs.specs.Common.{Names, Edge, edge}
 use Rattle.fd_closure.specs.Sides.{dep_of, empty_side}
 use Rattle.grammar_specs.specs.Common.{is_some_list}
 

@@ -2,7 +2,7 @@
 use Rattle.std.proofs.Common.{◌≡◌, ◌∙◌, ◌<◌, ◌≤◌, ◌+◌, ℕ, eqb, false, List, [], ◌∷◌, ◌++◌, map, take, length, length-take, get_or, refl, ap, sym, append_assoc, append-nil, arith, codes, flat_map}
 use Rattle.plain_values.proofs.Common.{true≢false, take_more, map_push, flat_map-append}
 use Rattle.lens_specs.specs.Common.{Edge, Formula, Predicate}
-use Rattle.grammar_specs.specs.Common.{Token, word, comma, All, only, joined, Pred, alone, either, part_tokens, all_tokens, pred_tokens, dep_tokens, deps_tokens, part_of, all_parts, more_parts, all_of_formula, any_alls, more_alls, joined_parts, predicate_written, dep_written}
+use Rattle.grammar_specs.specs.Common.{Token, word, comma, All, only, joined, Pred, alone, either, part_tokens, all_tokens, pred_tokens, dep_tokens, deps_tokens, part_of, all_parts, more_parts, all_of_formula, any_alls, more_alls, joined_parts, predicate_written, pred_of, dep_written}
 use Rattle.lens_pred.specs.View.{formula_view, list_view, predicate_view}
 use Rattle.lens_pred.specs.declared.formula.Formula.{Formula as Declared}
 use Rattle.view_lang.specs.PrintAdds.{before_item}
@@ -92,3 +92,14 @@ pub conjuncts_joined : (fs : List Declared) → 2 ≤ length fs → all_tokens (
 conjuncts_joined [] several = absurd (omega arith)
 conjuncts_joined (f ∷ []) several = absurd (omega arith)
 conjuncts_joined (f ∷ g ∷ fs) several = ap all_tokens (parts_joined (only (part_of (formula_view f))) (predicate_view (g ∷ fs)))
+
+-- no conjunct
+pub nothing_joined : (fs : List Declared) → length fs < 1 → word (codes "true") ∷ [] ≡ pred_tokens (predicate_written (predicate_view fs))
+nothing_joined [] none = refl
+nothing_joined (f ∷ fs) none = absurd (omega arith)
+
+-- one conjunct by itself
+pub conjunct_alone : (fs : List Declared) (f : Declared) → length fs < 2 → 1 ≤ length fs → f ≡ get_or fs 0 f → pred_tokens (pred_of (formula_view f)) ≡ pred_tokens (predicate_written (predicate_view fs))
+conjunct_alone [] f few some is = absurd (omega arith)
+conjunct_alone (g ∷ []) f few some is = ap (λ f. pred_tokens (pred_of (formula_view f))) is
+conjunct_alone (g ∷ h ∷ fs) f few some is = absurd (omega arith)

@@ -1,5 +1,5 @@
 -- What std's `parse` makes of an integer of the language.
-use Rattle.std.proofs.Common.{◌≡◌, ℕ, ◌<◌, ◌≤◌, ◌^◌, suc, zero, true, false, cond, List, [], ◌∷◌, length, IsTrue, refl, ap, ◌∙◌, arith, rules, pos, neg_ℤ, ℤ, lt-ltb, ltb-true, le-leb, leb-true, ◌≢◌, ◌&&◌, ◌||◌, ◌==◌, nat_le, nat_lt, Option, Some, None, Result, Ok, Err, option_map}
+use Rattle.std.proofs.Common.{◌≡◌, ℕ, ◌<◌, ◌≤◌, ◌^◌, suc, zero, true, false, cond, List, [], ◌∷◌, length, IsTrue, refl, ap, ◌∙◌, arith, rules, pos, neg_ℤ, ℤ, lt-ltb, ltb-true, le-leb, leb-true, ◌≢◌, ◌||◌, ◌==◌, nat_le, nat_lt, Option, Some, None, Result, Ok, Err, option_map}
 use Rattle.plain_values.proofs.Common.{list_all, OkIff, result_ok, ParsesSigned, IsNumeralModel, numerals_by_fold, parse_signed_plain, parse_signed_minus, nat_tests, first_holds, second_holds}
 use mir.Syntax.{w64}
 use Rattle.grammar_specs.specs.Common.{Token, integer, is_digit, digits_value, minus}

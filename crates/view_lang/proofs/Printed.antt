@@ -1,5 +1,6 @@
 -- The text of a printer, one part after another.
-use Rattle.std.proofs.Common.{◌≡◌, ◌∙◌, Bool, true, false, List, [], ◌∷◌, ◌++◌, refl, ap, sym, subst, cond, append_assoc, append-nil, string_bytes}
+use Rattle.std.proofs.Common.{◌≡◌, ◌∙◌, Bool, true, false, List, [], ◌∷◌, ◌++◌, refl, ap, sym, subst, cond, append_assoc, append-nil, string_bytes, Result, OnOk}
+use Rattle.plain_values.proofs.Common.{on_ok_weaker}
 use Rattle.grammar_specs.specs.Common.{Token, token_bytes, opens, closes, gap, spaced}
 use Rattle.view_lang.specs.declared.printing.printer.Printer.{Printer}
 use Rattle.view_lang.specs.PrintAdds.{blank, before, bytes_after, glued_after, Adds}
@@ -28,6 +29,10 @@ follow {a = a} {b = b} {xs = xs} {ys = ys} first second = record {
       ∙ ap (λ bytes. string_bytes a.text ++ bytes) (sym (bytes-append a.glued xs ys));
   next = second.next ∙ ap (λ glued. glued_after glued ys) first.next ∙ sym (glued-append a.glued xs ys);
 }
+
+-- a token, and then what a call adds
+pub begun : {E : Type 0} {a b : Printer} {t : Token} (c : Printer) (ys : List Token) (r : Result (Unit {0}) E) → Adds a b (t ∷ []) → OnOk r (Adds b c ys) → OnOk r (Adds a c (t ∷ ys))
+begun c ys r first second = on_ok_weaker r (λ more. follow first more) second
 
 -- what adds the tokens of one list adds those of an equal list
 pub adds_same : {a b : Printer} {xs : List Token} (ys : List Token) → xs ≡ ys → Adds a b xs → Adds a b ys

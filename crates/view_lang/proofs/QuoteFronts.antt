@@ -29,7 +29,7 @@ drop_whole xs bytes rest n len shape = ap (λ n. drop n xs) len ∙ ap (drop (le
 stands_front : (bs : List ℕ) (at left : ℕ) (t : Token) (rest : List ℕ) → at < length bs → get_or bs at 0 ≡ 39 → text_at (drop (at + 1) bs) ≡ Some (t, rest) → left ≡ length rest
     → Stands (39 ∷ drop (at + 1) bs) (t, rest) → QuoteFront bs at left t
 stands_front bs at left t rest h e found is stands =
-    let shape : drop at bs ≡ stands.bytes ++ rest = quote_front bs at h e ∙ stands.shape in
+    let shape : drop at bs ≡ stands.bytes ++ rest = ◌∙◌ {b = 39 ∷ drop (at + 1) bs} (quote_front bs at h e) stands.shape in
     let some : 0 < length stands.bytes = spelled_some t stands.bytes stands.spells in
     let count : length bs - at ≡ length stands.bytes + left = omega (arith, length-drop at bs, ap length shape, length-append stands.bytes rest, is) in
     let len : length bs - at - left ≡ length stands.bytes = omega (arith, count) in

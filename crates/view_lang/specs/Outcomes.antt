@@ -1,5 +1,5 @@
 -- When what the code reads is what a rule of the grammar reads.
-use Rattle.std.specs.Prelude.{◌≡◌, ◌<◌, ◌≤◌, ℕ, map, length, List, Vec, Option, Some, None, option_map, IsSome, Result, Ok, Err, IfErr}
+use Rattle.std.specs.Prelude.{◌≡◌, ◌<◌, ◌≤◌, ℕ, map, length, List, Vec, Option, None, option_map, IsSome, Result, Ok, Err, IfErr}
 use Rattle.std.specs.Result.{result_ok}
 use Rattle.std.specs.declared.alloc.Global.{Global}
 use Rattle.grammar_specs.specs.Tokens.{Token}

@@ -1,8 +1,7 @@
 -- What a token of the code stands for, and the token in front of a text.
-use Rattle.std.specs.Prelude.{ℕ, ◌<◌, ◌≤◌, ◌==◌, ◌&&◌, ◌||◌, Bool, false, List, [], ◌∷◌, length, drop, Option, Some, None, option_map, IfSome, if◌then◌else◌}
+use Rattle.std.specs.Prelude.{◌≡◌, ℕ, ◌<◌, ◌≤◌, ◌==◌, ◌&&◌, ◌||◌, Bool, false, List, [], ◌∷◌, length, drop, Option, None, option_map, IfSome, if◌then◌else◌}
 use Rattle.std.specs.List.{list_all}
 use Rattle.plain_values.specs.Bytes.{is_lower}
-use Rattle.lens_specs.specs.Predicate.{eq, ne, lt, le, gt, ge}
 use Rattle.grammar_specs.specs.Tokens.{Token, word, integer, open_paren, close_paren, comma, arrow, operator, is_digit, Spells, Ends}
 use Rattle.grammar_specs.specs.Tokens as tokens
 use Rattle.grammar_laws.specs.Front.{sign_of, positive_of, negative_of}
@@ -38,9 +37,9 @@ is_sign sign.Equals = is_equals
 abbrev pub front_of : List ℕ → Option (code.Token × ℕ) → Option (Token × List ℕ)
 front_of text found = option_map (λ f. (token_view f.0, drop f.1 text)) found
 
--- what was found is some of the text
-abbrev pub IsFront : List ℕ → Option (code.Token × ℕ) → Type 0
-IsFront text found = IfSome found (λ f. (0 < f.1) × (f.1 ≤ length text))
+-- what was found is what stands in front of the text, and some of the text
+abbrev pub IsFront : (List ℕ → Option (Token × List ℕ)) → List ℕ → Option (code.Token × ℕ) → Type 0
+IsFront in_front text found = (front_of text found ≡ in_front text) × IfSome found (λ f. (0 < f.1) × (f.1 ≤ length text))
 
 -- the operator or the punctuation in front of a text, and what follows it
 abbrev pub sign_in_front : List ℕ → Option (Token × List ℕ)

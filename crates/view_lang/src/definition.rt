@@ -11,7 +11,7 @@ use thiserror::Error;
 use view_limits::Limit;
 
 /// Dependencies, in order. A contract sees the list of their edges.
-#[derive(Debug, Drop)]
+#[derive(Drop)]
 pub struct Deps {
     list: Vec<Dep>,
 }
@@ -44,7 +44,7 @@ impl Deps {
 }
 
 /// What a text defines.
-#[derive(Debug, Drop)]
+#[derive(Drop)]
 pub enum Definition {
     /// A table. Its dependencies are in the order of the text.
     Table {

@@ -4,7 +4,7 @@ use lens_pred::Pred;
 use lens_values::{JoinKind, Name, Names, Value};
 
 /// The rows that a view shows.
-#[derive(Debug, Drop)]
+#[derive(Drop)]
 pub enum Expr {
     /// A table or a view by its name.
     Named {

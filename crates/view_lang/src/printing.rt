@@ -1,8 +1,8 @@
 //! Prints definitions and formulas.
-ghost use Rattle.std.specs.Prelude.{◌≡◌, ◌++◌, IfOk, OnOk, map, string_bytes};
-ghost use Rattle.grammar_specs.specs.Tokens.{word};
+ghost use Rattle.std.specs.Prelude.{◌≡◌, [], ◌∷◌, ◌++◌, IfOk, OnOk, codes, map, string_bytes};
+ghost use Rattle.grammar_specs.specs.Tokens.{word, open_paren, close_paren, comma};
 ghost use Rattle.grammar_specs.specs.Printing.{part_of, all_parts, all_of_formula, any_alls, pred_of, predicate_written, dep_written, condition_written, operand_of, expr_written, definition_written, printed, printed_formula};
-ghost use Rattle.grammar_specs.specs.Written.{part_tokens, all_tokens, pred_tokens, column_tokens, columns_tokens, deps_tokens, where_tokens, operand_tokens, expr_tokens, written_tokens};
+ghost use Rattle.grammar_specs.specs.Written.{literal, part_tokens, all_tokens, pred_tokens, column_tokens, columns_tokens, deps_tokens, where_tokens, operand_tokens, expr_tokens, written_tokens};
 ghost use Rattle.lens_specs.specs.Predicate.{one_of};
 ghost use Rattle.lens_pred.specs.View.{formula_view, list_view, predicate_view};
 ghost use Rattle.view_lang.specs.DefViews.{definition_view};
@@ -17,7 +17,7 @@ use crate::printing::printer::Printer;
 use crate::words::{join_word, kind_word};
 use fd_closure::Dep;
 use lens_pred::{Formula, Op, Values};
-use lens_values::{Kind, Name, NoMemory};
+use lens_values::{Kind, Name, NoMemory, Value};
 use std::alloc::Global;
 
 /// The text of the definition, or `NoMemory`.
@@ -51,9 +51,7 @@ fn print_definition(out: &mut Printer, definition: &Definition) -> Result<(), No
         } => {
             out.word("table")?;
             out.name(name)?;
-            out.open()?;
             print_columns(out, cols.pairs())?;
-            out.close()?;
             print_deps(out, deps.as_slice())?;
             print_condition(out, pred.conjuncts())
         }
@@ -66,15 +64,17 @@ fn print_definition(out: &mut Printer, definition: &Definition) -> Result<(), No
     }
 }
 
-// Columns with commas between them.
+// Columns in parentheses, with commas between them.
 fn print_columns(out: &mut Printer, columns: &[(Name, Kind)]) -> Result<(), NoMemory>
-    ensures { OnOk result (Adds out.old out.new (columns_tokens columns.now)) }
+    ensures { OnOk result (Adds out.old out.new
+        (open_paren ∷ (columns_tokens columns.now ++ close_paren ∷ []))) }
 {
+    out.open()?;
     for (index, column) in columns.iter().enumerate() {
         out.comma_between(index)?;
         print_column(out, column)?;
     }
-    Ok(())
+    out.close()
 }
 
 // The name, the word of the kind, and "null" behind it where the kind takes it.
@@ -115,8 +115,7 @@ fn print_condition(out: &mut Printer, conjuncts: &[Formula]) -> Result<(), NoMem
     if conjuncts.is_empty() {
         return Ok(());
     }
-    out.word("where")?;
-    print_conjuncts(out, conjuncts)
+    print_where(out, conjuncts)
 }
 
 // An expression by itself, with no parentheses around it.
@@ -128,47 +127,36 @@ fn print_expr(out: &mut Printer, expr: &Expr) -> Result<(), NoMemory>
         Expr::Named { name } => out.name(name),
         Expr::Select { pred, of } => {
             out.word("select")?;
-            out.word("from")?;
-            print_operand(out, of)?;
-            out.word("where")?;
-            print_conjuncts(out, pred.conjuncts())
+            print_operand(out, "from", of)?;
+            print_where(out, pred.conjuncts())
         }
         Expr::Drop { col, by, fill, of } => {
             out.word("drop")?;
             out.name(col)?;
-            out.word("determined")?;
-            out.word("by")?;
-            out.open()?;
-            print_names(out, by.as_slice())?;
-            out.comma()?;
-            out.literal(fill)?;
-            out.close()?;
-            out.word("from")?;
-            print_operand(out, of)
+            print_determined(out, by.as_slice(), fill)?;
+            print_operand(out, "from", of)
         }
         Expr::Rename { col, to, of } => {
             out.word("rename")?;
             out.name(col)?;
             out.word("to")?;
             out.name(to)?;
-            out.word("from")?;
-            print_operand(out, of)
+            print_operand(out, "from", of)
         }
         Expr::Join { kind, left, right } => {
-            out.word(join_word(*kind))?;
-            print_operand(out, left)?;
-            out.word("with")?;
-            print_operand(out, right)
+            print_operand(out, join_word(*kind), left)?;
+            print_operand(out, "with", right)
         }
     }
 }
 
-// A name bare, every other operand in parentheses.
+// An operand behind a word: a name bare, every other operand in parentheses.
 #[cycle(print_exprs)]
-fn print_operand(out: &mut Printer, expr: &Expr) -> Result<(), NoMemory>
+fn print_operand(out: &mut Printer, before: &str, expr: &Expr) -> Result<(), NoMemory>
     ensures { OnOk result (Adds out.old out.new
-        (operand_tokens (operand_of (expr_view expr.now)))) }
+        (word before.now ∷ operand_tokens (operand_of (expr_view expr.now)))) }
 {
+    out.word(before)?;
     match expr {
         Expr::Named { name } => out.name(name),
         _ => {
@@ -188,11 +176,26 @@ fn print_names(out: &mut Printer, names: &[Name]) -> Result<(), NoMemory>
     Ok(())
 }
 
-// Conjuncts: one by itself, several joined by "and".
-fn print_conjuncts(out: &mut Printer, conjuncts: &[Formula]) -> Result<(), NoMemory>
-    ensures { OnOk result (Adds out.old out.new
-        (pred_tokens (predicate_written (predicate_view conjuncts.now)))) }
+// What determines a dropped column: columns, and the value where they determine none.
+fn print_determined(out: &mut Printer, by: &[Name], fill: &Value) -> Result<(), NoMemory>
+    ensures { OnOk result (Adds out.old out.new (word (codes "determined") ∷ word (codes "by")
+        ∷ open_paren ∷ (map word by.now ++ comma ∷ literal fill.now ∷ close_paren ∷ []))) }
 {
+    out.word("determined")?;
+    out.word("by")?;
+    out.open()?;
+    print_names(out, by)?;
+    out.comma()?;
+    out.literal(fill)?;
+    out.close()
+}
+
+// Conjuncts behind "where": one by itself, several joined by "and".
+fn print_where(out: &mut Printer, conjuncts: &[Formula]) -> Result<(), NoMemory>
+    ensures { OnOk result (Adds out.old out.new
+        (word (codes "where") ∷ pred_tokens (predicate_written (predicate_view conjuncts.now)))) }
+{
+    out.word("where")?;
     match conjuncts {
         [] => out.word("true"),
         [conjunct] => print_alone(out, conjunct),

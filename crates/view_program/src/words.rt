@@ -10,7 +10,7 @@ use std::rt::Env;
 use std::{env, io};
 
 /// Why the arguments cannot be read.
-#[derive(Clone, Copy, Debug, PartialEq, Eq)]
+#[derive(Clone, Copy, PartialEq, Eq)]
 pub enum ArgumentsReadFault {
     /// Memory ran out.
     NoMemory,

@@ -97,7 +97,7 @@ fn part_cmp(known: &Row, row: &Row) -> Ordering
 }
 
 // How the known names with their values stand to the others with these names, by the first values
-// that differ. Equal only where each is among the others.
+// that differ. If it returns `Equal`, each known name is among the others, with the same value.
 fn pairs_cmp(known: &[Name], values: &[Value], others: &[Name], their: &[Value]) -> Ordering
     requires known { length known.now ≡ length values.now }
     requires others { length others.now ≡ length their.now }

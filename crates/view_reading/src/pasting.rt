@@ -1,7 +1,7 @@
 //! Parts of pairs of rows by the places of their values, which are found once: rows of one side have
 //! the same columns.
-ghost use Rattle.std.specs.Prelude.{◌≡◌, IfOk, option_copied};
-ghost use Rattle.std.specs.List.{filter_map, list_all, slice_get};
+ghost use Rattle.std.specs.Prelude.{◌≡◌, ◌++◌, [], IfOk, OnOk, option_copied};
+ghost use Rattle.std.specs.List.{cons_option, filter_map, list_all, slice_get};
 ghost use Rattle.plain_values.specs.SortedSet as set;
 ghost use Rattle.plain_values.specs.Value.{same_value};
 ghost use Rattle.view_reading.specs.Pasting.{part_at, own_place, place_in, value_at};
@@ -93,11 +93,20 @@ fn values_at(
 {
     let mut found = Vec::with_capacity(alloc, places.len())?;
     for place in places {
-        if let Some(value) = value_at(*place, left, right) {
-            found.push(value.copy(alloc)?)?;
-        }
+        add_value(&mut found, alloc, value_at(*place, left, right))?;
     }
     Ok(found)
+}
+
+// Adds a copy of the value, if there is one.
+fn add_value(found: &mut Vec<Value>, alloc: Global, value: Option<&Value>) -> Result<(), NoMemory>
+    ensures { OnOk result (found.new.items
+        ≡ found.old.items ++ cons_option (option_copied value.entry) []) }
+{
+    if let Some(value) = value {
+        found.push(value.copy(alloc)?)?;
+    }
+    Ok(())
 }
 
 // The value at the place.

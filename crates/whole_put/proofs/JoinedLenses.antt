@@ -133,6 +133,10 @@ module _ (kind : JoinKind) (A B : Lens) (typed : IsTyped (join kind A B)) where
   right_sources db after S under is shown = shown_alike_after B db after under (right_left db after S is) shown
 
 -- a put to a join is the put to its left side, then that to its right side
-pub put_joined : (kind : JoinKind) (L A B : Lens) (db after : Tables) (O S T : Rows) → join kind A B ≡ L → S ≡ left_after kind A B O (get A db) (get B db) → T ≡ right_after kind A B O (get A db) (get B db) → after ≡ put A S db → put B T after ≡ put L O db
+pub put_joined : (kind : JoinKind) (L A B : Lens) (db after : Tables) (O S T : Rows) (M N : Relation) → join kind A B ≡ L → M ≡ view A db → N ≡ view B db
+    → S ≡ left_after kind A B O M.rows N.rows → T ≡ right_after kind A B O M.rows N.rows → after ≡ put A S db → put B T after ≡ put L O db
 unfolding put
-put_joined kind L A B db after O S T is s t e = (λ i. put B (t i) ((e ∙ ap (λ K. put A K db) s) i)) ∙ ap (λ K. put K O db) is
+put_joined kind L A B db after O S T M N is left right s t e =
+    let s' : S ≡ left_after kind A B O (get A db) (get B db) = s ∙ (λ i. left_after kind A B O (left i).rows (right i).rows) in
+    let t' : T ≡ right_after kind A B O (get A db) (get B db) = t ∙ (λ i. right_after kind A B O (left i).rows (right i).rows) in
+    (λ i. put B (t' i) ((e ∙ ap (λ K. put A K db) s') i)) ∙ ap (λ K. put K O db) is

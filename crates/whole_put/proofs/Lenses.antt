@@ -100,13 +100,15 @@ pub put_table : (L : Lens) (t : Name) (s : Sort) (db : Tables) (V : Relation) �
 unfolding put
 put_table L t s db V is = subst (λ K. IsOfSort V (sort_of K) → finmap.insert db t V ≡ put K V.rows db) is (λ o i. finmap.insert db t (record { columns = o.0 i; rows = V.rows }))
 
-pub put_selected : (L C : Lens) (P : Predicate) (db : Tables) (N S : Rows) → select P C ≡ L → S ≡ select_put (sort_of C).tree (holds P) N (get C db) → put C S db ≡ put L N db
+pub put_selected : (L C : Lens) (P : Predicate) (db : Tables) (N S : Rows) (M : Relation) → select P C ≡ L → M ≡ view C db → S ≡ select_put (sort_of C).tree (holds P) N M.rows → put C S db ≡ put L N db
 unfolding put
-put_selected L C P db N S is rows = ap (λ K. put C K db) rows ∙ ap (λ K. put K N db) is
+put_selected L C P db N S M is shown rows =
+    ap (λ K. put C K db) (rows ∙ ap (λ (K : Relation). select_put (sort_of C).tree (holds P) N K.rows) shown) ∙ ap (λ K. put K N db) is
 
-pub put_dropped : (L C : Lens) (A : Name) (X : Names) (a : Value) (db : Tables) (N S : Rows) → drop A X a C ≡ L → S ≡ drop_put A X a N (get C db) → put C S db ≡ put L N db
+pub put_dropped : (L C : Lens) (A : Name) (X : Names) (a : Value) (db : Tables) (N S : Rows) (M : Relation) → drop A X a C ≡ L → M ≡ view C db → S ≡ drop_put A X a N M.rows → put C S db ≡ put L N db
 unfolding put
-put_dropped L C A X a db N S is rows = ap (λ K. put C K db) rows ∙ ap (λ K. put K N db) is
+put_dropped L C A X a db N S M is shown rows =
+    ap (λ K. put C K db) (rows ∙ ap (λ (K : Relation). drop_put A X a N K.rows) shown) ∙ ap (λ K. put K N db) is
 
 pub put_renamed : (L C : Lens) (A B : Name) (db : Tables) (N S : Rows) → rename A B C ≡ L → S ≡ rename_put A B N → put C S db ≡ put L N db
 unfolding put

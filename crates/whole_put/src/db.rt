@@ -11,7 +11,7 @@ use std::rc::Rc;
 
 /// A relation for each of some names. Copies share the relations. A contract sees the tables of the
 /// definition.
-#[derive(Debug, Drop)]
+#[derive(Drop)]
 pub struct Db {
     tables: BTreeMap<Name, Rc<Relation>>,
 }

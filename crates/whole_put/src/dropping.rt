@@ -4,7 +4,7 @@ ghost use Rattle.std.specs.FinMap as finmap;
 ghost use Rattle.plain_values.specs.Part.{override};
 ghost use Rattle.plain_values.specs.SortedSet as set;
 ghost use Rattle.lens_specs.specs.Columns.{fits_at, names, without_column};
-ghost use Rattle.lens_specs.specs.Dependencies.{Meets};
+ghost use Rattle.lens_specs.specs.Dependencies.{Meets, edge};
 ghost use Rattle.lens_specs.specs.Names.{one};
 ghost use Rattle.lens_specs.specs.Nodes.{drop_get, drop_put};
 
@@ -47,15 +47,36 @@ pub fn put_drop(
     ensures get_put { let shown = drop_get (names source.now.columns) col.now source.now.rows in
         IfOk result (λ after. view.now.rows ≡ shown → after ≡ source.now) }
 {
+    let rows = rows_after(alloc, col, by, fill, view.rows(), source.rows())?;
+    let columns = source.columns().copy(alloc)?;
+    Ok(Relation::with_rows(columns, rows))
+}
+
+// The rows of the source after a put of the view.
+fn rows_after(
+    alloc: Global,
+    col: &Name,
+    by: &Names,
+    fill: &Value,
+    view: &RowSet,
+    source: &RowSet,
+) -> Result<RowSet, NoMemory>
+    ensures { IfOk result (λ rows. rows ≡ drop_put col.now by.now fill.now view.now source.now) }
+{
+    let filled = with_default(alloc, &Row::single(alloc, col, fill)?, view.rows())?;
+    let moved = all_along(alloc, &edge_to(alloc, by, col)?, &filled, source)?;
+    let rows = RowSet::new(alloc, moved)?;
+    Ok(rows)
+}
+
+// The edge by which these columns determine the column.
+fn edge_to(alloc: Global, by: &Names, col: &Name) -> Result<Edge, NoMemory>
+    ensures { IfOk result (λ made. made ≡ edge by.now (one col.now)) }
+{
     let left = by.copy(alloc)?;
     let right = Names::single(alloc, col)?;
     let edge = Edge { left, right };
-    let default = Row::single(alloc, col, fill)?;
-    let filled = with_default(alloc, &default, view.rows().rows())?;
-    let moved = all_along(alloc, &edge, &filled, source.rows())?;
-    let rows = RowSet::new(alloc, moved)?;
-    let columns = source.columns().copy(alloc)?;
-    Ok(Relation::with_rows(columns, rows))
+    Ok(edge)
 }
 
 // Each of the rows, with the value of the default in its column. All get the same columns, so each

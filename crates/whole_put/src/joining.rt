@@ -98,7 +98,7 @@ fn without_surplus(
     let over = surplus(alloc, left, &right, view)?;
     let kept = joined_to(alloc, &over, parts)?;
     let new_left = left_without(alloc, kind, left, &over, &kept)?;
-    let new_right = right_without(alloc, kind, right, &over, &kept)?;
+    let new_right = right_without(alloc, kind, right, over, kept)?;
     Ok((new_left, new_right))
 }
 
@@ -186,12 +186,12 @@ fn right_without(
     alloc: Global,
     kind: JoinKind,
     source: Relation,
-    over: &Relation,
-    kept: &Relation,
+    over: Relation,
+    kept: Relation,
 ) -> Result<Relation, NoMemory>
-    requires over { columns_in over.now.columns (names source.columns) ≡ source.columns }
-    requires kept { kept.now.columns ≡ over.now.columns }
-    ensures { let rows = right_without kind (names source.columns) over.now.rows kept.now.rows source.rows in
+    requires over { columns_in over.columns (names source.columns) ≡ source.columns }
+    requires kept { kept.columns ≡ over.columns }
+    ensures { let rows = right_without kind (names source.columns) over.rows kept.rows source.rows in
         IfOk result (λ right. right ≡ record source { rows = rows }) }
 {
     match kind {
@@ -205,16 +205,16 @@ fn right_without(
 fn without_others(
     alloc: Global,
     source: &Relation,
-    over: &Relation,
-    kept: &Relation,
+    over: Relation,
+    kept: Relation,
 ) -> Result<Relation, NoMemory>
-    requires over { columns_in over.now.columns (names source.now.columns) ≡ source.now.columns }
-    requires kept { kept.now.columns ≡ over.now.columns }
+    requires over { columns_in over.columns (names source.now.columns) ≡ source.now.columns }
+    requires kept { kept.columns ≡ over.columns }
     ensures { let V = names source.now.columns in
         IfOk result (λ rest. rest
-        ≡ record source.now { rows = minus source.now.rows (project V (minus over.now.rows kept.now.rows)) }) }
+        ≡ record source.now { rows = minus source.now.rows (project V (minus over.rows kept.rows)) }) }
 {
-    let others = over.minus(alloc, kept)?;
+    let others = over.minus(alloc, &kept)?;
     without(alloc, source, &others)
 }
 

@@ -54,45 +54,45 @@ fn write(
         Node::Base { table, .. } => db.set(alloc, *table, view),
         Node::Select { pred, of } => {
             let (shown, rest) = under.only();
-            let source = under_select(alloc, pred, of, &view, shown)?;
+            let source = under_select(alloc, pred, of, view, shown)?;
             write(alloc, of, rest, source, db)
         }
         Node::Drop { col, by, fill, of } => {
             let (shown, rest) = under.only();
-            let source = under_drop(alloc, col, by, fill, of, &view, shown)?;
+            let source = under_drop(alloc, col, by, fill, of, view, shown)?;
             write(alloc, of, rest, source, db)
         }
         Node::Rename { col, to, of } => {
             let (shown, rest) = under.only();
-            let source = under_rename(alloc, col, to, of, &view, shown)?;
+            let source = under_rename(alloc, col, to, of, view, shown)?;
             write(alloc, of, rest, source, db)
         }
         Node::Join { kind, left, right } => {
             let (left_now, right_now) = under.both();
-            let sources = under_join(alloc, kind, left, right, &view, left_now.0, right_now.0)?;
+            let sources = under_join(alloc, kind, left, right, view, left_now.0, right_now.0)?;
             write(alloc, left, left_now.1, sources.0, db)?;
             write(alloc, right, right_now.1, sources.1, db)
         }
     }
 }
 
-// The source of a selection after a put of the selection.
+// The source of a selection after a put of the selection. The view is let go before the put below.
 fn under_select(
     alloc: Global,
     pred: &Pred,
     of: &TypedLens,
-    view: &Relation,
+    view: Relation,
     source: &Relation,
 ) -> Result<Relation, NoMemory>
     requires typed { IsTyped (spec.select pred.now of.now) }
     requires source { IsOfSort source.now (sort_of of.now) }
-    requires view { IsOfSort view.now (sort_of (spec.select pred.now of.now)) }
+    requires view { IsOfSort view (sort_of (spec.select pred.now of.now)) }
     ensures rows { let s = sort_of of.now in
         IfOk result (λ after. after.rows
-        ≡ select_put s.tree (holds pred.now) view.now.rows source.now.rows) }
+        ≡ select_put s.tree (holds pred.now) view.rows source.now.rows) }
     ensures sort { IfOk result (λ after. IsOfSort after (sort_of of.now)) }
 {
-    put_select(alloc, of.sort().tree(), pred, view, source)
+    put_select(alloc, of.sort().tree(), pred, &view, source)
 }
 
 // The source of a projection after a put of the projection.
@@ -102,17 +102,17 @@ fn under_drop(
     by: &Names,
     fill: &Value,
     of: &TypedLens,
-    view: &Relation,
+    view: Relation,
     source: &Relation,
 ) -> Result<Relation, NoMemory>
     requires typed { IsTyped (spec.drop col.now by.now fill.now of.now) }
     requires source { IsOfSort source.now (sort_of of.now) }
-    requires view { IsOfSort view.now (sort_of (spec.drop col.now by.now fill.now of.now)) }
+    requires view { IsOfSort view (sort_of (spec.drop col.now by.now fill.now of.now)) }
     ensures rows { IfOk result (λ after. after.rows
-        ≡ drop_put col.now by.now fill.now view.now.rows source.now.rows) }
+        ≡ drop_put col.now by.now fill.now view.rows source.now.rows) }
     ensures sort { IfOk result (λ after. IsOfSort after (sort_of of.now)) }
 {
-    put_drop(alloc, col, by, fill, view, source)
+    put_drop(alloc, col, by, fill, &view, source)
 }
 
 // The source of a rename after a put of the rename.
@@ -121,16 +121,16 @@ fn under_rename(
     col: &Name,
     to: &Name,
     of: &TypedLens,
-    view: &Relation,
+    view: Relation,
     source: &Relation,
 ) -> Result<Relation, NoMemory>
     requires typed { IsTyped (spec.rename col.now to.now of.now) }
     requires source { IsOfSort source.now (sort_of of.now) }
-    requires view { IsOfSort view.now (sort_of (spec.rename col.now to.now of.now)) }
-    ensures rows { IfOk result (λ after. after.rows ≡ rename_put col.now to.now view.now.rows) }
+    requires view { IsOfSort view (sort_of (spec.rename col.now to.now of.now)) }
+    ensures rows { IfOk result (λ after. after.rows ≡ rename_put col.now to.now view.rows) }
     ensures sort { IfOk result (λ after. IsOfSort after (sort_of of.now)) }
 {
-    put_rename(alloc, col, to, view, source)
+    put_rename(alloc, col, to, &view, source)
 }
 
 // The sources of a join after a put of the join.
@@ -139,28 +139,28 @@ fn under_join(
     kind: JoinKind,
     left: &TypedLens,
     right: &TypedLens,
-    view: &Relation,
+    view: Relation,
     left_source: &Relation,
     right_source: &Relation,
 ) -> Result<(Relation, Relation), NoMemory>
     requires typed { IsTyped (spec.join kind left.now right.now) }
     requires left { IsOfSort left_source.now (sort_of left.now) }
     requires right { IsOfSort right_source.now (sort_of right.now) }
-    requires view { IsOfSort view.now (sort_of (spec.join kind left.now right.now)) }
+    requires view { IsOfSort view (sort_of (spec.join kind left.now right.now)) }
     ensures left_rows { let U = view_names left.now in
         let V = view_names right.now in
         let F = (sort_of left.now).tree in
         let G = (sort_of right.now).tree in
         let M = left_source.now.rows in
         let N = right_source.now.rows in
-        IfOk result (λ after. after.0.rows ≡ join_left_after kind U V F G view.now.rows M N) }
+        IfOk result (λ after. after.0.rows ≡ join_left_after kind U V F G view.rows M N) }
     ensures right_rows { let U = view_names left.now in
         let V = view_names right.now in
         let F = (sort_of left.now).tree in
         let G = (sort_of right.now).tree in
         let M = left_source.now.rows in
         let N = right_source.now.rows in
-        IfOk result (λ after. after.1.rows ≡ join_right_after kind U V F G view.now.rows M N) }
+        IfOk result (λ after. after.1.rows ≡ join_right_after kind U V F G view.rows M N) }
     ensures left_sort { IfOk result (λ after. IsOfSort after.0 (sort_of left.now)) }
     ensures right_sort { IfOk result (λ after. IsOfSort after.1 (sort_of right.now)) }
 {
@@ -171,7 +171,7 @@ fn under_join(
         kind,
         left_tree,
         right_tree,
-        view,
+        &view,
         left_source,
         right_source,
     )

@@ -15,7 +15,7 @@ use row_sets::Relation;
 use std::alloc::Global;
 
 /// What the sources of a lens show of the tables, with their own sources.
-#[derive(Debug, Drop)]
+#[derive(Drop)]
 pub enum Sources {
     /// A table has none.
     Table,
@@ -50,26 +50,24 @@ impl Sources {
             Node::Base { .. } => Ok(Sources::Table),
             Node::Select { of, .. } | Node::Drop { of, .. } | Node::Rename { of, .. } => {
                 let under = Sources::of(alloc, of, db)?;
-                let shown = shown_over(alloc, of, &under, db)?;
-                Sources::one(alloc, shown, under)
+                Sources::one(alloc, with_shown(alloc, of, under, db)?)
             }
             Node::Join { left, right, .. } => {
-                let under_left = Sources::of(alloc, left, db)?;
-                let under_right = Sources::of(alloc, right, db)?;
-                let left_shown = shown_over(alloc, left, &under_left, db)?;
-                let right_shown = shown_over(alloc, right, &under_right, db)?;
-                Sources::two(alloc, (left_shown, under_left), (right_shown, under_right))
+                let left = with_shown(alloc, left, Sources::of(alloc, left, db)?, db)?;
+                let right = with_shown(alloc, right, Sources::of(alloc, right, db)?, db)?;
+                Sources::two(alloc, left, right)
             }
         }
     }
 
     // The source that shows this, over its own sources.
-    fn one(alloc: Global, shown: Relation, under: Sources) -> Result<Sources, NoMemory>
-        ensures { IfOk result (λ sources. only_of sources ≡ Some (shown, under)) }
+    fn one(alloc: Global, source: (Relation, Sources)) -> Result<Sources, NoMemory>
+        ensures { IfOk result (λ sources. only_of sources ≡ Some source) }
     {
+        let under = Box::new(alloc, source.1)?;
         Ok(Sources::One {
-            shown,
-            under: Box::new(alloc, under)?,
+            shown: source.0,
+            under,
         })
     }
 
@@ -121,8 +119,23 @@ impl Sources {
     }
 }
 
-// What the lens shows, of what its sources show.
-fn shown_over(
+// What the lens shows, with its sources, which show this.
+fn with_shown(
+    alloc: Global,
+    lens: &TypedLens,
+    under: Sources,
+    db: &Db,
+) -> Result<(Relation, Sources), NoMemory>
+    requires tables { AreOf lens.now db.now }
+    requires under { AreShown lens.now db.now under }
+    ensures { IfOk result (λ source. source ≡ (spec.view lens.now db.now, under)) }
+{
+    let shown = shown_over(alloc, lens, &under, db)?;
+    Ok((shown, under))
+}
+
+/// What the lens shows, of what its sources show.
+pub(crate) fn shown_over(
     alloc: Global,
     lens: &TypedLens,
     under: &Sources,

@@ -7,7 +7,7 @@ use io_specs::LONGEST_LINE;
 
 /// The result of a call, by places in the buffer: the line is at `line_start..line_end`, and the
 /// bytes that wait for the next call are at `start..end`.
-#[derive(Clone, Copy, Debug, Drop)]
+#[derive(Clone, Copy, Drop)]
 pub(crate) struct Found {
     pub(super) cut: Cut,
     pub(super) line_start: usize,

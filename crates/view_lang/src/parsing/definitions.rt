@@ -102,25 +102,25 @@ impl Reader {
     }
 
     /// Reads a predicate behind "where", if it is next.
-    fn condition(&mut self, alloc: Global, left: usize) -> Result<Pred, Halt>
-        ensures { Follows IsCondition (rules.condition left) self.old self.new result }
+    fn condition(&mut self, alloc: Global, room: usize) -> Result<Pred, Halt>
+        ensures { Follows IsCondition (rules.condition room) self.old self.new result }
     {
         if self.take_word("where") {
-            return self.predicate(alloc, left);
+            return self.predicate(alloc, room);
         }
         Ok(predicate_of(Vec::new(alloc)))
     }
 
     /// Reads a table behind its first word.
-    fn table(&mut self, alloc: Global, left: usize) -> Result<Definition, Halt>
-        ensures { Follows IsDefinition (rules.table_rule left) self.old self.new result }
+    fn table(&mut self, alloc: Global, room: usize) -> Result<Definition, Halt>
+        ensures { Follows IsDefinition (rules.table_rule room) self.old self.new result }
     {
         let name = self.need_name()?;
         self.need(Sign::Open)?;
         let cols = self.columns(alloc)?;
         self.need(Sign::Close)?;
         let deps = self.deps(alloc)?;
-        let pred = self.condition(alloc, left)?;
+        let pred = self.condition(alloc, room)?;
         Ok(Definition::Table {
             name,
             cols,
@@ -130,31 +130,31 @@ impl Reader {
     }
 
     /// Reads a view behind its first word.
-    fn view(&mut self, alloc: Global, left: usize) -> Result<Definition, Halt>
-        ensures { Follows IsDefinition (rules.view_rule left) self.old self.new result }
+    fn view(&mut self, alloc: Global, room: usize) -> Result<Definition, Halt>
+        ensures { Follows IsDefinition (rules.view_rule room) self.old self.new result }
     {
         let name = self.need_name()?;
         self.need(Sign::Equals)?;
-        let expr = self.expr(alloc, left)?;
+        let expr = self.expr(alloc, room)?;
         Ok(Definition::View { name, expr })
     }
 
-    fn definition(&mut self, alloc: Global, left: usize) -> Result<Definition, Halt>
-        ensures { Follows IsDefinition (rules.definition left) self.old self.new result }
+    fn definition(&mut self, alloc: Global, room: usize) -> Result<Definition, Halt>
+        ensures { Follows IsDefinition (rules.definition room) self.old self.new result }
     {
         if self.take_word("table") {
-            return self.table(alloc, left);
+            return self.table(alloc, room);
         }
         self.need_word("view")?;
-        self.view(alloc, left)
+        self.view(alloc, room)
     }
 
     /// Reads a definition that ends with the tokens, within which so many parentheses and "not"s
     /// may be opened.
-    pub fn definition_alone(&mut self, alloc: Global, left: usize) -> Result<Definition, Halt>
-        ensures { Follows IsDefinition (rules.alone left) self.old self.new result }
+    pub fn definition_alone(&mut self, alloc: Global, room: usize) -> Result<Definition, Halt>
+        ensures { Follows IsDefinition (rules.alone room) self.old self.new result }
     {
-        let definition = self.definition(alloc, left)?;
+        let definition = self.definition(alloc, room)?;
         match self.next() {
             Some(_) => Err(Halt::Stopped),
             None => Ok(definition),

@@ -27,37 +27,37 @@ impl Reader {
 
     /// Reads a name, or an expression in parentheses.
     #[cycle(expr)]
-    fn operand(&mut self, alloc: Global, left: usize) -> Result<Expr, Halt>
-        ensures { Follows IsOperand (rules.operand left) self.old self.new result }
+    fn operand(&mut self, alloc: Global, room: usize) -> Result<Expr, Halt>
+        ensures { Follows IsOperand (rules.operand room) self.old self.new result }
     {
         if let Some(name) = self.take_name() {
             return Ok(Expr::Named { name });
         }
         self.need(Sign::Open)?;
-        if left == 0 {
+        if room == 0 {
             return Err(Halt::TooDeep);
         }
-        let expr = self.expr(alloc, left - 1)?;
+        let expr = self.expr(alloc, room - 1)?;
         self.need(Sign::Close)?;
         Ok(expr)
     }
 
     /// Reads a selection behind its first word.
     #[cycle(expr)]
-    fn select(&mut self, alloc: Global, left: usize) -> Result<Expr, Halt>
-        ensures { Follows IsExpr (rules.select_of left (rules.operand left)) self.old self.new result }
+    fn select(&mut self, alloc: Global, room: usize) -> Result<Expr, Halt>
+        ensures { Follows IsExpr (rules.select_of room (rules.operand room)) self.old self.new result }
     {
         self.need_word("from")?;
-        let of = Box::new(alloc, self.operand(alloc, left)?)?;
+        let of = Box::new(alloc, self.operand(alloc, room)?)?;
         self.need_word("where")?;
-        let pred = self.predicate(alloc, left)?;
+        let pred = self.predicate(alloc, room)?;
         Ok(Expr::Select { pred, of })
     }
 
     /// Reads a drop behind its first word.
     #[cycle(expr)]
-    fn dropped(&mut self, alloc: Global, left: usize) -> Result<Expr, Halt>
-        ensures { Follows IsExpr (rules.drop_of (rules.operand left)) self.old self.new result }
+    fn dropped(&mut self, alloc: Global, room: usize) -> Result<Expr, Halt>
+        ensures { Follows IsExpr (rules.drop_of (rules.operand room)) self.old self.new result }
     {
         let col = self.need_name()?;
         self.need_word("determined")?;
@@ -68,54 +68,50 @@ impl Reader {
         let fill = self.take_fill().ok_or(Halt::Stopped)?;
         self.need(Sign::Close)?;
         self.need_word("from")?;
-        let of = Box::new(alloc, self.operand(alloc, left)?)?;
+        let of = Box::new(alloc, self.operand(alloc, room)?)?;
         Ok(Expr::Drop { col, by, fill, of })
     }
 
     /// Reads a rename behind its first word.
     #[cycle(expr)]
-    fn rename(&mut self, alloc: Global, left: usize) -> Result<Expr, Halt>
-        ensures { Follows IsExpr (rules.rename_of (rules.operand left)) self.old self.new result }
+    fn rename(&mut self, alloc: Global, room: usize) -> Result<Expr, Halt>
+        ensures { Follows IsExpr (rules.rename_of (rules.operand room)) self.old self.new result }
     {
         let col = self.need_name()?;
         self.need_word("to")?;
         let to = self.need_name()?;
         self.need_word("from")?;
-        let of = Box::new(alloc, self.operand(alloc, left)?)?;
+        let of = Box::new(alloc, self.operand(alloc, room)?)?;
         Ok(Expr::Rename { col, to, of })
     }
 
     /// Reads a join of this kind behind its first word.
     #[cycle(expr)]
-    fn join(&mut self, alloc: Global, kind: JoinKind, left: usize) -> Result<Expr, Halt>
-        ensures { Follows IsExpr (rules.join_of (rules.operand left) kind) self.old self.new result }
+    fn join(&mut self, alloc: Global, kind: JoinKind, room: usize) -> Result<Expr, Halt>
+        ensures { Follows IsExpr (rules.join_of (rules.operand room) kind) self.old self.new result }
     {
-        let one = Box::new(alloc, self.operand(alloc, left)?)?;
+        let left = Box::new(alloc, self.operand(alloc, room)?)?;
         self.need_word("with")?;
-        let other = Box::new(alloc, self.operand(alloc, left)?)?;
-        Ok(Expr::Join {
-            kind,
-            left: one,
-            right: other,
-        })
+        let right = Box::new(alloc, self.operand(alloc, room)?)?;
+        Ok(Expr::Join { kind, left, right })
     }
 
     /// Reads an expression, within which so many more parentheses and "not"s may be opened.
     #[cycle(expr)]
-    pub fn expr(&mut self, alloc: Global, left: usize) -> Result<Expr, Halt>
-        ensures { Follows IsExpr (rules.expr left) self.old self.new result }
+    pub fn expr(&mut self, alloc: Global, room: usize) -> Result<Expr, Halt>
+        ensures { Follows IsExpr (rules.expr room) self.old self.new result }
     {
         if let Some(name) = self.take_name() {
             Ok(Expr::Named { name })
         } else if self.take_word("select") {
-            self.select(alloc, left)
+            self.select(alloc, room)
         } else if self.take_word("drop") {
-            self.dropped(alloc, left)
+            self.dropped(alloc, room)
         } else if self.take_word("rename") {
-            self.rename(alloc, left)
+            self.rename(alloc, room)
         } else {
             let kind = self.take_join_kind().ok_or(Halt::Stopped)?;
-            self.join(alloc, kind, left)
+            self.join(alloc, kind, room)
         }
     }
 }

@@ -5,7 +5,7 @@ ghost use Rattle.std.specs.List.{prefix_len};
 ghost use Rattle.plain_values.specs.Bytes as bytes;
 ghost use Rattle.grammar_specs.specs.Tokens as language;
 ghost use Rattle.grammar_laws.specs.Front.{quoted_in, text_at, plain_in_front, token_in_front};
-ghost use Rattle.view_lang.specs.TokenViews.{token_view, front_of, IsFront, integer_at, is_integer_text, begins_word, begins_integer, begins_arrow, sign_in_front};
+ghost use Rattle.view_lang.specs.TokenViews.{token_view, IsFront, integer_at, is_integer_text, begins_word, begins_integer, begins_arrow, sign_in_front};
 
 use crate::parsing::token::Token;
 use lens_pred::Op;
@@ -76,8 +76,7 @@ fn number_of(text: &str) -> Option<i64>
 /// The word in front of the text, and its length.
 fn word(text: &[u8]) -> Option<(Token, usize)>
     requires { IsTrue (begins_word text.now) }
-    ensures value { front_of text.now result ≡ plain_in_front text.now }
-    ensures within { IsFront text.now result }
+    ensures { IsFront plain_in_front text.now result }
 {
     let len = word_len(text);
     let name = Name::new(text_of(&text[..len])?).ok()?;
@@ -95,8 +94,7 @@ fn begins_arrow(text: &[u8]) -> bool
 fn integer(text: &[u8]) -> Option<(Token, usize)>
     requires begins { IsTrue (begins_integer text.now) }
     requires no_arrow { begins_arrow text.now ≡ false }
-    ensures value { front_of text.now result ≡ plain_in_front text.now }
-    ensures within { IsFront text.now result }
+    ensures { IsFront plain_in_front text.now result }
 {
     let len = 1 + digit_len(&text[1..]);
     let number = number_of(text_of(&text[..len])?)?;
@@ -106,8 +104,7 @@ fn integer(text: &[u8]) -> Option<(Token, usize)>
 /// The operator or the punctuation in front of the text, and its length.
 fn sign(text: &[u8]) -> Option<(Token, usize)>
     requires { 0 < length text.now }
-    ensures value { front_of text.now result ≡ sign_in_front text.now }
-    ensures within { IsFront text.now result }
+    ensures { IsFront sign_in_front text.now result }
 {
     match text {
         [b'!', b'=', ..] => Some((Token::Operator(Op::Ne), 2)),
@@ -126,8 +123,7 @@ fn sign(text: &[u8]) -> Option<(Token, usize)>
 /// The token in front of the text that is no text literal, and its length.
 fn plain_token(text: &[u8]) -> Option<(Token, usize)>
     requires { 0 < length text.now }
-    ensures value { front_of text.now result ≡ plain_in_front text.now }
-    ensures within { IsFront text.now result }
+    ensures { IsFront plain_in_front text.now result }
 {
     let first = text[0];
     if is_lower(first) {
@@ -178,9 +174,7 @@ fn text_token(alloc: Global, text: &str) -> Result<Option<(Token, usize)>, NoMem
 fn text_at(alloc: Global, text: &str, at: usize) -> Result<Option<(Token, usize)>, NoMemory>
     requires within { at < length text.now }
     requires quote { slice_index text.now at ≡ 39 }
-    ensures value { IfOk result (λ found.
-        front_of (drop at text.now) found ≡ token_in_front (drop at text.now)) }
-    ensures front { IfOk result (λ found. IsFront (drop at text.now) found) }
+    ensures { IfOk result (λ found. IsFront token_in_front (drop at text.now) found) }
 {
     match text_token(alloc, &text[at + 1..])? {
         Some((token, left)) => Ok(Some((token, text.len() - at - left))),
@@ -191,9 +185,7 @@ fn text_at(alloc: Global, text: &str, at: usize) -> Result<Option<(Token, usize)
 /// The longest token at this offset of the text, and its length. `None` where there is no token.
 pub fn token_at(alloc: Global, text: &str, at: usize) -> Result<Option<(Token, usize)>, NoMemory>
     requires { at < length text.now }
-    ensures value { IfOk result (λ found.
-        front_of (drop at text.now) found ≡ token_in_front (drop at text.now)) }
-    ensures front { IfOk result (λ found. IsFront (drop at text.now) found) }
+    ensures { IfOk result (λ found. IsFront token_in_front (drop at text.now) found) }
 {
     let bytes = text.as_bytes();
     if bytes[at] == b'\'' {

@@ -1,10 +1,7 @@
 //! Predicates, a function for each rule of the grammar.
 ghost use Rattle.std.specs.Prelude.{◌≡◌};
 ghost use Rattle.lens_pred.specs.Op.{op_view};
-ghost use Rattle.lens_pred.specs.View.{formula_view, predicate_view};
-ghost use Rattle.grammar_specs.specs.Written as written;
-ghost use Rattle.grammar_laws.specs.Tests.{is_open};
-ghost use Rattle.grammar_laws.specs.Steps.{read, and_then, need, passing};
+ghost use Rattle.lens_pred.specs.View.{predicate_view};
 ghost use Rattle.grammar_laws.specs.PredRules as rules;
 ghost use Rattle.view_lang.specs.DefBounds.{AreNormal};
 ghost use Rattle.view_lang.specs.Outcomes.{Follows, IsPart, IsAll, IsPred, IsPredicate, AreItems};
@@ -77,8 +74,8 @@ impl Reader {
 
     /// Reads a part, within which so many more parentheses and "not"s may be opened.
     #[cycle(pred)]
-    fn part(&mut self, alloc: Global, left: usize) -> Result<Formula, Halt>
-        ensures { Follows IsPart (rules.part left) self.old self.new result }
+    fn part(&mut self, alloc: Global, room: usize) -> Result<Formula, Halt>
+        ensures { Follows IsPart (rules.part room) self.old self.new result }
     {
         if let Some(col) = self.take_name() {
             return self.behind_name(alloc, col);
@@ -87,40 +84,17 @@ impl Reader {
             return Ok(if flag { Formula::True } else { Formula::False });
         }
         if self.take_word("not") {
-            return self.negated(alloc, left);
+            if room == 0 {
+                return Err(Halt::TooDeep);
+            }
+            let part = self.part(alloc, room - 1)?;
+            return Ok(Formula::Not(Box::new(alloc, part)?));
         }
-        self.grouped(alloc, left)
-    }
-
-    /// Reads the part behind "not", where so many parentheses and "not"s may be opened, that "not"
-    /// included.
-    #[cycle(pred)]
-    fn negated(&mut self, alloc: Global, left: usize) -> Result<Formula, Halt>
-        ensures { Follows IsPart
-            (λ ps. and_then (rules.within left ps) (λ p. read (written.negated p)))
-            self.old self.new result }
-    {
-        if left == 0 {
-            return Err(Halt::TooDeep);
-        }
-        let part = self.part(alloc, left - 1)?;
-        Ok(Formula::Not(Box::new(alloc, part)?))
-    }
-
-    /// Reads a predicate in parentheses, where so many parentheses and "not"s may be opened, those
-    /// included.
-    #[cycle(pred)]
-    fn grouped(&mut self, alloc: Global, left: usize) -> Result<Formula, Halt>
-        ensures { Follows IsPart
-            (need (passing is_open) (λ _ ps. and_then (rules.pred_of (rules.within left) ps)
-            (λ o. rules.closed (written.grouped o))))
-            self.old self.new result }
-    {
         self.need(Sign::Open)?;
-        if left == 0 {
+        if room == 0 {
             return Err(Halt::TooDeep);
         }
-        let inner = self.pred(alloc, left - 1)?;
+        let inner = self.pred(alloc, room - 1)?;
         self.need(Sign::Close)?;
         Ok(inner)
     }
@@ -128,13 +102,13 @@ impl Reader {
     /// Reads parts joined by "and".
     #[cycle(pred)]
     #[tactic(auto, using(crate::proofs::Turns::parts_turn))]
-    fn all(&mut self, alloc: Global, left: usize) -> Result<Vec<Formula>, Halt>
-        ensures { Follows IsAll (rules.all_of (rules.part left)) self.old self.new result }
+    fn all(&mut self, alloc: Global, room: usize) -> Result<Vec<Formula>, Halt>
+        ensures { Follows IsAll (rules.all_of (rules.part room)) self.old self.new result }
     {
         let mut ands = Vec::new(alloc);
-        push_conjuncts(alloc, &mut ands, self.part(alloc, left)?)?;
+        push_conjuncts(&mut ands, self.part(alloc, room)?)?;
         while self.take_word("and") {
-            push_conjuncts(alloc, &mut ands, self.part(alloc, left)?)?;
+            push_conjuncts(&mut ands, self.part(alloc, room)?)?;
         }
         Ok(ands)
     }
@@ -142,23 +116,23 @@ impl Reader {
     /// Reads the formula of a predicate, within which so many more parentheses and "not"s may be opened.
     #[cycle(pred)]
     #[tactic(auto, using(crate::proofs::Turns::alls_turn))]
-    fn pred(&mut self, alloc: Global, left: usize) -> Result<Formula, Halt>
-        ensures { Follows IsPred (rules.pred left) self.old self.new result }
+    fn pred(&mut self, alloc: Global, room: usize) -> Result<Formula, Halt>
+        ensures { Follows IsPred (rules.pred room) self.old self.new result }
     {
         let mut ors = Vec::new(alloc);
-        push_disjuncts(alloc, &mut ors, conjunction(self.all(alloc, left)?))?;
+        push_disjuncts(&mut ors, conjunction(self.all(alloc, room)?))?;
         while self.take_word("or") {
-            push_disjuncts(alloc, &mut ors, conjunction(self.all(alloc, left)?))?;
+            push_disjuncts(&mut ors, conjunction(self.all(alloc, room)?))?;
         }
         Ok(disjunction(ors))
     }
 
     /// Reads a predicate, within which so many more parentheses and "not"s may be opened.
-    pub fn predicate(&mut self, alloc: Global, left: usize) -> Result<Pred, Halt>
-        ensures { Follows IsPredicate (rules.pred left) self.old self.new result }
+    pub fn predicate(&mut self, alloc: Global, room: usize) -> Result<Pred, Halt>
+        ensures { Follows IsPredicate (rules.pred room) self.old self.new result }
     {
         let mut conjuncts = Vec::new(alloc);
-        push_conjuncts(alloc, &mut conjuncts, self.pred(alloc, left)?)?;
+        push_conjuncts(&mut conjuncts, self.pred(alloc, room)?)?;
         Ok(predicate_of(conjuncts))
     }
 }

@@ -5,23 +5,23 @@ use Rattle.database.specs.States.{state_of}
 use Rattle.database.proofs.SettledPlans.{outcome_given_up, outcome_unchanged, raised}
 use Rattle.database.proofs.commit.settle.Goals as goal
 
-pub returns-in_err-reply-clause-outcome : goal.returns-in_err-reply-clause-outcome
-returns-in_err-reply-clause-outcome g c = λ answer planned.
-    outcome_given_up answer (state_of c.args.database.now) (g.K.Keeper.faults c.args.keeper.now) (g.K.Keeper.contents c.args.keeper.now) (g.K.Keeper.calls c.args.keeper.now) c.from_residual.result
-    c.from_residual.ensures.0 c.requires.ready.can.valid c.requires.ready.told
+pub returns-in_default-clause-outcome : goal.returns-in_default-clause-outcome
+returns-in_default-clause-outcome g c = λ answer planned.
+    outcome_given_up answer (state_of c.args.database.now) (g.K.Keeper.faults c.args.keeper.now) (g.K.Keeper.contents c.args.keeper.now) (g.K.Keeper.calls c.args.keeper.now) _
+    refl c.requires.ready.can.valid c.requires.ready.told
 
-pub returns-in_err-reply-clause-untouched : goal.returns-in_err-reply-clause-untouched
-returns-in_err-reply-clause-untouched g c = λ answer planned same. refl
+pub returns-in_default-clause-untouched : goal.returns-in_default-clause-untouched
+returns-in_default-clause-untouched g c = λ answer planned same. refl
 
 -- a change that is staged changes the state
 pub returns-in-Some-clause-untouched : goal.returns-in-Some-clause-untouched
 returns-in-Some-clause-untouched g c = λ answer planned same.
     let leads = subst (λ o. Leads o answer.1 c.args.database.now) c.in-Some.is planned.leads in absurd (raised c.in-Some.staged (state_of c.args.database.now) answer.1 leads.0 same)
 
-pub returns-clause-outcome : goal.returns-clause-outcome
-returns-clause-outcome g c = λ answer planned.
-    outcome_unchanged answer (state_of c.args.database.now) (g.K.Keeper.faults c.args.keeper.now) (g.K.Keeper.contents c.args.keeper.now) (g.K.Keeper.calls c.args.keeper.now) c.in_ok-reply.reply
-    c.requires.ready.can.valid c.requires.ready.told (c.in_ok-reply.ensures ∙ ap text planned.answer) (subst (λ o. Leads o answer.1 c.args.database.now) c.in-None.is planned.leads)
+pub returns-in-None-clause-outcome : goal.returns-in-None-clause-outcome
+returns-in-None-clause-outcome g c = λ answer planned.
+    outcome_unchanged answer (state_of c.args.database.now) (g.K.Keeper.faults c.args.keeper.now) (g.K.Keeper.contents c.args.keeper.now) (g.K.Keeper.calls c.args.keeper.now) c.in-Ok.reply
+    c.requires.ready.can.valid c.requires.ready.told (c.in-Ok.ensures ∙ ap text planned.answer) (subst (λ o. Leads o answer.1 c.args.database.now) c.in-None.is planned.leads)
 
-pub returns-clause-untouched : goal.returns-clause-untouched
-returns-clause-untouched g c = λ answer planned same. refl
+pub returns-in-None-clause-untouched : goal.returns-in-None-clause-untouched
+returns-in-None-clause-untouched g c = λ answer planned same. refl

@@ -1,12 +1,12 @@
-use Rattle.std.proofs.Common.{◌∙◌, ap, subst, sym, IfOk, map}
+use Rattle.std.proofs.Common.{subst, sym, IfOk, map}
 use Rattle.lens_specs.specs.Common.{put}
 use Rattle.request_text.specs.Answers.{answer_view}
 use Rattle.server_laws.proofs.Led.{put_change}
-use Rattle.server_specs.specs.Common.{accept, settled}
+use Rattle.server_specs.specs.Common.{accept, settled, told}
 use Rattle.signed_delta.specs.Tables.{table_delta}
-use Rattle.view_changes.specs.Puts.{IsPut}
+use Rattle.view_changes.specs.Puts.{IsPut, TellsRefusal}
 use Rattle.lens_server.specs.Databases.{CanAccept, IsPlan, state_of}
-use Rattle.lens_server.proofs.NamedViews.{refused_so, unchanged_plan}
+use Rattle.lens_server.proofs.NamedViews.{answer_fits, refused_so, unchanged_plan}
 use Rattle.lens_server.proofs.changes.plan_change.Goals as goal
 
 pub returns-in-Ok : goal.returns-in-Ok
@@ -20,10 +20,11 @@ returns-in-Ok c = λ L expected here asks.
     subst (λ r. IfOk c.plan_changes.result (λ plan. IsPlan plan (settled r L s) database)) (sym w.1)
     (subst (λ ds. IfOk c.plan_changes.result (λ plan. IsPlan plan (accept (put L N s.tables) ds s) database)) w.3 (c.plan_changes.ensures (put L N s.tables) can))
 
-pub returns-in_ok-into_answer-in-Err : goal.returns-in_ok-into_answer-in-Err
-returns-in_ok-into_answer-in-Err c = λ L expected here asks.
+pub returns-in-Err : goal.returns-in-Err
+returns-in-Err c = λ L expected here asks.
     let database = c.args.database.now in let s = state_of database in
-    let why = refused_so L s.tables c.in-Err.refusal expected (answer_view c.in_ok-into_answer-in-Err.field-0)
-    (subst (λ r. IsPut L s.tables r expected) c.in-Err.is asks) c.in_ok-into_answer-in-Err.ensures in
-    subst (λ r. IsPlan c.unchanged.result (settled r L s) database) (sym why.1)
-    (unchanged_plan database c.unchanged.result _ (ap answer_view c.unchanged.ensures.answer ∙ why.2) c.unchanged.ensures.staged)
+    answer_fits (λ p. p.answer) c.into_answer.result c.plan_answer.result c.plan_answer.ensures.answer c.plan_answer.ensures.staged
+    (λ a. TellsRefusal (answer_view a) c.in-Err.refusal) (λ plan. IsPlan plan (settled expected L s) database) c.into_answer.ensures
+    (λ plan none tells.
+    let why = refused_so L s.tables c.in-Err.refusal expected (answer_view plan.answer) (subst (λ r. IsPut L s.tables r expected) c.in-Err.is asks) tells in
+    subst (λ r. IsPlan plan (settled r L s) database) (sym why.1) (unchanged_plan database plan (told why.0) why.2 none))

@@ -23,5 +23,5 @@ returns-in_err-plan-clause-untouched g c = λ same. refl
 
 pub returns-clause-untouched : goal.returns-clause-untouched
 returns-clause-untouched g c = λ same.
-    c.settle.ensures.untouched (answer_request (request (line c.args.line.now)) (state_of c.args.database.now)) c.in_ok-plan.ensures.plan
+    c.settle.ensures.untouched (answer_request (request (line c.args.line.now)) (state_of c.args.database.now)) c.in_ok-plan.ensures.plans.plan
     (same ∙ sym (same_state c.args.database.now c.plan_line.new.database c.plan_line.ensures.same))

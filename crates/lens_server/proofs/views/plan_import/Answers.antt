@@ -1,12 +1,14 @@
-use Rattle.std.proofs.Common.{◌+◌, ◌*◌, ◌≤◌, Ok, ap, refl, subst, sym, IfOk}
+use Rattle.std.proofs.Common.{◌+◌, ◌*◌, ◌≤◌, Ok, refl, subst, sym, IfOk}
 use Rattle.base_index.specs.Held.{Held}
 use Rattle.lens_laws.proofs.Common.{fan, work}
 use Rattle.request_text.specs.Answers.{answer_view}
-use Rattle.server_specs.specs.Common.{tested}
+use Rattle.lens_specs.specs.Common.{sort_of}
+use Rattle.server_specs.specs.Common.{first_nullable, import_settled, tested}
 use Rattle.lens_server.specs.Counting.{differs_by}
 use Rattle.lens_server.specs.Databases.{IsPlan, lens_of, state_of}
+use Rattle.lens_server.specs.SheetFaults.{TellsSheet}
 use Rattle.lens_server.proofs.WalkedRows.{read_few}
-use Rattle.lens_server.proofs.NamedViews.{import_read, import_refused, imported_is, seen_put, unchanged_plan}
+use Rattle.lens_server.proofs.NamedViews.{answer_fits, import_read, import_refused, imported_is, seen_put, unchanged_plan}
 use Rattle.lens_server.proofs.views.plan_import.Goals as goal
 
 pub put_rows-change-requires : goal.put_rows-change-requires
@@ -30,9 +32,10 @@ returns-in-Ok-clause-looked g c =
     (subst (λ (t : Held). c.put_rows-change.new.looked ≤ c.args.looked.now + 2 * work L (differs_by t.present.relations L rows) w) c.requires.opened.tables
     (c.put_rows-change.ensures.looks w c.requires.opened.finds))
 
-pub returns-in_ok-sheet_refusal-in-Err-clause-plan : goal.returns-in_ok-sheet_refusal-in-Err-clause-plan
-returns-in_ok-sheet_refusal-in-Err-clause-plan g c =
-    let L = lens_of c.args.opened.now in let database = c.args.database.now in
-    subst (λ x. IsPlan c.unchanged.result x database)
-    (import_refused c.args.csv.now c.args.on L (state_of database) c.in-Err.fault (answer_view c.in_ok-sheet_refusal-in-Err.field-0) c.in-Err.ensures c.in_ok-sheet_refusal-in-Err.ensures)
-    (unchanged_plan database c.unchanged.result _ (ap answer_view c.unchanged.ensures.answer) c.unchanged.ensures.staged)
+pub returns-in-Err-clause-plan : goal.returns-in-Err-clause-plan
+returns-in-Err-clause-plan g c =
+    let L = lens_of c.args.opened.now in let database = c.args.database.now in let s = state_of database in
+    answer_fits (λ p. p.answer) c.sheet_refusal.result c.plan_answer.result c.plan_answer.ensures.answer c.plan_answer.ensures.staged
+    (λ a. TellsSheet (answer_view a) c.in-Err.fault) (λ plan. IsPlan plan (import_settled (first_nullable (sort_of L).columns) c.args.csv.now c.args.on L s) database) c.sheet_refusal.ensures
+    (λ plan none tells. subst (λ x. IsPlan plan x database) (import_refused c.args.csv.now c.args.on L s c.in-Err.fault (answer_view plan.answer) c.in-Err.ensures tells)
+    (unchanged_plan database plan (answer_view plan.answer) refl none))

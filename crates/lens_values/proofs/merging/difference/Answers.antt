@@ -8,8 +8,8 @@ pub loop-i-preserved-in-Less : goal.loop-i-preserved-in-Less
 loop-i-preserved-in-Less g c = record {
   list_in_range = omega (arith, c.loop-i-test.true);
   keys_in_range = c.loop-i.invariant.keys_in_range;
-  so_far = missing_pushed g.met.K.Ord.total g.T.Keyed.key c.args.list.now c.loop-i.rest.items c.args.keys.now c.loop-i.i c.loop-i.j c.index-list-i.result c.index-keys-j.result c.loop-i-test.true c.if-j-keys.true c.index-list-i.is c.index-keys-j.is c.push.new.self.items _
-      (pushed g.met.K.Ord.total g.T.Keyed.key c.args.list.now c.loop-i.rest.items c.args.keys.now c.loop-i.i c.loop-i.j c.index-list-i.result c.index-keys-j.result c.loop-i-test.true c.if-j-keys.true c.index-list-i.is c.index-keys-j.is c.push.new.self.items _ _ c.in_ok-push-in-Less.ensures.items c.in_ok-try_clone-in-Less.ensures c.index-list-i-in-Less.is)
+  so_far = missing_pushed g.met.K.Ord.total g.T.Keyed.key c.args.list.now c.loop-i.rest.items c.args.keys.now c.loop-i.i c.loop-i.j c.index-list-i.result c.index-keys-j.result c.loop-i-test.true c.if-j-keys.true c.index-list-i.is c.index-keys-j.is c.add_copy.new.list.items _
+      (pushed g.met.K.Ord.total g.T.Keyed.key c.args.list.now c.loop-i.rest.items c.args.keys.now c.loop-i.i c.loop-i.j c.index-list-i.result c.index-keys-j.result c.loop-i-test.true c.if-j-keys.true c.index-list-i.is c.index-keys-j.is c.add_copy.new.list.items c.index-list-i-in-Less.result c.in_ok-add_copy-in-Less.ensures c.index-list-i-in-Less.is)
       c.requires.keys (ranked g.met.K.Ord.total g.T.Keyed.key c.args.list.now c.loop-i.rest.items c.args.keys.now c.loop-i.i c.loop-i.j c.index-list-i.result c.index-keys-j.result c.loop-i-test.true c.if-j-keys.true c.index-list-i.is c.index-keys-j.is _ _ Less c.key.ensures c.cmp.ensures c.in-Less.is) c.loop-i.invariant.so_far;
 }
 

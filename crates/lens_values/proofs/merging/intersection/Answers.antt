@@ -24,8 +24,8 @@ pub loop-i-preserved : goal.loop-i-preserved
 loop-i-preserved g c = record {
   list_in_range = omega (arith, c.loop-i-test.true);
   keys_in_range = omega (arith, c.if-j-keys.true);
-  so_far = common_pushed g.met.K.Ord.total g.T.Keyed.key c.args.list.now c.loop-i.kept.items c.args.keys.now c.loop-i.i c.loop-i.j c.index-list-i.result c.index-keys-j.result c.loop-i-test.true c.if-j-keys.true c.index-list-i.is c.index-keys-j.is c.push.new.self.items _
-      (pushed g.met.K.Ord.total g.T.Keyed.key c.args.list.now c.loop-i.kept.items c.args.keys.now c.loop-i.i c.loop-i.j c.index-list-i.result c.index-keys-j.result c.loop-i-test.true c.if-j-keys.true c.index-list-i.is c.index-keys-j.is c.push.new.self.items _ _ c.in_ok-push-in-Equal.ensures.items c.in_ok-try_clone-in-Equal.ensures c.index-list-i-in-Equal.is)
+  so_far = common_pushed g.met.K.Ord.total g.T.Keyed.key c.args.list.now c.loop-i.kept.items c.args.keys.now c.loop-i.i c.loop-i.j c.index-list-i.result c.index-keys-j.result c.loop-i-test.true c.if-j-keys.true c.index-list-i.is c.index-keys-j.is c.add_copy.new.list.items _
+      (pushed g.met.K.Ord.total g.T.Keyed.key c.args.list.now c.loop-i.kept.items c.args.keys.now c.loop-i.i c.loop-i.j c.index-list-i.result c.index-keys-j.result c.loop-i-test.true c.if-j-keys.true c.index-list-i.is c.index-keys-j.is c.add_copy.new.list.items c.index-list-i-in-Equal.result c.in_ok-add_copy-in-Equal.ensures c.index-list-i-in-Equal.is)
       c.requires.list (ranked g.met.K.Ord.total g.T.Keyed.key c.args.list.now c.loop-i.kept.items c.args.keys.now c.loop-i.i c.loop-i.j c.index-list-i.result c.index-keys-j.result c.loop-i-test.true c.if-j-keys.true c.index-list-i.is c.index-keys-j.is _ _ Equal c.key.ensures c.cmp.ensures c.in-Equal.is) c.loop-i.invariant.so_far;
 }
 

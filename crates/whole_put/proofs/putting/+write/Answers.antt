@@ -1,8 +1,8 @@
-use Rattle.std.proofs.Common.{◌≡◌, ◌∙◌, ℕ, subst, sym, rules, OnOk}
-use Rattle.lens_specs.specs.Common.{base, select, drop, rename, put, sort_of, view, drop_put, select_put, holds, join}
+use Rattle.std.proofs.Common.{◌≡◌, ℕ, subst, sym, rules, OnOk}
+use Rattle.lens_specs.specs.Common.{base, select, drop, rename, put, view, join}
 use Rattle.lens_laws.proofs.Common.{AreOf, IsTyped}
 use Rattle.whole_put.specs.Sources.{AreShown}
-use Rattle.whole_put.proofs.JoinedLenses.{left_after, put_joined, right_after, right_sources, right_tables}
+use Rattle.whole_put.proofs.JoinedLenses.{put_joined, right_sources, right_tables}
 use Rattle.lens_laws.proofs.Lenses.{view_is_of_sort}
 use Rattle.whole_put.proofs.Lenses.{put_dropped, put_renamed, put_selected, put_table}
 use Rattle.whole_put.proofs.Shown.{left_shown, only_shown, right_shown, right_under}
@@ -39,13 +39,8 @@ under_select-requires-clause-source t c =
 pub returns-in_ok-source-in-Select : goal.returns-in_ok-source-in-Select
 returns-in_ok-source-in-Select t c =
     let d = (goal.at.returns-in_ok-source-in-Select t c).After-only in
-    let C = c.in-Select.of.now in
-    let P = c.in-Select.pred.now in
-    let N = c.args.view.rows in
-    let db = c.args.db.now in
-    let S = c.in_ok-source-in-Select.source.rows in
-    let rows = c.in_ok-source-in-Select.ensures.rows ∙ (λ i. select_put (sort_of C).tree (holds P) N (selected t d i).rows) in
-    let same = put_selected c.args.lens.now C P db N S (is_select t d) rows in
+    let same = put_selected c.args.lens.now c.in-Select.of.now c.in-Select.pred.now c.args.db.now c.args.view.rows c.in_ok-source-in-Select.source.rows
+    c.only.result.0.now (is_select t d) (selected t d) c.in_ok-source-in-Select.ensures.rows in
     subst (λ u. OnOk c.write.result (c.write.new.db ≡ u)) same c.write.ensures
 
 -- ---- a drop
@@ -71,12 +66,8 @@ under_drop-requires-clause-source t c =
 pub returns-in_ok-source-in-Drop : goal.returns-in_ok-source-in-Drop
 returns-in_ok-source-in-Drop t c =
     let d = (goal.at.returns-in_ok-source-in-Drop t c).After-only-in-Drop in
-    let C = c.in-Drop.of.now in
-    let N = c.args.view.rows in
-    let db = c.args.db.now in
-    let S = c.in_ok-source-in-Drop.source.rows in
-    let rows = c.in_ok-source-in-Drop.ensures.rows ∙ (λ i. drop_put c.in-Drop.col.now c.in-Drop.by.now c.in-Drop.fill.now N (dropped t d i).rows) in
-    let same = put_dropped c.args.lens.now C c.in-Drop.col.now c.in-Drop.by.now c.in-Drop.fill.now db N S (is_drop t d) rows in
+    let same = put_dropped c.args.lens.now c.in-Drop.of.now c.in-Drop.col.now c.in-Drop.by.now c.in-Drop.fill.now c.args.db.now c.args.view.rows
+    c.in_ok-source-in-Drop.source.rows c.only-in-Drop.result.0.now (is_drop t d) (dropped t d) c.in_ok-source-in-Drop.ensures.rows in
     subst (λ u. OnOk c.write-in-Drop.result (c.write-in-Drop.new.db ≡ u)) same c.write-in-Drop.ensures
 
 -- ---- a rename
@@ -102,12 +93,8 @@ under_rename-requires-clause-source t c =
 pub returns-in_ok-source-in-Rename : goal.returns-in_ok-source-in-Rename
 returns-in_ok-source-in-Rename t c =
     let d = (goal.at.returns-in_ok-source-in-Rename t c).After-only-in-Rename in
-    let C = c.in-Rename.of.now in
-    let N = c.args.view.rows in
-    let db = c.args.db.now in
-    let S = c.in_ok-source-in-Rename.source.rows in
-    let rows = c.in_ok-source-in-Rename.ensures.rows in
-    let same = put_renamed c.args.lens.now C c.in-Rename.col.now c.in-Rename.to.now db N S (is_rename t d) rows in
+    let same = put_renamed c.args.lens.now c.in-Rename.of.now c.in-Rename.col.now c.in-Rename.to.now c.args.db.now c.args.view.rows
+    c.in_ok-source-in-Rename.source.rows (is_rename t d) c.in_ok-source-in-Rename.ensures.rows in
     subst (λ u. OnOk c.write-in-Rename.result (c.write-in-Rename.new.db ≡ u)) same c.write-in-Rename.ensures
 
 -- ---- a join
@@ -175,13 +162,8 @@ pub returns-in_ok-write-in-Join : goal.returns-in_ok-write-in-Join
 returns-in_ok-write-in-Join t c =
     let d = (goal.at.returns-in_ok-write-in-Join t c).After-both in
     let e = (goal.at.returns-in_ok-write-in-Join t c).In_ok-write-in-Join in
-    let A = c.in-Join.left.now in
-    let B = c.in-Join.right.now in
-    let db = c.args.db.now in
-    let O = c.args.view.rows in
-    let S = c.in_ok-sources-in-Join.sources.0.rows in
-    let T = c.in_ok-sources-in-Join.sources.1.rows in
-    let left = c.in_ok-sources-in-Join.ensures.left_rows ∙ (λ i. left_after c.in-Join.kind A B O (left_is t d i).rows (right_is t d i).rows) in
-    let right = c.in_ok-sources-in-Join.ensures.right_rows ∙ (λ i. right_after c.in-Join.kind A B O (left_is t d i).rows (right_is t d i).rows) in
-    let same = put_joined c.in-Join.kind c.args.lens.now A B db c.write-in-Join.new.db O S T (is_join t d) left right (left_put t e) in
+    let sources = c.in_ok-sources-in-Join.sources in
+    let same = put_joined c.in-Join.kind c.args.lens.now c.in-Join.left.now c.in-Join.right.now c.args.db.now c.write-in-Join.new.db c.args.view.rows
+    sources.0.rows sources.1.rows c.both.result.0.0.now c.both.result.1.0.now (is_join t d) (left_is t d) (right_is t d)
+    c.in_ok-sources-in-Join.ensures.left_rows c.in_ok-sources-in-Join.ensures.right_rows (left_put t e) in
     subst (λ u. OnOk c.write-in-Join-2.result (c.write-in-Join-2.new.db ≡ u)) same c.write-in-Join-2.ensures

@@ -35,28 +35,28 @@ put_join-requires-clause-columns c =
 pub put_join-requires-clause-view_left : goal.put_join-requires-clause-view_left
 put_join-requires-clause-view_left c =
     let d = (goal.at.put_join-requires-clause-view_left c).After-tree-right_tree in
-    view_left c.args.kind c.args.left.now c.args.right.now c.requires.typed c.args.left_source.now c.args.right_source.now _ _ c.requires.left c.requires.right (left_tree d) (right_tree d) c.args.view.now.rows c.requires.view.1
+    view_left c.args.kind c.args.left.now c.args.right.now c.requires.typed c.args.left_source.now c.args.right_source.now _ _ c.requires.left c.requires.right (left_tree d) (right_tree d) c.args.view.rows c.requires.view.1
 
 pub put_join-requires-clause-view_right : goal.put_join-requires-clause-view_right
 put_join-requires-clause-view_right c =
     let d = (goal.at.put_join-requires-clause-view_right c).After-tree-right_tree in
-    view_right c.args.kind c.args.left.now c.args.right.now c.requires.typed c.args.left_source.now c.args.right_source.now _ _ c.requires.left c.requires.right (left_tree d) (right_tree d) c.args.view.now.rows c.requires.view.1
+    view_right c.args.kind c.args.left.now c.args.right.now c.requires.typed c.args.left_source.now c.args.right_source.now _ _ c.requires.left c.requires.right (left_tree d) (right_tree d) c.args.view.rows c.requires.view.1
 
 -- ---- the sources are those of the definition
 
 -- the left source after the put, and the right one
 abbrev new_left : After-put_join → Relation
-new_left c = over c.args.left.now (left_after c.args.kind c.args.left.now c.args.right.now c.args.view.now.rows c.args.left_source.now.rows c.args.right_source.now.rows)
+new_left c = over c.args.left.now (left_after c.args.kind c.args.left.now c.args.right.now c.args.view.rows c.args.left_source.now.rows c.args.right_source.now.rows)
 
 abbrev new_right : After-put_join → Relation
-new_right c = over c.args.right.now (right_after c.args.kind c.args.left.now c.args.right.now c.args.view.now.rows c.args.left_source.now.rows c.args.right_source.now.rows)
+new_right c = over c.args.right.now (right_after c.args.kind c.args.left.now c.args.right.now c.args.view.rows c.args.left_source.now.rows c.args.right_source.now.rows)
 
 left_made : (c : After-put_join) → IfOk c.put_join.result (λ after. after.0 ≡ new_left c)
 left_made c =
     let d = (goal.at.After-put_join c).After-tree-right_tree in
     let A = c.args.left.now in
     let B = c.args.right.now in
-    let O = c.args.view.now.rows in
+    let O = c.args.view.rows in
     let M = c.args.left_source.now in
     let N = c.args.right_source.now in
     let F = c.tree-left_tree.result.now in
@@ -70,7 +70,7 @@ right_made c =
     let d = (goal.at.After-put_join c).After-tree-right_tree in
     let A = c.args.left.now in
     let B = c.args.right.now in
-    let O = c.args.view.now.rows in
+    let O = c.args.view.rows in
     let M = c.args.left_source.now in
     let N = c.args.right_source.now in
     let F = c.tree-left_tree.result.now in
@@ -96,7 +96,7 @@ returns-clause-left_sort c =
     let d = (goal.at.returns-clause-left_sort c).After-put_join in
     let A = c.args.left.now in
     let U = new_left d in
-    let of_sort = left_is_of_sort c.args.kind A c.args.right.now c.requires.typed c.args.view.now.rows c.args.left_source.now.rows c.args.right_source.now.rows c.requires.left.1 c.requires.right.1 c.requires.view.1 in
+    let of_sort = left_is_of_sort c.args.kind A c.args.right.now c.requires.typed c.args.view.rows c.args.left_source.now.rows c.args.right_source.now.rows c.requires.left.1 c.requires.right.1 c.requires.view.1 in
     IfOk-weaker c.put_join.result (λ after. after.0 ≡ U) (λ after. IsOfSort after.0 (sort_of A)) (λ after is. subst (λ M. IsOfSort M (sort_of A)) (sym is) of_sort) (left_made d)
 
 pub returns-clause-right_sort : goal.returns-clause-right_sort
@@ -104,5 +104,5 @@ returns-clause-right_sort c =
     let d = (goal.at.returns-clause-right_sort c).After-put_join in
     let B = c.args.right.now in
     let U = new_right d in
-    let of_sort = right_is_of_sort c.args.kind c.args.left.now B c.requires.typed c.args.view.now.rows c.args.left_source.now.rows c.args.right_source.now.rows c.requires.left.1 c.requires.right.1 c.requires.view.1 in
+    let of_sort = right_is_of_sort c.args.kind c.args.left.now B c.requires.typed c.args.view.rows c.args.left_source.now.rows c.args.right_source.now.rows c.requires.left.1 c.requires.right.1 c.requires.view.1 in
     IfOk-weaker c.put_join.result (λ after. after.1 ≡ U) (λ after. IsOfSort after.1 (sort_of B)) (λ after is. subst (λ M. IsOfSort M (sort_of B)) (sym is) of_sort) (right_made d)

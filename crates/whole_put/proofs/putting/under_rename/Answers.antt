@@ -16,12 +16,12 @@ pub put_rename-requires-clause-columns : goal.put_rename-requires-clause-columns
 put_rename-requires-clause-columns c = c.requires.view.0 ∙ sym (ap (renamed_columns c.args.col.now c.args.to.now) c.requires.source.0)
 
 -- the source is the one of the definition
-made : (c : After-put_rename) → IfOk c.put_rename.result (λ after. after ≡ over c.args.of.now (rename_put c.args.col.now c.args.to.now c.args.view.now.rows))
+made : (c : After-put_rename) → IfOk c.put_rename.result (λ after. after ≡ over c.args.of.now (rename_put c.args.col.now c.args.to.now c.args.view.rows))
 made c =
     let C = c.args.of.now in
     let A = c.args.col.now in
     let B = c.args.to.now in
-    let N = c.args.view.now.rows in
+    let N = c.args.view.rows in
     let M = c.args.source.now in
     IfOk-weaker c.put_rename.result (λ after. after ≡ record M { rows = rename_put A B N }) (λ after. after ≡ over C (rename_put A B N))
     (λ after is. source_renamed C A B N M after c.requires.source.0 is)
@@ -29,13 +29,13 @@ made c =
 
 pub returns-clause-rows : goal.returns-clause-rows
 returns-clause-rows c =
-    let U = over c.args.of.now (rename_put c.args.col.now c.args.to.now c.args.view.now.rows) in
+    let U = over c.args.of.now (rename_put c.args.col.now c.args.to.now c.args.view.rows) in
     IfOk-weaker c.put_rename.result (λ after. after ≡ U) (λ after. after.rows ≡ U.rows) (λ after is. ap (λ (M : Relation). M.rows) is) (made (goal.at.returns-clause-rows c).After-put_rename)
 
 pub returns-clause-sort : goal.returns-clause-sort
 returns-clause-sort c =
     let C = c.args.of.now in
-    let N = c.args.view.now.rows in
+    let N = c.args.view.rows in
     let U = over C (rename_put c.args.col.now c.args.to.now N) in
     let of_sort = renamed_is_of_sort C c.args.col.now c.args.to.now N c.args.source.now.rows c.requires.typed c.requires.source.1 c.requires.view.1 in
     IfOk-weaker c.put_rename.result (λ after. after ≡ U) (λ after. IsOfSort after (sort_of C)) (λ after is. subst (λ K. IsOfSort K (sort_of C)) (sym is) of_sort)

@@ -6,4 +6,4 @@ pub returns-in-Err : goal.returns-in-Err
 returns-in-Err c = rw c.with.ensures (given_back c.in-Err.why _ _ _ refl (c.in-Err.ensures.sort c.args.kind))
 
 pub invariant_of-result : goal.invariant_of-result
-invariant_of-result c = rw (c.in-Ok-boxed.ensures, c.in-Ok-boxed-2.ensures) (c.in-Ok.ensures.kept c.args.kind)
+invariant_of-result c = rw (c.in-Ok-both_boxed.ensures.left, c.in-Ok-both_boxed.ensures.right) (c.in-Ok.ensures.kept c.args.kind)

@@ -1,8 +1,8 @@
-use Rattle.std.proofs.Common.{◌≡◌, ◌∙◌, ap, sym, [], ◌∷◌, ◌++◌, cond, append-nil, option_copied, is_some}
-use Rattle.plain_values.proofs.Common.{get, cons_option, override}
+use Rattle.std.proofs.Common.{◌≡◌, ◌∙◌, ap, arith, sym, [], ◌∷◌, ◌++◌, cond, append-nil, option_copied, is_some}
+use Rattle.plain_values.proofs.Common.{get, cons_option, filter_map, override, take_all}
 use Rattle.lens_values.proofs.Cells.{get-override, one_more}
 use Rattle.lens_values.proofs.row.Row.values_with.Goals as goal
-use Rattle.lens_values.proofs.row.Row.values_with.Goals.{in-Some, in-None, in-Some-value+in_ok-copy+in_ok-push, in_default}
+use Rattle.lens_values.proofs.row.Row.values_with.Goals.{in-Some, in-None, in-Some-value+in_ok-add_copy, in_default}
 
 pub loop-name-preserved : goal.loop-name-preserved
 loop-name-preserved c =
@@ -22,8 +22,13 @@ loop-name-preserved c =
     one_more (get (override over row)) c.as_slice-name-items.result.now c.loop-name.name-index name c.loop-name.found.items c.match-value.found.items (option_copied c.match-value_near.value)
     c.loop-name-test.true c.name-item.is found c.loop-name.invariant
     (elim c.match-value.branch [
-      | in-Some-value+in_ok-copy+in_ok-push w ↦
-          ap (λ v. v.items) w.found-is ∙ w.in_ok-push.ensures.items
-          ∙ ap (λ x. c.loop-name.found.items ++ x ∷ []) w.in_ok-copy.ensures ∙ ap (λ o. c.loop-name.found.items ++ cons_option (option_copied o) []) (sym w.in-Some-value.is)
+      | in-Some-value+in_ok-add_copy w ↦
+          ap (λ v. v.items) w.found-is ∙ w.in_ok-add_copy.ensures
+          ∙ ap (λ o. c.loop-name.found.items ++ cons_option (option_copied o) []) (sym w.in-Some-value.is)
       | in_default w ↦ ap (λ v. v.items) w.found-is ∙ sym (append-nil c.loop-name.found.items) ∙ ap (λ o. c.loop-name.found.items ++ cons_option (option_copied o) []) (sym w.in_default.is)
     ])
+
+pub returns : goal.returns
+returns c =
+    let names = c.as_slice-name-items.result.now in
+    c.loop-name.invariant ∙ ap (filter_map (get (override c.args.over.now c.args.self.now))) (take_all c.loop-name.name-index names (omega arith) ∙ c.as_slice-name-items.ensures)

@@ -20,19 +20,15 @@ returns-in_err-text_of c =
     let text = c.args.text.now in
     absurd (no_integer (take (1 + c.digit_len-len.result) text) c.in_err-text_of.ensures (integer_text text c.requires.begins c.digit_len-len.result (digits_behind text c.digit_len-len.result c.digit_len-len.ensures)))
 
-pub returns-in_err-number-clause-value : goal.returns-in_err-number-clause-value
-returns-in_err-number-clause-value c =
+pub returns-in_err-number : goal.returns-in_err-number
+returns-in_err-number c =
     let text = c.args.text.now in
     let e = integer_front text c.requires.begins c.requires.no_arrow c.digit_len-len.result (digits_behind text c.digit_len-len.result c.digit_len-len.ensures) None
-    (c.in_err-number.ensures ∙ ap integer_at c.in_ok-text_of.ensures) in cc
+    (c.in_err-number.ensures ∙ ap integer_at c.in_ok-text_of.ensures) in (cc, search rules)
 
-pub returns-clause-value : goal.returns-clause-value
-returns-clause-value c =
+pub returns : goal.returns
+returns c =
     let text = c.args.text.now in
-    let e = integer_front text c.requires.begins c.requires.no_arrow c.digit_len-len.result (digits_behind text c.digit_len-len.result c.digit_len-len.ensures) (Some (Integer c.in_ok-number.number))
-    (c.in_ok-number.ensures ∙ ap integer_at c.in_ok-text_of.ensures) in first_of (search (rules, e), grind (arith, common_steps, e))
-
-pub returns-clause-within : goal.returns-clause-within
-returns-clause-within c =
-    let text = c.args.text.now in
-    (omega arith, integer_within text c.requires.begins c.digit_len-len.result (digits_behind text c.digit_len-len.result c.digit_len-len.ensures))
+    let behind = digits_behind text c.digit_len-len.result c.digit_len-len.ensures in
+    let e = integer_front text c.requires.begins c.requires.no_arrow c.digit_len-len.result behind (Some (Integer c.in_ok-number.number)) (c.in_ok-number.ensures ∙ ap integer_at c.in_ok-text_of.ensures) in
+    (first_of (search (rules, e), grind (arith, common_steps, e)), (omega arith, integer_within text c.requires.begins c.digit_len-len.result behind))

@@ -15,8 +15,5 @@ found c =
 pub overflow_sub-result-in-Some : goal.overflow_sub-result-in-Some
 overflow_sub-result-in-Some c = (found c).left_within
 
-pub returns-in-Some-clause-value : goal.returns-in-Some-clause-value
-returns-in-Some-clause-value c = (found c).value
-
-pub returns-in-Some-clause-front : goal.returns-in-Some-clause-front
-returns-in-Some-clause-front c = ((found c).some, (found c).within)
+pub returns-in-Some : goal.returns-in-Some
+returns-in-Some c = ((found c).value, ((found c).some, (found c).within))

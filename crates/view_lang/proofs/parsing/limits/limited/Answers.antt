@@ -1,4 +1,4 @@
-use Rattle.std.proofs.Common.{◌∙◌, ap, sym, subst, true, Err}
+use Rattle.std.proofs.Common.{◌∙◌, ap, sym, subst, Err}
 use Rattle.grammar_specs.specs.Common.{has_few_columns, has_few_nodes}
 use Rattle.grammar_laws.specs.Reading.{limited}
 use Rattle.view_limits.specs.declared.limit.Limit.{Limit}

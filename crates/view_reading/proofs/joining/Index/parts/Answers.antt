@@ -1,6 +1,6 @@
-use Rattle.std.proofs.Common.{◌≡◌, ◌++◌, ◌∷◌, [], List, ap, map, sym, take, ◌∙◌, flat_map}
-use Rattle.plain_values.proofs.Common.{flat_map_more, take_more, Row}
-use Rattle.view_reading.specs.Pasting.{HasNames, near_in, part_at}
+use Rattle.std.proofs.Common.{◌≡◌, ◌++◌, ◌∷◌, [], List, ap, arith, map, sym, take, ◌∙◌, flat_map}
+use Rattle.plain_values.proofs.Common.{flat_map_more, take_all, take_more, Row}
+use Rattle.view_reading.specs.Pasting.{HasNames, near_in, part_at, parts_by}
 use Rattle.view_reading.proofs.PairParts.{named_at}
 use Rattle.view_reading.proofs.joining.Index.parts.Goals as goal
 
@@ -23,3 +23,9 @@ loop-row-preserved c =
           ∙ ap (flat_map with) (ap (λ r. take i rows ++ r ∷ []) c.row-item.is ∙ sym (take_more rows i row c.loop-row-test.true)),
       (found, own),
     )
+
+pub returns : goal.returns
+returns c =
+    let rows = c.rows-row-items.result.now in
+    c.loop-row.invariant.0
+    ∙ ap (parts_by c.args.kept.now c.args.places.now c.args.self.now.cols c.args.self.now.entries.items) (take_all c.loop-row.row-index rows (omega arith) ∙ c.rows-row-items.ensures)

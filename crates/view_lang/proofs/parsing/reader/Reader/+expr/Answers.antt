@@ -91,24 +91,24 @@ pub join-returns : goal.join-returns
 join-returns t c =
     let one = given_ok IsOperand _ c.in_ok-operand.field-0 _ c.in_ok-operand.ensures.0 in
     let two = given_ok IsOperand _ c.in_ok-operand-2.field-0 _ c.in_ok-operand-2.ensures.0 in
-    let seen : expr_view (Join c.args.kind c.in_ok-one.one c.in_ok-other.other) ≡ meaning.join c.args.kind (expr_view c.in_ok-one.one.value) (expr_view c.in_ok-other.other.value) = search (rules, the_lemmas) in
-    let left = ap expr_view c.in_ok-one.ensures.ok ∙ one.2 in
-    let right = ap expr_view c.in_ok-other.ensures.ok ∙ two.2 in (
+    let seen : expr_view (Join c.args.kind c.in_ok-left.left c.in_ok-right.right) ≡ meaning.join c.args.kind (expr_view c.in_ok-left.left.value) (expr_view c.in_ok-right.right.value) = search (rules, the_lemmas) in
+    let left = ap expr_view c.in_ok-left.ensures.ok ∙ one.2 in
+    let right = ap expr_view c.in_ok-right.ensures.ok ∙ two.2 in (
       rw (one.1, ← c.in_ok-need_word.ensures.0.0, two.1) (seen ∙ (λ i. meaning.join c.args.kind (left i) (right i)), refl),
       omega (arith, c.operand.ensures.1, c.in_ok-need_word.ensures.0.2 refl, c.operand-2.ensures.1),
     )
 
-pub operand-returns-then-left-eq0 : goal.operand-returns-then-left-eq0
-operand-returns-then-left-eq0 t c =
+pub operand-returns-then-room-eq0 : goal.operand-returns-then-room-eq0
+operand-returns-then-room-eq0 t c =
     let back = ap reader_view (c.in_default.ensures.1 refl) in (
-      rw (← c.in_default.ensures.0, ← back, ← c.in_ok-need.ensures.0.0, c.if-left-eq0.true) tt,
+      rw (← c.in_default.ensures.0, ← back, ← c.in_ok-need.ensures.0.0, c.if-room-eq0.true) tt,
       omega (arith, ap length back, c.in_ok-need.ensures.0.2 refl),
     )
 
 pub operand-returns-in_err-expr : goal.operand-returns-in_err-expr
 operand-returns-in_err-expr t c =
     let back = ap reader_view (c.in_default.ensures.1 refl) in
-    let one_less : c.args.left ≡ suc (c.args.left - 1) = omega (arith, c.if-left-eq0.false) in (
+    let one_less : c.args.room ≡ suc (c.args.room - 1) = omega (arith, c.if-room-eq0.false) in (
       rw (← c.in_default.ensures.0, ← back, ← c.in_ok-need.ensures.0.0, ap expr.within one_less) (stops IsExpr IsOperand _ _ _ _ _ c.in_err-expr.ensures.0 c.from_residual-in_err-expr.ensures.1),
       omega (arith, ap length back, c.in_ok-need.ensures.0.2 refl, c.expr.ensures.1),
     )
@@ -116,7 +116,7 @@ operand-returns-in_err-expr t c =
 pub operand-returns-in_err-need-2 : goal.operand-returns-in_err-need-2
 operand-returns-in_err-need-2 t c =
     let back = ap reader_view (c.in_default.ensures.1 refl) in
-    let one_less : c.args.left ≡ suc (c.args.left - 1) = omega (arith, c.if-left-eq0.false) in
+    let one_less : c.args.room ≡ suc (c.args.room - 1) = omega (arith, c.if-room-eq0.false) in
     let one = given_ok IsExpr _ c.in_ok-expr.expr _ c.in_ok-expr.ensures.0 in
     let same = ap reader_view (c.in_err-need-2.ensures.0.1 refl) in (
       rw (← c.in_default.ensures.0, ← back, ← c.in_ok-need.ensures.0.0, ap expr.within one_less, one.1, ← c.in_err-need-2.ensures.0.0) (unread IsOperand _ _ _ _ same c.in_err-need-2.ensures.1 c.from_residual-in_err-need-2.ensures.1),
@@ -126,7 +126,7 @@ operand-returns-in_err-need-2 t c =
 pub operand-returns : goal.operand-returns
 operand-returns t c =
     let back = ap reader_view (c.in_default.ensures.1 refl) in
-    let one_less : c.args.left ≡ suc (c.args.left - 1) = omega (arith, c.if-left-eq0.false) in
+    let one_less : c.args.room ≡ suc (c.args.room - 1) = omega (arith, c.if-room-eq0.false) in
     let one = given_ok IsExpr _ c.in_ok-expr.expr _ c.in_ok-expr.ensures.0 in (
       rw (← c.in_default.ensures.0, ← back, ← c.in_ok-need.ensures.0.0, ap expr.within one_less, one.1, ← c.in_ok-need-2.ensures.0.0) (one.2, refl),
       omega (arith, ap length back, c.in_ok-need.ensures.0.2 refl, c.expr.ensures.1, c.in_ok-need-2.ensures.0.2 refl),

@@ -1,7 +1,7 @@
 use Rattle.std.proofs.Common.{sym, subst}
 use Rattle.std.specs.List.Sorted.{IsStrictlySortedBy}
 use Rattle.table_keeper.specs.Places.{Rise}
-use Rattle.serving_tests.proofs.keepers.albums.Goals as goal
+use Rattle.serving_tests.proofs.keepers.only.Goals as goal
 
 pub returns : goal.returns
 unfolding IsStrictlySortedBy
